@@ -1,0 +1,64 @@
+-- The decisions of a run: what is kept, what was chosen, and that decisions agree.
+use Rattle.std.specs.Prelude.{◌≡◌, ℕ, ◌+◌, ◌≤◌, ◌⊎◌, ◌==◌, List, [], ◌∷◌, ◌++◌, length, take, find, flat_map, Contains, Option}
+use Rattle.std.specs.List.{AllByRecursion}
+use Rattle.crsm_spec.specs.Types.{Ballot, Entry, Decision, Rec}
+use Rattle.crsm_spec.specs.Lists.{IsPrefixOf}
+use Rattle.crsm_spec.specs.Log.{Log}
+use Rattle.crsm_spec.specs.Paxos.{IsMajority}
+use Rattle.crsm_spec.specs.Quorum.{spec_decided}
+use Rattle.crsm_spec.specs.World.{World, log_of, log_at}
+use Rattle.crsm_spec.specs.Acts.{Act}
+use Rattle.crsm_spec.specs.Run.{last_world, the_list}
+
+-- ---- what is kept
+
+-- the decisions of a log, the newest first
+unfoldable pub decisions : Log → List Decision
+decisions [] = []
+decisions (Rec.Decide d ∷ log) = d ∷ decisions log
+decisions (_ ∷ log) = decisions log
+
+-- all decisions that some replica of the world has kept
+unfoldable pub decisions_in : World → List Decision
+decisions_in w = flat_map (λ s. decisions (log_of s)) w.sites
+
+-- the decision of epoch e, where some replica has kept it
+unfoldable pub decision_of : World → ℕ → Option Decision
+decision_of w e = find (λ d. d.epoch == e) (decisions_in w)
+
+-- The Spec of epoch e: its votes and its collection are counted over these replicas, and so is the decision after it.
+unfoldable pub spec_at : World → ℕ → List ℕ
+spec_at w e = spec_decided w.n (decision_of w e)
+
+-- ---- what was chosen
+
+-- k accepted d in this ballot, as the decision after epoch e
+abbrev pub HasAccepted : World → ℕ → ℕ → Ballot → Decision → Type 0
+HasAccepted w e k b d = Contains (log_at w k) (Rec.Accept (e + 1) b d)
+
+-- In one ballot a majority of the Spec of epoch e has accepted d.
+pub record IsChosenAfter (w : World) (e : ℕ) (d : Decision) : Type 0 where
+  pub ballot : Ballot
+  pub voters : List ℕ
+  pub majority : IsMajority (spec_at w e) voters
+  pub accepted : AllByRecursion (λ k. HasAccepted w e k ballot d) voters
+
+-- ---- decisions agree
+
+-- all decisions that some replica has kept by the end
+unfoldable pub all_decisions : ℕ → List Act → List Decision
+all_decisions n acts = decisions_in (last_world n acts)
+
+-- what an epoch begins with: the base of the one list, and the tail
+unfoldable pub start_of : ℕ → List Act → Decision → List Entry
+start_of n acts d = take d.base_len (the_list n acts) ++ d.tail
+
+-- one of the lists is a front of the other
+abbrev pub AreFronts : List Entry → List Entry → Type 0
+AreFronts es fs = IsPrefixOf es fs ⊎ IsPrefixOf fs es
+
+-- Decisions of one epoch are equal, and each start is a front of the one list or goes on from it.
+pub record DecisionsAgree (n : ℕ) (acts : List Act) : Type 0 where
+  pub one : (d e : Decision) → Contains (all_decisions n acts) d → Contains (all_decisions n acts) e → d.epoch ≡ e.epoch → d ≡ e
+  pub base : AllByRecursion (λ d. d.base_len ≤ length (the_list n acts)) (all_decisions n acts)
+  pub start : AllByRecursion (λ d. AreFronts (start_of n acts d) (the_list n acts)) (all_decisions n acts)

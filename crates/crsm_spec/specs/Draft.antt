@@ -1,0 +1,125 @@
+-- A step while it is made: the replica so far, and what the step has kept, sent and told.
+use Rattle.std.specs.Prelude.{ℕ, ◌+◌, Bool, true, ◌==◌, ◌&&◌, List, [], ◌∷◌, ◌++◌, length, map, fold, Option}
+use Rattle.std.specs.List.{enumerate_from}
+use Rattle.std.specs.Option.{option_map_or}
+use Rattle.crsm_spec.specs.Types.{Stamp, Outcome, Rec, InEpoch, Datagram, Control, Line}
+use Rattle.crsm_spec.specs.Clock.{issue, u64_max}
+use Rattle.crsm_spec.specs.Log.{known, executed, decision, boots}
+use Rattle.crsm_spec.specs.Fits.{fits}
+use Rattle.crsm_base.specs.Messages.{control_bytes}
+use Rattle.crsm_spec.specs.Lines.{lines_of}
+use Rattle.crsm_spec.specs.Parts.{cut}
+use Rattle.crsm_spec.specs.Replica.{Replica, Note, frames_to, other_members, others, last_issued}
+use Rattle.crsm_spec.specs.Choice.{when◌then◌otherwise◌}
+
+-- A reply to a client: where it goes, which command it is on, what it says, and its line.
+pub record Reply : Type 0 where
+  pub address : ℕ
+  pub client : ℕ
+  pub number : ℕ
+  pub says : Outcome
+  pub line : Line
+
+-- A step while it is made.
+pub record Draft : Type 0 where
+  pub replica : Replica  -- as the step leaves it so far
+  pub batch : List Rec  -- the records of the step, in order
+  pub lines : List Line  -- their lines
+  pub excess : List Line  -- the lines of refused collections
+  pub sends : List (ℕ × Datagram)  -- the datagrams to replicas, behind their receivers, in order
+  pub replies : List Reply  -- in order
+  pub fitting : Bool  -- each record so far fits
+
+-- a step that has done nothing yet
+unfoldable pub begun : Replica → Draft
+begun r = record { replica = r; batch = []; lines = []; excess = []; sends = []; replies = []; fitting = true }
+
+-- ---- the single things that a step does
+
+-- keeps a record
+unfoldable pub keep : Rec → Draft → Draft
+keep rec x =
+    record x {
+      replica = record x.replica { log = rec ∷ x.replica.log };
+      batch = x.batch ++ rec ∷ [];
+      lines = x.lines ++ lines_of x.replica.me x.replica.log rec;
+      fitting = x.fitting && fits x.replica.me x.replica.n x.replica.log rec;
+    }
+
+-- sends a datagram to a replica
+unfoldable pub send : ℕ → Datagram → Draft → Draft
+send k d x = record x { sends = x.sends ++ (k, d) ∷ [] }
+
+-- replies to a client
+unfoldable pub reply : Reply → Draft → Draft
+reply a x = record x { replies = x.replies ++ a ∷ [] }
+
+-- counts a vote
+unfoldable pub count_vote : Stamp → ℕ → Draft → Draft
+count_vote s k x = record x { replica = record x.replica { votes = (s, k) ∷ x.replica.votes } }
+
+-- changes the note
+unfoldable pub noting : Note → Draft → Draft
+noting note x = record x { replica = record x.replica { note = note } }
+
+-- the time that the replica would issue
+unfoldable pub would : Draft → ℕ → Option ℕ
+would x reading = issue (last_issued x.replica) reading
+
+-- issues a time
+unfoldable pub issued_at : ℕ → Draft → Draft
+issued_at t x = record x { replica = record x.replica { issued = t ∷ x.replica.issued } }
+
+-- ---- links
+
+-- the next frame to k, behind its receiver
+unfoldable pub next_frame : Replica → InEpoch → ℕ → ℕ × Datagram
+next_frame r payload k = (k, Datagram.Frame r.me k (known r.log) (length (frames_to r k)) payload)
+
+-- pushes a payload to these replicas: it gets the next number of each link and is sent at once
+unfoldable pub push_to : List ℕ → InEpoch → Draft → Draft
+push_to ks payload x =
+    let r = x.replica in
+    record x {
+      replica = record r { pushed = r.pushed ++ map (λ k. (k, payload)) ks };
+      sends = x.sends ++ map (next_frame r payload) ks;
+    }
+
+-- pushes a payload to each other member
+unfoldable pub push_to_members : InEpoch → Draft → Draft
+push_to_members payload x = push_to (other_members x.replica) payload x
+
+-- ---- control messages
+
+-- the part datagrams of a message
+unfoldable pub parts_to : Replica → ℕ → Control → List (ℕ × Datagram)
+parts_to r k c =
+    let pieces = cut (control_bytes c) in
+    map (λ p. (k, Datagram.Part r.me k (boots r.log) r.made p.0 (length pieces) p.1)) (enumerate_from 0 pieces)
+
+-- makes a control message for k, unless this boot has made as many as can be numbered
+unfoldable pub tell : Control → Draft → ℕ → Draft
+tell c x k =
+    let r = x.replica in
+    when r.made == u64_max then x
+    otherwise record x { replica = record r { made = r.made + 1 }; sends = x.sends ++ parts_to r k c }
+
+-- makes one for each of these
+unfoldable pub tell_each : List ℕ → Control → Draft → Draft
+tell_each ks c x = fold (tell c) x ks
+
+-- makes one for each other replica of the Spec
+unfoldable pub tell_all : Control → Draft → Draft
+tell_all c x = tell_each (others x.replica) c x
+
+-- tells k the known decision, if there is one
+unfoldable pub tell_decision : ℕ → Draft → Draft
+tell_decision k x = option_map_or (λ d. tell (Control.Decide d) x k) (decision x.replica.log) x
+
+-- asks for what is known and executed beyond here
+unfoldable pub retrieve : Draft → Control
+retrieve x = Control.Retrieve (known x.replica.log) (length (executed x.replica.log))
+
+-- asks k for it
+unfoldable pub tell_retrieve : ℕ → Draft → Draft
+tell_retrieve k x = tell (retrieve x) x k

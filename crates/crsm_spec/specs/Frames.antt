@@ -1,0 +1,134 @@
+-- What a step does with the numbered links: frames, Acks, owed PREPAREOKs and clock times.
+use Rattle.std.specs.Prelude.{ℕ, ◌+◌, Bool, false, ◌==◌, ◌&&◌, ◌||◌, not, nat_lt, nat_le, List, [], ◌∷◌, length, take, fold, Option, None, Some}
+use Rattle.std.specs.Option.{option_map_or}
+use Rattle.crsm_spec.specs.Types.{Stamp, Rec, InEpoch, Datagram}
+use Rattle.crsm_base.specs.Order.{stamp_lt}
+use Rattle.crsm_base.specs.Limits.{idle_after, most_again}
+use Rattle.crsm_spec.specs.Clock.{u64_max}
+use Rattle.crsm_spec.specs.Lists.{has}
+use Rattle.crsm_spec.specs.Log.{known, active}
+use Rattle.crsm_spec.specs.Replica.{Replica, members_of, other_members, last_issued, latest_from, frames_to, next_from, unacked, is_congested}
+use Rattle.crsm_spec.specs.Draft.{Draft, keep, send, count_vote, would, issued_at, push_to_members, tell_decision, tell_retrieve}
+use Rattle.crsm_spec.specs.Choice.{when◌then◌otherwise◌}
+
+-- a datagram of no other replica, or for another
+unfoldable pub is_astray : Replica → ℕ → ℕ → Bool
+is_astray r from to = (nat_lt 14 from || from == r.me) || not (to == r.me)
+
+-- ---- frames
+
+-- the sender's own time of a payload
+unfoldable pub time_of : InEpoch → ℕ
+time_of (InEpoch.Prepare e) = e.stamp.time
+time_of (InEpoch.PrepareOk s at) = at
+time_of (InEpoch.ClockTime at) = at
+
+-- a payload that its sender k may not send
+unfoldable pub is_wrong : Replica → ℕ → InEpoch → Bool
+is_wrong r k (InEpoch.Prepare e) = not (e.epoch == known r.log) || not (e.stamp.origin == k)
+is_wrong r k (InEpoch.PrepareOk s at) = not (has (members_of r) s.origin)
+is_wrong r k (InEpoch.ClockTime at) = false
+
+-- odd at the next number: its time is not above the latest heard from k, or it is wrong
+unfoldable pub is_odd_frame : Replica → ℕ → InEpoch → Bool
+is_odd_frame r k payload = nat_le (time_of payload) (latest_from r.heard k) || is_wrong r k payload
+
+-- the stamps with this one among them, ascending
+unfoldable pub with_stamp : Stamp → List Stamp → List Stamp
+with_stamp s [] = s ∷ []
+with_stamp s (t ∷ ts) = when stamp_lt s t then s ∷ t ∷ ts otherwise t ∷ with_stamp s ts
+
+-- owes a PREPAREOK
+unfoldable pub owe : Stamp → Draft → Draft
+owe s x = record x { replica = record x.replica { owed = with_stamp s x.replica.owed } }
+
+-- tells k which frame is expected next
+unfoldable pub ack : ℕ → Draft → Draft
+ack k x = send k (Datagram.Ack x.replica.me k (known x.replica.log) (next_from x.replica k)) x
+
+-- what a payload says
+unfoldable pub hear : ℕ → InEpoch → Draft → Draft
+hear k (InEpoch.Prepare e) x =
+    owe e.stamp (count_vote e.stamp x.replica.me (count_vote e.stamp k (keep (Rec.Prepare e) x)))
+hear k (InEpoch.PrepareOk s at) x = count_vote s k x
+hear k (InEpoch.ClockTime at) x = x
+
+-- takes the next frame of k: the link moves on, its time is heard, and it is acknowledged
+unfoldable pub take_frame : ℕ → InEpoch → Draft → Draft
+take_frame k payload x =
+    let r = x.replica in
+    hear k payload (ack k (record x { replica = record r { taken = k ∷ r.taken; heard = (k, time_of payload) ∷ r.heard } }))
+
+-- A frame of epoch e from k.
+unfoldable pub on_frame : ℕ → ℕ → ℕ → InEpoch → Draft → Draft
+on_frame k e seq payload x =
+    let r = x.replica in
+    when nat_lt e (known r.log) then tell_decision k x
+    otherwise when nat_lt (known r.log) e then tell_retrieve k x
+    otherwise when not (active r.log) || not (has (members_of r) k) then x
+    otherwise when not (seq == next_from r k) then ack k x
+    otherwise when is_odd_frame r k payload then x
+    otherwise take_frame k payload x
+
+-- ---- Acks
+
+-- An Ack of epoch e from k: the frames below next have come.
+unfoldable pub on_ack : ℕ → ℕ → ℕ → Draft → Draft
+on_ack k e next x =
+    let r = x.replica in
+    when ((e == known r.log && active r.log) && has (members_of r) k) && nat_le next (length (frames_to r k))
+    then record x { replica = record r { acked = (k, next) ∷ r.acked } }
+    otherwise x
+
+-- ---- owed PREPAREOKs
+
+-- issues a time, and pushes the PREPAREOK under it
+unfoldable pub pay : Stamp → ℕ → Draft → Draft
+pay s t x = push_to_members (InEpoch.PrepareOk s t) (issued_at t x)
+
+-- the owed stamps are these
+unfoldable pub owing : List Stamp → Draft → Draft
+owing ss x = record x { replica = record x.replica { owed = ss } }
+
+-- Pays these in order, up to the first whose time is not below the time that would be issued.
+unfoldable pub pay_run : ℕ → List Stamp → Draft → Draft
+pay_run reading [] x = owing [] x
+pay_run reading (s ∷ ss) x =
+    option_map_or (λ t.
+    let more = pay_run reading ss (pay s t x) in
+    when nat_lt s.time t then more otherwise owing (s ∷ ss) x) (would x reading) (owing (s ∷ ss) x)
+
+-- Sends the PREPAREOKs that are due: while the least owed stamp's time is below the next issue.
+unfoldable pub owed_oks : ℕ → Draft → Draft
+owed_oks reading x = when active x.replica.log then pay_run reading x.replica.owed x otherwise x
+
+-- ---- the clock
+
+-- its reading is so far ahead of the last issued time that it tells its time
+unfoldable pub is_idle : Replica → ℕ → Bool
+is_idle r reading =
+    (nat_le (last_issued r + idle_after) reading && nat_lt (last_issued r) u64_max) && not (is_congested r)
+
+-- pushes a time of its own, where there is one to issue
+unfoldable pub tell_time : Option ℕ → Draft → Draft
+tell_time None x = x
+tell_time (Some t) x = push_to_members (InEpoch.ClockTime t) (issued_at t x)
+
+-- At a tick a replica that has been idle tells its time.
+unfoldable pub idle : ℕ → Draft → Draft
+idle reading x =
+    when active x.replica.log && is_idle x.replica reading then tell_time (would x reading) x otherwise x
+
+-- ---- sending again
+
+-- sends a frame to k again
+unfoldable pub again_frame : ℕ → Draft → ℕ × InEpoch → Draft
+again_frame k x f = send k (Datagram.Frame x.replica.me k (known x.replica.log) f.0 f.1) x
+
+-- sends the first unacknowledged frames to k again
+unfoldable pub again_to : Draft → ℕ → Draft
+again_to x k = fold (again_frame k) x (take most_again (unacked x.replica k))
+
+-- At a tick: the first unacknowledged frames of each link again.
+unfoldable pub send_again : Draft → Draft
+send_again x = fold again_to x (other_members x.replica)

@@ -1,0 +1,125 @@
+-- One step of a replica: the rule of its input, and what follows in every step.
+use Rattle.std.specs.Prelude.{nat_lt, ℕ, not, List, [], ◌∷◌, filter, fold, Option, None, Some}
+use Rattle.std.specs.Option.{option_map_or}
+use Rattle.crsm_spec.specs.Types.{Rec, Datagram, Control}
+use Rattle.crsm_spec.specs.Log.{Log, known, active}
+use Rattle.crsm_base.specs.MessageReading.{control_of}
+use Rattle.crsm_spec.specs.Replica.{Replica, Note, LogPage, fresh, others}
+use Rattle.crsm_spec.specs.Parts.{Piece}
+use Rattle.crsm_spec.specs.Parts.{with_part, whole_with}
+use Rattle.crsm_spec.specs.Draft.{Draft, begun, keep, tell, tell_all, retrieve}
+use Rattle.crsm_spec.specs.Collect.{is_whole, cursor}
+use Rattle.crsm_spec.specs.Clients.{on_request, commits, replies}
+use Rattle.crsm_spec.specs.Frames.{is_astray, on_frame, on_ack, owed_oks, idle, send_again}
+use Rattle.crsm_spec.specs.Coordinate.{accept_own, tell_proposal, tell_ask, begin_proposing, on_suspect}
+use Rattle.crsm_spec.specs.Controls.{on_control}
+use Rattle.crsm_spec.specs.Choice.{when◌then◌otherwise◌}
+
+-- What comes to a replica: a datagram from an address, a tick, or a suspicion that names the next members.
+pub data Input : Type 0 where
+  Came : (from : ℕ) (d : Datagram) → Input
+  Ticked : Input
+  Suspected : (members : List ℕ) → Input
+
+-- an input whose records would not fit is ignored whole
+unfoldable pub if_fitting : Draft → Draft → Draft
+if_fitting x y = when y.fitting then y otherwise x
+
+-- ---- parts
+
+-- bytes that are no control message do nothing
+unfoldable pub on_whole_message : ℕ → Option Control → Draft → Draft
+on_whole_message k None x = x
+on_whole_message k (Some c) x = on_control k c x
+
+-- A part: the message that is whole with it is heard. One whose records would not fit is ignored, and its part is kept.
+unfoldable pub on_part : Piece → Draft → Draft
+on_part p x =
+    let parts = x.replica.parts in
+    let y = record x { replica = record x.replica { parts = with_part p parts } } in
+    option_map_or (λ bytes. if_fitting y (on_whole_message p.from (control_of bytes) y)) (whole_with p parts) y
+
+-- ---- ticks
+
+-- asks k for its next page
+unfoldable pub ask_page : List LogPage → Draft → ℕ → Draft
+ask_page pages x k = tell (Control.Suspend (known x.replica.log) (cursor pages k)) x k
+
+-- the other replicas whose report is not whole
+unfoldable pub missing : Replica → List LogPage → List ℕ
+missing r pages = filter (λ k. not (is_whole pages k)) (others r)
+
+-- asks each of them for its next page
+unfoldable pub tell_collect : List LogPage → Draft → Draft
+tell_collect pages x = fold (ask_page pages) x (missing x.replica pages)
+
+-- what the note says to do again
+unfoldable pub renew : Note → Draft → Draft
+renew Note.Quiet x = x
+renew (Note.Collecting ms pages) x = tell_collect pages x
+renew (Note.Asking b own answers) x = tell_ask (Note.Asking b own answers) x
+renew (Note.Proposing b own value acceptors) x =
+    let y = accept_own b own value acceptors x in tell_proposal y.replica.note y
+renew (Note.Over own seen) x = begin_proposing own seen x
+
+-- asks all for what is known and executed beyond here, while not active
+unfoldable pub ask_all : Draft → Draft
+ask_all x = when active x.replica.log then x otherwise tell_all (retrieve x) x
+
+-- A tick: frames again while active, and otherwise the note's messages and a question to all.
+unfoldable pub on_tick : Draft → Draft
+on_tick x = when active x.replica.log then send_again x otherwise ask_all (renew x.replica.note x)
+
+-- ---- the rule of each input
+
+-- A datagram from an address. A reply means nothing to a replica.
+unfoldable pub on_datagram : ℕ → Datagram → ℕ → Draft → Draft
+on_datagram address (Datagram.Frame from to epoch seq payload) reading x =
+    when is_astray x.replica from to then x otherwise on_frame from epoch seq payload x
+on_datagram address (Datagram.Ack from to epoch next) reading x =
+    when is_astray x.replica from to then x otherwise on_ack from epoch next x
+on_datagram address (Datagram.Part from to boot number index count bytes) reading x =
+    when is_astray x.replica from to then x
+    otherwise on_part (record { from = from; boot = boot; number = number; index = index; count = count; bytes = bytes }) x
+on_datagram address (Datagram.Request c) reading x = on_request address c reading x
+on_datagram address (Datagram.Reply client number told) reading x = x
+on_datagram address (Datagram.Operate ms) reading x = on_suspect ms x
+
+-- the rule of an input
+unfoldable pub on_input : Input → ℕ → Draft → Draft
+on_input (Input.Came from d) reading x = on_datagram from d reading x
+on_input Input.Ticked reading x = on_tick x
+on_input (Input.Suspected ms) reading x = on_suspect ms x
+
+-- ---- the step
+
+-- the idle rule, at a tick
+unfoldable pub idle_at : Input → ℕ → Draft → Draft
+idle_at Input.Ticked reading x = idle reading x
+idle_at _ reading x = x
+
+-- One step: the rule of the input, the PREPAREOKs that are due, at a tick the clock time, the commits, the replies.
+unfoldable pub step : Replica → Input → ℕ → Draft
+step r input reading =
+    let x = begun r in
+    let y = if_fitting x (on_input input reading x) in
+    replies (commits (idle_at input reading (owed_oks reading y)))
+
+-- ---- boots
+
+-- a boot puts itself on record
+unfoldable pub boot_again : ℕ → ℕ → Log → Draft
+boot_again me n log = keep (Rec.Boot me n) (begun (fresh me n log))
+
+-- the first boot of a replica of the beginning: it enters epoch 0
+unfoldable pub found : ℕ → ℕ → Draft
+found n me = keep (Rec.Enter 0) (boot_again me n [])
+
+-- A boot on an empty disk; a replica with a new number enters nothing.
+unfoldable pub first_boot : ℕ → ℕ → Draft
+first_boot n me = when nat_lt me n then found n me otherwise boot_again me n []
+
+-- A boot on a log.
+unfoldable pub boot : ℕ → ℕ → Log → Draft
+boot me n [] = first_boot n me
+boot me n (rec ∷ log) = boot_again me n (rec ∷ log)
