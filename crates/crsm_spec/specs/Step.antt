@@ -112,14 +112,14 @@ unfoldable pub boot_again : ℕ → ℕ → Log → Draft
 boot_again me n log = keep (Rec.Boot me n) (begun (fresh me n log))
 
 -- the first boot of a replica of the beginning: it enters epoch 0
-unfoldable pub found : ℕ → ℕ → Draft
-found n me = keep (Rec.Enter 0) (boot_again me n [])
+unfoldable pub founding_boot : ℕ → ℕ → Draft
+founding_boot me n = keep (Rec.Enter 0) (boot_again me n [])
 
 -- A boot on an empty disk; a replica with a new number enters nothing.
 unfoldable pub first_boot : ℕ → ℕ → Draft
-first_boot n me = when nat_lt me n then found n me otherwise boot_again me n []
+first_boot me n = when nat_lt me n then founding_boot me n otherwise boot_again me n []
 
 -- A boot on a log.
 unfoldable pub boot : ℕ → ℕ → Log → Draft
-boot me n [] = first_boot n me
+boot me n [] = first_boot me n
 boot me n (rec ∷ log) = boot_again me n (rec ∷ log)

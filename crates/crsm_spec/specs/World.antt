@@ -10,7 +10,7 @@ use Rattle.crsm_spec.specs.Lists.{numbers_below}
 use Rattle.crsm_spec.specs.Log.{Log, known, executed, live, active}
 use Rattle.crsm_spec.specs.Replica.{Replica}
 use Rattle.crsm_spec.specs.Draft.{Draft, Reply}
-use Rattle.crsm_spec.specs.Step.{found}
+use Rattle.crsm_spec.specs.Step.{founding_boot}
 
 -- A replica's place in the world: it is up, or down with the log on its disk.
 pub data Site : Type 0 where
@@ -141,14 +141,14 @@ unfoldable pub begin : ℕ → World
 begin n =
     record {
       n = n;
-      sites = map (λ k. Site.Up (found n k).replica) (numbers_below n);
+      sites = map (λ k. Site.Up (founding_boot k n).replica) (numbers_below n);
       mail = [];
-      bytes = sum_by (λ k. body_size (found n k).batch) (numbers_below n);
+      bytes = sum_by (λ k. body_size (founding_boot k n).batch) (numbers_below n);
     }
 
 -- the lines of the first boots
 unfoldable pub first_lines : ℕ → List Line
-first_lines n = flat_map (λ k. (found n k).lines) (numbers_below n)
+first_lines n = flat_map (λ k. (founding_boot k n).lines) (numbers_below n)
 
 -- ---- the last lines
 
