@@ -62,8 +62,8 @@ instance x = known x.replica.log + 1
 unfoldable pub count_acceptor : Ballot → Decision → Decision → List ℕ → ℕ → Draft → Draft
 count_acceptor b own value acceptors k x =
     let ks = k ∷ acceptors in
-    when has_majority (spec_of x.replica) ks then on_chosen value x
-    otherwise noting (Note.Proposing b own value ks) x
+    let y = noting (Note.Proposing b own value ks) x in
+    when has_majority (spec_of x.replica) ks then on_chosen value y otherwise y
 
 -- this ballot was accepted here
 unfoldable pub has_accepted : Ballot → Draft → Bool
@@ -95,8 +95,8 @@ propose b own answers x =
 unfoldable pub count_answer : Ballot → Decision → List (Answer Decision) → Answer Decision → Draft → Draft
 count_answer b own answers a x =
     let all = answers ++ a ∷ [] in
-    when has_majority (spec_of x.replica) (map (λ f. f.replica) all) then propose b own all x
-    otherwise noting (Note.Asking b own all) x
+    let y = noting (Note.Asking b own all) x in
+    when has_majority (spec_of x.replica) (map (λ f. f.replica) all) then propose b own all y otherwise y
 
 -- asks all for a promise, where that is still asked
 unfoldable pub tell_ask : Note → Draft → Draft
@@ -108,7 +108,7 @@ tell_ask _ x = x
 unfoldable pub ask : Ballot → Decision → Draft → Draft
 ask b own x =
     let a : Answer Decision = record { replica = x.replica.me; accepted = accepted x.replica.log } in
-    let y = count_answer b own [] a (keep (Rec.Promise (instance x) b) x) in
+    let y = count_answer b own [] a (noting (Note.Asking b own []) (keep (Rec.Promise (instance x) b) x)) in
     tell_ask y.replica.note y
 
 -- of two ballots the greater one
@@ -127,7 +127,7 @@ begin_proposing own seen x =
 -- the decision is proposed, unless its tail passes a limit
 unfoldable pub on_complete : Decision → Draft → Draft
 on_complete d x =
-    when is_within d.tail then begin_proposing d no_ballot x
+    when is_within d.tail then begin_proposing d no_ballot (noting (Note.Over d no_ballot) x)
     otherwise noting Note.Quiet (record x {
       excess = x.excess ++ Line.TooMany x.replica.me (known x.replica.log) (length d.tail) (size_of d.tail) ∷ [];
     })
@@ -136,9 +136,9 @@ on_complete d x =
 unfoldable pub on_whole : List ℕ → List LogPage → Draft → Draft
 on_whole ms pages x =
     let r = x.replica in
+    let y = noting (Note.Collecting ms pages) x in
     when has_majority (spec_of r) (whole_ones (spec_of r) pages)
-    then on_complete (collected (spec_of r) (named_spec r ms) r.log ms pages) x
-    otherwise noting (Note.Collecting ms pages) x
+    then on_complete (collected (spec_of r) (named_spec r ms) r.log ms pages) y otherwise y
 
 -- promises to log and stamp no more in the known epoch, unless that was promised
 unfoldable pub suspend_once : Draft → Draft
