@@ -1,0 +1,28 @@
+-- A decision whose members do not fit is ignored whole.
+use Rattle.std.proofs.Common.{◌≡◌, List, [], ◌∷◌, ◌++◌, ℕ, refl}
+use Rattle.crsm_spec.specs.Types.{Answer, Line}
+use Rattle.crsm_spec.specs.Node.{Turn}
+use Rattle.crsm_examples.specs.Words.{lines_of_node, stamp, w, came, ticked}
+use Rattle.crsm_examples.proofs.Opened.{the_model}
+
+abbrev turns : List (Turn × ℕ)
+turns =
+    came 5 1 (3 ∷ 1 ∷ w 0 ++ 1 ∷ w 0 ++ w 1 ++ 8 ∷ w 1 ++ 1 ∷ w 0 ++ 0 ∷ 0 ∷ 0 ∷ 0 ∷ 2 ∷ w 0 ++ w 5 ++ w 0 ++ 7 ∷ w 1 ++ 1 ∷ 1 ∷ 97 ∷ w 0 ++ w 6 ++ 1 ∷ w 7 ++ w 1 ++ 1 ∷ 1 ∷ 97 ∷ [])
+    ∷ came 5 1 (3 ∷ 1 ∷ w 0 ++ 1 ∷ w 1 ++ w 1 ++ 8 ∷ w 1 ++ 2 ∷ 0 ∷ 3 ∷ w 0 ++ 0 ∷ 0 ∷ 0 ∷ 2 ∷ w 0 ++ w 5 ++ w 0 ++ 7 ∷ w 1 ++ 1 ∷ 1 ∷ 97 ∷ w 0 ++ w 6 ++ 1 ∷ w 7 ++ w 1 ++ 1 ∷ 1 ∷ 97 ∷ [])
+    ∷ came 5 1 (3 ∷ 1 ∷ w 0 ++ 1 ∷ w 2 ++ w 1 ++ 8 ∷ w 1 ++ 3 ∷ 0 ∷ 1 ∷ 2 ∷ w 0 ++ 0 ∷ 0 ∷ 0 ∷ 2 ∷ w 0 ++ w 5 ++ w 0 ++ 7 ∷ w 1 ++ 1 ∷ 1 ∷ 97 ∷ w 0 ++ w 6 ++ 1 ∷ w 7 ++ w 1 ++ 1 ∷ 1 ∷ 97 ∷ [])
+    ∷ ticked 9
+    ∷ []
+
+lines : lines_of_node 0 3 turns ≡
+    (Line.Boot 0 1 ∷
+    Line.Enter 0 0 ∷ [])
+    ∷ []
+    ∷ []
+    ∷ (Line.Decide 0 1 (0 ∷ 1 ∷ 2 ∷ []) 0 2 ∷
+    Line.Exec 0 0 0 (stamp 5 0) 7 1 Answer.Missing ∷
+    Line.Exec 0 1 0 (stamp 6 1) 7 1 Answer.Missing ∷
+    Line.Enter 0 1 ∷ [])
+    ∷ []
+    ∷ []
+unfolding the_model
+lines = refl
