@@ -2,14 +2,14 @@
 use Rattle.std.proofs.Common.{◌≡◌, List, [], ◌∷◌, ◌++◌, ℕ, refl}
 use Rattle.crsm_spec.specs.Types.{Answer, Line}
 use Rattle.crsm_spec.specs.Node.{Turn}
-use Rattle.crsm_examples.specs.Words.{lines_of_node, stamp, w, came, ticked}
+use Rattle.crsm_examples.specs.Words.{lines_of_node, stamp, u64, u32, came, ticked}
 use Rattle.crsm_examples.proofs.Opened.{the_model}
 
 abbrev turns : List (Turn × ℕ)
 turns =
-    came 5 1 (3 ∷ 1 ∷ w 0 ++ 1 ∷ w 0 ++ w 1 ++ 8 ∷ w 1 ++ 1 ∷ w 0 ++ 0 ∷ 0 ∷ 0 ∷ 0 ∷ 2 ∷ w 0 ++ w 5 ++ w 0 ++ 7 ∷ w 1 ++ 1 ∷ 1 ∷ 97 ∷ w 0 ++ w 6 ++ 1 ∷ w 7 ++ w 1 ++ 1 ∷ 1 ∷ 97 ∷ [])
-    ∷ came 5 1 (3 ∷ 1 ∷ w 0 ++ 1 ∷ w 1 ++ w 1 ++ 8 ∷ w 1 ++ 2 ∷ 0 ∷ 3 ∷ w 0 ++ 0 ∷ 0 ∷ 0 ∷ 2 ∷ w 0 ++ w 5 ++ w 0 ++ 7 ∷ w 1 ++ 1 ∷ 1 ∷ 97 ∷ w 0 ++ w 6 ++ 1 ∷ w 7 ++ w 1 ++ 1 ∷ 1 ∷ 97 ∷ [])
-    ∷ came 5 1 (3 ∷ 1 ∷ w 0 ++ 1 ∷ w 2 ++ w 1 ++ 8 ∷ w 1 ++ 3 ∷ 0 ∷ 1 ∷ 2 ∷ w 0 ++ 0 ∷ 0 ∷ 0 ∷ 2 ∷ w 0 ++ w 5 ++ w 0 ++ 7 ∷ w 1 ++ 1 ∷ 1 ∷ 97 ∷ w 0 ++ w 6 ++ 1 ∷ w 7 ++ w 1 ++ 1 ∷ 1 ∷ 97 ∷ [])
+    came 5 1 (3 ∷ 1 ∷ 0 ∷ u64 1 ++ u64 0 ++ u32 0 ++ u32 1 ++ 8 ∷ u64 1 ++ 1 ∷ 0 ∷ u64 0 ++ u32 2 ++ u64 0 ++ u64 5 ++ 0 ∷ u64 7 ++ u64 1 ++ 1 ∷ 1 ∷ 97 ∷ u64 0 ++ u64 6 ++ 1 ∷ u64 7 ++ u64 1 ++ 1 ∷ 1 ∷ 97 ∷ [])
+    ∷ came 5 1 (3 ∷ 1 ∷ 0 ∷ u64 1 ++ u64 1 ++ u32 0 ++ u32 1 ++ 8 ∷ u64 1 ++ 2 ∷ 0 ∷ 3 ∷ u64 0 ++ u32 2 ++ u64 0 ++ u64 5 ++ 0 ∷ u64 7 ++ u64 1 ++ 1 ∷ 1 ∷ 97 ∷ u64 0 ++ u64 6 ++ 1 ∷ u64 7 ++ u64 1 ++ 1 ∷ 1 ∷ 97 ∷ [])
+    ∷ came 5 1 (3 ∷ 1 ∷ 0 ∷ u64 1 ++ u64 2 ++ u32 0 ++ u32 1 ++ 8 ∷ u64 1 ++ 3 ∷ 0 ∷ 1 ∷ 2 ∷ u64 0 ++ u32 2 ++ u64 0 ++ u64 5 ++ 0 ∷ u64 7 ++ u64 1 ++ 1 ∷ 1 ∷ 97 ∷ u64 0 ++ u64 6 ++ 1 ∷ u64 7 ++ u64 1 ++ 1 ∷ 1 ∷ 97 ∷ [])
     ∷ ticked 9
     ∷ []
 

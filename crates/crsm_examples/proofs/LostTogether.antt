@@ -3,7 +3,7 @@ use Rattle.std.proofs.Common.{◌≡◌, List, [], ◌∷◌, ◌++◌, refl}
 use Rattle.std.specs.Prelude.{Some}
 use Rattle.crsm_spec.specs.Types.{Op, Line, State, SendKind}
 use Rattle.crsm_spec.specs.Acts.{Act}
-use Rattle.crsm_examples.specs.Words.{replay, request, w}
+use Rattle.crsm_examples.specs.Words.{replay, request, u64}
 use Rattle.crsm_examples.proofs.Opened.{the_model}
 
 abbrev schedule : List Act
@@ -20,9 +20,9 @@ transcript : replay 2 schedule ≡ Some (
     Line.Boot 1 1 ∷
     Line.Enter 1 0 ∷ [])
     ∷ (Line.Submit 0 0 5 7 1 ∷
-    Line.Send 0 0 1 SendKind.Frame (1 ∷ 0 ∷ 1 ∷ w 0 ++ w 0 ++ 1 ∷ w 0 ++ w 5 ++ w 0 ++ 7 ∷ w 1 ++ 2 ∷ 1 ∷ 97 ∷ 0 ∷ 1 ∷ 98 ∷ []) ∷ [])
+    Line.Send 0 0 1 SendKind.Frame (1 ∷ 0 ∷ 1 ∷ u64 0 ++ u64 0 ++ 1 ∷ u64 0 ++ u64 5 ++ 0 ∷ u64 7 ++ u64 1 ++ 2 ∷ 1 ∷ 97 ∷ 0 ∷ 1 ∷ 98 ∷ []) ∷ [])
     ∷ (Line.Submit 0 0 6 7 2 ∷
-    Line.Send 1 0 1 SendKind.Frame (1 ∷ 0 ∷ 1 ∷ w 0 ++ w 1 ++ 1 ∷ w 0 ++ w 6 ++ w 0 ++ 7 ∷ w 2 ++ 1 ∷ 1 ∷ 97 ∷ []) ∷ [])
+    Line.Send 1 0 1 SendKind.Frame (1 ∷ 0 ∷ 1 ∷ u64 0 ++ u64 1 ++ 1 ∷ u64 0 ++ u64 6 ++ 0 ∷ u64 7 ++ u64 2 ++ 1 ∷ 1 ∷ 97 ∷ []) ∷ [])
     ∷ (Line.Down 1 ∷ [])
     ∷ (Line.Boot 1 2 ∷ [])
     ∷ (Line.Final 0 State.Live 0 0 ∷

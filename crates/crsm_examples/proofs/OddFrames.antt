@@ -2,19 +2,19 @@
 use Rattle.std.proofs.Common.{◌≡◌, List, [], ◌∷◌, ◌++◌, ℕ, refl}
 use Rattle.crsm_spec.specs.Types.{Line}
 use Rattle.crsm_spec.specs.Node.{Turn}
-use Rattle.crsm_examples.specs.Words.{lines_of_node, w, came}
+use Rattle.crsm_examples.specs.Words.{lines_of_node, u64, came}
 use Rattle.crsm_examples.proofs.Opened.{the_model}
 
 abbrev turns : List (Turn × ℕ)
 turns =
-    came 5 9 (1 ∷ 1 ∷ w 0 ++ w 0 ++ 0 ∷ 3 ∷ w 0 ++ [])
-    ∷ came 5 9 (1 ∷ 1 ∷ w 0 ++ w 0 ++ 0 ∷ 1 ∷ w 0 ++ w 5 ++ 2 ∷ w 7 ++ w 1 ++ 1 ∷ 1 ∷ 97 ∷ [])
-    ∷ came 5 9 (1 ∷ 1 ∷ w 0 ++ w 0 ++ 0 ∷ 1 ∷ w 1 ++ w 5 ++ 1 ∷ w 7 ++ w 1 ++ 1 ∷ 1 ∷ 97 ∷ [])
-    ∷ came 5 9 (1 ∷ 1 ∷ w 0 ++ w 0 ++ 1 ∷ 3 ∷ w 0 ++ [])
-    ∷ came 5 9 (1 ∷ 1 ∷ w 0 ++ w 0 ++ 0 ∷ 2 ∷ w 5 ++ 3 ∷ w 7 ++ [])
-    ∷ came 5 9 (1 ∷ 1 ∷ w 0 ++ w 0 ++ 0 ∷ 3 ∷ w 9 ++ [])
-    ∷ came 5 9 (1 ∷ 1 ∷ w 0 ++ w 0 ++ 0 ∷ 3 ∷ w 9 ++ [])
-    ∷ came 5 9 (1 ∷ 1 ∷ w 0 ++ w 0 ++ 1 ∷ 3 ∷ w 9 ++ [])
+    came 5 9 (1 ∷ 1 ∷ 0 ∷ u64 0 ++ u64 0 ++ 3 ∷ u64 0 ++ [])
+    ∷ came 5 9 (1 ∷ 1 ∷ 0 ∷ u64 0 ++ u64 0 ++ 1 ∷ u64 0 ++ u64 5 ++ 2 ∷ u64 7 ++ u64 1 ++ 1 ∷ 1 ∷ 97 ∷ [])
+    ∷ came 5 9 (1 ∷ 1 ∷ 0 ∷ u64 0 ++ u64 0 ++ 1 ∷ u64 1 ++ u64 5 ++ 1 ∷ u64 7 ++ u64 1 ++ 1 ∷ 1 ∷ 97 ∷ [])
+    ∷ came 5 9 (1 ∷ 1 ∷ 0 ∷ u64 0 ++ u64 1 ++ 3 ∷ u64 0 ++ [])
+    ∷ came 5 9 (1 ∷ 1 ∷ 0 ∷ u64 0 ++ u64 0 ++ 2 ∷ u64 5 ++ 3 ∷ u64 7 ++ [])
+    ∷ came 5 9 (1 ∷ 1 ∷ 0 ∷ u64 0 ++ u64 0 ++ 3 ∷ u64 9 ++ [])
+    ∷ came 5 9 (1 ∷ 1 ∷ 0 ∷ u64 0 ++ u64 0 ++ 3 ∷ u64 9 ++ [])
+    ∷ came 5 9 (1 ∷ 1 ∷ 0 ∷ u64 0 ++ u64 1 ++ 3 ∷ u64 9 ++ [])
     ∷ []
 
 lines : lines_of_node 0 3 turns ≡
@@ -23,10 +23,10 @@ lines : lines_of_node 0 3 turns ≡
     ∷ []
     ∷ []
     ∷ []
-    ∷ (Line.Out 1 (2 ∷ 0 ∷ 1 ∷ w 0 ++ w 0 ++ []) ∷ [])
+    ∷ (Line.Out 1 (2 ∷ 0 ∷ 1 ∷ u64 0 ++ u64 0 ++ []) ∷ [])
     ∷ []
-    ∷ (Line.Out 1 (2 ∷ 0 ∷ 1 ∷ w 0 ++ w 1 ++ []) ∷ [])
-    ∷ (Line.Out 1 (2 ∷ 0 ∷ 1 ∷ w 0 ++ w 1 ++ []) ∷ [])
+    ∷ (Line.Out 1 (2 ∷ 0 ∷ 1 ∷ u64 0 ++ u64 1 ++ []) ∷ [])
+    ∷ (Line.Out 1 (2 ∷ 0 ∷ 1 ∷ u64 0 ++ u64 1 ++ []) ∷ [])
     ∷ []
     ∷ []
 unfolding the_model

@@ -21,9 +21,13 @@ stamp time origin = record { time = time; origin = origin }
 abbrev pub request : ℕ → ℕ → ℕ → ℕ → Op → Single
 request r t client number op = Single.Request r t (record { client = client; number = number; op = op })
 
+-- a number below 256 in four bytes
+abbrev pub u32 : ℕ → List ℕ
+u32 n = 0 ∷ 0 ∷ 0 ∷ n ∷ []
+
 -- a number below 256 in eight bytes
-abbrev pub w : ℕ → List ℕ
-w n = 0 ∷ 0 ∷ 0 ∷ 0 ∷ 0 ∷ 0 ∷ 0 ∷ n ∷ []
+abbrev pub u64 : ℕ → List ℕ
+u64 n = 0 ∷ 0 ∷ 0 ∷ 0 ∷ 0 ∷ 0 ∷ 0 ∷ n ∷ []
 
 -- ---- worlds
 
