@@ -1,0 +1,46 @@
+//! The clients in first-seen order, each with its last command.
+
+ghost use Rattle.std.specs.Prelude.{◌≡◌, ◌<◌, ℕ, IsOk, OnOk, length};
+ghost use Rattle.std.specs.Option.{option_copied};
+ghost use Rattle.indexmap.specs.IndexMap.{spare};
+ghost use Rattle.crsm_base.specs.Store.{client_row, with_client};
+ghost use Rattle.crsm_kv.specs.Clients.{clients_of, row_of, client_of};
+
+use crsm_base::{Answer, NoMemory};
+use indexmap::IndexMap;
+
+/// A client's last command, and the answer to it.
+#[derive(Drop)]
+pub struct Kept {
+    pub number: u64,
+    pub answer: Answer,
+}
+
+/// The clients' last commands, in the order in which the clients were first seen.
+pub type Clients = IndexMap<u64, Kept>;
+
+/// The client's last command.
+#[tactic(auto, using(crate::proofs::ClientsLemmas::clients_rules))]
+pub fn last_of(clients: &Clients, client: u64) -> Option<&Kept>
+    ensures { client_row client (clients_of clients.now.entries) ≡ row_of client (option_copied result) }
+{
+    clients.get(&client)
+}
+
+/// How many clients there are.
+#[tactic(auto, using(crate::proofs::ClientsLemmas::clients_rules))]
+pub fn count(clients: &Clients) -> usize
+    ensures { result ≡ length (clients_of clients.now.entries) }
+{
+    clients.len()
+}
+
+/// Keeps the client's last command. With room for one client more it succeeds.
+#[tactic(auto, using(crate::proofs::ClientsLemmas::clients_rules))]
+pub fn keep(clients: &mut Clients, client: u64, kept: Kept) -> Result<(), NoMemory>
+    ensures kept { OnOk result (clients_of clients.new.entries ≡ with_client (client_of (client, kept)) (clients_of clients.old.entries)) }
+    ensures succeeds { 0 < spare clients.old → IsOk result }
+{
+    clients.insert(client, kept)?;
+    Ok(())
+}

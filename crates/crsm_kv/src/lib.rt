@@ -1,0 +1,8 @@
+//! The sequential store: keys with their values, and the last answer to each client.
+#![tactic(auto)]
+
+mod clients;
+mod keys;
+mod store;
+
+pub use store::Store;

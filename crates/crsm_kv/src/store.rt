@@ -1,0 +1,99 @@
+//! The store.
+
+ghost use Rattle.std.specs.Prelude.{◌≡◌, IfOk, OnErr, OnOk, length};
+ghost use Rattle.std.specs.Option.{option_copied};
+ghost use Rattle.crsm_base.specs.Store.{no_rows, apply, serve, client_row, value_at, done, operate};
+
+use crate::clients::{self, Clients, Kept};
+use crate::keys::{self, Keys};
+use crsm_base::{Answer, Command, Key, MAX_CLIENTS, NoMemory, Val};
+use indexmap::IndexMap;
+use std::alloc::Global;
+use std::collections::BTreeMap;
+use std::marker::Model;
+
+/// The sequential store: the keys with their values, and the last command of each client in
+/// first-seen order. A contract sees the two as lists of rows.
+#[derive(Drop)]
+pub struct Store {
+    alloc: Global,
+    keys: Keys,
+    clients: Clients,
+}
+
+impl Model for Store {
+    ghost use Rattle.crsm_base.specs.Store.{Rows};
+    ghost use Rattle.crsm_kv.specs.Clients.{clients_of};
+
+    ghost Value = { Rows };
+
+    ghost view = { λ s. record { keys = s.keys.entries; clients = clients_of s.clients.entries } };
+}
+
+impl Store {
+    #[tactic(auto, unfolding(crsm_base::specs::Store::no_rows, crate::specs::Clients::clients_of))]
+    /// A store with no key and no client.
+    pub fn new(alloc: Global) -> Result<Store, NoMemory>
+        ensures { IfOk result (λ s. s ≡ no_rows) }
+    {
+        Ok(Store {
+            alloc,
+            keys: BTreeMap::new(alloc),
+            clients: IndexMap::new(alloc),
+        })
+    }
+
+    #[tactic(auto, unfolding(crsm_base::specs::Store::apply, crsm_base::specs::Store::serve))]
+    /// Does the command, unless its client was answered already, and answers it. A client's answer
+    /// is kept for the same number again. After an error the store is as before.
+    pub fn apply(&mut self, command: &Command) -> Result<Answer, NoMemory>
+        ensures done { IfOk result (λ answer. (self.new, answer) ≡ apply self.old command.now) }
+        ensures err { OnErr result (self.new ≡ self.old) }
+    {
+        match clients::last_of(&self.clients, command.client) {
+            Some(kept) if command.number == kept.number => kept.answer.copy(self.alloc),
+            Some(kept) if command.number < kept.number => Ok(Answer::Stale(kept.number)),
+            None if clients::count(&self.clients) >= MAX_CLIENTS as usize => Ok(Answer::NoRoom),
+            _ => self.execute(command),
+        }
+    }
+
+    #[tactic(auto, unfolding(crsm_base::specs::Store::done))]
+    /// Does the command of a client that is kept or has room.
+    fn execute(&mut self, command: &Command) -> Result<Answer, NoMemory>
+        ensures done { IfOk result (λ answer. (self.new, answer) ≡ done self.old command.now (operate self.old.keys command.now.op)) }
+        ensures err { OnErr result (self.new ≡ self.old) }
+    {
+        let answer = keys::answer_to(self.alloc, &self.keys, &command.op)?;
+        let kept = Kept {
+            number: command.number,
+            answer: answer.copy(self.alloc)?,
+        };
+        // The client's row has its room before a key changes, so that nothing is to be undone.
+        self.clients.reserve(1)?;
+        keys::change(self.alloc, &mut self.keys, &command.op)?;
+        clients::keep(&mut self.clients, command.client, kept)?;
+        Ok(answer)
+    }
+
+    /// The value of the key.
+    pub fn get(&self, key: &Key) -> Option<&Val>
+        ensures { option_copied result ≡ value_at key.now self.now.keys }
+    {
+        keys::value_of(&self.keys, key)
+    }
+
+    /// How many clients are kept.
+    pub fn clients(&self) -> u64
+        ensures { result ≡ length self.now.clients }
+    {
+        clients::count(&self.clients) as u64
+    }
+
+    /// How many keys there are.
+    pub fn keys(&self) -> u64
+        ensures { result ≡ length self.now.keys }
+    {
+        self.keys.len() as u64
+    }
+}
