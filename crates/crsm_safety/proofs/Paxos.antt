@@ -1,0 +1,11 @@
+pub mod Majority
+pub mod Best
+pub mod Instances
+pub mod Possible
+pub mod Owned
+pub mod Repeats
+pub mod Laws
+pub mod Basics
+pub mod Proposers
+pub mod Worlds
+pub mod PossibleDecision

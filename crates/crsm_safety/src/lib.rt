@@ -1,0 +1,11 @@
+//! The laws of the protocol: functions with no code, each of which has a law as its contract.
+#![tactic(auto)]
+
+mod instances;
+mod one_instance;
+
+pub use instances::{instances_agree, possible_decision};
+pub use one_instance::{
+    best_answer, choice, held_vote, one_more_step, own_value, possible_choice, proposer,
+    repeated_answer,
+};
