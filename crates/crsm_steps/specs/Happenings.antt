@@ -1,0 +1,56 @@
+-- What may happen in a world at a moment, of whatever act: so a law about runs is an induction over moments.
+use Rattle.std.specs.Prelude.{◌≡◌, ℕ, ◌<◌, ◌^◌, ◌⊎◌, Bool, false, List, [], ◌∷◌, length, Some, slice_get}
+use Rattle.crsm_base.specs.Members.{IsMembers}
+use Rattle.crsm_base.specs.Spelling.{FitsCommand}
+use Rattle.crsm_spec.specs.Types.{Command, Datagram}
+use Rattle.crsm_spec.specs.Lists.{Among}
+use Rattle.crsm_spec.specs.Replica.{Replica}
+use Rattle.crsm_spec.specs.Draft.{Draft, begun}
+use Rattle.crsm_spec.specs.Step.{Input, step}
+use Rattle.crsm_spec.specs.World.{Site, World, Moment, begin, is_up_at, whole_step, cut_step, lost_step, down}
+use Rattle.crsm_spec.specs.Moments.{use_up, silent, begun_at, start_at}
+
+-- some datagrams of the world are marked as used
+pub data Marks (w : World) : World → Type 0 where
+  none : Marks w w
+  mark : {v : World} (i : ℕ) → Marks w v → Marks w (use_up i v)
+
+-- the datagram was sent, whether it is used by now or not
+abbrev pub WasSent : World → ℕ → ℕ → Datagram → Type 0
+WasSent w from to d = (used : Bool) × Among w.mail (record { from = from; to = to; datagram = d; used = used })
+
+-- An input that can come to replica k: a datagram that was sent to it, a client's command, a tick or a suspicion.
+pub data CanCome (w : World) (k : ℕ) : Input → Type 0 where
+  IsMail : (from : ℕ) (d : Datagram) → WasSent w from k d → CanCome w k (Input.Came from d)
+  IsCommand : (c : Command) → FitsCommand c → CanCome w k (Input.Came c.client (Datagram.Request c))
+  IsTick : CanCome w k Input.Ticked
+  IsSuspicion : (ms : List ℕ) → IsMembers ms → CanCome w k (Input.Suspected ms)
+
+-- A step ends whole, or is stopped with its batch kept or without.
+pub data Ends (w : World) (k : ℕ) (x : Draft) : Moment → Type 0 where
+  IsWhole : Ends w k x (whole_step w k x)
+  IsCut : (count : ℕ) → Ends w k x (cut_step count w k x)
+  IsLost : Ends w k x (lost_step w k x)
+
+-- What happens at one moment.
+pub data Happens (w : World) : Moment → Type 0 where
+  -- no replica steps: some datagrams are lost
+  Nothing : (v : World) → Marks w v → Happens w (silent w v)
+  -- a replica makes a step, on a datagram that is used from then on or on anything else that can come
+  Steps : (v : World) → Marks w v → (k : ℕ) (r : Replica) → slice_get v.sites k ≡ Some (Site.Up r) → (input : Input) (reading : ℕ) → reading < 2 ^ 64 →
+      CanCome w k input → (m : Moment) → Ends v k (step r input reading) m → Happens w (begun_at w m)
+  -- bytes that are no datagram reach a replica
+  Junk : (k : ℕ) (r : Replica) → slice_get w.sites k ≡ Some (Site.Up r) → (m : Moment) → Ends w k (begun r) m → Happens w (begun_at w m)
+  Stops : (k : ℕ) → Happens w (down w k)
+  -- a replica that is down starts, or the next new one
+  Starts : (k : ℕ) → is_up_at w k ≡ false → (k < length w.sites) ⊎ ((k ≡ length w.sites) × (k < 15)) → Happens w (start_at w k)
+
+-- A world that a cluster of n replicas reaches.
+pub data IsReached (n : ℕ) : World → Type 0 where
+  first : IsReached n (begin n)
+  next : {w : World} {m : Moment} → IsReached n w → Happens w m → IsReached n m.after
+
+-- Each of these moments goes on from the one before, beginning at w, and is one that can happen there.
+abbrev pub GoOn : World → List Moment → Type 0
+GoOn w [] = Unit {0}
+GoOn w (m ∷ ms) = (m.before ≡ w) × Happens w m × GoOn m.after ms

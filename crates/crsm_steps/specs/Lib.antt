@@ -1,0 +1,4 @@
+pub mod Messages
+pub mod Changes
+pub mod Happenings
+pub mod Laws
