@@ -1,0 +1,12 @@
+//! The texts of schedules and transcripts: events are read from lines, and lines of a transcript are printed.
+#![tactic(auto)]
+
+mod event;
+mod numbers;
+mod print;
+mod single;
+
+pub use crsm_text::LineError;
+pub use event::{Event, Single};
+pub use numbers::Numbers;
+pub use print::{print_line, print_outcome};

@@ -1,0 +1,52 @@
+//! Lists of numbers of datagrams.
+
+ghost use Rattle.std.specs.Prelude.{◌≡◌, [], ◌∷◌, ◌++◌, IfOk, OnOk, OnErr};
+
+use crsm_base::NoMemory;
+use std::alloc::Global;
+use std::marker::Model;
+
+/// A list of numbers of datagrams.
+#[derive(Debug, Drop)]
+pub struct Numbers {
+    items: Vec<u64>,
+}
+
+impl Model for Numbers {
+    ghost use Rattle.std.specs.Prelude.{List, ℕ};
+
+    ghost Value = { List ℕ };
+
+    ghost view = { λ n. n.items.items };
+}
+
+impl Numbers {
+    pub fn new(alloc: Global) -> Numbers
+        ensures { result ≡ [] }
+    {
+        Numbers {
+            items: Vec::new(alloc),
+        }
+    }
+
+    pub fn push(&mut self, item: u64) -> Result<(), NoMemory>
+        ensures ok { OnOk result (self.new ≡ self.old ++ item ∷ []) }
+        ensures err { OnErr result (self.new ≡ self.old) }
+    {
+        self.items.push(item)?;
+        Ok(())
+    }
+
+    pub fn as_slice(&self) -> &[u64]
+        ensures { result.now ≡ self.now }
+    {
+        self.items.as_slice()
+    }
+
+    pub fn copy(&self, alloc: Global) -> Result<Numbers, NoMemory>
+        ensures { IfOk result (λ copy. copy ≡ self.now) }
+    {
+        let items = Vec::from_slice(alloc, self.items.as_slice())?;
+        Ok(Numbers { items })
+    }
+}

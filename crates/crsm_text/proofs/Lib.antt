@@ -1,0 +1,4 @@
+pub mod WordsLemmas
+pub mod Named
+pub mod Texts
+pub mod Commas
