@@ -1,0 +1,15 @@
+//! Clocks, and the times that a replica issues from their readings.
+#![tactic(auto)]
+
+mod clock;
+mod list;
+mod rising;
+mod system;
+
+pub use clock::Clock;
+pub use list::ListClock;
+pub use rising::{Rising, issues_rise};
+pub use system::SystemClock;
+
+#[cfg(test)]
+mod tests;
