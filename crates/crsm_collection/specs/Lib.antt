@@ -1,0 +1,8 @@
+pub mod Counting
+pub mod Collecting
+pub mod Frozen
+pub mod Premises
+pub mod Paging
+pub mod Merging
+pub mod Starts
+pub mod Keeping
