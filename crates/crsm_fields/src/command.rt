@@ -1,0 +1,170 @@
+//! Operations, commands and entries.
+
+ghost use Rattle.std.specs.Prelude.{◌≡◌, ◌++◌, IfOk, OnOk};
+ghost use Rattle.std.specs.Option.{option_map};
+ghost use Rattle.crsm_base.specs.Spelling.{op_bytes, FitsOp, command_bytes, FitsCommand, entry_bytes, FitsEntry};
+ghost use Rattle.crsm_base.specs.Reading.{get_at, put_at, delete_at, cas_at, op_at, command_at, entry_at};
+
+use crate::number::{put_u8, put_u64, take_u8, take_u64};
+use crate::stamp::{put_stamp, take_stamp};
+use crate::value::{put_key, put_option_val, put_val, take_key, take_option_val, take_val};
+use crsm_base::{Bytes, Command, Entry, NoMemory, Op};
+use std::alloc::Global;
+
+/// Appends the spelling of an operation.
+#[tactic(auto, unfolding(crsm_base::specs::Spelling::op_bytes))]
+pub fn put_op(op: &Op, out: &mut Bytes) -> Result<(), NoMemory>
+    requires { FitsOp op.now }
+    ensures { OnOk result (out.new ≡ out.old ++ op_bytes op.now) }
+{
+    match op {
+        Op::Get(key) => {
+            put_u8(1, out)?;
+            put_key(key, out)
+        }
+        Op::Put(key, val) => {
+            put_u8(2, out)?;
+            put_key(key, out)?;
+            put_val(val, out)
+        }
+        Op::Delete(key) => {
+            put_u8(3, out)?;
+            put_key(key, out)
+        }
+        Op::Cas(key, expected, new) => {
+            put_u8(4, out)?;
+            put_key(key, out)?;
+            put_option_val(expected, out)?;
+            put_option_val(new, out)
+        }
+    }
+}
+
+/// Appends the spelling of a command.
+#[tactic(auto, unfolding(crsm_base::specs::Spelling::command_bytes))]
+pub fn put_command(command: &Command, out: &mut Bytes) -> Result<(), NoMemory>
+    requires { FitsCommand command.now }
+    ensures { OnOk result (out.new ≡ out.old ++ command_bytes command.now) }
+{
+    put_u64(command.client, out)?;
+    put_u64(command.number, out)?;
+    put_op(&command.op, out)
+}
+
+/// Appends the spelling of an entry.
+#[tactic(auto, unfolding(crsm_base::specs::Spelling::entry_bytes))]
+pub fn put_entry(entry: &Entry, out: &mut Bytes) -> Result<(), NoMemory>
+    requires { FitsEntry entry.now }
+    ensures { OnOk result (out.new ≡ out.old ++ entry_bytes entry.now) }
+{
+    put_u64(entry.epoch, out)?;
+    put_stamp(entry.stamp, out)?;
+    put_command(&entry.command, out)
+}
+
+#[tactic(auto, unfolding(crsm_base::specs::Reading::get_at))]
+fn take_get(alloc: Global, bytes: &[u8]) -> Result<Option<(Op, &[u8])>, NoMemory>
+    ensures { IfOk result (λ r. option_map (λ x. (x.0, x.1.now)) r ≡ get_at bytes.now) }
+{
+    let Some((key, rest)) = take_key(alloc, bytes)? else {
+        return Ok(None);
+    };
+    Ok(Some((Op::Get(key), rest)))
+}
+
+#[tactic(auto, unfolding(crsm_base::specs::Reading::put_at))]
+fn take_put(alloc: Global, bytes: &[u8]) -> Result<Option<(Op, &[u8])>, NoMemory>
+    ensures { IfOk result (λ r. option_map (λ x. (x.0, x.1.now)) r ≡ put_at bytes.now) }
+{
+    let Some((key, rest)) = take_key(alloc, bytes)? else {
+        return Ok(None);
+    };
+    let Some((val, rest)) = take_val(alloc, rest)? else {
+        return Ok(None);
+    };
+    Ok(Some((Op::Put(key, val), rest)))
+}
+
+#[tactic(auto, unfolding(crsm_base::specs::Reading::delete_at))]
+fn take_delete(alloc: Global, bytes: &[u8]) -> Result<Option<(Op, &[u8])>, NoMemory>
+    ensures { IfOk result (λ r. option_map (λ x. (x.0, x.1.now)) r ≡ delete_at bytes.now) }
+{
+    let Some((key, rest)) = take_key(alloc, bytes)? else {
+        return Ok(None);
+    };
+    Ok(Some((Op::Delete(key), rest)))
+}
+
+#[tactic(auto, unfolding(crsm_base::specs::Reading::cas_at))]
+fn take_cas(alloc: Global, bytes: &[u8]) -> Result<Option<(Op, &[u8])>, NoMemory>
+    ensures { IfOk result (λ r. option_map (λ x. (x.0, x.1.now)) r ≡ cas_at bytes.now) }
+{
+    let Some((key, rest)) = take_key(alloc, bytes)? else {
+        return Ok(None);
+    };
+    let Some((expected, rest)) = take_option_val(alloc, rest)? else {
+        return Ok(None);
+    };
+    let Some((new, rest)) = take_option_val(alloc, rest)? else {
+        return Ok(None);
+    };
+    Ok(Some((Op::Cas(key, expected, new), rest)))
+}
+
+/// Takes an operation off the front of the bytes: the value and the bytes after it.
+#[tactic(auto, unfolding(crsm_base::specs::Reading::op_at))]
+pub fn take_op(alloc: Global, bytes: &[u8]) -> Result<Option<(Op, &[u8])>, NoMemory>
+    ensures { IfOk result (λ r. option_map (λ x. (x.0, x.1.now)) r ≡ op_at bytes.now) }
+{
+    let Some((tag, rest)) = take_u8(bytes) else {
+        return Ok(None);
+    };
+    match tag {
+        1 => take_get(alloc, rest),
+        2 => take_put(alloc, rest),
+        3 => take_delete(alloc, rest),
+        4 => take_cas(alloc, rest),
+        _ => Ok(None),
+    }
+}
+
+/// Takes a command off the front of the bytes: the value and the bytes after it.
+#[tactic(auto, unfolding(crsm_base::specs::Reading::command_at))]
+pub fn take_command(alloc: Global, bytes: &[u8]) -> Result<Option<(Command, &[u8])>, NoMemory>
+    ensures { IfOk result (λ r. option_map (λ x. (x.0, x.1.now)) r ≡ command_at bytes.now) }
+{
+    let Some((client, rest)) = take_u64(bytes) else {
+        return Ok(None);
+    };
+    let Some((number, rest)) = take_u64(rest) else {
+        return Ok(None);
+    };
+    let Some((op, rest)) = take_op(alloc, rest)? else {
+        return Ok(None);
+    };
+    Ok(Some((Command { client, number, op }, rest)))
+}
+
+/// Takes an entry off the front of the bytes: the value and the bytes after it.
+#[tactic(auto, unfolding(crsm_base::specs::Reading::entry_at))]
+pub fn take_entry(alloc: Global, bytes: &[u8]) -> Result<Option<(Entry, &[u8])>, NoMemory>
+    ensures { IfOk result (λ r. option_map (λ x. (x.0, x.1.now)) r ≡ entry_at bytes.now) }
+{
+    let Some((epoch, rest)) = take_u64(bytes) else {
+        return Ok(None);
+    };
+    let Some((stamp, rest)) = take_stamp(rest) else {
+        return Ok(None);
+    };
+    let Some((command, rest)) = take_command(alloc, rest)? else {
+        return Ok(None);
+    };
+    Ok(Some((
+        Entry {
+            epoch,
+            stamp,
+            command,
+        },
+        rest,
+    )))
+}

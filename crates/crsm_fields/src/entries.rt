@@ -1,0 +1,93 @@
+//! Lists of entries.
+
+ghost use Rattle.std.specs.Prelude.{◌≡◌, ◌++◌, IfOk, OnOk};
+ghost use Rattle.std.specs.Option.{option_map};
+ghost use Rattle.crsm_base.specs.Order.{entry_lt};
+ghost use Rattle.crsm_base.specs.Spelling.{entries_bytes, FitsEntries};
+ghost use Rattle.crsm_base.specs.Reading.{many_entries_at, is_rising, entries_at};
+
+use crate::command::{put_entry, take_entry};
+use crate::number::{put_u32, take_u32};
+use crsm_base::{Bytes, Entries, Entry, MAX_TAIL_BYTES, MAX_TAIL_ENTRIES, NoMemory};
+use std::alloc::Global;
+
+/// Appends the spelling of a list of entries.
+#[tactic(auto, unfolding(crsm_base::specs::Spelling::entries_bytes))]
+pub fn put_entries(entries: &Entries, out: &mut Bytes) -> Result<(), NoMemory>
+    requires { FitsEntries entries.now }
+    ensures { OnOk result (out.new ≡ out.old ++ entries_bytes entries.now) }
+{
+    let items = entries.as_slice();
+    put_u32(items.len() as u32, out)?;
+    for entry in items {
+        put_entry(entry, out)?;
+    }
+    Ok(())
+}
+
+#[tactic(auto, unfolding(crsm_base::specs::Reading::many_entries_at))]
+fn take_many_entries(
+    alloc: Global,
+    count: u32,
+    bytes: &[u8],
+) -> Result<Option<(Entries, &[u8])>, NoMemory>
+    ensures { IfOk result (λ r. option_map (λ x. (x.0, x.1.now)) r ≡ many_entries_at count bytes.now) }
+{
+    let mut entries = Entries::new(alloc);
+    let mut rest = bytes;
+    for _ in 0..count {
+        let Some((entry, after)) = take_entry(alloc, rest)? else {
+            return Ok(None);
+        };
+        entries.push(entry)?;
+        rest = after;
+    }
+    Ok(Some((entries, rest)))
+}
+
+#[tactic(auto, unfolding(crsm_base::specs::Order::entry_lt, crsm_base::specs::Order::stamp_lt))]
+fn precedes(a: &Entry, b: &Entry) -> bool
+    ensures { result ≡ entry_lt a.now b.now }
+{
+    a.epoch < b.epoch || (a.epoch == b.epoch && a.stamp < b.stamp)
+}
+
+#[tactic(auto, unfolding(crsm_base::specs::Reading::is_rising))]
+fn rises(entries: &[Entry]) -> bool
+    ensures { result ≡ is_rising entries.now }
+{
+    let Some((first, others)) = entries.split_first() else {
+        return true;
+    };
+    let mut last = first;
+    for entry in others {
+        if !precedes(last, entry) {
+            return false;
+        }
+        last = entry;
+    }
+    true
+}
+
+/// Takes a list of entries off the front of the bytes: the value and the bytes after it.
+#[tactic(auto, unfolding(crsm_base::specs::Reading::entries_at))]
+pub fn take_entries(alloc: Global, bytes: &[u8]) -> Result<Option<(Entries, &[u8])>, NoMemory>
+    ensures { IfOk result (λ r. option_map (λ x. (x.0, x.1.now)) r ≡ entries_at bytes.now) }
+{
+    let Some((count, inner)) = take_u32(bytes) else {
+        return Ok(None);
+    };
+    if count > MAX_TAIL_ENTRIES {
+        return Ok(None);
+    }
+    let Some((entries, rest)) = take_many_entries(alloc, count, inner)? else {
+        return Ok(None);
+    };
+    if !rises(entries.as_slice()) {
+        return Ok(None);
+    }
+    if inner.len() > rest.len() + MAX_TAIL_BYTES as usize {
+        return Ok(None);
+    }
+    Ok(Some((entries, rest)))
+}

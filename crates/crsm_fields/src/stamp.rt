@@ -1,0 +1,80 @@
+//! Stamps and ballots.
+
+ghost use Rattle.std.specs.Prelude.{◌≡◌, ◌++◌, OnOk};
+ghost use Rattle.std.specs.Option.{option_map};
+ghost use Rattle.crsm_base.specs.Spelling.{option_bytes, FitsOption, stamp_bytes, FitsStamp, ballot_bytes, FitsBallot};
+ghost use Rattle.crsm_base.specs.Reading.{stamp_at, ballot_at};
+ghost use Rattle.crsm_base.specs.MessageReading.{option_stamp_at};
+
+use crate::number::{put_u8, put_u64, take_replica, take_u64};
+use crsm_base::{Ballot, Bytes, NoMemory, Stamp};
+
+/// Appends the spelling of a stamp.
+#[tactic(auto, unfolding(crsm_base::specs::Spelling::stamp_bytes))]
+pub fn put_stamp(stamp: Stamp, out: &mut Bytes) -> Result<(), NoMemory>
+    requires { FitsStamp stamp }
+    ensures { OnOk result (out.new ≡ out.old ++ stamp_bytes stamp) }
+{
+    put_u64(stamp.time, out)?;
+    put_u8(stamp.origin as u8, out)
+}
+
+/// Appends the spelling of a stamp that may be missing.
+pub fn put_option_stamp(stamp: Option<Stamp>, out: &mut Bytes) -> Result<(), NoMemory>
+    requires { FitsOption FitsStamp stamp }
+    ensures { OnOk result (out.new ≡ out.old ++ option_bytes stamp_bytes stamp) }
+{
+    match stamp {
+        None => put_u8(0, out),
+        Some(stamp) => {
+            put_u8(1, out)?;
+            put_stamp(stamp, out)
+        }
+    }
+}
+
+/// Appends the spelling of a ballot.
+#[tactic(auto, unfolding(crsm_base::specs::Spelling::ballot_bytes))]
+pub fn put_ballot(ballot: Ballot, out: &mut Bytes) -> Result<(), NoMemory>
+    requires { FitsBallot ballot }
+    ensures { OnOk result (out.new ≡ out.old ++ ballot_bytes ballot) }
+{
+    put_u64(ballot.round, out)?;
+    put_u8(ballot.by as u8, out)
+}
+
+/// Takes a stamp off the front of the bytes: the value and the bytes after it.
+#[tactic(auto, unfolding(crsm_base::specs::Reading::stamp_at))]
+pub fn take_stamp(bytes: &[u8]) -> Option<(Stamp, &[u8])>
+    ensures { option_map (λ x. (x.0, x.1.now)) result ≡ stamp_at bytes.now }
+{
+    let (time, rest) = take_u64(bytes)?;
+    let (origin, rest) = take_replica(rest)?;
+    Some((Stamp { time, origin }, rest))
+}
+
+/// Takes a stamp that may be missing off the front of the bytes: the value and the bytes after it.
+#[tactic(auto, unfolding(crsm_base::specs::MessageReading::option_stamp_at))]
+pub fn take_option_stamp(bytes: &[u8]) -> Option<(Option<Stamp>, &[u8])>
+    ensures { option_map (λ x. (x.0, x.1.now)) result ≡ option_stamp_at bytes.now }
+{
+    match bytes {
+        [] => None,
+        [0, rest @ ..] => Some((None, rest)),
+        [1, rest @ ..] => {
+            let (stamp, rest) = take_stamp(rest)?;
+            Some((Some(stamp), rest))
+        }
+        [_, ..] => None,
+    }
+}
+
+/// Takes a ballot off the front of the bytes: the value and the bytes after it.
+#[tactic(auto, unfolding(crsm_base::specs::Reading::ballot_at))]
+pub fn take_ballot(bytes: &[u8]) -> Option<(Ballot, &[u8])>
+    ensures { option_map (λ x. (x.0, x.1.now)) result ≡ ballot_at bytes.now }
+{
+    let (round, rest) = take_u64(bytes)?;
+    let (by, rest) = take_replica(rest)?;
+    Some((Ballot { round, by }, rest))
+}

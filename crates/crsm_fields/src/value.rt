@@ -1,0 +1,113 @@
+//! Keys and values.
+
+ghost use Rattle.std.specs.Prelude.{◌≡◌, ◌++◌, IfOk, OnOk};
+ghost use Rattle.std.specs.Option.{option_map};
+ghost use Rattle.crsm_base.specs.Spelling.{key_bytes, FitsKey, val_bytes, FitsVal, option_bytes, FitsOption};
+ghost use Rattle.crsm_base.specs.Reading.{key_at, val_at, option_val_at};
+
+use crate::number::{put_u8, put_u16, take_run, take_u8, take_u16};
+use crsm_base::{Bytes, Key, MAX_KEY_BYTES, MAX_VAL_BYTES, NoMemory, Val};
+use std::alloc::Global;
+
+/// Appends the spelling of a key.
+#[tactic(auto, unfolding(crsm_base::specs::Spelling::key_bytes))]
+pub fn put_key(key: &Key, out: &mut Bytes) -> Result<(), NoMemory>
+    requires { FitsKey key.now }
+    ensures { OnOk result (out.new ≡ out.old ++ key_bytes key.now) }
+{
+    let bytes = key.as_slice();
+    put_u8(bytes.len() as u8, out)?;
+    out.append(bytes)
+}
+
+/// Appends the spelling of a value.
+#[tactic(auto, unfolding(crsm_base::specs::Spelling::val_bytes))]
+pub fn put_val(val: &Val, out: &mut Bytes) -> Result<(), NoMemory>
+    requires { FitsVal val.now }
+    ensures { OnOk result (out.new ≡ out.old ++ val_bytes val.now) }
+{
+    let bytes = val.as_slice();
+    put_u16(bytes.len() as u16, out)?;
+    out.append(bytes)
+}
+
+/// Appends the spelling of a value that may be missing.
+pub fn put_option_val(val: &Option<Val>, out: &mut Bytes) -> Result<(), NoMemory>
+    requires { FitsOption FitsVal val.now }
+    ensures { OnOk result (out.new ≡ out.old ++ option_bytes val_bytes val.now) }
+{
+    match val {
+        None => put_u8(0, out),
+        Some(val) => {
+            put_u8(1, out)?;
+            put_val(val, out)
+        }
+    }
+}
+
+fn key_of(alloc: Global, bytes: &[u8]) -> Result<Key, NoMemory>
+    ensures { IfOk result (λ key. key ≡ bytes.now) }
+{
+    Key::from_slice(alloc, bytes)
+}
+
+fn val_of(alloc: Global, bytes: &[u8]) -> Result<Val, NoMemory>
+    ensures { IfOk result (λ val. val ≡ bytes.now) }
+{
+    Val::from_slice(alloc, bytes)
+}
+
+/// Takes a key off the front of the bytes: the value and the bytes after it.
+#[tactic(auto, unfolding(crsm_base::specs::Reading::key_at))]
+pub fn take_key(alloc: Global, bytes: &[u8]) -> Result<Option<(Key, &[u8])>, NoMemory>
+    ensures { IfOk result (λ r. option_map (λ x. (x.0, x.1.now)) r ≡ key_at bytes.now) }
+{
+    let Some((len, rest)) = take_u8(bytes) else {
+        return Ok(None);
+    };
+    if len < 1 || u32::from(len) > MAX_KEY_BYTES {
+        return Ok(None);
+    }
+    let Some((key, rest)) = take_run(len as usize, rest) else {
+        return Ok(None);
+    };
+    Ok(Some((key_of(alloc, key)?, rest)))
+}
+
+/// Takes a value off the front of the bytes: the value and the bytes after it.
+#[tactic(auto, unfolding(crsm_base::specs::Reading::val_at))]
+pub fn take_val(alloc: Global, bytes: &[u8]) -> Result<Option<(Val, &[u8])>, NoMemory>
+    ensures { IfOk result (λ r. option_map (λ x. (x.0, x.1.now)) r ≡ val_at bytes.now) }
+{
+    let Some((len, rest)) = take_u16(bytes) else {
+        return Ok(None);
+    };
+    if u32::from(len) > MAX_VAL_BYTES {
+        return Ok(None);
+    }
+    let Some((val, rest)) = take_run(len as usize, rest) else {
+        return Ok(None);
+    };
+    Ok(Some((val_of(alloc, val)?, rest)))
+}
+
+/// Takes a value that may be missing off the front of the bytes: the value and the bytes after it.
+#[tactic(auto, unfolding(crsm_base::specs::Reading::option_val_at))]
+pub fn take_option_val(
+    alloc: Global,
+    bytes: &[u8],
+) -> Result<Option<(Option<Val>, &[u8])>, NoMemory>
+    ensures { IfOk result (λ r. option_map (λ x. (x.0, x.1.now)) r ≡ option_val_at bytes.now) }
+{
+    match bytes {
+        [] => Ok(None),
+        [0, rest @ ..] => Ok(Some((None, rest))),
+        [1, rest @ ..] => {
+            let Some((val, rest)) = take_val(alloc, rest)? else {
+                return Ok(None);
+            };
+            Ok(Some((Some(val), rest)))
+        }
+        [_, ..] => Ok(None),
+    }
+}
