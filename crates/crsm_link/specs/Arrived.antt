@@ -1,0 +1,10 @@
+-- What a receiver knows of a link.
+use Rattle.std.specs.Prelude.{◌≡◌, ℕ, List, length}
+use Rattle.crsm_base.specs.declared.InEpoch.{InEpoch}
+use Rattle.crsm_spec.specs.Link.{taken}
+use Rattle.crsm_link.specs.declared.inbound.In.{In}
+
+-- The receiver's end stands for all frames that arrived, in the order in which they came, each with its number: it has
+-- given what is taken of them.
+abbrev pub HasTaken : In → List (ℕ × InEpoch) → Type 0
+HasTaken receiver arrived = receiver.next ≡ length (taken arrived)

@@ -1,0 +1,14 @@
+//! The two ends of a numbered link: the sender keeps what is not acknowledged, the receiver takes each frame once and
+//! in order.
+#![tactic(auto)]
+
+mod frames;
+mod inbound;
+mod outbound;
+
+pub use frames::Frames;
+pub use inbound::{In, Take, taken_is_a_prefix};
+pub use outbound::Out;
+
+#[cfg(test)]
+mod tests;

@@ -1,0 +1,91 @@
+//! The sender's end of a link.
+
+ghost use Rattle.std.specs.Prelude.{◌≡◌, ℕ, ◌+◌, ◌^◌, ◌<◌, ◌≤◌, [], ◌∷◌, ◌++◌, List, length, take, drop, max, IfOk, OnOk, OnErr, All};
+ghost use Rattle.std.specs.VecDeque.{deque_len};
+ghost use Rattle.crsm_base.specs.declared.InEpoch.{InEpoch};
+
+use crate::frames::Frames;
+use crsm_base::{InEpoch, MAX_SENT_AGAIN, NoMemory};
+use std::alloc::Global;
+use std::collections::VecDeque;
+
+/// The frames that were pushed and are not acknowledged, numbered from 0.
+#[derive(Drop)]
+pub struct Out {
+    alloc: Global,
+    /// The number of the first frame that is kept.
+    first: u64,
+    frames: VecDeque<InEpoch>,
+    ghost counted: { first + deque_len frames < 2 ^ 64 },
+}
+
+impl Out {
+    ghost use Rattle.crsm_link.specs.Sent.{StandsFor, unacked, pushed_count};
+
+    /// The end of a new link.
+    pub fn new(alloc: Global) -> Out
+        ensures fresh { StandsFor result [] 0 }
+    {
+        Out {
+            alloc,
+            first: 0,
+            frames: VecDeque::new(alloc),
+        }
+    }
+
+    /// Adds a frame, and answers its number: how many were pushed before. An `Err` changes nothing.
+    pub fn push(&mut self, payload: InEpoch) -> Result<u64, NoMemory>
+        requires { pushed_count self.old < u64.MAX }
+        ensures ok { OnOk result ((pushed : List InEpoch) (acked : ℕ) → StandsFor self.old pushed acked → StandsFor self.new (pushed ++ payload ∷ []) acked) }
+        ensures number { IfOk result (λ number. (pushed : List InEpoch) (acked : ℕ) → StandsFor self.old pushed acked → number ≡ length pushed) }
+        ensures count { OnOk result (pushed_count self.new ≡ pushed_count self.old + 1) }
+        ensures err { OnErr result ((pushed : List InEpoch) (acked : ℕ) → StandsFor self.old pushed acked → StandsFor self.new pushed acked) }
+    {
+        let number = self.first + self.frames.len() as u64;
+        self.frames.push_back(payload)?;
+        Ok(number)
+    }
+
+    /// All frames below this number have come. A number above what was pushed changes nothing.
+    pub fn acked(&mut self, next: u64)
+        ensures within { (pushed : List InEpoch) (acked : ℕ) → StandsFor self.old pushed acked → next ≤ length pushed → StandsFor self.new pushed (max next acked) }
+        ensures past { (pushed : List InEpoch) (acked : ℕ) → StandsFor self.old pushed acked → length pushed < next → StandsFor self.new pushed acked }
+    {
+        let count = next.saturating_sub(self.first);
+        if count > self.frames.len() as u64 {
+            return;
+        }
+        drop_front(&mut self.frames, count);
+        self.first += count;
+    }
+
+    /// The first 64 frames that are not acknowledged, with their numbers.
+    pub fn due(&self) -> Result<Frames, NoMemory>
+        ensures { IfOk result (λ frames. (pushed : List InEpoch) (acked : ℕ) → StandsFor self.now pushed acked → frames ≡ take 64 (unacked pushed acked)) }
+    {
+        let mut due = Frames::new(self.alloc);
+        for index in 0..self.frames.len().min(MAX_SENT_AGAIN as usize) {
+            let payload = self.frames[index].copy(self.alloc)?;
+            due.push((self.first + index as u64, payload))?;
+        }
+        Ok(due)
+    }
+
+    /// How many frames are not acknowledged.
+    pub fn len(&self) -> u64
+        ensures { (pushed : List InEpoch) (acked : ℕ) → StandsFor self.now pushed acked → result ≡ length (unacked pushed acked) }
+    {
+        self.frames.len() as u64
+    }
+}
+
+/// Drops the first frames, so many.
+fn drop_front(frames: &mut VecDeque<InEpoch>, count: u64)
+    requires { count ≤ deque_len frames.old }
+    ensures items { frames.new.items ≡ drop count frames.old.items }
+    ensures len { deque_len frames.new + count ≡ deque_len frames.old }
+{
+    for _place in 0..count {
+        frames.pop_front();
+    }
+}
