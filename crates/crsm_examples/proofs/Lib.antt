@@ -23,6 +23,8 @@ mod CalmRounds
 mod ReplacedReplica
 mod ClockNearItsEnd
 mod StopBeforeAReply
+mod WaitsForClocks
+mod SameReading
 mod StopWithoutRecords
 mod UsedByALoss
 mod MixedReceivers
@@ -46,4 +48,7 @@ mod OverAtTick
 mod OlderMessage
 mod AskedAndAsking
 mod PageUpToTheBase
+mod BaseComesLate
+mod AnsweredInTheTail
+mod BaseOfTheStart
 mod EnteredSuspended

@@ -1,5 +1,5 @@
 -- A datagram that was not sent cannot be delivered.
-use Rattle.std.proofs.Common.{◌≡◌, List, [], ◌∷◌, refl}
+use Rattle.std.proofs.Common.{◌≡◌, List, [], refl}
 use Rattle.std.specs.Prelude.{Some}
 use Rattle.crsm_spec.specs.Acts.{Act, Single, Bad}
 use Rattle.crsm_examples.specs.Words.{refused}

@@ -1,5 +1,5 @@
 -- A replica that is not there cannot crash.
-use Rattle.std.proofs.Common.{◌≡◌, List, [], ◌∷◌, refl}
+use Rattle.std.proofs.Common.{◌≡◌, List, [], refl}
 use Rattle.std.specs.Prelude.{Some}
 use Rattle.crsm_spec.specs.Acts.{Act, Bad}
 use Rattle.crsm_examples.specs.Words.{refused}
