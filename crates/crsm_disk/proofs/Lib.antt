@@ -1,0 +1,3 @@
+mod Answered
+pub mod Moments
+mod Told

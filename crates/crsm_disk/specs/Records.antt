@@ -1,0 +1,27 @@
+-- How a disk in memory keeps its calls.
+use Rattle.std.specs.Prelude.{ℕ, ◌+◌, List, [], ◌∷◌, take, drop}
+use Rattle.crsm_image.specs.Calls.{Call, wrote, cut, synced}
+use Rattle.crsm_image.specs.Image.{ranged}
+use Rattle.crsm_disk.specs.declared.record.Record.{Record}
+use Rattle.crsm_disk.specs.declared.record.Record.TheVariants.{Write, Cut, Sync}
+
+-- the calls of these records, the oldest first, before calls, the newest first
+abbrev pub told : List Record → List ℕ → List Call → List Call
+told [] written calls = calls
+told (Write at count ∷ records) written calls = told records (drop count written) (wrote at (take count written) ∷ calls)
+told (Cut len ∷ records) written calls = told records written (cut len ∷ calls)
+told (Sync ∷ records) written calls = told records written (synced ∷ calls)
+
+-- how many bytes they wrote
+abbrev pub total : List Record → ℕ
+total [] = 0
+total (Write at count ∷ records) = count + total records
+total (Cut len ∷ records) = total records
+total (Sync ∷ records) = total records
+
+-- bytes with the fill in the ranges that were written since the last sync
+abbrev pub painted_by : List Record → ℕ → List ℕ → List ℕ → List ℕ
+painted_by [] fill bytes image = image
+painted_by (Write at count ∷ records) fill bytes image = painted_by records fill bytes (ranged at count fill image)
+painted_by (Cut len ∷ records) fill bytes image = painted_by records fill bytes image
+painted_by (Sync ∷ records) fill bytes image = painted_by records fill bytes bytes

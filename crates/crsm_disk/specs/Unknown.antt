@@ -1,0 +1,22 @@
+-- A disk of which nothing is known but its faults.
+use Rattle.std.specs.Prelude.{ℕ, [], false, None}
+use mathlib.Core.Bool.{false≢true}
+use Rattle.crsm_disk.specs.Meaning.{Meaning}
+use Rattle.crsm_image.proofs.Images.{not_told}
+
+abbrev pub unknown : ℕ → Meaning
+unknown faults = record {
+  seen = [];
+  honest = false;
+  may_leave = λ c. ⊥;
+  moment = 0;
+  left_since = λ t c. ⊥;
+  history = None;
+  plan = None;
+  fill = None;
+  faults = faults;
+  as_read = false≢true;
+  as_told = not_told;
+  counts_now = λ t c le left. left;
+  only_now = λ c left. left;
+}

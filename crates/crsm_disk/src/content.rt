@@ -1,0 +1,64 @@
+//! What the calls of a disk in memory make of its bytes.
+
+ghost use Rattle.std.specs.Prelude.{◌≡◌, ◌+◌, ◌-◌, ◌≤◌, length, vec_len, vec_capacity, IfOk};
+ghost use Rattle.crsm_image.specs.Bytes.{overwritten, ReadsAt};
+ghost use Rattle.crsm_image.specs.Image.{ranged};
+ghost use Rattle.crsm_disk.specs.Records.{painted_by};
+
+use crate::record::Record;
+use crsm_base::NoMemory;
+use std::alloc::Global;
+
+// As many bytes from a place on as there are and fit.
+pub(crate) fn copy(bytes: &[u8], at: u64, buf: &mut [u8]) -> usize
+    ensures { ReadsAt bytes.now at buf.old buf.new result }
+{
+    let from = at.min(bytes.len() as u64) as usize;
+    let behind = &bytes[from..];
+    let n = buf.len().min(behind.len());
+    buf[..n].copy_from_slice(&behind[..n]);
+    n
+}
+
+// Puts bytes over what is there, and behind zeros where that is shorter. There is room.
+pub(crate) fn overwrite(bytes: &mut Vec<u8>, at: usize, piece: &[u8])
+    requires { vec_len bytes.old + ((at - vec_len bytes.old) + length piece.now) ≤ vec_capacity bytes.old }
+    ensures items { bytes.new.items ≡ overwritten bytes.old.items at piece.now }
+    ensures len { vec_len bytes.new ≤ vec_len bytes.old + ((at - vec_len bytes.old) + length piece.now) }
+    ensures capacity { vec_capacity bytes.old ≤ vec_capacity bytes.new }
+{
+    if at <= bytes.len() && piece.len() <= bytes.len() - at {
+        bytes[at..at + piece.len()].copy_from_slice(piece);
+    } else {
+        let _ = bytes.resize(at, 0);
+        let _ = bytes.extend_from_slice(piece);
+    }
+}
+
+// These bytes, with the fill in the ranges that were written since the last sync.
+pub(crate) fn image_bytes(
+    alloc: Global,
+    bytes: &[u8],
+    records: &[Record],
+    fill: u8,
+) -> Result<Vec<u8>, NoMemory>
+    ensures { IfOk result (λ v. v.items ≡ painted_by records.now fill bytes.now bytes.now) }
+{
+    let mut image = Vec::from_slice(alloc, bytes)?;
+    for record in records {
+        match record {
+            Record::Write { at, count } => paint(&mut image, *at as usize, *count, fill),
+            Record::Cut { .. } => {}
+            Record::Sync => image.copy_from_slice(bytes),
+        }
+    }
+    Ok(image)
+}
+
+fn paint(image: &mut [u8], at: usize, count: usize, fill: u8)
+    ensures { image.new ≡ ranged at count fill image.old }
+{
+    let from = at.min(image.len());
+    let to = from + count.min(image.len() - from);
+    image[from..to].fill(fill);
+}

@@ -1,0 +1,238 @@
+//! A disk in memory, which tells all that it was asked.
+
+ghost use Rattle.std.specs.Prelude.{◌≡◌, ◌+◌, ◌-◌, ◌≤◌, [], ◌∷◌, length, IfOk, OnOk, OnErr, Some, None};
+ghost use Rattle.std.specs.Bool.{OnTrue, OnFalse};
+ghost use Rattle.crsm_device.specs.Counts.{raised, Rose};
+ghost use Rattle.crsm_device.specs.Failing.{IsNotEnd, good_of, least, one_less};
+ghost use Rattle.crsm_image.specs.Calls.{contents, wrote, cut, synced};
+ghost use Rattle.crsm_image.specs.Image.{IsImage, image_of};
+ghost use Rattle.crsm_disk.specs.Memory.{good_left, meaning_of};
+
+use crate::Disk;
+use crate::content::{copy, image_bytes, overwrite};
+use crate::record::{Record, note_write};
+use crsm_base::{Failed, NoMemory};
+use crsm_device::{Failures, raise};
+use std::alloc::Global;
+use std::marker::Model;
+
+/// A disk in memory. It keeps a record of its calls, fails at those that are listed, and can be stopped.
+#[derive(Drop)]
+pub struct MemDisk {
+    alloc: Global,
+    first: Vec<u8>,
+    bytes: Vec<u8>,
+    records: Vec<Record>,
+    written: Vec<u8>,
+    failures: Failures,
+    stop: Option<u64>,
+    fill: u8,
+    faults: u64,
+    room_calls: u64,
+    room_bytes: u64,
+}
+
+impl Model for MemDisk {
+    ghost use Rattle.crsm_disk.specs.Memory.{Memory};
+
+    ghost Value = { Memory };
+
+    ghost use Rattle.crsm_disk.specs.Inside.{memory_of, IsKept};
+
+    ghost view = { memory_of };
+
+    ghost invariant = { IsKept };
+}
+
+impl MemDisk {
+    /// An empty disk that fails at these calls, counted from 1, and stops after so many. Its image holds the fill
+    /// in the ranges that were not synced.
+    pub fn new(
+        alloc: Global,
+        fails: &[u64],
+        stop: Option<u64>,
+        fill: u8,
+    ) -> Result<MemDisk, NoMemory>
+        ensures { IfOk result (λ d. d ≡ record { first = []; calls = []; failing = record { calls = 0; listed = fails.now }; stop = stop; fill = fill; faults = 0; room_calls = 0; room_bytes = 0 }) }
+    {
+        Ok(MemDisk {
+            alloc,
+            first: Vec::new(alloc),
+            bytes: Vec::new(alloc),
+            records: Vec::new(alloc),
+            written: Vec::new(alloc),
+            failures: Failures::new(alloc, fails)?,
+            stop,
+            fill,
+            faults: 0,
+            room_calls: 0,
+            room_bytes: 0,
+        })
+    }
+
+    /// How many lengths, reads, writes, cuts and syncs were asked for.
+    pub fn calls(&self) -> u64
+        ensures { result ≡ self.now.failing.calls }
+    {
+        self.failures.calls()
+    }
+
+    /// The bytes that a read gives.
+    pub fn bytes(&self) -> &[u8]
+        ensures { result.now ≡ contents self.now.first self.now.calls }
+    {
+        &self.bytes
+    }
+
+    /// A fresh disk as a crash may leave it: of the same length, and what was not synced holds the fill. It has no
+    /// failing calls and no stop.
+    pub fn image(&self) -> Result<MemDisk, NoMemory>
+        ensures one { IfOk result (λ d. IsImage self.now.first self.now.calls d.first) }
+        ensures exact { IfOk result (λ d. d ≡ record { first = image_of self.now.first self.now.calls self.now.fill; calls = []; failing = record { calls = 0; listed = [] }; stop = None; fill = self.now.fill; faults = 0; room_calls = 0; room_bytes = 0 }) }
+    {
+        let alloc = self.alloc;
+        let bytes = image_bytes(alloc, &self.bytes, &self.records, self.fill)?;
+        Ok(MemDisk {
+            alloc,
+            first: Vec::from_slice(alloc, &bytes)?,
+            bytes,
+            records: Vec::new(alloc),
+            written: Vec::new(alloc),
+            failures: Failures::new(alloc, &[])?,
+            stop: None,
+            fill: self.fill,
+            faults: 0,
+            room_calls: 0,
+            room_bytes: 0,
+        })
+    }
+
+    // Counts a call, and says whether it goes well.
+    fn begin(&mut self) -> Result<(), Failed>
+        ensures same { self.new ≡ record self.old { failing = self.new.failing; stop = self.new.stop; faults = self.new.faults } }
+        ensures counted { self.new.failing ≡ record self.old.failing { calls = raised self.old.failing.calls } }
+        ensures ok { OnOk result ((self.new.faults ≡ self.old.faults) × (good_left self.new ≡ one_less (good_left self.old)) × IsNotEnd (good_left self.old)) }
+        ensures err { OnErr result ((self.old.faults ≤ self.new.faults) × Rose self.old.faults self.new.faults × (good_left self.old ≡ Some 0)) }
+    {
+        if goes_well(&mut self.failures, &mut self.stop) {
+            return Ok(());
+        }
+        raise(&mut self.faults);
+        Err(Failed)
+    }
+
+    // A call beyond the room is a fault.
+    fn take_room(&mut self, at: u64, count: usize) -> Result<(), Failed>
+        ensures ok { OnOk result ((self.new ≡ self.old) × (1 ≤ self.old.room_calls) × ((at - length (contents self.old.first self.old.calls)) + count ≤ self.old.room_bytes)) }
+        ensures err { OnErr result ((self.new ≡ record self.old { faults = self.new.faults }) × (self.old.faults ≤ self.new.faults) × Rose self.old.faults self.new.faults) }
+        ensures beyond { OnErr result (1 ≤ self.old.room_calls → (at - length (contents self.old.first self.old.calls)) + count ≤ self.old.room_bytes → ⊥) }
+    {
+        let hole = at.saturating_sub(self.bytes.len() as u64);
+        if self.room_calls == 0 || hole > self.room_bytes || count as u64 > self.room_bytes - hole {
+            raise(&mut self.faults);
+            return Err(Failed);
+        }
+        Ok(())
+    }
+
+    // Writes, and records it.
+    fn put(&mut self, at: u64, bytes: &[u8])
+        requires calls { 1 ≤ self.old.room_calls }
+        requires bytes { (at - length (contents self.old.first self.old.calls)) + length bytes.now ≤ self.old.room_bytes }
+        ensures { self.new ≡ record self.old { calls = wrote at bytes.now ∷ self.old.calls; room_calls = self.old.room_calls - 1; room_bytes = self.old.room_bytes - ((at - length (contents self.old.first self.old.calls)) + length bytes.now) } }
+    {
+        let hole = at.saturating_sub(self.bytes.len() as u64);
+        overwrite(&mut self.bytes, at as usize, bytes);
+        note_write(&mut self.records, &mut self.written, at, bytes);
+        self.room_calls -= 1;
+        self.room_bytes -= hole + bytes.len() as u64;
+    }
+
+    // Cuts, and records it.
+    fn shorten(&mut self, len: u64)
+        requires { 1 ≤ self.old.room_calls }
+        ensures { self.new ≡ record self.old { calls = cut len ∷ self.old.calls; room_calls = self.old.room_calls - 1; room_bytes = self.old.room_bytes - 0 } }
+    {
+        self.bytes.truncate(len as usize);
+        self.records.push_reserved(Record::Cut { len });
+        self.room_calls -= 1;
+    }
+
+    // Records a sync.
+    fn settle(&mut self)
+        requires { 1 ≤ self.old.room_calls }
+        ensures { self.new ≡ record self.old { calls = synced ∷ self.old.calls; room_calls = self.old.room_calls - 1; room_bytes = self.old.room_bytes - 0 } }
+    {
+        self.records.push_reserved(Record::Sync);
+        self.room_calls -= 1;
+    }
+}
+
+// Counts a call, and says whether it goes well.
+fn goes_well(failures: &mut Failures, stop: &mut Option<u64>) -> bool
+    ensures counted { failures.new ≡ record failures.old { calls = raised failures.old.calls } }
+    ensures well { OnTrue result ((least (good_of failures.new) stop.new ≡ one_less (least (good_of failures.old) stop.old))
+        × IsNotEnd (least (good_of failures.old) stop.old)) }
+    ensures ill { OnFalse result (least (good_of failures.old) stop.old ≡ Some 0) }
+{
+    let fails = failures.next_fails();
+    match *stop {
+        Some(0) => false,
+        Some(n) => {
+            *stop = Some(n - 1);
+            !fails
+        }
+        None => !fails,
+    }
+}
+
+impl Disk for MemDisk {
+    ghost meaning = { meaning_of };
+
+    fn len(&mut self) -> Result<u64, Failed> {
+        self.begin()?;
+        Ok(self.bytes.len() as u64)
+    }
+
+    fn read_at(&mut self, at: u64, buf: &mut [u8]) -> Result<usize, Failed> {
+        self.begin()?;
+        Ok(copy(&self.bytes, at, buf))
+    }
+
+    fn write_at(&mut self, at: u64, bytes: &[u8]) -> Result<(), Failed> {
+        self.begin()?;
+        self.take_room(at, bytes.len())?;
+        self.put(at, bytes);
+        Ok(())
+    }
+
+    fn cut(&mut self, len: u64) -> Result<(), Failed> {
+        self.begin()?;
+        self.take_room(0, 0)?;
+        self.shorten(len);
+        Ok(())
+    }
+
+    fn sync(&mut self) -> Result<(), Failed> {
+        self.begin()?;
+        self.take_room(0, 0)?;
+        self.settle();
+        Ok(())
+    }
+
+    fn reserve(&mut self, calls: u64, bytes: u64) -> Result<(), NoMemory> {
+        let calls = self.room_calls.max(calls);
+        let bytes = self.room_bytes.max(bytes);
+        self.records.reserve(calls as usize)?;
+        self.written.reserve(bytes as usize)?;
+        self.bytes.reserve(bytes as usize)?;
+        self.room_calls = calls;
+        self.room_bytes = bytes;
+        Ok(())
+    }
+
+    fn arm(&mut self, stop: Option<u64>, fill: u8) {
+        self.stop = stop;
+        self.fill = fill;
+    }
+}

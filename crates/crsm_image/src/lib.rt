@@ -1,0 +1,16 @@
+//! Bytes that calls write, cut and sync, and what a crash may leave of them.
+#![tactic(auto)]
+
+ghost use Rattle.std.specs.Prelude.{ℕ, List};
+ghost use Rattle.crsm_image.specs.Calls.{Call, contents};
+ghost use Rattle.crsm_image.specs.Image.{IsImage, image_of};
+
+/// Bytes as they read are one of their images.
+pub fn reads_as_image()
+    ensures { (first : List ℕ) (calls : List Call) → IsImage first calls (contents first calls) }
+{}
+
+/// So are they with one byte in each place that was not synced.
+pub fn fills_as_image()
+    ensures { (first : List ℕ) (calls : List Call) (fill : ℕ) → IsImage first calls (image_of first calls fill) }
+{}
