@@ -1,0 +1,11 @@
+//! The acknowledgements that a replica owes, and when it tells its time unasked.
+#![tactic(auto)]
+
+mod unasked;
+mod waits;
+
+pub use unasked::idle;
+pub use waits::Waits;
+
+#[cfg(test)]
+mod tests;

@@ -1,0 +1,16 @@
+//! When a replica tells its time unasked.
+
+ghost use Rattle.std.specs.Prelude.{◌+◌, ◌<◌, ◌≤◌, ◌↔◌, IsTrue};
+ghost use Rattle.crsm_base.specs.Limits.{idle_after};
+
+use crsm_base::IDLE_UNITS;
+use crsm_clock::Rising;
+
+/// Whether the reading is so far above the time that was issued last that a replica tells its time: at least
+/// `IDLE_UNITS`. A clock that has issued the greatest number tells no more.
+pub fn idle(clock: &Rising, reading: u64) -> bool
+    ensures { IsTrue result ↔ ((clock.now < u64.MAX) × (clock.now + idle_after ≤ reading)) }
+{
+    let last = clock.last();
+    last < u64::MAX && reading >= last && reading - last >= IDLE_UNITS
+}
