@@ -1,0 +1,104 @@
+//! What a replica promises and accepts.
+
+ghost use Rattle.std.specs.Prelude.{◌≡◌, ◌≢◌, ◌↔◌, IsTrue, Option, Some, None, false};
+ghost use Rattle.std.specs.Option.{IsSomeAnd};
+ghost use Rattle.crsm_base.specs.Order.{ballot_lt};
+ghost use Rattle.crsm_spec.specs.Paxos.{MayPromise, TakesVote, after_promise, after_accept};
+ghost use Rattle.crsm_paxos.specs.Accepting.{IsAcceptedNow, NotAbove};
+
+use crate::order::is_below;
+use crsm_base::{Ballot, Decision};
+use std::marker::Model;
+
+/// The answer to a ballot that asks for a promise.
+#[derive(Clone, Copy, Debug, PartialEq, Eq)]
+pub enum Promised {
+    Yes,
+    /// The ballot is promised already.
+    Repeat,
+    /// A greater ballot is promised.
+    No(Ballot),
+}
+
+/// The answer to a proposal.
+#[derive(Clone, Copy, Debug, PartialEq, Eq)]
+pub enum Accepted {
+    Yes,
+    /// The proposal of this ballot is accepted already.
+    Repeat,
+    /// A greater ballot is promised.
+    No(Ballot),
+}
+
+#[derive(Debug, Drop)]
+pub struct Acceptor {
+    promised: Ballot,
+    accepted: Option<(Ballot, Decision)>,
+}
+
+impl Model for Acceptor {
+    ghost use Rattle.crsm_spec.specs.Paxos.{Acceptance};
+    ghost use Rattle.crsm_base.specs.declared.decision.Decision.{Decision};
+    ghost use Rattle.crsm_paxos.specs.Accepting.{NotAbove};
+
+    ghost Value = { Acceptance Decision };
+
+    ghost view = { λ a. record { promised = a.promised; accepted = a.accepted } };
+
+    ghost invariant = { λ a. NotAbove a.accepted a.promised };
+}
+
+impl Acceptor {
+    pub fn new(promised: Ballot, accepted: Option<(Ballot, Decision)>) -> Acceptor
+        requires { NotAbove accepted promised }
+        ensures { result ≡ record { promised = promised; accepted = accepted } }
+    {
+        Acceptor { promised, accepted }
+    }
+
+    #[tactic(auto, unfolding(crsm_base::specs::Order::ballot_lt))]
+    pub fn promise(&mut self, b: Ballot) -> Promised
+        ensures yes { (result ≡ Promised.Yes) ↔ MayPromise self.old b }
+        ensures repeat { (result ≡ Promised.Repeat) ↔ (b ≡ self.old.promised) }
+        ensures no { (result ≡ Promised.No self.old.promised) ↔ IsTrue (ballot_lt b self.old.promised) }
+        ensures taken { result ≡ Promised.Yes → self.new ≡ after_promise self.old b }
+        ensures kept { result ≢ Promised.Yes → self.new ≡ self.old }
+    {
+        if is_below(b, self.promised) {
+            Promised::No(self.promised)
+        } else if is_below(self.promised, b) {
+            self.promised = b;
+            Promised::Yes
+        } else {
+            Promised::Repeat
+        }
+    }
+
+    pub fn accept(&mut self, b: Ballot, d: Decision) -> Accepted
+        ensures yes { (result ≡ Accepted.Yes) ↔ TakesVote self.old b }
+        ensures repeat { (result ≡ Accepted.Repeat) ↔ IsAcceptedNow self.old b }
+        ensures no { (result ≡ Accepted.No self.old.promised) ↔ IsTrue (ballot_lt b self.old.promised) }
+        ensures taken { result ≡ Accepted.Yes → self.new ≡ after_accept self.old b d }
+        ensures kept { result ≢ Accepted.Yes → self.new ≡ self.old }
+    {
+        if is_below(b, self.promised) {
+            return Accepted::No(self.promised);
+        }
+        if holds(&self.accepted, b) {
+            return Accepted::Repeat;
+        }
+        self.promised = b;
+        self.accepted = Some((b, d));
+        Accepted::Yes
+    }
+}
+
+/// Whether a decision is accepted in this ballot.
+fn holds(accepted: &Option<(Ballot, Decision)>, b: Ballot) -> bool
+    ensures { IsTrue result ↔ IsSomeAnd accepted.now (λ held. held.0 ≡ b) }
+{
+    match accepted {
+        Some((held, _)) => *held == b,
+        None => false,
+    }
+}

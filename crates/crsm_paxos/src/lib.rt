@@ -1,0 +1,11 @@
+//! One instance of the consensus at one replica: what it promises and accepts, and its own proposal.
+#![tactic(auto)]
+
+mod acceptor;
+mod order;
+mod proposer;
+#[cfg(test)]
+mod tests;
+
+pub use acceptor::{Accepted, Acceptor, Promised};
+pub use proposer::{Next, Proposer, StartError};

@@ -1,0 +1,219 @@
+//! A proposal under way.
+
+ghost use Rattle.std.specs.Prelude.{◌≡◌, ◌↔◌, ◌+◌, ◌^◌, ◌<◌, ◌≤◌, Option, Some, None, IfOk, OnOk, OnErr};
+ghost use Rattle.crsm_base.specs.Order.{ballot_lt};
+ghost use Rattle.crsm_spec.specs.Paxos.{better_held, value_of_best};
+ghost use Rattle.crsm_spec.specs.Proposing.{start_proposing, after_p1b, after_p2b};
+ghost use Rattle.crsm_paxos.specs.Best.{found_of, is_before};
+ghost use Rattle.crsm_paxos.specs.Nexts.{next_of_p1b, next_of_p2b, next_of_no};
+
+use crate::order::is_below;
+use crsm_base::{Ballot, Decision, NoMemory};
+use std::alloc::Global;
+use std::marker::Model;
+
+/// What a proposer does next.
+#[derive(Debug, Drop)]
+pub enum Next {
+    Wait,
+    /// A majority has promised: this is proposed in this ballot.
+    Propose(Ballot, Decision),
+    /// A majority has accepted it.
+    Chosen(Decision),
+    /// A greater ballot is promised.
+    Over(Ballot),
+}
+
+#[derive(Clone, Copy, Debug, PartialEq, Eq)]
+pub enum StartError {
+    /// There is no round above.
+    Spent,
+    NoMemory,
+}
+
+/// The accepted decision that counts so far, and who named it.
+#[derive(Debug, Drop)]
+struct Best {
+    ballot: Ballot,
+    replica: u32,
+    value: Decision,
+}
+
+#[derive(Drop)]
+pub struct Proposer {
+    alloc: Global,
+    ballot: Ballot,
+    own: Decision,
+    size: u32,
+    heard: Vec<u32>,
+    best: Option<Best>,
+    has_proposed: bool,
+    voters: Vec<u32>,
+}
+
+impl Model for Proposer {
+    ghost use Rattle.std.specs.Prelude.{◌≤◌};
+    ghost use Rattle.crsm_spec.specs.Proposing.{Proposing};
+    ghost use Rattle.crsm_base.specs.declared.decision.Decision.{Decision};
+
+    ghost Value = { Proposing Decision };
+
+    ghost use Rattle.crsm_paxos.specs.Best.{found_of};
+
+    ghost view = { λ p. record { ballot = p.ballot; own = p.own; size = p.size; heard = p.heard.items; best = found_of p.best; has_proposed = p.has_proposed; voters = p.voters.items } };
+}
+
+impl Proposer {
+    pub fn start(
+        alloc: Global,
+        own: Decision,
+        above: Ballot,
+        me: u32,
+        n: u32,
+    ) -> Result<Proposer, StartError>
+        requires me { me < 15 }
+        requires one { 1 ≤ n }
+        requires few { n ≤ 15 }
+        ensures spent { (result ≡ Err StartError.Spent) ↔ (above.round + 1 ≡ 2 ^ 64) }
+        ensures started { IfOk result (λ p. p ≡ start_proposing (record { round = above.round + 1; by = me }) own n) }
+    {
+        if above.round == u64::MAX {
+            return Err(StartError::Spent);
+        }
+        let ballot = Ballot {
+            round: above.round + 1,
+            by: me,
+        };
+        Ok(Proposer {
+            alloc,
+            ballot,
+            own,
+            size: n,
+            heard: Vec::new(alloc),
+            best: None,
+            has_proposed: false,
+            voters: Vec::new(alloc),
+        })
+    }
+
+    #[tactic(auto, unfolding(crsm_base::specs::Order::ballot_eq))]
+    pub fn on_p1b(
+        &mut self,
+        from: u32,
+        b: Ballot,
+        accepted: Option<(Ballot, Decision)>,
+    ) -> Result<Next, NoMemory>
+        requires { from < 15 }
+        ensures state { OnOk result (self.new ≡ after_p1b self.old from b accepted) }
+        ensures next { IfOk result (λ next. next ≡ next_of_p1b self.old from b accepted) }
+        ensures err { OnErr result (self.new ≡ self.old) }
+    {
+        if b != self.ballot || self.has_proposed || self.heard.contains(&from) {
+            return Ok(Next::Wait);
+        }
+        if self.heard.len() < (self.size / 2) as usize {
+            self.heard.push(from)?;
+            self.best = better(self.best.take(), from, accepted);
+            return Ok(Next::Wait);
+        }
+        let value = value_with(&self.own, &self.best, from, &accepted).copy(self.alloc)?;
+        self.heard.push(from)?;
+        self.best = better(self.best.take(), from, accepted);
+        self.has_proposed = true;
+        Ok(Next::Propose(self.ballot, value))
+    }
+
+    #[tactic(auto, unfolding(crsm_base::specs::Order::ballot_eq))]
+    pub fn on_p2b(&mut self, from: u32, b: Ballot) -> Result<Next, NoMemory>
+        requires { from < 15 }
+        ensures state { OnOk result (self.new ≡ after_p2b self.old from b) }
+        ensures next { IfOk result (λ next. next ≡ next_of_p2b self.old from b) }
+        ensures err { OnErr result (self.new ≡ self.old) }
+    {
+        if b != self.ballot || !self.has_proposed || self.voters.contains(&from) {
+            return Ok(Next::Wait);
+        }
+        if self.voters.len() != (self.size / 2) as usize {
+            self.voters.push(from)?;
+            return Ok(Next::Wait);
+        }
+        let value = value_of(&self.own, &self.best).copy(self.alloc)?;
+        self.voters.push(from)?;
+        Ok(Next::Chosen(value))
+    }
+
+    #[tactic(auto, unfolding(crsm_base::specs::Order::ballot_eq))]
+    pub fn on_no(&mut self, b: Ballot, promised: Ballot) -> Next
+        ensures next { result ≡ next_of_no self.old b promised }
+        ensures kept { self.new ≡ self.old }
+    {
+        if b == self.ballot && is_below(b, promised) {
+            Next::Over(promised)
+        } else {
+            Next::Wait
+        }
+    }
+}
+
+/// Whether the first counts before the second.
+fn is_first(x: &Best, y: &Best) -> bool
+    ensures { result ≡ is_before x.now y.now }
+{
+    is_below(y.ballot, x.ballot) || (!is_below(x.ballot, y.ballot) && x.replica < y.replica)
+}
+
+/// What counts of the best so far and a further answer.
+fn better(best: Option<Best>, replica: u32, accepted: Option<(Ballot, Decision)>) -> Option<Best>
+    ensures { found_of result ≡ better_held (found_of best) replica accepted }
+{
+    let Some((ballot, value)) = accepted else {
+        return best;
+    };
+    let further = Best {
+        ballot,
+        replica,
+        value,
+    };
+    match best {
+        None => Some(further),
+        Some(known) => {
+            if is_first(&further, &known) {
+                Some(further)
+            } else {
+                Some(known)
+            }
+        }
+    }
+}
+
+/// The value that counts: the best, or one's own.
+fn value_of<'a>(own: &'a Decision, best: &'a Option<Best>) -> &'a Decision
+    ensures { result.now ≡ value_of_best own.now (found_of best.now) }
+{
+    match best {
+        None => own,
+        Some(known) => &known.value,
+    }
+}
+
+/// The value that counts once a further answer is in.
+fn value_with<'a>(
+    own: &'a Decision,
+    best: &'a Option<Best>,
+    replica: u32,
+    accepted: &'a Option<(Ballot, Decision)>,
+) -> &'a Decision
+    ensures { result.now ≡ value_of_best own.now (better_held (found_of best.now) replica accepted.now) }
+{
+    let Some((ballot, value)) = accepted else {
+        return value_of(own, best);
+    };
+    match best {
+        None => value,
+        Some(known) => {
+            let first = is_below(known.ballot, *ballot)
+                || (!is_below(*ballot, known.ballot) && replica < known.replica);
+            if first { value } else { &known.value }
+        }
+    }
+}
