@@ -4,5 +4,7 @@
 mod clients;
 mod keys;
 mod store;
+#[cfg(test)]
+mod tests;
 
 pub use store::Store;
