@@ -1,6 +1,6 @@
 -- How the lines of a schedule are written, each without its line feed, and what can be written.
-use Rattle.std.specs.Prelude.{◌≢◌, ℕ, ◌^◌, ◌<◌, ◌≤◌, List, [], ◌∷◌, length, codes, decimal, nat_eq}
-use Rattle.std.specs.List.{AllByRecursion, IsDistinct}
+use Rattle.std.specs.Prelude.{◌≢◌, ℕ, ◌^◌, ◌<◌, ◌≤◌, List, [], ◌∷◌, length, codes, decimal}
+use Rattle.std.specs.List.{AllByRecursion}
 use Rattle.hex.specs.Hex.{encode_lower, IsBytes}
 use Rattle.crsm_base.specs.declared.Command.{Command}
 use Rattle.crsm_base.specs.Spelling.{FitsCommand}
@@ -64,12 +64,20 @@ pub record FitsJunk (replica reading : ℕ) (bytes : List ℕ) : Type 0 where
   pub some : 1 ≤ length bytes
   pub most : length bytes ≤ 8192
 
-pub record FitsBatch (reading : ℕ) (numbers : List ℕ) : Type 0 where
-  pub reading_fits : reading < 2 ^ 64
-  pub numbers_fit : AllByRecursion (λ n. n < 2 ^ 64) numbers
+-- no number stands twice
+abbrev pub AreDistinct : List ℕ → Type 0
+AreDistinct [] = Unit {0}
+AreDistinct (n ∷ ns) = AllByRecursion (λ m. n ≢ m) ns × AreDistinct ns
+
+-- numbers of datagrams that can be delivered together
+pub record AreTogether (numbers : List ℕ) : Type 0 where
+  pub fit : AllByRecursion (λ n. n < 2 ^ 64) numbers
   pub some : 1 ≤ length numbers
   pub most : length numbers ≤ 32
-  pub distinct : IsDistinct nat_eq numbers
+  pub distinct : AreDistinct numbers
+
+abbrev pub FitsBatch : ℕ → List ℕ → Type 0
+FitsBatch reading numbers = (reading < 2 ^ 64) × AreTogether numbers
 
 -- which steps can be written
 abbrev pub FitsSingle : Single → Type 0

@@ -2,7 +2,6 @@
 use Rattle.std.specs.Prelude.{ℕ, List, [], ◌∷◌, ◌++◌, codes, decimal}
 use Rattle.std.specs.List.{flat_map}
 use Rattle.hex.specs.Hex.{encode_lower}
-use Rattle.crsm_base.specs.declared.Answer.{Answer}
 use Rattle.crsm_base.specs.declared.Outcome.{Outcome}
 use Rattle.crsm_base.specs.declared.Outcome.TheVariants.{Answered, Refused}
 use Rattle.crsm_base.specs.declared.SendKind.{SendKind}

@@ -1,12 +1,15 @@
 //! The texts of schedules and transcripts: events are read from lines, and lines of a transcript are printed.
 #![tactic(auto)]
 
+mod batch;
 mod event;
 mod numbers;
 mod print;
+mod read;
 mod single;
 
 pub use crsm_text::LineError;
 pub use event::{Event, Single};
 pub use numbers::Numbers;
 pub use print::{print_line, print_outcome};
+pub use read::{read_event, read_first};

@@ -2,3 +2,4 @@ pub mod WordsLemmas
 pub mod Named
 pub mod Texts
 pub mod Commas
+pub mod TextLaws

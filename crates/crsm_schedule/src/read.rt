@@ -1,0 +1,142 @@
+//! Reads the lines of a schedule, each without its line feed.
+
+ghost use Rattle.std.specs.Prelude.{◌≡◌, ℕ, ◌<◌, ◌^◌, ◌++◌, ◌∷◌, IfSome, IfOk, codes, decimal};
+ghost use Rattle.crsm_text.specs.Reads.{ReadsAs};
+ghost use Rattle.crsm_schedule.specs.declared.event.Single.{Single};
+ghost use Rattle.crsm_schedule.specs.declared.event.Event.{Event};
+ghost use Rattle.crsm_schedule.specs.Grammar.{IsSize, FitsSingle, FitsEvent, first_text, single_text, event_text};
+
+use crate::batch::batch_of;
+use crate::event::Event;
+use crate::single::read_single;
+use crsm_base::MAX_REPLICAS;
+use crsm_text::{LineError, number_field, read_number, two_fields};
+use std::alloc::Global;
+
+/// The number of replicas that the first line of a schedule gives, 1 to 15.
+pub fn read_first(line: &[u8]) -> Option<u32>
+    ensures found { IfSome result (λ n. IsSize n × (line.now ≡ first_text n)) }
+    ensures only { (n : ℕ) → IsSize n → line.now ≡ first_text n → result ≡ Some n }
+{
+    let rest = line.strip_prefix(b"replicas ")?;
+    let number = read_number(rest)?;
+    if number == 0 || number > u64::from(MAX_REPLICAS) {
+        return None;
+    }
+    Some(number as u32)
+}
+
+fn lose_of(text: &[u8]) -> Option<Event>
+    ensures found { IfSome result (λ e. FitsEvent e × (codes "lose " ++ text.now ≡ event_text e)) }
+    ensures only { (e : Event) → FitsEvent e → codes "lose " ++ text.now ≡ event_text e → result ≡ Some e }
+{
+    let number = read_number(text)?;
+    Some(Event::Lose { number })
+}
+
+fn crash_of(text: &[u8]) -> Option<Event>
+    ensures found { IfSome result (λ e. FitsEvent e × (codes "crash " ++ text.now ≡ event_text e)) }
+    ensures only { (e : Event) → FitsEvent e → codes "crash " ++ text.now ≡ event_text e → result ≡ Some e }
+{
+    let replica = read_number(text)?;
+    Some(Event::Crash { replica })
+}
+
+fn start_of(text: &[u8]) -> Option<Event>
+    ensures found { IfSome result (λ e. FitsEvent e × (codes "start " ++ text.now ≡ event_text e)) }
+    ensures only { (e : Event) → FitsEvent e → codes "start " ++ text.now ≡ event_text e → result ≡ Some e }
+{
+    let replica = read_number(text)?;
+    Some(Event::Start { replica })
+}
+
+fn settle_of(text: &[u8]) -> Option<Event>
+    ensures found { IfSome result (λ e. FitsEvent e × (codes "settle " ++ text.now ≡ event_text e)) }
+    ensures only { (e : Event) → FitsEvent e → codes "settle " ++ text.now ≡ event_text e → result ≡ Some e }
+{
+    let reading = read_number(text)?;
+    Some(Event::Settle { reading })
+}
+
+fn cut_lost_of(alloc: Global, text: &[u8]) -> Result<Event, LineError>
+    ensures found { IfOk result (λ e. FitsEvent e × (codes "cut lost " ++ text.now ≡ event_text e)) }
+    ensures only { (e : Event) → FitsEvent e → codes "cut lost " ++ text.now ≡ event_text e → ReadsAs result e }
+{
+    if let Some(rest) = text.strip_prefix(b"batch ") {
+        let (reading, numbers) = batch_of(alloc, rest)?;
+        return Ok(Event::CutLostBatch { reading, numbers });
+    }
+    let single = read_single(alloc, text)?;
+    Ok(Event::CutLost { single })
+}
+
+fn cut_at_of(alloc: Global, text: &[u8]) -> Result<Event, LineError>
+    ensures found { IfOk result (λ e. FitsEvent e × (codes "cut at " ++ text.now ≡ event_text e)) }
+    ensures only { (e : Event) → FitsEvent e → codes "cut at " ++ text.now ≡ event_text e → ReadsAs result e }
+{
+    let Some((calls, fill, rest)) = two_fields(text) else {
+        return Err(LineError::Unreadable);
+    };
+    if calls > 4 || fill > 255 {
+        return Err(LineError::Unreadable);
+    }
+    let single = read_single(alloc, rest)?;
+    Ok(Event::CutAt {
+        calls,
+        fill: fill as u8,
+        single,
+    })
+}
+
+/// A step that is stopped when its records are kept.
+fn cut_kept_of(alloc: Global, text: &[u8]) -> Result<Event, LineError>
+    ensures found { IfOk result (λ e. FitsEvent e × (codes "cut " ++ text.now ≡ event_text e)) }
+    ensures only { (sends : ℕ) (s : Single) → sends < 2 ^ 64 → FitsSingle s → text.now ≡ decimal sends ++ 32 ∷ single_text s → ReadsAs result (Event.CutKept sends s) }
+{
+    let Some((sends, rest)) = number_field(text) else {
+        return Err(LineError::Unreadable);
+    };
+    let single = read_single(alloc, rest)?;
+    Ok(Event::CutKept { sends, single })
+}
+
+fn cut_of(alloc: Global, text: &[u8]) -> Result<Event, LineError>
+    ensures found { IfOk result (λ e. FitsEvent e × (codes "cut " ++ text.now ≡ event_text e)) }
+    ensures only { (e : Event) → FitsEvent e → codes "cut " ++ text.now ≡ event_text e → ReadsAs result e }
+{
+    if let Some(rest) = text.strip_prefix(b"lost ") {
+        return cut_lost_of(alloc, rest);
+    }
+    if let Some(rest) = text.strip_prefix(b"at ") {
+        return cut_at_of(alloc, rest);
+    }
+    cut_kept_of(alloc, text)
+}
+
+/// The event that a line spells. Unreadable comes exactly where no event is spelt so.
+pub fn read_event(alloc: Global, line: &[u8]) -> Result<Event, LineError>
+    ensures found { IfOk result (λ e. FitsEvent e × (line.now ≡ event_text e)) }
+    ensures only { (e : Event) → FitsEvent e → line.now ≡ event_text e → ReadsAs result e }
+{
+    if let Some(rest) = line.strip_prefix(b"lose ") {
+        return lose_of(rest).ok_or(LineError::Unreadable);
+    }
+    if let Some(rest) = line.strip_prefix(b"crash ") {
+        return crash_of(rest).ok_or(LineError::Unreadable);
+    }
+    if let Some(rest) = line.strip_prefix(b"start ") {
+        return start_of(rest).ok_or(LineError::Unreadable);
+    }
+    if let Some(rest) = line.strip_prefix(b"settle ") {
+        return settle_of(rest).ok_or(LineError::Unreadable);
+    }
+    if let Some(rest) = line.strip_prefix(b"cut ") {
+        return cut_of(alloc, rest);
+    }
+    if let Some(rest) = line.strip_prefix(b"batch ") {
+        let (reading, numbers) = batch_of(alloc, rest)?;
+        return Ok(Event::Batch { reading, numbers });
+    }
+    let single = read_single(alloc, line)?;
+    Ok(Event::One { single })
+}
