@@ -22,9 +22,10 @@ mod StopBeforeTheGate
 mod CalmRounds
 mod ReplacedReplica
 mod ClockNearItsEnd
-mod StopBeforeAReply
+mod StopsAndReplies
 mod WaitsForClocks
 mod SameReading
+mod StopBeforeTheReply
 mod StopWithoutRecords
 mod UsedByALoss
 mod MixedReceivers
@@ -33,6 +34,8 @@ mod AlreadyUp
 mod NoSuchReplica
 mod TooFewMembers
 mod ForgedBytes
+mod NotDeliveredYet
+mod ReceiverIsDown
 mod NoSuchMember
 mod DownBeforeTooFew
 mod NoSuchDatagrams
@@ -51,4 +54,7 @@ mod PageUpToTheBase
 mod BaseComesLate
 mod AnsweredInTheTail
 mod BaseOfTheStart
+mod FloorOfTheBase
+mod RefusedBallots
+mod EntersAtTheStart
 mod EnteredSuspended

@@ -1,4 +1,4 @@
--- A stop counts the replies behind the sends.
+-- Stops of steps that have a reply and no send.
 use Rattle.std.proofs.Common.{◌≡◌, List, [], ◌∷◌, refl}
 use Rattle.std.specs.Prelude.{Some}
 use Rattle.crsm_spec.specs.Types.{Op, Answer, Line, State}
