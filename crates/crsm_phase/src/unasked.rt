@@ -7,10 +7,10 @@ use crsm_base::IDLE_UNITS;
 use crsm_clock::Rising;
 
 /// Whether the reading is so far above the time that was issued last that a replica tells its time: at least
-/// `IDLE_UNITS`. A clock that has issued the greatest number tells no more.
+/// `IDLE_UNITS`. No reading is so far above the greatest number, so a clock that has issued it tells no more.
 pub fn idle(clock: &Rising, reading: u64) -> bool
     ensures { IsTrue result ↔ ((clock.now < u64.MAX) × (clock.now + idle_after ≤ reading)) }
 {
     let last = clock.last();
-    last < u64::MAX && reading >= last && reading - last >= IDLE_UNITS
+    reading >= last && reading - last >= IDLE_UNITS
 }
