@@ -13,23 +13,26 @@ use std::marker::Model;
 /// The answer to a ballot that asks for a promise.
 #[derive(Clone, Copy, Debug, PartialEq, Eq)]
 pub enum Promised {
+    /// It is above the promise, and is promised now.
     Yes,
     /// The ballot is promised already.
     Repeat,
-    /// A greater ballot is promised.
+    /// A greater ballot is promised, which is this.
     No(Ballot),
 }
 
 /// The answer to a proposal.
 #[derive(Clone, Copy, Debug, PartialEq, Eq)]
 pub enum Accepted {
+    /// It is accepted now.
     Yes,
     /// The proposal of this ballot is accepted already.
     Repeat,
-    /// A greater ballot is promised.
+    /// A greater ballot is promised, which is this.
     No(Ballot),
 }
 
+/// One replica's promise in an instance, and what it has accepted there. No call takes memory.
 #[derive(Debug, Drop)]
 pub struct Acceptor {
     promised: Ballot,
@@ -49,6 +52,8 @@ impl Model for Acceptor {
 }
 
 impl Acceptor {
+    /// One that has promised this ballot and accepted this decision in the ballot beside it, which is
+    /// not above the promise.
     pub fn new(promised: Ballot, accepted: Option<(Ballot, Decision)>) -> Acceptor
         requires { NotAbove accepted promised }
         ensures { result ≡ record { promised = promised; accepted = accepted } }
@@ -56,6 +61,7 @@ impl Acceptor {
         Acceptor { promised, accepted }
     }
 
+    /// Promises a ballot above the promise. Anything else changes nothing.
     #[tactic(auto, unfolding(crsm_base::specs::Order::ballot_lt))]
     pub fn promise(&mut self, b: Ballot) -> Promised
         ensures yes { (result ≡ Promised.Yes) ↔ MayPromise self.old b }
@@ -74,6 +80,8 @@ impl Acceptor {
         }
     }
 
+    /// Accepts a decision in a ballot that is not below the promise, which it raises to that ballot.
+    /// Anything else changes nothing.
     pub fn accept(&mut self, b: Ballot, d: Decision) -> Accepted
         ensures yes { (result ≡ Accepted.Yes) ↔ TakesVote self.old b }
         ensures repeat { (result ≡ Accepted.Repeat) ↔ IsAcceptedNow self.old b }

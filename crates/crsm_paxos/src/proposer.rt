@@ -15,15 +15,17 @@ use std::marker::Model;
 /// What a proposer does next.
 #[derive(Debug, Drop)]
 pub enum Next {
+    /// No majority is reached by this answer, or it does not count.
     Wait,
     /// A majority has promised: this is proposed in this ballot.
     Propose(Ballot, Decision),
     /// A majority has accepted it.
     Chosen(Decision),
-    /// A greater ballot is promised.
+    /// A greater ballot is promised, which is this.
     Over(Ballot),
 }
 
+/// Why no proposal begins.
 #[derive(Clone, Copy, Debug, PartialEq, Eq)]
 pub enum StartError {
     /// There is no round above.
@@ -39,6 +41,8 @@ struct Best {
     value: Decision,
 }
 
+/// A proposal under way in one ballot of an instance. It counts each replica's promise and each
+/// replica's vote once, and leaves it to its caller that they are replicas of the Spec.
 #[derive(Drop)]
 pub struct Proposer {
     alloc: Global,
@@ -64,6 +68,8 @@ impl Model for Proposer {
 }
 
 impl Proposer {
+    /// A proposal of replica `me` in the round after that of this ballot, over a Spec of n
+    /// replicas. It proposes its own decision where no answer names another.
     pub fn start(
         alloc: Global,
         own: Decision,
@@ -96,6 +102,8 @@ impl Proposer {
         })
     }
 
+    /// Counts the promise of a replica, with what it had accepted. `Propose` comes with the promise
+    /// that makes the majority. An `Err` changes nothing.
     #[tactic(auto, unfolding(crsm_base::specs::Order::ballot_eq))]
     pub fn on_p1b(
         &mut self,
@@ -123,6 +131,8 @@ impl Proposer {
         Ok(Next::Propose(self.ballot, value))
     }
 
+    /// Counts the vote of a replica for the proposed decision. `Chosen` comes with the vote that makes
+    /// the majority. An `Err` changes nothing.
     #[tactic(auto, unfolding(crsm_base::specs::Order::ballot_eq))]
     pub fn on_p2b(&mut self, from: u32, b: Ballot) -> Result<Next, NoMemory>
         requires { from < 15 }
@@ -142,6 +152,7 @@ impl Proposer {
         Ok(Next::Chosen(value))
     }
 
+    /// A replica has refused this ballot, since it promised another.
     #[tactic(auto, unfolding(crsm_base::specs::Order::ballot_eq))]
     pub fn on_no(&mut self, b: Ballot, promised: Ballot) -> Next
         ensures next { result ≡ next_of_no self.old b promised }
