@@ -1,0 +1,29 @@
+-- The fields of a port in memory.
+use Rattle.std.specs.Prelude.{◌+◌, ◌≤◌, map, length, vec_len, vec_capacity}
+use Rattle.crsm_port.specs.declared.memory.MemPort.TheInside.{Inside}
+use Rattle.crsm_port.specs.declared.memory.Letter.{Letter}
+use Rattle.crsm_port.specs.Meaning.{Post}
+use Rattle.crsm_port.specs.Memory.{Memory}
+use Rattle.crsm_port.specs.Sent.{posts_of}
+
+abbrev pub letter_of : Letter → Post
+letter_of l = record { address = l.from; bytes = l.bytes.items }
+
+abbrev pub memory_of : Inside → Memory
+memory_of p = record {
+  letters = map letter_of p.letters.items;
+  next = p.next;
+  sent = posts_of p.sent;
+  failing = p.failures;
+  faults = p.faults;
+  losses = p.losses;
+  empties = p.empties;
+  room_sends = p.room_sends;
+  room_bytes = p.room_bytes;
+}
+
+-- as many were taken as there are at most, and there is room for what is reserved
+pub record IsKept (p : Inside) : Type 0 where
+  pub next : p.next ≤ length p.letters.items
+  pub place_labels : vec_len p.sent.labels + p.room_sends ≤ vec_capacity p.sent.labels
+  pub place_bytes : vec_len p.sent.bytes + p.room_bytes ≤ vec_capacity p.sent.bytes

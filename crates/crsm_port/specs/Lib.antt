@@ -1,0 +1,7 @@
+pub mod Address
+pub mod Inside
+pub mod Meaning
+pub mod Memory
+pub mod Posts
+pub mod Sent
+pub mod Unknown

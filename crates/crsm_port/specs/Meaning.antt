@@ -1,0 +1,79 @@
+-- What a port means: the datagrams taken and sent, where told, its counts, and how many calls go well.
+use Rattle.std.specs.Prelude.{◌≡◌, ◌↔◌, ℕ, ◌≤◌, min, List, [], ◌∷◌, ◌++◌, length, take, drop, Option, Some, IsSome, Result, IfOk, OnOk, OnErr, option_map}
+use Rattle.crsm_base.specs.declared.memory.Failed.{Failed}
+use Rattle.crsm_base.specs.declared.memory.NoMemory.{NoMemory}
+use Rattle.crsm_device.specs.Counts.{Rose}
+use Rattle.crsm_device.specs.Plan.{MakesRoom, Plan, Spends}
+use Rattle.crsm_port.specs.declared.port.Got.{Got}
+use Rattle.crsm_port.specs.declared.port.Got.TheVariants.{Nothing, Datagram}
+
+-- a datagram, with the address that it came from or goes to
+pub record Post : Type 0 where
+  pub address : ℕ
+  pub bytes : List ℕ
+
+-- the datagrams that wait, those taken and those sent, each with the oldest first
+pub record Traffic : Type 0 where
+  pub waiting : List Post
+  pub taken : List Post
+  pub sent : List Post
+
+pub record Meaning : Type 0 where
+  -- where it is told
+  pub traffic : Option Traffic
+  -- the room for sends and the calls that go well, where they are told
+  pub plan : Option Plan
+  -- the receives that failed, the sends that failed, and the receives that gave nothing
+  pub faults : ℕ
+  pub losses : ℕ
+  pub empties : ℕ
+
+-- a receive from what waits
+abbrev pub Takes : Traffic → Traffic → List ℕ → List ℕ → Got → Type 0
+Takes old new before after Nothing = (old.waiting ≡ []) × (new ≡ old) × (after ≡ before)
+Takes old new before after (Datagram from len) = (d : Post) × (rest : List Post) × (old.waiting ≡ d ∷ rest) × (from ≡ d.address)
+    × (len ≡ min (length before) (length d.bytes)) × (after ≡ take len d.bytes ++ drop len before)
+    × (new ≡ record old { waiting = rest; taken = old.taken ++ d ∷ [] })
+
+-- Nothing exactly where `empties` rose, and it rises with no other answer
+abbrev pub CountsEmpty : ℕ → ℕ → Got → Type 0
+CountsEmpty old new Nothing = Rose old new × (old ≤ new)
+CountsEmpty old new (Datagram from len) = new ≡ old
+
+abbrev pub IsWithin : ℕ → Got → Type 0
+IsWithin n Nothing = Unit {0}
+IsWithin n (Datagram from len) = len ≤ n
+
+-- what a receive owes, with the buffer before and after it
+pub record Receives (old new : Meaning) (before after : List ℕ) (result : Result Got Failed) : Type 0 where
+  pub within : IfOk result (IsWithin (length before))
+  pub losses : new.losses ≡ old.losses
+  pub later : old.faults ≤ new.faults
+  pub failed : OnErr result (Rose old.faults new.faults)
+  pub no_fault : OnOk result (new.faults ≡ old.faults)
+  pub empties : IfOk result (CountsEmpty old.empties new.empties)
+  pub not_empty : OnErr result (new.empties ≡ old.empties)
+  pub taken : (t u : Traffic) → old.traffic ≡ Some t → new.traffic ≡ Some u → IfOk result (Takes t u before after)
+  pub untaken : OnErr result (new.traffic ≡ old.traffic)
+  pub told : IsSome old.traffic ↔ IsSome new.traffic
+  pub plan : Spends 0 0 old.plan new.plan result
+
+-- a send is told behind those before it
+abbrev pub with_sent : Post → Traffic → Traffic
+with_sent d t = record t { sent = t.sent ++ d ∷ [] }
+
+-- what a send owes
+pub record Sends {T : Type 0} (to : ℕ) (bytes : List ℕ) (old new : Meaning) (result : Result T Failed) : Type 0 where
+  pub faults : new.faults ≡ old.faults
+  pub later : old.losses ≤ new.losses
+  pub failed : OnErr result (Rose old.losses new.losses)
+  pub no_loss : OnOk result (new.losses ≡ old.losses)
+  pub empties : new.empties ≡ old.empties
+  pub sent : OnOk result (new.traffic ≡ option_map (with_sent (record { address = to; bytes = bytes })) old.traffic)
+  pub unsent : OnErr result (new.traffic ≡ old.traffic)
+  pub plan : Spends 1 (length bytes) old.plan new.plan result
+
+-- room is made, and nothing else changes
+pub record Reserves {T : Type 0} (sends bytes : ℕ) (old new : Meaning) (result : Result T NoMemory) : Type 0 where
+  pub same : new ≡ record old { plan = new.plan }
+  pub plan : MakesRoom sends bytes old.plan new.plan result

@@ -1,0 +1,30 @@
+-- A port in memory.
+use Rattle.std.specs.Prelude.{ℕ, List, take, drop, Some}
+use Rattle.crsm_device.specs.Failing.{Failing, good_of}
+use Rattle.crsm_port.specs.Meaning.{Meaning, Post, Traffic}
+
+pub record Memory : Type 0 where
+  -- what was put in, the oldest first, and how many of these were taken
+  pub letters : List Post
+  pub next : ℕ
+  -- what was sent, the oldest first
+  pub sent : List Post
+  -- the calls so far, and those that fail
+  pub failing : Failing
+  pub faults : ℕ
+  pub losses : ℕ
+  pub empties : ℕ
+  pub room_sends : ℕ
+  pub room_bytes : ℕ
+
+abbrev pub traffic_of : Memory → Traffic
+traffic_of m = record { waiting = drop m.next m.letters; taken = take m.next m.letters; sent = m.sent }
+
+abbrev pub meaning_of : Memory → Meaning
+meaning_of m = record {
+  traffic = Some (traffic_of m);
+  plan = Some (record { calls = m.room_sends; bytes = m.room_bytes; good = good_of m.failing });
+  faults = m.faults;
+  losses = m.losses;
+  empties = m.empties;
+}

@@ -1,0 +1,16 @@
+//! A port: datagrams that come in and go out, and what it tells of its calls.
+#![tactic(auto)]
+
+mod address;
+mod memory;
+mod port;
+mod posted;
+#[cfg(test)]
+mod tests;
+mod udp;
+
+pub use address::{from_number, number};
+pub use memory::MemPort;
+pub use port::{Got, Port};
+pub use posted::Posted;
+pub use udp::UdpPort;

@@ -1,0 +1,174 @@
+//! A port in memory, which tells all that it took and sent.
+
+ghost use Rattle.std.specs.Prelude.{◌≡◌, ◌+◌, ◌-◌, ◌≤◌, ℕ, [], ◌∷◌, ◌++◌, length, min, take, drop, IfOk, OnOk, OnErr, Some};
+ghost use Rattle.crsm_device.specs.Counts.{raised, Rose};
+ghost use Rattle.crsm_device.specs.Failing.{IsNotEnd, good_of, one_less};
+ghost use Rattle.crsm_port.specs.Meaning.{CountsEmpty, Takes};
+ghost use Rattle.crsm_port.specs.Memory.{meaning_of, traffic_of};
+ghost use Rattle.crsm_port.specs.Sent.{posts_of};
+
+use crate::{Got, Port, Posted};
+use crsm_base::{Failed, NoMemory};
+use crsm_device::{Failures, raise};
+use std::alloc::Global;
+use std::marker::Model;
+
+// What was put in.
+#[derive(Drop)]
+struct Letter {
+    from: u64,
+    bytes: Vec<u8>,
+}
+
+/// A port in memory. It gives what was put in, keeps what was sent, and fails at the calls that are listed.
+#[derive(Drop)]
+pub struct MemPort {
+    alloc: Global,
+    letters: Vec<Letter>,
+    next: usize,
+    sent: Posted,
+    failures: Failures,
+    faults: u64,
+    losses: u64,
+    empties: u64,
+    room_sends: u64,
+    room_bytes: u64,
+}
+
+impl Model for MemPort {
+    ghost use Rattle.crsm_port.specs.Memory.{Memory};
+
+    ghost Value = { Memory };
+
+    ghost use Rattle.crsm_port.specs.Inside.{memory_of, IsKept};
+
+    ghost view = { memory_of };
+
+    ghost invariant = { IsKept };
+}
+
+impl MemPort {
+    /// An empty port that fails at these calls, counted from 1.
+    pub fn new(alloc: Global, fails: &[u64]) -> Result<MemPort, NoMemory>
+        ensures { IfOk result (λ p. p ≡ record { letters = []; next = 0; sent = []; failing = record { calls = 0; listed = fails.now }; faults = 0; losses = 0; empties = 0; room_sends = 0; room_bytes = 0 }) }
+    {
+        Ok(MemPort {
+            alloc,
+            letters: Vec::new(alloc),
+            next: 0,
+            sent: Posted::new(alloc),
+            failures: Failures::new(alloc, fails)?,
+            faults: 0,
+            losses: 0,
+            empties: 0,
+            room_sends: 0,
+            room_bytes: 0,
+        })
+    }
+
+    /// Puts a datagram behind those that wait.
+    pub fn put(&mut self, from: u64, bytes: &[u8]) -> Result<(), NoMemory>
+        ensures ok { OnOk result (self.new ≡ record self.old { letters = self.old.letters ++ (record { address = from; bytes = bytes.now }) ∷ [] }) }
+        ensures err { OnErr result (self.new ≡ self.old) }
+    {
+        let bytes = Vec::from_slice(self.alloc, bytes)?;
+        self.letters.push(Letter { from, bytes })?;
+        Ok(())
+    }
+
+    /// What was sent.
+    pub fn sent(&self) -> &Posted
+        ensures { posts_of result.now ≡ self.now.sent }
+    {
+        &self.sent
+    }
+}
+
+impl MemPort {
+    // The next datagram that waits, cut to the buffer. Nothing, where none waits, is counted.
+    fn take(&mut self, buf: &mut [u8]) -> Got
+        ensures letters { self.new ≡ record self.old { next = self.new.next; empties = self.new.empties } }
+        ensures got { Takes (traffic_of self.old) (traffic_of self.new) buf.old buf.new result }
+        ensures empties { CountsEmpty self.old.empties self.new.empties result }
+    {
+        match self.letters.get(self.next) {
+            None => {
+                raise(&mut self.empties);
+                Got::Nothing
+            }
+            Some(letter) => {
+                let len = copy(&letter.bytes, buf);
+                let from = letter.from;
+                self.next += 1;
+                Got::Datagram { from, len }
+            }
+        }
+    }
+
+    // Keeps a datagram. There is room.
+    fn keep(&mut self, to: u64, bytes: &[u8])
+        requires sends { 1 ≤ self.old.room_sends }
+        requires bytes { length bytes.now ≤ self.old.room_bytes }
+        ensures { self.new ≡ record self.old {
+          sent = self.old.sent ++ (record { address = to; bytes = bytes.now }) ∷ [];
+          room_sends = self.old.room_sends - 1;
+          room_bytes = self.old.room_bytes - length bytes.now;
+        } }
+    {
+        self.sent.push(to, bytes);
+        self.room_sends -= 1;
+        self.room_bytes -= bytes.len() as u64;
+    }
+
+    // A send that fails or finds no room is a loss.
+    fn admits(&mut self, len: usize) -> Result<(), Failed>
+        ensures same { self.new ≡ record self.old { failing = self.new.failing; losses = self.new.losses } }
+        ensures ok { OnOk result ((self.new.losses ≡ self.old.losses) × (1 ≤ self.old.room_sends) × (len ≤ self.old.room_bytes)
+            × (good_of self.new.failing ≡ one_less (good_of self.old.failing)) × IsNotEnd (good_of self.old.failing)) }
+        ensures err { OnErr result ((self.old.losses ≤ self.new.losses) × Rose self.old.losses self.new.losses
+            × (1 ≤ self.old.room_sends → len ≤ self.old.room_bytes → good_of self.old.failing ≡ Some 0)) }
+    {
+        let fails = self.failures.next_fails();
+        if fails || self.room_sends == 0 || len as u64 > self.room_bytes {
+            raise(&mut self.losses);
+            return Err(Failed);
+        }
+        Ok(())
+    }
+}
+
+fn copy(bytes: &[u8], buf: &mut [u8]) -> usize
+    ensures len { result ≡ min (length buf.old) (length bytes.now) }
+    ensures bytes { buf.new ≡ take result bytes.now ++ drop result buf.old }
+{
+    let n = buf.len().min(bytes.len());
+    buf[..n].copy_from_slice(&bytes[..n]);
+    n
+}
+
+impl Port for MemPort {
+    ghost meaning = { meaning_of };
+
+    fn recv(&mut self, buf: &mut [u8]) -> Result<Got, Failed> {
+        if self.failures.next_fails() {
+            raise(&mut self.faults);
+            return Err(Failed);
+        }
+        Ok(self.take(buf))
+    }
+
+    fn send(&mut self, to: u64, bytes: &[u8]) -> Result<(), Failed> {
+        self.admits(bytes.len())?;
+        self.keep(to, bytes);
+        Ok(())
+    }
+
+    fn reserve(&mut self, sends: u64, bytes: u64) -> Result<(), NoMemory> {
+        let sends = self.room_sends.max(sends);
+        let bytes = self.room_bytes.max(bytes);
+        self.sent.reserve(sends as usize, bytes as usize)?;
+        self.room_sends = sends;
+        self.room_bytes = bytes;
+        Ok(())
+    }
+}
