@@ -1,0 +1,138 @@
+//! Keys, values, operations and commands.
+
+ghost use Rattle.std.specs.Prelude.{◌≡◌, ◌++◌, List, ℕ, length, IfOk, IfSome, IfNone, OnOk, OnErr, Option};
+ghost use Rattle.crsm_base.specs.declared.Op.{Op};
+ghost use Rattle.crsm_base.specs.declared.Command.{Command};
+ghost use Rattle.crsm_base.specs.Spelling.{FitsCommand, FitsKey, FitsOp, FitsOption, FitsVal, Spelt, SpeltCommand, SpeltKey, SpeltOp, SpeltVal, command_bytes, key_bytes, op_bytes, option_bytes, val_bytes};
+ghost use Rattle.crsm_codec.specs.Readers.{IsFront, HasNoFront};
+
+use crsm_base::{Bytes, Command, Key, NoMemory, Op, Val};
+use std::alloc::Global;
+
+/// Reads a key, of 1 to 64 bytes from the front of the bytes: the value and how many bytes it takes, or `None`
+/// exactly where no first bytes spell one.
+pub fn read_key(alloc: Global, bytes: &[u8]) -> Result<Option<(Key, usize)>, NoMemory>
+    ensures found { IfOk result (λ r. IfSome r (IsFront SpeltKey bytes.now)) }
+    ensures none { IfOk result (λ r. IfNone r (HasNoFront SpeltKey bytes.now)) }
+    ensures again { (key : List ℕ) (rest : List ℕ) → FitsKey key → bytes.now ≡ key_bytes key ++ rest →
+        IfOk result (λ r. r ≡ Some (key, length (key_bytes key))) }
+{
+    match crsm_fields::take_key(alloc, bytes)? {
+        Some((key, rest)) => Ok(Some((key, bytes.len() - rest.len()))),
+        None => Ok(None),
+    }
+}
+
+/// Appends the one spelling of a key, of 1 to 64 bytes. After `NoMemory` the bytes are as before.
+pub fn write_key(alloc: Global, key: &Key, out: &mut Bytes) -> Result<(), NoMemory>
+    requires { FitsKey key.now }
+    ensures ok { OnOk result (out.new ≡ out.old ++ key_bytes key.now) }
+    ensures err { OnErr result (out.new ≡ out.old) }
+{
+    let mut spelling = Bytes::new(alloc);
+    crsm_fields::put_key(key, &mut spelling)?;
+    out.append(spelling.as_slice())
+}
+
+/// Reads a value, of at most 512 bytes from the front of the bytes: the value and how many bytes it takes, or
+/// `None` exactly where no first bytes spell one.
+pub fn read_val(alloc: Global, bytes: &[u8]) -> Result<Option<(Val, usize)>, NoMemory>
+    ensures found { IfOk result (λ r. IfSome r (IsFront SpeltVal bytes.now)) }
+    ensures none { IfOk result (λ r. IfNone r (HasNoFront SpeltVal bytes.now)) }
+    ensures again { (val : List ℕ) (rest : List ℕ) → FitsVal val → bytes.now ≡ val_bytes val ++ rest →
+        IfOk result (λ r. r ≡ Some (val, length (val_bytes val))) }
+{
+    match crsm_fields::take_val(alloc, bytes)? {
+        Some((val, rest)) => Ok(Some((val, bytes.len() - rest.len()))),
+        None => Ok(None),
+    }
+}
+
+/// Appends the one spelling of a value, of at most 512 bytes. After `NoMemory` the bytes are as before.
+pub fn write_val(alloc: Global, val: &Val, out: &mut Bytes) -> Result<(), NoMemory>
+    requires { FitsVal val.now }
+    ensures ok { OnOk result (out.new ≡ out.old ++ val_bytes val.now) }
+    ensures err { OnErr result (out.new ≡ out.old) }
+{
+    let mut spelling = Bytes::new(alloc);
+    crsm_fields::put_val(val, &mut spelling)?;
+    out.append(spelling.as_slice())
+}
+
+/// Reads a value that may be missing from the front of the bytes: the value and how many bytes it takes, or `None`
+/// exactly where no first bytes spell one.
+pub fn read_option_val(
+    alloc: Global,
+    bytes: &[u8],
+) -> Result<Option<(Option<Val>, usize)>, NoMemory>
+    ensures found { IfOk result (λ r. IfSome r (IsFront (Spelt (option_bytes val_bytes) (FitsOption FitsVal)) bytes.now)) }
+    ensures none { IfOk result (λ r. IfNone r (HasNoFront (Spelt (option_bytes val_bytes) (FitsOption FitsVal)) bytes.now)) }
+    ensures again { (val : Option (List ℕ)) (rest : List ℕ) → FitsOption FitsVal val → bytes.now ≡ option_bytes val_bytes val ++ rest →
+        IfOk result (λ r. r ≡ Some (val, length (option_bytes val_bytes val))) }
+{
+    match crsm_fields::take_option_val(alloc, bytes)? {
+        Some((val, rest)) => Ok(Some((val, bytes.len() - rest.len()))),
+        None => Ok(None),
+    }
+}
+
+/// Appends the one spelling of a value that may be missing. After `NoMemory` the bytes are as before.
+pub fn write_option_val(alloc: Global, val: &Option<Val>, out: &mut Bytes) -> Result<(), NoMemory>
+    requires { FitsOption FitsVal val.now }
+    ensures ok { OnOk result (out.new ≡ out.old ++ option_bytes val_bytes val.now) }
+    ensures err { OnErr result (out.new ≡ out.old) }
+{
+    let mut spelling = Bytes::new(alloc);
+    crsm_fields::put_option_val(val, &mut spelling)?;
+    out.append(spelling.as_slice())
+}
+
+/// Reads an operation from the front of the bytes: the value and how many bytes it takes, or `None` exactly where
+/// no first bytes spell one.
+pub fn read_op(alloc: Global, bytes: &[u8]) -> Result<Option<(Op, usize)>, NoMemory>
+    ensures found { IfOk result (λ r. IfSome r (IsFront SpeltOp bytes.now)) }
+    ensures none { IfOk result (λ r. IfNone r (HasNoFront SpeltOp bytes.now)) }
+    ensures again { (op : Op) (rest : List ℕ) → FitsOp op → bytes.now ≡ op_bytes op ++ rest →
+        IfOk result (λ r. r ≡ Some (op, length (op_bytes op))) }
+{
+    match crsm_fields::take_op(alloc, bytes)? {
+        Some((op, rest)) => Ok(Some((op, bytes.len() - rest.len()))),
+        None => Ok(None),
+    }
+}
+
+/// Appends the one spelling of an operation. After `NoMemory` the bytes are as before.
+pub fn write_op(alloc: Global, op: &Op, out: &mut Bytes) -> Result<(), NoMemory>
+    requires { FitsOp op.now }
+    ensures ok { OnOk result (out.new ≡ out.old ++ op_bytes op.now) }
+    ensures err { OnErr result (out.new ≡ out.old) }
+{
+    let mut spelling = Bytes::new(alloc);
+    crsm_fields::put_op(op, &mut spelling)?;
+    out.append(spelling.as_slice())
+}
+
+/// Reads a command from the front of the bytes: the value and how many bytes it takes, or `None` exactly where no
+/// first bytes spell one.
+pub fn read_command(alloc: Global, bytes: &[u8]) -> Result<Option<(Command, usize)>, NoMemory>
+    ensures found { IfOk result (λ r. IfSome r (IsFront SpeltCommand bytes.now)) }
+    ensures none { IfOk result (λ r. IfNone r (HasNoFront SpeltCommand bytes.now)) }
+    ensures again { (command : Command) (rest : List ℕ) → FitsCommand command → bytes.now ≡ command_bytes command ++ rest →
+        IfOk result (λ r. r ≡ Some (command, length (command_bytes command))) }
+{
+    match crsm_fields::take_command(alloc, bytes)? {
+        Some((command, rest)) => Ok(Some((command, bytes.len() - rest.len()))),
+        None => Ok(None),
+    }
+}
+
+/// Appends the one spelling of a command. After `NoMemory` the bytes are as before.
+pub fn write_command(alloc: Global, command: &Command, out: &mut Bytes) -> Result<(), NoMemory>
+    requires { FitsCommand command.now }
+    ensures ok { OnOk result (out.new ≡ out.old ++ command_bytes command.now) }
+    ensures err { OnErr result (out.new ≡ out.old) }
+{
+    let mut spelling = Bytes::new(alloc);
+    crsm_fields::put_command(command, &mut spelling)?;
+    out.append(spelling.as_slice())
+}

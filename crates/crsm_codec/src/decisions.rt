@@ -1,0 +1,94 @@
+//! Members, decisions, and what an acceptor has accepted.
+
+ghost use Rattle.std.specs.Prelude.{◌≡◌, ◌++◌, List, ℕ, length, IfOk, IfSome, IfNone, OnOk, OnErr, Option};
+ghost use Rattle.crsm_base.specs.declared.Ballot.{Ballot};
+ghost use Rattle.crsm_base.specs.declared.Decision.{Decision};
+ghost use Rattle.crsm_base.specs.Members.{IsMembers};
+ghost use Rattle.crsm_base.specs.Spelling.{FitsDecision, FitsOption, Spelt, SpeltDecision, SpeltMembers, decision_bytes, members_bytes, option_bytes};
+ghost use Rattle.crsm_base.specs.Messages.{FitsVote, vote_bytes};
+ghost use Rattle.crsm_codec.specs.Readers.{IsFront, HasNoFront};
+
+use crsm_base::{Ballot, Bytes, Decision, Members, NoMemory};
+use std::alloc::Global;
+
+/// Reads members from the front of the bytes: the value and how many bytes it takes, or `None` exactly where no
+/// first bytes spell one.
+pub fn read_members(alloc: Global, bytes: &[u8]) -> Result<Option<(Members, usize)>, NoMemory>
+    ensures found { IfOk result (λ r. IfSome r (IsFront SpeltMembers bytes.now)) }
+    ensures none { IfOk result (λ r. IfNone r (HasNoFront SpeltMembers bytes.now)) }
+    ensures again { (members : List ℕ) (rest : List ℕ) → IsMembers members → bytes.now ≡ members_bytes members ++ rest →
+        IfOk result (λ r. r ≡ Some (members, length (members_bytes members))) }
+{
+    match crsm_fields::take_members(alloc, bytes)? {
+        Some((members, rest)) => Ok(Some((members, bytes.len() - rest.len()))),
+        None => Ok(None),
+    }
+}
+
+/// Appends the one spelling of members. After `NoMemory` the bytes are as before.
+pub fn write_members(alloc: Global, members: &Members, out: &mut Bytes) -> Result<(), NoMemory>
+    ensures ok { OnOk result (out.new ≡ out.old ++ members_bytes members.now) }
+    ensures err { OnErr result (out.new ≡ out.old) }
+{
+    let mut spelling = Bytes::new(alloc);
+    crsm_fields::put_members(members, &mut spelling)?;
+    out.append(spelling.as_slice())
+}
+
+/// Reads a decision from the front of the bytes: the value and how many bytes it takes, or `None` exactly where no
+/// first bytes spell one.
+pub fn read_decision(alloc: Global, bytes: &[u8]) -> Result<Option<(Decision, usize)>, NoMemory>
+    ensures found { IfOk result (λ r. IfSome r (IsFront SpeltDecision bytes.now)) }
+    ensures none { IfOk result (λ r. IfNone r (HasNoFront SpeltDecision bytes.now)) }
+    ensures again { (decision : Decision) (rest : List ℕ) → FitsDecision decision → bytes.now ≡ decision_bytes decision ++ rest →
+        IfOk result (λ r. r ≡ Some (decision, length (decision_bytes decision))) }
+{
+    match crsm_fields::take_decision(alloc, bytes)? {
+        Some((decision, rest)) => Ok(Some((decision, bytes.len() - rest.len()))),
+        None => Ok(None),
+    }
+}
+
+/// Appends the one spelling of a decision. After `NoMemory` the bytes are as before.
+pub fn write_decision(alloc: Global, decision: &Decision, out: &mut Bytes) -> Result<(), NoMemory>
+    requires { FitsDecision decision.now }
+    ensures ok { OnOk result (out.new ≡ out.old ++ decision_bytes decision.now) }
+    ensures err { OnErr result (out.new ≡ out.old) }
+{
+    let mut spelling = Bytes::new(alloc);
+    crsm_fields::put_decision(decision, &mut spelling)?;
+    out.append(spelling.as_slice())
+}
+
+/// Reads what an acceptor has accepted, if anything: the ballot and the decision from the front of the bytes: the
+/// value and how many bytes it takes, or `None` exactly where no first bytes spell one.
+pub fn read_option_vote(
+    alloc: Global,
+    bytes: &[u8],
+) -> Result<Option<(Option<(Ballot, Decision)>, usize)>, NoMemory>
+    ensures found { IfOk result (λ r. IfSome r (IsFront (Spelt (option_bytes vote_bytes) (FitsOption FitsVote)) bytes.now)) }
+    ensures none { IfOk result (λ r. IfNone r (HasNoFront (Spelt (option_bytes vote_bytes) (FitsOption FitsVote)) bytes.now)) }
+    ensures again { (vote : Option (Ballot × Decision)) (rest : List ℕ) → FitsOption FitsVote vote → bytes.now ≡ option_bytes vote_bytes vote ++ rest →
+        IfOk result (λ r. r ≡ Some (vote, length (option_bytes vote_bytes vote))) }
+{
+    match crsm_fields::take_option_vote(alloc, bytes)? {
+        Some((vote, rest)) => Ok(Some((vote, bytes.len() - rest.len()))),
+        None => Ok(None),
+    }
+}
+
+/// Appends the one spelling of what an acceptor has accepted, if anything: the ballot and the decision. After
+/// `NoMemory` the bytes are as before.
+pub fn write_option_vote(
+    alloc: Global,
+    vote: &Option<(Ballot, Decision)>,
+    out: &mut Bytes,
+) -> Result<(), NoMemory>
+    requires { FitsOption FitsVote vote.now }
+    ensures ok { OnOk result (out.new ≡ out.old ++ option_bytes vote_bytes vote.now) }
+    ensures err { OnErr result (out.new ≡ out.old) }
+{
+    let mut spelling = Bytes::new(alloc);
+    crsm_fields::put_option_vote(vote, &mut spelling)?;
+    out.append(spelling.as_slice())
+}

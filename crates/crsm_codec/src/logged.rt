@@ -1,0 +1,60 @@
+//! Entries and lists of entries.
+
+ghost use Rattle.std.specs.Prelude.{◌≡◌, ◌++◌, List, ℕ, length, IfOk, IfSome, IfNone, OnOk, OnErr};
+ghost use Rattle.crsm_base.specs.declared.Entry.{Entry};
+ghost use Rattle.crsm_base.specs.Spelling.{FitsEntries, FitsEntry, SpeltEntries, SpeltEntry, entries_bytes, entry_bytes};
+ghost use Rattle.crsm_codec.specs.Readers.{IsFront, HasNoFront};
+
+use crsm_base::{Bytes, Entries, Entry, NoMemory};
+use std::alloc::Global;
+
+/// Reads an entry from the front of the bytes: the value and how many bytes it takes, or `None` exactly where no
+/// first bytes spell one.
+pub fn read_entry(alloc: Global, bytes: &[u8]) -> Result<Option<(Entry, usize)>, NoMemory>
+    ensures found { IfOk result (λ r. IfSome r (IsFront SpeltEntry bytes.now)) }
+    ensures none { IfOk result (λ r. IfNone r (HasNoFront SpeltEntry bytes.now)) }
+    ensures again { (entry : Entry) (rest : List ℕ) → FitsEntry entry → bytes.now ≡ entry_bytes entry ++ rest →
+        IfOk result (λ r. r ≡ Some (entry, length (entry_bytes entry))) }
+{
+    match crsm_fields::take_entry(alloc, bytes)? {
+        Some((entry, rest)) => Ok(Some((entry, bytes.len() - rest.len()))),
+        None => Ok(None),
+    }
+}
+
+/// Appends the one spelling of an entry. After `NoMemory` the bytes are as before.
+pub fn write_entry(alloc: Global, entry: &Entry, out: &mut Bytes) -> Result<(), NoMemory>
+    requires { FitsEntry entry.now }
+    ensures ok { OnOk result (out.new ≡ out.old ++ entry_bytes entry.now) }
+    ensures err { OnErr result (out.new ≡ out.old) }
+{
+    let mut spelling = Bytes::new(alloc);
+    crsm_fields::put_entry(entry, &mut spelling)?;
+    out.append(spelling.as_slice())
+}
+
+/// Reads a list of entries, strictly rising, at most 4,096 of them in at most 2,097,152 bytes from the front of the
+/// bytes: the value and how many bytes it takes, or `None` exactly where no first bytes spell one.
+pub fn read_entries(alloc: Global, bytes: &[u8]) -> Result<Option<(Entries, usize)>, NoMemory>
+    ensures found { IfOk result (λ r. IfSome r (IsFront SpeltEntries bytes.now)) }
+    ensures none { IfOk result (λ r. IfNone r (HasNoFront SpeltEntries bytes.now)) }
+    ensures again { (entries : List Entry) (rest : List ℕ) → FitsEntries entries → bytes.now ≡ entries_bytes entries ++ rest →
+        IfOk result (λ r. r ≡ Some (entries, length (entries_bytes entries))) }
+{
+    match crsm_fields::take_entries(alloc, bytes)? {
+        Some((entries, rest)) => Ok(Some((entries, bytes.len() - rest.len()))),
+        None => Ok(None),
+    }
+}
+
+/// Appends the one spelling of a list of entries, strictly rising, at most 4,096 of them in at most 2,097,152
+/// bytes. After `NoMemory` the bytes are as before.
+pub fn write_entries(alloc: Global, entries: &Entries, out: &mut Bytes) -> Result<(), NoMemory>
+    requires { FitsEntries entries.now }
+    ensures ok { OnOk result (out.new ≡ out.old ++ entries_bytes entries.now) }
+    ensures err { OnErr result (out.new ≡ out.old) }
+{
+    let mut spelling = Bytes::new(alloc);
+    crsm_fields::put_entries(entries, &mut spelling)?;
+    out.append(spelling.as_slice())
+}

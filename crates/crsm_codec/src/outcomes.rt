@@ -1,0 +1,60 @@
+//! Answers and outcomes.
+
+ghost use Rattle.std.specs.Prelude.{◌≡◌, ◌++◌, List, ℕ, length, IfOk, IfSome, IfNone, OnOk, OnErr};
+ghost use Rattle.crsm_base.specs.declared.Answer.{Answer};
+ghost use Rattle.crsm_base.specs.declared.Outcome.{Outcome};
+ghost use Rattle.crsm_base.specs.Spelling.{FitsAnswer, FitsOutcome, SpeltAnswer, SpeltOutcome, answer_bytes, outcome_bytes};
+ghost use Rattle.crsm_codec.specs.Readers.{IsFront, HasNoFront};
+
+use crsm_base::{Answer, Bytes, NoMemory, Outcome};
+use std::alloc::Global;
+
+/// Reads an answer of the store from the front of the bytes: the value and how many bytes it takes, or `None`
+/// exactly where no first bytes spell one.
+pub fn read_answer(alloc: Global, bytes: &[u8]) -> Result<Option<(Answer, usize)>, NoMemory>
+    ensures found { IfOk result (λ r. IfSome r (IsFront SpeltAnswer bytes.now)) }
+    ensures none { IfOk result (λ r. IfNone r (HasNoFront SpeltAnswer bytes.now)) }
+    ensures again { (answer : Answer) (rest : List ℕ) → FitsAnswer answer → bytes.now ≡ answer_bytes answer ++ rest →
+        IfOk result (λ r. r ≡ Some (answer, length (answer_bytes answer))) }
+{
+    match crsm_fields::take_answer(alloc, bytes)? {
+        Some((answer, rest)) => Ok(Some((answer, bytes.len() - rest.len()))),
+        None => Ok(None),
+    }
+}
+
+/// Appends the one spelling of an answer of the store. After `NoMemory` the bytes are as before.
+pub fn write_answer(alloc: Global, answer: &Answer, out: &mut Bytes) -> Result<(), NoMemory>
+    requires { FitsAnswer answer.now }
+    ensures ok { OnOk result (out.new ≡ out.old ++ answer_bytes answer.now) }
+    ensures err { OnErr result (out.new ≡ out.old) }
+{
+    let mut spelling = Bytes::new(alloc);
+    crsm_fields::put_answer(answer, &mut spelling)?;
+    out.append(spelling.as_slice())
+}
+
+/// Reads an outcome from the front of the bytes: the value and how many bytes it takes, or `None` exactly where no
+/// first bytes spell one.
+pub fn read_outcome(alloc: Global, bytes: &[u8]) -> Result<Option<(Outcome, usize)>, NoMemory>
+    ensures found { IfOk result (λ r. IfSome r (IsFront SpeltOutcome bytes.now)) }
+    ensures none { IfOk result (λ r. IfNone r (HasNoFront SpeltOutcome bytes.now)) }
+    ensures again { (outcome : Outcome) (rest : List ℕ) → FitsOutcome outcome → bytes.now ≡ outcome_bytes outcome ++ rest →
+        IfOk result (λ r. r ≡ Some (outcome, length (outcome_bytes outcome))) }
+{
+    match crsm_fields::take_outcome(alloc, bytes)? {
+        Some((outcome, rest)) => Ok(Some((outcome, bytes.len() - rest.len()))),
+        None => Ok(None),
+    }
+}
+
+/// Appends the one spelling of an outcome. After `NoMemory` the bytes are as before.
+pub fn write_outcome(alloc: Global, outcome: &Outcome, out: &mut Bytes) -> Result<(), NoMemory>
+    requires { FitsOutcome outcome.now }
+    ensures ok { OnOk result (out.new ≡ out.old ++ outcome_bytes outcome.now) }
+    ensures err { OnErr result (out.new ≡ out.old) }
+{
+    let mut spelling = Bytes::new(alloc);
+    crsm_fields::put_outcome(outcome, &mut spelling)?;
+    out.append(spelling.as_slice())
+}
