@@ -1,0 +1,80 @@
+use Rattle.std.proofs.Common.{refl, IsTrue, ◌≡◌, ◌<◌, ◌+◌, ℕ, List, [], ◌∷◌, length, ◌∙◌, ap, sym, subst, arith}
+use Rattle.std.proofs.lemmas.Result.{err_from_is_err_and}
+use Rattle.std.proofs.lemmas.Bool.Decides.{nat_tests}
+use Rattle.crsm_image.specs.Calls.{synced, wrote}
+use Rattle.crsm_log.specs.Log.{Used, mount_calls, mount_count, recorded}
+use Rattle.crsm_log.specs.Format.{found}
+use Rattle.crsm_log.proofs.Crash.{reading_short}
+use Rattle.crsm_log.specs.declared.errors.MountError.TheVariants.{DiskFault, BadGate}
+use Rattle.crsm_log.proofs.Mounts.{short_leaves, short_settles, three_more, used_five}
+use Rattle.crsm_log.proofs.device.read_log.Goals as goal
+
+not_bad : (entry : ℕ) → DiskFault ≡ BadGate entry → ⊥
+not_bad entry is = cc
+
+pub returns-in_err-write_and_sync-clause-err : goal.returns-in_err-write_and_sync-clause-err
+returns-in_err-write_and_sync-clause-err g c =
+    let m0 = g.D.Disk.meaning c.args.disk.now in
+    let m1 = g.D.Disk.meaning c.contents.new.disk in
+    let m2 = g.D.Disk.meaning c.write_and_sync.new.disk in
+    let p = err_from_is_err_and c.from_residual-in_err-write_and_sync.result c.from_residual-in_err-write_and_sync.ensures.1 in
+    let fetch = c.in_ok-file.ensures.ok in
+    let ran = c.in_err-write_and_sync.ensures.ran in
+    let short : IsTrue m0.honest → length m0.seen < 6 = λ honest. let e = ap length (fetch.read honest) in omega (arith, e, c.len.ensures) in
+    rw (p.1, p.2) (record {
+      goes = record {
+        honest = ran.goes.honest ∙ c.contents.ensures.goes.honest;
+        fill = ran.goes.fill ∙ c.contents.ensures.goes.fill;
+        later = omega (arith, ran.goes.later, c.contents.ensures.goes.later);
+      };
+      any_moment = λ honest.
+          let h1 = c.contents.ensures.goes.honest ∙ honest in
+          short_leaves m0 m1 m2 (short honest) (fetch.seen honest) (c.contents.ensures.any_moment honest) (c.write_and_sync.ensures.any_moment h1 (fetch.durable honest));
+      fault = λ _. omega (arith, ran.fault, c.contents.ensures.goes.later);
+      unwritten = λ honest other. absurd (other refl);
+      bad_gate = λ honest entry is. absurd (not_bad entry is);
+      served = λ entry is p told. absurd (not_bad entry is);
+      good = λ honest _ p is.
+          let room = fetch.plan p is in
+          let count : mount_count m0.seen ≡ 5 = let lt = short honest in grind (arith, nat_tests) in
+          let stops = ran.stops in
+          let met = stops.good room.0 room.1 (room.4.0, omega (arith, room.4.1)) in
+          (3 + stops.made, omega (arith, count, stops.short), three_more p.good stops.made room.3 (sym room.2 ∙ met));
+    })
+
+short_calls : (file : List ℕ) → length file < 6 → mount_calls file ≡ synced ∷ wrote 0 (0 ∷ []) ∷ synced ∷ []
+short_calls file short = grind (arith, nat_tests)
+
+short_count : (file : List ℕ) → length file < 6 → mount_count file ≡ 5
+short_count file short = grind (arith, nat_tests)
+
+pub returns-then-len-lt6-clause-ok : goal.returns-then-len-lt6-clause-ok
+returns-then-len-lt6-clause-ok g c =
+    let m0 = g.D.Disk.meaning c.args.disk.now in
+    let m1 = g.D.Disk.meaning c.contents.new.disk in
+    let m2 = g.D.Disk.meaning c.write_and_sync.new.disk in
+    let fetch = c.in_ok-file.ensures.ok in
+    let wrote_gate = c.in_ok-write_and_sync.ensures in
+    let ran = wrote_gate.ran in
+    let short : IsTrue m0.honest → length m0.seen < 6 = λ honest. let e = ap length (fetch.read honest) in omega (arith, e, c.len.ensures) in
+    let h1 : IsTrue m0.honest → IsTrue m1.honest = λ honest. c.contents.ensures.goes.honest ∙ honest in
+    let settles = λ (honest : IsTrue m0.honest). short_settles m0 m1 m2 (short honest) (fetch.seen honest) (wrote_gate.written (h1 honest)) (wrote_gate.durable (h1 honest)) ran.history in
+    record {
+      goes = record {
+        honest = ran.goes.honest ∙ c.contents.ensures.goes.honest;
+        fill = ran.goes.fill ∙ c.contents.ensures.goes.fill;
+        later = omega (arith, ran.goes.later, c.contents.ensures.goes.later);
+      };
+      settled = λ honest. (settles honest).0;
+      read = λ honest. reading_short m0.seen (short honest) ∙ ap found (sym c.new.ensures);
+      kept = λ honest. (settles honest).1 ∙ ap found (sym c.new.ensures);
+      any_moment = λ honest. short_leaves m0 m1 m2 (short honest) (fetch.seen honest) (c.contents.ensures.any_moment honest) (c.write_and_sync.ensures.any_moment (h1 honest) (fetch.durable honest));
+      history = λ honest.
+          ran.history ∙ ap (recorded (wrote 0 (0 ∷ []) ∷ synced ∷ [])) fetch.history
+          ∙ ap (λ calls. recorded calls m0.history) (sym (short_calls m0.seen (short honest)));
+      good = λ honest p is.
+          let room = fetch.plan p is in
+          let U : ℕ → Type 0 = λ n. Used n p m2.plan in
+          subst U (sym (short_count m0.seen (short honest)))
+          (used_five p room.0 _ m2.plan room.3 room.2 (ran.good room.0 room.1 (room.4.0, omega (arith, room.4.1))) (wrote_gate.plan room.0 room.1));
+    }

@@ -1,0 +1,137 @@
+-- What a log keeps true, and what its calls do to its disk.
+use Rattle.std.specs.Prelude.{◌≡◌, ◌≢◌, ◌⊎◌, ℕ, ◌+◌, ◌<◌, ◌≤◌, ◌-◌, List, [], ◌∷◌, ◌++◌, length, take, Bool, true, false, IsTrue, Option, Some, None, slice_index, Result, OnOk, OnErr, if◌then◌else◌, nat_lt}
+use Rattle.crsm_base.specs.declared.memory.Failed.{Failed}
+use Rattle.crsm_device.specs.Counts.{Rose}
+use Rattle.crsm_device.specs.Plan.{Plan}
+use Rattle.crsm_image.specs.Calls.{Call, wrote, cut, synced, History, noted}
+use Rattle.crsm_disk.specs.Meaning.{LeavesOnly, Meaning, Only}
+use Rattle.crsm_log.specs.Format.{found, bad, reading, bodies_of, size, four_bytes}
+use Rattle.crsm_log.specs.declared.errors.MountError.{MountError}
+use Rattle.crsm_log.specs.declared.errors.MountError.TheVariants.{DiskFault, BadGate}
+
+-- nothing was written or cut since the last sync
+abbrev pub is_synced : List Call → Bool
+is_synced [] = true
+is_synced (synced ∷ calls) = true
+is_synced (wrote at bytes ∷ calls) = false
+is_synced (cut n ∷ calls) = false
+
+abbrev pub is_quiet : Option History → Bool
+is_quiet None = true
+is_quiet (Some h) = is_synced h.calls
+
+-- the file is whole, its closed gate stands at this place, and all of it is on the disk
+pub record IsSettled (m : Meaning) (end : ℕ) : Type 0 where
+  pub whole : reading m.seen ≡ found (bodies_of m.seen)
+  pub place : end ≡ size (bodies_of m.seen)
+  pub inside : end < length m.seen
+  pub shut : slice_index m.seen end ≢ 1
+  pub durable : Only m.seen m.may_leave
+  pub quiet : IsTrue (is_quiet m.history)
+
+-- an honest disk is settled, until a call of it failed
+abbrev pub IsSound : Meaning → ℕ → Bool → Type 0
+IsSound m end failed = IsTrue m.honest → failed ≡ false → IsSettled m end
+
+-- the bodies of the entries, with one more or without it
+abbrev pub IsBeforeOrAfter : List (List ℕ) → List ℕ → List ℕ → Type 0
+IsBeforeOrAfter bodies body file = (reading file ≡ found bodies) ⊎ (reading file ≡ found (bodies ++ body ∷ []))
+
+-- what a crash might have left before, or bytes that stand for the same
+abbrev pub IsAsBefore : Meaning → List ℕ → Type 0
+IsAsBefore old file = old.may_leave file ⊎ (reading file ≡ reading old.seen)
+
+-- the four calls that put a body behind the closed gate at this place
+abbrev pub put_calls : ℕ → List ℕ → List Call
+put_calls gate body = wrote (gate + 1) (four_bytes (length body) ++ body ++ 0 ∷ []) ∷ synced ∷ wrote gate (1 ∷ []) ∷ synced ∷ []
+
+-- these calls were told, the first of them first
+abbrev pub recorded : List Call → Option History → Option History
+recorded [] h = h
+recorded (call ∷ calls) h = recorded calls (noted call h)
+
+-- so many calls go well
+abbrev pub Serves : ℕ → Option ℕ → Type 0
+Serves n None = Unit {0}
+Serves n (Some good) = n ≤ good
+
+-- whatever was called, honesty and the fill stay, and the count does not fall
+pub record Goes (old new : Meaning) : Type 0 where
+  pub honest : new.honest ≡ old.honest
+  pub fill : new.fill ≡ old.fill
+  pub later : old.faults ≤ new.faults
+
+-- Of these calls so many were made, and the next one failed; on a disk whose plan serves, since no more go well.
+pub record StopsAt (calls : List Call) (serves : Plan → Type 0) (old new : Meaning) : Type 0 where
+  pub made : ℕ
+  pub short : made < length calls
+  pub history : new.history ≡ recorded (take made calls) old.history
+  pub good : (p : Plan) → old.plan ≡ Some p → serves p → p.good ≡ Some made
+
+-- these calls were made, or those before the first that failed
+pub record Ran {T : Type 0} (calls : List Call) (serves : Plan → Type 0) (old new : Meaning) (result : Result T Failed) : Type 0 where
+  pub goes : Goes old new
+  pub fault : OnErr result (Rose old.faults new.faults)
+  pub history : OnOk result (new.history ≡ recorded calls old.history)
+  pub good : (p : Plan) → old.plan ≡ Some p → serves p → OnOk result (Serves (length calls) p.good)
+  pub stops : OnErr result (StopsAt calls serves old new)
+
+-- there is room for so many calls and bytes
+abbrev pub HasPlace : ℕ → ℕ → Plan → Type 0
+HasPlace calls bytes p = (calls ≤ p.calls) × (bytes ≤ p.bytes)
+
+-- fewer calls than so many go well
+abbrev pub MeetsIn : ℕ → Option Plan → Type 0
+MeetsIn n plan = (p : Plan) → plan ≡ Some p → (k : ℕ) × (k < n) × (p.good ≡ Some k)
+
+-- how many are left of the calls that go well
+abbrev pub less : ℕ → Option ℕ → Option ℕ
+less n None = None
+less n (Some good) = Some (good - n)
+
+-- so many calls went well, and none besides
+pub record Used (n : ℕ) (p : Plan) (new : Option Plan) : Type 0 where
+  pub served : Serves n p.good
+  pub left : (q : Plan) × (new ≡ Some q) × (q.good ≡ less n p.good)
+
+-- all the bytes were read, by three calls, and are on the disk, with room for two calls and a byte
+pub record Fetches (old new : Meaning) (bytes : List ℕ) : Type 0 where
+  pub read : IsTrue old.honest → bytes ≡ old.seen
+  pub seen : IsTrue old.honest → new.seen ≡ old.seen
+  pub durable : IsTrue old.honest → Only new.seen new.may_leave
+  pub history : new.history ≡ noted synced old.history
+  pub plan : (p : Plan) → old.plan ≡ Some p → (q : Plan) × (new.plan ≡ Some q) × (q.good ≡ less 3 p.good) × Serves 3 p.good × HasPlace 2 1 q
+
+-- how many calls of a disk a mount of this file takes
+abbrev pub mount_count : List ℕ → ℕ
+mount_count file = if nat_lt (length file) 6 then 5 else 3
+
+abbrev pub mount_calls : List ℕ → List Call
+mount_calls file = if nat_lt (length file) 6 then synced ∷ wrote 0 (0 ∷ []) ∷ synced ∷ [] else synced ∷ []
+
+-- the disk is mounted: its closed gate and its bodies
+pub record Mounts (old new : Meaning) (end : ℕ) (bodies : List (List ℕ)) : Type 0 where
+  pub goes : Goes old new
+  pub settled : IsTrue old.honest → IsSettled new end
+  pub read : IsTrue old.honest → reading old.seen ≡ found bodies
+  pub kept : IsTrue old.honest → reading new.seen ≡ found bodies
+  pub any_moment : IsTrue old.honest → LeavesOnly old new (IsAsBefore old)
+  pub history : IsTrue old.honest → new.history ≡ recorded (mount_calls old.seen) old.history
+  pub good : IsTrue old.honest → (p : Plan) → old.plan ≡ Some p → Used (mount_count old.seen) p new.plan
+
+-- it is not, and why
+pub record Refuses (old new : Meaning) (why : MountError) : Type 0 where
+  pub goes : Goes old new
+  pub any_moment : IsTrue old.honest → LeavesOnly old new (IsAsBefore old)
+  pub fault : why ≡ DiskFault → Rose old.faults new.faults
+  pub unwritten : IsTrue old.honest → (why ≡ DiskFault → ⊥) → new.seen ≡ old.seen
+  pub bad_gate : IsTrue old.honest → (entry : ℕ) → why ≡ BadGate entry → reading old.seen ≡ bad entry
+  pub good : IsTrue old.honest → why ≡ DiskFault → MeetsIn (mount_count old.seen) old.plan
+  pub served : (entry : ℕ) → why ≡ BadGate entry → (p : Plan) → old.plan ≡ Some p → Serves 3 p.good
+
+-- an honest disk has room for the four calls of a put at this gate, and for so many bytes
+pub record ServesPut (gate bytes : ℕ) (m : Meaning) (p : Plan) : Type 0 where
+  pub honest : IsTrue m.honest
+  pub inside : gate < length m.seen
+  pub calls : 4 ≤ p.calls
+  pub written : bytes ≤ p.bytes

@@ -1,0 +1,127 @@
+use crate::{Log, MountError, PutError, end_of};
+use crsm_disk::{Disk, FileDisk, MemDisk};
+use std::alloc::Global;
+use std::fs::OpenOptions;
+use std::test::Fail;
+
+// A disk with these bytes, all of them synced.
+fn disk_of(alloc: Global, bytes: &[u8]) -> Result<MemDisk, Fail> {
+    let mut disk = MemDisk::new(alloc, &[], None, 0)?;
+    disk.reserve(2, bytes.len() as u64)?;
+    disk.write_at(0, bytes)?;
+    disk.sync()?;
+    Ok(disk.image()?)
+}
+
+// The log on a disk, and how many bodies it had.
+fn mounted<D: Disk + Drop>(alloc: Global, disk: D) -> Result<(Log<D>, usize), MountError> {
+    match Log::mount(alloc, disk) {
+        Ok((log, bodies)) => Ok((log, bodies.as_slice().len())),
+        Err((why, _disk)) => Err(why),
+    }
+}
+
+fn count_on<D: Disk + Drop>(alloc: Global, disk: D) -> Result<usize, MountError> {
+    let (_log, count) = mounted(alloc, disk)?;
+    Ok(count)
+}
+
+#[test]
+fn body_stands_behind_its_gate(rt: HostRuntime) -> Result<(), Fail> {
+    let alloc = rt.alloc();
+    let (mut log, count) = mounted(alloc, MemDisk::new(alloc, &[], None, 0)?)?;
+    assert_eq!(rt; count, 0);
+    log.put(alloc, &[0xaa])?;
+    let disk = log.into_disk();
+    assert_eq!(rt; disk.bytes(), [1, 0, 0, 0, 1, 0xaa, 0].as_slice());
+    let fresh = mounted(alloc, MemDisk::new(alloc, &[], None, 0)?)?.0;
+    assert_eq!(rt; fresh.into_disk().bytes(), [0].as_slice());
+    Ok(())
+}
+
+#[test]
+fn stop_at_each_call(rt: HostRuntime) -> Result<(), Fail> {
+    let alloc = rt.alloc();
+    for (stop, fill, kept) in [
+        (0, 1, 0),
+        (1, 1, 0),
+        (2, 1, 0),
+        (3, 1, 1),
+        (3, 0, 0),
+        (3, 2, 0),
+        (4, 0, 1),
+    ] {
+        let mut log = mounted(alloc, MemDisk::new(alloc, &[], None, 0)?)?.0;
+        log.arm(Some(stop), fill);
+        assert_eq!(rt; log.put(alloc, &[0xaa]).is_ok(), stop >= 4);
+        let image = log.into_disk().image()?;
+        if stop == 1 {
+            assert_eq!(rt; image.bytes(), [0, 1, 1, 1, 1, 1, 1].as_slice());
+        }
+        assert_eq!(rt;
+            count_on(alloc, image),
+            Ok(kept),
+            "stop {stop}, fill {fill}"
+        );
+    }
+    Ok(())
+}
+
+#[test]
+fn files_are_read(rt: HostRuntime) -> Result<(), Fail> {
+    let alloc = rt.alloc();
+    let passes = Err(MountError::BadGate { entry: 0 });
+    for (bytes, want) in [
+        ([1, 0, 0, 0, 0xff, 0].as_slice(), passes),
+        ([1, 0xaa, 0xaa, 0xaa, 0xaa].as_slice(), Ok(0)),
+        ([1, 0, 0, 0, 1, 9, 0, 0, 0].as_slice(), Ok(1)),
+    ] {
+        assert_eq!(rt; count_on(alloc, disk_of(alloc, bytes)?), want);
+    }
+    Ok(())
+}
+
+#[test]
+fn each_failing_call_is_a_fault(rt: HostRuntime) -> Result<(), Fail> {
+    let alloc = rt.alloc();
+    // A mount of an empty disk makes five calls, and a put four.
+    for call in 1..=9u64 {
+        let disk = MemDisk::new(alloc, &[call], None, 0)?;
+        match mounted(alloc, disk) {
+            Ok((mut log, _count)) => {
+                assert!(rt; call > 5);
+                assert_eq!(rt; log.put(alloc, &[1]), Err(PutError::DiskFault));
+                assert_eq!(rt; log.put(alloc, &[1]), Err(PutError::Failed));
+                assert_eq!(rt; log.into_disk().calls(), call);
+            }
+            Err(why) => {
+                assert!(rt; call <= 5);
+                assert_eq!(rt; why, MountError::DiskFault);
+            }
+        }
+    }
+    Ok(())
+}
+
+#[test]
+fn entry_ends_at_the_limit(rt: HostRuntime) {
+    assert_eq!(rt; end_of(4_294_967_280, 10), Some(4_294_967_296));
+    assert_eq!(rt; end_of(4_294_967_280, 11), None);
+    assert_eq!(rt; end_of(u64::MAX, u64::MAX), None);
+}
+
+#[test]
+fn file_is_cut_by_hand(rt: HostRuntime) -> Result<(), Fail> {
+    let alloc = rt.alloc();
+    let mut log = mounted(alloc, FileDisk::open(&rt, "log")?)?.0;
+    log.put(alloc, &[1, 2, 3])?;
+    log.put(alloc, &[4])?;
+    assert_eq!(rt; count_on(alloc, FileDisk::open(&rt, "log")?), Ok(2));
+    OpenOptions::new()
+        .write(true)
+        .open(&rt, "log")?
+        .set_len(14)?;
+    let refused = count_on(alloc, FileDisk::open(&rt, "log")?);
+    assert_eq!(rt; refused, Err(MountError::BadGate { entry: 1 }));
+    Ok(())
+}
