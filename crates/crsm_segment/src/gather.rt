@@ -1,0 +1,72 @@
+//! Messages of all peers, gathered from their parts.
+
+ghost use Rattle.std.specs.Prelude.{◌≡◌, ◌<◌, ◌≤◌, List, [], length, IfOk, OnOk, OnErr, None, replicate};
+ghost use Rattle.crsm_spec.specs.Parts.{Piece};
+ghost use Rattle.crsm_segment.specs.Taking.{after_part, taken_of, piece};
+ghost use Rattle.crsm_segment.specs.Standing.{StandsFor};
+
+use crate::message::{Heading, Message, Taken, take_part};
+use crsm_base::NoMemory;
+use std::alloc::Global;
+use std::marker::Model;
+
+/// The parts of messages that have come from each peer. A contract sees it by the list of all parts
+/// that were taken, which it stands for.
+#[derive(Drop)]
+pub struct Gather {
+    alloc: Global,
+    peers: Vec<Option<Message>>,
+}
+
+impl Model for Gather {
+    ghost use Rattle.std.specs.Prelude.{List, Option};
+    ghost use Rattle.crsm_segment.specs.Gathering.{Gathering};
+
+    ghost Value = { List (Option Gathering) };
+
+    ghost view = { λ g. g.peers.items };
+}
+
+impl Gather {
+    /// One that has taken no part, for n peers.
+    pub fn new(alloc: Global, n: u32) -> Result<Gather, NoMemory>
+        requires one { 1 ≤ n }
+        requires few { n ≤ 15 }
+        ensures peers { IfOk result (λ made. length made ≡ n) }
+        ensures empty { IfOk result (λ made. StandsFor made []) }
+    {
+        let mut peers = Vec::new(alloc);
+        for _k in 0..n {
+            peers.push(None)?;
+        }
+        Ok(Gather { alloc, peers })
+    }
+
+    /// Takes the part with this index, of so many parts, of the `number`th message that this boot
+    /// of the peer made. A part of a newer message drops what was kept of the older one. An `Err`
+    /// changes nothing.
+    pub fn take(
+        &mut self,
+        from: u32,
+        boot: u64,
+        number: u64,
+        index: u32,
+        count: u32,
+        bytes: &[u8],
+    ) -> Result<Taken, NoMemory>
+        requires { from < length self.old }
+        ensures peers { length self.new ≡ length self.old }
+        ensures state { OnOk result ((parts : List Piece) → StandsFor self.old parts → StandsFor self.new (after_part (piece from boot number index count bytes.now) parts)) }
+        ensures taken { IfOk result (λ taken. (parts : List Piece) → StandsFor self.old parts → taken ≡ taken_of (piece from boot number index count bytes.now) parts) }
+        ensures err { OnErr result (self.new ≡ self.old) }
+    {
+        let heading = Heading {
+            boot,
+            number,
+            index,
+            count,
+        };
+        let peer = &mut self.peers[from as usize];
+        take_part(self.alloc, peer, heading, bytes)
+    }
+}
