@@ -57,4 +57,5 @@ mod BaseOfTheStart
 mod FloorOfTheBase
 mod RefusedBallots
 mod EntersAtTheStart
+mod AckOfNothing
 mod EnteredSuspended
