@@ -1,0 +1,9 @@
+pub mod Bits
+pub mod CommitRule
+pub mod Filed
+pub mod Fronts
+pub mod LatestLemmas
+pub mod LeastLemmas
+pub mod MasksLemmas
+pub mod ReadyLemmas
+pub mod VotesLemmas

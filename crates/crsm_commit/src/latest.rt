@@ -1,0 +1,59 @@
+//! The latest time heard of each replica.
+
+ghost use Rattle.std.specs.Prelude.{◌≡◌, ℕ, ◌^◌, ◌<◌, ◌≤◌, [], ◌∷◌, List, nat_le};
+ghost use Rattle.std.specs.List.{list_all};
+ghost use Rattle.crsm_spec.specs.Replica.{latest_from};
+ghost use Rattle.crsm_spec.specs.Ready.{reached};
+
+use crsm_base::Members;
+
+/// The latest time that was heard of each replica, or issued by this one.
+#[derive(Debug, Drop)]
+pub struct Latest {
+    /// By the number of the replica; 0 before the first.
+    times: [u64; 15],
+}
+
+impl Latest {
+    ghost use Rattle.crsm_commit.specs.Heard.{HasHeard};
+
+    /// Nothing was heard, in a cluster that began with n replicas. One that is added later is heard like any other.
+    pub fn new(_n: u32) -> Latest
+        requires some { 1 ≤ _n }
+        requires most { _n ≤ 15 }
+        ensures { HasHeard result [] }
+    {
+        Latest { times: [0; 15] }
+    }
+
+    /// A time of k was heard. An older one changes nothing.
+    pub fn hear(&mut self, k: u32, time: u64)
+        requires { k < 15 }
+        ensures { (heard : List (ℕ × ℕ)) → HasHeard self.old heard → HasHeard self.new ((k, time) ∷ heard) }
+    {
+        let k = k as usize;
+        if time > self.times[k] {
+            self.times[k] = time;
+        }
+    }
+
+    /// The latest time of k, 0 where none was heard.
+    pub fn of(&self, k: u32) -> u64
+        requires { k < 15 }
+        ensures { (heard : List (ℕ × ℕ)) → HasHeard self.now heard → result ≡ latest_from heard k }
+    {
+        self.times[k as usize]
+    }
+
+    /// The least of the latest times of the members: each of them has reached it, and nothing above it.
+    pub fn least(&self, members: &Members) -> u64
+        ensures { (heard : List (ℕ × ℕ)) (time : ℕ) → HasHeard self.now heard → 1 ≤ time → time < 2 ^ 64 →
+            nat_le time result ≡ list_all (reached heard time) members.now }
+    {
+        let mut least = u64::MAX;
+        for member in members.as_slice() {
+            least = least.min(self.of(*member));
+        }
+        least
+    }
+}

@@ -1,0 +1,167 @@
+//! Entries that are not executed yet, and when the least of them is ready.
+
+ghost use Rattle.std.specs.Prelude.{◌≡◌, ℕ, ◌<◌, ◌≤◌, Bool, true, false, ◌==◌, ◌&&◌, not, [], ◌∷◌, List, map, filter, find, IfOk, OnOk, OnErr, bit_or, ◌^◌, min};
+ghost use Rattle.std.specs.List.{AllByRecursion};
+ghost use Rattle.crsm_base.specs.declared.Stamp.{Stamp};
+ghost use Rattle.crsm_base.specs.declared.Entry.{Entry};
+ghost use Rattle.crsm_base.specs.Order.{stamp_eq};
+ghost use Rattle.crsm_spec.specs.Log.{with_entry};
+ghost use Rattle.crsm_commit.specs.Heard.{HasHeard};
+ghost use Rattle.crsm_commit.specs.Least.{lesser_of, IsLeastFirst};
+ghost use Rattle.crsm_commit.specs.Waiting.{stamp_of, is_at, without_entry};
+
+use crate::latest::Latest;
+use crate::queue::Queue;
+use crate::votes::Votes;
+use crsm_base::{Entry, Members, NoMemory, Stamp, majority};
+use std::alloc::Global;
+
+/// How many queues there are: one for each replica, and the last for any other origin.
+const QUEUES: usize = 16;
+
+/// The entries that were added and not taken, and who has logged which stamp.
+///
+/// Some stamps are tracked: what it answers for these is what all votes say. One that is taken is tracked no more, so
+/// votes for it need not be counted from then on.
+#[derive(Drop)]
+pub struct Pending {
+    queues: [Queue; 16],
+    votes: Votes,
+}
+
+impl Pending {
+    ghost use Rattle.crsm_commit.specs.Standing.{StandsFor, first_ready};
+
+    /// Nothing is pending.
+    pub fn new(alloc: Global) -> Pending
+        ensures { (tracked : Stamp → Bool) → StandsFor result tracked [] [] }
+    {
+        Pending {
+            queues: [
+                Queue::new(alloc),
+                Queue::new(alloc),
+                Queue::new(alloc),
+                Queue::new(alloc),
+                Queue::new(alloc),
+                Queue::new(alloc),
+                Queue::new(alloc),
+                Queue::new(alloc),
+                Queue::new(alloc),
+                Queue::new(alloc),
+                Queue::new(alloc),
+                Queue::new(alloc),
+                Queue::new(alloc),
+                Queue::new(alloc),
+                Queue::new(alloc),
+                Queue::new(alloc),
+            ],
+            votes: Votes::new(alloc),
+        }
+    }
+
+    /// Adds an entry that was logged. An `Err` changes nothing.
+    pub fn add(&mut self, entry: Entry) -> Result<(), NoMemory>
+        requires { 1 ≤ entry.stamp.time }
+        ensures ok { OnOk result ((tracked : Stamp → Bool) (waiting : List Entry) (votes : List (Stamp × ℕ)) →
+            StandsFor self.old tracked waiting votes → StandsFor self.new tracked (with_entry entry waiting) votes) }
+        ensures err { OnErr result ((tracked : Stamp → Bool) (waiting : List Entry) (votes : List (Stamp × ℕ)) →
+            StandsFor self.old tracked waiting votes → StandsFor self.new tracked waiting votes) }
+    {
+        let place = queue_of(entry.stamp.origin);
+        self.queues[place].add(entry)?;
+        Ok(())
+    }
+
+    /// Replica k has logged the stamp, whether its entry was added or not. An `Err` changes nothing.
+    pub fn voted(&mut self, stamp: Stamp, k: u32) -> Result<(), NoMemory>
+        requires { k < 15 }
+        ensures ok { OnOk result ((tracked : Stamp → Bool) (waiting : List Entry) (votes : List (Stamp × ℕ)) →
+            StandsFor self.old tracked waiting votes → StandsFor self.new tracked waiting ((stamp, k) ∷ votes)) }
+        ensures err { OnErr result ((tracked : Stamp → Bool) (waiting : List Entry) (votes : List (Stamp × ℕ)) →
+            StandsFor self.old tracked waiting votes → StandsFor self.new tracked waiting votes) }
+    {
+        let mask = with_vote(self.votes.of(stamp), k);
+        self.votes.set(stamp, mask)?;
+        Ok(())
+    }
+
+    /// The stamp of the entry that is executed next, where it is ready: a majority of n replicas has logged it, each
+    /// member's latest time has reached its time, and no entry that is pending has a lesser stamp.
+    pub fn ready(&self, latest: &Latest, members: &Members, n: u32) -> Option<Stamp>
+        requires some { 1 ≤ n }
+        requires most { n ≤ 15 }
+        ensures { (tracked : Stamp → Bool) (waiting : List Entry) (votes : List (Stamp × ℕ)) (heard : List (ℕ × ℕ)) →
+            StandsFor self.now tracked waiting votes → HasHeard latest.now heard →
+            AllByRecursion (λ e. tracked e.stamp ≡ true) waiting →
+            result ≡ first_ready n members.now heard votes waiting }
+    {
+        let stamp = least_first(&self.queues)?;
+        let votes = self.votes.of(stamp).count_ones();
+        if votes >= majority(n) && stamp.time <= latest.least(members) {
+            Some(stamp)
+        } else {
+            None
+        }
+    }
+
+    /// Takes the entry of this stamp, which is tracked no more from then on. None comes where no such entry is pending.
+    pub fn take(&mut self, stamp: Stamp) -> Option<Entry>
+        ensures entry { (tracked : Stamp → Bool) (waiting : List Entry) (votes : List (Stamp × ℕ)) →
+            StandsFor self.old tracked waiting votes → result ≡ find (is_at stamp) waiting }
+        ensures rest { (tracked : Stamp → Bool) (waiting : List Entry) (votes : List (Stamp × ℕ)) →
+            StandsFor self.old tracked waiting votes →
+            StandsFor self.new (λ s. tracked s && not (stamp_eq stamp s)) (without_entry stamp waiting) votes }
+    {
+        let place = queue_of(stamp.origin);
+        let entry = self.queues[place].take(stamp);
+        self.votes.forget(stamp);
+        entry
+    }
+
+    /// The stamps of the pending entries of an origin, in rising time.
+    pub fn queue(&self, origin: u32) -> &[Stamp]
+        requires { origin < 15 }
+        ensures { (tracked : Stamp → Bool) (waiting : List Entry) (votes : List (Stamp × ℕ)) →
+            StandsFor self.now tracked waiting votes →
+            result.now ≡ map stamp_of (filter (λ e. e.stamp.origin == origin) waiting) }
+    {
+        self.queues[origin as usize].stamps()
+    }
+}
+
+/// The queue of an origin.
+fn queue_of(origin: u32) -> usize
+    ensures { result ≡ min origin 15 }
+{
+    (origin as usize).min(QUEUES - 1)
+}
+
+/// The mask with replica k in it.
+fn with_vote(mask: u16, k: u32) -> u16
+    requires { k < 15 }
+    ensures { result ≡ bit_or mask (2 ^ k) }
+{
+    mask | (1 << k)
+}
+
+/// The lesser of two stamps, where there are two.
+fn lesser(a: Option<Stamp>, b: Option<Stamp>) -> Option<Stamp>
+    ensures { result ≡ lesser_of a b }
+{
+    match (a, b) {
+        (Some(first), Some(second)) => Some(if second < first { second } else { first }),
+        (Some(first), None) => Some(first),
+        (None, second) => second,
+    }
+}
+
+/// The least of the first stamps of the queues.
+fn least_first(queues: &[Queue; 16]) -> Option<Stamp>
+    ensures { IsLeastFirst result queues.now 16 }
+{
+    let mut least = None;
+    for place in 0..QUEUES {
+        least = lesser(least, queues[place].first());
+    }
+    least
+}

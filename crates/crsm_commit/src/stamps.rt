@@ -1,0 +1,113 @@
+//! Stamps in ascending order.
+
+ghost use Rattle.std.specs.Prelude.{◌≡◌, ◌<◌, ◌≤◌, [], OnErr, OnOk, IfOk, IfNone, IfSome, drop, vec_len, length};
+ghost use Rattle.crsm_spec.specs.Frames.{with_stamp};
+ghost use Rattle.crsm_phase.specs.Owed.{IsAscending, without};
+ghost use Rattle.crsm_commit.specs.Places.{IsPlace, IsFirst};
+
+use crsm_base::{NoMemory, Stamp};
+use std::alloc::Global;
+use std::marker::Model;
+
+/// Stamps in ascending order, in one piece. The first is dropped without moving the others; room that was left in front
+/// is given back once it is half of all.
+#[derive(Drop)]
+pub struct Stamps {
+    items: Vec<Stamp>,
+    /// How many items at the front are dropped.
+    front: usize,
+}
+
+impl Model for Stamps {
+    ghost use Rattle.std.specs.Prelude.{List, drop, vec_len, ◌≤◌};
+    ghost use Rattle.crsm_base.specs.declared.Stamp.{Stamp};
+    ghost use Rattle.crsm_phase.specs.Owed.{IsAscending};
+
+    ghost Value = { List Stamp };
+
+    ghost view = { λ s. drop s.front s.items.items };
+
+    ghost invariant = { λ s. (s.front ≤ vec_len s.items) × IsAscending (drop s.front s.items.items) };
+}
+
+impl Stamps {
+    pub fn new(alloc: Global) -> Stamps
+        ensures { result ≡ [] }
+    {
+        Stamps {
+            items: Vec::new(alloc),
+            front: 0,
+        }
+    }
+
+    pub fn as_slice(&self) -> &[Stamp]
+        ensures value { result.now ≡ self.now }
+        ensures ascending { IsAscending self.now }
+    {
+        &self.items[self.front..]
+    }
+
+    /// Adds a stamp, and answers its place. An `Err` changes nothing.
+    pub fn add(&mut self, stamp: Stamp) -> Result<usize, NoMemory>
+        ensures place { IfOk result (λ place. IsPlace stamp self.old place) }
+        ensures ok { OnOk result (self.new ≡ with_stamp stamp self.old) }
+        ensures err { OnErr result (self.new ≡ self.old) }
+    {
+        let place = place_for(self.as_slice(), stamp);
+        self.items.insert(self.front + place, stamp)?;
+        Ok(place)
+    }
+
+    /// Drops the first stamp that is equal to this one, and answers where it was.
+    pub fn remove(&mut self, stamp: Stamp) -> Option<usize>
+        ensures place { IfSome result (λ place. IsFirst stamp self.old place) }
+        ensures none { IfNone result (without stamp self.old ≡ self.old) }
+        ensures rest { self.new ≡ without stamp self.old }
+    {
+        let place = place_of(self.as_slice(), stamp)?;
+        if place == 0 {
+            self.front += 1;
+            self.compact();
+        } else {
+            self.items.remove(self.front + place);
+        }
+        Some(place)
+    }
+
+    /// Moves the stamps to the front, where at least half of the items are dropped ones.
+    fn compact(&mut self)
+        ensures { self.new ≡ self.old }
+    {
+        let rest = self.items.len() - self.front;
+        if rest <= self.front {
+            self.items.copy_within(self.front.., 0);
+            self.items.truncate(rest);
+            self.front = 0;
+        }
+    }
+}
+
+/// How many of the stamps are not above this one. The times of new stamps rise, so the search begins at the end.
+fn place_for(stamps: &[Stamp], stamp: Stamp) -> usize
+    requires { IsAscending stamps.now }
+    ensures { IsPlace stamp stamps.now result }
+{
+    let mut place = stamps.len();
+    while place > 0 && stamp < stamps[place - 1] {
+        place -= 1;
+    }
+    place
+}
+
+/// The first place of the stamp.
+fn place_of(stamps: &[Stamp], stamp: Stamp) -> Option<usize>
+    ensures some { IfSome result (λ place. IsFirst stamp stamps.now place) }
+    ensures none { IfNone result (without stamp stamps.now ≡ stamps.now) }
+{
+    for place in 0..stamps.len() {
+        if stamps[place] == stamp {
+            return Some(place);
+        }
+    }
+    None
+}

@@ -1,0 +1,61 @@
+//! Who has logged which stamp.
+
+ghost use Rattle.std.specs.Prelude.{◌≡◌, ℕ, [], ◌^◌, ◌<◌, OnOk, OnErr, if◌then◌else◌};
+ghost use Rattle.crsm_base.specs.Order.{stamp_eq};
+ghost use Rattle.crsm_base.specs.declared.Stamp.{Stamp};
+ghost use Rattle.crsm_commit.specs.Masks.{mask_at};
+
+use crsm_base::{NoMemory, Stamp};
+use std::alloc::Global;
+use std::collections::BTreeMap;
+use std::marker::Model;
+
+/// For each stamp the replicas that have logged it, as a mask: bit k is that of replica k. No bit is set of a stamp
+/// that has no mask here.
+#[derive(Drop)]
+pub struct Votes {
+    masks: BTreeMap<Stamp, u16>,
+}
+
+impl Model for Votes {
+    ghost use Rattle.std.specs.Prelude.{List, ℕ};
+    ghost use Rattle.crsm_base.specs.declared.Stamp.{Stamp};
+
+    ghost Value = { List (Stamp × ℕ) };
+
+    ghost view = { λ v. v.masks.entries };
+}
+
+impl Votes {
+    /// No replica has logged a stamp.
+    pub fn new(alloc: Global) -> Votes
+        ensures { result ≡ [] }
+    {
+        Votes {
+            masks: BTreeMap::new(alloc),
+        }
+    }
+
+    /// The mask of the stamp.
+    pub fn of(&self, stamp: Stamp) -> u16
+        ensures { result ≡ mask_at self.now stamp }
+    {
+        self.masks.get(&stamp).copied().unwrap_or(0)
+    }
+
+    /// Gives the stamp a mask. An `Err` changes nothing.
+    pub fn set(&mut self, stamp: Stamp, mask: u16) -> Result<(), NoMemory>
+        ensures ok { OnOk result ((s : Stamp) → mask_at self.new s ≡ (if stamp_eq stamp s then mask else mask_at self.old s)) }
+        ensures err { OnErr result (self.new ≡ self.old) }
+    {
+        self.masks.insert(stamp, mask)?;
+        Ok(())
+    }
+
+    /// Drops the stamp's mask.
+    pub fn forget(&mut self, stamp: Stamp)
+        ensures { (s : Stamp) → mask_at self.new s ≡ (if stamp_eq stamp s then 0 else mask_at self.old s) }
+    {
+        self.masks.remove(&stamp);
+    }
+}
