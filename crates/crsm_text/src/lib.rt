@@ -6,6 +6,8 @@ mod fields;
 mod list;
 mod op;
 mod print;
+#[cfg(test)]
+mod tests;
 mod value;
 
 pub use error::LineError;

@@ -1,0 +1,36 @@
+//! Words at the edges of what is read.
+
+use crate::{read_members, read_number, read_op};
+use std::test::Fail;
+
+#[test]
+fn numbers(rt: HostRuntime) {
+    let words = [
+        ("0", Some(0)),
+        ("10", Some(10)),
+        ("18446744073709551615", Some(18_446_744_073_709_551_615)),
+        ("18446744073709551616", None),
+        ("00", None),
+        ("01", None),
+        ("+1", None),
+        ("-0", None),
+        ("1 ", None),
+        ("", None),
+    ];
+    for (word, want) in words {
+        assert_eq!(rt; read_number(word.as_bytes()), want, "at {word}");
+    }
+}
+
+#[test]
+fn values(rt: HostRuntime) -> Result<(), Fail> {
+    let members = read_members(rt.alloc(), b"0,2,14")?;
+    assert_eq!(rt; members.as_slice(), [0, 2, 14].as_slice());
+    let op = read_op(rt.alloc(), b"put 6b0f empty")?;
+    let text = format!(in rt.alloc(); "{op:?}")?;
+    assert_eq!(rt;
+        text.as_str(),
+        "Put(Key { items: [107, 15] }, Val { items: [] })"
+    );
+    Ok(())
+}
