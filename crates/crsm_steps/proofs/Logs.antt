@@ -136,7 +136,7 @@ pub extends_then : {a b c : Log} → Extends a b → Extends b c → Extends a c
 extends_then p same = p
 extends_then p (more rec q) = more rec (extends_then p q)
 
-change_grows : (x y : Draft) → LogChange x y → Extends x.replica.log y.replica.log
+pub change_grows : (x y : Draft) → LogChange x y → Extends x.replica.log y.replica.log
 change_grows x y (NoRecord e) = subst (Extends x.replica.log) (sym e) same
 change_grows x y (OneRecord rec e f) = subst (Extends x.replica.log) (sym e) (more rec same)
 
@@ -144,7 +144,7 @@ pub changes_grow : {r : Replica} {input : Input} {reading : ℕ} {x y : Draft} �
 changes_grow stay = same
 changes_grow {r} {input} {reading} (and_then {y = y} {z = z} p c f) = extends_then (changes_grow p) (change_grows y z (log_change r input reading y z c))
 
-change_fits : (x y : Draft) → y.replica.me ≡ x.replica.me → y.replica.n ≡ x.replica.n → LogChange x y → IsTrue y.fitting → AllFit x.replica.me x.replica.n x.replica.log → AllFit y.replica.me y.replica.n y.replica.log
+pub change_fits : (x y : Draft) → y.replica.me ≡ x.replica.me → y.replica.n ≡ x.replica.n → LogChange x y → IsTrue y.fitting → AllFit x.replica.me x.replica.n x.replica.log → AllFit y.replica.me y.replica.n y.replica.log
 change_fits x y me n c f h = subst (λ k. AllFit k y.replica.n y.replica.log) (sym me) (subst (λ k. AllFit x.replica.me k y.replica.log) (sym n) (go c))
   where
     go : LogChange x y → AllFit x.replica.me x.replica.n y.replica.log
@@ -156,7 +156,7 @@ changes_fit stay h = h
 changes_fit {r} {input} {reading} (and_then {y = y} {z = z} p c f) h =
     let e = numbers_stay r input reading y z c in change_fits y z e.0 e.1 (log_change r input reading y z c) f (changes_fit p h)
 
-changes_numbers : {r : Replica} {input : Input} {reading : ℕ} {x y : Draft} → Changes r input reading x y → (y.replica.me ≡ x.replica.me) × (y.replica.n ≡ x.replica.n)
+pub changes_numbers : {r : Replica} {input : Input} {reading : ℕ} {x y : Draft} → Changes r input reading x y → (y.replica.me ≡ x.replica.me) × (y.replica.n ≡ x.replica.n)
 changes_numbers stay = (refl, refl)
 changes_numbers {r} {input} {reading} (and_then {y = y} {z = z} p c f) =
     let e = numbers_stay r input reading y z c in let g = changes_numbers p in (e.0 ∙ g.0, e.1 ∙ g.1)
