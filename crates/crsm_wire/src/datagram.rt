@@ -1,0 +1,267 @@
+//! Taking datagrams off the front of the bytes.
+
+ghost use Rattle.std.specs.Prelude.{◌≡◌, ◌≤◌, ◌+◌, ◌<◌, ◌==◌, IfOk, IfSome, length, []};
+ghost use Rattle.std.specs.Option.{option_map};
+ghost use Rattle.crsm_base.specs.Limits.{most_parts};
+ghost use Rattle.crsm_base.specs.Messages.{part_least, part_most};
+ghost use Rattle.crsm_base.specs.Parser.{end_at, whole};
+ghost use Rattle.crsm_base.specs.MessageReading.{prepare_at, prepare_ok_at, clock_time_at, payload_at, part_fields_at, part_at, frame_at, ack_at, request_at, reply_at, operate_at, datagram_at};
+
+use crsm_base::{Bytes, Datagram, InEpoch, MAX_CONTROL_BYTES, MAX_PARTS, NoMemory, PART_BYTES};
+use crsm_fields::{
+    take_command, take_entry, take_members, take_outcome, take_replica, take_stamp, take_u8,
+    take_u32, take_u64,
+};
+use std::alloc::Global;
+
+#[tactic(auto, unfolding(crsm_base::specs::MessageReading::prepare_at))]
+fn take_prepare(alloc: Global, bytes: &[u8]) -> Result<Option<(InEpoch, &[u8])>, NoMemory>
+    ensures { IfOk result (λ r. option_map (λ x. (x.0, x.1.now)) r ≡ prepare_at bytes.now) }
+{
+    let Some((entry, rest)) = take_entry(alloc, bytes)? else {
+        return Ok(None);
+    };
+    Ok(Some((InEpoch::Prepare { entry }, rest)))
+}
+
+#[tactic(auto, unfolding(crsm_base::specs::MessageReading::prepare_ok_at))]
+fn take_prepare_ok(_alloc: Global, bytes: &[u8]) -> Result<Option<(InEpoch, &[u8])>, NoMemory>
+    ensures { IfOk result (λ r. option_map (λ x. (x.0, x.1.now)) r ≡ prepare_ok_at bytes.now) }
+{
+    let Some((stamp, rest)) = take_stamp(bytes) else {
+        return Ok(None);
+    };
+    let Some((at, rest)) = take_u64(rest) else {
+        return Ok(None);
+    };
+    Ok(Some((InEpoch::PrepareOk { stamp, at }, rest)))
+}
+
+#[tactic(auto, unfolding(crsm_base::specs::MessageReading::clock_time_at))]
+fn take_clock_time(_alloc: Global, bytes: &[u8]) -> Result<Option<(InEpoch, &[u8])>, NoMemory>
+    ensures { IfOk result (λ r. option_map (λ x. (x.0, x.1.now)) r ≡ clock_time_at bytes.now) }
+{
+    let Some((at, rest)) = take_u64(bytes) else {
+        return Ok(None);
+    };
+    Ok(Some((InEpoch::ClockTime { at }, rest)))
+}
+
+#[tactic(auto, unfolding(crsm_base::specs::MessageReading::payload_at))]
+fn take_payload(alloc: Global, bytes: &[u8]) -> Result<Option<(InEpoch, &[u8])>, NoMemory>
+    ensures { IfOk result (λ r. option_map (λ x. (x.0, x.1.now)) r ≡ payload_at bytes.now) }
+{
+    let Some((tag, rest)) = take_u8(bytes) else {
+        return Ok(None);
+    };
+    match tag {
+        1 => take_prepare(alloc, rest),
+        2 => take_prepare_ok(alloc, rest),
+        3 => take_clock_time(alloc, rest),
+        _ => Ok(None),
+    }
+}
+
+#[tactic(auto, unfolding(crsm_base::specs::MessageReading::frame_at))]
+fn take_frame(alloc: Global, bytes: &[u8]) -> Result<Option<(Datagram, &[u8])>, NoMemory>
+    ensures { IfOk result (λ r. option_map (λ x. (x.0, x.1.now)) r ≡ frame_at bytes.now) }
+{
+    let Some((from, rest)) = take_replica(bytes) else {
+        return Ok(None);
+    };
+    let Some((to, rest)) = take_replica(rest) else {
+        return Ok(None);
+    };
+    let Some((epoch, rest)) = take_u64(rest) else {
+        return Ok(None);
+    };
+    let Some((seq, rest)) = take_u64(rest) else {
+        return Ok(None);
+    };
+    let Some((payload, rest)) = take_payload(alloc, rest)? else {
+        return Ok(None);
+    };
+    Ok(Some((
+        Datagram::Frame {
+            from,
+            to,
+            epoch,
+            seq,
+            payload,
+        },
+        rest,
+    )))
+}
+
+#[tactic(auto, unfolding(crsm_base::specs::MessageReading::ack_at))]
+fn take_ack(_alloc: Global, bytes: &[u8]) -> Result<Option<(Datagram, &[u8])>, NoMemory>
+    ensures { IfOk result (λ r. option_map (λ x. (x.0, x.1.now)) r ≡ ack_at bytes.now) }
+{
+    let Some((from, rest)) = take_replica(bytes) else {
+        return Ok(None);
+    };
+    let Some((to, rest)) = take_replica(rest) else {
+        return Ok(None);
+    };
+    let Some((epoch, rest)) = take_u64(rest) else {
+        return Ok(None);
+    };
+    let Some((next, rest)) = take_u64(rest) else {
+        return Ok(None);
+    };
+    Ok(Some((
+        Datagram::Ack {
+            from,
+            to,
+            epoch,
+            next,
+        },
+        rest,
+    )))
+}
+
+#[tactic(auto, unfolding(crsm_base::specs::MessageReading::request_at))]
+fn take_request(alloc: Global, bytes: &[u8]) -> Result<Option<(Datagram, &[u8])>, NoMemory>
+    ensures { IfOk result (λ r. option_map (λ x. (x.0, x.1.now)) r ≡ request_at bytes.now) }
+{
+    let Some((command, rest)) = take_command(alloc, bytes)? else {
+        return Ok(None);
+    };
+    Ok(Some((Datagram::Request { command }, rest)))
+}
+
+#[tactic(auto, unfolding(crsm_base::specs::MessageReading::reply_at))]
+fn take_reply(alloc: Global, bytes: &[u8]) -> Result<Option<(Datagram, &[u8])>, NoMemory>
+    ensures { IfOk result (λ r. option_map (λ x. (x.0, x.1.now)) r ≡ reply_at bytes.now) }
+{
+    let Some((client, rest)) = take_u64(bytes) else {
+        return Ok(None);
+    };
+    let Some((number, rest)) = take_u64(rest) else {
+        return Ok(None);
+    };
+    let Some((outcome, rest)) = take_outcome(alloc, rest)? else {
+        return Ok(None);
+    };
+    Ok(Some((
+        Datagram::Reply {
+            client,
+            number,
+            outcome,
+        },
+        rest,
+    )))
+}
+
+#[tactic(auto, unfolding(crsm_base::specs::MessageReading::operate_at))]
+fn take_operate(alloc: Global, bytes: &[u8]) -> Result<Option<(Datagram, &[u8])>, NoMemory>
+    ensures { IfOk result (λ r. option_map (λ x. (x.0, x.1.now)) r ≡ operate_at bytes.now) }
+{
+    let Some((members, rest)) = take_members(alloc, bytes)? else {
+        return Ok(None);
+    };
+    Ok(Some((Datagram::Operate { members }, rest)))
+}
+
+fn least_length(index: u32, count: u32) -> usize
+    requires { index < count }
+    ensures { result ≡ part_least index count }
+{
+    if index + 1 < count {
+        PART_BYTES as usize
+    } else {
+        1
+    }
+}
+
+fn greatest_length(index: u32, count: u32) -> usize
+    requires index { index < count }
+    requires count { count ≤ most_parts }
+    ensures { result ≡ part_most index count }
+{
+    if index + 1 < count || count < MAX_PARTS {
+        PART_BYTES as usize
+    } else {
+        (MAX_CONTROL_BYTES - (MAX_PARTS - 1) * PART_BYTES) as usize
+    }
+}
+
+#[tactic(auto, unfolding(crsm_base::specs::MessageReading::part_at, crsm_base::specs::MessageReading::part_fields_at, crsm_base::specs::Parser::end_at))]
+fn take_part(alloc: Global, bytes: &[u8]) -> Result<Option<Datagram>, NoMemory>
+    ensures { IfOk result (λ r. r ≡ whole (part_at bytes.now)) }
+{
+    let Some((from, rest)) = take_replica(bytes) else {
+        return Ok(None);
+    };
+    let Some((to, rest)) = take_replica(rest) else {
+        return Ok(None);
+    };
+    let Some((boot, rest)) = take_u64(rest) else {
+        return Ok(None);
+    };
+    let Some((number, rest)) = take_u64(rest) else {
+        return Ok(None);
+    };
+    let Some((index, rest)) = take_u32(rest) else {
+        return Ok(None);
+    };
+    let Some((count, rest)) = take_u32(rest) else {
+        return Ok(None);
+    };
+    if index >= count || count > MAX_PARTS {
+        return Ok(None);
+    }
+    if rest.len() < least_length(index, count) || rest.len() > greatest_length(index, count) {
+        return Ok(None);
+    }
+    Ok(Some(Datagram::Part {
+        from,
+        to,
+        boot,
+        number,
+        index,
+        count,
+        bytes: bytes_of(alloc, rest)?,
+    }))
+}
+
+fn bytes_of(alloc: Global, slice: &[u8]) -> Result<Bytes, NoMemory>
+    ensures { IfOk result (λ bytes. bytes ≡ slice.now) }
+{
+    let mut bytes = Bytes::new(alloc);
+    bytes.append(slice)?;
+    Ok(bytes)
+}
+
+fn ended(taken: Option<(Datagram, &[u8])>) -> Option<Datagram>
+    ensures { result ≡ whole (option_map (λ x. (x.0, x.1.now)) taken.entry) }
+{
+    match taken {
+        None => None,
+        Some((datagram, rest)) => {
+            if rest.is_empty() {
+                Some(datagram)
+            } else {
+                None
+            }
+        }
+    }
+}
+
+#[tactic(auto, unfolding(crsm_base::specs::MessageReading::datagram_at))]
+pub fn take_datagram(alloc: Global, bytes: &[u8]) -> Result<Option<Datagram>, NoMemory>
+    ensures { IfOk result (λ r. r ≡ whole (datagram_at bytes.now)) }
+{
+    let Some((tag, rest)) = take_u8(bytes) else {
+        return Ok(None);
+    };
+    match tag {
+        1 => Ok(ended(take_frame(alloc, rest)?)),
+        2 => Ok(ended(take_ack(alloc, rest)?)),
+        3 => take_part(alloc, rest),
+        4 => Ok(ended(take_request(alloc, rest)?)),
+        5 => Ok(ended(take_reply(alloc, rest)?)),
+        6 => Ok(ended(take_operate(alloc, rest)?)),
+        _ => Ok(None),
+    }
+}

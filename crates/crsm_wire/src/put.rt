@@ -1,0 +1,198 @@
+//! Appending the spelling of control messages and datagrams.
+
+ghost use Rattle.std.specs.Prelude.{◌≡◌, ◌<◌, ◌++◌, OnOk};
+ghost use Rattle.crsm_base.specs.Messages.{bool_bytes, control_bytes, FitsControl, payload_bytes, FitsPayload, datagram_bytes, FitsDatagram};
+
+use crsm_base::{Bytes, Control, Datagram, InEpoch, NoMemory};
+use crsm_fields::{
+    put_ballot, put_command, put_decision, put_entries, put_entry, put_members, put_option_stamp,
+    put_option_vote, put_outcome, put_stamp, put_u8, put_u32, put_u64,
+};
+
+fn put_bool(flag: bool, out: &mut Bytes) -> Result<(), NoMemory>
+    ensures { OnOk result (out.new ≡ out.old ++ bool_bytes flag) }
+{
+    if flag { put_u8(1, out) } else { put_u8(0, out) }
+}
+
+#[tactic(auto, unfolding(crsm_base::specs::Messages::control_bytes))]
+pub fn put_control(control: &Control, out: &mut Bytes) -> Result<(), NoMemory>
+    requires { FitsControl control.now }
+    ensures { OnOk result (out.new ≡ out.old ++ control_bytes control.now) }
+{
+    match control {
+        Control::Suspend { epoch, after } => {
+            put_u8(1, out)?;
+            put_u64(*epoch, out)?;
+            put_option_stamp(*after, out)
+        }
+        Control::SuspendOk {
+            epoch,
+            executed,
+            last,
+            after,
+            whole,
+            entries,
+        } => {
+            put_u8(2, out)?;
+            put_u64(*epoch, out)?;
+            put_u64(*executed, out)?;
+            put_option_stamp(*last, out)?;
+            put_option_stamp(*after, out)?;
+            put_bool(*whole, out)?;
+            put_entries(entries, out)
+        }
+        Control::P1a { instance, ballot } => {
+            put_u8(3, out)?;
+            put_u64(*instance, out)?;
+            put_ballot(*ballot, out)
+        }
+        Control::P1b {
+            instance,
+            ballot,
+            accepted,
+        } => {
+            put_u8(4, out)?;
+            put_u64(*instance, out)?;
+            put_ballot(*ballot, out)?;
+            put_option_vote(accepted, out)
+        }
+        Control::P1no {
+            instance,
+            ballot,
+            promised,
+        } => {
+            put_u8(5, out)?;
+            put_u64(*instance, out)?;
+            put_ballot(*ballot, out)?;
+            put_ballot(*promised, out)
+        }
+        Control::P2a {
+            instance,
+            ballot,
+            decision,
+        } => {
+            put_u8(6, out)?;
+            put_u64(*instance, out)?;
+            put_ballot(*ballot, out)?;
+            put_decision(decision, out)
+        }
+        Control::P2b { instance, ballot } => {
+            put_u8(7, out)?;
+            put_u64(*instance, out)?;
+            put_ballot(*ballot, out)
+        }
+        Control::Decide { decision } => {
+            put_u8(8, out)?;
+            put_decision(decision, out)
+        }
+        Control::Retrieve { known, from } => {
+            put_u8(9, out)?;
+            put_u64(*known, out)?;
+            put_u64(*from, out)
+        }
+        Control::Page {
+            known,
+            from,
+            entries,
+        } => {
+            put_u8(10, out)?;
+            put_u64(*known, out)?;
+            put_u64(*from, out)?;
+            put_entries(entries, out)
+        }
+    }
+}
+
+#[tactic(auto, unfolding(crsm_base::specs::Messages::payload_bytes))]
+pub fn put_payload(payload: &InEpoch, out: &mut Bytes) -> Result<(), NoMemory>
+    requires { FitsPayload payload.now }
+    ensures { OnOk result (out.new ≡ out.old ++ payload_bytes payload.now) }
+{
+    match payload {
+        InEpoch::Prepare { entry } => {
+            put_u8(1, out)?;
+            put_entry(entry, out)
+        }
+        InEpoch::PrepareOk { stamp, at } => {
+            put_u8(2, out)?;
+            put_stamp(*stamp, out)?;
+            put_u64(*at, out)
+        }
+        InEpoch::ClockTime { at } => {
+            put_u8(3, out)?;
+            put_u64(*at, out)
+        }
+    }
+}
+
+#[tactic(auto, unfolding(crsm_base::specs::Messages::datagram_bytes))]
+pub fn put_datagram(datagram: &Datagram, out: &mut Bytes) -> Result<(), NoMemory>
+    requires { FitsDatagram datagram.now }
+    ensures { OnOk result (out.new ≡ out.old ++ datagram_bytes datagram.now) }
+{
+    match datagram {
+        Datagram::Frame {
+            from,
+            to,
+            epoch,
+            seq,
+            payload,
+        } => {
+            put_u8(1, out)?;
+            put_u8(*from as u8, out)?;
+            put_u8(*to as u8, out)?;
+            put_u64(*epoch, out)?;
+            put_u64(*seq, out)?;
+            put_payload(payload, out)
+        }
+        Datagram::Ack {
+            from,
+            to,
+            epoch,
+            next,
+        } => {
+            put_u8(2, out)?;
+            put_u8(*from as u8, out)?;
+            put_u8(*to as u8, out)?;
+            put_u64(*epoch, out)?;
+            put_u64(*next, out)
+        }
+        Datagram::Part {
+            from,
+            to,
+            boot,
+            number,
+            index,
+            count,
+            bytes,
+        } => {
+            put_u8(3, out)?;
+            put_u8(*from as u8, out)?;
+            put_u8(*to as u8, out)?;
+            put_u64(*boot, out)?;
+            put_u64(*number, out)?;
+            put_u32(*index, out)?;
+            put_u32(*count, out)?;
+            out.append(bytes.as_slice())
+        }
+        Datagram::Request { command } => {
+            put_u8(4, out)?;
+            put_command(command, out)
+        }
+        Datagram::Reply {
+            client,
+            number,
+            outcome,
+        } => {
+            put_u8(5, out)?;
+            put_u64(*client, out)?;
+            put_u64(*number, out)?;
+            put_outcome(outcome, out)
+        }
+        Datagram::Operate { members } => {
+            put_u8(6, out)?;
+            put_members(members, out)
+        }
+    }
+}

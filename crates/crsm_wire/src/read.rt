@@ -1,0 +1,65 @@
+//! Control messages and datagrams as whole inputs.
+
+ghost use Rattle.std.specs.Prelude.{◌≡◌, ◌++◌, IfOk, IsErrOf, OnOk, OnErr};
+ghost use Rattle.crsm_base.specs.declared.Control.{Control};
+ghost use Rattle.crsm_base.specs.declared.Datagram.{Datagram};
+ghost use Rattle.crsm_base.specs.Messages.{control_bytes, FitsControl, SpeltControl, datagram_bytes, FitsDatagram, SpeltDatagram};
+ghost use Rattle.crsm_base.specs.MessageReading.{control_of, datagram_of};
+
+use crate::fault::WireError;
+use crate::{datagram, put, take};
+use crsm_base::{Bytes, Control, Datagram, NoMemory};
+use std::alloc::Global;
+
+/// The control message that the bytes spell, all of them: `NotOne` exactly where they spell none.
+pub fn read_control(alloc: Global, bytes: &[u8]) -> Result<Control, WireError>
+    ensures found { IfOk result (λ control. SpeltControl control bytes.now) }
+    ensures value { IfOk result (λ control. control_of bytes.now ≡ Some control) }
+    ensures not_one { IsErrOf result WireError.NotOne → (control : Control) → SpeltControl control bytes.now → ⊥ }
+    ensures none { IsErrOf result WireError.NotOne → control_of bytes.now ≡ None }
+    ensures again { (control : Control) → FitsControl control → bytes.now ≡ control_bytes control → IfOk result (λ r. r ≡ control) }
+{
+    let Some((control, rest)) = take::take_control(alloc, bytes)? else {
+        return Err(WireError::NotOne);
+    };
+    if !rest.is_empty() {
+        return Err(WireError::NotOne);
+    }
+    Ok(control)
+}
+
+/// Appends the one spelling of a control message. After `NoMemory` the bytes are as before.
+pub fn write_control(alloc: Global, control: &Control, out: &mut Bytes) -> Result<(), NoMemory>
+    requires { FitsControl control.now }
+    ensures ok { OnOk result (out.new ≡ out.old ++ control_bytes control.now) }
+    ensures err { OnErr result (out.new ≡ out.old) }
+{
+    let mut spelling = Bytes::new(alloc);
+    put::put_control(control, &mut spelling)?;
+    out.append(spelling.as_slice())
+}
+
+/// The datagram that the bytes spell, all of them: `NotOne` exactly where they spell none.
+pub fn read_datagram(alloc: Global, bytes: &[u8]) -> Result<Datagram, WireError>
+    ensures found { IfOk result (λ datagram. SpeltDatagram datagram bytes.now) }
+    ensures value { IfOk result (λ datagram. datagram_of bytes.now ≡ Some datagram) }
+    ensures not_one { IsErrOf result WireError.NotOne → (datagram : Datagram) → SpeltDatagram datagram bytes.now → ⊥ }
+    ensures none { IsErrOf result WireError.NotOne → datagram_of bytes.now ≡ None }
+    ensures again { (datagram : Datagram) → FitsDatagram datagram → bytes.now ≡ datagram_bytes datagram → IfOk result (λ r. r ≡ datagram) }
+{
+    match datagram::take_datagram(alloc, bytes)? {
+        Some(datagram) => Ok(datagram),
+        None => Err(WireError::NotOne),
+    }
+}
+
+/// Appends the one spelling of a datagram. After `NoMemory` the bytes are as before.
+pub fn write_datagram(alloc: Global, datagram: &Datagram, out: &mut Bytes) -> Result<(), NoMemory>
+    requires { FitsDatagram datagram.now }
+    ensures ok { OnOk result (out.new ≡ out.old ++ datagram_bytes datagram.now) }
+    ensures err { OnErr result (out.new ≡ out.old) }
+{
+    let mut spelling = Bytes::new(alloc);
+    put::put_datagram(datagram, &mut spelling)?;
+    out.append(spelling.as_slice())
+}
