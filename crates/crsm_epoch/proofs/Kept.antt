@@ -589,7 +589,7 @@ module _ (n k : ℕ) (v : ℕ → Seat) (sent : List Datagram) (r : Replica) (in
     kept x y (Tells m c h) f ex g = tells_kept m c x g
     kept x y (Gathers a p i o) f ex g = good_same n k v sent x y [] g refl refl (no_sends x) (none_old x) refl
     kept x y (Suspends h) f ex g = good_off n k v sent (Rec.Suspend (known x.replica.log)) x y g refl refl refl (λ z q. absurd (cc)) refl (fit_after x y (Suspends h) f g refl refl) (no_and (live x.replica.log))
-    kept x y (Collects ms h s) f ex g = good_same n k v sent x y [] g refl refl (no_sends x) (none_old x) refl
+    kept x y (Collects ms asked h s) f ex g = good_same n k v sent x y [] g refl refl (no_sends x) (none_old x) refl
     kept x y (TakesPage ms pages e after p m h i w j) f ex g = good_same n k v sent x y [] g refl refl (no_sends x) (none_old x) refl
     kept x y (Completes ms pages m h w) f ex g = good_same n k v sent x y [] g refl refl (no_sends x) (none_old x) refl
     kept x y (Refrains d) f ex g = good_same n k v sent x y [] g refl refl (no_sends x) (none_old x) refl

@@ -115,7 +115,7 @@ module _ (r : Replica) (input : Input) (reading : ℕ) where
   fitted_before x y (Tells k c h) f = sym (tell_fitting c k x) ∙ f
   fitted_before x y (Gathers a p i o) f = f
   fitted_before x y (Suspends h) f = (and_parts x.fitting _ f).0
-  fitted_before x y (Collects ms h s) f = f
+  fitted_before x y (Collects ms asked h s) f = f
   fitted_before x y (TakesPage ms pages e after p n h m i w) f = f
   fitted_before x y (Completes ms pages n h w) f = f
   fitted_before x y (Refrains d) f = f

@@ -82,7 +82,7 @@ module _ (r : Replica) (input : Input) (reading : ℕ) where
   log_change x y (Tells k c h) = NoRecord (tell_still c k x).log
   log_change x y (Gathers a p i o) = NoRecord refl
   log_change x y (Suspends h) = OneRecord _ refl refl
-  log_change x y (Collects ms h s) = NoRecord refl
+  log_change x y (Collects ms asked h s) = NoRecord refl
   log_change x y (TakesPage ms pages e after p n h m i w) = NoRecord refl
   log_change x y (Completes ms pages n h w) = NoRecord refl
   log_change x y (Refrains d) = NoRecord refl

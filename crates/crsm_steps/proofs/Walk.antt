@@ -27,7 +27,7 @@ use Rattle.crsm_spec.specs.Coordinate.{forget_epoch, adopt_tail, enter, advance,
 use Rattle.crsm_spec.specs.Controls.{on_suspend, is_page_of, take_page, on_suspend_ok, if_next, tell_promise, on_p1a, on_p1b, on_p1no, on_p2a, on_p2b, retrieve_base, on_decide, page_from, on_retrieve, new_entries, may_adopt, on_page, if_spec, on_control}
 use Rattle.crsm_spec.specs.Step.{Input, if_fitting, on_whole_message, on_part, ask_page, missing, tell_collect, renew, ask_all, on_tick, on_datagram, on_input, idle_at}
 use Rattle.crsm_steps.specs.Messages.{Hears, IsTold}
-use Rattle.crsm_steps.specs.Changes.{Change, IsPeer, IsAnswer, IsVote}
+use Rattle.crsm_steps.specs.Changes.{Change, IsPeer, IsAnswer, IsVote, AsksFor}
 use Rattle.crsm_steps.specs.Changes.Change.{Submits, Refuses, Commits, Takes, Acks, IsAcked, Pays, Owes, TellsTime, SendsAgain, Tells, Gathers, Suspends, Collects, TakesPage, Completes, Refrains, GivesUp, Asks, CountsAnswer, Proposes, IsOutbid, AcceptsOwn, CountsVote, Promises, Accepts, Chooses, Learns, AdoptsTail, AdoptsPage, Enters}
 use Rattle.crsm_steps.proofs.Tests.{or_parts, not_not, same_number, next_number, same_ballot, same_stamp, ballot_is, among_take, above_top, not_astray}
 use Rattle.crsm_steps.proofs.Going.{Goes, here, both, once, either, of_option, each}
@@ -396,18 +396,18 @@ module _ (r : Replica) (input : Input) (reading : ℕ) where
   unfolding suspend_once
   of_suspend_once x = either (suspended x.replica.log) (λ h. here) (λ h. once (Suspends h))
 
-  of_collect : (ms : List ℕ) (x : Draft) → IsTrue (may_reconfigure x.replica ms) → IsTrue (suspended x.replica.log) → G x (collect ms x)
+  of_collect : (ms : List ℕ) (x : Draft) → AsksFor input ms → IsTrue (may_reconfigure x.replica ms) → IsTrue (suspended x.replica.log) → G x (collect ms x)
   unfolding collect
-  of_collect ms x may h =
+  of_collect ms x asked may h =
       let pages = own_page x.replica.me x.replica.log ∷ [] in
       let y = noting (Note.Collecting ms pages) x in
       let z = tell_all (Control.Suspend (known x.replica.log) None) y in
-      both (once (Collects ms may h)) (both (tells_all (Control.Suspend (known x.replica.log) None) y (noting_known _ x))
+      both (once (Collects ms asked may h)) (both (tells_all (Control.Suspend (known x.replica.log) None) y (noting_known _ x))
       (of_whole ms pages z (subst (G z) (noted_already (Note.Collecting ms pages) z (sym (alike_all _ y).note ∙ noting_note _ x)) here)))
 
-  of_suspect : (ms : List ℕ) (x : Draft) → G x (on_suspect ms x)
+  of_suspect : (ms : List ℕ) (x : Draft) → AsksFor input ms → G x (on_suspect ms x)
   unfolding on_suspect
-  of_suspect ms x = either (may_reconfigure x.replica ms) (λ h. both (of_suspend_once x) (of_collect ms (suspend_once x) (once_may ms x h) (once_suspended x))) (λ h. here)
+  of_suspect ms x asked = either (may_reconfigure x.replica ms) (λ h. both (of_suspend_once x) (of_collect ms (suspend_once x) asked (once_may ms x h) (once_suspended x))) (λ h. here)
 
   -- ---- control messages
 
@@ -616,13 +616,13 @@ module _ (r : Replica) (input : Input) (reading : ℕ) where
       of_part a _ x (subst (λ k. input ≡ Input.Came a (Datagram.Part from k boot number index count bytes)) t.1 i) t.0 (ap (λ w. w.parts) same))
   of_datagram a (Datagram.Request c) x same i = of_request a c x i
   of_datagram a (Datagram.Reply client number told) x same i = here
-  of_datagram a (Datagram.Operate ms) x same i = of_suspect ms x
+  of_datagram a (Datagram.Operate ms) x same i = of_suspect ms x (inr (a, i))
 
   pub of_input : (i : Input) (x : Draft) → x.replica ≡ r → input ≡ i → G x (on_input i reading x)
   unfolding on_input
   of_input (Input.Came a d) x same e = of_datagram a d x same e
   of_input Input.Ticked x same e = of_tick x
-  of_input (Input.Suspected ms) x same e = of_suspect ms x
+  of_input (Input.Suspected ms) x same e = of_suspect ms x (inl e)
 
   pub of_idle_at : (i : Input) (x : Draft) → G x (idle_at i reading x)
   unfolding idle_at

@@ -37,6 +37,10 @@ IsVote r input x b k =
     ((k ≡ x.replica.me) × IsTrue (has_accepted b x))
     ⊎ (IsTrue (has (spec_of x.replica) k) × Hears r input k (Control.P2b (instance x) b))
 
+-- the input asks for these members of the next epoch
+abbrev pub AsksFor : Input → List ℕ → Type 0
+AsksFor input ms = (input ≡ Input.Suspected ms) ⊎ ((address : ℕ) × (input ≡ Input.Came address (Datagram.Operate ms)))
+
 -- One change of a step of r with this input and reading, from x.
 pub data Change (r : Replica) (input : Input) (reading : ℕ) (x : Draft) : Draft → Type 0 where
   -- ---- clients
@@ -73,7 +77,7 @@ pub data Change (r : Replica) (input : Input) (reading : ℕ) (x : Draft) : Draf
       p.from ≢ r.me → Change r input reading x (record x { replica = record x.replica { parts = with_part p x.replica.parts } })
   -- ---- collecting a frozen epoch
   Suspends : suspended x.replica.log ≡ false → Change r input reading x (keep (Rec.Suspend (known x.replica.log)) x)
-  Collects : (ms : List ℕ) → IsTrue (may_reconfigure x.replica ms) → IsTrue (suspended x.replica.log) →
+  Collects : (ms : List ℕ) → AsksFor input ms → IsTrue (may_reconfigure x.replica ms) → IsTrue (suspended x.replica.log) →
       Change r input reading x (noting (Note.Collecting ms (own_page x.replica.me x.replica.log ∷ [])) x)
   TakesPage : (ms : List ℕ) (pages : List LogPage) (e : ℕ) (after : Option Stamp) (p : LogPage) → x.replica.note ≡ Note.Collecting ms pages →
       Hears r input p.from (Control.SuspendOk e p.executed p.last after p.whole p.entries) → IsTrue (has (spec_of x.replica) p.from) →
