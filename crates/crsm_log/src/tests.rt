@@ -1,6 +1,7 @@
 use crate::{Log, MountError, PutError, end_of};
 use crsm_disk::{Disk, FileDisk, MemDisk};
 use std::alloc::Global;
+use std::fs;
 use std::fs::OpenOptions;
 use std::test::Fail;
 
@@ -123,5 +124,6 @@ fn file_is_cut_by_hand(rt: HostRuntime) -> Result<(), Fail> {
         .set_len(14)?;
     let refused = count_on(alloc, FileDisk::open(&rt, "log")?);
     assert_eq!(rt; refused, Err(MountError::BadGate { entry: 1 }));
+    fs::remove_file(&rt, "log")?;
     Ok(())
 }
