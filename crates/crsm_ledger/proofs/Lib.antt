@@ -1,0 +1,10 @@
+pub mod ListLemmas
+pub mod LoggedLemmas
+pub mod PiecesLemmas
+pub mod ExecutedLemmas
+pub mod ReplicasLemmas
+pub mod ReadLemmas
+pub mod FitsLemmas
+pub mod StepLemmas
+pub mod KeepLemmas
+pub mod RecoverLemmas

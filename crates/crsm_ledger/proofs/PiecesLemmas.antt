@@ -1,0 +1,93 @@
+-- What stood in chunks stays where chunks grow.
+use Rattle.std.proofs.Common.{◌≡◌, ℕ, suc, zero, ◌<◌, ◌≤◌, ◌+◌, List, [], ◌∷◌, ◌++◌, refl, ap, sym, ◌∙◌, arith, length, get_or, set, length-append, subst}
+use Rattle.std.specs.Prelude.{slice_range, slice_get, Some, None}
+use Rattle.std.specs.List.{AllByRecursion}
+use Rattle.crsm_ledger.proofs.ListLemmas.{all_at, get_or-grown, get_or-set, at_set, length-set, range-grown, range-end}
+use Rattle.crsm_ledger.specs.declared.spelt.Place.{Place}
+use Rattle.crsm_ledger.specs.Pieces.{piece, pieces, IsWithin, Keeps}
+
+-- ---- chunks
+
+pub keeps-refl : (chunks : List (List ℕ)) → Keeps chunks chunks
+keeps-refl chunks = record { within = λ p w. w; same = λ p w. refl }
+
+pub keeps-trans : (a b c : List (List ℕ)) → Keeps a b → Keeps b c → Keeps a c
+keeps-trans a b c first then = record {
+  within = λ p w. then.within p (first.within p w);
+  same = λ p w. then.same p (first.within p w) ∙ first.same p w;
+}
+
+-- a further chunk
+pub keeps-push : (chunks : List (List ℕ)) (chunk : List ℕ) → Keeps chunks (chunks ++ chunk ∷ [])
+keeps-push chunks chunk = record {
+  within = λ p w. record {
+    chunk = omega (arith, w.chunk, length-append chunks (chunk ∷ []));
+    order = w.order;
+    end = rw (get_or-grown chunks (chunk ∷ []) p.chunk [] w.chunk) w.end;
+  };
+  same = λ p w. ap (λ c. slice_range c p.start p.end) (get_or-grown chunks (chunk ∷ []) p.chunk [] w.chunk);
+}
+
+-- more bytes in a chunk
+pub keeps-set : (chunks : List (List ℕ)) (i : ℕ) (bytes : List ℕ) → i < length chunks → Keeps chunks (set chunks i (get_or chunks i [] ++ bytes))
+keeps-set chunks i bytes within = record {
+  within = λ p w. record {
+    chunk = omega (arith, w.chunk, length-set chunks i (get_or chunks i [] ++ bytes));
+    order = w.order;
+    end = at_set (λ c. p.end ≤ length c) chunks i p.chunk (get_or chunks i [] ++ bytes) [] within w.chunk
+        (λ is. let here : p.end ≤ length (get_or chunks i []) = subst (λ (k : ℕ). p.end ≤ length (get_or chunks k [])) is w.end in omega (arith, here, length-append (get_or chunks i []) bytes))
+        w.end;
+  };
+  same = λ p w. at_set (λ c. slice_range c p.start p.end ≡ piece chunks p) chunks i p.chunk (get_or chunks i [] ++ bytes) [] within w.chunk
+      (λ is. let here : p.end ≤ length (get_or chunks i []) = subst (λ (k : ℕ). p.end ≤ length (get_or chunks k [])) is w.end in
+      range-grown (get_or chunks i []) bytes p.start p.end w.order here ∙ ap (λ k. slice_range (get_or chunks k []) p.start p.end) (sym is))
+      refl;
+}
+
+-- the new bytes stand at the end of the chunk
+pub within-set : (chunks : List (List ℕ)) (i start end : ℕ) (bytes : List ℕ) → i < length chunks → start ≡ length (get_or chunks i []) → end ≡ start + length bytes → IsWithin (set chunks i (get_or chunks i [] ++ bytes)) (record { chunk = i; start = start; end = end })
+within-set chunks i start end bytes within begins ends = record {
+  chunk = omega (arith, within, length-set chunks i (get_or chunks i [] ++ bytes));
+  order = omega arith;
+  end = rw (get_or-set chunks i (get_or chunks i [] ++ bytes) [] within) (omega (arith, begins, ends, length-append (get_or chunks i []) bytes));
+}
+
+pub piece-set : (chunks : List (List ℕ)) (i start end : ℕ) (bytes : List ℕ) → i < length chunks → start ≡ length (get_or chunks i []) → end ≡ start + length bytes → piece (set chunks i (get_or chunks i [] ++ bytes)) (record { chunk = i; start = start; end = end }) ≡ bytes
+piece-set chunks i start end bytes within begins ends =
+    rw (get_or-set chunks i (get_or chunks i [] ++ bytes) [] within, ends, begins) (range-end (get_or chunks i []) bytes)
+
+-- ---- all places
+
+pub all-kept : (old new : List (List ℕ)) (ps : List Place) → Keeps old new → AllByRecursion (IsWithin old) ps → AllByRecursion (IsWithin new) ps
+all-kept old new [] keeps all = tt
+all-kept old new (p ∷ ps) keeps all = (keeps.within p all.0, all-kept old new ps keeps all.1)
+
+pub pieces-kept : (old new : List (List ℕ)) (ps : List Place) → Keeps old new → AllByRecursion (IsWithin old) ps → pieces new ps ≡ pieces old ps
+unfolding pieces
+pieces-kept old new [] keeps all = refl
+pieces-kept old new (p ∷ ps) keeps all =
+    ap (λ here. here ∷ pieces new ps) (keeps.same p all.0) ∙ ap (λ rest. piece old p ∷ rest) (pieces-kept old new ps keeps all.1)
+
+pub pieces-push : (chunks : List (List ℕ)) (ps : List Place) (p : Place) → pieces chunks (ps ++ p ∷ []) ≡ pieces chunks ps ++ piece chunks p ∷ []
+unfolding pieces
+pieces-push chunks [] p = refl
+pieces-push chunks (q ∷ ps) p = ap (λ rest. piece chunks q ∷ rest) (pieces-push chunks ps p)
+
+pub pieces-at : (chunks : List (List ℕ)) (ps : List Place) (i : ℕ) (d : Place) → i < length ps → slice_get (pieces chunks ps) i ≡ Some (piece chunks (get_or ps i d))
+unfolding pieces
+pieces-at chunks [] i d within = absurd (omega arith)
+pieces-at chunks (p ∷ ps) zero d within = refl
+pieces-at chunks (p ∷ ps) (suc i) d within = pieces-at chunks ps i d (omega arith)
+
+pub pieces-beyond : (chunks : List (List ℕ)) (ps : List Place) (i : ℕ) → length ps ≤ i → slice_get (pieces chunks ps) i ≡ None
+unfolding pieces
+pieces-beyond chunks [] i beyond = refl
+pieces-beyond chunks (p ∷ ps) zero beyond = absurd (omega arith)
+pieces-beyond chunks (p ∷ ps) (suc i) beyond = pieces-beyond chunks ps i (omega arith)
+
+pub length-pieces : (chunks : List (List ℕ)) (ps : List Place) → length (pieces chunks ps) ≡ length ps
+unfolding pieces
+length-pieces chunks [] = refl
+length-pieces chunks (p ∷ ps) = ap (λ k. suc k) (length-pieces chunks ps)
+
+pub ruleset pieces_rules = (keeps-refl, keeps-push, keeps-set, within-set, piece-set, length-pieces, pieces-at, pieces-beyond, all_at)

@@ -1,0 +1,84 @@
+-- What each field says of the log.
+use Rattle.std.proofs.Common.{◌≡◌, ℕ, refl, ap}
+use Rattle.std.specs.Prelude.{Option, None, Some, unwrap_or}
+use Rattle.std.specs.Option.{option_map_or}
+use Rattle.crsm_spec.specs.Types.{Decision}
+use Rattle.crsm_spec.specs.Lists.{numbers_below}
+use Rattle.crsm_spec.specs.Quorum.{spec_decided}
+use Rattle.crsm_spec.specs.Log.{Log, decision, known, start, members, spec, boots, live, suspended, has_entered, promised, accepted, logged}
+use Rattle.crsm_ledger.specs.declared.ledger.Ledger.{Ledger}
+use Rattle.crsm_ledger.specs.Stands.{Says, facts_of, known_decision, founding}
+
+pub me-is : {me n : ℕ} {l : Ledger} {log : Log} → Says me n l log → l.me ≡ me
+unfolding facts_of
+me-is s = ap (λ f. f.me) s.facts
+
+pub n-is : {me n : ℕ} {l : Ledger} {log : Log} → Says me n l log → l.n ≡ n
+unfolding facts_of
+n-is s = ap (λ f. f.n) s.facts
+
+pub boots-is : {me n : ℕ} {l : Ledger} {log : Log} → Says me n l log → l.boots ≡ boots log
+unfolding facts_of
+boots-is s = ap (λ f. f.boots) s.facts
+
+pub known-is : {me n : ℕ} {l : Ledger} {log : Log} → Says me n l log → l.known ≡ known_decision n log
+unfolding facts_of
+known-is s = ap (λ f. f.known) s.facts
+
+pub start-is : {me n : ℕ} {l : Ledger} {log : Log} → Says me n l log → l.start ≡ start log
+unfolding facts_of
+start-is s = ap (λ f. f.start) s.facts
+
+pub live-is : {me n : ℕ} {l : Ledger} {log : Log} → Says me n l log → l.is_live ≡ live log
+unfolding facts_of
+live-is s = ap (λ f. f.live) s.facts
+
+pub suspended-is : {me n : ℕ} {l : Ledger} {log : Log} → Says me n l log → l.is_suspended ≡ suspended log
+unfolding facts_of
+suspended-is s = ap (λ f. f.suspended) s.facts
+
+pub entered-is : {me n : ℕ} {l : Ledger} {log : Log} → Says me n l log → l.has_entered ≡ has_entered (known log) log
+unfolding facts_of
+entered-is s = ap (λ f. f.entered) s.facts
+
+pub promised-is : {me n : ℕ} {l : Ledger} {log : Log} → Says me n l log → l.promised ≡ promised log
+unfolding facts_of
+promised-is s = ap (λ f. f.promised) s.facts
+
+pub accepted-is : {me n : ℕ} {l : Ledger} {log : Log} → Says me n l log → l.accepted ≡ accepted log
+unfolding facts_of
+accepted-is s = ap (λ f. f.accepted) s.facts
+
+pub logged-is : {me n : ℕ} {l : Ledger} {log : Log} → Says me n l log → l.logged ≡ logged log
+unfolding facts_of
+logged-is s = ap (λ f. f.logged) s.facts
+
+-- ---- what the decision of the known epoch says
+
+epoch-decided : (n : ℕ) (o : Option Decision) → (unwrap_or o (founding n)).epoch ≡ option_map_or (λ d. d.epoch) o 0
+epoch-decided n None = refl
+epoch-decided n (Some d) = refl
+
+pub known-epoch : (n : ℕ) (log : Log) → (known_decision n log).epoch ≡ known log
+unfolding known_decision known
+known-epoch n log = epoch-decided n (decision log)
+
+members-decided : (n : ℕ) (o : Option Decision) → (unwrap_or o (founding n)).members ≡ option_map_or (λ d. d.members) o (numbers_below n)
+members-decided n None = refl
+members-decided n (Some d) = refl
+
+pub known-members : (n : ℕ) (log : Log) → (known_decision n log).members ≡ members n log
+unfolding known_decision members
+known-members n log = members-decided n (decision log)
+
+spec-of-decided : (n : ℕ) (o : Option Decision) → unwrap_or ((unwrap_or o (founding n)).spec) (numbers_below n) ≡ spec_decided n o
+unfolding spec_decided
+spec-of-decided n None = refl
+spec-of-decided n (Some d) = refl
+
+pub known-spec : (n : ℕ) (log : Log) → unwrap_or ((known_decision n log).spec) (numbers_below n) ≡ spec n log
+unfolding known_decision spec
+known-spec n log = spec-of-decided n (decision log)
+
+pub spec-is : {me n : ℕ} {l : Ledger} {log : Log} → Says me n l log → unwrap_or l.known.spec (numbers_below n) ≡ spec n log
+spec-is {n = n} {log = log} s = rw (known-is s) (known-spec n log)

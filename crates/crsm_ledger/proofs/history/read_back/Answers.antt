@@ -1,0 +1,10 @@
+use Rattle.std.proofs.Common.{◌≡◌, [], ◌++◌, ◌∙◌, sym, length}
+use Rattle.crsm_base.specs.Spelling.{entry_bytes}
+use Rattle.crsm_ledger.proofs.ListLemmas.{append-none}
+use Rattle.crsm_ledger.proofs.ExecutedLemmas.{first_same}
+use Rattle.crsm_ledger.proofs.history.read_back.Goals as goal
+
+pub returns-in-Some : goal.returns-in-Some
+returns-in-Some c = λ e fits is.
+    let whole : c.args.bytes.now ≡ entry_bytes e ++ [] = is ∙ sym (append-none (entry_bytes e)) in
+    first_same c.in_ok-entry.field-0 c.in-Some.entry e c.in-Some.field-0-1 (length (entry_bytes e)) (c.in_ok-entry.ensures.again e [] fits whole) c.in-Some.is

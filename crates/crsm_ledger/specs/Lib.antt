@@ -1,0 +1,5 @@
+pub mod Executed
+pub mod Pieces
+pub mod Recovered
+pub mod Sorted
+pub mod Stands

@@ -1,0 +1,106 @@
+-- What a ledger's fields say: what its log says.
+use Rattle.std.specs.Prelude.{◌≡◌, ℕ, ◌<◌, ◌≤◌, Bool, true, false, List, [], ◌∷◌, Option, None, unwrap_or, Result, IfOk}
+use Rattle.std.specs.List.{AllByRecursion}
+use Rattle.crsm_base.specs.declared.NoMemory.{NoMemory}
+use Rattle.crsm_spec.specs.Types.{Ballot, Entry, Decision, Rec, Line}
+use Rattle.crsm_spec.specs.Lists.{numbers_below}
+use Rattle.crsm_spec.specs.Log.{Log, decision, known, start, boots, live, suspended, has_entered, promised, accepted, logged_in, logged, executed}
+use Rattle.crsm_spec.specs.Fits.{fits}
+use Rattle.crsm_spec.specs.Lines.{lines_of}
+use Rattle.crsm_ledger.specs.declared.ledger.Ledger.{Ledger}
+use Rattle.crsm_ledger.specs.Executed.{HasExecuted}
+
+-- what epoch 0 of a cluster of n replicas begins with
+abbrev pub founding : ℕ → Decision
+founding n = record { epoch = 0; spec = None; members = numbers_below n; base_len = 0; tail = [] }
+
+-- the decision of the known epoch
+unfoldable pub known_decision : ℕ → Log → Decision
+known_decision n log = unwrap_or (decision log) (founding n)
+
+-- Of epochs above the known one nothing is logged, executed or entered.
+pub record NoneAbove (log : Log) : Type 0 where
+  pub logged : (x : ℕ) → known log < x → logged_in x log ≡ []
+  pub entered : (x : ℕ) → known log < x → has_entered x log ≡ false
+  pub executed : AllByRecursion (λ e. e.epoch ≤ known log) (executed log)
+
+-- what a log says that a ledger keeps as fields
+pub record Facts : Type 0 where
+  pub me : ℕ
+  pub n : ℕ
+  pub boots : ℕ
+  pub known : Decision
+  pub start : ℕ
+  pub live : Bool
+  pub suspended : Bool
+  pub entered : Bool
+  pub promised : Ballot
+  pub accepted : Option (Ballot × Decision)
+  pub logged : List Entry
+
+-- what the fields of a ledger say
+abbrev pub fields_of : Ledger → Facts
+fields_of l = record {
+  me = l.me;
+  n = l.n;
+  boots = l.boots;
+  known = l.known;
+  start = l.start;
+  live = l.is_live;
+  suspended = l.is_suspended;
+  entered = l.has_entered;
+  promised = l.promised;
+  accepted = l.accepted;
+  logged = l.logged;
+}
+
+-- what the log of replica me says, in a cluster that began with n
+unfoldable pub facts_of : ℕ → ℕ → Log → Facts
+facts_of me n log = record {
+  me = me;
+  n = n;
+  boots = boots log;
+  known = known_decision n log;
+  start = start log;
+  live = live log;
+  suspended = suspended log;
+  entered = has_entered (known log) log;
+  promised = promised log;
+  accepted = accepted log;
+  logged = logged log;
+}
+
+-- The fields of the ledger of replica me, in a cluster that began with n, are what the log says.
+pub record Says (me n : ℕ) (ledger : Ledger) (log : Log) : Type 0 where
+  pub few : n ≤ 15
+  pub facts : fields_of ledger ≡ facts_of me n log
+  pub executed : HasExecuted ledger.history (known log) (executed log)
+  pub none_above : NoneAbove log
+
+-- Where the old ledger says what a log says behind which the record fits, the lines are the record's, and the new ledger
+-- says what the log with the record says; or memory ran out.
+abbrev pub Keeps : Ledger → Rec → Result (List Line) NoMemory → Ledger → Type 0
+Keeps old rec result new =
+    (me n : ℕ) (log : Log) → Says me n old log → fits me n log rec ≡ true →
+    IfOk result (λ lines. (lines ≡ lines_of me log rec) × Says me n new (rec ∷ log))
+
+-- memory ran out while a record was applied, and the fields say nothing
+abbrev pub IsSpent : Ledger → Type 0
+IsSpent ledger = ledger.is_spent ≡ true
+
+-- the ledger is not spent, and says what the log says
+pub record StandsFor (me n : ℕ) (ledger : Ledger) (log : Log) : Type 0 where
+  pub unspent : ledger.is_spent ≡ false
+  pub says : Says me n ledger log
+
+-- a record's kind, its first byte
+unfoldable pub kind : Rec → ℕ
+kind (Rec.Boot me n) = 1
+kind (Rec.Prepare e) = 2
+kind (Rec.Commit s) = 3
+kind (Rec.Adopt place es) = 4
+kind (Rec.Suspend x) = 5
+kind (Rec.Promise i b) = 6
+kind (Rec.Accept i b d) = 7
+kind (Rec.Decide d) = 8
+kind (Rec.Enter x) = 9

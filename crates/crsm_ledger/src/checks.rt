@@ -1,0 +1,178 @@
+//! Which record may come next. A check reads all that its kind of record depends on, and joins it by `&`.
+
+ghost use Rattle.std.specs.Prelude.{◌≡◌, ◌==◌, ◌+◌, ◌≤◌, ℕ, true, false, List, nat_lt, nat_le, ◌||◌, ◌&&◌, unwrap_or};
+ghost use Rattle.std.specs.List.{list_all};
+ghost use Rattle.std.specs.Option.{option_map_or};
+ghost use Rattle.crsm_base.specs.declared.Rec.{Rec};
+ghost use Rattle.crsm_base.specs.Order.{stamp_lt, stamp_eq, ballot_lt};
+ghost use Rattle.crsm_spec.specs.Fits.{fits, can_be_members};
+ghost use Rattle.crsm_spec.specs.Lists.{first_of, numbers_below};
+ghost use Rattle.crsm_ledger.specs.Executed.{goes_on_behind};
+ghost use Rattle.crsm_ledger.specs.Stands.{Says};
+
+use crate::history::Position;
+use crate::ledger::Ledger;
+use crate::order::{is_ballot_below, is_same_stamp, is_stamp_below};
+use crate::replicas::{can_have, first_replicas, is_among};
+use crsm_base::{Ballot, Decision, Entry, Rec, Stamp};
+
+impl Ledger {
+    /// Whether the record may come next: the test of `apply`.
+    pub fn fits(&self, rec: &Rec) -> bool
+        ensures { (me n : ℕ) (log : List Rec) → Says me n self.now log → result ≡ fits me n log rec.now }
+    {
+        match rec {
+            Rec::Boot { me, n } => self.fits_boot(*me, *n),
+            Rec::Prepare { entry } => self.fits_prepare(entry),
+            Rec::Commit { stamp } => self.fits_commit(*stamp),
+            Rec::Adopt { place, entries } => self.fits_adopt(*place, entries.as_slice()),
+            Rec::Suspend { epoch } => self.fits_suspend(*epoch),
+            Rec::Promise { instance, ballot } => self.fits_promise(*instance, *ballot),
+            Rec::Accept {
+                instance,
+                ballot,
+                decision,
+            } => self.fits_accept(*instance, *ballot, decision),
+            Rec::Decide { decision } => self.fits_decide(decision),
+            Rec::Enter { epoch } => self.fits_enter(*epoch),
+        }
+    }
+
+    fn fits_boot(&self, me: u32, n: u32) -> bool
+        ensures { (own cluster : ℕ) (log : List Rec) → Says own cluster self.now log → result ≡ fits own cluster log (Rec.Boot me n) }
+    {
+        (me == self.me) & (n == self.n) & (self.boots < u64::MAX)
+    }
+
+    fn fits_prepare(&self, entry: &Entry) -> bool
+        ensures { (me n : ℕ) (log : List Rec) → Says me n self.now log → result ≡ fits me n log (Rec.Prepare entry.now) }
+    {
+        let is_member = is_among(self.known.members.as_slice(), entry.stamp.origin);
+        let is_newest = self.logged.is_newest(entry);
+        self.is_live
+            & !self.is_suspended
+            & (entry.epoch == self.known.epoch)
+            & is_member
+            & is_newest
+    }
+
+    fn fits_commit(&self, stamp: Stamp) -> bool
+        ensures { (me n : ℕ) (log : List Rec) → Says me n self.now log → result ≡ fits me n log (Rec.Commit stamp) }
+    {
+        let is_next = begins_with(self.logged.above(self.history.last_stamp()), stamp);
+        self.is_live & !self.is_suspended & is_next
+    }
+
+    fn fits_adopt(&self, place: u64, entries: &[Entry]) -> bool
+        ensures { (me n : ℕ) (log : List Rec) → Says me n self.now log → result ≡ fits me n log (Rec.Adopt place entries.now) }
+    {
+        let is_place = place == self.history.len();
+        let are_known = all_up_to(entries, self.known.epoch);
+        let are_behind = stand_behind(self.history.last(), entries);
+        (0 < self.boots) & is_place & are_known & are_behind & (!self.is_live | self.is_suspended)
+    }
+
+    fn fits_suspend(&self, epoch: u64) -> bool
+        ensures { (me n : ℕ) (log : List Rec) → Says me n self.now log → result ≡ fits me n log (Rec.Suspend epoch) }
+    {
+        (0 < self.boots) & (epoch == self.known.epoch) & !self.is_suspended
+    }
+
+    fn fits_promise(&self, instance: u64, ballot: Ballot) -> bool
+        ensures { (me n : ℕ) (log : List Rec) → Says me n self.now log → result ≡ fits me n log (Rec.Promise instance ballot) }
+    {
+        let is_next = is_after(instance, self.known.epoch);
+        let is_above = is_ballot_below(self.promised, ballot);
+        (0 < self.boots) & is_next & is_above
+    }
+
+    fn fits_accept(&self, instance: u64, ballot: Ballot, decision: &Decision) -> bool
+        ensures { (me n : ℕ) (log : List Rec) → Says me n self.now log → result ≡ fits me n log (Rec.Accept instance ballot decision.now) }
+    {
+        let is_next = is_after(instance, self.known.epoch);
+        let decides_next = is_after(decision.epoch, self.known.epoch);
+        let is_below_promise = is_ballot_below(ballot, self.promised);
+        let is_above_accepted = is_above(ballot, &self.accepted);
+        let has_base = decision.base_len <= self.history.len();
+        (0 < self.boots) & is_next & decides_next & !is_below_promise & is_above_accepted & has_base
+    }
+
+    fn fits_decide(&self, decision: &Decision) -> bool
+        ensures { (me n : ℕ) (log : List Rec) → Says me n self.now log → result ≡ fits me n log (Rec.Decide decision.now) }
+    {
+        let has_members = has_members(self.n, decision);
+        (0 < self.boots) & (self.known.epoch < decision.epoch) & has_members
+    }
+
+    fn fits_enter(&self, epoch: u64) -> bool
+        ensures { (me n : ℕ) (log : List Rec) → Says me n self.now log → result ≡ fits me n log (Rec.Enter epoch) }
+    {
+        let is_member = is_among(self.known.members.as_slice(), self.me);
+        let is_start = self.history.len() == self.start;
+        (0 < self.boots) & (epoch == self.known.epoch) & is_member & is_start & !self.has_entered
+    }
+}
+
+/// Whether the first entry has this stamp.
+#[tactic(auto, unfolding(crsm_spec::specs::Lists::first_of))]
+fn begins_with(entries: &[Entry], stamp: Stamp) -> bool
+    ensures { result ≡ option_map_or (λ e. stamp_eq e.stamp stamp) (first_of entries.now) false }
+{
+    match entries {
+        [first, ..] => is_same_stamp(first.stamp, stamp),
+        [] => false,
+    }
+}
+
+/// Whether no entry is of a later epoch.
+fn all_up_to(entries: &[Entry], epoch: u64) -> bool
+    ensures { result ≡ list_all (λ e. nat_le e.epoch epoch) entries.now }
+{
+    entries.iter().all(|entry| entry.epoch <= epoch)
+}
+
+/// Whether there are entries, and the first stands behind the position.
+#[tactic(auto, unfolding(crate::specs::Executed::goes_on_behind))]
+fn stand_behind(last: Option<Position>, entries: &[Entry]) -> bool
+    ensures { result ≡ goes_on_behind last entries.now }
+{
+    match (last, entries) {
+        (_, []) => false,
+        (None, _) => true,
+        (Some(last), [first, ..]) => is_behind(last, first),
+    }
+}
+
+fn is_behind(last: Position, entry: &Entry) -> bool
+    ensures { result ≡ (nat_lt last.epoch entry.now.epoch || (last.epoch == entry.now.epoch && stamp_lt last.stamp entry.now.stamp)) }
+{
+    let is_later = is_stamp_below(last.stamp, entry.stamp);
+    last.epoch < entry.epoch || (last.epoch == entry.epoch && is_later)
+}
+
+/// Whether the number is that of the epoch after this one.
+fn is_after(number: u64, epoch: u64) -> bool
+    ensures { result ≡ (number == epoch + 1) }
+{
+    0 < number && number - 1 == epoch
+}
+
+/// Whether the ballot is above that of what was accepted, if any was.
+fn is_above(ballot: Ballot, accepted: &Option<(Ballot, Decision)>) -> bool
+    ensures { result ≡ option_map_or (λ a. ballot_lt a.0 ballot) accepted.now true }
+{
+    match accepted {
+        Some((other, _)) => is_ballot_below(*other, ballot),
+        None => true,
+    }
+}
+
+/// Whether the decision's members may be those of its epoch, in a cluster that began with `n` replicas.
+fn has_members(n: u32, decision: &Decision) -> bool
+    ensures { n ≤ 15 → result ≡ can_be_members (unwrap_or decision.now.spec (numbers_below n)) decision.now.members }
+{
+    match &decision.spec {
+        Some(spec) => can_have(spec.as_slice(), decision.members.as_slice()),
+        None => can_have(first_replicas(n), decision.members.as_slice()),
+    }
+}

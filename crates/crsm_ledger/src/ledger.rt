@@ -1,0 +1,227 @@
+//! The ledger of one replica.
+
+ghost use Rattle.std.specs.Prelude.{◌≡◌, ℕ, ◌≤◌, ◌<◌, true, false, List, [], ◌∷◌, length, slice_get, IfOk};
+ghost use Rattle.std.specs.Option.{option_map, option_copied};
+ghost use Rattle.crsm_base.specs.declared.Rec.{Rec};
+ghost use Rattle.std.specs.List.{AllByRecursion};
+ghost use Rattle.crsm_base.specs.Spelling.{entry_bytes, FitsEntry};
+ghost use Rattle.crsm_base.specs.Records.{FitsRec};
+ghost use Rattle.crsm_spec.specs.Fits.{fits};
+ghost use Rattle.crsm_spec.specs.Lines.{lines_of};
+ghost use Rattle.crsm_ledger.specs.Stands.{kind};
+ghost use Rattle.crsm_spec.specs.Log.{boots, start, live, suspended, executed, logged, last_stamp, promised, accepted, spec};
+
+use crate::error::LedgerError;
+use crate::history::History;
+use crate::logged::Logged;
+use crate::replicas::first_replicas;
+use crsm_base::{Ballot, Decision, Entries, Entry, Lines, Members, NoMemory, Rec, Stamp};
+use std::alloc::Global;
+
+/// What the records of a replica's log say. After an error for want of memory it is spent, and says nothing.
+#[derive(Drop)]
+pub struct Ledger {
+    pub(crate) alloc: Global,
+    pub(crate) me: u32,
+    pub(crate) n: u32,
+    pub(crate) is_spent: bool,
+    pub(crate) boots: u64,
+    pub(crate) known: Decision,
+    pub(crate) start: u64,
+    pub(crate) is_live: bool,
+    pub(crate) is_suspended: bool,
+    /// Some boot has entered the known epoch.
+    pub(crate) has_entered: bool,
+    pub(crate) promised: Ballot,
+    pub(crate) accepted: Option<(Ballot, Decision)>,
+    /// The logged entries of the known epoch.
+    pub(crate) logged: Logged,
+    pub(crate) history: History,
+}
+
+/// No ballot is promised.
+pub(crate) const NO_BALLOT: Ballot = Ballot { round: 0, by: 0 };
+
+/// These numbers as members; out of memory also where they are none.
+fn members_of(alloc: Global, numbers: &[u32]) -> Result<Members, NoMemory>
+    ensures { IfOk result (λ members. members ≡ numbers.now) }
+{
+    Members::from_slice(alloc, numbers).map_err(|_| NoMemory)
+}
+
+impl Ledger {
+    ghost use Rattle.crsm_ledger.specs.Stands.{StandsFor, IsSpent, known_decision};
+
+    /// The ledger of an empty log, of replica `me` in a cluster that began with `n` replicas.
+    pub fn new(alloc: Global, me: u32, n: u32) -> Result<Ledger, NoMemory>
+        requires me_below { me < 15 }
+        requires some { 1 ≤ n }
+        requires few { n ≤ 15 }
+        ensures { IfOk result (λ ledger. StandsFor me n ledger []) }
+    {
+        let members = members_of(alloc, first_replicas(n))?;
+        let history = History::new(alloc)?;
+        Ok(Ledger {
+            alloc,
+            me,
+            n,
+            is_spent: false,
+            boots: 0,
+            known: Decision {
+                epoch: 0,
+                spec: None,
+                members,
+                base_len: 0,
+                tail: Entries::new(alloc),
+            },
+            start: 0,
+            is_live: false,
+            is_suspended: false,
+            has_entered: false,
+            promised: NO_BALLOT,
+            accepted: None,
+            logged: Logged::new(alloc),
+            history,
+        })
+    }
+
+    /// How many boots are on record.
+    pub fn boot(&self) -> u64
+        ensures { (me n : ℕ) (log : List Rec) → StandsFor me n self.now log → result ≡ boots log }
+    {
+        self.boots
+    }
+
+    /// The decision of the known epoch. Epoch 0 has all replicas that began the cluster, no base and no tail.
+    pub fn known(&self) -> &Decision
+        ensures { (me n : ℕ) (log : List Rec) → StandsFor me n self.now log → result.now ≡ known_decision n log }
+    {
+        &self.known
+    }
+
+    /// How many entries are executed where the known epoch begins.
+    pub fn start(&self) -> u64
+        ensures { (me n : ℕ) (log : List Rec) → StandsFor me n self.now log → result ≡ start log }
+    {
+        self.start
+    }
+
+    /// Whether this boot has entered the known epoch.
+    pub fn live(&self) -> bool
+        ensures { (me n : ℕ) (log : List Rec) → StandsFor me n self.now log → result ≡ live log }
+    {
+        self.is_live
+    }
+
+    /// Whether the replica takes no more part in the known epoch.
+    pub fn suspended(&self) -> bool
+        ensures { (me n : ℕ) (log : List Rec) → StandsFor me n self.now log → result ≡ suspended log }
+    {
+        self.is_suspended
+    }
+
+    /// How many entries are executed.
+    pub fn executed_len(&self) -> u64
+        ensures { (me n : ℕ) (log : List Rec) → StandsFor me n self.now log → result ≡ length (executed log) }
+    {
+        self.history.len()
+    }
+
+    /// The executed entry at this place: `None` exactly where the place is not below `executed_len`.
+    pub fn executed(&self, place: u64) -> Result<Option<Entry>, NoMemory>
+        ensures { (me n : ℕ) (log : List Rec) → StandsFor me n self.now log → IfOk result (λ r. r ≡ slice_get (executed log) place) }
+    {
+        self.history.entry(place)
+    }
+
+    /// The bytes of the executed entry at this place: `None` exactly where the place is not below `executed_len`.
+    pub fn spelt(&self, place: u64) -> Option<&[u8]>
+        ensures { (me n : ℕ) (log : List Rec) → StandsFor me n self.now log → option_copied result ≡ option_map entry_bytes (slice_get (executed log) place) }
+    {
+        self.history.spelt(place)
+    }
+
+    /// The logged entries of the known epoch, by ascending stamp.
+    pub fn logged(&self) -> &[Entry]
+        ensures value { (me n : ℕ) (log : List Rec) → StandsFor me n self.now log → result.now ≡ logged log }
+        ensures fit { AllByRecursion FitsEntry result.now }
+    {
+        self.logged.as_slice()
+    }
+
+    /// The stamp of the last executed entry of the known epoch.
+    pub fn last_stamp(&self) -> Option<Stamp>
+        ensures { (me n : ℕ) (log : List Rec) → StandsFor me n self.now log → result ≡ last_stamp log }
+    {
+        self.history.last_stamp()
+    }
+
+    /// The ballot that is promised on the next decision; round 0 of replica 0 where none is.
+    pub fn promised(&self) -> Ballot
+        ensures { (me n : ℕ) (log : List Rec) → StandsFor me n self.now log → result ≡ promised log }
+    {
+        self.promised
+    }
+
+    /// The next decision that was accepted last, with its ballot.
+    pub fn accepted(&self) -> Option<(&Ballot, &Decision)>
+        ensures { (me n : ℕ) (log : List Rec) → StandsFor me n self.now log → option_map (λ p. (p.0.now, p.1.now)) result ≡ accepted log }
+    {
+        match &self.accepted {
+            Some((ballot, decision)) => Some((ballot, decision)),
+            None => None,
+        }
+    }
+
+    /// The replicas whose majorities count in the known epoch.
+    pub fn spec(&self) -> Result<Members, NoMemory>
+        ensures { (me n : ℕ) (log : List Rec) → StandsFor me n self.now log → IfOk result (λ members. members ≡ spec n log) }
+    {
+        match &self.known.spec {
+            Some(members) => Ok(members.copy(self.alloc)?),
+            None => Ok(members_of(self.alloc, first_replicas(self.n))?),
+        }
+    }
+
+    /// Keeps a record and gives its lines. `NotFit` comes exactly where the record may not come next, with its kind,
+    /// and changes nothing. After `NoMemory` the ledger is spent.
+    pub fn apply(&mut self, rec: &Rec) -> Result<Lines, LedgerError>
+        requires { FitsRec rec.now }
+        ensures kept { (me n : ℕ) (log : List Rec) → StandsFor me n self.old log → IfOk result (λ lines. (fits me n log rec.now ≡ true) × (lines ≡ lines_of me log rec.now) × StandsFor me n self.new (rec.now ∷ log)) }
+        ensures not_fit { (me n why : ℕ) (log : List Rec) → StandsFor me n self.old log → result ≡ Err (LedgerError.NotFit why) → (fits me n log rec.now ≡ false) × (why ≡ kind rec.now) }
+        ensures unchanged { (why : ℕ) → result ≡ Err (LedgerError.NotFit why) → self.new ≡ self.old }
+        ensures spent { result ≡ Err LedgerError.NoMemory → IsSpent self.new }
+        ensures stays_spent { IsSpent self.old → result ≡ Err LedgerError.NoMemory }
+        ensures no_bad_log { (entry why : ℕ) → result ≡ Err (LedgerError.BadLog entry why) → ⊥ }
+    {
+        if self.is_spent {
+            return Err(LedgerError::NoMemory);
+        }
+        if !self.fits(rec) {
+            return Err(LedgerError::NotFit { why: kind_of(rec) });
+        }
+        // Whoever sees the error below must not read half a record.
+        self.is_spent = true;
+        let lines = self.keep(rec)?;
+        self.is_spent = false;
+        Ok(lines)
+    }
+}
+
+/// The record's kind, its first byte.
+#[tactic(auto, unfolding(crate::specs::Stands::kind))]
+fn kind_of(rec: &Rec) -> u32
+    ensures { result ≡ kind rec.now }
+{
+    match rec {
+        Rec::Boot { .. } => 1,
+        Rec::Prepare { .. } => 2,
+        Rec::Commit { .. } => 3,
+        Rec::Adopt { .. } => 4,
+        Rec::Suspend { .. } => 5,
+        Rec::Promise { .. } => 6,
+        Rec::Accept { .. } => 7,
+        Rec::Decide { .. } => 8,
+        Rec::Enter { .. } => 9,
+    }
+}

@@ -1,0 +1,17 @@
+//! What the records of a log say: the known epoch, its entries, what is executed and what was promised.
+#![tactic(auto)]
+
+mod checks;
+mod entries;
+mod error;
+mod history;
+mod ledger;
+mod logged;
+mod order;
+mod recover;
+mod replicas;
+mod spelt;
+mod steps;
+
+pub use error::LedgerError;
+pub use ledger::Ledger;

@@ -1,0 +1,145 @@
+//! The entries of one epoch that were logged, by ascending stamp.
+
+ghost use Rattle.std.specs.Prelude.{◌≡◌, ◌≤◌, ◌==◌, nat_lt, true, false, [], length, not, IfSome, OnOk, OnErr};
+ghost use Rattle.std.specs.List.{list_any, AllByRecursion};
+ghost use Rattle.std.specs.Option.{option_copied};
+ghost use Rattle.std.specs.List.Sorted.{IsPartitionPoint};
+ghost use Rattle.crsm_base.specs.Order.{stamp_lt};
+ghost use Rattle.crsm_ledger.specs.Sorted.{IsLogged};
+ghost use Rattle.crsm_base.specs.Spelling.{FitsEntry};
+ghost use Rattle.crsm_spec.specs.Lists.{first_of};
+ghost use Rattle.crsm_spec.specs.Log.{with_entry, above};
+ghost use Rattle.crsm_spec.specs.Fits.{is_newest};
+
+use crate::order::is_stamp_below;
+use crsm_base::{Entry, NoMemory, Stamp};
+use std::alloc::Global;
+use std::marker::Model;
+
+/// Entries by ascending stamp.
+#[derive(Drop)]
+pub struct Logged {
+    items: Vec<Entry>,
+}
+
+impl Model for Logged {
+    ghost use Rattle.std.specs.Prelude.{List};
+    ghost use Rattle.crsm_base.specs.declared.Entry.{Entry};
+    ghost use Rattle.crsm_ledger.specs.Sorted.{IsLogged};
+
+    ghost Value = { List Entry };
+
+    ghost view = { λ l. l.items.items };
+
+    ghost invariant = { λ l. IsLogged l.items.items };
+}
+
+impl Logged {
+    /// No entries.
+    pub fn new(alloc: Global) -> Logged
+        ensures { result ≡ [] }
+    {
+        Logged {
+            items: Vec::new(alloc),
+        }
+    }
+
+    /// The entries, by ascending stamp.
+    pub fn as_slice(&self) -> &[Entry]
+        ensures value { result.now ≡ self.now }
+        ensures fit { AllByRecursion FitsEntry result.now }
+    {
+        self.items.as_slice()
+    }
+
+    #[tactic(auto, using(crate::proofs::LoggedLemmas::logged_rules))]
+    /// Adds an entry at its place. After an error the entries are as before.
+    pub fn insert(&mut self, entry: Entry) -> Result<(), NoMemory>
+        requires { FitsEntry entry }
+        ensures ok { OnOk result (self.new ≡ with_entry entry self.old) }
+        ensures err { OnErr result (self.new ≡ self.old) }
+    {
+        let place = count_up_to(self.items.as_slice(), entry.stamp);
+        self.items.insert(place, entry)?;
+        Ok(())
+    }
+
+    /// The entries above a stamp, all of them where there is none.
+    pub fn above(&self, stamp: Option<Stamp>) -> &[Entry]
+        ensures value { result.now ≡ above stamp self.now }
+        ensures fit { AllByRecursion FitsEntry result.now }
+    {
+        entries_above(self.items.as_slice(), stamp)
+    }
+
+    /// The first entry above a stamp.
+    pub fn first_above(&self, stamp: Option<Stamp>) -> Option<&Entry>
+        ensures value { option_copied result ≡ first_of (above stamp self.now) }
+        ensures fit { IfSome result (λ e. FitsEntry e.now) }
+    {
+        first(entries_above(self.items.as_slice(), stamp))
+    }
+
+    /// Whether each entry of the same origin has a smaller time.
+    pub fn is_newest(&self, entry: &Entry) -> bool
+        ensures { result ≡ is_newest entry.now self.now }
+    {
+        is_newest_of(self.items.as_slice(), entry)
+    }
+}
+
+#[tactic(auto, unfolding(crsm_spec::specs::Lists::first_of))]
+fn first(entries: &[Entry]) -> Option<&Entry>
+    requires { AllByRecursion FitsEntry entries.now }
+    ensures value { option_copied result ≡ first_of entries.now }
+    ensures fit { IfSome result (λ e. FitsEntry e.now) }
+{
+    match entries {
+        [first, ..] => Some(first),
+        [] => None,
+    }
+}
+
+/// How many entries have no greater stamp.
+fn count_up_to(entries: &[Entry], stamp: Stamp) -> usize
+    requires { IsLogged entries.now }
+    ensures bound { result ≤ length entries.now }
+    ensures point { IsPartitionPoint (λ e. not (stamp_lt stamp e.stamp) ≡ true) (λ e. not (stamp_lt stamp e.stamp) ≡ false) entries.now result }
+{
+    entries.partition_point(|entry| !is_stamp_below(stamp, entry.stamp))
+}
+
+#[tactic(auto, unfolding(crsm_spec::specs::Log::above))]
+fn entries_above(entries: &[Entry], stamp: Option<Stamp>) -> &[Entry]
+    requires { IsLogged entries.now }
+    ensures value { result.now ≡ above stamp entries.now }
+    ensures fit { AllByRecursion FitsEntry result.now }
+{
+    match stamp {
+        None => entries,
+        Some(stamp) => &entries[count_up_to(entries, stamp)..],
+    }
+}
+
+/// How many entries have a smaller time.
+fn count_before(entries: &[Entry], time: u64) -> usize
+    requires { IsLogged entries.now }
+    ensures bound { result ≤ length entries.now }
+    ensures point { IsPartitionPoint (λ e. nat_lt e.stamp.time time ≡ true) (λ e. nat_lt e.stamp.time time ≡ false) entries.now result }
+{
+    entries.partition_point(|entry| entry.stamp.time < time)
+}
+
+fn is_newest_of(entries: &[Entry], entry: &Entry) -> bool
+    requires { IsLogged entries.now }
+    ensures { result ≡ is_newest entry.now entries.now }
+{
+    let later = &entries[count_before(entries, entry.stamp.time)..];
+    !has_origin(later, entry.stamp.origin)
+}
+
+fn has_origin(entries: &[Entry], origin: u32) -> bool
+    ensures { result ≡ list_any (λ e. e.stamp.origin == origin) entries.now }
+{
+    entries.iter().any(|entry| entry.stamp.origin == origin)
+}

@@ -1,0 +1,133 @@
+//! Executed entries as bytes, one after the other in chunks, with an index.
+
+ghost use Rattle.std.specs.Prelude.{◌≡◌, ◌<◌, ◌+◌, [], ◌∷◌, ◌++◌, List, length, slice_get, OnOk, IfOk};
+ghost use Rattle.std.specs.List.{AllByRecursion};
+ghost use Rattle.std.specs.Option.{option_copied};
+ghost use Rattle.crsm_ledger.specs.Pieces.{Keeps, IsWithin, piece, pieces};
+
+use crsm_base::{Bytes, NoMemory};
+use std::alloc::Global;
+use std::marker::Model;
+
+/// Bytes of a chunk at the most, if no entry has more.
+const CHUNK_BYTES: usize = 65_536;
+
+/// Where an entry's bytes stand: in which chunk, and from where up to where.
+#[derive(Clone, Copy)]
+pub struct Place {
+    pub chunk: usize,
+    pub start: usize,
+    pub end: usize,
+}
+
+/// The spellings of the executed entries, in their order. No spelling lies in two chunks.
+#[derive(Drop)]
+pub struct Spelt {
+    alloc: Global,
+    chunks: Vec<Bytes>,
+    places: Vec<Place>,
+}
+
+impl Model for Spelt {
+    ghost use Rattle.std.specs.Prelude.{List, ℕ};
+    ghost use Rattle.std.specs.List.{AllByRecursion};
+    ghost use Rattle.crsm_ledger.specs.Pieces.{pieces, IsWithin};
+
+    ghost Value = { List (List ℕ) };
+
+    ghost view = { λ s. pieces s.chunks.items s.places.items };
+
+    ghost invariant = { λ s. AllByRecursion (IsWithin s.chunks.items) s.places.items };
+}
+
+#[tactic(auto, using(crate::proofs::PiecesLemmas::pieces_rules))]
+impl Spelt {
+    /// No spellings.
+    pub fn new(alloc: Global) -> Spelt
+        ensures { result ≡ [] }
+    {
+        Spelt {
+            alloc,
+            chunks: Vec::new(alloc),
+            places: Vec::new(alloc),
+        }
+    }
+
+    /// How many spellings there are.
+    pub fn len(&self) -> usize
+        ensures { result ≡ length self.now }
+    {
+        self.places.len()
+    }
+
+    /// The spelling at this index.
+    pub fn get(&self, index: usize) -> Option<&[u8]>
+        ensures { option_copied result ≡ slice_get self.now index }
+    {
+        piece_at(self.chunks.as_slice(), self.places.as_slice(), index)
+    }
+
+    /// Adds a spelling at the end.
+    pub fn push(&mut self, bytes: &[u8]) -> Result<(), NoMemory>
+        ensures { OnOk result (self.new ≡ self.old ++ bytes.now ∷ []) }
+    {
+        make_room(self.alloc, &mut self.chunks, bytes.len())?;
+        let place = append(&mut self.chunks, bytes)?;
+        self.places.push(place)?;
+        Ok(())
+    }
+}
+
+/// The bytes at the place of this index.
+#[tactic(auto, using(crate::proofs::PiecesLemmas::pieces_rules))]
+fn piece_at<'a>(chunks: &'a [Bytes], places: &[Place], index: usize) -> Option<&'a [u8]>
+    requires { AllByRecursion (IsWithin chunks.now) places.now }
+    ensures { option_copied result ≡ slice_get (pieces chunks.now places.now) index }
+{
+    if index < places.len() {
+        Some(bytes_at(chunks, places[index]))
+    } else {
+        None
+    }
+}
+
+/// The bytes at this place.
+fn bytes_at(chunks: &[Bytes], place: Place) -> &[u8]
+    requires { IsWithin chunks.now place }
+    ensures { result.now ≡ piece chunks.now place }
+{
+    &chunks[place.chunk].as_slice()[place.start..place.end]
+}
+
+/// Makes the last chunk one that has room for so many bytes more.
+#[tactic(auto, using(crate::proofs::PiecesLemmas::pieces_rules))]
+fn make_room(alloc: Global, chunks: &mut Vec<Bytes>, more: usize) -> Result<(), NoMemory>
+    ensures keeps { Keeps chunks.old.items chunks.new.items }
+    ensures some { OnOk result (0 < length chunks.new.items) }
+{
+    let has_room = match chunks.last() {
+        Some(chunk) => more <= CHUNK_BYTES.saturating_sub(chunk.as_slice().len()),
+        None => false,
+    };
+    if !has_room {
+        chunks.push(Bytes::new(alloc))?;
+    }
+    Ok(())
+}
+
+/// Appends these bytes to the last chunk.
+#[tactic(auto, using(crate::proofs::PiecesLemmas::pieces_rules))]
+fn append(chunks: &mut Vec<Bytes>, bytes: &[u8]) -> Result<Place, NoMemory>
+    requires { 0 < length chunks.old.items }
+    ensures keeps { Keeps chunks.old.items chunks.new.items }
+    ensures placed { IfOk result (λ p. IsWithin chunks.new.items p × (piece chunks.new.items p ≡ bytes.now)) }
+{
+    let chunk = chunks.len() - 1;
+    let start = chunks[chunk].as_slice().len();
+    chunks[chunk].append(bytes)?;
+    Ok(Place {
+        chunk,
+        start,
+        end: start + bytes.len(),
+    })
+}

@@ -1,0 +1,114 @@
+//! What a record changes, and its lines: the records that name no entry.
+
+ghost use Rattle.std.specs.Prelude.{◌≡◌, ℕ, ◌∷◌, [], IfOk};
+ghost use Rattle.crsm_base.specs.declared.Rec.{Rec};
+ghost use Rattle.crsm_base.specs.Records.{FitsRec};
+ghost use Rattle.crsm_ledger.specs.Stands.{Keeps};
+
+use crate::ledger::Ledger;
+use crsm_base::{Ballot, Decision, Line, Lines, NoMemory, Rec};
+use std::alloc::Global;
+
+/// A list of one line.
+pub(crate) fn one_line(alloc: Global, line: Line) -> Result<Lines, NoMemory>
+    ensures { IfOk result (λ lines. lines ≡ line ∷ []) }
+{
+    let mut lines = Lines::new(alloc);
+    lines.push(line)?;
+    Ok(lines)
+}
+
+impl Ledger {
+    /// Keeps a record that may come next, and gives its lines. After an error the fields say nothing.
+    pub(crate) fn keep(&mut self, rec: &Rec) -> Result<Lines, NoMemory>
+        requires { FitsRec rec.now }
+        ensures kept { Keeps self.old rec.now result self.new }
+        ensures mark { self.new.is_spent ≡ self.old.is_spent }
+    {
+        match rec {
+            Rec::Boot { .. } => self.keep_boot(),
+            Rec::Prepare { entry } => self.keep_prepare(entry),
+            Rec::Commit { .. } => self.keep_commit(),
+            Rec::Adopt { entries, .. } => self.keep_adopt(entries),
+            Rec::Suspend { epoch } => self.keep_suspend(*epoch),
+            Rec::Promise { instance, ballot } => self.keep_promise(*instance, *ballot),
+            Rec::Accept {
+                instance,
+                ballot,
+                decision,
+            } => self.keep_accept(*instance, *ballot, decision),
+            Rec::Decide { decision } => self.keep_decide(decision),
+            Rec::Enter { epoch } => self.keep_enter(*epoch),
+        }
+    }
+
+    fn keep_boot(&mut self) -> Result<Lines, NoMemory>
+        ensures kept { (me n : ℕ) → Keeps self.old (Rec.Boot me n) result self.new }
+        ensures mark { self.new.is_spent ≡ self.old.is_spent }
+    {
+        let replica = self.me;
+        let count = self.boots.saturating_add(1);
+        let lines = one_line(self.alloc, Line::Boot { replica, count })?;
+        self.boots = count;
+        self.is_live = false;
+        Ok(lines)
+    }
+
+    fn keep_suspend(&mut self, epoch: u64) -> Result<Lines, NoMemory>
+        ensures kept { Keeps self.old (Rec.Suspend epoch) result self.new }
+        ensures mark { self.new.is_spent ≡ self.old.is_spent }
+    {
+        let replica = self.me;
+        let lines = one_line(self.alloc, Line::Suspend { replica, epoch })?;
+        self.is_suspended = true;
+        Ok(lines)
+    }
+
+    fn keep_promise(&mut self, instance: u64, ballot: Ballot) -> Result<Lines, NoMemory>
+        ensures kept { Keeps self.old (Rec.Promise instance ballot) result self.new }
+        ensures mark { self.new.is_spent ≡ self.old.is_spent }
+    {
+        let line = Line::Promise {
+            replica: self.me,
+            instance,
+            round: ballot.round,
+            by: ballot.by,
+        };
+        let lines = one_line(self.alloc, line)?;
+        self.promised = ballot;
+        Ok(lines)
+    }
+
+    fn keep_accept(
+        &mut self,
+        instance: u64,
+        ballot: Ballot,
+        decision: &Decision,
+    ) -> Result<Lines, NoMemory>
+        ensures kept { Keeps self.old (Rec.Accept instance ballot decision.now) result self.new }
+        ensures mark { self.new.is_spent ≡ self.old.is_spent }
+    {
+        let line = Line::Accept {
+            replica: self.me,
+            instance,
+            round: ballot.round,
+            by: ballot.by,
+        };
+        let lines = one_line(self.alloc, line)?;
+        let accepted = decision.copy(self.alloc)?;
+        self.promised = ballot;
+        self.accepted = Some((ballot, accepted));
+        Ok(lines)
+    }
+
+    fn keep_enter(&mut self, epoch: u64) -> Result<Lines, NoMemory>
+        ensures kept { Keeps self.old (Rec.Enter epoch) result self.new }
+        ensures mark { self.new.is_spent ≡ self.old.is_spent }
+    {
+        let replica = self.me;
+        let lines = one_line(self.alloc, Line::Enter { replica, epoch })?;
+        self.is_live = true;
+        self.has_entered = true;
+        Ok(lines)
+    }
+}
