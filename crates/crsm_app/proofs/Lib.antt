@@ -1,0 +1,5 @@
+pub mod Stream
+pub mod Lines
+pub mod Exact
+pub mod LineLemmas
+pub mod Pieces

@@ -1,0 +1,235 @@
+-- A text as whole lines: which of them come next, and which are refused.
+use Rattle.std.proofs.Common.{◌≡◌, ℕ, ◌<◌, ◌≤◌, ◌⊎◌, inl, inr, List, [], ◌∷◌, ◌++◌, Option, Some, None, map, length, refl, ap, sym, ◌∙◌, subst, arith, append_assoc}
+use Rattle.std.specs.List.{AllByRecursion, flat_map}
+use Rattle.std.proofs.lemmas.List.{length-map}
+use Rattle.crsm_schedule.specs.declared.Event.{Event}
+use Rattle.crsm_text.specs.Words.{Lacks}
+use Rattle.crsm_text.proofs.WordsLemmas.{split_unique}
+use Rattle.crsm_schedule.specs.Grammar.{IsSize, first_text, event_text}
+use Rattle.crsm_world.specs.Cluster.{Cluster, begin, act, possible}
+use Rattle.crsm_world.specs.Built.{IsBuilt, IsBuiltCount}
+use Rattle.crsm_world.specs.Schedule.{Schedule, IsSchedule, IsNext, ArePossible, ended, schedule_text, after_events, last_cluster, line_count}
+use Rattle.crsm_app.specs.State.{read_text, IsGood, count_of}
+use Rattle.crsm_app.specs.Causes.{cause_of}
+use Rattle.crsm_app.specs.Refused.{RefusedFirst, unreadable_first, unbuilt_first, RefusedNext, unreadable_next, unbuilt_next, impossible_next, Refused}
+use Rattle.crsm_schedule.proofs.EventLaws.{Lacks-first_text, Lacks-event_text, length-first_text, length-event_text, first_injective, event_injective}
+use Rattle.crsm_app.specs.declared.status.Cause.{Cause}
+use Rattle.crsm_app.specs.declared.status.Cause.TheVariants.{Unreadable as unreadable}
+
+-- ---- constructors
+
+pub heads_same : {A : Type 0} (x y : A) (xs ys : List A) → x ∷ xs ≡ y ∷ ys → x ≡ y
+heads_same x y xs ys e = cc
+
+pub tails_same : {A : Type 0} (x y : A) (xs ys : List A) → x ∷ xs ≡ y ∷ ys → xs ≡ ys
+tails_same x y xs ys e = cc
+
+pub nil_not_cons : {A : Type 0} (x : A) (xs : List A) → [] ≡ x ∷ xs → ⊥
+nil_not_cons x xs e = cc
+
+pub some_same : {A : Type 0} (x y : A) → Some x ≡ Some y → x ≡ y
+some_same x y e = cc
+
+pub none_not_some : {A : Type 0} (x : A) → None ≡ Some x → ⊥
+none_not_some x e = cc
+
+-- ---- lines of a text
+
+-- the whole lines that were read
+abbrev pub lines_read : Option Schedule → List (List ℕ)
+lines_read None = []
+lines_read (Some s) = first_text s.replicas ∷ map event_text s.events
+
+flat_map-map : (es : List Event) → flat_map (λ e. ended (event_text e)) es ≡ flat_map ended (map event_text es)
+flat_map-map [] = refl
+flat_map-map (e ∷ es) = ap (λ ys. ended (event_text e) ++ ys) (flat_map-map es)
+
+pub read_is : (r : Option Schedule) → read_text r ≡ flat_map ended (lines_read r)
+unfolding schedule_text
+read_is None = refl
+read_is (Some s) = ap (λ ys. ended (first_text s.replicas) ++ ys) (flat_map-map s.events)
+
+pub count_lines : (r : Option Schedule) → count_of r ≡ length (lines_read r)
+unfolding line_count
+count_lines None = refl
+count_lines (Some s) = let e = length-map s.events event_text in omega (arith, e)
+
+events_lack : (c : Cluster) (es : List Event) → ArePossible c es → AllByRecursion (Lacks 10) (map event_text es)
+events_lack c [] p = tt
+events_lack c (e ∷ es) p = (Lacks-event_text e p.0.fits, events_lack (act c e).after es p.1)
+
+pub read_lacks : (r : Option Schedule) → IsGood r → AllByRecursion (Lacks 10) (lines_read r)
+read_lacks None good = tt
+read_lacks (Some s) good = (Lacks-first_text s.replicas good.size, events_lack (begin s.replicas) s.events good.events)
+
+-- the first line before all that follows
+pub first_line : (l : List ℕ) (ls : List (List ℕ)) (x : List ℕ) → flat_map ended (l ∷ ls) ++ x ≡ l ++ 10 ∷ (flat_map ended ls ++ x)
+first_line l ls x = append_assoc (ended l) (flat_map ended ls) x ∙ append_assoc l (10 ∷ []) (flat_map ended ls ++ x)
+
+-- of two ways to cut a text into lines, one goes on where the other ends
+pub record GoesOn (ls ms : List (List ℕ)) (x y : List ℕ) : Type 0 where
+  pub more : List (List ℕ)
+  pub lines : ls ≡ ms ++ more
+  pub rest : y ≡ flat_map ended more ++ x
+
+pub split_lines : (ls ms : List (List ℕ)) (x y : List ℕ) → AllByRecursion (Lacks 10) ls → AllByRecursion (Lacks 10) ms → flat_map ended ls ++ x ≡ flat_map ended ms ++ y
+    → GoesOn ls ms x y ⊎ GoesOn ms ls y x
+split_lines [] ms x y p q e = inr (record { more = ms; lines = refl; rest = e })
+split_lines (l ∷ ls) [] x y p q e = inl (record { more = l ∷ ls; lines = refl; rest = sym e })
+split_lines (l ∷ ls) (m ∷ ms) x y p q e =
+    let cut = split_unique 10 l m (flat_map ended ls ++ x) (flat_map ended ms ++ y) p.0 q.0 (sym (first_line l ls x) ∙ e ∙ first_line m ms y) in
+    let heads : l ≡ m = cut.0 in
+    elim (split_lines ls ms x y p.1 q.1 cut.1) [
+      | inl r ↦ inl (record { more = r.more; lines = ap (λ x. x ∷ ls) heads ∙ ap (λ xs. m ∷ xs) r.lines; rest = r.rest })
+      | inr r ↦ inr (record { more = r.more; lines = ap (λ x. x ∷ ms) (sym heads) ∙ ap (λ xs. l ∷ xs) r.lines; rest = r.rest })
+    ]
+
+-- a front without the element ends before it
+pub front_short : (line k z more : List ℕ) → Lacks 10 line → line ++ z ≡ k ++ 10 ∷ more → length line ≤ length k
+front_short [] k z more p e = omega arith
+front_short (a ∷ line) [] z more p e = absurd (p.0 (heads_same a 10 (line ++ z) more e))
+front_short (a ∷ line) (b ∷ k) z more p e = let tails = tails_same a b (line ++ z) (k ++ 10 ∷ more) e in let h = front_short line k z more p.1 tails in omega (arith, h)
+
+-- ---- what comes next in a schedule
+
+pub record GoodFirst (k : List ℕ) : Type 0 where
+  pub replicas : ℕ
+  pub size : IsSize replicas
+  pub built : IsBuiltCount replicas
+  pub text : k ≡ first_text replicas
+
+pub record GoodEvent (c : Cluster) (k : List ℕ) : Type 0 where
+  pub event : Event
+  pub next : IsNext c event
+  pub text : k ≡ event_text event
+
+abbrev pub GoodNext : Option Schedule → List ℕ → Type 0
+GoodNext None k = GoodFirst k
+GoodNext (Some s) k = GoodEvent (last_cluster s) k
+
+-- two lists of possible events with one text go the same way
+next_event : (c : Cluster) (fs es : List Event) (k : List ℕ) (ks : List (List ℕ)) → ArePossible c fs → ArePossible c es
+    → map event_text es ≡ map event_text fs ++ k ∷ ks → GoodEvent (after_events c fs) k
+unfolding after_events
+next_event c [] [] k ks p q same = absurd (nil_not_cons k ks same)
+next_event c [] (e ∷ es) k ks p q same = record { event = e; next = q.0; text = sym (heads_same (event_text e) k (map event_text es) ks same) }
+next_event c (f ∷ fs) [] k ks p q same = absurd (nil_not_cons (event_text f) (map event_text fs ++ k ∷ ks) same)
+next_event c (f ∷ fs) (e ∷ es) k ks p q same =
+    let here = heads_same (event_text e) (event_text f) (map event_text es) (map event_text fs ++ k ∷ ks) same in
+    let tails = tails_same (event_text e) (event_text f) (map event_text es) (map event_text fs ++ k ∷ ks) same in
+    let one : e ≡ f = event_injective e f q.0.fits p.0.fits here in
+    next_event (act c f).after fs es k ks p.1 (subst (λ x. ArePossible (act c x).after es) one q.1) tails
+
+pub next_good : (r : Option Schedule) (s : Schedule) (k : List ℕ) (ks : List (List ℕ)) → IsGood r → IsSchedule s
+    → lines_read (Some s) ≡ lines_read r ++ k ∷ ks → GoodNext r k
+unfolding last_cluster
+next_good None s k ks good is same =
+    record { replicas = s.replicas; size = is.size; built = is.built; text = sym (heads_same (first_text s.replicas) k (map event_text s.events) ks same) }
+next_good (Some q) s k ks good is same =
+    let here = heads_same (first_text s.replicas) (first_text q.replicas) (map event_text s.events) (map event_text q.events ++ k ∷ ks) same in
+    let tails = tails_same (first_text s.replicas) (first_text q.replicas) (map event_text s.events) (map event_text q.events ++ k ∷ ks) same in
+    let one : s.replicas ≡ q.replicas = first_injective s.replicas q.replicas is.size good.size here in
+    next_event (begin q.replicas) q.events s.events k ks good.events (subst (λ n. ArePossible (begin n) s.events) one is.events) tails
+
+-- two schedules with one text are one
+same_events : (c : Cluster) (fs es : List Event) → ArePossible c fs → ArePossible c es → map event_text es ≡ map event_text fs → es ≡ fs
+same_events c [] [] p q same = refl
+same_events c [] (e ∷ es) p q same = absurd (nil_not_cons (event_text e) (map event_text es) (sym same))
+same_events c (f ∷ fs) [] p q same = absurd (nil_not_cons (event_text f) (map event_text fs) same)
+same_events c (f ∷ fs) (e ∷ es) p q same =
+    let here = heads_same (event_text e) (event_text f) (map event_text es) (map event_text fs) same in
+    let tails = tails_same (event_text e) (event_text f) (map event_text es) (map event_text fs) same in
+    let one : e ≡ f = event_injective e f q.0.fits p.0.fits here in
+    let rest : es ≡ fs = same_events (act c f).after fs es p.1 (subst (λ x. ArePossible (act c x).after es) one q.1) tails in
+    ap (λ x. x ∷ es) one ∙ ap (λ xs. f ∷ xs) rest
+
+schedule_of : ℕ → List Event → Schedule
+schedule_of n es = record { replicas = n; events = es }
+
+schedule_same : (r s : Schedule) → r.replicas ≡ s.replicas → r.events ≡ s.events → r ≡ s
+unfolding schedule_of
+schedule_same r s a b = ap (λ n. schedule_of n r.events) a ∙ ap (λ es. schedule_of s.replicas es) b
+
+pub same_read : (r s : Option Schedule) → IsGood r → IsGood s → lines_read r ≡ lines_read s → r ≡ s
+same_read None None p q same = refl
+same_read None (Some s) p q same = absurd (nil_not_cons (first_text s.replicas) (map event_text s.events) same)
+same_read (Some r) None p q same = absurd (nil_not_cons (first_text r.replicas) (map event_text r.events) (sym same))
+same_read (Some r) (Some s) p q same =
+    let here = heads_same (first_text r.replicas) (first_text s.replicas) (map event_text r.events) (map event_text s.events) same in
+    let tails = tails_same (first_text r.replicas) (first_text s.replicas) (map event_text r.events) (map event_text s.events) same in
+    let one : r.replicas ≡ s.replicas = first_injective r.replicas s.replicas p.size q.size here in
+    let events : r.events ≡ s.events = same_events (begin s.replicas) s.events r.events q.events (subst (λ n. ArePossible (begin n) r.events) one p.events) tails in
+    ap (λ (x : Schedule). Some x) (schedule_same r s one events)
+
+pub good_lacks : (r : Option Schedule) (k : List ℕ) → GoodNext r k → Lacks 10 k × (length k ≤ 16777216)
+good_lacks None k g = rw g.text (Lacks-first_text g.replicas g.size, length-first_text g.replicas g.size)
+good_lacks (Some s) k g = rw g.text (Lacks-event_text g.event g.next.fits, length-event_text g.event g.next.fits)
+
+-- ---- what is refused
+
+-- a good line is not refused
+good_first : (cause : Cause) (k : List ℕ) → GoodFirst k → RefusedFirst cause k → ⊥
+good_first cause k g (unreadable_first is none) = none g.replicas g.size g.text
+good_first cause k g (unbuilt_first is u) =
+    let one : g.replicas ≡ u.replicas = first_injective g.replicas u.replicas g.size u.size (sym g.text ∙ u.text) in
+    u.unbuilt (subst IsBuiltCount one g.built)
+
+good_event : (c : Cluster) (cause : Cause) (k : List ℕ) → GoodEvent c k → RefusedNext c cause k → ⊥
+good_event c cause k g (unreadable_next is none) = none g.event g.next.fits g.text
+good_event c cause k g (unbuilt_next is u) =
+    let one : g.event ≡ u.event = event_injective g.event u.event g.next.fits u.fits (sym g.text ∙ u.text) in
+    u.unbuilt (subst (λ e. IsBuilt c.replicas e) one g.next.built)
+good_event c cause k g (impossible_next i) =
+    let one : g.event ≡ i.event = event_injective g.event i.event g.next.fits i.fits (sym g.text ∙ i.text) in
+    let here : possible c i.event ≡ None = ap (λ e. possible c e) (sym one) ∙ g.next.possible_here in
+    none_not_some i.bad (sym here ∙ i.is)
+
+pub good_not_refused : (r : Option Schedule) (cause : Cause) (k : List ℕ) → GoodNext r k → Refused r cause k → ⊥
+good_not_refused None cause k g refused = good_first cause k g refused
+good_not_refused (Some s) cause k g refused = good_event (last_cluster s) cause k g refused
+
+-- a line is refused for one cause
+one_first : (c d : Cause) (k : List ℕ) → RefusedFirst c k → RefusedFirst d k → c ≡ d
+one_first c d k (unreadable_first p x) (unreadable_first q y) = p ∙ sym q
+one_first c d k (unreadable_first p x) (unbuilt_first q y) = absurd (x y.replicas y.size y.text)
+one_first c d k (unbuilt_first p x) (unreadable_first q y) = absurd (y x.replicas x.size x.text)
+one_first c d k (unbuilt_first p x) (unbuilt_first q y) = p ∙ sym q
+
+one_next : (w : Cluster) (c d : Cause) (k : List ℕ) → RefusedNext w c k → RefusedNext w d k → c ≡ d
+one_next w c d k (unreadable_next p x) (unreadable_next q y) = p ∙ sym q
+one_next w c d k (unreadable_next p x) (unbuilt_next q y) = absurd (x y.event y.fits y.text)
+one_next w c d k (unreadable_next p x) (impossible_next y) = absurd (x y.event y.fits y.text)
+one_next w c d k (unbuilt_next p x) (unreadable_next q y) = absurd (y x.event x.fits x.text)
+one_next w c d k (unbuilt_next p x) (unbuilt_next q y) = p ∙ sym q
+one_next w c d k (unbuilt_next p x) (impossible_next y) =
+    let one : y.event ≡ x.event = event_injective y.event x.event y.fits x.fits (sym y.text ∙ x.text) in
+    absurd (x.unbuilt (subst (λ e. IsBuilt w.replicas e) one y.built))
+one_next w c d k (impossible_next x) (unreadable_next q y) = absurd (y x.event x.fits x.text)
+one_next w c d k (impossible_next x) (unbuilt_next q y) =
+    let one : x.event ≡ y.event = event_injective x.event y.event x.fits y.fits (sym x.text ∙ y.text) in
+    absurd (y.unbuilt (subst (λ e. IsBuilt w.replicas e) one x.built))
+one_next w c d k (impossible_next x) (impossible_next y) =
+    let one : x.event ≡ y.event = event_injective x.event y.event x.fits y.fits (sym x.text ∙ y.text) in
+    let bad : x.bad ≡ y.bad = some_same x.bad y.bad (sym x.is ∙ ap (λ e. possible w e) one ∙ y.is) in
+    some_same c d (sym x.named ∙ ap cause_of bad ∙ y.named)
+
+pub one_cause : (r : Option Schedule) (c d : Cause) (k : List ℕ) → Refused r c k → Refused r d k → c ≡ d
+one_cause None c d k p q = one_first c d k p q
+one_cause (Some s) c d k p q = one_next (last_cluster s) c d k p q
+
+-- a line that is too long is refused as unreadable
+pub long_unreadable : (r : Option Schedule) (c : Cause) (k : List ℕ) → Refused r c k → 16777216 < length k → c ≡ unreadable
+long_unreadable None c k (unreadable_first is x) long = is
+long_unreadable None c k (unbuilt_first is x) long =
+    let short = length-first_text x.replicas x.size in
+    let len : length k ≡ length (first_text x.replicas) = ap length x.text in
+    absurd (omega (arith, short, len, long))
+long_unreadable (Some s) c k (unreadable_next is x) long = is
+long_unreadable (Some s) c k (unbuilt_next is x) long =
+    let short = length-event_text x.event x.fits in
+    let len : length k ≡ length (event_text x.event) = ap length x.text in
+    absurd (omega (arith, short, len, long))
+long_unreadable (Some s) c k (impossible_next x) long =
+    let short = length-event_text x.event x.fits in
+    let len : length k ≡ length (event_text x.event) = ap length x.text in
+    absurd (omega (arith, short, len, long))

@@ -1,0 +1,41 @@
+use Rattle.crsm_app.proofs.Pieces.{usage_at}
+use Rattle.crsm_world.proofs.Laws.{agreed_lem, answered_lem, real_time_lem}
+use Rattle.crsm_app.proofs.Exact.{completed, refused, not_done, not_too_long}
+use Rattle.crsm_app.proofs.command.run.Goals as goal
+
+pub returns-then-is_replay-clause-complete : goal.returns-then-is_replay-clause-complete
+returns-then-is_replay-clause-complete g c = λ s good is short words no_read no_write.
+    completed c.replay.result _ _ _ _ s c.replay.ensures.ran c.replay.ensures.usage
+    (λ e. no_read (c.replay.ensures.read e)) (λ e. no_write (c.replay.ensures.write e)) good is short
+
+pub returns-then-is_replay-clause-refused : goal.returns-then-is_replay-clause-refused
+returns-then-is_replay-clause-refused g c = λ read text cause good is bad short words no_read no_write.
+    refused c.replay.result _ _ _ _ read text cause c.replay.ensures.ran c.replay.ensures.usage
+    (λ e. no_read (c.replay.ensures.read e)) (λ e. no_write (c.replay.ensures.write e)) good is bad short
+
+pub returns-then-is_replay-clause-limit : goal.returns-then-is_replay-clause-limit
+returns-then-is_replay-clause-limit g c = λ bytes is long. not_done c.replay.result _ _ _ _ bytes c.replay.ensures.ran is long
+
+pub returns-then-is_replay-clause-within : goal.returns-then-is_replay-clause-within
+returns-then-is_replay-clause-within g c = λ bytes is short. not_too_long c.replay.result _ _ _ _ bytes c.replay.ensures.ran is short
+
+pub returns-then-is_replay-clause-agreement : goal.returns-then-is_replay-clause-agreement
+returns-then-is_replay-clause-agreement g c = λ s good. agreed_lem s
+
+pub returns-then-is_replay-clause-answers : goal.returns-then-is_replay-clause-answers
+returns-then-is_replay-clause-answers g c = λ s good. answered_lem s
+
+pub returns-then-is_replay-clause-real_time : goal.returns-then-is_replay-clause-real_time
+returns-then-is_replay-clause-real_time g c = λ s good. real_time_lem s
+
+pub returns-else-is_replay-clause-ran : goal.returns-else-is_replay-clause-ran
+returns-else-is_replay-clause-ran g c = usage_at (g.I.Source.left c.args.input.now) (g.O.Sink.written c.args.output.now)
+
+pub returns-else-is_replay-clause-agreement : goal.returns-else-is_replay-clause-agreement
+returns-else-is_replay-clause-agreement g c = λ s good. agreed_lem s
+
+pub returns-else-is_replay-clause-answers : goal.returns-else-is_replay-clause-answers
+returns-else-is_replay-clause-answers g c = λ s good. answered_lem s
+
+pub returns-else-is_replay-clause-real_time : goal.returns-else-is_replay-clause-real_time
+returns-else-is_replay-clause-real_time g c = λ s good. real_time_lem s

@@ -1,0 +1,18 @@
+use Rattle.std.proofs.Common.{sym, ◌∙◌}
+use Rattle.crsm_app.proofs.LineLemmas.{next_line, next_impossible, next_no_memory}
+use Rattle.crsm_app.proofs.handling.do_line.Goals as goal
+
+pub returns-in-Ok-stepped-clause-ok : goal.returns-in-Ok-stepped-clause-ok
+returns-in-Ok-stepped-clause-ok c = λ d s.
+    next_line d c.replicas.result c.args.line.now c.in-Ok.event c.step-stepped.new.self c.in-Ok-stepped.lines (sym (c.replicas.ensures ∙ s.replicas))
+    c.in-Ok.ensures.fits c.in-Ok.ensures.text c.in-Ok.ensures.built
+    (c.in-Ok-stepped.ensures.possible d s) (c.in-Ok-stepped.ensures.world d s) (c.in-Ok-stepped.ensures.lines d s)
+
+pub returns-in-Some-clause-err : goal.returns-in-Some-clause-err
+returns-in-Some-clause-err c = λ d s.
+    next_impossible d c.replicas.result c.args.line.now c.in-Ok.event c.in-Err-stepped.bad c.in-Some.cause (sym (c.replicas.ensures ∙ s.replicas))
+    c.in-Ok.ensures.fits c.in-Ok.ensures.text c.in-Ok.ensures.built
+    (c.in-Err-stepped.ensures.bad d s) (sym c.named_cause.ensures ∙ c.in-Some.is)
+
+pub returns-in-None-clause-err : goal.returns-in-None-clause-err
+returns-in-None-clause-err c = λ d s. next_no_memory d c.args.line.now

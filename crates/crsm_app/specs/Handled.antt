@@ -1,0 +1,72 @@
+-- A line that is handled: what it adds to what has been read, and its lines of the transcript.
+use Rattle.std.specs.Prelude.{◌≡◌, ℕ, ◌+◌, List, [], Option, Some, None}
+use Rattle.crsm_base.specs.declared.Line.{Line}
+use Rattle.crsm_schedule.specs.declared.Event.{Event}
+use Rattle.crsm_schedule.specs.Grammar.{IsSize, first_text, event_text}
+use Rattle.crsm_world.specs.Cluster.{Cluster, begin, first_lines, act}
+use Rattle.crsm_world.specs.Built.{IsBuiltCount}
+use Rattle.crsm_world.specs.Held.{Held, StandsFor}
+use Rattle.crsm_world.specs.Schedule.{Schedule, IsNext, last_cluster}
+use Rattle.crsm_app.specs.Refused.{RefusedFirst, RefusedNext, Refused}
+use Rattle.crsm_app.specs.State.{State, StandsAt}
+use Rattle.crsm_app.specs.declared.status.Stop.{Stop}
+use Rattle.crsm_app.specs.declared.status.Stop.TheVariants as stop
+
+-- the first line begins a world
+pub record FirstLine (line : List ℕ) (held : Held) (lines : List Line) : Type 0 where
+  pub replicas : ℕ
+  pub size : IsSize replicas
+  pub built : IsBuiltCount replicas
+  pub text : line ≡ first_text replicas
+  pub stands : StandsFor held (begin replicas)
+  pub lines_are : lines ≡ first_lines replicas
+
+-- a later line is an event
+pub record NextLine (c : Cluster) (line : List ℕ) (held : Held) (lines : List Line) : Type 0 where
+  pub event : Event
+  pub next : IsNext c event
+  pub text : line ≡ event_text event
+  pub stands : StandsFor held (act c event).after
+  pub lines_are : lines ≡ (act c event).lines
+
+-- the same two, shut: a proof opens them where it needs what is in them
+unfoldable pub BeginsWorld : List ℕ → Held → List Line → Type 0
+BeginsWorld line held lines = FirstLine line held lines
+
+unfoldable pub DoesEvent : Cluster → List ℕ → Held → List Line → Type 0
+DoesEvent c line held lines = NextLine c line held lines
+
+abbrev pub HandledAfter : Option Schedule → List ℕ → Held → List Line → Type 0
+HandledAfter None line held lines = FirstLine line held lines
+HandledAfter (Some s) line held lines = NextLine (last_cluster s) line held lines
+
+-- the line was handled, whatever has been read
+pub record Advanced (old : Option Held) (line : List ℕ) (new : Option Held) (lines : List Line) : Type 0 where
+  pub held : Held
+  pub world : new ≡ Some held
+  pub after : (read : Option Schedule) → StandsAt old read → HandledAfter read line held lines
+
+unfoldable pub Advances : Option Held → List ℕ → Option Held → List Line → Type 0
+Advances old line new lines = Advanced old line new lines
+
+-- the part was handled as a line
+pub record Handled (old new : State) (lines : List Line) : Type 0 where
+  pub held : Held
+  pub state : new ≡ record { world = Some held; number = old.number + 1; part = [] }
+  pub after : (read : Option Schedule) → StandsAt old.world read → HandledAfter read old.part held lines
+
+unfoldable pub Handles : State → State → List Line → Type 0
+Handles old new lines = Handled old new lines
+
+-- a line is not handled: it is refused, or memory ran out
+unfoldable pub StopsFirst : Stop → List ℕ → Type 0
+StopsFirst (stop.Bad cause) line = RefusedFirst cause line
+StopsFirst stop.NoMemory line = Unit {0}
+
+unfoldable pub StopsNext : Stop → Cluster → List ℕ → Type 0
+StopsNext (stop.Bad cause) c line = RefusedNext c cause line
+StopsNext stop.NoMemory c line = Unit {0}
+
+unfoldable pub StopsAt : Stop → Option Held → List ℕ → Type 0
+StopsAt (stop.Bad cause) world line = (read : Option Schedule) → StandsAt world read → Refused read cause line
+StopsAt stop.NoMemory world line = Unit {0}

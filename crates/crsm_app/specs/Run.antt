@@ -1,0 +1,122 @@
+-- What a run does: how it stands in mid-stream, and what it did by its status.
+use Rattle.std.specs.Prelude.{◌≡◌, ℕ, ◌+◌, ◌≤◌, ◌⊎◌, List, [], ◌∷◌, ◌++◌, Option, length}
+use Rattle.crsm_io.specs.Streams.{Takes, Puts, PutsFront, AtEnd}
+use Rattle.crsm_text.specs.Words.{Lacks}
+use Rattle.crsm_world.specs.Schedule.{Schedule, IsSchedule, schedule_text, transcript, finals_text}
+use Rattle.crsm_app.specs.State.{State, read_text, shown_text, whole_text, IsGood, count_of, StandsAt}
+use Rattle.crsm_app.specs.Refused.{BeginsBad}
+use Rattle.crsm_app.specs.declared.status.Cause.{Cause}
+use Rattle.crsm_app.specs.declared.status.Status.{Status}
+use Rattle.crsm_app.specs.declared.status.Status.TheVariants as status
+
+-- In each of these the source had `before` and has `after` left, and the sink had `had` and has `has` written.
+
+-- ---- in mid-stream
+
+-- This has been read and its transcript written, so many bytes were taken, and the last of these are still ahead.
+pub record SoFar (before after had has : Option (List ℕ)) (state : State) (ahead : List ℕ) (total : ℕ) : Type 0 where
+  pub read : Option Schedule
+  pub good : IsGood read
+  pub stands : StandsAt state.world read
+  pub number : state.number ≡ count_of read
+  pub part : Lacks 10 state.part
+  pub short : length state.part ≤ 16777216
+  pub takes : Takes before after (read_text read ++ (state.part ++ ahead))
+  pub taken_len : length (read_text read ++ (state.part ++ ahead)) ≡ total
+  pub puts : Puts had has (shown_text read)
+
+-- ---- by the status
+
+-- all of a schedule was read, and its transcript and final lines were written
+pub record RanToEnd (before after had has : Option (List ℕ)) : Type 0 where
+  pub schedule : Schedule
+  pub good : IsSchedule schedule
+  pub takes : Takes before after (schedule_text schedule)
+  pub ended : AtEnd after
+  pub short : length (schedule_text schedule) ≤ 1073741824
+  pub puts : Puts had has (transcript schedule ++ finals_text schedule)
+
+-- this line is the first that is bad, and the transcript of all lines before it was written
+pub record RanToBad (before after had has : Option (List ℕ)) (line : ℕ) (cause : Cause) : Type 0 where
+  pub read : Option Schedule
+  pub good : IsGood read
+  pub line_is : line ≡ count_of read + 1
+  pub rest : List ℕ
+  pub takes : Takes before after (read_text read ++ rest)
+  pub bad : BeginsBad read after cause rest
+  pub puts : Puts had has (shown_text read)
+
+-- the transcript of all whole lines that were taken was written
+pub record RanSoFar (before after had has : Option (List ℕ)) : Type 0 where
+  pub read : Option Schedule
+  pub good : IsGood read
+  pub rest : List ℕ
+  pub whole : Lacks 10 rest
+  pub short : length rest ≤ 16777216
+  pub takes : Takes before after (read_text read ++ rest)
+  pub puts : Puts had has (shown_text read)
+
+-- the same, where 1,073,741,824 bytes were taken and then one more
+pub record RanTooLong (before after had has : Option (List ℕ)) : Type 0 where
+  pub read : Option Schedule
+  pub good : IsGood read
+  pub rest : List ℕ
+  pub whole : Lacks 10 rest
+  pub short : length rest ≤ 16777216
+  pub long : length (read_text read ++ rest) ≡ 1073741824
+  pub more : ℕ
+  pub takes : Takes before after (read_text read ++ (rest ++ more ∷ []))
+  pub puts : Puts had has (shown_text read)
+
+-- a front of the transcript and final lines of what was read was written
+pub record RanPartly (before after had has : Option (List ℕ)) : Type 0 where
+  pub read : Option Schedule
+  pub good : IsGood read
+  pub rest : List ℕ
+  pub takes : Takes before after (read_text read ++ rest)
+  pub puts : PutsFront had has (whole_text read)
+
+-- What a run did. It is shut, as the words below are: a proof opens it where it needs what is in it.
+unfoldable pub Ran : Status → Option (List ℕ) → Option (List ℕ) → Option (List ℕ) → Option (List ℕ) → Type 0
+Ran status.Ok before after had has = RanToEnd before after had has
+Ran status.Usage before after had has = (after ≡ before) × (has ≡ had)
+Ran (status.BadInput line cause) before after had has = RanToBad before after had has line cause
+Ran status.ReadFault before after had has = RanSoFar before after had has
+Ran status.WriteFault before after had has = RanPartly before after had has
+Ran status.NoMemory before after had has = RanPartly before after had has
+Ran status.InputTooLong before after had has = RanTooLong before after had has
+
+-- ---- pieces
+
+-- these bytes were handled, and what was so far goes on
+unfoldable pub CarriesOn : Option (List ℕ) → Option (List ℕ) → State → State → List ℕ → Type 0
+CarriesOn has now old new bytes = (before after had : Option (List ℕ)) (ahead : List ℕ) (total : ℕ)
+    → SoFar before after had has old (bytes ++ ahead) total → SoFar before after had now new ahead total
+
+-- in these bytes the run ends
+unfoldable pub Ends : Status → Option (List ℕ) → Option (List ℕ) → State → List ℕ → Type 0
+Ends result has now old bytes = (before after had : Option (List ℕ)) (ahead : List ℕ) (total : ℕ)
+    → SoFar before after had has old (bytes ++ ahead) total → Ran result before after had now
+
+-- at the end of the input the run ends
+unfoldable pub Finishes : Status → Option (List ℕ) → Option (List ℕ) → State → Type 0
+Finishes result has now state = (before after had : Option (List ℕ)) (total : ℕ) → total ≤ 1073741824 → AtEnd after
+    → SoFar before after had has state [] total → Ran result before after had now
+
+unfoldable pub FinishesWell : Option (List ℕ) → Option (List ℕ) → State → Type 0
+FinishesWell has now state = (before after had : Option (List ℕ)) (total : ℕ) → total ≤ 1073741824 → AtEnd after
+    → SoFar before after had has state [] total → RanToEnd before after had now
+
+-- ---- answers that are exact
+
+-- done, unless memory ran out
+abbrev pub IsDone : Status → Type 0
+IsDone result = (result ≡ status.Ok) ⊎ (result ≡ status.NoMemory)
+
+-- refused for this line and cause, unless memory ran out
+abbrev pub IsRefused : ℕ → Cause → Status → Type 0
+IsRefused line cause result = (result ≡ status.BadInput line cause) ⊎ (result ≡ status.NoMemory)
+
+-- too long, unless memory ran out
+abbrev pub IsTooLong : Status → Type 0
+IsTooLong result = (result ≡ status.InputTooLong) ⊎ (result ≡ status.NoMemory)

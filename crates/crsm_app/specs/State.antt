@@ -1,0 +1,44 @@
+-- A replay in mid-stream, and what has been read by then: nothing whole, or a schedule.
+use Rattle.std.specs.Prelude.{ℕ, List, [], ◌++◌, Option, Some, None}
+use Rattle.crsm_world.specs.Held.{Held, StandsFor}
+use Rattle.crsm_world.specs.Schedule.{Schedule, IsSchedule, schedule_text, transcript, finals_text, last_cluster, line_count}
+
+-- the world once the first line has come, how many lines have come, and what has come of the next
+pub record State : Type 0 where
+  pub world : Option Held
+  pub number : ℕ
+  pub part : List ℕ
+
+-- ---- what has been read
+
+-- its text
+abbrev pub read_text : Option Schedule → List ℕ
+read_text None = []
+read_text (Some s) = schedule_text s
+
+-- its transcript
+abbrev pub shown_text : Option Schedule → List ℕ
+shown_text None = []
+shown_text (Some s) = transcript s
+
+-- its transcript with the final lines
+abbrev pub whole_text : Option Schedule → List ℕ
+whole_text None = []
+whole_text (Some s) = transcript s ++ finals_text s
+
+-- all of it is possible
+abbrev pub IsGood : Option Schedule → Type 0
+IsGood None = Unit {0}
+IsGood (Some s) = IsSchedule s
+
+-- how many lines it has
+abbrev pub count_of : Option Schedule → ℕ
+count_of None = 0
+count_of (Some s) = line_count s
+
+-- the world that is held is the one that it leads to
+abbrev pub StandsAt : Option Held → Option Schedule → Type 0
+StandsAt None None = Unit {0}
+StandsAt (Some held) (Some s) = StandsFor held (last_cluster s)
+StandsAt None (Some s) = ⊥
+StandsAt (Some held) None = ⊥

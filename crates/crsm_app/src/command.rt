@@ -1,0 +1,153 @@
+//! The commands, by their words.
+
+ghost use Rattle.std.specs.Prelude.{◌≡◌, ◌≢◌, ◌<◌, ◌≤◌, ◌+◌, ◌↔◌, ◌++◌, ℕ, IsTrue, List, Option, Some, length, [], ◌∷◌, map, codes, string_bytes};
+ghost use Rattle.crsm_device.specs.Counts.{Rose};
+ghost use Rattle.crsm_world.specs.Schedule.{Schedule, IsSchedule, schedule_text};
+ghost use Rattle.crsm_world.specs.Safe.{Agreed, Answered, RealTime};
+ghost use Rattle.crsm_app.specs.Causes.{status_of};
+ghost use Rattle.crsm_app.specs.State.{IsGood, read_text, count_of};
+ghost use Rattle.crsm_app.specs.Refused.{BeginsBad};
+ghost use Rattle.crsm_app.specs.Run.{Ran, IsDone, IsRefused};
+ghost use Rattle.crsm_app.specs.declared.status.Cause.{Cause};
+
+use crate::replay::Replay;
+use crate::status::{Halt, Status};
+use crsm_io::{Sink, Source};
+use std::alloc::Global;
+
+/// How many bytes an input has at most.
+const MAX_INPUT_BYTES: u64 = 1_073_741_824;
+
+/// How many bytes are read at once.
+const PIECE_BYTES: usize = 65_536;
+
+/// How many bytes are asked for, so that no more than one byte beyond the limit is taken.
+fn room(total: u64) -> usize
+    requires { total ≤ MAX_INPUT_BYTES }
+    ensures some { (0 < result) × (result ≤ PIECE_BYTES) }
+    ensures within { total < MAX_INPUT_BYTES → total + result ≤ MAX_INPUT_BYTES }
+    ensures one { total ≡ MAX_INPUT_BYTES → result ≡ 1 }
+{
+    let left = MAX_INPUT_BYTES - total;
+    if left == 0 {
+        1
+    } else if left < PIECE_BYTES as u64 {
+        left as usize
+    } else {
+        PIECE_BYTES
+    }
+}
+
+/// The status of a run that ended in mid-stream.
+fn halted(halt: Halt) -> Status
+    ensures { result ≡ status_of halt }
+{
+    match halt {
+        Halt::BadInput { line, cause } => Status::BadInput { line, cause },
+        Halt::WriteFault => Status::WriteFault,
+        Halt::NoMemory => Status::NoMemory,
+    }
+}
+
+/// Reads a schedule to its end through the buffer, and writes its transcript and final lines.
+fn replay_through<I: Source, O: Sink>(
+    alloc: Global,
+    buf: &mut [u8],
+    input: &mut I,
+    output: &mut O,
+) -> Status
+    requires { length buf.old ≡ PIECE_BYTES }
+    ensures ran { Ran result (I.left input.old) (I.left input.new) (O.written output.old) (O.written output.new) }
+    ensures read { result ≡ Status.ReadFault → Rose (I.faults input.old) (I.faults input.new) }
+    ensures write { result ≡ Status.WriteFault → Rose (O.faults output.old) (O.faults output.new) }
+    ensures usage { result ≢ Status.Usage }
+{
+    let mut replay = Replay::new(alloc);
+    let mut total: u64 = 0;
+    loop {
+        let want = room(total);
+        let Ok(count) = input.read(&mut buf[..want]) else {
+            return Status::ReadFault;
+        };
+        if count == 0 {
+            if let Err(halt) = replay.finish(output) {
+                return halted(halt);
+            }
+            return Status::Ok;
+        }
+        if total == MAX_INPUT_BYTES {
+            return Status::InputTooLong;
+        }
+        total += count as u64;
+        if let Err(halt) = replay.feed(&buf[..count], output) {
+            return halted(halt);
+        }
+    }
+}
+
+/// Reads a schedule to its end, and writes its transcript and final lines.
+fn replay<I: Source, O: Sink>(alloc: Global, input: &mut I, output: &mut O) -> Status
+    ensures ran { Ran result (I.left input.old) (I.left input.new) (O.written output.old) (O.written output.new) }
+    ensures read { result ≡ Status.ReadFault → Rose (I.faults input.old) (I.faults input.new) }
+    ensures write { result ≡ Status.WriteFault → Rose (O.faults output.old) (O.faults output.new) }
+    ensures usage { result ≢ Status.Usage }
+{
+    let Ok(mut buf) = vec![in alloc; 0u8; PIECE_BYTES] else {
+        return Status::NoMemory;
+    };
+    replay_through(alloc, buf.as_mut_slice(), input, output)
+}
+
+/// Whether the words are the single word `replay`.
+fn is_replay(words: &[String]) -> bool
+    ensures { IsTrue result ↔ (map string_bytes words.now ≡ codes "replay" ∷ []) }
+{
+    match words {
+        [word] => word.as_str() == "replay",
+        _ => false,
+    }
+}
+
+/// Does what the words say: the single word `replay` reads a schedule and writes its transcript.
+pub fn run<I: Source, O: Sink>(
+    alloc: Global,
+    words: &[String],
+    input: &mut I,
+    output: &mut O,
+) -> Status
+    // What was taken and what was written, by the status.
+    ensures ran { Ran result (I.left input.old) (I.left input.new) (O.written output.old) (O.written output.new) }
+
+    // A fault is answered only where it was counted.
+    ensures read_fault { result ≡ Status.ReadFault → Rose (I.faults input.old) (I.faults input.new) }
+    ensures write_fault { result ≡ Status.WriteFault → Rose (O.faults output.old) (O.faults output.new) }
+
+    // The words are refused exactly where they are not that one word.
+    ensures usage { result ≡ Status.Usage ↔ ¬ (map string_bytes words.now ≡ codes "replay" ∷ []) }
+
+    // A schedule within the limit is done, where no fault was counted.
+    ensures complete { (s : Schedule) → IsSchedule s → I.left input.old ≡ Some (schedule_text s) → length (schedule_text s) ≤ MAX_INPUT_BYTES
+        → map string_bytes words.now ≡ codes "replay" ∷ []
+        → ¬ (Rose (I.faults input.old) (I.faults input.new)) → ¬ (Rose (O.faults output.old) (O.faults output.new)) → IsDone result }
+
+    // An input within the limit that has a bad line is refused for the first one, where no fault was counted.
+    ensures refused { (read : Option Schedule) (text : List ℕ) (cause : Cause) → IsGood read → I.left input.old ≡ Some (read_text read ++ text)
+        → BeginsBad read (Some []) cause text → length (read_text read ++ text) ≤ MAX_INPUT_BYTES
+        → map string_bytes words.now ≡ codes "replay" ∷ []
+        → ¬ (Rose (I.faults input.old) (I.faults input.new)) → ¬ (Rose (O.faults output.old) (O.faults output.new)) → IsRefused (count_of read + 1) cause result }
+
+    // An input beyond the limit is never done, and one within it is never too long.
+    ensures limit { (bytes : List ℕ) → I.left input.old ≡ Some bytes → MAX_INPUT_BYTES < length bytes → result ≢ Status.Ok }
+    ensures within { (bytes : List ℕ) → I.left input.old ≡ Some bytes → length bytes ≤ MAX_INPUT_BYTES → result ≢ Status.InputTooLong }
+
+    // The lines of every schedule that is run agree, answer as the sequential store does, and keep real time.
+    ensures agreement { (s : Schedule) → IsSchedule s → Agreed s }
+    ensures answers { (s : Schedule) → IsSchedule s → Answered s }
+    ensures real_time { (s : Schedule) → IsSchedule s → RealTime s }
+{
+    if is_replay(words) {
+        replay(alloc, input, output)
+    } else {
+        Status::Usage
+    }
+}
