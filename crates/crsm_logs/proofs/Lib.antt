@@ -1,0 +1,5 @@
+pub mod Heard
+pub mod Steps
+pub mod Members
+pub mod Boots
+pub mod Worlds

@@ -1,0 +1,20 @@
+-- Decisions on record whose members rise.
+use Rattle.std.specs.Prelude.{[], ◌∷◌}
+use Rattle.crsm_base.specs.Members.{IsMembers}
+use Rattle.crsm_spec.specs.Types.{Decision, Rec}
+use Rattle.crsm_spec.specs.Log.{Log}
+
+-- the members of the decision rise strictly, each below 15
+abbrev pub IsOrdered : Decision → Type 0
+IsOrdered d = IsMembers d.members
+
+-- the decision of a record is such a one
+abbrev pub IsOrderedRec : Rec → Type 0
+IsOrderedRec (Rec.Decide d) = IsOrdered d
+IsOrderedRec (Rec.Accept i b d) = IsOrdered d
+IsOrderedRec _ = Unit {0}
+
+-- and that of each record of a log
+abbrev pub AreOrdered : Log → Type 0
+AreOrdered [] = Unit {0}
+AreOrdered (rec ∷ log) = IsOrderedRec rec × AreOrdered log
