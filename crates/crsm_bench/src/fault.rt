@@ -1,0 +1,28 @@
+//! Why the program ends early.
+
+use crsm_base::NoMemory;
+use std::io;
+use thiserror::Error;
+
+/// Why the program ends early.
+#[derive(Debug, Drop, Error)]
+pub enum Fault {
+    #[error("the arguments cannot be read, or the output not written: {0}")]
+    Io(io::Error),
+    #[error("memory ran out")]
+    NoMemory,
+    #[error("a page of so many entries has no spelling")]
+    NoPage,
+}
+
+impl From<io::Error> for Fault {
+    fn from(error: io::Error) -> Fault {
+        Fault::Io(error)
+    }
+}
+
+impl From<NoMemory> for Fault {
+    fn from(_: NoMemory) -> Fault {
+        Fault::NoMemory
+    }
+}

@@ -1,0 +1,42 @@
+//! What the program is asked to do.
+
+/// A kind of work.
+#[derive(Clone, Copy, Debug, PartialEq, Eq)]
+pub enum Work {
+    /// Writes a page of entries as bytes.
+    Write,
+    /// Reads a page of entries from bytes.
+    Read,
+    /// Applies commands to a store.
+    Store,
+}
+
+/// Work on a value of some size (entries of a page, keys and clients of a store), done so many times.
+#[derive(Clone, Copy, Debug, PartialEq, Eq)]
+pub struct Request {
+    pub work: Work,
+    pub size: u32,
+    pub rounds: u32,
+}
+
+impl Work {
+    fn named(word: &str) -> Option<Work> {
+        match word {
+            "write" => Some(Work::Write),
+            "read" => Some(Work::Read),
+            "store" => Some(Work::Store),
+            _ => None,
+        }
+    }
+}
+
+impl Request {
+    /// The request that three words spell: a kind of work and two decimal numbers.
+    pub fn read(work: &str, size: &str, rounds: &str) -> Option<Request> {
+        Some(Request {
+            work: Work::named(work)?,
+            size: size.parse::<u32>().ok()?,
+            rounds: rounds.parse::<u32>().ok()?,
+        })
+    }
+}
