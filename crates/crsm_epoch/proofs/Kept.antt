@@ -138,7 +138,7 @@ top_later [] t p lt u h = absurd h
 top_later (w ∷ us) t p lt u (inl e) = omega (arith, lt, e)
 top_later (w ∷ us) t p lt u (inr h) = let a = p u h in omega (arith, lt, a)
 
-would_late : (x : Draft) (reading t : ℕ) → IsTop x.replica.issued → would x reading ≡ Some t → (u : ℕ) → Among x.replica.issued u → u < t
+pub would_late : (x : Draft) (reading t : ℕ) → IsTop x.replica.issued → would x reading ≡ Some t → (u : ℕ) → Among x.replica.issued u → u < t
 unfolding would issue last_issued
 would_late x reading t p h = top_later x.replica.issued t p (later (unwrap_or (first_of x.replica.issued) 0) reading t _ h)
 

@@ -38,7 +38,7 @@ use Rattle.crsm_epoch.proofs.Kept.{chain_kept}
 -- ---- what is the same
 
 -- the facts of equal seats and datagrams
-facts_same : (n : ℕ) (v u : ℕ → Seat) (a b : List Datagram) → ((k : ℕ) → v k ≡ u k) → a ≡ b → Facts n v a → Facts n u b
+pub facts_same : (n : ℕ) (v u : ℕ → Seat) (a b : List Datagram) → ((k : ℕ) → v k ≡ u k) → a ≡ b → Facts n v a → Facts n u b
 facts_same n v u a b e d f = subst (λ z. Facts n z b) (fun_ext e) (subst (Facts n v) d f)
 
 -- the log of a seat is that of its site
@@ -63,7 +63,7 @@ mark_sent i w = go (slice_get w.mail i) refl
     go None e = refl
     go (Some m) e = map_set w.mail i m (record m { used = true }) e refl
 
-marked_sent : {w v : World} → Marks w v → sent_in v ≡ sent_in w
+pub marked_sent : {w v : World} → Marks w v → sent_in v ≡ sent_in w
 marked_sent none = refl
 marked_sent (mark {v = v} i p) = mark_sent i v ∙ marked_sent p
 
@@ -71,7 +71,7 @@ mark_sites : (i : ℕ) (w : World) → (use_up i w).sites ≡ w.sites
 unfolding use_up
 mark_sites i w = refl
 
-marked_sites : {w v : World} → Marks w v → v.sites ≡ w.sites
+pub marked_sites : {w v : World} → Marks w v → v.sites ≡ w.sites
 marked_sites none = refl
 marked_sites (mark {v = v} i p) = mark_sites i v ∙ marked_sites p
 
@@ -79,7 +79,7 @@ mark_n : (i : ℕ) (w : World) → (use_up i w).n ≡ w.n
 unfolding use_up
 mark_n i w = refl
 
-marked_n : {w v : World} → Marks w v → v.n ≡ w.n
+pub marked_n : {w v : World} → Marks w v → v.n ≡ w.n
 marked_n none = refl
 marked_n (mark {v = v} i p) = mark_n i v ∙ marked_n p
 
@@ -132,7 +132,7 @@ pub record Held (n : ℕ) (w : World) : Type 0 where
   pub facts : Facts n (seats w) (sent_in w)
 
 -- the seats where one site is another
-seats_set : (w u : World) (k : ℕ) (s t : Site) → slice_get w.sites k ≡ Some s → u.sites ≡ slice_set w.sites k t → (j : ℕ) → at k (seat_of (Some t)) (seats w) j ≡ seats u j
+pub seats_set : (w u : World) (k : ℕ) (s t : Site) → slice_get w.sites k ≡ Some s → u.sites ≡ slice_set w.sites k t → (j : ℕ) → at k (seat_of (Some t)) (seats w) j ≡ seats u j
 unfolding seats
 seats_set w u k s t e is j = elim (cases_eq j k) [
   | inl q ↦ subst (λ i. at k (seat_of (Some t)) (seats w) i ≡ seat_of (slice_get u.sites i)) (sym q)
@@ -147,20 +147,20 @@ seated_set n w u k s t e is h new j r q = elim (cases_eq j k) [
   | inr ne ↦ h j r (sym (ap (λ ss. slice_get ss j) is ∙ set_other w.sites k j t ne) ∙ q)
 ]
 
-mail_sent : (k : ℕ) (sends : List (ℕ × Datagram)) → map (λ m. m.datagram) (map (mail_of k) sends) ≡ map (λ s. s.1) sends
+pub mail_sent : (k : ℕ) (sends : List (ℕ × Datagram)) → map (λ m. m.datagram) (map (mail_of k) sends) ≡ map (λ s. s.1) sends
 unfolding mail_of
 mail_sent k [] = refl
 mail_sent k (s ∷ ss) = ap (λ l. s.1 ∷ l) (mail_sent k ss)
 
-map_take : (c : ℕ) (xs : List (ℕ × Datagram)) → map (λ s. s.1) (take c xs) ≡ take c (map (λ s. s.1) xs)
+pub map_take : (c : ℕ) (xs : List (ℕ × Datagram)) → map (λ s. s.1) (take c xs) ≡ take c (map (λ s. s.1) xs)
 map_take zero xs = refl
 map_take (suc c) [] = refl
 map_take (suc c) (x ∷ xs) = ap (λ l. x.1 ∷ l) (map_take c xs)
 
-up_same : (a b : Replica) → Site.Up a ≡ Site.Up b → a ≡ b
+pub up_same : (a b : Replica) → Site.Up a ≡ Site.Up b → a ≡ b
 up_same a b h = cc
 
-set_nowhere : {A : Type 0} (xs : List A) (k : ℕ) (y : A) → slice_get xs k ≡ None → slice_set xs k y ≡ xs
+pub set_nowhere : {A : Type 0} (xs : List A) (k : ℕ) (y : A) → slice_get xs k ≡ None → slice_set xs k y ≡ xs
 set_nowhere [] k y h = refl
 set_nowhere (x ∷ xs) zero y h = absurd (none-some x (sym h))
 set_nowhere (x ∷ xs) (suc k) y h = ap (λ l. x ∷ l) (set_nowhere xs k y h)
@@ -211,7 +211,7 @@ module _ (n : ℕ) (w : World) (h : Held n w) (k : ℕ) (r : Replica) (e : slice
 
 -- ---- a step
 
-begun_good : (n : ℕ) (w : World) → Held n w → (k : ℕ) (r : Replica) → slice_get w.sites k ≡ Some (Site.Up r) → Good n k (seats w) (sent_in w) (begun r)
+pub begun_good : (n : ℕ) (w : World) → Held n w → (k : ℕ) (r : Replica) → slice_get w.sites k ≡ Some (Site.Up r) → Good n k (seats w) (sent_in w) (begun r)
 unfolding begun seats seat_of seat_up
 begun_good n w h k r e =
     let seat : (seats w k) ≡ seat_up r = ap seat_of e in
@@ -235,7 +235,7 @@ begun_good n w h k r e =
     none_taken zero = refl
     none_taken (suc c) = refl
 
-held_marked : (n : ℕ) (w v : World) → Marks w v → Held n w → Held n v
+pub held_marked : (n : ℕ) (w v : World) → Marks w v → Held n w → Held n v
 unfolding seats
 held_marked n w v p h = record {
   size = marked_n p ∙ h.size;
@@ -244,7 +244,7 @@ held_marked n w v p h = record {
 }
 
 -- what came as a frame was sent
-came_sent : (w : World) (k : ℕ) (input : Input) → CanCome w k input → (a m j e i : ℕ) (p : InEpoch) → input ≡ Input.Came a (Datagram.Frame m j e i p) → Among (sent_in w) (Datagram.Frame m j e i p)
+pub came_sent : (w : World) (k : ℕ) (input : Input) → CanCome w k input → (a m j e i : ℕ) (p : InEpoch) → input ≡ Input.Came a (Datagram.Frame m j e i p) → Among (sent_in w) (Datagram.Frame m j e i p)
 unfolding sent_in
 came_sent w k input (IsMail from d s) a m j e i p q =
     let same : d ≡ Datagram.Frame m j e i p = came_is from a d (Datagram.Frame m j e i p) q in
@@ -256,7 +256,7 @@ came_sent w k input (IsCommand c f) a m j e i p q = absurd (cc)
 came_sent w k input IsTick a m j e i p q = absurd (cc)
 came_sent w k input (IsSuspicion ms f) a m j e i p q = absurd (cc)
 
-log_there : (w : World) (k : ℕ) (r : Replica) → slice_get w.sites k ≡ Some (Site.Up r) → log_at w k ≡ r.log
+pub log_there : (w : World) (k : ℕ) (r : Replica) → slice_get w.sites k ≡ Some (Site.Up r) → log_at w k ≡ r.log
 unfolding log_at log_of
 log_there w k r e = ap (λ o. option_map_or log_of o []) e
 
@@ -266,7 +266,7 @@ unfolding log_at
 log_set w k s t u e is = ap (λ ss. option_map_or log_of (slice_get ss k) []) is ∙ ap (λ o. option_map_or log_of o []) (set_same w.sites k s t e)
 
 -- how a step's log stands in the world after it: the whole of it, or the log of before
-log_after : (w : World) (k : ℕ) (r : Replica) (x : Draft) → slice_get w.sites k ≡ Some (Site.Up r) → (m : Moment) → Ends w k x m → (log_at m.after k ≡ x.replica.log) ⊎ (m ≡ lost_step w k x)
+pub log_after : (w : World) (k : ℕ) (r : Replica) (x : Draft) → slice_get w.sites k ≡ Some (Site.Up r) → (m : Moment) → Ends w k x m → (log_at m.after k ≡ x.replica.log) ⊎ (m ≡ lost_step w k x)
 unfolding whole_step cut_step then_down after_step log_of
 log_after w k r x e m IsWhole = inl (log_set w k (Site.Up r) (Site.Up x.replica) m.after e refl)
 log_after w k r x e m (IsCut count) = inl (log_set w k (Site.Up r) (Site.Down x.replica.log) m.after e refl)
@@ -286,7 +286,7 @@ more_room (s ∷ ss) zero = refl
 more_room (s ∷ ss) (suc i) = more_room ss i
 
 -- one more site, down with an empty log, has no other seat
-room_seats : (w : World) (k j : ℕ) → seats w j ≡ seats (with_room w k) j
+pub room_seats : (w : World) (k j : ℕ) → seats w j ≡ seats (with_room w k) j
 unfolding seats with_room
 room_seats w k j = go (k == length w.sites)
   where
@@ -308,7 +308,7 @@ room_n w k = go (k == length w.sites)
     go true = refl
     go false = refl
 
-room_sent : (w : World) (k : ℕ) → sent_in w ≡ sent_in (with_room w k)
+pub room_sent : (w : World) (k : ℕ) → sent_in w ≡ sent_in (with_room w k)
 unfolding with_room sent_in
 room_sent w k = go (k == length w.sites)
   where
@@ -324,7 +324,7 @@ room_up w k j r = go (k == length w.sites)
     go true h = get_room w.sites j r h
     go false h = h
 
-room_there : (w : World) (k : ℕ) → (k < length w.sites) ⊎ ((k ≡ length w.sites) × (k < 15)) → (s : Site) × (slice_get (with_room w k).sites k ≡ Some s)
+pub room_there : (w : World) (k : ℕ) → (k < length w.sites) ⊎ ((k ≡ length w.sites) × (k < 15)) → (s : Site) × (slice_get (with_room w k).sites k ≡ Some s)
 unfolding with_room
 room_there w k (inl lt) = go (k == length w.sites)
   where
@@ -337,7 +337,7 @@ room_there w k (inr e) = go (k == length w.sites) (eq-eqb k (length w.sites) e.0
     go true h = (Site.Down [], subst (λ i. slice_get (w.sites ++ Site.Down [] ∷ []) i ≡ Some (Site.Down [])) (sym e.0) (get_end w.sites (Site.Down [])))
     go false h = absurd (false≢true h)
 
-held_room : (n : ℕ) (w : World) (k : ℕ) → Held n w → Held n (with_room w k)
+pub held_room : (n : ℕ) (w : World) (k : ℕ) → Held n w → Held n (with_room w k)
 held_room n w k h = record {
   size = room_n w k ∙ h.size;
   seated = λ j r e. h.seated j r (room_up w k j r e);
@@ -392,14 +392,14 @@ fit_end : (me n : ℕ) (a b : Log) → Extends a b → AllFit me n b → AllFit 
 fit_end me n a b same h = h
 fit_end me n a b (more {new = c} rec p) h = fit_end me n a c p h.1
 
-well_before : (n : ℕ) (w u : World) → LogsGoOn w u → IsWell n u → IsWell n w
+pub well_before : (n : ℕ) (w u : World) → LogsGoOn w u → IsWell n u → IsWell n w
 well_before n w u grows h = record {
   fit = λ k. fit_end k n (log_at w k) (log_at u k) (grows k) (h.fit k);
   distinct = λ k log e. h.distinct k log (extends_then e (grows k));
 }
 
 -- the log of a seat is that at its place
-seat_log_at : (w : World) (k : ℕ) → (seats w k).log ≡ log_at w k
+pub seat_log_at : (w : World) (k : ℕ) → (seats w k).log ≡ log_at w k
 unfolding seats log_at
 seat_log_at w k = seat_log (slice_get w.sites k)
 
@@ -491,7 +491,7 @@ begin_site n k = elim (cases_lt k n) [
 ]
 
 -- each seat of the first world
-begin_seats : (n : ℕ) (P : ℕ → Seat → Type 0) → ((k : ℕ) → P k (seat_up (founded n k))) → ((k : ℕ) → P k (seat_down [])) → (k : ℕ) → P k (seats (begin n) k)
+pub begin_seats : (n : ℕ) (P : ℕ → Seat → Type 0) → ((k : ℕ) → P k (seat_up (founded n k))) → ((k : ℕ) → P k (seat_down [])) → (k : ℕ) → P k (seats (begin n) k)
 unfolding seats seat_of
 begin_seats n P up down k = elim (begin_site n k) [
   | inl w ↦ subst (P k) (sym (ap seat_of w.1)) (up k)

@@ -1,0 +1,5 @@
+pub mod Seats
+pub mod Effects
+pub mod Logs
+pub mod Steps
+pub mod Worlds
