@@ -1,0 +1,301 @@
+-- The note of each draft is true of its replica's past.
+use Rattle.std.proofs.Common.{◌≡◌, ℕ, ◌+◌, List, [], ◌∷◌, ◌++◌, refl, sym, ◌∙◌, ap, subst, inl, inr, map}
+use Rattle.std.specs.Prelude.{◌⊎◌, IsTrue, Option, Some, None, slice_get}
+use Rattle.crsm_spec.specs.Types.{Ballot, Entry, Decision, InEpoch, Control}
+use Rattle.crsm_base.specs.Order.{ballot_lt}
+use Rattle.crsm_spec.specs.Log.{Log, known, decision, executed, promised}
+use Rattle.crsm_spec.specs.Quorum.{has_majority}
+use Rattle.crsm_spec.specs.Paxos.{Answer, value_of}
+use Rattle.crsm_spec.specs.Frames.{take_frame, hear, owe, ack, pay, owing, again_frame}
+use Rattle.crsm_spec.specs.Replica.{Replica, Note, Waiting, fresh, spec_of}
+use Rattle.crsm_spec.specs.Draft.{Draft, begun, keep, noting, send, reply, count_vote, issued_at, push_to_members, push_to, tell}
+use Rattle.crsm_spec.specs.Clients.{refuse, submit, await, replies, answer_each, answer_found, reply_ok, reply_dropped, find_executed}
+use Rattle.crsm_spec.specs.Coordinate.{forget_epoch, instance}
+use Rattle.crsm_spec.specs.Step.{Input, step, boot, boot_again, founding_boot, first_boot}
+use Rattle.crsm_spec.specs.World.{Site, World, Moment, begin, log_at, with_site, whole_step, cut_step, lost_step, down, after_step, then_down}
+use Rattle.crsm_spec.specs.Moments.{silent, begun_at, with_room, start_at}
+use Rattle.crsm_steps.specs.Messages.{IsTold}
+use Rattle.crsm_steps.specs.Changes.{Change, Changes, stay, and_then, IsAnswer, IsVote}
+use Rattle.crsm_steps.specs.Happenings.{Marks, CanCome, Ends, Happens, IsReached}
+use Rattle.crsm_steps.specs.Happenings.Marks.{none}
+use Rattle.crsm_steps.specs.Happenings.Ends.{IsWhole, IsCut, IsLost}
+use Rattle.crsm_steps.specs.Happenings.Happens.{Nothing, Steps, Junk, Stops, Starts}
+use Rattle.crsm_steps.specs.Happenings.IsReached.{first, next}
+use Rattle.crsm_steps.proofs.Fitted.{step_changes}
+use Rattle.crsm_steps.proofs.Logs.{tell_still, replies_still}
+use Rattle.crsm_steps.proofs.Walk.{same_when}
+use Rattle.crsm_sources.specs.Sayings.{GoesOn, here, Past}
+use Rattle.crsm_sources.specs.Proposals.{Did, Asks, Counts, Proposes, CountsVote, HasAsked, HasProposed, NoteIsTrue, NotesAreTrue, AskedWasAsked, ProposedWasProposed}
+use Rattle.crsm_sources.proofs.Words.{among_either}
+use Rattle.crsm_sources.proofs.Truth.{carried}
+use Rattle.crsm_sources.proofs.Telling.{then_on}
+use Rattle.crsm_sources.proofs.Worlds.{past_on, set_up, up_same, not_up, marked_sites, room_up, kept_whole, founded_is, all_known}
+
+-- ---- what stays true
+
+did_on : (n : ℕ) (w : World) (m : Moment) → Happens w m → (k : ℕ) (G : Replica → Input → Draft → Type 0) → Did n w k G → Did n m.after k G
+did_on n w m h k G d = record { past = past_on n w m h k d.past; held = d.held }
+
+asked_on : (n : ℕ) (w : World) (m : Moment) → Happens w m → (k i : ℕ) (b : Ballot) (own : Decision) (answers : List (Answer Decision)) → HasAsked n w k i b own answers → HasAsked n m.after k i b own answers
+asked_on n w m h k i b own answers g = record { asked = did_on n w m h k _ g.asked; counted = λ a q. did_on n w m h k _ (g.counted a q) }
+
+note_on : (n : ℕ) (w : World) (m : Moment) → Happens w m → (k i : ℕ) (note : Note) → NoteIsTrue n w k i note → NoteIsTrue n m.after k i note
+note_on n w m h k i Note.Quiet g = g
+note_on n w m h k i (Note.Collecting ms pages) g = g
+note_on n w m h k i (Note.Asking b own answers) g = asked_on n w m h k i b own answers g
+note_on n w m h k i (Note.Proposing b own value acceptors) g = (
+  record { answers = g.0.answers; asked = asked_on n w m h k i b own g.0.answers g.0.asked; proposed = did_on n w m h k _ g.0.proposed; is = g.0.is },
+  λ j a. did_on n w m h k _ (g.1 j a),
+)
+note_on n w m h k i (Note.Over own seen) g = g
+
+pub note_carried : (n k i : ℕ) (note : Note) (v w : World) → GoesOn v w → NoteIsTrue n v k i note → NoteIsTrue n w k i note
+note_carried n k i note v w g = carried (λ u. NoteIsTrue n u k i note) (λ u m h. note_on n u m h k i note) v w g
+
+-- ---- what leaves the note
+
+tell_note : (c : Control) (k : ℕ) (x : Draft) → (tell c x k).replica.note ≡ x.replica.note
+unfolding tell
+tell_note c k x = same_when (λ y. y.replica.note) _ x _ x refl refl
+
+found_note : (w : Waiting) (p : Option (ℕ × Entry)) (x : Draft) → (answer_found w p x).replica.note ≡ x.replica.note
+unfolding answer_found reply_ok reply_dropped reply
+found_note w (Some p) x = refl
+found_note w None x = same_when (λ y. y.replica.note) _ _ _ x refl refl
+
+each_note : (ws : List Waiting) (x : Draft) → (answer_each ws x).replica.note ≡ x.replica.note
+unfolding answer_each
+each_note [] x = refl
+each_note (w ∷ ws) x =
+    let y = answer_found w (find_executed (executed x.replica.log) w.entry) x in each_note ws y ∙ found_note w (find_executed (executed x.replica.log) w.entry) x
+
+replies_note : (x : Draft) → (replies x).replica.note ≡ x.replica.note
+unfolding replies
+replies_note x = each_note x.replica.waiting (record x { replica = record x.replica { waiting = [] } })
+
+-- ---- the drafts of one step
+
+module _ (n : ℕ) (w v : World) (reached : IsReached n w) (p : Marks w v) (k : ℕ) (r : Replica) (e : slice_get v.sites k ≡ Some (Site.Up r))
+    (input : Input) (reading : ℕ) (c : CanCome w k input) (m : Moment) (h : Happens w (begun_at w m)) (ends : Ends v k (step r input reading) m)
+    (kept : log_at m.after k ≡ (step r input reading).replica.log) where
+  past_here : (x : Draft) → Changes r input reading (begun r) x → Changes r input reading x (step r input reading) → Past n m.after k
+  past_here x before after = record {
+    world = w;
+    reached = reached;
+    marked = v;
+    marks = p;
+    replica = r;
+    up = e;
+    input = input;
+    reading = reading;
+    can_come = c;
+    draft = x;
+    before = before;
+    after = after;
+    moment = m;
+    happens = h;
+    ends = ends;
+    kept = kept;
+    since = here;
+  }
+
+  abbrev N : Draft → Type 0
+  N x = NoteIsTrue n m.after k (instance x) x.replica.note
+
+  same_note : (x y : Draft) → y.replica.note ≡ x.replica.note → y.replica.log ≡ x.replica.log → N x → N y
+  unfolding instance
+  same_note x y note log g = subst (λ l. NoteIsTrue n m.after k (known l + 1) y.replica.note) (sym log) (subst (NoteIsTrue n m.after k (known x.replica.log + 1)) (sym note) g)
+
+  did_here : (x : Draft) → Changes r input reading (begun r) x → Changes r input reading x (step r input reading) → (G : Replica → Input → Draft → Type 0) → G r input x → Did n m.after k G
+  unfolding past_here
+  did_here x before after G g = record { past = past_here x before after; held = g }
+
+  -- the note of x, where it is this one
+  note_at : (x : Draft) (note : Note) → x.replica.note ≡ note → N x → NoteIsTrue n m.after k (instance x) note
+  note_at x note was g = subst (NoteIsTrue n m.after k (instance x)) was g
+
+  asks_here : (x : Draft) → Changes r input reading (begun r) x → Changes r input reading x (step r input reading) → (b : Ballot) (own : Decision) (seen : Ballot) →
+      x.replica.note ≡ Note.Over own seen → b.by ≡ x.replica.me → IsTrue (ballot_lt (promised x.replica.log) b) → HasAsked n m.after k (instance x) b own []
+  asks_here x before after b own seen was by lt =
+      record { asked = did_here x before after (Asks (instance x) b own) (refl, by, lt, seen, was); counted = λ a q. absurd q }
+
+  counts_here : (x : Draft) → Changes r input reading (begun r) x → Changes r input reading x (step r input reading) → (b : Ballot) (own : Decision) (answers : List (Answer Decision)) (a : Answer Decision) →
+      x.replica.note ≡ Note.Asking b own answers → IsAnswer r input x b a → N x → HasAsked n m.after k (instance x) b own (answers ++ a ∷ [])
+  counts_here x before after b own answers a was is g =
+      let old : HasAsked n m.after k (instance x) b own answers = note_at x (Note.Asking b own answers) was g in
+      let new : Did n m.after k (Counts (instance x) b a) = did_here x before after (Counts (instance x) b a) (refl, is) in
+      record {
+        asked = old.asked;
+        counted = λ q s. elim (among_either answers (a ∷ []) q s) [
+          | inl l ↦ old.counted q l
+          | inr l ↦ elim l [ inl z ↦ subst (λ t. Did n m.after k (Counts (instance x) b t)) z new | inr z ↦ absurd z ]
+        ];
+      }
+
+  proposes_here : (x : Draft) → Changes r input reading (begun r) x → Changes r input reading x (step r input reading) → (b : Ballot) (own : Decision) (answers : List (Answer Decision)) →
+      x.replica.note ≡ Note.Asking b own answers → IsTrue (has_majority (spec_of x.replica) (map (λ f. f.replica) answers)) → N x →
+      NoteIsTrue n m.after k (instance x) (Note.Proposing b own (value_of own answers) [])
+  proposes_here x before after b own answers was many g = (
+    record {
+      answers = answers;
+      asked = note_at x (Note.Asking b own answers) was g;
+      proposed = did_here x before after (Proposes (instance x) b own answers) (refl, was, many);
+      is = refl;
+    },
+    λ j a. absurd a,
+  )
+
+  votes_here : (x : Draft) → Changes r input reading (begun r) x → Changes r input reading x (step r input reading) → (b : Ballot) (own value : Decision) (acceptors : List ℕ) (j : ℕ) →
+      x.replica.note ≡ Note.Proposing b own value acceptors → IsVote r input x b j → N x → NoteIsTrue n m.after k (instance x) (Note.Proposing b own value (j ∷ acceptors))
+  votes_here x before after b own value acceptors j was vote g =
+      let old = note_at x (Note.Proposing b own value acceptors) was g in
+      let new : Did n m.after k (CountsVote (instance x) b j) = did_here x before after (CountsVote (instance x) b j) (refl, vote) in (
+        old.0,
+        λ q s. elim s [ inl z ↦ subst (λ t. Did n m.after k (CountsVote (instance x) b t)) z new | inr l ↦ old.1 q l ],
+      )
+
+  noted : (x : Draft) → Changes r input reading (begun r) x → Changes r input reading x (step r input reading) → (y : Draft) → Change r input reading x y → N x → N y
+  unfolding submit refuse await push_to_members push_to count_vote issued_at keep noting reply send take_frame hear owe ack pay owing again_frame forget_epoch instance known decision
+  noted x before after y (Change.Submits a c t i h w) g = g
+  noted x before after y (Change.Refuses a c why i h) g = g
+  noted x before after y (Change.Commits e a h w) g = g
+  noted x before after y Change.Replies g = same_note x y (replies_note x) (replies_still x).log g
+  noted x before after y (Change.Takes a k e seq (InEpoch.Prepare f) i o h p n d) g = g
+  noted x before after y (Change.Takes a k e seq (InEpoch.PrepareOk s at) i o h p n d) g = g
+  noted x before after y (Change.Takes a k e seq (InEpoch.ClockTime at) i o h p n d) g = g
+  noted x before after y (Change.Acks k p) g = g
+  noted x before after y (Change.IsAcked k up p h) g = g
+  noted x before after y (Change.Pays s t a m w lt) g = g
+  noted x before after y (Change.Owes ss a h) g = g
+  noted x before after y (Change.TellsTime t a i w) g = g
+  noted x before after y (Change.SendsAgain k f a m h) g = g
+  noted x before after y (Change.Tells j c h) g = same_note x y (tell_note c j x) (tell_still c j x).log g
+  noted x before after y (Change.Gathers a p i o) g = g
+  noted x before after y (Change.Suspends h) g = g
+  noted x before after y (Change.Collects ms asked h s) g = tt
+  noted x before after y (Change.TakesPage ms pages e after' p n h m i w) g = tt
+  noted x before after y (Change.Completes ms pages n h w) g = tt
+  noted x before after y (Change.Refrains d) g = tt
+  noted x before after y (Change.GivesUp own seen n) g = tt
+  noted x before after y (Change.Asks own seen b was by lt) g = asks_here x before after b own seen was by lt
+  noted x before after y (Change.CountsAnswer b own answers a was is new) g = counts_here x before after b own answers a was is g
+  noted x before after y (Change.Proposes b own answers was many) g = proposes_here x before after b own answers was many g
+  noted x before after y (Change.IsOutbid b own value acceptors top answers n h) g = tt
+  noted x before after y (Change.AcceptsOwn b own value acceptors n h i j) g = g
+  noted x before after y (Change.CountsVote b own value acceptors j was vote) g = votes_here x before after b own value acceptors j was vote g
+  noted x before after y (Change.Promises j b h lt) g = g
+  noted x before after y (Change.Accepts j b d h i q l) g = g
+  noted x before after y (Change.Chooses b own d acceptors n h) g = tt
+  noted x before after y (Change.Learns j d h lt) g = tt
+  noted x before after y (Change.AdoptsTail d h i j) g = g
+  noted x before after y (Change.AdoptsPage j e from es h i l) g = g
+  noted x before after y (Change.Enters h) g = g
+
+  pub notes_along : {y : Draft} → Changes r input reading (begun r) y → Changes r input reading y (step r input reading) → N (begun r) → N y
+  notes_along stay rest g = g
+  notes_along (and_then {y = y} {z = z} q d f) rest g =
+      let after = then_on (and_then stay d f) rest in
+      noted y q after z d (notes_along q after g)
+
+-- ---- worlds
+
+abbrev Notes : ℕ → World → Type 0
+Notes n w = (k : ℕ) (r : Replica) → slice_get w.sites k ≡ Some (Site.Up r) → NoteIsTrue n w k (instance (begun r)) r.note
+
+-- the replicas that are up are those of before, with their notes, but for one
+notes_by : (n : ℕ) (w : World) (m : Moment) → Happens w m → Notes n w → (k : ℕ) →
+    ((j : ℕ) (r : Replica) → slice_get m.after.sites j ≡ Some (Site.Up r) → (slice_get w.sites j ≡ Some (Site.Up r)) ⊎ NoteIsTrue n m.after j (instance (begun r)) r.note) → Notes n m.after
+notes_by n w m h g k up j r e = elim (up j r e) [ inl q ↦ note_on n w m h j (instance (begun r)) r.note (g j r q) | inr q ↦ q ]
+
+quiet_true : (n : ℕ) (w : World) (k i : ℕ) (note : Note) → note ≡ Note.Quiet → NoteIsTrue n w k i note
+quiet_true n w k i note e = subst (NoteIsTrue n w k i) (sym e) tt
+
+boot_note : (k n : ℕ) (log : Log) → (boot k n log).replica.note ≡ Note.Quiet
+unfolding boot first_boot founding_boot boot_again keep begun fresh
+boot_note k n (rec ∷ log) = refl
+boot_note k n [] = same_when (λ y. y.replica.note) _ (founding_boot k n) (boot_again k n []) (boot_again k n []) refl refl
+
+marked_up : {w v : World} → Marks w v → (j : ℕ) (r : Replica) → slice_get v.sites j ≡ Some (Site.Up r) → slice_get w.sites j ≡ Some (Site.Up r)
+marked_up p j r e = subst (λ ss. slice_get ss j ≡ Some (Site.Up r)) (marked_sites p) e
+
+-- the end of a step of k
+notes_end : (n : ℕ) (w v : World) → Marks w v → Notes n w → (k : ℕ) (x : Draft) (m : Moment) → Ends v k x m → Happens w (begun_at w m) →
+    (m ≡ whole_step v k x → NoteIsTrue n m.after k (instance x) x.replica.note) → Notes n m.after
+unfolding whole_step cut_step lost_step then_down after_step down with_site begun_at instance begun
+notes_end n w v p g k x m IsWhole h new = notes_by n w (begun_at w (whole_step v k x)) h g k (λ j r e. elim (set_up v.sites k (Site.Up x.replica) j r e) [
+  | inl q ↦ inl (marked_up p j r q.1)
+  | inr q ↦ inr (subst (λ y. NoteIsTrue n (whole_step v k x).after j (known y.log + 1) y.note) (up_same x.replica r q.1)
+      (subst (λ i. NoteIsTrue n (whole_step v k x).after i (known x.replica.log + 1) x.replica.note) (sym q.0) (new refl)))
+])
+notes_end n w v p g k x m (IsCut count) h new = notes_by n w (begun_at w (cut_step count v k x)) h g k (λ j r e. elim (set_up v.sites k (Site.Down x.replica.log) j r e) [
+  | inl q ↦ inl (marked_up p j r q.1)
+  | inr q ↦ absurd (not_up x.replica.log r q.1)
+])
+notes_end n w v p g k x m IsLost h new = notes_by n w (begun_at w (lost_step v k x)) h g k (λ j r e. elim (set_up v.sites k (Site.Down (log_at v k)) j r e) [
+  | inl q ↦ inl (marked_up p j r q.1)
+  | inr q ↦ absurd (not_up (log_at v k) r q.1)
+])
+
+notes_started : (n : ℕ) (w : World) (k : ℕ) → Notes n w → Happens w (start_at w k) → Notes n (start_at w k).after
+unfolding start_at begun_at whole_step after_step
+notes_started n w k g h =
+    let v = with_room w k in
+    let x = boot k v.n (log_at v k) in
+    notes_by n w (start_at w k) h g k (λ j r e. elim (set_up v.sites k (Site.Up x.replica) j r e) [
+      | inl q ↦ inl (room_up w k j r q.1)
+      | inr q ↦ inr (quiet_true n (start_at w k).after j (instance (begun r)) r.note (ap (λ y. y.note) (sym (up_same x.replica r q.1)) ∙ boot_note k v.n (log_at v k)))
+    ])
+
+notes_down : (n : ℕ) (w : World) (k : ℕ) → Notes n w → Happens w (down w k) → Notes n (down w k).after
+unfolding down with_site
+notes_down n w k g h = notes_by n w (down w k) h g k (λ j r e. elim (set_up w.sites k (Site.Down (log_at w k)) j r e) [
+  | inl q ↦ inl q.1
+  | inr q ↦ absurd (not_up (log_at w k) r q.1)
+])
+
+notes_stepped : (n : ℕ) (w v : World) → IsReached n w → Marks w v → Notes n w → (k : ℕ) (r : Replica) → slice_get v.sites k ≡ Some (Site.Up r) → (input : Input) (reading : ℕ) → CanCome w k input →
+    (m : Moment) → Ends v k (step r input reading) m → Happens w (begun_at w m) → Notes n m.after
+unfolding begun_at begun
+notes_stepped n w v reached p g k r e input reading c m ends h = notes_end n w v p g k (step r input reading) m ends h (λ q.
+    let kept : log_at m.after k ≡ (step r input reading).replica.log = subst (λ z. log_at z.after k ≡ (step r input reading).replica.log) (sym q) (kept_whole n w v p (all_known n w reached) k r e (step r input reading)) in
+    notes_along n w v reached p k r e input reading c m h ends kept (step_changes r input reading) stay
+    (note_on n w (begun_at w m) h k (instance (begun r)) r.note (g k r (marked_up p k r e))))
+
+notes_moment : (n : ℕ) (w : World) (m : Moment) → IsReached n w → Happens w m → Notes n w → Notes n m.after
+unfolding silent begun_at begun
+notes_moment n w m q (Nothing v p) g = notes_by n w (silent w v) (Nothing v p) g 0 (λ j r e. inl (marked_up p j r e))
+notes_moment n w m q (Steps v p k r e input reading lt c z ends) g = notes_stepped n w v q p g k r e input reading c z ends (Steps v p k r e input reading lt c z ends)
+notes_moment n w m q (Junk k r e z ends) g = notes_junk
+  where
+    notes_junk : Notes n z.after
+    notes_junk = notes_end n w w none g k (begun r) z ends (Junk k r e z ends) (λ s. note_on n w (begun_at w z) (Junk k r e z ends) k (instance (begun r)) r.note (g k r e))
+notes_moment n w m q (Stops k) g = notes_down n w k g (Stops k)
+notes_moment n w m q (Starts k d f) g = notes_started n w k g (Starts k d f)
+
+first_note : (n k : ℕ) (r : Replica) → slice_get (begin n).sites k ≡ Some (Site.Up r) → r.note ≡ Note.Quiet
+unfolding founding_boot boot_again keep begun fresh
+first_note n k r e = ap (λ y. y.note) (sym (founded_is n k r e))
+
+pub all_notes : (n : ℕ) (w : World) → IsReached n w → Notes n w
+all_notes n w first = λ k r e. quiet_true n (begin n) k (instance (begun r)) r.note (first_note n k r e)
+all_notes n w (next {w = u} {m = m} q h) = notes_moment n u m q h (all_notes n u q)
+
+pub notes_are_true : NotesAreTrue
+unfolding begun_at begun
+notes_are_true n w k p =
+    let start = all_notes n p.world p.reached k p.replica (marked_up p.marks k p.replica p.up) in
+    note_carried n k (instance p.draft) p.draft.replica.note p.moment.after w p.since
+    (notes_along n p.world p.marked p.reached p.marks k p.replica p.up p.input p.reading p.can_come p.moment p.happens p.ends p.kept p.before p.after
+    (note_on n p.world (begun_at p.world p.moment) p.happens k (instance (begun p.replica)) p.replica.note start))
+
+pub asked_was_asked : AskedWasAsked
+asked_was_asked n w s i b t e =
+    let is : IsTold t.past.draft (Control.P1a i b) = subst (IsTold t.past.draft) e t.told.is in
+    let g = subst (NoteIsTrue n w s.from (instance t.past.draft)) is.3 (notes_are_true n w s.from t.past) in
+    (is.1, is.2, subst (λ z. HasAsked n w s.from z b is.1 is.2) (sym is.0) g)
+
+pub proposed_was_proposed : ProposedWasProposed
+proposed_was_proposed n w s i b d t e =
+    let is : IsTold t.past.draft (Control.P2a i b d) = subst (IsTold t.past.draft) e t.told.is in
+    let g = subst (NoteIsTrue n w s.from (instance t.past.draft)) is.3 (notes_are_true n w s.from t.past) in
+    (is.1, subst (λ z. HasProposed n w s.from z b is.1 d) (sym is.0) g.0)

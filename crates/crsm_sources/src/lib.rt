@@ -1,0 +1,37 @@
+//! What a replica hears was told to it, and what was told is true of its teller's log.
+#![tactic(auto)]
+
+ghost use Rattle.crsm_sources.specs.Laws.{HeardWasTold, HeardIsTold, ToldIsTrue};
+ghost use Rattle.crsm_sources.specs.Proposals.{NotesAreTrue, AskedWasAsked, ProposedWasProposed};
+
+/// What a replica hears was told to it by the replica of which it hears, in parts that were lost, came twice or came in
+/// another order.
+pub fn heard_was_told()
+    ensures { HeardWasTold }
+{}
+
+/// Where the messages that were told have spellings, a replica hears the very messages that were told.
+pub fn heard_is_told()
+    ensures { HeardIsTold }
+{}
+
+/// What was told is true of an earlier log of its teller, which the teller's log goes on from.
+pub fn told_is_true()
+    ensures { ToldIsTrue }
+{}
+
+/// What a coordinator's note says is true of its past: it asked for its ballot, and the answers and the votes that it has
+/// counted came to it.
+pub fn notes_are_true()
+    ensures { NotesAreTrue }
+{}
+
+/// Who tells that it asks for a ballot has asked for it.
+pub fn asked_was_asked()
+    ensures { AskedWasAsked }
+{}
+
+/// A decision that is told as proposed in a ballot was proposed in that ballot, with the answers of a majority.
+pub fn proposed_was_proposed()
+    ensures { ProposedWasProposed }
+{}
