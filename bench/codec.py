@@ -3,7 +3,7 @@
 from timing import work
 
 ENTRIES = 1_000
-PAGES = 500
+PAGES = 4_000
 
 
 def main():
