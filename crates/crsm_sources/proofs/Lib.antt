@@ -5,3 +5,4 @@ pub mod Telling
 pub mod Truth
 pub mod Worlds
 pub mod Notes
+pub mod Counted

@@ -31,7 +31,7 @@ pub past_extends : (n : ℕ) (w : World) (k : ℕ) (p : Past n w k) → Extends 
 past_extends n w k p =
     extends_then (subst (Extends p.draft.replica.log) (sym p.kept) (changes_grow p.after)) (logs_carried p.moment.after w p.since k)
 
-voted : (b : Ballot) (o : Option (Ballot × Decision)) → IsTrue (option_map_or (λ a. ballot_eq a.0 b) o false) → (d : Decision) × (o ≡ Some (b, d))
+pub voted : (b : Ballot) (o : Option (Ballot × Decision)) → IsTrue (option_map_or (λ a. ballot_eq a.0 b) o false) → (d : Decision) × (o ≡ Some (b, d))
 voted b None h = absurd (false≢true h)
 voted b (Some a) h = (a.1, ap (λ c. Some (c, a.1)) (same_ballot a.0 b h))
 

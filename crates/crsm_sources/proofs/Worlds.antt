@@ -92,7 +92,7 @@ past_on n w m h k p = record {
   since = on p.since h;
 }
 
-was_on : (n : ℕ) (w : World) (m : Moment) → Happens w m → (s : Saying) → WasTold n w s → WasTold n m.after s
+pub was_on : (n : ℕ) (w : World) (m : Moment) → Happens w m → (s : Saying) → WasTold n w s → WasTold n m.after s
 was_on n w m h s t = record { past = past_on n w m h s.from t.past; told = t.told }
 
 -- ---- sites and mail

@@ -1,3 +1,4 @@
 pub mod Sayings
 pub mod Laws
 pub mod Proposals
+pub mod Counted

@@ -3,6 +3,7 @@
 
 ghost use Rattle.crsm_sources.specs.Laws.{HeardWasTold, HeardIsTold, ToldIsTrue};
 ghost use Rattle.crsm_sources.specs.Proposals.{NotesAreTrue, AskedWasAsked, ProposedWasProposed};
+ghost use Rattle.crsm_sources.specs.Counted.{AnswersAreTrue, VotesAreTrue};
 
 /// What a replica hears was told to it by the replica of which it hears, in parts that were lost, came twice or came in
 /// another order.
@@ -34,4 +35,15 @@ pub fn asked_was_asked()
 /// A decision that is told as proposed in a ballot was proposed in that ballot, with the answers of a majority.
 pub fn proposed_was_proposed()
     ensures { ProposedWasProposed }
+{}
+
+/// Each answer that a coordinator has counted is a promise on record at the replica that answered, with what that replica had
+/// accepted then.
+pub fn answers_are_true()
+    ensures { AnswersAreTrue }
+{}
+
+/// Each vote that a coordinator has counted is an acceptance on record at the replica that voted.
+pub fn votes_are_true()
+    ensures { VotesAreTrue }
 {}
