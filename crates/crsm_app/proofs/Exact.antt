@@ -1,15 +1,16 @@
 -- When a run ends well, when it is refused and for which line, and when its input is too long.
-use Rattle.std.proofs.Common.{◌≡◌, ◌≢◌, ℕ, ◌+◌, ◌<◌, ◌≤◌, inl, inr, List, [], ◌∷◌, ◌++◌, Option, Some, None, map, length, refl, ap, sym, ◌∙◌, subst, arith, append_assoc, length-append}
+use Rattle.std.proofs.Common.{◌⊎◌, ◌≡◌, ◌≢◌, ℕ, ◌+◌, ◌<◌, ◌≤◌, inl, inr, List, [], ◌∷◌, ◌++◌, Option, Some, None, map, length, refl, ap, sym, ◌∙◌, subst, arith, append_assoc, length-append}
 use Rattle.std.specs.List.{flat_map}
 use Rattle.std.proofs.lemmas.List.{append-nil}
 use Rattle.crsm_io.specs.Streams.{Takes}
+use Rattle.crsm_text.specs.Words.{Lacks}
 use Rattle.crsm_text.proofs.WordsLemmas.{split_unique, lacks_not}
 use Rattle.crsm_schedule.specs.Grammar.{first_text, event_text}
 use Rattle.crsm_world.specs.Schedule.{Schedule, IsSchedule, ended, schedule_text}
 use Rattle.crsm_app.specs.State.{read_text, IsGood, count_of}
 use Rattle.crsm_app.specs.Refused.{Refused, CutShort, BeginsBad, bad_line, long_line, cut_line}
-use Rattle.crsm_app.specs.Run.{Ran, RanToEnd, RanToBad, RanTooLong, IsDone, IsRefused}
-use Rattle.crsm_app.proofs.Lines.{nil_not_cons, some_same, none_not_some, lines_read, read_is, read_lacks, first_line, split_lines, front_short, GoodNext, next_good, same_read, good_lacks, good_not_refused, one_cause, long_unreadable}
+use Rattle.crsm_app.specs.Run.{Ran, RanToEnd, RanToBad, RanTooLong, IsDone, IsRefused, IsTooLong}
+use Rattle.crsm_app.proofs.Lines.{nil_not_cons, some_same, none_not_some, lines_read, read_is, read_lacks, first_line, split_lines, front_short, GoodNext, next_good, same_read, good_lacks, good_not_refused, one_cause, long_unreadable, GoesOn}
 use Rattle.crsm_app.specs.declared.status.Cause.{Cause}
 use Rattle.crsm_app.specs.declared.status.Status.{Status}
 use Rattle.crsm_app.specs.declared.status.Status.TheVariants as status
@@ -124,44 +125,51 @@ completed status.InputTooLong before after had has s ran u r w is told_is short 
 -- ---- an input with a bad line is refused for it
 
 -- it does not run to its end
-good_of_bad : (before after had has : Option (List ℕ)) (read : Option Schedule) (text : List ℕ) (cause : Cause) → RanToEnd before after had has
-    → IsGood read → before ≡ Some (read_text read ++ text) → BeginsBad read (Some []) cause text → ⊥
-good_of_bad before after had has read text cause ran good is bad =
-    let t = told (read_text read ++ text) (schedule_text ran.schedule) after (rw is at ran.takes) in
+good_of_bad : (before after had has : Option (List ℕ)) (read : Option Schedule) (text more : List ℕ) (cause : Cause) → RanToEnd before after had has
+    → IsGood read → before ≡ Some (read_text read ++ (text ++ more)) → BeginsBad read (Some more) cause text → ⊥
+good_of_bad before after had has read text more cause ran good is bad =
+    let t = told (read_text read ++ (text ++ more)) (schedule_text ran.schedule) after (rw is at ran.takes) in
     let none : t.0 ≡ [] = rw t.1 at ran.ended in
-    let whole : schedule_text ran.schedule ≡ read_text read ++ (text ++ []) =
-    sym (append-nil (schedule_text ran.schedule)) ∙ ap (λ y. schedule_text ran.schedule ++ y) (sym none) ∙ sym t.2 ∙ ap (λ y. read_text read ++ y) (sym (append-nil text)) in
-    good_not_bad read (Some []) cause ran.schedule text [] good ran.good whole refl bad
+    let whole : schedule_text ran.schedule ≡ read_text read ++ (text ++ more) =
+    sym (append-nil (schedule_text ran.schedule)) ∙ ap (λ y. schedule_text ran.schedule ++ y) (sym none) ∙ sym t.2 in
+    good_not_bad read (Some more) cause ran.schedule text more good ran.good whole refl bad
+
+-- a line that begins a text, before what follows the text
+line_first : (line rest r text : List ℕ) → text ≡ line ++ 10 ∷ rest → text ++ r ≡ line ++ 10 ∷ (rest ++ r)
+line_first line rest r text is = ap (λ z. z ++ r) is ∙ append_assoc line (10 ∷ rest) r
+
+front_first : (line rest r text : List ℕ) → text ≡ line ++ rest → text ++ r ≡ line ++ (rest ++ r)
+front_first line rest r text is = ap (λ z. z ++ r) is ∙ append_assoc line rest r
 
 -- one text begins badly for one cause
-same_cause : (r : Option Schedule) (left : Option (List ℕ)) (c d : Cause) (x y u : List ℕ) → x ++ u ≡ y → left ≡ Some u
-    → BeginsBad r left c x → BeginsBad r (Some []) d y → c ≡ d
-same_cause r left c d x y u text is (bad_line b) (bad_line o) =
-    let whole : b.line ++ 10 ∷ (b.rest ++ u) ≡ o.line ++ 10 ∷ o.rest = line_whole b.line b.rest u o.line o.rest x b.text_is (text ∙ o.text_is) in
-    let cut = split_unique 10 b.line o.line (b.rest ++ u) o.rest b.lacks o.lacks whole in
+same_cause : (r : Option Schedule) (left : Option (List ℕ)) (c d : Cause) (x y u v : List ℕ) → x ++ u ≡ y ++ v → left ≡ Some u
+    → BeginsBad r left c x → BeginsBad r (Some v) d y → c ≡ d
+same_cause r left c d x y u v text is (bad_line b) (bad_line o) =
+    let whole = sym (line_first b.line b.rest u x b.text_is) ∙ text ∙ line_first o.line o.rest v y o.text_is in
+    let cut = split_unique 10 b.line o.line (b.rest ++ u) (o.rest ++ v) b.lacks o.lacks whole in
     one_cause r c d o.line (subst (λ z. Refused r c z) cut.0 b.refused) o.refused
-same_cause r left c d x y u text is (bad_line b) (long_line o_is o) =
-    let whole : o.line ++ o.rest ≡ b.line ++ 10 ∷ (b.rest ++ u) =
-    sym o.text_is ∙ sym text ∙ ap (λ z. z ++ u) b.text_is ∙ append_assoc b.line (10 ∷ b.rest) u in
-    let short = front_short o.line b.line o.rest (b.rest ++ u) o.lacks whole in
+same_cause r left c d x y u v text is (bad_line b) (long_line o_is o) =
+    let whole = sym (front_first o.line o.rest v y o.text_is) ∙ sym text ∙ line_first b.line b.rest u x b.text_is in
+    let short = front_short o.line b.line (o.rest ++ v) (b.rest ++ u) o.lacks whole in
     let long = o.long in
     long_unreadable r c b.line b.refused (omega (arith, short, long)) ∙ sym o_is
-same_cause r left c d x y u text is (bad_line b) (cut_line o_is o) =
-    let whole : y ≡ b.line ++ 10 ∷ (b.rest ++ u) = sym text ∙ ap (λ z. z ++ u) b.text_is ∙ append_assoc b.line (10 ∷ b.rest) u in
+same_cause r left c d x y u v text is (bad_line b) (cut_line o_is o) =
+    let none : v ≡ [] = o.ended in
+    let whole = sym (append-nil y) ∙ ap (λ z. y ++ z) (sym none) ∙ sym text ∙ line_first b.line b.rest u x b.text_is in
     absurd (lacks_not 10 y b.line (b.rest ++ u) o.lacks whole)
-same_cause r left c d x y u text is (long_line b_is b) (bad_line o) =
-    let whole : b.line ++ (b.rest ++ u) ≡ o.line ++ 10 ∷ o.rest = sym (append_assoc b.line b.rest u) ∙ ap (λ z. z ++ u) (sym b.text_is) ∙ text ∙ o.text_is in
-    let short = front_short b.line o.line (b.rest ++ u) o.rest b.lacks whole in
+same_cause r left c d x y u v text is (long_line b_is b) (bad_line o) =
+    let whole = sym (front_first b.line b.rest u x b.text_is) ∙ text ∙ line_first o.line o.rest v y o.text_is in
+    let short = front_short b.line o.line (b.rest ++ u) (o.rest ++ v) b.lacks whole in
     let long = b.long in
     b_is ∙ sym (long_unreadable r d o.line o.refused (omega (arith, short, long)))
-same_cause r left c d x y u text is (long_line b_is b) (long_line o_is o) = b_is ∙ sym o_is
-same_cause r left c d x y u text is (long_line b_is b) (cut_line o_is o) = b_is ∙ sym o_is
-same_cause r left c d x y u text is (cut_line b_is b) (bad_line o) =
+same_cause r left c d x y u v text is (long_line b_is b) (long_line o_is o) = b_is ∙ sym o_is
+same_cause r left c d x y u v text is (long_line b_is b) (cut_line o_is o) = b_is ∙ sym o_is
+same_cause r left c d x y u v text is (cut_line b_is b) (bad_line o) =
     let none : u ≡ [] = rw is at b.ended in
-    let whole : x ≡ o.line ++ 10 ∷ o.rest = sym (append-nil x) ∙ ap (λ z. x ++ z) (sym none) ∙ text ∙ o.text_is in
-    absurd (lacks_not 10 x o.line o.rest b.lacks whole)
-same_cause r left c d x y u text is (cut_line b_is b) (long_line o_is o) = b_is ∙ sym o_is
-same_cause r left c d x y u text is (cut_line b_is b) (cut_line o_is o) = b_is ∙ sym o_is
+    let whole = sym (append-nil x) ∙ ap (λ z. x ++ z) (sym none) ∙ text ∙ line_first o.line o.rest v y o.text_is in
+    absurd (lacks_not 10 x o.line (o.rest ++ v) b.lacks whole)
+same_cause r left c d x y u v text is (cut_line b_is b) (long_line o_is o) = b_is ∙ sym o_is
+same_cause r left c d x y u v text is (cut_line b_is b) (cut_line o_is o) = b_is ∙ sym o_is
 
 -- what was read, where it has as many lines as another schedule and more
 next_read : (r s : Option Schedule) (k : List ℕ) (ks : List (List ℕ)) → IsGood r → IsGood s → lines_read r ≡ lines_read s ++ k ∷ ks → GoodNext s k
@@ -173,54 +181,131 @@ pub record Same (r s : Option Schedule) (c d : Cause) : Type 0 where
   pub count : count_of r ≡ count_of s
   pub cause : c ≡ d
 
-same_here : (r s : Option Schedule) (left : Option (List ℕ)) (c d : Cause) (x y u : List ℕ) → IsGood r → IsGood s → lines_read r ≡ lines_read s
-    → x ++ u ≡ y → left ≡ Some u → BeginsBad r left c x → BeginsBad s (Some []) d y → Same r s c d
-same_here r s left c d x y u p q same text is bad other =
+same_here : (r s : Option Schedule) (left : Option (List ℕ)) (c d : Cause) (x y u v : List ℕ) → IsGood r → IsGood s → lines_read r ≡ lines_read s
+    → x ++ u ≡ y ++ v → left ≡ Some u → BeginsBad r left c x → BeginsBad s (Some v) d y → Same r s c d
+same_here r s left c d x y u v p q same text is bad other =
     let one : r ≡ s = same_read r s p q same in
     record {
       count = ap count_of one;
-      cause = same_cause s left c d x y u text is (subst (λ z. BeginsBad z left c x) one bad) other;
+      cause = same_cause s left c d x y u v text is (subst (λ z. BeginsBad z left c x) one bad) other;
     }
 
-more_read : (r s : Option Schedule) (left : Option (List ℕ)) (c d : Cause) (x y u : List ℕ) (ks : List (List ℕ)) → IsGood r → IsGood s
-    → lines_read r ≡ lines_read s ++ ks → y ≡ flat_map ended ks ++ (x ++ u) → left ≡ Some u → BeginsBad r left c x → BeginsBad s (Some []) d y → Same r s c d
-more_read r s left c d x y u [] p q same text is bad other = same_here r s left c d x y u p q (same ∙ append-nil (lines_read s)) (sym text) is bad other
-more_read r s left c d x y u (k ∷ ks) p q same text is bad other =
-    absurd (not_bad s (Some []) d y [] k (flat_map ended ks ++ (x ++ u)) (next_read r s k ks p q same) (append-nil y ∙ text ∙ first_line k ks (x ++ u)) refl other)
+more_read : (r s : Option Schedule) (left : Option (List ℕ)) (c d : Cause) (x y u v : List ℕ) (ks : List (List ℕ)) → IsGood r → IsGood s
+    → lines_read r ≡ lines_read s ++ ks → y ++ v ≡ flat_map ended ks ++ (x ++ u) → left ≡ Some u → BeginsBad r left c x → BeginsBad s (Some v) d y → Same r s c d
+more_read r s left c d x y u v [] p q same text is bad other = same_here r s left c d x y u v p q (same ∙ append-nil (lines_read s)) (sym text) is bad other
+more_read r s left c d x y u v (k ∷ ks) p q same text is bad other =
+    absurd (not_bad s (Some v) d y v k (flat_map ended ks ++ (x ++ u)) (next_read r s k ks p q same) (text ∙ first_line k ks (x ++ u)) refl other)
 
-less_read : (r s : Option Schedule) (left : Option (List ℕ)) (c d : Cause) (x y u : List ℕ) (ks : List (List ℕ)) → IsGood r → IsGood s
-    → lines_read s ≡ lines_read r ++ ks → x ++ u ≡ flat_map ended ks ++ y → left ≡ Some u → BeginsBad r left c x → BeginsBad s (Some []) d y → Same r s c d
-less_read r s left c d x y u [] p q same text is bad other = same_here r s left c d x y u p q (sym (same ∙ append-nil (lines_read r))) text is bad other
-less_read r s left c d x y u (k ∷ ks) p q same text is bad other =
-    absurd (not_bad r left c x u k (flat_map ended ks ++ y) (next_read s r k ks q p same) (text ∙ first_line k ks y) is bad)
+less_read : (r s : Option Schedule) (left : Option (List ℕ)) (c d : Cause) (x y u v : List ℕ) (ks : List (List ℕ)) → IsGood r → IsGood s
+    → lines_read s ≡ lines_read r ++ ks → x ++ u ≡ flat_map ended ks ++ (y ++ v) → left ≡ Some u → BeginsBad r left c x → BeginsBad s (Some v) d y → Same r s c d
+less_read r s left c d x y u v [] p q same text is bad other = same_here r s left c d x y u v p q (sym (same ∙ append-nil (lines_read r))) text is bad other
+less_read r s left c d x y u v (k ∷ ks) p q same text is bad other =
+    absurd (not_bad r left c x u k (flat_map ended ks ++ (y ++ v)) (next_read s r k ks q p same) (text ∙ first_line k ks (y ++ v)) is bad)
 
-same_bad : (r s : Option Schedule) (left : Option (List ℕ)) (c d : Cause) (x y u : List ℕ) → IsGood r → IsGood s
-    → read_text r ++ (x ++ u) ≡ read_text s ++ y → left ≡ Some u → BeginsBad r left c x → BeginsBad s (Some []) d y → Same r s c d
-same_bad r s left c d x y u p q text is bad other =
-    let texts : flat_map ended (lines_read r) ++ (x ++ u) ≡ flat_map ended (lines_read s) ++ y =
-    ap (λ z. z ++ (x ++ u)) (sym (read_is r)) ∙ text ∙ ap (λ z. z ++ y) (read_is s) in
-    elim (split_lines (lines_read r) (lines_read s) (x ++ u) y (read_lacks r p) (read_lacks s q) texts) [
-      | inl g ↦ more_read r s left c d x y u g.more p q g.lines g.rest is bad other
-      | inr g ↦ less_read r s left c d x y u g.more p q g.lines g.rest is bad other
-    ]
+-- two readings of one text as lines
+both_lines : (r s : Option Schedule) (x y : List ℕ) → IsGood r → IsGood s → read_text r ++ x ≡ read_text s ++ y
+    → GoesOn (lines_read r) (lines_read s) x y ⊎ GoesOn (lines_read s) (lines_read r) y x
+both_lines r s x y p q text =
+    split_lines (lines_read r) (lines_read s) x y (read_lacks r p) (read_lacks s q)
+    (ap (λ z. z ++ x) (sym (read_is r)) ∙ text ∙ ap (λ z. z ++ y) (read_is s))
 
-pub refused : (result : Status) (before after had has : Option (List ℕ)) (read : Option Schedule) (text : List ℕ) (cause : Cause) → Ran result before after had has
+same_bad : (r s : Option Schedule) (left : Option (List ℕ)) (c d : Cause) (x y u v : List ℕ) → IsGood r → IsGood s
+    → read_text r ++ (x ++ u) ≡ read_text s ++ (y ++ v) → left ≡ Some u → BeginsBad r left c x → BeginsBad s (Some v) d y → Same r s c d
+same_bad r s left c d x y u v p q text is bad other = elim (both_lines r s (x ++ u) (y ++ v) p q text) [
+  | inl g ↦ more_read r s left c d x y u v g.more p q g.lines g.rest is bad other
+  | inr g ↦ less_read r s left c d x y u v g.more p q g.lines g.rest is bad other
+]
+
+-- ---- a bad line comes before the limit
+
+-- A part of a line that is not too long, and more behind it, do not begin badly within the part.
+no_bad_part : (r : Option Schedule) (c : Cause) (rest z text more : List ℕ) → Lacks 10 rest → length rest ≤ 16777216 → 0 < length z
+    → rest ++ z ≡ text ++ more → length text ≤ length rest → BeginsBad r (Some more) c text → ⊥
+no_bad_part r c rest z text more lacks short some seam within (bad_line b) =
+    let front = front_short rest b.line z (b.rest ++ more) lacks (seam ∙ line_first b.line b.rest more text b.text_is) in
+    let len : length text ≡ length b.line + length (10 ∷ b.rest) = ap length b.text_is ∙ length-append b.line (10 ∷ b.rest) in
+    omega (arith, front, len, within)
+no_bad_part r c rest z text more lacks short some seam within (long_line is b) =
+    let len : length text ≡ length b.line + length b.rest = ap length b.text_is ∙ length-append b.line b.rest in
+    let long = b.long in
+    omega (arith, len, long, within, short)
+no_bad_part r c rest z text more lacks short some seam within (cut_line is b) =
+    let none : more ≡ [] = b.ended in
+    let len : length (rest ++ z) ≡ length text = ap length (seam ∙ ap (λ y. text ++ y) none ∙ append-nil text) in
+    let sum : length (rest ++ z) ≡ length rest + length z = length-append rest z in
+    omega (arith, len, sum, some, within)
+
+-- the same, where lines were read before
+part_by : (r s : Option Schedule) (c : Cause) (rest z text more : List ℕ) (ks : List (List ℕ)) → IsGood r → IsGood s
+    → Lacks 10 rest → length rest ≤ 16777216 → 0 < length z → length (read_text s ++ text) ≤ length (read_text r ++ rest)
+    → lines_read r ≡ lines_read s ++ ks → text ++ more ≡ flat_map ended ks ++ (rest ++ z) → BeginsBad s (Some more) c text → ⊥
+part_by r s c rest z text more [] p q lacks short some within same seam bad =
+    let one : r ≡ s = same_read r s p q (same ∙ append-nil (lines_read s)) in
+    let texts : length (read_text r) ≡ length (read_text s) = ap (λ x. length (read_text x)) one in
+    let a : length (read_text s ++ text) ≡ length (read_text s) + length text = length-append (read_text s) text in
+    let b : length (read_text r ++ rest) ≡ length (read_text r) + length rest = length-append (read_text r) rest in
+    no_bad_part s c rest z text more lacks short some (sym seam) (omega (arith, a, b, texts, within)) bad
+part_by r s c rest z text more (k ∷ ks) p q lacks short some within same seam bad =
+    not_bad s (Some more) c text more k (flat_map ended ks ++ (rest ++ z)) (next_read r s k ks p q same) (seam ∙ first_line k ks (rest ++ z)) refl bad
+
+part_within : (r s : Option Schedule) (c : Cause) (rest z text more : List ℕ) (ks : List (List ℕ)) → IsGood r → IsGood s
+    → Lacks 10 rest → length rest ≤ 16777216 → 0 < length z → length (read_text s ++ text) ≤ length (read_text r ++ rest)
+    → lines_read s ≡ lines_read r ++ ks → rest ++ z ≡ flat_map ended ks ++ (text ++ more) → BeginsBad s (Some more) c text → ⊥
+part_within r s c rest z text more [] p q lacks short some within same seam bad =
+    part_by r s c rest z text more [] p q lacks short some within (sym (same ∙ append-nil (lines_read r)) ∙ sym (append-nil (lines_read s))) (sym seam) bad
+part_within r s c rest z text more (k ∷ ks) p q lacks short some within same seam bad =
+    let front = front_short rest k z (flat_map ended ks ++ (text ++ more)) lacks (seam ∙ first_line k ks (text ++ more)) in
+    let whole : read_text s ++ [] ≡ read_text r ++ (k ++ 10 ∷ (flat_map ended ks ++ [])) =
+    ap (λ y. y ++ []) (read_is s ∙ ap (λ ls. flat_map ended ls) same) ∙ flat_more (lines_read r) k ks ∙ ap (λ y. y ++ (k ++ 10 ∷ (flat_map ended ks ++ []))) (sym (read_is r)) in
+    let long : length (read_text s ++ []) ≡ length (read_text r) + length (k ++ 10 ∷ (flat_map ended ks ++ [])) = ap length whole ∙ length-append (read_text r) (k ++ 10 ∷ (flat_map ended ks ++ [])) in
+    let line : length (k ++ 10 ∷ (flat_map ended ks ++ [])) ≡ length k + length (10 ∷ (flat_map ended ks ++ [])) = length-append k (10 ∷ (flat_map ended ks ++ [])) in
+    let none : length (read_text s ++ []) ≡ length (read_text s) = ap length (append-nil (read_text s)) in
+    let a : length (read_text s ++ text) ≡ length (read_text s) + length text = length-append (read_text s) text in
+    let b : length (read_text r ++ rest) ≡ length (read_text r) + length rest = length-append (read_text r) rest in
+    omega (arith, front, long, line, none, a, b, within)
+  where
+    flat_more : (ls : List (List ℕ)) (k : List ℕ) (ks : List (List ℕ)) → flat_map ended (ls ++ k ∷ ks) ++ [] ≡ flat_map ended ls ++ (k ++ 10 ∷ (flat_map ended ks ++ []))
+    flat_more [] k ks = first_line k ks []
+    flat_more (l ∷ ls) k ks =
+        append_assoc (ended l) (flat_map ended (ls ++ k ∷ ks)) [] ∙ ap (λ y. ended l ++ y) (flat_more ls k ks) ∙ sym (append_assoc (ended l) (flat_map ended ls) (k ++ 10 ∷ (flat_map ended ks ++ [])))
+
+-- where whole lines and a part of a line reach the limit, no bad line stands before it
+bad_before_limit : (r s : Option Schedule) (c : Cause) (rest z text more : List ℕ) → IsGood r → IsGood s
+    → Lacks 10 rest → length rest ≤ 16777216 → 0 < length z → length (read_text s ++ text) ≤ length (read_text r ++ rest)
+    → read_text r ++ (rest ++ z) ≡ read_text s ++ (text ++ more) → BeginsBad s (Some more) c text → ⊥
+bad_before_limit r s c rest z text more p q lacks short some within seam bad = elim (both_lines r s (rest ++ z) (text ++ more) p q seam) [
+  | inl g ↦ part_by r s c rest z text more g.more p q lacks short some within g.lines g.rest bad
+  | inr g ↦ part_within r s c rest z text more g.more p q lacks short some within g.lines g.rest bad
+]
+
+-- ---- exact refusals
+
+refused_too_long : (before after had has : Option (List ℕ)) (read : Option Schedule) (text more : List ℕ) (cause : Cause) → RanTooLong before after had has
+    → IsGood read → before ≡ Some (read_text read ++ (text ++ more)) → BeginsBad read (Some more) cause text → length (read_text read ++ text) ≤ 1073741824 → ⊥
+refused_too_long before after had has read text more cause ran good is bad within =
+    let t = told (read_text read ++ (text ++ more)) (read_text ran.read ++ (ran.rest ++ ran.more ∷ [])) after (rw is at ran.takes) in
+    let seam : read_text ran.read ++ (ran.rest ++ (ran.more ∷ t.0)) ≡ read_text read ++ (text ++ more) =
+    ap (λ y. read_text ran.read ++ y) (sym (append_assoc ran.rest (ran.more ∷ []) t.0)) ∙ sym (append_assoc (read_text ran.read) (ran.rest ++ ran.more ∷ []) t.0) ∙ sym t.2 in
+    let long = ran.long in
+    bad_before_limit ran.read read cause ran.rest (ran.more ∷ t.0) text more ran.good good ran.whole ran.short (omega arith) (omega (arith, long, within)) seam bad
+
+pub refused : (result : Status) (before after had has : Option (List ℕ)) (read : Option Schedule) (text more : List ℕ) (cause : Cause) → Ran result before after had has
     → result ≢ status.Usage → result ≢ status.ReadFault → result ≢ status.WriteFault
-    → IsGood read → before ≡ Some (read_text read ++ text) → BeginsBad read (Some []) cause text → length (read_text read ++ text) ≤ 1073741824
+    → IsGood read → before ≡ Some (read_text read ++ (text ++ more)) → BeginsBad read (Some more) cause text → length (read_text read ++ text) ≤ 1073741824
     → IsRefused (count_of read + 1) cause result
 unfolding Ran
-refused status.Ok before after had has read text cause ran u r w good is bad short = absurd (good_of_bad before after had has read text cause ran good is bad)
-refused status.Usage before after had has read text cause ran u r w good is bad short = absurd (u refl)
-refused (status.BadInput line c) before after had has read text cause ran u r w good is bad short =
-    let t = told (read_text read ++ text) (read_text ran.read ++ ran.rest) after (rw is at ran.takes) in
-    let p = same_bad ran.read read after c cause ran.rest text t.0 ran.good good (sym (append_assoc (read_text ran.read) ran.rest t.0) ∙ sym t.2) t.1 ran.bad bad in
+refused status.Ok before after had has read text more cause ran u r w good is bad short = absurd (good_of_bad before after had has read text more cause ran good is bad)
+refused status.Usage before after had has read text more cause ran u r w good is bad short = absurd (u refl)
+refused (status.BadInput line c) before after had has read text more cause ran u r w good is bad short =
+    let t = told (read_text read ++ (text ++ more)) (read_text ran.read ++ ran.rest) after (rw is at ran.takes) in
+    let p = same_bad ran.read read after c cause ran.rest text t.0 more ran.good good (sym (append_assoc (read_text ran.read) ran.rest t.0) ∙ sym t.2) t.1 ran.bad bad in
     let line_is : line ≡ count_of read + 1 = ran.line_is ∙ ap (λ n. n + 1) p.count in
     inl (ap (λ n. status.BadInput n c) line_is ∙ ap (λ d. status.BadInput (count_of read + 1) d) p.cause)
-refused status.ReadFault before after had has read text cause ran u r w good is bad short = absurd (r refl)
-refused status.WriteFault before after had has read text cause ran u r w good is bad short = absurd (w refl)
-refused status.NoMemory before after had has read text cause ran u r w good is bad short = inr refl
-refused status.InputTooLong before after had has read text cause ran u r w good is bad short =
-    let long = long_text before after had has (read_text read ++ text) ran is in absurd (omega (arith, long, short))
+refused status.ReadFault before after had has read text more cause ran u r w good is bad short = absurd (r refl)
+refused status.WriteFault before after had has read text more cause ran u r w good is bad short = absurd (w refl)
+refused status.NoMemory before after had has read text more cause ran u r w good is bad short = inr refl
+refused status.InputTooLong before after had has read text more cause ran u r w good is bad short =
+    absurd (refused_too_long before after had has read text more cause ran good is bad short)
 
 -- ---- limits
 
@@ -250,3 +335,32 @@ not_too_long result before after had has bytes ran is short too_long =
     let ended : RanTooLong before after had has = subst (λ r. Ran r before after had has) too_long ran in
     let long = long_text before after had has bytes ended is in
     omega (arith, short, long)
+
+-- a bad line is none within the limit
+bad_too_long : (before after had has : Option (List ℕ)) (line : ℕ) (cause : Cause) (read : Option Schedule) (rest more : List ℕ) → RanToBad before after had has line cause
+    → IsGood read → Lacks 10 rest → length rest ≤ 16777216 → length (read_text read ++ rest) ≡ 1073741824 → 0 < length more
+    → before ≡ Some (read_text read ++ (rest ++ more)) → ⊥
+bad_too_long before after had has line cause read rest more ran good lacks short long some is =
+    let t = told (read_text read ++ (rest ++ more)) (read_text ran.read ++ ran.rest) after (rw is at ran.takes) in
+    let within = ran.within in
+    bad_before_limit read ran.read cause rest more ran.rest t.0 good ran.good lacks short some (omega (arith, within, long))
+    (t.2 ∙ append_assoc (read_text ran.read) ran.rest t.0) (subst (λ left. BeginsBad ran.read left cause ran.rest) t.1 ran.bad)
+
+-- whole lines and a part of one that reach the limit, and more behind them
+pub too_long : (result : Status) (before after had has : Option (List ℕ)) (read : Option Schedule) (rest more : List ℕ) → Ran result before after had has
+    → result ≢ status.Usage → result ≢ status.ReadFault → result ≢ status.WriteFault
+    → IsGood read → Lacks 10 rest → length rest ≤ 16777216 → length (read_text read ++ rest) ≡ 1073741824 → 0 < length more
+    → before ≡ Some (read_text read ++ (rest ++ more)) → IsTooLong result
+unfolding Ran
+too_long status.Ok before after had has read rest more ran u r w good lacks short long some is =
+    let most = ended_short before after had has (read_text read ++ (rest ++ more)) ran is in
+    let whole : length (read_text read ++ (rest ++ more)) ≡ length (read_text read ++ rest) + length more =
+    ap length (sym (append_assoc (read_text read) rest more)) ∙ length-append (read_text read ++ rest) more in
+    absurd (omega (arith, most, whole, long, some))
+too_long status.Usage before after had has read rest more ran u r w good lacks short long some is = absurd (u refl)
+too_long (status.BadInput line cause) before after had has read rest more ran u r w good lacks short long some is =
+    absurd (bad_too_long before after had has line cause read rest more ran good lacks short long some is)
+too_long status.ReadFault before after had has read rest more ran u r w good lacks short long some is = absurd (r refl)
+too_long status.WriteFault before after had has read rest more ran u r w good lacks short long some is = absurd (w refl)
+too_long status.NoMemory before after had has read rest more ran u r w good lacks short long some is = inr refl
+too_long status.InputTooLong before after had has read rest more ran u r w good lacks short long some is = inl refl

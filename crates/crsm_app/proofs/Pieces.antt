@@ -26,15 +26,15 @@ line_carries w v old new lines handled put = λ before after had ahead total s. 
 
 pub line_ends : (w v : Option (List ℕ)) (old new : State) (lines : List Line) → Handles old new lines → PutsFront w v (lines_text (old.number + 1) lines) → Ends status.WriteFault w v old (10 ∷ [])
 unfolding Ends Handles Ran
-line_ends w v old new lines handled put = λ before after had ahead total s. line_partly before after had w v old new lines ahead total s handled put
+line_ends w v old new lines handled put = λ before after had ahead total short s. line_partly before after had w v old new lines ahead total s handled put
 
 pub line_refused : (w : Option (List ℕ)) (old : State) (cause : Cause) → StopsAt (stop.Bad cause) old.world old.part → Ends (status.BadInput (old.number + 1) cause) w w old (10 ∷ [])
 unfolding Ends StopsAt Ran
-line_refused w old cause stops = λ before after had ahead total s. line_bad before after had w old ahead total cause s stops
+line_refused w old cause stops = λ before after had ahead total short s. line_bad before after had w old ahead total cause short s stops
 
 pub no_memory_ends : (w : Option (List ℕ)) (old : State) (bytes : List ℕ) → Ends status.NoMemory w w old bytes
 unfolding Ends Ran
-no_memory_ends w old bytes = λ before after had ahead total s. nothing_more before after had w old (bytes ++ ahead) total s
+no_memory_ends w old bytes = λ before after had ahead total short s. nothing_more before after had w old (bytes ++ ahead) total s
 
 -- ---- a byte
 
@@ -45,7 +45,7 @@ byte_carries w old new byte other short d n p = λ before after had ahead total 
 
 pub byte_ends : (w : Option (List ℕ)) (old : State) (byte : ℕ) → byte ≢ 10 → 16777216 ≤ length old.part → Ends (status.BadInput (old.number + 1) unreadable) w w old (byte ∷ [])
 unfolding Ends Ran
-byte_ends w old byte other long = λ before after had ahead total s. too_long before after had w old byte ahead total s other long
+byte_ends w old byte other long = λ before after had ahead total short s. too_long before after had w old byte ahead total short s other long
 
 -- ---- a piece
 
@@ -61,10 +61,10 @@ carries_at b a c h w v old new total xs s takes on =
     on b c h [] (total + length xs) (subst (λ ys. SoFar b c h w old ys (total + length xs)) (sym (append-nil xs)) (taken_more b a c h w old total xs s takes))
 
 pub ends_at : (result : Status) (b a c h w v : Option (List ℕ)) (old : State) (total : ℕ) (xs : List ℕ)
-    → SoFar b a h w old [] total → Takes a c xs → Ends result w v old xs → Ran result b c h v
+    → SoFar b a h w old [] total → Takes a c xs → total + length xs ≤ 1073741824 → Ends result w v old xs → Ran result b c h v
 unfolding Ends
-ends_at result b a c h w v old total xs s takes ends =
-    ends b c h [] (total + length xs) (subst (λ ys. SoFar b c h w old ys (total + length xs)) (sym (append-nil xs)) (taken_more b a c h w old total xs s takes))
+ends_at result b a c h w v old total xs s takes short ends =
+    ends b c h [] (total + length xs) short (subst (λ ys. SoFar b c h w old ys (total + length xs)) (sym (append-nil xs)) (taken_more b a c h w old total xs s takes))
 
 -- ---- the end of the input
 
@@ -79,11 +79,11 @@ cut_in_line part some (Some s) = λ none. let zero : length part ≡ 0 = ap leng
 pub unbegun_finishes : (w : Option (List ℕ)) (st : State) → st.world ≡ None → Finishes (status.BadInput (st.number + 1) unreadable) w w st
 unfolding Finishes Ran
 unbegun_finishes w st none = λ before after had total within ended s.
-    cut_bad before after had w st total ended s (λ read stands. cut_unbegun st.part read (subst (λ x. StandsAt x read) none stands))
+    cut_bad before after had w st total within ended s (λ read stands. cut_unbegun st.part read (subst (λ x. StandsAt x read) none stands))
 
 pub cut_finishes : (w : Option (List ℕ)) (st : State) → 0 < length st.part → Finishes (status.BadInput (st.number + 1) unreadable) w w st
 unfolding Finishes Ran
-cut_finishes w st some = λ before after had total within ended s. cut_bad before after had w st total ended s (λ read stands. cut_in_line st.part some read)
+cut_finishes w st some = λ before after had total within ended s. cut_bad before after had w st total within ended s (λ read stands. cut_in_line st.part some read)
 
 pub no_memory_finishes : (w : Option (List ℕ)) (st : State) → Finishes status.NoMemory w w st
 unfolding Finishes Ran
@@ -94,11 +94,11 @@ final_lines_are : (held : Held) (lines : List Line) (s : Schedule) → lines ≡
 unfolding finals_text
 final_lines_are held lines s is = ap (λ ls. lines_text 0 ls) is
 
-pub partly_finishes : (w v : Option (List ℕ)) (st : State) (held : Held) (lines : List Line) → st.world ≡ Some held
+pub partly_finishes : (w v : Option (List ℕ)) (st : State) (held : Held) (lines : List Line) → st.world ≡ Some held → length st.part ≡ 0
     → ((s : Schedule) → StandsFor held (last_cluster s) → lines ≡ finals (last_cluster s)) → PutsFront w v (lines_text 0 lines) → Finishes status.WriteFault w v st
 unfolding Finishes Ran
-partly_finishes w v st held lines world is put = λ before after had total within ended s.
-    finish_partly before after had w v st total held s world
+partly_finishes w v st held lines world none is put = λ before after had total within ended s.
+    finish_partly before after had w v st total held ended s world none
     (λ sch stands. subst (λ ys. PutsFront w v ys) (final_lines_are held lines sch (is sch stands)) put)
 
 pub well_finishes : (w v : Option (List ℕ)) (st : State) (held : Held) (lines : List Line) → st.world ≡ Some held → length st.part ≡ 0

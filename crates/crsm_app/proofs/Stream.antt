@@ -10,10 +10,10 @@ use Rattle.crsm_io.proofs.Steps.{puts_after, puts_none, takes_after, takes_none}
 use Rattle.crsm_world.specs.Held.{Held, StandsFor}
 use Rattle.crsm_world.specs.Schedule.{Schedule, no_events, with_event, line_count, ended, schedule_text, transcript, finals_text, last_cluster}
 use Rattle.crsm_world.proofs.Schedules.{last_cluster-none, schedule_text-none, transcript-none, line_count-none, schedule-none, last_cluster-push, schedule_text-push, transcript-push, line_count-push, schedule-push}
-use Rattle.crsm_app.specs.State.{State, read_text, shown_text, whole_text, IsGood, count_of, StandsAt}
+use Rattle.crsm_app.specs.State.{State, read_text, shown_text, IsGood, count_of, StandsAt}
 use Rattle.crsm_app.specs.Handled.{HandledAfter, Handled}
 use Rattle.crsm_app.specs.Refused.{Refused, CutShort, bad_line, long_line, cut_line}
-use Rattle.crsm_app.specs.Run.{SoFar, CarriesOn, Ends, RanPartly, RanToEnd, RanToBad, RanSoFar, RanTooLong}
+use Rattle.crsm_app.specs.Run.{SoFar, CarriesOn, Ends, WrotePart, of_transcript, of_all, RanPartly, RanToEnd, RanToBad, RanSoFar, RanTooLong}
 use Rattle.crsm_app.specs.declared.status.Status.{Status}
 use Rattle.crsm_app.specs.declared.status.Cause.{Cause}
 use Rattle.crsm_app.specs.declared.status.Cause.TheVariants.{Unreadable}
@@ -70,15 +70,6 @@ more b a h w v old new lines ahead total s handled put =
       puts = subst (λ x. Puts h v x) shown (puts_after h w v (shown_text s.read) (lines_text (old.number + 1) lines) s.puts put);
     })
 
--- what follows the transcript
-abbrev final_part : Option Schedule → List ℕ
-final_part None = []
-final_part (Some s) = finals_text s
-
-whole_is : (r : Option Schedule) → whole_text r ≡ shown_text r ++ final_part r
-whole_is None = refl
-whole_is (Some s) = refl
-
 -- a front of a text, where all of the text would have made t of s
 partly : (h w v full : Option (List ℕ)) (s t text x : List ℕ) → Puts h w s → PutsFront w v text → Puts w full text → Puts h full t → PutsFront h v (t ++ x)
 partly None w v full s t text x hw wv wf hf =
@@ -97,13 +88,16 @@ partly (Some hh) w v full s t text x hw wv wf hf =
     }
 
 -- nothing of what is to be written next was written
+nothing_written : (b a h w : Option (List ℕ)) (read : Option Schedule) (rest : List ℕ) → Puts h w (shown_text read) → WrotePart read rest a h w
+nothing_written b a h w read rest puts = of_transcript (record { front = shown_text read; rest = []; cut = sym (append-nil (shown_text read)); put = puts })
+
 pub nothing_more : (b a h w : Option (List ℕ)) (st : State) (ahead : List ℕ) (total : ℕ) → SoFar b a h w st ahead total → RanPartly b a h w
 nothing_more b a h w st ahead total s = record {
   read = s.read;
   good = s.good;
   rest = st.part ++ ahead;
   takes = s.takes;
-  puts = record { front = shown_text s.read; rest = final_part s.read; cut = whole_is s.read; put = s.puts };
+  wrote = nothing_written b a h w s.read (st.part ++ ahead) s.puts;
 }
 
 -- a line was handled, and a front of its text written
@@ -118,18 +112,19 @@ line_partly b a h w v old new lines ahead total s handled put =
       good = t.good;
       rest = new.part ++ ahead;
       takes = t.takes;
-      puts = rw (whole_is t.read) (partly h w v full (shown_text s.read) (shown_text t.read) text (final_part t.read) s.puts put refl t.puts);
+      wrote = of_transcript (rw append-nil at (partly h w v full (shown_text s.read) (shown_text t.read) text [] s.puts put refl t.puts));
     }
 
 -- a line that is refused
-pub line_bad : (b a h w : Option (List ℕ)) (old : State) (ahead : List ℕ) (total : ℕ) (cause : Cause)
+pub line_bad : (b a h w : Option (List ℕ)) (old : State) (ahead : List ℕ) (total : ℕ) (cause : Cause) → total ≤ 1073741824
     → SoFar b a h w old (10 ∷ ahead) total → ((read : Option Schedule) → StandsAt old.world read → Refused read cause old.part)
     → RanToBad b a h w (old.number + 1) cause
-line_bad b a h w old ahead total cause s refused = record {
+line_bad b a h w old ahead total cause within s refused = record {
   read = s.read;
   good = s.good;
   line_is = ap (λ n. n + 1) s.number;
   rest = old.part ++ 10 ∷ ahead;
+  within = subst (λ n. n ≤ 1073741824) (sym s.taken_len) within;
   takes = s.takes;
   bad = bad_line (record { line = old.part; rest = ahead; text_is = refl; lacks = s.part; refused = refused s.read s.stands });
   puts = s.puts;
@@ -158,9 +153,9 @@ more_part b a h w old new byte ahead total s other short d n p =
     }
 
 -- a line that is too long
-pub too_long : (b a h w : Option (List ℕ)) (old : State) (byte : ℕ) (ahead : List ℕ) (total : ℕ)
+pub too_long : (b a h w : Option (List ℕ)) (old : State) (byte : ℕ) (ahead : List ℕ) (total : ℕ) → total ≤ 1073741824
     → SoFar b a h w old (byte ∷ ahead) total → byte ≢ 10 → 16777216 ≤ length old.part → RanToBad b a h w (old.number + 1) Unreadable
-too_long b a h w old byte ahead total s other long =
+too_long b a h w old byte ahead total within s other long =
     let short = s.short in
     let len : length (old.part ++ byte ∷ []) ≡ length old.part + 1 = length-append old.part (byte ∷ []) in
     record {
@@ -168,6 +163,7 @@ too_long b a h w old byte ahead total s other long =
       good = s.good;
       line_is = ap (λ n. n + 1) s.number;
       rest = old.part ++ byte ∷ ahead;
+      within = subst (λ n. n ≤ 1073741824) (sym s.taken_len) within;
       takes = s.takes;
       bad = long_line refl (record {
         line = old.part ++ byte ∷ [];
@@ -194,12 +190,12 @@ carries_more w v u x y z bytes i within front byte = λ before after had ahead t
 pub ends_more : (result : Status) (w v u : Option (List ℕ)) (x y : State) (bytes : List ℕ) (i : ℕ) → i < length bytes
     → CarriesOn w v x y (take i bytes) → Ends result v u y (get_or bytes i 0 ∷ []) → Ends result w u x bytes
 unfolding CarriesOn Ends
-ends_more result w v u x y bytes i within front byte = λ before after had ahead total s.
+ends_more result w v u x y bytes i within front byte = λ before after had ahead total short s.
     let rest : List ℕ = drop (i + 1) bytes ++ ahead in
     let text : bytes ++ ahead ≡ take i bytes ++ (get_or bytes i 0 ∷ rest) =
     ap (λ ys. ys ++ ahead) (sym (take-append-drop i bytes) ∙ ap (λ ys. take i bytes ++ ys) (drop_more bytes i 0 within))
     ∙ append_assoc (take i bytes) (get_or bytes i 0 ∷ drop (i + 1) bytes) ahead in
-    byte before after had rest total (front before after had (get_or bytes i 0 ∷ rest) total (subst (λ ys. SoFar before after had w x ys total) text s))
+    byte before after had rest total short (front before after had (get_or bytes i 0 ∷ rest) total (subst (λ ys. SoFar before after had w x ys total) text s))
 
 -- bytes that were taken are ahead
 pub taken_more : (b a c h w : Option (List ℕ)) (st : State) (total : ℕ) (xs : List ℕ)
@@ -222,13 +218,14 @@ taken_more b a c h w st total xs s t =
 -- ---- the end of the input
 
 -- the end comes in the middle of a line, or before the first
-pub cut_bad : (b a h w : Option (List ℕ)) (st : State) (total : ℕ) → AtEnd a → SoFar b a h w st [] total
+pub cut_bad : (b a h w : Option (List ℕ)) (st : State) (total : ℕ) → total ≤ 1073741824 → AtEnd a → SoFar b a h w st [] total
     → ((read : Option Schedule) → StandsAt st.world read → CutShort read st.part) → RanToBad b a h w (st.number + 1) Unreadable
-cut_bad b a h w st total ended s cut = record {
+cut_bad b a h w st total within ended s cut = record {
   read = s.read;
   good = s.good;
   line_is = ap (λ n. n + 1) s.number;
   rest = st.part;
+  within = subst (λ n. n ≤ 1073741824) (sym s.taken_len ∙ ap (λ ys. length (read_text s.read ++ ys)) (append-nil st.part)) within;
   takes = rw append-nil at s.takes;
   bad = cut_line refl (record { lacks = s.part; cut = cut s.read s.stands; ended = ended });
   puts = s.puts;
@@ -236,28 +233,29 @@ cut_bad b a h w st total ended s cut = record {
 
 -- all lines are done
 finish_by : (b a h w v : Option (List ℕ)) (st : State) (held : Held) (r : Option Schedule)
-    → IsGood r → StandsAt st.world r → Takes b a (read_text r ++ (st.part ++ [])) → Puts h w (shown_text r)
-    → st.world ≡ Some held → ((s : Schedule) → StandsFor held (last_cluster s) → PutsFront w v (finals_text s)) → RanPartly b a h v
-finish_by b a h w v st held None good stands t p world put = absurd (subst (λ x. StandsAt x None) world stands)
-finish_by b a h w v st held (Some s) good stands t p world put =
+    → AtEnd a → IsGood r → StandsAt st.world r → Takes b a (read_text r ++ (st.part ++ [])) → Puts h w (shown_text r)
+    → st.world ≡ Some held → length st.part ≡ 0 → ((s : Schedule) → StandsFor held (last_cluster s) → PutsFront w v (finals_text s)) → RanPartly b a h v
+finish_by b a h w v st held None ended good stands t p world none put = absurd (subst (λ x. StandsAt x None) world stands)
+finish_by b a h w v st held (Some s) ended good stands t p world none put =
     let f = put s (subst (λ x. StandsAt x (Some s)) world stands) in
     record {
       read = Some s;
       good = good;
       rest = st.part ++ [];
       takes = t;
-      puts = record {
+      wrote = of_all (append-nil st.part ∙ nil_from_length st.part none) ended (record {
         front = transcript s ++ f.front;
         rest = f.rest;
         cut = ap (λ ys. transcript s ++ ys) f.cut ∙ sym (append_assoc (transcript s) f.front f.rest);
         put = puts_after h w v (transcript s) f.front p f.put;
-      };
+      });
     }
 
 -- a front of the final lines was written
 pub finish_partly : (b a h w v : Option (List ℕ)) (st : State) (total : ℕ) (held : Held)
-    → SoFar b a h w st [] total → st.world ≡ Some held → ((s : Schedule) → StandsFor held (last_cluster s) → PutsFront w v (finals_text s)) → RanPartly b a h v
-finish_partly b a h w v st total held s world put = finish_by b a h w v st held s.read s.good s.stands s.takes s.puts world put
+    → AtEnd a → SoFar b a h w st [] total → st.world ≡ Some held → length st.part ≡ 0
+    → ((s : Schedule) → StandsFor held (last_cluster s) → PutsFront w v (finals_text s)) → RanPartly b a h v
+finish_partly b a h w v st total held ended s world none put = finish_by b a h w v st held s.read ended s.good s.stands s.takes s.puts world none put
 
 well_by : (b a h w v : Option (List ℕ)) (st : State) (total : ℕ) (held : Held) (r : Option Schedule) → total ≤ 1073741824 → AtEnd a
     → IsGood r → StandsAt st.world r → Takes b a (read_text r ++ (st.part ++ [])) → length (read_text r ++ (st.part ++ [])) ≡ total → Puts h w (shown_text r)
@@ -319,7 +317,7 @@ nothing_ran b h = record {
   good = tt;
   rest = [];
   takes = takes_none b;
-  puts = record { front = []; rest = []; cut = refl; put = puts_none h };
+  wrote = of_transcript (record { front = []; rest = []; cut = refl; put = puts_none h });
 }
 
 -- ---- lists

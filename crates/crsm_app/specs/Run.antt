@@ -42,6 +42,7 @@ pub record RanToBad (before after had has : Option (List ℕ)) (line : ℕ) (cau
   pub good : IsGood read
   pub line_is : line ≡ count_of read + 1
   pub rest : List ℕ
+  pub within : length (read_text read ++ rest) ≤ 1073741824
   pub takes : Takes before after (read_text read ++ rest)
   pub bad : BeginsBad read after cause rest
   pub puts : Puts had has (shown_text read)
@@ -68,13 +69,19 @@ pub record RanTooLong (before after had has : Option (List ℕ)) : Type 0 where
   pub takes : Takes before after (read_text read ++ (rest ++ more ∷ []))
   pub puts : Puts had has (shown_text read)
 
--- a front of the transcript and final lines of what was read was written
+-- A front of the transcript of what has been read was written, or, at the end of the input, a front of all that is to
+-- be written.
+pub data WrotePart (read : Option Schedule) (rest : List ℕ) (after had has : Option (List ℕ)) : Type 0 where
+  of_transcript : PutsFront had has (shown_text read) → WrotePart read rest after had has
+  of_all : rest ≡ [] → AtEnd after → PutsFront had has (whole_text read) → WrotePart read rest after had has
+
+-- a part of what is to be written was written
 pub record RanPartly (before after had has : Option (List ℕ)) : Type 0 where
   pub read : Option Schedule
   pub good : IsGood read
   pub rest : List ℕ
   pub takes : Takes before after (read_text read ++ rest)
-  pub puts : PutsFront had has (whole_text read)
+  pub wrote : WrotePart read rest after had has
 
 -- What a run did. It is shut, as the words below are: a proof opens it where it needs what is in it.
 unfoldable pub Ran : Status → Option (List ℕ) → Option (List ℕ) → Option (List ℕ) → Option (List ℕ) → Type 0
@@ -95,7 +102,7 @@ CarriesOn has now old new bytes = (before after had : Option (List ℕ)) (ahead 
 
 -- in these bytes the run ends
 unfoldable pub Ends : Status → Option (List ℕ) → Option (List ℕ) → State → List ℕ → Type 0
-Ends result has now old bytes = (before after had : Option (List ℕ)) (ahead : List ℕ) (total : ℕ)
+Ends result has now old bytes = (before after had : Option (List ℕ)) (ahead : List ℕ) (total : ℕ) → total ≤ 1073741824
     → SoFar before after had has old (bytes ++ ahead) total → Ran result before after had now
 
 -- at the end of the input the run ends

@@ -2,12 +2,13 @@
 
 ghost use Rattle.std.specs.Prelude.{◌≡◌, ◌≢◌, ◌<◌, ◌≤◌, ◌+◌, ◌↔◌, ◌++◌, ℕ, IsTrue, List, Option, Some, length, [], ◌∷◌, map, codes, string_bytes};
 ghost use Rattle.crsm_device.specs.Counts.{Rose};
+ghost use Rattle.crsm_text.specs.Words.{Lacks};
 ghost use Rattle.crsm_world.specs.Schedule.{Schedule, IsSchedule, schedule_text};
 ghost use Rattle.crsm_world.specs.Safe.{Agreed, Answered, RealTime};
 ghost use Rattle.crsm_app.specs.Causes.{status_of};
 ghost use Rattle.crsm_app.specs.State.{IsGood, read_text, count_of};
 ghost use Rattle.crsm_app.specs.Refused.{BeginsBad};
-ghost use Rattle.crsm_app.specs.Run.{Ran, IsDone, IsRefused};
+ghost use Rattle.crsm_app.specs.Run.{Ran, IsDone, IsRefused, IsTooLong};
 ghost use Rattle.crsm_app.specs.declared.status.Cause.{Cause};
 
 use crate::replay::Replay;
@@ -130,11 +131,17 @@ pub fn run<I: Source, O: Sink>(
         → map string_bytes words.now ≡ codes "replay" ∷ []
         → ¬ (Rose (I.faults input.old) (I.faults input.new)) → ¬ (Rose (O.faults output.old) (O.faults output.new)) → IsDone result }
 
-    // An input within the limit that has a bad line is refused for the first one, where no fault was counted.
-    ensures refused { (read : Option Schedule) (text : List ℕ) (cause : Cause) → IsGood read → I.left input.old ≡ Some (read_text read ++ text)
-        → BeginsBad read (Some []) cause text → length (read_text read ++ text) ≤ MAX_INPUT_BYTES
+    // An input that has a bad line within the limit is refused for the first one, where no fault was counted.
+    ensures refused { (read : Option Schedule) (text more : List ℕ) (cause : Cause) → IsGood read → I.left input.old ≡ Some (read_text read ++ (text ++ more))
+        → BeginsBad read (Some more) cause text → length (read_text read ++ text) ≤ MAX_INPUT_BYTES
         → map string_bytes words.now ≡ codes "replay" ∷ []
         → ¬ (Rose (I.faults input.old) (I.faults input.new)) → ¬ (Rose (O.faults output.old) (O.faults output.new)) → IsRefused (count_of read + 1) cause result }
+
+    // An input whose lines are good up to the limit and that has more bytes is too long, where no fault was counted.
+    ensures too_long { (read : Option Schedule) (rest more : List ℕ) → IsGood read → Lacks 10 rest → length rest ≤ 16777216
+        → length (read_text read ++ rest) ≡ MAX_INPUT_BYTES → 0 < length more → I.left input.old ≡ Some (read_text read ++ (rest ++ more))
+        → map string_bytes words.now ≡ codes "replay" ∷ []
+        → ¬ (Rose (I.faults input.old) (I.faults input.new)) → ¬ (Rose (O.faults output.old) (O.faults output.new)) → IsTooLong result }
 
     // An input beyond the limit is never done, and one within it is never too long.
     ensures limit { (bytes : List ℕ) → I.left input.old ≡ Some bytes → MAX_INPUT_BYTES < length bytes → result ≢ Status.Ok }

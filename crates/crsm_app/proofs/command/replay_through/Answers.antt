@@ -50,8 +50,15 @@ pub returns-in-Err-feed-clause-ran : goal.returns-in-Err-feed-clause-ran
 returns-in-Err-feed-clause-ran g c =
     let text : take c.in-Ok.count (c.read.new.buf ++ drop c.room-want.result c.loop-count.buf) ≡ take c.in-Ok.count c.read.new.buf =
     front_is c.in-Ok.count c.read.new.buf (drop c.room-want.result c.loop-count.buf) c.in-Ok.ensures.bound in
+    let bound = c.in-Ok.ensures.bound in
+    let len : length (take c.in-Ok.count c.read.new.buf) ≡ c.in-Ok.count = omega (arith, length-take {A = ℕ}, bound) in
+    let within = c.loop-count.invariant.within in
+    let room = c.room-want.ensures.within in
+    let want : length c.read.new.buf ≤ c.room-want.result = omega (arith, length-take {A = ℕ}, c.read.auto.buf) in
+    let below : c.loop-count.total < 1073741824 = omega (arith, within, c.if-total-eq-MAX_INPUT_BYTES.false) in
+    let fits = room below in
     rw c.halted-in-Err-feed.ensures (ends_at _ _ _ (g.I.Source.left c.read.new.self) _ _ _ c.loop-count.replay c.loop-count.total (take c.in-Ok.count c.read.new.buf)
-    c.loop-count.invariant.so_far c.in-Ok.ensures.taken (rw text at c.in-Err-feed.ensures.err))
+    c.loop-count.invariant.so_far c.in-Ok.ensures.taken (omega (arith, fits, want, bound, len)) (rw text at c.in-Err-feed.ensures.err))
 
 pub loop-count-preserved : goal.loop-count-preserved
 loop-count-preserved g c =

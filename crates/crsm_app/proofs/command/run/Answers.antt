@@ -1,6 +1,6 @@
 use Rattle.crsm_app.proofs.Pieces.{usage_at}
 use Rattle.crsm_world.proofs.Laws.{agreed_lem, answered_lem, real_time_lem}
-use Rattle.crsm_app.proofs.Exact.{completed, refused, not_done, not_too_long}
+use Rattle.crsm_app.proofs.Exact.{completed, refused, too_long, not_done, not_too_long}
 use Rattle.crsm_app.proofs.command.run.Goals as goal
 
 pub returns-then-is_replay-clause-complete : goal.returns-then-is_replay-clause-complete
@@ -9,9 +9,14 @@ returns-then-is_replay-clause-complete g c = λ s good is short words no_read no
     (λ e. no_read (c.replay.ensures.read e)) (λ e. no_write (c.replay.ensures.write e)) good is short
 
 pub returns-then-is_replay-clause-refused : goal.returns-then-is_replay-clause-refused
-returns-then-is_replay-clause-refused g c = λ read text cause good is bad short words no_read no_write.
-    refused c.replay.result _ _ _ _ read text cause c.replay.ensures.ran c.replay.ensures.usage
+returns-then-is_replay-clause-refused g c = λ read text more cause good is bad short words no_read no_write.
+    refused c.replay.result _ _ _ _ read text more cause c.replay.ensures.ran c.replay.ensures.usage
     (λ e. no_read (c.replay.ensures.read e)) (λ e. no_write (c.replay.ensures.write e)) good is bad short
+
+pub returns-then-is_replay-clause-too_long : goal.returns-then-is_replay-clause-too_long
+returns-then-is_replay-clause-too_long g c = λ read rest more good lacks short long some is words no_read no_write.
+    too_long c.replay.result _ _ _ _ read rest more c.replay.ensures.ran c.replay.ensures.usage
+    (λ e. no_read (c.replay.ensures.read e)) (λ e. no_write (c.replay.ensures.write e)) good lacks short long some is
 
 pub returns-then-is_replay-clause-limit : goal.returns-then-is_replay-clause-limit
 returns-then-is_replay-clause-limit g c = λ bytes is long. not_done c.replay.result _ _ _ _ bytes c.replay.ensures.ran is long

@@ -36,6 +36,10 @@ returns-in-Ok-put_all-clause-ok g c =
 
 pub returns-clause-err : goal.returns-clause-err
 returns-clause-err g c =
+    let part : c.self.inside.part.items ≡ c.args.self.now.part = ap (λ x. x.part) c.self.view_is in
+    let len : length c.self.inside.part.items ≡ length c.args.self.now.part = ap length part in
+    let is = c.len.ensures in
+    let none = c.if-len-gt0.false in
     partly_finishes (g.O.Sink.written c.args.output.now) (g.O.Sink.written c.put_all.new.sink) c.args.self.now c.in-Some.world c.in-Ok.lines
-    (sym (ap (λ x. x.world) c.self.view_is) ∙ c.in-Some.is) (λ s stands. c.in-Ok.ensures.lines (last_cluster s) stands)
+    (sym (ap (λ x. x.world) c.self.view_is) ∙ c.in-Some.is) (omega (arith, len, is, none)) (λ s stands. c.in-Ok.ensures.lines (last_cluster s) stands)
     (subst (λ y. PutsFront (g.O.Sink.written c.args.output.now) (g.O.Sink.written c.put_all.new.sink) y) (c.as_slice.ensures ∙ c.in-Ok-text_of.ensures) c.in-Err.ensures.front)
