@@ -53,7 +53,7 @@ unfolding with_entry
 with_is e z [] h = h
 with_is e z (f ∷ es) h = with_cases e f z es (stamp_lt e.stamp f.stamp) (with_is e z es) h
 
-logged_is : (x : ℕ) (log : Log) (z : Entry) → Among (logged_in x log) z → Logged log z × (z.epoch ≡ x)
+pub logged_is : (x : ℕ) (log : Log) (z : Entry) → Among (logged_in x log) z → Logged log z × (z.epoch ≡ x)
 unfolding logged_in
 logged_is x [] z h = absurd h
 logged_is x (Rec.Prepare e ∷ log) z h = go (λ a. logged_is x log z a) (e.epoch == x) refl h
