@@ -1,0 +1,67 @@
+-- How many bytes spellings take.
+use Rattle.std.proofs.Common.{arith, ◌≡◌, ◌∙◌, ap, sym, ℕ, ◌+◌, refl, List, ◌∷◌, ◌++◌, length}
+use Rattle.std.specs.Prelude.{Option, Some, None}
+use Rattle.std.proofs.lemmas.List.{length-append}
+use Rattle.crsm_base.specs.declared.command.Op.{Op}
+use Rattle.crsm_base.specs.declared.command.Op.TheVariants.{Get, Put, Delete, Cas}
+use Rattle.crsm_base.specs.declared.stamp.Stamp.{Stamp}
+use Rattle.crsm_base.specs.declared.command.Entry.{Entry}
+use Rattle.crsm_base.specs.Spelling.{u8_bytes, u16_bytes, u64_bytes, stamp_bytes, key_bytes, val_bytes, option_bytes, op_bytes, command_bytes, entry_bytes}
+
+u64_long : (n : ℕ) → length (u64_bytes n) ≡ 8
+unfolding u64_bytes
+u64_long n = omega arith
+
+stamp_long : (s : Stamp) → length (stamp_bytes s) ≡ 9
+unfolding stamp_bytes
+stamp_long s = let h = u64_long s.time in omega (arith, h, length-append (u64_bytes s.time) (u8_bytes s.origin))
+
+pub key_long : (k : List ℕ) → 1 + length k ≡ length (key_bytes k)
+unfolding key_bytes
+key_long k = omega (arith, length-append (u8_bytes (length k)) k)
+
+pub val_long : (v : List ℕ) → 2 + length v ≡ length (val_bytes v)
+unfolding val_bytes u16_bytes
+val_long v = omega arith
+
+pub put_long : (k v : List ℕ) → 1 + (length (key_bytes k) + length (val_bytes v)) ≡ length (op_bytes (Put k v))
+unfolding op_bytes
+put_long k v = omega (arith, length-append (key_bytes k) (val_bytes v))
+
+pub get_long : (k : List ℕ) → 1 + length (key_bytes k) ≡ length (op_bytes (Get k))
+unfolding op_bytes
+get_long k = omega arith
+
+pub delete_long : (k : List ℕ) → 1 + length (key_bytes k) ≡ length (op_bytes (Delete k))
+unfolding op_bytes
+delete_long k = omega arith
+
+pub cas_long : (k : List ℕ) (a b : Option (List ℕ)) →
+    1 + (length (key_bytes k) + (length (option_bytes val_bytes a) + length (option_bytes val_bytes b))) ≡ length (op_bytes (Cas k a b))
+unfolding op_bytes
+cas_long k a b =
+    omega (arith, length-append (key_bytes k) (option_bytes val_bytes a ++ option_bytes val_bytes b), length-append (option_bytes val_bytes a) (option_bytes val_bytes b))
+
+pub entry_long : (e : Entry) → 33 + length (op_bytes e.command.op) ≡ length (entry_bytes e)
+unfolding entry_bytes command_bytes
+entry_long e =
+    let a = u64_long e.epoch in
+    let s = stamp_long e.stamp in
+    let x = u64_long e.command.client in
+    let y = u64_long e.command.number in
+    omega (arith, a, s, x, y, length-append (u64_bytes e.epoch) (stamp_bytes e.stamp ++ (u64_bytes e.command.client ++ (u64_bytes e.command.number ++ op_bytes e.command.op))), length-append (stamp_bytes e.stamp) (u64_bytes e.command.client ++ (u64_bytes e.command.number ++ op_bytes e.command.op)), length-append (u64_bytes e.command.client) (u64_bytes e.command.number ++ op_bytes e.command.op), length-append (u64_bytes e.command.number) (op_bytes e.command.op))
+
+-- ---- of an operation, by its kind
+
+pub get_is : (o : Op) (k : List ℕ) (n : ℕ) → o ≡ Get k → n ≡ length (key_bytes k) → 1 + n ≡ length (op_bytes o)
+get_is o k n e h = ap (λ m. 1 + m) h ∙ get_long k ∙ ap (λ p. length (op_bytes p)) (sym e)
+
+pub delete_is : (o : Op) (k : List ℕ) (n : ℕ) → o ≡ Delete k → n ≡ length (key_bytes k) → 1 + n ≡ length (op_bytes o)
+delete_is o k n e h = ap (λ m. 1 + m) h ∙ delete_long k ∙ ap (λ p. length (op_bytes p)) (sym e)
+
+pub put_is : (o : Op) (k v : List ℕ) (n m : ℕ) → o ≡ Put k v → n ≡ length (key_bytes k) → m ≡ length (val_bytes v) → 1 + n + m ≡ length (op_bytes o)
+put_is o k v n m e h i = let l = put_long k v in let s : 1 + n + m ≡ length (op_bytes (Put k v)) = omega (arith, l, h, i) in s ∙ ap (λ p. length (op_bytes p)) (sym e)
+
+pub cas_is : (o : Op) (k : List ℕ) (a b : Option (List ℕ)) (n m l : ℕ) → o ≡ Cas k a b → n ≡ length (key_bytes k) → m ≡ length (option_bytes val_bytes a) → l ≡ length (option_bytes val_bytes b) →
+    1 + n + m + l ≡ length (op_bytes o)
+cas_is o k a b n m l e h i j = let t = cas_long k a b in let s : 1 + n + m + l ≡ length (op_bytes (Cas k a b)) = omega (arith, t, h, i, j) in s ∙ ap (λ p. length (op_bytes p)) (sym e)
