@@ -1,6 +1,7 @@
 //! Why the program ends early.
 
 use crsm_base::NoMemory;
+use crsm_ledger::LedgerError;
 use std::io;
 use thiserror::Error;
 
@@ -13,6 +14,8 @@ pub enum Fault {
     NoMemory,
     #[error("a page of so many entries has no spelling")]
     NoPage,
+    #[error("the log is refused: {0}")]
+    Log(LedgerError),
 }
 
 impl From<io::Error> for Fault {
@@ -24,5 +27,11 @@ impl From<io::Error> for Fault {
 impl From<NoMemory> for Fault {
     fn from(_: NoMemory) -> Fault {
         Fault::NoMemory
+    }
+}
+
+impl From<LedgerError> for Fault {
+    fn from(error: LedgerError) -> Fault {
+        Fault::Log(error)
     }
 }

@@ -2,6 +2,7 @@
 #![tactic(auto)]
 
 mod fault;
+mod logs;
 mod page;
 mod request;
 mod rows;
@@ -12,7 +13,7 @@ use crate::request::{Request, Work};
 use std::alloc::Global;
 use std::env;
 
-const USAGE: &str = "usage: crsm_bench write|read|store SIZE ROUNDS";
+const USAGE: &str = "usage: crsm_bench write|read|store|ledger SIZE ROUNDS";
 
 /// What the command line asks for; `None` where it asks for no work.
 fn asked(rt: &(impl env::Env + Alloc)) -> Result<Option<Request>, Fault> {
@@ -30,6 +31,7 @@ fn run(alloc: Global, request: &Request) -> Result<u64, Fault> {
         Work::Write => page::write(alloc, request.size, request.rounds),
         Work::Read => page::read(alloc, request.size, request.rounds),
         Work::Store => rows::apply(alloc, request.size, request.rounds),
+        Work::Ledger => logs::recover(alloc, request.size, request.rounds),
     }
 }
 

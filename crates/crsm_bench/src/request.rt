@@ -9,9 +9,12 @@ pub enum Work {
     Read,
     /// Applies commands to a store.
     Store,
+    /// Recovers a ledger from a log.
+    Ledger,
 }
 
-/// Work on a value of some size (entries of a page, keys and clients of a store), done so many times.
+/// Work on a value of some size (entries of a page, keys and clients of a store, commands
+/// of a log), done so many times.
 #[derive(Clone, Copy, Debug, PartialEq, Eq)]
 pub struct Request {
     pub work: Work,
@@ -25,6 +28,7 @@ impl Work {
             "write" => Some(Work::Write),
             "read" => Some(Work::Read),
             "store" => Some(Work::Store),
+            "ledger" => Some(Work::Ledger),
             _ => None,
         }
     }
