@@ -93,9 +93,10 @@ module _ (o : Option Stamp) (es page all : List Entry) (i room : ℕ) (e : Entry
       let r = rest_is true h in
       let rest = above o (drop (i + 1) es) in
       let over : room < length (entry_bytes e) = omega (arith, s, l) in
-      let before : length page + suc (length rest) ≡ length all = ap (λ (xs : List Entry). length page + length xs) (sym r) ∙ so_far.long in
-      (sym (append-nil page) ∙ ap (λ xs. page ++ xs) (sym (ap (λ xs. run_within room xs) r ∙ run_stops room e rest over)) ∙ so_far.run,
-       apart (length page) (length rest) (length all) before)
+      let before : length page + suc (length rest) ≡ length all = ap (λ (xs : List Entry). length page + length xs) (sym r) ∙ so_far.long in (
+        sym (append-nil page) ∙ ap (λ xs. page ++ xs) (sym (ap (λ xs. run_within room xs) r ∙ run_stops room e rest over)) ∙ so_far.run,
+        apart (length page) (length rest) (length all) before,
+      )
     where
       apart : (a b c : ℕ) → a + suc b ≡ c → false ≡ (a == c)
       apart a b c t = grind (arith, nat_tests)
@@ -105,9 +106,10 @@ pub is_all : (o : Option Stamp) (es page all : List Entry) (i room : ℕ) → le
     (page ≡ first_page all) × (true ≡ (length page == length all))
 is_all o es page all i room l so_far =
     let r = ap (λ xs. above o xs) (drop_all i es l) ∙ above_none o in
-    let same : length page + 0 ≡ length all = ap (λ (xs : List Entry). length page + length xs) (sym r) ∙ so_far.long in
-    (sym (append-nil page) ∙ ap (λ xs. page ++ xs) (sym (ap (λ xs. run_within room xs) r ∙ run_none room)) ∙ so_far.run,
-     equal (length page) (length all) same)
+    let same : length page + 0 ≡ length all = ap (λ (xs : List Entry). length page + length xs) (sym r) ∙ so_far.long in (
+      sym (append-nil page) ∙ ap (λ xs. page ++ xs) (sym (ap (λ xs. run_within room xs) r ∙ run_none room)) ∙ so_far.run,
+      equal (length page) (length all) same,
+    )
   where
     equal : (a b : ℕ) → a + 0 ≡ b → true ≡ (a == b)
     equal a b t = grind (arith, nat_tests)
@@ -126,8 +128,8 @@ pub answer_is : (log : Log) (after last floor : Option Stamp) (epoch done : ℕ)
 unfolding suspend_ok
 answer_is log after last floor epoch done whole es page e d l g f p w =
     let all : above floor es ≡ asked_of log after =
-      ap (λ o. above o es) (f ∙ ap (λ t. asked_stamp after t) l) ∙ ap (λ xs. above (asked_stamp after (last_stamp log)) xs) g ∙ sym (asked_is log after) in
+    ap (λ o. above o es) (f ∙ ap (λ t. asked_stamp after t) l) ∙ ap (λ xs. above (asked_stamp after (last_stamp log)) xs) g ∙ sym (asked_is log after) in
     let q : page ≡ first_page (asked_of log after) = p ∙ ap (λ xs. first_page xs) all in
     let v : whole ≡ (length (first_page (asked_of log after)) == length (asked_of log after)) =
-      w ∙ ap (λ (xs : List Entry). length page == length xs) all ∙ ap (λ (xs : List Entry). length xs == length (asked_of log after)) q in
+    w ∙ ap (λ (xs : List Entry). length page == length xs) all ∙ ap (λ (xs : List Entry). length xs == length (asked_of log after)) q in
     rw (e, d, l, v, q) refl

@@ -28,14 +28,14 @@ returns-then-size-room-clause-entries c =
     let at = left c.args.logged.now c.loop-entry.entry-index c.entry-item.result (omega arith) (cc) in
     let over : is_over c.args.floor c.entry-item.result.stamp ≡ true = cc (c.is_above.ensures) in
     (is_full c.args.floor c.args.logged.now c.loop-entry.page (above c.args.floor c.args.logged.now) c.loop-entry.entry-index c.loop-entry.room c.entry-item.result
-      at c.loop-entry.invariant c.entry_size-size.result over c.entry_size-size.ensures (omega arith)).0
+    at c.loop-entry.invariant c.entry_size-size.result over c.entry_size-size.ensures (omega arith)).0
 
 pub returns-then-size-room-clause-whole : goal.returns-then-size-room-clause-whole
 returns-then-size-room-clause-whole c =
     let at = left c.args.logged.now c.loop-entry.entry-index c.entry-item.result (omega arith) (cc) in
     let over : is_over c.args.floor c.entry-item.result.stamp ≡ true = cc (c.is_above.ensures) in
     (is_full c.args.floor c.args.logged.now c.loop-entry.page (above c.args.floor c.args.logged.now) c.loop-entry.entry-index c.loop-entry.room c.entry-item.result
-      at c.loop-entry.invariant c.entry_size-size.result over c.entry_size-size.ensures (omega arith)).1
+    at c.loop-entry.invariant c.entry_size-size.result over c.entry_size-size.ensures (omega arith)).1
 
 pub returns-clause-entries : goal.returns-clause-entries
 returns-clause-entries c =
