@@ -58,7 +58,7 @@ SitesHold n ss = (k : ℕ) (s : Site) → slice_get ss k ≡ Some s → SiteHold
 abbrev MailHolds : List Mail → Type 0
 MailHolds ms = (m : Mail) → Among ms m → IsBetween m.datagram
 
-record Held (n : ℕ) (w : World) : Type 0 where
+pub record Held (n : ℕ) (w : World) : Type 0 where
   pub size : w.n ≡ n
   pub sites : SitesHold n w.sites
   pub mail : MailHolds w.mail
@@ -143,7 +143,7 @@ module _ (n : ℕ) (w : World) (h : Held n w) (k : ℕ) where
   ended x up sends m IsLost = went_down
 
 -- who an input asks for
-wished : (n : ℕ) (w : World) → Held n w → (k : ℕ) (input : Input) → CanCome w k input → (ms : List ℕ) → AsksFor input ms → IsMembers ms
+pub wished : (n : ℕ) (w : World) → Held n w → (k : ℕ) (input : Input) → CanCome w k input → (ms : List ℕ) → AsksFor input ms → IsMembers ms
 wished n w h k input (IsMail from d s) ms (inl e) = absurd (cc)
 wished n w h k input (IsMail from d s) ms (inr a) = absurd (subst IsBetween (came_is from a.0 d (Datagram.Operate ms) a.1) (h.mail (record { from = from; to = k; datagram = d; used = s.0 }) s.1))
   where
@@ -246,7 +246,7 @@ first_held n = record {
   mail = λ m a. absurd a;
 }
 
-all_held : (n : ℕ) (w : World) → IsReached n w → Held n w
+pub all_held : (n : ℕ) (w : World) → IsReached n w → Held n w
 all_held n w first = first_held n
 all_held n w (next {w = u} {m = m} r h) = moment_held n u m h (all_held n u r)
 

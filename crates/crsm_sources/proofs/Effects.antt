@@ -13,7 +13,7 @@ use Rattle.crsm_spec.specs.Draft.{Draft, keep, noting, send, reply, count_vote, 
 use Rattle.crsm_spec.specs.Clients.{refuse, submit, await, replies, answer_each, answer_found, reply_ok, reply_dropped, find_executed, is_dropped}
 use Rattle.crsm_spec.specs.Coordinate.{forget_epoch}
 use Rattle.crsm_spec.specs.Step.{Input}
-use Rattle.crsm_steps.specs.Messages.{IsTold}
+use Rattle.crsm_steps.specs.Messages.{IsTold, Answers}
 use Rattle.crsm_steps.specs.Changes.{Change}
 use Rattle.crsm_steps.specs.Changes.Change.{Submits, Refuses, Commits, Replies, Takes, Acks, IsAcked, Pays, Owes, TellsTime, SendsAgain, Tells, Gathers, Suspends, Collects, TakesPage, Completes, Refrains, GivesUp, Asks, CountsAnswer, Proposes, IsOutbid, AcceptsOwn, CountsVote, Promises, Accepts, Chooses, Learns, AdoptsTail, AdoptsPage, Enters}
 use Rattle.crsm_sources.proofs.Words.{among_either, among_unmap}
@@ -43,7 +43,7 @@ pub record IsQuiet (x y : Draft) : Type 0 where
 
 pub data PartsChange (r : Replica) (input : Input) (x : Draft) : Draft → Type 0 where
   Quiet : {y : Draft} → IsQuiet x y → PartsChange r input x y
-  TellsOne : (k : ℕ) (c : Control) → IsTold x c → PartsChange r input x (tell c x k)
+  TellsOne : (k : ℕ) (c : Control) → IsTold x c → Answers r input c → PartsChange r input x (tell c x k)
   GathersOne : (address : ℕ) (p : Piece) → input ≡ Input.Came address (Datagram.Part p.from r.me p.boot p.number p.index p.count p.bytes) →
       PartsChange r input x (record x { replica = record x.replica { parts = with_part p x.replica.parts } })
 
@@ -134,7 +134,7 @@ module _ (r : Replica) (input : Input) (reading : ℕ) where
   parts_change x y (Owes ss a h) = still x y refl refl refl refl refl
   parts_change x y (TellsTime t a i w) = sent x y _ refl refl refl refl refl (frames_no _ _ _)
   parts_change x y (SendsAgain k g a m h) = sent x y _ refl refl refl refl refl (one_no k _ (frame_no _ _ _ _ _))
-  parts_change x y (Tells k c h) = TellsOne k c h
+  parts_change x y (Tells k c h) = TellsOne k c h.0 h.1
   parts_change x y (Gathers a p i o) = GathersOne a p i
   parts_change x y (Suspends h) = kept _ x y refl refl refl refl refl refl
   parts_change x y (Collects ms asked h s) = still x y refl refl refl refl refl

@@ -177,7 +177,7 @@ module _ (n : ℕ) (w v : World) (reached : IsReached n w) (p : Marks w v) (k : 
   noted x before after y (Change.Completes ms pages n h w) g = tt
   noted x before after y (Change.Refrains d) g = tt
   noted x before after y (Change.GivesUp own seen n) g = tt
-  noted x before after y (Change.Asks own seen b was by lt) g = asks_here x before after b own seen was by lt
+  noted x before after y (Change.Asks own seen b was by lt) g = asks_here x before after b own seen was by.0 lt
   noted x before after y (Change.CountsAnswer b own answers a was is new) g = counts_here x before after b own answers a was is g
   noted x before after y (Change.Proposes b own answers was many) g = proposes_here x before after b own answers was many g
   noted x before after y (Change.IsOutbid b own value acceptors top answers n h) g = tt

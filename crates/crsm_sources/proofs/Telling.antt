@@ -12,7 +12,7 @@ use Rattle.crsm_spec.specs.Parts.{Piece, cut, with_part}
 use Rattle.crsm_spec.specs.Replica.{Replica}
 use Rattle.crsm_spec.specs.Draft.{Draft, begun, tell, parts_to}
 use Rattle.crsm_spec.specs.Step.{Input}
-use Rattle.crsm_steps.specs.Messages.{IsTold}
+use Rattle.crsm_steps.specs.Messages.{IsTold, Answers}
 use Rattle.crsm_steps.specs.Changes.{Changes, stay, and_then}
 use Rattle.crsm_sources.specs.Sayings.{Saying, IsToldBy}
 use Rattle.crsm_sources.proofs.Words.{among_either, among_unmap}
@@ -154,7 +154,7 @@ module _ (k : ℕ) (old : List Saying) (r : Replica) (input : Input) (reading : 
     pub from : s.from ≡ k
     pub draft : Draft
     pub before : Changes r input reading (begun r) draft
-    pub told : IsToldBy draft s
+    pub told : IsToldBy r input draft s
     pub after : Changes r input reading draft last
 
   pub record Told (x : Draft) : Type 0 where
@@ -180,9 +180,9 @@ module _ (k : ℕ) (old : List Saying) (r : Replica) (input : Input) (reading : 
     new = t.new;
   }
 
-  one_told : (x : Draft) (t : Told x) (j : ℕ) (c : Control) → IsTold x c → Changes r input reading (begun r) x → Changes r input reading x last →
+  one_told : (x : Draft) (t : Told x) (j : ℕ) (c : Control) → IsTold x c → Answers r input c → Changes r input reading (begun r) x → Changes r input reading x last →
       Told (record x { replica = record x.replica { made = x.replica.made + 1 }; sends = x.sends ++ parts_to x.replica j c })
-  one_told x t j c is before after =
+  one_told x t j c is to before after =
       let new = next_saying x.replica j c in
       let keep : (s : Saying) → Among t.told s → Among (new ∷ t.told) s = λ s a. inr a in
       let me = t.mid.here.me in
@@ -206,18 +206,18 @@ module _ (k : ℕ) (old : List Saying) (r : Replica) (input : Input) (reading : 
         };
         more = λ s a. inr (t.more s a);
         new = λ s a. elim a [
-          | inl q ↦ subst (λ z. Among old z ⊎ IsNew z) q (inr (record { from = me; draft = x; before = before; told = record { from = refl; boot = refl; number = refl; is = is }; after = after }))
+          | inl q ↦ subst (λ z. Among old z ⊎ IsNew z) q (inr (record { from = me; draft = x; before = before; told = record { from = refl; boot = refl; number = refl; is = is; answers = to }; after = after }))
           | inr b ↦ t.new s b
         ];
       }
 
-  may_tell : (x : Draft) (t : Told x) (j : ℕ) (c : Control) → IsTold x c → Changes r input reading (begun r) x → Changes r input reading x last → Told (tell c x j)
+  may_tell : (x : Draft) (t : Told x) (j : ℕ) (c : Control) → IsTold x c → Answers r input c → Changes r input reading (begun r) x → Changes r input reading x last → Told (tell c x j)
   unfolding tell when◌then◌otherwise◌
-  may_tell x t j c is before after = go (x.replica.made == u64_max)
+  may_tell x t j c is to before after = go (x.replica.made == u64_max)
     where
       go : (b : Bool) → Told (when b then x otherwise record x { replica = record x.replica { made = x.replica.made + 1 }; sends = x.sends ++ parts_to x.replica j c })
       go true = t
-      go false = one_told x t j c is before after
+      go false = one_told x t j c is to before after
 
   gathers : (x : Draft) (t : Told x) (p : Piece) → IsFor old k p → Told (record x { replica = record x.replica { parts = with_part p x.replica.parts } })
   gathers x t p f = record {
@@ -241,7 +241,7 @@ module _ (k : ℕ) (old : List Saying) (r : Replica) (input : Input) (reading : 
 
   changed : (x y : Draft) → PartsChange r input x y → Told x → Changes r input reading (begun r) x → Changes r input reading x last → Told y
   changed x y (Quiet q) t before after = stays_told x y t q
-  changed x y (TellsOne j c is) t before after = may_tell x t j c is before after
+  changed x y (TellsOne j c is to) t before after = may_tell x t j c is to before after
   changed x y (GathersOne a p i) t before after = gathers x t p (came a p i)
 
   pub told_along : {y : Draft} → Changes r input reading (begun r) y → Changes r input reading y last → Told (begun r) → Told y

@@ -37,7 +37,7 @@ voted b (Some a) h = (a.1, ap (λ c. Some (c, a.1)) (same_ballot a.0 b h))
 
 says_so : (x : Draft) (c : Control) → IsTold x c → Says x.replica.log c
 unfolding instance has_accepted
-says_so x (Control.Suspend e after) h = h
+says_so x (Control.Suspend e after) h = h.0
 says_so x (Control.SuspendOk e done last after whole es) h = h
 says_so x (Control.P1a i b) h = h.0
 says_so x (Control.P1b i b v) h = h

@@ -7,7 +7,7 @@ use Rattle.crsm_spec.specs.Draft.{Draft, begun}
 use Rattle.crsm_spec.specs.Step.{Input, step}
 use Rattle.crsm_spec.specs.World.{Site, World, Moment, log_at}
 use Rattle.crsm_spec.specs.Moments.{begun_at}
-use Rattle.crsm_steps.specs.Messages.{IsTold}
+use Rattle.crsm_steps.specs.Messages.{IsTold, Answers}
 use Rattle.crsm_steps.specs.Changes.{Changes}
 use Rattle.crsm_steps.specs.Happenings.{Marks, CanCome, Ends, Happens, IsReached}
 
@@ -19,12 +19,14 @@ pub record Saying : Type 0 where
   pub number : ℕ
   pub message : Control
 
--- The draft's replica tells it next, and it says what the replica's log and note say.
-pub record IsToldBy (x : Draft) (s : Saying) : Type 0 where
+-- In a step of r on this input the draft's replica tells it next: it says what the replica's log and note say, and if it is an
+-- answer it is one to the input.
+pub record IsToldBy (r : Replica) (input : Input) (x : Draft) (s : Saying) : Type 0 where
   pub from : x.replica.me ≡ s.from
   pub boot : boots x.replica.log ≡ s.boot
   pub number : x.replica.made ≡ s.number
   pub is : IsTold x s.message
+  pub answers : Answers r input s.message
 
 -- the second world goes on from the first
 pub data GoesOn (v : World) : World → Type 0 where
@@ -55,4 +57,4 @@ pub record Past (n : ℕ) (w : World) (k : ℕ) : Type 0 where
 -- It was told at an earlier moment of what led to w.
 pub record WasTold (n : ℕ) (w : World) (s : Saying) : Type 0 where
   pub past : Past n w s.from
-  pub told : IsToldBy past.draft s
+  pub told : IsToldBy past.replica past.input past.draft s

@@ -2,7 +2,7 @@
 use Rattle.std.proofs.Common.{◌≡◌, ℕ, ◌+◌, ◌<◌, List, [], ◌∷◌, ◌++◌, length, refl, sym, ◌∙◌, ap, subst, inl, inr, Bool, true, false, map, take}
 use Rattle.std.specs.Prelude.{◌≢◌, IsTrue, Option, Some, None, not, nat_lt, nat_le, ◌==◌, ◌&&◌, ◌||◌, fold}
 use Rattle.std.specs.Option.{option_map_or}
-use Rattle.std.proofs.lemmas.Bool.{and_parts, eqb-true, false≢true, not-true, ltb-true, ltb-false, leb-true}
+use Rattle.std.proofs.lemmas.Bool.{and_parts, eqb-true, eq-eqb, false≢true, not-true, ltb-true, ltb-false, leb-true}
 use Rattle.crsm_base.specs.Order.{ballot_lt, ballot_eq}
 use Rattle.crsm_base.specs.MessageReading.{control_of}
 use Rattle.crsm_spec.specs.Types.{Stamp, Ballot, Entry, Decision, Command, Refusal, Rec, InEpoch, Datagram, Control}
@@ -26,8 +26,8 @@ use Rattle.crsm_spec.specs.Collect.{own_page, whole_ones, collected, is_within, 
 use Rattle.crsm_spec.specs.Coordinate.{forget_epoch, adopt_tail, enter, advance, learn, on_chosen, instance, count_acceptor, has_accepted, accept_own, tell_proposal, propose, count_answer, tell_ask, ask, greater_ballot, begin_proposing, on_complete, on_whole, suspend_once, may_reconfigure, collect, on_suspect}
 use Rattle.crsm_spec.specs.Controls.{on_suspend, is_page_of, take_page, on_suspend_ok, if_next, tell_promise, on_p1a, on_p1b, on_p1no, on_p2a, on_p2b, retrieve_base, on_decide, page_from, on_retrieve, new_entries, may_adopt, on_page, if_spec, on_control}
 use Rattle.crsm_spec.specs.Step.{Input, if_fitting, on_whole_message, on_part, ask_page, missing, tell_collect, renew, ask_all, on_tick, on_datagram, on_input, idle_at}
-use Rattle.crsm_steps.specs.Messages.{Hears, IsTold}
-use Rattle.crsm_steps.specs.Changes.{Change, IsPeer, IsAnswer, IsVote, AsksFor}
+use Rattle.crsm_steps.specs.Messages.{Hears, IsAsked, IsTold, Answers}
+use Rattle.crsm_steps.specs.Changes.{Change, IsPeer, IsAnswer, IsVote, IsNextRound, AsksFor}
 use Rattle.crsm_steps.specs.Changes.Change.{Submits, Refuses, Commits, Takes, Acks, IsAcked, Pays, Owes, TellsTime, SendsAgain, Tells, Gathers, Suspends, Collects, TakesPage, Completes, Refrains, GivesUp, Asks, CountsAnswer, Proposes, IsOutbid, AcceptsOwn, CountsVote, Promises, Accepts, Chooses, Learns, AdoptsTail, AdoptsPage, Enters}
 use Rattle.crsm_steps.proofs.Tests.{or_parts, not_not, same_number, next_number, same_ballot, same_stamp, ballot_is, among_take, above_top, not_astray}
 use Rattle.crsm_steps.proofs.Going.{Goes, here, both, once, either, of_option, each}
@@ -53,7 +53,7 @@ alike_then p q = record { log = p.log ∙ q.log; note = p.note ∙ q.note }
 
 told_alike : (c : Control) {x y : Draft} → Alike x y → IsTold x c → IsTold y c
 unfolding instance has_accepted
-told_alike (Control.Suspend e after) a h = h ∙ ap known a.log
+told_alike (Control.Suspend e after) a h = (h.0 ∙ ap known a.log, subst (λ o. IsAsked o after) a.note h.1)
 told_alike (Control.SuspendOk e done last after whole es) a h = (subst (λ l. IsTrue (suspended l)) a.log h.0, h.1 ∙ ap (λ l. suspend_ok l after) a.log)
 told_alike (Control.P1a i b) a h = (h.0 ∙ ap (λ l. known l + 1) a.log, h.1, h.2, sym a.note ∙ h.3)
 told_alike (Control.P1b i b v) a h = (h.0 ∙ ap (λ l. known l + 1) a.log, ap promised (sym a.log) ∙ h.1, h.2 ∙ ap accepted a.log)
@@ -164,6 +164,13 @@ once_suspended x = go (suspended x.replica.log) refl
     go true h = h
     go false h = refl
 
+once_known : (x : Draft) → known (suspend_once x).replica.log ≡ known x.replica.log
+unfolding suspend_once keep known decision
+once_known x = same_when (λ y. known y.replica.log) (suspended x.replica.log) x (keep (Rec.Suspend (known x.replica.log)) x) x refl refl
+
+not_equal : {a b : ℕ} → (a == b) ≡ false → a ≢ b
+not_equal {a} {b} h e = false≢true (sym h ∙ eq-eqb a b e)
+
 once_may : (ms : List ℕ) (x : Draft) → IsTrue (may_reconfigure x.replica ms) → IsTrue (may_reconfigure (suspend_once x).replica ms)
 unfolding suspend_once may_reconfigure spec_of next_spec keep spec known start decision
 once_may ms x h = same_when (λ y. may_reconfigure y.replica ms) (suspended x.replica.log) x (keep (Rec.Suspend (known x.replica.log)) x) x refl refl ∙ h
@@ -190,25 +197,25 @@ module _ (r : Replica) (input : Input) (reading : ℕ) where
   abbrev G : Draft → Draft → Type 0
   G x y = Goes r input reading x y
 
-  tells : (c : Control) (k : ℕ) (x : Draft) → IsTold x c → G x (tell c x k)
-  tells c k x h = once (Tells k c h)
+  tells : (c : Control) (k : ℕ) (x : Draft) → IsTold x c → Answers r input c → G x (tell c x k)
+  tells c k x h a = once (Tells k c (h, a))
 
-  tells_each : (ks : List ℕ) (c : Control) (x : Draft) → IsTold x c → G x (tell_each ks c x)
+  tells_each : (ks : List ℕ) (c : Control) (x : Draft) → IsTold x c → Answers r input c → G x (tell_each ks c x)
   unfolding tell_each
-  tells_each ks c x h =
-      each (λ y. IsTold y c) (tell c) ks (λ y k m p. tells c k y p) (λ y k p. told_alike c (alike_tell c k y) p) x h
+  tells_each ks c x h a =
+      each (λ y. IsTold y c) (tell c) ks (λ y k m p. tells c k y p a) (λ y k p. told_alike c (alike_tell c k y) p) x h
 
-  tells_all : (c : Control) (x : Draft) → IsTold x c → G x (tell_all c x)
+  tells_all : (c : Control) (x : Draft) → IsTold x c → Answers r input c → G x (tell_all c x)
   unfolding tell_all
-  tells_all c x h = tells_each _ c x h
+  tells_all c x h a = tells_each _ c x h a
 
   tells_decision : (k : ℕ) (x : Draft) → G x (tell_decision k x)
   unfolding tell_decision
-  tells_decision k x = of_option _ _ (decision x.replica.log) (λ d e. tells (Control.Decide d) k x e) (λ e. here)
+  tells_decision k x = of_option _ _ (decision x.replica.log) (λ d e. tells (Control.Decide d) k x e tt) (λ e. here)
 
   tells_retrieve : (k : ℕ) (x : Draft) → G x (tell_retrieve k x)
   unfolding tell_retrieve retrieve
-  tells_retrieve k x = tells _ k x (refl, refl)
+  tells_retrieve k x = tells _ k x (refl, refl) tt
 
   -- ---- clients
 
@@ -324,7 +331,7 @@ module _ (r : Replica) (input : Input) (reading : ℕ) where
 
   of_chosen : (d : Decision) (x : Draft) → Change r input reading x (forget_epoch (noting Note.Quiet (keep (Rec.Decide d) x))) → G x (on_chosen d x)
   unfolding on_chosen
-  of_chosen d x c = both (of_learn d x c) (tells_each _ (Control.Decide d) (learn d x) (learnt d x))
+  of_chosen d x c = both (of_learn d x c) (tells_each _ (Control.Decide d) (learn d x) (learnt d x) tt)
 
   -- ---- proposing
 
@@ -337,7 +344,7 @@ module _ (r : Replica) (input : Input) (reading : ℕ) where
   of_accept_own : (b : Ballot) (own value : Decision) (acceptors : List ℕ) (x : Draft) → x.replica.note ≡ Note.Proposing b own value acceptors → G x (accept_own b own value acceptors x)
   unfolding accept_own
   of_accept_own b own value acceptors x n =
-      either (ballot_lt b (promised x.replica.log)) (λ h. once (IsOutbid b own value acceptors (promised x.replica.log) [] (inr n) h)) (λ below.
+      either (ballot_lt b (promised x.replica.log)) (λ h. once (IsOutbid b own value acceptors (promised x.replica.log) [] (inr n) (h, inl refl))) (λ below.
       either (nat_le value.base_len (length (executed x.replica.log)) && not (has_accepted b x)) (λ h.
       let p = and_parts (nat_le value.base_len (length (executed x.replica.log))) (not (has_accepted b x)) h in
       both (once (AcceptsOwn b own value acceptors n below (leb-true value.base_len (length (executed x.replica.log)) p.0) (not-true (has_accepted b x) p.1)))
@@ -348,7 +355,7 @@ module _ (r : Replica) (input : Input) (reading : ℕ) where
   of_tell_proposal Note.Quiet x n = here
   of_tell_proposal (Note.Collecting ms pages) x n = here
   of_tell_proposal (Note.Asking b own answers) x n = here
-  of_tell_proposal (Note.Proposing b own value acceptors) x n = tells_each _ (Control.P2a (instance x) b value) x (refl, own, acceptors, n)
+  of_tell_proposal (Note.Proposing b own value acceptors) x n = tells_each _ (Control.P2a (instance x) b value) x (refl, own, acceptors, n) tt
   of_tell_proposal (Note.Over own seen) x n = here
 
   of_propose : (b : Ballot) (own : Decision) (answers : List (Answer Decision)) (x : Draft) → x.replica.note ≡ Note.Asking b own answers →
@@ -366,18 +373,19 @@ module _ (r : Replica) (input : Input) (reading : ℕ) where
   unfolding tell_ask
   of_tell_ask Note.Quiet x n = here
   of_tell_ask (Note.Collecting ms pages) x n = here
-  of_tell_ask (Note.Asking b own answers) x n = tells_each _ (Control.P1a (instance x) b) x (refl, own, answers, n)
+  of_tell_ask (Note.Asking b own answers) x n = tells_each _ (Control.P1a (instance x) b) x (refl, own, answers, n) tt
   of_tell_ask (Note.Proposing b own value acceptors) x n = here
   of_tell_ask (Note.Over own seen) x n = here
 
-  of_ask : (b : Ballot) (own : Decision) (seen : Ballot) (x : Draft) → x.replica.note ≡ Note.Over own seen → b.by ≡ x.replica.me → IsTrue (ballot_lt (promised x.replica.log) b) → G x (ask b own x)
+  of_ask : (b : Ballot) (own : Decision) (seen : Ballot) (x : Draft) → x.replica.note ≡ Note.Over own seen → (b.by ≡ x.replica.me) × IsNextRound (promised x.replica.log) seen b → IsTrue (ballot_lt (promised x.replica.log) b) → G x (ask b own x)
   unfolding ask noting keep promised accepted has
   of_ask b own seen x n by lt = both (once (Asks own seen b n by lt)) (both (of_count_answer b own [] _ _ refl (inl (refl, refl, refl)) refl) (of_tell_ask _ _ refl))
 
   of_begin : (own : Decision) (seen : Ballot) (x : Draft) → x.replica.note ≡ Note.Over own seen → G x (begin_proposing own seen x)
   unfolding begin_proposing
   of_begin own seen x n = either ((greater_ballot (promised x.replica.log) seen).round == u64_max) (λ h. once (GivesUp own seen n))
-      (λ h. of_ask _ own seen x n refl (above_top (promised x.replica.log) seen x.replica.me))
+      (λ h. of_ask (record { round = (greater_ballot (promised x.replica.log) seen).round + 1; by = x.replica.me }) own seen x n (refl, (not_equal h, refl))
+      (above_top (promised x.replica.log) seen x.replica.me))
 
   -- ---- collecting
 
@@ -402,7 +410,7 @@ module _ (r : Replica) (input : Input) (reading : ℕ) where
       let pages = own_page x.replica.me x.replica.log ∷ [] in
       let y = noting (Note.Collecting ms pages) x in
       let z = tell_all (Control.Suspend (known x.replica.log) None) y in
-      both (once (Collects ms asked may h)) (both (tells_all (Control.Suspend (known x.replica.log) None) y (noting_known _ x))
+      both (once (Collects ms asked may h)) (both (tells_all (Control.Suspend (known x.replica.log) None) y (noting_known _ x, inl refl) tt)
       (of_whole ms pages z (subst (G z) (noted_already (Note.Collecting ms pages) z (sym (alike_all _ y).note ∙ noting_note _ x)) here)))
 
   of_suspect : (ms : List ℕ) (x : Draft) → AsksFor input ms → G x (on_suspect ms x)
@@ -421,17 +429,18 @@ module _ (r : Replica) (input : Input) (reading : ℕ) where
   unfolding if_spec
   if_spec' k x y f = either (has (spec_of x.replica) k) f (λ h. here)
 
-  of_on_suspend : (k e : ℕ) (after : Option Stamp) (x : Draft) → G x (on_suspend k e after x)
+  of_on_suspend : (k e : ℕ) (after : Option Stamp) (x : Draft) → Hears r input k (Control.Suspend e after) → G x (on_suspend k e after x)
   unfolding on_suspend suspend_ok
-  of_on_suspend k e after x =
+  of_on_suspend k e after x heard =
       either (nat_lt e (known x.replica.log)) (λ h. tells_decision k x) (λ a.
       either (nat_lt (known x.replica.log) e) (λ h. tells_retrieve k x) (λ b.
-      both (of_suspend_once x) (tells (suspend_ok (suspend_once x).replica.log after) k (suspend_once x) (once_suspended x, refl))))
+      both (of_suspend_once x) (tells (suspend_ok (suspend_once x).replica.log after) k (suspend_once x) (once_suspended x, refl)
+      (k, subst (λ i. Hears r input k (Control.Suspend i after)) (same_number e (known x.replica.log) a b ∙ sym (once_known x)) heard))))
 
   of_take_page : (ms : List ℕ) (pages : List LogPage) (p : LogPage) (x : Draft) → Change r input reading x (noting (Note.Collecting ms (pages ++ p ∷ [])) x) → G x (take_page ms pages p x)
   unfolding take_page
   of_take_page ms pages p x c =
-      either p.whole (λ h. of_whole ms (pages ++ p ∷ []) x (once c)) (λ h. both (once c) (tells _ p.from _ (noting_known _ x)))
+      either p.whole (λ h. of_whole ms (pages ++ p ∷ []) x (once c)) (λ h. both (once c) (tells _ p.from _ (noting_known _ x, inr (ms, pages ++ p ∷ [], p.from, noting_note _ x, refl)) tt))
 
   of_on_suspend_ok : (e : ℕ) (after : Option Stamp) (p : LogPage) (note : Note) (x : Draft) → x.replica.note ≡ note →
       Hears r input p.from (Control.SuspendOk e p.executed p.last after p.whole p.entries) → IsTrue (has (spec_of x.replica) p.from) → G x (on_suspend_ok e after p note x)
@@ -446,18 +455,18 @@ module _ (r : Replica) (input : Input) (reading : ℕ) where
       let q = and_parts page (not (is_whole pages p.from)) t in
       of_take_page ms pages p x (TakesPage ms pages e after p n h m q.0 (not-true (is_whole pages p.from) q.1))) (λ t. here)
 
-  of_tell_promise : (k i : ℕ) (b : Ballot) (x : Draft) → i ≡ instance x → promised x.replica.log ≡ b → G x (tell_promise k i b x)
+  of_tell_promise : (k i : ℕ) (b : Ballot) (x : Draft) → i ≡ instance x → promised x.replica.log ≡ b → Hears r input k (Control.P1a i b) → G x (tell_promise k i b x)
   unfolding tell_promise
-  of_tell_promise k i b x i' p = tells (Control.P1b i b (accepted x.replica.log)) k x (i', p, refl)
+  of_tell_promise k i b x i' p h = tells (Control.P1b i b (accepted x.replica.log)) k x (i', p, refl) (k, h)
 
   of_p1a : (k i : ℕ) (b : Ballot) (x : Draft) → Hears r input k (Control.P1a i b) → G x (on_p1a k i b x)
   unfolding on_p1a
   of_p1a k i b x h = if_next' k i x _ (λ next.
       either (ballot_lt (promised x.replica.log) b) (λ lt.
       both (once (subst (λ j. Change r input reading x (keep (Rec.Promise j b) x)) (sym next) (Promises k b (subst (λ j. Hears r input k (Control.P1a j b)) next h) lt)))
-      (of_tell_promise k i b (keep (Rec.Promise i b) x) (next ∙ keeps_known_promise i b x) (promises_it i b x))) (λ ge.
-      either (ballot_eq (promised x.replica.log) b) (λ eq. of_tell_promise k i b x next (same_ballot (promised x.replica.log) b eq)) (λ gt.
-      tells (Control.P1no i b (promised x.replica.log)) k x (next, refl))))
+      (of_tell_promise k i b (keep (Rec.Promise i b) x) (next ∙ keeps_known_promise i b x) (promises_it i b x) h)) (λ ge.
+      either (ballot_eq (promised x.replica.log) b) (λ eq. of_tell_promise k i b x next (same_ballot (promised x.replica.log) b eq) h) (λ gt.
+      tells (Control.P1no i b (promised x.replica.log)) k x (next, refl) (k, inl h))))
 
   of_p1b : (i : ℕ) (b : Ballot) (a : Answer Decision) (note : Note) (x : Draft) → x.replica.note ≡ note → Hears r input a.replica (Control.P1b i b a.accepted) →
       IsTrue (has (spec_of x.replica) a.replica) → G x (on_p1b i b a note x)
@@ -476,33 +485,42 @@ module _ (r : Replica) (input : Input) (reading : ℕ) where
       (subst (λ d. Hears r input a.replica (Control.P1b i d a.accepted)) (same_ballot b c q.1) h) in
       of_count_answer c own answers a x n (inr (m, heard)) (not-true (has (map (λ f. f.replica) answers) a.replica) p.1)) (λ t. here)
 
-  of_p1no : (i : ℕ) (b top : Ballot) (note : Note) (x : Draft) → x.replica.note ≡ note → G x (on_p1no i b top note x)
+  -- a refusal of ours
+  refused : (k i : ℕ) (b c top : Ballot) (x : Draft) → Hears r input k (Control.P1no i b top) → IsTrue (i == known x.replica.log + 1) → b ≡ c →
+      Hears r input k (Control.P1no (instance x) c top)
+  unfolding instance
+  refused k i b c top x h q same =
+      subst (λ j. Hears r input k (Control.P1no j c top)) (eqb-true i (known x.replica.log + 1) q) (subst (λ d. Hears r input k (Control.P1no i d top)) same h)
+
+  of_p1no : (k i : ℕ) (b top : Ballot) (note : Note) (x : Draft) → x.replica.note ≡ note → Hears r input k (Control.P1no i b top) → G x (on_p1no i b top note x)
   unfolding on_p1no
-  of_p1no i b top Note.Quiet x n = here
-  of_p1no i b top (Note.Collecting ms pages) x n = here
-  of_p1no i b top (Note.Over own seen) x n = here
-  of_p1no i b top (Note.Asking c own answers) x n =
+  of_p1no k i b top Note.Quiet x n h = here
+  of_p1no k i b top (Note.Collecting ms pages) x n h = here
+  of_p1no k i b top (Note.Over own seen) x n h = here
+  of_p1no k i b top (Note.Asking c own answers) x n h =
       let ours = i == known x.replica.log + 1 && ballot_eq b c in
       either (ours && ballot_lt b top) (λ t.
       let p = and_parts ours (ballot_lt b top) t in
       let q = and_parts (i == known x.replica.log + 1) (ballot_eq b c) p.0 in
-      once (IsOutbid c own own [] top answers (inl n) (subst (λ d. IsTrue (ballot_lt d top)) (same_ballot b c q.1) p.1))) (λ t. here)
-  of_p1no i b top (Note.Proposing c own value acceptors) x n =
+      once (IsOutbid c own own [] top answers (inl n)
+      (subst (λ d. IsTrue (ballot_lt d top)) (same_ballot b c q.1) p.1, inr (k, refused k i b c top x h q.0 (same_ballot b c q.1))))) (λ t. here)
+  of_p1no k i b top (Note.Proposing c own value acceptors) x n h =
       let ours = i == known x.replica.log + 1 && ballot_eq b c in
       either (ours && ballot_lt b top) (λ t.
       let p = and_parts ours (ballot_lt b top) t in
       let q = and_parts (i == known x.replica.log + 1) (ballot_eq b c) p.0 in
-      once (IsOutbid c own value acceptors top [] (inr n) (subst (λ d. IsTrue (ballot_lt d top)) (same_ballot b c q.1) p.1))) (λ t. here)
+      once (IsOutbid c own value acceptors top [] (inr n)
+      (subst (λ d. IsTrue (ballot_lt d top)) (same_ballot b c q.1) p.1, inr (k, refused k i b c top x h q.0 (same_ballot b c q.1))))) (λ t. here)
 
   of_p2a : (k i : ℕ) (b : Ballot) (d : Decision) (x : Draft) → Hears r input k (Control.P2a i b d) → G x (on_p2a k i b d x)
   unfolding on_p2a
   of_p2a k i b d x h = if_next' k i x _ (λ next.
-      either (ballot_lt b (promised x.replica.log)) (λ lt. tells (Control.P1no i b (promised x.replica.log)) k x (next, refl)) (λ ge.
-      either (has_accepted b x) (λ old. tells (Control.P2b i b) k x (next, old)) (λ new.
+      either (ballot_lt b (promised x.replica.log)) (λ lt. tells (Control.P1no i b (promised x.replica.log)) k x (next, refl) (k, inr (d, h))) (λ ge.
+      either (has_accepted b x) (λ old. tells (Control.P2b i b) k x (next, old) (k, d, h)) (λ new.
       either (nat_lt (length (executed x.replica.log)) d.base_len) (λ lt. tells_retrieve k x) (λ base.
       both (once (subst (λ j. Change r input reading x (keep (Rec.Accept j b d) x)) (sym next)
       (Accepts k b d (subst (λ j. Hears r input k (Control.P2a j b d)) next h) ge new (ltb-false (length (executed x.replica.log)) d.base_len base))))
-      (tells (Control.P2b i b) k (keep (Rec.Accept i b d) x) (next ∙ keeps_known_accept i b d x, accepted_it i b d x))))))
+      (tells (Control.P2b i b) k (keep (Rec.Accept i b d) x) (next ∙ keeps_known_accept i b d x, accepted_it i b d x) (k, d, h))))))
 
   of_p2b : (k i : ℕ) (b : Ballot) (note : Note) (x : Draft) → x.replica.note ≡ note → Hears r input k (Control.P2b i b) → IsTrue (has (spec_of x.replica) k) → G x (on_p2b k i b note x)
   unfolding on_p2b instance
@@ -532,7 +550,7 @@ module _ (r : Replica) (input : Input) (reading : ℕ) where
   of_retrieve k e from x =
       let log = x.replica.log in
       either (nat_lt e (known log)) (λ h. tells_decision k x) (λ a.
-      let g = either (nat_lt from (length (executed log))) (λ lt. tells (page_from log from) k x (ltb-true from (length (executed log)) lt, refl)) (λ b. here) in
+      let g = either (nat_lt from (length (executed log))) (λ lt. tells (page_from log from) k x (ltb-true from (length (executed log)) lt, refl) tt) (λ b. here) in
       both g (either (nat_lt (known log) e) (λ lt. tells_retrieve k _) (λ b. here)))
 
   of_page : (k e from : ℕ) (es : List Entry) (x : Draft) → Hears r input k (Control.Page e from es) → G x (on_page k e from es x)
@@ -545,11 +563,11 @@ module _ (r : Replica) (input : Input) (reading : ℕ) where
 
   of_control : (k : ℕ) (c : Control) (x : Draft) → Hears r input k c → G x (on_control k c x)
   unfolding on_control
-  of_control k (Control.Suspend e after) x h = of_on_suspend k e after x
+  of_control k (Control.Suspend e after) x h = of_on_suspend k e after x h
   of_control k (Control.SuspendOk e done last after whole es) x h = if_spec' k x _ (λ m. of_on_suspend_ok e after (record { from = k; executed = done; last = last; whole = whole; entries = es }) x.replica.note x refl h m)
   of_control k (Control.P1a i b) x h = of_p1a k i b x h
   of_control k (Control.P1b i b v) x h = if_spec' k x _ (λ m. of_p1b i b (record { replica = k; accepted = v }) x.replica.note x refl h m)
-  of_control k (Control.P1no i b top) x h = if_spec' k x _ (λ m. of_p1no i b top x.replica.note x refl)
+  of_control k (Control.P1no i b top) x h = if_spec' k x _ (λ m. of_p1no k i b top x.replica.note x refl h)
   of_control k (Control.P2a i b d) x h = of_p2a k i b d x h
   of_control k (Control.P2b i b) x h = if_spec' k x _ (λ m. of_p2b k i b x.replica.note x refl h m)
   of_control k (Control.Decide d) x h = of_decide k d x h
@@ -581,21 +599,24 @@ module _ (r : Replica) (input : Input) (reading : ℕ) where
         is = is;
       }))) (λ e. here))
 
-  of_tell_collect : (pages : List LogPage) (x : Draft) → G x (tell_collect pages x)
+  of_tell_collect : (ms : List ℕ) (pages : List LogPage) (x : Draft) → x.replica.note ≡ Note.Collecting ms pages → G x (tell_collect pages x)
   unfolding tell_collect ask_page
-  of_tell_collect pages x = each (λ y. Unit {0}) (ask_page pages) (missing x.replica pages) (λ y k m u. tells (Control.Suspend (known y.replica.log) (cursor pages k)) k y refl) (λ y k u. tt) x tt
+  of_tell_collect ms pages x n =
+      each (λ y. y.replica.note ≡ Note.Collecting ms pages) (ask_page pages) (missing x.replica pages)
+      (λ y k m u. tells (Control.Suspend (known y.replica.log) (cursor pages k)) k y (refl, inr (ms, pages, k, u, refl)) tt)
+      (λ y k u. sym (alike_tell (Control.Suspend (known y.replica.log) (cursor pages k)) k y).note ∙ u) x n
 
   of_renew : (note : Note) (x : Draft) → x.replica.note ≡ note → G x (renew note x)
   unfolding renew
   of_renew Note.Quiet x n = here
-  of_renew (Note.Collecting ms pages) x n = of_tell_collect pages x
+  of_renew (Note.Collecting ms pages) x n = of_tell_collect ms pages x n
   of_renew (Note.Asking b own answers) x n = of_tell_ask _ x n
   of_renew (Note.Proposing b own value acceptors) x n = both (of_accept_own b own value acceptors x n) (of_tell_proposal _ _ refl)
   of_renew (Note.Over own seen) x n = of_begin own seen x n
 
   of_ask_all : (x : Draft) → G x (ask_all x)
   unfolding ask_all retrieve
-  of_ask_all x = either (active x.replica.log) (λ h. here) (λ h. tells_all (retrieve x) x (refl, refl))
+  of_ask_all x = either (active x.replica.log) (λ h. here) (λ h. tells_all (retrieve x) x (refl, refl) tt)
 
   of_tick : (x : Draft) → G x (on_tick x)
   unfolding on_tick

@@ -1,6 +1,6 @@
 -- The changes that every step of a replica is made of. A change carries what the rule that makes it has found, so that a
 -- law about steps is an induction over changes and never speaks of a rule.
-use Rattle.std.specs.Prelude.{◌≡◌, ◌≢◌, ◌⊎◌, ℕ, ◌-◌, ◌<◌, ◌≤◌, false, IsTrue, List, [], ◌∷◌, ◌++◌, length, drop, map, Option, Some, None}
+use Rattle.std.specs.Prelude.{◌≡◌, ◌≢◌, ◌⊎◌, ℕ, ◌+◌, ◌-◌, ◌<◌, ◌≤◌, false, IsTrue, List, [], ◌∷◌, ◌++◌, length, drop, map, Option, Some, None}
 use Rattle.crsm_base.specs.Order.{ballot_lt}
 use Rattle.crsm_spec.specs.Types.{Stamp, Ballot, Entry, Decision, Command, Refusal, Rec, InEpoch, Datagram, Control, Line}
 use Rattle.crsm_spec.specs.Lists.{Among, first_of, has}
@@ -15,11 +15,12 @@ use Rattle.crsm_spec.specs.Draft.{Draft, keep, noting, would, issued_at, push_to
 use Rattle.crsm_spec.specs.Clients.{refusal, refuse, submit, replies}
 use Rattle.crsm_spec.specs.Frames.{is_odd_frame, take_frame, ack, pay, owing, is_idle, again_frame}
 use Rattle.crsm_spec.specs.Collect.{own_page, whole_ones, collected, size_of, is_within, is_whole, cursor}
-use Rattle.crsm_spec.specs.Coordinate.{forget_epoch, instance, has_accepted, may_reconfigure}
+use Rattle.crsm_spec.specs.Clock.{u64_max}
+use Rattle.crsm_spec.specs.Coordinate.{forget_epoch, instance, has_accepted, greater_ballot, may_reconfigure}
 use Rattle.crsm_spec.specs.Controls.{is_page_of, new_entries, may_adopt}
 use Rattle.crsm_spec.specs.Step.{Input, step}
 use Rattle.crsm_spec.specs.Draft.{begun}
-use Rattle.crsm_steps.specs.Messages.{Hears, IsTold}
+use Rattle.crsm_steps.specs.Messages.{Hears, IsTold, Answers}
 
 -- whether two replicas talk within the known epoch
 abbrev pub IsPeer : Replica → ℕ → Type 0
@@ -36,6 +37,14 @@ abbrev pub IsVote : Replica → Input → Draft → Ballot → ℕ → Type 0
 IsVote r input x b k =
     ((k ≡ x.replica.me) × IsTrue (has_accepted b x))
     ⊎ (IsTrue (has (spec_of x.replica) k) × Hears r input k (Control.P2b (instance x) b))
+
+-- the ballot is of the round after the greater one of what was promised and what was seen
+abbrev pub IsNextRound : Ballot → Ballot → Ballot → Type 0
+IsNextRound promised seen b = ((greater_ballot promised seen).round ≢ u64_max) × (b.round ≡ (greater_ballot promised seen).round + 1)
+
+-- the replica has promised this ballot, or hears that another has which refuses b
+abbrev pub IsRefusal : Replica → Input → Draft → Ballot → Ballot → Type 0
+IsRefusal r input x b top = (top ≡ promised x.replica.log) ⊎ ((k : ℕ) × Hears r input k (Control.P1no (instance x) b top))
 
 -- the input asks for these members of the next epoch
 abbrev pub AsksFor : Input → List ℕ → Type 0
@@ -72,7 +81,7 @@ pub data Change (r : Replica) (input : Input) (reading : ℕ) (x : Draft) : Draf
   SendsAgain : (k : ℕ) (f : ℕ × InEpoch) → IsTrue (active x.replica.log) → Among (other_members x.replica) k → Among (unacked x.replica k) f →
       Change r input reading x (again_frame k x f)
   -- ---- control messages
-  Tells : (k : ℕ) (c : Control) → IsTold x c → Change r input reading x (tell c x k)
+  Tells : (k : ℕ) (c : Control) → IsTold x c × Answers r input c → Change r input reading x (tell c x k)
   Gathers : (address : ℕ) (p : Piece) → input ≡ Input.Came address (Datagram.Part p.from r.me p.boot p.number p.index p.count p.bytes) →
       p.from ≢ r.me → Change r input reading x (record x { replica = record x.replica { parts = with_part p x.replica.parts } })
   -- ---- collecting a frozen epoch
@@ -94,8 +103,8 @@ pub data Change (r : Replica) (input : Input) (reading : ℕ) (x : Draft) : Draf
   -- ---- proposing
   GivesUp : (own : Decision) (seen : Ballot) → x.replica.note ≡ Note.Over own seen → Change r input reading x (noting Note.Quiet x)
   -- a ballot of its own is promised and asked for
-  Asks : (own : Decision) (seen b : Ballot) → x.replica.note ≡ Note.Over own seen → b.by ≡ x.replica.me →
-      IsTrue (ballot_lt (promised x.replica.log) b) →
+  Asks : (own : Decision) (seen b : Ballot) → x.replica.note ≡ Note.Over own seen →
+      (b.by ≡ x.replica.me) × IsNextRound (promised x.replica.log) seen b → IsTrue (ballot_lt (promised x.replica.log) b) →
       Change r input reading x (noting (Note.Asking b own []) (keep (Rec.Promise (instance x) b) x))
   CountsAnswer : (b : Ballot) (own : Decision) (answers : List (Answer Decision)) (a : Answer Decision) → x.replica.note ≡ Note.Asking b own answers →
       IsAnswer r input x b a → has (map (λ f. f.replica) answers) a.replica ≡ false →
@@ -105,7 +114,8 @@ pub data Change (r : Replica) (input : Input) (reading : ℕ) (x : Draft) : Draf
       Change r input reading x (noting (Note.Proposing b own (value_of own answers) []) x)
   -- a greater ballot was promised, here or elsewhere
   IsOutbid : (b : Ballot) (own value : Decision) (acceptors : List ℕ) (top : Ballot) → (answers : List (Answer Decision)) →
-      (x.replica.note ≡ Note.Asking b own answers) ⊎ (x.replica.note ≡ Note.Proposing b own value acceptors) → IsTrue (ballot_lt b top) →
+      (x.replica.note ≡ Note.Asking b own answers) ⊎ (x.replica.note ≡ Note.Proposing b own value acceptors) →
+      IsTrue (ballot_lt b top) × IsRefusal r input x b top →
       Change r input reading x (noting (Note.Over own top) x)
   AcceptsOwn : (b : Ballot) (own value : Decision) (acceptors : List ℕ) → x.replica.note ≡ Note.Proposing b own value acceptors →
       ballot_lt b (promised x.replica.log) ≡ false → value.base_len ≤ length (executed x.replica.log) → has_accepted b x ≡ false →
