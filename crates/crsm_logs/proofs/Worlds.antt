@@ -264,3 +264,7 @@ is_well n w r few = record {
 
 pub epochs_hold_always : EpochsHoldAlways
 epochs_hold_always n w r few = epochs.epochs_hold n w r (is_well n w r few)
+
+-- a replica that is up has its number, and knows how many the cluster began with
+pub up_numbers : (n : ℕ) (w : World) → IsReached n w → (k : ℕ) (r : Replica) → slice_get w.sites k ≡ Some (Site.Up r) → (r.me ≡ k) × (r.n ≡ n)
+up_numbers n w q k r e = let u : UpHolds n k r = (all_held n w q).sites k (Site.Up r) e in (u.number, u.size)

@@ -1,6 +1,7 @@
 pub mod Words
 pub mod Gathered
 pub mod Effects
+pub mod History
 pub mod Telling
 pub mod Truth
 pub mod Worlds

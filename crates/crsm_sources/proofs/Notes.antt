@@ -257,7 +257,7 @@ notes_stepped : (n : ℕ) (w v : World) → IsReached n w → Marks w v → Note
     (m : Moment) → Ends v k (step r input reading) m → Happens w (begun_at w m) → Notes n m.after
 unfolding begun_at begun
 notes_stepped n w v reached p g k r e input reading c m ends h = notes_end n w v p g k (step r input reading) m ends h (λ q.
-    let kept : log_at m.after k ≡ (step r input reading).replica.log = subst (λ z. log_at z.after k ≡ (step r input reading).replica.log) (sym q) (kept_whole n w v p (all_known n w reached) k r e (step r input reading)) in
+    let kept : log_at m.after k ≡ (step r input reading).replica.log = subst (λ z. log_at z.after k ≡ (step r input reading).replica.log) (sym q) (kept_whole n w v p reached (all_known n w reached) k r e (step r input reading)) in
     notes_along n w v reached p k r e input reading c m h ends kept (step_changes r input reading) stay
     (note_on n w (begun_at w m) h k (instance (begun r)) r.note (g k r (marked_up p k r e))))
 

@@ -15,6 +15,7 @@ use Rattle.crsm_spec.specs.Step.{Input}
 use Rattle.crsm_steps.specs.Messages.{IsTold, Answers}
 use Rattle.crsm_steps.specs.Changes.{Changes, stay, and_then}
 use Rattle.crsm_sources.specs.Sayings.{Saying, IsToldBy}
+use Rattle.crsm_sources.proofs.History.{TellsIn}
 use Rattle.crsm_sources.proofs.Words.{among_either, among_unmap}
 use Rattle.crsm_sources.proofs.Gathered.{IsOnce, once_with, with_among}
 use Rattle.crsm_sources.proofs.Effects.{PartsChange, Quiet, TellsOne, GathersOne, IsQuiet, parts_change}
@@ -157,14 +158,20 @@ module _ (k : ℕ) (old : List Saying) (r : Replica) (input : Input) (reading : 
     pub told : IsToldBy r input draft s
     pub after : Changes r input reading draft last
 
-  pub record Told (x : Draft) : Type 0 where
+  -- and where it was told
+  pub record Told (x : Draft) (Tells : Saying → Type 0) : Type 0 where
     pub told : List Saying
     pub mid : Mid told k x
     pub more : (s : Saying) → Among old s → Among told s
     pub new : (s : Saying) → Among told s → Among old s ⊎ IsNew s
+    pub tells : (s : Saying) → Among told s → Among old s ⊎ Tells s
 
-  stays_told : (x y : Draft) (t : Told x) → IsQuiet x y → Told y
-  stays_told x y t q = record {
+  still_tells : (P T U : Saying → Type 0) → ((s : Saying) → T s → U s) → (s : Saying) → P s ⊎ T s → P s ⊎ U s
+  still_tells P T U on s (inl h) = inl h
+  still_tells P T U on s (inr h) = inr (on s h)
+
+  stays_told : (T U : Saying → Type 0) → ((s : Saying) → T s → U s) → (x y : Draft) (t : Told x T) → IsQuiet x y → Told y U
+  stays_told T U on x y t q = record {
     told = t.told;
     mid = record {
       apart = t.mid.apart;
@@ -178,11 +185,13 @@ module _ (k : ℕ) (old : List Saying) (r : Replica) (input : Input) (reading : 
     };
     more = t.more;
     new = t.new;
+    tells = λ s a. still_tells (Among old) T U on s (t.tells s a);
   }
 
-  one_told : (x : Draft) (t : Told x) (j : ℕ) (c : Control) → IsTold x c → Answers r input c → Changes r input reading (begun r) x → Changes r input reading x last →
-      Told (record x { replica = record x.replica { made = x.replica.made + 1 }; sends = x.sends ++ parts_to x.replica j c })
-  one_told x t j c is to before after =
+  one_told : (T U : Saying → Type 0) → ((s : Saying) → T s → U s) → (x : Draft) → ((s : Saying) → IsToldBy r input x s → U s) → (t : Told x T) (j : ℕ) (c : Control) → IsTold x c → Answers r input c →
+      Changes r input reading (begun r) x → Changes r input reading x last →
+      Told (record x { replica = record x.replica { made = x.replica.made + 1 }; sends = x.sends ++ parts_to x.replica j c }) U
+  one_told T U on x says t j c is to before after =
       let new = next_saying x.replica j c in
       let keep : (s : Saying) → Among t.told s → Among (new ∷ t.told) s = λ s a. inr a in
       let me = t.mid.here.me in
@@ -206,21 +215,32 @@ module _ (k : ℕ) (old : List Saying) (r : Replica) (input : Input) (reading : 
         };
         more = λ s a. inr (t.more s a);
         new = λ s a. elim a [
-          | inl q ↦ subst (λ z. Among old z ⊎ IsNew z) q (inr (record { from = me; draft = x; before = before; told = record { from = refl; boot = refl; number = refl; is = is; answers = to }; after = after }))
+          | inl q ↦ subst (λ z. Among old z ⊎ IsNew z) q (inr (record { from = me; draft = x; before = before; told = is_next; after = after }))
           | inr b ↦ t.new s b
         ];
+        tells = λ s a. elim a [
+          | inl q ↦ subst (λ z. Among old z ⊎ U z) q (inr (says new is_next))
+          | inr b ↦ still_tells (Among old) T U on s (t.tells s b)
+        ];
       }
-
-  may_tell : (x : Draft) (t : Told x) (j : ℕ) (c : Control) → IsTold x c → Answers r input c → Changes r input reading (begun r) x → Changes r input reading x last → Told (tell c x j)
-  unfolding tell when◌then◌otherwise◌
-  may_tell x t j c is to before after = go (x.replica.made == u64_max)
     where
-      go : (b : Bool) → Told (when b then x otherwise record x { replica = record x.replica { made = x.replica.made + 1 }; sends = x.sends ++ parts_to x.replica j c })
-      go true = t
-      go false = one_told x t j c is to before after
+      is_next : IsToldBy r input x (next_saying x.replica j c)
+      is_next = record { from = refl; boot = refl; number = refl; is = is; answers = to }
 
-  gathers : (x : Draft) (t : Told x) (p : Piece) → IsFor old k p → Told (record x { replica = record x.replica { parts = with_part p x.replica.parts } })
-  gathers x t p f = record {
+  may_tell : (T U : Saying → Type 0) → ((s : Saying) → T s → U s) → (x : Draft) → ((s : Saying) → IsToldBy r input x s → U s) → (t : Told x T) (j : ℕ) (c : Control) → IsTold x c → Answers r input c →
+      Changes r input reading (begun r) x → Changes r input reading x last → Told (tell c x j) U
+  unfolding tell when◌then◌otherwise◌
+  may_tell T U on x says t j c is to before after = go (x.replica.made == u64_max)
+    where
+      same : Told x U
+      same = record { told = t.told; mid = t.mid; more = t.more; new = t.new; tells = λ s a. still_tells (Among old) T U on s (t.tells s a) }
+
+      go : (b : Bool) → Told (when b then x otherwise record x { replica = record x.replica { made = x.replica.made + 1 }; sends = x.sends ++ parts_to x.replica j c }) U
+      go true = same
+      go false = one_told T U on x says t j c is to before after
+
+  gathers : (T U : Saying → Type 0) → ((s : Saying) → T s → U s) → (x : Draft) (t : Told x T) (p : Piece) → IsFor old k p → Told (record x { replica = record x.replica { parts = with_part p x.replica.parts } }) U
+  gathers T U on x t p f = record {
     told = t.told;
     mid = record {
       apart = t.mid.apart;
@@ -237,15 +257,17 @@ module _ (k : ℕ) (old : List Saying) (r : Replica) (input : Input) (reading : 
     };
     more = t.more;
     new = t.new;
+    tells = λ s a. still_tells (Among old) T U on s (t.tells s a);
   }
 
-  changed : (x y : Draft) → PartsChange r input x y → Told x → Changes r input reading (begun r) x → Changes r input reading x last → Told y
-  changed x y (Quiet q) t before after = stays_told x y t q
-  changed x y (TellsOne j c is to) t before after = may_tell x t j c is to before after
-  changed x y (GathersOne a p i) t before after = gathers x t p (came a p i)
+  changed : (T U : Saying → Type 0) → ((s : Saying) → T s → U s) → (x y : Draft) → ((s : Saying) → IsToldBy r input x s → U s) → PartsChange r input x y → Told x T →
+      Changes r input reading (begun r) x → Changes r input reading x last → Told y U
+  changed T U on x y says (Quiet q) t before after = stays_told T U on x y t q
+  changed T U on x y says (TellsOne j c is to) t before after = may_tell T U on x says t j c is to before after
+  changed T U on x y says (GathersOne a p i) t before after = gathers T U on x t p (came a p i)
 
-  pub told_along : {y : Draft} → Changes r input reading (begun r) y → Changes r input reading y last → Told (begun r) → Told y
+  pub told_along : {y : Draft} (p : Changes r input reading (begun r) y) → Changes r input reading y last → Told (begun r) (λ s. ⊥) → Told y (TellsIn p)
   told_along stay rest t = t
   told_along (and_then {y = y} {z = z} p c f) rest t =
       let after = then_on (and_then stay c f) rest in
-      changed y z (parts_change r input reading y z c) (told_along p after t) p after
+      changed (TellsIn p) (TellsIn (and_then p c f)) (λ s h. inr h) y z (λ s h. inl h) (parts_change r input reading y z c) (told_along p after t) p after

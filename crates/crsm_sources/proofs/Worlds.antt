@@ -1,13 +1,13 @@
 -- In every world that is reached each part was told, and what is heard was told.
 use Rattle.std.proofs.Common.{◌≡◌, ℕ, zero, suc, ◌+◌, ◌<◌, ◌≤◌, List, [], ◌∷◌, ◌++◌, length, refl, sym, ◌∙◌, ap, subst, inl, inr, Bool, true, false, cond, arith, take, map, get_or}
-use Rattle.std.specs.Prelude.{◌⊎◌, IsTrue, Some, slice_get, slice_set, ◌==◌, nat_lt}
+use Rattle.std.specs.Prelude.{◌⊎◌, IsTrue, Some, slice_get, slice_set, ◌==◌, ◌^◌, nat_lt}
 use Rattle.std.specs.Option.{option_map_or}
 use Rattle.std.specs.List.{range_with_len}
 use Rattle.std.proofs.lemmas.Option.{none-some, same_Some}
-use Rattle.crsm_base.specs.Messages.{control_bytes}
+use Rattle.crsm_base.specs.Messages.{control_bytes, FitsControl}
 use Rattle.crsm_base.specs.MessageReading.{control_of}
 use Rattle.crsm_base.proofs.ControlLaws.{control_of-bytes}
-use Rattle.crsm_spec.specs.Types.{Rec, Datagram}
+use Rattle.crsm_spec.specs.Types.{Rec, Datagram, Control}
 use Rattle.crsm_spec.specs.Choice.{when◌then◌otherwise◌}
 use Rattle.crsm_spec.specs.Lists.{Among, numbers_below}
 use Rattle.crsm_spec.specs.Log.{Log, boots, is_boot}
@@ -28,11 +28,12 @@ use Rattle.crsm_steps.specs.Happenings.IsReached.{first, next}
 use Rattle.crsm_steps.proofs.Fitted.{step_changes}
 use Rattle.crsm_steps.proofs.Happen.{sent_before}
 use Rattle.crsm_sources.specs.Sayings.{Saying, here, on, Past, WasTold}
-use Rattle.crsm_sources.specs.Laws.{HeardWasTold, HeardIsTold}
+use Rattle.crsm_sources.specs.Laws.{IsSource, HearsIn, HeardWasTold, HeardIsTold}
 use Rattle.crsm_sources.proofs.Words.{among_either, among_unmap, among_front}
 use Rattle.crsm_sources.proofs.Gathered.{IsOnce, same_keys, with_among, whole_is}
 use Rattle.crsm_sources.proofs.Effects.{boots_skip, boots_more}
 use Rattle.crsm_sources.proofs.Telling.{IsFor, IsSaid, AreApart, Here, Mid, said_more, here_more, IsNew, Told, told_along}
+use Rattle.crsm_sources.proofs.History.{Sends, TellsIn, TellsAt, WasToldIn}
 use Rattle.crsm_sources.proofs.Truth.{past_extends}
 
 -- ---- boots rise
@@ -58,10 +59,11 @@ boots_rise a b (more {new = c} rec p) = omega (arith, boots_rise a c p, boots_of
 
 -- ---- what holds of a world
 
-pub record Known (n : ℕ) (w : World) : Type 0 where
+pub record Known (n : ℕ) (w : World) (history : IsReached n w) : Type 0 where
   pub told : List Saying
   pub apart : AreApart told
   pub was : (s : Saying) → Among told s → WasTold n w s
+  pub was_in : (s : Saying) → Among told s → WasToldIn history s
   pub up : (k : ℕ) (r : Replica) → slice_get w.sites k ≡ Some (Site.Up r) → Here told k r
   pub mail : (from to : ℕ) (d : Datagram) → WasSent w from to d → IsSaid told d
 
@@ -135,15 +137,17 @@ sent_after mail k sends from to d s = elim (among_either mail (map (mail_of k) s
 
 -- ---- after a moment at k
 
-module _ (n : ℕ) (w : World) (g : Known n w) (m : Moment) (h : Happens w m) (k : ℕ) (told : List Saying) (apart : AreApart told)
+module _ (n : ℕ) (w : World) (q : IsReached n w) (g : Known n w q) (m : Moment) (h : Happens w m) (k : ℕ) (told : List Saying) (apart : AreApart told)
     (more_told : (s : Saying) → Among g.told s → Among told s)
-    (new : (s : Saying) → Among told s → Among g.told s ⊎ ((s.from ≡ k) × WasTold n m.after s)) where
+    (new : (s : Saying) → Among told s → Among g.told s ⊎ ((s.from ≡ k) × WasTold n m.after s))
+    (new_in : (s : Saying) → Among told s → Among g.told s ⊎ TellsAt h s) where
   known_after : ((j : ℕ) (r : Replica) → slice_get m.after.sites j ≡ Some (Site.Up r) → ((j ≡ k → ⊥) × (slice_get w.sites j ≡ Some (Site.Up r))) ⊎ Here told j r) →
-      ((from to : ℕ) (d : Datagram) → WasSent m.after from to d → WasSent w from to d ⊎ IsSaid told d) → Known n m.after
+      ((from to : ℕ) (d : Datagram) → WasSent m.after from to d → WasSent w from to d ⊎ IsSaid told d) → Known n m.after (next q h)
   known_after up mail = record {
     told = told;
     apart = apart;
     was = λ s a. elim (new s a) [ inl o ↦ was_on n w m h s (g.was s o) | inr z ↦ z.1 ];
+    was_in = λ s a. elim (new_in s a) [ inl o ↦ inr (g.was_in s o) | inr z ↦ inl z ];
     up = λ j r e. elim (up j r e) [
       | inl q ↦ here_more g.told told more_told j (λ s a f. elim (new s a) [ inl o ↦ o | inr z ↦ absurd (q.0 (sym f ∙ z.0)) ]) r (g.up j r q.1)
       | inr z ↦ z
@@ -152,20 +156,20 @@ module _ (n : ℕ) (w : World) (g : Known n w) (m : Moment) (h : Happens w m) (k
   }
 
 -- nothing was told at it
-module _ (n : ℕ) (w : World) (g : Known n w) (m : Moment) (h : Happens w m) (k : ℕ) where
+module _ (n : ℕ) (w : World) (q : IsReached n w) (g : Known n w q) (m : Moment) (h : Happens w m) (k : ℕ) where
   known_quietly : ((j : ℕ) (r : Replica) → slice_get m.after.sites j ≡ Some (Site.Up r) → ((j ≡ k → ⊥) × (slice_get w.sites j ≡ Some (Site.Up r))) ⊎ Here g.told j r) →
-      ((from to : ℕ) (d : Datagram) → WasSent m.after from to d → WasSent w from to d ⊎ IsSaid g.told d) → Known n m.after
-  known_quietly = known_after n w g m h k g.told g.apart (λ s a. a) (λ s a. inl a)
+      ((from to : ℕ) (d : Datagram) → WasSent m.after from to d → WasSent w from to d ⊎ IsSaid g.told d) → Known n m.after (next q h)
+  known_quietly = known_after n w q g m h k g.told g.apart (λ s a. a) (λ s a. inl a) (λ s a. inl a)
 
   -- the site at k is down from then on
-  known_down : (log : Log) → m.after.sites ≡ slice_set w.sites k (Site.Down log) → ((from to : ℕ) (d : Datagram) → WasSent m.after from to d → WasSent w from to d) → Known n m.after
+  known_down : (log : Log) → m.after.sites ≡ slice_set w.sites k (Site.Down log) → ((from to : ℕ) (d : Datagram) → WasSent m.after from to d → WasSent w from to d) → Known n m.after (next q h)
   known_down log is mail = known_quietly
       (λ j r e. elim (set_up w.sites k (Site.Down log) j r (subst (λ ss. slice_get ss j ≡ Some (Site.Up r)) is e)) [ inl q ↦ inl q | inr q ↦ absurd (not_up log r q.1) ])
       (λ from to d s. inl (mail from to d s))
 
 -- ---- the end of a step
 
-module _ (n : ℕ) (w v : World) (p : Marks w v) (g : Known n w) (k : ℕ) (r : Replica) (e : slice_get v.sites k ≡ Some (Site.Up r)) (x : Draft) where
+module _ (n : ℕ) (w v : World) (p : Marks w v) (past : IsReached n w) (g : Known n w past) (k : ℕ) (r : Replica) (e : slice_get v.sites k ≡ Some (Site.Up r)) (x : Draft) where
   old_mail : (from to : ℕ) (d : Datagram) → WasSent v from to d → WasSent w from to d
   old_mail = sent_before p
 
@@ -177,11 +181,12 @@ module _ (n : ℕ) (w v : World) (p : Marks w v) (g : Known n w) (k : ℕ) (r : 
   unfolding cut_step then_down after_step log_at log_of
   kept_cut count = ap (λ o. option_map_or log_of o []) (get_set v.sites k (Site.Up r) (Site.Down x.replica.log) e)
 
-  ended : (m : Moment) → Ends v k x m → Happens w (begun_at w m) → (told : List Saying) → Mid told k x → ((s : Saying) → Among g.told s → Among told s) →
-      (log_at m.after k ≡ x.replica.log → (s : Saying) → Among told s → Among g.told s ⊎ ((s.from ≡ k) × WasTold n m.after s)) → Known n m.after
+  ended : (m : Moment) (ends : Ends v k x m) (h : Happens w (begun_at w m)) → (told : List Saying) → Mid told k x → ((s : Saying) → Among g.told s → Among told s) →
+      (log_at m.after k ≡ x.replica.log → (s : Saying) → Among told s → Among g.told s ⊎ ((s.from ≡ k) × WasTold n m.after s)) →
+      (Sends ends → (s : Saying) → Among told s → Among g.told s ⊎ TellsAt h s) → Known n (begun_at w m).after (next past h)
   unfolding whole_step cut_step lost_step then_down after_step down with_site begun_at
-  ended m IsWhole h told mid more_told new =
-      known_after n w g (begun_at w (whole_step v k x)) h k told mid.apart more_told (new kept_whole)
+  ended m IsWhole h told mid more_told new new_in =
+      known_after n w past g (begun_at w (whole_step v k x)) h k told mid.apart more_told (new kept_whole) (new_in tt)
       (λ j q f. elim (set_up v.sites k (Site.Up x.replica) j q f) [
         | inl z ↦ inl (z.0, subst (λ ss. slice_get ss j ≡ Some (Site.Up q)) (marked_sites p) z.1)
         | inr z ↦ inr (subst (Here told j) (up_same x.replica q z.1) (subst (λ i. Here told i x.replica) (sym z.0) mid.here))
@@ -190,8 +195,8 @@ module _ (n : ℕ) (w v : World) (p : Marks w v) (g : Known n w) (k : ℕ) (r : 
         | inl o ↦ inl (old_mail from to d o)
         | inr z ↦ inr (subst (IsSaid told) z.2 (mid.sends z.0 z.1))
       ])
-  ended m (IsCut count) h told mid more_told new =
-      known_after n w g (begun_at w (cut_step count v k x)) h k told mid.apart more_told (new (kept_cut count))
+  ended m (IsCut count) h told mid more_told new new_in =
+      known_after n w past g (begun_at w (cut_step count v k x)) h k told mid.apart more_told (new (kept_cut count)) (new_in tt)
       (λ j q f. elim (set_up v.sites k (Site.Down x.replica.log) j q f) [
         | inl z ↦ inl (z.0, subst (λ ss. slice_get ss j ≡ Some (Site.Up q)) (marked_sites p) z.1)
         | inr z ↦ absurd (not_up x.replica.log q z.1)
@@ -200,8 +205,8 @@ module _ (n : ℕ) (w v : World) (p : Marks w v) (g : Known n w) (k : ℕ) (r : 
         | inl o ↦ inl (old_mail from to d o)
         | inr z ↦ inr (subst (IsSaid told) z.2 (mid.sends z.0 (among_front count x.sends z.0 z.1)))
       ])
-  ended m IsLost h told mid more_told new =
-      known_down n w g (begun_at w (lost_step v k x)) h k (log_at v k) (ap (λ ss. slice_set ss k (Site.Down (log_at v k))) (marked_sites p)) old_mail
+  ended m IsLost h told mid more_told new new_in =
+      known_down n w past g (begun_at w (lost_step v k x)) h k (log_at v k) (ap (λ ss. slice_set ss k (Site.Down (log_at v k))) (marked_sites p)) old_mail
 
 -- ---- a step
 
@@ -209,28 +214,28 @@ same_input : (a b : ℕ) (c d : Datagram) → Input.Came a c ≡ Input.Came b d 
 same_input a b c d h = cc
 
 -- a part that can come was told
-part_told : (n : ℕ) (w : World) (g : Known n w) (k : ℕ) (input : Input) → CanCome w k input → (me address : ℕ) (p : Piece) →
+part_told : (n : ℕ) (w : World) (q : IsReached n w) (g : Known n w q) (k : ℕ) (input : Input) → CanCome w k input → (me address : ℕ) (p : Piece) →
     input ≡ Input.Came address (Datagram.Part p.from me p.boot p.number p.index p.count p.bytes) → IsFor g.told me p
-part_told n w g k input (IsMail from d s) me address p e = g.mail from k d s p.from me p.boot p.number p.index p.count p.bytes (same_input from address d _ e)
-part_told n w g k input (IsCommand c f) me address p e = absurd (cc)
-part_told n w g k input IsTick me address p e = absurd (cc)
-part_told n w g k input (IsSuspicion ms f) me address p e = absurd (cc)
+part_told n w q g k input (IsMail from d s) me address p e = g.mail from k d s p.from me p.boot p.number p.index p.count p.bytes (same_input from address d _ e)
+part_told n w q g k input (IsCommand c f) me address p e = absurd (cc)
+part_told n w q g k input IsTick me address p e = absurd (cc)
+part_told n w q g k input (IsSuspicion ms f) me address p e = absurd (cc)
 
 mid_begun : (told : List Saying) (k : ℕ) (r : Replica) → AreApart told → Here told k r → Mid told k (begun r)
 unfolding begun
 mid_begun told k r apart h = record { apart = apart; here = h; sends = λ s a. absurd a }
 
-module _ (n : ℕ) (w v : World) (reached : IsReached n w) (p : Marks w v) (g : Known n w) (k : ℕ) (r : Replica) (e : slice_get v.sites k ≡ Some (Site.Up r))
+module _ (n : ℕ) (w v : World) (reached : IsReached n w) (p : Marks w v) (g : Known n w reached) (k : ℕ) (r : Replica) (e : slice_get v.sites k ≡ Some (Site.Up r))
     (input : Input) (reading : ℕ) (c : CanCome w k input) where
   here_now : Here g.told k r
   here_now = g.up k r (subst (λ ss. slice_get ss k ≡ Some (Site.Up r)) (marked_sites p) e)
 
   parts_come : (address : ℕ) (q : Piece) → input ≡ Input.Came address (Datagram.Part q.from r.me q.boot q.number q.index q.count q.bytes) → IsFor g.told k q
-  parts_come address q i = subst (λ j. IsFor g.told j q) here_now.me (part_told n w g k input c r.me address q i)
+  parts_come address q i = subst (λ j. IsFor g.told j q) here_now.me (part_told n w reached g k input c r.me address q i)
 
-  all_told : Told k g.told r input reading (step r input reading) here_now.me parts_come (step r input reading)
+  all_told : Told k g.told r input reading (step r input reading) here_now.me parts_come (step r input reading) (TellsIn (step_changes r input reading))
   all_told = told_along k g.told r input reading (step r input reading) here_now.me parts_come (step_changes r input reading) stay
-      (record { told = g.told; mid = mid_begun g.told k r g.apart here_now; more = λ s a. a; new = λ s a. inl a })
+      (record { told = g.told; mid = mid_begun g.told k r g.apart here_now; more = λ s a. a; new = λ s a. inl a; tells = λ s a. inl a })
 
   is_told : (m : Moment) → Ends v k (step r input reading) m → Happens w (begun_at w m) → log_at m.after k ≡ (step r input reading).replica.log → (s : Saying) →
       IsNew k g.told r input reading (step r input reading) here_now.me parts_come s → WasTold n m.after s
@@ -257,10 +262,12 @@ module _ (n : ℕ) (w v : World) (reached : IsReached n w) (p : Marks w v) (g : 
     told = new.told;
   }
 
-  stepped : (m : Moment) → Ends v k (step r input reading) m → Happens w (begun_at w m) → Known n m.after
-  stepped m ends h =
-      ended n w v p g k r e (step r input reading) m ends h all_told.told all_told.mid all_told.more
+  stepped : (lt : reading < 2 ^ 64) (m : Moment) (ends : Ends v k (step r input reading) m) → Known n (begun_at w m).after (next reached (Steps v p k r e input reading lt c m ends))
+  stepped lt m ends =
+      let h = Steps v p k r e input reading lt c m ends in
+      ended n w v p reached g k r e (step r input reading) m ends h all_told.told all_told.mid all_told.more
       (λ kept s a. elim (all_told.new s a) [ inl o ↦ inl o | inr z ↦ inr (z.from, is_told m ends h kept s z) ])
+      (λ sends s a. elim (all_told.tells s a) [ inl o ↦ inl o | inr z ↦ inr (sends, z) ])
 
 -- ---- starts
 
@@ -337,15 +344,15 @@ fresh_here told k log x low f = record {
   once = subst IsOnce (sym f.parts) tt;
 }
 
-started : (n : ℕ) (w : World) (k : ℕ) (g : Known n w) → Happens w (start_at w k) → Known n (start_at w k).after
+started : (n : ℕ) (w : World) (k : ℕ) (q : IsReached n w) (g : Known n w q) (h : Happens w (start_at w k)) → Known n (start_at w k).after (next q h)
 unfolding start_at begun_at whole_step after_step
-started n w k g h =
+started n w k q g h =
     let v = with_room w k in
     let x = boot k v.n (log_at v k) in
     let f = boot_fresh k v.n (log_at v k) in
     let low : (s : Saying) → Among g.told s → s.from ≡ k → s.boot ≤ boots (log_at v k) =
     λ s a e. subst (λ l. s.boot ≤ boots l) (sym (room_log w k)) (subst (λ j. s.boot ≤ boots (log_at w j)) e (told_boot n w s (g.was s a))) in
-    known_quietly n w g (start_at w k) h k
+    known_quietly n w q g (start_at w k) h k
     (λ j q z. elim (set_up v.sites k (Site.Up x.replica) j q z) [
       | inl t ↦ inl (t.0, room_up w k j q t.1)
       | inr t ↦ inr (subst (Here g.told j) (up_same x.replica q t.1) (subst (λ i. Here g.told i x.replica) (sym t.0) (fresh_here g.told k (log_at v k) x low f)))
@@ -355,21 +362,21 @@ started n w k g h =
       | inr z ↦ absurd (subst (λ l. Among l z.0) f.sends z.1)
     ])
 
-stopped : (n : ℕ) (w : World) (k : ℕ) (g : Known n w) → Happens w (down w k) → Known n (down w k).after
+stopped : (n : ℕ) (w : World) (k : ℕ) (q : IsReached n w) (g : Known n w q) (h : Happens w (down w k)) → Known n (down w k).after (next q h)
 unfolding down with_site
-stopped n w k g h = known_down n w g (down w k) h k (log_at w k) refl (λ from to d s. s)
+stopped n w k q g h = known_down n w q g (down w k) h k (log_at w k) refl (λ from to d s. s)
 
 -- ---- every world
 
-known_moment : (n : ℕ) (w : World) (m : Moment) → IsReached n w → (h : Happens w m) → Known n w → Known n m.after
+known_moment : (n : ℕ) (w : World) (m : Moment) (q : IsReached n w) (h : Happens w m) → Known n w q → Known n m.after (next q h)
 unfolding silent begun_at
-known_moment n w m r (Nothing v p) g = known_quietly n w g (silent w v) (Nothing v p) 0
+known_moment n w m r (Nothing v p) g = known_quietly n w r g (silent w v) (Nothing v p) 0
     (λ j q e. inr (g.up j q (subst (λ ss. slice_get ss j ≡ Some (Site.Up q)) (marked_sites p) e))) (λ from to d s. inl (sent_before p from to d s))
-known_moment n w m r (Steps v p k q e input reading lt c z ends) g = stepped n w v r p g k q e input reading c z ends (Steps v p k q e input reading lt c z ends)
+known_moment n w m r (Steps v p k q e input reading lt c z ends) g = stepped n w v r p g k q e input reading c lt z ends
 known_moment n w m r (Junk k q e z ends) g =
-    ended n w w none g k q e (begun q) z ends (Junk k q e z ends) g.told (mid_begun g.told k q g.apart (g.up k q e)) (λ s a. a) (λ kept s a. inl a)
-known_moment n w m r (Stops k) g = stopped n w k g (Stops k)
-known_moment n w m r (Starts k d f) g = started n w k g (Starts k d f)
+    ended n w w none r g k q e (begun q) z ends (Junk k q e z ends) g.told (mid_begun g.told k q g.apart (g.up k q e)) (λ s a. a) (λ kept s a. inl a) (λ sends s a. inl a)
+known_moment n w m r (Stops k) g = stopped n w k r g (Stops k)
+known_moment n w m r (Starts k d f) g = started n w k r g (Starts k d f)
 
 at_number : (n a c i : ℕ) (r : Replica) → slice_get (map (λ k. Site.Up (founding_boot k n).replica) (range_with_len a c)) i ≡ Some (Site.Up r) → Site.Up (founding_boot (a + i) n).replica ≡ Site.Up r
 at_number n a zero i r h = absurd (none-some (Site.Up r) h)
@@ -383,23 +390,28 @@ founded_is n k r h = up_same (founding_boot k n).replica r (ap (λ i. Site.Up (f
 founded : (n k : ℕ) (r : Replica) → slice_get (begin n).sites k ≡ Some (Site.Up r) → Here [] k r
 founded n k r h = subst (Here [] k) (founded_is n k r h) (fresh_here [] k [] (founding_boot k n) (λ s a f. absurd a) (founding_fresh k n))
 
-known_first : (n : ℕ) → Known n (begin n)
+known_first : (n : ℕ) → Known n (begin n) first
 unfolding begin
-known_first n = record { told = []; apart = λ s t a. absurd a; was = λ s a. absurd a; up = founded n; mail = λ from to d s. absurd s.1 }
+known_first n = record { told = []; apart = λ s t a. absurd a; was = λ s a. absurd a; was_in = λ s a. absurd a; up = founded n; mail = λ from to d s. absurd s.1 }
 
-pub all_known : (n : ℕ) (w : World) → IsReached n w → Known n w
+pub all_known : (n : ℕ) (w : World) (q : IsReached n w) → Known n w q
 all_known n w first = known_first n
 all_known n w (next {w = u} {m = m} r h) = known_moment n u m r h (all_known n u r)
 
 -- ---- what is heard
 
-pub heard_was_told : HeardWasTold
-heard_was_told n w k j c h =
+-- k told j a message whose bytes are read as c, on the way of this history
+pub record IsSourceIn (n : ℕ) (w : World) (history : IsReached n w) (k j : ℕ) (c : Control) : Type 0 where
+  pub source : IsSource n w k j c
+  pub was_told : WasToldIn history source.saying
+
+heard_was_told_in : (n : ℕ) (w : World) (k j : ℕ) (c : Control) (h : HearsIn n w k j c) → IsSourceIn n w h.reached k j c
+heard_was_told_in n w k j c h =
     let g = all_known n w h.reached in
     let r = h.replica in
     let p = h.hears.piece in
     let here = g.up j r (subst (λ ss. slice_get ss j ≡ Some (Site.Up r)) (marked_sites h.marks) h.up) in
-    let f : IsFor g.told j p = subst (λ i. IsFor g.told i p) here.me (part_told n w g j h.input h.can_come r.me h.hears.address p h.hears.came) in
+    let f : IsFor g.told j p = subst (λ i. IsFor g.told i p) here.me (part_told n w h.reached g j h.input h.can_come r.me h.hears.address p h.hears.came) in
     let m = control_bytes f.saying.message in
     let one : (q : Piece) → IsTrue (is_same_message p q) → IsFor g.told j q → q.bytes ≡ get_or (cut m) q.index [] = λ q same o.
     (let keys = same_keys p q same in
@@ -409,14 +421,28 @@ heard_was_told n w k j c h =
     let is : h.hears.message ≡ m = whole_is m p r.parts h.hears.message here.once f.piece.count
     (λ q a same. elim (with_among p r.parts q a) [ inl b ↦ one q same (here.parts q b) | inr e ↦ one q same (subst (IsFor g.told j) e f) ]) h.hears.whole in
     record {
-      saying = f.saying;
-      from = f.piece.from ∙ h.hears.from;
-      to = f.to;
-      was_told = g.was f.saying f.was;
-      reads = ap control_of (sym is) ∙ h.hears.is;
+      source = record {
+        saying = f.saying;
+        from = f.piece.from ∙ h.hears.from;
+        to = f.to;
+        was_told = g.was f.saying f.was;
+        reads = ap control_of (sym is) ∙ h.hears.is;
+      };
+      was_told = g.was_in f.saying f.was;
     }
+
+pub heard_was_told : HeardWasTold
+heard_was_told n w k j c h = (heard_was_told_in n w k j c h).source
 
 pub heard_is_told : HeardIsTold
 heard_is_told n w k j c h fit =
     let s = heard_was_told n w k j c h in
     (s.saying, s.from, s.to, same_Some s.saying.message c (sym (control_of-bytes s.saying.message (fit s.saying s.was_told)) ∙ s.reads), s.was_told)
+
+-- and in the history that led there
+pub heard_is_told_in : (n : ℕ) (w : World) (k j : ℕ) (c : Control) (h : HearsIn n w k j c) → ((s : Saying) → WasTold n w s → FitsControl s.message) →
+    (s : Saying) × (s.message ≡ c) × WasToldIn h.reached s
+heard_is_told_in n w k j c h fit =
+    let t = heard_was_told_in n w k j c h in
+    let s = t.source in
+    (s.saying, same_Some s.saying.message c (sym (control_of-bytes s.saying.message (fit s.saying s.was_told)) ∙ s.reads), t.was_told)
