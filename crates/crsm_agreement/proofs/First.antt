@@ -44,9 +44,9 @@ use Rattle.crsm_commits.specs.Witness.{Witnessed}
 use Rattle.crsm_commits.proofs.Logs.{unexecuted_logged, logged_is}
 use Rattle.crsm_steps.proofs.Tests.{same_stamp}
 use Rattle.crsm_commits.proofs.Worlds.{commits_are_witnessed}
-use Rattle.crsm_sources.specs.Sayings.{Saying, WasTold, on}
+use Rattle.crsm_sources.specs.Sayings.{Saying, WasTold}
 use Rattle.crsm_sources.specs.Laws.{Says}
-use Rattle.crsm_sources.proofs.Worlds.{heard_is_told}
+use Rattle.crsm_sources.proofs.Worlds.{was_on, heard_is_told}
 use Rattle.crsm_sources.proofs.Truth.{told_is_true}
 use Rattle.crsm_sources.specs.Counted.{AllSpelt}
 use Rattle.crsm_agreement.specs.First.{FirstEpochAgrees}
@@ -373,30 +373,6 @@ junk_placed n w k r e z ends grows a =
   where
     here : Ends w k (begun r) z → log_at z.after k ≡ log_at w k
     here ends = elim (log_after w k r (begun r) e z ends) [ inl is ↦ is ∙ sym (same_v_log w w k r e refl) | inr lost ↦ lost_is w k (begun r) z lost ]
-
-was_on : (n : ℕ) (w : World) (m : Moment) → Happens w m → (s : Saying) → WasTold n w s → WasTold n m.after s
-was_on n w m h s t = record {
-  past = record {
-    world = t.past.world;
-    reached = t.past.reached;
-    marked = t.past.marked;
-    marks = t.past.marks;
-    replica = t.past.replica;
-    up = t.past.up;
-    input = t.past.input;
-    reading = t.past.reading;
-    can_come = t.past.can_come;
-    draft = t.past.draft;
-    before = t.past.before;
-    after = t.past.after;
-    moment = t.past.moment;
-    happens = t.past.happens;
-    ends = t.past.ends;
-    kept = t.past.kept;
-    since = on t.past.since h;
-  };
-  told = t.told;
-}
 
 none_there : (k n : ℕ) (log : Log) → Extends log (founding_boot k n).replica.log → (p : ℕ) (x : Entry) → slice_get (executed log) p ≡ Some x → ⊥
 unfolding founding_boot boot_again keep begun fresh executed

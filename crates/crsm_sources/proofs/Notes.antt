@@ -1,6 +1,6 @@
 -- The note of each draft is true of its replica's past.
 use Rattle.std.proofs.Common.{◌≡◌, ℕ, ◌+◌, List, [], ◌∷◌, ◌++◌, refl, sym, ◌∙◌, ap, subst, inl, inr, map}
-use Rattle.std.specs.Prelude.{◌⊎◌, IsTrue, Option, Some, None, slice_get}
+use Rattle.std.specs.Prelude.{◌⊎◌, ◌<◌, ◌^◌, IsTrue, Option, Some, None, slice_get}
 use Rattle.crsm_spec.specs.Types.{Ballot, Entry, Decision, InEpoch, Control}
 use Rattle.crsm_base.specs.Order.{ballot_lt}
 use Rattle.crsm_spec.specs.Log.{Log, known, decision, executed, promised}
@@ -54,7 +54,7 @@ note_carried n k i note v w g = carried (λ u. NoteIsTrue n u k i note) (λ u m 
 
 -- ---- what leaves the note
 
-tell_note : (c : Control) (k : ℕ) (x : Draft) → (tell c x k).replica.note ≡ x.replica.note
+pub tell_note : (c : Control) (k : ℕ) (x : Draft) → (tell c x k).replica.note ≡ x.replica.note
 unfolding tell
 tell_note c k x = same_when (λ y. y.replica.note) _ x _ x refl refl
 
@@ -69,14 +69,14 @@ each_note [] x = refl
 each_note (w ∷ ws) x =
     let y = answer_found w (find_executed (executed x.replica.log) w.entry) x in each_note ws y ∙ found_note w (find_executed (executed x.replica.log) w.entry) x
 
-replies_note : (x : Draft) → (replies x).replica.note ≡ x.replica.note
+pub replies_note : (x : Draft) → (replies x).replica.note ≡ x.replica.note
 unfolding replies
 replies_note x = each_note x.replica.waiting (record x { replica = record x.replica { waiting = [] } })
 
 -- ---- the drafts of one step
 
 module _ (n : ℕ) (w v : World) (reached : IsReached n w) (p : Marks w v) (k : ℕ) (r : Replica) (e : slice_get v.sites k ≡ Some (Site.Up r))
-    (input : Input) (reading : ℕ) (c : CanCome w k input) (m : Moment) (h : Happens w (begun_at w m)) (ends : Ends v k (step r input reading) m)
+    (input : Input) (reading : ℕ) (lt : reading < 2 ^ 64) (c : CanCome w k input) (m : Moment) (h : Happens w (begun_at w m)) (ends : Ends v k (step r input reading) m)
     (kept : log_at m.after k ≡ (step r input reading).replica.log) where
   past_here : (x : Draft) → Changes r input reading (begun r) x → Changes r input reading x (step r input reading) → Past n m.after k
   past_here x before after = record {
@@ -88,6 +88,7 @@ module _ (n : ℕ) (w v : World) (reached : IsReached n w) (p : Marks w v) (k : 
     up = e;
     input = input;
     reading = reading;
+    small = lt;
     can_come = c;
     draft = x;
     before = before;
@@ -253,18 +254,18 @@ notes_down n w k g h = notes_by n w (down w k) h g k (λ j r e. elim (set_up w.s
   | inr q ↦ absurd (not_up (log_at w k) r q.1)
 ])
 
-notes_stepped : (n : ℕ) (w v : World) → IsReached n w → Marks w v → Notes n w → (k : ℕ) (r : Replica) → slice_get v.sites k ≡ Some (Site.Up r) → (input : Input) (reading : ℕ) → CanCome w k input →
+notes_stepped : (n : ℕ) (w v : World) → IsReached n w → Marks w v → Notes n w → (k : ℕ) (r : Replica) → slice_get v.sites k ≡ Some (Site.Up r) → (input : Input) (reading : ℕ) → reading < 2 ^ 64 → CanCome w k input →
     (m : Moment) → Ends v k (step r input reading) m → Happens w (begun_at w m) → Notes n m.after
 unfolding begun_at begun
-notes_stepped n w v reached p g k r e input reading c m ends h = notes_end n w v p g k (step r input reading) m ends h (λ q.
+notes_stepped n w v reached p g k r e input reading lt c m ends h = notes_end n w v p g k (step r input reading) m ends h (λ q.
     let kept : log_at m.after k ≡ (step r input reading).replica.log = subst (λ z. log_at z.after k ≡ (step r input reading).replica.log) (sym q) (kept_whole n w v p reached (all_known n w reached) k r e (step r input reading)) in
-    notes_along n w v reached p k r e input reading c m h ends kept (step_changes r input reading) stay
+    notes_along n w v reached p k r e input reading lt c m h ends kept (step_changes r input reading) stay
     (note_on n w (begun_at w m) h k (instance (begun r)) r.note (g k r (marked_up p k r e))))
 
 notes_moment : (n : ℕ) (w : World) (m : Moment) → IsReached n w → Happens w m → Notes n w → Notes n m.after
 unfolding silent begun_at begun
 notes_moment n w m q (Nothing v p) g = notes_by n w (silent w v) (Nothing v p) g 0 (λ j r e. inl (marked_up p j r e))
-notes_moment n w m q (Steps v p k r e input reading lt c z ends) g = notes_stepped n w v q p g k r e input reading c z ends (Steps v p k r e input reading lt c z ends)
+notes_moment n w m q (Steps v p k r e input reading lt c z ends) g = notes_stepped n w v q p g k r e input reading lt c z ends (Steps v p k r e input reading lt c z ends)
 notes_moment n w m q (Junk k r e z ends) g = notes_junk
   where
     notes_junk : Notes n z.after
@@ -285,7 +286,7 @@ unfolding begun_at begun
 notes_are_true n w k p =
     let start = all_notes n p.world p.reached k p.replica (marked_up p.marks k p.replica p.up) in
     note_carried n k (instance p.draft) p.draft.replica.note p.moment.after w p.since
-    (notes_along n p.world p.marked p.reached p.marks k p.replica p.up p.input p.reading p.can_come p.moment p.happens p.ends p.kept p.before p.after
+    (notes_along n p.world p.marked p.reached p.marks k p.replica p.up p.input p.reading p.small p.can_come p.moment p.happens p.ends p.kept p.before p.after
     (note_on n p.world (begun_at p.world p.moment) p.happens k (instance (begun p.replica)) p.replica.note start))
 
 pub asked_was_asked : AskedWasAsked

@@ -83,6 +83,7 @@ past_on n w m h k p = record {
   up = p.up;
   input = p.input;
   reading = p.reading;
+  small = p.small;
   can_come = p.can_come;
   draft = p.draft;
   before = p.before;
@@ -177,7 +178,7 @@ module _ (n : ℕ) (w v : World) (p : Marks w v) (past : IsReached n w) (g : Kno
   unfolding whole_step after_step log_at log_of
   kept_whole = ap (λ o. option_map_or log_of o []) (get_set v.sites k (Site.Up r) (Site.Up x.replica) e)
 
-  kept_cut : (count : ℕ) → log_at (cut_step count v k x).after k ≡ x.replica.log
+  pub kept_cut : (count : ℕ) → log_at (cut_step count v k x).after k ≡ x.replica.log
   unfolding cut_step then_down after_step log_at log_of
   kept_cut count = ap (λ o. option_map_or log_of o []) (get_set v.sites k (Site.Up r) (Site.Down x.replica.log) e)
 
@@ -237,9 +238,9 @@ module _ (n : ℕ) (w v : World) (reached : IsReached n w) (p : Marks w v) (g : 
   all_told = told_along k g.told r input reading (step r input reading) here_now.me parts_come (step_changes r input reading) stay
       (record { told = g.told; mid = mid_begun g.told k r g.apart here_now; more = λ s a. a; new = λ s a. inl a; tells = λ s a. inl a })
 
-  is_told : (m : Moment) → Ends v k (step r input reading) m → Happens w (begun_at w m) → log_at m.after k ≡ (step r input reading).replica.log → (s : Saying) →
+  is_told : reading < 2 ^ 64 → (m : Moment) → Ends v k (step r input reading) m → Happens w (begun_at w m) → log_at m.after k ≡ (step r input reading).replica.log → (s : Saying) →
       IsNew k g.told r input reading (step r input reading) here_now.me parts_come s → WasTold n m.after s
-  is_told m ends h kept s new = record {
+  is_told lt m ends h kept s new = record {
     past = record {
       world = w;
       reached = reached;
@@ -249,6 +250,7 @@ module _ (n : ℕ) (w v : World) (reached : IsReached n w) (p : Marks w v) (g : 
       up = subst (λ j. slice_get v.sites j ≡ Some (Site.Up r)) (sym new.from) e;
       input = input;
       reading = reading;
+      small = lt;
       can_come = subst (λ j. CanCome w j input) (sym new.from) c;
       draft = new.draft;
       before = new.before;
@@ -266,7 +268,7 @@ module _ (n : ℕ) (w v : World) (reached : IsReached n w) (p : Marks w v) (g : 
   stepped lt m ends =
       let h = Steps v p k r e input reading lt c m ends in
       ended n w v p reached g k r e (step r input reading) m ends h all_told.told all_told.mid all_told.more
-      (λ kept s a. elim (all_told.new s a) [ inl o ↦ inl o | inr z ↦ inr (z.from, is_told m ends h kept s z) ])
+      (λ kept s a. elim (all_told.new s a) [ inl o ↦ inl o | inr z ↦ inr (z.from, is_told lt m ends h kept s z) ])
       (λ sends s a. elim (all_told.tells s a) [ inl o ↦ inl o | inr z ↦ inr (sends, z) ])
 
 -- ---- starts
@@ -405,7 +407,7 @@ pub record IsSourceIn (n : ℕ) (w : World) (history : IsReached n w) (k j : ℕ
   pub source : IsSource n w k j c
   pub was_told : WasToldIn history source.saying
 
-heard_was_told_in : (n : ℕ) (w : World) (k j : ℕ) (c : Control) (h : HearsIn n w k j c) → IsSourceIn n w h.reached k j c
+pub heard_was_told_in : (n : ℕ) (w : World) (k j : ℕ) (c : Control) (h : HearsIn n w k j c) → IsSourceIn n w h.reached k j c
 heard_was_told_in n w k j c h =
     let g = all_known n w h.reached in
     let r = h.replica in

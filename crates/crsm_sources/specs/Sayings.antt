@@ -1,5 +1,5 @@
 -- Control messages as they were told, and the moments in which they were.
-use Rattle.std.specs.Prelude.{◌≡◌, ℕ, Some, slice_get}
+use Rattle.std.specs.Prelude.{◌≡◌, ℕ, ◌<◌, ◌^◌, Some, slice_get}
 use Rattle.crsm_spec.specs.Types.{Control}
 use Rattle.crsm_spec.specs.Log.{boots}
 use Rattle.crsm_spec.specs.Replica.{Replica}
@@ -44,6 +44,7 @@ pub record Past (n : ℕ) (w : World) (k : ℕ) : Type 0 where
   pub up : slice_get marked.sites k ≡ Some (Site.Up replica)
   pub input : Input
   pub reading : ℕ
+  pub small : reading < 2 ^ 64
   pub can_come : CanCome world k input
   pub draft : Draft
   pub before : Changes replica input reading (begun replica) draft
