@@ -211,7 +211,7 @@ notes_by n w m h g k up j r e = elim (up j r e) [ inl q ↦ note_on n w m h j (i
 quiet_true : (n : ℕ) (w : World) (k i : ℕ) (note : Note) → note ≡ Note.Quiet → NoteIsTrue n w k i note
 quiet_true n w k i note e = subst (NoteIsTrue n w k i) (sym e) tt
 
-boot_note : (k n : ℕ) (log : Log) → (boot k n log).replica.note ≡ Note.Quiet
+pub boot_note : (k n : ℕ) (log : Log) → (boot k n log).replica.note ≡ Note.Quiet
 unfolding boot first_boot founding_boot boot_again keep begun fresh
 boot_note k n (rec ∷ log) = refl
 boot_note k n [] = same_when (λ y. y.replica.note) _ (founding_boot k n) (boot_again k n []) (boot_again k n []) refl refl
