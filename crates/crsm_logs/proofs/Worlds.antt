@@ -230,12 +230,12 @@ moment_held n w m (Starts k d f) h = held_start n w k h
 
 -- ---- every world
 
-get_range : (f : ℕ → Site) (a n i : ℕ) (s : Site) → slice_get (map f (range_with_len a n)) i ≡ Some s → (i < n) × (f (a + i) ≡ s)
+pub get_range : (f : ℕ → Site) (a n i : ℕ) (s : Site) → slice_get (map f (range_with_len a n)) i ≡ Some s → (i < n) × (f (a + i) ≡ s)
 get_range f a zero i s h = absurd (none-some s h)
 get_range f a (suc n) zero s h = (omega arith, ap f (omega arith) ∙ same_Some (f a) s h)
 get_range f a (suc n) (suc i) s h = let t = get_range f (a + 1) n i s h in (omega (arith, t.0), ap f (omega arith) ∙ t.1)
 
-from_zero : (n k : ℕ) (s : Site) → Site.Up (founding_boot (0 + k) n).replica ≡ s → Site.Up (founding_boot k n).replica ≡ s
+pub from_zero : (n k : ℕ) (s : Site) → Site.Up (founding_boot (0 + k) n).replica ≡ s → Site.Up (founding_boot k n).replica ≡ s
 from_zero n k s e = ap (λ i. Site.Up (founding_boot i n).replica) (omega arith) ∙ e
 
 first_held : (n : ℕ) → Held n (begin n)

@@ -1,0 +1,5 @@
+pub mod Entries
+pub mod Logs
+pub mod Decisions
+pub mod Steps
+pub mod Worlds

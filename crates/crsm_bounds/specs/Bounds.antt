@@ -1,0 +1,26 @@
+-- Logs that are short enough for every number in them to have a spelling.
+use Rattle.std.specs.Prelude.{ℕ, ◌≤◌, length}
+use Rattle.std.specs.List.{AllByRecursion}
+use Rattle.crsm_base.specs.Records.{FitsRec}
+use Rattle.crsm_spec.specs.World.{World, log_at}
+use Rattle.crsm_steps.specs.Happenings.{IsReached}
+use Rattle.crsm_sources.specs.Counted.{AllSpelt}
+use Rattle.crsm_logs.specs.Worlds.{HasFewBoots}
+
+-- 2^50
+abbrev pub most_records : ℕ
+most_records = 1125899906842624
+
+-- no log has more records than that
+abbrev pub HasShortLogs : World → Type 0
+HasShortLogs w = (k : ℕ) → length (log_at w k) ≤ most_records
+
+-- Each number of each log and of each message that was told is in its range.
+pub record IsSpelt (n : ℕ) (w : World) : Type 0 where
+  pub few : HasFewBoots w
+  pub records : (k : ℕ) → AllByRecursion FitsRec (log_at w k)
+  pub messages : AllSpelt n w
+
+-- In every world that at most 15 replicas have reached and whose logs are short, all has a spelling.
+abbrev pub ShortLogsAreSpelt : Type 0
+ShortLogsAreSpelt = (n : ℕ) (w : World) → n ≤ 15 → IsReached n w → HasShortLogs w → IsSpelt n w

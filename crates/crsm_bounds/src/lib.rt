@@ -1,0 +1,10 @@
+//! No number of a possible run comes near its end: every record and every control message of it has a spelling.
+#![tactic(auto)]
+
+ghost use Rattle.crsm_bounds.specs.Bounds.{ShortLogsAreSpelt};
+
+/// While no log has more than 2^50 records, each record of each log has a spelling, and so has each control message that was
+/// told.
+pub fn short_logs_are_spelt()
+    ensures { ShortLogsAreSpelt }
+{}
