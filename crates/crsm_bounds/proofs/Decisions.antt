@@ -1,16 +1,16 @@
 -- Decisions that are collected or proposed have a spelling.
-use Rattle.std.proofs.Common.{◌≡◌, ℕ, zero, suc, ◌+◌, ◌<◌, ◌≤◌, List, [], ◌∷◌, ◌++◌, length, refl, sym, ◌∙◌, ap, subst, inl, inr, Bool, true, false, cond, arith, map, max}
-use Rattle.std.specs.Prelude.{◌⊎◌, ◌^◌, IsTrue, Option, Some, None, nat_le, ◌&&◌, fold, flat_map, unwrap_or, bytes_eq, option_map}
+use Rattle.std.proofs.Common.{◌≡◌, ℕ, ◌+◌, ◌≤◌, List, [], ◌∷◌, length, refl, sym, ◌∙◌, ap, subst, inl, inr, Bool, true, false, cond, arith}
+use Rattle.std.specs.Prelude.{◌⊎◌, IsTrue, Option, Some, None, nat_le, fold, flat_map, unwrap_or, bytes_eq, option_map}
 use Rattle.std.specs.List.{AllByRecursion, list_all}
-use Rattle.std.proofs.lemmas.Bool.{and_parts, leb-true, false≢true}
+use Rattle.std.proofs.lemmas.Bool.{and_parts, leb-true}
 use Rattle.std.proofs.lemmas.Option.{none-some, same_Some}
 use Rattle.std.proofs.lemmas.Slice.Eq.{bytes_eq-Decides}
 use Rattle.crsm_base.specs.Limits.{most_entries, most_bytes}
 use Rattle.crsm_base.specs.Members.{IsMembers}
-use Rattle.crsm_base.specs.Spelling.{FitsOption, FitsStamp, FitsBallot, FitsEntry, FitsEntries, FitsDecision}
+use Rattle.crsm_base.specs.Spelling.{FitsOption, FitsStamp, FitsEntry, FitsDecision}
 use Rattle.crsm_base.specs.Messages.{FitsVote}
-use Rattle.crsm_spec.specs.Types.{Stamp, Ballot, Entry, Decision}
-use Rattle.crsm_spec.specs.Lists.{Among, has, first_of, last_of, greatest, numbers_below}
+use Rattle.crsm_spec.specs.Types.{Ballot, Entry, Decision}
+use Rattle.crsm_spec.specs.Lists.{Among, has, first_of, last_of, numbers_below}
 use Rattle.crsm_spec.specs.Log.{Log, known, start, decision, spec, above}
 use Rattle.crsm_spec.specs.Quorum.{spec_decided}
 use Rattle.crsm_spec.specs.Paxos.{Answer, Found, value_of, value_of_best, best_of, better_answer, better_held, better, counts_before}
@@ -20,8 +20,8 @@ use Rattle.crsm_spec.specs.Coordinate.{most_collected}
 use Rattle.crsm_collection.proofs.Sorted.{kept_from, rises_above, above_from}
 use Rattle.crsm_collection.proofs.Union.{union_rises, union_from}
 use Rattle.crsm_collection.proofs.Law.{flat_from, firsts_from, top_from}
-use Rattle.crsm_bounds.proofs.Entries.{bytes_of, bytes_size, all_at, all_from, all_then, rises_in}
-use Rattle.crsm_bounds.proofs.Logs.{AreSpelt, decision_fits, last_among, first_among}
+use Rattle.crsm_bounds.proofs.Entries.{bytes_size, all_from, rises_in}
+use Rattle.crsm_bounds.proofs.Logs.{AreSpelt, decision_fits, last_among}
 
 -- ---- what answers leave to propose
 

@@ -1,12 +1,12 @@
 -- Lists of entries that have a spelling: their parts, and pages.
 use Rattle.std.proofs.Common.{◌≡◌, ℕ, zero, suc, ◌+◌, ◌-◌, ◌*◌, ◌<◌, ◌≤◌, List, [], ◌∷◌, ◌++◌, length, take, drop, refl, sym, ◌∙◌, ap, subst, inl, inr, Bool, true, false, cond, arith}
-use Rattle.std.specs.Prelude.{◌⊎◌, ◌^◌, IsTrue, Option, Some, None, nat_le, nat_lt, ◌==◌, ◌&&◌}
-use Rattle.std.specs.List.{flat_map, sum_by, AllByRecursion}
+use Rattle.std.specs.Prelude.{◌⊎◌, IsTrue, nat_le, nat_lt, ◌==◌, ◌&&◌}
+use Rattle.std.specs.List.{flat_map, AllByRecursion}
 use Rattle.std.proofs.lemmas.Bool.{leb-true, ltb-true, eqb-true, and_parts, or_cases}
 use Rattle.std.proofs.lemmas.List.{length-append}
 use Rattle.std.proofs.lemmas.List.Concat.{flat_map-cons, length-flat_map}
-use Rattle.crsm_base.specs.Limits.{most_entries, most_bytes, page_bytes}
-use Rattle.crsm_base.specs.Spelling.{u64_bytes, stamp_bytes, u8_bytes, command_bytes, entry_bytes, op_bytes, FitsEntry, IsBefore, RisesAfter, Rises, FitsEntries}
+use Rattle.crsm_base.specs.Limits.{page_bytes}
+use Rattle.crsm_base.specs.Spelling.{u64_bytes, stamp_bytes, command_bytes, entry_bytes, op_bytes, FitsEntry, IsBefore, RisesAfter, Rises, FitsEntries}
 use Rattle.crsm_base.specs.Order.{stamp_lt, entry_lt}
 use Rattle.crsm_collection.specs.Collecting as by_stamp
 use Rattle.crsm_spec.specs.Types.{Stamp, Entry}

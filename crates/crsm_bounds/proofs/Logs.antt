@@ -1,6 +1,6 @@
 -- What a log says has a spelling where each of its records has one.
-use Rattle.std.proofs.Common.{◌≡◌, ℕ, zero, suc, ◌+◌, ◌*◌, ◌<◌, ◌≤◌, List, [], ◌∷◌, ◌++◌, length, drop, refl, sym, ◌∙◌, ap, subst, inl, inr, Bool, true, false, cond, arith}
-use Rattle.std.specs.Prelude.{◌⊎◌, ◌^◌, IsTrue, Option, Some, None, nat_le, nat_lt, ◌==◌, ◌&&◌, not, find, filter, option_to_list, option_map}
+use Rattle.std.proofs.Common.{◌≡◌, ℕ, zero, suc, ◌*◌, ◌<◌, ◌≤◌, List, [], ◌∷◌, ◌++◌, length, drop, refl, sym, ◌∙◌, subst, inl, inr, Bool, true, false, cond, arith}
+use Rattle.std.specs.Prelude.{◌⊎◌, ◌^◌, IsTrue, Option, Some, None, nat_le, nat_lt, ◌==◌, find, filter, option_to_list, option_map}
 use Rattle.std.specs.List.{AllByRecursion, list_all, last_or}
 use Rattle.std.specs.Option.{option_map_or}
 use Rattle.std.proofs.lemmas.Bool.{and_parts, leb-true, ltb-true, ltb-false, eq-eqb, false≢true}
@@ -10,7 +10,7 @@ use Rattle.crsm_base.specs.Order.{stamp_lt, stamp_eq, entry_lt}
 use Rattle.crsm_base.specs.Spelling.{FitsOption, FitsStamp, FitsBallot, FitsEntry, FitsEntries, FitsDecision, IsBefore, Rises}
 use Rattle.crsm_base.specs.Messages.{FitsVote}
 use Rattle.crsm_base.specs.Records.{FitsRec}
-use Rattle.crsm_spec.specs.Types.{Stamp, Ballot, Entry, Decision, Rec}
+use Rattle.crsm_spec.specs.Types.{Stamp, Entry, Decision, Rec}
 use Rattle.crsm_spec.specs.Lists.{Among, first_of, last_of}
 use Rattle.crsm_spec.specs.Log.{Log, known, decision, executed, logged, logged_in, entry_of, unexecuted, above, last_stamp, promised, accepted, no_ballot}
 use Rattle.crsm_spec.specs.Fits.{fits, goes_on}
@@ -19,7 +19,7 @@ use Rattle.crsm_steps.specs.Laws.{AllFit}
 use Rattle.crsm_steps.proofs.Tests.{same_stamp}
 use Rattle.crsm_epoch.specs.Seats.{Logged}
 use Rattle.crsm_collection.proofs.Sorted.{kept_from, rises_above, above_from}
-use Rattle.crsm_collection.proofs.Logged.{logged_rises, logged_epoch, list_all_at}
+use Rattle.crsm_collection.proofs.Logged.{logged_rises, list_all_at}
 use Rattle.crsm_commits.proofs.Logs.{logged_is}
 use Rattle.crsm_bounds.proofs.Entries.{drop_rises, page_fits, IsBehind, rises_then, all_at, all_from, all_then, stamp_before, entry_before, rises_in}
 

@@ -1,7 +1,7 @@
 -- A step leaves everything with a spelling, on record and in its note, and tells only what has one.
-use Rattle.std.proofs.Common.{◌≡◌, ℕ, suc, ◌+◌, ◌-◌, ◌*◌, ◌<◌, ◌≤◌, List, [], ◌∷◌, ◌++◌, length, drop, take, refl, sym, ◌∙◌, ap, subst, inl, inr, Bool, true, false, cond, arith, max}
+use Rattle.std.proofs.Common.{◌≡◌, ℕ, ◌+◌, ◌-◌, ◌<◌, ◌≤◌, List, [], ◌∷◌, ◌++◌, length, drop, take, refl, sym, ◌∙◌, subst, inl, inr, Bool, true, false, cond, arith, max}
 use Rattle.std.specs.Prelude.{◌⊎◌, ◌≢◌, ◌^◌, IsTrue, Option, Some, None, nat_le, nat_lt, ◌==◌, ◌&&◌, unwrap_or}
-use Rattle.std.specs.List.{AllByRecursion, list_all}
+use Rattle.std.specs.List.{AllByRecursion}
 use Rattle.std.specs.Option.{option_map_or}
 use Rattle.std.proofs.lemmas.Bool.{and_parts, leb-true, eqb-true, eq-eqb, false≢true}
 use Rattle.std.proofs.lemmas.Option.{none-some, same_Some}
@@ -9,22 +9,21 @@ use Rattle.crsm_base.specs.Members.{IsMembers}
 use Rattle.crsm_base.specs.Order.{ballot_lt}
 use Rattle.crsm_base.specs.Spelling.{FitsOption, FitsStamp, FitsBallot, FitsCommand, FitsEntry, FitsEntries, FitsDecision}
 use Rattle.crsm_base.specs.Messages.{FitsVote, FitsControl}
-use Rattle.crsm_base.specs.Records.{FitsRec}
 use Rattle.crsm_spec.specs.Choice.{when◌then◌otherwise◌}
 use Rattle.crsm_spec.specs.Clock.{u64_max, issue}
-use Rattle.crsm_spec.specs.Types.{Stamp, Ballot, Entry, Decision, Command, Rec, InEpoch, Datagram, Control}
+use Rattle.crsm_spec.specs.Types.{Stamp, Ballot, Entry, Decision, Command, InEpoch, Datagram, Control}
 use Rattle.crsm_spec.specs.Lists.{Among, first_of, has}
-use Rattle.crsm_spec.specs.Log.{Log, known, start, decision, executed, unexecuted, promised, accepted}
-use Rattle.crsm_spec.specs.Paxos.{Answer, value_of}
-use Rattle.crsm_spec.specs.Collect.{suspend_ok, own_page, frozen, cursor}
+use Rattle.crsm_spec.specs.Log.{Log, known, start, decision, executed, promised}
+use Rattle.crsm_spec.specs.Paxos.{Answer}
+use Rattle.crsm_spec.specs.Collect.{suspend_ok, own_page, cursor}
 use Rattle.crsm_spec.specs.Fits.{can_be_members}
 use Rattle.crsm_spec.specs.Replica.{Replica, Note, LogPage, spec_of, next_spec, last_issued}
-use Rattle.crsm_spec.specs.Draft.{Draft, begun, keep, noting, send, reply, count_vote, would, issued_at, push_to_members, push_to, tell}
+use Rattle.crsm_spec.specs.Draft.{Draft, keep, noting, send, reply, count_vote, would, issued_at, push_to_members, push_to, tell}
 use Rattle.crsm_spec.specs.Clients.{refuse, submit, await, replies}
 use Rattle.crsm_spec.specs.Frames.{take_frame, hear, owe, ack, pay, owing, again_frame}
 use Rattle.crsm_spec.specs.Coordinate.{forget_epoch, instance, greater_ballot, may_reconfigure, most_collected}
 use Rattle.crsm_spec.specs.Controls.{is_page_of, are_above, new_entries, page_from}
-use Rattle.crsm_spec.specs.Step.{Input, step}
+use Rattle.crsm_spec.specs.Step.{Input}
 use Rattle.crsm_steps.specs.Laws.{AllFit, Extends, same, more}
 use Rattle.crsm_steps.specs.Messages.{Hears, IsAsked, IsTold, Answers}
 use Rattle.crsm_steps.specs.Changes.{Change, Changes, stay, and_then, AsksFor, IsAnswer, IsNextRound, IsRefusal}

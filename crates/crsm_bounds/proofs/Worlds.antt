@@ -1,17 +1,14 @@
 -- In every world with short logs, all that is on record and all that was told has a spelling.
-use Rattle.std.proofs.Common.{◌≡◌, ℕ, zero, suc, ◌+◌, ◌<◌, ◌≤◌, List, [], ◌∷◌, ◌++◌, length, refl, sym, ◌∙◌, ap, subst, inl, inr, Bool, true, false, cond, arith, map}
+use Rattle.std.proofs.Common.{◌≡◌, ℕ, suc, ◌+◌, ◌<◌, ◌≤◌, List, [], ◌∷◌, ◌++◌, length, refl, sym, ◌∙◌, subst, inl, inr, Bool, true, false, cond, arith}
 use Rattle.std.specs.Prelude.{◌⊎◌, ◌^◌, Option, Some, None, slice_get, slice_set, nat_lt, ◌==◌, count_by}
 use Rattle.std.specs.Option.{option_map_or}
-use Rattle.std.specs.List.{AllByRecursion, range_with_len}
-use Rattle.std.proofs.lemmas.Option.{none-some, same_Some}
+use Rattle.std.proofs.lemmas.Option.{same_Some}
 use Rattle.std.proofs.lemmas.Bool.{eqb-true}
 use Rattle.std.proofs.lemmas.List.Sums.{sum_by-cons}
-use Rattle.crsm_base.specs.Members.{IsMembers}
 use Rattle.crsm_base.specs.Spelling.{FitsCommand, FitsEntry}
 use Rattle.crsm_base.specs.Messages.{FitsControl}
 use Rattle.crsm_base.proofs.ControlLaws.{control_of-bytes}
 use Rattle.crsm_spec.specs.Choice.{when◌then◌otherwise◌}
-use Rattle.crsm_spec.specs.Clock.{u64_max}
 use Rattle.crsm_spec.specs.Types.{Entry, Command, Rec, InEpoch, Datagram, Control}
 use Rattle.crsm_spec.specs.Lists.{Among, numbers_below}
 use Rattle.crsm_spec.specs.Log.{Log, boots, is_boot, known, start, decision}
@@ -22,8 +19,8 @@ use Rattle.crsm_spec.specs.World.{Site, World, Moment, begin, log_of, log_at, wi
 use Rattle.crsm_spec.specs.Moments.{silent, begun_at, with_room, start_at}
 use Rattle.crsm_steps.specs.Laws.{AllFit, Extends, same, LogsGoOn}
 use Rattle.crsm_steps.specs.Messages.{Hears}
-use Rattle.crsm_steps.specs.Changes.{Changes, stay, and_then, AsksFor}
-use Rattle.crsm_steps.specs.Happenings.{Marks, WasSent, CanCome, Ends, Happens, IsReached}
+use Rattle.crsm_steps.specs.Changes.{Changes, stay, and_then}
+use Rattle.crsm_steps.specs.Happenings.{Marks, CanCome, Ends, Happens, IsReached}
 use Rattle.crsm_steps.specs.Happenings.CanCome.{IsMail, IsCommand, IsTick, IsSuspicion}
 use Rattle.crsm_steps.specs.Happenings.Marks.{none}
 use Rattle.crsm_steps.specs.Happenings.Ends.{IsWhole, IsCut, IsLost}
@@ -33,19 +30,18 @@ use Rattle.crsm_steps.proofs.Logs.{extends_then, log_change, change_grows, chang
 use Rattle.crsm_steps.proofs.Fitted.{step_changes}
 use Rattle.crsm_steps.proofs.Moments.{set_case, moment_goes_on}
 use Rattle.crsm_epoch.specs.Seats.{Logged}
-use Rattle.crsm_epoch.specs.Worlds.{seats, sent_in}
+use Rattle.crsm_epoch.specs.Worlds.{sent_in}
 use Rattle.crsm_epoch.proofs.Words.{get_either, among_map}
 use Rattle.crsm_epoch.proofs.Worlds.{marked_sites, seat_log_at, room_there}
 use Rattle.crsm_logs.specs.Worlds.{HasFewBoots}
 use Rattle.crsm_logs.proofs.Steps.{IsBetween}
 use Rattle.crsm_logs.proofs.Worlds.{all_held, wished, get_range, from_zero, logs_fit, epochs_hold_always}
-use Rattle.crsm_sources.specs.Sayings.{Saying, IsToldBy, Past, WasTold}
+use Rattle.crsm_sources.specs.Sayings.{Saying, IsToldBy, WasTold}
 use Rattle.crsm_sources.specs.Laws.{HearsIn}
-use Rattle.crsm_sources.specs.Counted.{AllSpelt}
 use Rattle.crsm_sources.proofs.Truth.{logs_carried}
 use Rattle.crsm_sources.proofs.History.{Sends, TellsIn, TellsAt, WasToldIn}
 use Rattle.crsm_sources.proofs.Worlds.{all_known, heard_was_told_in, kept_whole, kept_cut}
-use Rattle.crsm_bounds.specs.Bounds.{most_records, HasShortLogs, IsSpelt, ShortLogsAreSpelt}
+use Rattle.crsm_bounds.specs.Bounds.{most_records, HasShortLogs, ShortLogsAreSpelt}
 use Rattle.crsm_bounds.proofs.Entries.{all_at}
 use Rattle.crsm_bounds.proofs.Logs.{AreSpelt}
 use Rattle.crsm_bounds.proofs.Steps.{Fit, Comes, changes_fit, told_fits, extends_length}

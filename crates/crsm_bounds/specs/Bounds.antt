@@ -1,8 +1,10 @@
 -- Logs that are short enough for every number in them to have a spelling.
-use Rattle.std.specs.Prelude.{ℕ, ◌≤◌, length}
+use Rattle.std.specs.Prelude.{ℕ, ◌≤◌, List, length}
 use Rattle.std.specs.List.{AllByRecursion}
 use Rattle.crsm_base.specs.Records.{FitsRec}
-use Rattle.crsm_spec.specs.World.{World, log_at}
+use Rattle.crsm_spec.specs.World.{World, log_at, begin}
+use Rattle.crsm_spec.specs.Acts.{Act}
+use Rattle.crsm_spec.specs.Run.{ArePossible, all_worlds}
 use Rattle.crsm_steps.specs.Happenings.{IsReached}
 use Rattle.crsm_sources.specs.Counted.{AllSpelt}
 use Rattle.crsm_logs.specs.Worlds.{HasFewBoots}
@@ -24,3 +26,7 @@ pub record IsSpelt (n : ℕ) (w : World) : Type 0 where
 -- In every world that at most 15 replicas have reached and whose logs are short, all has a spelling.
 abbrev pub ShortLogsAreSpelt : Type 0
 ShortLogsAreSpelt = (n : ℕ) (w : World) → n ≤ 15 → IsReached n w → HasShortLogs w → IsSpelt n w
+
+-- In every world of every possible run of at most 15 replicas all has a spelling.
+abbrev pub RunsAreSpelt : Type 0
+RunsAreSpelt = (n : ℕ) (acts : List Act) → n ≤ 15 → ArePossible (begin n) acts → AllByRecursion (IsSpelt n) (all_worlds n acts)

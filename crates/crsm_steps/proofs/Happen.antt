@@ -214,7 +214,7 @@ starts w k h =
     go true e f = let t = and_parts (k == length w.sites) (nat_lt k 15) (not-false (is_next_new w k) f) in inr (eqb-true k (length w.sites) t.0, ltb-true k 15 t.1)
     go false e f = inl (leb-false (length w.sites) k e)
 
-act_happens : (w : World) (a : Act) → FitsAct a → possible w a ≡ None → GoOn w (moments_of w a)
+pub act_happens : (w : World) (a : Act) → FitsAct a → possible w a ≡ None → GoOn w (moments_of w a)
 unfolding moments_of silent down
 act_happens w (Act.One s) f p = one_at w _ (singles whole_step whole_is w s f)
 act_happens w (Act.Lose i) f p = one_at w _ (refl, Nothing (use_up i w) (mark i none))
