@@ -1,3 +1,8 @@
 pub mod Lists
 pub mod Logs
-pub mod First
+pub mod Placed
+pub mod Steps
+pub mod Worlds
+pub mod Facts
+pub mod Openings
+pub mod Agree

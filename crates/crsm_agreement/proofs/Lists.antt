@@ -1,5 +1,5 @@
 -- Places of lists.
-use Rattle.std.proofs.Common.{◌≡◌, ℕ, zero, suc, ◌+◌, ◌-◌, List, [], ◌∷◌, ◌++◌, length, drop, refl, sym, ap, subst, inl, inr, Bool, true, false, cond, arith}
+use Rattle.std.proofs.Common.{◌≡◌, ℕ, zero, suc, ◌+◌, ◌-◌, ◌<◌, ◌≤◌, List, [], ◌∷◌, ◌++◌, length, drop, take, refl, sym, ap, subst, inl, inr, Bool, true, false, cond, arith}
 use Rattle.std.specs.Prelude.{◌⊎◌, Some, slice_get, nat_le}
 use Rattle.std.proofs.lemmas.Option.{none-some}
 use Rattle.crsm_base.specs.Limits.{page_bytes}
@@ -48,3 +48,39 @@ get_run room (e ∷ es) i x h = go (λ j q. get_run (room - length (entry_bytes 
 pub get_page : (es : List Entry) (i : ℕ) (x : Entry) → slice_get (first_page es) i ≡ Some x → slice_get es i ≡ Some x
 unfolding first_page
 get_page es i x h = get_run page_bytes es i x h
+
+pub get_take : {A : Type 0} (n : ℕ) (xs : List A) (i : ℕ) (x : A) → slice_get (take n xs) i ≡ Some x → slice_get xs i ≡ Some x
+get_take zero xs i x h = absurd (none-some x h)
+get_take (suc n) [] i x h = absurd (none-some x h)
+get_take (suc n) (y ∷ xs) zero x h = h
+get_take (suc n) (y ∷ xs) (suc i) x h = get_take n xs i x h
+
+pub take_get : {A : Type 0} (n : ℕ) (xs : List A) (i : ℕ) (x : A) → i < n → slice_get xs i ≡ Some x → slice_get (take n xs) i ≡ Some x
+take_get zero xs i x lt h = absurd (omega (arith, lt))
+take_get (suc n) [] i x lt h = absurd (none-some x h)
+take_get (suc n) (y ∷ xs) zero x lt h = h
+take_get (suc n) (y ∷ xs) (suc i) x lt h = take_get n xs i x (omega (arith, lt)) h
+
+pub taken_length : {A : Type 0} (n : ℕ) (xs : List A) → n ≤ length xs → length (take n xs) ≡ n
+taken_length zero xs le = refl
+taken_length (suc n) [] le = absurd (omega (arith, le))
+taken_length (suc n) (y ∷ xs) le = ap suc (taken_length n xs (omega (arith, le)))
+
+pub get_left : {A : Type 0} (xs ys : List A) (i : ℕ) (x : A) → slice_get xs i ≡ Some x → slice_get (xs ++ ys) i ≡ Some x
+get_left [] ys i x h = absurd (none-some x h)
+get_left (z ∷ xs) ys zero x h = h
+get_left (z ∷ xs) ys (suc i) x h = get_left xs ys i x h
+
+pub get_right : {A : Type 0} (xs ys : List A) (n i : ℕ) (x : A) → length xs ≡ n → slice_get ys i ≡ Some x → slice_get (xs ++ ys) (n + i) ≡ Some x
+get_right [] ys n i x e h = subst (λ j. slice_get ys j ≡ Some x) (zero_plus n i e) h
+  where
+    zero_plus : (n i : ℕ) → 0 ≡ n → i ≡ n + i
+    zero_plus n i e = omega (arith, e)
+get_right (z ∷ xs) ys zero i x e h = absurd (omega (arith, e))
+get_right (z ∷ xs) ys (suc n) i x e h = subst (λ j. slice_get (z ∷ xs ++ ys) j ≡ Some x) (more_is n i) (get_right xs ys n i x (omega (arith, e)) h)
+
+-- an element has a place before the end
+pub get_below : {A : Type 0} (xs : List A) (i : ℕ) (x : A) → slice_get xs i ≡ Some x → i < length xs
+get_below [] i x h = absurd (none-some x h)
+get_below (y ∷ xs) zero x h = omega arith
+get_below (y ∷ xs) (suc i) x h = let t = get_below xs i x h in omega (arith, t)

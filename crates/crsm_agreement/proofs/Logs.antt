@@ -1,73 +1,98 @@
--- Logs while the first epoch is known.
-use Rattle.std.proofs.Common.{◌≡◌, ℕ, ◌+◌, ◌<◌, List, [], ◌∷◌, length, refl, sym, ◌∙◌, ap, subst, inl, inr, Bool, true, false, cond, arith}
-use Rattle.std.specs.Prelude.{◌⊎◌, IsTrue, None, nat_lt, ◌==◌}
-use Rattle.std.specs.Option.{option_map_or}
-use Rattle.std.proofs.lemmas.Bool.{and_parts, false≢true, ltb-true, eqb-true, eq-eqb, or_cases}
+-- Logs while one epoch is known.
+use Rattle.std.proofs.Common.{◌≡◌, ℕ, ◌≤◌, List, [], ◌∷◌, length, refl, sym, ◌∙◌, ap, inl, inr, Bool, true, false, cond, arith, length-append}
+use Rattle.std.specs.Prelude.{◌⊎◌, IsTrue, option_to_list, ◌==◌}
+use Rattle.std.proofs.lemmas.Bool.{and_parts, false≢true, eqb-true, eq-eqb, or_cases}
 use Rattle.crsm_base.specs.Order.{stamp_lt}
-use Rattle.crsm_spec.specs.Types.{Entry, Decision, Rec}
-use Rattle.crsm_spec.specs.Lists.{Among, has, numbers_below}
-use Rattle.crsm_spec.specs.Quorum.{spec_decided}
-use Rattle.crsm_spec.specs.Log.{Log, known, start, decision, members, spec, logged_in, with_entry, has_entered, is_enter}
+use Rattle.crsm_spec.specs.Types.{Entry, Rec}
+use Rattle.crsm_spec.specs.Lists.{Among, has}
+use Rattle.crsm_spec.specs.Log.{Log, known, start, decision, members, logged_in, with_entry, has_entered, is_enter, live, executed, entry_of}
 use Rattle.crsm_spec.specs.Fits.{fits}
 use Rattle.crsm_steps.specs.Laws.{Extends, same, more, AllFit}
 use Rattle.crsm_epoch.specs.Seats.{Logged}
+use Rattle.crsm_collection.proofs.Orderly.{enter_fit}
 
-pub fit_end : (me n : ℕ) (a b : Log) → Extends a b → AllFit me n b → AllFit me n a
-fit_end me n a b same h = h
-fit_end me n a b (more {new = c} rec p) h = fit_end me n a c p h.1
+-- ---- records that execute nothing
 
-pub decide_late : (me n : ℕ) (log : Log) (d : Decision) → IsTrue (fits me n log (Rec.Decide d)) → known log < d.epoch
-unfolding fits
-decide_late me n log d h = ltb-true (known log) d.epoch (and_parts _ (nat_lt (known log) d.epoch) (and_parts _ _ h).0).1
+abbrev pub IsIdle : Rec → Type 0
+IsIdle (Rec.Commit s) = ⊥
+IsIdle (Rec.Adopt place es) = ⊥
+IsIdle (Rec.Decide d) = ⊥
+IsIdle _ = Unit {0}
 
--- the first epoch has no decision
-pub first_decision : (k n : ℕ) (log : Log) → AllFit k n log → known log ≡ 0 → decision log ≡ None
+pub idle_executed : (rec : Rec) (log : Log) → IsIdle rec → executed (rec ∷ log) ≡ executed log
+unfolding executed
+idle_executed (Rec.Boot me n) log h = refl
+idle_executed (Rec.Prepare e) log h = refl
+idle_executed (Rec.Commit s) log h = absurd h
+idle_executed (Rec.Adopt place es) log h = absurd h
+idle_executed (Rec.Suspend x) log h = refl
+idle_executed (Rec.Promise i b) log h = refl
+idle_executed (Rec.Accept i b d) log h = refl
+idle_executed (Rec.Decide d) log h = absurd h
+idle_executed (Rec.Enter x) log h = refl
+
+pub idle_known : (rec : Rec) (log : Log) → IsIdle rec → known (rec ∷ log) ≡ known log
 unfolding known decision
-first_decision k n [] h e = refl
-first_decision k n (Rec.Decide d ∷ log) h e = let t = decide_late k n log d h.0 in absurd (omega (arith, e, t))
-first_decision k n (Rec.Boot me m ∷ log) h e = first_decision k n log h.1 e
-first_decision k n (Rec.Prepare f ∷ log) h e = first_decision k n log h.1 e
-first_decision k n (Rec.Commit s ∷ log) h e = first_decision k n log h.1 e
-first_decision k n (Rec.Adopt place es ∷ log) h e = first_decision k n log h.1 e
-first_decision k n (Rec.Suspend x ∷ log) h e = first_decision k n log h.1 e
-first_decision k n (Rec.Promise i b ∷ log) h e = first_decision k n log h.1 e
-first_decision k n (Rec.Accept i b d ∷ log) h e = first_decision k n log h.1 e
-first_decision k n (Rec.Enter x ∷ log) h e = first_decision k n log h.1 e
+idle_known (Rec.Boot me n) log h = refl
+idle_known (Rec.Prepare e) log h = refl
+idle_known (Rec.Commit s) log h = absurd h
+idle_known (Rec.Adopt place es) log h = absurd h
+idle_known (Rec.Suspend x) log h = refl
+idle_known (Rec.Promise i b) log h = refl
+idle_known (Rec.Accept i b d) log h = refl
+idle_known (Rec.Decide d) log h = absurd h
+idle_known (Rec.Enter x) log h = refl
 
-pub first_start : (k n : ℕ) (log : Log) → AllFit k n log → known log ≡ 0 → start log ≡ 0
-unfolding start
-first_start k n log h e = ap (λ o. option_map_or (λ d. d.base_len + length d.tail) o 0) (first_decision k n log h e)
+-- ---- an epoch that was entered
 
-pub first_members : (k n : ℕ) (log : Log) → AllFit k n log → known log ≡ 0 → members n log ≡ numbers_below n
-unfolding members
-first_members k n log h e = ap (λ o. option_map_or (λ d. d.members) o (numbers_below n)) (first_decision k n log h e)
+-- who has entered it was a member of it
+pub record HasEntered (n k e : ℕ) (log : Log) : Type 0 where
+  pub old : Log
+  pub earlier : Extends old log
+  pub epoch : known old ≡ e
+  pub member : IsTrue (has (members n old) k)
 
-pub first_spec : (k n : ℕ) (log : Log) → AllFit k n log → known log ≡ 0 → spec n log ≡ numbers_below n
-unfolding spec spec_decided
-first_spec k n log h e = ap (spec_decided n) (first_decision k n log h e)
-
--- who has entered it is of the first n
-enter_member : (k n : ℕ) (log : Log) (x : ℕ) → AllFit k n (Rec.Enter x ∷ log) → x ≡ 0 → IsTrue (has (numbers_below n) k)
+enters_as : (k n : ℕ) (log : Log) (x : ℕ) → IsTrue (fits k n log (Rec.Enter x)) → (x ≡ known log) × IsTrue (has (members n log) k)
 unfolding fits
-enter_member k n log x h e =
-    let a = and_parts _ _ h.0 in
+enters_as k n log x h =
+    let a = and_parts _ _ h in
     let b = and_parts _ _ a.0 in
     let c = and_parts _ (has (members n log) k) b.0 in
     let d = and_parts _ (x == known log) c.0 in
-    subst (λ ms. IsTrue (has ms k)) (first_members k n log h.1 (sym (eqb-true x (known log) d.1) ∙ e)) c.1
+    (eqb-true x (known log) d.1, c.1)
 
-pub entered_member : (k n : ℕ) (log : Log) → AllFit k n log → IsTrue (has_entered 0 log) → IsTrue (has (numbers_below n) k)
+later_still : (n k e : ℕ) (rec : Rec) (log : Log) → HasEntered n k e log → HasEntered n k e (rec ∷ log)
+later_still n k e rec log h = record { old = h.old; earlier = more rec h.earlier; epoch = h.epoch; member = h.member }
+
+pub entered_as : (k n e : ℕ) (log : Log) → AllFit k n log → IsTrue (has_entered e log) → HasEntered n k e log
 unfolding has_entered is_enter
-entered_member k n [] h e = absurd (false≢true e)
-entered_member k n (Rec.Enter x ∷ log) h e = elim (or_cases (x == 0) _ e) [ inl q ↦ enter_member k n log x h (eqb-true x 0 q) | inr q ↦ entered_member k n log h.1 q ]
-entered_member k n (Rec.Decide d ∷ log) h e = entered_member k n log h.1 e
-entered_member k n (Rec.Boot me m ∷ log) h e = entered_member k n log h.1 e
-entered_member k n (Rec.Prepare f ∷ log) h e = entered_member k n log h.1 e
-entered_member k n (Rec.Commit s ∷ log) h e = entered_member k n log h.1 e
-entered_member k n (Rec.Adopt place es ∷ log) h e = entered_member k n log h.1 e
-entered_member k n (Rec.Suspend x ∷ log) h e = entered_member k n log h.1 e
-entered_member k n (Rec.Promise i b ∷ log) h e = entered_member k n log h.1 e
-entered_member k n (Rec.Accept i b d ∷ log) h e = entered_member k n log h.1 e
+entered_as k n e [] h t = absurd (false≢true t)
+entered_as k n e (Rec.Enter x ∷ log) h t = elim (or_cases (x == e) _ t) [
+  | inl q ↦ (let f = enters_as k n log x h.0 in record { old = log; earlier = more (Rec.Enter x) same; epoch = sym f.0 ∙ eqb-true x e q; member = f.1 })
+  | inr q ↦ later_still n k e (Rec.Enter x) log (entered_as k n e log h.1 q)
+]
+entered_as k n e (Rec.Decide d ∷ log) h t = later_still n k e (Rec.Decide d) log (entered_as k n e log h.1 t)
+entered_as k n e (Rec.Boot me m ∷ log) h t = later_still n k e (Rec.Boot me m) log (entered_as k n e log h.1 t)
+entered_as k n e (Rec.Prepare f ∷ log) h t = later_still n k e (Rec.Prepare f) log (entered_as k n e log h.1 t)
+entered_as k n e (Rec.Commit s ∷ log) h t = later_still n k e (Rec.Commit s) log (entered_as k n e log h.1 t)
+entered_as k n e (Rec.Adopt place es ∷ log) h t = later_still n k e (Rec.Adopt place es) log (entered_as k n e log h.1 t)
+entered_as k n e (Rec.Suspend x ∷ log) h t = later_still n k e (Rec.Suspend x) log (entered_as k n e log h.1 t)
+entered_as k n e (Rec.Promise i b ∷ log) h t = later_still n k e (Rec.Promise i b) log (entered_as k n e log h.1 t)
+entered_as k n e (Rec.Accept i b d ∷ log) h t = later_still n k e (Rec.Accept i b d) log (entered_as k n e log h.1 t)
+
+-- who runs has executed what the epoch begins with
+pub live_long : (me n : ℕ) (log : Log) → AllFit me n log → IsTrue (live log) → start log ≤ length (executed log)
+unfolding live start decision executed
+live_long me n [] h l = absurd (false≢true l)
+live_long me n (Rec.Enter x ∷ log) h l = let e = enter_fit me n log x h.0 in omega (arith, e)
+live_long me n (Rec.Boot m k ∷ log) h l = absurd (false≢true l)
+live_long me n (Rec.Decide d ∷ log) h l = absurd (false≢true l)
+live_long me n (Rec.Prepare f ∷ log) h l = live_long me n log h.1 l
+live_long me n (Rec.Commit s ∷ log) h l = let t = live_long me n log h.1 l in let a = length-append (executed log) (option_to_list (entry_of log s)) in omega (arith, t, a)
+live_long me n (Rec.Adopt place es ∷ log) h l = let t = live_long me n log h.1 l in let a = length-append (executed log) es in omega (arith, t, a)
+live_long me n (Rec.Suspend x ∷ log) h l = live_long me n log h.1 l
+live_long me n (Rec.Promise i b ∷ log) h l = live_long me n log h.1 l
+live_long me n (Rec.Accept i b d ∷ log) h l = live_long me n log h.1 l
 
 -- ---- logged entries of an epoch
 

@@ -1,9 +1,15 @@
-//! Agreement of executed lists, in every world that a cluster reaches: so far while the first epoch is known.
+//! Agreement of executed lists, in every world that a cluster reaches.
 #![tactic(auto)]
 
-ghost use Rattle.crsm_agreement.specs.First.{FirstEpochAgrees};
+ghost use Rattle.crsm_agreement.specs.Laws.{EpochsHold, ListsAgree};
 
-/// While replicas know no later epoch than the first, their executed lists are fronts of one another.
-pub fn first_epoch_agrees()
-    ensures { FirstEpochAgrees }
+/// All that is asked of an epoch holds of each one that has begun: it has one opening, lists of replicas that know it go on
+/// from there by what was committed, and the premises of the law of collection hold.
+pub fn epochs_hold()
+    ensures { EpochsHold }
+{}
+
+/// Of two replicas' executed lists, now or earlier, one is a front of the other.
+pub fn lists_agree()
+    ensures { ListsAgree }
 {}

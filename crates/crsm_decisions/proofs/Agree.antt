@@ -20,17 +20,17 @@ use Rattle.crsm_decisions.proofs.Choice.{choices_are_one}
 use Rattle.crsm_decisions.proofs.Worlds.{ballots_hold}
 
 -- no decision is of the first epoch
-decided_later : (me n : ℕ) (log : Log) (d : Decision) → AllFit me n log → Among log (Rec.Decide d) → 0 < d.epoch
+pub decided_later : (me n : ℕ) (log : Log) (d : Decision) → AllFit me n log → Among log (Rec.Decide d) → 0 < d.epoch
 decided_later me n [] d h a = absurd a
 decided_later me n (rec ∷ log) d h (inl e) = let t = decide_above me n log d (subst (λ r. IsTrue (fits me n log r)) e h.0) in omega (arith, t)
 decided_later me n (rec ∷ log) d h (inr a) = decided_later me n log d h.1 a
 
 -- the known epoch is the first one, without a decision, or that of its decision
-data Knows (log : Log) (e : ℕ) : Option Decision → Type 0 where
+pub data Knows (log : Log) (e : ℕ) : Option Decision → Type 0 where
   First : e ≡ 0 → Knows log e None
   Later : (d : Decision) → Among log (Rec.Decide d) → d.epoch ≡ e → 0 < e → Knows log e (Some d)
 
-knows : (me n : ℕ) (log : Log) → AllFit me n log → (e : ℕ) → known log ≡ e → Knows log e (decision log)
+pub knows : (me n : ℕ) (log : Log) → AllFit me n log → (e : ℕ) → known log ≡ e → Knows log e (decision log)
 unfolding known
 knows me n log h e is = go (decision log) refl
   where

@@ -38,28 +38,28 @@ use Rattle.crsm_decisions.proofs.Steps.{Held, Mid, along}
 
 -- ---- logs at one site
 
-log_other : (w u : World) (k j : ℕ) (t : Site) → u.sites ≡ slice_set w.sites k t → (j ≡ k → ⊥) → log_at u j ≡ log_at w j
+pub log_other : (w u : World) (k j : ℕ) (t : Site) → u.sites ≡ slice_set w.sites k t → (j ≡ k → ⊥) → log_at u j ≡ log_at w j
 unfolding log_at
 log_other w u k j t e ne = ap (λ o. option_map_or log_of o []) (ap (λ ss. slice_get ss j) e ∙ set_other w.sites k j t ne)
 
-at_set : (w u : World) (k : ℕ) (s t : Site) → slice_get w.sites k ≡ Some s → u.sites ≡ slice_set w.sites k t → log_at u k ≡ log_of t
+pub at_set : (w u : World) (k : ℕ) (s t : Site) → slice_get w.sites k ≡ Some s → u.sites ≡ slice_set w.sites k t → log_at u k ≡ log_of t
 unfolding log_at
 at_set w u k s t e is = ap (λ ss. option_map_or log_of (slice_get ss k) []) is ∙ ap (λ o. option_map_or log_of o []) (set_same w.sites k s t e)
 
-same_logs : (w v : World) → v.sites ≡ w.sites → (j : ℕ) → log_at v j ≡ log_at w j
+pub same_logs : (w v : World) → v.sites ≡ w.sites → (j : ℕ) → log_at v j ≡ log_at w j
 unfolding log_at
 same_logs w v e j = ap (λ ss. option_map_or log_of (slice_get ss j) []) e
 
-up_is : (r : Replica) → log_of (Site.Up r) ≡ r.log
+pub up_is : (r : Replica) → log_of (Site.Up r) ≡ r.log
 unfolding log_of
 up_is r = refl
 
-down_is : (log : Log) → log_of (Site.Down log) ≡ log
+pub down_is : (log : Log) → log_of (Site.Down log) ≡ log
 unfolding log_of
 down_is log = refl
 
 -- a site that goes down, or comes to be what it was, keeps all logs
-kept_logs : (w u : World) (k : ℕ) (t : Site) → u.sites ≡ slice_set w.sites k t → log_of t ≡ log_at w k → (j : ℕ) → log_at u j ≡ log_at w j
+pub kept_logs : (w u : World) (k : ℕ) (t : Site) → u.sites ≡ slice_set w.sites k t → log_of t ≡ log_at w k → (j : ℕ) → log_at u j ≡ log_at w j
 kept_logs w u k t e is j = elim (cases_eq j k) [
   | inl at ↦ subst (λ i. log_at u i ≡ log_at w i) (sym at) (go (slice_get w.sites k) refl)
   | inr ne ↦ log_other w u k j t e ne
@@ -313,10 +313,10 @@ first_held n = record {
   told = λ s i b d t e. absurd t;
 }
 
-few_before : (w u : World) → LogsGoOn w u → HasFewBoots u → HasFewBoots w
+pub few_before : (w u : World) → LogsGoOn w u → HasFewBoots u → HasFewBoots w
 few_before w u grows few k = let t = boots_grow (log_at w k) (log_at u k) (grows k) in let f = few k in omega (arith, t, f)
 
-spelt_before : (n : ℕ) (w : World) (m : Moment) → Happens w m → AllSpelt n m.after → AllSpelt n w
+pub spelt_before : (n : ℕ) (w : World) (m : Moment) → Happens w m → AllSpelt n m.after → AllSpelt n w
 spelt_before n w m h spelt s told = spelt s (was_on n w m h s told)
 
 all_held : (n : ℕ) (w : World) (q : IsReached n w) → HasFewBoots w → AllSpelt n w → Held n w q
