@@ -8,7 +8,9 @@ use Rattle.crsm_spec.specs.Replica.{Replica}
 use Rattle.crsm_spec.specs.Draft.{Draft, begun}
 use Rattle.crsm_spec.specs.Step.{Input, step}
 use Rattle.crsm_spec.specs.World.{Site, World, Moment, begin, is_up_at, whole_step, cut_step, lost_step, down}
+use Rattle.crsm_spec.specs.Acts.{Act}
 use Rattle.crsm_spec.specs.Moments.{use_up, silent, begun_at, start_at}
+use Rattle.crsm_spec.specs.Safe.{command_of}
 
 -- some datagrams of the world are marked as used
 pub data Marks (w : World) : World → Type 0 where
@@ -49,6 +51,25 @@ pub data Happens (w : World) : Moment → Type 0 where
 pub data IsReached (n : ℕ) : World → Type 0 where
   first : IsReached n (begin n)
   next : {w : World} {m : Moment} → IsReached n w → Happens w m → IsReached n m.after
+
+-- a command comes by the act that is its request
+abbrev pub Brings : Act → {w : World} {k : ℕ} {input : Input} → CanCome w k input → Type 0
+Brings a (CanCome.IsMail from d s) = Unit {0}
+Brings a (CanCome.IsCommand c f) = command_of (Some a) ≡ Some c
+Brings a CanCome.IsTick = Unit {0}
+Brings a (CanCome.IsSuspicion ms f) = Unit {0}
+
+abbrev pub IsLedBy : Act → {w : World} {m : Moment} → Happens w m → Type 0
+IsLedBy a (Happens.Nothing v p) = Unit {0}
+IsLedBy a (Happens.Steps v p k r e input reading lt c m ends) = Brings a c
+IsLedBy a (Happens.Junk k r e m ends) = Unit {0}
+IsLedBy a (Happens.Stops k) = Unit {0}
+IsLedBy a (Happens.Starts k d f) = Unit {0}
+
+-- Each of these moments goes on from the one before, beginning at w, and is one that the act leads to there.
+abbrev pub GoOnBy : Act → World → List Moment → Type 0
+GoOnBy a w [] = Unit {0}
+GoOnBy a w (m ∷ ms) = (m.before ≡ w) × ((h : Happens w m) × IsLedBy a h) × GoOnBy a m.after ms
 
 -- Each of these moments goes on from the one before, beginning at w, and is one that can happen there.
 abbrev pub GoOn : World → List Moment → Type 0
