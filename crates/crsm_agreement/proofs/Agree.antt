@@ -1,5 +1,5 @@
 -- Every epoch holds, by induction over epochs, and so all executed lists agree.
-use Rattle.std.proofs.Common.{◌≡◌, ℕ, zero, suc, ◌+◌, ◌<◌, ◌≤◌, List, [], ◌∷◌, length, refl, sym, ◌∙◌, ap, subst, inl, inr, arith}
+use Rattle.std.proofs.Common.{◌≡◌, ℕ, zero, suc, ◌+◌, ◌-◌, ◌<◌, ◌≤◌, List, [], ◌∷◌, length, refl, sym, ◌∙◌, ap, subst, inl, inr, arith}
 use Rattle.std.specs.Prelude.{◌⊎◌, IsTrue, Option, Some, None, slice_get, nat_le}
 use Rattle.std.proofs.lemmas.Bool.{and_parts, leb-true, cases_lt}
 use Rattle.std.proofs.lemmas.Option.{same_Some}
@@ -12,23 +12,24 @@ use Rattle.crsm_spec.specs.World.{World, log_at}
 use Rattle.crsm_steps.specs.Laws.{AllFit, Extends, same, more}
 use Rattle.crsm_steps.specs.Happenings.{IsReached}
 use Rattle.crsm_collection.specs.Collecting.{CommitOf}
-use Rattle.crsm_collection.proofs.Law.{same_place}
+use Rattle.crsm_collection.proofs.Law.{same_place, get_some}
 use Rattle.crsm_collection.proofs.Logged.{end_fits}
 use Rattle.crsm_logs.specs.Worlds.{HasFewBoots}
 use Rattle.crsm_logs.proofs.Worlds.{logs_fit}
 use Rattle.crsm_sources.specs.Counted.{AllSpelt}
 use Rattle.crsm_decisions.specs.Laws.{IsSpecOf}
-use Rattle.crsm_decisions.proofs.Logs.{accept_fits}
+use Rattle.crsm_decisions.proofs.Logs.{accept_fits, known_decide}
 use Rattle.crsm_decisions.proofs.Notes.{extends_among}
 use Rattle.crsm_decisions.proofs.Choice.{share}
 use Rattle.crsm_decisions.proofs.Worlds.{ballots_hold, decisions_are_collected}
 use Rattle.crsm_decisions.proofs.Agree.{Knows, First, Later, knows, decisions_are_one}
-use Rattle.crsm_agreement.specs.Openings.{IsEpochOf, EpochHolds}
+use Rattle.crsm_agreement.specs.Openings.{IsOpening, IsEpochOf, EpochHolds}
 use Rattle.crsm_agreement.specs.Laws.{EpochsHold, ListsAgree}
 use Rattle.crsm_agreement.proofs.Lists.{fronts, get_below}
 use Rattle.crsm_agreement.proofs.Worlds.{all_placed}
 use Rattle.crsm_agreement.proofs.Facts.{epoch_facts}
-use Rattle.crsm_agreement.proofs.Openings.{first_opening, next_opening, opens_next}
+use Rattle.crsm_agreement.proofs.Openings.{first_opening, next_opening, opens_next, of_opening}
+use Rattle.crsm_agreement.proofs.Logs.{stands_on, start_decide}
 
 -- ---- who has accepted a decision has executed its base
 
@@ -105,20 +106,53 @@ module _ (n : ℕ) (w : World) (q : IsReached n w) (few : HasFewBoots w) (spelt 
         let v = share (spec n p.log) p.voters p.voters p.many p.many in
         (v.0, has_base v.0 n e (log_at w v.0) d.epoch p.ballot d (fit v.0) (p.accepted v.0 v.1) next_is)
 
-    next_holds : EpochHolds n e (log_at w) → EpochHolds n (suc e) (log_at w)
-    next_holds g =
+    -- an element of an opening stands in a base or in the tail
+    opening_at : (a b : List Entry) → IsOpening (suc e) a (log_at w) → IsOpening (suc e) b (log_at w) → (p : ℕ) (x : Entry) → slice_get a p ≡ Some x → slice_get b p ≡ Some x
+    opening_at a b oa ob p x q = elim (cases_lt p d.base_len) [ inl lt ↦ below lt | inr ge ↦ behind ge ]
+      where
+        below : p < d.base_len → slice_get b p ≡ Some x
+        below lt =
+            let h = holder in
+            let l = h.1.long in
+            let k = h.1.epoch in
+            let t = get_some (executed h.1.old) p (omega (arith, lt, l)) in
+            let older : known h.1.old < suc e = omega (arith, k) in
+            ob.before h.0 h.1.old h.1.earlier older p x (t.1 ∙ sym (oa.before h.0 h.1.old h.1.earlier older p t.0 t.1) ∙ q)
+
+        behind : d.base_len ≤ p → slice_get b p ≡ Some x
+        behind ge =
+            let t = stands_on (log_at w j) (Rec.Decide d) on_record in
+            let size = oa.begin j (Rec.Decide d ∷ t.rest) t.earlier (known_decide d t.rest ∙ at) in
+            let is = start_decide d t.rest in
+            let l = get_below a p x q in
+            let y = get_some d.tail (p - d.base_len) (omega (arith, ge, size, is, l)) in
+            let place : d.base_len + (p - d.base_len) ≡ p = omega (arith, ge) in
+            let in_a = subst (λ z. slice_get a z ≡ Some y.0) place (oa.tail j d on_record at (p - d.base_len) y.0 y.1) in
+            subst (λ z. slice_get b z ≡ Some x) place (ob.tail j d on_record at (p - d.base_len) x (y.1 ∙ sym in_a ∙ q))
+
+    next_holds : (one : (o : List Entry) → IsOpening e o (log_at w) → (g : EpochHolds n e (log_at w)) → (p : ℕ) (x : Entry) → slice_get o p ≡ Some x → slice_get g.opening p ≡ Some x) →
+        EpochHolds n e (log_at w) → EpochHolds n (suc e) (log_at w)
+    next_holds one g =
         let made = decisions_are_collected n e (length g.opening) g.counted w q few spelt g.facts g.specs j d on_record next_is in
-        let h = holder in
-        let opens = opens_next n e g.opening g.counted (log_at w) g.opens g.placed g.facts d made h.0 h.1.old h.1.earlier h.1.epoch h.1.long only in
-        let opening = next_opening n e g.opening g.counted (log_at w) g.opens g.placed g.facts d made h.0 h.1.old h.1.earlier h.1.epoch h.1.long only in
+        let holds = holder in
+        let opens = opens_next n e g.opening g.counted (log_at w) g.opens g.placed g.facts d made holds.0 holds.1.old holds.1.earlier holds.1.epoch holds.1.long only in
+        let opening = next_opening n e g.opening g.counted (log_at w) g.opens g.placed g.facts d made holds.0 holds.1.old holds.1.earlier holds.1.epoch holds.1.long only in
         record {
           opening = opening;
           counted = spec_decided n (Some d);
           opens = opens;
+          earlier = λ f o lt h o' p x q. of_opening n e g.opening g.counted (log_at w) g.opens g.placed g.facts d made holds.0 holds.1.old holds.1.earlier holds.1.epoch holds.1.long only p x
+              (elim (cases_lt f e) [
+            | inl l ↦ g.earlier f o l h o' p x q
+            | inr ge ↦ one o (subst (λ z. IsOpening z o (log_at w)) (same_epoch f lt ge) o') g p x q
+          ]);
           specs = specs_later;
           placed = all_placed n w q few spelt (suc e) opening opens;
           facts = epoch_facts n w q few spelt (suc e) opening (spec_decided n (Some d)) opens specs_later;
         }
+      where
+        same_epoch : (f : ℕ) → f < suc e → e ≤ f → f ≡ e
+        same_epoch f lt ge = omega (arith, lt, ge)
 
   first_holds : EpochHolds n 0 (log_at w)
   first_holds =
@@ -127,15 +161,24 @@ module _ (n : ℕ) (w : World) (q : IsReached n w) (few : HasFewBoots w) (spelt 
         opening = [];
         counted = numbers_below n;
         opens = opens;
+        earlier = λ f o lt. absurd (omega (arith, lt));
         specs = specs_first;
         placed = all_placed n w q few spelt 0 [] opens;
         facts = epoch_facts n w q few spelt 0 [] (numbers_below n) opens specs_first;
       }
 
+  -- an epoch has one opening
+  pub one_opening : (e : ℕ) → IsEpochOf e (log_at w) → (a b : List Entry) → IsOpening e a (log_at w) → IsOpening e b (log_at w) → (p : ℕ) (x : Entry) → slice_get a p ≡ Some x → slice_get b p ≡ Some x
+  one_opening zero h a b oa ob p x q = let l = oa.older p x q in absurd (omega (arith, l))
+  one_opening (suc e) (inl h) a b oa ob p x q = absurd (omega (arith, h))
+  one_opening (suc e) (inr h) a b oa ob p x q = opening_at e h.0 h.1 h.2 h.3 a b oa ob p x q
+
   pub epoch_holds : (e : ℕ) → IsEpochOf e (log_at w) → EpochHolds n e (log_at w)
   epoch_holds zero h = first_holds
   epoch_holds (suc e) (inl h) = absurd (omega (arith, h))
-  epoch_holds (suc e) (inr h) = next_holds e h.0 h.1 h.2 h.3 (epoch_holds e (before e h.0 h.1 h.2 h.3))
+  epoch_holds (suc e) (inr h) =
+      let was = before e h.0 h.1 h.2 h.3 in
+      next_holds e h.0 h.1 h.2 h.3 (λ o a g p x q. one_opening e was o g.opening a g.opens p x q) (epoch_holds e was)
 
   -- the epoch that a log knows has begun
   pub known_epoch : (k : ℕ) (log : Log) → Extends log (log_at w k) → IsEpochOf (known log) (log_at w)

@@ -1,9 +1,9 @@
 -- Logs while one epoch is known.
-use Rattle.std.proofs.Common.{◌≡◌, ℕ, ◌≤◌, List, [], ◌∷◌, length, refl, sym, ◌∙◌, ap, inl, inr, Bool, true, false, cond, arith, length-append}
+use Rattle.std.proofs.Common.{subst, ◌+◌, ◌≡◌, ℕ, ◌≤◌, List, [], ◌∷◌, length, refl, sym, ◌∙◌, ap, inl, inr, Bool, true, false, cond, arith, length-append}
 use Rattle.std.specs.Prelude.{◌⊎◌, IsTrue, option_to_list, ◌==◌}
 use Rattle.std.proofs.lemmas.Bool.{and_parts, false≢true, eqb-true, eq-eqb, or_cases}
 use Rattle.crsm_base.specs.Order.{stamp_lt}
-use Rattle.crsm_spec.specs.Types.{Entry, Rec}
+use Rattle.crsm_spec.specs.Types.{Entry, Decision, Rec}
 use Rattle.crsm_spec.specs.Lists.{Among, has}
 use Rattle.crsm_spec.specs.Log.{Log, known, start, decision, members, logged_in, with_entry, has_entered, is_enter, live, executed, entry_of}
 use Rattle.crsm_spec.specs.Fits.{fits}
@@ -42,6 +42,21 @@ idle_known (Rec.Promise i b) log h = refl
 idle_known (Rec.Accept i b d) log h = refl
 idle_known (Rec.Decide d) log h = absurd h
 idle_known (Rec.Enter x) log h = refl
+
+-- ---- a record, and what lies below it
+
+pub record StandsOn (rec : Rec) (log : Log) : Type 0 where
+  pub rest : Log
+  pub earlier : Extends (rec ∷ rest) log
+
+pub stands_on : (log : Log) (rec : Rec) → Among log rec → StandsOn rec log
+stands_on [] rec a = absurd a
+stands_on (r ∷ log) rec (inl e) = record { rest = log; earlier = subst (λ z. Extends (z ∷ log) (r ∷ log)) e same }
+stands_on (r ∷ log) rec (inr a) = let t = stands_on log rec a in record { rest = t.rest; earlier = more r t.earlier }
+
+pub start_decide : (d : Decision) (log : Log) → start (Rec.Decide d ∷ log) ≡ d.base_len + length d.tail
+unfolding start decision
+start_decide d log = refl
 
 -- ---- an epoch that was entered
 

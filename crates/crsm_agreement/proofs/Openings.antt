@@ -70,7 +70,7 @@ module _ (n e : ℕ) (opening : List Entry) (counted : List ℕ) (logs : ℕ →
   of_known k log x kn = prefix_get (executed log) next_opening (lists_are_fronts e n (length opening) counted logs d h holder k log facts agree made holds holder_knows long x kn)
 
   -- and so is the opening before
-  of_opening : (p : ℕ) (x : Entry) → slice_get opening p ≡ Some x → slice_get next_opening p ≡ Some x
+  pub of_opening : (p : ℕ) (x : Entry) → slice_get opening p ≡ Some x → slice_get next_opening p ≡ Some x
   of_opening p x q =
       let lt = get_below opening p x q in
       let l = low in
