@@ -4,6 +4,7 @@
 mod acceptor;
 mod order;
 mod proposer;
+mod readers;
 #[cfg(test)]
 mod tests;
 

@@ -35,24 +35,24 @@ pub enum StartError {
 
 /// The accepted decision that counts so far, and who named it.
 #[derive(Debug, Drop)]
-struct Best {
-    ballot: Ballot,
-    replica: u32,
-    value: Decision,
+pub(crate) struct Best {
+    pub(crate) ballot: Ballot,
+    pub(crate) replica: u32,
+    pub(crate) value: Decision,
 }
 
 /// A proposal under way in one ballot of an instance. It counts each replica's promise and each
 /// replica's vote once, and leaves it to its caller that they are replicas of the Spec.
 #[derive(Drop)]
 pub struct Proposer {
-    alloc: Global,
-    ballot: Ballot,
-    own: Decision,
-    size: u32,
-    heard: Vec<u32>,
-    best: Option<Best>,
-    has_proposed: bool,
-    voters: Vec<u32>,
+    pub(crate) alloc: Global,
+    pub(crate) ballot: Ballot,
+    pub(crate) own: Decision,
+    pub(crate) size: u32,
+    pub(crate) heard: Vec<u32>,
+    pub(crate) best: Option<Best>,
+    pub(crate) has_proposed: bool,
+    pub(crate) voters: Vec<u32>,
 }
 
 impl Model for Proposer {
@@ -198,7 +198,7 @@ fn better(best: Option<Best>, replica: u32, accepted: Option<(Ballot, Decision)>
 }
 
 /// The value that counts: the best, or one's own.
-fn value_of<'a>(own: &'a Decision, best: &'a Option<Best>) -> &'a Decision
+pub(crate) fn value_of<'a>(own: &'a Decision, best: &'a Option<Best>) -> &'a Decision
     ensures { result.now ≡ value_of_best own.now (found_of best.now) }
 {
     match best {
@@ -208,7 +208,7 @@ fn value_of<'a>(own: &'a Decision, best: &'a Option<Best>) -> &'a Decision
 }
 
 /// The value that counts once a further answer is in.
-fn value_with<'a>(
+pub(crate) fn value_with<'a>(
     own: &'a Decision,
     best: &'a Option<Best>,
     replica: u32,
