@@ -9,7 +9,7 @@ ghost use Rattle.crsm_base.specs.Records.{FitsRec};
 ghost use Rattle.crsm_spec.specs.Fits.{fits};
 ghost use Rattle.crsm_spec.specs.Lines.{lines_of};
 ghost use Rattle.crsm_ledger.specs.Stands.{kind};
-ghost use Rattle.crsm_spec.specs.Log.{boots, start, live, suspended, executed, logged, last_stamp, promised, accepted, spec};
+ghost use Rattle.crsm_spec.specs.Log.{boots, start, live, suspended, executed, logged, unexecuted, last_stamp, promised, accepted, spec};
 
 use crate::error::LedgerError;
 use crate::history::History;
@@ -147,6 +147,15 @@ impl Ledger {
         ensures fit { AllByRecursion FitsEntry result.now }
     {
         self.logged.as_slice()
+    }
+
+    /// The logged entries of the known epoch that are not executed, by ascending stamp.
+    #[tactic(auto, unfolding(crsm_spec::specs::Log::unexecuted))]
+    pub fn unexecuted(&self) -> &[Entry]
+        ensures value { (me n : ℕ) (log : List Rec) → StandsFor me n self.now log → result.now ≡ unexecuted log }
+        ensures fit { AllByRecursion FitsEntry result.now }
+    {
+        self.logged.above(self.history.last_stamp())
     }
 
     /// The stamp of the last executed entry of the known epoch.

@@ -8,6 +8,7 @@ mod history;
 mod ledger;
 mod logged;
 mod order;
+mod owner;
 mod recover;
 mod replicas;
 mod spelt;

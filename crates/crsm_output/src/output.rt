@@ -1,7 +1,8 @@
 //! What a step has made so far.
 
-ghost use Rattle.std.specs.Prelude.{◌≡◌, ◌++◌, [], ◌∷◌, IfOk, OnOk, map};
-ghost use Rattle.crsm_output.specs.Made.{Made, Holds, IsBatchOf, nothing, on_paper, to_address, line_of};
+ghost use Rattle.std.specs.Prelude.{◌≡◌, ◌++◌, [], ◌∷◌, ℕ, List, IfOk, OnOk, map};
+ghost use Rattle.crsm_base.specs.declared.Datagram.{Datagram};
+ghost use Rattle.crsm_output.specs.Made.{Made, Holds, IsBatchOf, nothing, on_paper, to_replica, to_address, line_of};
 
 use crate::batch::Batch;
 use crsm_base::{Datagram, Line, Lines, NoMemory, Outcome, Rec, Recs, Send, Sends, To};
@@ -82,6 +83,14 @@ impl Output {
         Ok(())
     }
 
+    /// These datagrams go to replicas.
+    pub fn send_all(&mut self, sends: &[Send]) -> Result<(), NoMemory>
+        ensures { OnOk result ((m : Made) (sent : List (ℕ × Datagram)) → Holds self.old m → sends.now ≡ map to_replica sent → Holds self.new (record m { sends = m.sends ++ sent })) }
+    {
+        add_copies(self.alloc, sends, &mut self.sends)?;
+        Ok(())
+    }
+
     /// A client is told something.
     pub fn reply(&mut self, reply: Reply) -> Result<(), NoMemory>
         ensures { OnOk result ((m : Made) → Holds self.old m → Holds self.new (record m { replies = m.replies ++ on_paper reply ∷ [] })) }
@@ -125,6 +134,16 @@ fn add(more: Vec<Line>, lines: &mut Lines) -> Result<(), NoMemory>
 {
     for line in more {
         lines.push(line)?;
+    }
+    Ok(())
+}
+
+/// Adds copies of datagrams.
+fn add_copies(alloc: Global, more: &[Send], sends: &mut Sends) -> Result<(), NoMemory>
+    ensures { OnOk result (sends.new ≡ sends.old ++ more.now) }
+{
+    for send in more {
+        sends.push(send.copy(alloc)?)?;
     }
     Ok(())
 }
