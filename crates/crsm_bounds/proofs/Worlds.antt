@@ -323,6 +323,7 @@ told_before n w most short s t =
 
 pub short_logs_are_spelt : ShortLogsAreSpelt
 short_logs_are_spelt n w most reached short = record {
+  numbers = λ k s e. ((fine n w most reached short).sites k s e).0;
   few = short_few w short;
   records = λ k. log_spelt w k (fine n w most reached short).sites;
   messages = told_before n w most short;

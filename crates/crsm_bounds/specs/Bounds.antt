@@ -1,8 +1,8 @@
 -- Logs that are short enough for every number in them to have a spelling.
-use Rattle.std.specs.Prelude.{ℕ, ◌≤◌, List, length}
+use Rattle.std.specs.Prelude.{◌≡◌, ℕ, ◌<◌, ◌≤◌, List, length, Some, slice_get}
 use Rattle.std.specs.List.{AllByRecursion}
 use Rattle.crsm_base.specs.Records.{FitsRec}
-use Rattle.crsm_spec.specs.World.{World, log_at, begin}
+use Rattle.crsm_spec.specs.World.{Site, World, log_at, begin}
 use Rattle.crsm_spec.specs.Acts.{Act}
 use Rattle.crsm_spec.specs.Run.{ArePossible, all_worlds}
 use Rattle.crsm_steps.specs.Happenings.{IsReached}
@@ -17,8 +17,9 @@ most_records = 1125899906842624
 abbrev pub HasShortLogs : World → Type 0
 HasShortLogs w = (k : ℕ) → length (log_at w k) ≤ most_records
 
--- Each number of each log and of each message that was told is in its range.
+-- Each number of each log and of each message that was told is in its range, and so is that of each replica.
 pub record IsSpelt (n : ℕ) (w : World) : Type 0 where
+  pub numbers : (k : ℕ) (s : Site) → slice_get w.sites k ≡ Some s → k < 15
   pub few : HasFewBoots w
   pub records : (k : ℕ) → AllByRecursion FitsRec (log_at w k)
   pub messages : AllSpelt n w

@@ -139,7 +139,7 @@ unfolding world_after
 after_both w [] ns = refl
 after_both w (m ∷ ms) ns = after_both m.after ms ns
 
-same_end : (w : World) (acts : List Act) → world_after w (moments w acts) ≡ after_acts w acts
+pub same_end : (w : World) (acts : List Act) → world_after w (moments w acts) ≡ after_acts w acts
 unfolding world_after moments after_acts act
 same_end w [] = refl
 same_end w (a ∷ acts) = after_both w (moments_of w a) _ ∙ same_end (world_after w (moments_of w a)) acts
