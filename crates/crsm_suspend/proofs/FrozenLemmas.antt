@@ -1,7 +1,6 @@
 -- The page of a frozen log, entry by entry.
 use Rattle.std.proofs.Common.{arith, ◌≡◌, ◌∙◌, ℕ, suc, ◌+◌, ◌<◌, ◌≤◌, Bool, true, false, refl, sym, ap, List, [], ◌∷◌, ◌++◌, cond, length, get_or, drop}
 use Rattle.std.specs.Prelude.{◌-◌, ◌==◌, filter, nat_le, Option, Some, None}
-use Rattle.std.specs.Option.{option_map_or}
 use Rattle.std.proofs.lemmas.Bool.Decides.{nat_tests}
 use Rattle.std.proofs.lemmas.List.{append_assoc, append-nil, drop_more, drop_all, length-append}
 use Rattle.crsm_spec.specs.Types.{Stamp, Entry, Control}
@@ -23,7 +22,7 @@ over_none o s e = rw e refl
 pub left : {A : Type 0} (xs : List A) (i : ℕ) (x : A) → i < length xs → x ≡ get_or xs i x → drop i xs ≡ x ∷ drop (i + 1) xs
 left xs i x l e = drop_more xs i x l ∙ ap (λ y. y ∷ drop (i + 1) xs) (sym e)
 
-above_next : (o : Option Stamp) (e : Entry) (es : List Entry) (b : Bool) → is_over o e.stamp ≡ b → above o (e ∷ es) ≡ cond b (e ∷ above o es) (above o es)
+pub above_next : (o : Option Stamp) (e : Entry) (es : List Entry) (b : Bool) → is_over o e.stamp ≡ b → above o (e ∷ es) ≡ cond b (e ∷ above o es) (above o es)
 unfolding above is_over
 above_next None e es b h = ap (λ c. cond c (e ∷ es) es) h
 above_next (Some s) e es b h = ap (λ c. cond c (e ∷ filter (λ f. stamp_lt s f.stamp) es) (filter (λ f. stamp_lt s f.stamp) es)) h

@@ -1,11 +1,13 @@
 -- How many bytes spellings take.
-use Rattle.std.proofs.Common.{arith, ◌≡◌, ◌∙◌, ap, sym, ℕ, ◌+◌, refl, List, ◌∷◌, ◌++◌, length}
-use Rattle.std.specs.Prelude.{Option, Some, None}
-use Rattle.std.proofs.lemmas.List.{length-append}
+use Rattle.std.proofs.Common.{arith, ◌≡◌, ◌∙◌, ap, sym, ℕ, ◌+◌, ◌<◌, refl, List, [], ◌∷◌, ◌++◌, length, take, get_or}
+use Rattle.std.specs.Prelude.{Option, sum_by}
+use Rattle.std.proofs.lemmas.List.{length-append, take_more}
+use Rattle.std.proofs.lemmas.List.Sums.{sum_by-append, sum_by-cons}
 use Rattle.crsm_base.specs.declared.command.Op.{Op}
 use Rattle.crsm_base.specs.declared.command.Op.TheVariants.{Get, Put, Delete, Cas}
 use Rattle.crsm_base.specs.declared.stamp.Stamp.{Stamp}
 use Rattle.crsm_base.specs.declared.command.Entry.{Entry}
+use Rattle.crsm_spec.specs.Collect.{size_of}
 use Rattle.crsm_base.specs.Spelling.{u8_bytes, u16_bytes, u64_bytes, stamp_bytes, key_bytes, val_bytes, option_bytes, op_bytes, command_bytes, entry_bytes}
 
 u64_long : (n : ℕ) → length (u64_bytes n) ≡ 8
@@ -65,3 +67,20 @@ put_is o k v n m e h i = let l = put_long k v in let s : 1 + n + m ≡ length (o
 pub cas_is : (o : Op) (k : List ℕ) (a b : Option (List ℕ)) (n m l : ℕ) → o ≡ Cas k a b → n ≡ length (key_bytes k) → m ≡ length (option_bytes val_bytes a) → l ≡ length (option_bytes val_bytes b) →
     1 + n + m + l ≡ length (op_bytes o)
 cas_is o k a b n m l e h i j = let t = cas_long k a b in let s : 1 + n + m + l ≡ length (op_bytes (Cas k a b)) = omega (arith, t, h, i, j) in s ∙ ap (λ p. length (op_bytes p)) (sym e)
+
+-- ---- of many entries
+
+pub no_size : size_of [] ≡ 0
+unfolding size_of
+no_size = refl
+
+pub size_more : (es : List Entry) (i : ℕ) (e : Entry) (n : ℕ) → i < length es → e ≡ get_or es i e → n ≡ length (entry_bytes e) → size_of (take (i + 1) es) ≡ size_of (take i es) + n
+unfolding size_of
+size_more es i e n l at size =
+    ap (sum_by (λ (f : Entry). length (entry_bytes f))) (take_more es i e l)
+    ∙ sum_by-append (λ (f : Entry). length (entry_bytes f)) (take i es) (get_or es i e ∷ [])
+    ∙ ap (λ m. sum_by (λ (f : Entry). length (entry_bytes f)) (take i es) + m)
+    (sum_by-cons (λ (f : Entry). length (entry_bytes f)) (get_or es i e) [] ∙ one (get_or es i e) ∙ ap (λ (f : Entry). length (entry_bytes f)) (sym at) ∙ sym size)
+  where
+    one : (f : Entry) → length (entry_bytes f) + 0 ≡ length (entry_bytes f)
+    one f = omega arith

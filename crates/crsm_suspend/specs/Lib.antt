@@ -1,1 +1,4 @@
+pub mod Collecting
 pub mod Pages
+pub mod Reports
+pub mod Union

@@ -1,5 +1,5 @@
--- Which entries a page is to have.
-use Rattle.std.specs.Prelude.{Bool, true, Option, None, Some}
+-- Which entries a page is to have, and lists of pages.
+use Rattle.std.specs.Prelude.{Bool, true, ◌-◌, List, length, take, Option, None, Some}
 use Rattle.std.specs.Option.{option_map_or}
 use Rattle.crsm_base.specs.Order.{stamp_lt}
 use Rattle.crsm_spec.specs.Types.{Stamp}
@@ -12,3 +12,7 @@ is_over floor s = option_map_or (λ t. stamp_lt t s) floor true
 abbrev pub asked_stamp : Option Stamp → Option Stamp → Option Stamp
 asked_stamp None last = last
 asked_stamp (Some after) last = Some after
+
+-- a list without its last element
+unfoldable pub without_last : {A : Type 0} → List A → List A
+without_last xs = take (length xs - 1) xs

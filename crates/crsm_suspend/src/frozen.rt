@@ -31,7 +31,7 @@ pub fn page_of(alloc: Global, ledger: &Ledger, after: Option<Stamp>) -> Result<C
 }
 
 /// The stamp that was asked for, and the other one where none was.
-fn asked(after: Option<Stamp>, last: Option<Stamp>) -> Option<Stamp>
+pub fn asked(after: Option<Stamp>, last: Option<Stamp>) -> Option<Stamp>
     ensures { result ≡ asked_stamp after last }
 {
     match after {

@@ -1,15 +1,37 @@
 //! How many bytes an entry takes.
 
-ghost use Rattle.std.specs.Prelude.{◌≡◌, ◌<◌, ◌+◌, ◌^◌, length};
+ghost use Rattle.std.specs.Prelude.{◌≡◌, ◌<◌, ◌+◌, ◌^◌, length, IfOk};
+ghost use Rattle.crsm_spec.specs.Collect.{size_of};
 ghost use Rattle.crsm_base.specs.Spelling.{entry_bytes, key_bytes, op_bytes, option_bytes, val_bytes};
 
-use crsm_base::{Entry, Key, Op, Val};
+use crsm_base::{Entry, Key, NoMemory, Op, Val};
 
 /// How many bytes an entry takes, also one of keys and values as long as memory holds.
 pub fn entry_size(entry: &Entry) -> u128
     ensures { result ≡ length (entry_bytes entry.now) }
 {
     33 + op_size(&entry.command.op)
+}
+
+/// How many bytes the entries take together; out of memory where that passes the greatest number, since no memory
+/// holds so many.
+pub fn total_size(entries: &[Entry]) -> Result<u64, NoMemory>
+    ensures { IfOk result (λ size. size ≡ size_of entries.now) }
+{
+    let mut total = 0;
+    for entry in entries {
+        total = sum(total, entry_size(entry))?;
+    }
+    Ok(total)
+}
+
+fn sum(total: u64, size: u128) -> Result<u64, NoMemory>
+    ensures { IfOk result (λ sum. sum ≡ total + size) }
+{
+    if size > (u64::MAX - total) as u128 {
+        return Err(NoMemory);
+    }
+    Ok(total + size as u64)
 }
 
 fn op_size(op: &Op) -> u128

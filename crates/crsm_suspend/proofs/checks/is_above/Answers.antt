@@ -1,4 +1,4 @@
-use Rattle.std.proofs.Common.{◌≡◌, ◌∙◌}
+use Rattle.std.proofs.Common.{◌∙◌}
 use Rattle.crsm_suspend.proofs.FrozenLemmas.{over_some, over_none}
 use Rattle.crsm_suspend.proofs.checks.is_above.Goals as goal
 

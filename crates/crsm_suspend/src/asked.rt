@@ -1,0 +1,87 @@
+//! Which pages are asked for.
+
+ghost use Rattle.std.specs.Prelude.{◌≡◌, ℕ, List, IfOk};
+ghost use Rattle.std.specs.Option.{option_eq};
+ghost use Rattle.crsm_base.specs.Order.{stamp_eq};
+ghost use Rattle.crsm_base.specs.declared.Rec.{Rec};
+ghost use Rattle.crsm_ledger.specs.Stands.{StandsFor};
+ghost use Rattle.crsm_spec.specs.Collect.{own_page};
+ghost use Rattle.crsm_spec.specs.Controls.{are_above, is_page_of};
+ghost use Rattle.crsm_spec.specs.Log.{above, known};
+ghost use Rattle.crsm_suspend.specs.Collecting.{CanTell};
+ghost use Rattle.crsm_suspend.specs.Reports.{page_from};
+
+use crate::checks::is_above;
+use crate::frozen::asked;
+use crate::report::Page;
+use crsm_base::{Entries, Entry, NoMemory, Stamp};
+use crsm_ledger::Ledger;
+use std::alloc::Global;
+
+/// The greatest executed length of a page: the tail and the numbers behind it stay below the greatest number.
+const MOST_EXECUTED: u64 = u64::MAX - 4_096;
+
+/// The replica's own frozen log in one page. No memory holds more executed entries than a page may name.
+pub fn own_page(alloc: Global, ledger: &Ledger) -> Result<Page, NoMemory>
+    ensures page { (me n : ℕ) (log : List Rec) → StandsFor me n ledger.now log → IfOk result (λ p. page_from me p ≡ own_page me log) }
+    ensures told { (me n : ℕ) (log : List Rec) → StandsFor me n ledger.now log → IfOk result (λ p. CanTell (known log) (page_from me p)) }
+{
+    let executed = ledger.executed_len();
+    if executed > MOST_EXECUTED {
+        return Err(NoMemory);
+    }
+    let last = ledger.last_stamp();
+    let entries = copies_above(alloc, last, ledger.logged())?;
+    Ok(Page {
+        executed,
+        last,
+        is_whole: true,
+        entries,
+    })
+}
+
+/// Copies of those of the entries that are above a stamp.
+fn copies_above(alloc: Global, floor: Option<Stamp>, entries: &[Entry]) -> Result<Entries, NoMemory>
+    ensures { IfOk result (λ copies. copies ≡ above floor entries.now) }
+{
+    let mut copies = Entries::new(alloc);
+    for entry in entries {
+        if !is_above(floor, entry.stamp) {
+            continue;
+        }
+        copies.push(entry.copy(alloc)?)?;
+    }
+    Ok(copies)
+}
+
+/// Whether a replica of the known epoch may send this page where it was asked from this stamp on.
+pub fn is_page(
+    known: u64,
+    cursor: Option<Stamp>,
+    epoch: u64,
+    after: Option<Stamp>,
+    page: &Page,
+) -> bool
+    ensures { (k : ℕ) → result ≡ is_page_of known epoch cursor after (page_from k page.now) }
+{
+    let entries = page.entries.as_slice();
+    let is_next = (epoch == known) & is_same(after, cursor);
+    let are_behind = are_above(epoch, asked(after, page.last), entries);
+    let says_more = !entries.is_empty() | page.is_whole;
+    (is_next & are_behind) & (says_more & (page.executed <= MOST_EXECUTED))
+}
+
+#[tactic(auto, unfolding(crsm_base::specs::Order::stamp_eq))]
+fn is_same(after: Option<Stamp>, cursor: Option<Stamp>) -> bool
+    ensures { result ≡ option_eq stamp_eq after cursor }
+{
+    after == cursor
+}
+
+/// Whether the entries are of the epoch and above the stamp.
+#[tactic(auto, unfolding(crsm_spec::specs::Controls::are_above, crate::specs::Pages::is_over))]
+fn are_above(epoch: u64, floor: Option<Stamp>, entries: &[Entry]) -> bool
+    ensures { result ≡ are_above epoch floor entries.now }
+{
+    entries.iter().all(|entry| entry.epoch == epoch && is_above(floor, entry.stamp))
+}

@@ -1,0 +1,270 @@
+//! The collection of the reports of a majority.
+
+ghost use Rattle.std.specs.Prelude.{◌≡◌, ◌<◌, ◌≤◌, ℕ, [], ◌∷◌, ◌++◌, List, Option, IfOk, OnOk, OnErr};
+ghost use Rattle.crsm_base.specs.Members.{IsMembers};
+ghost use Rattle.crsm_base.specs.Messages.{FitsControl};
+ghost use Rattle.crsm_base.specs.Spelling.{FitsOption};
+ghost use Rattle.crsm_base.specs.declared.Rec.{Rec};
+ghost use Rattle.crsm_base.specs.declared.Stamp.{Stamp};
+ghost use Rattle.crsm_ledger.specs.Stands.{StandsFor};
+ghost use Rattle.crsm_spec.specs.Collect.{own_page, collected};
+ghost use Rattle.crsm_spec.specs.Coordinate.{most_collected};
+ghost use Rattle.crsm_spec.specs.Log.{known, start as start_of};
+ghost use Rattle.crsm_spec.specs.Replica.{LogPage};
+
+use crate::asked::{is_page, own_page};
+use crate::got::{Got, decided, more};
+use crate::report::{Head, Page, Report};
+use crate::reports::{base_of, floor_of, union_of, whole_count};
+use crsm_base::{Control, Decision, Members, NoMemory, Stamp, majority};
+use crsm_ledger::Ledger;
+use std::alloc::Global;
+
+/// The reports of frozen logs that have come so far, page by page, until those of a majority are whole.
+#[derive(Drop)]
+pub struct Collect {
+    alloc: Global,
+    /// The epoch that is ended, and the one that is decided.
+    epoch: u64,
+    next: u64,
+    /// How many entries are executed where the epoch begins.
+    start: u64,
+    /// The replicas that are counted.
+    spec: Members,
+    /// How the decision names the next Spec.
+    named: Option<Members>,
+    /// The members of the next epoch.
+    members: Members,
+    /// By the number of the replica.
+    reports: [Report; 15],
+}
+
+impl Collect {
+    ghost use Rattle.crsm_suspend.specs.Collecting.{IsCollecting, CanTell, is_asked, got_whole, got_from, got_of, pages_after, FitsGot};
+    ghost use Rattle.crsm_suspend.specs.Reports.{head_of, page_from};
+    ghost use Rattle.crsm_spec.specs.Collect.{pages_of, cursor, is_whole, whole_ones};
+    ghost use Rattle.crsm_spec.specs.Quorum.{has_majority};
+
+    /// A collection of epoch `epoch` to which nothing has come. The Spec of the epoch is counted; the decision
+    /// names the next one as given, with these members.
+    pub fn start(
+        alloc: Global,
+        epoch: u64,
+        start: u64,
+        spec: Members,
+        named: Option<Members>,
+        members: Members,
+    ) -> Collect
+        requires epoch { epoch ≤ most_collected }
+        requires start { start ≤ most_collected }
+        ensures { (log : List Rec) → known log ≡ epoch → start_of log ≡ start → IsCollecting log spec named members [] result }
+    {
+        Collect {
+            alloc,
+            epoch,
+            next: epoch + 1,
+            start,
+            spec,
+            named,
+            members,
+            reports: [
+                Report::new(alloc),
+                Report::new(alloc),
+                Report::new(alloc),
+                Report::new(alloc),
+                Report::new(alloc),
+                Report::new(alloc),
+                Report::new(alloc),
+                Report::new(alloc),
+                Report::new(alloc),
+                Report::new(alloc),
+                Report::new(alloc),
+                Report::new(alloc),
+                Report::new(alloc),
+                Report::new(alloc),
+                Report::new(alloc),
+            ],
+        }
+    }
+
+    /// Takes the replica's own frozen log, whole, and tells whether a majority is whole by it: `Kept`, `Complete` or
+    /// `TooMany`. An `Err` changes nothing.
+    pub fn take_own(&mut self, me: u32, ledger: &Ledger) -> Result<Got, NoMemory>
+        requires { me < 15 }
+        ensures got { (n : ℕ) (log : List Rec) (spec : List ℕ) (named : Option (List ℕ)) (members : List ℕ) (pages : List LogPage) →
+            StandsFor me n ledger.now log → IsCollecting log spec named members pages self.old →
+            IfOk result (λ got. got ≡ got_whole log spec named members (pages ++ own_page me log ∷ [])) }
+        ensures state { (n : ℕ) (log : List Rec) (spec : List ℕ) (named : Option (List ℕ)) (members : List ℕ) (pages : List LogPage) →
+            StandsFor me n ledger.now log → IsCollecting log spec named members pages self.old →
+            OnOk result (IsCollecting log spec named members (pages ++ own_page me log ∷ []) self.new) }
+        ensures fits { (n : ℕ) (log : List Rec) (spec : List ℕ) (named : Option (List ℕ)) (members : List ℕ) (pages : List LogPage) →
+            StandsFor me n ledger.now log → IsCollecting log spec named members pages self.old → IfOk result FitsGot }
+        ensures err { OnErr result (self.new ≡ self.old) }
+    {
+        let page = own_page(self.alloc, ledger)?;
+        self.add(me, page)
+    }
+
+    /// Takes a message of a replica: the page that was asked for of a replica of the Spec, or a stranger's. An `Err`
+    /// changes nothing; it comes also where the tail has more bytes than any memory.
+    pub fn take(&mut self, from: u32, answer: Control) -> Result<Got, NoMemory>
+        requires from { from < 15 }
+        requires fits { FitsControl answer }
+        ensures got { (log : List Rec) (spec : List ℕ) (named : Option (List ℕ)) (members : List ℕ) (pages : List LogPage) →
+            IsCollecting log spec named members pages self.old →
+            IfOk result (λ got. got ≡ got_of log spec named members pages from answer) }
+        ensures state { (log : List Rec) (spec : List ℕ) (named : Option (List ℕ)) (members : List ℕ) (pages : List LogPage) →
+            IsCollecting log spec named members pages self.old →
+            OnOk result (IsCollecting log spec named members (pages_after log spec pages from answer) self.new) }
+        ensures fits { (log : List Rec) (spec : List ℕ) (named : Option (List ℕ)) (members : List ℕ) (pages : List LogPage) →
+            IsCollecting log spec named members pages self.old → IfOk result FitsGot }
+        ensures err { OnErr result (self.new ≡ self.old) }
+    {
+        let Control::SuspendOk {
+            epoch,
+            executed,
+            last,
+            after,
+            whole,
+            entries,
+        } = answer
+        else {
+            return Ok(Got::Stranger);
+        };
+        let page = Page {
+            executed,
+            last,
+            is_whole: whole,
+            entries,
+        };
+        if !self.is_asked(from, epoch, after, &page) {
+            return Ok(Got::Stranger);
+        }
+        self.add(from, page)
+    }
+
+    /// The stamp of the last entry that came of replica k: its next page is asked for from there.
+    pub fn cursor(&self, k: u32) -> Option<Stamp>
+        requires { k < 15 }
+        ensures { (log : List Rec) (spec : List ℕ) (named : Option (List ℕ)) (members : List ℕ) (pages : List LogPage) →
+            IsCollecting log spec named members pages self.now → result ≡ cursor pages k }
+    {
+        self.head(k).cursor
+    }
+
+    /// Whether the last page of replica k has come.
+    pub fn is_whole(&self, k: u32) -> bool
+        requires { k < 15 }
+        ensures { (log : List Rec) (spec : List ℕ) (named : Option (List ℕ)) (members : List ℕ) (pages : List LogPage) →
+            IsCollecting log spec named members pages self.now → result ≡ is_whole pages k }
+    {
+        self.head(k).is_whole
+    }
+
+    fn head(&self, k: u32) -> Head
+        requires { k < 15 }
+        ensures { (log : List Rec) (spec : List ℕ) (named : Option (List ℕ)) (members : List ℕ) (pages : List LogPage) →
+            IsCollecting log spec named members pages self.now → result ≡ head_of (pages_of pages k) }
+    {
+        self.reports[k as usize].head
+    }
+
+    /// Whether this page of a message was asked for.
+    fn is_asked(&self, from: u32, epoch: u64, after: Option<Stamp>, page: &Page) -> bool
+        requires { from < 15 }
+        ensures { (log : List Rec) (spec : List ℕ) (named : Option (List ℕ)) (members : List ℕ) (pages : List LogPage) →
+            IsCollecting log spec named members pages self.now →
+            result ≡ is_asked log spec pages epoch after (page_from from page.now) }
+    {
+        let is_of_spec = self.spec.has(from);
+        let head = self.head(from);
+        let is_next = is_page(self.epoch, head.cursor, epoch, after, page);
+        is_of_spec & (is_next & !head.is_whole)
+    }
+
+    /// Adds a page, and tells what it brings. An `Err` changes nothing.
+    fn add(&mut self, from: u32, page: Page) -> Result<Got, NoMemory>
+        requires { from < 15 }
+        ensures got { (log : List Rec) (spec : List ℕ) (named : Option (List ℕ)) (members : List ℕ) (pages : List LogPage) →
+            IsCollecting log spec named members pages self.old → CanTell (known log) (page_from from page) →
+            IfOk result (λ got. got ≡ got_from log spec named members (pages ++ page_from from page ∷ []) from) }
+        ensures state { (log : List Rec) (spec : List ℕ) (named : Option (List ℕ)) (members : List ℕ) (pages : List LogPage) →
+            IsCollecting log spec named members pages self.old → CanTell (known log) (page_from from page) →
+            OnOk result (IsCollecting log spec named members (pages ++ page_from from page ∷ []) self.new) }
+        ensures fits { (log : List Rec) (spec : List ℕ) (named : Option (List ℕ)) (members : List ℕ) (pages : List LogPage) →
+            IsCollecting log spec named members pages self.old → CanTell (known log) (page_from from page) → IfOk result FitsGot }
+        ensures err { OnErr result (self.new ≡ self.old) }
+    {
+        let index = from as usize;
+        let before = self.reports[index].head;
+        self.reports[index].push(page)?;
+        let got = self.got(from);
+        if got.is_err() {
+            self.reports[index].take_back(before);
+        }
+        got
+    }
+
+    /// What the pages bring of which the last is this replica's.
+    fn got(&self, from: u32) -> Result<Got, NoMemory>
+        requires { from < 15 }
+        ensures got { (log : List Rec) (spec : List ℕ) (named : Option (List ℕ)) (members : List ℕ) (pages : List LogPage) →
+            IsCollecting log spec named members pages self.now → IfOk result (λ got. got ≡ got_from log spec named members pages from) }
+        ensures fits { (log : List Rec) (spec : List ℕ) (named : Option (List ℕ)) (members : List ℕ) (pages : List LogPage) →
+            IsCollecting log spec named members pages self.now → IfOk result FitsGot }
+    {
+        let head = self.head(from);
+        if !head.is_whole {
+            return Ok(more(from, head.cursor));
+        }
+        if !self.has_majority() {
+            return Ok(Got::Kept);
+        }
+        decided(self.decision()?)
+    }
+
+    /// Whether the replicas that are whole are a majority of the Spec.
+    fn has_majority(&self) -> bool
+        ensures { (log : List Rec) (spec : List ℕ) (named : Option (List ℕ)) (members : List ℕ) (pages : List LogPage) →
+            IsCollecting log spec named members pages self.now → result ≡ has_majority spec (whole_ones spec pages) }
+    {
+        let least = majority(self.spec.count()) as usize;
+        least <= whole_count(&self.reports, self.spec.as_slice())
+    }
+
+    /// The decision that the whole replicas make.
+    fn decision(&self) -> Result<Decision, NoMemory>
+        ensures value { (log : List Rec) (spec : List ℕ) (named : Option (List ℕ)) (members : List ℕ) (pages : List LogPage) →
+            IsCollecting log spec named members pages self.now → IfOk result (λ d. d ≡ collected spec named log members pages) }
+        ensures members { IfOk result (λ d. IsMembers d.members × FitsOption IsMembers d.spec) }
+    {
+        let spec = self.spec.as_slice();
+        let base_len = base_of(self.start, &self.reports, spec);
+        let floor = floor_of(base_len, &self.reports, spec);
+        let union = union_of(self.alloc, floor, &self.reports, spec)?;
+        let named = copy_of_option(self.alloc, &self.named)?;
+        let members = copy_of(self.alloc, &self.members)?;
+        Ok(Decision {
+            epoch: self.next,
+            spec: named,
+            members,
+            base_len,
+            tail: union.into_entries()?,
+        })
+    }
+}
+
+fn copy_of(alloc: Global, members: &Members) -> Result<Members, NoMemory>
+    ensures { IfOk result (λ copy. (copy ≡ members.now) × IsMembers copy) }
+{
+    Members::from_slice(alloc, members.as_slice()).map_err(|_| NoMemory)
+}
+
+fn copy_of_option(alloc: Global, members: &Option<Members>) -> Result<Option<Members>, NoMemory>
+    ensures { IfOk result (λ copy. (copy ≡ members.now) × FitsOption IsMembers copy) }
+{
+    match members {
+        Some(members) => Ok(Some(copy_of(alloc, members)?)),
+        None => Ok(None),
+    }
+}

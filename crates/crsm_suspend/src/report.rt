@@ -1,0 +1,108 @@
+//! What has come of one replica.
+
+ghost use Rattle.std.specs.Prelude.{◌≡◌, ◌==◌, length, OnOk, OnErr};
+ghost use Rattle.crsm_suspend.specs.Pages.{without_last};
+ghost use Rattle.crsm_suspend.specs.Reports.{last_stamp_or};
+
+use crate::pages::Pages;
+use crsm_base::{Entries, Entry, NoMemory, Stamp};
+use std::alloc::Global;
+
+/// A page of a frozen log: its sender's executed length and the stamp of the last executed entry of the epoch, whether
+/// it is the last page, and its entries.
+#[derive(Debug, Drop)]
+pub struct Page {
+    pub executed: u64,
+    pub last: Option<Stamp>,
+    pub is_whole: bool,
+    pub entries: Entries,
+}
+
+/// What the pages of a replica say beside their entries.
+#[derive(Clone, Copy, Debug)]
+pub struct Head {
+    /// The executed length that the first page names, and the stamp of the last executed entry.
+    pub executed: u64,
+    pub last: Option<Stamp>,
+    /// The stamp of the last entry that came: the next page is asked for from there.
+    pub cursor: Option<Stamp>,
+    /// The last page has come.
+    pub is_whole: bool,
+}
+
+/// What has come of one replica.
+#[derive(Debug, Drop)]
+pub struct Report {
+    pub head: Head,
+    pub pages: Pages,
+}
+
+impl Report {
+    ghost use Rattle.crsm_suspend.specs.Reports.{head_with, with_page, no_report};
+
+    /// Nothing has come.
+    #[tactic(auto, unfolding(crate::specs::Reports::head_of, crsm_spec::specs::Lists::first_of, crsm_spec::specs::Lists::last_of))]
+    pub fn new(alloc: Global) -> Report
+        ensures { result ≡ no_report }
+    {
+        let head = Head {
+            executed: 0,
+            last: None,
+            cursor: None,
+            is_whole: false,
+        };
+        Report {
+            head,
+            pages: Pages::new(alloc),
+        }
+    }
+
+    /// What is said with a further page.
+    fn head_with(&self, page: &Page) -> Head
+        ensures { result ≡ head_with (length self.now.pages == 0) self.now.head page.now }
+    {
+        let is_first = self.pages.as_slice().is_empty();
+        let cursor = last_stamp_or(self.head.cursor, page.entries.as_slice());
+        Head {
+            executed: if is_first {
+                page.executed
+            } else {
+                self.head.executed
+            },
+            last: if is_first { page.last } else { self.head.last },
+            cursor,
+            is_whole: self.head.is_whole || page.is_whole,
+        }
+    }
+
+    /// Adds a page. An `Err` changes nothing.
+    pub fn push(&mut self, page: Page) -> Result<(), NoMemory>
+        ensures ok { OnOk result (self.new ≡ with_page self.old page) }
+        ensures err { OnErr result (self.new ≡ self.old) }
+    {
+        let head = self.head_with(&page);
+        self.pages.push(page.entries)?;
+        self.head = head;
+        Ok(())
+    }
+
+    /// Takes the last page back, where this was said before it.
+    pub fn take_back(&mut self, head: Head)
+        ensures head { self.new.head ≡ head }
+        ensures pages { self.new.pages ≡ without_last self.old.pages }
+    {
+        self.pages.drop_last();
+        self.head = head;
+    }
+}
+
+/// The stamp of the last entry, the other one where there is no entry.
+#[tactic(auto, using(crate::proofs::ReportLemmas::last_is), unfolding(crate::specs::Reports::last_stamp_or))]
+fn last_stamp_or(stamp: Option<Stamp>, entries: &[Entry]) -> Option<Stamp>
+    ensures { result ≡ last_stamp_or stamp entries.now }
+{
+    match entries.last() {
+        Some(last) => Some(last.stamp),
+        None => stamp,
+    }
+}

@@ -1,0 +1,85 @@
+//! What the whole reports say together.
+
+ghost use Rattle.std.specs.Prelude.{◌≡◌, ◌<◌, ◌≤◌, List, All, IfOk, length};
+ghost use Rattle.crsm_spec.specs.Replica.{LogPage};
+ghost use Rattle.crsm_spec.specs.Collect.{whole_ones, first_pages, all_entries, base_of, floor_of, union};
+ghost use Rattle.crsm_spec.specs.Log.{above};
+ghost use Rattle.crsm_suspend.specs.Reports.{HasReports};
+
+use crate::report::Report;
+use crate::union::Union;
+use crsm_base::{NoMemory, Stamp};
+use std::alloc::Global;
+
+/// How many replicas of the Spec are whole.
+pub fn whole_count(reports: &[Report; 15], spec: &[u32]) -> usize
+    requires { All (λ k. k < 15) spec.now }
+    ensures { (pages : List LogPage) → HasReports reports.now pages → result ≡ length (whole_ones spec.now pages) }
+{
+    let mut count = 0;
+    for k in spec {
+        let head = reports[*k as usize].head;
+        if !head.is_whole {
+            continue;
+        }
+        count += 1;
+    }
+    count
+}
+
+/// The greatest executed length of the whole replicas, at least this one.
+pub fn base_of(start: u64, reports: &[Report; 15], spec: &[u32]) -> u64
+    requires { All (λ k. k < 15) spec.now }
+    ensures { (pages : List LogPage) → HasReports reports.now pages →
+        result ≡ base_of start (first_pages (whole_ones spec.now pages) pages) }
+{
+    let mut base = start;
+    for k in spec {
+        let head = reports[*k as usize].head;
+        if !head.is_whole {
+            continue;
+        }
+        base = base.max(head.executed);
+    }
+    base
+}
+
+/// The last stamp of the first whole replica of this executed length.
+pub fn floor_of(base: u64, reports: &[Report; 15], spec: &[u32]) -> Option<Stamp>
+    requires { All (λ k. k < 15) spec.now }
+    ensures { (pages : List LogPage) → HasReports reports.now pages →
+        result ≡ floor_of base (first_pages (whole_ones spec.now pages) pages) }
+{
+    for k in spec {
+        let head = reports[*k as usize].head;
+        if !head.is_whole {
+            continue;
+        }
+        if head.executed == base {
+            return head.last;
+        }
+    }
+    None
+}
+
+/// The entries of the whole replicas above a stamp as a set.
+pub fn union_of(
+    alloc: Global,
+    floor: Option<Stamp>,
+    reports: &[Report; 15],
+    spec: &[u32],
+) -> Result<Union, NoMemory>
+    requires { All (λ k. k < 15) spec.now }
+    ensures { (pages : List LogPage) → HasReports reports.now pages →
+        IfOk result (λ set. set ≡ union (above floor (all_entries (whole_ones spec.now pages) pages))) }
+{
+    let mut set = Union::new(alloc);
+    for k in spec {
+        let report = &reports[*k as usize];
+        if !report.head.is_whole {
+            continue;
+        }
+        set.add_pages(floor, report.pages.as_slice())?;
+    }
+    Ok(set)
+}
