@@ -3,7 +3,7 @@ use Rattle.std.proofs.Common.{◌≡◌, ◌∙◌, ℕ, zero, suc, ◌+◌, ◌
 use Rattle.std.specs.Prelude.{◌==◌, ◌&&◌, ◌||◌, not, nat_lt, nat_le, filter, count_by, IsTrue, Contains, ◌↔◌}
 use Rattle.std.specs.List.{list_all, AllByRecursion}
 use Rattle.std.specs.Option.{option_map_or, option_eq, is_some}
-use Rattle.std.proofs.lemmas.Bool.{eqb-true, false≢true, and_parts, leb-true, not-true}
+use Rattle.std.proofs.lemmas.Bool.{eqb-true, false≢true, and_parts, leb-true, ltb-true, not-true}
 use Rattle.std.proofs.lemmas.List.Sums.{sum_by-cons, length-filter}
 use Rattle.crsm_spec.specs.Types.{Stamp, Entry, Decision}
 use Rattle.crsm_base.specs.Order.{stamp_eq, stamp_lt}
@@ -31,7 +31,7 @@ use Rattle.crsm_suspend.specs.declared.got.Got.TheVariants as Got
 use Rattle.crsm_ledger.proofs.ListLemmas.{all-push}
 use Rattle.crsm_suspend.proofs.WholeLemmas.{report_at}
 use Rattle.crsm_suspend.proofs.FitLemmas.{own_epoch, own_fit}
-use Rattle.crsm_suspend.proofs.GrowLemmas.{whole_more}
+use Rattle.crsm_suspend.proofs.GrowLemmas.{whole_more, or_none, cursor_more}
 
 -- ---- reading
 
@@ -275,3 +275,35 @@ goes_on log spec named members pages c reports p s t h = record {
   low_start = s.low_start;
   told = all-push (CanTell (known log)) pages p s.told t;
 }
+
+-- ---- for the crates above
+
+-- of the log a collection knows the epoch and its start alone
+pub same_collecting : (a b : Log) (spec : List ℕ) (named : Option (List ℕ)) (members : List ℕ) (pages : List LogPage) (c : Collect) → known a ≡ known b → start a ≡ start b →
+    IsCollecting a spec named members pages c → IsCollecting b spec named members pages c
+same_collecting a b spec named members pages c k l s = record {
+  epoch = s.epoch ∙ k;
+  next = s.next ∙ ap (λ n. n + 1) k;
+  begins = s.begins ∙ l;
+  spec_is = s.spec_is;
+  named_is = s.named_is;
+  members_are = s.members_are;
+  reports = s.reports;
+  low_epoch = subst (λ n. n ≤ most_collected) k s.low_epoch;
+  low_start = subst (λ n. n ≤ most_collected) l s.low_start;
+  told = subst (λ n. AllByRecursion (CanTell n) pages) k s.told;
+}
+
+-- where a page that was asked for is not the last, there is a stamp to go on from
+pub more_from : (log : Log) (spec : List ℕ) (pages : List LogPage) (e : ℕ) (after : Option Stamp) (p : LogPage) → is_asked log spec pages e after p ≡ true → p.whole ≡ false →
+    (s : Stamp) × (cursor (pages ++ p ∷ []) p.from ≡ Some s)
+unfolding is_asked is_page_of
+more_from log spec pages e after p h w =
+    let behind : Option Stamp = when is_some after then after otherwise p.last in
+    let right : Bool = ((e == known log) && option_eq stamp_eq after (cursor pages p.from)) && are_above e behind p.entries in
+    let more : Bool = (nat_lt 0 (length p.entries) || p.whole) && nat_le p.executed most_collected in
+    let a = and_parts (has spec p.from) ((right && more) && not (is_whole pages p.from)) h in
+    let b = and_parts (right && more) (not (is_whole pages p.from)) a.1 in
+    let c = and_parts right more b.0 in
+    let some = and_parts (nat_lt 0 (length p.entries) || p.whole) (nat_le p.executed most_collected) c.1 in
+    cursor_more pages p (ltb-true 0 (length p.entries) (sym (ap (λ v. nat_lt 0 (length p.entries) || v) w ∙ or_none (nat_lt 0 (length p.entries))) ∙ some.0))

@@ -9,10 +9,10 @@ use Rattle.std.proofs.Math.Seq.{take-append_seam}
 use Rattle.std.proofs.lemmas.List.Elements.{filter-append}
 use Rattle.std.proofs.lemmas.List.Folds.{list_any-append}
 use Rattle.std.proofs.lemmas.Grind.{flat_map-append}
-use Rattle.crsm_spec.specs.Types.{Entry}
+use Rattle.crsm_spec.specs.Types.{Stamp, Entry}
 use Rattle.crsm_spec.specs.Lists.{first_of, last_of}
 use Rattle.crsm_spec.specs.Replica.{LogPage}
-use Rattle.crsm_spec.specs.Collect.{pages_of, is_whole}
+use Rattle.crsm_spec.specs.Collect.{pages_of, is_whole, cursor}
 use Rattle.crsm_suspend.specs.Pages.{without_last}
 use Rattle.crsm_suspend.specs.Reports.{head_of, report_of, no_report, page_from, last_stamp_or, head_with, with_page, HasReports}
 use Rattle.crsm_suspend.specs.declared.report.Page.{Page}
@@ -53,6 +53,11 @@ last-append : (xs ys : List Entry) → option_map (λ e. e.stamp) (last_of (xs +
 unfolding last_of last_stamp_or
 last-append xs ys = ap (option_map (λ (e : Entry). e.stamp)) (last_behind None xs ys) ∙ last_from (last_or None xs) ys
 
+stamp_behind : (o : Option Stamp) (es : List Entry) → 0 < length es → (s : Stamp) × (last_stamp_or o es ≡ Some s)
+unfolding last_of last_stamp_or
+stamp_behind o [] l = absurd (omega arith)
+stamp_behind o (e ∷ es) l = let f = some_last e es in (f.0.stamp, ap (λ (x : Option Entry). option_map_or (λ (g : Entry). Some g.stamp) x o) f.1)
+
 -- ---- a report with a page
 
 some_long : (n : ℕ) → (suc n == 0) ≡ false
@@ -61,7 +66,7 @@ some_long n = grind arith
 last_page : (k : ℕ) (p : Page) (ps : List LogPage) → flat_map (λ q. q.entries) (ps ++ page_from k p ∷ []) ≡ flat_map (λ q. q.entries) ps ++ p.entries
 last_page k p ps = flat_map-append (λ (q : LogPage). q.entries) ps (page_from k p ∷ []) ∙ ap (λ es. flat_map (λ (q : LogPage). q.entries) ps ++ es) (append-nil p.entries)
 
-or_none : (b : Bool) → (b || false) ≡ b
+pub or_none : (b : Bool) → (b || false) ≡ b
 or_none true = refl
 or_none false = refl
 
@@ -126,6 +131,18 @@ reports_grow reports pages k p old new h l at is = record {
 pub whole_more : (pages : List LogPage) (k : ℕ) (p : Page) → is_whole (pages ++ page_from k p ∷ []) k ≡ (is_whole pages k || p.is_whole)
 unfolding is_whole
 whole_more pages k p = ap (list_any (λ (q : LogPage). q.whole)) (of_more pages k k p true (eq-eqb k k refl)) ∙ any_more k p (pages_of pages k)
+
+-- the stamp of a last entry is there
+pub cursor_more : (pages : List LogPage) (p : LogPage) → 0 < length p.entries → (s : Stamp) × (cursor (pages ++ p ∷ []) p.from ≡ Some s)
+unfolding cursor
+cursor_more pages p l =
+    let page : Page = record { executed = p.executed; last = p.last; is_whole = p.whole; entries = p.entries } in
+    let before : List Entry = flat_map (λ q. q.entries) (pages_of pages p.from) in
+    let e = stamp_behind (option_map (λ (e : Entry). e.stamp) (last_of before)) p.entries l in (
+      e.0,
+      ap (λ ps. option_map (λ (e : Entry). e.stamp) (last_of (flat_map (λ (q : LogPage). q.entries) ps))) (of_more pages p.from p.from page true (eq-eqb p.from p.from refl))
+          ∙ ap (λ es. option_map (λ (e : Entry). e.stamp) (last_of es)) (last_page p.from page (pages_of pages p.from)) ∙ last-append before p.entries ∙ e.1,
+    )
 
 -- ---- a page taken back
 
