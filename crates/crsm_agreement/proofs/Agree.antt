@@ -28,7 +28,7 @@ use Rattle.crsm_agreement.specs.Laws.{EpochsHold, ListsAgree}
 use Rattle.crsm_agreement.proofs.Lists.{fronts, get_below}
 use Rattle.crsm_agreement.proofs.Worlds.{all_placed}
 use Rattle.crsm_agreement.proofs.Facts.{epoch_facts}
-use Rattle.crsm_agreement.proofs.Openings.{first_opening, next_opening, opens_next, of_opening}
+use Rattle.crsm_agreement.proofs.Openings.{first_opening, next_opening, opens_next, of_opening, newer_next}
 use Rattle.crsm_agreement.proofs.Logs.{stands_on, start_decide}
 
 -- ---- who has accepted a decision has executed its base
@@ -100,7 +100,7 @@ module _ (n : ℕ) (w : World) (q : IsReached n w) (few : HasFewBoots w) (spelt 
         go k log x None (First h) = inl h
         go k log x (Some _) (Later c a ec lt) = inr (k, c, extends_among x (Rec.Decide c) a, ec)
 
-    holder : (h : ℕ) × HasBase e (log_at w h) d
+    pub holder : (h : ℕ) × HasBase e (log_at w h) d
     holder =
         let p = (ballots_hold n w q few spelt).decided j d on_record in
         let v = share (spec n p.log) p.voters p.voters p.many p.many in
@@ -130,7 +130,7 @@ module _ (n : ℕ) (w : World) (q : IsReached n w) (few : HasFewBoots w) (spelt 
             let in_a = subst (λ z. slice_get a z ≡ Some y.0) place (oa.tail j d on_record at (p - d.base_len) y.0 y.1) in
             subst (λ z. slice_get b z ≡ Some x) place (ob.tail j d on_record at (p - d.base_len) x (y.1 ∙ sym in_a ∙ q))
 
-    next_holds : (one : (o : List Entry) → IsOpening e o (log_at w) → (g : EpochHolds n e (log_at w)) → (p : ℕ) (x : Entry) → slice_get o p ≡ Some x → slice_get g.opening p ≡ Some x) →
+    next_holds : (one : (a b : List Entry) → IsOpening e a (log_at w) → IsOpening e b (log_at w) → (p : ℕ) (x : Entry) → slice_get a p ≡ Some x → slice_get b p ≡ Some x) →
         EpochHolds n e (log_at w) → EpochHolds n (suc e) (log_at w)
     next_holds one g =
         let made = decisions_are_collected n e (length g.opening) g.counted w q few spelt g.facts g.specs j d on_record next_is in
@@ -143,9 +143,14 @@ module _ (n : ℕ) (w : World) (q : IsReached n w) (few : HasFewBoots w) (spelt 
           opens = opens;
           earlier = λ f o lt h o' p x q. of_opening n e g.opening g.counted (log_at w) g.opens g.placed g.facts d made holds.0 holds.1.old holds.1.earlier holds.1.epoch holds.1.long only p x
               (elim (cases_lt f e) [
-            | inl l ↦ g.earlier f o l h o' p x q
-            | inr ge ↦ one o (subst (λ z. IsOpening z o (log_at w)) (same_epoch f lt ge) o') g p x q
-          ]);
+                | inl l ↦ g.earlier f o l h o' p x q
+                | inr ge ↦ one o g.opening (subst (λ z. IsOpening z o (log_at w)) (same_epoch f lt ge) o') g.opens p x q
+              ]);
+          newer = λ f o lt h o' p x. newer_next n e g.opening g.counted (log_at w) g.opens g.placed g.facts d made holds.0 holds.1.old holds.1.earlier holds.1.epoch holds.1.long only f o lt
+              (λ i y le q. elim (cases_lt f e) [
+                | inl l ↦ g.newer f o l h o' i y le q
+                | inr ge ↦ (let low = get_below o i y (one g.opening o g.opens (subst (λ z. IsOpening z o (log_at w)) (same_epoch f lt ge) o') i y q) in absurd (omega (arith, low, le)))
+              ]) p x;
           specs = specs_later;
           placed = all_placed n w q few spelt (suc e) opening opens;
           facts = epoch_facts n w q few spelt (suc e) opening (spec_decided n (Some d)) opens specs_later;
@@ -162,6 +167,7 @@ module _ (n : ℕ) (w : World) (q : IsReached n w) (few : HasFewBoots w) (spelt 
         counted = numbers_below n;
         opens = opens;
         earlier = λ f o lt. absurd (omega (arith, lt));
+        newer = λ f o lt. absurd (omega (arith, lt));
         specs = specs_first;
         placed = all_placed n w q few spelt 0 [] opens;
         facts = epoch_facts n w q few spelt 0 [] (numbers_below n) opens specs_first;
@@ -178,7 +184,7 @@ module _ (n : ℕ) (w : World) (q : IsReached n w) (few : HasFewBoots w) (spelt 
   epoch_holds (suc e) (inl h) = absurd (omega (arith, h))
   epoch_holds (suc e) (inr h) =
       let was = before e h.0 h.1 h.2 h.3 in
-      next_holds e h.0 h.1 h.2 h.3 (λ o a g p x q. one_opening e was o g.opening a g.opens p x q) (epoch_holds e was)
+      next_holds e h.0 h.1 h.2 h.3 (one_opening e was) (epoch_holds e was)
 
   -- the epoch that a log knows has begun
   pub known_epoch : (k : ℕ) (log : Log) → Extends log (log_at w k) → IsEpochOf (known log) (log_at w)
@@ -221,6 +227,20 @@ module _ (n : ℕ) (w : World) (q : IsReached n w) (few : HasFewBoots w) (spelt 
       | inr le ↦ one_epoch_same j k a b xa xb (omega (arith, ge, le)) p x y f g
     ]
   ]
+
+  -- what a log has executed is the opening's of an epoch, where that reaches
+  pub opening_same : (e : ℕ) → IsEpochOf e (log_at w) → (h : EpochHolds n e (log_at w)) → (j : ℕ) (b : Log) → Extends b (log_at w j) → (p : ℕ) (x y : Entry) → slice_get h.opening p ≡ Some x → slice_get (executed b) p ≡ Some y → x ≡ y
+  opening_same e is h j b xb p x y f g = elim (cases_lt (known b) e) [
+    | inl lt ↦ same_Some x y (sym f ∙ h.opens.before j b xb lt p y g)
+    | inr ge ↦ elim (cases_lt e (known b)) [
+      | inl lt ↦ (let k = epoch_holds (known b) (known_epoch j b xb) in in_opening (known b) k.opening (k.earlier e h.opening lt is h.opens p x f) (k.placed j b xb refl p y g))
+      | inr le ↦ in_opening e h.opening f (h.placed j b xb (omega (arith, ge, le)) p y g)
+    ]
+  ]
+    where
+      in_opening : (e : ℕ) (opening : List Entry) → slice_get opening p ≡ Some x → (slice_get opening p ≡ Some y) ⊎ ((length opening ≤ p) × CommitOf e (log_at w) p y) → x ≡ y
+      in_opening e opening q (inl t) = same_Some x y (sym q ∙ t)
+      in_opening e opening q (inr t) = let l = get_below opening p x q in let m = t.0 in absurd (omega (arith, l, m))
 
 pub epochs_hold : EpochsHold
 epochs_hold n w q few spelt e h = epoch_holds n w q few spelt e h

@@ -90,16 +90,29 @@ module _ (n e : ℕ) (opening : List Entry) (counted : List ℕ) (logs : ℕ →
     | inr g ↦ of_known k log x (omega (arith, lt, g)) p y q
   ]
 
+  pub tail_epoch : (x : Entry) → Among d.tail x → x.epoch ≡ e
+  tail_epoch x a = let t = (are_well_made e n (length opening) counted logs d facts made).logged_are x a in logged_epoch e (logs t.0) x t.1
+
   next_older : (p : ℕ) (x : Entry) → slice_get next_opening p ≡ Some x → x.epoch < suc e
   next_older p x q = elim (get_append (take d.base_len (executed holder)) d.tail p x q) [
     | inl a ↦ of_holder (placed h holder holds holder_knows p x (get_take d.base_len (executed holder) p x a))
-    | inr a ↦ (let t = (are_well_made e n (length opening) counted logs d facts made).logged_are x (got_among d.tail a.0 x a.2) in
-        let is = logged_epoch e (logs t.0) x t.1 in omega (arith, is))
+    | inr a ↦ (let is = tail_epoch x (got_among d.tail a.0 x a.2) in omega (arith, is))
   ]
     where
       of_holder : (slice_get opening p ≡ Some x) ⊎ ((length opening ≤ p) × CommitOf e logs p x) → x.epoch < suc e
       of_holder (inl a) = let l = opens.older p x a in omega (arith, l)
       of_holder (inr a) = let c = a.1 in let is = (unexecuted_logged c.log x c.next).1 in let k = c.epoch in omega (arith, is, k)
+
+  -- behind an earlier opening there are newer entries
+  pub newer_next : (f : ℕ) (o : List Entry) → f < suc e → ((p : ℕ) (x : Entry) → length o ≤ p → slice_get opening p ≡ Some x → f ≤ x.epoch) → (p : ℕ) (x : Entry) → length o ≤ p → slice_get next_opening p ≡ Some x → f ≤ x.epoch
+  newer_next f o lt older p x le q = elim (get_append (take d.base_len (executed holder)) d.tail p x q) [
+    | inl a ↦ of_holder (placed h holder holds holder_knows p x (get_take d.base_len (executed holder) p x a))
+    | inr a ↦ (let is = tail_epoch x (got_among d.tail a.0 x a.2) in omega (arith, is, lt))
+  ]
+    where
+      of_holder : (slice_get opening p ≡ Some x) ⊎ ((length opening ≤ p) × CommitOf e logs p x) → f ≤ x.epoch
+      of_holder (inl a) = older p x le a
+      of_holder (inr a) = let c = a.1 in let is = (unexecuted_logged c.log x c.next).1 in let k = c.epoch in omega (arith, is, k, lt)
 
   next_begin : (k : ℕ) (log : Log) → Extends log (logs k) → known log ≡ suc e → start log ≡ length next_opening
   next_begin k log x kn = go (decision log) refl (knows k n log (end_fits k n x (facts.fit k)) (suc e) kn)

@@ -23,13 +23,14 @@ IsPlaced e opening logs log =
 abbrev pub IsEpochOf : ℕ → (ℕ → Log) → Type 0
 IsEpochOf e logs = (e ≡ 0) ⊎ ((k : ℕ) × (d : Decision) × Among (logs k) (Rec.Decide d) × (d.epoch ≡ e))
 
--- What holds of an epoch: it has an opening, of which each earlier one is a front, and a Spec; lists of replicas that know it
+-- What holds of an epoch: it has an opening, of which each earlier one is a front, with newer entries behind, and a Spec; lists of replicas that know it
 -- go on from the opening by what was committed, and all that the law of collection asks of it is so.
 pub record EpochHolds (n e : ℕ) (logs : ℕ → Log) : Type 0 where
   pub opening : List Entry
   pub counted : List ℕ
   pub opens : IsOpening e opening logs
   pub earlier : (f : ℕ) (o : List Entry) → f < e → IsEpochOf f logs → IsOpening f o logs → (p : ℕ) (x : Entry) → slice_get o p ≡ Some x → slice_get opening p ≡ Some x
+  pub newer : (f : ℕ) (o : List Entry) → f < e → IsEpochOf f logs → IsOpening f o logs → (p : ℕ) (x : Entry) → length o ≤ p → slice_get opening p ≡ Some x → f ≤ x.epoch
   pub specs : IsSpecOf n e counted logs
   pub placed : (k : ℕ) (log : Log) → Extends log (logs k) → known log ≡ e → IsPlaced e opening logs log
   pub facts : EpochFacts e n (length opening) counted logs

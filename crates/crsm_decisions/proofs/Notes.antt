@@ -54,6 +54,7 @@ module _ (n : ℕ) (logs later : ℕ → Log) (grows : (k : ℕ) → Extends (lo
     parts = pages_stay (known c.log) logs later c.pages grows c.parts;
     many = c.many;
     is = c.is;
+    names = c.names;
   }
 
   pub promised_on : (i : ℕ) (b : Ballot) (a : Answer Decision) → HasPromised logs i b a → HasPromised later i b a

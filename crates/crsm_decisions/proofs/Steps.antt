@@ -1,15 +1,17 @@
 -- The ballots along the changes of one step.
-use Rattle.std.proofs.Common.{◌≡◌, ℕ, ◌+◌, List, [], ◌∷◌, ◌++◌, refl, sym, ◌∙◌, ap, subst, inl, inr, true, false, map}
-use Rattle.std.specs.Prelude.{◌⊎◌, IsTrue, Option, Some, slice_get}
+use Rattle.std.proofs.Common.{◌≡◌, ℕ, ◌+◌, List, [], ◌∷◌, ◌++◌, refl, sym, ◌∙◌, ap, subst, inl, inr, Bool, true, false, cond, map}
+use Rattle.std.specs.Prelude.{◌⊎◌, IsTrue, Option, Some, None, slice_get, bytes_eq}
+use Rattle.std.specs.List.{list_all}
+use Rattle.std.proofs.lemmas.Option.{none-some, same_Some}
 use Rattle.crsm_base.specs.Order.{ballot_lt}
 use Rattle.std.proofs.lemmas.Bool.{false≢true}
 use Rattle.crsm_spec.specs.Types.{Stamp, Ballot, Decision, Rec, InEpoch, Control}
-use Rattle.crsm_spec.specs.Lists.{Among}
+use Rattle.crsm_spec.specs.Lists.{Among, has}
 use Rattle.crsm_spec.specs.Log.{Log, known, spec, promised, accepted, suspended}
-use Rattle.crsm_spec.specs.Quorum.{has_majority}
+use Rattle.crsm_spec.specs.Quorum.{has_majority, spec_decided}
 use Rattle.crsm_spec.specs.Paxos.{Answer, value_of}
 use Rattle.crsm_spec.specs.Frames.{take_frame, hear, owe, ack, pay, owing, again_frame}
-use Rattle.crsm_spec.specs.Replica.{Replica, Note, LogPage, spec_of, named_spec}
+use Rattle.crsm_spec.specs.Replica.{Replica, Note, LogPage, spec_of, named_spec, next_spec}
 use Rattle.crsm_spec.specs.Collect.{own_page, whole_ones, collected, is_whole, cursor}
 use Rattle.crsm_spec.specs.Draft.{Draft, begun, keep, noting, send, reply, count_vote, issued_at, push_to_members, push_to}
 use Rattle.crsm_spec.specs.Clients.{refuse, submit, await}
@@ -39,6 +41,16 @@ use Rattle.crsm_decisions.proofs.Logs.{IsPlain, plain_of, plain_no_accept, plain
 use Rattle.crsm_decisions.proofs.Choice.{share, one_value}
 use Rattle.crsm_decisions.proofs.Notes.{IsAsking, IsProposing, NoteHolds, extends_among, chosen_on, offered_more, note_keeps}
 use Rattle.crsm_decisions.proofs.Pages.{takes_page}
+
+-- a decision names the Spec of its replica or the members
+names_of : (r : Replica) (ms s : List ℕ) → named_spec r ms ≡ Some s → (s ≡ spec_of r) ⊎ (s ≡ ms)
+unfolding named_spec next_spec
+names_of r ms s = go (bytes_eq (next_spec r ms) (spec_decided r.n None)) (list_all (has (spec_of r)) ms)
+  where
+    go : (c d : Bool) → cond c None (Some (cond d (spec_of r) ms)) ≡ Some s → (s ≡ spec_of r) ⊎ (s ≡ ms)
+    go true d e = absurd (none-some s e)
+    go false true e = inl (sym (same_Some (spec_of r) s e))
+    go false false e = inr (sym (same_Some ms s e))
 
 offered_as : (offers : List Offer) (i j : ℕ) (b c : Ballot) (d e : Decision) → i ≡ j → b ≡ c → d ≡ e → IsOffered offers i b d → IsOffered offers j c e
 offered_as offers i j b c d e p q s t = record { offer = t.offer; among = t.among; instance = t.instance ∙ p; ballot = t.ballot ∙ q; value = t.value ∙ s }
@@ -236,6 +248,7 @@ module _ (n : ℕ) (w v : World) (reached : IsReached n w) (marks : Marks w v) (
     parts = note_is x T g (Note.Collecting ms pages) was;
     many = subst (λ l. IsTrue (has_majority l (whole_ones l pages))) (spec_is x T g) many;
     is = ap (λ l. collected l (named_spec x.replica ms) x.replica.log ms pages) (spec_is x T g);
+    names = λ s e. elim (names_of x.replica ms s e) [ inl h ↦ inl (h ∙ spec_is x T g) | inr h ↦ inr h ];
   }
 
   -- a ballot of its own that is promised now was never offered

@@ -1,5 +1,5 @@
 -- The ballots of all instances, as the logs of one moment have them: what was offered in them, accepted and chosen.
-use Rattle.std.specs.Prelude.{◌≡◌, ℕ, ◌+◌, IsTrue, List, [], ◌∷◌, map, Option, Some}
+use Rattle.std.specs.Prelude.{◌≡◌, ◌⊎◌, ℕ, ◌+◌, IsTrue, List, [], ◌∷◌, map, Option, Some}
 use Rattle.crsm_spec.specs.Types.{Ballot, Decision, Rec}
 use Rattle.crsm_spec.specs.Lists.{Among}
 use Rattle.crsm_spec.specs.Log.{Log, known, spec, promised, accepted}
@@ -25,7 +25,8 @@ pub record IsOffered (offers : List Offer) (i : ℕ) (b : Ballot) (d : Decision)
   pub ballot : offer.ballot ≡ b
   pub value : value_of offer.own offer.answers ≡ d
 
--- A coordinator made d, for instance i, of the whole reports of a majority of the Spec that it knew.
+-- A coordinator made d, for instance i, of the whole reports of a majority of the Spec that it knew. The Spec after it is the
+-- first one, that one, or these members.
 pub record IsComplete (n : ℕ) (logs : ℕ → Log) (i : ℕ) (d : Decision) : Type 0 where
   pub by : ℕ
   pub log : Log
@@ -37,6 +38,7 @@ pub record IsComplete (n : ℕ) (logs : ℕ → Log) (i : ℕ) (d : Decision) : 
   pub parts : AreParts (known log) logs pages
   pub many : IsTrue (has_majority (spec n log) (whole_ones (spec n log) pages))
   pub is : d ≡ collected (spec n log) named log members pages
+  pub names : (s : List ℕ) → named ≡ Some s → (s ≡ spec n log) ⊎ (s ≡ members)
 
 -- An earlier log of the replica that answered had promised the ballot, and had accepted what the answer says.
 pub record HasPromised (logs : ℕ → Log) (i : ℕ) (b : Ballot) (a : Answer Decision) : Type 0 where
