@@ -1,0 +1,9 @@
+//! Nothing that was executed is lost, in every possible run.
+#![tactic(auto)]
+
+ghost use Rattle.crsm_durable.specs.Laws.{DecisionsAlwaysAgree, ExecutedAreDurable};
+
+/// Decisions of one epoch are equal, and what each begins its epoch with agrees with the one list.
+pub fn decisions_always_agree()
+    ensures { DecisionsAlwaysAgree }
+{}
