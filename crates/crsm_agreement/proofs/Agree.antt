@@ -43,7 +43,7 @@ accept_long : (me n : ℕ) (log : Log) (i : ℕ) (b : Ballot) (d : Decision) →
 unfolding fits
 accept_long me n log i b d h = leb-true d.base_len (length (executed log)) (and_parts _ (nat_le d.base_len (length (executed log))) h).1
 
-has_base : (me n e : ℕ) (log : Log) (i : ℕ) (b : Ballot) (d : Decision) → AllFit me n log → Among log (Rec.Accept i b d) → i ≡ e + 1 → HasBase e log d
+pub has_base : (me n e : ℕ) (log : Log) (i : ℕ) (b : Ballot) (d : Decision) → AllFit me n log → Among log (Rec.Accept i b d) → i ≡ e + 1 → HasBase e log d
 has_base me n e [] i b d h a at = absurd a
 has_base me n e (rec ∷ log) i b d h (inl q) at =
     let f = subst (λ r. IsTrue (fits me n log r)) q h.0 in
@@ -88,8 +88,8 @@ module _ (n : ℕ) (w : World) (q : IsReached n w) (few : HasFewBoots w) (spelt 
     next_is = omega (arith, at)
 
     -- the epoch before has begun
-    before : IsEpochOf e (log_at w)
-    before =
+    pub epoch_before : IsEpochOf e (log_at w)
+    epoch_before =
         let p = (ballots_hold n w q few spelt).decided j d on_record in
         go p.by p.log p.earlier (decision p.log) (knows p.by n p.log (end_fits p.by n p.earlier (fit p.by)) e (known_at (known p.log) p.next))
       where
@@ -183,7 +183,7 @@ module _ (n : ℕ) (w : World) (q : IsReached n w) (few : HasFewBoots w) (spelt 
   epoch_holds zero h = first_holds
   epoch_holds (suc e) (inl h) = absurd (omega (arith, h))
   epoch_holds (suc e) (inr h) =
-      let was = before e h.0 h.1 h.2 h.3 in
+      let was = epoch_before e h.0 h.1 h.2 h.3 in
       next_holds e h.0 h.1 h.2 h.3 (one_opening e was) (epoch_holds e was)
 
   -- the epoch that a log knows has begun

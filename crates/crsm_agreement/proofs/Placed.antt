@@ -60,7 +60,7 @@ find_some s (e ∷ es) z h = go (λ q. find_some s es z q) (stamp_eq e.stamp s) 
     go k false t q = let w = k q in (inr w.0, w.1)
 
 -- the entry that a commit of this stamp executes
-entry_is : (log : Log) (s : Stamp) (z : Entry) → entry_of log s ≡ Some z → Logged log z × (z.epoch ≡ known log) × (z.stamp ≡ s)
+pub entry_is : (log : Log) (s : Stamp) (z : Entry) → entry_of log s ≡ Some z → Logged log z × (z.epoch ≡ known log) × (z.stamp ≡ s)
 unfolding entry_of logged
 entry_is log s z h = let t = find_some s (logged_in (known log) log) z h in let l = logged_is (known log) log z t.0 in (l.0, l.1, t.1)
 

@@ -1,27 +1,26 @@
 -- Decisions on record, and what they begin their epochs with.
-use Rattle.std.proofs.Common.{◌≡◌, ℕ, zero, suc, ◌+◌, ◌-◌, ◌<◌, ◌≤◌, List, [], ◌∷◌, ◌++◌, length, take, refl, sym, ◌∙◌, ap, subst, inl, inr, arith}
-use Rattle.std.specs.Prelude.{◌⊎◌, Option, Some, None, slice_get}
-use Rattle.std.specs.List.{Contains}
+use Rattle.std.proofs.Common.{◌≡◌, ℕ, suc, ◌+◌, ◌≤◌, List, [], ◌∷◌, ◌++◌, length, take, refl, sym, ◌∙◌, ap, subst, inl, inr, arith}
+use Rattle.std.specs.Prelude.{Some, slice_get}
 use Rattle.std.specs.Option.{option_map_or}
 use Rattle.std.proofs.lemmas.Option.{none-some, same_Some}
 use Rattle.crsm_spec.specs.Types.{Entry, Decision, Rec}
-use Rattle.crsm_spec.specs.Lists.{Among, IsPrefixOf}
+use Rattle.crsm_spec.specs.Lists.{Among}
 use Rattle.crsm_spec.specs.Log.{Log, known, executed}
 use Rattle.crsm_spec.specs.World.{Site, World, begin, log_of, log_at}
 use Rattle.crsm_spec.specs.Acts.{Act}
 use Rattle.crsm_spec.specs.Run.{ArePossible, last_world, the_list}
 use Rattle.crsm_spec.specs.Decided.{decisions, decisions_in, all_decisions, start_of, AreFronts, DecisionsAgree}
-use Rattle.crsm_steps.specs.Laws.{Extends, same}
+use Rattle.crsm_steps.specs.Laws.{Extends}
 use Rattle.crsm_collection.proofs.Law.{flat_from}
 use Rattle.crsm_decisions.proofs.Agree.{decisions_are_one}
 use Rattle.crsm_decisions.proofs.Worlds.{ballots_hold}
 use Rattle.crsm_agreement.specs.Openings.{IsEpochOf}
-use Rattle.crsm_agreement.proofs.Agree.{HasBase, holder, epoch_holds, opening_same}
+use Rattle.crsm_agreement.proofs.Agree.{holder, epoch_holds, opening_same}
 use Rattle.crsm_agreement.proofs.Lists.{fronts, get_append, get_take, taken_length}
 use Rattle.crsm_runs.proofs.Lists.{of_each}
 use Rattle.crsm_runs.proofs.Runs.{last_on, is_the_list}
 use Rattle.crsm_durable.specs.Laws.{DecisionsAlwaysAgree}
-use Rattle.crsm_durable.proofs.Lists.{among_contains, among_place, front_length, front_get}
+use Rattle.crsm_durable.proofs.Lists.{among_contains, among_place, front_length}
 
 -- ---- decisions of a world
 
@@ -62,7 +61,7 @@ module _ (n : ℕ) (acts : List Act) (most : n ≤ 15) (p : ArePossible (begin n
       next_is : (e : ℕ) → d.epoch ≡ e + 1 → d.epoch ≡ suc e
       next_is e h = omega (arith, h)
 
-  base_within : (d : Decision) → Among (all_decisions n acts) d → d.base_len ≤ length (the_list n acts)
+  pub base_within : (d : Decision) → Among (all_decisions n acts) d → d.base_len ≤ length (the_list n acts)
   unfolding all_decisions
   base_within d a =
       let k = decided_in (last_world n acts) d a in

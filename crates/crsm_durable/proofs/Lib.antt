@@ -1,2 +1,5 @@
 pub mod Lists
 pub mod Decisions
+pub mod Specs
+pub mod Keeping
+pub mod Durable

@@ -7,3 +7,9 @@ ghost use Rattle.crsm_durable.specs.Laws.{DecisionsAlwaysAgree, ExecutedAreDurab
 pub fn decisions_always_agree()
     ensures { DecisionsAlwaysAgree }
 {}
+
+/// An entry that some replica has executed is kept by a majority from then on, at its place, and each later epoch begins with
+/// it.
+pub fn executed_are_durable()
+    ensures { ExecutedAreDurable }
+{}

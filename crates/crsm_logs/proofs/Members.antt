@@ -20,7 +20,7 @@ rises_distinct : (low high : ℕ) (ks : List ℕ) → RisesWithin low high ks �
 rises_distinct low high [] h = tt
 rises_distinct low high (k ∷ ks) h = (λ a. let t = rises_above (k + 1) high ks h.2 k a in absurd (omega (arith, t)), rises_distinct (k + 1) high ks h.2)
 
-members_distinct : (ks : List ℕ) → IsMembers ks → Distinct ks
+pub members_distinct : (ks : List ℕ) → IsMembers ks → Distinct ks
 members_distinct [] h = absurd h
 members_distinct (k ∷ ks) h = rises_distinct 0 15 (k ∷ ks) h
 
