@@ -1,11 +1,13 @@
 -- Masks of votes, one more vote, and how many there are.
-use Rattle.std.proofs.Common.{◌≡◌, ℕ, ◌+◌, ◌*◌, ◌/◌, ◌%◌, ◌^◌, ◌<◌, ◌≤◌, Bool, true, false, cond, refl, sym, ◌∙◌, ap, subst, arith, List, [], ◌∷◌, length, set, max, zero, suc, bit_or, zero-add}
-use Rattle.std.specs.Prelude.{◌==◌, ◌&&◌, ◌||◌, map, count_ones}
+use Rattle.std.proofs.Common.{◌≡◌, ℕ, ◌+◌, ◌*◌, ◌/◌, ◌%◌, ◌^◌, ◌<◌, Bool, true, false, cond, refl, sym, ◌∙◌, ap, arith, List, [], ◌∷◌, length, get_or, take, set, max, zero, suc, bit_or, zero-add}
+use Rattle.std.specs.Prelude.{◌==◌, ◌&&◌, ◌||◌, map}
 use Rattle.std.specs.List.{range_with_len}
 use Rattle.std.specs.Simd.Lanes.{mask_l}
 use Rattle.std.specs.Int.Bits.{or_step, or_zero_r}
-use Rattle.std.proofs.lemmas.Simd.{ones-mask_l}
+use Rattle.std.proofs.lemmas.Simd.{bit_mask_l}
 use Rattle.std.proofs.lemmas.Bool.Decides.{nat_tests}
+use Rattle.std.proofs.lemmas.List.FromFn.{get_or-map-range_with_len}
+use Rattle.std.proofs.lemmas.List.Sums.{count_by_more_yes, count_by_more_no}
 use Rattle.crsm_base.specs.declared.Stamp.{Stamp}
 use Rattle.crsm_base.specs.Order.{stamp_eq}
 use Rattle.crsm_spec.specs.Lists.{numbers_below}
@@ -91,6 +93,33 @@ pub none_voted : (s : Stamp) → mask_of [] s ≡ 0
 unfolding mask_of numbers_below voted
 none_voted s = refl
 
-pub votes_counted : (votes : List (Stamp × ℕ)) (s : Stamp) → count_ones (mask_of votes s) ≡ votes_for (numbers_below 15) votes s
-unfolding mask_of votes_for
-votes_counted votes s = ones-mask_l (voted votes s) (numbers_below 15)
+-- whether a replica's bit is set
+bit_of : (b : Bool) (n : ℕ) → n ≡ cond b 1 0 → (n == 1) ≡ b
+bit_of true n e = rw e refl
+bit_of false n e = rw e refl
+
+pub has_voted : (votes : List (Stamp × ℕ)) (s : Stamp) (mask k : ℕ) → k < 15 → mask ≡ mask_of votes s → (mask / 2 ^ k % 2 == 1) ≡ voted votes s k
+unfolding mask_of numbers_below
+has_voted votes s mask k within e =
+    bit_of (voted votes s k) (mask / 2 ^ k % 2)
+    (ap (λ m. m / 2 ^ k % 2) e ∙ bit_mask_l (map (voted votes s) (range_with_len 0 15)) k
+    ∙ ap (λ b. cond b 1 0) (get_or-map-range_with_len (voted votes s) 0 15 k k false within (zero-add k)))
+
+-- one more replica is counted, whose bit is set, or not
+pub counted_yes : (votes : List (Stamp × ℕ)) (s : Stamp) (mask index count : ℕ) (replicas : List ℕ) → index < length replicas → get_or replicas index 0 < 15 →
+    mask ≡ mask_of votes s → mask / 2 ^ get_or replicas index 0 % 2 ≡ 1 → count ≡ votes_for (take index replicas) votes s →
+    count + 1 ≡ votes_for (take (index + 1) replicas) votes s
+unfolding votes_for
+counted_yes votes s mask index count replicas within small e bit so_far =
+    let k : ℕ = get_or replicas index 0 in
+    let voted_so : voted votes s k ≡ true = sym (has_voted votes s mask k small e) ∙ ap (λ n. n == 1) bit in
+    ap (λ n. n + 1) so_far ∙ sym (count_by_more_yes (voted votes s) replicas index 0 within voted_so)
+
+pub counted_no : (votes : List (Stamp × ℕ)) (s : Stamp) (mask index count : ℕ) (replicas : List ℕ) → index < length replicas → get_or replicas index 0 < 15 →
+    mask ≡ mask_of votes s → (mask / 2 ^ get_or replicas index 0 % 2 ≡ 1 → ⊥) → count ≡ votes_for (take index replicas) votes s →
+    count ≡ votes_for (take (index + 1) replicas) votes s
+unfolding votes_for
+counted_no votes s mask index count replicas within small e bit so_far =
+    let k : ℕ = get_or replicas index 0 in
+    let test : (mask / 2 ^ k % 2 == 1) ≡ false = grind (arith, nat_tests) in
+    so_far ∙ sym (count_by_more_no (voted votes s) replicas index 0 within (sym (has_voted votes s mask k small e) ∙ test))

@@ -1,6 +1,6 @@
 -- The commit rule of the first entry, and which votes matter.
-use Rattle.std.proofs.Common.{◌≡◌, ℕ, Bool, true, false, cond, refl, sym, ◌∙◌, ap, subst, List, [], ◌∷◌, ◌⊎◌, inl, inr, Option, Some, None, IsTrue}
-use Rattle.std.specs.Prelude.{◌&&◌, ◌↔◌, nat_le, if◌then◌else◌}
+use Rattle.std.proofs.Common.{◌≡◌, ℕ, Bool, true, false, refl, sym, ◌∙◌, ap, subst, List, [], ◌∷◌, inl, inr, Some, None, IsTrue}
+use Rattle.std.specs.Prelude.{◌&&◌, ◌↔◌, if◌then◌else◌}
 use Rattle.crsm_base.specs.declared.Stamp.{Stamp}
 use Rattle.crsm_base.specs.declared.Entry.{Entry}
 use Rattle.crsm_base.specs.Order.{stamp_eq}
@@ -24,14 +24,14 @@ right_passes : (a b : Bool) → (a && b) ≡ true → b ≡ true
 right_passes true b e = e
 right_passes false b e = absurd (cc)
 
-pub exactly : (n : ℕ) (members : List ℕ) (heard : List (ℕ × ℕ)) (votes : List (Stamp × ℕ)) (waiting : List Entry) (s : Stamp) →
-    (first_ready n members heard votes waiting ≡ Some s) ↔ IsTrue (may_commit n members heard votes s && is_next waiting s)
+pub exactly : (spec members : List ℕ) (heard : List (ℕ × ℕ)) (votes : List (Stamp × ℕ)) (waiting : List Entry) (s : Stamp) →
+    (first_ready spec members heard votes waiting ≡ Some s) ↔ IsTrue (may_commit spec members heard votes s && is_next waiting s)
 unfolding is_next first_of
-exactly n members heard votes [] s = ((λ e. absurd (cc)), (λ t. absurd (no_pass (may_commit n members heard votes s) t)))
-exactly n members heard votes (e ∷ es) s = (forth, back)
+exactly spec members heard votes [] s = ((λ e. absurd (cc)), (λ t. absurd (no_pass (may_commit spec members heard votes s) t)))
+exactly spec members heard votes (e ∷ es) s = (forth, back)
   where
     test : Stamp → Bool
-    test t = may_commit n members heard votes t
+    test t = may_commit spec members heard votes t
 
     chosen : (b : Bool) → test e.stamp ≡ b → (if b then Some e.stamp else None) ≡ Some s → (test s && stamp_eq e.stamp s) ≡ true
     chosen true h k =
@@ -53,7 +53,6 @@ pub not_counted : (pending : Pending) (tracked : Stamp → Bool) (waiting : List
 not_counted pending tracked waiting votes stamp k off stands = record {
   count = stands.count;
   ascending = stands.ascending;
-  timed = stands.timed;
   queues = stands.queues;
   masks = λ s t. elim (bool_cases (stamp_eq stamp s)) [
     | inl e ↦ (let same : tracked stamp ≡ tracked s = ap tracked (equal stamp s e) in absurd (cc))
@@ -66,7 +65,6 @@ pub narrowed : (pending : Pending) (wide narrow : Stamp → Bool) (waiting : Lis
 narrowed pending wide narrow waiting votes fewer stands = record {
   count = stands.count;
   ascending = stands.ascending;
-  timed = stands.timed;
   queues = stands.queues;
   masks = λ s t. stands.masks s (fewer s t);
 }

@@ -1,6 +1,6 @@
 -- Entries in their queues, with one more and without one.
-use Rattle.std.proofs.Common.{◌≡◌, ℕ, ◌+◌, ◌<◌, ◌≤◌, Bool, true, false, cond, refl, sym, ◌∙◌, ap, subst, arith, List, [], ◌∷◌, length, get_or, set, take, drop, zero, suc, ◌⊎◌, inl, inr, min, map, get_or-set_same, get_or-set_other, Option, Some, None, IsSome, IfSome}
-use Rattle.std.specs.Prelude.{nat_lt, ◌==◌, ◌&&◌, ◌||◌, filter, find, insert, remove, OnSome}
+use Rattle.std.proofs.Common.{◌≡◌, ℕ, ◌<◌, Bool, true, false, cond, refl, sym, ◌∙◌, ap, subst, arith, List, [], ◌∷◌, length, get_or, set, take, drop, zero, suc, ◌⊎◌, inl, inr, min, map, get_or-set_same, get_or-set_other, Option, Some, None, IsSome, IfSome}
+use Rattle.std.specs.Prelude.{◌==◌, filter, find, insert, remove, OnSome}
 use Rattle.std.specs.List.{AllByRecursion}
 use Rattle.std.proofs.lemmas.Bool.{eqb-true, eq-eqb}
 use Rattle.std.proofs.lemmas.Bool.Decides.{nat_tests}
@@ -128,14 +128,6 @@ stamps_without s (e ∷ es) = go (stamp_eq e.stamp s) (stamps_without s es)
         map stamp_of (cond b es (e ∷ without_entry s es)) ≡ cond b (map stamp_of es) (e.stamp ∷ without s (map stamp_of es))
     go true i = refl
     go false i = ap (λ ss. e.stamp ∷ ss) i
-
-pub all_without_entry : (P : Entry → Type 0) (s : Stamp) (es : List Entry) → AllByRecursion P es → AllByRecursion P (without_entry s es)
-all_without_entry P s [] all = tt
-all_without_entry P s (e ∷ es) all = go (stamp_eq e.stamp s) (all_without_entry P s es all.1)
-  where
-    go : (b : Bool) → AllByRecursion P (without_entry s es) → AllByRecursion P (cond b es (e ∷ without_entry s es))
-    go true rest = all.1
-    go false rest = (all.0, rest)
 
 -- the first entry of a stamp
 pub entry_found : (s : Stamp) (es : List Entry) (n : ℕ) (d : Entry) (t : Stamp) → AllByRecursion (λ t. stamp_eq t s ≡ false) (take n (map stamp_of es)) →

@@ -1,5 +1,5 @@
 -- A list behind a front that is passed over, changed at a place.
-use Rattle.std.proofs.Common.{◌≡◌, ℕ, ◌+◌, ◌<◌, ◌≤◌, refl, sym, ◌∙◌, ap, arith, List, [], ◌∷◌, length, take, drop, zero, suc, zero-add, subst, true, false, length-drop, get_or}
+use Rattle.std.proofs.Common.{◌≡◌, ℕ, ◌+◌, ◌<◌, ◌≤◌, refl, ◌∙◌, ap, arith, List, [], ◌∷◌, length, take, drop, zero, suc, zero-add, subst, true, false, length-drop, get_or}
 use Rattle.std.specs.Prelude.{insert, remove}
 use Rattle.std.specs.List.{AllByRecursion}
 use Rattle.crsm_base.specs.declared.Stamp.{Stamp}

@@ -1,13 +1,12 @@
 -- The least of first stamps, one more queue, and where all queues were seen.
-use Rattle.std.proofs.Common.{◌≡◌, ℕ, ◌+◌, ◌<◌, ◌≤◌, Bool, true, false, cond, refl, sym, ◌∙◌, ap, subst, arith, List, [], ◌∷◌, length, get_or, ◌⊎◌, inl, inr, min, map, Option, Some, None, IfSome}
-use Rattle.std.specs.Prelude.{nat_lt, ◌==◌, ◌&&◌, ◌||◌, filter}
+use Rattle.std.proofs.Common.{◌≡◌, ℕ, ◌+◌, ◌<◌, Bool, true, false, cond, refl, sym, ◌∙◌, ap, subst, arith, List, [], ◌∷◌, get_or, ◌⊎◌, inl, inr, min, map, Option, Some, None, IfSome}
+use Rattle.std.specs.Prelude.{filter}
 use Rattle.std.specs.Option.{option_map}
 use Rattle.std.specs.List.{AllByRecursion}
-use Rattle.std.proofs.lemmas.Bool.{eqb-true}
 use Rattle.std.proofs.lemmas.Bool.Decides.{nat_tests}
 use Rattle.crsm_base.specs.declared.Stamp.{Stamp}
 use Rattle.crsm_base.specs.declared.Entry.{Entry}
-use Rattle.crsm_base.specs.Order.{stamp_lt, stamp_eq}
+use Rattle.crsm_base.specs.Order.{stamp_lt}
 use Rattle.crsm_spec.specs.Lists.{first_of}
 use Rattle.crsm_phase.specs.Owed.{IsAscending}
 use Rattle.crsm_commit.specs.Waiting.{stamp_of, is_in}

@@ -1,14 +1,11 @@
 -- Masks that stand for all votes, one more vote, and a stamp that is tracked no more.
-use Rattle.std.proofs.Common.{◌≡◌, ℕ, ◌+◌, ◌^◌, ◌<◌, Bool, true, false, cond, refl, sym, ◌∙◌, ap, arith, List, [], ◌∷◌, ◌⊎◌, inl, inr, bit_or}
-use Rattle.std.specs.Prelude.{◌==◌, ◌&&◌, not, if◌then◌else◌, count_ones}
+use Rattle.std.proofs.Common.{◌≡◌, ℕ, ◌^◌, ◌<◌, Bool, true, false, refl, sym, ◌∙◌, ap, arith, List, ◌∷◌, inl, inr, bit_or}
+use Rattle.std.specs.Prelude.{◌&&◌, not, if◌then◌else◌}
 use Rattle.std.proofs.lemmas.Bool.Decides.{nat_tests}
 use Rattle.crsm_base.specs.declared.Stamp.{Stamp}
-use Rattle.crsm_base.specs.declared.Entry.{Entry}
 use Rattle.crsm_base.specs.Order.{stamp_eq}
-use Rattle.crsm_spec.specs.Lists.{numbers_below}
-use Rattle.crsm_spec.specs.Ready.{votes_for}
 use Rattle.crsm_commit.specs.Masks.{mask_at, mask_of}
-use Rattle.crsm_commit.proofs.Bits.{vote_more, vote_other, votes_counted}
+use Rattle.crsm_commit.proofs.Bits.{vote_more, vote_other}
 use Rattle.crsm_commit.proofs.Filed.{bool_cases}
 use Rattle.crsm_commit.proofs.LeastLemmas.{same_parts}
 
@@ -56,8 +53,7 @@ counted_without tracked old new votes stamp counted changed s t =
     changed s ∙ ap (λ b. if b then 0 else mask_at old s) (second_fails (tracked s) (stamp_eq stamp s) t)
     ∙ counted s (first_passes (tracked s) (not (stamp_eq stamp s)) t)
 
--- how many have voted for a stamp that is tracked
-pub count_of : (tracked : Stamp → Bool) (masks votes : List (Stamp × ℕ)) (s : Stamp) (mask count : ℕ) → AreCounted tracked masks votes →
-    tracked s ≡ true → mask ≡ mask_at masks s → count ≡ count_ones mask → count ≡ votes_for (numbers_below 15) votes s
-count_of tracked masks votes s mask count counted t is counts =
-    counts ∙ ap count_ones (is ∙ counted s t) ∙ votes_counted votes s
+-- the mask of a stamp that is tracked
+pub mask_is : (tracked : Stamp → Bool) (masks votes : List (Stamp × ℕ)) (s : Stamp) (mask : ℕ) → AreCounted tracked masks votes →
+    tracked s ≡ true → mask ≡ mask_at masks s → mask ≡ mask_of votes s
+mask_is tracked masks votes s mask counted t is = is ∙ counted s t

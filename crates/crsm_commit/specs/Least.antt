@@ -1,5 +1,5 @@
 -- The least of first stamps.
-use Rattle.std.specs.Prelude.{◌≡◌, ℕ, ◌<◌, Bool, false, List, [], Option, None, Some, if◌then◌else◌, slice_index_or, IfSome}
+use Rattle.std.specs.Prelude.{◌≡◌, ℕ, ◌<◌, false, List, [], Option, None, Some, if◌then◌else◌, slice_index_or, IfSome}
 use Rattle.std.specs.Option.{option_map}
 use Rattle.crsm_base.specs.declared.Stamp.{Stamp}
 use Rattle.crsm_base.specs.declared.Entry.{Entry}

@@ -1,11 +1,8 @@
 -- What the pending entries stand for, and which of them is ready.
-use Rattle.std.specs.Prelude.{◌≡◌, ℕ, ◌<◌, ◌≤◌, Bool, true, ◌==◌, ◌&&◌, nat_le, min, List, [], ◌∷◌, length, map, filter, slice_index_or, Option, None, Some, if◌then◌else◌}
-use Rattle.std.specs.List.{AllByRecursion}
+use Rattle.std.specs.Prelude.{◌≡◌, ℕ, ◌<◌, Bool, true, ◌&&◌, List, [], ◌∷◌, length, map, filter, slice_index_or, Option, None, Some, if◌then◌else◌}
 use Rattle.crsm_base.specs.declared.Stamp.{Stamp}
 use Rattle.crsm_base.specs.declared.Entry.{Entry}
-use Rattle.crsm_spec.specs.Lists.{numbers_below}
-use Rattle.crsm_spec.specs.Paxos.{majority}
-use Rattle.crsm_spec.specs.Ready.{votes_for, is_stable}
+use Rattle.crsm_spec.specs.Ready.{is_replicated, is_stable}
 use Rattle.crsm_phase.specs.Owed.{IsAscending}
 use Rattle.crsm_commit.specs.Masks.{mask_at, mask_of}
 use Rattle.crsm_commit.specs.Waiting.{stamp_of, is_in}
@@ -16,16 +13,14 @@ use Rattle.crsm_commit.specs.declared.pending.Pending.{Pending}
 pub record StandsFor (pending : Pending) (tracked : Stamp → Bool) (waiting : List Entry) (votes : List (Stamp × ℕ)) : Type 0 where
   pub count : length pending.queues ≡ 16
   pub ascending : IsAscending (map stamp_of waiting)
-  pub timed : AllByRecursion (λ e. 1 ≤ e.stamp.time) waiting
   pub queues : (i : ℕ) → i < 16 → slice_index_or pending.queues i [] ≡ filter (is_in i) waiting
   pub masks : (s : Stamp) → tracked s ≡ true → mask_at pending.votes s ≡ mask_of votes s
 
--- a majority of n replicas has logged the stamp, and each member has reached its time
-abbrev pub may_commit : ℕ → List ℕ → List (ℕ × ℕ) → List (Stamp × ℕ) → Stamp → Bool
-may_commit n members heard votes s =
-    nat_le (majority n) (votes_for (numbers_below 15) votes s) && is_stable members heard s
+-- a majority of the Spec has logged the stamp, and each member has reached its time
+abbrev pub may_commit : List ℕ → List ℕ → List (ℕ × ℕ) → List (Stamp × ℕ) → Stamp → Bool
+may_commit spec members heard votes s = is_replicated spec votes s && is_stable members heard s
 
 -- the first of the entries, where it may be committed
-abbrev pub first_ready : ℕ → List ℕ → List (ℕ × ℕ) → List (Stamp × ℕ) → List Entry → Option Stamp
-first_ready n members heard votes [] = None
-first_ready n members heard votes (e ∷ es) = if may_commit n members heard votes e.stamp then Some e.stamp else None
+abbrev pub first_ready : List ℕ → List ℕ → List (ℕ × ℕ) → List (Stamp × ℕ) → List Entry → Option Stamp
+first_ready spec members heard votes [] = None
+first_ready spec members heard votes (e ∷ es) = if may_commit spec members heard votes e.stamp then Some e.stamp else None

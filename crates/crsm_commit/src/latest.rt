@@ -17,10 +17,8 @@ pub struct Latest {
 impl Latest {
     ghost use Rattle.crsm_commit.specs.Heard.{HasHeard};
 
-    /// Nothing was heard, in a cluster that began with n replicas. One that is added later is heard like any other.
-    pub fn new(_n: u32) -> Latest
-        requires some { 1 ≤ _n }
-        requires most { _n ≤ 15 }
+    /// Nothing was heard.
+    pub fn new() -> Latest
         ensures { HasHeard result [] }
     {
         Latest { times: [0; 15] }

@@ -1,19 +1,17 @@
 //! What holds of the definitions that the contracts cite.
 
-ghost use Rattle.std.specs.Prelude.{◌≡◌, ℕ, ◌↔◌, ◌∷◌, ◌&&◌, nat_le, Bool, true, false, List, Some, IsTrue};
+ghost use Rattle.std.specs.Prelude.{◌≡◌, ℕ, ◌↔◌, ◌∷◌, ◌&&◌, Bool, true, false, List, Some, IsTrue};
 ghost use Rattle.crsm_base.specs.declared.Stamp.{Stamp};
 ghost use Rattle.crsm_base.specs.declared.Entry.{Entry};
-ghost use Rattle.crsm_spec.specs.Lists.{numbers_below};
-ghost use Rattle.crsm_spec.specs.Paxos.{majority};
-ghost use Rattle.crsm_spec.specs.Ready.{votes_for, is_stable, is_next};
+ghost use Rattle.crsm_spec.specs.Ready.{is_replicated, is_stable, is_next};
 ghost use Rattle.crsm_commit.specs.Standing.{StandsFor, first_ready};
 ghost use Rattle.crsm_commit.specs.declared.pending.Pending.{Pending};
 
 /// What `ready` gives is the stamp of which the commit rule holds, and nothing where it holds of none.
 pub fn ready_is_exact()
-    ensures { (n : ℕ) (members : List ℕ) (heard : List (ℕ × ℕ)) (votes : List (Stamp × ℕ)) (waiting : List Entry) (s : Stamp) →
-        (first_ready n members heard votes waiting ≡ Some s)
-        ↔ IsTrue ((nat_le (majority n) (votes_for (numbers_below 15) votes s) && is_stable members heard s) && is_next waiting s) }
+    ensures { (spec members : List ℕ) (heard : List (ℕ × ℕ)) (votes : List (Stamp × ℕ)) (waiting : List Entry) (s : Stamp) →
+        (first_ready spec members heard votes waiting ≡ Some s)
+        ↔ IsTrue ((is_replicated spec votes s && is_stable members heard s) && is_next waiting s) }
 {}
 
 /// A vote for a stamp that is not tracked need not be counted.

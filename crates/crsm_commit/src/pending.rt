@@ -6,8 +6,10 @@ ghost use Rattle.crsm_base.specs.declared.Stamp.{Stamp};
 ghost use Rattle.crsm_base.specs.declared.Entry.{Entry};
 ghost use Rattle.crsm_base.specs.Order.{stamp_eq};
 ghost use Rattle.crsm_spec.specs.Log.{with_entry};
+ghost use Rattle.crsm_spec.specs.Ready.{votes_for};
 ghost use Rattle.crsm_commit.specs.Heard.{HasHeard};
 ghost use Rattle.crsm_commit.specs.Least.{lesser_of, IsLeastFirst};
+ghost use Rattle.crsm_commit.specs.Masks.{mask_of};
 ghost use Rattle.crsm_commit.specs.Waiting.{stamp_of, is_at, without_entry};
 
 use crate::latest::Latest;
@@ -61,7 +63,6 @@ impl Pending {
 
     /// Adds an entry that was logged. An `Err` changes nothing.
     pub fn add(&mut self, entry: Entry) -> Result<(), NoMemory>
-        requires { 1 ≤ entry.stamp.time }
         ensures ok { OnOk result ((tracked : Stamp → Bool) (waiting : List Entry) (votes : List (Stamp × ℕ)) →
             StandsFor self.old tracked waiting votes → StandsFor self.new tracked (with_entry entry waiting) votes) }
         ensures err { OnErr result ((tracked : Stamp → Bool) (waiting : List Entry) (votes : List (Stamp × ℕ)) →
@@ -85,19 +86,17 @@ impl Pending {
         Ok(())
     }
 
-    /// The stamp of the entry that is executed next, where it is ready: a majority of n replicas has logged it, each
+    /// The stamp of the entry that is executed next, where it is ready: a majority of the Spec has logged it, each
     /// member's latest time has reached its time, and no entry that is pending has a lesser stamp.
-    pub fn ready(&self, latest: &Latest, members: &Members, n: u32) -> Option<Stamp>
-        requires some { 1 ≤ n }
-        requires most { n ≤ 15 }
+    pub fn ready(&self, latest: &Latest, members: &Members, spec: &Members) -> Option<Stamp>
         ensures { (tracked : Stamp → Bool) (waiting : List Entry) (votes : List (Stamp × ℕ)) (heard : List (ℕ × ℕ)) →
-            StandsFor self.now tracked waiting votes → HasHeard latest.now heard →
+            StandsFor self.now tracked waiting votes → HasHeard latest.now heard → AllByRecursion (λ h. 1 ≤ h.1) heard →
             AllByRecursion (λ e. tracked e.stamp ≡ true) waiting →
-            result ≡ first_ready n members.now heard votes waiting }
+            result ≡ first_ready spec.now members.now heard votes waiting }
     {
         let stamp = least_first(&self.queues)?;
-        let votes = self.votes.of(stamp).count_ones();
-        if votes >= majority(n) && stamp.time <= latest.least(members) {
+        let votes = count_in(self.votes.of(stamp), spec);
+        if votes >= majority(spec.count()) && stamp.time.max(1) <= latest.least(members) {
             Some(stamp)
         } else {
             None
@@ -142,6 +141,19 @@ fn with_vote(mask: u16, k: u32) -> u16
     ensures { result ≡ bit_or mask (2 ^ k) }
 {
     mask | (1 << k)
+}
+
+/// How many of these replicas the mask has.
+fn count_in(mask: u16, replicas: &Members) -> u32
+    ensures { (votes : List (Stamp × ℕ)) (s : Stamp) → mask ≡ mask_of votes s → result ≡ votes_for replicas.now votes s }
+{
+    let mut count = 0;
+    for replica in replicas.as_slice() {
+        if (mask >> *replica) % 2 == 1 {
+            count += 1;
+        }
+    }
+    count
 }
 
 /// The lesser of two stamps, where there are two.

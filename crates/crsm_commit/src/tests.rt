@@ -44,7 +44,9 @@ fn queues_rise(rt: HostRuntime) -> Result<(), Fail> {
 fn the_first_is_ready_once_replicated_and_stable(rt: HostRuntime) -> Result<(), Fail> {
     let alloc = rt.alloc();
     let members = Members::from_slice(alloc, &[0, 1, 2])?;
-    let mut latest = Latest::new(3);
+    let five = Members::from_slice(alloc, &[0, 1, 2, 3, 4])?;
+    let strangers = Members::from_slice(alloc, &[1, 3, 4])?;
+    let mut latest = Latest::new();
     let mut pending = Pending::new(alloc);
     pending.voted(stamp(5, 1), 2)?;
     pending.add(entry(alloc, 7, 0))?;
@@ -52,15 +54,19 @@ fn the_first_is_ready_once_replicated_and_stable(rt: HostRuntime) -> Result<(), 
     latest.hear(0, 5);
     latest.hear(1, 5);
     latest.hear(2, 6);
-    assert_eq!(rt; pending.ready(&latest, &members, 3), None);
+    assert_eq!(rt; pending.ready(&latest, &members, &members), None);
     pending.voted(stamp(5, 1), 2)?;
-    assert_eq!(rt; pending.ready(&latest, &members, 3), None);
+    assert_eq!(rt; pending.ready(&latest, &members, &members), None);
     pending.voted(stamp(5, 1), 0)?;
-    assert_eq!(rt; pending.ready(&latest, &members, 3), Some(stamp(5, 1)));
-    assert_eq!(rt; pending.ready(&latest, &members, 5), None);
+    assert_eq!(rt;
+        pending.ready(&latest, &members, &members),
+        Some(stamp(5, 1))
+    );
+    assert_eq!(rt; pending.ready(&latest, &members, &five), None);
+    assert_eq!(rt; pending.ready(&latest, &members, &strangers), None);
     assert_eq!(rt; latest.of(2), 6);
     assert_eq!(rt; latest.least(&members), 5);
     assert!(rt; pending.take(stamp(5, 1)).is_some());
-    assert_eq!(rt; pending.ready(&latest, &members, 3), None);
+    assert_eq!(rt; pending.ready(&latest, &members, &members), None);
     Ok(())
 }

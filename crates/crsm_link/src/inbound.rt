@@ -1,6 +1,6 @@
 //! The receiver's end of a link.
 
-ghost use Rattle.std.specs.Prelude.{◌≡◌, ℕ, ◌+◌, ◌<◌, ◌↔◌, [], ◌∷◌, ◌++◌, List, length};
+ghost use Rattle.std.specs.Prelude.{◌≡◌, ◌≢◌, ℕ, ◌+◌, ◌<◌, ◌↔◌, [], ◌∷◌, ◌++◌, List, length};
 ghost use Rattle.std.specs.List.{AllByRecursion};
 ghost use Rattle.crsm_base.specs.declared.InEpoch.{InEpoch};
 ghost use Rattle.crsm_spec.specs.Link.{taken};
@@ -29,14 +29,16 @@ impl In {
 
     /// The end of a new link.
     pub fn new() -> In
-        ensures { HasTaken result [] }
+        ensures arrived { HasTaken result [] }
+        ensures next { result.next ≡ 0 }
     {
         In { next: 0 }
     }
 
     /// The number of the next frame: how many were taken.
     pub fn next(&self) -> u64
-        ensures { (arrived : List (ℕ × InEpoch)) → HasTaken self.now arrived → result ≡ length (taken arrived) }
+        ensures arrived { (arrived : List (ℕ × InEpoch)) → HasTaken self.now arrived → result ≡ length (taken arrived) }
+        ensures next { result ≡ self.now.next }
     {
         self.next
     }
@@ -46,6 +48,8 @@ impl In {
         requires { ¬ ((seq ≡ u64.MAX) × (self.old.next ≡ u64.MAX)) }
         ensures arrived { (arrived : List (ℕ × InEpoch)) (payload : InEpoch) → HasTaken self.old arrived → HasTaken self.new (arrived ++ (seq, payload) ∷ []) }
         ensures next { (result ≡ Take.Next) ↔ (seq ≡ self.old.next) }
+        ensures moved { seq ≡ self.old.next → self.new.next ≡ self.old.next + 1 }
+        ensures waits { seq ≢ self.old.next → self.new.next ≡ self.old.next }
         ensures old { (result ≡ Take.Old) ↔ (seq < self.old.next) }
         ensures early { (result ≡ Take.Early) ↔ (self.old.next < seq) }
         ensures given { (arrived : List (ℕ × InEpoch)) (payload : InEpoch) → HasTaken self.old arrived →

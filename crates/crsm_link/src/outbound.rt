@@ -71,6 +71,14 @@ impl Out {
         Ok(due)
     }
 
+    /// How many frames were pushed.
+    pub fn count(&self) -> u64
+        ensures pushed { (pushed : List InEpoch) (acked : ℕ) → StandsFor self.now pushed acked → result ≡ length pushed }
+        ensures value { result ≡ pushed_count self.now }
+    {
+        self.first + self.frames.len() as u64
+    }
+
     /// How many frames are not acknowledged.
     pub fn len(&self) -> u64
         ensures { (pushed : List InEpoch) (acked : ℕ) → StandsFor self.now pushed acked → result ≡ length (unacked pushed acked) }

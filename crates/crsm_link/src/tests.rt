@@ -25,6 +25,7 @@ fn the_first_frames_are_due(rt: HostRuntime) -> Result<(), Fail> {
         let mut sender = pushed(rt.alloc(), count)?;
         sender.acked(next);
         assert_eq!(rt; sender.len(), kept);
+        assert_eq!(rt; sender.count(), count);
         let due = sender.due()?;
         assert_eq!(rt; due.as_slice().len(), due_count);
         match due.as_slice().first() {

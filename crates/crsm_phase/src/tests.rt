@@ -10,12 +10,15 @@ fn the_least_stamp_is_due_above_its_time(rt: HostRuntime) -> Result<(), Fail> {
     for (time, origin) in [(9, 1), (5, 2), (7, 0), (5, 1)] {
         waits.add(Stamp { time, origin })?;
     }
+    assert_eq!(rt; waits.len(), 4);
     for (time, origin) in [(5, 1), (5, 2), (7, 0), (9, 1)] {
         assert_eq!(rt; waits.due(&clock, time), None);
         let least = Stamp { time, origin };
+        assert_eq!(rt; waits.first(), Some(least));
         assert_eq!(rt; waits.due(&clock, 10), Some(least));
         waits.done(least);
     }
+    assert_eq!(rt; waits.first(), None);
     assert_eq!(rt; waits.due(&clock, 10), None);
     Ok(())
 }

@@ -1,8 +1,9 @@
 //! The stamps whose acknowledgement is owed.
 
-ghost use Rattle.std.specs.Prelude.{◌≡◌, ◌<◌, ◌≤◌, [], OnOk, OnErr, IfNone, IfSome, insert, remove};
+ghost use Rattle.std.specs.Prelude.{◌≡◌, ◌<◌, ◌≤◌, [], length, OnOk, OnErr, IfNone, IfSome, insert, remove};
 ghost use Rattle.std.specs.VecDeque.{deque_len};
 ghost use Rattle.crsm_spec.specs.Clock.{issue};
+ghost use Rattle.crsm_spec.specs.Lists.{first_of};
 ghost use Rattle.crsm_spec.specs.Frames.{with_stamp};
 ghost use Rattle.crsm_phase.specs.Owed.{IsAscending, due_of, without};
 
@@ -48,6 +49,22 @@ impl Waits {
         let place = place_for(&self.owed, stamp);
         self.owed.insert(place, stamp)?;
         Ok(())
+    }
+
+    /// How many are owed.
+    pub fn len(&self) -> u64
+        ensures { result ≡ length self.now }
+    {
+        self.owed.len() as u64
+    }
+
+    /// The least stamp that is owed.
+    #[tactic(auto, unfolding(crsm_spec::specs::Lists::first_of))]
+    pub fn first(&self) -> Option<Stamp>
+        ensures { result ≡ first_of self.now }
+    {
+        let least = *self.owed.front()?;
+        Some(least)
     }
 
     /// The least stamp that is owed, where the time that `clock` would issue at this reading exceeds its time.

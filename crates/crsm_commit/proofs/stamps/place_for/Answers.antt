@@ -1,4 +1,4 @@
-use Rattle.std.proofs.Common.{◌≡◌, true, false, arith, subst, suc, ◌+◌, ◌-◌, take, get_or}
+use Rattle.std.proofs.Common.{◌≡◌, true, false, arith, subst, suc, ◌-◌, take, get_or}
 use Rattle.std.specs.List.{AllByRecursion}
 use Rattle.std.proofs.lemmas.Bool.Decides.{nat_tests}
 use Rattle.crsm_base.specs.declared.Stamp.{Stamp}

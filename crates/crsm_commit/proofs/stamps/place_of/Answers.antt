@@ -1,4 +1,4 @@
-use Rattle.std.proofs.Common.{◌≡◌, ◌∙◌, true, false, arith, subst, length, drop, take, get_or, ap, sym}
+use Rattle.std.proofs.Common.{◌≡◌, ◌∙◌, true, false, arith, subst, get_or, ap, sym}
 use Rattle.std.specs.List.{AllByRecursion}
 use Rattle.crsm_base.specs.declared.Stamp.{Stamp}
 use Rattle.crsm_base.specs.Order.{stamp_eq}

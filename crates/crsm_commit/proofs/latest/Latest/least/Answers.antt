@@ -1,4 +1,4 @@
-use Rattle.std.proofs.Common.{◌≡◌, ◌∙◌, ap, arith, refl, take, get_or, length}
+use Rattle.std.proofs.Common.{◌∙◌, ap, arith, refl, get_or}
 use Rattle.std.specs.List.{list_all}
 use Rattle.std.proofs.lemmas.List.{take_all}
 use Rattle.crsm_spec.specs.Ready.{reached}

@@ -1,10 +1,10 @@
-use Rattle.std.proofs.Common.{◌≡◌, ◌≤◌, ◌∙◌, ap, sym, subst, arith, [], length-set}
+use Rattle.std.proofs.Common.{◌∙◌, ap, sym, subst, arith, [], length-set}
 use Rattle.std.specs.Prelude.{find}
 use Rattle.std.proofs.lemmas.List.{get_or_default}
 use Rattle.crsm_phase.specs.Owed.{IsAscending}
 use Rattle.crsm_phase.proofs.Ordered.{ascending_without}
 use Rattle.crsm_commit.specs.Waiting.{is_at, without_entry}
-use Rattle.crsm_commit.proofs.Filed.{filed_without, found_filed, stamps_without, all_without_entry}
+use Rattle.crsm_commit.proofs.Filed.{filed_without, found_filed, stamps_without}
 use Rattle.crsm_commit.proofs.VotesLemmas.{counted_without}
 use Rattle.crsm_commit.proofs.pending.Pending.take.Goals as goal
 
@@ -18,7 +18,6 @@ pub returns-clause-rest : goal.returns-clause-rest
 returns-clause-rest c tracked waiting votes s = record {
   count = length-set c.args.self.now.queues c.queue_of-place.result _ ∙ s.count;
   ascending = subst IsAscending (sym (stamps_without c.args.stamp waiting)) (ascending_without _ _ s.ascending);
-  timed = all_without_entry (λ e. 1 ≤ e.stamp.time) c.args.stamp waiting s.timed;
   queues = filed_without c.args.self.now.queues c.args.stamp waiting c.queue_of-place.result _ s.count c.queue_of-place.ensures
       (c.take-entry.ensures.rest
       ∙ ap (without_entry c.args.stamp) (get_or_default c.args.self.now.queues c.queue_of-place.result c.index-self-place.result [] (omega (arith, s.count, c.queue_of-place.ensures))))

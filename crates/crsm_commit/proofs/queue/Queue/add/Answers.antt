@@ -1,4 +1,4 @@
-use Rattle.std.proofs.Common.{◌≡◌, ◌∙◌, ap, sym, map}
+use Rattle.std.proofs.Common.{◌∙◌, ap, sym, map}
 use Rattle.crsm_spec.specs.Frames.{with_stamp}
 use Rattle.crsm_spec.specs.Log.{with_entry}
 use Rattle.crsm_commit.specs.Waiting.{stamp_of}

@@ -1,4 +1,4 @@
-use Rattle.std.proofs.Common.{◌≡◌, ◌∙◌, ◌<◌, ap, sym, map, arith, rules, length}
+use Rattle.std.proofs.Common.{◌≡◌, ◌∙◌, ◌<◌, ap, sym, map, rules, length}
 use Rattle.std.specs.Prelude.{find}
 use Rattle.std.specs.VecDeque.{deque_len}
 use Rattle.crsm_phase.specs.Owed.{without}

@@ -1,4 +1,4 @@
-use Rattle.std.proofs.Common.{◌≡◌, ◌∙◌, ◌≤◌, ap, sym, subst, arith, rules, length, drop, vec_len}
+use Rattle.std.proofs.Common.{◌≡◌, ◌∙◌, ap, sym, subst, arith, rules, length, drop, vec_len}
 use Rattle.crsm_spec.specs.Frames.{with_stamp}
 use Rattle.crsm_phase.specs.Owed.{IsAscending}
 use Rattle.crsm_phase.proofs.Ordered.{ascending_with}

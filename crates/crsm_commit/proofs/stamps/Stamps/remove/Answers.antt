@@ -1,4 +1,4 @@
-use Rattle.std.proofs.Common.{◌≡◌, ◌∙◌, ◌≤◌, ap, sym, subst, arith, rules, length, drop, vec_len}
+use Rattle.std.proofs.Common.{◌≡◌, ◌∙◌, ap, sym, subst, arith, rules, length, drop, vec_len}
 use Rattle.crsm_phase.specs.Owed.{IsAscending, without}
 use Rattle.crsm_phase.proofs.Ordered.{ascending_without}
 use Rattle.crsm_commit.proofs.Fronts.{front_removed, place_below}

@@ -1,0 +1,63 @@
+//! The links with one other replica.
+
+ghost use Rattle.std.specs.Prelude.{◌≡◌, ◌<◌, ◌≤◌, ◌+◌, ◌∷◌, ◌++◌, [], ℕ, List, length, max, OnOk};
+ghost use Rattle.crsm_spec.specs.Types.{InEpoch};
+ghost use Rattle.crsm_link.specs.Sent.{StandsFor, pushed_count};
+
+use crsm_base::{InEpoch, NoMemory};
+use crsm_link::{In, Out};
+use std::alloc::Global;
+
+/// This replica's end of the link to another one, and of the link from there.
+#[derive(Drop)]
+pub(crate) struct Link {
+    pub(crate) sender: Out,
+    pub(crate) receiver: In,
+}
+
+impl Link {
+    /// The ends of new links.
+    pub(crate) fn new(alloc: Global) -> Link
+        ensures sent { StandsFor result.sender [] 0 }
+        ensures next { result.receiver.next ≡ 0 }
+    {
+        Link {
+            sender: Out::new(alloc),
+            receiver: In::new(),
+        }
+    }
+
+    /// Pushes a payload of this time. Times rise from 1 on, so fewer frames were pushed than it says; where that is not
+    /// so, this does nothing.
+    pub(crate) fn push(&mut self, payload: InEpoch, time: u64) -> Result<(), NoMemory>
+        ensures sent { OnOk result ((pushed : List InEpoch) (acked : ℕ) → StandsFor self.old.sender pushed acked → length pushed < time →
+            StandsFor self.new.sender (pushed ++ payload ∷ []) acked) }
+        ensures receiver { self.new.receiver ≡ self.old.receiver }
+    {
+        if self.sender.count() < time {
+            self.sender.push(payload)?;
+        }
+        Ok(())
+    }
+
+    /// Takes the next frame, which is of this time. Times rise from 1 on, so fewer frames were taken than it says; where
+    /// that is not so, this does nothing.
+    pub(crate) fn take_next(&mut self, time: u64)
+        ensures next { self.old.receiver.next < time → self.new.receiver.next ≡ self.old.receiver.next + 1 }
+        ensures sender { self.new.sender ≡ self.old.sender }
+    {
+        let next = self.receiver.next();
+        if next < time {
+            self.receiver.take(next);
+        }
+    }
+
+    /// All frames below this number have come.
+    pub(crate) fn acked(&mut self, next: u64)
+        ensures sent { (pushed : List InEpoch) (acked : ℕ) → StandsFor self.old.sender pushed acked → next ≤ length pushed →
+            StandsFor self.new.sender pushed (max next acked) }
+        ensures receiver { self.new.receiver ≡ self.old.receiver }
+    {
+        self.sender.acked(next);
+    }
+}
