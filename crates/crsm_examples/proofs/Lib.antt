@@ -10,6 +10,7 @@ mod LossAndRepeat
 mod OneClientTwoReplicas
 mod StopInAStep
 mod NewEpoch
+mod ChangeOfEpochs
 mod Rejoining
 mod RivalCoordinators
 mod LastClockValue

@@ -6,7 +6,7 @@ use Rattle.crsm_spec.specs.Acts.{Act, Single}
 use Rattle.crsm_examples.specs.Words.{replay, request, stamp, u64, u32}
 use Rattle.crsm_examples.proofs.Opened.{the_model}
 
-abbrev schedule : List Act
+abbrev pub schedule : List Act
 schedule =
     Act.One (request 0 5 7 1 (Op.Put (97 ∷ []) (98 ∷ [])))
     ∷ Act.One (Single.Go 0 8)
