@@ -1,0 +1,12 @@
+//! Whether values have a spelling: tests for values that were not read from bytes.
+#![tactic(auto)]
+
+mod decision;
+mod entries;
+mod fields;
+mod messages;
+
+pub use messages::{is_control_spelt, is_rec_spelt};
+
+#[cfg(test)]
+mod tests;
