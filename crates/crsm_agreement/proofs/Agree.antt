@@ -63,7 +63,7 @@ unfolding spec
 later_spec n log d h = ap (spec_decided n) h
 
 module _ (n : ℕ) (w : World) (q : IsReached n w) (few : HasFewBoots w) (spelt : AllSpelt n w) where
-  fit : (k : ℕ) → AllFit k n (log_at w k)
+  pub fit : (k : ℕ) → AllFit k n (log_at w k)
   fit = logs_fit n w q few
 
   specs_first : IsSpecOf n 0 (numbers_below n) (log_at w)
@@ -84,7 +84,7 @@ module _ (n : ℕ) (w : World) (q : IsReached n w) (few : HasFewBoots w) (spelt 
         go None is (First h) = absurd (omega (arith, h))
         go (Some _) is (Later c a ec lt) = later_spec n log c is ∙ ap (λ z. spec_decided n (Some z)) (only k c (extends_among x (Rec.Decide c) a) ec)
 
-    next_is : d.epoch ≡ e + 1
+    pub next_is : d.epoch ≡ e + 1
     next_is = omega (arith, at)
 
     -- the epoch before has begun

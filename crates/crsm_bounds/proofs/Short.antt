@@ -74,7 +74,7 @@ record Grown (v u : World) : Type 0 where
 same_more : (a b : Log) → b ≡ a → IsMore a b
 same_more a b e = let o = ap others_in e in let c = ap commits_in e in (omega (arith, o), omega (arith, c))
 
-log_set : (v u : World) (k : ℕ) (t : Site) → u.sites ≡ slice_set v.sites k t → (j : ℕ) → (log_at u j ≡ log_at v j) ⊎ ((j ≡ k) × (log_at u j ≡ log_of t))
+pub log_set : (v u : World) (k : ℕ) (t : Site) → u.sites ≡ slice_set v.sites k t → (j : ℕ) → (log_at u j ≡ log_at v j) ⊎ ((j ≡ k) × (log_at u j ≡ log_of t))
 unfolding log_at
 log_set v u k t e j = elim (set_case v.sites k t j) [
   | inl q ↦ inl (ap (λ o. option_map_or log_of o []) (ap (λ ss. slice_get ss j) e ∙ q))
@@ -323,7 +323,7 @@ first_counted n k = go (slice_get (map (λ i. Site.Up (founding_boot i n).replic
 
 -- ---- whole runs
 
-run_short : (n : ℕ) (acts : List Act) → ArePossible (begin n) acts → AllByRecursion HasShortLogs (all_worlds n acts)
+pub run_short : (n : ℕ) (acts : List Act) → ArePossible (begin n) acts → AllByRecursion HasShortLogs (all_worlds n acts)
 unfolding all_worlds moments_of_run
 run_short n acts p = (λ k. let t = (first_counted n k).0 in omega (arith, t), acts_short (begin n) acts (λ k. (first_counted n k).1) p)
 

@@ -60,19 +60,19 @@ boots_short : (log : Log) → boots log ≤ length log
 unfolding boots
 boots_short log = count_short is_boot log
 
-short_few : (w : World) → HasShortLogs w → HasFewBoots w
+pub short_few : (w : World) → HasShortLogs w → HasFewBoots w
 short_few w short k = let a = boots_short (log_at w k) in let b = short k in omega (arith, a, b)
 
-short_before : (w u : World) → LogsGoOn w u → HasShortLogs u → HasShortLogs w
+pub short_before : (w u : World) → LogsGoOn w u → HasShortLogs u → HasShortLogs w
 short_before w u grows short k = let a = extends_length (log_at w k) (log_at u k) (grows k) in let b = short k in omega (arith, a, b)
 
 -- ---- what holds of each site
 
-abbrev SiteFits : Site → Type 0
+abbrev pub SiteFits : Site → Type 0
 SiteFits (Site.Up r) = Fit (begun r)
 SiteFits (Site.Down log) = AreSpelt log
 
-abbrev SitesFit : List Site → Type 0
+abbrev pub SitesFit : List Site → Type 0
 SitesFit ss = (k : ℕ) (s : Site) → slice_get ss k ≡ Some s → (k < 15) × SiteFits s
 
 site_log : (s : Site) → SiteFits s → AreSpelt (log_of s)
@@ -97,9 +97,9 @@ sites_set ss k t h g j s e = go (set_case ss k t j)
 
 -- ---- what holds of a world
 
-record Fine (n : ℕ) (w : World) (history : IsReached n w) : Type 0 where
-  sites : SitesFit w.sites
-  messages : (s : Saying) → WasToldIn history s → FitsControl s.message
+pub record Fine (n : ℕ) (w : World) (history : IsReached n w) : Type 0 where
+  pub sites : SitesFit w.sites
+  pub messages : (s : Saying) → WasToldIn history s → FitsControl s.message
 
 same_came : (a b : ℕ) (c d : Datagram) → Input.Came a c ≡ Input.Came b d → c ≡ d
 same_came a b c d h = cc
@@ -297,7 +297,7 @@ moment_tells n w m g (Junk k r e z ends) few' short few f s t = absurd t
 moment_tells n w m g (Stops k) few' short few f s t = absurd t
 moment_tells n w m g (Starts k d small) few' short few f s t = absurd t
 
-fine : (n : ℕ) (w : World) → n ≤ 15 → (g : IsReached n w) → HasShortLogs w → Fine n w g
+pub fine : (n : ℕ) (w : World) → n ≤ 15 → (g : IsReached n w) → HasShortLogs w → Fine n w g
 fine n w most first short = record { sites = first_sites n most; messages = λ s a. absurd a }
 fine n w most (next {w = u} {m = m} g h) short =
     let before = short_before u m.after (moment_goes_on u m h) short in

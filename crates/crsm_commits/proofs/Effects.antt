@@ -53,11 +53,11 @@ not_false true e = refl
 not_false false e = absurd (false≢true (sym e))
 
 -- an entry that is taken from m is m's own
-taken_origin : (x : Replica) (m : ℕ) (g : Entry) → is_odd_frame x m (InEpoch.Prepare g) ≡ false → g.stamp.origin ≡ m
+pub taken_origin : (x : Replica) (m : ℕ) (g : Entry) → is_odd_frame x m (InEpoch.Prepare g) ≡ false → g.stamp.origin ≡ m
 unfolding is_odd_frame is_wrong
 taken_origin x m g h = eqb-true g.stamp.origin m (not_false (g.stamp.origin == m) (or_false _ (not (g.stamp.origin == m)) (or_false _ _ h).1).1)
 
-same_entry : (f g : Entry) → Rec.Prepare f ≡ Rec.Prepare g → f ≡ g
+pub same_entry : (f g : Entry) → Rec.Prepare f ≡ Rec.Prepare g → f ≡ g
 same_entry f g e = cc
 
 refused_active : (x : Draft) → refusal x.replica ≡ None → IsTrue (active x.replica.log)

@@ -1,0 +1,12 @@
+pub mod Lists
+pub mod Each
+pub mod Effects
+pub mod Words
+pub mod Holds
+pub mod Drafts
+pub mod Steps
+pub mod Replies
+pub mod Ends
+pub mod Worlds
+pub mod Moments
+pub mod Safe
