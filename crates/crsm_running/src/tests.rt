@@ -1,74 +1,111 @@
 use super::*;
-use crsm_base::{Command, Entry, InEpoch, Key, Members, Op, Rec, Stamp};
+use crsm_base::{Command, Entry, InEpoch, Key, Members, NoMemory, Op, Rec, Stamp};
 use std::alloc::Global;
 use std::test::Fail;
 
-fn stamp(time: u64, origin: u32) -> Stamp {
-    Stamp { time, origin }
+fn stamp(time: u64) -> Stamp {
+    Stamp { time, origin: 0 }
 }
 
-fn entry(alloc: Global, time: u64, origin: u32) -> Entry {
-    Entry {
-        epoch: 0,
-        stamp: stamp(time, origin),
-        command: Command {
-            client: 7,
-            number: 1,
-            op: Op::Get(Key::new(alloc)),
+fn prepare(alloc: Global, time: u64) -> Rec {
+    Rec::Prepare {
+        entry: Entry {
+            epoch: 0,
+            stamp: stamp(time),
+            command: Command {
+                client: 7,
+                number: 1,
+                op: Op::Get(Key::new(alloc)),
+            },
         },
     }
 }
 
-#[test]
-fn links_number_what_is_pushed(rt: HostRuntime) -> Result<(), Fail> {
-    let alloc = rt.alloc();
-    let members = Members::from_slice(alloc, &[0, 1, 2])?;
+/// Replica 0 has issued time 9 and pushed it to these.
+fn pushed(alloc: Global, members: &Members) -> Result<Running, NoMemory> {
     let mut running = Running::new(alloc);
-    assert_eq!(rt; running.would(9), Some(9));
-    running.push_at(9, 0, &members, &InEpoch::ClockTime { at: 9 })?;
+    running.push_at(9, 0, members, &InEpoch::ClockTime { at: 9 })?;
+    Ok(running)
+}
+
+/// Replica 0 alone has logged and voted for an entry of time 5.
+fn logged(alloc: Global) -> Result<Running, NoMemory> {
+    let mut running = Running::new(alloc);
+    running.count_vote(stamp(5), 0, None)?;
+    running.keep(&prepare(alloc, 5), None)?;
+    Ok(running)
+}
+
+#[test]
+fn times_rise(rt: HostRuntime) -> Result<(), Fail> {
+    let members = Members::from_slice(rt.alloc(), &[0, 1, 2])?;
+    let running = pushed(rt.alloc(), &members)?;
     assert_eq!(rt; running.last_issued(), 9);
     assert_eq!(rt; running.would(3), Some(10));
-    assert_eq!(rt; running.pushed_to(0), 0);
-    assert_eq!(rt; running.pushed_to(2), 1);
-    assert_eq!(rt; running.due(2)?.as_slice().len(), 1);
-    running.acked(2, 1);
-    assert_eq!(rt; running.due(2)?.as_slice().len(), 0);
+    Ok(())
+}
+
+#[test]
+fn each_other_member_gets_a_frame(rt: HostRuntime) -> Result<(), Fail> {
+    let members = Members::from_slice(rt.alloc(), &[0, 1, 2])?;
+    let running = pushed(rt.alloc(), &members)?;
+    for (k, want) in [(0, 0), (1, 1), (2, 1), (3, 0)] {
+        assert_eq!(rt; running.pushed_to(k), want);
+    }
     assert!(rt; !running.is_congested(0, &members));
+    Ok(())
+}
+
+#[test]
+fn what_came_is_not_due(rt: HostRuntime) -> Result<(), Fail> {
+    let members = Members::from_slice(rt.alloc(), &[0, 1, 2])?;
+    let mut running = pushed(rt.alloc(), &members)?;
+    for want in [1, 0] {
+        assert_eq!(rt; running.due(2)?.as_slice().len(), want);
+        running.acked(2, 1);
+    }
+    Ok(())
+}
+
+#[test]
+fn a_frame_is_taken_with_its_time(rt: HostRuntime) {
+    let mut running = Running::new(rt.alloc());
     running.take_next(1, 5);
     assert_eq!(rt; running.next_from(1), 1);
     assert_eq!(rt; running.latest_from(1), 5);
-    Ok(())
 }
 
 #[test]
 fn debts_are_paid_in_order(rt: HostRuntime) -> Result<(), Fail> {
     let mut running = Running::new(rt.alloc());
-    running.owe(stamp(7, 1))?;
-    running.owe(stamp(5, 2))?;
-    assert_eq!(rt; running.owed_len(), 2);
-    assert_eq!(rt; running.first_owed(), Some(stamp(5, 2)));
-    running.paid();
-    assert_eq!(rt; running.first_owed(), Some(stamp(7, 1)));
+    for time in [7, 5] {
+        running.owe(stamp(time))?;
+    }
+    for (count, time) in [(2, 5), (1, 7)] {
+        assert_eq!(rt; running.owed_len(), count);
+        assert_eq!(rt; running.first_owed(), Some(stamp(time)));
+        running.paid();
+    }
     Ok(())
 }
 
 #[test]
-fn entries_are_ready_in_order(rt: HostRuntime) -> Result<(), Fail> {
-    let alloc = rt.alloc();
-    let members = Members::from_slice(alloc, &[0])?;
-    let mut running = Running::new(alloc);
+fn an_entry_is_ready_once_its_time_is_reached(rt: HostRuntime) -> Result<(), Fail> {
+    let members = Members::from_slice(rt.alloc(), &[0])?;
+    let mut running = logged(rt.alloc())?;
+    assert_eq!(rt; running.ready(&members, &members), None);
     running.push_at(5, 0, &members, &InEpoch::ClockTime { at: 5 })?;
-    running.count_vote(stamp(5, 0), 0, None)?;
-    assert_eq!(rt; running.ready(&members, &members), None);
-    let prepare = Rec::Prepare {
-        entry: entry(alloc, 5, 0),
-    };
-    running.keep(&prepare, None)?;
+    assert_eq!(rt; running.ready(&members, &members), Some(stamp(5)));
+    Ok(())
+}
+
+#[test]
+fn an_executed_entry_is_no_longer_pending(rt: HostRuntime) -> Result<(), Fail> {
+    let mut running = logged(rt.alloc())?;
     assert_eq!(rt; running.own_unexecuted(0), 1);
-    assert_eq!(rt; running.ready(&members, &members), Some(stamp(5, 0)));
-    running.keep(&Rec::Commit { stamp: stamp(5, 0) }, None)?;
+    running.keep(&Rec::Commit { stamp: stamp(5) }, None)?;
     assert_eq!(rt; running.own_unexecuted(0), 0);
-    running.keep(&prepare, Some(stamp(5, 0)))?;
-    assert_eq!(rt; running.ready(&members, &members), None);
+    running.keep(&prepare(rt.alloc(), 5), Some(stamp(5)))?;
+    assert_eq!(rt; running.own_unexecuted(0), 0);
     Ok(())
 }
