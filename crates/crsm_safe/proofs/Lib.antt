@@ -10,3 +10,4 @@ pub mod Ends
 pub mod Worlds
 pub mod Moments
 pub mod Safe
+pub mod Kept

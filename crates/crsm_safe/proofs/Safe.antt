@@ -39,7 +39,7 @@ use Rattle.crsm_bounds.proofs.Short.{run_short}
 
 -- ---- what is seen of a run is seen on the way to its last world
 
-moments_seen : (n : ℕ) (a : Act) (w : World) (ms : List Moment) (lines : List Told) → GoOnBy a w ms → IsSeen n w lines → IsSeen n (world_after w ms) (lines ++ seen_by a (lines_of ms))
+pub moments_seen : (n : ℕ) (a : Act) (w : World) (ms : List Moment) (lines : List Told) → GoOnBy a w ms → IsSeen n w lines → IsSeen n (world_after w ms) (lines ++ seen_by a (lines_of ms))
 unfolding world_after lines_of
 moments_seen n a w [] lines g s = subst (IsSeen n w) (sym (append-nil lines)) s
 moments_seen n a w (m ∷ ms) lines g s =
@@ -77,7 +77,7 @@ module _ (n : ℕ) (acts : List Act) (most : n ≤ 15) (p : ArePossible (begin n
   none_there : (q : ℕ) (e : Entry) → slice_get [] q ≡ Some e → ⊥
   none_there q e h = absurd (none-some e h)
 
-  last : IsLast n end list
+  pub last : IsLast n end list
   last = record {
     most = most;
     reached = seen_reached n end (seen n acts) (run_seen n acts p);
