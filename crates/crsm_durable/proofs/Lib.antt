@@ -3,3 +3,4 @@ pub mod Decisions
 pub mod Specs
 pub mod Keeping
 pub mod Durable
+pub mod Answered
