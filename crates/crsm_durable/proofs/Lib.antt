@@ -3,4 +3,3 @@ pub mod Decisions
 pub mod Specs
 pub mod Keeping
 pub mod Durable
-pub mod Answered
