@@ -2,6 +2,7 @@
 
 use crsm_base::NoMemory;
 use crsm_ledger::LedgerError;
+use crsm_wire::WireError;
 use std::io;
 use thiserror::Error;
 
@@ -33,5 +34,14 @@ impl From<NoMemory> for Fault {
 impl From<LedgerError> for Fault {
     fn from(error: LedgerError) -> Fault {
         Fault::Log(error)
+    }
+}
+
+impl From<WireError> for Fault {
+    fn from(error: WireError) -> Fault {
+        match error {
+            WireError::NotOne => Fault::NoPage,
+            WireError::NoMemory => Fault::NoMemory,
+        }
     }
 }

@@ -4,6 +4,7 @@
 mod fault;
 mod logs;
 mod page;
+mod reports;
 mod request;
 mod rows;
 mod spell;
@@ -13,7 +14,7 @@ use crate::request::{Request, Work};
 use std::alloc::Global;
 use std::env;
 
-const USAGE: &str = "usage: crsm_bench write|read|store|ledger SIZE ROUNDS";
+const USAGE: &str = "usage: crsm_bench write|read|store|ledger|collect SIZE ROUNDS";
 
 /// What the command line asks for; `None` where it asks for no work.
 fn asked(rt: &(impl env::Env + Alloc)) -> Result<Option<Request>, Fault> {
@@ -32,6 +33,7 @@ fn run(alloc: Global, request: &Request) -> Result<u64, Fault> {
         Work::Read => page::read(alloc, request.size, request.rounds),
         Work::Store => rows::apply(alloc, request.size, request.rounds),
         Work::Ledger => logs::recover(alloc, request.size, request.rounds),
+        Work::Collect => reports::collect(alloc, request.size, request.rounds),
     }
 }
 

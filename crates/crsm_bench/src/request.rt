@@ -11,10 +11,12 @@ pub enum Work {
     Store,
     /// Recovers a ledger from a log.
     Ledger,
+    /// Collects the reports of 15 replicas.
+    Collect,
 }
 
-/// Work on a value of some size (entries of a page, keys and clients of a store, commands
-/// of a log), done so many times.
+/// Work on a value of some size (entries of a page or of a report, keys and clients of a store,
+/// commands of a log), done so many times.
 #[derive(Clone, Copy, Debug, PartialEq, Eq)]
 pub struct Request {
     pub work: Work,
@@ -29,6 +31,7 @@ impl Work {
             "read" => Some(Work::Read),
             "store" => Some(Work::Store),
             "ledger" => Some(Work::Ledger),
+            "collect" => Some(Work::Collect),
             _ => None,
         }
     }

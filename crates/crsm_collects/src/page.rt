@@ -1,0 +1,85 @@
+//! The messages that bring pages, read from their bytes.
+
+ghost use Rattle.std.specs.Prelude.{IfOk};
+ghost use Rattle.crsm_base.specs.Messages.{FitsControl};
+
+use crate::fault::Fault;
+use crsm_base::{Bytes, Control, NoMemory};
+use crsm_codec::{write_u8, write_u32, write_u64};
+use crsm_wire::read_control;
+use std::alloc::Global;
+
+/// The first byte of a message that brings a page.
+const SUSPEND_OK: u8 = 2;
+
+/// The client of each command.
+const CLIENT: u64 = 7;
+
+/// What a line says of a page: a stamp is its time, 0 where there is none.
+#[derive(Clone, Copy)]
+pub struct PageLine {
+    pub epoch: u64,
+    pub executed: u64,
+    pub last: u64,
+    pub after: u64,
+    pub whole: bool,
+    /// The time of the first entry, and how many entries there are.
+    pub first: u64,
+    pub count: u64,
+    /// The number of each entry's command.
+    pub number: u64,
+}
+
+impl PageLine {
+    /// The message of this page.
+    pub fn message(&self, alloc: Global) -> Result<Control, Fault>
+        ensures { IfOk result FitsControl }
+    {
+        let mut bytes = Bytes::new(alloc);
+        write_u8(alloc, &SUSPEND_OK, &mut bytes)?;
+        write_u64(alloc, &self.epoch, &mut bytes)?;
+        write_u64(alloc, &self.executed, &mut bytes)?;
+        put_option(alloc, self.last, &mut bytes)?;
+        put_option(alloc, self.after, &mut bytes)?;
+        write_u8(alloc, &u8::from(self.whole), &mut bytes)?;
+        let Ok(count) = u32::try_from(self.count) else {
+            return Err(Fault::NoPage);
+        };
+        write_u32(alloc, &count, &mut bytes)?;
+        for index in 0..self.count {
+            let time = self.first.wrapping_add(index);
+            put_entry(alloc, self.epoch, time, self.number, &mut bytes)?;
+        }
+        Ok(read_control(alloc, bytes.as_slice())?)
+    }
+}
+
+/// Appends a stamp of replica 0.
+fn put_stamp(alloc: Global, time: u64, out: &mut Bytes) -> Result<(), NoMemory> {
+    write_u64(alloc, &time, out)?;
+    write_u8(alloc, &0, out)
+}
+
+/// Appends a stamp, or that there is none.
+fn put_option(alloc: Global, time: u64, out: &mut Bytes) -> Result<(), NoMemory> {
+    if time == 0 {
+        return write_u8(alloc, &0, out);
+    }
+    write_u8(alloc, &1, out)?;
+    put_stamp(alloc, time, out)
+}
+
+/// Appends an entry of 36 bytes: a command that reads a key.
+pub fn put_entry(
+    alloc: Global,
+    epoch: u64,
+    time: u64,
+    number: u64,
+    out: &mut Bytes,
+) -> Result<(), NoMemory> {
+    write_u64(alloc, &epoch, out)?;
+    put_stamp(alloc, time, out)?;
+    write_u64(alloc, &CLIENT, out)?;
+    write_u64(alloc, &number, out)?;
+    out.append(b"\x01\x01k")
+}
