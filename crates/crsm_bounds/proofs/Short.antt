@@ -33,7 +33,7 @@ use Rattle.crsm_epoch.proofs.Worlds.{marked_sites, seat_log_at, room_seats}
 use Rattle.crsm_logs.proofs.Worlds.{get_range, from_zero}
 use Rattle.crsm_bounds.specs.Bounds.{HasShortLogs, IsSpelt, RunsAreSpelt}
 use Rattle.crsm_bounds.proofs.Counts.{others_in, commits_in, all_in}
-use Rattle.crsm_bounds.proofs.Growth.{IsKept, step_kept}
+use Rattle.crsm_bounds.proofs.StepGrowth.{IsKept, step_kept}
 use Rattle.crsm_bounds.proofs.Worlds.{short_logs_are_spelt}
 
 -- ---- bytes

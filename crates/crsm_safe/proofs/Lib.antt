@@ -2,6 +2,7 @@ pub mod Lists
 pub mod Each
 pub mod Effects
 pub mod Words
+pub mod LineKinds
 pub mod Holds
 pub mod Drafts
 pub mod Steps

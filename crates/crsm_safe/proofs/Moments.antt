@@ -35,7 +35,8 @@ use Rattle.crsm_decisions.proofs.Worlds.{log_other, same_logs, kept_logs, up_is,
 use Rattle.crsm_safe.specs.Seen.{IsSeen, boots, then_on}
 use Rattle.crsm_safe.proofs.Each.{Each, each_then, each_all}
 use Rattle.crsm_safe.proofs.Effects.{IsPlain, ArePlain, plain_then}
-use Rattle.crsm_safe.proofs.Words.{IsLast, IsLate, IsNew, submitted_more, seen_by, plain_right, late_other, one_replies}
+use Rattle.crsm_safe.proofs.Words.{IsLast, IsLate, IsNew, submitted_more, seen_by}
+use Rattle.crsm_safe.proofs.LineKinds.{plain_right, late_other, one_replies}
 use Rattle.crsm_safe.proofs.Holds.{Wait, Holds, Stepping, within_longer, other_within}
 use Rattle.crsm_safe.proofs.Drafts.{among_either, among_unmap}
 use Rattle.crsm_safe.proofs.Ends.{step_good}

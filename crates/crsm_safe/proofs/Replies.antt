@@ -23,7 +23,8 @@ use Rattle.crsm_collection.proofs.Law.{get_inside, get_some}
 use Rattle.crsm_decisions.proofs.Notes.{extends_among}
 use Rattle.crsm_safe.proofs.Lists.{executed_logged}
 use Rattle.crsm_safe.proofs.Each.{Each, each_then}
-use Rattle.crsm_safe.proofs.Words.{IsRight, IsReplyOn, IsReplyLine, IsSubmitLine, IsNew, seen_by, one_replies}
+use Rattle.crsm_safe.proofs.Words.{IsRight, IsReplyOn, IsReplyLine, IsSubmitLine, IsNew, seen_by}
+use Rattle.crsm_safe.proofs.LineKinds.{one_replies}
 use Rattle.crsm_safe.proofs.Holds.{Wait, Stepping, IsHere, reply_lines}
 use Rattle.crsm_safe.proofs.Drafts.{among_right, among_either, told_line, apart_from, without, apart_without, find_at, find_none, take_front, get_front}
 use Rattle.std.proofs.lemmas.Bool.{and_parts, leb-true, ltb-true, eqb-true, false≢true}
@@ -35,7 +36,7 @@ use Rattle.crsm_steps.proofs.Tests.{same_stamp}
 use Rattle.crsm_collection.proofs.Sorted.{eq_self}
 use Rattle.crsm_agreement.proofs.Worlds.{one_entry}
 use Rattle.crsm_safe.proofs.Lists.{older_below}
-use Rattle.crsm_safe.proofs.Words.{one_key}
+use Rattle.crsm_safe.proofs.LineKinds.{one_key}
 use Rattle.crsm_safe.proofs.Steps.{last, IsGood, spelt_end, at_end}
 
 module _ {n : ℕ} {end : World} {list : List Entry} {w u : World} {lines : List Told} {k : ℕ} {r : Replica} {input : Input} {reading : ℕ} {act : Act}

@@ -28,7 +28,8 @@ use Rattle.crsm_bounds.proofs.Worlds.{short_logs_are_spelt}
 use Rattle.crsm_safe.specs.Seen.{IsSeen, boots, then_on}
 use Rattle.crsm_safe.proofs.Lists.{got_among, executed_logged}
 use Rattle.crsm_safe.proofs.Each.{each_at, got_before}
-use Rattle.crsm_safe.proofs.Words.{IsLast, IsRight, IsLate, IsNew, IsSubmittedIn, one_other_way, seen_by}
+use Rattle.crsm_safe.proofs.Words.{IsLast, IsRight, IsLate, IsNew, IsSubmittedIn, seen_by}
+use Rattle.crsm_safe.proofs.LineKinds.{one_other_way}
 use Rattle.crsm_safe.proofs.Holds.{Holds}
 use Rattle.crsm_safe.proofs.Drafts.{placed, get_front}
 use Rattle.crsm_safe.proofs.Moments.{seen_reached, seen_holds}

@@ -44,7 +44,8 @@ use Rattle.crsm_bounds.proofs.Logs.{of_known, commit_entry}
 use Rattle.crsm_safe.proofs.Lists.{got_among, tail_logged, executed_logged}
 use Rattle.crsm_safe.proofs.Each.{Each, each_then, each_all}
 use Rattle.crsm_safe.proofs.Effects.{ArePlain, IsQuiet, IsKept}
-use Rattle.crsm_safe.proofs.Words.{IsRight, IsReplyOn, IsReplyLine, IsSubmitLine, IsLate, IsLateLine, IsNew, IsSubmittedIn, submitted_more, seen_by, late_other, exec_right, exec_only, Kind, Plain, Exec, Submit, Ok, Dropped, kind_of_line}
+use Rattle.crsm_safe.proofs.Words.{IsRight, IsReplyOn, IsReplyLine, IsSubmitLine, IsLate, IsLateLine, IsNew, IsSubmittedIn, submitted_more, seen_by, exec_right, exec_only}
+use Rattle.crsm_safe.proofs.LineKinds.{late_other, Kind, Plain, Exec, Submit, Ok, Dropped, kind_of_line}
 use Rattle.crsm_safe.proofs.Holds.{HasStamp, AreApart, Wait, Stepping, Has, HasIn, IsHere, IsWithin, reply_lines, Good, here_longer}
 use Rattle.crsm_safe.proofs.Drafts.{among_left, among_either, among_unmap, among_dropped, placed, told_line, seen_among, no_more, quiet_logs, quiet_executes, quiet_lines, logged_before, page_among, new_among, apart_then, decision_among, get_front}
 

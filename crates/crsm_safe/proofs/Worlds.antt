@@ -19,15 +19,16 @@ use Rattle.crsm_epoch.specs.Seats.{Logged}
 use Rattle.crsm_decisions.proofs.Notes.{extends_among}
 use Rattle.crsm_safe.proofs.Each.{Each, each_then, each_all}
 use Rattle.crsm_safe.proofs.Effects.{IsPlain, ArePlain}
-use Rattle.crsm_safe.proofs.Words.{IsRight, IsReplyOn, IsReplyLine, IsSubmitLine, IsLate, IsLateLine, IsNew, IsSubmittedIn, submitted_more, seen_by, late_other, one_replies, Kind, Plain, Exec, Submit, Ok, Dropped, kind_of_line}
+use Rattle.crsm_safe.proofs.Words.{IsRight, IsReplyOn, IsReplyLine, IsSubmitLine, IsLate, IsLateLine, IsNew, IsSubmittedIn, submitted_more, seen_by}
+use Rattle.crsm_safe.proofs.LineKinds.{late_other, one_replies, Kind, Plain, Exec, Submit, Ok, Dropped, kind_of_line}
 use Rattle.crsm_safe.proofs.Holds.{HasStamp, AreApart, Wait, Holds, Stepping, Has, HasIn, IsHere, IsWithin, reply_lines}
 use Rattle.crsm_safe.proofs.Drafts.{among_left, among_right, among_either, among_unmap, seen_among}
 use Rattle.crsm_safe.proofs.Steps.{last, IsGood}
 use Rattle.crsm_safe.proofs.Each.{each_from, each_take, among_front}
-use Rattle.crsm_safe.proofs.Words.{plain_right}
+use Rattle.crsm_safe.proofs.LineKinds.{plain_right}
 use Rattle.crsm_safe.proofs.Holds.{within_longer, here_within, other_within}
 use Rattle.crsm_safe.proofs.Ends.{step_good}
-use Rattle.crsm_safe.proofs.Words.{plain_right}
+use Rattle.crsm_safe.proofs.LineKinds.{plain_right}
 use Rattle.crsm_safe.proofs.Steps.{seen_more}
 
 -- ---- plain lines
