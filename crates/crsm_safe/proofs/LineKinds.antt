@@ -1,20 +1,10 @@
 -- The kinds of lines, and what each cannot say.
-use Rattle.std.proofs.Common.{◌≡◌, ℕ, ◌<◌, ◌≤◌, List, [], ◌∷◌, ◌++◌, length, take, refl, sym, ◌∙◌, ap, subst, inl, inr, append_assoc, map}
-use Rattle.std.specs.Prelude.{Some, slice_get}
-use Rattle.std.proofs.lemmas.List.{take_at}
-use Rattle.crsm_base.specs.Store.{answer_after}
+use Rattle.std.proofs.Common.{ℕ, List, sym, ◌∙◌, ap}
+use Rattle.std.specs.Prelude.{slice_get}
 use Rattle.crsm_spec.specs.Types.{Stamp, Entry, Line, Answer}
-use Rattle.crsm_spec.specs.Lists.{Among, IsPrefixOf}
-use Rattle.crsm_spec.specs.Log.{Log, executed}
-use Rattle.crsm_spec.specs.Lines.{exec_line, exec_lines}
-use Rattle.crsm_spec.specs.World.{World, log_at}
-use Rattle.crsm_spec.specs.Acts.{Act}
-use Rattle.crsm_spec.specs.Run.{Told, told_by}
-use Rattle.crsm_spec.specs.Safe.{Submits, IsExecOf, AnswersAt, AreOnOneEntry}
-use Rattle.crsm_steps.specs.Laws.{Extends}
-use Rattle.crsm_steps.specs.Happenings.{IsReached}
-use Rattle.crsm_epoch.specs.Seats.{Logged}
-use Rattle.crsm_bounds.specs.Bounds.{HasShortLogs}
+use Rattle.crsm_spec.specs.World.{World}
+use Rattle.crsm_spec.specs.Run.{Told}
+use Rattle.crsm_spec.specs.Safe.{IsExecOf, AreOnOneEntry}
 use Rattle.crsm_safe.proofs.Effects.{IsPlain}
 use Rattle.crsm_safe.proofs.Words.{IsRight, IsReplyOn, IsReplyLine, IsSubmitLine, IsLateLine}
 

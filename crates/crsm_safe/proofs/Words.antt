@@ -15,7 +15,6 @@ use Rattle.crsm_steps.specs.Laws.{Extends}
 use Rattle.crsm_steps.specs.Happenings.{IsReached}
 use Rattle.crsm_epoch.specs.Seats.{Logged}
 use Rattle.crsm_bounds.specs.Bounds.{HasShortLogs}
-use Rattle.crsm_safe.proofs.Effects.{IsPlain}
 
 -- ---- the one list
 
