@@ -1,0 +1,3 @@
+mod Order
+pub mod Kept
+mod Replayed

@@ -1,0 +1,10 @@
+//! Answers to executed entries: where an entry stands among them, and what the store answered there.
+#![tactic(auto)]
+
+mod answer;
+mod place;
+mod replay;
+mod told;
+
+pub use answer::answer_to;
+pub use told::executions;
