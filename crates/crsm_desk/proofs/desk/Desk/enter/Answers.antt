@@ -1,0 +1,10 @@
+use Rattle.std.proofs.Common.{◌≡◌, ◌<◌, ◌≤◌, ℕ, List, [], ◌∷◌, ◌++◌, map, refl, sym, ap, ◌∙◌, subst, arith, true, false}
+use Rattle.crsm_desk.specs.Standing.{StandsFor}
+use Rattle.crsm_desk.proofs.desk.Desk.enter.Goals as goal
+
+pub record-requires : goal.record-requires
+record-requires c = ?
+
+pub returns : goal.returns
+unfolding StandsFor
+returns c x s = ?
