@@ -1,5 +1,5 @@
 -- The datagrams that carry a control message.
-use Rattle.std.proofs.Common.{◌≡◌, ◌<◌, ◌≤◌, ℕ, zero, suc, ◌+◌, ◌-◌, ◌/◌, ◌*◌, ◌^◌, List, [], ◌∷◌, ◌++◌, length, map, take, drop, refl, sym, ap, ◌∙◌, arith, Bool, true, false, nat_lt, nat_eq, cond}
+use Rattle.std.proofs.Common.{◌≡◌, ◌<◌, ◌≤◌, ℕ, zero, suc, ◌+◌, ◌/◌, ◌*◌, ◌^◌, List, [], ◌∷◌, length, map, take, drop, refl, ap, arith, Bool, true, false, nat_lt, nat_eq, cond}
 use Rattle.std.specs.List.{enumerate_from, AllByRecursion}
 use Rattle.std.proofs.lemmas.List.{length-take, length-drop}
 use Rattle.std.proofs.lemmas.Bool.Decides.{nat_tests}
@@ -14,7 +14,7 @@ use Rattle.crsm_spec.specs.Parts.{part_count, cut_into, cut}
 use Rattle.crsm_segment.specs.Pieces.{send_of, piece_of, sends_of}
 use Rattle.crsm_output.specs.Made.{to_replica}
 use Rattle.crsm_segment.proofs.Pieces.{cut_length}
-use Rattle.crsm_told.proofs.Sizes.{some, few}
+use Rattle.crsm_told.proofs.Sizes.{few}
 
 same_each : (from to boot number : ℕ) (message : List ℕ) (ps : List (ℕ × List ℕ)) →
     map (λ p. send_of to (piece_of from boot number message p.0 p.1)) ps
@@ -75,9 +75,10 @@ parts_are : (n i k : ℕ) (m : List ℕ) → i + k ≡ n → k ≡ (length m + 7
 unfolding cut_into
 parts_are n i zero m at count bound = tt
 parts_are n i (suc zero) m at count bound = (part_is n i 0 m at count bound, tt)
-parts_are n i (suc (suc k)) m at count bound =
-    (part_is n i (suc k) m at count bound,
-      parts_are n (i + 1) (suc k) (drop 8000 m) (omega (arith, at)) (omega (arith, count, length-drop 8000 m)) (next_bound i k m bound count))
+parts_are n i (suc (suc k)) m at count bound = (
+  part_is n i (suc k) m at count bound,
+  parts_are n (i + 1) (suc k) (drop 8000 m) (omega (arith, at)) (omega (arith, count, length-drop 8000 m)) (next_bound i k m bound count),
+)
 
 spelt_each : (r : Replica) (k n : ℕ) → r.me < 15 → k < 15 → boots r.log < 2 ^ 64 → r.made < 2 ^ 64 → n ≤ most_parts → (ps : List (ℕ × List ℕ)) → AllByRecursion (IsPart n) ps →
     AllByRecursion (λ (s : ℕ × Datagram). (s.0 < 15) × FitsDatagram s.1) (map (λ p. (k, datagram.Part r.me k (boots r.log) r.made p.0 n p.1)) ps)
@@ -93,4 +94,4 @@ parts_spelt r k c me to boot number fits =
     let count : length (cut_into ((length (control_bytes c) + 7999) / 8000) (control_bytes c)) ≡ (length (control_bytes c) + 7999) / 8000 = cut_length _ _ in
     spelt_each r k _ me to boot number (omega (arith, count, most)) _
     (parts_are (length (cut_into ((length (control_bytes c) + 7999) / 8000) (control_bytes c))) 0 ((length (control_bytes c) + 7999) / 8000)
-          (control_bytes c) (omega (arith, count)) refl (omega (arith, most)))
+    (control_bytes c) (omega (arith, count)) refl (omega (arith, most)))

@@ -1,6 +1,5 @@
-use Rattle.std.proofs.Common.{rules, ◌≡◌, ◌≤◌, ℕ, List, length, map, subst, sym, ◌∙◌, ap}
+use Rattle.std.proofs.Common.{rules, ◌≡◌, ◌≤◌, ℕ, List, length, map, subst, sym, ◌∙◌}
 use Rattle.crsm_base.specs.Messages.{control_bytes}
-use Rattle.crsm_spec.specs.Log.{boots}
 use Rattle.crsm_spec.specs.Draft.{parts_to}
 use Rattle.crsm_segment.specs.Pieces.{sends_of}
 use Rattle.crsm_output.specs.Made.{to_replica}
@@ -21,8 +20,8 @@ cut-requires-clause-few c =
 pub returns : goal.returns
 returns c r m s me boot number fits =
     let spelling : c.as_slice.result.now ≡ control_bytes c.args.control.now = cc (c.as_slice.ensures, c.in_ok-write_control.ensures.ok, c.new-bytes.ensures) in
-    let sends : c.as_slice-2.result.now ≡ map to_replica (parts_to r c.args.to c.args.control.now) = 
-        c.as_slice-2.ensures ∙ c.in_ok-parts.ensures
-        ∙ (λ j. sends_of (me j) c.args.to (boot j) (number j) (spelling j))
-        ∙ as_cut r c.args.to c.args.control.now in
+    let sends : c.as_slice-2.result.now ≡ map to_replica (parts_to r c.args.to c.args.control.now) =
+    c.as_slice-2.ensures ∙ c.in_ok-parts.ensures
+    ∙ (λ j. sends_of (me j) c.args.to (boot j) (number j) (spelling j))
+    ∙ as_cut r c.args.to c.args.control.now in
     c.in_ok-send_all.ensures m (parts_to r c.args.to c.args.control.now) s sends
