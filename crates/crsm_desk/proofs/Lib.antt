@@ -1,3 +1,0 @@
-mod Known
-mod Rebuilt
-mod Committing
