@@ -1,0 +1,42 @@
+//! Why the program ends early.
+
+use crsm_base::NoMemory;
+use crsm_ledger::LedgerError;
+use std::alloc::AllocError;
+use std::io;
+use thiserror::Error;
+
+/// Why the program ends early.
+#[derive(Debug, Drop, Error)]
+pub enum Fault {
+    #[error("the output cannot be written: {0}")]
+    Io(io::Error),
+    #[error("memory ran out")]
+    NoMemory,
+    #[error("the log is refused: {0}")]
+    Log(LedgerError),
+}
+
+impl From<io::Error> for Fault {
+    fn from(error: io::Error) -> Fault {
+        Fault::Io(error)
+    }
+}
+
+impl From<NoMemory> for Fault {
+    fn from(_: NoMemory) -> Fault {
+        Fault::NoMemory
+    }
+}
+
+impl From<AllocError> for Fault {
+    fn from(_: AllocError) -> Fault {
+        Fault::NoMemory
+    }
+}
+
+impl From<LedgerError> for Fault {
+    fn from(error: LedgerError) -> Fault {
+        Fault::Log(error)
+    }
+}
