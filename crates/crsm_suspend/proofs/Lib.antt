@@ -6,3 +6,4 @@ pub mod WholeLemmas
 pub mod CollectLemmas
 pub mod GrowLemmas
 pub mod FitLemmas
+pub mod RuleLemmas

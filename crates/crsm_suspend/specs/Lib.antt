@@ -1,4 +1,5 @@
 pub mod Collecting
+pub mod Coordinating
 pub mod Pages
 pub mod Reports
 pub mod Union
