@@ -1,12 +1,12 @@
 -- What a replica that runs is, when one thing of it changes.
-use Rattle.std.proofs.Common.{◌≡◌, ℕ, ◌<◌, true, refl, sym, ◌∙◌, ap, subst, arith, List, [], ◌∷◌, Option, Some, None, IfSome}
+use Rattle.std.proofs.Common.{◌≡◌, ℕ, ◌<◌, ◌≤◌, true, refl, sym, ◌∙◌, ap, subst, arith, List, [], ◌∷◌, length, Option, Some, None, IfSome}
 use Rattle.std.specs.Prelude.{Result, Ok, Err, IfOk}
 use Rattle.crsm_base.specs.Order.{stamp_eq}
 use Rattle.crsm_spec.specs.Types.{Stamp, InEpoch}
 use Rattle.crsm_spec.specs.Log.{Log, active, unexecuted, last_stamp}
 use Rattle.crsm_spec.specs.Clock.{issue}
 use Rattle.crsm_spec.specs.Parts.{Piece}
-use Rattle.crsm_spec.specs.Replica.{Replica, Note, Waiting, members_of, other_members, last_issued, latest_from}
+use Rattle.crsm_spec.specs.Replica.{Replica, Note, Waiting, members_of, other_members, last_issued, latest_from, frames_to}
 use Rattle.crsm_spec.specs.Lists.{first_of}
 use Rattle.crsm_spec.specs.Ready.{all_heard}
 use Rattle.crsm_commit.specs.Heard.{HasHeard}
@@ -17,6 +17,7 @@ use Rattle.crsm_commit.proofs.Bits.{same_stamp}
 use Rattle.crsm_phase.specs.Owed.{without}
 use Rattle.crsm_running.specs.Linked.{LinksStand, others_of}
 use Rattle.crsm_running.specs.Standing.{Runs, EachFits, is_above}
+use Rattle.crsm_running.specs.declared.link.Link.{Link}
 use Rattle.crsm_running.specs.declared.links.Links.{Links}
 use Rattle.crsm_running.specs.declared.running.Running.{Running}
 use Rattle.crsm_running.proofs.Linking.{links_beside, with_taken, with_acked}
@@ -162,3 +163,14 @@ pushed_at running r clock time reading me payload members links latest issued s 
     (subst (λ ks. LinksStand links (with_pushed r time payload (others_of r.me ks))) known
     (subst (λ m. LinksStand links (with_pushed r time payload (others_of m members))) mine (pushes r (the_links running r s) above)))
     (subst (λ m. (heard : List (ℕ × ℕ)) → HasHeard running.latest heard → HasHeard latest ((m, time) ∷ heard)) mine hears)
+
+-- ---- frames
+
+some_link : (links : List Link) → length links ≡ 15 → Link
+some_link [] e = absurd (omega (arith, e))
+some_link (l ∷ links) e = l
+
+-- there are no more frames to another replica than the time says that was issued last
+pub few_sent : (running : Running) (r : Replica) (k : ℕ) → Runs running r → k < 15 → length (frames_to r k) ≤ last_issued r
+unfolding Runs
+few_sent running r k s within = (s.links.each k (some_link running.links.links s.links.count) within).few_sent
