@@ -14,7 +14,7 @@ use crate::request::{Request, Work};
 use std::alloc::Global;
 use std::env;
 
-const USAGE: &str = "usage: crsm_bench write|read|store|ledger|collect SIZE ROUNDS";
+const USAGE: &str = "usage: crsm_bench write|read|store|store_in_order|ledger|collect SIZE ROUNDS";
 
 /// What the command line asks for; `None` where it asks for no work.
 fn asked(rt: &(impl env::Env + Alloc)) -> Result<Option<Request>, Fault> {
@@ -31,7 +31,7 @@ fn run(alloc: Global, request: &Request) -> Result<u64, Fault> {
     match request.work {
         Work::Write => page::write(alloc, request.size, request.rounds),
         Work::Read => page::read(alloc, request.size, request.rounds),
-        Work::Store => rows::apply(alloc, request.size, request.rounds),
+        Work::Store(visits) => rows::apply(alloc, visits, request.size, request.rounds),
         Work::Ledger => logs::recover(alloc, request.size, request.rounds),
         Work::Collect => reports::collect(alloc, request.size, request.rounds),
     }

@@ -1,5 +1,14 @@
 //! What the program is asked to do.
 
+/// In which order the keys and clients of a store are visited.
+#[derive(Clone, Copy, Debug, PartialEq, Eq)]
+pub enum Visits {
+    /// One after another.
+    InOrder,
+    /// Far from one another.
+    Scattered,
+}
+
 /// A kind of work.
 #[derive(Clone, Copy, Debug, PartialEq, Eq)]
 pub enum Work {
@@ -8,7 +17,7 @@ pub enum Work {
     /// Reads a page of entries from bytes.
     Read,
     /// Applies commands to a store.
-    Store,
+    Store(Visits),
     /// Recovers a ledger from a log.
     Ledger,
     /// Collects the reports of 15 replicas.
@@ -29,7 +38,8 @@ impl Work {
         match word {
             "write" => Some(Work::Write),
             "read" => Some(Work::Read),
-            "store" => Some(Work::Store),
+            "store" => Some(Work::Store(Visits::Scattered)),
+            "store_in_order" => Some(Work::Store(Visits::InOrder)),
             "ledger" => Some(Work::Ledger),
             "collect" => Some(Work::Collect),
             _ => None,

@@ -1,12 +1,22 @@
 //! The store: commands over a number of keys and clients.
 
 use crate::fault::Fault;
+use crate::request::Visits;
 use crsm_base::{Answer, Command, Key, NoMemory, Op, Val};
 use crsm_kv::Store;
 use std::alloc::Global;
 
 /// A prime by which the keys and clients are visited out of their order.
 const STRIDE: u32 = 2_654_435_761;
+
+/// Which key and client is visited in this round.
+fn place_of(visits: Visits, round: u32, size: u32) -> u32 {
+    let number = match visits {
+        Visits::InOrder => round,
+        Visits::Scattered => round.wrapping_mul(STRIDE),
+    };
+    number.checked_rem(size).unwrap_or(0)
+}
 
 fn key(alloc: Global, place: u32) -> Result<Key, NoMemory> {
     Key::from_slice(alloc, &place.to_be_bytes())
@@ -41,11 +51,11 @@ fn operation(alloc: Global, place: u32, round: u32) -> Result<Op, NoMemory> {
 }
 
 /// Applies so many commands to a store of so many keys and clients, and counts those that were answered by a value.
-pub fn apply(alloc: Global, size: u32, rounds: u32) -> Result<u64, Fault> {
+pub fn apply(alloc: Global, visits: Visits, size: u32, rounds: u32) -> Result<u64, Fault> {
     let mut store = filled(alloc, size)?;
     let mut count = 0u64;
     for round in 0..rounds {
-        let place = round.wrapping_mul(STRIDE).checked_rem(size).unwrap_or(0);
+        let place = place_of(visits, round, size);
         let command = Command {
             client: u64::from(place),
             number: u64::from(round) + 1,
