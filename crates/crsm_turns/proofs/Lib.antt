@@ -1,0 +1,2 @@
+mod Receiving
+mod Sending

@@ -1,0 +1,91 @@
+-- What a receive of a port is, as the input of a step.
+use Rattle.std.proofs.Common.{◌≡◌, ◌≤◌, ℕ, zero, suc, min, List, [], ◌∷◌, ◌++◌, length, take, drop, Some, None, Ok, Err, refl, sym, ◌∙◌, ap, IsErrOf, arith}
+use Rattle.crsm_base.specs.declared.memory.Failed.{Failed}
+use Rattle.crsm_port.specs.Meaning.{Meaning, Traffic, Receives as PortReceives, Takes}
+use Rattle.crsm_port.specs.declared.port.Got.{Got}
+use Rattle.crsm_port.specs.declared.port.Got.TheVariants as got
+use Rattle.crsm_turns.specs.Input.{Receives, IsFirst}
+use Rattle.crsm_turns.specs.declared.input.TakeError.{TakeError}
+use Rattle.crsm_turns.specs.declared.input.TakeError.TheVariants as error
+use Rattle.crsm_turns.specs.declared.input.Taken.{Taken}
+use Rattle.crsm_turns.specs.declared.input.Taken.TheVariants as taken
+
+-- the front that was copied is the front of the datagram
+front : (n : ℕ) (d x : List ℕ) → n ≤ length d → take n (take n d ++ x) ≡ take n d
+front zero d x h = refl
+front (suc n) [] x h = absurd (omega arith)
+front (suc n) (y ∷ d) x h = ap (λ r. y ∷ r) (front n d x (omega arith))
+
+-- a front up to the end of the list or so many
+cut : (n most : ℕ) (d : List ℕ) → n ≡ min most (length d) → take n d ≡ take most d
+cut zero zero d h = refl
+cut zero (suc most) [] h = refl
+cut zero (suc most) (y ∷ d) h = absurd (omega arith)
+cut (suc n) zero d h = absurd (omega arith)
+cut (suc n) (suc most) [] h = absurd (omega arith)
+cut (suc n) (suc most) (y ∷ d) h = ap (λ r. y ∷ r) (cut n most d (omega arith))
+
+pub fails : (old new : Meaning) (before after : List ℕ) (e : Failed) → PortReceives old new before after (Err e) → Receives (length before) old new (Err error.PortFault)
+fails old new before after e r = record {
+  losses = r.losses;
+  later = r.later;
+  counted = tt;
+  fault = λ _. r.failed;
+  no_fault = λ k. absurd (k refl);
+  first = λ t u a b. tt;
+  none_taken = λ _. r.untaken;
+  well = λ p a good is. none_is_some (sym good ∙ (r.plan.exact p a (omega arith) (omega arith)).0 refl);
+}
+  where
+    none_is_some : {n : ℕ} → None ≡ Some n → ⊥
+    none_is_some h = cc
+
+pub nothing : (old new : Meaning) (before after : List ℕ) → PortReceives old new before after (Ok got.Nothing) → Receives (length before) old new (Ok taken.Tick)
+nothing old new before after r = record {
+  losses = r.losses;
+  later = r.later;
+  counted = r.empties;
+  fault = λ is. absurd (ok is);
+  no_fault = λ _. r.no_fault;
+  first = λ t u a b. ((r.taken t u a b).0, (r.taken t u a b).1);
+  none_taken = λ is. absurd (ok is);
+  well = λ p a good is. ok is;
+}
+  where
+    ok : IsErrOf {E = TakeError} (Ok taken.Tick) error.PortFault → ⊥
+    ok h = cc
+
+pub no_memory : (old new : Meaning) (before after : List ℕ) (g : Got) → PortReceives old new before after (Ok g) → Receives (length before) old new (Err error.NoMemory)
+no_memory old new before after g r = record {
+  losses = r.losses;
+  later = r.later;
+  counted = tt;
+  fault = λ is. absurd (other is);
+  no_fault = λ _. r.no_fault;
+  first = λ t u a b. tt;
+  none_taken = λ is. absurd (other is);
+  well = λ p a good is. other is;
+}
+  where
+    other : IsErrOf {T = Taken} (Err error.NoMemory) error.PortFault → ⊥
+    other h = cc
+
+pub datagram : (old new : Meaning) (before after : List ℕ) (from len : ℕ) (bytes : List ℕ) → bytes ≡ take len after → PortReceives old new before after (Ok (got.Datagram from len))
+    → Receives (length before) old new (Ok (taken.Datagram from bytes))
+datagram old new before after from len bytes whole r = record {
+  losses = r.losses;
+  later = r.later;
+  counted = r.empties;
+  fault = λ is. absurd (ok is);
+  no_fault = λ _. r.no_fault;
+  first = λ t u a b. as_first t u (r.taken t u a b);
+  none_taken = λ is. absurd (ok is);
+  well = λ p a good is. ok is;
+}
+  where
+    ok : IsErrOf {E = TakeError} (Ok (taken.Datagram from bytes)) error.PortFault → ⊥
+    ok h = cc
+
+    as_first : (t u : Traffic) → Takes t u before after (got.Datagram from len) → IsFirst (length before) t u (taken.Datagram from bytes)
+    as_first t u (d, rest, waits, address, size, copied, gone) =
+        (d, rest, waits, address, whole ∙ ap (take len) copied ∙ front len d.bytes (drop len before) (omega arith) ∙ cut len (length before) d.bytes size, gone)

@@ -1,0 +1,133 @@
+-- One datagram after another goes out.
+use Rattle.std.proofs.Common.{◌≡◌, ◌+◌, ◌≤◌, ◌<◌, take, get_or, ℕ, suc, List, map, [], ◌∷◌, ◌++◌, length, Option, Some, None, Result, Ok, Err, refl, sym, ◌∙◌, ap, subst, option_map, append-nil, append_assoc, inl, inr, arith}
+use Rattle.crsm_base.specs.declared.memory.Failed.{Failed}
+use Rattle.crsm_device.specs.Counts.{Rose}
+use Rattle.crsm_device.specs.Plan.{Plan, spent}
+use Rattle.crsm_device.specs.Failing.{one_less}
+use Rattle.crsm_port.specs.Meaning.{Meaning, Post, Traffic, Sends, with_sent}
+use Rattle.crsm_turns.specs.Letters.{post_of, size_of}
+use Rattle.crsm_turns.specs.declared.outbox.Letter.{Letter}
+use Rattle.std.proofs.lemmas.List.{map-append, take_more}
+use Rattle.crsm_turns.specs.Outgoing.{Lacks, GoesOut, GoesWhole, SendsAll, bytes_in, with_all_sent}
+
+-- ---- lists
+
+bytes_behind : (posts : List Post) (d : Post) → bytes_in (posts ++ d ∷ []) ≡ bytes_in posts + length d.bytes
+bytes_behind [] d = omega arith
+bytes_behind (p ∷ posts) d = let on = bytes_behind posts d in omega arith
+
+size_behind : (letters : List Letter) (l : Letter) → size_of (letters ++ l ∷ []) ≡ size_of letters + length l.bytes
+size_behind letters l = ap bytes_in (map-append post_of letters (l ∷ [])) ∙ bytes_behind (map post_of letters) (post_of l)
+
+length_behind : (posts : List Post) (d : Post) → length (posts ++ d ∷ []) ≡ length posts + 1
+length_behind [] d = refl
+length_behind (p ∷ posts) d = let on = length_behind posts d in omega arith
+
+-- one more goes out
+goes : (missing : ℕ) (posts out : List Post) (d : Post) → Lacks missing posts out → Lacks missing (posts ++ d ∷ []) (out ++ d ∷ [])
+goes missing [] out d (none, empty) = inl ([], ap (λ ps. ps ++ d ∷ []) empty, (none, refl))
+goes missing (p ∷ posts) out d (inl (rest, is, l)) = inl (rest ++ d ∷ [], ap (λ ps. ps ++ d ∷ []) is, goes missing posts rest d l)
+goes missing (p ∷ posts) out d (inr (fewer, is, l)) = inr (fewer, is, goes fewer posts out d l)
+
+-- one more is lost
+lost : (missing : ℕ) (posts out : List Post) (d : Post) → Lacks missing posts out → Lacks (suc missing) (posts ++ d ∷ []) out
+lost missing [] out d (none, empty) = inr (missing, refl, (none, empty))
+lost missing (p ∷ posts) out d (inl (rest, is, l)) = inl (rest, is, lost missing posts rest d l)
+lost missing (p ∷ posts) out d (inr (fewer, is, l)) = inr (suc fewer, ap suc is, lost fewer posts out d l)
+
+-- ---- what is told
+
+none_more : (t : Option Traffic) → t ≡ option_map (with_all_sent []) t
+none_more None = refl
+none_more (Some t) = ap (λ ps. Some (record t { sent = ps })) (sym (append-nil t.sent))
+
+one_told : (t : Option Traffic) (out : List Post) (d : Post) → option_map (with_sent d) (option_map (with_all_sent out) t) ≡ option_map (with_all_sent (out ++ d ∷ [])) t
+one_told None out d = refl
+one_told (Some t) out d = ap (λ ps. Some (record t { sent = ps })) (append_assoc t.sent out (d ∷ []))
+
+-- ---- plans without an end
+
+same_plan : {c d a b : ℕ} {g h : Option ℕ} → c ≡ d → a ≡ b → g ≡ h → Path Plan (record { calls = c; bytes = a; good = g }) (record { calls = d; bytes = b; good = h })
+same_plan e f i = rw (e, f, i) refl
+
+spent_none : (p : Plan) → p.good ≡ None → spent 0 0 p ≡ p
+spent_none p good = same_plan (omega arith) (omega arith) (ap one_less good ∙ sym good)
+
+spent_more : (p : Plan) (n size more : ℕ) → p.good ≡ None → spent 1 more (spent n size p) ≡ spent (n + 1) (size + more) p
+spent_more p n size more good = same_plan (omega arith) (omega arith) (ap (λ g. one_less (one_less g)) good ∙ sym (ap one_less good))
+
+no_end : (g : Option ℕ) → g ≡ None → one_less g ≡ Some 0 → ⊥
+no_end g none h = let empty : Path (Option ℕ) None (Some 0) = sym (ap one_less none) ∙ h in cc
+
+-- ---- nothing, and one more
+
+pub nothing_sent : (m : Meaning) → SendsAll [] m m
+nothing_sent m = record {
+  faults = refl;
+  empties = refl;
+  later = omega arith;
+  out = record { out = []; missing = 0; lacks = (refl, refl); counted = omega arith; traffic = none_more m.traffic };
+  whole = λ p told good room bytes. record { losses = refl; traffic = none_more m.traffic; plan = told ∙ ap Some (sym (spent_none p good)) };
+}
+
+module _ {T : Type 0} (posts : List Post) (d : Post) (a b c : Meaning) (s : SendsAll posts a b) where
+  sent_out : (x : T) → Sends d.address d.bytes b c (Ok x) → GoesOut (posts ++ d ∷ []) a c
+  sent_out x r = record {
+    out = s.out.out ++ d ∷ [];
+    missing = s.out.missing;
+    lacks = goes _ posts _ d s.out.lacks;
+    counted = let on = s.out.counted in let same = r.no_loss in omega arith;
+    traffic = r.sent ∙ ap (option_map (with_sent d)) s.out.traffic ∙ one_told a.traffic s.out.out d;
+  }
+
+  lost_out : (e : Failed) → Sends {T = T} d.address d.bytes b c (Err e) → GoesOut (posts ++ d ∷ []) a c
+  lost_out e r = record {
+    out = s.out.out;
+    missing = suc s.out.missing;
+    lacks = lost _ posts _ d s.out.lacks;
+    counted = let on = s.out.counted in let rose : Rose b.losses c.losses = r.failed in omega arith;
+    traffic = r.unsent ∙ s.out.traffic;
+  }
+
+  pub one_more : (result : Result T Failed) → Sends d.address d.bytes b c result → SendsAll (posts ++ d ∷ []) a c
+  one_more result r = record {
+    faults = r.faults ∙ s.faults;
+    empties = r.empties ∙ s.empties;
+    later = let one = s.later in let two = r.later in omega arith;
+    out = by_result result r;
+    whole = λ p told good room size.
+        let more = length_behind posts d in
+        let larger = bytes_behind posts d in
+        all_well p good (omega arith) (omega arith) (s.whole p told good (omega arith) (omega arith)) result r;
+  }
+    where
+      all_well : (p : Plan) → p.good ≡ None → length posts + 1 ≤ p.calls → bytes_in posts + length d.bytes ≤ p.bytes → GoesWhole posts p a b → (result : Result T Failed) → Sends d.address d.bytes b c result → GoesWhole (posts ++ d ∷ []) p a c
+      all_well p good room size before (Ok x) r = record {
+        losses = r.no_loss ∙ before.losses;
+        traffic = r.sent ∙ ap (option_map (with_sent d)) before.traffic ∙ one_told a.traffic posts d;
+        plan = rw (length_behind posts d, bytes_behind posts d) (r.plan.spends _ before.plan ∙ ap Some (spent_more p (length posts) (bytes_in posts) (length d.bytes) good));
+      }
+      all_well p good room size before (Err e) r =
+          absurd (no_end p.good good ((r.plan.exact _ before.plan (omega arith) (omega arith)).0 refl))
+
+      by_result : (result : Result T Failed) → Sends d.address d.bytes b c result → GoesOut (posts ++ d ∷ []) a c
+      by_result (Ok x) r = sent_out x r
+      by_result (Err e) r = lost_out e r
+
+-- the datagrams of one more letter
+one_letter : (letters : List Letter) (i : ℕ) (l : Letter) (bytes : List ℕ) → i < length letters → l ≡ get_or letters i l → bytes ≡ l.bytes
+    → map post_of (take (i + 1) letters) ≡ map post_of (take i letters) ++ (record { address = l.to; bytes = bytes }) ∷ []
+one_letter letters i l bytes within is spelt =
+    ap (map post_of) (take_more letters i l within)
+    ∙ map-append post_of (take i letters) (get_or letters i l ∷ [])
+    ∙ ap (λ x. map post_of (take i letters) ++ post_of x ∷ []) (sym is)
+    ∙ ap (λ bs. map post_of (take i letters) ++ (record { address = l.to; bytes = bs }) ∷ []) (sym spelt)
+
+pub one_letter_more : {T : Type 0} (letters : List Letter) (i : ℕ) (l : Letter) (bytes : List ℕ) (a b c : Meaning) (result : Result T Failed) → i < length letters → l ≡ get_or letters i l → bytes ≡ l.bytes
+    → SendsAll (map post_of (take i letters)) a b → Sends l.to bytes b c result → SendsAll (map post_of (take (i + 1) letters)) a c
+one_letter_more letters i l bytes a b c result within is spelt before r =
+    subst (λ posts. SendsAll posts a c) (sym (one_letter letters i l bytes within is spelt)) (one_more (map post_of (take i letters)) (record { address = l.to; bytes = bytes }) a b c before result r)
+
+-- the size with one more letter
+pub kept_size : (before after : List Letter) (l : Letter) (bytes : List ℕ) (was size : ℕ) → was ≡ size_of before → after ≡ before ++ l ∷ [] → bytes ≡ l.bytes → size ≡ was + length bytes → size ≡ size_of after
+kept_size before after l bytes was size kept is spelt sum = sum ∙ ap (λ n. n + length bytes) kept ∙ ap (λ bs. size_of before + length bs) spelt ∙ sym (size_behind before l) ∙ sym (ap size_of is)

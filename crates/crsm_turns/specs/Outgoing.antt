@@ -1,0 +1,75 @@
+-- Datagrams that go out over a port.
+use Rattle.std.specs.Prelude.{◌≡◌, ◌⊎◌, ◌+◌, ◌-◌, ◌^◌, ◌≤◌, ℕ, suc, min, List, [], ◌∷◌, ◌++◌, length, Option, Some, None, option_map, slice_get}
+use Rattle.std.specs.List.{flat_map}
+use Rattle.crsm_base.specs.declared.send.Send.{Send}
+use Rattle.crsm_base.specs.declared.send.To.{To}
+use Rattle.crsm_base.specs.declared.send.To.TheVariants as to_whom
+use Rattle.crsm_base.specs.Messages.{FitsDatagram, datagram_bytes}
+use Rattle.crsm_device.specs.Plan.{Plan, spent}
+use Rattle.crsm_port.specs.Meaning.{Meaning, Post, Traffic}
+
+-- ---- where datagrams go
+
+-- the datagram has a spelling
+abbrev pub FitsSend : Send → Type 0
+FitsSend s = FitsDatagram s.datagram
+
+-- the address of a receiver, where the replicas have these; a number beyond them has none
+abbrev pub address_of : List ℕ → To → Option ℕ
+address_of peers (to_whom.Replica k) = slice_get peers k
+address_of peers (to_whom.Address address) = Some address
+
+abbrev pub posted : Option ℕ → List ℕ → List Post
+posted None bytes = []
+posted (Some address) bytes = (record { address = address; bytes = bytes }) ∷ []
+
+-- a datagram as it goes out, if its receiver has an address
+unfoldable pub post_for : List ℕ → Send → List Post
+post_for peers s = posted (address_of peers s.to) (datagram_bytes s.datagram)
+
+unfoldable pub posts_for : List ℕ → List Send → List Post
+posts_for peers sends = flat_map (post_for peers) sends
+
+-- how many bytes they have together
+abbrev pub bytes_in : List Post → ℕ
+bytes_in [] = 0
+bytes_in (d ∷ posts) = length d.bytes + bytes_in posts
+
+-- ---- what sending them does to a port
+
+-- so many of these are missing in what went out, and the others went out in their order
+abbrev pub Lacks : ℕ → List Post → List Post → Type 0
+Lacks missing [] out = (missing ≡ 0) × (out ≡ [])
+Lacks missing (d ∷ posts) out =
+    ((rest : List Post) × (out ≡ d ∷ rest) × Lacks missing posts rest) ⊎ ((fewer : ℕ) × (missing ≡ suc fewer) × Lacks fewer posts out)
+
+-- a count that rose so many times, up to its last value
+abbrev pub raised_by : ℕ → ℕ → ℕ
+raised_by times count = min (count + times) (2 ^ 64 - 1)
+
+-- these are told behind those that were sent before
+abbrev pub with_all_sent : List Post → Traffic → Traffic
+with_all_sent out t = record t { sent = t.sent ++ out }
+
+-- at most as many are missing as the count of losses rose by
+pub record GoesOut (posts : List Post) (old new : Meaning) : Type 0 where
+  pub out : List Post
+  pub missing : ℕ
+  pub lacks : Lacks missing posts out
+  pub counted : raised_by missing old.losses ≤ new.losses
+  pub traffic : new.traffic ≡ option_map (with_all_sent out) old.traffic
+
+-- all of them go out
+pub record GoesWhole (posts : List Post) (p : Plan) (old new : Meaning) : Type 0 where
+  pub losses : new.losses ≡ old.losses
+  pub traffic : new.traffic ≡ option_map (with_all_sent posts) old.traffic
+  pub plan : new.plan ≡ Some (spent (length posts) (bytes_in posts) p)
+
+-- what sending all of these owes
+pub record SendsAll (posts : List Post) (old new : Meaning) : Type 0 where
+  pub faults : new.faults ≡ old.faults
+  pub empties : new.empties ≡ old.empties
+  pub later : old.losses ≤ new.losses
+  pub out : GoesOut posts old new
+  -- where all calls of the port go well and there is room
+  pub whole : (p : Plan) → old.plan ≡ Some p → p.good ≡ None → length posts ≤ p.calls → bytes_in posts ≤ p.bytes → GoesWhole posts p old new

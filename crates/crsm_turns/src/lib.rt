@@ -1,0 +1,13 @@
+//! What stands around a step of a running replica: the input that it takes, the log body of its records, and its
+//! datagrams on their way out.
+#![tactic(auto)]
+
+mod body;
+mod input;
+mod outbox;
+#[cfg(test)]
+mod tests;
+
+pub use body::write_records;
+pub use input::{TakeError, Taken, What, take_input};
+pub use outbox::Outbox;
