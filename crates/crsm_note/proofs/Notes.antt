@@ -107,6 +107,23 @@ module _ (me n : ℕ) (known : Option Decision) where
   unfolding NoteStands
   as_proposing p b own value acceptors s = s
 
+  -- ---- what a ballot at work shows
+
+  pub asking_mine : (note : Note) (b : Ballot) (own : Decision) (answers : List (Answer Decision)) → NoteStands note me n known (NoteOnPaper.Asking b own answers) → IsOwn me n known own × FitsBallot b
+  unfolding NoteStands
+  asking_mine (Note.Proposing p) b own answers s = (s.mine, s.round)
+  asking_mine Note.Quiet b own answers s = absurd s
+  asking_mine (Note.Collecting c) b own answers s = absurd s
+  asking_mine (Note.Over x y) b own answers s = absurd s
+
+  pub proposing_mine : (note : Note) (b : Ballot) (own value : Decision) (acceptors : List ℕ) → NoteStands note me n known (NoteOnPaper.Proposing b own value acceptors) →
+      IsOwn me n known own × FitsBallot b × FitsDecision value
+  unfolding NoteStands
+  proposing_mine (Note.Proposing p) b own value acceptors s = (s.mine, s.round, s.spelt)
+  proposing_mine Note.Quiet b own value acceptors s = absurd s
+  proposing_mine (Note.Collecting c) b own value acceptors s = absurd s
+  proposing_mine (Note.Over x y) b own value acceptors s = absurd s
+
   -- ---- readers
 
   pub stage_quiet : (m : NoteOnPaper) → NoteStands Note.Quiet me n known m → Stage.Quiet ≡ stage_of m
