@@ -1,0 +1,9 @@
+mod Committing
+mod Excepting
+mod Framed
+mod Known
+mod Rebuilt
+mod Sending
+mod Booting
+mod Telling
+mod Founding

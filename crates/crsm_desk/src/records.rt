@@ -1,0 +1,71 @@
+//! The records of a step.
+
+ghost use Rattle.std.specs.Prelude.{◌≡◌, ℕ, false, List, IfOk};
+ghost use Rattle.crsm_base.specs.Records.{FitsRec};
+ghost use Rattle.crsm_ledger.specs.Stands.{StandsFor as SaysOfLog};
+ghost use Rattle.crsm_output.specs.Made.{Made, Holds};
+ghost use Rattle.crsm_spec.specs.Draft.{Draft, keep};
+ghost use Rattle.crsm_spec.specs.Fits.{fits};
+ghost use Rattle.crsm_spec.specs.Step.{if_fitting};
+ghost use Rattle.crsm_spec.specs.Types.{Rec};
+ghost use Rattle.crsm_desk.specs.Recorded.{Recorded};
+ghost use Rattle.crsm_desk.specs.Standing.{StandsFor, MakesFitting, IsPlain};
+
+use crate::desk::Desk;
+use crsm_base::{NoMemory, Rec};
+use crsm_ledger::{Ledger, LedgerError};
+use crsm_output::Output;
+use crsm_spelt::is_rec_spelt;
+use std::alloc::Global;
+
+impl Desk {
+    #[tactic(auto, unfolding(crate::specs::Standing::StandsFor))]
+    /// Keeps a record, which gives its lines. `false` comes exactly where it does not fit, and the desk is as before.
+    pub fn keep(&mut self, rec: &Rec) -> Result<bool, NoMemory>
+        requires plain { IsPlain rec.now }
+        requires spelt { FitsRec rec.now }
+        ensures { MakesFitting (keep rec.now) self.old result self.new }
+    {
+        let last = self.ledger.last_stamp();
+        let fit = put(self.alloc, &mut self.ledger, &mut self.output, rec)?;
+        if !fit {
+            return Ok(false);
+        }
+        self.running.keep(rec, last)?;
+        Ok(true)
+    }
+
+    /// Keeps a record that has a spelling by what the desk stands for. `false` comes exactly where it does not fit, and
+    /// the desk is as before.
+    pub fn keep_known(&mut self, rec: &Rec) -> Result<bool, NoMemory>
+        requires { IsPlain rec.now }
+        ensures { IfOk result (λ fit. (x : Draft) → StandsFor self.old x → FitsRec rec.now → (fit ≡ (keep rec.now x).fitting) × StandsFor self.new (if_fitting x (keep rec.now x))) }
+    {
+        if !is_rec_spelt(rec) {
+            return Err(NoMemory);
+        }
+        let fit = self.keep(rec)?;
+        Ok(fit)
+    }
+}
+
+/// Puts a record into the ledger and into the output. `false` comes exactly where it does not fit, and changes nothing.
+pub fn put(
+    alloc: Global,
+    ledger: &mut Ledger,
+    output: &mut Output,
+    rec: &Rec,
+) -> Result<bool, NoMemory>
+    requires { FitsRec rec.now }
+    ensures kept { (me n : ℕ) (log : List Rec) (m : Made) → SaysOfLog me n ledger.old log → Holds output.old m →
+        IfOk result (λ fit. (fit ≡ fits me n log rec.now) × Recorded fit me n log rec.now m ledger.new output.new) }
+    ensures unchanged { IfOk result (λ fit. fit ≡ false → (ledger.new ≡ ledger.old) × (output.new ≡ output.old)) }
+{
+    let lines = match ledger.apply(rec) {
+        Ok(lines) => lines,
+        Err(LedgerError::NotFit { .. }) => return Ok(false),
+        Err(_) => return Err(NoMemory),
+    };
+    output.keep(rec.copy(alloc)?, lines.as_slice())?;
+    Ok(true)
+}
