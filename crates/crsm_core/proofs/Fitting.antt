@@ -1,0 +1,66 @@
+-- Rules whose records fit, and rules that are ignored.
+use Rattle.std.proofs.Common.{◌≡◌, ◌∙◌, ℕ, ◌<◌, ◌≤◌, refl, ap, sym, subst, Bool, true, false, arith}
+use Rattle.std.specs.Prelude.{◌≢◌, ◌==◌, nat_lt, nat_le}
+use Rattle.std.proofs.lemmas.Bool.Decides.{nat_tests}
+use Rattle.crsm_spec.specs.Choice.{when◌then◌otherwise◌}
+use Rattle.crsm_spec.specs.Draft.{Draft}
+use Rattle.crsm_spec.specs.Step.{if_fitting}
+use Rattle.crsm_desk.specs.declared.desk.Desk.{Desk}
+use Rattle.crsm_desk.specs.Sound.{IsSound}
+use Rattle.crsm_desk.specs.Standing.{StandsFor}
+
+pub if_fits : (x y : Draft) → y.fitting ≡ true → if_fitting x y ≡ y
+unfolding if_fitting when◌then◌otherwise◌
+if_fits x y h = rw h refl
+
+pub if_not : (x y : Draft) → y.fitting ≡ false → if_fitting x y ≡ x
+unfolding if_fitting when◌then◌otherwise◌
+if_not x y h = rw h refl
+
+pub if_same : (x : Draft) → if_fitting x x ≡ x
+unfolding if_fitting when◌then◌otherwise◌
+if_same x = go x.fitting
+  where
+    go : (b : Bool) → (when b then x otherwise x) ≡ x
+    go true = refl
+    go false = refl
+
+-- it stands for the other one as well
+pub stands_as : (desk : Desk) (x y : Draft) → x ≡ y → StandsFor desk x → StandsFor desk y
+stands_as desk x y e s = subst (λ z. StandsFor desk z) e s
+
+-- what fits is done
+pub done : (desk : Desk) (x y z : Draft) → z ≡ y → z.fitting ≡ true → StandsFor desk z → StandsFor desk (if_fitting x y)
+done desk x y z e f s = stands_as desk z (if_fitting x y) (e ∙ sym (if_fits x y (ap (λ (d : Draft). d.fitting) (sym e) ∙ f))) s
+
+-- what keeps no record is done, for what a desk stands for is sound
+pub kept : (desk : Desk) (x y z : Draft) → ((d : Desk) (w : Draft) → StandsFor d w → IsSound w) → z ≡ y → StandsFor desk z → StandsFor desk (if_fitting x y)
+kept desk x y z law e s = done desk x y z e (law desk z s).fitting s
+
+-- what does nothing leaves all as it was
+pub left : (desk : Desk) (x y : Draft) → x ≡ y → StandsFor desk x → StandsFor desk (if_fitting x y)
+left desk x y e s = stands_as desk x (if_fitting x y) (sym (if_same x) ∙ ap (λ z. if_fitting x z) e) s
+
+-- what does not fit leaves all as it was
+pub ignored : (desk : Desk) (x y : Draft) → y.fitting ≡ false → StandsFor desk x → StandsFor desk (if_fitting x y)
+ignored desk x y f s = stands_as desk x (if_fitting x y) (sym (if_not x y f)) s
+
+-- ---- tests
+
+pub is_lt : (a b : ℕ) → a < b → nat_lt a b ≡ true
+is_lt a b h = grind (arith, nat_tests)
+
+pub not_lt : (a b : ℕ) → b ≤ a → nat_lt a b ≡ false
+not_lt a b h = grind (arith, nat_tests)
+
+pub is_le : (a b : ℕ) → a ≤ b → nat_le a b ≡ true
+is_le a b h = grind (arith, nat_tests)
+
+pub not_le : (a b : ℕ) → b < a → nat_le a b ≡ false
+not_le a b h = grind (arith, nat_tests)
+
+pub is_eq : (a b : ℕ) → a ≡ b → (a == b) ≡ true
+is_eq a b h = grind (arith, nat_tests)
+
+pub not_eq : (a b : ℕ) → a ≢ b → (a == b) ≡ false
+not_eq a b h = grind (arith, nat_tests)

@@ -1,0 +1,7 @@
+pub mod Fitting
+pub mod RequestLemmas
+pub mod FrameLemmas
+pub mod OwedLemmas
+pub mod CommitLemmas
+pub mod TickLemmas
+pub mod StepLemmas

@@ -1,0 +1,7 @@
+use Rattle.crsm_spec.specs.Draft.{Draft}
+use Rattle.crsm_desk.specs.Standing.{StandsFor}
+use Rattle.crsm_core.proofs.CommitLemmas.{Committed}
+use Rattle.crsm_core.proofs.commits.commits.Given as goal
+
+abbrev pub invariant-loop-done : goal.invariant-loop-done
+invariant-loop-done l = (x : Draft) → StandsFor l.fn.desk x → Committed l._done l.desk x

@@ -1,0 +1,26 @@
+//! Commits.
+
+ghost use Rattle.crsm_spec.specs.Clients as clients;
+ghost use Rattle.crsm_desk.specs.Standing.{Makes};
+
+use crate::records::commit;
+use crsm_base::NoMemory;
+use crsm_desk::{Desk, commits_go_on, desks_are_sound};
+
+/// While active: executes what is ready.
+pub(crate) fn commits(desk: &mut Desk) -> Result<(), NoMemory>
+    ensures { Makes clients.commits desk.old result desk.new }
+{
+    desks_are_sound();
+    commits_go_on();
+    if !desk.is_active() {
+        return Ok(());
+    }
+    for _done in 0..desk.unexecuted_len() {
+        let Some(stamp) = desk.ready()? else {
+            return Ok(());
+        };
+        commit(desk, stamp)?;
+    }
+    Ok(())
+}

@@ -1,0 +1,168 @@
+//! Frames on the numbered links, and their acknowledgements.
+
+ghost use Rattle.std.specs.Prelude.{◌≡◌, ◌≢◌, ◌<◌, ◌&&◌, IfOk};
+ghost use Rattle.crsm_base.specs.Messages.{FitsPayload};
+ghost use Rattle.crsm_base.specs.Spelling.{FitsEntry};
+ghost use Rattle.crsm_spec.specs.Types.{InEpoch as Payload};
+ghost use Rattle.crsm_spec.specs.Lists.{has};
+ghost use Rattle.crsm_spec.specs.Log.{active};
+ghost use Rattle.crsm_spec.specs.Replica.{members_of, latest_from};
+ghost use Rattle.crsm_spec.specs.Draft.{Draft};
+ghost use Rattle.crsm_spec.specs.Frames as frames;
+ghost use Rattle.crsm_spec.specs.Step.{if_fitting};
+ghost use Rattle.crsm_desk.specs.Standing.{StandsFor};
+ghost use Rattle.crsm_core.specs.Rules.{Follows, FollowsFrom};
+
+use crate::records::log_entry;
+use crsm_base::{Entry, InEpoch, NoMemory};
+use crsm_desk::{Desk, desks_are_sound};
+
+/// A frame of an epoch from k.
+pub(crate) fn on_frame(
+    desk: &mut Desk,
+    k: u32,
+    epoch: u64,
+    seq: u64,
+    payload: &InEpoch,
+) -> Result<(), NoMemory>
+    requires from { k < 15 }
+    requires spelt { FitsPayload payload.now }
+    ensures { FollowsFrom k (frames.on_frame k epoch seq payload.now) desk.old result desk.new }
+{
+    desks_are_sound();
+    let known = desk.known();
+    if epoch < known {
+        desk.tell_decision(k)?;
+        return Ok(());
+    }
+    if known < epoch {
+        desk.tell_retrieve(k)?;
+        return Ok(());
+    }
+    if !takes_part_with(desk, k) {
+        return Ok(());
+    }
+    if seq != desk.next_from(k) {
+        desk.ack(k)?;
+        return Ok(());
+    }
+    if is_odd(desk, k, payload) {
+        return Ok(());
+    }
+    take_frame(desk, k, payload)?;
+    Ok(())
+}
+
+/// The replica is active, and k is a member of its epoch.
+fn takes_part_with(desk: &Desk, k: u32) -> bool
+    ensures { (x : Draft) → StandsFor desk.now x → result ≡ active x.replica.log && has (members_of x.replica) k }
+{
+    if desk.is_active() {
+        desk.is_member(k)
+    } else {
+        false
+    }
+}
+
+/// The sender's own time of a payload.
+fn time_of(payload: &InEpoch) -> u64
+    ensures { result ≡ frames.time_of payload.now }
+{
+    match payload {
+        InEpoch::Prepare { entry } => entry.stamp.time,
+        InEpoch::PrepareOk { stamp: _, at } => *at,
+        InEpoch::ClockTime { at } => *at,
+    }
+}
+
+/// At the next number: its time is not above the latest of k, or it is none that k may send.
+fn is_odd(desk: &Desk, k: u32, payload: &InEpoch) -> bool
+    requires { k < 15 }
+    ensures { (x : Draft) → StandsFor desk.now x → k ≢ x.replica.me → result ≡ frames.is_odd_frame x.replica k payload.now }
+{
+    if time_of(payload) <= desk.latest_from(k) {
+        return true;
+    }
+    is_wrong(desk, k, payload)
+}
+
+/// A payload that k may not send.
+fn is_wrong(desk: &Desk, k: u32, payload: &InEpoch) -> bool
+    ensures { (x : Draft) → StandsFor desk.now x → result ≡ frames.is_wrong x.replica k payload.now }
+{
+    match payload {
+        InEpoch::Prepare { entry } => {
+            if entry.epoch != desk.known() {
+                return true;
+            }
+            entry.stamp.origin != k
+        }
+        InEpoch::PrepareOk { stamp, at: _ } => !desk.is_member(stamp.origin),
+        InEpoch::ClockTime { at: _ } => false,
+    }
+}
+
+/// Takes the next frame of k: the link moves on, its time is heard, it is acknowledged, and what it says is done.
+fn take_frame(desk: &mut Desk, k: u32, payload: &InEpoch) -> Result<(), NoMemory>
+    requires from { k < 15 }
+    requires spelt { FitsPayload payload.now }
+    ensures { IfOk result (λ _. (x : Draft) → StandsFor desk.old x → k ≢ x.replica.me → latest_from x.replica.heard k < frames.time_of payload.now →
+        StandsFor desk.new (if_fitting x (frames.take_frame k payload.now x))) }
+{
+    desks_are_sound();
+    match payload {
+        InEpoch::Prepare { entry } => {
+            take_prepare(desk, k, entry)?;
+            Ok(())
+        }
+        InEpoch::PrepareOk { stamp, at } => {
+            desk.take_next(k, *at)?;
+            desk.ack(k)?;
+            desk.count_vote(*stamp, k)?;
+            Ok(())
+        }
+        InEpoch::ClockTime { at } => {
+            desk.take_next(k, *at)?;
+            desk.ack(k)?;
+            Ok(())
+        }
+    }
+}
+
+/// Takes a frame that carries an entry. Its record comes first, so that nothing is to be undone where it does not fit.
+fn take_prepare(desk: &mut Desk, k: u32, entry: &Entry) -> Result<(), NoMemory>
+    requires from { k < 15 }
+    requires spelt { FitsEntry entry.now }
+    ensures { IfOk result (λ _. (x : Draft) → StandsFor desk.old x → k ≢ x.replica.me → latest_from x.replica.heard k < entry.now.stamp.time →
+        StandsFor desk.new (if_fitting x (frames.take_frame k (Payload.Prepare entry.now) x))) }
+{
+    let me = desk.me();
+    if !log_entry(desk, entry)? {
+        return Ok(());
+    }
+    desk.take_next(k, entry.stamp.time)?;
+    desk.ack(k)?;
+    desk.count_vote(entry.stamp, k)?;
+    desk.count_vote(entry.stamp, me)?;
+    desk.owe(entry.stamp)?;
+    Ok(())
+}
+
+/// An Ack of an epoch from k: the frames below `next` have come.
+pub(crate) fn on_ack(desk: &mut Desk, k: u32, epoch: u64, next: u64) -> Result<(), NoMemory>
+    requires { k < 15 }
+    ensures { Follows (frames.on_ack k epoch next) desk.old result desk.new }
+{
+    desks_are_sound();
+    if epoch != desk.known() {
+        return Ok(());
+    }
+    if !takes_part_with(desk, k) {
+        return Ok(());
+    }
+    if next > desk.pushed_to(k) {
+        return Ok(());
+    }
+    desk.acked(k, next)?;
+    Ok(())
+}

@@ -1,0 +1,20 @@
+//! One replica in memory: each step is the rule of its input.
+#![tactic(auto)]
+
+mod commits;
+mod frames;
+mod idle;
+mod input;
+mod owed;
+mod parts;
+mod records;
+mod replica;
+mod requests;
+mod rules;
+mod step;
+mod ticks;
+
+pub use crsm_output::Batch;
+pub use input::Input;
+pub use replica::Core;
+pub use rules::Rules;

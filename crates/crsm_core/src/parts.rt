@@ -1,0 +1,64 @@
+//! Parts of control messages.
+
+ghost use Rattle.std.specs.Prelude.{◌≡◌, ◌<◌, true};
+ghost use Rattle.crsm_segment.specs.Taking.{is_sized, piece};
+ghost use Rattle.crsm_spec.specs.Draft.{Draft};
+ghost use Rattle.crsm_spec.specs.Step as rules;
+ghost use Rattle.crsm_base.specs.MessageReading.{control_of};
+ghost use Rattle.crsm_core.specs.Rules.{FollowsFrom};
+
+use crate::rules::Rules;
+use crsm_base::NoMemory;
+use crsm_desk::{Desk, desks_are_sound};
+use crsm_wire::{WireError, read_control};
+
+/// What a part of a control message says of itself.
+#[derive(Clone, Copy)]
+pub(crate) struct Heading {
+    pub boot: u64,
+    pub number: u64,
+    pub index: u32,
+    pub count: u32,
+}
+
+/// A part: the message that is whole with it is heard. One whose records would not fit is ignored, and its part is kept.
+pub(crate) fn on_part<R: Rules>(
+    desk: &mut Desk,
+    from: u32,
+    heading: Heading,
+    bytes: &[u8],
+) -> Result<(), NoMemory>
+    requires from { from < 15 }
+    requires sized { is_sized (piece from heading.boot heading.number heading.index heading.count bytes.now) ≡ true }
+    ensures { FollowsFrom from (rules.on_part (piece from heading.boot heading.number heading.index heading.count bytes.now)) desk.old result desk.new }
+{
+    desks_are_sound();
+    let whole = desk.take_part(
+        from,
+        heading.boot,
+        heading.number,
+        heading.index,
+        heading.count,
+        bytes,
+    )?;
+    let Some(message) = whole else {
+        return Ok(());
+    };
+    on_message::<R>(desk, from, message.as_slice())?;
+    Ok(())
+}
+
+/// The bytes of a whole message. Those that are no control message do nothing.
+fn on_message<R: Rules>(desk: &mut Desk, from: u32, bytes: &[u8]) -> Result<(), NoMemory>
+    requires { from < 15 }
+    ensures { FollowsFrom from (rules.on_whole_message from (control_of bytes.now)) desk.old result desk.new }
+{
+    match read_control(desk.alloc(), bytes) {
+        Ok(control) => {
+            R::on_control(desk, from, &control)?;
+            Ok(())
+        }
+        Err(WireError::NotOne) => Ok(()),
+        Err(WireError::NoMemory) => Err(NoMemory),
+    }
+}

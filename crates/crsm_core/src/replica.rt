@@ -1,0 +1,90 @@
+//! The core.
+
+ghost use Rattle.std.specs.Prelude.{◌<◌, ◌≤◌, ℕ, IfOk, OnErr, IsErr};
+ghost use Rattle.std.specs.List.{AllByRecursion};
+ghost use Rattle.crsm_base.specs.Records.{FitsRec};
+ghost use Rattle.crsm_ledger.specs.Stands.{StandsFor as SaysOfLog};
+ghost use Rattle.crsm_running.specs.Standing.{EachFits};
+ghost use Rattle.crsm_spec.specs.Clock.{u64_max};
+ghost use Rattle.crsm_spec.specs.Log.{Log, boots};
+ghost use Rattle.crsm_spec.specs.Replica.{Replica};
+ghost use Rattle.crsm_spec.specs.Step.{boot, step};
+ghost use Rattle.crsm_core.specs.Inputs.{input_of, FitsInput};
+ghost use Rattle.crsm_core.specs.Standing.{CoreAwaits, CoreStands, Answers, IsSpent};
+
+use crate::input::Input;
+use crate::rules::Rules;
+use crate::step;
+use crsm_base::NoMemory;
+use crsm_desk::{Desk, desks_are_sound};
+use crsm_ledger::Ledger;
+use crsm_output::Batch;
+
+/// One replica in memory. After an error it is spent, and a new one is made of its log.
+#[derive(Drop)]
+pub struct Core {
+    desk: Desk,
+    is_spent: bool,
+}
+
+impl Core {
+    /// The replica of a ledger, before its boot is on record.
+    pub fn new(ledger: Ledger) -> Result<Core, NoMemory>
+        ensures { IfOk result (λ core. (me n : ℕ) (log : Log) → SaysOfLog me n ledger log → EachFits me n log → AllByRecursion FitsRec log →
+            me < 15 → 1 ≤ n → CoreAwaits core me n log) }
+    {
+        Ok(Core {
+            desk: Desk::new(ledger)?,
+            is_spent: false,
+        })
+    }
+
+    #[tactic(auto, unfolding(crate::specs::Standing::IsSpent))]
+    /// Puts the boot on record; the first one of a replica that began the cluster enters epoch 0.
+    pub fn begin(&mut self) -> Result<Batch, NoMemory>
+        ensures ruled { IfOk result (λ batch. (me n : ℕ) (log : Log) → CoreAwaits self.old me n log → boots log < u64_max →
+            Answers batch (boot me n log) × CoreStands self.new (boot me n log).replica) }
+        ensures spent { OnErr result (IsSpent self.new) }
+        ensures stays_spent { IsSpent self.old → IsErr result }
+    {
+        desks_are_sound();
+        if self.is_spent {
+            return Err(NoMemory);
+        }
+        // Whoever sees the error below must not go on from half a boot.
+        self.is_spent = true;
+        self.desk.begin()?;
+        let batch = self.desk.take_batch()?;
+        self.is_spent = false;
+        Ok(batch)
+    }
+
+    #[tactic(auto, unfolding(crate::specs::Standing::IsSpent))]
+    /// One step, at this reading of the clock. What it has made is to be kept and then sent.
+    pub fn step<R: Rules>(&mut self, input: &Input, reading: u64) -> Result<Batch, NoMemory>
+        requires { FitsInput input.now }
+        ensures ruled { IfOk result (λ batch. (r : Replica) → CoreStands self.old r →
+            Answers batch (step r (input_of input.now) reading) × CoreStands self.new (step r (input_of input.now) reading).replica) }
+        ensures spent { OnErr result (IsSpent self.new) }
+        ensures stays_spent { IsSpent self.old → IsErr result }
+    {
+        desks_are_sound();
+        if self.is_spent {
+            return Err(NoMemory);
+        }
+        // Whoever sees the error below must not go on from half a step.
+        self.is_spent = true;
+        step::step::<R>(&mut self.desk, input, reading)?;
+        let batch = self.desk.take_batch()?;
+        self.is_spent = false;
+        Ok(batch)
+    }
+
+    /// What the records of its log say.
+    pub fn ledger(&self) -> &Ledger
+        ensures awaiting { (me n : ℕ) (log : Log) → CoreAwaits self.now me n log → SaysOfLog me n result.now log }
+        ensures standing { (r : Replica) → CoreStands self.now r → SaysOfLog r.me r.n result.now r.log }
+    {
+        self.desk.ledger()
+    }
+}

@@ -1,0 +1,156 @@
+//! One step: the rule of the input, and what follows in every step.
+
+ghost use Rattle.std.specs.Prelude.{◌≡◌, IfOk};
+ghost use Rattle.crsm_base.specs.Messages.{FitsDatagram};
+ghost use Rattle.crsm_spec.specs.Draft.{Draft, begun};
+ghost use Rattle.crsm_spec.specs.Frames as frames;
+ghost use Rattle.crsm_spec.specs.Replica.{Replica};
+ghost use Rattle.crsm_spec.specs.Step as rules;
+ghost use Rattle.crsm_desk.specs.Standing.{StandsFor, Makes};
+ghost use Rattle.crsm_core.specs.Inputs.{input_of, FitsInput};
+ghost use Rattle.crsm_core.specs.Rules.{Follows};
+
+use crate::commits::commits;
+use crate::frames::{on_ack, on_frame};
+use crate::idle::idle;
+use crate::input::Input;
+use crate::owed::owed_oks;
+use crate::parts::{Heading, on_part};
+use crate::requests::on_request;
+use crate::rules::Rules;
+use crate::ticks::on_tick;
+use crsm_base::{Datagram, NoMemory};
+use crsm_desk::Desk;
+use crsm_segment::parts_of_datagrams;
+
+/// One step: the rule of the input, the acknowledgements that are due, at a tick the clock's time, the commits, the replies.
+pub(crate) fn step<R: Rules>(desk: &mut Desk, input: &Input, reading: u64) -> Result<(), NoMemory>
+    requires { FitsInput input.now }
+    ensures { IfOk result (λ _. (r : Replica) → StandsFor desk.old (begun r) → StandsFor desk.new (rules.step r (input_of input.now) reading)) }
+{
+    on_input::<R>(desk, input, reading)?;
+    owed_oks(desk, reading)?;
+    idle_at(desk, input, reading)?;
+    commits(desk)?;
+    R::answer_clients(desk)?;
+    Ok(())
+}
+
+/// The rule of an input.
+fn on_input<R: Rules>(desk: &mut Desk, input: &Input, reading: u64) -> Result<(), NoMemory>
+    requires { FitsInput input.now }
+    ensures { Follows (rules.on_input (input_of input.now) reading) desk.old result desk.new }
+{
+    match input {
+        Input::Datagram { from, datagram } => {
+            on_datagram::<R>(desk, *from, datagram, reading)?;
+            Ok(())
+        }
+        Input::Tick => {
+            on_tick::<R>(desk)?;
+            Ok(())
+        }
+        Input::Suspect { members } => {
+            R::on_suspect(desk, members)?;
+            Ok(())
+        }
+    }
+}
+
+/// The idle rule, at a tick.
+fn idle_at(desk: &mut Desk, input: &Input, reading: u64) -> Result<(), NoMemory>
+    ensures { Makes (rules.idle_at (input_of input.now) reading) desk.old result desk.new }
+{
+    match input {
+        Input::Tick => {
+            idle(desk, reading)?;
+            Ok(())
+        }
+        Input::Datagram { .. } => Ok(()),
+        Input::Suspect { .. } => Ok(()),
+    }
+}
+
+/// A datagram of no other replica, or for another.
+fn is_astray(desk: &Desk, from: u32, to: u32) -> bool
+    ensures { (x : Draft) → StandsFor desk.now x → result ≡ frames.is_astray x.replica from to }
+{
+    let me = desk.me();
+    if from > 14 {
+        return true;
+    }
+    if from == me {
+        return true;
+    }
+    to != me
+}
+
+/// A datagram from an address.
+fn on_datagram<R: Rules>(
+    desk: &mut Desk,
+    address: u64,
+    datagram: &Datagram,
+    reading: u64,
+) -> Result<(), NoMemory>
+    requires { FitsDatagram datagram.now }
+    ensures { Follows (rules.on_datagram address datagram.now reading) desk.old result desk.new }
+{
+    parts_of_datagrams();
+    match datagram {
+        Datagram::Frame {
+            from,
+            to,
+            epoch,
+            seq,
+            payload,
+        } => {
+            if is_astray(desk, *from, *to) {
+                return Ok(());
+            }
+            on_frame(desk, *from, *epoch, *seq, payload)?;
+            Ok(())
+        }
+        Datagram::Ack {
+            from,
+            to,
+            epoch,
+            next,
+        } => {
+            if is_astray(desk, *from, *to) {
+                return Ok(());
+            }
+            on_ack(desk, *from, *epoch, *next)?;
+            Ok(())
+        }
+        Datagram::Part {
+            from,
+            to,
+            boot,
+            number,
+            index,
+            count,
+            bytes,
+        } => {
+            if is_astray(desk, *from, *to) {
+                return Ok(());
+            }
+            let heading = Heading {
+                boot: *boot,
+                number: *number,
+                index: *index,
+                count: *count,
+            };
+            on_part::<R>(desk, *from, heading, bytes.as_slice())?;
+            Ok(())
+        }
+        Datagram::Request { command } => {
+            on_request(desk, address, command, reading)?;
+            Ok(())
+        }
+        Datagram::Reply { .. } => Ok(()),
+        Datagram::Operate { members } => {
+            R::on_suspect(desk, members)?;
+            Ok(())
+        }
+    }
+}
