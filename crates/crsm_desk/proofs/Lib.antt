@@ -7,3 +7,4 @@ mod Sending
 mod Booting
 mod Telling
 mod Founding
+mod Replying

@@ -13,6 +13,7 @@ mod messages;
 mod parts;
 mod readers;
 mod records;
+mod replies;
 mod steps;
 
 pub use desk::Desk;
