@@ -1,0 +1,76 @@
+use Rattle.std.proofs.Common.{◌≡◌, ◌∙◌, ◌<◌, ◌≤◌, ◌+◌, ◌++◌, sym, subst, ap, refl, arith, Bool, true, false, length, List, []}
+use Rattle.std.specs.Prelude.{Option, Some, None, ◌&&◌, ◌-◌, ◌^◌, nat_le, nat_lt, drop, slice_get}
+use Rattle.std.specs.Option.{option_map_or, option_copied}
+use Rattle.crsm_base.specs.Order.{entry_lt, ballot_lt, ballot_eq}
+use Rattle.crsm_base.specs.Spelling.{FitsBallot, FitsDecision, FitsEntries, FitsOption}
+use Rattle.crsm_base.specs.Records.{FitsRec}
+use Rattle.crsm_base.specs.Messages.{FitsControl, FitsVote}
+use Rattle.crsm_spec.specs.Types.{Ballot, Entry, Decision, Rec, Control}
+use Rattle.crsm_spec.specs.Log.{known, decision, executed, promised, accepted}
+use Rattle.crsm_spec.specs.Draft.{Draft, keep, noting, tell_each, tell_all, retrieve, tell, tell_decision, tell_retrieve}
+use Rattle.crsm_spec.specs.Coordinate.{advance, adopt_tail, enter, learn, has_accepted}
+use Rattle.crsm_spec.specs.Controls.{on_decide, retrieve_base, on_retrieve, on_p1a, on_p2a, if_next, tell_promise, page_from}
+use Rattle.crsm_spec.specs.Step.{if_fitting}
+use Rattle.crsm_spec.specs.Lists.{has, numbers_below}
+use Rattle.crsm_spec.specs.Replica.{Note, spec_of, others}
+use Rattle.crsm_spec.specs.Quorum.{spec_decided, has_majority}
+use Rattle.crsm_spec.specs.Log.{suspended, active, last_stamp}
+use Rattle.crsm_spec.specs.Collect.{suspend_ok}
+use Rattle.crsm_spec.specs.Coordinate.{on_chosen, count_acceptor}
+use Rattle.crsm_note.specs.Noted.{NoteStands, proposal_of, counted_of, ballot_of, VotedIs, outbid_by, is_ended_by, takes_vote}
+use Rattle.std.specs.Prelude.{◌==◌, ◌||◌, not, filter}
+use Rattle.std.proofs.Common.{◌∷◌}
+use Rattle.crsm_desk.specs.Standing.{StandsFor, learnt}
+use Rattle.crsm_desk.specs.Sound.{IsSound}
+use Rattle.crsm_coordinate.specs.Rules.{tail_goes_on, rest_goes_on, first_left, CanAdopt, IsNextOr, on_page_in, tell_executed, take_executed, hears_no, hears_vote}
+use Rattle.crsm_coordinate.proofs.ChoiceLemmas.{vote_last, vote_more, noted_twice, noted_fitting, spec_is, voted_more, same_value, voted_not_more}
+use Rattle.crsm_coordinate.proofs.DraftLemmas.{is_whole, is_ignored, instead}
+use Rattle.crsm_coordinate.proofs.ProposeLemmas.{none_proposed}
+use Rattle.crsm_coordinate.proofs.counting.count_vote.Goals as goal
+
+pub returns-then-is_last : goal.returns-then-is_last
+unfolding proposal_of
+returns-then-is_last c = λ x b own value acceptors s e h.
+    let known = decision x.replica.log in
+    let m : Note = Note.Proposing b own value acceptors in
+    let of_spec : has (spec_decided x.replica.n (decision x.replica.log)) c.args.k ≡ true = ap (λ ks. has ks c.args.k) (sym (spec_is x.replica)) ∙ h in
+    let many = sym (c.is_last_vote-is_last.ensures x.replica.me x.replica.n (decision x.replica.log) b own value acceptors
+    (subst (λ z. NoteStands c.note.result.now x.replica.me x.replica.n (decision x.replica.log) z) e (c.note.ensures x s)) of_spec) ∙ c.if-is_last.true in
+    let again = subst (λ z. NoteStands c.note-then-is_last.result.now x.replica.me x.replica.n (decision x.replica.log) z) e (c.note-then-is_last.ensures x s) in
+    let found : c.in_ok-found.found ≡ Some (b, value) = c.in_ok-found.ensures.value x.replica.me x.replica.n (decision x.replica.log) m again in
+    let same : c.in-Some.value ≡ value = same_value c.in_ok-found.found c.in-Some.field-0-0 b c.in-Some.value value c.in-Some.is found in
+    let spelt = subst (λ o. FitsOption FitsVote o) c.in-Some.is (c.in_ok-found.ensures.spelt x.replica.me x.replica.n (decision x.replica.log) m again) in
+    let k = c.in_ok-fits.ensures x s spelt.1 in
+    let rule : on_chosen c.in-Some.value x ≡ count_acceptor b own value acceptors c.args.k x = ap (λ d. on_chosen d x) same ∙ sym (vote_last b own value acceptors c.args.k x many) in
+    (k.0 ∙ ap (λ y. y.fitting) rule, instead c.choose.new.desk x _ _ rule k.1)
+
+pub returns : goal.returns
+unfolding noting
+returns c = λ x b own value acceptors s e h.
+    let of_spec : has (spec_decided x.replica.n (decision x.replica.log)) c.args.k ≡ true = ap (λ ks. has ks c.args.k) (sym (spec_is x.replica)) ∙ h in
+    let few = sym (c.is_last_vote-is_last.ensures x.replica.me x.replica.n (decision x.replica.log) b own value acceptors
+    (subst (λ z. NoteStands c.note.result.now x.replica.me x.replica.n (decision x.replica.log) z) e (c.note.ensures x s)) of_spec) ∙ c.if-is_last.false in
+    let taken = subst (λ z. NoteStands c.take_note-note.result x.replica.me x.replica.n (decision x.replica.log) z) e (c.take_note-note.ensures.note x s) in
+    let voted = c.in_ok-voted.ensures x.replica.me x.replica.n (decision x.replica.log) b own value acceptors taken of_spec in
+    let m : Note = Note.Proposing b own value (c.args.k ∷ acceptors) in
+    let stands = voted_more c.in_ok-voted.voted c.in-More.note x.replica.me x.replica.n (decision x.replica.log) b own value (c.args.k ∷ acceptors) c.in-More.is voted in
+    let set = c.set_note.ensures (noting Note.Quiet x) m (c.take_note-note.ensures.quiet x s) stands in
+    let rule = vote_more b own value acceptors c.args.k x few in
+    let fit : (count_acceptor b own value acceptors c.args.k x).fitting ≡ true = ap (λ y. y.fitting) rule ∙ noted_fitting m x ∙ (c.desks_are_sound.ensures c.args.desk.now x s).fitting in
+    (sym fit, is_whole c.set_note.new.self x _ fit (subst (λ y. StandsFor c.set_note.new.self y) (noted_twice m x ∙ sym rule) set))
+
+pub returns-in_default : goal.returns-in_default
+unfolding proposal_of
+returns-in_default c = λ x b own value acceptors s e h.
+    let again = subst (λ z. NoteStands c.note-then-is_last.result.now x.replica.me x.replica.n (decision x.replica.log) z) e (c.note-then-is_last.ensures x s) in
+    let found : c.in_ok-found.found ≡ Some (b, value) = c.in_ok-found.ensures.value x.replica.me x.replica.n (decision x.replica.log) (Note.Proposing b own value acceptors) again in
+    absurd (none_proposed c.in_ok-found.found (b, value) found c.in_default.is)
+
+pub returns-in_default-voted : goal.returns-in_default-voted
+returns-in_default-voted c = λ x b own value acceptors s e h.
+    let of_spec : has (spec_decided x.replica.n (decision x.replica.log)) c.args.k ≡ true = ap (λ ks. has ks c.args.k) (sym (spec_is x.replica)) ∙ h in
+    let few = sym (c.is_last_vote-is_last.ensures x.replica.me x.replica.n (decision x.replica.log) b own value acceptors
+    (subst (λ z. NoteStands c.note.result.now x.replica.me x.replica.n (decision x.replica.log) z) e (c.note.ensures x s)) of_spec) ∙ c.if-is_last.false in
+    let taken = subst (λ z. NoteStands c.take_note-note.result x.replica.me x.replica.n (decision x.replica.log) z) e (c.take_note-note.ensures.note x s) in
+    let voted = c.in_ok-voted.ensures x.replica.me x.replica.n (decision x.replica.log) b own value acceptors taken of_spec in
+    absurd (voted_not_more c.in_ok-voted.voted x.replica.me x.replica.n (decision x.replica.log) b own value (c.args.k ∷ acceptors) voted few c.in_default-voted.not-More)

@@ -1,0 +1,58 @@
+use Rattle.std.proofs.Common.{◌≡◌, ◌∙◌, ◌<◌, ◌≤◌, ◌+◌, ◌++◌, sym, subst, ap, refl, arith, Bool, true, false, length, List, []}
+use Rattle.std.specs.Prelude.{Option, Some, None, ◌&&◌, ◌-◌, ◌^◌, nat_le, nat_lt, drop, slice_get}
+use Rattle.std.specs.Option.{option_map_or, option_copied}
+use Rattle.crsm_base.specs.Order.{entry_lt, ballot_lt, ballot_eq}
+use Rattle.crsm_base.specs.Spelling.{FitsBallot, FitsDecision, FitsEntries, FitsOption}
+use Rattle.crsm_base.specs.Records.{FitsRec}
+use Rattle.crsm_base.specs.Messages.{FitsControl, FitsVote}
+use Rattle.crsm_spec.specs.Types.{Ballot, Entry, Decision, Rec, Control}
+use Rattle.crsm_spec.specs.Log.{known, decision, executed, promised, accepted}
+use Rattle.crsm_spec.specs.Draft.{Draft, keep, noting, tell_each, tell_all, retrieve, tell, tell_decision, tell_retrieve}
+use Rattle.crsm_spec.specs.Coordinate.{advance, adopt_tail, enter, learn, has_accepted}
+use Rattle.crsm_spec.specs.Controls.{on_decide, retrieve_base, on_retrieve, on_p1a, on_p2a, if_next, tell_promise, page_from}
+use Rattle.crsm_spec.specs.Step.{if_fitting}
+use Rattle.crsm_spec.specs.Lists.{has, numbers_below}
+use Rattle.crsm_spec.specs.Replica.{Note, spec_of, others}
+use Rattle.crsm_spec.specs.Quorum.{spec_decided, has_majority}
+use Rattle.crsm_spec.specs.Log.{suspended, active, last_stamp}
+use Rattle.crsm_spec.specs.Collect.{suspend_ok}
+use Rattle.crsm_spec.specs.Coordinate.{on_chosen, count_acceptor}
+use Rattle.crsm_note.specs.Noted.{NoteStands, proposal_of, counted_of, ballot_of, VotedIs, outbid_by, is_ended_by, takes_vote}
+use Rattle.std.specs.Prelude.{◌==◌, ◌||◌, not, filter}
+use Rattle.std.proofs.Common.{◌∷◌}
+use Rattle.crsm_desk.specs.Standing.{StandsFor, learnt}
+use Rattle.crsm_desk.specs.Sound.{IsSound}
+use Rattle.crsm_coordinate.specs.Rules.{tail_goes_on, rest_goes_on, first_left, CanAdopt, IsNextOr, on_page_in, tell_executed, take_executed, hears_no, hears_vote}
+use Rattle.crsm_coordinate.proofs.SuspendLemmas.{suspend_old, suspend_later, suspend_now}
+use Rattle.crsm_coordinate.proofs.DraftLemmas.{is_whole, is_ignored, was_whole, was_ignored, tell_fitting, decision_fitting, retrieve_fitting}
+use Rattle.crsm_spec.specs.Coordinate.{suspend_once}
+use Rattle.crsm_spec.specs.Controls.{on_suspend}
+use Rattle.crsm_coordinate.proofs.suspending.on_suspend.Goals as goal
+
+pub returns-then-epoch-known : goal.returns-then-epoch-known
+returns-then-epoch-known c = λ x s f.
+    let is = suspend_old c.args.k c.args.epoch c.args.after x (let e = c.known-known.ensures x s in let l = c.if-epoch-known.true in omega (arith, e, l)) in
+    is_whole c.tell_decision.new.self x _ (ap (λ y. y.fitting) is ∙ decision_fitting c.args.k x ∙ (c.desks_are_sound.ensures c.args.desk.now x s).fitting)
+    (subst (λ y. StandsFor c.tell_decision.new.self y) (sym is) (c.in_ok-tell_decision.ensures x s))
+
+pub returns-then-known-epoch : goal.returns-then-known-epoch
+returns-then-known-epoch c = λ x s f.
+    let is = suspend_later c.args.k c.args.epoch c.args.after x (let e = c.known-known.ensures x s in let l = c.if-known-epoch.true in omega (arith, e, l)) in
+    is_whole c.tell_retrieve.new.self x _ (ap (λ y. y.fitting) is ∙ retrieve_fitting c.args.k x ∙ (c.desks_are_sound.ensures c.args.desk.now x s).fitting)
+    (subst (λ y. StandsFor c.tell_retrieve.new.self y) (sym is) (c.in_ok-tell_retrieve.ensures x s))
+
+pub returns-then-not-fits : goal.returns-then-not-fits
+returns-then-not-fits c = λ x s f.
+    let is = suspend_now c.args.k c.args.epoch c.args.after x (let e = c.known-known.ensures x s in let l = c.if-known-epoch.false in let m = c.if-epoch-known.false in omega (arith, e, l, m)) in
+    let k = c.in_ok-fits.ensures x s in
+    let u : (suspend_once x).fitting ≡ false = sym k.0 ∙ c.if-not-fits.true in
+    is_ignored c.suspend_once.new.desk x _ (ap (λ y. y.fitting) is ∙ tell_fitting _ _ c.args.k ∙ u) (was_ignored c.suspend_once.new.desk x _ u k.1)
+
+pub returns : goal.returns
+returns c = λ x s f.
+    let is = suspend_now c.args.k c.args.epoch c.args.after x (let e = c.known-known.ensures x s in let l = c.if-known-epoch.false in let m = c.if-epoch-known.false in omega (arith, e, l, m)) in
+    let k = c.in_ok-fits.ensures x s in
+    let z : Draft = suspend_once x in
+    let u : z.fitting ≡ true = sym k.0 ∙ c.if-not-fits.false in
+    is_whole c.tell_frozen.new.desk x _ (ap (λ y. y.fitting) is ∙ tell_fitting _ z c.args.k ∙ u)
+    (subst (λ y. StandsFor c.tell_frozen.new.desk y) (sym is) (c.in_ok-tell_frozen.ensures z (was_whole c.suspend_once.new.desk x z u k.1) f))

@@ -1,0 +1,33 @@
+use Rattle.std.proofs.Common.{◌≡◌, ◌∙◌, ◌<◌, ◌≤◌, ◌+◌, ◌++◌, sym, subst, ap, refl, arith, Bool, true, false, length, List, []}
+use Rattle.std.specs.Prelude.{Option, Some, None, ◌&&◌, ◌-◌, ◌^◌, nat_le, nat_lt, drop, slice_get}
+use Rattle.std.specs.Option.{option_map_or, option_copied}
+use Rattle.crsm_base.specs.Order.{entry_lt, ballot_lt, ballot_eq}
+use Rattle.crsm_base.specs.Spelling.{FitsBallot, FitsDecision, FitsEntries, FitsOption}
+use Rattle.crsm_base.specs.Records.{FitsRec}
+use Rattle.crsm_base.specs.Messages.{FitsControl, FitsVote}
+use Rattle.crsm_spec.specs.Types.{Ballot, Entry, Decision, Rec, Control}
+use Rattle.crsm_spec.specs.Log.{known, decision, executed, promised, accepted}
+use Rattle.crsm_spec.specs.Draft.{Draft, keep, tell, tell_decision, tell_retrieve}
+use Rattle.crsm_spec.specs.Coordinate.{advance, adopt_tail, enter, learn, has_accepted}
+use Rattle.crsm_spec.specs.Controls.{on_decide, retrieve_base, on_retrieve, on_p1a, on_p2a, if_next, tell_promise, page_from}
+use Rattle.crsm_spec.specs.Step.{if_fitting}
+use Rattle.crsm_desk.specs.Standing.{StandsFor, learnt}
+use Rattle.crsm_desk.specs.Sound.{IsSound}
+use Rattle.crsm_coordinate.specs.Rules.{tail_goes_on, rest_goes_on, first_left, CanAdopt, IsNextOr, on_page_in, tell_executed, take_executed}
+use Rattle.crsm_coordinate.proofs.TailLemmas.{rest_behind, rest_nothing, no_rest}
+use Rattle.crsm_coordinate.proofs.tails.rest_goes_on.Goals as goal
+
+pub returns-in_default : goal.returns-in_default
+returns-in_default c = λ x s. no_rest (decision x.replica.log) (executed x.replica.log ++ c.args.entries.now) (sym (c.in_ok-decision.ensures x s) ∙ c.in_default.is)
+
+pub returns-in_default-first_left : goal.returns-in_default-first_left
+returns-in_default-first_left c = λ x s.
+    rest_nothing (decision x.replica.log) (executed x.replica.log) c.args.entries.now c.as_slice-entries.result.now c.in-Some.decision (c.executed_len-before.result + length c.as_slice-entries.result.now)
+    (sym (c.in_ok-decision.ensures x s) ∙ c.in-Some.is) c.as_slice-entries.ensures (ap (λ m. m + length c.as_slice-entries.result.now) (c.executed_len-before.ensures x s))
+    (sym (ap option_copied c.in_default-first_left.is) ∙ c.first_left.ensures)
+
+pub returns : goal.returns
+returns c = λ x s.
+    rest_behind (decision x.replica.log) (executed x.replica.log) c.args.entries.now c.as_slice-entries.result.now c.in-Some.decision (c.executed_len-before.result + length c.as_slice-entries.result.now) c.in-Some-first_left.entry.now
+    c.ends_before-is_behind.result c.requires (sym (c.in_ok-decision.ensures x s) ∙ c.in-Some.is) c.as_slice-entries.ensures (ap (λ m. m + length c.as_slice-entries.result.now) (c.executed_len-before.ensures x s))
+    (sym (ap option_copied c.in-Some-first_left.is) ∙ c.first_left.ensures) c.ends_before-is_behind.ensures
