@@ -7,7 +7,8 @@ from timing import work
 ENTRIES = 4_096
 FEWER = 1_024
 ROUNDS = 8
-WANTED = 6
+# Four times the entries, their logarithm and caches make some 5; a busy machine adds to it, and a square would be 16.
+WANTED = 8
 
 
 def main():
