@@ -2,19 +2,18 @@
 
 ghost use Rattle.std.specs.Prelude.{◌<◌, IfOk};
 ghost use Rattle.crsm_base.specs.Messages.{FitsControl};
-ghost use Rattle.crsm_spec.specs.Clients as clients;
 ghost use Rattle.crsm_spec.specs.Controls as controls;
 ghost use Rattle.crsm_spec.specs.Coordinate as coordinate;
 ghost use Rattle.crsm_spec.specs.Draft.{Draft};
 ghost use Rattle.crsm_spec.specs.Step.{if_fitting, ask_all, renew};
-ghost use Rattle.crsm_desk.specs.Standing.{StandsFor, Makes};
+ghost use Rattle.crsm_desk.specs.Standing.{StandsFor};
 ghost use Rattle.crsm_core.specs.Rules.{Follows, FollowsFrom};
 
 use crsm_base::{Control, Members, NoMemory};
 use crsm_desk::Desk;
 
-/// Control messages, the end of an epoch, and answers to clients that wait: a step takes these rules from whoever has
-/// them, each as the definitions have it.
+/// Control messages and the end of an epoch: a step takes these rules from whoever has them, each as the definitions
+/// have it.
 pub trait Rules {
     /// A control message of another replica. One whose records would not fit changes nothing.
     fn on_control(desk: &mut Desk, k: u32, control: &Control) -> Result<(), NoMemory>
@@ -30,8 +29,4 @@ pub trait Rules {
     /// known and executed beyond here.
     fn renew_and_ask(desk: &mut Desk) -> Result<(), NoMemory>
         ensures { IfOk result (λ _. (x : Draft) → StandsFor desk.old x → StandsFor desk.new (if_fitting x (ask_all (renew x.replica.note x)))) };
-
-    /// Answers each waiting client whose entry is executed or dropped. The others wait on.
-    fn answer_clients(desk: &mut Desk) -> Result<(), NoMemory>
-        ensures { Makes clients.replies desk.old result desk.new };
 }

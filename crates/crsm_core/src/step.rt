@@ -32,7 +32,7 @@ pub(crate) fn step<R: Rules>(desk: &mut Desk, input: &Input, reading: u64) -> Re
     owed_oks(desk, reading)?;
     idle_at(desk, input, reading)?;
     commits(desk)?;
-    R::answer_clients(desk)?;
+    desk.replies()?;
     Ok(())
 }
 

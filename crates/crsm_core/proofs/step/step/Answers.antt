@@ -17,5 +17,5 @@ returns g c = λ r s.
     let b = c.in_ok-owed_oks.ensures y a in
     let d = c.in_ok-idle_at.ensures (owed_oks t y) b in
     let e = c.in_ok-commits.ensures (idle_at i t (owed_oks t y)) d in
-    let f = c.in_ok-answer_clients.ensures (commits (idle_at i t (owed_oks t y))) e in
-    stands_as c.answer_clients.new.desk (replies (commits (idle_at i t (owed_oks t y)))) (step r i t) (step_is r i t) f
+    let f = c.in_ok-replies.ensures (commits (idle_at i t (owed_oks t y))) e in
+    stands_as c.replies.new.self (replies (commits (idle_at i t (owed_oks t y)))) (step r i t) (step_is r i t) f
