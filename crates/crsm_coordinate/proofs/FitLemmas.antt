@@ -19,11 +19,11 @@ use Rattle.crsm_coordinate.proofs.DraftLemmas.{when_yes, when_no, and_yes, and_n
 use Rattle.crsm_coordinate.proofs.ChoiceLemmas.{chosen_fitting, chosen_note, noted_fitting}
 use Rattle.crsm_coordinate.proofs.ProposeLemmas.{own_outbid, own_waits, own_accepts, accepted_spec, count_monotone}
 
-count_few : (b : Ballot) (own value : Decision) (acceptors : List ℕ) (k : ℕ) (y : Draft) → has_majority (spec_of y.replica) (k ∷ acceptors) ≡ false → (count_acceptor b own value acceptors k y).fitting ≡ y.fitting
+pub count_few : (b : Ballot) (own value : Decision) (acceptors : List ℕ) (k : ℕ) (y : Draft) → has_majority (spec_of y.replica) (k ∷ acceptors) ≡ false → (count_acceptor b own value acceptors k y).fitting ≡ y.fitting
 unfolding count_acceptor
 count_few b own value acceptors k y h = ap (λ z. z.fitting) (when_no _ _ (noting (Note.Proposing b own value (k ∷ acceptors)) y) h) ∙ noted_fitting (Note.Proposing b own value (k ∷ acceptors)) y
 
-count_many : (b : Ballot) (own value : Decision) (acceptors : List ℕ) (k : ℕ) (y : Draft) → has_majority (spec_of y.replica) (k ∷ acceptors) ≡ true → (count_acceptor b own value acceptors k y).fitting ≡ (learn value y).fitting
+pub count_many : (b : Ballot) (own value : Decision) (acceptors : List ℕ) (k : ℕ) (y : Draft) → has_majority (spec_of y.replica) (k ∷ acceptors) ≡ true → (count_acceptor b own value acceptors k y).fitting ≡ (learn value y).fitting
 unfolding count_acceptor
 count_many b own value acceptors k y h =
     ap (λ z. z.fitting) (when_yes _ _ (noting (Note.Proposing b own value (k ∷ acceptors)) y) h ∙ chosen_note value (Note.Proposing b own value (k ∷ acceptors)) y) ∙ chosen_fitting value y
@@ -51,18 +51,18 @@ kept_decides : (x : Draft) (i : ℕ) (b : Ballot) (d : Decision) → booted x.re
 unfolding keep
 kept_decides x i b d h = decides_too x.replica.me x.replica.n x.replica.log i b d d h
 
-not_after : (b : Ballot) (own value : Decision) (acceptors : List ℕ) (k : ℕ) (y : Draft) → y.fitting ≡ false → (count_acceptor b own value acceptors k y).fitting ≡ false
+pub not_after : (b : Ballot) (own value : Decision) (acceptors : List ℕ) (k : ℕ) (y : Draft) → y.fitting ≡ false → (count_acceptor b own value acceptors k y).fitting ≡ false
 not_after b own value acceptors k y h = go (count_acceptor b own value acceptors k y).fitting refl
   where
     go : (t : Bool) → (count_acceptor b own value acceptors k y).fitting ≡ t → (count_acceptor b own value acceptors k y).fitting ≡ false
     go true e = absurd (false≢true (sym h ∙ count_monotone b own value acceptors k y e))
     go false e = e
 
-kept_learns : (x : Draft) (i : ℕ) (b : Ballot) (d : Decision) → IsSound x → FitsDecision d → (keep (Rec.Accept i b d) x).fitting ≡ true →
+pub kept_learns : (x : Draft) (i : ℕ) (b : Ballot) (d : Decision) → booted x.replica.log ≡ true → FitsDecision d → (keep (Rec.Accept i b d) x).fitting ≡ true →
     (learn d (keep (Rec.Accept i b d) x)).fitting ≡ (fits x.replica.me x.replica.n x.replica.log (Rec.Decide d) && tail_goes_on d (executed x.replica.log))
-kept_learns x i b d s f fit =
-    learn_fits d (keep (Rec.Accept i b d) x) (kept_booted x i b d s.on_record) f ∙ ap (λ l. (learnt d (keep (Rec.Accept i b d) x)).fitting && tail_goes_on d l) (kept_executed x i b d)
-    ∙ ap (λ p. p && tail_goes_on d (executed x.replica.log)) (learnt_fitting d (keep (Rec.Accept i b d) x) ∙ and_first _ _ fit ∙ kept_decides x i b d s.on_record)
+kept_learns x i b d on f fit =
+    learn_fits d (keep (Rec.Accept i b d) x) (kept_booted x i b d on) f ∙ ap (λ l. (learnt d (keep (Rec.Accept i b d) x)).fitting && tail_goes_on d l) (kept_executed x i b d)
+    ∙ ap (λ p. p && tail_goes_on d (executed x.replica.log)) (learnt_fitting d (keep (Rec.Accept i b d) x) ∙ and_first _ _ fit ∙ kept_decides x i b d on)
 
 -- ---- all cases
 
@@ -91,7 +91,7 @@ module _ (b top : Ballot) (own value : Decision) (acceptors : List ℕ) (x : Dra
       (fits x.replica.me x.replica.n x.replica.log (Rec.Decide value) && tail_goes_on value (executed x.replica.log)) ≡ (accept_own b own value acceptors x).fitting
   fits_chosen f a many =
       sym (rule ∙ count_many b own value acceptors x.replica.me (keep (Rec.Accept i b value) x) (ap (λ ks. has_majority ks (x.replica.me ∷ acceptors)) (accepted_spec i b value x) ∙ many)
-      ∙ kept_learns x i b value s f (kept ∙ a))
+      ∙ kept_learns x i b value s.on_record f (kept ∙ a))
 
   -- where it does not fit
   pub fits_not : fits x.replica.me x.replica.n x.replica.log (Rec.Accept i b value) ≡ false → false ≡ (accept_own b own value acceptors x).fitting

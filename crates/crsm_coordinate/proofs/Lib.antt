@@ -1,6 +1,10 @@
+pub mod AlikeLemmas
+pub mod AnswerLemmas
+pub mod BeginLemmas
 pub mod ChoiceLemmas
 pub mod DraftLemmas
 pub mod FitLemmas
+pub mod OwnLemmas
 pub mod PageLemmas
 pub mod PromiseLemmas
 pub mod ProposeLemmas

@@ -3,7 +3,7 @@ use Rattle.std.proofs.Common.{◌≡◌, ℕ, ◌+◌, ◌<◌, List, [], ◌∷
 use Rattle.std.specs.Prelude.{◌&&◌, ◌^◌, not, nat_le, filter, Option, Some, None}
 use Rattle.std.specs.Option.{option_map_or}
 use Rattle.std.proofs.lemmas.Bool.{false≢true}
-use Rattle.std.proofs.lemmas.Option.{none-some}
+use Rattle.std.proofs.lemmas.Option.{none-some, same_Some}
 use Rattle.crsm_base.specs.Order.{ballot_lt}
 use Rattle.crsm_spec.specs.Types.{Ballot, Decision, Rec, Control}
 use Rattle.crsm_spec.specs.Choice.{when◌then◌otherwise◌}
@@ -88,6 +88,28 @@ proposal_as b own value acceptors x c d i ks ms hb hd hi hk hm =
     ∙ ap (λ j. tell_each (filter (λ k. not (has acceptors k)) (others x.replica)) (Control.P2a j c d) x) hi
     ∙ ap (λ p. tell_each (filter (λ k. not (has acceptors k)) (others x.replica)) (Control.P2a (instance x) p d) x) hb
     ∙ ap (λ e. tell_each (filter (λ k. not (has acceptors k)) (others x.replica)) (Control.P2a (instance x) b e) x) hd
+
+-- a note that proposes this
+pub record IsProposal (m : Note) (p : Ballot × Decision) : Type 0 where
+  pub own : Decision
+  pub acceptors : List ℕ
+  pub is : m ≡ Note.Proposing p.0 own p.1 acceptors
+
+pub is_proposal : (m : Note) (p : Ballot × Decision) → proposal_of m ≡ Some p → IsProposal m p
+unfolding proposal_of
+is_proposal Note.Quiet p h = absurd (none-some p h)
+is_proposal (Note.Collecting ms pages) p h = absurd (none-some p h)
+is_proposal (Note.Asking b own answers) p h = absurd (none-some p h)
+is_proposal (Note.Proposing b own value acceptors) p h = record { own = own; acceptors = acceptors; is = ap (λ q. Note.Proposing q.0 own q.1 acceptors) (same_Some (b, value) p h) }
+is_proposal (Note.Over own seen) p h = absurd (none-some p h)
+
+pub none_told : (m : Note) (x : Draft) → proposal_of m ≡ None → tell_proposal m x ≡ x
+unfolding proposal_of tell_proposal
+none_told Note.Quiet x h = refl
+none_told (Note.Collecting ms pages) x h = refl
+none_told (Note.Asking b own answers) x h = refl
+none_told (Note.Proposing b own value acceptors) x h = absurd (none-some (b, value) (sym h))
+none_told (Note.Over own seen) x h = refl
 
 pub active_asks : (x : Draft) → active x.replica.log ≡ true → ask_all x ≡ x
 unfolding ask_all

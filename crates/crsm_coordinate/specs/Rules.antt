@@ -1,17 +1,20 @@
 -- What the rules that end an epoch make of a desk, and which records they would keep.
 use Rattle.std.specs.Prelude.{◌≡◌, ◌≢◌, ℕ, ◌+◌, ◌-◌, Bool, true, false, ◌&&◌, nat_lt, nat_le, List, [], length, drop, slice_get, if◌then◌else◌, Option, None, Result, IfOk}
 use Rattle.std.specs.Option.{option_map_or}
+use Rattle.crsm_base.specs.Spelling.{FitsBallot}
 use Rattle.crsm_base.specs.declared.NoMemory.{NoMemory}
 use Rattle.crsm_spec.specs.Types.{Ballot, Entry, Decision, Rec, Control}
 use Rattle.crsm_spec.specs.Choice.{when◌then◌otherwise◌}
-use Rattle.crsm_spec.specs.Fits.{goes_on}
+use Rattle.crsm_spec.specs.Fits.{booted, goes_on}
 use Rattle.crsm_spec.specs.Draft.{Draft, keep, tell, tell_retrieve}
-use Rattle.crsm_spec.specs.Log.{known, active, executed}
-use Rattle.crsm_spec.specs.Controls.{if_next, if_spec, on_page, page_from, on_p1no, on_p2b}
+use Rattle.crsm_spec.specs.Log.{known, decision, active, executed, promised, accepted}
+use Rattle.crsm_spec.specs.Paxos.{Held}
+use Rattle.crsm_spec.specs.Controls.{if_next, if_spec, on_page, page_from, on_p1b, on_p1no, on_p2b}
 use Rattle.crsm_spec.specs.Coordinate.{advance}
 use Rattle.crsm_spec.specs.Step.{if_fitting}
 use Rattle.crsm_desk.specs.declared.desk.Desk.{Desk}
 use Rattle.crsm_desk.specs.Standing.{StandsFor}
+use Rattle.crsm_note.specs.Noted.{IsOwn}
 
 -- Whatever the old desk stood for, the new one stands for what the rule makes of it, and for the same where its records
 -- would not fit; or memory ran out.
@@ -74,3 +77,23 @@ hears_no k i b top x = if_spec k x (on_p1no i b top x.replica.note x)
 
 unfoldable pub hears_vote : ℕ → ℕ → Ballot → Draft → Draft
 hears_vote k i b x = if_spec k x (on_p2b k i b x.replica.note x)
+
+-- a promise of k is heard, with what it had accepted, where k is counted
+unfoldable pub hears_answer : ℕ → ℕ → Ballot → Held Decision → Draft → Draft
+hears_answer k i b accepted x =
+    if_spec k x (on_p1b i b (record { replica = k; accepted = accepted }) x.replica.note x)
+
+-- the decision is one of the replica's own for the next epoch, and the ballot that was seen has a spelling
+abbrev pub CanPropose : Decision → Ballot → Draft → Type 0
+CanPropose own seen x = IsOwn x.replica.me x.replica.n (decision x.replica.log) own × FitsBallot seen
+
+-- y is like x in all that the records of a begun proposal depend on, and its own records so far fit
+pub record BeginsAlike (x y : Draft) : Type 0 where
+  pub me : y.replica.me ≡ x.replica.me
+  pub n : y.replica.n ≡ x.replica.n
+  pub knows : decision y.replica.log ≡ decision x.replica.log
+  pub promises : promised y.replica.log ≡ promised x.replica.log
+  pub accepts : accepted y.replica.log ≡ accepted x.replica.log
+  pub executes : executed y.replica.log ≡ executed x.replica.log
+  pub on_record : booted y.replica.log ≡ true
+  pub fitting : y.fitting ≡ true

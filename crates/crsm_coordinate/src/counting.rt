@@ -86,7 +86,7 @@ pub fn count_vote(desk: &mut Desk, k: u32) -> Result<bool, NoMemory>
 }
 
 /// Whether replica k is counted, and the instance is the next one.
-fn is_counted(desk: &Desk, k: u32, instance: u64) -> bool
+pub(crate) fn is_counted(desk: &Desk, k: u32, instance: u64) -> bool
     ensures { (x : Draft) → StandsFor desk.now x → result ≡ (has (spec_of x.replica) k && (instance == known x.replica.log + 1)) }
 {
     let is_of_spec = desk.is_of_spec(k);

@@ -29,9 +29,9 @@ pub fn tell_ask(desk: &mut Desk) -> Result<(), NoMemory>
     Ok(())
 }
 
-/// Tells the proposal to all that have not accepted it.
+/// Tells the proposal to all that have not accepted it, where there is one.
 pub fn tell_proposal(desk: &mut Desk) -> Result<(), NoMemory>
-    ensures { IfOk result (λ _. (x : Draft) (b : BallotOnPaper) (own value : Decision) (acceptors : List ℕ) → StandsFor desk.old x → x.replica.note ≡ NoteOnPaper.Proposing b own value acceptors → StandsFor desk.new (tell_proposal (NoteOnPaper.Proposing b own value acceptors) x)) }
+    ensures { Makes (λ x. tell_proposal x.replica.note x) desk.old result desk.new }
 {
     let found = desk.note().proposal(desk.alloc())?;
     let Some((ballot, decision)) = found else {
