@@ -1,5 +1,5 @@
 -- Drafts that are alike in what the records of a begun proposal depend on.
-use Rattle.std.proofs.Common.{◌≡◌, ℕ, ◌+◌, List, [], ◌∷◌, refl, sym, ◌∙◌, ap, subst, Bool, true, false, length}
+use Rattle.std.proofs.Common.{◌≡◌, ℕ, ◌+◌, List, [], ◌∷◌, refl, sym, ◌∙◌, subst, Bool, true, false}
 use Rattle.std.specs.Prelude.{◌&&◌, ◌==◌, ◌++◌, not}
 use Rattle.std.proofs.lemmas.Bool.{false≢true, eq-eqb}
 use Rattle.crsm_spec.specs.Types.{Rec, Control}
@@ -12,7 +12,7 @@ use Rattle.crsm_spec.specs.Clock.{u64_max}
 use Rattle.crsm_spec.specs.Coordinate.{suspend_once}
 use Rattle.crsm_desk.specs.Sound.{IsSound}
 use Rattle.crsm_coordinate.specs.Rules.{BeginsAlike}
-use Rattle.crsm_coordinate.proofs.DraftLemmas.{when_yes, when_no, and_first, booted_more, keep_fitting}
+use Rattle.crsm_coordinate.proofs.DraftLemmas.{and_first, booted_more, keep_fitting}
 use Rattle.crsm_coordinate.proofs.SuspendLemmas.{once_done, once_now}
 
 pub alike_self : (x : Draft) → IsSound x → BeginsAlike x x

@@ -1,13 +1,12 @@
 -- Promises to the ballot at work are counted.
-use Rattle.std.proofs.Common.{◌≡◌, ℕ, ◌+◌, List, [], ◌∷◌, ◌++◌, refl, sym, ◌∙◌, ap, subst, Bool, true, false, length, map}
-use Rattle.std.specs.Prelude.{◌==◌, ◌&&◌, not, nat_le, Option, Some, None}
+use Rattle.std.proofs.Common.{◌≡◌, ℕ, ◌+◌, List, [], ◌∷◌, ◌++◌, refl, sym, ◌∙◌, ap, Bool, true, false, map}
+use Rattle.std.specs.Prelude.{◌==◌, ◌&&◌, not, Some}
 use Rattle.std.proofs.lemmas.Bool.{false≢true}
-use Rattle.std.proofs.lemmas.Option.{none-some, same_Some}
-use Rattle.crsm_base.specs.Order.{ballot_lt, ballot_eq}
-use Rattle.crsm_spec.specs.Types.{Ballot, Decision, Rec}
+use Rattle.crsm_base.specs.Order.{ballot_eq}
+use Rattle.crsm_spec.specs.Types.{Ballot, Decision}
 use Rattle.crsm_spec.specs.Choice.{when◌then◌otherwise◌}
 use Rattle.crsm_spec.specs.Lists.{has}
-use Rattle.crsm_spec.specs.Log.{known, decision, spec, executed, promised}
+use Rattle.crsm_spec.specs.Log.{known}
 use Rattle.crsm_spec.specs.Paxos.{Held, Answer, value_of}
 use Rattle.crsm_spec.specs.Quorum.{has_majority}
 use Rattle.crsm_spec.specs.Replica.{Note, spec_of}

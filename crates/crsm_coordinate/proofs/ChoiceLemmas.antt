@@ -1,18 +1,17 @@
 -- Votes and refusals are counted, and a decision is chosen.
-use Rattle.std.proofs.Common.{◌≡◌, ℕ, ◌+◌, List, [], ◌∷◌, ◌++◌, refl, sym, ◌∙◌, ap, subst, arith, Bool, true, false, length}
-use Rattle.std.specs.Prelude.{◌==◌, ◌&&◌, ◌||◌, not, filter, Option, Some, None}
+use Rattle.std.proofs.Common.{◌≡◌, ℕ, ◌+◌, List, ◌∷◌, refl, sym, ◌∙◌, ap, subst, Bool, true, false}
+use Rattle.std.specs.Prelude.{◌==◌, ◌&&◌, ◌||◌, not, filter, Option, Some}
 use Rattle.std.proofs.lemmas.Bool.{false≢true}
-use Rattle.std.proofs.lemmas.Option.{none-some, same_Some}
+use Rattle.std.proofs.lemmas.Option.{same_Some}
 use Rattle.crsm_base.specs.Order.{ballot_lt, ballot_eq}
-use Rattle.crsm_spec.specs.Types.{Ballot, Decision, Rec, Control}
+use Rattle.crsm_spec.specs.Types.{Ballot, Decision, Control}
 use Rattle.crsm_spec.specs.Choice.{when◌then◌otherwise◌}
 use Rattle.crsm_spec.specs.Lists.{has, numbers_below}
 use Rattle.crsm_spec.specs.Log.{known, decision, spec}
-use Rattle.crsm_spec.specs.Paxos.{Answer}
 use Rattle.crsm_spec.specs.Quorum.{spec_decided, has_majority}
-use Rattle.crsm_spec.specs.Replica.{Replica, LogPage, Note, spec_of}
+use Rattle.crsm_spec.specs.Replica.{Replica, Note, spec_of}
 use Rattle.crsm_spec.specs.Draft.{Draft, keep, noting, tell_each}
-use Rattle.crsm_spec.specs.Coordinate.{forget_epoch, learn, both_specs, on_chosen, count_acceptor}
+use Rattle.crsm_spec.specs.Coordinate.{learn, both_specs, on_chosen, count_acceptor}
 use Rattle.crsm_spec.specs.Controls.{if_spec, on_p1no, on_p2b}
 use Rattle.crsm_note.specs.Noted.{NoteStands, VotedIs, takes_vote, is_ended_by, outbid_by}
 use Rattle.crsm_note.specs.declared.note.Note.{Note as InMemory}

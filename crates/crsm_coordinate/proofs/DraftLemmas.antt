@@ -1,19 +1,16 @@
 -- Drafts: choices, what fits, and what telling and entering leave.
-use Rattle.std.proofs.Common.{◌≡◌, ℕ, zero, suc, ◌+◌, ◌<◌, ◌≤◌, List, [], ◌∷◌, ◌++◌, length, drop, refl, sym, ◌∙◌, ap, subst, cond, arith, Bool, true, false}
-use Rattle.std.specs.Prelude.{◌-◌, ◌≢◌, ◌==◌, ◌&&◌, ◌||◌, not, nat_lt, nat_le, Option, Some, None, count_by, fold, slice_get, if◌then◌else◌}
-use Rattle.std.specs.List.{AllByRecursion, list_all, last_or}
+use Rattle.std.proofs.Common.{◌≡◌, ℕ, zero, suc, ◌+◌, ◌<◌, ◌≤◌, List, [], ◌∷◌, length, drop, refl, sym, ◌∙◌, ap, subst, cond, arith, Bool, true, false}
+use Rattle.std.specs.Prelude.{◌-◌, ◌==◌, ◌&&◌, ◌||◌, not, nat_lt, nat_le, Option, Some, None, if◌then◌else◌}
+use Rattle.std.specs.List.{AllByRecursion, list_all}
 use Rattle.std.specs.Option.{option_map_or}
 use Rattle.std.proofs.lemmas.Bool.{eq-eqb, false≢true}
 use Rattle.std.proofs.lemmas.Bool.Decides.{nat_tests}
 use Rattle.std.proofs.lemmas.List.Sums.{sum_by-cons}
-use Rattle.crsm_base.specs.Order.{entry_lt}
 use Rattle.crsm_base.specs.Spelling.{FitsOption, FitsDecision}
 use Rattle.crsm_spec.specs.Types.{Entry, Decision, Rec, Control}
 use Rattle.crsm_spec.specs.Choice.{when◌then◌otherwise◌}
-use Rattle.crsm_spec.specs.Lists.{first_of, last_of}
 use Rattle.crsm_spec.specs.Log.{Log, known, start, decision, executed, boots, is_boot, live, suspended, active}
 use Rattle.crsm_spec.specs.Fits.{fits, booted, goes_on}
-use Rattle.crsm_spec.specs.Replica.{Note}
 use Rattle.crsm_spec.specs.Draft.{Draft, keep, noting, tell, tell_each, tell_all, tell_decision, tell_retrieve}
 use Rattle.crsm_spec.specs.Coordinate.{forget_epoch, adopt_tail, enter, advance, learn}
 use Rattle.crsm_spec.specs.Controls.{on_decide, retrieve_base}

@@ -1,21 +1,20 @@
 -- Whether the records of a proposer's own acceptance fit.
-use Rattle.std.proofs.Common.{◌≡◌, ℕ, ◌+◌, List, [], ◌∷◌, refl, sym, ◌∙◌, ap, subst, arith, Bool, true, false, length}
+use Rattle.std.proofs.Common.{◌≡◌, ℕ, List, ◌∷◌, refl, sym, ◌∙◌, ap, Bool, true, false, length}
 use Rattle.std.specs.Prelude.{◌&&◌, not, nat_le, nat_lt, Some}
 use Rattle.std.proofs.lemmas.Bool.{false≢true}
 use Rattle.crsm_base.specs.Order.{ballot_lt}
 use Rattle.crsm_base.specs.Spelling.{FitsDecision}
 use Rattle.crsm_spec.specs.Types.{Ballot, Decision, Rec}
-use Rattle.crsm_spec.specs.Lists.{has}
 use Rattle.crsm_spec.specs.Log.{Log, known, decision, executed, promised}
 use Rattle.crsm_spec.specs.Fits.{fits, booted, can_be_members}
 use Rattle.crsm_spec.specs.Quorum.{spec_decided, has_majority}
 use Rattle.crsm_spec.specs.Replica.{Note, spec_of}
 use Rattle.crsm_spec.specs.Draft.{Draft, keep, noting}
-use Rattle.crsm_spec.specs.Coordinate.{instance, learn, has_accepted, on_chosen, count_acceptor, accept_own}
+use Rattle.crsm_spec.specs.Coordinate.{instance, learn, has_accepted, count_acceptor, accept_own}
 use Rattle.crsm_desk.specs.Sound.{IsSound}
 use Rattle.crsm_desk.specs.Standing.{learnt}
 use Rattle.crsm_coordinate.specs.Rules.{tail_goes_on}
-use Rattle.crsm_coordinate.proofs.DraftLemmas.{when_yes, when_no, and_yes, and_no, and_first, and_none, booted_more, keep_fitting, learn_fits, learnt_fitting}
+use Rattle.crsm_coordinate.proofs.DraftLemmas.{when_yes, when_no, and_first, booted_more, keep_fitting, learn_fits, learnt_fitting}
 use Rattle.crsm_coordinate.proofs.ChoiceLemmas.{chosen_fitting, chosen_note, noted_fitting}
 use Rattle.crsm_coordinate.proofs.ProposeLemmas.{own_outbid, own_waits, own_accepts, accepted_spec, count_monotone}
 

@@ -1,32 +1,22 @@
 -- A proposer's own acceptance: whether its records fit, told by what they depend on, and the note that it leaves.
-use Rattle.std.proofs.Common.{◌≡◌, ℕ, ◌+◌, ◌<◌, List, [], ◌∷◌, ◌++◌, refl, sym, ◌∙◌, ap, subst, arith, Bool, true, false, length, map}
-use Rattle.std.specs.Prelude.{◌&&◌, ◌==◌, ◌-◌, drop, ◌^◌, not, nat_le, nat_lt, Option, Some, None}
+use Rattle.std.proofs.Common.{◌≡◌, ℕ, ◌+◌, List, [], ◌∷◌, refl, sym, ◌∙◌, ap, subst, Bool, true, false, length}
+use Rattle.std.specs.Prelude.{◌&&◌, ◌==◌, ◌-◌, drop, not, nat_le, nat_lt, Option, Some, None}
 use Rattle.std.specs.Option.{option_map_or}
-use Rattle.std.proofs.lemmas.Bool.{false≢true, eq-eqb}
-use Rattle.std.proofs.lemmas.Bool.Decides.{nat_tests}
-use Rattle.crsm_base.specs.Messages.{FitsVote}
 use Rattle.crsm_base.specs.Order.{ballot_lt, ballot_eq}
-use Rattle.crsm_base.specs.Spelling.{FitsDecision, FitsBallot, FitsOption}
+use Rattle.crsm_base.specs.Spelling.{FitsDecision}
 use Rattle.crsm_spec.specs.Types.{Ballot, Entry, Decision, Rec, Control}
 use Rattle.crsm_spec.specs.Choice.{when◌then◌otherwise◌}
-use Rattle.crsm_spec.specs.Clock.{u64_max}
 use Rattle.crsm_spec.specs.Log.{Log, known, start, decision, spec, executed, promised, accepted}
 use Rattle.crsm_spec.specs.Fits.{fits, booted, can_be_members}
-use Rattle.crsm_spec.specs.Paxos.{Held, Answer, value_of}
+use Rattle.crsm_spec.specs.Paxos.{Held}
 use Rattle.crsm_spec.specs.Quorum.{spec_decided, has_majority}
 use Rattle.crsm_spec.specs.Replica.{Note, spec_of}
 use Rattle.crsm_spec.specs.Draft.{Draft, keep, noting, tell, tell_each}
-use Rattle.crsm_spec.specs.Coordinate.{forget_epoch, adopt_tail, enter, advance, instance, learn, on_chosen, has_accepted, count_acceptor, accept_own, tell_proposal, tell_ask, propose, count_answer, ask, greater_ballot, begin_proposing}
+use Rattle.crsm_spec.specs.Coordinate.{forget_epoch, adopt_tail, enter, advance, instance, learn, on_chosen, has_accepted, count_acceptor, accept_own, tell_proposal, tell_ask}
 use Rattle.crsm_spec.specs.Step.{renew}
-use Rattle.crsm_steps.proofs.Tests.{above_top}
-use Rattle.crsm_bounds.proofs.Logs.{accepted_fits, promised_fits}
-use Rattle.crsm_note.specs.declared.note.Note.{Note as InMemory}
-use Rattle.crsm_note.specs.Noted.{NoteStands, epoch_of, answered}
-use Rattle.crsm_desk.specs.Sound.{IsSound}
-use Rattle.crsm_coordinate.specs.Rules.{tail_goes_on, CanPropose, BeginsAlike}
-use Rattle.crsm_coordinate.proofs.AlikeLemmas.{alike_self}
-use Rattle.crsm_coordinate.proofs.DraftLemmas.{when_yes, when_no, when_same, and_first, and_none, booted_more, keep_fitting, each_fitting}
-use Rattle.crsm_coordinate.proofs.ChoiceLemmas.{noted_fitting}
+use Rattle.crsm_note.specs.Noted.{epoch_of}
+use Rattle.crsm_coordinate.specs.Rules.{tail_goes_on}
+use Rattle.crsm_coordinate.proofs.DraftLemmas.{when_yes, when_no, when_same, and_first, and_none, keep_fitting, each_fitting}
 use Rattle.crsm_coordinate.proofs.ProposeLemmas.{own_outbid, own_waits, own_accepts, accepted_spec}
 use Rattle.crsm_coordinate.proofs.FitLemmas.{count_few, count_many, not_after, kept_learns}
 

@@ -1,13 +1,11 @@
 -- Executed entries are told and taken.
-use Rattle.std.proofs.Common.{◌≡◌, ℕ, ◌+◌, ◌<◌, ◌≤◌, List, [], ◌∷◌, ◌++◌, length, drop, refl, sym, ◌∙◌, ap, subst, cond, arith, Bool, true, false}
-use Rattle.std.specs.Prelude.{◌-◌, ◌^◌, ◌≢◌, ◌==◌, ◌&&◌, ◌||◌, not, nat_lt, nat_le, take, Option, Some, None, if◌then◌else◌}
-use Rattle.std.specs.List.{AllByRecursion}
+use Rattle.std.proofs.Common.{◌≡◌, ℕ, ◌<◌, List, [], ◌∷◌, ◌++◌, length, drop, refl, sym, ◌∙◌, ap, subst, arith, Bool, true, false}
+use Rattle.std.specs.Prelude.{◌-◌, ◌^◌, ◌==◌, ◌&&◌, ◌||◌, not, nat_lt, nat_le, take, Option, Some, None, if◌then◌else◌}
 use Rattle.std.specs.Option.{option_map_or}
 use Rattle.std.proofs.lemmas.Bool.{false≢true, eqb-true}
 use Rattle.std.proofs.lemmas.Bool.Decides.{nat_tests}
 use Rattle.std.proofs.lemmas.Option.{none-some, same_Some}
 use Rattle.crsm_base.specs.Messages.{FitsControl}
-use Rattle.crsm_base.specs.Records.{FitsRec}
 use Rattle.crsm_base.specs.Spelling.{FitsOption, FitsEntries, FitsDecision}
 use Rattle.crsm_spec.specs.Types.{Entry, Decision, Rec, Control}
 use Rattle.crsm_spec.specs.Choice.{when◌then◌otherwise◌}
@@ -24,7 +22,7 @@ use Rattle.crsm_transfer.specs.Paging.{page_at}
 use Rattle.crsm_bounds.proofs.Entries.{take_fits, drop_fits}
 use Rattle.crsm_bounds.proofs.Logs.{decision_fits, known_small, executed_page}
 use Rattle.crsm_coordinate.specs.Rules.{CanAdopt, on_page_in, tell_executed, take_executed, rest_goes_on}
-use Rattle.crsm_coordinate.proofs.DraftLemmas.{when_yes, when_no, and_no, and_none, booted_more, keep_fitting, rest_fits, enter_fitting, retrieve_fitting, tell_fitting}
+use Rattle.crsm_coordinate.proofs.DraftLemmas.{when_yes, when_no, booted_more, rest_fits, enter_fitting, retrieve_fitting}
 
 -- ---- telling
 

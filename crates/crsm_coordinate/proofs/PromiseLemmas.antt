@@ -1,6 +1,6 @@
 -- What an acceptor does.
-use Rattle.std.proofs.Common.{◌≡◌, ℕ, ◌+◌, ◌<◌, ◌≤◌, refl, sym, ◌∙◌, ap, subst, arith, Bool, true, false, length}
-use Rattle.std.specs.Prelude.{◌^◌, ◌≢◌, nat_lt, nat_le}
+use Rattle.std.proofs.Common.{◌≡◌, ℕ, ◌+◌, ◌<◌, ◌≤◌, refl, sym, ◌∙◌, ap, arith, Bool, true, false, length}
+use Rattle.std.specs.Prelude.{nat_le}
 use Rattle.std.proofs.lemmas.Bool.Decides.{nat_tests}
 use Rattle.crsm_base.specs.Order.{ballot_lt, ballot_eq}
 use Rattle.crsm_spec.specs.Types.{Ballot, Decision, Rec, Control}
@@ -8,7 +8,7 @@ use Rattle.crsm_spec.specs.Log.{known, promised, executed}
 use Rattle.crsm_spec.specs.Draft.{Draft, keep, tell, tell_decision, tell_retrieve}
 use Rattle.crsm_spec.specs.Coordinate.{has_accepted}
 use Rattle.crsm_spec.specs.Controls.{if_next, tell_promise, on_p1a, on_p2a}
-use Rattle.crsm_coordinate.proofs.DraftLemmas.{when_yes, when_no, when_same, tell_fitting, decision_fitting, retrieve_fitting, keep_fitting}
+use Rattle.crsm_coordinate.proofs.DraftLemmas.{when_yes, when_no, tell_fitting, decision_fitting, retrieve_fitting}
 
 pub next_old : (k i : ℕ) (x y : Draft) → i ≤ known x.replica.log → if_next k i x y ≡ tell_decision k x
 unfolding if_next

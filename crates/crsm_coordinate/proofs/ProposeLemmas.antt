@@ -1,24 +1,19 @@
 -- A proposal: the proposer's own acceptance, and what is told.
-use Rattle.std.proofs.Common.{◌≡◌, ℕ, ◌+◌, ◌<◌, List, [], ◌∷◌, refl, sym, ◌∙◌, ap, subst, arith, Bool, true, false, length, map}
+use Rattle.std.proofs.Common.{◌≡◌, ℕ, ◌+◌, ◌<◌, List, ◌∷◌, refl, sym, ◌∙◌, ap, subst, Bool, true, false, length, map}
 use Rattle.std.specs.Prelude.{◌&&◌, ◌^◌, not, nat_le, filter, Option, Some, None}
-use Rattle.std.specs.Option.{option_map_or}
-use Rattle.std.proofs.lemmas.Bool.{false≢true}
 use Rattle.std.proofs.lemmas.Option.{none-some, same_Some}
 use Rattle.crsm_base.specs.Order.{ballot_lt}
 use Rattle.crsm_spec.specs.Types.{Ballot, Decision, Rec, Control}
-use Rattle.crsm_spec.specs.Choice.{when◌then◌otherwise◌}
 use Rattle.crsm_spec.specs.Lists.{has}
 use Rattle.crsm_spec.specs.Log.{known, decision, spec, executed, promised, active}
-use Rattle.crsm_spec.specs.Fits.{fits}
 use Rattle.crsm_spec.specs.Paxos.{Answer}
 use Rattle.crsm_spec.specs.Quorum.{has_majority}
 use Rattle.crsm_spec.specs.Replica.{Note, spec_of, others}
 use Rattle.crsm_spec.specs.Draft.{Draft, keep, noting, tell_each, tell_all, retrieve}
-use Rattle.crsm_spec.specs.Coordinate.{forget_epoch, instance, learn, has_accepted, on_chosen, count_acceptor, accept_own, tell_ask, tell_proposal}
+use Rattle.crsm_spec.specs.Coordinate.{instance, learn, has_accepted, count_acceptor, accept_own, tell_ask, tell_proposal}
 use Rattle.crsm_spec.specs.Step.{ask_all}
-use Rattle.crsm_desk.specs.Standing.{learnt}
-use Rattle.crsm_note.specs.Noted.{IsOwn, epoch_of, counted_of, ballot_of, proposal_of}
-use Rattle.crsm_coordinate.proofs.DraftLemmas.{when_yes, when_no, enter_fitting, kept_monotone}
+use Rattle.crsm_note.specs.Noted.{IsOwn, epoch_of, counted_of, proposal_of}
+use Rattle.crsm_coordinate.proofs.DraftLemmas.{when_yes, when_no, kept_monotone}
 use Rattle.crsm_coordinate.proofs.ChoiceLemmas.{chosen_fitting, chosen_note, noted_fitting}
 
 -- ---- the own acceptance

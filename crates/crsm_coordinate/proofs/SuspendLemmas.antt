@@ -1,18 +1,18 @@
 -- The known epoch is ended here.
-use Rattle.std.proofs.Common.{◌≡◌, ℕ, ◌+◌, ◌<◌, ◌≤◌, refl, sym, ◌∙◌, ap, subst, arith, Bool, true, false, length}
-use Rattle.std.specs.Prelude.{◌^◌, ◌==◌, nat_lt, Option, Some, None}
+use Rattle.std.proofs.Common.{◌≡◌, ℕ, ◌<◌, ◌∙◌, subst, arith, true, false, length}
+use Rattle.std.specs.Prelude.{◌^◌, Option}
 use Rattle.std.proofs.lemmas.Bool.Decides.{nat_tests}
 use Rattle.crsm_base.specs.Messages.{FitsControl}
 use Rattle.crsm_base.specs.Spelling.{FitsOption, FitsStamp}
-use Rattle.crsm_spec.specs.Types.{Stamp, Rec, Control}
-use Rattle.crsm_spec.specs.Log.{Log, known, suspended, executed, last_stamp}
+use Rattle.crsm_spec.specs.Types.{Stamp, Rec}
+use Rattle.crsm_spec.specs.Log.{known, suspended, executed}
 use Rattle.crsm_spec.specs.Draft.{Draft, keep, tell, tell_decision, tell_retrieve}
-use Rattle.crsm_spec.specs.Collect.{suspend_ok, asked_of, first_page}
+use Rattle.crsm_spec.specs.Collect.{suspend_ok}
 use Rattle.crsm_spec.specs.Coordinate.{suspend_once}
 use Rattle.crsm_spec.specs.Controls.{on_suspend}
 use Rattle.crsm_desk.specs.Sound.{IsSound}
 use Rattle.crsm_bounds.proofs.Logs.{known_small, last_fits, asked_page}
-use Rattle.crsm_coordinate.proofs.DraftLemmas.{when_yes, when_no, tell_fitting}
+use Rattle.crsm_coordinate.proofs.DraftLemmas.{when_yes, when_no}
 
 pub suspend_old : (k e : ℕ) (after : Option Stamp) (x : Draft) → e < known x.replica.log → on_suspend k e after x ≡ tell_decision k x
 unfolding on_suspend

@@ -1,4 +1,4 @@
-use Rattle.std.proofs.Common.{◌≡◌, ◌∙◌, ◌++◌, ◌∷◌, [], sym, subst, ap, true, false, map}
+use Rattle.std.proofs.Common.{◌≡◌, ◌∙◌, ◌++◌, ◌∷◌, [], sym, subst, ap, true, map}
 use Rattle.crsm_spec.specs.Types.{Decision}
 use Rattle.crsm_spec.specs.Lists.{has}
 use Rattle.crsm_spec.specs.Log.{decision}
@@ -6,7 +6,7 @@ use Rattle.crsm_spec.specs.Paxos.{Answer, value_of}
 use Rattle.crsm_spec.specs.Quorum.{has_majority}
 use Rattle.crsm_spec.specs.Replica.{Note, spec_of}
 use Rattle.crsm_spec.specs.Draft.{Draft, noting}
-use Rattle.crsm_spec.specs.Coordinate.{accept_own, count_answer}
+use Rattle.crsm_spec.specs.Coordinate.{accept_own}
 use Rattle.crsm_note.specs.Noted.{NoteStands}
 use Rattle.crsm_desk.specs.Standing.{StandsFor}
 use Rattle.crsm_coordinate.proofs.BeginLemmas.{count_more, count_last, answered_more, answered_last}

@@ -1,5 +1,4 @@
-use Rattle.std.proofs.Common.{◌≡◌, ◌∙◌, ◌++◌, ◌∷◌, [], sym, subst, ap, true}
-use Rattle.std.specs.Prelude.{Some}
+use Rattle.std.proofs.Common.{◌∙◌, ◌++◌, ◌∷◌, [], subst, ap}
 use Rattle.crsm_base.specs.Messages.{FitsVote}
 use Rattle.crsm_base.specs.Spelling.{FitsOption}
 use Rattle.crsm_spec.specs.Types.{Decision}
@@ -7,7 +6,7 @@ use Rattle.crsm_spec.specs.Log.{decision}
 use Rattle.crsm_spec.specs.Paxos.{Answer, value_of}
 use Rattle.crsm_spec.specs.Replica.{Note}
 use Rattle.crsm_spec.specs.Coordinate.{accept_own}
-use Rattle.crsm_note.specs.Noted.{NoteStands, proposal_with}
+use Rattle.crsm_note.specs.Noted.{NoteStands}
 use Rattle.crsm_coordinate.proofs.AnswerLemmas.{last_fitting, proposes_with}
 use Rattle.crsm_coordinate.proofs.ChoiceLemmas.{same_value, same_round}
 use Rattle.crsm_coordinate.proofs.ProposeLemmas.{none_proposed}

@@ -1,6 +1,6 @@
-use Rattle.std.proofs.Common.{◌≡◌, ◌∙◌, sym}
+use Rattle.std.proofs.Common.{◌∙◌, sym}
 use Rattle.crsm_spec.specs.Log.{decision}
-use Rattle.crsm_coordinate.proofs.AnswerLemmas.{answer_counts, answer_ignored, IsAnswerFor}
+use Rattle.crsm_coordinate.proofs.AnswerLemmas.{answer_counts, answer_ignored}
 use Rattle.crsm_coordinate.proofs.DraftLemmas.{does_nothing, instead, and_none, and_no}
 use Rattle.crsm_coordinate.proofs.answering.on_p1b.Goals as goal
 

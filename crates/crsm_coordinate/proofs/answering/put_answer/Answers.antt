@@ -1,13 +1,12 @@
-use Rattle.std.proofs.Common.{◌≡◌, ◌∙◌, ◌++◌, ◌∷◌, [], sym, subst, ap, true}
+use Rattle.std.proofs.Common.{◌++◌, ◌∷◌, [], sym, subst}
 use Rattle.crsm_base.specs.Messages.{FitsVote}
 use Rattle.crsm_base.specs.Spelling.{FitsOption}
 use Rattle.crsm_spec.specs.Types.{Decision}
-use Rattle.crsm_spec.specs.Lists.{has}
 use Rattle.crsm_spec.specs.Log.{decision, spec}
-use Rattle.crsm_spec.specs.Paxos.{Held, Answer}
+use Rattle.crsm_spec.specs.Paxos.{Held}
 use Rattle.crsm_spec.specs.Quorum.{spec_decided}
 use Rattle.crsm_spec.specs.Replica.{Note, spec_of}
-use Rattle.crsm_spec.specs.Draft.{Draft, noting}
+use Rattle.crsm_spec.specs.Draft.{noting}
 use Rattle.crsm_note.specs.Noted.{NoteStands, answered}
 use Rattle.crsm_desk.specs.Standing.{StandsFor}
 use Rattle.crsm_coordinate.proofs.ChoiceLemmas.{noted_twice}

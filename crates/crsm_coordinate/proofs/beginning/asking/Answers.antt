@@ -1,7 +1,7 @@
-use Rattle.std.proofs.Common.{◌≡◌, ◌∙◌, ◌+◌, [], ◌∷◌, sym, subst, ap}
+use Rattle.std.proofs.Common.{[], ◌∷◌, sym, subst}
 use Rattle.crsm_base.specs.Messages.{FitsVote}
 use Rattle.crsm_base.specs.Spelling.{FitsBallot, FitsOption}
-use Rattle.crsm_spec.specs.Log.{decision, accepted, spec}
+use Rattle.crsm_spec.specs.Log.{decision, spec}
 use Rattle.crsm_spec.specs.Quorum.{spec_decided}
 use Rattle.crsm_spec.specs.Replica.{spec_of}
 use Rattle.crsm_bounds.proofs.Logs.{accepted_fits}

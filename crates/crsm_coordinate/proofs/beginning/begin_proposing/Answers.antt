@@ -1,5 +1,5 @@
-use Rattle.std.proofs.Common.{◌≡◌, ◌∙◌, ◌+◌, ◌<◌, [], ◌∷◌, refl, sym, subst, ap, arith, true, false}
-use Rattle.std.specs.Prelude.{◌^◌, ◌==◌}
+use Rattle.std.proofs.Common.{◌≡◌, ◌∙◌, ◌+◌, [], ◌∷◌, sym, subst, ap, true}
+use Rattle.std.specs.Prelude.{◌==◌}
 use Rattle.std.proofs.lemmas.Bool.{eq-eqb}
 use Rattle.crsm_base.specs.Spelling.{FitsBallot}
 use Rattle.crsm_spec.specs.Types.{Ballot, Rec}
@@ -8,7 +8,7 @@ use Rattle.crsm_spec.specs.Log.{decision, promised}
 use Rattle.crsm_spec.specs.Paxos.{value_of}
 use Rattle.crsm_spec.specs.Replica.{Note, spec_of}
 use Rattle.crsm_spec.specs.Draft.{Draft, keep, noting}
-use Rattle.crsm_spec.specs.Coordinate.{instance, greater_ballot, begin_proposing, accept_own}
+use Rattle.crsm_spec.specs.Coordinate.{instance, greater_ballot, accept_own}
 use Rattle.crsm_note.specs.Noted.{answered}
 use Rattle.crsm_desk.specs.Standing.{StandsFor}
 use Rattle.crsm_coordinate.proofs.DraftLemmas.{was_whole}

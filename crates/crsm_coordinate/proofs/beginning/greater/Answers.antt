@@ -1,4 +1,4 @@
-use Rattle.std.proofs.Common.{◌≡◌, ◌∙◌, sym}
+use Rattle.std.proofs.Common.{◌∙◌, sym}
 use Rattle.crsm_spec.specs.Coordinate.{greater_ballot}
 use Rattle.crsm_coordinate.proofs.DraftLemmas.{when_yes, when_no}
 use Rattle.crsm_coordinate.proofs.beginning.greater.Goals as goal

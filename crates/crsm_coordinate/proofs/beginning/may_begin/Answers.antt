@@ -1,13 +1,12 @@
-use Rattle.std.proofs.Common.{◌≡◌, ◌∙◌, [], ◌∷◌, sym, subst, ap, true, false}
+use Rattle.std.proofs.Common.{◌≡◌, ◌∙◌, [], ◌∷◌, sym, subst, ap}
 use Rattle.std.proofs.lemmas.Bool.{eq-eqb}
 use Rattle.crsm_base.specs.Spelling.{FitsDecision}
-use Rattle.crsm_spec.specs.Types.{Ballot}
 use Rattle.crsm_spec.specs.Clock.{u64_max}
 use Rattle.crsm_spec.specs.Log.{accepted}
 use Rattle.crsm_spec.specs.Paxos.{value_of}
 use Rattle.crsm_spec.specs.Coordinate.{greater_ballot}
 use Rattle.crsm_bounds.proofs.Logs.{accepted_fits}
-use Rattle.crsm_coordinate.proofs.BeginLemmas.{mine, after, round_left, value_spelt, fits_spent, fits_asking, fits_alone}
+use Rattle.crsm_coordinate.proofs.BeginLemmas.{after, round_left, value_spelt, fits_spent, fits_asking, fits_alone}
 use Rattle.crsm_coordinate.proofs.beginning.may_begin.Goals as goal
 
 pub returns-then-top : goal.returns-then-top

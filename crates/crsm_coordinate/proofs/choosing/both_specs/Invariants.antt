@@ -1,4 +1,4 @@
-use Rattle.std.proofs.Common.{◌≡◌, ℕ, ◌<◌, take}
+use Rattle.std.proofs.Common.{◌≡◌, ◌<◌, take}
 use Rattle.std.specs.Prelude.{filter, not, All, ◌&&◌, ◌||◌, ◌==◌}
 use Rattle.crsm_spec.specs.Lists.{has}
 use Rattle.crsm_coordinate.proofs.choosing.both_specs.Given as goal

@@ -1,9 +1,7 @@
-use Rattle.std.proofs.Common.{◌≡◌, ◌∙◌, sym, subst, ap, true, false, Bool}
+use Rattle.std.proofs.Common.{◌∙◌, sym, ap}
 use Rattle.std.specs.Prelude.{◌&&◌}
-use Rattle.crsm_spec.specs.Types.{Decision, Rec}
-use Rattle.crsm_spec.specs.Log.{executed}
+use Rattle.crsm_spec.specs.Types.{Rec}
 use Rattle.crsm_spec.specs.Fits.{fits}
-use Rattle.crsm_coordinate.specs.Rules.{tail_goes_on}
 use Rattle.crsm_coordinate.proofs.FitLemmas.{fits_outbid, fits_waiting, fits_accepted, fits_chosen, fits_not}
 use Rattle.crsm_coordinate.proofs.fitting.fits_own.Goals as goal
 

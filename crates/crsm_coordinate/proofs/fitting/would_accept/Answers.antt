@@ -1,9 +1,6 @@
-use Rattle.std.proofs.Common.{◌≡◌, ◌∙◌, sym, subst, ap, true, false, Bool}
-use Rattle.std.specs.Prelude.{◌&&◌}
-use Rattle.crsm_spec.specs.Types.{Decision, Rec}
-use Rattle.crsm_spec.specs.Log.{executed}
+use Rattle.std.proofs.Common.{◌∙◌, ap}
+use Rattle.crsm_spec.specs.Types.{Rec}
 use Rattle.crsm_spec.specs.Fits.{fits}
-use Rattle.crsm_coordinate.specs.Rules.{tail_goes_on}
 use Rattle.crsm_coordinate.proofs.fitting.would_accept.Goals as goal
 
 pub returns : goal.returns

@@ -1,21 +1,11 @@
-use Rattle.std.proofs.Common.{◌≡◌, ◌∙◌, ◌<◌, ◌≤◌, ◌+◌, ◌++◌, sym, subst, ap, refl, arith, Bool, true, false, length, List, []}
-use Rattle.std.specs.Prelude.{Option, Some, None, ◌&&◌, ◌-◌, ◌^◌, nat_le, nat_lt, drop, slice_get}
-use Rattle.std.specs.Option.{option_map_or, option_copied}
-use Rattle.crsm_base.specs.Order.{entry_lt, ballot_lt, ballot_eq}
-use Rattle.crsm_base.specs.Spelling.{FitsBallot, FitsDecision, FitsEntries, FitsOption}
-use Rattle.crsm_base.specs.Records.{FitsRec}
-use Rattle.crsm_base.specs.Messages.{FitsControl, FitsVote}
-use Rattle.crsm_spec.specs.Types.{Ballot, Entry, Decision, Rec, Control}
-use Rattle.crsm_spec.specs.Log.{known, decision, executed, promised, accepted}
-use Rattle.crsm_spec.specs.Draft.{Draft, keep, tell, tell_decision, tell_retrieve}
-use Rattle.crsm_spec.specs.Coordinate.{advance, adopt_tail, enter, learn, has_accepted}
-use Rattle.crsm_spec.specs.Controls.{on_decide, retrieve_base, on_retrieve, on_p1a, on_p2a, if_next, tell_promise, page_from}
-use Rattle.crsm_spec.specs.Step.{if_fitting}
-use Rattle.crsm_desk.specs.Standing.{StandsFor, learnt}
-use Rattle.crsm_desk.specs.Sound.{IsSound}
-use Rattle.crsm_coordinate.specs.Rules.{tail_goes_on, rest_goes_on, first_left, CanAdopt, IsNextOr, on_page_in, tell_executed, take_executed}
+use Rattle.std.proofs.Common.{◌≡◌, ◌∙◌, sym, subst, ap, true, false}
+use Rattle.crsm_base.specs.Spelling.{FitsBallot}
+use Rattle.crsm_spec.specs.Types.{Rec}
+use Rattle.crsm_spec.specs.Draft.{Draft, keep}
+use Rattle.crsm_spec.specs.Controls.{on_p2a}
+use Rattle.crsm_desk.specs.Standing.{StandsFor}
 use Rattle.crsm_coordinate.proofs.PromiseLemmas.{p2a_refuses, p2a_repeats, p2a_lacks, p2a_accepts, other_fitting}
-use Rattle.crsm_bounds.proofs.Logs.{accepted_fits, promised_fits}
+use Rattle.crsm_bounds.proofs.Logs.{promised_fits}
 use Rattle.crsm_coordinate.proofs.DraftLemmas.{is_whole, is_ignored, was_whole, was_ignored, tell_fitting, retrieve_fitting}
 use Rattle.crsm_coordinate.proofs.promising.on_p2a.Goals as goal
 

@@ -1,4 +1,3 @@
-use Rattle.std.proofs.Common.{◌≡◌}
 use Rattle.crsm_spec.specs.Coordinate.{accept_own}
 use Rattle.crsm_spec.specs.Step.{renew}
 use Rattle.crsm_coordinate.proofs.renewing.accept_and_tell.Goals as goal

@@ -1,5 +1,4 @@
-use Rattle.std.proofs.Common.{◌≡◌, ◌∙◌, sym, subst, ap, true, false}
-use Rattle.std.specs.Prelude.{Option, Some}
+use Rattle.std.proofs.Common.{◌∙◌, sym, subst, ap}
 use Rattle.std.proofs.lemmas.Option.{same_Some}
 use Rattle.crsm_spec.specs.Types.{Ballot, Decision}
 use Rattle.crsm_spec.specs.Coordinate.{begin_proposing}

@@ -1,16 +1,13 @@
-use Rattle.std.proofs.Common.{◌≡◌, ◌∙◌, ◌∷◌, sym, subst, ap, true, false}
+use Rattle.std.proofs.Common.{◌≡◌, ◌∙◌, ◌∷◌, sym, subst, ap, true}
 use Rattle.std.specs.Prelude.{Some}
 use Rattle.crsm_base.specs.Spelling.{FitsDecision}
-use Rattle.crsm_spec.specs.Types.{Ballot, Decision}
 use Rattle.crsm_spec.specs.Lists.{has}
 use Rattle.crsm_spec.specs.Log.{decision}
 use Rattle.crsm_spec.specs.Quorum.{spec_decided, has_majority}
 use Rattle.crsm_spec.specs.Replica.{Note}
 use Rattle.crsm_spec.specs.Coordinate.{accept_own}
-use Rattle.crsm_spec.specs.Step.{renew}
 use Rattle.crsm_note.specs.Noted.{NoteStands, proposal_of}
 use Rattle.crsm_note.proofs.Notes.{proposing_mine}
-use Rattle.crsm_desk.specs.Standing.{StandsFor}
 use Rattle.crsm_coordinate.proofs.OwnLemmas.{renewed_fitting, spec_as}
 use Rattle.crsm_coordinate.proofs.ChoiceLemmas.{same_value, same_round}
 use Rattle.crsm_coordinate.proofs.DraftLemmas.{is_whole, is_ignored}
