@@ -8,5 +8,8 @@ pub mod OwnLemmas
 pub mod PageLemmas
 pub mod PromiseLemmas
 pub mod ProposeLemmas
+pub mod ReconfigureLemmas
+pub mod ReportLemmas
+pub mod StageLemmas
 pub mod SuspendLemmas
 pub mod TailLemmas

@@ -72,7 +72,7 @@ fn is_other(old: &Members, new: &Members, me: u32, k: u32) -> bool
 }
 
 #[tactic(auto, unfolding(crsm_spec::specs::Lists::has))]
-fn is_among(replicas: &[u32], replica: u32) -> bool
+pub(crate) fn is_among(replicas: &[u32], replica: u32) -> bool
     ensures { result ≡ has replicas.now replica }
 {
     replicas.iter().any(|other| *other == replica)
