@@ -2,6 +2,7 @@ pub mod AlikeLemmas
 pub mod AnswerLemmas
 pub mod BeginLemmas
 pub mod ChoiceLemmas
+pub mod ControlLemmas
 pub mod DraftLemmas
 pub mod FitLemmas
 pub mod OwnLemmas
@@ -9,6 +10,7 @@ pub mod PageLemmas
 pub mod PromiseLemmas
 pub mod ProposeLemmas
 pub mod ReconfigureLemmas
+pub mod RenewLemmas
 pub mod ReportLemmas
 pub mod StageLemmas
 pub mod SuspendLemmas

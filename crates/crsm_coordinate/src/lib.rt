@@ -1,11 +1,12 @@
-//! What a step does to end an epoch, and with control messages, one rule by one: suspend, collect, promise, propose, count
-//! promises and votes, learn and page.
+//! What a step does to end an epoch, and with control messages: suspend, collect, promise, propose, count promises and votes,
+//! learn and page. `on_control` hands each kind of message to its rule.
 #![tactic(auto)]
 
 mod answering;
 mod beginning;
 mod choosing;
 mod collecting;
+mod controls;
 mod counting;
 mod fitting;
 mod learning;
@@ -17,11 +18,13 @@ mod renewing;
 mod suspending;
 mod tails;
 mod telling;
+mod ticks;
 
 pub use answering::on_p1b;
 pub use beginning::{begin_proposing, may_begin};
 pub use choosing::choose;
 pub use collecting::{on_suspend_ok, tell_collect};
+pub use controls::on_control;
 pub use counting::{on_p1no, on_p2b};
 pub use fitting::fits_own;
 pub use learning::on_decide;
@@ -32,3 +35,4 @@ pub use reconfiguring::on_suspect;
 pub use renewing::{renew_over, renew_proposal};
 pub use suspending::on_suspend;
 pub use telling::{ask_all, tell_ask, tell_proposal};
+pub use ticks::renew_and_ask;
