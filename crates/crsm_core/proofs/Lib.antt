@@ -1,4 +1,5 @@
 pub mod Fitting
+pub mod FoundLemmas
 pub mod RequestLemmas
 pub mod FrameLemmas
 pub mod OwedLemmas

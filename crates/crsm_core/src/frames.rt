@@ -11,7 +11,8 @@ ghost use Rattle.crsm_spec.specs.Draft.{Draft};
 ghost use Rattle.crsm_spec.specs.Frames as frames;
 ghost use Rattle.crsm_spec.specs.Step.{if_fitting};
 ghost use Rattle.crsm_desk.specs.Standing.{StandsFor};
-ghost use Rattle.crsm_core.specs.Rules.{Follows, FollowsFrom};
+ghost use Rattle.crsm_coordinate.specs.Hearing.{FollowsFrom};
+ghost use Rattle.crsm_coordinate.specs.Rules.{Follows};
 
 use crate::records::log_entry;
 use crsm_base::{Entry, InEpoch, NoMemory};

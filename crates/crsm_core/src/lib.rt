@@ -5,16 +5,16 @@ mod commits;
 mod frames;
 mod idle;
 mod input;
+mod laws;
 mod owed;
 mod parts;
 mod records;
 mod replica;
 mod requests;
-mod rules;
 mod step;
 mod ticks;
 
 pub use crsm_output::Batch;
 pub use input::Input;
+pub use laws::found_logs_fit;
 pub use replica::Core;
-pub use rules::Rules;

@@ -5,10 +5,10 @@ ghost use Rattle.crsm_segment.specs.Taking.{is_sized, piece};
 ghost use Rattle.crsm_spec.specs.Draft.{Draft};
 ghost use Rattle.crsm_spec.specs.Step as rules;
 ghost use Rattle.crsm_base.specs.MessageReading.{control_of};
-ghost use Rattle.crsm_core.specs.Rules.{FollowsFrom};
+ghost use Rattle.crsm_coordinate.specs.Hearing.{FollowsFrom};
 
-use crate::rules::Rules;
 use crsm_base::NoMemory;
+use crsm_coordinate::on_control;
 use crsm_desk::{Desk, desks_are_sound};
 use crsm_wire::{WireError, read_control};
 
@@ -22,7 +22,7 @@ pub(crate) struct Heading {
 }
 
 /// A part: the message that is whole with it is heard. One whose records would not fit is ignored, and its part is kept.
-pub(crate) fn on_part<R: Rules>(
+pub(crate) fn on_part(
     desk: &mut Desk,
     from: u32,
     heading: Heading,
@@ -44,18 +44,18 @@ pub(crate) fn on_part<R: Rules>(
     let Some(message) = whole else {
         return Ok(());
     };
-    on_message::<R>(desk, from, message.as_slice())?;
+    on_message(desk, from, message.as_slice())?;
     Ok(())
 }
 
 /// The bytes of a whole message. Those that are no control message do nothing.
-fn on_message<R: Rules>(desk: &mut Desk, from: u32, bytes: &[u8]) -> Result<(), NoMemory>
+fn on_message(desk: &mut Desk, from: u32, bytes: &[u8]) -> Result<(), NoMemory>
     requires { from < 15 }
     ensures { FollowsFrom from (rules.on_whole_message from (control_of bytes.now)) desk.old result desk.new }
 {
     match read_control(desk.alloc(), bytes) {
         Ok(control) => {
-            R::on_control(desk, from, &control)?;
+            on_control(desk, from, &control)?;
             Ok(())
         }
         Err(WireError::NotOne) => Ok(()),

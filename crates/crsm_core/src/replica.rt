@@ -13,7 +13,6 @@ ghost use Rattle.crsm_core.specs.Inputs.{input_of, FitsInput};
 ghost use Rattle.crsm_core.specs.Standing.{CoreAwaits, CoreStands, Answers, IsSpent};
 
 use crate::input::Input;
-use crate::rules::Rules;
 use crate::step;
 use crsm_base::NoMemory;
 use crsm_desk::{Desk, desks_are_sound};
@@ -61,7 +60,7 @@ impl Core {
 
     #[tactic(auto, unfolding(crate::specs::Standing::IsSpent))]
     /// One step, at this reading of the clock. What it has made is to be kept and then sent.
-    pub fn step<R: Rules>(&mut self, input: &Input, reading: u64) -> Result<Batch, NoMemory>
+    pub fn step(&mut self, input: &Input, reading: u64) -> Result<Batch, NoMemory>
         requires { FitsInput input.now }
         ensures ruled { IfOk result (λ batch. (r : Replica) → CoreStands self.old r →
             Answers batch (step r (input_of input.now) reading) × CoreStands self.new (step r (input_of input.now) reading).replica) }
@@ -74,7 +73,7 @@ impl Core {
         }
         // Whoever sees the error below must not go on from half a step.
         self.is_spent = true;
-        step::step::<R>(&mut self.desk, input, reading)?;
+        step::step(&mut self.desk, input, reading)?;
         let batch = self.desk.take_batch()?;
         self.is_spent = false;
         Ok(batch)

@@ -8,7 +8,7 @@ ghost use Rattle.crsm_spec.specs.Replica.{Replica};
 ghost use Rattle.crsm_spec.specs.Step as rules;
 ghost use Rattle.crsm_desk.specs.Standing.{StandsFor, Makes};
 ghost use Rattle.crsm_core.specs.Inputs.{input_of, FitsInput};
-ghost use Rattle.crsm_core.specs.Rules.{Follows};
+ghost use Rattle.crsm_coordinate.specs.Rules.{Follows};
 
 use crate::commits::commits;
 use crate::frames::{on_ack, on_frame};
@@ -17,18 +17,18 @@ use crate::input::Input;
 use crate::owed::owed_oks;
 use crate::parts::{Heading, on_part};
 use crate::requests::on_request;
-use crate::rules::Rules;
 use crate::ticks::on_tick;
 use crsm_base::{Datagram, NoMemory};
+use crsm_coordinate::on_suspect;
 use crsm_desk::Desk;
 use crsm_segment::parts_of_datagrams;
 
 /// One step: the rule of the input, the acknowledgements that are due, at a tick the clock's time, the commits, the replies.
-pub(crate) fn step<R: Rules>(desk: &mut Desk, input: &Input, reading: u64) -> Result<(), NoMemory>
+pub(crate) fn step(desk: &mut Desk, input: &Input, reading: u64) -> Result<(), NoMemory>
     requires { FitsInput input.now }
     ensures { IfOk result (λ _. (r : Replica) → StandsFor desk.old (begun r) → StandsFor desk.new (rules.step r (input_of input.now) reading)) }
 {
-    on_input::<R>(desk, input, reading)?;
+    on_input(desk, input, reading)?;
     owed_oks(desk, reading)?;
     idle_at(desk, input, reading)?;
     commits(desk)?;
@@ -37,21 +37,21 @@ pub(crate) fn step<R: Rules>(desk: &mut Desk, input: &Input, reading: u64) -> Re
 }
 
 /// The rule of an input.
-fn on_input<R: Rules>(desk: &mut Desk, input: &Input, reading: u64) -> Result<(), NoMemory>
+fn on_input(desk: &mut Desk, input: &Input, reading: u64) -> Result<(), NoMemory>
     requires { FitsInput input.now }
     ensures { Follows (rules.on_input (input_of input.now) reading) desk.old result desk.new }
 {
     match input {
         Input::Datagram { from, datagram } => {
-            on_datagram::<R>(desk, *from, datagram, reading)?;
+            on_datagram(desk, *from, datagram, reading)?;
             Ok(())
         }
         Input::Tick => {
-            on_tick::<R>(desk)?;
+            on_tick(desk)?;
             Ok(())
         }
         Input::Suspect { members } => {
-            R::on_suspect(desk, members)?;
+            on_suspect(desk, members)?;
             Ok(())
         }
     }
@@ -86,7 +86,7 @@ fn is_astray(desk: &Desk, from: u32, to: u32) -> bool
 }
 
 /// A datagram from an address.
-fn on_datagram<R: Rules>(
+fn on_datagram(
     desk: &mut Desk,
     address: u64,
     datagram: &Datagram,
@@ -140,7 +140,7 @@ fn on_datagram<R: Rules>(
                 index: *index,
                 count: *count,
             };
-            on_part::<R>(desk, *from, heading, bytes.as_slice())?;
+            on_part(desk, *from, heading, bytes.as_slice())?;
             Ok(())
         }
         Datagram::Request { command } => {
@@ -149,7 +149,7 @@ fn on_datagram<R: Rules>(
         }
         Datagram::Reply { .. } => Ok(()),
         Datagram::Operate { members } => {
-            R::on_suspect(desk, members)?;
+            on_suspect(desk, members)?;
             Ok(())
         }
     }

@@ -3,14 +3,14 @@
 ghost use Rattle.crsm_spec.specs.Frames as frames;
 ghost use Rattle.crsm_spec.specs.Step as rules;
 ghost use Rattle.crsm_desk.specs.Standing.{Makes};
-ghost use Rattle.crsm_core.specs.Rules.{Follows};
+ghost use Rattle.crsm_coordinate.specs.Rules.{Follows};
 
-use crate::rules::Rules;
 use crsm_base::NoMemory;
+use crsm_coordinate::renew_and_ask;
 use crsm_desk::{Desk, desks_are_sound};
 
 /// A tick: frames again while active, and otherwise the note's messages and a question to all.
-pub(crate) fn on_tick<R: Rules>(desk: &mut Desk) -> Result<(), NoMemory>
+pub(crate) fn on_tick(desk: &mut Desk) -> Result<(), NoMemory>
     ensures { Follows rules.on_tick desk.old result desk.new }
 {
     desks_are_sound();
@@ -18,7 +18,7 @@ pub(crate) fn on_tick<R: Rules>(desk: &mut Desk) -> Result<(), NoMemory>
         send_again(desk)?;
         return Ok(());
     }
-    R::renew_and_ask(desk)?;
+    renew_and_ask(desk)?;
     Ok(())
 }
 

@@ -10,13 +10,13 @@ use Rattle.crsm_core.proofs.StepLemmas.{parted, part_alone, part_whole}
 use Rattle.crsm_core.proofs.parts.on_part.Goals as goal
 
 pub returns-in_default : goal.returns-in_default
-returns-in_default g c = λ x s n.
+returns-in_default c = λ x s n.
     let p : Piece = piece c.args.from c.args.heading.boot c.args.heading.number c.args.heading.index c.args.heading.count c.args.bytes.now in
     let whole = c.in_ok-whole.ensures.whole x s in
     kept c.take_part.new.self x (on_part p x) (parted p x) c.desks_are_sound.ensures (part_alone p x (sym c.in_default.is ∙ whole)) (c.in_ok-whole.ensures.part x s)
 
 pub returns : goal.returns
-returns g c = λ x s n.
+returns c = λ x s n.
     let p : Piece = piece c.args.from c.args.heading.boot c.args.heading.number c.args.heading.index c.args.heading.count c.args.bytes.now in
     let whole = c.in_ok-whole.ensures.whole x s in
     let y : Draft = parted p x in

@@ -8,7 +8,7 @@ use Rattle.crsm_core.proofs.StepLemmas.{step_is}
 use Rattle.crsm_core.proofs.step.step.Goals as goal
 
 pub returns : goal.returns
-returns g c = λ r s.
+returns c = λ r s.
     let i : InputOnPaper = input_of c.args.input.now in
     let t = c.args.reading in
     let x : Draft = begun r in

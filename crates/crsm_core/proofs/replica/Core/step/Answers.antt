@@ -6,7 +6,7 @@ use Rattle.crsm_core.proofs.StepLemmas.{answered}
 use Rattle.crsm_core.proofs.replica.Core.step.Goals as goal
 
 pub returns-clause-ruled : goal.returns-clause-ruled
-returns-clause-ruled g c = λ r s.
+returns-clause-ruled c = λ r s.
     let x : Draft = step r (input_of c.args.input.now) c.args.reading in
     let stands = c.in_ok-step.ensures r s.stands in
     let both = c.in_ok-batch.ensures x stands in
