@@ -1,0 +1,12 @@
+-- What is known of the log of a core.
+use Rattle.crsm_core.specs.declared.replica.Core.{Core}
+use Rattle.crsm_core.specs.Standing.{CoreStands}
+use Rattle.crsm_desk.specs.Standing.{StandsFor}
+use Rattle.crsm_running.specs.Standing.{EachFits}
+use Rattle.crsm_spec.specs.Draft.{begun}
+use Rattle.crsm_spec.specs.Replica.{Replica}
+
+-- each record of it fits
+pub core_fits : (core : Core) (r : Replica) → CoreStands core r → EachFits r.me r.n r.log
+unfolding StandsFor begun
+core_fits core r s = s.stands.sound.kept

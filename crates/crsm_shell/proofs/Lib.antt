@@ -1,0 +1,11 @@
+mod BootLemmas
+mod Boots
+mod Cores
+pub mod Files
+mod Groups
+mod Keeping
+mod Pending
+mod Ports
+mod Propositions
+mod Records
+mod Steps

@@ -1,0 +1,48 @@
+use Rattle.std.proofs.Common.{◌≡◌, ℕ, ◌+◌, ◌-◌, List, ◌++◌, length, refl, sym, ◌∙◌, ap, subst, arith, length-append}
+use Rattle.std.specs.List.{AllByRecursion}
+use Rattle.std.proofs.Math.Logic.{∥∥₁_elim, ∥∥₁_map}
+use Rattle.crsm_base.specs.declared.rec.Rec.{Rec}
+use Rattle.crsm_base.specs.declared.send.Send.{Send}
+use Rattle.crsm_base.specs.Records.{FitsRec, body_bytes}
+use Rattle.crsm_core.specs.Standing.{FitsSent}
+use Rattle.crsm_turns.specs.Outgoing.{FitsSend, posts_for}
+use Rattle.crsm_shell.specs.Standing.{ShellStands}
+use Rattle.crsm_shell.specs.Taking.{turn_of}
+use Rattle.crsm_shell.specs.Words.{disk_of}
+use Rattle.crsm_shell.proofs.Groups.{inside}
+use Rattle.crsm_shell.proofs.Pending.{one_more, sent_fit}
+use Rattle.crsm_shell.proofs.Propositions.{records_prop, sends_prop}
+use Rattle.crsm_shell.proofs.Steps.{turn_grown}
+use Rattle.crsm_shell.proofs.shell.Shell.step.Goals as goal
+
+pub write_records-requires : goal.write_records-requires
+write_records-requires g c =
+    subst (AllByRecursion FitsRec) (sym c.as_slice-2.ensures)
+    (∥∥₁_elim (c.args.self.now.stands c.requires.well) (records_prop c.in_ok-batch.batch.records) (λ s. (c.in_ok-batch.ensures s.replica s.stands).0.records))
+
+pub add-requires : goal.add-requires
+add-requires g c =
+    subst (AllByRecursion FitsSend) (sym c.as_slice-3.ensures)
+    (sent_fit c.in_ok-batch.batch.sends (∥∥₁_elim (c.args.self.now.stands c.requires.well) (sends_prop c.in_ok-batch.batch.sends) (λ s. (c.in_ok-batch.ensures s.replica s.stands).0.sends)))
+
+pub returns-clause-spelt : goal.returns-clause-spelt
+returns-clause-spelt g c =
+    ∥∥₁_elim (c.args.self.now.stands c.requires.well) (sends_prop c.in_ok-batch.batch.sends) (λ s. (c.in_ok-batch.ensures s.replica s.stands).0.sends)
+
+pub invariant_of-self-2-clause-stands : goal.invariant_of-self-2-clause-stands
+invariant_of-self-2-clause-stands g c = λ h.
+    ∥∥₁_map (c.args.self.now.stands c.requires.well) (λ s. record { replica = _; stands = (c.in_ok-batch.ensures s.replica s.stands).1 })
+
+pub returns-clause-stands : goal.returns-clause-stands
+returns-clause-stands g c kept r steps s =
+    let old = c.args.self.now in
+    let m = g.D.Disk.meaning (disk_of old) in
+    let a = c.in_ok-batch.ensures r (inside old m kept r steps s).core in
+    let batch = c.in_ok-batch.batch in
+    let body = c.in_ok-write_records.ensures.behind ∙ ap (λ (b : List Rec). old.body ++ body_bytes b) c.as_slice-2.ensures in
+    let posts = c.in_ok-add.ensures ∙ ap (λ (ps : List ℕ). old.outbox ++ posts_for ps c.as_slice-3.result.now) c.deref.ensures.value
+    ∙ ap (λ (ss : List Send). old.outbox ++ posts_for old.peers.items ss) c.as_slice-3.ensures in
+    let after = ap length c.as_slice-4.ensures in
+    let before = ap length c.as_slice.ensures in
+    let long = ap length body ∙ length-append old.body (body_bytes batch.records) in
+    one_more old _ m kept r steps _ batch _ s a.0 a.1 (turn_grown r (turn_of c.args.taken.now, c.args.reading)) refl body posts refl refl (omega (arith, after, before, long))

@@ -1,0 +1,73 @@
+-- What a boot answers.
+use Rattle.std.specs.Prelude.{◌≡◌, ◌⊎◌, ◌↔◌, ℕ, ◌+◌, ◌<◌, List, [], length, false, IsTrue, Some}
+use Rattle.crsm_base.specs.Records.{body_bytes}
+use Rattle.crsm_spec.specs.Log.{Log}
+use Rattle.crsm_spec.specs.Step.{boot}
+use Rattle.crsm_spec.specs.World.{body_size}
+use Rattle.crsm_device.specs.Counts.{Rose}
+use Rattle.crsm_device.specs.Plan.{Plan}
+use Rattle.crsm_disk.specs.Meaning.{LeavesOnly, Meaning}
+use Rattle.crsm_ledger.specs.Recovered.{IsBadAt}
+use Rattle.crsm_log.specs.Format.{bad, bodies_of, found, reading, size}
+use Rattle.crsm_log.specs.Log.{Goes, IsAsBefore, MeetsIn, Used, mount_calls, mount_count, put_calls, recorded}
+use Rattle.crsm_shell.specs.declared.begin.Begun.{Begun}
+use Rattle.crsm_shell.specs.declared.boot.Booted.{Booted}
+use Rattle.crsm_shell.specs.declared.errors.BootError.{BootError}
+use Rattle.crsm_shell.specs.declared.errors.BootError.TheVariants.{DiskFault, LogFull, BadLog}
+use Rattle.crsm_shell.specs.declared.errors.TurnError.{TurnError}
+use Rattle.crsm_shell.specs.Errors.{keep_failure}
+use Rattle.crsm_shell.specs.Flushing.{IsFull, NotKept}
+use Rattle.crsm_shell.specs.Standing.{HasLog, ShellStands}
+
+-- the body that a boot on this log puts
+abbrev pub boot_body : (me n : ℕ) → Log → List ℕ
+boot_body me n log = body_bytes (boot me n log).batch
+
+-- The boot on this log is kept and answered.
+pub record Boots {D : Type 0} {g : _} (b : Booted D g) (new : Meaning) (me n : ℕ) (log : Log) : Type 0 where
+  pub stands : ShellStands b.shell new (boot me n log).replica.log (boot me n log).replica []
+  pub lines : b.lines ≡ (boot me n log).lines
+  pub size : b.size ≡ body_size (boot me n log).batch
+
+-- why the bodies of a file are no log of replica me
+abbrev pub IsBadLog : (me n : ℕ) → (file : List ℕ) → (entry why : ℕ) → Type 0
+IsBadLog me n file entry why =
+    ((why ≡ 10) × (reading file ≡ bad entry)) ⊎ ((reading file ≡ found (bodies_of file)) × IsBadAt me n (bodies_of file) entry why)
+
+-- It is not booted, and why.
+pub record RefusesBoot (me n : ℕ) (old new : Meaning) (why : BootError) : Type 0 where
+  pub goes : Goes old new
+  pub fault : why ≡ DiskFault → Rose old.faults new.faults
+  pub meets : IsTrue old.honest → why ≡ DiskFault → MeetsIn (mount_count old.seen + 4) old.plan
+  pub bad_log : IsTrue old.honest → (entry kind : ℕ) → why ≡ BadLog entry kind → IsBadLog me n old.seen entry kind
+  pub full : IsTrue old.honest → (log : Log) → HasLog me n old.seen log → why ≡ LogFull → IsFull old.seen (boot_body me n log)
+
+-- What a boot on this log does to the disk: the calls of a mount and of a put.
+pub record BootsOn (me n : ℕ) (log : Log) (old new : Meaning) : Type 0 where
+  pub history : new.history ≡ recorded (put_calls (size (bodies_of old.seen)) (boot_body me n log)) (recorded (mount_calls old.seen) old.history)
+  pub plan : (p : Plan) → old.plan ≡ Some p → Used (mount_count old.seen + 4) p new.plan
+  pub fits : IsFull old.seen (boot_body me n log) → ⊥
+
+-- a crash leaves what it might have left before, or the log as it was found or with the boot behind it
+abbrev pub IsBootedOrBefore : (me n : ℕ) → Log → Meaning → List ℕ → Type 0
+IsBootedOrBefore me n log old file = IsAsBefore old file ⊎ HasLog me n file (boot me n log).replica.log
+
+-- ---- the boot that is kept on a mounted log
+
+-- the shell is that of this boot, and nothing is pending
+pub record IsBooted {D : Type 0} {g : _} (b : Booted D g) (begun : Begun) (bodies : List (List ℕ)) : Type 0 where
+  pub core : b.shell.core ≡ begun.core
+  pub peers : b.shell.peers.items ≡ begun.peers.items
+  pub body : b.shell.body ≡ []
+  pub outbox : b.shell.outbox ≡ []
+  pub pending : b.shell.pending ≡ 0
+  pub failed : b.shell.failed ≡ false
+  pub found : b.bodies ≡ bodies
+  pub lines : b.lines ≡ begun.lines
+  pub size : b.size ≡ length begun.body
+
+-- the body of the boot is not put, and why
+pub record FailsToKeep (gate : ℕ) (body : List ℕ) (old new : Meaning) (why : BootError) : Type 0 where
+  pub turn : TurnError
+  pub is : why ≡ keep_failure turn
+  pub not_kept : NotKept turn gate body old new

@@ -1,0 +1,9 @@
+pub mod Beginning
+pub mod Booting
+pub mod Errors
+pub mod Flushing
+pub mod Running
+pub mod Standing
+pub mod Taking
+pub mod Turning
+pub mod Words

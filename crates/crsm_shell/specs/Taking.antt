@@ -1,0 +1,72 @@
+-- What a shell takes, and the step that it makes of it.
+use Rattle.std.specs.Prelude.{◌≡◌, ◌≢◌, ℕ, List, [], ◌∷◌, ◌++◌, length, Option, Result, Ok, Err}
+use Rattle.crsm_spec.specs.Log.{Log}
+use Rattle.crsm_spec.specs.Replica.{Replica}
+use Rattle.crsm_spec.specs.Draft.{Draft}
+use Rattle.crsm_spec.specs.Node.{Turn, turn}
+use Rattle.crsm_spec.specs.World.{body_size}
+use Rattle.crsm_clock.specs.Readings.{Readings, Gives}
+use Rattle.crsm_core.specs.Standing.{Answers}
+use Rattle.crsm_output.specs.declared.batch.Batch.{Batch}
+use Rattle.crsm_disk.specs.Meaning.{Meaning}
+use Rattle.crsm_port.specs.Meaning.{Meaning as PortMeaning}
+use Rattle.crsm_turns.specs.Input.{TakesInput}
+use Rattle.crsm_turns.specs.declared.input.What.{What}
+use Rattle.crsm_turns.specs.declared.input.Taken.{Taken}
+use Rattle.crsm_turns.specs.declared.input.Taken.TheVariants as taken
+use Rattle.crsm_turns.specs.declared.input.TakeError.{TakeError}
+use Rattle.crsm_turns.specs.declared.input.TakeError.TheVariants as take_error
+use Rattle.crsm_ledger.specs.Recovered.{with_records}
+use Rattle.crsm_shell.specs.declared.errors.TurnError.{TurnError}
+use Rattle.crsm_shell.specs.declared.errors.TurnError.TheVariants as errors
+use Rattle.crsm_shell.specs.declared.shell.Shell.{Shell}
+use Rattle.crsm_shell.specs.declared.turned.Turned.{Turned}
+use Rattle.crsm_shell.specs.Standing.{ShellStands}
+
+-- the turn that was taken
+unfoldable pub turn_of : Taken → Turn
+turn_of (taken.Datagram from bytes) = Turn.In from bytes
+turn_of taken.Tick = Turn.Tick
+turn_of (taken.Suspect members) = Turn.Suspect members
+
+-- the step of what was taken, at its reading
+abbrev pub step_of : Replica → Turned → Draft
+step_of r t = turn r (turn_of t.taken, t.reading)
+
+-- The step is made, with its batch and the bytes of its records, and is pending behind those before it.
+pub record MakesStep {D : Type 0} {g : _} (new : Shell D g) (m : Meaning) (kept : Log) (r : Replica) (steps : List Draft) (x : Draft) (batch : Batch) (bytes : ℕ) : Type 0 where
+  pub answers : Answers batch x
+  pub stands : ShellStands new m kept x.replica (steps ++ x ∷ [])
+  pub size : bytes ≡ body_size x.batch
+  pub me : x.replica.me ≡ r.me
+  pub n : x.replica.n ≡ r.n
+  pub log : x.replica.log ≡ with_records r.log x.batch
+
+-- the same of what was taken
+abbrev pub TakesStep : {D : Type 0} {g : _} → Shell D g → Meaning → (kept : Log) → Replica → (steps : List Draft) → Turned → Type 0
+TakesStep new m kept r steps t = MakesStep new m kept r steps (step_of r t) t.batch t.size
+
+-- how long a datagram may be that is received whole
+abbrev pub most_received : ℕ
+most_received = 8192
+
+-- An input is taken off the port as it is wanted; only a receive calls the port.
+abbrev pub Receives : What → PortMeaning → PortMeaning → Result Taken TurnError → Type 0
+Receives what old new (Ok t) = TakesInput what most_received old new (Ok t)
+Receives what old new (Err errors.PortFault) = TakesInput what most_received old new (Err take_error.PortFault)
+Receives what old new (Err errors.NoMemory) = (r : Result Taken TakeError) × TakesInput what most_received old new r × (r ≢ Err take_error.PortFault)
+Receives what old new (Err errors.Failed) = ⊥
+Receives what old new (Err errors.DiskFault) = ⊥
+Receives what old new (Err errors.LogFull) = ⊥
+
+-- The same of a whole step; where the replica failed before, nothing is taken. No other error comes.
+abbrev pub Takes : What → PortMeaning → PortMeaning → Result Turned TurnError → Type 0
+Takes what old new (Ok t) = Receives what old new (Ok t.taken)
+Takes what old new (Err errors.Failed) = new ≡ old
+Takes what old new (Err why) = Receives what old new (Err why)
+
+-- The clock is read once, unless nothing is taken any more.
+abbrev pub Reads : Option Readings → Option Readings → Result Turned TurnError → Type 0
+Reads old new (Ok t) = Gives old new t.reading
+Reads old new (Err errors.Failed) = new ≡ old
+Reads old new (Err _) = (reading : ℕ) × Gives old new reading

@@ -1,0 +1,102 @@
+//! The boot of a core on the bodies of a log.
+
+ghost use Rattle.std.specs.Prelude.{◌≡◌, ◌<◌, ◌≤◌, ℕ, [], length, IfOk, IfErr};
+ghost use Rattle.crsm_ledger.specs.Recovered.{AreKept};
+ghost use Rattle.crsm_ledger.specs.Stands.{StandsFor};
+ghost use Rattle.crsm_spec.specs.Clock.{u64_max};
+ghost use Rattle.crsm_spec.specs.Log.{Log, boots};
+ghost use Rattle.crsm_shell.specs.Beginning.{BeginsOn, IsRefusal};
+
+use crate::errors::BootError;
+use crsm_base::{Bodies, Bytes, Lines, NoMemory};
+use crsm_core::Core;
+use crsm_ledger::{Ledger, LedgerError};
+use crsm_turns::write_records;
+use std::alloc::Global;
+
+/// A core whose boot is made and not kept yet.
+#[derive(Drop)]
+pub(crate) struct Begun {
+    pub(crate) core: Core,
+    /// The address of each replica.
+    pub(crate) peers: Vec<u64>,
+    /// Room for a datagram that is received.
+    pub(crate) buffer: Vec<u8>,
+    /// The records of the boot.
+    pub(crate) body: Bytes,
+    /// Their lines.
+    pub(crate) lines: Lines,
+}
+
+/// Boots a core on the bodies of its log.
+pub(crate) fn begin(
+    alloc: Global,
+    me: u32,
+    n: u32,
+    peers: &[u64],
+    bodies: &Bodies,
+) -> Result<Begun, BootError>
+    requires me_below { me < 15 }
+    requires some { 1 ≤ n }
+    requires few { n ≤ 15 }
+    ensures found { IfOk result (λ b. (log : Log) × AreKept me n [] bodies.now log × BeginsOn b me n log) }
+    ensures peers { IfOk result (λ b. b.peers.items ≡ peers.now) }
+    ensures room { IfOk result (λ b. length b.buffer.items ≡ 8192) }
+    ensures refused { IfErr result (IsRefusal me n bodies.now) }
+{
+    let (peers, buffer) = room_for(alloc, peers)?;
+    let ledger = recovered(alloc, me, n, bodies)?;
+    let mut core = Core::new(ledger)?;
+    let batch = core.begin()?;
+    let mut body = Bytes::new(alloc);
+    write_records(alloc, batch.records.as_slice(), &mut body)?;
+    Ok(Begun {
+        core,
+        peers,
+        buffer,
+        body,
+        lines: batch.lines,
+    })
+}
+
+/// The ledger of the bodies.
+fn recovered(alloc: Global, me: u32, n: u32, bodies: &Bodies) -> Result<Ledger, BootError>
+    requires me_below { me < 15 }
+    requires some { 1 ≤ n }
+    requires few { n ≤ 15 }
+    ensures whole { IfOk result (λ ledger. (log : Log) × AreKept me n [] bodies.now log × StandsFor me n ledger log × (boots log < u64_max)) }
+    ensures refused { IfErr result (IsRefusal me n bodies.now) }
+{
+    match Ledger::recover(alloc, me, n, bodies) {
+        Ok(ledger) => with_room(ledger),
+        Err(LedgerError::BadLog { entry, why }) => Err(BootError::BadLog { entry, why }),
+        Err(LedgerError::NoMemory) => Err(BootError::NoMemory),
+        // No body is refused so.
+        Err(LedgerError::NotFit { .. }) => Err(BootError::NoMemory),
+    }
+}
+
+/// The ledger, if one more boot can be counted. No memory has room for a log of which that is false.
+fn with_room(ledger: Ledger) -> Result<Ledger, BootError>
+    ensures same { IfOk result (λ same. same ≡ ledger) }
+    ensures room { IfOk result (λ _. (me n : ℕ) (log : Log) → StandsFor me n ledger log → boots log < u64_max) }
+    ensures refused { IfErr result (λ why. why ≡ BootError.NoMemory) }
+{
+    if ledger.boot() == u64::MAX {
+        return Err(BootError::NoMemory);
+    }
+    Ok(ledger)
+}
+
+// How long a datagram may be that is received whole.
+const MOST_RECEIVED: usize = 8192;
+
+/// The addresses, and room for a datagram that is received.
+fn room_for(alloc: Global, peers: &[u64]) -> Result<(Vec<u64>, Vec<u8>), NoMemory>
+    ensures peers { IfOk result (λ r. r.0.items ≡ peers.now) }
+    ensures buffer { IfOk result (λ r. length r.1.items ≡ 8192) }
+{
+    let addresses = Vec::from_slice(alloc, peers)?;
+    let buffer = Vec::from_elem(alloc, 0u8, MOST_RECEIVED)?;
+    Ok((addresses, buffer))
+}

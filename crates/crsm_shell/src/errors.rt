@@ -1,0 +1,121 @@
+//! Why a shell refuses.
+
+ghost use Rattle.std.specs.Prelude.{◌≡◌};
+ghost use Rattle.crsm_shell.specs.declared.errors.BootError.TheVariants.{NoMemory as BootWithoutMemory};
+ghost use Rattle.crsm_shell.specs.declared.errors.TurnError.TheVariants.{NoMemory as TurnWithoutMemory};
+ghost use Rattle.crsm_shell.specs.Errors.{is_lasting, keep_failure, mount_failure, put_failure, take_failure};
+
+use crsm_base::NoMemory;
+use crsm_log::{MountError, PutError};
+use crsm_turns::TakeError;
+use thiserror::Error;
+
+/// Why a replica is not booted.
+#[derive(Clone, Copy, Debug, PartialEq, Eq, Error)]
+pub enum BootError {
+    #[error("the disk failed")]
+    DiskFault,
+    /// The record of the boot would pass the limit of a log file.
+    #[error("the log is full")]
+    LogFull,
+    /// The body of this number is no list of records (0), its record of this kind does not fit, or its entry passes
+    /// the end of the file (10).
+    #[error("body {entry} of the log is bad ({why})")]
+    BadLog { entry: u64, why: u32 },
+    #[error("out of memory")]
+    NoMemory,
+}
+
+impl From<NoMemory> for BootError {
+    ghost from_gives = { λ _ e. e ≡ BootWithoutMemory };
+
+    fn from(_e: NoMemory) -> BootError {
+        BootError::NoMemory
+    }
+}
+
+impl From<MountError> for BootError {
+    ghost from_gives = { λ why e. e ≡ mount_failure why };
+
+    fn from(why: MountError) -> BootError {
+        match why {
+            MountError::DiskFault => BootError::DiskFault,
+            MountError::BadGate { entry } => BootError::BadLog { entry, why: 10 },
+            MountError::NoMemory => BootError::NoMemory,
+        }
+    }
+}
+
+/// Only the three errors of a disk come of a boot that is kept.
+impl From<TurnError> for BootError {
+    ghost from_gives = { λ why e. e ≡ keep_failure why };
+
+    fn from(why: TurnError) -> BootError {
+        match why {
+            TurnError::DiskFault => BootError::DiskFault,
+            TurnError::LogFull => BootError::LogFull,
+            TurnError::PortFault => BootError::NoMemory,
+            TurnError::Failed => BootError::NoMemory,
+            TurnError::NoMemory => BootError::NoMemory,
+        }
+    }
+}
+
+/// Why a step is not taken, or steps are not flushed.
+#[derive(Clone, Copy, Debug, PartialEq, Eq, Error)]
+pub enum TurnError {
+    /// The port failed in a receive. The shell goes on.
+    #[error("the port failed")]
+    PortFault,
+    #[error("the disk failed")]
+    DiskFault,
+    /// The records would pass the limit of a log file.
+    #[error("the log is full")]
+    LogFull,
+    /// The shell failed before.
+    #[error("the replica failed before")]
+    Failed,
+    #[error("out of memory")]
+    NoMemory,
+}
+
+impl From<NoMemory> for TurnError {
+    ghost from_gives = { λ _ e. e ≡ TurnWithoutMemory };
+
+    fn from(_e: NoMemory) -> TurnError {
+        TurnError::NoMemory
+    }
+}
+
+impl From<TakeError> for TurnError {
+    ghost from_gives = { λ why e. e ≡ take_failure why };
+
+    fn from(why: TakeError) -> TurnError {
+        match why {
+            TakeError::PortFault => TurnError::PortFault,
+            TakeError::NoMemory => TurnError::NoMemory,
+        }
+    }
+}
+
+impl From<PutError> for TurnError {
+    ghost from_gives = { λ why e. e ≡ put_failure why };
+
+    fn from(why: PutError) -> TurnError {
+        match why {
+            PutError::DiskFault => TurnError::DiskFault,
+            PutError::Failed => TurnError::Failed,
+            PutError::Full { .. } => TurnError::LogFull,
+            PutError::NoMemory => TurnError::NoMemory,
+        }
+    }
+}
+
+impl TurnError {
+    /// Whether the shell has failed for good.
+    pub fn is_lasting(self) -> bool
+        ensures { result ≡ is_lasting self }
+    {
+        self != TurnError::PortFault
+    }
+}

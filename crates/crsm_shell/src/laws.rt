@@ -1,0 +1,20 @@
+//! What the crates above need to know of files and logs.
+
+ghost use Rattle.std.specs.Prelude.{◌≡◌, ℕ, List, []};
+ghost use Rattle.crsm_spec.specs.Log.{Log};
+ghost use Rattle.crsm_shell.specs.Standing.{HasLog};
+
+use crsm_codec::one_spelling_each;
+
+/// An empty file is an empty log.
+#[tactic(auto, unfolding(crate::specs::Standing::HasLog))]
+pub fn empty_files_have_empty_logs()
+    ensures { (me n : ℕ) → HasLog me n [] [] }
+{}
+
+/// A file has one log.
+pub fn logs_are_one()
+    ensures { (me n : ℕ) (file : List ℕ) (a b : Log) → HasLog me n file a → HasLog me n file b → a ≡ b }
+{
+    one_spelling_each();
+}

@@ -1,0 +1,27 @@
+//! One running replica: the core of its log, its disk, and the steps whose records are not kept yet.
+//!
+//! A step is taken, and pends; a flush keeps the records of all that pend as one body of the log, and then sends. So a
+//! crash leaves all of them or none, and nothing is sent whose records may be lost.
+#![tactic(auto)]
+
+mod begin;
+mod boot;
+mod errors;
+mod flush;
+mod keep;
+mod laws;
+mod make;
+mod readers;
+mod shell;
+mod take;
+#[cfg(test)]
+mod tests;
+mod turn;
+mod turned;
+
+pub use boot::Booted;
+pub use crsm_turns::{Taken, What};
+pub use errors::{BootError, TurnError};
+pub use laws::{empty_files_have_empty_logs, logs_are_one};
+pub use shell::Shell;
+pub use turned::Turned;

@@ -1,0 +1,77 @@
+//! What is read of a shell, and its disk.
+
+ghost use Rattle.std.specs.Prelude.{◌≡◌, ℕ, [], List, length, false, IsTrue, Some};
+ghost use Rattle.crsm_disk.specs.Contract.{Arms};
+ghost use Rattle.crsm_disk.specs.Meaning.{Only};
+ghost use Rattle.crsm_image.specs.Calls.{History};
+ghost use Rattle.crsm_image.specs.Image.{image_of};
+ghost use Rattle.crsm_ledger.specs.Stands.{StandsFor as SaysOfLog};
+ghost use Rattle.crsm_spec.specs.Draft.{Draft};
+ghost use Rattle.crsm_spec.specs.Log.{Log};
+ghost use Rattle.crsm_spec.specs.Replica.{Replica};
+ghost use Rattle.crsm_shell.specs.Standing.{HasLog, ShellStands};
+ghost use Rattle.crsm_shell.specs.Words.{disk_of, gate_of, peers_of, pending_of, has_failed};
+
+use crate::shell::Shell;
+use crsm_disk::Disk;
+use crsm_ledger::Ledger;
+use crsm_log::stop_keeps;
+
+impl<D: Disk> Shell<D> {
+    /// How many steps are pending.
+    #[tactic(auto, unfolding(crate::specs::Standing::ShellStands))]
+    pub fn pending(&self) -> u32
+        ensures value { result ≡ pending_of self.now }
+        ensures steps { (kept : Log) (r : Replica) (steps : List Draft) → ShellStands self.now (D.meaning (disk_of self.now)) kept r steps → result ≡ length steps }
+    {
+        self.pending
+    }
+
+    /// Whether a fault of the disk, a full log or want of memory came.
+    #[tactic(auto, unfolding(crate::specs::Standing::ShellStands))]
+    pub fn failed(&self) -> bool
+        ensures value { result ≡ has_failed self.now }
+        ensures well { (kept : Log) (r : Replica) (steps : List Draft) → ShellStands self.now (D.meaning (disk_of self.now)) kept r steps → result ≡ false }
+    {
+        self.failed
+    }
+
+    /// What the records say, those of the pending steps among them.
+    #[tactic(auto, unfolding(crate::specs::Standing::ShellStands))]
+    pub fn state(&self) -> &Ledger
+        ensures { (kept : Log) (r : Replica) (steps : List Draft) → ShellStands self.now (D.meaning (disk_of self.now)) kept r steps → SaysOfLog r.me r.n result.now r.log }
+    {
+        self.core.ledger()
+    }
+
+    /// Stops a disk that can be stopped after so many further calls.
+    #[tactic(auto, unfolding(crate::specs::Standing::ShellStands))]
+    pub fn arm(&mut self, stop: Option<u64>, fill: u8)
+        ensures armed { Arms stop fill (D.meaning (disk_of self.old)) (D.meaning (disk_of self.new)) }
+        ensures stands { (kept : Log) (r : Replica) (steps : List Draft) → ShellStands self.old (D.meaning (disk_of self.old)) kept r steps →
+            ShellStands self.new (D.meaning (disk_of self.new)) kept r steps }
+        ensures gate { gate_of self.new ≡ gate_of self.old }
+        ensures peers { peers_of self.new ≡ peers_of self.old }
+        ensures pending { pending_of self.new ≡ pending_of self.old }
+        ensures failed { has_failed self.new ≡ has_failed self.old }
+    {
+        self.log.arm(stop, fill);
+    }
+
+    /// The disk as the last call left it. The pending steps are lost.
+    #[tactic(auto, unfolding(crate::specs::Standing::ShellStands))]
+    pub fn into_disk(self) -> D
+        ensures disk { result ≡ disk_of self }
+
+        // The log that is kept is on it, whatever a crash leaves.
+        ensures file { (kept : Log) (r : Replica) (steps : List Draft) → ShellStands self (D.meaning (disk_of self)) kept r steps → IsTrue (D.meaning (disk_of self)).honest →
+            HasLog r.me r.n (D.meaning result).seen kept }
+        ensures durable { (kept : Log) (r : Replica) (steps : List Draft) → ShellStands self (D.meaning (disk_of self)) kept r steps → IsTrue (D.meaning (disk_of self)).honest →
+            Only (D.meaning result).seen (D.meaning result).may_leave }
+        ensures image { (kept : Log) (r : Replica) (steps : List Draft) (h : History) (fill : ℕ) → ShellStands self (D.meaning (disk_of self)) kept r steps → IsTrue (D.meaning (disk_of self)).honest →
+            (D.meaning result).history ≡ Some h → HasLog r.me r.n (image_of h.first h.calls fill) kept }
+    {
+        stop_keeps();
+        self.log.into_disk()
+    }
+}

@@ -1,0 +1,33 @@
+//! One running replica.
+
+ghost use Rattle.std.specs.Prelude.{◌≡◌, false, length};
+ghost use Rattle.crsm_log.specs.Words.{has_failed};
+ghost use Rattle.crsm_shell.specs.Running.{IsOfOne};
+
+use crsm_base::Bytes;
+use crsm_core::Core;
+use crsm_disk::Disk;
+use crsm_log::Log;
+use crsm_turns::Outbox;
+use std::alloc::Global;
+
+/// One running replica over its disk. After a fault of the disk, a full log or want of memory it has failed for good,
+/// and a new one is booted on the disk.
+#[derive(Drop)]
+pub struct Shell<D: Disk> {
+    pub(crate) alloc: Global,
+    pub(crate) core: Core,
+    pub(crate) log: Log<D>,
+    // The address of each replica.
+    pub(crate) peers: Vec<u64>,
+    // Where a datagram is received.
+    pub(crate) buffer: Vec<u8>,
+    // The records and the datagrams of the steps that are pending.
+    pub(crate) body: Bytes,
+    pub(crate) outbox: Outbox,
+    pub(crate) pending: u32,
+    pub(crate) failed: bool,
+    ghost well: { failed ≡ false → has_failed log ≡ false },
+    ghost room: { length buffer.items ≡ 8192 },
+    ghost stands: { failed ≡ false → ∥ IsOfOne core ∥₁ },
+}

@@ -1,0 +1,15 @@
+//! What a turn gives.
+
+use crsm_output::Batch;
+use crsm_turns::Taken;
+
+/// A step that was made: the reading of the clock, what was taken, and what came of it.
+#[derive(Drop)]
+pub struct Turned {
+    /// In microseconds.
+    pub reading: u64,
+    pub taken: Taken,
+    pub batch: Batch,
+    /// How many bytes its records take in the log.
+    pub size: u64,
+}
