@@ -14,8 +14,6 @@ mod make;
 mod readers;
 mod shell;
 mod take;
-#[cfg(test)]
-mod tests;
 mod turn;
 mod turned;
 
