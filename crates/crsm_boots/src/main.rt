@@ -1,0 +1,55 @@
+//! Boots a replica that is a cluster of its own, as each line of the standard input says, and writes what comes of it.
+//!
+//! A line has the bodies of a log in hexadecimal, with spaces between, or `file` and the bytes of a whole file: then it is
+//! booted on that. `disk CALL` and `port CALL` are short runs in which that call of the disk or of the port fails.
+#![tactic(auto)]
+
+mod fault;
+mod log;
+mod tale;
+
+use crate::fault::Fault;
+use crate::log::disk_of;
+use crate::tale::tale_of;
+use crsm_disk::MemDisk;
+use crsm_shell::{BootError, Shell};
+use std::alloc::Global;
+
+fn main(rt: HostRuntime) -> Result<(), Fault> {
+    let alloc = rt.alloc();
+    for line in rt.lines(alloc) {
+        let line = line?;
+        let answer = answer_to(alloc, line.as_str())?;
+        println!(rt; "{answer}")?;
+    }
+    Ok(())
+}
+
+fn answer_to(alloc: Global, line: &str) -> Result<String, Fault> {
+    match line.split_once(' ') {
+        Some(("disk", call)) => tale_of(alloc, &[number(call)?], &[]),
+        Some(("port", call)) => tale_of(alloc, &[], &[number(call)?]),
+        _ => boot_on(alloc, disk_of(alloc, line)?),
+    }
+}
+
+fn number(word: &str) -> Result<u64, Fault> {
+    word.parse::<u64>().map_err(|_| Fault::Unreadable)
+}
+
+/// What a boot says of this disk.
+fn boot_on(alloc: Global, disk: MemDisk) -> Result<String, Fault> {
+    match Shell::boot(alloc, 0, 1, &[70], disk) {
+        Ok(booted) => {
+            let bodies = booted.bodies.as_slice().len();
+            let lines = booted.lines.as_slice().len();
+            let boots = booted.shell.state().boot();
+            Ok(format!(in alloc;
+                "boot {boots} behind {bodies} bodies, {lines} lines, {} bytes",
+                booted.size
+            )?)
+        }
+        Err((BootError::BadLog { entry, why }, _)) => Ok(format!(in alloc; "{entry}, {why}")?),
+        Err((why, _)) => Ok(format!(in alloc; "{why}")?),
+    }
+}
