@@ -1,0 +1,6 @@
+mod Boots
+mod Cuts
+mod Disks
+mod Lengths
+mod Stops
+mod Turns

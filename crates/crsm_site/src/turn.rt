@@ -1,0 +1,81 @@
+//! One step of a replica that is up.
+
+ghost use Rattle.std.specs.Prelude.{◌≡◌, ◌++◌, ◌∷◌, [], ℕ, List, IfOk, OnOk};
+ghost use Rattle.std.specs.List.{AllByRecursion};
+ghost use Rattle.crsm_core.specs.Standing.{FitsSent};
+ghost use Rattle.crsm_ledger.specs.Recovered.{with_records};
+ghost use Rattle.crsm_spec.specs.Log.{Log};
+ghost use Rattle.crsm_spec.specs.Replica.{Replica};
+ghost use Rattle.crsm_spec.specs.Draft.{Draft};
+ghost use Rattle.crsm_spec.specs.Node.{turn};
+ghost use Rattle.crsm_site.specs.Arriving.{turn_of, IsShort, Asks};
+ghost use Rattle.crsm_site.specs.Outcomes.{Makes};
+ghost use Rattle.crsm_site.specs.Standing.{IsUpAs};
+
+use crate::coming::Coming;
+use crate::step::Step;
+use crsm_base::NoMemory;
+use crsm_clock::ListClock;
+use crsm_disk::MemDisk;
+use crsm_port::MemPort;
+use crsm_shell::{Shell, What};
+use std::alloc::Global;
+
+/// So many steps are kept together at most.
+const MOST_PENDING: u32 = 32;
+
+/// What is wanted of the shell, where this comes. Bytes are put into the port.
+fn wanted(coming: Coming<'_>, port: &mut MemPort) -> Result<What, NoMemory>
+    ensures { IfOk result (λ what. Asks coming.entry port.old what port.new) }
+{
+    match coming {
+        Coming::Bytes { from, bytes } => {
+            port.put(from, bytes)?;
+            Ok(What::Receive)
+        }
+        Coming::Tick => Ok(What::Tick),
+        Coming::Suspect(members) => Ok(What::Suspect(members)),
+    }
+}
+
+/// One more step, whose records are pending. A shell that has as many steps pending as it can, or whose port failed,
+/// does not come: a world delivers no more together, and the port is new.
+pub(crate) fn take(
+    alloc: Global,
+    shell: &mut Shell<MemDisk>,
+    coming: Coming<'_>,
+    reading: u64,
+) -> Result<Step, NoMemory>
+    requires { IsShort coming }
+    ensures stands { IfOk result (λ step. (me n : ℕ) (kept : Log) (r : Replica) (steps : List Draft) → IsUpAs me n shell.old kept r steps →
+        Makes step (turn r (turn_of coming.entry, reading)) × ((turn r (turn_of coming.entry, reading)).replica.log ≡ with_records r.log (turn r (turn_of coming.entry, reading)).batch)
+        × IsUpAs me n shell.new kept (turn r (turn_of coming.entry, reading)).replica (steps ++ turn r (turn_of coming.entry, reading) ∷ [])) }
+    ensures spelt { IfOk result (λ step. AllByRecursion FitsSent step.batch.sends) }
+{
+    if shell.pending() >= MOST_PENDING {
+        return Err(NoMemory);
+    }
+    let mut clock = ListClock::new(alloc, &[reading])?;
+    let mut port = MemPort::new(alloc, &[])?;
+    let what = wanted(coming, &mut port)?;
+    match shell.take(what, &mut clock, &mut port) {
+        Ok(turned) => Ok(Step {
+            batch: turned.batch,
+            size: turned.size,
+        }),
+        Err(_) => Err(NoMemory),
+    }
+}
+
+/// Keeps the records of the pending steps. The disk does not fail and is not full: it is one in memory that no call
+/// fails of, and a world is full long before.
+pub(crate) fn flush(alloc: Global, shell: &mut Shell<MemDisk>) -> Result<(), NoMemory>
+    ensures { OnOk result ((me n : ℕ) (kept : Log) (r : Replica) (steps : List Draft) → IsUpAs me n shell.old kept r steps → IsUpAs me n shell.new r.log r []) }
+{
+    // What goes out is in the batches: the world has it from there.
+    let mut port = MemPort::new(alloc, &[])?;
+    match shell.flush(&mut port) {
+        Ok(()) => Ok(()),
+        Err(_) => Err(NoMemory),
+    }
+}
