@@ -1,5 +1,10 @@
-pub mod Cluster
-pub mod Built
-pub mod Held
+pub mod Doing
+pub mod Placed
+pub mod Mailed
+pub mod Leaving
+pub mod Turning
+pub mod Several
+pub mod Starting
+pub mod Refusing
+pub mod Standing
 pub mod Schedule
-pub mod Safe

@@ -1,8 +1,21 @@
 //! A cluster in one process, driven by the events of a schedule.
 #![tactic(auto)]
 
-mod extent;
+mod bad;
+mod causes;
+mod deliveries;
+mod ending;
+mod endings;
+mod events;
+mod founders;
+mod groups;
+mod lines;
+mod mail;
+mod outgoing;
+mod post;
+mod replicas;
+mod sites;
 mod world;
 
-pub use extent::{built, built_count};
-pub use world::{Bad, World};
+pub use bad::Bad;
+pub use world::World;

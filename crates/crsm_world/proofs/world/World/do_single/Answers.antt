@@ -1,37 +1,46 @@
-use Rattle.std.proofs.Common.{◌≡◌, ◌≢◌, ◌<◌, ◌≤◌, None, Some, ap, sym, ◌∙◌, subst, IfOk, IfErr}
-use Rattle.std.proofs.lemmas.Result.{IfOk-weaker}
+use Rattle.std.proofs.Common.{◌∙◌, ap, sym, subst}
+use Rattle.crsm_spec.specs.Node.{Turn}
+use Rattle.crsm_spec.specs.Moments.{single}
+use Rattle.crsm_site.specs.Arriving.{turn_of}
+use Rattle.crsm_world.specs.Turning.{ending_of, turn_at}
+use Rattle.crsm_spec.specs.Types.{Datagram}
 use Rattle.crsm_schedule.specs.declared.Single.{Single}
-use Rattle.crsm_schedule.specs.declared.Single.TheVariants.{Request}
-use Rattle.crsm_schedule.specs.declared.Event.TheVariants.{One}
-use Rattle.crsm_world.specs.declared.world.Bad.TheVariants.{NoMemory, NoSuchReplica}
-use Rattle.crsm_world.specs.Cluster.{Moment, act, possible, request}
-use Rattle.crsm_world.specs.Held.{StandsFor}
-use Rattle.crsm_world.proofs.Steps.{possible_here, no_such_replica, act_is, if_err_weaker}
+use Rattle.crsm_schedule.specs.Grammar.{FitsSingle}
+use Rattle.crsm_world.specs.Doing.{single_of}
+use Rattle.crsm_world.specs.Turning.{IsGenuine}
+use Rattle.crsm_world.proofs.Turns.{turn_datagram, turn_tick, turn_suspect, turn_junk}
+use Rattle.crsm_world.proofs.Leading.{leads_as}
 use Rattle.crsm_world.proofs.world.World.do_single.Goals as goal
 
-pub returns-clause-possible : goal.returns-clause-possible
-returns-clause-possible c = λ d s.
-    let r = c.in-Request.replica in
-    subst (λ (e : Single). IfOk c.request_at.result (λ lines. possible d (One e) ≡ None)) (sym c.in-Request.is)
-    (IfOk-weaker c.request_at.result (λ lines. r < d.replicas) (λ lines. possible d (One (Request r c.in-Request.reading c.in-Request.command)) ≡ None)
-    (λ lines within. possible_here d r c.in-Request.reading c.in-Request.command within) (c.request_at.ensures.possible d s))
+pub returns-in_ok-request-in-Request : goal.returns-in_ok-request-in-Request
+unfolding single single_of
+returns-in_ok-request-in-Request c v h g =
+    let fits = subst (λ (s : Single). FitsSingle s) c.in-Request.is c.requires.fits in
+    rw c.in-Request.is (leads_as _ _ _ _ (sym (turn_datagram (ending_of c.args.ending) v c.in-Request.replica c.in-Request.command.client (Datagram.Request c.in-Request.command) c.in-Request.reading fits.command_fits)) (c.in_ok-request-in-Request.ensures v h))
 
-pub returns-clause-world : goal.returns-clause-world
-returns-clause-world c = λ d s.
-    let is : act d (One c.args.single.now) ≡ request d c.in-Request.reading c.in-Request.command =
-    ap (λ e. act d (One e)) c.in-Request.is ∙ act_is d c.in-Request.replica c.in-Request.reading c.in-Request.command in
-    subst (λ (m : Moment). IfOk c.request_at.result (λ lines. StandsFor c.request_at.new.self m.after)) (sym is) (c.request_at.ensures.world d s)
+pub returns-in_ok-go-in-Go : goal.returns-in_ok-go-in-Go
+unfolding single_of
+returns-in_ok-go-in-Go c v h g = rw c.in-Go.is (c.in_ok-go-in-Go.ensures v h)
 
-pub returns-clause-lines : goal.returns-clause-lines
-returns-clause-lines c = λ d s.
-    let is : act d (One c.args.single.now) ≡ request d c.in-Request.reading c.in-Request.command =
-    ap (λ e. act d (One e)) c.in-Request.is ∙ act_is d c.in-Request.replica c.in-Request.reading c.in-Request.command in
-    subst (λ (m : Moment). IfOk c.request_at.result (λ lines. lines ≡ m.lines)) (sym is) (c.request_at.ensures.lines d s)
+pub returns-in_ok-come-in-Again : goal.returns-in_ok-come-in-Again
+unfolding single single_of
+returns-in_ok-come-in-Again c v h g = rw c.in-Again.is (c.in_ok-come-in-Again.ensures v h)
 
-pub returns-clause-bad : goal.returns-clause-bad
-returns-clause-bad c = λ d s.
-    let r = c.in-Request.replica in
-    subst (λ (e : Single). IfErr c.request_at.result (λ bad. bad ≢ NoMemory → possible d (One e) ≡ Some bad)) (sym c.in-Request.is)
-    (if_err_weaker c.request_at.result (λ bad. bad ≢ NoMemory → (bad ≡ NoSuchReplica) × (d.replicas ≤ r))
-    (λ bad. bad ≢ NoMemory → possible d (One (Request r c.in-Request.reading c.in-Request.command)) ≡ Some bad)
-    (λ bad told other. no_such_replica d r c.in-Request.reading c.in-Request.command (told other).1 ∙ ap Some (sym (told other).0)) (c.request_at.ensures.bad d s))
+pub returns-in_ok-arrive-in-Tick : goal.returns-in_ok-arrive-in-Tick
+unfolding single single_of turn_of
+returns-in_ok-arrive-in-Tick c v h g = rw c.in-Tick.is (leads_as _ _ _ _ (sym (turn_tick (ending_of c.args.ending) v c.in-Tick.replica c.in-Tick.reading)) (c.in_ok-arrive-in-Tick.ensures v h))
+
+pub returns-in_ok-arrive-in-Suspect : goal.returns-in_ok-arrive-in-Suspect
+unfolding single single_of turn_of
+returns-in_ok-arrive-in-Suspect c v h g =
+    let e = ap (λ ms. turn_at (ending_of c.args.ending) v c.in-Suspect.replica (Turn.Suspect ms) c.in-Suspect.reading) c.in_ok-copy-in-Suspect.ensures
+    ∙ turn_suspect (ending_of c.args.ending) v c.in-Suspect.replica c.in-Suspect.reading c.in-Suspect.members in
+    rw c.in-Suspect.is (leads_as _ _ _ _ (sym e) (c.in_ok-arrive-in-Suspect.ensures v h))
+
+pub returns-in_ok-bytes_arrive-in-Junk : goal.returns-in_ok-bytes_arrive-in-Junk
+unfolding single single_of
+returns-in_ok-bytes_arrive-in-Junk c v h g =
+    let none = subst (λ (s : Single). IsGenuine s) c.in-Junk.is g in
+    let e = ap (λ b. turn_at (ending_of c.args.ending) v c.in-Junk.replica (Turn.In 0 b) c.in-Junk.reading) c.as_slice.ensures
+    ∙ turn_junk (ending_of c.args.ending) v c.in-Junk.replica 0 c.in-Junk.reading c.in-Junk.bytes none in
+    rw c.in-Junk.is (leads_as _ _ _ _ (sym e) (c.in_ok-bytes_arrive-in-Junk.ensures v h))

@@ -1,5 +1,35 @@
-use Rattle.crsm_world.proofs.Steps.{begins}
+use Rattle.std.proofs.Common.{◌≡◌, ◌∙◌, ◌++◌, ap, sym, refl, subst, arith, ℕ}
+use Rattle.crsm_spec.specs.World.{World}
+use Rattle.crsm_spec.specs.Moments.{start_at}
+use Rattle.crsm_world.specs.Starting.{CanStart}
+use Rattle.crsm_world.specs.Standing.{StandsFor, Holds, Leads}
+use Rattle.crsm_world.proofs.First.{part, part_lines, no_part, no_lines, all_parts, all_lines, next_can, part_next, lines_more}
 use Rattle.crsm_world.proofs.world.World.new.Goals as goal
 
+pub loop-k-init : goal.loop-k-init
+loop-k-init c = record { holds = no_part c.args.n _ c.new.ensures c.new-2.ensures; told = c.new-lines.ensures ∙ sym (no_lines c.args.n) }
+
+pub loop-k-preserved : goal.loop-k-preserved
+loop-k-preserved c =
+    let n = c.args.n in
+    let k = c.loop-k.k in
+    let was = c.loop-k.invariant in
+    let can = subst (λ (j : ℕ). CanStart (part n k) j) (sym c.from.ensures) (next_can n k c.loop-k-test.true c.requires.most) in
+    let leads = subst (λ (j : ℕ). Leads (start_at (part n k) j) c.start.new.self c.in_ok-more.more) c.from.ensures (c.in_ok-more.ensures (part n k) was.holds can) in
+    let next = part_next n k c.start.new.self c.in_ok-more.more c.loop-k-test.true leads in
+    record {
+      holds = next.0;
+      told = lines_more n k c.loop-k.lines c.in_ok-more.more c.add.new.lines was.told next.1 (c.in_ok-add.ensures ∙ ap (λ ls. c.loop-k.lines ++ ls) c.as_slice.ensures);
+    }
+
 pub returns-clause-world : goal.returns-clause-world
-returns-clause-world c = begins c.args.n c.in_ok-store.store c.in_ok-store.ensures
+unfolding StandsFor
+returns-clause-world c =
+    let e : c.loop-k.k ≡ c.args.n = let a = c.loop-k-test.false in let b = c.loop-k.auto.k-end in omega arith in
+    let h = subst (λ (u : World). Holds c.loop-k.world u) (ap (part c.args.n) e ∙ all_parts c.args.n) c.loop-k.invariant.holds in
+    record { unspent = refl; holds = record { sites = h.sites; post = h.post } }
+
+pub returns-clause-lines : goal.returns-clause-lines
+returns-clause-lines c =
+    let e : c.loop-k.k ≡ c.args.n = let a = c.loop-k-test.false in let b = c.loop-k.auto.k-end in omega arith in
+    c.loop-k.invariant.told ∙ ap (part_lines c.args.n) e ∙ all_lines c.args.n

@@ -1,0 +1,94 @@
+-- What a step lets out, from the batch that it made.
+use Rattle.std.proofs.Common.{◌≡◌, ◌+◌, ◌-◌, ℕ, zero, suc, min, List, [], ◌∷◌, ◌++◌, length, map, take, drop, refl, ap, ◌∙◌, subst, arith, length-append}
+use Rattle.std.specs.List.{AllByRecursion}
+use Rattle.std.proofs.Math.Seq.{take-append_seam}
+use Rattle.std.proofs.lemmas.List.{take-map, length-map, take_all}
+use Rattle.crsm_base.specs.declared.send.Send.{Send}
+use Rattle.crsm_output.specs.Made.{to_replica, to_address, line_of}
+use Rattle.crsm_spec.specs.Types.{Datagram, Line}
+use Rattle.crsm_spec.specs.Draft.{Draft, Reply}
+use Rattle.crsm_spec.specs.World.{Mail, body_size, mail_of, mail_size, send_lines}
+use Rattle.crsm_world.specs.declared.post.Post.{Post}
+use Rattle.crsm_world.specs.Leaving.{LetsOut}
+use Rattle.crsm_world.specs.Mailed.{PostStands, sent_to, to_mail, sent_of}
+
+-- ---- what is among what is sent
+
+none_of : (ys : List Reply) → sent_of (map to_address ys) ≡ []
+unfolding sent_of sent_to to_mail to_address
+none_of [] = refl
+none_of (y ∷ ys) = none_of ys
+
+pub sent_made : (xs : List (ℕ × Datagram)) (ys : List Reply) → sent_of (map to_replica xs ++ map to_address ys) ≡ xs
+unfolding sent_of sent_to to_mail to_replica
+sent_made [] ys = none_of ys
+sent_made (x ∷ xs) ys = ap (λ zs. x ∷ zs) (sent_made xs ys)
+
+sent_taken : (n : ℕ) (xs : List (ℕ × Datagram)) (ys : List Reply) → sent_of (take n (map to_replica xs ++ map to_address ys)) ≡ take n xs
+unfolding sent_of sent_to to_mail to_replica
+sent_taken zero xs ys = refl
+sent_taken (suc n) [] ys = ap sent_of (take-map to_address (suc n) ys) ∙ none_of (take (suc n) ys)
+sent_taken (suc n) (x ∷ xs) ys = ap (λ zs. x ∷ zs) (sent_taken n xs ys)
+
+-- ---- fronts
+
+take_same : {X : Type 0} (xs : List X) (a b : ℕ) → min a (length xs) ≡ min b (length xs) → take a xs ≡ take b xs
+take_same [] zero zero e = refl
+take_same [] zero (suc b) e = refl
+take_same [] (suc a) zero e = refl
+take_same [] (suc a) (suc b) e = refl
+take_same (x ∷ xs) zero zero e = refl
+take_same (x ∷ xs) zero (suc b) e = absurd (omega arith)
+take_same (x ∷ xs) (suc a) zero e = absurd (omega arith)
+take_same (x ∷ xs) (suc a) (suc b) e = ap (λ ys. x ∷ ys) (take_same xs a b (omega arith))
+
+drop_seam : {X : Type 0} (xs ys : List X) → drop (length xs) (xs ++ ys) ≡ ys
+drop_seam [] ys = refl
+drop_seam (x ∷ xs) ys = drop_seam xs ys
+
+pub all_taken : (P : Send → Type 0) (xs : List Send) (n : ℕ) → AllByRecursion P xs → AllByRecursion P (take n xs)
+all_taken P xs zero all = tt
+all_taken P [] (suc n) all = tt
+all_taken P (x ∷ xs) (suc n) all = (all.0, all_taken P xs n all.1)
+
+-- ---- the whole
+
+pub lets_out : (mail : List Mail) (bytes k count : ℕ) (x : Draft) (sends : List Send) (told : List Line) (letters own out shown size : ℕ) (post : Post) (answers first second third : List Line)
+    → sends ≡ map to_replica x.sends ++ map to_address x.replies → told ≡ (x.lines ++ x.excess) ++ map line_of x.replies
+    → letters ≡ length (sent_of sends) → own ≡ length told - (length sends - letters) → out ≡ min count (length sends) → answers ≡ drop own told → shown ≡ min (out - letters) (length answers)
+    → size ≡ body_size x.batch → PostStands post (mail ++ map (mail_of k) (sent_of (take out sends))) (bytes + size + mail_size (sent_of (take out sends)))
+    → first ≡ take own told → second ≡ first ++ send_lines k (length mail) (sent_of (take out sends)) → third ≡ second ++ take shown answers
+    → LetsOut mail bytes k x (take count x.sends) (take (count - length x.sends) x.replies) post third
+unfolding line_of
+lets_out mail bytes k count x sends told letters own out shown size post answers first second third s t l o u g w z h a b d =
+    let own_lines = x.lines ++ x.excess in
+    let ls : letters ≡ length x.sends = l ∙ ap length (ap sent_of s ∙ sent_made x.sends x.replies) in
+    let total : length sends ≡ length x.sends + length x.replies =
+    ap length s ∙ length-append (map to_replica x.sends) (map to_address x.replies) ∙ ap (λ n. n + length (map to_address x.replies)) (length-map x.sends to_replica) ∙ ap (λ n. length x.sends + n) (length-map x.replies to_address) in
+    let told_long : length told ≡ length own_lines + length x.replies = ap length t ∙ length-append own_lines (map line_of x.replies) ∙ ap (λ n. length own_lines + n) (length-map x.replies line_of) in
+    let own_is : own ≡ length own_lines = omega arith in
+    let front : take own told ≡ own_lines = ap (λ n. take n told) own_is ∙ ap (take (length own_lines)) t ∙ take-append_seam own_lines (map line_of x.replies) in
+    let rest : answers ≡ map line_of x.replies = g ∙ ap (λ n. drop n told) own_is ∙ ap (drop (length own_lines)) t ∙ drop_seam own_lines (map line_of x.replies) in
+    let rest_long : length answers ≡ length x.replies = ap length rest ∙ length-map x.replies line_of in
+    let sent_is : sent_of (take out sends) ≡ take count x.sends =
+    ap (λ ss. sent_of (take out ss)) s ∙ sent_taken out x.sends x.replies ∙ take_same x.sends out count (omega arith) in
+    let shown_is : take shown answers ≡ map (λ r. r.line) (take (count - length x.sends) x.replies) =
+    ap (take shown) rest ∙ take-map line_of shown x.replies ∙ ap (map line_of) (take_same x.replies shown (count - length x.sends) (omega arith)) in
+    record {
+      stands = subst (λ (xs : List (ℕ × Datagram)). PostStands post (mail ++ map (mail_of k) xs) (bytes + body_size x.batch + mail_size xs)) sent_is
+          (subst (λ (n : ℕ). PostStands post (mail ++ map (mail_of k) (sent_of (take out sends))) (bytes + n + mail_size (sent_of (take out sends)))) z h);
+      told = d ∙ ap (λ ls. ls ++ take shown answers) (b ∙ ap (λ ls. ls ++ send_lines k (length mail) (sent_of (take out sends))) (a ∙ front))
+          ∙ ap (λ xs. (own_lines ++ send_lines k (length mail) xs) ++ take shown answers) sent_is
+          ∙ ap (λ ls. (own_lines ++ send_lines k (length mail) (take count x.sends)) ++ ls) shown_is;
+    }
+
+pub lets_all_out : (mail : List Mail) (bytes k count : ℕ) (x : Draft) (sends : List Send) (post : Post) (lines : List Line)
+    → sends ≡ map to_replica x.sends ++ map to_address x.replies → count ≡ length sends
+    → LetsOut mail bytes k x (take count x.sends) (take (count - length x.sends) x.replies) post lines → LetsOut mail bytes k x x.sends x.replies post lines
+lets_all_out mail bytes k count x sends post lines s n h =
+    let total : length sends ≡ length x.sends + length x.replies =
+    ap length s ∙ length-append (map to_replica x.sends) (map to_address x.replies) ∙ ap (λ n. n + length (map to_address x.replies)) (length-map x.sends to_replica) ∙ ap (λ n. length x.sends + n) (length-map x.replies to_address) in
+    let a : take count x.sends ≡ x.sends = take_all count x.sends (omega arith) in
+    let b : take (count - length x.sends) x.replies ≡ x.replies = take_all (count - length x.sends) x.replies (omega arith) in
+    subst (λ (ys : List Reply). LetsOut mail bytes k x x.sends ys post lines) b
+    (subst (λ (xs : List (ℕ × Datagram)). LetsOut mail bytes k x xs (take (count - length x.sends) x.replies) post lines) a h)

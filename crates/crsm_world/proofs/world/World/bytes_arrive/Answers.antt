@@ -1,0 +1,6 @@
+use Rattle.crsm_site.specs.Arriving.{turn_of}
+use Rattle.crsm_world.proofs.world.World.bytes_arrive.Goals as goal
+
+pub returns : goal.returns
+unfolding turn_of
+returns c v h = c.in_ok-lines.ensures v h

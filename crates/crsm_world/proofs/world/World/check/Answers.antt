@@ -1,0 +1,19 @@
+use Rattle.std.proofs.Common.{◌∙◌, ap, sym, subst, Some}
+use Rattle.crsm_spec.specs.Acts.{Bad}
+use Rattle.crsm_world.specs.Doing.{bad_of}
+use Rattle.crsm_spec.specs.Possible.{possible}
+use Rattle.crsm_spec.specs.World.{is_full}
+use Rattle.crsm_world.specs.Refusing.{Answers}
+use Rattle.crsm_world.proofs.Reasons.{hit, pass}
+use Rattle.crsm_world.proofs.world.World.check.Goals as goal
+
+pub returns-then-is_full : goal.returns-then-is_full
+unfolding possible bad_of is_full
+returns-then-is_full c v h ne =
+    hit _ (Bad.Full v.bytes) _ (sym (c.is_full.ensures v.mail v.bytes h.post) ∙ c.if-is_full.true) ∙ ap (λ n. Some (Bad.Full n)) (sym (c.bytes.ensures v.mail v.bytes h.post))
+
+pub returns : goal.returns
+unfolding possible is_full
+returns c v h =
+    let e = sym (c.is_full.ensures v.mail v.bytes h.post) ∙ c.if-is_full.false in
+    subst (Answers c.check_event.result) (sym (pass _ (Bad.Full v.bytes) _ e)) (c.check_event.ensures v h)

@@ -1,0 +1,21 @@
+use Rattle.std.proofs.Common.{◌∙◌, sym, true, false}
+use Rattle.crsm_spec.specs.Possible.{causes_of_single}
+use Rattle.crsm_world.specs.Doing.{bad_of}
+use Rattle.crsm_world.proofs.Reasons.{hit, pass, no_more, unsent, sent, used_as}
+use Rattle.crsm_world.proofs.world.World.check_go.Goals as goal
+
+pub returns-then-count-number : goal.returns-then-count-number
+unfolding causes_of_single bad_of
+returns-then-count-number c v t h ne = hit _ _ _ (unsent v c.args.number c.count.result (c.count.ensures v.mail v.bytes h.post) c.if-count-number.true)
+
+pub returns-then-is_used : goal.returns-then-is_used
+unfolding causes_of_single bad_of
+returns-then-is_used c v t h ne = pass _ _ _ (sent v c.args.number c.count.result (c.count.ensures v.mail v.bytes h.post) c.if-count-number.false) ∙ hit _ _ _ (used_as v c.args.number c.is_used.result true (c.is_used.ensures v.mail v.bytes h.post) c.if-is_used.true)
+
+pub returns-then-is_receiver_down : goal.returns-then-is_receiver_down
+unfolding causes_of_single bad_of
+returns-then-is_receiver_down c v t h ne = pass _ _ _ (sent v c.args.number c.count.result (c.count.ensures v.mail v.bytes h.post) c.if-count-number.false) ∙ pass _ _ _ (used_as v c.args.number c.is_used.result false (c.is_used.ensures v.mail v.bytes h.post) c.if-is_used.false) ∙ hit _ _ _ (sym (c.is_receiver_down.ensures v h) ∙ c.if-is_receiver_down.true)
+
+pub returns : goal.returns
+unfolding causes_of_single bad_of
+returns c v t h = pass _ _ _ (sent v c.args.number c.count.result (c.count.ensures v.mail v.bytes h.post) c.if-count-number.false) ∙ pass _ _ _ (used_as v c.args.number c.is_used.result false (c.is_used.ensures v.mail v.bytes h.post) c.if-is_used.false) ∙ pass _ _ _ (sym (c.is_receiver_down.ensures v h) ∙ c.if-is_receiver_down.false) ∙ no_more

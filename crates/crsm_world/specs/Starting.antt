@@ -1,0 +1,11 @@
+-- Which replicas can boot.
+use Rattle.std.specs.Prelude.{◌≡◌, ◌<◌, ℕ, Some, slice_get}
+use Rattle.crsm_spec.specs.Log.{Log}
+use Rattle.crsm_spec.specs.World.{Site, World}
+use Rattle.crsm_spec.specs.Moments.{with_room}
+
+-- replica k is down, or is the next new one
+pub record CanStart (w : World) (k : ℕ) : Type 0 where
+  pub below : k < 15
+  pub log : Log
+  pub down : slice_get (with_room w k).sites k ≡ Some (Site.Down log)

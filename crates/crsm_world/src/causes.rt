@@ -1,0 +1,297 @@
+//! Why an event is not possible here: the causes, in their order.
+
+ghost use Rattle.std.specs.Prelude.{◌≡◌, [], ◌∷◌, ◌==◌, not, true, false, is_some, ℕ};
+ghost use Rattle.std.specs.List.{list_any};
+ghost use Rattle.crsm_world.specs.Mailed.{receiver_or};
+ghost use Rattle.crsm_spec.specs.Possible as possible;
+ghost use Rattle.crsm_spec.specs.World as on_paper;
+ghost use Rattle.crsm_spec.specs.Log.{spec};
+ghost use Rattle.crsm_base.specs.MessageReading.{datagram_of};
+ghost use Rattle.crsm_spec.specs.Acts.{Act, Single as OneStep, Bad as Cause};
+ghost use Rattle.crsm_world.specs.Doing.{act_of, single_of};
+ghost use Rattle.crsm_world.specs.Refusing.{Answers};
+ghost use Rattle.crsm_world.specs.Standing.{Holds};
+
+use crate::bad::Bad;
+use crate::replicas::{are_too_few, is_none, one_is_past};
+use crate::world::World;
+use crsm_base::{Datagram, Members};
+use crsm_schedule::{Event, Single};
+use crsm_wire::{WireError, read_datagram};
+
+impl World {
+    /// Replica `k` is there and up.
+    fn check_up(&self, k: u64) -> Result<(), Bad>
+        ensures { (v : on_paper.World) → Holds self.now v → Answers result (possible.first_bad (possible.causes_at v k)) }
+    {
+        if self.sites.count() <= k {
+            return Err(Bad::NoSuchReplica);
+        }
+        if !self.sites.is_up(k) {
+            return Err(Bad::IsDown);
+        }
+        Ok(())
+    }
+
+    /// The receiver of a datagram is down.
+    fn is_receiver_down(&self, number: u64) -> bool
+        ensures { (v : on_paper.World) → Holds self.now v → result ≡ possible.is_receiver_down v number }
+    {
+        match self.post.receiver(number) {
+            Some(to) => !self.sites.is_up(u64::from(to)),
+            None => false,
+        }
+    }
+
+    /// A datagram is fresh, and its receiver is up.
+    fn check_go(&self, number: u64) -> Result<(), Bad>
+        ensures { (v : on_paper.World) (t : ℕ) → Holds self.now v → Answers result (possible.first_bad (possible.causes_of_single v (OneStep.Go number t))) }
+    {
+        if self.post.count() <= number {
+            return Err(Bad::NoSuchDatagram);
+        }
+        if self.post.is_used(number) {
+            return Err(Bad::Used);
+        }
+        if self.is_receiver_down(number) {
+            return Err(Bad::IsDown);
+        }
+        Ok(())
+    }
+
+    /// A datagram was used, and its receiver is up.
+    fn check_again(&self, number: u64) -> Result<(), Bad>
+        ensures { (v : on_paper.World) (t : ℕ) → Holds self.now v → Answers result (possible.first_bad (possible.causes_of_single v (OneStep.Again number t))) }
+    {
+        if self.post.count() <= number {
+            return Err(Bad::NoSuchDatagram);
+        }
+        if !self.post.is_used(number) {
+            return Err(Bad::Fresh);
+        }
+        if self.is_receiver_down(number) {
+            return Err(Bad::IsDown);
+        }
+        Ok(())
+    }
+
+    /// A datagram is fresh.
+    fn check_lose(&self, number: u64) -> Result<(), Bad>
+        ensures { (v : on_paper.World) → Holds self.now v → Answers result (possible.first_bad (possible.causes_of v (Act.Lose number))) }
+    {
+        if self.post.count() <= number {
+            return Err(Bad::NoSuchDatagram);
+        }
+        if self.post.is_used(number) {
+            return Err(Bad::Used);
+        }
+        Ok(())
+    }
+
+    /// A replica can boot.
+    fn check_start(&self, k: u64) -> Result<(), Bad>
+        ensures { (v : on_paper.World) → Holds self.now v → Answers result (possible.first_bad (possible.causes_of v (Act.Start k))) }
+    {
+        let count = self.sites.count();
+        if is_none(count, k) {
+            return Err(Bad::NoSuchReplica);
+        }
+        if self.sites.is_up(k) {
+            return Err(Bad::IsUp);
+        }
+        Ok(())
+    }
+
+    /// One of these is no replica.
+    fn lacks_one(&self, members: &[u32]) -> bool
+        ensures { (v : on_paper.World) → Holds self.now v → result ≡ list_any (possible.is_none_of v) members.now }
+    {
+        let count = self.sites.count();
+        one_is_past(count, members)
+    }
+
+    /// The members are of the Spec of a replica, and fewer than a majority of it.
+    fn check_members(&self, k: u64, members: &Members) -> Result<(), Bad>
+        ensures { (v : on_paper.World) → Holds self.now v → on_paper.is_up_at v k ≡ true →
+            Answers result (possible.first_bad ((possible.are_too_few (spec v.n (on_paper.log_at v k)) members.now, Cause.TooFew) ∷ [])) }
+    {
+        let Some(spec) = self.sites.spec(k)? else {
+            return Ok(());
+        };
+        if are_too_few(spec.as_slice(), members.as_slice()) {
+            return Err(Bad::TooFew);
+        }
+        Ok(())
+    }
+
+    /// Replicas can be suspected.
+    fn check_suspect(&self, k: u64, members: &Members) -> Result<(), Bad>
+        ensures { (v : on_paper.World) (t : ℕ) → Holds self.now v → Answers result (possible.first_bad (possible.causes_of_single v (OneStep.Suspect k t members.now))) }
+    {
+        if self.sites.count() <= k {
+            return Err(Bad::NoSuchReplica);
+        }
+        if self.lacks_one(members.as_slice()) {
+            return Err(Bad::NoSuchReplica);
+        }
+        if !self.sites.is_up(k) {
+            return Err(Bad::IsDown);
+        }
+        self.check_members(k, members)
+    }
+
+    /// Bytes from nowhere can come.
+    fn check_junk(&self, k: u64, bytes: &[u8]) -> Result<(), Bad>
+        ensures { (v : on_paper.World) (t : ℕ) → Holds self.now v → Answers result (possible.first_bad (possible.causes_of_single v (OneStep.Junk k t bytes.now))) }
+    {
+        if self.sites.count() <= k {
+            return Err(Bad::NoSuchReplica);
+        }
+        if !self.sites.is_up(k) {
+            return Err(Bad::IsDown);
+        }
+        self.check_bytes(bytes)
+    }
+
+    /// Bytes are no datagram.
+    fn check_bytes(&self, bytes: &[u8]) -> Result<(), Bad>
+        ensures { Answers result (possible.first_bad ((is_some (datagram_of bytes.now), Cause.Forged) ∷ [])) }
+    {
+        match read_datagram(self.alloc, bytes) {
+            Ok(datagram) => {
+                discard(datagram);
+                Err(Bad::Forged)
+            }
+            Err(WireError::NotOne) => Ok(()),
+            Err(WireError::NoMemory) => Err(Bad::NoMemory),
+        }
+    }
+
+    /// A step of one replica is possible.
+    fn check_single(&self, single: &Single) -> Result<(), Bad>
+        ensures { (v : on_paper.World) → Holds self.now v → Answers result (possible.first_bad (possible.causes_of_single v (single_of single.now))) }
+    {
+        match single {
+            Single::Request { replica, .. } => self.check_up(*replica),
+            Single::Go { number, .. } => self.check_go(*number),
+            Single::Again { number, .. } => self.check_again(*number),
+            Single::Tick { replica, .. } => self.check_up(*replica),
+            Single::Suspect {
+                replica,
+                members,
+                ..
+            } => self.check_suspect(*replica, members),
+            Single::Junk { replica, bytes, .. } => self.check_junk(*replica, bytes.as_slice()),
+        }
+    }
+
+    /// One of these was not sent.
+    fn lacks_mail(&self, numbers: &[u64]) -> bool
+        ensures { (v : on_paper.World) → Holds self.now v → result ≡ list_any (possible.is_not_sent v) numbers.now }
+    {
+        for number in numbers {
+            if self.post.count() <= *number {
+                return true;
+            }
+        }
+        false
+    }
+
+    /// One of these is used.
+    fn has_used(&self, numbers: &[u64]) -> bool
+        ensures { (v : on_paper.World) → Holds self.now v → result ≡ list_any (possible.is_used v) numbers.now }
+    {
+        for number in numbers {
+            if self.post.is_used(*number) {
+                return true;
+            }
+        }
+        false
+    }
+
+    /// The receiver of one of these is down.
+    fn has_receiver_down(&self, numbers: &[u64]) -> bool
+        ensures { (v : on_paper.World) → Holds self.now v → result ≡ list_any (possible.is_receiver_down v) numbers.now }
+    {
+        for number in numbers {
+            if self.is_receiver_down(*number) {
+                return true;
+            }
+        }
+        false
+    }
+
+    /// The receivers of these are not all the same.
+    fn are_mixed(&self, numbers: &[u64]) -> bool
+        ensures { (v : on_paper.World) → Holds self.now v → list_any (possible.is_not_sent v) numbers.now ≡ false → result ≡ possible.are_mixed (possible.receivers v numbers.now) }
+    {
+        match numbers.split_first() {
+            Some((first, others)) => self.one_is_for_another(self.post.receiver_or(*first), others),
+            None => false,
+        }
+    }
+
+    /// One of these has another receiver.
+    fn one_is_for_another(&self, to: u32, numbers: &[u64]) -> bool
+        ensures { (v : on_paper.World) → Holds self.now v → result ≡ list_any (λ i. not (receiver_or v.mail i == to)) numbers.now }
+    {
+        for number in numbers {
+            if self.post.receiver_or(*number) != to {
+                return true;
+            }
+        }
+        false
+    }
+
+    /// Deliveries together are possible.
+    fn check_batch(&self, numbers: &[u64]) -> Result<(), Bad>
+        ensures { (v : on_paper.World) → Holds self.now v → Answers result (possible.first_bad (possible.causes_of_batch v numbers.now)) }
+    {
+        if self.lacks_mail(numbers) {
+            return Err(Bad::NoSuchDatagram);
+        }
+        if self.has_used(numbers) {
+            return Err(Bad::Used);
+        }
+        if self.are_mixed(numbers) {
+            return Err(Bad::Mixed);
+        }
+        if self.has_receiver_down(numbers) {
+            return Err(Bad::IsDown);
+        }
+        Ok(())
+    }
+
+    /// An event is possible in a world that is not full.
+    fn check_event(&self, event: &Event) -> Result<(), Bad>
+        ensures { (v : on_paper.World) → Holds self.now v → Answers result (possible.first_bad (possible.causes_of v (act_of event.now))) }
+    {
+        match event {
+            Event::One { single } => self.check_single(single),
+            Event::Lose { number } => self.check_lose(*number),
+            Event::Crash { replica } => self.check_up(*replica),
+            Event::Start { replica } => self.check_start(*replica),
+            Event::Settle { .. } => Ok(()),
+            Event::CutLost { single } => self.check_single(single),
+            Event::CutKept { single, .. } => self.check_single(single),
+            Event::Batch { numbers, .. } => self.check_batch(numbers.as_slice()),
+            Event::CutLostBatch { numbers, .. } => self.check_batch(numbers.as_slice()),
+            Event::CutAt { single, .. } => self.check_single(single),
+        }
+    }
+
+    /// An event is possible; else the first cause why not.
+    pub(crate) fn check(&self, event: &Event) -> Result<(), Bad>
+        ensures { (v : on_paper.World) → Holds self.now v → Answers result (possible.possible v (act_of event.now)) }
+    {
+        if self.post.is_full() {
+            return Err(Bad::Full {
+                bytes: self.post.bytes(),
+            });
+        }
+        self.check_event(event)
+    }
+}
+
+/// Lets a datagram go, in a function of its own, which keeps its cases out of its caller's proof.
+fn discard(_datagram: Datagram) {}

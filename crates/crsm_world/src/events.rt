@@ -1,0 +1,83 @@
+//! Events, each with its change.
+
+ghost use Rattle.std.specs.Prelude.{◌≡◌, true, None, IfOk};
+ghost use Rattle.crsm_schedule.specs.Grammar.{FitsEvent};
+ghost use Rattle.crsm_spec.specs.Moments.{act, start_at};
+ghost use Rattle.crsm_spec.specs.Acts.{Act};
+ghost use Rattle.crsm_spec.specs.Possible.{possible};
+ghost use Rattle.crsm_spec.specs.World as on_paper;
+ghost use Rattle.crsm_world.specs.Doing.{act_of};
+ghost use Rattle.crsm_world.specs.Standing.{Holds, Leads};
+ghost use Rattle.crsm_world.specs.Starting.{CanStart};
+
+use crate::ending::{Ending, Stop};
+use crate::world::World;
+use crsm_base::{Lines, NoMemory};
+use crsm_schedule::Event;
+
+impl World {
+    /// A datagram is lost.
+    fn lose(&mut self, number: u64) -> Lines
+        ensures { (v : on_paper.World) → Holds self.old v → Leads (act v (Act.Lose number)) self.new result }
+    {
+        self.post.use_up(number);
+        Lines::new(self.alloc)
+    }
+
+    /// A replica that is up goes down.
+    fn crash(&mut self, replica: u64) -> Result<Lines, NoMemory>
+        ensures { IfOk result (λ lines. (v : on_paper.World) → Holds self.old v → on_paper.is_up_at v replica ≡ true → Leads (on_paper.down v replica) self.new lines) }
+    {
+        let Some(k) = self.sites.up(replica) else {
+            return Ok(Lines::new(self.alloc));
+        };
+        let lines = self.go_down(k)?;
+        Ok(lines)
+    }
+
+    /// A replica that is down, or the next new one, boots.
+    pub(crate) fn start(&mut self, replica: u64) -> Result<Lines, NoMemory>
+        ensures { IfOk result (λ lines. (v : on_paper.World) → Holds self.old v → CanStart v replica → Leads (start_at v replica) self.new lines) }
+    {
+        let Some(boot) = self.sites.start(replica)? else {
+            return Ok(Lines::new(self.alloc));
+        };
+        self.post.keep(boot.size)?;
+        Ok(boot.lines)
+    }
+
+    /// Does an event that is possible.
+    pub(crate) fn happen(&mut self, event: &Event) -> Result<Lines, NoMemory>
+        requires { FitsEvent event.now }
+        ensures { IfOk result (λ lines. (v : on_paper.World) → Holds self.old v → possible v (act_of event.now) ≡ None → Leads (act v (act_of event.now)) self.new lines) }
+    {
+        match event {
+            Event::One { single } => Ok(self.do_single(Ending::Whole, single)?),
+            Event::Lose { number } => Ok(self.lose(*number)),
+            Event::Crash { replica } => Ok(self.crash(*replica)?),
+            Event::Start { replica } => Ok(self.start(*replica)?),
+            Event::Settle { reading } => Ok(self.settle(*reading)?),
+            Event::CutLost { single } => Ok(self.do_single(Ending::Lost, single)?),
+            Event::CutKept { sends, single } => {
+                Ok(self.do_single(Ending::Kept { sends: *sends }, single)?)
+            }
+            Event::Batch { reading, numbers } => {
+                Ok(self.deliver_together(*reading, numbers.as_slice())?)
+            }
+            Event::CutLostBatch { reading, numbers } => {
+                Ok(self.lose_together(*reading, numbers.as_slice())?)
+            }
+            Event::CutAt {
+                calls,
+                fill,
+                single,
+            } => {
+                let stop = Stop {
+                    calls: *calls,
+                    fill: *fill,
+                };
+                Ok(self.do_single(Ending::At { stop }, single)?)
+            }
+        }
+    }
+}

@@ -1,0 +1,31 @@
+//! How many replicas a cluster begins with.
+
+ghost use Rattle.std.specs.Prelude.{◌≡◌, ◌≤◌};
+
+/// How many replicas a cluster began with.
+#[derive(Clone, Copy)]
+pub(crate) struct Founders {
+    count: u32,
+    ghost some: { 1 ≤ count },
+    ghost most: { count ≤ 15 },
+}
+
+impl Founders {
+    /// So many of them.
+    pub fn new(count: u32) -> Founders
+        requires some { 1 ≤ count }
+        requires most { count ≤ 15 }
+        ensures { result.count ≡ count }
+    {
+        Founders { count }
+    }
+
+    /// How many they are.
+    pub fn count(self) -> u32
+        ensures count { result ≡ self.count }
+        ensures some { 1 ≤ result }
+        ensures most { result ≤ 15 }
+    {
+        self.count
+    }
+}
