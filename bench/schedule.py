@@ -1,6 +1,9 @@
-"""Writes a schedule of requests to one replica: all four operations over some thousand clients and keys.
+"""Writes a schedule of requests: all four operations over some thousand clients and keys.
 
-    python3 bench/schedule.py COUNT > FILE
+    python3 bench/schedule.py COUNT [REPLICAS] > FILE
+
+With more than one replica they come to each in turn, and after each request everything that is on its way is delivered,
+and what that makes the replicas send, too.
 """
 
 import sys
@@ -46,21 +49,34 @@ def operation(draws):
     return f"cas {key} {optional(draws)} {optional(draws)}"
 
 
-def lines(count):
-    """The lines of a schedule of so many requests, with rising readings and each client's numbers rising."""
+def requests(count):
+    """So many requests without their replica and reading, each client's numbers rising."""
     draws = Draws()
     numbers = [0] * CLIENTS
-    yield "replicas 1"
-    for reading in range(count):
+    for _ in range(count):
         client = draws.below(CLIENTS)
         numbers[client] += 1
-        yield f"request 0 {reading} {client} {numbers[client]} {operation(draws)}"
+        yield f"{client} {numbers[client]} {operation(draws)}"
 
 
-def schedule(count):
+def lines(count, replicas):
+    """The lines of a schedule of so many requests, with rising readings."""
+    yield f"replicas {replicas}"
+    for turn, request in enumerate(requests(count)):
+        if replicas == 1:
+            yield f"request 0 {turn} {request}"
+            continue
+        reading = 100 * (turn + 1)
+        yield f"request {turn % replicas} {reading} {request}"
+        yield f"settle {reading + 50}"
+        yield f"settle {reading + 60}"
+
+
+def schedule(count, replicas=1):
     """The whole schedule of so many requests as bytes."""
-    return "".join(f"{line}\n" for line in lines(count)).encode()
+    return "".join(f"{line}\n" for line in lines(count, replicas)).encode()
 
 
 if __name__ == "__main__":
-    sys.stdout.buffer.write(schedule(int(sys.argv[1])))
+    words = [int(word) for word in sys.argv[1:]]
+    sys.stdout.buffer.write(schedule(*words))

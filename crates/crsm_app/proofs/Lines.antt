@@ -5,16 +5,18 @@ use Rattle.std.proofs.lemmas.List.{length-map}
 use Rattle.crsm_schedule.specs.declared.Event.{Event}
 use Rattle.crsm_text.specs.Words.{Lacks}
 use Rattle.crsm_text.proofs.WordsLemmas.{split_unique}
-use Rattle.crsm_schedule.specs.Grammar.{IsSize, first_text, event_text}
-use Rattle.crsm_world.specs.Cluster.{Cluster, begin, act, possible}
-use Rattle.crsm_world.specs.Built.{IsBuilt, IsBuiltCount}
-use Rattle.crsm_world.specs.Schedule.{Schedule, IsSchedule, IsNext, ArePossible, ended, schedule_text, after_events, last_cluster, line_count}
+use Rattle.crsm_schedule.specs.Grammar.{IsSize, FitsEvent, first_text, event_text}
+use Rattle.crsm_spec.specs.World.{World, begin}
+use Rattle.crsm_spec.specs.Moments.{act}
+use Rattle.crsm_spec.specs.Possible.{possible}
+use Rattle.crsm_spec.specs.Run.{ArePossible, after_acts, last_world as world_at_end}
+use Rattle.crsm_world.specs.Doing.{act_of}
+use Rattle.crsm_world.specs.Schedule.{Schedule, IsSchedule, IsNext, ended, schedule_text, acts_of, last_world, line_count}
 use Rattle.crsm_app.specs.State.{read_text, IsGood, count_of}
 use Rattle.crsm_app.specs.Causes.{cause_of}
-use Rattle.crsm_app.specs.Refused.{RefusedFirst, unreadable_first, unbuilt_first, RefusedNext, unreadable_next, unbuilt_next, impossible_next, Refused}
+use Rattle.crsm_app.specs.Refused.{RefusedNext, unreadable_next, impossible_next, Refused}
 use Rattle.crsm_schedule.proofs.EventLaws.{Lacks-first_text, Lacks-event_text, length-first_text, length-event_text, first_injective, event_injective}
 use Rattle.crsm_app.specs.declared.status.Cause.{Cause}
-use Rattle.crsm_app.specs.declared.status.Cause.TheVariants.{Unreadable as unreadable}
 
 -- ---- constructors
 
@@ -54,13 +56,13 @@ unfolding line_count
 count_lines None = refl
 count_lines (Some s) = let e = length-map s.events event_text in omega (arith, e)
 
-events_lack : (c : Cluster) (es : List Event) → ArePossible c es → AllByRecursion (Lacks 10) (map event_text es)
-events_lack c [] p = tt
-events_lack c (e ∷ es) p = (Lacks-event_text e p.0.fits, events_lack (act c e).after es p.1)
+events_lack : (es : List Event) → AllByRecursion FitsEvent es → AllByRecursion (Lacks 10) (map event_text es)
+events_lack [] p = tt
+events_lack (e ∷ es) p = (Lacks-event_text e p.0, events_lack es p.1)
 
 pub read_lacks : (r : Option Schedule) → IsGood r → AllByRecursion (Lacks 10) (lines_read r)
 read_lacks None good = tt
-read_lacks (Some s) good = (Lacks-first_text s.replicas good.size, events_lack (begin s.replicas) s.events good.events)
+read_lacks (Some s) good = (Lacks-first_text s.replicas good.size, events_lack s.events good.fit)
 
 -- the first line before all that follows
 pub first_line : (l : List ℕ) (ls : List (List ℕ)) (x : List ℕ) → flat_map ended (l ∷ ls) ++ x ≡ l ++ 10 ∷ (flat_map ended ls ++ x)
@@ -95,53 +97,53 @@ front_short (a ∷ line) (b ∷ k) z more p e = let tails = tails_same a b (line
 pub record GoodFirst (k : List ℕ) : Type 0 where
   pub replicas : ℕ
   pub size : IsSize replicas
-  pub built : IsBuiltCount replicas
   pub text : k ≡ first_text replicas
 
-pub record GoodEvent (c : Cluster) (k : List ℕ) : Type 0 where
+pub record GoodEvent (w : World) (k : List ℕ) : Type 0 where
   pub event : Event
-  pub next : IsNext c event
+  pub next : IsNext w event
   pub text : k ≡ event_text event
 
 abbrev pub GoodNext : Option Schedule → List ℕ → Type 0
 GoodNext None k = GoodFirst k
-GoodNext (Some s) k = GoodEvent (last_cluster s) k
+GoodNext (Some s) k = GoodEvent (last_world s) k
 
 -- two lists of possible events with one text go the same way
-next_event : (c : Cluster) (fs es : List Event) (k : List ℕ) (ks : List (List ℕ)) → ArePossible c fs → ArePossible c es
-    → map event_text es ≡ map event_text fs ++ k ∷ ks → GoodEvent (after_events c fs) k
-unfolding after_events
-next_event c [] [] k ks p q same = absurd (nil_not_cons k ks same)
-next_event c [] (e ∷ es) k ks p q same = record { event = e; next = q.0; text = sym (heads_same (event_text e) k (map event_text es) ks same) }
-next_event c (f ∷ fs) [] k ks p q same = absurd (nil_not_cons (event_text f) (map event_text fs ++ k ∷ ks) same)
-next_event c (f ∷ fs) (e ∷ es) k ks p q same =
-    let here = heads_same (event_text e) (event_text f) (map event_text es) (map event_text fs ++ k ∷ ks) same in
-    let tails = tails_same (event_text e) (event_text f) (map event_text es) (map event_text fs ++ k ∷ ks) same in
-    let one : e ≡ f = event_injective e f q.0.fits p.0.fits here in
-    next_event (act c f).after fs es k ks p.1 (subst (λ x. ArePossible (act c x).after es) one q.1) tails
+next_event : (w : World) (fs es : List Event) (k : List ℕ) (ks : List (List ℕ)) → AllByRecursion FitsEvent fs → AllByRecursion FitsEvent es
+    → ArePossible w (map act_of es) → map event_text es ≡ map event_text fs ++ k ∷ ks → GoodEvent (after_acts w (map act_of fs)) k
+unfolding after_acts
+next_event w [] [] k ks f g q same = absurd (nil_not_cons k ks same)
+next_event w [] (e ∷ es) k ks f g q same =
+    record { event = e; next = record { fits = g.0; possible_here = q.1 }; text = sym (heads_same (event_text e) k (map event_text es) ks same) }
+next_event w (x ∷ fs) [] k ks f g q same = absurd (nil_not_cons (event_text x) (map event_text fs ++ k ∷ ks) same)
+next_event w (x ∷ fs) (e ∷ es) k ks f g q same =
+    let here = heads_same (event_text e) (event_text x) (map event_text es) (map event_text fs ++ k ∷ ks) same in
+    let tails = tails_same (event_text e) (event_text x) (map event_text es) (map event_text fs ++ k ∷ ks) same in
+    let one : e ≡ x = event_injective e x g.0 f.0 here in
+    next_event (act w (act_of x)).after fs es k ks f.1 g.1 (subst (λ y. ArePossible (act w (act_of y)).after (map act_of es)) one q.2) tails
 
 pub next_good : (r : Option Schedule) (s : Schedule) (k : List ℕ) (ks : List (List ℕ)) → IsGood r → IsSchedule s
     → lines_read (Some s) ≡ lines_read r ++ k ∷ ks → GoodNext r k
-unfolding last_cluster
+unfolding last_world world_at_end acts_of
 next_good None s k ks good is same =
-    record { replicas = s.replicas; size = is.size; built = is.built; text = sym (heads_same (first_text s.replicas) k (map event_text s.events) ks same) }
+    record { replicas = s.replicas; size = is.size; text = sym (heads_same (first_text s.replicas) k (map event_text s.events) ks same) }
 next_good (Some q) s k ks good is same =
     let here = heads_same (first_text s.replicas) (first_text q.replicas) (map event_text s.events) (map event_text q.events ++ k ∷ ks) same in
     let tails = tails_same (first_text s.replicas) (first_text q.replicas) (map event_text s.events) (map event_text q.events ++ k ∷ ks) same in
     let one : s.replicas ≡ q.replicas = first_injective s.replicas q.replicas is.size good.size here in
-    next_event (begin q.replicas) q.events s.events k ks good.events (subst (λ n. ArePossible (begin n) s.events) one is.events) tails
+    next_event (begin q.replicas) q.events s.events k ks good.fit is.fit (subst (λ n. ArePossible (begin n) (map act_of s.events)) one is.possible) tails
 
 -- two schedules with one text are one
-same_events : (c : Cluster) (fs es : List Event) → ArePossible c fs → ArePossible c es → map event_text es ≡ map event_text fs → es ≡ fs
-same_events c [] [] p q same = refl
-same_events c [] (e ∷ es) p q same = absurd (nil_not_cons (event_text e) (map event_text es) (sym same))
-same_events c (f ∷ fs) [] p q same = absurd (nil_not_cons (event_text f) (map event_text fs) same)
-same_events c (f ∷ fs) (e ∷ es) p q same =
-    let here = heads_same (event_text e) (event_text f) (map event_text es) (map event_text fs) same in
-    let tails = tails_same (event_text e) (event_text f) (map event_text es) (map event_text fs) same in
-    let one : e ≡ f = event_injective e f q.0.fits p.0.fits here in
-    let rest : es ≡ fs = same_events (act c f).after fs es p.1 (subst (λ x. ArePossible (act c x).after es) one q.1) tails in
-    ap (λ x. x ∷ es) one ∙ ap (λ xs. f ∷ xs) rest
+same_events : (fs es : List Event) → AllByRecursion FitsEvent fs → AllByRecursion FitsEvent es → map event_text es ≡ map event_text fs → es ≡ fs
+same_events [] [] f g same = refl
+same_events [] (e ∷ es) f g same = absurd (nil_not_cons (event_text e) (map event_text es) (sym same))
+same_events (x ∷ fs) [] f g same = absurd (nil_not_cons (event_text x) (map event_text fs) same)
+same_events (x ∷ fs) (e ∷ es) f g same =
+    let here = heads_same (event_text e) (event_text x) (map event_text es) (map event_text fs) same in
+    let tails = tails_same (event_text e) (event_text x) (map event_text es) (map event_text fs) same in
+    let one : e ≡ x = event_injective e x g.0 f.0 here in
+    let rest : es ≡ fs = same_events fs es f.1 g.1 tails in
+    ap (λ y. y ∷ es) one ∙ ap (λ ys. x ∷ ys) rest
 
 schedule_of : ℕ → List Event → Schedule
 schedule_of n es = record { replicas = n; events = es }
@@ -158,7 +160,7 @@ same_read (Some r) (Some s) p q same =
     let here = heads_same (first_text r.replicas) (first_text s.replicas) (map event_text r.events) (map event_text s.events) same in
     let tails = tails_same (first_text r.replicas) (first_text s.replicas) (map event_text r.events) (map event_text s.events) same in
     let one : r.replicas ≡ s.replicas = first_injective r.replicas s.replicas p.size q.size here in
-    let events : r.events ≡ s.events = same_events (begin s.replicas) s.events r.events q.events (subst (λ n. ArePossible (begin n) r.events) one p.events) tails in
+    let events : r.events ≡ s.events = same_events s.events r.events q.fit p.fit tails in
     ap (λ (x : Schedule). Some x) (schedule_same r s one events)
 
 pub good_lacks : (r : Option Schedule) (k : List ℕ) → GoodNext r k → Lacks 10 k × (length k ≤ 16777216)
@@ -168,67 +170,35 @@ good_lacks (Some s) k g = rw g.text (Lacks-event_text g.event g.next.fits, lengt
 -- ---- what is refused
 
 -- a good line is not refused
-good_first : (cause : Cause) (k : List ℕ) → GoodFirst k → RefusedFirst cause k → ⊥
-good_first cause k g (unreadable_first is none) = none g.replicas g.size g.text
-good_first cause k g (unbuilt_first is u) =
-    let one : g.replicas ≡ u.replicas = first_injective g.replicas u.replicas g.size u.size (sym g.text ∙ u.text) in
-    u.unbuilt (subst IsBuiltCount one g.built)
-
-good_event : (c : Cluster) (cause : Cause) (k : List ℕ) → GoodEvent c k → RefusedNext c cause k → ⊥
-good_event c cause k g (unreadable_next is none) = none g.event g.next.fits g.text
-good_event c cause k g (unbuilt_next is u) =
-    let one : g.event ≡ u.event = event_injective g.event u.event g.next.fits u.fits (sym g.text ∙ u.text) in
-    u.unbuilt (subst (λ e. IsBuilt c.replicas e) one g.next.built)
-good_event c cause k g (impossible_next i) =
+good_event : (w : World) (cause : Cause) (k : List ℕ) → GoodEvent w k → RefusedNext w cause k → ⊥
+good_event w cause k g (unreadable_next is none) = none g.event g.next.fits g.text
+good_event w cause k g (impossible_next i) =
     let one : g.event ≡ i.event = event_injective g.event i.event g.next.fits i.fits (sym g.text ∙ i.text) in
-    let here : possible c i.event ≡ None = ap (λ e. possible c e) (sym one) ∙ g.next.possible_here in
+    let here : possible w (act_of i.event) ≡ None = ap (λ e. possible w (act_of e)) (sym one) ∙ g.next.possible_here in
     none_not_some i.bad (sym here ∙ i.is)
 
 pub good_not_refused : (r : Option Schedule) (cause : Cause) (k : List ℕ) → GoodNext r k → Refused r cause k → ⊥
-good_not_refused None cause k g refused = good_first cause k g refused
-good_not_refused (Some s) cause k g refused = good_event (last_cluster s) cause k g refused
+good_not_refused None cause k g refused = refused.1 g.replicas g.size g.text
+good_not_refused (Some s) cause k g refused = good_event (last_world s) cause k g refused
 
 -- a line is refused for one cause
-one_first : (c d : Cause) (k : List ℕ) → RefusedFirst c k → RefusedFirst d k → c ≡ d
-one_first c d k (unreadable_first p x) (unreadable_first q y) = p ∙ sym q
-one_first c d k (unreadable_first p x) (unbuilt_first q y) = absurd (x y.replicas y.size y.text)
-one_first c d k (unbuilt_first p x) (unreadable_first q y) = absurd (y x.replicas x.size x.text)
-one_first c d k (unbuilt_first p x) (unbuilt_first q y) = p ∙ sym q
-
-one_next : (w : Cluster) (c d : Cause) (k : List ℕ) → RefusedNext w c k → RefusedNext w d k → c ≡ d
+one_next : (w : World) (c d : Cause) (k : List ℕ) → RefusedNext w c k → RefusedNext w d k → c ≡ d
 one_next w c d k (unreadable_next p x) (unreadable_next q y) = p ∙ sym q
-one_next w c d k (unreadable_next p x) (unbuilt_next q y) = absurd (x y.event y.fits y.text)
 one_next w c d k (unreadable_next p x) (impossible_next y) = absurd (x y.event y.fits y.text)
-one_next w c d k (unbuilt_next p x) (unreadable_next q y) = absurd (y x.event x.fits x.text)
-one_next w c d k (unbuilt_next p x) (unbuilt_next q y) = p ∙ sym q
-one_next w c d k (unbuilt_next p x) (impossible_next y) =
-    let one : y.event ≡ x.event = event_injective y.event x.event y.fits x.fits (sym y.text ∙ x.text) in
-    absurd (x.unbuilt (subst (λ e. IsBuilt w.replicas e) one y.built))
 one_next w c d k (impossible_next x) (unreadable_next q y) = absurd (y x.event x.fits x.text)
-one_next w c d k (impossible_next x) (unbuilt_next q y) =
-    let one : x.event ≡ y.event = event_injective x.event y.event x.fits y.fits (sym x.text ∙ y.text) in
-    absurd (y.unbuilt (subst (λ e. IsBuilt w.replicas e) one x.built))
 one_next w c d k (impossible_next x) (impossible_next y) =
     let one : x.event ≡ y.event = event_injective x.event y.event x.fits y.fits (sym x.text ∙ y.text) in
-    let bad : x.bad ≡ y.bad = some_same x.bad y.bad (sym x.is ∙ ap (λ e. possible w e) one ∙ y.is) in
-    some_same c d (sym x.named ∙ ap cause_of bad ∙ y.named)
+    let bad : x.bad ≡ y.bad = some_same x.bad y.bad (sym x.is ∙ ap (λ e. possible w (act_of e)) one ∙ y.is) in
+    sym x.named ∙ ap cause_of bad ∙ y.named
 
 pub one_cause : (r : Option Schedule) (c d : Cause) (k : List ℕ) → Refused r c k → Refused r d k → c ≡ d
-one_cause None c d k p q = one_first c d k p q
-one_cause (Some s) c d k p q = one_next (last_cluster s) c d k p q
+one_cause None c d k p q = p.0 ∙ sym q.0
+one_cause (Some s) c d k p q = one_next (last_world s) c d k p q
 
 -- a line that is too long is refused as unreadable
-pub long_unreadable : (r : Option Schedule) (c : Cause) (k : List ℕ) → Refused r c k → 16777216 < length k → c ≡ unreadable
-long_unreadable None c k (unreadable_first is x) long = is
-long_unreadable None c k (unbuilt_first is x) long =
-    let short = length-first_text x.replicas x.size in
-    let len : length k ≡ length (first_text x.replicas) = ap length x.text in
-    absurd (omega (arith, short, len, long))
+pub long_unreadable : (r : Option Schedule) (c : Cause) (k : List ℕ) → Refused r c k → 16777216 < length k → c ≡ Cause.Unreadable
+long_unreadable None c k p long = p.0
 long_unreadable (Some s) c k (unreadable_next is x) long = is
-long_unreadable (Some s) c k (unbuilt_next is x) long =
-    let short = length-event_text x.event x.fits in
-    let len : length k ≡ length (event_text x.event) = ap length x.text in
-    absurd (omega (arith, short, len, long))
 long_unreadable (Some s) c k (impossible_next x) long =
     let short = length-event_text x.event x.fits in
     let len : length k ≡ length (event_text x.event) = ap length x.text in

@@ -4,9 +4,10 @@ use Rattle.std.proofs.lemmas.List.{append-nil}
 use Rattle.crsm_base.specs.declared.Line.{Line}
 use Rattle.crsm_schedule.specs.Transcript.{lines_text}
 use Rattle.crsm_io.specs.Streams.{Takes, Puts, PutsFront, AtEnd}
-use Rattle.crsm_world.specs.Cluster.{finals}
-use Rattle.crsm_world.specs.Held.{Held, StandsFor}
-use Rattle.crsm_world.specs.Schedule.{Schedule, last_cluster, finals_text}
+use Rattle.crsm_spec.specs.World.{finals}
+use Rattle.crsm_world.specs.declared.World.{World as Held}
+use Rattle.crsm_world.specs.Standing.{StandsFor}
+use Rattle.crsm_world.specs.Schedule.{Schedule, last_world, finals_text}
 use Rattle.crsm_app.specs.State.{State, StandsAt}
 use Rattle.crsm_app.specs.Handled.{Handles, StopsAt}
 use Rattle.crsm_app.specs.Refused.{CutShort}
@@ -14,9 +15,9 @@ use Rattle.crsm_app.specs.Run.{SoFar, CarriesOn, Ends, Finishes, FinishesWell, R
 use Rattle.crsm_app.specs.declared.status.Cause.{Cause}
 use Rattle.crsm_app.specs.declared.status.Cause.TheVariants.{Unreadable as unreadable}
 use Rattle.crsm_app.specs.declared.status.Status.{Status}
-use Rattle.crsm_app.specs.declared.status.Status.TheVariants as status
-use Rattle.crsm_app.specs.declared.status.Stop.TheVariants as stop
-use Rattle.crsm_app.proofs.Stream.{more, line_partly, line_bad, nothing_more, more_part, too_long, taken_more, cut_bad, finish_partly, finish_well, ran_so_far, ran_too_long, nothing_ran}
+use Rattle.crsm_app.specs.declared.status.Stop.{Stop}
+use Rattle.crsm_app.proofs.Stream.{more, line_partly, line_bad, nothing_more, more_part, too_long, taken_more}
+use Rattle.crsm_app.proofs.Ends.{cut_bad, finish_partly, finish_well, ran_so_far, ran_too_long, nothing_ran}
 
 -- ---- a line
 
@@ -24,15 +25,15 @@ pub line_carries : (w v : Option (List ℕ)) (old new : State) (lines : List Lin
 unfolding CarriesOn Handles
 line_carries w v old new lines handled put = λ before after had ahead total s. more before after had w v old new lines ahead total s handled put
 
-pub line_ends : (w v : Option (List ℕ)) (old new : State) (lines : List Line) → Handles old new lines → PutsFront w v (lines_text (old.number + 1) lines) → Ends status.WriteFault w v old (10 ∷ [])
+pub line_ends : (w v : Option (List ℕ)) (old new : State) (lines : List Line) → Handles old new lines → PutsFront w v (lines_text (old.number + 1) lines) → Ends Status.WriteFault w v old (10 ∷ [])
 unfolding Ends Handles Ran
 line_ends w v old new lines handled put = λ before after had ahead total short s. line_partly before after had w v old new lines ahead total s handled put
 
-pub line_refused : (w : Option (List ℕ)) (old : State) (cause : Cause) → StopsAt (stop.Bad cause) old.world old.part → Ends (status.BadInput (old.number + 1) cause) w w old (10 ∷ [])
+pub line_refused : (w : Option (List ℕ)) (old : State) (cause : Cause) → StopsAt (Stop.Bad cause) old.world old.part → Ends (Status.BadInput (old.number + 1) cause) w w old (10 ∷ [])
 unfolding Ends StopsAt Ran
 line_refused w old cause stops = λ before after had ahead total short s. line_bad before after had w old ahead total cause short s stops
 
-pub no_memory_ends : (w : Option (List ℕ)) (old : State) (bytes : List ℕ) → Ends status.NoMemory w w old bytes
+pub no_memory_ends : (w : Option (List ℕ)) (old : State) (bytes : List ℕ) → Ends Status.NoMemory w w old bytes
 unfolding Ends Ran
 no_memory_ends w old bytes = λ before after had ahead total short s. nothing_more before after had w old (bytes ++ ahead) total s
 
@@ -43,7 +44,7 @@ pub byte_carries : (w : Option (List ℕ)) (old new : State) (byte : ℕ) → by
 unfolding CarriesOn
 byte_carries w old new byte other short d n p = λ before after had ahead total s. more_part before after had w old new byte ahead total s other short d n p
 
-pub byte_ends : (w : Option (List ℕ)) (old : State) (byte : ℕ) → byte ≢ 10 → 16777216 ≤ length old.part → Ends (status.BadInput (old.number + 1) unreadable) w w old (byte ∷ [])
+pub byte_ends : (w : Option (List ℕ)) (old : State) (byte : ℕ) → byte ≢ 10 → 16777216 ≤ length old.part → Ends (Status.BadInput (old.number + 1) unreadable) w w old (byte ∷ [])
 unfolding Ends Ran
 byte_ends w old byte other long = λ before after had ahead total short s. too_long before after had w old byte ahead total short s other long
 
@@ -76,33 +77,33 @@ cut_in_line : (part : List ℕ) → 0 < length part → (read : Option Schedule)
 cut_in_line part some None = tt
 cut_in_line part some (Some s) = λ none. let zero : length part ≡ 0 = ap length none in omega (arith, some, zero)
 
-pub unbegun_finishes : (w : Option (List ℕ)) (st : State) → st.world ≡ None → Finishes (status.BadInput (st.number + 1) unreadable) w w st
+pub unbegun_finishes : (w : Option (List ℕ)) (st : State) → st.world ≡ None → Finishes (Status.BadInput (st.number + 1) unreadable) w w st
 unfolding Finishes Ran
 unbegun_finishes w st none = λ before after had total within ended s.
     cut_bad before after had w st total within ended s (λ read stands. cut_unbegun st.part read (subst (λ x. StandsAt x read) none stands))
 
-pub cut_finishes : (w : Option (List ℕ)) (st : State) → 0 < length st.part → Finishes (status.BadInput (st.number + 1) unreadable) w w st
+pub cut_finishes : (w : Option (List ℕ)) (st : State) → 0 < length st.part → Finishes (Status.BadInput (st.number + 1) unreadable) w w st
 unfolding Finishes Ran
 cut_finishes w st some = λ before after had total within ended s. cut_bad before after had w st total within ended s (λ read stands. cut_in_line st.part some read)
 
-pub no_memory_finishes : (w : Option (List ℕ)) (st : State) → Finishes status.NoMemory w w st
+pub no_memory_finishes : (w : Option (List ℕ)) (st : State) → Finishes Status.NoMemory w w st
 unfolding Finishes Ran
 no_memory_finishes w st = λ before after had total within ended s. nothing_more before after had w st [] total s
 
 -- the final lines that a world gives are those of the schedule
-final_lines_are : (held : Held) (lines : List Line) (s : Schedule) → lines ≡ finals (last_cluster s) → lines_text 0 lines ≡ finals_text s
+final_lines_are : (held : Held) (lines : List Line) (s : Schedule) → lines ≡ finals (last_world s) → lines_text 0 lines ≡ finals_text s
 unfolding finals_text
 final_lines_are held lines s is = ap (λ ls. lines_text 0 ls) is
 
 pub partly_finishes : (w v : Option (List ℕ)) (st : State) (held : Held) (lines : List Line) → st.world ≡ Some held → length st.part ≡ 0
-    → ((s : Schedule) → StandsFor held (last_cluster s) → lines ≡ finals (last_cluster s)) → PutsFront w v (lines_text 0 lines) → Finishes status.WriteFault w v st
+    → ((s : Schedule) → StandsFor held (last_world s) → lines ≡ finals (last_world s)) → PutsFront w v (lines_text 0 lines) → Finishes Status.WriteFault w v st
 unfolding Finishes Ran
 partly_finishes w v st held lines world none is put = λ before after had total within ended s.
     finish_partly before after had w v st total held ended s world none
     (λ sch stands. subst (λ ys. PutsFront w v ys) (final_lines_are held lines sch (is sch stands)) put)
 
 pub well_finishes : (w v : Option (List ℕ)) (st : State) (held : Held) (lines : List Line) → st.world ≡ Some held → length st.part ≡ 0
-    → ((s : Schedule) → StandsFor held (last_cluster s) → lines ≡ finals (last_cluster s)) → Puts w v (lines_text 0 lines) → FinishesWell w v st
+    → ((s : Schedule) → StandsFor held (last_world s) → lines ≡ finals (last_world s)) → Puts w v (lines_text 0 lines) → FinishesWell w v st
 unfolding FinishesWell
 well_finishes w v st held lines world none is put = λ before after had total within ended s.
     finish_well before after had w v st total held within ended s world none
@@ -114,24 +115,24 @@ unfolding Finishes
 finishes_at result b a c h w v st total s takes within ended finishes = finishes b c h (total + 0) (omega (arith, within)) ended (taken_more b a c h w st total [] s takes)
 
 pub finishes_well_at : (b a c h w v : Option (List ℕ)) (st : State) (total : ℕ)
-    → SoFar b a h w st [] total → Takes a c [] → total ≤ 1073741824 → AtEnd c → FinishesWell w v st → Ran status.Ok b c h v
+    → SoFar b a h w st [] total → Takes a c [] → total ≤ 1073741824 → AtEnd c → FinishesWell w v st → Ran Status.Ok b c h v
 unfolding FinishesWell Ran
 finishes_well_at b a c h w v st total s takes within ended finishes = finishes b c h (total + 0) (omega (arith, within)) ended (taken_more b a c h w st total [] s takes)
 
 -- ---- faults, limits and other words
 
-pub read_fault_at : (b a c h w : Option (List ℕ)) (st : State) (total : ℕ) → SoFar b a h w st [] total → Takes a c [] → Ran status.ReadFault b c h w
+pub read_fault_at : (b a c h w : Option (List ℕ)) (st : State) (total : ℕ) → SoFar b a h w st [] total → Takes a c [] → Ran Status.ReadFault b c h w
 unfolding Ran
 read_fault_at b a c h w st total s takes = ran_so_far b c h w st (total + 0) (taken_more b a c h w st total [] s takes)
 
-pub too_long_at : (b a c h w : Option (List ℕ)) (st : State) (x : ℕ) → SoFar b a h w st [] 1073741824 → Takes a c (x ∷ []) → Ran status.InputTooLong b c h w
+pub too_long_at : (b a c h w : Option (List ℕ)) (st : State) (x : ℕ) → SoFar b a h w st [] 1073741824 → Takes a c (x ∷ []) → Ran Status.InputTooLong b c h w
 unfolding Ran
 too_long_at b a c h w st x s takes = ran_too_long b a c h w st x s takes
 
-pub no_memory_at : (b h : Option (List ℕ)) → Ran status.NoMemory b b h h
+pub no_memory_at : (b h : Option (List ℕ)) → Ran Status.NoMemory b b h h
 unfolding Ran
 no_memory_at b h = nothing_ran b h
 
-pub usage_at : (b h : Option (List ℕ)) → Ran status.Usage b b h h
+pub usage_at : (b h : Option (List ℕ)) → Ran Status.Usage b b h h
 unfolding Ran
 usage_at b h = (refl, refl)

@@ -1,19 +1,20 @@
--- A replay in mid-stream goes on, and ends.
-use Rattle.std.proofs.Common.{◌≡◌, ◌≢◌, ℕ, ◌+◌, ◌<◌, ◌≤◌, List, [], ◌∷◌, ◌++◌, Option, Some, None, length, refl, ap, sym, ◌∙◌, subst, arith, append_assoc, length-append, take, drop, get_or, zero, suc}
+-- A replay in mid-stream goes on, or ends at a bad line.
+use Rattle.std.proofs.Common.{◌≡◌, ◌≢◌, ℕ, ◌+◌, ◌<◌, ◌≤◌, List, [], ◌∷◌, ◌++◌, Option, Some, None, length, refl, ap, sym, ◌∙◌, subst, arith, append_assoc, length-append, take, drop, get_or}
 use Rattle.std.specs.Option.{option_map}
-use Rattle.std.proofs.lemmas.List.{append-nil, append_cancel_left, take_more, drop_more, take-append-drop, nil_from_length}
+use Rattle.std.proofs.lemmas.List.{append-nil, append_cancel_left, take_more, drop_more, take-append-drop}
 use Rattle.crsm_base.specs.declared.Line.{Line}
 use Rattle.crsm_text.proofs.WordsLemmas.{Lacks-append}
 use Rattle.crsm_schedule.specs.Transcript.{lines_text}
-use Rattle.crsm_io.specs.Streams.{Takes, Puts, PutsFront, AtEnd}
-use Rattle.crsm_io.proofs.Steps.{puts_after, puts_none, takes_after, takes_none}
-use Rattle.crsm_world.specs.Held.{Held, StandsFor}
-use Rattle.crsm_world.specs.Schedule.{Schedule, no_events, with_event, line_count, ended, schedule_text, transcript, finals_text, last_cluster}
-use Rattle.crsm_world.proofs.Schedules.{last_cluster-none, schedule_text-none, transcript-none, line_count-none, schedule-none, last_cluster-push, schedule_text-push, transcript-push, line_count-push, schedule-push}
+use Rattle.crsm_io.specs.Streams.{Takes, Puts, PutsFront}
+use Rattle.crsm_io.proofs.Steps.{puts_after, takes_after}
+use Rattle.crsm_world.specs.declared.World.{World as Held}
+use Rattle.crsm_world.specs.Standing.{StandsFor}
+use Rattle.crsm_world.specs.Schedule.{Schedule, no_events, with_event, line_count, ended, schedule_text, transcript, last_world}
+use Rattle.crsm_world.proofs.Schedules.{last_world-none, schedule_text-none, transcript-none, line_count-none, schedule-none, last_world-push, schedule_text-push, transcript-push, line_count-push, schedule-push}
 use Rattle.crsm_app.specs.State.{State, read_text, shown_text, IsGood, count_of, StandsAt}
 use Rattle.crsm_app.specs.Handled.{HandledAfter, Handled}
-use Rattle.crsm_app.specs.Refused.{Refused, CutShort, bad_line, long_line, cut_line}
-use Rattle.crsm_app.specs.Run.{SoFar, CarriesOn, Ends, WrotePart, of_transcript, of_all, RanPartly, RanToEnd, RanToBad, RanSoFar, RanTooLong}
+use Rattle.crsm_app.specs.Refused.{Refused, bad_line, long_line}
+use Rattle.crsm_app.specs.Run.{SoFar, CarriesOn, Ends, WrotePart, of_transcript, RanPartly, RanToBad}
 use Rattle.crsm_app.specs.declared.status.Status.{Status}
 use Rattle.crsm_app.specs.declared.status.Cause.{Cause}
 use Rattle.crsm_app.specs.declared.status.Cause.TheVariants.{Unreadable}
@@ -24,7 +25,7 @@ use Rattle.crsm_app.specs.declared.status.Cause.TheVariants.{Unreadable}
 record OneMore (read : Option Schedule) (held : Held) (line : List ℕ) (lines : List Line) : Type 0 where
   next : Schedule
   good : IsGood read → IsGood (Some next)
-  stands : StandsFor held (last_cluster next)
+  stands : StandsFor held (last_world next)
   count : count_of (Some next) ≡ count_of read + 1
   text : schedule_text next ≡ read_text read ++ ended line
   shown : shown_text read ++ lines_text (count_of read + 1) lines ≡ transcript next
@@ -32,8 +33,8 @@ record OneMore (read : Option Schedule) (held : Held) (line : List ℕ) (lines :
 one_more : (read : Option Schedule) (held : Held) (line : List ℕ) (lines : List Line) → HandledAfter read line held lines → OneMore read held line lines
 one_more None held line lines h = record {
   next = no_events h.replicas;
-  good = λ g. schedule-none h.replicas h.size h.built;
-  stands = subst (λ c. StandsFor held c) (sym (last_cluster-none h.replicas)) h.stands;
+  good = λ g. schedule-none h.replicas h.size;
+  stands = subst (λ c. StandsFor held c) (sym (last_world-none h.replicas)) h.stands;
   count = line_count-none h.replicas;
   text = schedule_text-none h.replicas ∙ ap (λ ys. ended ys) (sym h.text);
   shown = ap (λ ls. lines_text 1 ls) h.lines_are ∙ sym (transcript-none h.replicas);
@@ -41,7 +42,7 @@ one_more None held line lines h = record {
 one_more (Some s) held line lines h = record {
   next = with_event s h.event;
   good = λ g. schedule-push s h.event g h.next;
-  stands = subst (λ c. StandsFor held c) (sym (last_cluster-push s h.event)) h.stands;
+  stands = subst (λ c. StandsFor held c) (sym (last_world-push s h.event)) h.stands;
   count = line_count-push s h.event;
   text = schedule_text-push s h.event ∙ ap (λ ys. schedule_text s ++ ended ys) (sym h.text);
   shown = ap (λ ls. transcript s ++ lines_text (line_count s + 1) ls) h.lines_are ∙ sym (transcript-push (line_count s + 1) s h.event refl);
@@ -214,127 +215,3 @@ taken_more b a c h w st total xs s t =
       taken_len = ap length (sym text) ∙ length-append (read_text s.read ++ (st.part ++ [])) xs ∙ ap (λ n. n + length xs) s.taken_len;
       puts = s.puts;
     }
-
--- ---- the end of the input
-
--- the end comes in the middle of a line, or before the first
-pub cut_bad : (b a h w : Option (List ℕ)) (st : State) (total : ℕ) → total ≤ 1073741824 → AtEnd a → SoFar b a h w st [] total
-    → ((read : Option Schedule) → StandsAt st.world read → CutShort read st.part) → RanToBad b a h w (st.number + 1) Unreadable
-cut_bad b a h w st total within ended s cut = record {
-  read = s.read;
-  good = s.good;
-  line_is = ap (λ n. n + 1) s.number;
-  rest = st.part;
-  within = subst (λ n. n ≤ 1073741824) (sym s.taken_len ∙ ap (λ ys. length (read_text s.read ++ ys)) (append-nil st.part)) within;
-  takes = rw append-nil at s.takes;
-  bad = cut_line refl (record { lacks = s.part; cut = cut s.read s.stands; ended = ended });
-  puts = s.puts;
-}
-
--- all lines are done
-finish_by : (b a h w v : Option (List ℕ)) (st : State) (held : Held) (r : Option Schedule)
-    → AtEnd a → IsGood r → StandsAt st.world r → Takes b a (read_text r ++ (st.part ++ [])) → Puts h w (shown_text r)
-    → st.world ≡ Some held → length st.part ≡ 0 → ((s : Schedule) → StandsFor held (last_cluster s) → PutsFront w v (finals_text s)) → RanPartly b a h v
-finish_by b a h w v st held None ended good stands t p world none put = absurd (subst (λ x. StandsAt x None) world stands)
-finish_by b a h w v st held (Some s) ended good stands t p world none put =
-    let f = put s (subst (λ x. StandsAt x (Some s)) world stands) in
-    record {
-      read = Some s;
-      good = good;
-      rest = st.part ++ [];
-      takes = t;
-      wrote = of_all (append-nil st.part ∙ nil_from_length st.part none) ended (record {
-        front = transcript s ++ f.front;
-        rest = f.rest;
-        cut = ap (λ ys. transcript s ++ ys) f.cut ∙ sym (append_assoc (transcript s) f.front f.rest);
-        put = puts_after h w v (transcript s) f.front p f.put;
-      });
-    }
-
--- a front of the final lines was written
-pub finish_partly : (b a h w v : Option (List ℕ)) (st : State) (total : ℕ) (held : Held)
-    → AtEnd a → SoFar b a h w st [] total → st.world ≡ Some held → length st.part ≡ 0
-    → ((s : Schedule) → StandsFor held (last_cluster s) → PutsFront w v (finals_text s)) → RanPartly b a h v
-finish_partly b a h w v st total held ended s world none put = finish_by b a h w v st held s.read ended s.good s.stands s.takes s.puts world none put
-
-well_by : (b a h w v : Option (List ℕ)) (st : State) (total : ℕ) (held : Held) (r : Option Schedule) → total ≤ 1073741824 → AtEnd a
-    → IsGood r → StandsAt st.world r → Takes b a (read_text r ++ (st.part ++ [])) → length (read_text r ++ (st.part ++ [])) ≡ total → Puts h w (shown_text r)
-    → st.world ≡ Some held → length st.part ≡ 0 → ((s : Schedule) → StandsFor held (last_cluster s) → Puts w v (finals_text s)) → RanToEnd b a h v
-well_by b a h w v st total held None within ended good stands t l p world short put = absurd (subst (λ x. StandsAt x None) world stands)
-well_by b a h w v st total held (Some s) within ended good stands t l p world short put =
-    let text : schedule_text s ++ (st.part ++ []) ≡ schedule_text s = ap (λ y. schedule_text s ++ (y ++ [])) (nil_from_length st.part short) ∙ append-nil (schedule_text s) in
-    record {
-      schedule = s;
-      good = good;
-      takes = subst (λ x. Takes b a x) text t;
-      ended = ended;
-      short = subst (λ n. n ≤ 1073741824) (sym l ∙ ap length text) within;
-      puts = puts_after h w v (transcript s) (finals_text s) p (put s (subst (λ x. StandsAt x (Some s)) world stands));
-    }
-
--- the final lines were written
-pub finish_well : (b a h w v : Option (List ℕ)) (st : State) (total : ℕ) (held : Held) → total ≤ 1073741824 → AtEnd a
-    → SoFar b a h w st [] total → st.world ≡ Some held → length st.part ≡ 0
-    → ((s : Schedule) → StandsFor held (last_cluster s) → Puts w v (finals_text s)) → RanToEnd b a h v
-finish_well b a h w v st total held within ended s world short put =
-    well_by b a h w v st total held s.read within ended s.good s.stands s.takes s.taken_len s.puts world short put
-
--- ---- faults and limits
-
--- all whole lines are handled
-pub ran_so_far : (b a h w : Option (List ℕ)) (st : State) (total : ℕ) → SoFar b a h w st [] total → RanSoFar b a h w
-ran_so_far b a h w st total s = record {
-  read = s.read;
-  good = s.good;
-  rest = st.part;
-  whole = s.part;
-  short = s.short;
-  takes = rw append-nil at s.takes;
-  puts = s.puts;
-}
-
--- one byte beyond the limit
-pub ran_too_long : (b a c h w : Option (List ℕ)) (st : State) (x : ℕ) → SoFar b a h w st [] 1073741824 → Takes a c (x ∷ []) → RanTooLong b c h w
-ran_too_long b a c h w st x s t =
-    let text : read_text s.read ++ (st.part ++ []) ++ (x ∷ []) ≡ read_text s.read ++ (st.part ++ x ∷ []) =
-    append_assoc (read_text s.read) (st.part ++ []) (x ∷ []) ∙ ap (λ ys. read_text s.read ++ (ys ++ x ∷ [])) (append-nil st.part) in
-    record {
-      read = s.read;
-      good = s.good;
-      rest = st.part;
-      whole = s.part;
-      short = s.short;
-      long = rw append-nil at s.taken_len;
-      more = x;
-      takes = subst (λ y. Takes b c y) text (takes_after b a c (read_text s.read ++ (st.part ++ [])) (x ∷ []) s.takes t);
-      puts = s.puts;
-    }
-
--- nothing was read or written
-pub nothing_ran : (b h : Option (List ℕ)) → RanPartly b b h h
-nothing_ran b h = record {
-  read = None;
-  good = tt;
-  rest = [];
-  takes = takes_none b;
-  wrote = of_transcript (record { front = []; rest = []; cut = refl; put = puts_none h });
-}
-
--- ---- lists
-
--- a list of one item
-pub one_item : {X : Type 0} (xs : List X) (x : X) → length xs ≡ 1 → x ≡ get_or xs 0 x → xs ≡ x ∷ []
-one_item [] x len is = absurd (omega arith)
-one_item (y ∷ []) x len is = ap (λ z. z ∷ []) (sym is)
-one_item (y ∷ z ∷ zs) x len is = absurd (omega arith)
-
-take_nil : (n : ℕ) → take {A = ℕ} n [] ≡ []
-take_nil zero = refl
-take_nil (suc n) = refl
-
--- a front of one byte
-pub one_byte : (xs : List ℕ) (n : ℕ) → 0 < n → n ≤ length xs → length xs ≡ 1 → (x : ℕ) × (take n xs ≡ x ∷ [])
-one_byte [] n some within len = absurd (omega arith)
-one_byte (x ∷ []) zero some within len = absurd (omega arith)
-one_byte (x ∷ []) (suc n) some within len = (x, ap (λ ys. x ∷ ys) (take_nil n))
-one_byte (x ∷ y ∷ ys) n some within len = absurd (omega arith)

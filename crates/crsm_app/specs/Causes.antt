@@ -1,40 +1,35 @@
 -- The cause of a refusal, and the number of a status.
-use Rattle.std.specs.Prelude.{ℕ, Option, Some, None}
-use Rattle.crsm_world.specs.declared.Bad.{Bad}
-use Rattle.crsm_world.specs.declared.Bad.TheVariants as bad
+use Rattle.std.specs.Prelude.{ℕ}
+use Rattle.crsm_spec.specs.Acts.{Bad}
 use Rattle.crsm_app.specs.declared.status.Cause.{Cause}
-use Rattle.crsm_app.specs.declared.status.Cause.TheVariants as cause
 use Rattle.crsm_app.specs.declared.status.Status.{Status}
-use Rattle.crsm_app.specs.declared.status.Status.TheVariants as status
 use Rattle.crsm_app.specs.declared.status.Halt.{Halt}
-use Rattle.crsm_app.specs.declared.status.Halt.TheVariants as halt
 
--- why the world refuses an event; want of memory is no cause
-unfoldable pub cause_of : Bad → Option Cause
-cause_of (bad.Full bytes) = Some (cause.Full bytes)
-cause_of bad.NoSuchReplica = Some cause.NoSuchReplica
-cause_of bad.NoSuchDatagram = Some cause.NoSuchDatagram
-cause_of bad.Used = Some cause.Used
-cause_of bad.Fresh = Some cause.Fresh
-cause_of bad.Mixed = Some cause.Mixed
-cause_of bad.IsDown = Some cause.IsDown
-cause_of bad.IsUp = Some cause.IsUp
-cause_of bad.TooFew = Some cause.TooFew
-cause_of bad.Forged = Some cause.Forged
-cause_of bad.NoMemory = None
+-- why an act is not possible
+unfoldable pub cause_of : Bad → Cause
+cause_of (Bad.Full bytes) = Cause.Full bytes
+cause_of Bad.NoSuchReplica = Cause.NoSuchReplica
+cause_of Bad.NoSuchDatagram = Cause.NoSuchDatagram
+cause_of Bad.Used = Cause.Used
+cause_of Bad.Fresh = Cause.Fresh
+cause_of Bad.Mixed = Cause.Mixed
+cause_of Bad.IsDown = Cause.IsDown
+cause_of Bad.IsUp = Cause.IsUp
+cause_of Bad.TooFew = Cause.TooFew
+cause_of Bad.Forged = Cause.Forged
 
 -- the number that the program ends with
 abbrev pub number_of : Status → ℕ
-number_of status.Ok = 0
-number_of status.Usage = 2
-number_of (status.BadInput line cause) = 3
-number_of status.ReadFault = 4
-number_of status.WriteFault = 5
-number_of status.NoMemory = 8
-number_of status.InputTooLong = 12
+number_of Status.Ok = 0
+number_of Status.Usage = 2
+number_of (Status.BadInput line cause) = 3
+number_of Status.ReadFault = 4
+number_of Status.WriteFault = 5
+number_of Status.NoMemory = 8
+number_of Status.InputTooLong = 12
 
 -- the status of a run that ended in mid-stream
 abbrev pub status_of : Halt → Status
-status_of (halt.BadInput line cause) = status.BadInput line cause
-status_of halt.WriteFault = status.WriteFault
-status_of halt.NoMemory = status.NoMemory
+status_of (Halt.BadInput line cause) = Status.BadInput line cause
+status_of Halt.WriteFault = Status.WriteFault
+status_of Halt.NoMemory = Status.NoMemory

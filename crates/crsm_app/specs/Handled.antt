@@ -3,42 +3,42 @@ use Rattle.std.specs.Prelude.{◌≡◌, ℕ, ◌+◌, List, [], Option, Some, N
 use Rattle.crsm_base.specs.declared.Line.{Line}
 use Rattle.crsm_schedule.specs.declared.Event.{Event}
 use Rattle.crsm_schedule.specs.Grammar.{IsSize, first_text, event_text}
-use Rattle.crsm_world.specs.Cluster.{Cluster, begin, first_lines, act}
-use Rattle.crsm_world.specs.Built.{IsBuiltCount}
-use Rattle.crsm_world.specs.Held.{Held, StandsFor}
-use Rattle.crsm_world.specs.Schedule.{Schedule, IsNext, last_cluster}
+use Rattle.crsm_spec.specs.World.{World, begin, first_lines}
+use Rattle.crsm_spec.specs.Moments.{act}
+use Rattle.crsm_world.specs.declared.World.{World as Held}
+use Rattle.crsm_world.specs.Doing.{act_of}
+use Rattle.crsm_world.specs.Standing.{StandsFor}
+use Rattle.crsm_world.specs.Schedule.{Schedule, IsNext, last_world}
 use Rattle.crsm_app.specs.Refused.{RefusedFirst, RefusedNext, Refused}
 use Rattle.crsm_app.specs.State.{State, StandsAt}
 use Rattle.crsm_app.specs.declared.status.Stop.{Stop}
-use Rattle.crsm_app.specs.declared.status.Stop.TheVariants as stop
 
 -- the first line begins a world
 pub record FirstLine (line : List ℕ) (held : Held) (lines : List Line) : Type 0 where
   pub replicas : ℕ
   pub size : IsSize replicas
-  pub built : IsBuiltCount replicas
   pub text : line ≡ first_text replicas
   pub stands : StandsFor held (begin replicas)
   pub lines_are : lines ≡ first_lines replicas
 
 -- a later line is an event
-pub record NextLine (c : Cluster) (line : List ℕ) (held : Held) (lines : List Line) : Type 0 where
+pub record NextLine (w : World) (line : List ℕ) (held : Held) (lines : List Line) : Type 0 where
   pub event : Event
-  pub next : IsNext c event
+  pub next : IsNext w event
   pub text : line ≡ event_text event
-  pub stands : StandsFor held (act c event).after
-  pub lines_are : lines ≡ (act c event).lines
+  pub stands : StandsFor held (act w (act_of event)).after
+  pub lines_are : lines ≡ (act w (act_of event)).lines
 
 -- the same two, shut: a proof opens them where it needs what is in them
 unfoldable pub BeginsWorld : List ℕ → Held → List Line → Type 0
 BeginsWorld line held lines = FirstLine line held lines
 
-unfoldable pub DoesEvent : Cluster → List ℕ → Held → List Line → Type 0
-DoesEvent c line held lines = NextLine c line held lines
+unfoldable pub DoesEvent : World → List ℕ → Held → List Line → Type 0
+DoesEvent w line held lines = NextLine w line held lines
 
 abbrev pub HandledAfter : Option Schedule → List ℕ → Held → List Line → Type 0
 HandledAfter None line held lines = FirstLine line held lines
-HandledAfter (Some s) line held lines = NextLine (last_cluster s) line held lines
+HandledAfter (Some s) line held lines = NextLine (last_world s) line held lines
 
 -- the line was handled, whatever has been read
 pub record Advanced (old : Option Held) (line : List ℕ) (new : Option Held) (lines : List Line) : Type 0 where
@@ -60,13 +60,13 @@ Handles old new lines = Handled old new lines
 
 -- a line is not handled: it is refused, or memory ran out
 unfoldable pub StopsFirst : Stop → List ℕ → Type 0
-StopsFirst (stop.Bad cause) line = RefusedFirst cause line
-StopsFirst stop.NoMemory line = Unit {0}
+StopsFirst (Stop.Bad cause) line = RefusedFirst cause line
+StopsFirst Stop.NoMemory line = Unit {0}
 
-unfoldable pub StopsNext : Stop → Cluster → List ℕ → Type 0
-StopsNext (stop.Bad cause) c line = RefusedNext c cause line
-StopsNext stop.NoMemory c line = Unit {0}
+unfoldable pub StopsNext : Stop → World → List ℕ → Type 0
+StopsNext (Stop.Bad cause) w line = RefusedNext w cause line
+StopsNext Stop.NoMemory w line = Unit {0}
 
 unfoldable pub StopsAt : Stop → Option Held → List ℕ → Type 0
-StopsAt (stop.Bad cause) world line = (read : Option Schedule) → StandsAt world read → Refused read cause line
-StopsAt stop.NoMemory world line = Unit {0}
+StopsAt (Stop.Bad cause) world line = (read : Option Schedule) → StandsAt world read → Refused read cause line
+StopsAt Stop.NoMemory world line = Unit {0}

@@ -4,13 +4,13 @@ use Rattle.crsm_io.specs.Streams.{AtEnd}
 use Rattle.crsm_schedule.specs.declared.Event.{Event}
 use Rattle.crsm_text.specs.Words.{Lacks}
 use Rattle.crsm_schedule.specs.Grammar.{IsSize, FitsEvent, first_text, event_text, Unreadable}
-use Rattle.crsm_world.specs.declared.Bad.{Bad}
-use Rattle.crsm_world.specs.Cluster.{Cluster, possible}
-use Rattle.crsm_world.specs.Built.{IsBuilt, IsBuiltCount}
-use Rattle.crsm_world.specs.Schedule.{Schedule, last_cluster}
+use Rattle.crsm_spec.specs.World.{World}
+use Rattle.crsm_spec.specs.Acts.{Bad}
+use Rattle.crsm_spec.specs.Possible.{possible}
+use Rattle.crsm_world.specs.Doing.{act_of}
+use Rattle.crsm_world.specs.Schedule.{Schedule, last_world}
 use Rattle.crsm_app.specs.Causes.{cause_of}
 use Rattle.crsm_app.specs.declared.status.Cause.{Cause}
-use Rattle.crsm_app.specs.declared.status.Cause.TheVariants.{Unreadable as unreadable, NotBuilt as not_built}
 
 -- ---- the first line
 
@@ -18,46 +18,29 @@ use Rattle.crsm_app.specs.declared.status.Cause.TheVariants.{Unreadable as unrea
 abbrev pub UnreadableFirst : List ℕ → Type 0
 UnreadableFirst line = (n : ℕ) → IsSize n → line ≢ first_text n
 
--- so many replicas are not built
-pub record UnbuiltFirst (line : List ℕ) : Type 0 where
-  pub replicas : ℕ
-  pub size : IsSize replicas
-  pub text : line ≡ first_text replicas
-  pub unbuilt : ¬ (IsBuiltCount replicas)
-
-pub data RefusedFirst (cause : Cause) (line : List ℕ) : Type 0 where
-  unreadable_first : cause ≡ unreadable → UnreadableFirst line → RefusedFirst cause line
-  unbuilt_first : cause ≡ not_built → UnbuiltFirst line → RefusedFirst cause line
+abbrev pub RefusedFirst : Cause → List ℕ → Type 0
+RefusedFirst cause line = (cause ≡ Cause.Unreadable) × UnreadableFirst line
 
 -- ---- a later line
 
--- the event is not built
-pub record UnbuiltNext (c : Cluster) (line : List ℕ) : Type 0 where
+-- the event is not possible, for the first cause that the world names
+pub record ImpossibleNext (w : World) (cause : Cause) (line : List ℕ) : Type 0 where
   pub event : Event
   pub fits : FitsEvent event
   pub text : line ≡ event_text event
-  pub unbuilt : ¬ (IsBuilt c.replicas event)
-
--- the event is not possible, for the first cause that the cluster names
-pub record ImpossibleNext (c : Cluster) (cause : Cause) (line : List ℕ) : Type 0 where
-  pub event : Event
-  pub fits : FitsEvent event
-  pub text : line ≡ event_text event
-  pub built : IsBuilt c.replicas event
   pub bad : Bad
-  pub is : possible c event ≡ Some bad
-  pub named : cause_of bad ≡ Some cause
+  pub is : possible w (act_of event) ≡ Some bad
+  pub named : cause_of bad ≡ cause
 
-pub data RefusedNext (c : Cluster) (cause : Cause) (line : List ℕ) : Type 0 where
-  unreadable_next : cause ≡ unreadable → Unreadable line → RefusedNext c cause line
-  unbuilt_next : cause ≡ not_built → UnbuiltNext c line → RefusedNext c cause line
-  impossible_next : ImpossibleNext c cause line → RefusedNext c cause line
+pub data RefusedNext (w : World) (cause : Cause) (line : List ℕ) : Type 0 where
+  unreadable_next : cause ≡ Cause.Unreadable → Unreadable line → RefusedNext w cause line
+  impossible_next : ImpossibleNext w cause line → RefusedNext w cause line
 
 -- ---- any line
 
 abbrev pub Refused : Option Schedule → Cause → List ℕ → Type 0
 Refused None cause line = RefusedFirst cause line
-Refused (Some s) cause line = RefusedNext (last_cluster s) cause line
+Refused (Some s) cause line = RefusedNext (last_world s) cause line
 
 -- a whole line that is refused
 pub record BadLine (read : Option Schedule) (cause : Cause) (text : List ℕ) : Type 0 where
@@ -89,5 +72,5 @@ pub record CutLine (read : Option Schedule) (left : Option (List ℕ)) (text : L
 -- What comes after what has been read begins with a bad line, for this cause. `left` is what is left behind the text.
 pub data BeginsBad (read : Option Schedule) (left : Option (List ℕ)) (cause : Cause) (text : List ℕ) : Type 0 where
   bad_line : BadLine read cause text → BeginsBad read left cause text
-  long_line : cause ≡ unreadable → LongLine text → BeginsBad read left cause text
-  cut_line : cause ≡ unreadable → CutLine read left text → BeginsBad read left cause text
+  long_line : cause ≡ Cause.Unreadable → LongLine text → BeginsBad read left cause text
+  cut_line : cause ≡ Cause.Unreadable → CutLine read left text → BeginsBad read left cause text

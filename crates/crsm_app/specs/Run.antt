@@ -7,7 +7,6 @@ use Rattle.crsm_app.specs.State.{State, read_text, shown_text, whole_text, IsGoo
 use Rattle.crsm_app.specs.Refused.{BeginsBad}
 use Rattle.crsm_app.specs.declared.status.Cause.{Cause}
 use Rattle.crsm_app.specs.declared.status.Status.{Status}
-use Rattle.crsm_app.specs.declared.status.Status.TheVariants as status
 
 -- In each of these the source had `before` and has `after` left, and the sink had `had` and has `has` written.
 
@@ -85,13 +84,13 @@ pub record RanPartly (before after had has : Option (List ℕ)) : Type 0 where
 
 -- What a run did. It is shut, as the words below are: a proof opens it where it needs what is in it.
 unfoldable pub Ran : Status → Option (List ℕ) → Option (List ℕ) → Option (List ℕ) → Option (List ℕ) → Type 0
-Ran status.Ok before after had has = RanToEnd before after had has
-Ran status.Usage before after had has = (after ≡ before) × (has ≡ had)
-Ran (status.BadInput line cause) before after had has = RanToBad before after had has line cause
-Ran status.ReadFault before after had has = RanSoFar before after had has
-Ran status.WriteFault before after had has = RanPartly before after had has
-Ran status.NoMemory before after had has = RanPartly before after had has
-Ran status.InputTooLong before after had has = RanTooLong before after had has
+Ran Status.Ok before after had has = RanToEnd before after had has
+Ran Status.Usage before after had has = (after ≡ before) × (has ≡ had)
+Ran (Status.BadInput line cause) before after had has = RanToBad before after had has line cause
+Ran Status.ReadFault before after had has = RanSoFar before after had has
+Ran Status.WriteFault before after had has = RanPartly before after had has
+Ran Status.NoMemory before after had has = RanPartly before after had has
+Ran Status.InputTooLong before after had has = RanTooLong before after had has
 
 -- ---- pieces
 
@@ -118,12 +117,12 @@ FinishesWell has now state = (before after had : Option (List ℕ)) (total : ℕ
 
 -- done, unless memory ran out
 abbrev pub IsDone : Status → Type 0
-IsDone result = (result ≡ status.Ok) ⊎ (result ≡ status.NoMemory)
+IsDone result = (result ≡ Status.Ok) ⊎ (result ≡ Status.NoMemory)
 
 -- refused for this line and cause, unless memory ran out
 abbrev pub IsRefused : ℕ → Cause → Status → Type 0
-IsRefused line cause result = (result ≡ status.BadInput line cause) ⊎ (result ≡ status.NoMemory)
+IsRefused line cause result = (result ≡ Status.BadInput line cause) ⊎ (result ≡ Status.NoMemory)
 
 -- too long, unless memory ran out
 abbrev pub IsTooLong : Status → Type 0
-IsTooLong result = (result ≡ status.InputTooLong) ⊎ (result ≡ status.NoMemory)
+IsTooLong result = (result ≡ Status.InputTooLong) ⊎ (result ≡ Status.NoMemory)

@@ -1,11 +1,12 @@
 -- A replay in mid-stream, and what has been read by then: nothing whole, or a schedule.
 use Rattle.std.specs.Prelude.{ℕ, List, [], ◌++◌, Option, Some, None}
-use Rattle.crsm_world.specs.Held.{Held, StandsFor}
-use Rattle.crsm_world.specs.Schedule.{Schedule, IsSchedule, schedule_text, transcript, finals_text, last_cluster, line_count}
+use Rattle.crsm_world.specs.declared.World.{World}
+use Rattle.crsm_world.specs.Standing.{StandsFor}
+use Rattle.crsm_world.specs.Schedule.{Schedule, IsSchedule, schedule_text, transcript, finals_text, last_world, line_count}
 
 -- the world once the first line has come, how many lines have come, and what has come of the next
 pub record State : Type 0 where
-  pub world : Option Held
+  pub world : Option World
   pub number : ℕ
   pub part : List ℕ
 
@@ -36,9 +37,9 @@ abbrev pub count_of : Option Schedule → ℕ
 count_of None = 0
 count_of (Some s) = line_count s
 
--- the world that is held is the one that it leads to
-abbrev pub StandsAt : Option Held → Option Schedule → Type 0
+-- the world in memory is the one that it leads to
+abbrev pub StandsAt : Option World → Option Schedule → Type 0
 StandsAt None None = Unit {0}
-StandsAt (Some held) (Some s) = StandsFor held (last_cluster s)
+StandsAt (Some world) (Some s) = StandsFor world (last_world s)
 StandsAt None (Some s) = ⊥
-StandsAt (Some held) None = ⊥
+StandsAt (Some world) None = ⊥

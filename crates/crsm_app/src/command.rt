@@ -3,8 +3,9 @@
 ghost use Rattle.std.specs.Prelude.{◌≡◌, ◌≢◌, ◌<◌, ◌≤◌, ◌+◌, ◌↔◌, ◌++◌, ℕ, IsTrue, List, Option, Some, length, [], ◌∷◌, map, codes, string_bytes};
 ghost use Rattle.crsm_device.specs.Counts.{Rose};
 ghost use Rattle.crsm_text.specs.Words.{Lacks};
-ghost use Rattle.crsm_world.specs.Schedule.{Schedule, IsSchedule, schedule_text};
-ghost use Rattle.crsm_world.specs.Safe.{Agreed, Answered, RealTime};
+ghost use Rattle.crsm_spec.specs.Safe.{Agreed, Answered, RealTime};
+ghost use Rattle.crsm_spec.specs.Durable.{KeepsAnswered};
+ghost use Rattle.crsm_world.specs.Schedule.{Schedule, IsSchedule, ShowsAll, schedule_text, acts_of};
 ghost use Rattle.crsm_app.specs.Causes.{status_of};
 ghost use Rattle.crsm_app.specs.State.{IsGood, read_text, count_of};
 ghost use Rattle.crsm_app.specs.Refused.{BeginsBad};
@@ -14,6 +15,7 @@ ghost use Rattle.crsm_app.specs.declared.status.Cause.{Cause};
 use crate::replay::Replay;
 use crate::status::{Halt, Status};
 use crsm_io::{Sink, Source};
+use crsm_safe::{answered_are_kept, runs_are_safe};
 use std::alloc::Global;
 
 /// How many bytes an input has at most.
@@ -147,11 +149,19 @@ pub fn run<I: Source, O: Sink>(
     ensures limit { (bytes : List ℕ) → I.left input.old ≡ Some bytes → MAX_INPUT_BYTES < length bytes → result ≢ Status.Ok }
     ensures within { (bytes : List ℕ) → I.left input.old ≡ Some bytes → length bytes ≤ MAX_INPUT_BYTES → result ≢ Status.InputTooLong }
 
-    // The lines of every schedule that is run agree, answer as the sequential store does, and keep real time.
-    ensures agreement { (s : Schedule) → IsSchedule s → Agreed s }
-    ensures answers { (s : Schedule) → IsSchedule s → Answered s }
-    ensures real_time { (s : Schedule) → IsSchedule s → RealTime s }
+    // A transcript has all lines of the protocol's run, in order, and no other.
+    ensures shows { (s : Schedule) → ShowsAll s }
+
+    // In every schedule that is run all executed lists, at any moments, are fronts of one list; each answer is the
+    // sequential store's at its place of that list; what is submitted after an answer stands behind the answered
+    // command; and what was answered is never lost.
+    ensures agreement { (s : Schedule) → IsSchedule s → Agreed s.replicas (acts_of s) }
+    ensures answers { (s : Schedule) → IsSchedule s → Answered s.replicas (acts_of s) }
+    ensures real_time { (s : Schedule) → IsSchedule s → RealTime s.replicas (acts_of s) }
+    ensures durable { (s : Schedule) → IsSchedule s → KeepsAnswered s.replicas (acts_of s) }
 {
+    runs_are_safe();
+    answered_are_kept();
     if is_replay(words) {
         replay(alloc, input, output)
     } else {

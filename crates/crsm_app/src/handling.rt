@@ -1,18 +1,19 @@
 //! One line of a schedule: it begins a world, or is an event of it.
 
 ghost use Rattle.std.specs.Prelude.{◌≡◌, IfOk, IfErr};
+ghost use Rattle.std.specs.Option.{option_map};
 ghost use Rattle.crsm_schedule.specs.Grammar.{FitsEvent, event_text};
 ghost use Rattle.crsm_schedule.specs.Transcript.{lines_text};
-ghost use Rattle.crsm_world.specs.Built.{IsBuilt};
-ghost use Rattle.crsm_world.specs.Cluster.{Cluster};
-ghost use Rattle.crsm_world.specs.Held.{StandsFor};
+ghost use Rattle.crsm_spec.specs.World as on_paper;
+ghost use Rattle.crsm_world.specs.Doing.{bad_of};
+ghost use Rattle.crsm_world.specs.Standing.{StandsFor};
 ghost use Rattle.crsm_app.specs.Causes.{cause_of};
 ghost use Rattle.crsm_app.specs.Handled.{BeginsWorld, DoesEvent, Advances, StopsFirst, StopsNext, StopsAt};
 
 use crate::status::{Cause, Stop};
 use crsm_base::{Bytes, Lines, NoMemory};
 use crsm_schedule::{Event, LineError, print_line, read_event, read_first};
-use crsm_world::{Bad, World, built, built_count};
+use crsm_world::{Bad, World};
 use std::alloc::Global;
 
 impl From<NoMemory> for Stop {
@@ -27,9 +28,9 @@ impl From<NoMemory> for Stop {
 }
 
 /// The cause that the world names. Want of memory is none.
-#[tactic(auto, unfolding(crate::specs::Causes::cause_of))]
+#[tactic(auto, unfolding(crate::specs::Causes::cause_of, crsm_world::specs::Doing::bad_of))]
 fn named_cause(bad: Bad) -> Option<Cause>
-    ensures { result ≡ cause_of bad }
+    ensures { result ≡ option_map cause_of (bad_of bad) }
 {
     match bad {
         Bad::Full { bytes } => Some(Cause::Full { bytes }),
@@ -54,9 +55,6 @@ fn begin_world(alloc: Global, line: &[u8]) -> Result<(World, Lines), Stop>
     let Some(replicas) = read_first(line) else {
         return Err(Stop::Bad(Cause::Unreadable));
     };
-    if !built_count(replicas) {
-        return Err(Stop::Bad(Cause::NotBuilt));
-    }
     let Ok(made) = World::new(alloc, replicas) else {
         return Err(Stop::NoMemory);
     };
@@ -66,31 +64,25 @@ fn begin_world(alloc: Global, line: &[u8]) -> Result<(World, Lines), Stop>
 /// Lets an event go, in a function of its own, which keeps the cases of an event out of its callers' proofs.
 fn discard(_event: Event) {}
 
-/// The event that a line spells, in a cluster of so many replicas.
-fn event_of(alloc: Global, replicas: u32, line: &[u8]) -> Result<Event, Stop>
+/// The event that a line spells.
+fn event_of(alloc: Global, line: &[u8]) -> Result<Event, Stop>
     ensures fits { IfOk result (λ event. FitsEvent event) }
-    ensures built { IfOk result (λ event. IsBuilt replicas event) }
     ensures text { IfOk result (λ event. line.now ≡ event_text event) }
-    ensures err { (c : Cluster) → c.replicas ≡ replicas → IfErr result (λ stop. StopsNext stop c line.now) }
+    ensures err { (w : on_paper.World) → IfErr result (λ stop. StopsNext stop w line.now) }
 {
-    let event = match read_event(alloc, line) {
-        Ok(event) => event,
-        Err(LineError::Unreadable) => return Err(Stop::Bad(Cause::Unreadable)),
-        Err(LineError::NoMemory) => return Err(Stop::NoMemory),
-    };
-    if !built(replicas, &event) {
-        discard(event);
-        return Err(Stop::Bad(Cause::NotBuilt));
+    match read_event(alloc, line) {
+        Ok(event) => Ok(event),
+        Err(LineError::Unreadable) => Err(Stop::Bad(Cause::Unreadable)),
+        Err(LineError::NoMemory) => Err(Stop::NoMemory),
     }
-    Ok(event)
 }
 
 /// Does the event that a line spells, and gives its lines.
 fn do_line(alloc: Global, world: &mut World, line: &[u8]) -> Result<Lines, Stop>
-    ensures ok { (c : Cluster) → StandsFor world.old c → IfOk result (λ lines. DoesEvent c line.now world.new lines) }
-    ensures err { (c : Cluster) → StandsFor world.old c → IfErr result (λ stop. StopsNext stop c line.now) }
+    ensures ok { (w : on_paper.World) → StandsFor world.old w → IfOk result (λ lines. DoesEvent w line.now world.new lines) }
+    ensures err { (w : on_paper.World) → StandsFor world.old w → IfErr result (λ stop. StopsNext stop w line.now) }
 {
-    let event = match event_of(alloc, world.replicas(), line) {
+    let event = match event_of(alloc, line) {
         Ok(event) => event,
         Err(stop) => return Err(stop),
     };

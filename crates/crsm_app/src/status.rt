@@ -8,8 +8,6 @@ use std::fmt::{self, Display, Formatter, Write};
 /// What is wrong with a line.
 #[derive(Clone, Copy, Debug, PartialEq, Eq)]
 pub enum Cause {
-    /// It is in the grammar, but what it asks is not built.
-    NotBuilt,
     /// It is outside the grammar.
     Unreadable,
     /// The datagrams and the log bodies have so many bytes, which is the limit or above it.
@@ -74,7 +72,6 @@ impl Status {
 impl Display for Cause {
     fn fmt<W: Write>(&self, f: &mut Formatter<W>) -> fmt::Result {
         match self {
-            Cause::NotBuilt => f.write_str("this is not built"),
             Cause::Unreadable => f.write_str("it cannot be read"),
             Cause::Full { bytes } => write!(f, "the world is full with {bytes} bytes"),
             Cause::NoSuchReplica => f.write_str("there is no such replica"),

@@ -1,6 +1,6 @@
 use Rattle.std.proofs.Common.{◌≡◌, ap, sym, ◌∙◌, arith, length, codes, [], ◌∷◌}
 use Rattle.std.proofs.lemmas.Slice.Eq.{bytes_eq-Decides}
-use Rattle.crsm_app.proofs.Stream.{one_item}
+use Rattle.crsm_app.proofs.Lists.{one_item}
 use Rattle.crsm_app.proofs.command.is_replay.Goals as goal
 
 pub returns-in-len1 : goal.returns-in-len1

@@ -2,7 +2,7 @@ use Rattle.std.proofs.Common.{◌≡◌, ◌<◌, ◌≤◌, ◌+◌, ℕ, List,
 use Rattle.std.proofs.lemmas.List.{take-append-le}
 use Rattle.crsm_io.specs.Streams.{Takes, AtEnd}
 use Rattle.crsm_app.specs.Run.{SoFar}
-use Rattle.crsm_app.proofs.Stream.{one_byte}
+use Rattle.crsm_app.proofs.Lists.{one_byte}
 use Rattle.crsm_app.proofs.Pieces.{read_fault_at, too_long_at, ends_at, carries_at, finishes_at, finishes_well_at}
 use Rattle.crsm_app.proofs.command.replay_through.Goals as goal
 

@@ -1,5 +1,6 @@
 use Rattle.crsm_app.proofs.Pieces.{usage_at}
-use Rattle.crsm_world.proofs.Laws.{agreed_lem, answered_lem, real_time_lem}
+use Rattle.crsm_world.specs.Schedule.{acts_of}
+use Rattle.crsm_world.proofs.Schedules.{shows_all}
 use Rattle.crsm_app.proofs.Exact.{completed, refused, too_long, not_done, not_too_long}
 use Rattle.crsm_app.proofs.command.run.Goals as goal
 
@@ -24,23 +25,35 @@ returns-then-is_replay-clause-limit g c = λ bytes is long. not_done c.replay.re
 pub returns-then-is_replay-clause-within : goal.returns-then-is_replay-clause-within
 returns-then-is_replay-clause-within g c = λ bytes is short. not_too_long c.replay.result _ _ _ _ bytes c.replay.ensures.ran is short
 
+pub returns-then-is_replay-clause-shows : goal.returns-then-is_replay-clause-shows
+returns-then-is_replay-clause-shows g c = λ s. shows_all s
+
 pub returns-then-is_replay-clause-agreement : goal.returns-then-is_replay-clause-agreement
-returns-then-is_replay-clause-agreement g c = λ s good. agreed_lem s
+returns-then-is_replay-clause-agreement g c = λ s good. (c.runs_are_safe.ensures s.replicas good.size.0 good.size.1 (acts_of s) good.possible).0
 
 pub returns-then-is_replay-clause-answers : goal.returns-then-is_replay-clause-answers
-returns-then-is_replay-clause-answers g c = λ s good. answered_lem s
+returns-then-is_replay-clause-answers g c = λ s good. (c.runs_are_safe.ensures s.replicas good.size.0 good.size.1 (acts_of s) good.possible).1
 
 pub returns-then-is_replay-clause-real_time : goal.returns-then-is_replay-clause-real_time
-returns-then-is_replay-clause-real_time g c = λ s good. real_time_lem s
+returns-then-is_replay-clause-real_time g c = λ s good. (c.runs_are_safe.ensures s.replicas good.size.0 good.size.1 (acts_of s) good.possible).2
+
+pub returns-then-is_replay-clause-durable : goal.returns-then-is_replay-clause-durable
+returns-then-is_replay-clause-durable g c = λ s good. c.answered_are_kept.ensures s.replicas (acts_of s) good.size.1 good.possible
 
 pub returns-else-is_replay-clause-ran : goal.returns-else-is_replay-clause-ran
 returns-else-is_replay-clause-ran g c = usage_at (g.I.Source.left c.args.input.now) (g.O.Sink.written c.args.output.now)
 
+pub returns-else-is_replay-clause-shows : goal.returns-else-is_replay-clause-shows
+returns-else-is_replay-clause-shows g c = λ s. shows_all s
+
 pub returns-else-is_replay-clause-agreement : goal.returns-else-is_replay-clause-agreement
-returns-else-is_replay-clause-agreement g c = λ s good. agreed_lem s
+returns-else-is_replay-clause-agreement g c = λ s good. (c.runs_are_safe.ensures s.replicas good.size.0 good.size.1 (acts_of s) good.possible).0
 
 pub returns-else-is_replay-clause-answers : goal.returns-else-is_replay-clause-answers
-returns-else-is_replay-clause-answers g c = λ s good. answered_lem s
+returns-else-is_replay-clause-answers g c = λ s good. (c.runs_are_safe.ensures s.replicas good.size.0 good.size.1 (acts_of s) good.possible).1
 
 pub returns-else-is_replay-clause-real_time : goal.returns-else-is_replay-clause-real_time
-returns-else-is_replay-clause-real_time g c = λ s good. real_time_lem s
+returns-else-is_replay-clause-real_time g c = λ s good. (c.runs_are_safe.ensures s.replicas good.size.0 good.size.1 (acts_of s) good.possible).2
+
+pub returns-else-is_replay-clause-durable : goal.returns-else-is_replay-clause-durable
+returns-else-is_replay-clause-durable g c = λ s good. c.answered_are_kept.ensures s.replicas (acts_of s) good.size.1 good.possible

@@ -1,5 +1,5 @@
 use Rattle.std.proofs.Common.{◌≡◌, length, ap, sym, ◌∙◌, subst, arith}
-use Rattle.crsm_world.specs.Schedule.{last_cluster}
+use Rattle.crsm_world.specs.Schedule.{last_world}
 use Rattle.crsm_io.specs.Streams.{Puts, PutsFront}
 use Rattle.crsm_app.proofs.Pieces.{unbegun_finishes, cut_finishes, no_memory_finishes, partly_finishes, well_finishes}
 use Rattle.crsm_app.proofs.replay.Replay.finish.Goals as goal
@@ -31,7 +31,7 @@ returns-in-Ok-put_all-clause-ok g c =
     let is = c.len.ensures in
     let none = c.if-len-gt0.false in
     well_finishes (g.O.Sink.written c.args.output.now) (g.O.Sink.written c.put_all.new.sink) c.args.self.now c.in-Some.world c.in-Ok.lines
-    (sym (ap (λ x. x.world) c.self.view_is) ∙ c.in-Some.is) (omega (arith, len, is, none)) (λ s stands. c.in-Ok.ensures.lines (last_cluster s) stands)
+    (sym (ap (λ x. x.world) c.self.view_is) ∙ c.in-Some.is) (omega (arith, len, is, none)) (λ s stands. c.in-Ok.ensures.lines (last_world s) stands)
     (subst (λ y. Puts (g.O.Sink.written c.args.output.now) (g.O.Sink.written c.put_all.new.sink) y) (c.as_slice.ensures ∙ c.in-Ok-text_of.ensures) c.in-Ok-put_all.ensures.ok)
 
 pub returns-clause-err : goal.returns-clause-err
@@ -41,5 +41,5 @@ returns-clause-err g c =
     let is = c.len.ensures in
     let none = c.if-len-gt0.false in
     partly_finishes (g.O.Sink.written c.args.output.now) (g.O.Sink.written c.put_all.new.sink) c.args.self.now c.in-Some.world c.in-Ok.lines
-    (sym (ap (λ x. x.world) c.self.view_is) ∙ c.in-Some.is) (omega (arith, len, is, none)) (λ s stands. c.in-Ok.ensures.lines (last_cluster s) stands)
+    (sym (ap (λ x. x.world) c.self.view_is) ∙ c.in-Some.is) (omega (arith, len, is, none)) (λ s stands. c.in-Ok.ensures.lines (last_world s) stands)
     (subst (λ y. PutsFront (g.O.Sink.written c.args.output.now) (g.O.Sink.written c.put_all.new.sink) y) (c.as_slice.ensures ∙ c.in-Ok-text_of.ensures) c.in-Err.ensures.front)

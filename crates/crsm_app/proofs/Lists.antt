@@ -1,0 +1,19 @@
+-- Lists of one item.
+use Rattle.std.proofs.Common.{◌≡◌, ℕ, ◌<◌, ◌≤◌, List, [], ◌∷◌, length, refl, ap, sym, arith, take, get_or, zero, suc}
+
+-- a list of one item
+pub one_item : {X : Type 0} (xs : List X) (x : X) → length xs ≡ 1 → x ≡ get_or xs 0 x → xs ≡ x ∷ []
+one_item [] x len is = absurd (omega arith)
+one_item (y ∷ []) x len is = ap (λ z. z ∷ []) (sym is)
+one_item (y ∷ z ∷ zs) x len is = absurd (omega arith)
+
+take_nil : (n : ℕ) → take {A = ℕ} n [] ≡ []
+take_nil zero = refl
+take_nil (suc n) = refl
+
+-- a front of one byte
+pub one_byte : (xs : List ℕ) (n : ℕ) → 0 < n → n ≤ length xs → length xs ≡ 1 → (x : ℕ) × (take n xs ≡ x ∷ [])
+one_byte [] n some within len = absurd (omega arith)
+one_byte (x ∷ []) zero some within len = absurd (omega arith)
+one_byte (x ∷ []) (suc n) some within len = (x, ap (λ ys. x ∷ ys) (take_nil n))
+one_byte (x ∷ y ∷ ys) n some within len = absurd (omega arith)
