@@ -126,6 +126,7 @@ pub fn put_payload(payload: &InEpoch, out: &mut Bytes) -> Result<(), NoMemory>
     }
 }
 
+/// Appends the one spelling of a datagram, piece by piece. After `NoMemory` a front of it may have been added.
 #[tactic(auto, unfolding(crsm_base::specs::Messages::datagram_bytes))]
 pub fn put_datagram(datagram: &Datagram, out: &mut Bytes) -> Result<(), NoMemory>
     requires { FitsDatagram datagram.now }
