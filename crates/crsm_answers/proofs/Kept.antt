@@ -49,7 +49,7 @@ strictly [] rises = tt
 strictly (e ∷ es) rises = after_all e es rises
 
 -- all are below what is above the last
-below_last : (done : List Entry) (e : Entry) → RisesStrictly done → option_map_or (λ f. entry_lt f e) (last_of done) true ≡ true → AllByRecursion (λ f. entry_lt f e ≡ true) done
+pub below_last : (done : List Entry) (e : Entry) → RisesStrictly done → option_map_or (λ f. entry_lt f e) (last_of done) true ≡ true → AllByRecursion (λ f. entry_lt f e ≡ true) done
 unfolding last_of
 below_last [] e rises last = tt
 below_last (f ∷ []) e rises last = (last, tt)

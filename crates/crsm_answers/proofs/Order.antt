@@ -8,8 +8,10 @@ use Rattle.crsm_base.specs.Store.{answer_after}
 use Rattle.crsm_spec.specs.Types.{Entry, Answer}
 use Rattle.crsm_answers.specs.Answering.{IsAnswerAt, answered}
 use Rattle.crsm_spec.specs.Clients.{find_executed}
+use Rattle.crsm_spec.specs.Fits.{goes_on}
 use Rattle.std.specs.Option.{option_map, option_map_or}
 use Rattle.crsm_answers.specs.Rising.{RisesStrictly, is_same}
+use Rattle.crsm_answers.proofs.Kept.{below_last}
 
 abbrev pub Below : Entry → Entry → Type 0
 Below e f = entry_lt f e ≡ true
@@ -106,6 +108,13 @@ pub not_found : (e : Entry) (i : ℕ) (es : List Entry) → RisesStrictly es →
 unfolding find_executed is_same
 not_found e i es rises below above other =
     sym (ap (λ (o : Option (ℕ × Entry)). option_map (λ (p : ℕ × Entry). p.0) o) (none_of e 0 es (none_others e i es rises below above other)))
+
+-- what stands behind all that are executed is none of them
+pub none_ahead : (e : Entry) (es : List Entry) → RisesStrictly es → goes_on es (e ∷ []) ≡ true → None ≡ option_map (λ (p : ℕ × Entry). p.0) (find_executed es e)
+unfolding find_executed is_same goes_on
+none_ahead e es rises ahead =
+    let others : AllByRecursion (λ f. is_same e f ≡ false) es = all_of (Below e) (λ f. is_same e f ≡ false) es (below_other e) (below_last es e rises ahead) in
+    sym (ap (λ (o : Option (ℕ × Entry)). option_map (λ (p : ℕ × Entry). p.0) o) (none_of e 0 es others))
 
 -- ---- what stands at the place that was found
 

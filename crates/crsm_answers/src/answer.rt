@@ -1,6 +1,6 @@
 //! The answer to an entry.
 
-ghost use Rattle.std.specs.Prelude.{◌≡◌, ℕ, List, IfOk};
+ghost use Rattle.std.specs.Prelude.{◌≡◌, ℕ, List, None, IsTrue, IfOk};
 ghost use Rattle.std.specs.List.{AllByRecursion};
 ghost use Rattle.crsm_ledger.specs.Stands.{StandsFor};
 ghost use Rattle.crsm_spec.specs.Types.{Rec};
@@ -35,6 +35,13 @@ pub fn answer_to(
         }
         None => Ok(None),
     }
+}
+
+/// Whether the entry stands behind all that are executed. Then it has no answer yet.
+pub fn has_no_answer(ledger: &Ledger, entry: &Entry) -> bool
+    ensures { (me n : ℕ) (log : List Rec) → StandsFor me n ledger.now log → RisesStrictly (executed log) → IsTrue result → None ≡ answered (executed log) entry.now }
+{
+    ledger.is_ahead(entry)
 }
 
 /// The answer to the executed entry at this place.

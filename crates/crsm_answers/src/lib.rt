@@ -6,5 +6,5 @@ mod place;
 mod replay;
 mod told;
 
-pub use answer::answer_to;
+pub use answer::{answer_to, has_no_answer};
 pub use told::executions;

@@ -1,6 +1,6 @@
 //! Where an entry stands among the executed ones.
 
-ghost use Rattle.std.specs.Prelude.{◌≡◌, ℕ, false, List, slice_get, IfOk};
+ghost use Rattle.std.specs.Prelude.{◌≡◌, ◌<◌, ◌≤◌, ℕ, false, List, slice_get, IfOk};
 ghost use Rattle.std.specs.Option.{option_map, option_map_or};
 ghost use Rattle.crsm_base.specs.Order.{entry_lt};
 ghost use Rattle.crsm_ledger.specs.Stands.{StandsFor};
@@ -12,15 +12,29 @@ ghost use Rattle.crsm_answers.specs.Rising.{RisesStrictly, IsBeforeAt, is_same};
 use crsm_base::{Entry, NoMemory};
 use crsm_ledger::Ledger;
 
-/// The place of the entry, where it is executed: by halves, since executed entries rise.
+/// The place of the entry, where it is executed.
 pub fn place_of(ledger: &Ledger, entry: &Entry) -> Result<Option<u64>, NoMemory>
+    ensures { (me n : ℕ) (log : List Rec) → StandsFor me n ledger.now log → RisesStrictly (executed log) →
+        IfOk result (λ r. r ≡ option_map (λ p. p.0) (find_executed (executed log) entry.now)) }
+{
+    if ledger.is_ahead(entry) {
+        return Ok(None);
+    }
+    Ok(seek(ledger, entry)?)
+}
+
+/// The place of the entry, where it is executed. Executed entries rise, and one that is asked for is mostly among the
+/// last: so it is sought from the end, at first by doubled steps, then by halves.
+fn seek(ledger: &Ledger, entry: &Entry) -> Result<Option<u64>, NoMemory>
     ensures { (me n : ℕ) (log : List Rec) → StandsFor me n ledger.now log → RisesStrictly (executed log) →
         IfOk result (λ r. r ≡ option_map (λ p. p.0) (find_executed (executed log) entry.now)) }
 {
     let mut low = 0;
     let mut high = ledger.executed_len();
+    let mut back: u64 = 1;
     while low < high {
-        let middle = low + (high - low) / 2;
+        let middle = middle_of(low, high, back);
+        back = back.saturating_mul(2);
         if is_before_at(ledger, middle, entry)? {
             low = middle + 1;
         } else {
@@ -32,6 +46,15 @@ pub fn place_of(ledger: &Ledger, entry: &Entry) -> Result<Option<u64>, NoMemory>
     } else {
         Ok(None)
     }
+}
+
+/// A place below `high`: so many places before the last one below it, or halfway down to `low` where that is nearer.
+fn middle_of(low: u64, high: u64, back: u64) -> u64
+    requires { low < high }
+    ensures above { low ≤ result }
+    ensures below { result < high }
+{
+    high - 1 - back.min((high - low) / 2)
 }
 
 /// Whether the entry is executed at this place.

@@ -1,7 +1,7 @@
 -- Entries sorted by stamp: where an entry stands among them, and which stand above a stamp.
-use Rattle.std.proofs.Common.{◌≡◌, ℕ, suc, zero, Bool, true, false, ◌≤◌, ◌-◌, List, [], ◌∷◌, refl, ap, sym, ◌∙◌, arith, length, take, drop, get_or}
+use Rattle.std.proofs.Common.{◌≡◌, ℕ, suc, zero, Bool, true, false, ◌<◌, ◌≤◌, ◌+◌, ◌-◌, List, [], ◌∷◌, refl, ap, sym, ◌∙◌, arith, length, take, drop, get_or}
 use Rattle.std.specs.Prelude.{◌==◌, ◌||◌, ◌&&◌, not, nat_lt, insert, filter, find, if◌then◌else◌, Option, None, Some}
-use Rattle.std.specs.List.{AllByRecursion, list_any}
+use Rattle.std.specs.List.{AllByRecursion, AllWithin, list_any}
 use Rattle.std.specs.List.Sorted.{IsPartitionedBy, IsPartitionPoint}
 use Rattle.std.proofs.lemmas.Bool.Decides.{nat_tests}
 use Rattle.crsm_base.specs.Order.{stamp_lt, stamp_eq}
@@ -52,6 +52,19 @@ partitioned p closed (e ∷ es) sorted (suc i) (suc j) d ij within passes =
 
 pub partitioned_up_to : (s : Stamp) (es : List Entry) → IsSortedByStamp es → IsPartitionedBy (λ e. not (stamp_lt s e.stamp)) es
 partitioned_up_to s = partitioned (λ e. not (stamp_lt s e.stamp)) (λ e f. not-not_below s e.stamp f.stamp)
+
+-- all up to one that is not above the stamp are not above it
+pub within_up_to : (s : Stamp) (es : List Entry) (k : ℕ) → IsSortedByStamp es → k < length es → ((d : Entry) → stamp_lt s (get_or es k d).stamp ≡ false) → AllWithin (λ e. not (stamp_lt s e.stamp) ≡ true) es 0 (k + 1)
+within_up_to s es k sorted within here j d low high =
+    partitioned_up_to s es sorted j k d (omega (arith, high)) within (ap not (here d))
+
+-- all from one on that is above the stamp are above it
+pub within_above : (s : Stamp) (es : List Entry) (k : ℕ) → IsSortedByStamp es → k < length es → ((d : Entry) → stamp_lt s (get_or es k d).stamp ≡ true) → AllWithin (λ e. not (stamp_lt s e.stamp) ≡ false) es k (length es)
+within_above s es k sorted within here j d low high = by_test (not (stamp_lt s (get_or es j d).stamp)) refl
+  where
+    by_test : (b : Bool) → not (stamp_lt s (get_or es j d).stamp) ≡ b → b ≡ false
+    by_test false is = refl
+    by_test true is = sym (partitioned_up_to s es sorted k j d low high is) ∙ ap not (here d)
 
 pub partitioned_before : (t : ℕ) (es : List Entry) → IsSortedByStamp es → IsPartitionedBy (λ e. nat_lt e.stamp.time t) es
 partitioned_before t = partitioned (λ e. nat_lt e.stamp.time t) (λ e f. time-not_below e.stamp f.stamp t)

@@ -1,6 +1,6 @@
 //! Which record may come next. A check reads all that its kind of record depends on, and joins it by `&`.
 
-ghost use Rattle.std.specs.Prelude.{◌≡◌, ◌==◌, ◌+◌, ◌≤◌, ℕ, true, false, List, nat_lt, nat_le, ◌||◌, ◌&&◌, unwrap_or};
+ghost use Rattle.std.specs.Prelude.{◌≡◌, ◌==◌, ◌+◌, ◌≤◌, ℕ, true, false, List, [], ◌∷◌, nat_lt, nat_le, ◌||◌, ◌&&◌, unwrap_or};
 ghost use Rattle.std.specs.List.{list_all};
 ghost use Rattle.std.specs.Option.{option_map_or};
 ghost use Rattle.crsm_base.specs.declared.Rec.{Rec};
@@ -140,6 +140,17 @@ fn stand_behind(last: Option<Position>, entries: &[Entry]) -> bool
         (_, []) => false,
         (None, _) => true,
         (Some(last), [first, ..]) => is_behind(last, first),
+    }
+}
+
+/// Whether the entry stands behind the position, or there is none.
+#[tactic(auto, unfolding(crate::specs::Executed::goes_on_behind))]
+pub fn stands_behind(last: Option<Position>, entry: &Entry) -> bool
+    ensures { result ≡ goes_on_behind last (entry.now ∷ []) }
+{
+    match last {
+        None => true,
+        Some(last) => is_behind(last, entry),
     }
 }
 

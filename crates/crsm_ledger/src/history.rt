@@ -10,7 +10,8 @@ ghost use Rattle.crsm_ledger.specs.Executed.{HasExecuted, position_of, last_stam
 
 use crate::spelt::Spelt;
 use crsm_base::{Bytes, Entry, Line, Lines, NoMemory, Stamp};
-use crsm_codec::{read_entry, write_entry};
+use crsm_codec::read_entry;
+use crsm_fields::put_entry;
 use crsm_kv::Store;
 use std::alloc::Global;
 
@@ -104,7 +105,7 @@ impl History {
     {
         let place = self.spelt.len() as u64;
         let mut bytes = Bytes::new(self.alloc);
-        write_entry(self.alloc, entry, &mut bytes)?;
+        put_entry(entry, &mut bytes)?;
         self.spelt.push(bytes.as_slice())?;
         let answer = self.store.apply(&entry.command)?;
         self.last = Some(Position {

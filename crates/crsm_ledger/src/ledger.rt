@@ -6,11 +6,12 @@ ghost use Rattle.crsm_base.specs.declared.Rec.{Rec};
 ghost use Rattle.std.specs.List.{AllByRecursion};
 ghost use Rattle.crsm_base.specs.Spelling.{entry_bytes, FitsEntry};
 ghost use Rattle.crsm_base.specs.Records.{FitsRec};
-ghost use Rattle.crsm_spec.specs.Fits.{fits};
+ghost use Rattle.crsm_spec.specs.Fits.{fits, goes_on};
 ghost use Rattle.crsm_spec.specs.Lines.{lines_of};
 ghost use Rattle.crsm_ledger.specs.Stands.{kind};
 ghost use Rattle.crsm_spec.specs.Log.{boots, start, live, suspended, executed, logged, unexecuted, last_stamp, promised, accepted, spec};
 
+use crate::checks::stands_behind;
 use crate::error::LedgerError;
 use crate::history::History;
 use crate::logged::Logged;
@@ -132,6 +133,13 @@ impl Ledger {
         ensures { (me n : ℕ) (log : List Rec) → StandsFor me n self.now log → IfOk result (λ r. r ≡ slice_get (executed log) place) }
     {
         self.history.entry(place)
+    }
+
+    /// Whether the entry stands behind all that are executed, and so is not one of them.
+    pub fn is_ahead(&self, entry: &Entry) -> bool
+        ensures { (me n : ℕ) (log : List Rec) → StandsFor me n self.now log → result ≡ goes_on (executed log) (entry.now ∷ []) }
+    {
+        stands_behind(self.history.last(), entry)
     }
 
     /// The bytes of the executed entry at this place: `None` exactly where the place is not below `executed_len`.

@@ -1,9 +1,10 @@
 //! The entries of one epoch that were logged, by ascending stamp.
 
-ghost use Rattle.std.specs.Prelude.{◌≡◌, ◌≤◌, ◌==◌, nat_lt, true, false, [], length, not, IfSome, OnOk, OnErr};
+ghost use Rattle.std.specs.Prelude.{◌≡◌, ◌<◌, ◌≤◌, ◌==◌, nat_lt, true, false, [], length, get_or, not, IfSome, OnOk, OnErr};
 ghost use Rattle.std.specs.List.{list_any, AllByRecursion};
 ghost use Rattle.std.specs.Option.{option_copied};
 ghost use Rattle.std.specs.List.Sorted.{IsPartitionPoint};
+ghost use Rattle.crsm_base.specs.declared.Entry.{Entry};
 ghost use Rattle.crsm_base.specs.Order.{stamp_lt};
 ghost use Rattle.crsm_ledger.specs.Sorted.{IsLogged};
 ghost use Rattle.crsm_base.specs.Spelling.{FitsEntry};
@@ -100,13 +101,43 @@ fn first(entries: &[Entry]) -> Option<&Entry>
     }
 }
 
-/// How many entries have no greater stamp.
+/// How many entries have no greater stamp. Mostly all but a few at the end: so the place is sought from there, at first
+/// by doubled steps, then by halves.
 fn count_up_to(entries: &[Entry], stamp: Stamp) -> usize
     requires { IsLogged entries.now }
     ensures bound { result ≤ length entries.now }
     ensures point { IsPartitionPoint (λ e. not (stamp_lt stamp e.stamp) ≡ true) (λ e. not (stamp_lt stamp e.stamp) ≡ false) entries.now result }
 {
-    entries.partition_point(|entry| !is_stamp_below(stamp, entry.stamp))
+    let mut low = 0;
+    let mut high = entries.len();
+    let mut back: usize = 1;
+    while low < high {
+        let middle = middle_of(low, high, back);
+        back = back.saturating_mul(2);
+        if is_above_at(entries, middle, stamp) {
+            high = middle;
+        } else {
+            low = middle + 1;
+        }
+    }
+    low
+}
+
+/// A place below `high`: so many places before the last one below it, or halfway down to `low` where that is nearer.
+fn middle_of(low: usize, high: usize, back: usize) -> usize
+    requires { low < high }
+    ensures above { low ≤ result }
+    ensures below { result < high }
+{
+    high - 1 - back.min((high - low) / 2)
+}
+
+/// Whether the entry at this place has a greater stamp.
+fn is_above_at(entries: &[Entry], place: usize, stamp: Stamp) -> bool
+    requires { place < length entries.now }
+    ensures { (d : Entry) → result ≡ stamp_lt stamp (get_or entries.now place d).stamp }
+{
+    is_stamp_below(stamp, entries[place].stamp)
 }
 
 #[tactic(auto, unfolding(crsm_spec::specs::Log::above))]
