@@ -12,7 +12,7 @@ ghost use Rattle.crsm_app.specs.Handled.{BeginsWorld, DoesEvent, Advances, Stops
 
 use crate::status::{Cause, Stop};
 use crsm_base::{Bytes, Lines, NoMemory};
-use crsm_schedule::{Event, LineError, print_line, read_event, read_first};
+use crsm_schedule::{Event, LineError, push_line, read_event, read_first};
 use crsm_world::{Bad, World};
 use std::alloc::Global;
 
@@ -122,7 +122,7 @@ pub(crate) fn text_of(alloc: Global, at: u64, lines: &Lines) -> Result<Bytes, No
 {
     let mut text = Bytes::new(alloc);
     for line in lines.as_slice() {
-        print_line(alloc, at, line, &mut text)?;
+        push_line(&mut text, at, line)?;
     }
     Ok(text)
 }

@@ -13,5 +13,5 @@ mod tests;
 pub use crsm_text::LineError;
 pub use event::{Event, Single};
 pub use numbers::Numbers;
-pub use print::{print_line, print_outcome};
+pub use print::{print_outcome, push_line};
 pub use read::{read_event, read_first};

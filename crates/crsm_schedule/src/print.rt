@@ -9,13 +9,14 @@ use crsm_base::{Bytes, Line, NoMemory, Outcome, SendKind, State};
 use crsm_text::{push_answer, push_hex, push_members, push_named, push_number, push_numbers};
 use std::alloc::Global;
 
+/// Adds the kind of a datagram, between two spaces.
 fn push_kind(out: &mut Bytes, kind: SendKind) -> Result<(), NoMemory>
-    ensures { OnOk result (out.new ≡ out.old ++ kind_text kind) }
+    ensures { OnOk result (out.new ≡ out.old ++ 32 ∷ (kind_text kind ++ 32 ∷ [])) }
 {
     match kind {
-        SendKind::Frame => out.append(b"frame"),
-        SendKind::Ack => out.append(b"ack"),
-        SendKind::Part => out.append(b"part"),
+        SendKind::Frame => out.append(b" frame "),
+        SendKind::Ack => out.append(b" ack "),
+        SendKind::Part => out.append(b" part "),
     }
 }
 
@@ -40,22 +41,16 @@ fn push_reply(out: &mut Bytes, replica: u32, client: u64, number: u64) -> Result
 }
 
 /// Adds a word, the number of a receiver, and the bytes that it gets.
-fn push_datagram(
-    alloc: Global,
-    out: &mut Bytes,
-    name: &[u8],
-    receiver: u64,
-    bytes: &Bytes,
-) -> Result<(), NoMemory>
+fn push_datagram(out: &mut Bytes, name: &[u8], receiver: u64, bytes: &Bytes) -> Result<(), NoMemory>
     ensures { OnOk result (out.new ≡ out.old ++ (named name.now (receiver ∷ []) ++ 32 ∷ encode_lower bytes.now)) }
 {
     push_named(out, name, &[receiver])?;
     out.push(b' ')?;
-    push_hex(alloc, out, bytes.as_slice())?;
+    push_hex(out, bytes.as_slice())?;
     Ok(())
 }
 
-fn push_words(alloc: Global, out: &mut Bytes, line: &Line) -> Result<(), NoMemory>
+fn push_words(out: &mut Bytes, line: &Line) -> Result<(), NoMemory>
     ensures { OnOk result (out.new ≡ out.old ++ line_words line.now) }
 {
     match line {
@@ -95,7 +90,7 @@ fn push_words(alloc: Global, out: &mut Bytes, line: &Line) -> Result<(), NoMemor
             ];
             push_named(out, b"exec", &values)?;
             out.push(b' ')?;
-            push_answer(alloc, out, answer)
+            push_answer(out, answer)
         }
         Line::Suspend { replica, epoch } => push_named(
             out,
@@ -151,10 +146,8 @@ fn push_words(alloc: Global, out: &mut Bytes, line: &Line) -> Result<(), NoMemor
         } => {
             let values = [*index, u64::from(*from), u64::from(*to)];
             push_named(out, b"send", &values)?;
-            out.push(b' ')?;
             push_kind(out, *kind)?;
-            out.push(b' ')?;
-            push_hex(alloc, out, bytes.as_slice())
+            push_hex(out, bytes.as_slice())
         }
         Line::ReplyOk {
             replica,
@@ -166,7 +159,7 @@ fn push_words(alloc: Global, out: &mut Bytes, line: &Line) -> Result<(), NoMemor
             push_reply(out, *replica, *client, *number)?;
             push_named(out, b"ok", &[*place])?;
             out.push(b' ')?;
-            push_answer(alloc, out, answer)
+            push_answer(out, answer)
         }
         Line::ReplyNo {
             replica,
@@ -200,12 +193,14 @@ fn push_words(alloc: Global, out: &mut Bytes, line: &Line) -> Result<(), NoMemor
             push_state(out, *state)?;
             push_numbers(out, &[*known, *executed])
         }
-        Line::Out { to, bytes } => { push_datagram(alloc, out, b"out", u64::from(*to), bytes) }
-        Line::Back { address, bytes } => { push_datagram(alloc, out, b"back", *address, bytes) }
+        Line::Out { to, bytes } => { push_datagram(out, b"out", u64::from(*to), bytes) }
+        Line::Back { address, bytes } => { push_datagram(out, b"back", *address, bytes) }
     }
 }
 
-fn push_line(alloc: Global, at: u64, line: &Line, out: &mut Bytes) -> Result<(), NoMemory>
+/// Adds a line of the transcript with its line feed, behind the number of the line of input that caused it.
+/// A final line has no number. After an error a front of the line may have been added.
+pub fn push_line(out: &mut Bytes, at: u64, line: &Line) -> Result<(), NoMemory>
     ensures { OnOk result (out.new ≡ out.old ++ line_text at line.now) }
 {
     let is_final = matches!(line, Line::Final { .. });
@@ -213,29 +208,17 @@ fn push_line(alloc: Global, at: u64, line: &Line, out: &mut Bytes) -> Result<(),
         push_number(out, at)?;
         out.push(b' ')?;
     }
-    push_words(alloc, out, line)?;
+    push_words(out, line)?;
     out.push(b'\n')
 }
 
-/// Adds a line of the transcript with its line feed, behind the number of the line of input that caused it.
-/// A final line has no number. After an error `out` is as before.
-pub fn print_line(alloc: Global, at: u64, line: &Line, out: &mut Bytes) -> Result<(), NoMemory>
-    ensures ok { OnOk result (out.new ≡ out.old ++ line_text at line.now) }
-    ensures err { OnErr result (out.new ≡ out.old) }
-{
-    let mut text = Bytes::new(alloc);
-    push_line(alloc, at, line, &mut text)?;
-    out.append(text.as_slice())?;
-    Ok(())
-}
-
-fn push_outcome(alloc: Global, outcome: &Outcome, out: &mut Bytes) -> Result<(), NoMemory>
+fn push_outcome(out: &mut Bytes, outcome: &Outcome) -> Result<(), NoMemory>
     ensures { OnOk result (out.new ≡ out.old ++ outcome_text outcome.now) }
 {
     match outcome {
         Outcome::Answered(answer) => {
             out.append(b"ok ")?;
-            push_answer(alloc, out, answer)?;
+            push_answer(out, answer)?;
         }
         Outcome::Refused(refusal) => push_named(out, b"no", &[*refusal as u64])?,
     }
@@ -248,7 +231,7 @@ pub fn print_outcome(alloc: Global, outcome: &Outcome, out: &mut Bytes) -> Resul
     ensures err { OnErr result (out.new ≡ out.old) }
 {
     let mut text = Bytes::new(alloc);
-    push_outcome(alloc, outcome, &mut text)?;
+    push_outcome(&mut text, outcome)?;
     out.append(text.as_slice())?;
     Ok(())
 }

@@ -1,6 +1,6 @@
 //! The texts of lines, compared with texts written by hand.
 
-use crate::{Event, Numbers, print_line, print_outcome, read_event, read_first};
+use crate::{Event, Numbers, print_outcome, push_line, read_event, read_first};
 use crsm_base::{
     Answer, Bytes, Line, Lines, Members, Outcome, Refusal, SendKind, Stamp, State, Val,
 };
@@ -9,7 +9,7 @@ use std::test::Fail;
 fn printed(rt: &HostRuntime, lines: &Lines) -> Result<Bytes, Fail> {
     let mut out = Bytes::new(rt.alloc());
     for line in lines.as_slice() {
-        print_line(rt.alloc(), 7, line, &mut out)?;
+        push_line(&mut out, 7, line)?;
     }
     Ok(out)
 }

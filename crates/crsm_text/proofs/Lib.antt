@@ -3,3 +3,5 @@ pub mod Named
 pub mod Texts
 pub mod Commas
 pub mod TextLaws
+pub mod Hex
+pub mod Rows

@@ -1,12 +1,12 @@
 -- Texts have no line feed, are short, and tell their values apart.
-use Rattle.std.proofs.Common.{◌≡◌, ◌≢◌, ℕ, ◌+◌, ◌*◌, ◌%◌, ◌^◌, ◌<◌, ◌≤◌, List, [], ◌∷◌, ◌++◌, Option, Some, None, Ok, length, get_or, codes, decimal, map, refl, ap, sym, ◌∙◌, arith, length-append, append_assoc}
+use Rattle.std.proofs.Common.{◌≡◌, ◌≢◌, ℕ, ◌+◌, ◌*◌, ◌%◌, ◌^◌, ◌<◌, ◌≤◌, List, [], ◌∷◌, ◌++◌, Option, Some, None, length, get_or, codes, decimal, map, refl, ap, sym, ◌∙◌, arith, length-append, append_assoc}
 use Rattle.std.specs.List.{AllByRecursion, join_with_byte}
 use Rattle.std.proofs.lemmas.Fmt.{length-decimal-le, decimal_injective, decimal_by_steps}
 use Rattle.hex.specs.Hex.{encode_lower, lower_digits, decode_of, IsBytes}
 use Rattle.hex.proofs.HexLemmas.{length-encode_with, decode_of-encode_lower, decode_of-same}
 use Rattle.crsm_base.specs.declared.Op.{Op}
 use Rattle.crsm_base.specs.declared.Op.TheVariants.{Get, Put, Delete, Cas}
-use Rattle.crsm_base.specs.Spelling.{FitsKey, FitsVal, FitsOption, FitsOp}
+use Rattle.crsm_base.specs.Spelling.{FitsVal, FitsOption, FitsOp}
 use Rattle.crsm_text.specs.Words.{Lacks, spaced, commas}
 use Rattle.crsm_text.specs.Values.{value_text, option_text, op_text, HasBytes}
 use Rattle.crsm_text.proofs.WordsLemmas.{Lacks-append, Lacks-test, Lacks-decimal, Lacks-encode_lower, split_unique, lacks_not}

@@ -1,13 +1,21 @@
 //! Adds words to bytes. After an error a front of the text may have been added.
 
-ghost use Rattle.std.specs.Prelude.{◌≡◌, ◌++◌, OnOk, decimal};
+ghost use Rattle.std.specs.Prelude.{◌≡◌, ◌≤◌, ◌++◌, ◌∷◌, OnOk, decimal, length};
 ghost use Rattle.hex.specs.Hex.{encode_lower};
 ghost use Rattle.crsm_text.specs.Words.{named, numbers, commas};
 ghost use Rattle.crsm_text.specs.Values.{value_text, option_text, answer_text};
 
 use crsm_base::{Answer, Bytes, Members, NoMemory, Val};
-use itoa::Buffer;
-use std::alloc::Global;
+use itoa::{Buffer, write_digits};
+
+/// The room of a space and the digits of a number.
+const SPACED_BYTES: usize = 21;
+
+/// How many numbers are written into a row.
+const ROW_NUMBERS: usize = 8;
+
+/// The bytes that are written in hexadecimal at a time.
+const PIECE_BYTES: usize = 64;
 
 /// Adds a number in decimal digits.
 pub fn push_number(out: &mut Bytes, value: u64) -> Result<(), NoMemory>
@@ -17,15 +25,33 @@ pub fn push_number(out: &mut Bytes, value: u64) -> Result<(), NoMemory>
     out.append(buffer.format(value).as_bytes())
 }
 
+// The numbers are written into a row of spaces, from its end, so that they are added at once.
+fn push_row(out: &mut Bytes, values: &[u64]) -> Result<(), NoMemory>
+    requires { length values.now ≤ 8 }
+    ensures { OnOk result (out.new ≡ out.old ++ numbers values.now) }
+{
+    let mut row = [b' '; ROW_NUMBERS * SPACED_BYTES];
+    let mut at = ROW_NUMBERS * SPACED_BYTES;
+    let mut left = values.len();
+    while left > 0 {
+        left -= 1;
+        let value = values[left];
+        at = write_digits(value, &mut row, at) - 1;
+    }
+    out.append(&row[at..])
+}
+
 /// Adds a space and a number, for each number.
 pub fn push_numbers(out: &mut Bytes, values: &[u64]) -> Result<(), NoMemory>
     ensures { OnOk result (out.new ≡ out.old ++ numbers values.now) }
 {
-    for value in values {
-        out.push(b' ')?;
-        push_number(out, *value)?;
+    let mut rest = values;
+    while rest.len() > ROW_NUMBERS {
+        let (row, behind) = rest.split_at(ROW_NUMBERS);
+        push_row(out, row)?;
+        rest = behind;
     }
-    Ok(())
+    push_row(out, rest)
 }
 
 /// Adds a word, and a space and a number for each number.
@@ -37,47 +63,65 @@ pub fn push_named(out: &mut Bytes, name: &[u8], values: &[u64]) -> Result<(), No
     Ok(())
 }
 
-/// Adds bytes in lower-case hexadecimal.
-pub fn push_hex(alloc: Global, out: &mut Bytes, bytes: &[u8]) -> Result<(), NoMemory>
-    ensures { OnOk result (out.new ≡ out.old ++ encode_lower bytes.now) }
+// The digits of a piece are written on the stack, so that no list is made for them.
+fn push_piece(out: &mut Bytes, piece: &[u8]) -> Result<(), NoMemory>
+    requires { length piece.now ≤ 64 }
+    ensures { OnOk result (out.new ≡ out.old ++ encode_lower piece.now) }
 {
-    let text = hex::encode(alloc, bytes)?;
-    out.append(text.as_bytes())
+    let mut row = [0; 2 * PIECE_BYTES];
+    let digits = &mut row[..2 * piece.len()];
+    let Ok(()) = hex::encode_to_slice(piece, digits) else {
+        unreachable!();
+    };
+    out.append(digits)
 }
 
-fn push_value(alloc: Global, out: &mut Bytes, val: &Val) -> Result<(), NoMemory>
+/// Adds bytes in lower-case hexadecimal.
+pub fn push_hex(out: &mut Bytes, bytes: &[u8]) -> Result<(), NoMemory>
+    ensures { OnOk result (out.new ≡ out.old ++ encode_lower bytes.now) }
+{
+    let mut rest = bytes;
+    while rest.len() > PIECE_BYTES {
+        let (piece, behind) = rest.split_at(PIECE_BYTES);
+        push_piece(out, piece)?;
+        rest = behind;
+    }
+    push_piece(out, rest)
+}
+
+fn push_value(out: &mut Bytes, val: &Val) -> Result<(), NoMemory>
     ensures { OnOk result (out.new ≡ out.old ++ value_text val.now) }
 {
     let bytes = val.as_slice();
     match bytes {
         [] => out.append(b"empty"),
-        [_, ..] => push_hex(alloc, out, bytes),
+        [_, ..] => push_hex(out, bytes),
     }
 }
 
-fn push_option(alloc: Global, out: &mut Bytes, val: &Option<Val>) -> Result<(), NoMemory>
+fn push_option(out: &mut Bytes, val: &Option<Val>) -> Result<(), NoMemory>
     ensures { OnOk result (out.new ≡ out.old ++ option_text val.now) }
 {
     match val {
         None => out.append(b"none"),
-        Some(val) => push_value(alloc, out, val),
+        Some(val) => push_value(out, val),
     }
 }
 
 /// Adds an answer of the store.
-pub fn push_answer(alloc: Global, out: &mut Bytes, answer: &Answer) -> Result<(), NoMemory>
+pub fn push_answer(out: &mut Bytes, answer: &Answer) -> Result<(), NoMemory>
     ensures { OnOk result (out.new ≡ out.old ++ answer_text answer.now) }
 {
     match answer {
         Answer::Found(val) => {
             out.append(b"found ")?;
-            push_value(alloc, out, val)
+            push_value(out, val)
         }
         Answer::Missing => out.append(b"missing"),
         Answer::Done => out.append(b"done"),
         Answer::Differs(val) => {
             out.append(b"differs ")?;
-            push_option(alloc, out, val)
+            push_option(out, val)
         }
         Answer::Stale(number) => push_named(out, b"stale", &[*number]),
         Answer::NoRoom => out.append(b"noroom"),
