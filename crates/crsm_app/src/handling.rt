@@ -16,6 +16,9 @@ use crsm_schedule::{Event, LineError, push_line, read_event, read_first};
 use crsm_world::{Bad, World};
 use std::alloc::Global;
 
+/// The room that is made for the text of a line, in bytes: few lines take more.
+const LINE_ROOM: usize = 96;
+
 impl From<NoMemory> for Stop {
     ghost use Rattle.std.specs.Prelude.{◌≡◌};
     ghost use Rattle.crsm_app.specs.declared.status.Stop.TheVariants.{NoMemory as no_memory};
@@ -121,6 +124,7 @@ pub(crate) fn text_of(alloc: Global, at: u64, lines: &Lines) -> Result<Bytes, No
     ensures { IfOk result (λ text. text ≡ lines_text at lines.now) }
 {
     let mut text = Bytes::new(alloc);
+    text.reserve(lines.as_slice().len().saturating_mul(LINE_ROOM))?;
     for line in lines.as_slice() {
         push_line(&mut text, at, line)?;
     }
