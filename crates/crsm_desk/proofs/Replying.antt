@@ -1,5 +1,5 @@
 -- What a waiting client is told.
-use Rattle.std.proofs.Common.{◌≡◌, ℕ, true, false, List, [], ◌∷◌, ◌++◌, refl, sym, ap, take}
+use Rattle.std.proofs.Common.{◌≡◌, ℕ, true, false, List, [], ◌∷◌, ◌++◌, refl, sym, ap, ◌∙◌, map, take, append-nil, append_assoc}
 use Rattle.std.specs.Prelude.{Option, Some, None}
 use Rattle.std.specs.List.{AllByRecursion}
 use Rattle.std.specs.Option.{option_map}
@@ -11,9 +11,10 @@ use Rattle.crsm_spec.specs.Log.{executed}
 use Rattle.crsm_spec.specs.Replica.{Waiting}
 use Rattle.crsm_spec.specs.Draft.{Draft}
 use Rattle.crsm_desk.specs.declared.desk.Desk.{Desk}
+use Rattle.crsm_desk.specs.declared.desk.Waiting.{Waiting as WaitingInMemory}
 use Rattle.crsm_desk.specs.Sound.{FitsWaiting}
-use Rattle.crsm_desk.specs.Standing.{StandsFor}
-use Rattle.crsm_spec.specs.Clients.{find_executed, answer_found, answer_each, is_dropped, reply_ok, reply_dropped}
+use Rattle.crsm_desk.specs.Standing.{StandsFor, on_paper}
+use Rattle.crsm_spec.specs.Clients.{find_executed, answer_found, answer_each, is_dropped, reply_ok, reply_dropped, replies}
 
 abbrev placed : List Entry → ℕ × Entry → ℕ × Answer
 placed done p = (p.0, answer_after (take p.0 done) p.1)
@@ -54,6 +55,32 @@ pub answer-more : (ws : List Waiting) (w : Waiting) (x : Draft) →
 unfolding answer_each
 answer-more [] w x = refl
 answer-more (v ∷ ws) w x = answer-more ws w (answer_found v (find_executed (executed x.replica.log) v.entry) x)
+
+-- ---- clients that all wait on
+
+-- the client's entry is neither executed nor dropped
+abbrev pub Waits : Draft → Waiting → Type 0
+Waits x w = (None ≡ answered (executed x.replica.log) w.entry) × (is_dropped x.replica w.entry ≡ false)
+
+abbrev with_waiting : Draft → List Waiting → Draft
+with_waiting x ws = record x { replica = record x.replica { waiting = ws } }
+
+wait-each : (x : Draft) (done ws : List Waiting) → AllByRecursion (Waits x) ws → answer_each ws (with_waiting x done) ≡ with_waiting x (done ++ ws)
+unfolding answer_each is_dropped
+wait-each x done [] all = ap (with_waiting x) (sym (append-nil done))
+wait-each x done (w ∷ ws) all =
+    let y : Draft = with_waiting x done in
+    ap (answer_each ws) (found-none w y all.0.0 ∙ none-waits w y all.0.1)
+    ∙ wait-each x (done ++ w ∷ []) ws all.1
+    ∙ ap (with_waiting x) (append_assoc done (w ∷ []) ws)
+
+pub replies-wait : (x : Draft) → AllByRecursion (Waits x) x.replica.waiting → replies x ≡ x
+unfolding replies
+replies-wait x all = wait-each x [] x.replica.waiting all
+
+pub waits-paper : (x : Draft) (ws : List WaitingInMemory) → AllByRecursion (λ w. Waits x (on_paper w)) ws → AllByRecursion (Waits x) (map on_paper ws)
+waits-paper x [] all = tt
+waits-paper x (w ∷ ws) all = (all.0, waits-paper x ws all.1)
 
 -- one in the middle
 pub middle-fits : (P : Waiting → Type 0) (ws : List Waiting) (w : Waiting) (vs : List Waiting) → AllByRecursion P (ws ++ w ∷ vs) → P w

@@ -66,6 +66,6 @@ pub fn put(
         Err(LedgerError::NotFit { .. }) => return Ok(false),
         Err(_) => return Err(NoMemory),
     };
-    output.keep(rec.copy(alloc)?, lines.as_slice())?;
+    output.keep(rec.copy(alloc)?, lines)?;
     Ok(true)
 }

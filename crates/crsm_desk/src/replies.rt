@@ -1,6 +1,7 @@
 //! Replies to waiting clients.
 
-ghost use Rattle.std.specs.Prelude.{◌≡◌, ◌<◌, ◌^◌, IsTrue, None, IfOk};
+ghost use Rattle.std.specs.Prelude.{◌≡◌, ◌<◌, ◌^◌, false, IsTrue, None, IfOk};
+ghost use Rattle.crsm_answers.specs.Answering.{answered};
 ghost use Rattle.crsm_base.specs.Spelling.{FitsAnswer, FitsVal};
 ghost use Rattle.crsm_spec.specs.Log.{executed};
 ghost use Rattle.crsm_spec.specs.Draft.{Draft};
@@ -9,7 +10,7 @@ ghost use Rattle.crsm_desk.specs.Sound.{FitsWaiting};
 ghost use Rattle.crsm_desk.specs.Standing.{StandsFor, Makes, on_paper};
 
 use crate::desk::{Desk, Waiting};
-use crsm_answers::{answer_to, executions};
+use crsm_answers::{answer_to, executions, has_no_answer};
 use crsm_base::{Answer, Entry, Line, MAX_VAL_BYTES, NoMemory, Outcome, Refusal, Val};
 use crsm_output::Reply;
 use std::mem;
@@ -17,6 +18,39 @@ use std::mem;
 impl Desk {
     /// Answers each waiting client whose entry is executed or dropped. The others wait on.
     pub fn replies(&mut self) -> Result<(), NoMemory>
+        ensures { Makes (replies) self.old result self.new }
+    {
+        if self.all_wait() {
+            return Ok(());
+        }
+        self.answer_waiting()?;
+        Ok(())
+    }
+
+    /// No waiting client's entry is executed or dropped.
+    fn all_wait(&self) -> bool
+        ensures { IsTrue result → (x : Draft) → StandsFor self.now x → replies x ≡ x }
+    {
+        for client in self.waiting.as_slice() {
+            if !self.waits_on(&client.entry) {
+                return false;
+            }
+        }
+        true
+    }
+
+    /// The entry is neither executed nor dropped.
+    fn waits_on(&self, entry: &Entry) -> bool
+        ensures { IsTrue result → (x : Draft) → StandsFor self.now x → (None ≡ answered (executed x.replica.log) entry.now) × (is_dropped x.replica entry.now ≡ false) }
+    {
+        if self.is_dropped(entry) {
+            return false;
+        }
+        has_no_answer(&self.ledger, entry)
+    }
+
+    /// Answers the clients in turn.
+    fn answer_waiting(&mut self) -> Result<(), NoMemory>
         ensures { Makes (replies) self.old result self.new }
     {
         let told = executions(self.alloc, self.output.lines())?;

@@ -56,10 +56,11 @@ impl Output {
     }
 
     /// A record is kept, which gives these lines.
-    pub fn keep(&mut self, rec: Rec, lines: &[Line]) -> Result<(), NoMemory>
-        ensures { OnOk result ((m : Made) → Holds self.old m → Holds self.new (record m { batch = m.batch ++ rec ∷ []; lines = m.lines ++ lines.now })) }
+    pub fn keep(&mut self, rec: Rec, lines: Lines) -> Result<(), NoMemory>
+        ensures { OnOk result ((m : Made) → Holds self.old m → Holds self.new (record m { batch = m.batch ++ rec ∷ []; lines = m.lines ++ lines })) }
     {
-        append(self.alloc, &mut self.lines, lines)?;
+        let mut more = lines;
+        self.lines.append(&mut more)?;
         self.records.push(rec)?;
         Ok(())
     }
@@ -84,10 +85,11 @@ impl Output {
     }
 
     /// These datagrams go to replicas.
-    pub fn send_all(&mut self, sends: &[Send]) -> Result<(), NoMemory>
-        ensures { OnOk result ((m : Made) (sent : List (ℕ × Datagram)) → Holds self.old m → sends.now ≡ map to_replica sent → Holds self.new (record m { sends = m.sends ++ sent })) }
+    pub fn send_all(&mut self, sends: Sends) -> Result<(), NoMemory>
+        ensures { OnOk result ((m : Made) (sent : List (ℕ × Datagram)) → Holds self.old m → sends ≡ map to_replica sent → Holds self.new (record m { sends = m.sends ++ sent })) }
     {
-        add_copies(self.alloc, sends, &mut self.sends)?;
+        let mut more = sends;
+        self.sends.append(&mut more)?;
         Ok(())
     }
 
@@ -118,32 +120,12 @@ impl Output {
     }
 }
 
-/// Copies lines behind others.
-fn append(alloc: Global, lines: &mut Lines, more: &[Line]) -> Result<(), NoMemory>
-    ensures { OnOk result (lines.new ≡ lines.old ++ more.now) }
-{
-    for line in more {
-        lines.push(line.copy(alloc)?)?;
-    }
-    Ok(())
-}
-
 /// Adds lines behind others.
 fn add(more: Vec<Line>, lines: &mut Lines) -> Result<(), NoMemory>
     ensures { OnOk result (lines.new ≡ lines.old ++ more.items) }
 {
     for line in more {
         lines.push(line)?;
-    }
-    Ok(())
-}
-
-/// Adds copies of datagrams.
-fn add_copies(alloc: Global, more: &[Send], sends: &mut Sends) -> Result<(), NoMemory>
-    ensures { OnOk result (sends.new ≡ sends.old ++ more.now) }
-{
-    for send in more {
-        sends.push(send.copy(alloc)?)?;
     }
     Ok(())
 }

@@ -40,7 +40,7 @@ fn hands_out_in_order(rt: HostRuntime) -> Result<(), Fail> {
         replica: 0,
         epoch: 0,
     })?;
-    output.keep(Rec::Enter { epoch: 0 }, lines.as_slice())?;
+    output.keep(Rec::Enter { epoch: 0 }, lines)?;
     assert_eq!(rt; output.lines().len(), 1);
     let batch = output.take()?;
     assert_eq!(rt; batch.records.as_slice().len(), 1);

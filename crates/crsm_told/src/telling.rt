@@ -34,6 +34,6 @@ pub fn tell(
     let mut bytes = Bytes::new(alloc);
     write_control(alloc, control, &mut bytes)?;
     let parts = cut(alloc, from, to, boot, number, bytes.as_slice())?;
-    output.send_all(parts.as_slice())?;
+    output.send_all(parts)?;
     Ok(())
 }

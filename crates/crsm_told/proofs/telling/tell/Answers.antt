@@ -20,8 +20,8 @@ cut-requires-clause-few c =
 pub returns : goal.returns
 returns c r m s me boot number fits =
     let spelling : c.as_slice.result.now ≡ control_bytes c.args.control.now = cc (c.as_slice.ensures, c.in_ok-write_control.ensures.ok, c.new-bytes.ensures) in
-    let sends : c.as_slice-2.result.now ≡ map to_replica (parts_to r c.args.to c.args.control.now) =
-    c.as_slice-2.ensures ∙ c.in_ok-parts.ensures
+    let sends : c.in_ok-parts.parts ≡ map to_replica (parts_to r c.args.to c.args.control.now) =
+    c.in_ok-parts.ensures
     ∙ (λ j. sends_of (me j) c.args.to (boot j) (number j) (spelling j))
     ∙ as_cut r c.args.to c.args.control.now in
     c.in_ok-send_all.ensures m (parts_to r c.args.to c.args.control.now) s sends

@@ -9,8 +9,8 @@ returns c m sent s e =
       records = s.records;
       lines = s.lines;
       excess = s.excess;
-      sends = c.in_ok-add_copies.ensures
-          ∙ ap (λ xs. xs ++ c.args.sends.now) s.sends
+      sends = c.in_ok-append.ensures.ok
+          ∙ ap (λ xs. xs ++ c.args.sends) s.sends
           ∙ ap (λ xs. map to_replica m.sends ++ xs) e
           ∙ sym (map-append to_replica m.sends sent);
       replies = s.replies;

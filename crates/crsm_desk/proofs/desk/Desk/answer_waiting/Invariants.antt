@@ -2,7 +2,7 @@ use Rattle.std.proofs.Common.{◌≡◌, ◌++◌, [], map}
 use Rattle.crsm_spec.specs.Draft.{Draft}
 use Rattle.crsm_spec.specs.Clients.{answer_each}
 use Rattle.crsm_desk.specs.Standing.{StandsFor, on_paper}
-use Rattle.crsm_desk.proofs.desk.Desk.replies.Given as goal
+use Rattle.crsm_desk.proofs.desk.Desk.answer_waiting.Given as goal
 
 abbrev pub invariant-loop-client : goal.invariant-loop-client
 invariant-loop-client l =
