@@ -49,7 +49,7 @@ pub(crate) fn begin(
     let mut core = Core::new(ledger)?;
     let batch = core.begin()?;
     let mut body = Bytes::new(alloc);
-    write_records(alloc, batch.records.as_slice(), &mut body)?;
+    write_records(batch.records.as_slice(), &mut body)?;
     Ok(Begun {
         core,
         peers,

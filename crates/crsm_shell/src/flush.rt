@@ -17,10 +17,8 @@ ghost use Rattle.crsm_shell.specs.Words.{disk_of, gate_of, peers_of, has_failed}
 use crate::errors::TurnError;
 use crate::keep::keep;
 use crate::shell::Shell;
-use crsm_base::Bytes;
 use crsm_disk::Disk;
 use crsm_port::Port;
-use crsm_turns::Outbox;
 
 impl<D: Disk> Shell<D> {
     /// Makes room on the port for what the pending steps send, keeps their records as one body of the log, and then
@@ -70,8 +68,8 @@ impl<D: Disk> Shell<D> {
         self.outbox.make_room(port)?;
         keep(&mut self.log, self.alloc, self.body.as_slice())?;
         self.outbox.send_all(port);
-        self.body = Bytes::new(self.alloc);
-        self.outbox = Outbox::new(self.alloc);
+        self.body.clear();
+        self.outbox.clear();
         self.pending = 0;
         self.failed = false;
         Ok(())

@@ -91,7 +91,7 @@ impl<D: Disk> Shell<D> {
         self.failed = true;
         let batch = make(self.alloc, &mut self.core, taken, reading)?;
         let before = self.body.as_slice().len() as u64;
-        write_records(self.alloc, batch.records.as_slice(), &mut self.body)?;
+        write_records(batch.records.as_slice(), &mut self.body)?;
         self.outbox.add(batch.sends.as_slice(), &self.peers)?;
         self.pending += 1;
         self.failed = false;

@@ -1,10 +1,8 @@
 -- What a shell takes where something comes to its site.
-use Rattle.std.proofs.Common.{◌≡◌, ℕ, ◌≤◌, List, [], ◌∷◌, ◌++◌, length, take, drop, Result, Ok, Err, Option, Some, None, is_some, refl, sym, ◌∙◌, ap, subst}
+use Rattle.std.proofs.Common.{◌≡◌, ℕ, ◌≤◌, List, [], ◌∷◌, ◌++◌, length, take, Result, Ok, Err, Option, Some, None, is_some, refl, sym, ◌∙◌, ap, subst}
 use mathlib.Core.Bool.{false≢true}
 use Rattle.std.proofs.lemmas.List.{take_all}
-use Rattle.crsm_clock.specs.Readings.{Readings, Gives, first_or}
 use Rattle.crsm_port.specs.Meaning.{Post, Traffic}
-use Rattle.crsm_port.specs.Memory.{Memory, meaning_of, traffic_of}
 use Rattle.crsm_spec.specs.Node.{Turn}
 use Rattle.crsm_turns.specs.declared.input.What.{What}
 use Rattle.crsm_turns.specs.declared.input.What.TheVariants as what
@@ -15,7 +13,9 @@ use Rattle.crsm_turns.specs.Input.{TakesInput, IsFirst}
 use Rattle.crsm_shell.specs.Taking.{turn_of as turn_taken}
 use Rattle.crsm_site.specs.declared.coming.Coming.{Coming}
 use Rattle.crsm_site.specs.declared.coming.Coming.TheVariants as coming
+use Rattle.crsm_site.specs.declared.inlet.Inlet.{Inlet}
 use Rattle.crsm_site.specs.Arriving.{turn_of, IsShort, Asks}
+use Rattle.crsm_site.specs.Inlets.{meaning_of, traffic_of}
 
 -- what was taken, if anything
 abbrev taken_of : Result Taken TakeError → Taken
@@ -49,24 +49,16 @@ received from bytes short t u waits (taken.Datagram k piece) first =
     ap (λ (x : ℕ). Turn.In x piece) address ∙ ap (Turn.In from) whole
 received from bytes short t u waits (taken.Suspect ms) first = absurd first
 
--- what is taken off an empty port where this came is the turn of it
-pub turn_arrives : (c : Coming) (p q : Memory) (wanted : What) (u : Memory) (got : Taken) → p.letters ≡ [] → p.next ≡ 0 → IsShort c → Asks c p wanted q →
-    TakesInput wanted 8192 (meaning_of q) (meaning_of u) (Ok got) → turn_taken got ≡ turn_of c
+-- what is taken off a port where this waits is the turn of it
+pub turn_arrives : (c : Coming) (p u : Inlet) (wanted : What) (got : Taken) → IsShort c → Asks c wanted p → TakesInput wanted 8192 (meaning_of p) (meaning_of u) (Ok got) →
+    turn_taken got ≡ turn_of c
 unfolding turn_of turn_taken
-turn_arrives (coming.Bytes from bytes) p q wanted u got empty at short asks takes =
-    let one : Post = record { address = from; bytes = bytes.now } in
-    let letters : q.letters ≡ one ∷ [] = ap (λ (m : Memory). m.letters) asks.1 ∙ ap (λ (ds : List Post). ds ++ one ∷ []) empty in
-    let next : q.next ≡ 0 = ap (λ (m : Memory). m.next) asks.1 ∙ at in
-    let waits : drop q.next q.letters ≡ one ∷ [] = ap (λ (k : ℕ). drop k q.letters) next ∙ letters in
-    let it : TakesInput what.Receive 8192 (meaning_of q) (meaning_of u) (Ok got) = subst (λ w. TakesInput w 8192 (meaning_of q) (meaning_of u) (Ok got)) asks.0 takes in
-    received from bytes.now short (traffic_of q) (traffic_of u) waits got (it.first (traffic_of q) (traffic_of u) refl refl)
-turn_arrives coming.Tick p q wanted u got empty at short asks takes =
-    let it : TakesInput what.Tick 8192 (meaning_of q) (meaning_of u) (Ok got) = subst (λ w. TakesInput w 8192 (meaning_of q) (meaning_of u) (Ok got)) asks.0 takes in
+turn_arrives (coming.Bytes from bytes) p u wanted got short asks takes =
+    let it : TakesInput what.Receive 8192 (meaning_of p) (meaning_of u) (Ok got) = subst (λ w. TakesInput w 8192 (meaning_of p) (meaning_of u) (Ok got)) asks.0 takes in
+    received from bytes.now short (traffic_of p.letter) (traffic_of u.letter) asks.1 got (it.first (traffic_of p.letter) (traffic_of u.letter) refl refl)
+turn_arrives coming.Tick p u wanted got short asks takes =
+    let it : TakesInput what.Tick 8192 (meaning_of p) (meaning_of u) (Ok got) = subst (λ w. TakesInput w 8192 (meaning_of p) (meaning_of u) (Ok got)) asks takes in
     ap (λ (r : Result Taken TakeError). turn_taken (taken_of r)) it.1
-turn_arrives (coming.Suspect ms) p q wanted u got empty at short asks takes =
-    let it : TakesInput (what.Suspect ms) 8192 (meaning_of q) (meaning_of u) (Ok got) = subst (λ w. TakesInput w 8192 (meaning_of q) (meaning_of u) (Ok got)) asks.0 takes in
+turn_arrives (coming.Suspect ms) p u wanted got short asks takes =
+    let it : TakesInput (what.Suspect ms) 8192 (meaning_of p) (meaning_of u) (Ok got) = subst (λ w. TakesInput w 8192 (meaning_of p) (meaning_of u) (Ok got)) asks takes in
     ap (λ (r : Result Taken TakeError). turn_taken (taken_of r)) it.1
-
--- a clock of one reading gives it
-pub reading_arrives : (old : Readings) (new : Option Readings) (reading got : ℕ) → old.ahead ≡ reading ∷ [] → Gives (Some old) new got → got ≡ reading
-reading_arrives old new reading got one gives = gives.is ∙ ap (first_or old.latest) one

@@ -15,13 +15,12 @@ ghost use Rattle.crsm_site.specs.Standing.{IsUpAs, IsDisk};
 
 use crate::coming::Coming;
 use crate::left::{Left, image_of_disk, told_by};
+use crate::outlet::Outlet;
 use crate::step::Step;
 use crate::turn::take;
 use crsm_base::NoMemory;
 use crsm_disk::MemDisk;
-use crsm_port::MemPort;
 use crsm_shell::{Shell, TurnError};
-use std::alloc::Global;
 
 /// Where a put stops: after so many device calls, with a byte in the ranges that were not synced.
 #[derive(Clone, Copy)]
@@ -59,13 +58,13 @@ fn is_kept_at(stop: Stop, step: &Step) -> bool
 }
 
 /// The disk of a shell whose put stops there.
-fn stopped_disk(alloc: Global, shell: Shell<MemDisk>, stop: Stop) -> Result<MemDisk, NoMemory>
+fn stopped_disk(shell: Shell<MemDisk>, stop: Stop) -> Result<MemDisk, NoMemory>
     requires { stop.calls ≤ 4 }
     ensures { IfOk result (λ disk. (me n : ℕ) (kept : Log) (x : Draft) → IsUpAs me n shell kept x.replica (x ∷ []) → x.replica.log ≡ with_records kept x.batch →
         IsDisk me n disk (log_after stop.calls stop.fill kept x)) }
 {
     let mut shell = shell;
-    let mut port = MemPort::new(alloc, &[])?;
+    let mut port = Outlet { empties: 0 };
     shell.arm(Some(stop.calls), stop.fill);
     match shell.flush(&mut port) {
         Ok(()) => Ok(image_of_disk(&shell.into_disk())?),
@@ -76,7 +75,6 @@ fn stopped_disk(alloc: Global, shell: Shell<MemDisk>, stop: Stop) -> Result<MemD
 
 /// One step that stops there, and what it leaves. What the step made is answered where it is kept.
 pub(crate) fn cut(
-    alloc: Global,
     shell: Shell<MemDisk>,
     stop: Stop,
     coming: Coming<'_>,
@@ -89,9 +87,9 @@ pub(crate) fn cut(
 {
     let mut shell = shell;
     let before = told_by(shell.state());
-    let step = take(alloc, &mut shell, coming, reading)?;
+    let step = take(&mut shell, coming, reading)?;
     let after = told_by(shell.state());
-    let disk = stopped_disk(alloc, shell, stop)?;
+    let disk = stopped_disk(shell, stop)?;
     if is_kept_at(stop, &step) {
         return Ok((Some(step), Left { disk, told: after }));
     }

@@ -3,13 +3,16 @@
 
 mod coming;
 mod cut;
+mod inlet;
 mod laws;
 mod left;
+mod outlet;
 mod place;
 mod readers;
 mod site;
 mod start;
 mod step;
+mod still;
 mod stop;
 mod take;
 mod turn;

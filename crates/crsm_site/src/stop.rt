@@ -58,7 +58,7 @@ impl Site {
         match mem::replace(&mut self.place, Place::Spent) {
             Place::Up(shell) => {
                 let stop = Stop { calls, fill };
-                let (step, left) = cut(self.alloc, shell, stop, coming, reading)?;
+                let (step, left) = cut(shell, stop, coming, reading)?;
                 self.place = Place::Down(left);
                 Ok(step)
             }

@@ -44,7 +44,7 @@ impl Site {
     {
         match &mut self.place {
             Place::Up(shell) => {
-                let step = turn::take(self.alloc, shell, coming, reading)?;
+                let step = turn::take(shell, coming, reading)?;
                 Ok(step)
             }
             Place::Down(_) => Err(NoMemory),
@@ -59,7 +59,7 @@ impl Site {
     {
         match &mut self.place {
             Place::Up(shell) => {
-                turn::flush(self.alloc, shell)?;
+                turn::flush(shell)?;
                 Ok(())
             }
             Place::Down(_) => Err(NoMemory),

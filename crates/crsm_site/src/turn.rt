@@ -9,39 +9,46 @@ ghost use Rattle.crsm_spec.specs.Replica.{Replica};
 ghost use Rattle.crsm_spec.specs.Draft.{Draft};
 ghost use Rattle.crsm_spec.specs.Node.{turn};
 ghost use Rattle.crsm_site.specs.Arriving.{turn_of, IsShort, Asks};
+ghost use Rattle.crsm_site.specs.Inlets.{traffic_of};
 ghost use Rattle.crsm_site.specs.Outcomes.{Makes};
 ghost use Rattle.crsm_site.specs.Standing.{IsUpAs};
 
 use crate::coming::Coming;
+use crate::inlet::{Inlet, Letter};
+use crate::outlet::Outlet;
 use crate::step::Step;
+use crate::still::Still;
 use crsm_base::NoMemory;
-use crsm_clock::ListClock;
 use crsm_disk::MemDisk;
-use crsm_port::MemPort;
 use crsm_shell::{Shell, What};
-use std::alloc::Global;
 
 /// So many steps are kept together at most.
 const MOST_PENDING: u32 = 32;
 
-/// What is wanted of the shell, where this comes. Bytes are put into the port.
-fn wanted(coming: Coming<'_>, port: &mut MemPort) -> Result<What, NoMemory>
-    ensures { IfOk result (λ what. Asks coming.entry port.old what port.new) }
+/// What is wanted of the shell where this comes, and the port that it takes it off.
+fn wanted(coming: Coming<'_>) -> (What, Inlet<'_>)
+    ensures { Asks coming.entry result.0 result.1 }
 {
     match coming {
-        Coming::Bytes { from, bytes } => {
-            port.put(from, bytes)?;
-            Ok(What::Receive)
-        }
-        Coming::Tick => Ok(What::Tick),
-        Coming::Suspect(members) => Ok(What::Suspect(members)),
+        Coming::Bytes { from, bytes } => (What::Receive, inlet(Letter::Waits { from, bytes })),
+        Coming::Tick => (What::Tick, inlet(Letter::Missing)),
+        Coming::Suspect(members) => (What::Suspect(members), inlet(Letter::Missing)),
+    }
+}
+
+fn inlet(letter: Letter<'_>) -> Inlet<'_>
+    ensures { traffic_of result.letter ≡ traffic_of letter.entry }
+{
+    Inlet {
+        letter,
+        empties: 0,
+        losses: 0,
     }
 }
 
 /// One more step, whose records are pending. A shell that has as many steps pending as it can, or whose port failed,
 /// does not come: a world delivers no more together, and the port is new.
 pub(crate) fn take(
-    alloc: Global,
     shell: &mut Shell<MemDisk>,
     coming: Coming<'_>,
     reading: u64,
@@ -55,9 +62,8 @@ pub(crate) fn take(
     if shell.pending() >= MOST_PENDING {
         return Err(NoMemory);
     }
-    let mut clock = ListClock::new(alloc, &[reading])?;
-    let mut port = MemPort::new(alloc, &[])?;
-    let what = wanted(coming, &mut port)?;
+    let (what, mut port) = wanted(coming);
+    let mut clock = Still { reading };
     match shell.take(what, &mut clock, &mut port) {
         Ok(turned) => Ok(Step {
             batch: turned.batch,
@@ -69,11 +75,10 @@ pub(crate) fn take(
 
 /// Keeps the records of the pending steps. The disk does not fail and is not full: it is one in memory that no call
 /// fails of, and a world is full long before.
-pub(crate) fn flush(alloc: Global, shell: &mut Shell<MemDisk>) -> Result<(), NoMemory>
+pub(crate) fn flush(shell: &mut Shell<MemDisk>) -> Result<(), NoMemory>
     ensures { OnOk result ((me n : ℕ) (kept : Log) (r : Replica) (steps : List Draft) → IsUpAs me n shell.old kept r steps → IsUpAs me n shell.new r.log r []) }
 {
-    // What goes out is in the batches: the world has it from there.
-    let mut port = MemPort::new(alloc, &[])?;
+    let mut port = Outlet { empties: 0 };
     match shell.flush(&mut port) {
         Ok(()) => Ok(()),
         Err(_) => Err(NoMemory),

@@ -1,2 +1,3 @@
+mod Letters
 mod Receiving
 mod Sending

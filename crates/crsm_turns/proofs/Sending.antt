@@ -1,13 +1,13 @@
 -- One datagram after another goes out.
-use Rattle.std.proofs.Common.{◌≡◌, ◌+◌, ◌≤◌, ◌<◌, take, get_or, ℕ, suc, List, map, [], ◌∷◌, ◌++◌, length, Option, Some, None, Result, Ok, Err, refl, sym, ◌∙◌, ap, subst, option_map, append-nil, append_assoc, inl, inr, arith}
+use Rattle.std.proofs.Common.{◌≡◌, ◌+◌, ◌≤◌, ◌<◌, take, drop, get_or, ℕ, suc, List, [], ◌∷◌, ◌++◌, length, Option, Some, None, Result, Ok, Err, refl, sym, ◌∙◌, ap, subst, option_map, append-nil, append_assoc, inl, inr, arith}
 use Rattle.crsm_base.specs.declared.memory.Failed.{Failed}
 use Rattle.crsm_device.specs.Counts.{Rose}
 use Rattle.crsm_device.specs.Plan.{Plan, spent}
 use Rattle.crsm_device.specs.Failing.{one_less}
 use Rattle.crsm_port.specs.Meaning.{Meaning, Post, Traffic, Sends, with_sent}
-use Rattle.crsm_turns.specs.Letters.{post_of, size_of}
+use Rattle.crsm_turns.proofs.Letters.{one_letter}
+use Rattle.crsm_turns.specs.Letters.{posts_of, size_of}
 use Rattle.crsm_turns.specs.declared.outbox.Letter.{Letter}
-use Rattle.std.proofs.lemmas.List.{map-append, take_more}
 use Rattle.crsm_turns.specs.Outgoing.{Lacks, GoesOut, GoesWhole, SendsAll, bytes_in, with_all_sent}
 
 -- ---- lists
@@ -15,9 +15,6 @@ use Rattle.crsm_turns.specs.Outgoing.{Lacks, GoesOut, GoesWhole, SendsAll, bytes
 bytes_behind : (posts : List Post) (d : Post) → bytes_in (posts ++ d ∷ []) ≡ bytes_in posts + length d.bytes
 bytes_behind [] d = omega arith
 bytes_behind (p ∷ posts) d = let on = bytes_behind posts d in omega arith
-
-size_behind : (letters : List Letter) (l : Letter) → size_of (letters ++ l ∷ []) ≡ size_of letters + length l.bytes
-size_behind letters l = ap bytes_in (map-append post_of letters (l ∷ [])) ∙ bytes_behind (map post_of letters) (post_of l)
 
 length_behind : (posts : List Post) (d : Post) → length (posts ++ d ∷ []) ≡ length posts + 1
 length_behind [] d = refl
@@ -114,20 +111,9 @@ module _ {T : Type 0} (posts : List Post) (d : Post) (a b c : Meaning) (s : Send
       by_result (Ok x) r = sent_out x r
       by_result (Err e) r = lost_out e r
 
--- the datagrams of one more letter
-one_letter : (letters : List Letter) (i : ℕ) (l : Letter) (bytes : List ℕ) → i < length letters → l ≡ get_or letters i l → bytes ≡ l.bytes
-    → map post_of (take (i + 1) letters) ≡ map post_of (take i letters) ++ (record { address = l.to; bytes = bytes }) ∷ []
-one_letter letters i l bytes within is spelt =
-    ap (map post_of) (take_more letters i l within)
-    ∙ map-append post_of (take i letters) (get_or letters i l ∷ [])
-    ∙ ap (λ x. map post_of (take i letters) ++ post_of x ∷ []) (sym is)
-    ∙ ap (λ bs. map post_of (take i letters) ++ (record { address = l.to; bytes = bs }) ∷ []) (sym spelt)
-
-pub one_letter_more : {T : Type 0} (letters : List Letter) (i : ℕ) (l : Letter) (bytes : List ℕ) (a b c : Meaning) (result : Result T Failed) → i < length letters → l ≡ get_or letters i l → bytes ≡ l.bytes
-    → SendsAll (map post_of (take i letters)) a b → Sends l.to bytes b c result → SendsAll (map post_of (take (i + 1) letters)) a c
-one_letter_more letters i l bytes a b c result within is spelt before r =
-    subst (λ posts. SendsAll posts a c) (sym (one_letter letters i l bytes within is spelt)) (one_more (map post_of (take i letters)) (record { address = l.to; bytes = bytes }) a b c before result r)
-
--- the size with one more letter
-pub kept_size : (before after : List Letter) (l : Letter) (bytes : List ℕ) (was size : ℕ) → was ≡ size_of before → after ≡ before ++ l ∷ [] → bytes ≡ l.bytes → size ≡ was + length bytes → size ≡ size_of after
-kept_size before after l bytes was size kept is spelt sum = sum ∙ ap (λ n. n + length bytes) kept ∙ ap (λ bs. size_of before + length bs) spelt ∙ sym (size_behind before l) ∙ sym (ap size_of is)
+pub one_letter_more : {T : Type 0} (letters : List Letter) (i : ℕ) (k : Letter) (text rest bytes : List ℕ) (a b c : Meaning) (result : Result T Failed) → i < length letters
+    → rest ≡ drop (size_of (take i letters)) text → bytes ≡ take (get_or letters i k).len rest → SendsAll (posts_of (take i letters) text) a b → Sends (get_or letters i k).to bytes b c result
+    → SendsAll (posts_of (take (i + 1) letters) text) a c
+one_letter_more letters i k text rest bytes a b c result within behind piece before r =
+    subst (λ posts. SendsAll posts a c) (sym (one_letter letters i k text rest bytes within behind piece))
+    (one_more (posts_of (take i letters) text) (record { address = (get_or letters i k).to; bytes = bytes }) a b c before result r)

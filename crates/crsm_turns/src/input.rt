@@ -1,6 +1,6 @@
 //! The input of a step.
 
-ghost use Rattle.std.specs.Prelude.{◌≡◌, length};
+ghost use Rattle.std.specs.Prelude.{◌≡◌, length, IfOk};
 ghost use Rattle.crsm_turns.specs.Input.{TakesInput};
 
 use crsm_base::{Bytes, Members, NoMemory};
@@ -69,9 +69,18 @@ fn receive<P: Port>(alloc: Global, port: &mut P, buf: &mut [u8]) -> Result<Taken
         Err(_) => Err(TakeError::PortFault),
         Ok(Got::Nothing) => Ok(Taken::Tick),
         Ok(Got::Datagram { from, len }) => {
-            let mut bytes = Bytes::new(alloc);
-            bytes.append(&buf[..len])?;
+            let bytes = copied(alloc, &buf[..len])?;
             Ok(Taken::Datagram { from, bytes })
         }
     }
+}
+
+/// These bytes in a list of their own, which has room for them and no more.
+fn copied(alloc: Global, bytes: &[u8]) -> Result<Bytes, NoMemory>
+    ensures { IfOk result (λ copy. copy ≡ bytes.now) }
+{
+    let mut copy = Bytes::new(alloc);
+    copy.reserve(bytes.len())?;
+    copy.append(bytes)?;
+    Ok(copy)
 }

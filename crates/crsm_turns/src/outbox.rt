@@ -1,46 +1,45 @@
 //! Datagrams on their way out.
 
-ghost use Rattle.std.specs.Prelude.{◌≡◌, ◌++◌, [], ◌∷◌, length, map, OnOk, OnErr};
+ghost use Rattle.std.specs.Prelude.{◌≡◌, ◌++◌, [], ◌∷◌, length, IfOk, OnOk};
 ghost use Rattle.std.specs.List.{AllByRecursion};
 ghost use Rattle.crsm_base.specs.Messages.{FitsDatagram, datagram_bytes};
 ghost use Rattle.crsm_port.specs.Meaning.{Reserves};
 ghost use Rattle.crsm_turns.specs.Outgoing.{FitsSend, SendsAll, address_of, bytes_in, posted, posts_for};
-ghost use Rattle.crsm_turns.specs.Letters.{post_of};
+ghost use Rattle.crsm_turns.specs.Letters.{posts_of, size_of};
 
 use crsm_base::{Bytes, Datagram, NoMemory, Send, To};
 use crsm_port::Port;
-use crsm_wire::write_datagram;
+use crsm_wire::put_datagram;
 use std::alloc::Global;
 use std::marker::Model;
 
-// A datagram as bytes, and the address that it goes to.
-#[derive(Drop)]
+// The address that a datagram goes to, and how many bytes it has.
+#[derive(Clone, Copy)]
 pub(crate) struct Letter {
     pub(crate) to: u64,
-    pub(crate) bytes: Bytes,
+    pub(crate) len: usize,
 }
 
 /// Datagrams that go out together, in their order. They are written as bytes when they are added, so that sending
 /// takes no memory.
 #[derive(Drop)]
 pub struct Outbox {
-    alloc: Global,
     letters: Vec<Letter>,
-    // How many bytes the letters have together.
-    size: u64,
+    // The bytes of the letters, one behind another.
+    text: Bytes,
 }
 
 impl Model for Outbox {
-    ghost use Rattle.std.specs.Prelude.{◌≡◌, List, map};
+    ghost use Rattle.std.specs.Prelude.{◌≡◌, List, length};
     ghost use Rattle.crsm_port.specs.Meaning.{Post};
 
     ghost Value = { List Post };
 
-    ghost use Rattle.crsm_turns.specs.Letters.{post_of, size_of};
+    ghost use Rattle.crsm_turns.specs.Letters.{posts_of, size_of};
 
-    ghost view = { λ o. map post_of o.letters.items };
+    ghost view = { λ o. posts_of o.letters.items o.text };
 
-    ghost invariant = { λ o. o.size ≡ size_of o.letters.items };
+    ghost invariant = { λ o. size_of o.letters.items ≡ length o.text };
 }
 
 impl Outbox {
@@ -49,14 +48,14 @@ impl Outbox {
         ensures { result ≡ [] }
     {
         Outbox {
-            alloc,
             letters: Vec::new(alloc),
-            size: 0,
+            text: Bytes::new(alloc),
         }
     }
 
     /// Adds the datagrams of a step, each for the address of its receiver; replica `k` has the address `peers[k]`.
-    /// One to a replica without an address is left out. After `NoMemory` some of them may have been added.
+    /// One to a replica without an address is left out. After `NoMemory` some of them may have been added, or all may be
+    /// gone.
     #[tactic(auto, unfolding(crate::specs::Outgoing::posts_for, crate::specs::Outgoing::post_for))]
     pub fn add(&mut self, sends: &[Send], peers: &[u64]) -> Result<(), NoMemory>
         requires { AllByRecursion FitsSend sends.now }
@@ -82,27 +81,42 @@ impl Outbox {
         requires { FitsDatagram datagram.now }
         ensures { OnOk result (self.new ≡ self.old ++ (record { address = to; bytes = datagram_bytes datagram.now }) ∷ []) }
     {
-        let mut bytes = Bytes::new(self.alloc);
-        write_datagram(self.alloc, datagram, &mut bytes)?;
-        let more = bytes.as_slice().len() as u64;
-        let size = self.size.checked_add(more).ok_or(NoMemory)?;
-        self.letters.push(Letter { to, bytes })?;
-        self.size = size;
-        Ok(())
+        self.letters.reserve(1)?;
+        match write(datagram, &mut self.text) {
+            Ok(len) => {
+                self.letters.push_reserved(Letter { to, len });
+                Ok(())
+            }
+            Err(NoMemory) => {
+                // A front of the datagram may stand there.
+                self.letters.clear();
+                self.text.clear();
+                Err(NoMemory)
+            }
+        }
+    }
+
+    /// Lets all of them go, and keeps their room.
+    pub fn clear(&mut self)
+        ensures { self.new ≡ [] }
+    {
+        self.letters.clear();
+        self.text.clear();
     }
 
     /// Makes room for them on the port.
     pub fn make_room<P: Port>(&self, port: &mut P) -> Result<(), NoMemory>
         ensures { Reserves (length self.now) (bytes_in self.now) (P.meaning port.old) (P.meaning port.new) result }
     {
-        port.reserve(self.letters.len() as u64, self.size)
+        let bytes = self.text.as_slice().len() as u64;
+        port.reserve(self.letters.len() as u64, bytes)
     }
 
     /// Sends them all. One that the port fails to send is lost, as others are on their way.
     pub fn send_all<P: Port>(&self, port: &mut P)
         ensures { SendsAll self.now (P.meaning port.old) (P.meaning port.new) }
     {
-        send_letters(&self.letters, port);
+        send_letters(&self.letters, self.text.as_slice(), port);
     }
 }
 
@@ -115,10 +129,24 @@ fn address(peers: &[u64], to: To) -> Option<u64>
     }
 }
 
-fn send_letters<P: Port>(letters: &[Letter], port: &mut P)
-    ensures { SendsAll (map post_of letters.now) (P.meaning port.old) (P.meaning port.new) }
+// Writes a datagram behind the others, and tells how many bytes that are.
+fn write(datagram: &Datagram, text: &mut Bytes) -> Result<usize, NoMemory>
+    requires { FitsDatagram datagram.now }
+    ensures { IfOk result (λ len. (text.new ≡ text.old ++ datagram_bytes datagram.now) × (len ≡ length (datagram_bytes datagram.now))) }
 {
+    let before = text.as_slice().len();
+    put_datagram(datagram, text)?;
+    Ok(text.as_slice().len() - before)
+}
+
+fn send_letters<P: Port>(letters: &[Letter], text: &[u8], port: &mut P)
+    requires { size_of letters.now ≡ length text.now }
+    ensures { SendsAll (posts_of letters.now text.now) (P.meaning port.old) (P.meaning port.new) }
+{
+    let mut rest = text;
     for letter in letters {
-        let _ = port.send(letter.to, letter.bytes.as_slice());
+        let (bytes, behind) = rest.split_at(letter.len);
+        let _ = port.send(letter.to, bytes);
+        rest = behind;
     }
 }

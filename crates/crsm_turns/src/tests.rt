@@ -60,11 +60,24 @@ fn goes_on_after_a_loss(rt: HostRuntime) -> Result<(), Fail> {
 }
 
 #[test]
+fn sends_what_came_after_a_clear(rt: HostRuntime) -> Result<(), Fail> {
+    let mut outbox = three(rt.alloc())?;
+    outbox.clear();
+    outbox.add(&[ack(To::Address(5), 7)], &[])?;
+    let mut port = MemPort::new(rt.alloc(), &[])?;
+    outbox.make_room(&mut port)?;
+    outbox.send_all(&mut port);
+    assert_eq!(rt; port.sent().len(), 1);
+    assert_eq!(rt; port.sent().get(0).ok_or("a datagram")?.0, 5);
+    Ok(())
+}
+
+#[test]
 fn writes_one_body(rt: HostRuntime) -> Result<(), Fail> {
     let mut body = Bytes::new(rt.alloc());
-    write_records(rt.alloc(), &[Rec::Boot { me: 0, n: 3 }], &mut body)?;
-    write_records(rt.alloc(), &[], &mut body)?;
-    write_records(rt.alloc(), &[Rec::Enter { epoch: 2 }], &mut body)?;
+    write_records(&[Rec::Boot { me: 0, n: 3 }], &mut body)?;
+    write_records(&[], &mut body)?;
+    write_records(&[Rec::Enter { epoch: 2 }], &mut body)?;
     assert!(rt; body.as_slice() == [1, 0, 3, 9, 0, 0, 0, 0, 0, 0, 0, 2].as_slice());
     Ok(())
 }

@@ -10,10 +10,10 @@ use Rattle.crsm_spec.specs.Moments.{begun_at, with_room, start_at}
 use Rattle.crsm_site.specs.declared.Boot.{Boot}
 use Rattle.crsm_site.specs.Outcomes.{IsQuiet}
 use Rattle.crsm_world.specs.declared.sites.Sites.{Sites}
-use Rattle.crsm_world.specs.declared.post.Post.{Post}
+use Rattle.crsm_post.specs.declared.Post.{Post}
 use Rattle.crsm_world.specs.declared.world.World.{World}
 use Rattle.crsm_world.specs.Placed.{SitesStand, SitesBoot, roomed}
-use Rattle.crsm_world.specs.Mailed.{PostStands}
+use Rattle.crsm_post.specs.Mailed.{PostStands}
 use Rattle.crsm_world.specs.Standing.{Leads}
 use Rattle.crsm_world.specs.Starting.{CanStart}
 use Rattle.crsm_world.proofs.Turns.{log_here}

@@ -10,7 +10,7 @@ use Rattle.crsm_world.specs.Several.{together}
 use Rattle.crsm_site.specs.Outcomes.{is_cut_kept}
 use Rattle.crsm_world.specs.declared.world.World.{World}
 use Rattle.crsm_world.specs.Placed.{SitesStand}
-use Rattle.crsm_world.specs.Mailed.{PostStands}
+use Rattle.crsm_post.specs.Mailed.{PostStands}
 use Rattle.crsm_world.specs.Leaving.{LetsOut}
 use Rattle.crsm_world.specs.Turning.{turn_at}
 use Rattle.crsm_world.specs.Standing.{Leads}

@@ -8,9 +8,9 @@ use Rattle.crsm_output.specs.Made.{to_replica, to_address, line_of}
 use Rattle.crsm_spec.specs.Types.{Datagram, Line}
 use Rattle.crsm_spec.specs.Draft.{Draft, Reply}
 use Rattle.crsm_spec.specs.World.{Mail, body_size, mail_of, mail_size, send_lines}
-use Rattle.crsm_world.specs.declared.post.Post.{Post}
+use Rattle.crsm_post.specs.declared.Post.{Post}
 use Rattle.crsm_world.specs.Leaving.{LetsOut}
-use Rattle.crsm_world.specs.Mailed.{PostStands, sent_to, to_mail, sent_of}
+use Rattle.crsm_post.specs.Mailed.{PostStands, sent_to, to_mail, sent_of}
 
 -- ---- what is among what is sent
 

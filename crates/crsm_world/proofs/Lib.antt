@@ -1,8 +1,3 @@
-pub mod Gets
-pub mod Mails
-pub mod Unused
-pub mod Marked
-pub mod Sending
 pub mod Letting
 pub mod Places
 pub mod Reasons
@@ -13,3 +8,4 @@ pub mod Series
 pub mod Allowed
 pub mod First
 pub mod Schedules
+pub mod Due

@@ -27,7 +27,7 @@ use Rattle.crsm_site.specs.Outcomes.{Makes, Boots, IsCut}
 use Rattle.crsm_site.specs.Standing.{SiteStands, SitePends}
 use Rattle.crsm_world.specs.declared.sites.Sites.{Sites}
 use Rattle.crsm_world.specs.Placed.{EachIs, IsPlace, SitesStand, IsPending, IsPlaceBeside, SitesPend, SitesCut, SitesBoot, is_up_in, up_in, roomed}
-use Rattle.crsm_world.proofs.Gets.{got}
+use Rattle.crsm_post.proofs.Gets.{got}
 
 pub each_length : (P : ℕ → Site → Place → Type 0) (k : ℕ) (ss : List Site) (ps : List Place) → EachIs P k ss ps → length ss ≡ length ps
 each_length P k [] [] h = refl

@@ -12,7 +12,7 @@ use Rattle.crsm_spec.specs.Log.{spec}
 use Rattle.crsm_site.specs.Outcomes.{spec_at}
 use Rattle.crsm_spec.specs.Possible.{first_bad, is_none_of, is_next_new, is_down_at, is_not_sent, is_receiver_down, is_used, receivers, are_mixed, are_too_few}
 use Rattle.crsm_world.specs.Placed.{is_up_in, spec_in}
-use Rattle.crsm_world.specs.Mailed.{is_used_at, receiver_of, receiver_or}
+use Rattle.crsm_post.specs.Mailed.{is_used_at, receiver_of, receiver_or}
 
 -- the first cause holds
 pub hit : (b : Bool) (c : Cause) (cs : List (Bool × Cause)) → b ≡ true → first_bad ((b, c) ∷ cs) ≡ Some c

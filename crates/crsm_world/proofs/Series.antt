@@ -11,7 +11,7 @@ use Rattle.crsm_spec.specs.Node.{Turn, turn, input_of}
 use Rattle.crsm_base.proofs.DatagramLaws.{datagram_of-bytes}
 use Rattle.crsm_site.specs.declared.Step.{Step}
 use Rattle.crsm_site.specs.Outcomes.{Makes}
-use Rattle.crsm_world.specs.declared.mail.Mail.{Mail as MailInMemory}
+use Rattle.crsm_post.specs.declared.Mail.{Mail as MailInMemory}
 use Rattle.crsm_world.specs.Leaving.{LetsOut}
 use Rattle.crsm_spec.specs.Step.{Input, step}
 use Rattle.crsm_spec.specs.Acts.{Single}
@@ -19,7 +19,7 @@ use Rattle.crsm_spec.specs.World.{Site, Mail, World as Cluster, Moment, is_full,
 use Rattle.crsm_spec.specs.Moments.{single, begun_at, come, step_at, step_at_site, use_up, go_each, go_all, world_after, lines_of}
 use Rattle.crsm_world.specs.declared.world.World.{World}
 use Rattle.crsm_world.specs.Placed.{SitesPend}
-use Rattle.crsm_world.specs.Mailed.{IsMail, Found, PostStands, used_up, receiver_of}
+use Rattle.crsm_post.specs.Mailed.{IsMail, PostStands, used_up, receiver_of}
 use Rattle.crsm_world.specs.Several.{IsFor, AreFor, together, each_gone, all_gone}
 use Rattle.crsm_world.specs.Standing.{Holds, HoldsBeside, Leads, LeadsBeside}
 use Rattle.crsm_world.proofs.Turns.{get_set}
@@ -213,20 +213,20 @@ turn_is r m p from t bytes is e f =
     ap (λ a. turn r (Turn.In a bytes, t)) (e ∙ is.from) ∙ ap (λ b. turn r (Turn.In p.from b, t)) (f ∙ is.bytes)
     ∙ ap (λ i. option_map_or (λ j. step r j t) (option_map (Input.Came p.from) i) (begun r)) (datagram_of-bytes p.datagram is.fits)
 
-pub not_found : (k i : ℕ) (mail : List Mail) (o : Option MailInMemory) → IsFor k mail i → Found o (slice_get mail i) → o ≡ None → ⊥
-not_found k i mail o f h e = subst (λ (q : Option Mail). Found None q) f.is (subst (λ (q : Option MailInMemory). Found q (slice_get mail i)) e h)
+pub not_found : (k i : ℕ) (mail : List Mail) → IsFor k mail i → slice_get mail i ≡ None → ⊥
+not_found k i mail f e = let g = f.is in cc
 
-pub taken : (k t i : ℕ) (v : Cluster) (r : Replica) (f : IsFor k v.mail i) (o : Option MailInMemory) (m : MailInMemory) (from : ℕ) (bytes : List ℕ) (w : World) (made : Step) (lines : List Line)
-    → slice_get v.sites k ≡ Some (Site.Up r) → Found o (slice_get v.mail i) → o ≡ Some m → from ≡ m.from → bytes ≡ m.bytes
+pub taken : (k t i : ℕ) (v : Cluster) (r : Replica) (f : IsFor k v.mail i) (m : MailInMemory) (p : Mail) (from : ℕ) (bytes : List ℕ) (w : World) (made : Step) (lines : List Line)
+    → slice_get v.sites k ≡ Some (Site.Up r) → slice_get v.mail i ≡ Some p → IsMail m p → from ≡ m.from → bytes ≡ m.bytes
     → Makes made (turn r (Turn.In from bytes, t)) × SitesPend k w.sites v.n (slice_set v.sites k (Site.Up (turn r (Turn.In from bytes, t)).replica))
     → ((x : Draft) → Makes made x → LetsOut (used_up i v.mail) v.bytes k x x.sends x.replies w.post lines) → LeadsBeside k (gone t i v) w lines
 unfolding use_up used_up
-taken k t i v r f o m from bytes w made lines up found some e g stands out =
-    let is = subst (λ (q : Option Mail). Found (Some m) q) f.is (subst (λ (q : Option MailInMemory). Found q (slice_get v.mail i)) some found) in
+taken k t i v r f m p from bytes w made lines up found is e g stands out =
+    let same : p ≡ f.found = let h = f.is in cc in
     let y = turn r (Turn.In from bytes, t) in
     let whole = beside_whole k v (use_up i v) y w lines stands.1 (out y stands.0) in
     subst (λ (n : Moment). LeadsBeside k n w lines) (sym (gone_is k t i v r f up))
-    (subst (λ (x : Draft). LeadsBeside k (begun_at v (whole_step (use_up i v) k x)) w lines) (turn_is r m f.found from t bytes is e g) whole)
+    (subst (λ (x : Draft). LeadsBeside k (begun_at v (whole_step (use_up i v) k x)) w lines) (turn_is r m f.found from t bytes (subst (λ (q : Mail). IsMail m q) same is) e g) whole)
 
 pub nothing_gone : (v : Cluster) (t : ℕ) (w : World) (lines : List Line) → Holds w v → lines ≡ [] → Leads (all_gone t [] v) w lines
 unfolding all_gone together world_after lines_of go_all

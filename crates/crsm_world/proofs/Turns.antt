@@ -12,9 +12,9 @@ use Rattle.crsm_spec.specs.Step.{Input, step}
 use Rattle.crsm_spec.specs.Node.{Turn, turn, input_of}
 use Rattle.crsm_spec.specs.World.{Site, Mail, World, Ending, is_up, log_of, log_at}
 use Rattle.crsm_spec.specs.Moments.{silent, step_at, step_at_site, junk_at, come, use_up}
-use Rattle.crsm_world.specs.declared.mail.Mail.{Mail as MailInMemory}
+use Rattle.crsm_post.specs.declared.Mail.{Mail as MailInMemory}
 use Rattle.crsm_world.specs.Placed.{is_up_in, up_in}
-use Rattle.crsm_world.specs.Mailed.{Found, used_up}
+use Rattle.crsm_post.specs.Mailed.{IsMail, used_up}
 use Rattle.crsm_world.specs.Turning.{turn_at, turn_at_site}
 
 -- ---- a replica that is up, or not
@@ -87,17 +87,15 @@ turn_junk ends v k from reading bytes none = at (slice_get v.sites k)
 
 -- ---- datagrams that come
 
-pub come_found : (ends : Ending) (v : World) (reading : ℕ) (m : MailInMemory) (o : Option Mail) → Found (Some m) o → turn_at ends v m.to (Turn.In m.from m.bytes) reading ≡ come ends v reading o
+pub come_found : (ends : Ending) (v : World) (reading : ℕ) (m : MailInMemory) (p : Mail) → IsMail m p → turn_at ends v m.to (Turn.In m.from m.bytes) reading ≡ come ends v reading (Some p)
 unfolding come
-come_found ends v reading m (Some p) is =
+come_found ends v reading m p is =
     ap (λ k. turn_at ends v k (Turn.In m.from m.bytes) reading) is.to ∙ ap (λ a. turn_at ends v p.to (Turn.In a m.bytes) reading) is.from
     ∙ ap (λ b. turn_at ends v p.to (Turn.In p.from b) reading) is.bytes ∙ turn_datagram ends v p.to p.from p.datagram reading is.fits
-come_found ends v reading m None is = absurd is
 
-pub come_missed : (ends : Ending) (v : World) (reading : ℕ) (o : Option Mail) → Found None o → come ends v reading o ≡ silent v v
+pub come_missed : (ends : Ending) (v : World) (reading : ℕ) → come ends v reading None ≡ silent v v
 unfolding come
-come_missed ends v reading None is = refl
-come_missed ends v reading (Some p) is = absurd is
+come_missed ends v reading = refl
 
 -- whether it was used makes no difference
 come_same : (ends : Ending) (v : World) (reading : ℕ) (o : Option Mail) → come ends v reading (option_map {T = Mail} (λ m. record m { used = true }) o) ≡ come ends v reading o

@@ -3,8 +3,8 @@ use Rattle.std.specs.Prelude.{◌≡◌, ◌+◌, ℕ, List, ◌++◌, length, m
 use Rattle.crsm_spec.specs.Types.{Datagram, Line}
 use Rattle.crsm_spec.specs.Draft.{Draft, Reply}
 use Rattle.crsm_spec.specs.World.{Mail, body_size, mail_of, mail_size, send_lines}
-use Rattle.crsm_world.specs.declared.post.Post.{Post}
-use Rattle.crsm_world.specs.Mailed.{PostStands}
+use Rattle.crsm_post.specs.declared.Post.{Post}
+use Rattle.crsm_post.specs.Mailed.{PostStands}
 
 -- The step of replica k is kept, and these datagrams and replies of it are out.
 pub record LetsOut (mail : List Mail) (bytes k : ℕ) (x : Draft) (sends : List (ℕ × Datagram)) (replies : List Reply) (post : Post) (lines : List Line) : Type 0 where

@@ -1,6 +1,5 @@
 pub mod Doing
 pub mod Placed
-pub mod Mailed
 pub mod Leaving
 pub mod Turning
 pub mod Several

@@ -4,7 +4,7 @@ use Rattle.crsm_spec.specs.Types.{Line}
 use Rattle.crsm_spec.specs.World.{World as Cluster, Moment}
 use Rattle.crsm_world.specs.declared.world.World.{World}
 use Rattle.crsm_world.specs.Placed.{SitesStand, SitesPend}
-use Rattle.crsm_world.specs.Mailed.{PostStands}
+use Rattle.crsm_post.specs.Mailed.{PostStands}
 
 -- The world has the sites, the datagrams and the bytes of this one on paper.
 pub record Holds (w : World) (v : Cluster) : Type 0 where

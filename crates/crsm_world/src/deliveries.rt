@@ -15,7 +15,6 @@ ghost use Rattle.crsm_world.specs.Standing.{Holds, Leads};
 ghost use Rattle.crsm_world.specs.Turning.{ending_of, FitsEnding, IsGenuine, turn_at};
 
 use crate::ending::Ending;
-use crate::lines::add;
 use crate::world::World;
 use crsm_base::{Bytes, Command, Datagram, Lines, NoMemory};
 use crsm_schedule::Single;
@@ -29,9 +28,10 @@ impl World {
         ensures { IfOk result (λ lines. (v : on_paper.World) → Holds self.old v →
             Leads (moments.come (ending_of ending) v reading (slice_get v.mail number)) self.new lines) }
     {
-        let Some(mail) = self.post.find(number)? else {
+        let Some(mail) = self.post.find(number) else {
             return Ok(Lines::new(self.alloc));
         };
+        let mail = mail.copy(self.alloc)?;
         let lines = self.bytes_arrive(
             u64::from(mail.to),
             ending,

@@ -10,7 +10,6 @@ ghost use Rattle.crsm_world.specs.Standing.{Holds, HoldsBeside, Leads, LeadsBesi
 ghost use Rattle.crsm_world.specs.Several.{AreFor, IsFor, each_gone, all_gone};
 
 use crate::ending::Ending;
-use crate::lines::add;
 use crate::outgoing::let_all_out;
 use crate::world::World;
 use crsm_base::{Lines, MAX_DATAGRAM_BYTES, NoMemory};
@@ -26,8 +25,8 @@ impl World {
             if self.post.is_full() {
                 return Ok(lines);
             }
-            let more = self.go(Ending::Whole, *number, reading)?;
-            add(self.alloc, more.as_slice(), &mut lines)?;
+            let mut more = self.go(Ending::Whole, *number, reading)?;
+            lines.append(&mut more)?;
         }
         Ok(lines)
     }
@@ -36,8 +35,8 @@ impl World {
     pub(crate) fn settle(&mut self, reading: u64) -> Result<Lines, NoMemory>
         ensures { IfOk result (λ lines. (v : on_paper.World) → Holds self.old v → Leads (each_gone reading (moments.deliverable v) v) self.new lines) }
     {
-        self.post.tidy()?;
-        let due = self.post.due(&self.sites)?;
+        let ups = self.sites.ups()?;
+        let due = self.post.due(&ups)?;
         let lines = self.deliver_each(reading, &due)?;
         Ok(lines)
     }
@@ -49,19 +48,19 @@ impl World {
             LeadsBeside k (moments.single on_paper.whole_step v (OneStep.Go number reading)) self.new lines) }
         ensures count { OnOk result (length self.new.sites.items.items ≡ length self.old.sites.items.items) }
     {
-        let Some(mail) = self.post.find(number)? else {
+        let Some(mail) = self.post.find(number) else {
             return Ok(Lines::new(self.alloc));
         };
         // No datagram is longer.
         if mail.bytes.as_slice().len() > MAX_DATAGRAM_BYTES as usize {
             return Err(NoMemory);
         }
-        self.post.use_up(number);
         let coming = Coming::Bytes {
             from: u64::from(mail.from),
             bytes: mail.bytes.as_slice(),
         };
         let step = self.sites.take(k, coming, reading)?;
+        self.post.use_up(number);
         let lines = let_all_out(self.alloc, &mut self.post, k, &step)?;
         Ok(lines)
     }
@@ -75,8 +74,8 @@ impl World {
         sites_pend_nothing();
         let mut lines = Lines::new(self.alloc);
         for number in numbers {
-            let more = self.take(k, *number, reading)?;
-            add(self.alloc, more.as_slice(), &mut lines)?;
+            let mut more = self.take(k, *number, reading)?;
+            lines.append(&mut more)?;
         }
         self.sites.flush(k)?;
         Ok(lines)

@@ -7,37 +7,13 @@ ghost use Rattle.crsm_site.specs.Outcomes.{Makes};
 ghost use Rattle.crsm_spec.specs.Draft.{Draft};
 ghost use Rattle.crsm_spec.specs.World as on_paper;
 ghost use Rattle.crsm_world.specs.Leaving.{LetsOut};
-ghost use Rattle.crsm_world.specs.Mailed.{PostStands, sent_to, sent_of};
+ghost use Rattle.crsm_post.specs.Mailed.{PostStands};
 
 use crate::lines::add;
-use crate::post::Post;
-use crsm_base::{Lines, NoMemory, Send, To};
+use crsm_base::{Lines, NoMemory};
+use crsm_post::{Post, letters_in};
 use crsm_site::Step;
 use std::alloc::Global;
-
-/// How many datagrams to replicas this is: one or none.
-#[tactic(auto, unfolding(crate::specs::Mailed::sent_to, crate::specs::Mailed::to_mail))]
-fn letters_of(send: &Send) -> usize
-    ensures count { result ≡ length (sent_to send.now) }
-    ensures most { result ≤ 1 }
-{
-    match send.to {
-        To::Replica(_) => 1,
-        To::Address(_) => 0,
-    }
-}
-
-/// How many of these are datagrams to replicas.
-fn letters_in(sends: &[Send]) -> usize
-    ensures count { result ≡ length (sent_of sends.now) }
-    ensures most { result ≤ length sends.now }
-{
-    let mut count = 0;
-    for send in sends {
-        count += letters_of(send);
-    }
-    count
-}
 
 /// A step of replica `k` is kept, and so many of its sends and replies go out. Its own lines come first, then those
 /// of the sends, then those of the replies.

@@ -79,6 +79,17 @@ impl Sites {
         u32::try_from(k).ok()
     }
 
+    /// Which replicas are up, by number.
+    pub fn ups(&self) -> Result<Vec<bool>, NoMemory>
+        ensures { IfOk result (λ ups. (n : ℕ) (places : List on_paper.Site) → SitesStand self.now n places → ups.items ≡ map on_paper.is_up places) }
+    {
+        let mut ups = Vec::new(self.alloc);
+        for site in &self.items {
+            ups.push(site.is_up())?;
+        }
+        Ok(ups)
+    }
+
     /// One step of a replica that is up.
     pub fn step(&mut self, k: u32, coming: Coming<'_>, reading: u64) -> Result<Step, NoMemory>
         requires within { k < length self.old.items.items }

@@ -13,11 +13,10 @@ ghost use Rattle.crsm_world.specs.Doing.{act_of, bad_of};
 ghost use Rattle.crsm_world.specs.Standing.{StandsFor, IsSpent};
 
 use crate::bad::Bad;
-use crate::lines::add;
-use crate::post::Post;
 use crate::sites::Sites;
 use crsm_base::{Lines, NoMemory};
 use crsm_disk::MemDisk;
+use crsm_post::Post;
 use crsm_schedule::Event;
 use crsm_shell::Shell;
 use std::alloc::Global;
@@ -48,8 +47,8 @@ impl World {
         };
         let mut lines = Lines::new(alloc);
         for k in 0..n {
-            let more = world.start(u64::from(k))?;
-            add(alloc, more.as_slice(), &mut lines)?;
+            let mut more = world.start(u64::from(k))?;
+            lines.append(&mut more)?;
         }
         world.is_spent = false;
         Ok((world, lines))

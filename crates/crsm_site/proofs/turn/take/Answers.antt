@@ -6,17 +6,16 @@ use Rattle.crsm_shell.specs.Taking.{turn_of as turn_taken}
 use Rattle.crsm_site.specs.Arriving.{turn_of}
 use Rattle.crsm_site.specs.Outcomes.{Makes}
 use Rattle.crsm_site.specs.Standing.{IsUpAs}
-use Rattle.crsm_site.proofs.Turns.{turn_arrives, reading_arrives}
+use Rattle.crsm_site.proofs.Turns.{turn_arrives}
 use Rattle.crsm_site.proofs.turn.take.Goals as goal
 
 pub returns-in-Ok-clause-stands : goal.returns-in-Ok-clause-stands
 returns-in-Ok-clause-stands c me n kept r steps up =
     let t = c.in-Ok.turned in
     let made = c.in-Ok.ensures.stands kept r steps up.stands in
-    let reading : t.reading ≡ c.args.reading = reading_arrives c.in_ok-clock.clock _ c.args.reading t.reading c.in_ok-clock.ensures.1 c.in-Ok.ensures.clock in
+    let reading : t.reading ≡ c.args.reading = c.in-Ok.ensures.clock.is in
     let came : turn_taken t.taken ≡ turn_of c.args.coming =
-    turn_arrives c.args.coming c.in_ok-port.port c.wanted.new.port c.in_ok-what.what c.take.new.port t.taken
-    (ap (λ m. m.letters) c.in_ok-port.ensures) (ap (λ m. m.next) c.in_ok-port.ensures) c.requires c.in_ok-what.ensures c.in-Ok.ensures.port in
+    turn_arrives c.args.coming c.wanted-what.result.1 c.take.new.port c.wanted-what.result.0 t.taken c.requires c.wanted-what.ensures c.in-Ok.ensures.port in
     let same : (turn_taken t.taken, t.reading) ≡ (turn_of c.args.coming, c.args.reading) =
     ap (λ (x : Turn). (x, t.reading)) came ∙ ap (λ (x : ℕ). (turn_of c.args.coming, x)) reading in
     let P : Turn × ℕ → Type 0 = λ q.

@@ -93,9 +93,9 @@ returns-clause-stands g c kept r steps s =
     record {
       core = s.core;
       well = refl;
-      body = c.new.ensures;
+      body = c.clear.ensures;
       spelt = tt;
-      outbox = c.new-2.ensures;
+      outbox = c.clear-2.ensures;
       pending = refl;
       log = refl;
       file = λ honest. let was : IsTrue m.honest = sym k.goes.honest ∙ honest in kept_all old m kept r steps s was m'.seen c.as_slice.result.now is (k.added was);

@@ -1,7 +1,20 @@
-use Rattle.crsm_turns.proofs.Sending.{kept_size}
+use Rattle.std.proofs.Common.{List, ◌∙◌, ◌∷◌, [], ◌++◌, ap}
+use Rattle.crsm_port.specs.Meaning.{Post}
+use Rattle.crsm_base.specs.Messages.{datagram_bytes}
+use Rattle.crsm_turns.specs.declared.outbox.Letter.{Letter}
+use Rattle.crsm_turns.proofs.Letters.{added, added_size}
 use Rattle.crsm_turns.proofs.outbox.Outbox.push.Goals as goal
 
-pub invariant_of-self-2 : goal.invariant_of-self-2
-invariant_of-self-2 c =
-    kept_size c.self.inside.letters.items _ _ c.as_slice.result.now c.self.inside.size _
-    c.self.invariant c.in_ok-push.ensures.items c.as_slice.ensures (rw c.in_ok-size.ensures.ok_part at c.checked_add.ensures).1
+pub invariant_of-self-in-Ok : goal.invariant_of-self-in-Ok
+invariant_of-self-in-Ok c =
+    let l : Letter = record { to = c.args.to; len = c.in-Ok.len } in
+    added_size c.self.inside.letters.items c.push_reserved.new.self.items l c.self.inside.text c.write.new.text (datagram_bytes c.args.datagram.now) c.self.invariant
+    (c.push_reserved.ensures.items ∙ ap (λ (ls : List Letter). ls ++ l ∷ []) c.in_ok-reserve.ensures.items) c.in-Ok.ensures.0 c.in-Ok.ensures.1
+
+pub returns-in-Ok : goal.returns-in-Ok
+returns-in-Ok c =
+    let l : Letter = record { to = c.args.to; len = c.in-Ok.len } in
+    let d : Post = record { address = c.args.to; bytes = datagram_bytes c.args.datagram.now } in
+    added c.self.inside.letters.items c.push_reserved.new.self.items l c.self.inside.text c.write.new.text (datagram_bytes c.args.datagram.now) c.self.invariant
+    (c.push_reserved.ensures.items ∙ ap (λ (ls : List Letter). ls ++ l ∷ []) c.in_ok-reserve.ensures.items) c.in-Ok.ensures.0 c.in-Ok.ensures.1
+    ∙ ap (λ (ps : List Post). ps ++ d ∷ []) c.self.view_is

@@ -1,4 +1,4 @@
-use Rattle.std.proofs.Common.{◌∙◌, ◌++◌, ap, refl}
+use Rattle.std.proofs.Common.{◌∙◌, refl}
 use Rattle.crsm_world.proofs.Places.{pend_begin, pending_from}
 use Rattle.crsm_world.proofs.Series.{all_begin, all_next, all_end}
 use Rattle.crsm_world.proofs.world.World.deliver_to.Goals as goal
@@ -13,8 +13,8 @@ loop-number-init c = record {
 pub loop-number-preserved : goal.loop-number-preserved
 loop-number-preserved c = record {
   count = c.in_ok-more.ensures.count ∙ c.loop-number.invariant.count;
-  going = λ v r h e f. all_next v c.args.reading c.args.numbers.now c.loop-number.number-index c.args.k c.loop-number.self c.take.new.self c.loop-number.lines c.in_ok-more.more c.add.new.lines
-      (c.loop-number.invariant.going v r h e f) c.loop-number-test.true c.in_ok-more.ensures.leads (c.in_ok-add.ensures ∙ ap (λ ls. c.loop-number.lines ++ ls) c.as_slice.ensures);
+  going = λ v r h e f. all_next v c.args.reading c.args.numbers.now c.loop-number.number-index c.args.k c.loop-number.self c.take.new.self c.loop-number.lines c.in_ok-more.more c.append.new.self
+      (c.loop-number.invariant.going v r h e f) c.loop-number-test.true c.in_ok-more.ensures.leads c.in_ok-append.ensures.ok;
 }
 
 pub returns : goal.returns

@@ -1,4 +1,4 @@
-use Rattle.std.proofs.Common.{◌≡◌, ◌∙◌, ◌++◌, ap, sym, refl, subst, arith, ℕ}
+use Rattle.std.proofs.Common.{◌≡◌, ◌∙◌, ap, sym, refl, subst, arith, ℕ}
 use Rattle.crsm_spec.specs.World.{World}
 use Rattle.crsm_spec.specs.Moments.{start_at}
 use Rattle.crsm_world.specs.Starting.{CanStart}
@@ -19,7 +19,7 @@ loop-k-preserved c =
     let next = part_next n k c.start.new.self c.in_ok-more.more c.loop-k-test.true leads in
     record {
       holds = next.0;
-      told = lines_more n k c.loop-k.lines c.in_ok-more.more c.add.new.lines was.told next.1 (c.in_ok-add.ensures ∙ ap (λ ls. c.loop-k.lines ++ ls) c.as_slice.ensures);
+      told = lines_more n k c.loop-k.lines c.in_ok-more.more c.append.new.self was.told next.1 c.in_ok-append.ensures.ok;
     }
 
 pub returns-clause-world : goal.returns-clause-world
