@@ -15,6 +15,8 @@ pub enum Fault {
     NoMemory,
     #[error("a page of so many entries has no spelling")]
     NoPage,
+    #[error("a cluster has 1 to 3 replicas here")]
+    NoCluster,
     #[error("the log is refused: {0}")]
     Log(LedgerError),
 }

@@ -1,6 +1,7 @@
 //! Does one kind of work a number of times, to be timed from outside, and prints a count of what was done.
 #![tactic(auto)]
 
+mod cores;
 mod fault;
 mod logs;
 mod page;
@@ -14,7 +15,8 @@ use crate::request::{Request, Work};
 use std::alloc::Global;
 use std::env;
 
-const USAGE: &str = "usage: crsm_bench write|read|store|store_in_order|ledger|collect SIZE ROUNDS";
+const USAGE: &str =
+    "usage: crsm_bench write|read|store|store_in_order|ledger|collect|core SIZE ROUNDS";
 
 /// What the command line asks for; `None` where it asks for no work.
 fn asked(rt: &(impl env::Env + Alloc)) -> Result<Option<Request>, Fault> {
@@ -34,6 +36,7 @@ fn run(alloc: Global, request: &Request) -> Result<u64, Fault> {
         Work::Store(visits) => rows::apply(alloc, visits, request.size, request.rounds),
         Work::Ledger => logs::recover(alloc, request.size, request.rounds),
         Work::Collect => reports::collect(alloc, request.size, request.rounds),
+        Work::Core => cores::steps(alloc, request.size, request.rounds),
     }
 }
 

@@ -22,10 +22,12 @@ pub enum Work {
     Ledger,
     /// Collects the reports of 15 replicas.
     Collect,
+    /// Hands requests to replicas in memory.
+    Core,
 }
 
 /// Work on a value of some size (entries of a page or of a report, keys and clients of a store,
-/// commands of a log), done so many times.
+/// commands of a log, replicas), done so many times.
 #[derive(Clone, Copy, Debug, PartialEq, Eq)]
 pub struct Request {
     pub work: Work,
@@ -42,6 +44,7 @@ impl Work {
             "store_in_order" => Some(Work::Store(Visits::InOrder)),
             "ledger" => Some(Work::Ledger),
             "collect" => Some(Work::Collect),
+            "core" => Some(Work::Core),
             _ => None,
         }
     }

@@ -16,6 +16,8 @@ pub enum Fault {
     Disk,
     #[error("a line is not readable")]
     Unreadable,
+    #[error("more steps are wanted than can pend")]
+    TooMany,
 }
 
 impl From<io::Error> for Fault {

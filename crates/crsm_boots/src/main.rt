@@ -1,12 +1,18 @@
 //! Boots a replica that is a cluster of its own, as each line of the standard input says, and writes what comes of it.
 //!
 //! A line has the bodies of a log in hexadecimal, with spaces between, or `file` and the bytes of a whole file: then it is
-//! booted on that. `disk CALL` and `port CALL` are short runs in which that call of the disk or of the port fails.
+//! booted on that. `run DISK PORT WORDS` boots it on an empty disk, where these calls of the disk and of the port fail
+//! (`-`: none), and then does what the words say: `requests:N` and `junk` come to the port, `take:N` and `tick` are steps,
+//! `flush` keeps and sends, and `stop:N` or `open:N` stops the disk after so many further calls, where what was not
+//! synced reads as a closed or as an open gate.
 #![tactic(auto)]
 
+mod devices;
 mod fault;
 mod log;
 mod tale;
+mod traces;
+mod words;
 
 use crate::fault::Fault;
 use crate::log::disk_of;
@@ -27,14 +33,9 @@ fn main(rt: HostRuntime) -> Result<(), Fault> {
 
 fn answer_to(alloc: Global, line: &str) -> Result<String, Fault> {
     match line.split_once(' ') {
-        Some(("disk", call)) => tale_of(alloc, &[number(call)?], &[]),
-        Some(("port", call)) => tale_of(alloc, &[], &[number(call)?]),
+        Some(("run", script)) => tale_of(alloc, script),
         _ => boot_on(alloc, disk_of(alloc, line)?),
     }
-}
-
-fn number(word: &str) -> Result<u64, Fault> {
-    word.parse::<u64>().map_err(|_| Fault::Unreadable)
 }
 
 /// What a boot says of this disk.

@@ -1,0 +1,224 @@
+//! Replicas in memory: steps for a stream of requests, with all that is sent delivered at once, as bytes.
+
+ghost use Rattle.std.specs.Prelude.{◌<◌, ◌≤◌, IfOk, OnOk};
+ghost use Rattle.std.specs.List.{AllByRecursion};
+ghost use Rattle.crsm_core.specs.Inputs.{FitsInput};
+ghost use Rattle.crsm_core.specs.Standing.{FitsSent};
+ghost use Rattle.crsm_bench.specs.Running.{IsRunning, AreRunning};
+
+use crate::fault::Fault;
+use crate::spell;
+use crsm_base::{Bytes, NoMemory, Send, To};
+use crsm_core::{Batch, Core, Input};
+use crsm_ledger::Ledger;
+use crsm_wire::{read_datagram, write_datagram};
+use std::alloc::Global;
+
+/// The address that requests come from.
+const CLIENT: u64 = 100;
+
+/// How often all that is under way is delivered after a request, at most.
+const MOST_DELIVERIES: u32 = 16;
+
+/// A datagram under way to a replica.
+#[derive(Drop)]
+struct Mail {
+    from: u32,
+    to: u32,
+    bytes: Bytes,
+}
+
+/// Replicas 0, 1 and 2. Those that are beyond a cluster of fewer get nothing.
+#[derive(Drop)]
+struct Cluster {
+    first: Core,
+    second: Core,
+    third: Core,
+}
+
+/// A replica of a cluster of so many, at its first boot.
+fn booted(alloc: Global, me: u32, n: u32) -> Result<Core, NoMemory>
+    requires me { me < 15 }
+    requires some { 1 ≤ n }
+    requires few { n ≤ 15 }
+    ensures { IfOk result IsRunning }
+{
+    let mut core = Core::new(Ledger::new(alloc, me, n)?)?;
+    let _boot = core.begin()?;
+    Ok(core)
+}
+
+/// The first boots of a cluster of so many.
+fn begun(alloc: Global, n: u32) -> Result<Cluster, NoMemory>
+    requires some { 1 ≤ n }
+    requires few { n ≤ 15 }
+    ensures { IfOk result AreRunning }
+{
+    Ok(Cluster {
+        first: booted(alloc, 0, n)?,
+        second: booted(alloc, 1, n)?,
+        third: booted(alloc, 2, n)?,
+    })
+}
+
+/// What one step makes.
+fn stepped(core: &mut Core, input: &Input, reading: u64) -> Result<Batch, NoMemory>
+    requires running { IsRunning core.old }
+    requires spelt { FitsInput input.now }
+    ensures running { OnOk result (IsRunning core.new) }
+    ensures spelt { IfOk result (λ batch. AllByRecursion FitsSent batch.sends) }
+{
+    let batch = core.step(input, reading)?;
+    Ok(batch)
+}
+
+/// What one step of replica `k` makes.
+fn step_of(cluster: &mut Cluster, k: u32, input: &Input, reading: u64) -> Result<Batch, NoMemory>
+    requires running { AreRunning cluster.old }
+    requires spelt { FitsInput input.now }
+    ensures running { OnOk result (AreRunning cluster.new) }
+    ensures spelt { IfOk result (λ batch. AllByRecursion FitsSent batch.sends) }
+{
+    match k {
+        0 => {
+            let batch = stepped(&mut cluster.first, input, reading)?;
+            Ok(batch)
+        }
+        1 => {
+            let batch = stepped(&mut cluster.second, input, reading)?;
+            Ok(batch)
+        }
+        _ => {
+            let batch = stepped(&mut cluster.third, input, reading)?;
+            Ok(batch)
+        }
+    }
+}
+
+/// Puts a datagram of replica `from` under way, if it goes to a replica.
+fn post_one(alloc: Global, from: u32, send: &Send, mail: &mut Vec<Mail>) -> Result<(), Fault>
+    requires { FitsSent send.now }
+{
+    let To::Replica(to) = send.to else {
+        return Ok(());
+    };
+    let mut bytes = Bytes::new(alloc);
+    write_datagram(alloc, &send.datagram, &mut bytes)?;
+    match mail.push(Mail { from, to, bytes }) {
+        Ok(()) => Ok(()),
+        Err(_) => Err(Fault::NoMemory),
+    }
+}
+
+/// Puts what replica `from` sends to others under way.
+fn post(alloc: Global, from: u32, sends: &[Send], mail: &mut Vec<Mail>) -> Result<(), Fault>
+    requires { AllByRecursion FitsSent sends.now }
+{
+    for send in sends {
+        post_one(alloc, from, send, mail)?;
+    }
+    Ok(())
+}
+
+/// One step of replica `k`, which puts what it sends under way.
+fn step(
+    alloc: Global,
+    cluster: &mut Cluster,
+    k: u32,
+    input: &Input,
+    reading: u64,
+    mail: &mut Vec<Mail>,
+) -> Result<(), Fault>
+    requires running { AreRunning cluster.old }
+    requires spelt { FitsInput input.now }
+    ensures { OnOk result (AreRunning cluster.new) }
+{
+    let batch = step_of(cluster, k, input, reading)?;
+    post(alloc, k, batch.sends.as_slice(), mail)
+}
+
+/// The datagram of these bytes, from this address.
+fn input_of(alloc: Global, from: u64, bytes: &[u8]) -> Result<Input, Fault>
+    ensures { IfOk result FitsInput }
+{
+    let datagram = read_datagram(alloc, bytes)?;
+    Ok(Input::Datagram { from, datagram })
+}
+
+/// Delivers a datagram. What its receiver sends is under way then.
+fn deliver_one(
+    alloc: Global,
+    cluster: &mut Cluster,
+    item: &Mail,
+    reading: u64,
+    mail: &mut Vec<Mail>,
+) -> Result<(), Fault>
+    requires { AreRunning cluster.old }
+    ensures { OnOk result (AreRunning cluster.new) }
+{
+    let input = input_of(alloc, u64::from(item.from), item.bytes.as_slice())?;
+    step(alloc, cluster, item.to, &input, reading, mail)
+}
+
+/// Delivers datagrams, and answers what their receivers send.
+fn deliver(
+    alloc: Global,
+    cluster: &mut Cluster,
+    items: &[Mail],
+    reading: u64,
+) -> Result<Vec<Mail>, Fault>
+    requires { AreRunning cluster.old }
+    ensures { OnOk result (AreRunning cluster.new) }
+{
+    let mut mail = Vec::new(alloc);
+    for item in items {
+        deliver_one(alloc, cluster, item, reading, &mut mail)?;
+    }
+    Ok(mail)
+}
+
+/// The request of this number.
+fn request(alloc: Global, number: u32) -> Result<Input, Fault>
+    ensures { IfOk result FitsInput }
+{
+    let mut bytes = Bytes::new(alloc);
+    spell::request(alloc, number, &mut bytes)?;
+    input_of(alloc, CLIENT, bytes.as_slice())
+}
+
+/// Hands a request to replica 0, delivers until nothing is under way, and counts the steps.
+fn serve(alloc: Global, cluster: &mut Cluster, number: u32) -> Result<u64, Fault>
+    requires { AreRunning cluster.old }
+    ensures { OnOk result (AreRunning cluster.new) }
+{
+    let input = request(alloc, number)?;
+    let reading = u64::from(number);
+    let mut mail = Vec::new(alloc);
+    step(alloc, cluster, 0, &input, reading, &mut mail)?;
+    let mut steps = 1u64;
+    for _ in 0..MOST_DELIVERIES {
+        steps = steps.wrapping_add(mail.len() as u64);
+        mail = deliver(alloc, cluster, &mail, reading)?;
+    }
+    Ok(steps)
+}
+
+/// Hands so many requests to replica 0, and counts the steps of all.
+fn serve_all(alloc: Global, cluster: &mut Cluster, requests: u32) -> Result<u64, Fault>
+    requires { AreRunning cluster.old }
+{
+    let mut steps = 0u64;
+    for number in 0..requests {
+        steps = steps.wrapping_add(serve(alloc, cluster, number)?);
+    }
+    Ok(steps)
+}
+
+/// Hands so many requests to replica 0 of a cluster of 1 to 3 replicas, and counts the steps of all.
+pub fn steps(alloc: Global, replicas: u32, requests: u32) -> Result<u64, Fault> {
+    if replicas < 1 || replicas > 3 {
+        return Err(Fault::NoCluster);
+    }
+    let mut cluster = begun(alloc, replicas)?;
+    serve_all(alloc, &mut cluster, requests)
+}

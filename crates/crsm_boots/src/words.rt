@@ -1,0 +1,62 @@
+//! The words of a run.
+
+use crate::fault::Fault;
+use std::alloc::Global;
+
+/// What a word of a run asks.
+#[derive(Clone, Copy)]
+pub enum Word {
+    /// So many requests come to the port.
+    Requests(u64),
+    /// Bytes come that are no datagram.
+    Junk,
+    /// So many receives, each of which is a step.
+    Take(u64),
+    Tick,
+    /// The disk stops after so many further calls, and what was not synced is this byte then.
+    Stop { calls: u64, fill: u8 },
+    Flush,
+}
+
+/// The word that is spelt so.
+pub fn word_of(text: &str) -> Result<Word, Fault> {
+    match text.split_once(':') {
+        Some(("requests", count)) => Ok(Word::Requests(number(count)?)),
+        Some(("take", count)) => Ok(Word::Take(number(count)?)),
+        Some(("stop", calls)) => stop(calls, 0),
+        Some(("open", calls)) => stop(calls, 1),
+        _ => plain_word(text),
+    }
+}
+
+fn stop(calls: &str, fill: u8) -> Result<Word, Fault> {
+    Ok(Word::Stop {
+        calls: number(calls)?,
+        fill,
+    })
+}
+
+fn plain_word(text: &str) -> Result<Word, Fault> {
+    match text {
+        "junk" => Ok(Word::Junk),
+        "tick" => Ok(Word::Tick),
+        "flush" => Ok(Word::Flush),
+        _ => Err(Fault::Unreadable),
+    }
+}
+
+/// The calls that fail: their numbers with commas between, or `-` where none does.
+pub fn calls_of(alloc: Global, text: &str) -> Result<Vec<u64>, Fault> {
+    let mut calls = Vec::new(alloc);
+    if text == "-" {
+        return Ok(calls);
+    }
+    for word in text.split(',') {
+        calls.push(number(word)?)?;
+    }
+    Ok(calls)
+}
+
+fn number(word: &str) -> Result<u64, Fault> {
+    word.parse::<u64>().map_err(|_| Fault::Unreadable)
+}
