@@ -2,12 +2,7 @@
 # The built program replays each schedule of examples/ and writes its transcript.
 set -u
 cd "$(dirname "$0")/.." || exit 1
-program=crates/crsm/out/crsm
-[ -x "$program" ] || (cd crates/crsm && rt run >/dev/null 2>&1)
-if [ ! -x "$program" ]; then
-  echo "examples: no program at $program" >&2
-  exit 1
-fi
+. checks/program.bash
 fail=0
 for schedule in examples/*.schedule; do
   if ! "$program" replay < "$schedule" | cmp - "${schedule%.schedule}.transcript"; then

@@ -5,12 +5,7 @@
 # output without its send lines, and, where the status is not 0, a line `! ` with the words.
 set -u
 cd "$(dirname "$0")/.." || exit 1
-program=crates/crsm/out/crsm
-[ -x "$program" ] || (cd crates/crsm && rt run >/dev/null 2>&1)
-if [ ! -x "$program" ]; then
-  echo "replays: no program at $program" >&2
-  exit 1
-fi
+. checks/program.bash
 scratch=$(mktemp -d)
 trap 'rm -rf "$scratch"' EXIT
 
