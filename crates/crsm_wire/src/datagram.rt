@@ -1,12 +1,13 @@
-//! Taking datagrams off the front of the bytes.
+//! Reading datagrams, each from all of the bytes.
 
-ghost use Rattle.std.specs.Prelude.{◌≡◌, ◌≤◌, ◌+◌, ◌<◌, ◌==◌, IfOk, IfSome, length, []};
+ghost use Rattle.std.specs.Prelude.{◌≡◌, ◌≤◌, ◌+◌, ◌<◌, ◌==◌, IfOk, IsErrOf, Some, None, length, []};
 ghost use Rattle.std.specs.Option.{option_map};
 ghost use Rattle.crsm_base.specs.Limits.{most_parts};
 ghost use Rattle.crsm_base.specs.Messages.{part_least, part_most};
 ghost use Rattle.crsm_base.specs.Parser.{end_at, whole};
 ghost use Rattle.crsm_base.specs.MessageReading.{prepare_at, prepare_ok_at, clock_time_at, payload_at, part_fields_at, part_at, frame_at, ack_at, request_at, reply_at, operate_at, datagram_at};
 
+use crate::fault::WireError;
 use crsm_base::{Bytes, Datagram, InEpoch, MAX_CONTROL_BYTES, MAX_PARTS, NoMemory, PART_BYTES};
 use crsm_fields::{
     take_command, take_entry, take_members, take_outcome, take_replica, take_stamp, take_u8,
@@ -63,104 +64,115 @@ fn take_payload(alloc: Global, bytes: &[u8]) -> Result<Option<(InEpoch, &[u8])>,
 }
 
 #[tactic(auto, unfolding(crsm_base::specs::MessageReading::frame_at))]
-fn take_frame(alloc: Global, bytes: &[u8]) -> Result<Option<(Datagram, &[u8])>, NoMemory>
-    ensures { IfOk result (λ r. option_map (λ x. (x.0, x.1.now)) r ≡ frame_at bytes.now) }
+fn read_frame(alloc: Global, bytes: &[u8]) -> Result<Datagram, WireError>
+    ensures one { IfOk result (λ datagram. whole (frame_at bytes.now) ≡ Some datagram) }
+    ensures none { IsErrOf result WireError.NotOne → whole (frame_at bytes.now) ≡ None }
 {
     let Some((from, rest)) = take_replica(bytes) else {
-        return Ok(None);
+        return Err(WireError::NotOne);
     };
     let Some((to, rest)) = take_replica(rest) else {
-        return Ok(None);
+        return Err(WireError::NotOne);
     };
     let Some((epoch, rest)) = take_u64(rest) else {
-        return Ok(None);
+        return Err(WireError::NotOne);
     };
     let Some((seq, rest)) = take_u64(rest) else {
-        return Ok(None);
+        return Err(WireError::NotOne);
     };
     let Some((payload, rest)) = take_payload(alloc, rest)? else {
-        return Ok(None);
+        return Err(WireError::NotOne);
     };
-    Ok(Some((
-        Datagram::Frame {
-            from,
-            to,
-            epoch,
-            seq,
-            payload,
-        },
-        rest,
-    )))
+    if !rest.is_empty() {
+        return Err(WireError::NotOne);
+    }
+    Ok(Datagram::Frame {
+        from,
+        to,
+        epoch,
+        seq,
+        payload,
+    })
 }
 
 #[tactic(auto, unfolding(crsm_base::specs::MessageReading::ack_at))]
-fn take_ack(_alloc: Global, bytes: &[u8]) -> Result<Option<(Datagram, &[u8])>, NoMemory>
-    ensures { IfOk result (λ r. option_map (λ x. (x.0, x.1.now)) r ≡ ack_at bytes.now) }
+fn read_ack(bytes: &[u8]) -> Result<Datagram, WireError>
+    ensures one { IfOk result (λ datagram. whole (ack_at bytes.now) ≡ Some datagram) }
+    ensures none { IsErrOf result WireError.NotOne → whole (ack_at bytes.now) ≡ None }
 {
     let Some((from, rest)) = take_replica(bytes) else {
-        return Ok(None);
+        return Err(WireError::NotOne);
     };
     let Some((to, rest)) = take_replica(rest) else {
-        return Ok(None);
+        return Err(WireError::NotOne);
     };
     let Some((epoch, rest)) = take_u64(rest) else {
-        return Ok(None);
+        return Err(WireError::NotOne);
     };
     let Some((next, rest)) = take_u64(rest) else {
-        return Ok(None);
+        return Err(WireError::NotOne);
     };
-    Ok(Some((
-        Datagram::Ack {
-            from,
-            to,
-            epoch,
-            next,
-        },
-        rest,
-    )))
+    if !rest.is_empty() {
+        return Err(WireError::NotOne);
+    }
+    Ok(Datagram::Ack {
+        from,
+        to,
+        epoch,
+        next,
+    })
 }
 
 #[tactic(auto, unfolding(crsm_base::specs::MessageReading::request_at))]
-fn take_request(alloc: Global, bytes: &[u8]) -> Result<Option<(Datagram, &[u8])>, NoMemory>
-    ensures { IfOk result (λ r. option_map (λ x. (x.0, x.1.now)) r ≡ request_at bytes.now) }
+fn read_request(alloc: Global, bytes: &[u8]) -> Result<Datagram, WireError>
+    ensures one { IfOk result (λ datagram. whole (request_at bytes.now) ≡ Some datagram) }
+    ensures none { IsErrOf result WireError.NotOne → whole (request_at bytes.now) ≡ None }
 {
     let Some((command, rest)) = take_command(alloc, bytes)? else {
-        return Ok(None);
+        return Err(WireError::NotOne);
     };
-    Ok(Some((Datagram::Request { command }, rest)))
+    if !rest.is_empty() {
+        return Err(WireError::NotOne);
+    }
+    Ok(Datagram::Request { command })
 }
 
 #[tactic(auto, unfolding(crsm_base::specs::MessageReading::reply_at))]
-fn take_reply(alloc: Global, bytes: &[u8]) -> Result<Option<(Datagram, &[u8])>, NoMemory>
-    ensures { IfOk result (λ r. option_map (λ x. (x.0, x.1.now)) r ≡ reply_at bytes.now) }
+fn read_reply(alloc: Global, bytes: &[u8]) -> Result<Datagram, WireError>
+    ensures one { IfOk result (λ datagram. whole (reply_at bytes.now) ≡ Some datagram) }
+    ensures none { IsErrOf result WireError.NotOne → whole (reply_at bytes.now) ≡ None }
 {
     let Some((client, rest)) = take_u64(bytes) else {
-        return Ok(None);
+        return Err(WireError::NotOne);
     };
     let Some((number, rest)) = take_u64(rest) else {
-        return Ok(None);
+        return Err(WireError::NotOne);
     };
     let Some((outcome, rest)) = take_outcome(alloc, rest)? else {
-        return Ok(None);
+        return Err(WireError::NotOne);
     };
-    Ok(Some((
-        Datagram::Reply {
-            client,
-            number,
-            outcome,
-        },
-        rest,
-    )))
+    if !rest.is_empty() {
+        return Err(WireError::NotOne);
+    }
+    Ok(Datagram::Reply {
+        client,
+        number,
+        outcome,
+    })
 }
 
 #[tactic(auto, unfolding(crsm_base::specs::MessageReading::operate_at))]
-fn take_operate(alloc: Global, bytes: &[u8]) -> Result<Option<(Datagram, &[u8])>, NoMemory>
-    ensures { IfOk result (λ r. option_map (λ x. (x.0, x.1.now)) r ≡ operate_at bytes.now) }
+fn read_operate(alloc: Global, bytes: &[u8]) -> Result<Datagram, WireError>
+    ensures one { IfOk result (λ datagram. whole (operate_at bytes.now) ≡ Some datagram) }
+    ensures none { IsErrOf result WireError.NotOne → whole (operate_at bytes.now) ≡ None }
 {
     let Some((members, rest)) = take_members(alloc, bytes)? else {
-        return Ok(None);
+        return Err(WireError::NotOne);
     };
-    Ok(Some((Datagram::Operate { members }, rest)))
+    if !rest.is_empty() {
+        return Err(WireError::NotOne);
+    }
+    Ok(Datagram::Operate { members })
 }
 
 fn least_length(index: u32, count: u32) -> usize
@@ -187,34 +199,35 @@ fn greatest_length(index: u32, count: u32) -> usize
 }
 
 #[tactic(auto, unfolding(crsm_base::specs::MessageReading::part_at, crsm_base::specs::MessageReading::part_fields_at, crsm_base::specs::Parser::end_at))]
-fn take_part(alloc: Global, bytes: &[u8]) -> Result<Option<Datagram>, NoMemory>
-    ensures { IfOk result (λ r. r ≡ whole (part_at bytes.now)) }
+fn read_part(alloc: Global, bytes: &[u8]) -> Result<Datagram, WireError>
+    ensures one { IfOk result (λ datagram. whole (part_at bytes.now) ≡ Some datagram) }
+    ensures none { IsErrOf result WireError.NotOne → whole (part_at bytes.now) ≡ None }
 {
     let Some((from, rest)) = take_replica(bytes) else {
-        return Ok(None);
+        return Err(WireError::NotOne);
     };
     let Some((to, rest)) = take_replica(rest) else {
-        return Ok(None);
+        return Err(WireError::NotOne);
     };
     let Some((boot, rest)) = take_u64(rest) else {
-        return Ok(None);
+        return Err(WireError::NotOne);
     };
     let Some((number, rest)) = take_u64(rest) else {
-        return Ok(None);
+        return Err(WireError::NotOne);
     };
     let Some((index, rest)) = take_u32(rest) else {
-        return Ok(None);
+        return Err(WireError::NotOne);
     };
     let Some((count, rest)) = take_u32(rest) else {
-        return Ok(None);
+        return Err(WireError::NotOne);
     };
     if index >= count || count > MAX_PARTS {
-        return Ok(None);
+        return Err(WireError::NotOne);
     }
     if rest.len() < least_length(index, count) || rest.len() > greatest_length(index, count) {
-        return Ok(None);
+        return Err(WireError::NotOne);
     }
-    Ok(Some(Datagram::Part {
+    Ok(Datagram::Part {
         from,
         to,
         boot,
@@ -222,7 +235,7 @@ fn take_part(alloc: Global, bytes: &[u8]) -> Result<Option<Datagram>, NoMemory>
         index,
         count,
         bytes: bytes_of(alloc, rest)?,
-    }))
+    })
 }
 
 fn bytes_of(alloc: Global, slice: &[u8]) -> Result<Bytes, NoMemory>
@@ -233,35 +246,22 @@ fn bytes_of(alloc: Global, slice: &[u8]) -> Result<Bytes, NoMemory>
     Ok(bytes)
 }
 
-fn ended(taken: Option<(Datagram, &[u8])>) -> Option<Datagram>
-    ensures { result ≡ whole (option_map (λ x. (x.0, x.1.now)) taken.entry) }
-{
-    match taken {
-        None => None,
-        Some((datagram, rest)) => {
-            if rest.is_empty() {
-                Some(datagram)
-            } else {
-                None
-            }
-        }
-    }
-}
-
+/// The datagram that the bytes spell, all of them: `NotOne` exactly where they spell none.
 #[tactic(auto, unfolding(crsm_base::specs::MessageReading::datagram_at))]
-pub fn take_datagram(alloc: Global, bytes: &[u8]) -> Result<Option<Datagram>, NoMemory>
-    ensures { IfOk result (λ r. r ≡ whole (datagram_at bytes.now)) }
+pub fn read_whole(alloc: Global, bytes: &[u8]) -> Result<Datagram, WireError>
+    ensures one { IfOk result (λ datagram. whole (datagram_at bytes.now) ≡ Some datagram) }
+    ensures none { IsErrOf result WireError.NotOne → whole (datagram_at bytes.now) ≡ None }
 {
     let Some((tag, rest)) = take_u8(bytes) else {
-        return Ok(None);
+        return Err(WireError::NotOne);
     };
     match tag {
-        1 => Ok(ended(take_frame(alloc, rest)?)),
-        2 => Ok(ended(take_ack(alloc, rest)?)),
-        3 => take_part(alloc, rest),
-        4 => Ok(ended(take_request(alloc, rest)?)),
-        5 => Ok(ended(take_reply(alloc, rest)?)),
-        6 => Ok(ended(take_operate(alloc, rest)?)),
-        _ => Ok(None),
+        1 => read_frame(alloc, rest),
+        2 => read_ack(rest),
+        3 => read_part(alloc, rest),
+        4 => read_request(alloc, rest),
+        5 => read_reply(alloc, rest),
+        6 => read_operate(alloc, rest),
+        _ => Err(WireError::NotOne),
     }
 }

@@ -3,6 +3,7 @@
 
 mod datagram;
 mod fault;
+mod head;
 mod laws;
 mod put;
 mod read;

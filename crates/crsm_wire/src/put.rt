@@ -3,10 +3,11 @@
 ghost use Rattle.std.specs.Prelude.{◌≡◌, ◌<◌, ◌++◌, OnOk};
 ghost use Rattle.crsm_base.specs.Messages.{bool_bytes, control_bytes, FitsControl, payload_bytes, FitsPayload, datagram_bytes, FitsDatagram};
 
+use crate::head::{put_clock_time, put_head, put_prepare_ok};
 use crsm_base::{Bytes, Control, Datagram, InEpoch, NoMemory};
 use crsm_fields::{
     put_ballot, put_command, put_decision, put_entries, put_entry, put_members, put_option_stamp,
-    put_option_vote, put_outcome, put_stamp, put_u8, put_u32, put_u64,
+    put_option_vote, put_outcome, put_u8, put_u32, put_u64,
 };
 
 fn put_bool(flag: bool, out: &mut Bytes) -> Result<(), NoMemory>
@@ -114,15 +115,8 @@ pub fn put_payload(payload: &InEpoch, out: &mut Bytes) -> Result<(), NoMemory>
             put_u8(1, out)?;
             put_entry(entry, out)
         }
-        InEpoch::PrepareOk { stamp, at } => {
-            put_u8(2, out)?;
-            put_stamp(*stamp, out)?;
-            put_u64(*at, out)
-        }
-        InEpoch::ClockTime { at } => {
-            put_u8(3, out)?;
-            put_u64(*at, out)
-        }
+        InEpoch::PrepareOk { stamp, at } => put_prepare_ok(*stamp, *at, out),
+        InEpoch::ClockTime { at } => put_clock_time(*at, out),
     }
 }
 
@@ -140,11 +134,7 @@ pub fn put_datagram(datagram: &Datagram, out: &mut Bytes) -> Result<(), NoMemory
             seq,
             payload,
         } => {
-            put_u8(1, out)?;
-            put_u8(*from as u8, out)?;
-            put_u8(*to as u8, out)?;
-            put_u64(*epoch, out)?;
-            put_u64(*seq, out)?;
+            put_head(1, *from, *to, *epoch, *seq, out)?;
             put_payload(payload, out)
         }
         Datagram::Ack {
@@ -152,13 +142,7 @@ pub fn put_datagram(datagram: &Datagram, out: &mut Bytes) -> Result<(), NoMemory
             to,
             epoch,
             next,
-        } => {
-            put_u8(2, out)?;
-            put_u8(*from as u8, out)?;
-            put_u8(*to as u8, out)?;
-            put_u64(*epoch, out)?;
-            put_u64(*next, out)
-        }
+        } => put_head(2, *from, *to, *epoch, *next, out),
         Datagram::Part {
             from,
             to,
@@ -168,11 +152,7 @@ pub fn put_datagram(datagram: &Datagram, out: &mut Bytes) -> Result<(), NoMemory
             count,
             bytes,
         } => {
-            put_u8(3, out)?;
-            put_u8(*from as u8, out)?;
-            put_u8(*to as u8, out)?;
-            put_u64(*boot, out)?;
-            put_u64(*number, out)?;
+            put_head(3, *from, *to, *boot, *number, out)?;
             put_u32(*index, out)?;
             put_u32(*count, out)?;
             out.append(bytes.as_slice())

@@ -47,10 +47,7 @@ pub fn read_datagram(alloc: Global, bytes: &[u8]) -> Result<Datagram, WireError>
     ensures none { IsErrOf result WireError.NotOne → datagram_of bytes.now ≡ None }
     ensures again { (datagram : Datagram) → FitsDatagram datagram → bytes.now ≡ datagram_bytes datagram → IfOk result (λ r. r ≡ datagram) }
 {
-    match datagram::take_datagram(alloc, bytes)? {
-        Some(datagram) => Ok(datagram),
-        None => Err(WireError::NotOne),
-    }
+    datagram::read_whole(alloc, bytes)
 }
 
 /// Appends the one spelling of a datagram. After `NoMemory` the bytes are as before.

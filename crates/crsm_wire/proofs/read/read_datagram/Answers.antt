@@ -1,24 +1,23 @@
 use Rattle.std.proofs.Common.{sym, arith}
 use Rattle.crsm_base.specs.MessageReading.{datagram_of}
-use Rattle.crsm_base.proofs.Wholes.{all_found, all_none}
+use Rattle.crsm_base.proofs.Wholes.{all_none}
 use Rattle.crsm_base.proofs.DatagramLaws.{datagram_whole}
-use Rattle.crsm_wire.proofs.Same.{same_datagram}
+use Rattle.crsm_wire.proofs.Same.{read_is_spelt, read_is_that}
 use Rattle.crsm_wire.proofs.read.read_datagram.Goals as goal
 
-pub returns-in-Some-clause-found : goal.returns-in-Some-clause-found
-returns-in-Some-clause-found c = all_found datagram_whole c.args.bytes.now c.in-Some.datagram (λ i. omega (arith, c.type_inv.bytes i)) (rw c.in-Some.is at c.in_ok-datagram.ensures)
+pub returns-clause-found : goal.returns-clause-found
+returns-clause-found c = read_is_spelt c.args.bytes.now c.read_whole.result (λ i. omega (arith, c.type_inv.bytes i)) c.read_whole.ensures.one
 
-pub returns-in-None-clause-not_one : goal.returns-in-None-clause-not_one
-returns-in-None-clause-not_one c = λ _. all_none datagram_whole c.args.bytes.now (rw c.in-None.is at c.in_ok-datagram.ensures)
-
-pub returns-in-Some-clause-value : goal.returns-in-Some-clause-value
+pub returns-clause-value : goal.returns-clause-value
 unfolding datagram_of
-returns-in-Some-clause-value c = sym (rw c.in-Some.is at c.in_ok-datagram.ensures)
+returns-clause-value c = c.read_whole.ensures.one
 
-pub returns-in-None-clause-none : goal.returns-in-None-clause-none
-unfolding datagram_of
-returns-in-None-clause-none c = λ _. sym (rw c.in-None.is at c.in_ok-datagram.ensures)
+pub returns-clause-not_one : goal.returns-clause-not_one
+returns-clause-not_one c = λ is. all_none datagram_whole c.args.bytes.now (sym (c.read_whole.ensures.none is))
 
-pub returns-in-Some-clause-again : goal.returns-in-Some-clause-again
+pub returns-clause-none : goal.returns-clause-none
 unfolding datagram_of
-returns-in-Some-clause-again c = λ x fits is. same_datagram c.args.bytes.now c.in-Some.datagram x (sym (rw c.in-Some.is at c.in_ok-datagram.ensures)) fits is
+returns-clause-none c = c.read_whole.ensures.none
+
+pub returns-clause-again : goal.returns-clause-again
+returns-clause-again c = read_is_that c.args.bytes.now c.read_whole.result c.read_whole.ensures.one
