@@ -5,9 +5,10 @@ ghost use Rattle.std.specs.Option.{option_map};
 ghost use Rattle.crsm_base.specs.Spelling.{op_bytes, FitsOp, command_bytes, FitsCommand, entry_bytes, FitsEntry};
 ghost use Rattle.crsm_base.specs.Reading.{get_at, put_at, delete_at, cas_at, op_at, command_at, entry_at};
 
-use crate::number::{put_u8, put_u64, take_u8, take_u64};
-use crate::stamp::{put_stamp, take_stamp};
-use crate::value::{put_key, put_option_val, put_val, take_key, take_option_val, take_val};
+use crate::cells::{before_stamp, pair};
+use crate::number::{take_u8, take_u64};
+use crate::stamp::take_stamp;
+use crate::value::{put_option_val, put_tagged_key, put_val, take_key, take_option_val, take_val};
 use crsm_base::{Bytes, Command, Entry, NoMemory, Op};
 use std::alloc::Global;
 
@@ -18,22 +19,14 @@ pub fn put_op(op: &Op, out: &mut Bytes) -> Result<(), NoMemory>
     ensures { OnOk result (out.new ≡ out.old ++ op_bytes op.now) }
 {
     match op {
-        Op::Get(key) => {
-            put_u8(1, out)?;
-            put_key(key, out)
-        }
+        Op::Get(key) => put_tagged_key(1, key, out),
         Op::Put(key, val) => {
-            put_u8(2, out)?;
-            put_key(key, out)?;
+            put_tagged_key(2, key, out)?;
             put_val(val, out)
         }
-        Op::Delete(key) => {
-            put_u8(3, out)?;
-            put_key(key, out)
-        }
+        Op::Delete(key) => put_tagged_key(3, key, out),
         Op::Cas(key, expected, new) => {
-            put_u8(4, out)?;
-            put_key(key, out)?;
+            put_tagged_key(4, key, out)?;
             put_option_val(expected, out)?;
             put_option_val(new, out)
         }
@@ -46,8 +39,7 @@ pub fn put_command(command: &Command, out: &mut Bytes) -> Result<(), NoMemory>
     requires { FitsCommand command.now }
     ensures { OnOk result (out.new ≡ out.old ++ command_bytes command.now) }
 {
-    put_u64(command.client, out)?;
-    put_u64(command.number, out)?;
+    out.append(&pair(command.client, command.number))?;
     put_op(&command.op, out)
 }
 
@@ -57,8 +49,7 @@ pub fn put_entry(entry: &Entry, out: &mut Bytes) -> Result<(), NoMemory>
     requires { FitsEntry entry.now }
     ensures { OnOk result (out.new ≡ out.old ++ entry_bytes entry.now) }
 {
-    put_u64(entry.epoch, out)?;
-    put_stamp(entry.stamp, out)?;
+    out.append(&before_stamp(entry.epoch, entry.stamp))?;
     put_command(&entry.command, out)
 }
 

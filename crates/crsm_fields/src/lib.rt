@@ -1,6 +1,7 @@
 //! Appending the spelling of a field or a record to bytes, and taking one off the front of bytes.
 #![tactic(auto)]
 
+mod cells;
 mod command;
 mod decision;
 mod entries;

@@ -6,7 +6,8 @@ ghost use Rattle.crsm_base.specs.Spelling.{option_bytes, FitsOption, stamp_bytes
 ghost use Rattle.crsm_base.specs.Reading.{stamp_at, ballot_at};
 ghost use Rattle.crsm_base.specs.MessageReading.{option_stamp_at};
 
-use crate::number::{put_u8, put_u64, take_replica, take_u64};
+use crate::cells::number_and_byte;
+use crate::number::{put_u8, take_replica, take_u64};
 use crsm_base::{Ballot, Bytes, NoMemory, Stamp};
 
 /// Appends the spelling of a stamp.
@@ -15,8 +16,7 @@ pub fn put_stamp(stamp: Stamp, out: &mut Bytes) -> Result<(), NoMemory>
     requires { FitsStamp stamp }
     ensures { OnOk result (out.new ≡ out.old ++ stamp_bytes stamp) }
 {
-    put_u64(stamp.time, out)?;
-    put_u8(stamp.origin as u8, out)
+    out.append(&number_and_byte(stamp.time, stamp.origin as u8))
 }
 
 /// Appends the spelling of a stamp that may be missing.
@@ -39,8 +39,7 @@ pub fn put_ballot(ballot: Ballot, out: &mut Bytes) -> Result<(), NoMemory>
     requires { FitsBallot ballot }
     ensures { OnOk result (out.new ≡ out.old ++ ballot_bytes ballot) }
 {
-    put_u64(ballot.round, out)?;
-    put_u8(ballot.by as u8, out)
+    out.append(&number_and_byte(ballot.round, ballot.by as u8))
 }
 
 /// Takes a stamp off the front of the bytes: the value and the bytes after it.

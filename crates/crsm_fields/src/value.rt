@@ -1,6 +1,6 @@
 //! Keys and values.
 
-ghost use Rattle.std.specs.Prelude.{◌≡◌, ◌++◌, IfOk, OnOk};
+ghost use Rattle.std.specs.Prelude.{◌≡◌, ◌∷◌, ◌++◌, IfOk, OnOk};
 ghost use Rattle.std.specs.Option.{option_map};
 ghost use Rattle.crsm_base.specs.Spelling.{key_bytes, FitsKey, val_bytes, FitsVal, option_bytes, FitsOption};
 ghost use Rattle.crsm_base.specs.Reading.{key_at, val_at, option_val_at};
@@ -17,6 +17,17 @@ pub fn put_key(key: &Key, out: &mut Bytes) -> Result<(), NoMemory>
 {
     let bytes = key.as_slice();
     put_u8(bytes.len() as u8, out)?;
+    out.append(bytes)
+}
+
+/// Appends a tag and the spelling of a key behind it.
+#[tactic(auto, unfolding(crsm_base::specs::Spelling::key_bytes))]
+pub fn put_tagged_key(tag: u8, key: &Key, out: &mut Bytes) -> Result<(), NoMemory>
+    requires { FitsKey key.now }
+    ensures { OnOk result (out.new ≡ out.old ++ tag ∷ key_bytes key.now) }
+{
+    let bytes = key.as_slice();
+    out.append(&[tag, bytes.len() as u8])?;
     out.append(bytes)
 }
 

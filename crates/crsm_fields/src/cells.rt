@@ -1,0 +1,39 @@
+//! Fields of a fixed length next to one another, as the bytes that spell them.
+
+ghost use Rattle.std.specs.Prelude.{◌≡◌, ◌++◌};
+ghost use Rattle.crsm_base.specs.Spelling.{u8_bytes, u64_bytes, stamp_bytes, FitsStamp};
+
+use crsm_base::Stamp;
+
+/// Two numbers of eight bytes.
+#[tactic(auto, unfolding(crsm_base::specs::Spelling::u64_bytes))]
+pub fn pair(first: u64, second: u64) -> [u8; 16]
+    ensures { result ≡ u64_bytes first ++ u64_bytes second }
+{
+    let mut cells = [0; 16];
+    cells[..8].copy_from_slice(&first.to_be_bytes());
+    cells[8..].copy_from_slice(&second.to_be_bytes());
+    cells
+}
+
+/// A number of eight bytes and a byte.
+#[tactic(auto, unfolding(crsm_base::specs::Spelling::u64_bytes))]
+pub fn number_and_byte(number: u64, byte: u8) -> [u8; 9]
+    ensures { result ≡ u64_bytes number ++ u8_bytes byte }
+{
+    let mut cells = [byte; 9];
+    cells[..8].copy_from_slice(&number.to_be_bytes());
+    cells
+}
+
+/// A number of eight bytes and a stamp.
+#[tactic(auto, unfolding(crsm_base::specs::Spelling::u64_bytes, crsm_base::specs::Spelling::stamp_bytes))]
+pub fn before_stamp(number: u64, stamp: Stamp) -> [u8; 17]
+    requires { FitsStamp stamp }
+    ensures { result ≡ u64_bytes number ++ stamp_bytes stamp }
+{
+    let mut cells = [0; 17];
+    cells[..8].copy_from_slice(&number.to_be_bytes());
+    cells[8..].copy_from_slice(&number_and_byte(stamp.time, stamp.origin as u8));
+    cells
+}
