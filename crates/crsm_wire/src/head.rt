@@ -38,7 +38,40 @@ fn stamp_then(stamp: Stamp, number: u64) -> [u8; 17]
     cells
 }
 
-/// Appends what a datagram between two replicas begins with: its tag, the replicas and two numbers.
+/// What a datagram between two replicas begins with: its tag, the replicas and two numbers.
+pub fn head(tag: u8, from: u32, to: u32, first: u64, second: u64) -> [u8; 19]
+    requires from { from < 256 }
+    requires to { to < 256 }
+    ensures { result ≡ tag ∷ (u8_bytes from ++ (u8_bytes to ++ (u64_bytes first ++ u64_bytes second))) }
+{
+    let mut cells = [0; 19];
+    cells[0] = tag;
+    cells[1] = from as u8;
+    cells[2] = to as u8;
+    cells[3..].copy_from_slice(&pair(first, second));
+    cells
+}
+
+// the payload that a stamp was kept, behind its tag
+fn prepare_ok(stamp: Stamp, at: u64) -> [u8; 18]
+    requires { FitsStamp stamp }
+    ensures { result ≡ 2 ∷ (stamp_bytes stamp ++ u64_bytes at) }
+{
+    let mut cells = [2; 18];
+    cells[1..].copy_from_slice(&stamp_then(stamp, at));
+    cells
+}
+
+fn joined(front: &[u8; 19], back: &[u8; 18]) -> [u8; 37]
+    ensures { result ≡ front.now ++ back.now }
+{
+    let mut cells = [0; 37];
+    cells[..19].copy_from_slice(front);
+    cells[19..].copy_from_slice(back);
+    cells
+}
+
+/// Appends what a datagram between two replicas begins with.
 pub fn put_head(
     tag: u8,
     from: u32,
@@ -51,25 +84,23 @@ pub fn put_head(
     requires to { to < 256 }
     ensures { OnOk result (out.new ≡ out.old ++ tag ∷ (u8_bytes from ++ (u8_bytes to ++ (u64_bytes first ++ u64_bytes second)))) }
 {
-    let mut cells = [0u8; 19];
-    cells[0] = tag;
-    cells[1] = from as u8;
-    cells[2] = to as u8;
-    cells[3..].copy_from_slice(&pair(first, second));
-    out.append(&cells)
+    out.append(&head(tag, from, to, first, second))
 }
 
-/// Appends the spelling of the payload that a stamp was kept, behind its tag.
-pub fn put_prepare_ok(stamp: Stamp, at: u64, out: &mut Bytes) -> Result<(), NoMemory>
+/// Appends the head of a frame and the payload that a stamp was kept.
+pub fn put_prepare_ok(
+    front: &[u8; 19],
+    stamp: Stamp,
+    at: u64,
+    out: &mut Bytes,
+) -> Result<(), NoMemory>
     requires { FitsStamp stamp }
-    ensures { OnOk result (out.new ≡ out.old ++ 2 ∷ (stamp_bytes stamp ++ u64_bytes at)) }
+    ensures { OnOk result (out.new ≡ out.old ++ (front.now ++ 2 ∷ (stamp_bytes stamp ++ u64_bytes at))) }
 {
-    let mut cells = [2; 18];
-    cells[1..].copy_from_slice(&stamp_then(stamp, at));
-    out.append(&cells)
+    out.append(&joined(front, &prepare_ok(stamp, at)))
 }
 
-/// Appends the spelling of the payload that tells a clock's time, behind its tag.
+/// Appends the payload that tells a clock's time, behind its tag.
 pub fn put_clock_time(at: u64, out: &mut Bytes) -> Result<(), NoMemory>
     ensures { OnOk result (out.new ≡ out.old ++ 3 ∷ u64_bytes at) }
 {

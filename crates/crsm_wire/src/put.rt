@@ -3,7 +3,7 @@
 ghost use Rattle.std.specs.Prelude.{◌≡◌, ◌<◌, ◌++◌, OnOk};
 ghost use Rattle.crsm_base.specs.Messages.{bool_bytes, control_bytes, FitsControl, payload_bytes, FitsPayload, datagram_bytes, FitsDatagram};
 
-use crate::head::{put_clock_time, put_head, put_prepare_ok};
+use crate::head::{head, put_clock_time, put_head, put_prepare_ok};
 use crsm_base::{Bytes, Control, Datagram, InEpoch, NoMemory};
 use crsm_fields::{
     put_ballot, put_command, put_decision, put_entries, put_entry, put_members, put_option_stamp,
@@ -105,18 +105,23 @@ pub fn put_control(control: &Control, out: &mut Bytes) -> Result<(), NoMemory>
     }
 }
 
+// what a frame begins with, and its payload
 #[tactic(auto, unfolding(crsm_base::specs::Messages::payload_bytes))]
-pub fn put_payload(payload: &InEpoch, out: &mut Bytes) -> Result<(), NoMemory>
+fn put_frame(front: &[u8; 19], payload: &InEpoch, out: &mut Bytes) -> Result<(), NoMemory>
     requires { FitsPayload payload.now }
-    ensures { OnOk result (out.new ≡ out.old ++ payload_bytes payload.now) }
+    ensures { OnOk result (out.new ≡ out.old ++ (front.now ++ payload_bytes payload.now)) }
 {
     match payload {
         InEpoch::Prepare { entry } => {
+            out.append(front)?;
             put_u8(1, out)?;
             put_entry(entry, out)
         }
-        InEpoch::PrepareOk { stamp, at } => put_prepare_ok(*stamp, *at, out),
-        InEpoch::ClockTime { at } => put_clock_time(*at, out),
+        InEpoch::PrepareOk { stamp, at } => put_prepare_ok(front, *stamp, *at, out),
+        InEpoch::ClockTime { at } => {
+            out.append(front)?;
+            put_clock_time(*at, out)
+        }
     }
 }
 
@@ -134,8 +139,8 @@ pub fn put_datagram(datagram: &Datagram, out: &mut Bytes) -> Result<(), NoMemory
             seq,
             payload,
         } => {
-            put_head(1, *from, *to, *epoch, *seq, out)?;
-            put_payload(payload, out)
+            let front = head(1, *from, *to, *epoch, *seq);
+            put_frame(&front, payload, out)
         }
         Datagram::Ack {
             from,
