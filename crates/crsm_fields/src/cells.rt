@@ -1,6 +1,6 @@
 //! Fields of a fixed length next to one another, as the bytes that spell them.
 
-ghost use Rattle.std.specs.Prelude.{◌≡◌, ◌++◌};
+ghost use Rattle.std.specs.Prelude.{◌≡◌, ◌∷◌, ◌++◌};
 ghost use Rattle.crsm_base.specs.Spelling.{u8_bytes, u64_bytes, stamp_bytes, FitsStamp};
 
 use crsm_base::Stamp;
@@ -13,6 +13,17 @@ pub fn pair(first: u64, second: u64) -> [u8; 16]
     let mut cells = [0; 16];
     cells[..8].copy_from_slice(&first.to_be_bytes());
     cells[8..].copy_from_slice(&second.to_be_bytes());
+    cells
+}
+
+/// Two numbers of eight bytes and two of one byte.
+#[tactic(auto, unfolding(crsm_base::specs::Spelling::u64_bytes))]
+pub fn pair_and_bytes(first: u64, second: u64, third: u8, fourth: u8) -> [u8; 18]
+    ensures { result ≡ u64_bytes first ++ (u64_bytes second ++ third ∷ u8_bytes fourth) }
+{
+    let mut cells = [fourth; 18];
+    cells[..16].copy_from_slice(&pair(first, second));
+    cells[16] = third;
     cells
 }
 

@@ -1,15 +1,15 @@
 //! Operations, commands and entries.
 
-ghost use Rattle.std.specs.Prelude.{◌≡◌, ◌++◌, IfOk, OnOk};
+ghost use Rattle.std.specs.Prelude.{◌≡◌, ◌∷◌, ◌++◌, IfOk, OnOk};
 ghost use Rattle.std.specs.Option.{option_map};
-ghost use Rattle.crsm_base.specs.Spelling.{op_bytes, FitsOp, command_bytes, FitsCommand, entry_bytes, FitsEntry};
+ghost use Rattle.crsm_base.specs.Spelling.{u64_bytes, key_bytes, FitsKey, op_bytes, FitsOp, command_bytes, FitsCommand, entry_bytes, FitsEntry};
 ghost use Rattle.crsm_base.specs.Reading.{get_at, put_at, delete_at, cas_at, op_at, command_at, entry_at};
 
-use crate::cells::{before_stamp, pair};
+use crate::cells::{before_stamp, pair_and_bytes};
 use crate::number::{take_u8, take_u64};
 use crate::stamp::take_stamp;
 use crate::value::{put_option_val, put_tagged_key, put_val, take_key, take_option_val, take_val};
-use crsm_base::{Bytes, Command, Entry, NoMemory, Op};
+use crsm_base::{Bytes, Command, Entry, Key, NoMemory, Op};
 use std::alloc::Global;
 
 /// Appends the spelling of an operation.
@@ -33,14 +33,37 @@ pub fn put_op(op: &Op, out: &mut Bytes) -> Result<(), NoMemory>
     }
 }
 
+// the numbers of a command, the tag of its operation and the key
+#[tactic(auto, unfolding(crsm_base::specs::Spelling::key_bytes))]
+fn put_front(command: &Command, tag: u8, key: &Key, out: &mut Bytes) -> Result<(), NoMemory>
+    requires { FitsKey key.now }
+    ensures { OnOk result (out.new ≡ out.old ++ (u64_bytes command.now.client ++ (u64_bytes command.now.number ++ tag ∷ key_bytes key.now))) }
+{
+    let bytes = key.as_slice();
+    let front = pair_and_bytes(command.client, command.number, tag, bytes.len() as u8);
+    out.append(&front)?;
+    out.append(bytes)
+}
+
 /// Appends the spelling of a command.
-#[tactic(auto, unfolding(crsm_base::specs::Spelling::command_bytes))]
+#[tactic(auto, unfolding(crsm_base::specs::Spelling::command_bytes, crsm_base::specs::Spelling::op_bytes))]
 pub fn put_command(command: &Command, out: &mut Bytes) -> Result<(), NoMemory>
     requires { FitsCommand command.now }
     ensures { OnOk result (out.new ≡ out.old ++ command_bytes command.now) }
 {
-    out.append(&pair(command.client, command.number))?;
-    put_op(&command.op, out)
+    match &command.op {
+        Op::Get(key) => put_front(command, 1, key, out),
+        Op::Put(key, val) => {
+            put_front(command, 2, key, out)?;
+            put_val(val, out)
+        }
+        Op::Delete(key) => put_front(command, 3, key, out),
+        Op::Cas(key, expected, new) => {
+            put_front(command, 4, key, out)?;
+            put_option_val(expected, out)?;
+            put_option_val(new, out)
+        }
+    }
 }
 
 /// Appends the spelling of an entry.

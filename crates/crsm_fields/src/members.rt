@@ -32,7 +32,7 @@ pub fn put_members(members: &Members, out: &mut Bytes) -> Result<(), NoMemory>
 fn widened(alloc: Global, bytes: &[u8]) -> Result<Vec<u32>, NoMemory>
     ensures { IfOk result (λ v. v.items ≡ bytes.now) }
 {
-    let mut numbers = Vec::new(alloc);
+    let mut numbers = Vec::with_capacity(alloc, bytes.len())?;
     for byte in bytes {
         numbers.push(u32::from(*byte))?;
     }
