@@ -242,6 +242,7 @@ fn bytes_of(alloc: Global, slice: &[u8]) -> Result<Bytes, NoMemory>
     ensures { IfOk result (λ bytes. bytes ≡ slice.now) }
 {
     let mut bytes = Bytes::new(alloc);
+    bytes.reserve(slice.len())?;
     bytes.append(slice)?;
     Ok(bytes)
 }
