@@ -1,9 +1,10 @@
 -- One record more is one call more.
-use Rattle.std.proofs.Common.{◌≡◌, ℕ, ◌+◌, ◌≤◌, List, [], ◌∷◌, ◌++◌, length, take, drop, refl, ◌∙◌, ap, arith, length-drop, length-take}
-use Rattle.std.proofs.lemmas.List.{take_all, nil_from_length, take-append-le, drop-append-le}
-use Rattle.crsm_image.specs.Calls.{Call, wrote, cut, synced}
-use Rattle.crsm_image.specs.Image.{painted, ranged}
-use Rattle.crsm_disk.specs.Records.{told, total, painted_by}
+use Rattle.std.proofs.Common.{◌≡◌, ℕ, zero, suc, Bool, true, false, ◌+◌, ◌-◌, ◌≤◌, ◌<◌, List, [], ◌∷◌, ◌++◌, length, take, drop, refl, ◌∙◌, ap, sym, subst, arith, length-drop, length-take}
+use Rattle.std.proofs.Math.ListN.{get_or}
+use Rattle.std.proofs.lemmas.List.{drop_more, take_all, nil_from_length, take-append-le, drop-append-le}
+use Rattle.crsm_image.specs.Calls.{Call, wrote, cut, synced, contents}
+use Rattle.crsm_image.specs.Image.{painted, ranged, image_of}
+use Rattle.crsm_disk.specs.Records.{told, total, painted_by, painted_on, syncs}
 use Rattle.crsm_disk.specs.declared.record.Record.{Record}
 use Rattle.crsm_disk.specs.declared.record.Record.TheVariants.{Write, Cut, Sync}
 
@@ -59,3 +60,57 @@ painted_told (Write a k ∷ rs) ws calls fill bytes le =
     ∙ painted_told rs (drop k ws) (wrote a (take k ws) ∷ calls) fill bytes (omega (arith, length-drop k ws, le))
 painted_told (Cut m ∷ rs) ws calls fill bytes le = painted_told rs ws (cut m ∷ calls) fill bytes le
 painted_told (Sync ∷ rs) ws calls fill bytes le = painted_told rs ws (synced ∷ calls) fill bytes le
+
+-- what is painted by these records starts from nothing that was synced among them
+abbrev pub HasNoSync : List Record → Type 0
+HasNoSync rs = (fill : ℕ) (bytes image : List ℕ) → painted_by rs fill bytes image ≡ painted_on rs fill image
+
+-- one record more, that is no sync
+pub one_unsynced : (r : Record) (rs : List Record) → syncs r ≡ false → HasNoSync rs → HasNoSync (r ∷ rs)
+unfolding syncs
+one_unsynced (Write a k) rs is none fill bytes image = none fill bytes (ranged a k fill image)
+one_unsynced (Cut m) rs is none fill bytes image = none fill bytes image
+one_unsynced Sync rs is none fill bytes image = absurd (let no : ⊥ = cc in no)
+
+-- behind a sync the bytes are painted anew
+pub behind_sync : (rs : List Record) (i : ℕ) (r : Record) (rest : List Record) → drop i rs ≡ r ∷ rest → syncs r ≡ true → (fill : ℕ) (bytes image : List ℕ) → painted_by rs fill bytes image ≡ painted_by rest fill bytes bytes
+unfolding syncs
+behind_sync [] zero r rest is sync fill bytes image = absurd (let no : ⊥ = cc in no)
+behind_sync [] (suc i) r rest is sync fill bytes image = absurd (let no : ⊥ = cc in no)
+behind_sync (Write a k ∷ rs) zero r rest is sync fill bytes image = absurd (let no : ⊥ = cc in no)
+behind_sync (Cut m ∷ rs) zero r rest is sync fill bytes image = absurd (let no : ⊥ = cc in no)
+behind_sync (Sync ∷ rs) zero r rest is sync fill bytes image = let same : rs ≡ rest = cc in ap (λ (l : List Record). painted_by l fill bytes bytes) same
+behind_sync (Write a k ∷ rs) (suc i) r rest is sync fill bytes image = behind_sync rs i r rest is sync fill bytes (ranged a k fill image)
+behind_sync (Cut m ∷ rs) (suc i) r rest is sync fill bytes image = behind_sync rs i r rest is sync fill bytes image
+behind_sync (Sync ∷ rs) (suc i) r rest is sync fill bytes image = behind_sync rs i r rest is sync fill bytes bytes
+
+-- the last of the records before a place, and those from it on
+pub from_before : (rs : List Record) (i : ℕ) (d : Record) → 0 < i → i ≤ length rs → drop (i - 1) rs ≡ get_or rs (i - 1) d ∷ drop i rs
+from_before rs i d some within =
+    let back : (i - 1) + 1 ≡ i = omega (arith, some) in
+    drop_more rs (i - 1) d (omega (arith, some, within)) ∙ ap (λ (j : ℕ). get_or rs (i - 1) d ∷ drop j rs) back
+
+pub rest_of : (rs : List Record) (i : ℕ) → take (length rs - i) (drop i rs) ≡ drop i rs
+rest_of rs i = take_all (length rs - i) (drop i rs) (omega (arith, length-drop i rs))
+
+-- a place further back, where no sync stands
+pub no_sync_back : (rs : List Record) (i : ℕ) (d : Record) → 0 < i → i ≤ length rs → syncs (get_or rs (i - 1) d) ≡ false → HasNoSync (drop i rs) → HasNoSync (drop (i - 1) rs)
+no_sync_back rs i d some within none behind =
+    subst HasNoSync (sym (from_before rs i d some within)) (one_unsynced (get_or rs (i - 1) d) (drop i rs) none behind)
+
+-- what is painted behind the last sync is the whole image
+pub painted_behind : (rs : List Record) (i : ℕ) (d : Record) → 0 < i → i ≤ length rs → syncs (get_or rs (i - 1) d) ≡ true → HasNoSync (drop i rs) → (fill : ℕ) (bytes : List ℕ) → painted_by rs fill bytes bytes ≡ painted_on (take (length rs - i) (drop i rs)) fill bytes
+painted_behind rs i d some within sync behind fill bytes =
+    behind_sync rs (i - 1) (get_or rs (i - 1) d) (drop i rs) (from_before rs i d some within) sync fill bytes bytes
+    ∙ behind fill bytes bytes ∙ ap (λ (l : List Record). painted_on l fill bytes) (sym (rest_of rs i))
+
+-- where none is, that is all of it
+pub painted_all : (rs : List Record) (i : ℕ) → i ≡ 0 → HasNoSync (drop i rs) → (fill : ℕ) (bytes : List ℕ) → painted_by rs fill bytes bytes ≡ painted_on (take (length rs - i) (drop i rs)) fill bytes
+painted_all rs i none behind fill bytes =
+    ap (λ (j : ℕ). painted_by (drop j rs) fill bytes bytes) (sym none)
+    ∙ behind fill bytes bytes ∙ ap (λ (l : List Record). painted_on l fill bytes) (sym (rest_of rs i))
+
+-- the bytes of a disk, painted by its records, are the image by its calls
+pub painted_is_image : (rs : List Record) (ws first bytes : List ℕ) (fill : ℕ) → length ws ≡ total rs → bytes ≡ contents first (told rs ws []) → painted_by rs fill bytes bytes ≡ image_of first (told rs ws []) fill
+painted_is_image rs ws first bytes fill sizes made =
+    painted_told rs ws [] fill bytes (omega (arith, sizes)) ∙ ap (painted (told rs ws []) fill) made

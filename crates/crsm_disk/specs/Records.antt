@@ -1,5 +1,5 @@
 -- How a disk in memory keeps its calls.
-use Rattle.std.specs.Prelude.{ℕ, ◌+◌, List, [], ◌∷◌, take, drop}
+use Rattle.std.specs.Prelude.{ℕ, ◌+◌, List, [], ◌∷◌, take, drop, Bool, true, false}
 use Rattle.crsm_image.specs.Calls.{Call, wrote, cut, synced}
 use Rattle.crsm_image.specs.Image.{ranged}
 use Rattle.crsm_disk.specs.declared.record.Record.{Record}
@@ -25,3 +25,15 @@ painted_by [] fill bytes image = image
 painted_by (Write at count ∷ records) fill bytes image = painted_by records fill bytes (ranged at count fill image)
 painted_by (Cut len ∷ records) fill bytes image = painted_by records fill bytes image
 painted_by (Sync ∷ records) fill bytes image = painted_by records fill bytes bytes
+
+-- bytes with the fill in the ranges that were written, whatever was synced
+abbrev pub painted_on : List Record → ℕ → List ℕ → List ℕ
+painted_on [] fill image = image
+painted_on (Write at count ∷ records) fill image = painted_on records fill (ranged at count fill image)
+painted_on (Cut len ∷ records) fill image = painted_on records fill image
+painted_on (Sync ∷ records) fill image = painted_on records fill image
+
+unfoldable pub syncs : Record → Bool
+syncs (Write at count) = false
+syncs (Cut len) = false
+syncs Sync = true

@@ -1,13 +1,11 @@
 //! What the calls of a disk in memory make of its bytes.
 
-ghost use Rattle.std.specs.Prelude.{◌≡◌, ◌+◌, ◌-◌, ◌≤◌, length, vec_len, vec_capacity, IfOk};
+ghost use Rattle.std.specs.Prelude.{◌≡◌, ◌+◌, ◌-◌, ◌≤◌, ℕ, List, length, vec_len, vec_capacity};
 ghost use Rattle.crsm_image.specs.Bytes.{overwritten, ReadsAt};
 ghost use Rattle.crsm_image.specs.Image.{ranged};
-ghost use Rattle.crsm_disk.specs.Records.{painted_by};
+ghost use Rattle.crsm_disk.specs.Records.{painted_by, painted_on};
 
-use crate::record::Record;
-use crsm_base::NoMemory;
-use std::alloc::Global;
+use crate::record::{Record, is_sync};
 
 // As many bytes from a place on as there are and fit.
 pub(crate) fn copy(bytes: &[u8], at: u64, buf: &mut [u8]) -> usize
@@ -35,24 +33,26 @@ pub(crate) fn overwrite(bytes: &mut Vec<u8>, at: usize, piece: &[u8])
     }
 }
 
-// These bytes, with the fill in the ranges that were written since the last sync.
-pub(crate) fn image_bytes(
-    alloc: Global,
-    bytes: &[u8],
-    records: &[Record],
-    fill: u8,
-) -> Result<Vec<u8>, NoMemory>
-    ensures { IfOk result (λ v. v.items ≡ painted_by records.now fill bytes.now bytes.now) }
+// Puts the fill in the ranges that were written since the last sync.
+pub(crate) fn paint_unsynced(image: &mut [u8], records: &[Record], fill: u8)
+    ensures { image.new ≡ painted_by records.now fill image.old image.old }
 {
-    let mut image = Vec::from_slice(alloc, bytes)?;
-    for record in records {
-        match record {
-            Record::Write { at, count } => paint(&mut image, *at as usize, *count, fill),
-            Record::Cut { .. } => {}
-            Record::Sync => image.copy_from_slice(bytes),
+    for record in unsynced(records) {
+        if let Record::Write { at, count } = record {
+            paint(image, *at as usize, *count, fill);
         }
     }
-    Ok(image)
+}
+
+// The records behind the last sync: mostly none, so they are sought from the end.
+fn unsynced(records: &[Record]) -> &[Record]
+    ensures { (fill : ℕ) (bytes : List ℕ) → painted_by records.now fill bytes bytes ≡ painted_on result.now fill bytes }
+{
+    let mut from = records.len();
+    while from > 0 && !is_sync(&records[from - 1]) {
+        from -= 1;
+    }
+    &records[from..]
 }
 
 fn paint(image: &mut [u8], at: usize, count: usize, fill: u8)

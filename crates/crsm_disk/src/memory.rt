@@ -9,7 +9,7 @@ ghost use Rattle.crsm_image.specs.Image.{IsImage, image_of};
 ghost use Rattle.crsm_disk.specs.Memory.{good_left, meaning_of};
 
 use crate::Disk;
-use crate::content::{copy, image_bytes, overwrite};
+use crate::content::{copy, overwrite, paint_unsynced};
 use crate::record::{Record, note_write};
 use crsm_base::{Failed, NoMemory};
 use crsm_device::{Failures, raise};
@@ -91,7 +91,8 @@ impl MemDisk {
         ensures exact { IfOk result (λ d. d ≡ record { first = image_of self.now.first self.now.calls self.now.fill; calls = []; failing = record { calls = 0; listed = [] }; stop = None; fill = self.now.fill; faults = 0; room_calls = 0; room_bytes = 0 }) }
     {
         let alloc = self.alloc;
-        let bytes = image_bytes(alloc, &self.bytes, &self.records, self.fill)?;
+        let mut bytes = Vec::from_slice(alloc, &self.bytes)?;
+        paint_unsynced(&mut bytes, &self.records, self.fill);
         Ok(MemDisk {
             alloc,
             first: Vec::from_slice(alloc, &bytes)?,
@@ -105,6 +106,25 @@ impl MemDisk {
             room_calls: 0,
             room_bytes: 0,
         })
+    }
+
+    /// The disk as a crash leaves it: what `image` makes, of this disk's own memory.
+    pub fn into_image(self) -> Result<MemDisk, NoMemory>
+        ensures one { IfOk result (λ d. IsImage self.first self.calls d.first) }
+        ensures exact { IfOk result (λ d. d ≡ record { first = image_of self.first self.calls self.fill; calls = []; failing = record { calls = 0; listed = [] }; stop = None; fill = self.fill; faults = 0; room_calls = 0; room_bytes = 0 }) }
+    {
+        let mut disk = self;
+        paint_unsynced(&mut disk.bytes, &disk.records, disk.fill);
+        disk.first.clear();
+        disk.first.extend_from_slice(&disk.bytes)?;
+        disk.records.clear();
+        disk.written.clear();
+        disk.failures = Failures::new(disk.alloc, &[])?;
+        disk.stop = None;
+        disk.faults = 0;
+        disk.room_calls = 0;
+        disk.room_bytes = 0;
+        Ok(disk)
     }
 
     // Counts a call, and says whether it goes well.

@@ -1,6 +1,7 @@
 //! How a disk in memory keeps its calls.
 
 ghost use Rattle.std.specs.Prelude.{◌≡◌, ◌+◌, ◌<◌, ◌≤◌, ◌++◌, ◌∷◌, [], length, vec_len, vec_capacity};
+ghost use Rattle.crsm_disk.specs.Records.{syncs};
 ghost use Rattle.crsm_disk.specs.declared.record.Record.TheVariants.{Write};
 
 // A call that went well. The bytes of a write stand in a list of their own, one write behind another.
@@ -9,6 +10,13 @@ pub(crate) enum Record {
     Write { at: u64, count: usize },
     Cut { len: u64 },
     Sync,
+}
+
+#[tactic(auto, unfolding(crate::specs::Records::syncs))]
+pub(crate) fn is_sync(call: &Record) -> bool
+    ensures { result ≡ syncs call.now }
+{
+    matches!(call, Record::Sync)
 }
 
 // Records a write.

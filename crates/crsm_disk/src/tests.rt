@@ -30,6 +30,7 @@ fn unsynced_ranges_hold_the_fill(rt: HostRuntime) -> Result<(), Fail> {
     );
     assert_eq!(rt; disk.bytes(), [0, 1, 2, 4].as_slice());
     assert_eq!(rt; disk.calls(), 6);
+    assert_eq!(rt; disk.into_image()?.bytes(), [0, 1, 2, 7].as_slice());
     Ok(())
 }
 
