@@ -47,8 +47,8 @@ last_stamp_in-push x es e =
     ∙ stamped_by_test (e.epoch == x) e (filter (λ f. f.epoch == x) es)
 
 -- the fields after an entry more
-pub executes : (h : History) (x : ℕ) (es : List Entry) (e : Entry) (spelt : List (List ℕ)) (rows : Rows) (last : Option Position) (last_stamp : Option Stamp) → HasExecuted h x es → FitsEntry e → spelt ≡ h.spelt ++ entry_bytes e ∷ [] → rows ≡ (apply h.store e.command).0 → last ≡ Some (record { epoch = e.epoch; stamp = e.stamp }) → last_stamp ≡ (if e.epoch == h.epoch then Some e.stamp else h.last_stamp) → HasExecuted (record h { spelt = spelt; store = rows; last = last; last_stamp = last_stamp }) x (es ++ e ∷ [])
-executes h x es e spelt rows last last_stamp before fits s r l t = record {
+pub executes : (h : History) (x : ℕ) (es : List Entry) (e : Entry) (spelt : List (List ℕ)) (spelling : List ℕ) (rows : Rows) (last : Option Position) (last_stamp : Option Stamp) → HasExecuted h x es → FitsEntry e → spelt ≡ h.spelt ++ entry_bytes e ∷ [] → rows ≡ (apply h.store e.command).0 → last ≡ Some (record { epoch = e.epoch; stamp = e.stamp }) → last_stamp ≡ (if e.epoch == h.epoch then Some e.stamp else h.last_stamp) → HasExecuted (record h { spelt = spelt; spelling = spelling; store = rows; last = last; last_stamp = last_stamp }) x (es ++ e ∷ [])
+executes h x es e spelt spelling rows last last_stamp before fits s r l t = record {
   spelt = s ∙ ap (λ bytes. bytes ++ entry_bytes e ∷ []) before.spelt ∙ sym (map-push entry_bytes es e);
   rows = r ∙ ap (λ rows. (apply rows e.command).0) before.rows ∙ sym (after-push es e);
   last = l ∙ sym (position_of-push es e);

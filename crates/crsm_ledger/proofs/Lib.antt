@@ -8,3 +8,4 @@ pub mod FitsLemmas
 pub mod StepLemmas
 pub mod KeepLemmas
 pub mod RecoverLemmas
+pub mod TakenLemmas

@@ -68,3 +68,7 @@ pub kept-more : (me n : ℕ) (items : List (List ℕ)) (i : ℕ) (item body : Li
 kept-more me n items i item body log recs more same kept spelt fit =
     subst (λ (front : List (List ℕ)). AreKept me n [] front (with_records log recs)) (sym more)
     (kept-push me n [] log (take i items) item recs kept (subst (λ (b : List ℕ). SpeltBody recs b) same spelt) fit)
+
+-- what is said of an answer that is this error
+pub refused_as : (r : Result (Unit {0}) LedgerError) (e : LedgerError) (P : Type 0) (B : ℕ → ℕ → Type 0) → r ≡ Err e → IfBadLog e B → MatchResult r (λ _. P) (λ e. IfBadLog e B)
+refused_as r e P B is bad = subst (λ (a : Result (Unit {0}) LedgerError). MatchResult a (λ _. P) (λ e. IfBadLog e B)) (sym is) bad

@@ -84,6 +84,11 @@ Keeps old rec result new =
     (me n : ℕ) (log : Log) → Says me n old log → fits me n log rec ≡ true →
     IfOk result (λ lines. (lines ≡ lines_of me log rec) × Says me n new (rec ∷ log))
 
+-- Where the old ledger says what a log says behind which the record fits, the new one says what the log with the record says.
+abbrev pub Follows : Ledger → Rec → Ledger → Type 0
+Follows old rec new =
+    (me n : ℕ) (log : Log) → Says me n old log → fits me n log rec ≡ true → Says me n new (rec ∷ log)
+
 -- memory ran out while a record was applied, and the fields say nothing
 abbrev pub IsSpent : Ledger → Type 0
 IsSpent ledger = ledger.is_spent ≡ true

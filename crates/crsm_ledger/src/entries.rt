@@ -7,8 +7,7 @@ ghost use Rattle.crsm_base.specs.Spelling.{FitsEntry, FitsEntries, FitsDecision}
 ghost use Rattle.crsm_spec.specs.Lines.{lines_of};
 ghost use Rattle.crsm_ledger.specs.Stands.{Keeps};
 
-use crate::ledger::{Ledger, NO_BALLOT};
-use crate::logged::Logged;
+use crate::ledger::Ledger;
 use crate::steps::one_line;
 use crsm_base::{Decision, Entries, Entry, Line, Lines, NoMemory};
 
@@ -20,7 +19,7 @@ impl Ledger {
     {
         let lines = one_line(self.alloc, prepare_line(self.me, entry))?;
         let copy = entry.copy(self.alloc)?;
-        self.logged.insert(copy)?;
+        self.follow_prepare(copy)?;
         Ok(lines)
     }
 
@@ -63,15 +62,7 @@ impl Ledger {
             count,
         };
         let lines = one_line(self.alloc, line)?;
-        self.known = known;
-        self.start = decision.base_len + count;
-        self.is_live = false;
-        self.is_suspended = false;
-        self.has_entered = false;
-        self.promised = NO_BALLOT;
-        self.accepted = None;
-        self.logged = Logged::new(self.alloc);
-        self.history.begin_epoch(decision.epoch);
+        self.follow_decide(known);
         Ok(lines)
     }
 }

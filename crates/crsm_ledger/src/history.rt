@@ -5,11 +5,12 @@ ghost use Rattle.std.specs.List.{AllByRecursion};
 ghost use Rattle.std.specs.Option.{option_copied, option_map};
 ghost use Rattle.crsm_base.specs.declared.Entry.{Entry};
 ghost use Rattle.crsm_base.specs.Spelling.{FitsEntry, entry_bytes};
+ghost use Rattle.crsm_base.specs.Store.{apply};
 ghost use Rattle.crsm_spec.specs.Lines.{exec_line, exec_lines};
 ghost use Rattle.crsm_ledger.specs.Executed.{HasExecuted, position_of, last_stamp_in};
 
 use crate::spelt::Spelt;
-use crsm_base::{Bytes, Entry, Line, Lines, NoMemory, Stamp};
+use crsm_base::{Answer, Bytes, Entry, Line, Lines, NoMemory, Stamp};
 use crsm_codec::read_entry;
 use crsm_fields::put_entry;
 use crsm_kv::Store;
@@ -27,6 +28,8 @@ pub struct Position {
 pub struct History {
     alloc: Global,
     spelt: Spelt,
+    // Where an entry is spelt before it is kept.
+    spelling: Bytes,
     store: Store,
     last: Option<Position>,
     /// The known epoch.
@@ -45,6 +48,7 @@ impl History {
         Ok(History {
             alloc,
             spelt: Spelt::new(alloc),
+            spelling: Bytes::new(alloc),
             store: Store::new(alloc)?,
             last: None,
             epoch: 0,
@@ -104,17 +108,7 @@ impl History {
         ensures { (x : ℕ) (es : List Entry) → HasExecuted self.old x es → OnOk result (HasExecuted self.new x (es ++ entry.now ∷ []) × (lines.new ≡ lines.old ++ exec_line me es entry.now ∷ [])) }
     {
         let place = self.spelt.len() as u64;
-        let mut bytes = Bytes::new(self.alloc);
-        put_entry(entry, &mut bytes)?;
-        self.spelt.push(bytes.as_slice())?;
-        let answer = self.store.apply(&entry.command)?;
-        self.last = Some(Position {
-            epoch: entry.epoch,
-            stamp: entry.stamp,
-        });
-        if entry.epoch == self.epoch {
-            self.last_stamp = Some(entry.stamp);
-        }
+        let answer = self.run(entry)?;
         lines.push(Line::Exec {
             replica: me,
             place,
@@ -124,6 +118,37 @@ impl History {
             number: entry.command.number,
             answer,
         })
+    }
+
+    /// Executes an entry, and gives the store's answer.
+    pub fn run(&mut self, entry: &Entry) -> Result<Answer, NoMemory>
+        requires { FitsEntry entry.now }
+        ensures executed { (x : ℕ) (es : List Entry) → HasExecuted self.old x es → OnOk result (HasExecuted self.new x (es ++ entry.now ∷ [])) }
+        ensures answer { IfOk result (λ answer. answer ≡ (apply self.old.store entry.now.command).1) }
+    {
+        self.spelling.clear();
+        put_entry(entry, &mut self.spelling)?;
+        self.spelt.push(self.spelling.as_slice())?;
+        let answer = self.store.apply(&entry.command)?;
+        self.last = Some(Position {
+            epoch: entry.epoch,
+            stamp: entry.stamp,
+        });
+        if entry.epoch == self.epoch {
+            self.last_stamp = Some(entry.stamp);
+        }
+        Ok(answer)
+    }
+
+    /// Executes entries whose lines nobody asks for.
+    pub fn run_all(&mut self, entries: &[Entry]) -> Result<(), NoMemory>
+        requires { AllByRecursion FitsEntry entries.now }
+        ensures { (x : ℕ) (es : List Entry) → HasExecuted self.old x es → OnOk result (HasExecuted self.new x (es ++ entries.now)) }
+    {
+        for entry in entries {
+            let _answer = self.run(entry)?;
+        }
+        Ok(())
     }
 
     /// Executes entries, and adds their lines.

@@ -227,7 +227,7 @@ impl Ledger {
 
 /// The record's kind, its first byte.
 #[tactic(auto, unfolding(crate::specs::Stands::kind))]
-fn kind_of(rec: &Rec) -> u32
+pub(crate) fn kind_of(rec: &Rec) -> u32
     ensures { result ≡ kind rec.now }
 {
     match rec {

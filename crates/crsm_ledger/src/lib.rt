@@ -4,6 +4,7 @@
 mod checks;
 mod entries;
 mod error;
+mod follow;
 mod history;
 mod ledger;
 mod logged;

@@ -1,16 +1,16 @@
 //! A ledger from the bodies of a log.
 
 ghost use Rattle.std.specs.Prelude.{◌≡◌, ◌<◌, ◌≤◌, ℕ, [], List, IfOk, IfErr};
-ghost use Rattle.std.specs.List.{AllByRecursion};
 ghost use Rattle.crsm_base.specs.declared.Rec.{Rec};
 ghost use Rattle.crsm_base.specs.Records.{FitsRec};
 ghost use Rattle.crsm_ledger.specs.Stands.{StandsFor};
-ghost use Rattle.crsm_ledger.specs.Recovered.{AreKept, IfBadLog, IsBadAt, TakesBody, TakesRecord, TakesRecords};
+ghost use Rattle.crsm_ledger.specs.Recovered.{AreKept, IfBadLog, IsBadAt, TakesBody, TakesRecord};
 
 use crate::error::LedgerError;
-use crate::ledger::Ledger;
+use crate::ledger::{Ledger, kind_of};
 use crsm_base::{Bodies, Rec};
 use crsm_codec::read_recs;
+use crsm_fields::take_rec;
 use std::alloc::Global;
 
 impl Ledger {
@@ -37,32 +37,35 @@ impl Ledger {
     fn take_body(&mut self, entry: u64, body: &[u8]) -> Result<(), LedgerError>
         ensures { TakesBody entry body.now self.old result self.new }
     {
-        match read_recs(self.alloc, body)? {
-            Some(recs) => self.take_records(entry, recs.as_slice()),
-            None => Err(LedgerError::BadLog { entry, why: 0 }),
+        if body.is_empty() {
+            return Err(LedgerError::BadLog { entry, why: 0 });
         }
-    }
-
-    fn take_records(&mut self, entry: u64, recs: &[Rec]) -> Result<(), LedgerError>
-        requires { AllByRecursion FitsRec recs.now }
-        ensures { TakesRecords entry recs.now self.old result self.new }
-    {
-        for rec in recs {
+        let mut rest = body;
+        while !rest.is_empty() {
+            let Some((rec, after)) = take_rec(self.alloc, rest)? else {
+                return Err(LedgerError::BadLog { entry, why: 0 });
+            };
             if let Err(error) = self.take_record(entry, rec) {
-                return Err(error);
+                // Whether it is a list of records comes before whether they fit.
+                return match read_recs(self.alloc, body)? {
+                    Some(_) => Err(error),
+                    None => Err(LedgerError::BadLog { entry, why: 0 }),
+                };
             }
+            rest = after;
         }
         Ok(())
     }
 
-    fn take_record(&mut self, entry: u64, rec: &Rec) -> Result<(), LedgerError>
-        requires { FitsRec rec.now }
-        ensures { TakesRecord entry rec.now self.old result self.new }
+    fn take_record(&mut self, entry: u64, rec: Rec) -> Result<(), LedgerError>
+        requires { FitsRec rec }
+        ensures { TakesRecord entry rec self.old result self.new }
     {
-        match self.apply(rec) {
-            Ok(_) => Ok(()),
-            Err(LedgerError::NotFit { why }) => Err(LedgerError::BadLog { entry, why }),
-            Err(error) => Err(error),
+        if !self.fits(&rec) {
+            let why = kind_of(&rec);
+            return Err(LedgerError::BadLog { entry, why });
         }
+        self.follow(rec)?;
+        Ok(())
     }
 }

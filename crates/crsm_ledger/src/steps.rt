@@ -49,8 +49,7 @@ impl Ledger {
         let replica = self.me;
         let count = self.boots.saturating_add(1);
         let lines = one_line(self.alloc, Line::Boot { replica, count })?;
-        self.boots = count;
-        self.is_live = false;
+        self.follow_boot();
         Ok(lines)
     }
 
@@ -60,7 +59,7 @@ impl Ledger {
     {
         let replica = self.me;
         let lines = one_line(self.alloc, Line::Suspend { replica, epoch })?;
-        self.is_suspended = true;
+        self.follow_suspend();
         Ok(lines)
     }
 
@@ -75,7 +74,7 @@ impl Ledger {
             by: ballot.by,
         };
         let lines = one_line(self.alloc, line)?;
-        self.promised = ballot;
+        self.follow_promise(ballot);
         Ok(lines)
     }
 
@@ -96,8 +95,7 @@ impl Ledger {
         };
         let lines = one_line(self.alloc, line)?;
         let accepted = decision.copy(self.alloc)?;
-        self.promised = ballot;
-        self.accepted = Some((ballot, accepted));
+        self.follow_accept(ballot, accepted);
         Ok(lines)
     }
 
@@ -107,8 +105,7 @@ impl Ledger {
     {
         let replica = self.me;
         let lines = one_line(self.alloc, Line::Enter { replica, epoch })?;
-        self.is_live = true;
-        self.has_entered = true;
+        self.follow_enter();
         Ok(lines)
     }
 }

@@ -1,0 +1,121 @@
+//! What a record changes, where its lines are made elsewhere or nobody asks for them.
+
+ghost use Rattle.std.specs.Prelude.{◌≡◌, ℕ, OnOk};
+ghost use Rattle.crsm_base.specs.declared.Rec.{Rec};
+ghost use Rattle.crsm_base.specs.declared.Stamp.{Stamp};
+ghost use Rattle.crsm_base.specs.Records.{FitsRec};
+ghost use Rattle.crsm_base.specs.Spelling.{FitsEntry, FitsEntries, FitsDecision};
+ghost use Rattle.crsm_ledger.specs.Stands.{Follows};
+
+use crate::ledger::{Ledger, NO_BALLOT};
+use crate::logged::Logged;
+use crsm_base::{Ballot, Decision, Entries, Entry, NoMemory, Rec};
+
+impl Ledger {
+    /// Keeps a record that may come next, by value. After an error the fields say nothing.
+    pub(crate) fn follow(&mut self, rec: Rec) -> Result<(), NoMemory>
+        requires { FitsRec rec }
+        ensures kept { OnOk result (Follows self.old rec self.new) }
+        ensures mark { self.new.is_spent ≡ self.old.is_spent }
+    {
+        match rec {
+            Rec::Prepare { entry } => return self.follow_prepare(entry),
+            Rec::Commit { .. } => return self.follow_commit(),
+            Rec::Adopt { entries, .. } => return self.follow_adopt(&entries),
+            Rec::Boot { .. } => self.follow_boot(),
+            Rec::Suspend { .. } => self.follow_suspend(),
+            Rec::Promise { ballot, .. } => self.follow_promise(ballot),
+            Rec::Accept {
+                ballot,
+                decision,
+                ..
+            } => self.follow_accept(ballot, decision),
+            Rec::Decide { decision } => self.follow_decide(decision),
+            Rec::Enter { .. } => self.follow_enter(),
+        }
+        Ok(())
+    }
+
+    pub(crate) fn follow_boot(&mut self)
+        ensures kept { (me n : ℕ) → Follows self.old (Rec.Boot me n) self.new }
+        ensures mark { self.new.is_spent ≡ self.old.is_spent }
+    {
+        self.boots = self.boots.saturating_add(1);
+        self.is_live = false;
+    }
+
+    pub(crate) fn follow_prepare(&mut self, entry: Entry) -> Result<(), NoMemory>
+        requires { FitsEntry entry }
+        ensures kept { OnOk result (Follows self.old (Rec.Prepare entry) self.new) }
+        ensures mark { self.new.is_spent ≡ self.old.is_spent }
+    {
+        self.logged.insert(entry)?;
+        Ok(())
+    }
+
+    fn follow_commit(&mut self) -> Result<(), NoMemory>
+        ensures kept { (stamp : Stamp) → OnOk result (Follows self.old (Rec.Commit stamp) self.new) }
+        ensures mark { self.new.is_spent ≡ self.old.is_spent }
+    {
+        let Some(entry) = self.logged.first_above(self.history.last_stamp()) else {
+            return Ok(());
+        };
+        let _answer = self.history.run(entry)?;
+        Ok(())
+    }
+
+    fn follow_adopt(&mut self, entries: &Entries) -> Result<(), NoMemory>
+        requires { FitsEntries entries.now }
+        ensures kept { (place : ℕ) → OnOk result (Follows self.old (Rec.Adopt place entries.now) self.new) }
+        ensures mark { self.new.is_spent ≡ self.old.is_spent }
+    {
+        self.history.run_all(entries.as_slice())?;
+        Ok(())
+    }
+
+    pub(crate) fn follow_suspend(&mut self)
+        ensures kept { (epoch : ℕ) → Follows self.old (Rec.Suspend epoch) self.new }
+        ensures mark { self.new.is_spent ≡ self.old.is_spent }
+    {
+        self.is_suspended = true;
+    }
+
+    pub(crate) fn follow_promise(&mut self, ballot: Ballot)
+        ensures kept { (instance : ℕ) → Follows self.old (Rec.Promise instance ballot) self.new }
+        ensures mark { self.new.is_spent ≡ self.old.is_spent }
+    {
+        self.promised = ballot;
+    }
+
+    pub(crate) fn follow_accept(&mut self, ballot: Ballot, decision: Decision)
+        ensures kept { (instance : ℕ) → Follows self.old (Rec.Accept instance ballot decision) self.new }
+        ensures mark { self.new.is_spent ≡ self.old.is_spent }
+    {
+        self.promised = ballot;
+        self.accepted = Some((ballot, decision));
+    }
+
+    pub(crate) fn follow_decide(&mut self, decision: Decision)
+        requires { FitsDecision decision }
+        ensures kept { Follows self.old (Rec.Decide decision) self.new }
+        ensures mark { self.new.is_spent ≡ self.old.is_spent }
+    {
+        self.start = decision.base_len + decision.tail.as_slice().len() as u64;
+        self.history.begin_epoch(decision.epoch);
+        self.known = decision;
+        self.is_live = false;
+        self.is_suspended = false;
+        self.has_entered = false;
+        self.promised = NO_BALLOT;
+        self.accepted = None;
+        self.logged = Logged::new(self.alloc);
+    }
+
+    pub(crate) fn follow_enter(&mut self)
+        ensures kept { (epoch : ℕ) → Follows self.old (Rec.Enter epoch) self.new }
+        ensures mark { self.new.is_spent ≡ self.old.is_spent }
+    {
+        self.is_live = true;
+        self.has_entered = true;
+    }
+}
