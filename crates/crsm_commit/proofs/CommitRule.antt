@@ -54,6 +54,7 @@ not_counted pending tracked waiting votes stamp k off stands = record {
   count = stands.count;
   ascending = stands.ascending;
   queues = stands.queues;
+  first = stands.first;
   masks = λ s t. elim (bool_cases (stamp_eq stamp s)) [
     | inl e ↦ (let same : tracked stamp ≡ tracked s = ap tracked (equal stamp s e) in absurd (cc))
     | inr e ↦ stands.masks s t ∙ vote_other votes stamp s k e
@@ -66,5 +67,6 @@ narrowed pending wide narrow waiting votes fewer stands = record {
   count = stands.count;
   ascending = stands.ascending;
   queues = stands.queues;
+  first = stands.first;
   masks = λ s t. stands.masks s (fewer s t);
 }

@@ -1,6 +1,7 @@
 -- Entries in their queues, with one more and without one.
-use Rattle.std.proofs.Common.{◌≡◌, ℕ, ◌<◌, Bool, true, false, cond, refl, sym, ◌∙◌, ap, subst, arith, List, [], ◌∷◌, length, get_or, set, take, drop, zero, suc, ◌⊎◌, inl, inr, min, map, get_or-set_same, get_or-set_other, Option, Some, None, IsSome, IfSome}
-use Rattle.std.specs.Prelude.{◌==◌, filter, find, insert, remove, OnSome}
+use Rattle.std.proofs.Common.{◌≡◌, ℕ, ◌<◌, Bool, true, false, cond, refl, sym, ◌∙◌, ap, subst, arith, List, [], ◌∷◌, length, get_or, set, take, drop, zero, suc, ◌⊎◌, inl, inr, min, map, get_or-set_same, get_or-set_other, Option, Some, None, IfSome}
+use Rattle.std.specs.Prelude.{◌==◌, filter, find, remove, is_some, IfNone}
+use Rattle.std.specs.Option.{option_map}
 use Rattle.std.specs.List.{AllByRecursion}
 use Rattle.std.proofs.lemmas.Bool.{eqb-true, eq-eqb}
 use Rattle.std.proofs.lemmas.Bool.Decides.{nat_tests}
@@ -9,9 +10,11 @@ use Rattle.crsm_base.specs.declared.Entry.{Entry}
 use Rattle.crsm_base.specs.Order.{stamp_lt, stamp_eq}
 use Rattle.crsm_spec.specs.Choice.{when◌then◌otherwise◌}
 use Rattle.crsm_spec.specs.Frames.{with_stamp}
+use Rattle.crsm_spec.specs.Lists.{first_of}
 use Rattle.crsm_spec.specs.Log.{with_entry}
 use Rattle.crsm_phase.specs.Owed.{IsAscending, without}
-use Rattle.crsm_commit.specs.Places.{IsPlace, IsFirst}
+use Rattle.crsm_commit.specs.Least.{lesser_of}
+use Rattle.crsm_commit.specs.Places.{IsFirst}
 use Rattle.crsm_commit.specs.Waiting.{stamp_of, is_at, is_in, without_entry}
 
 pub bool_cases : (b : Bool) → (b ≡ true) ⊎ (b ≡ false)
@@ -55,14 +58,6 @@ stamps_with e (f ∷ es) =
       | inl h ↦ ap (map stamp_of) (entry_here e f es h) ∙ sym (stamp_here e.stamp f.stamp (map stamp_of es) h)
       | inr h ↦ ap (map stamp_of) (entry_there e f es h) ∙ ap (λ ss. f.stamp ∷ ss) (stamps_with e es) ∙ sym (stamp_there e.stamp f.stamp (map stamp_of es) h)
     ]
-
--- the place of an entry
-pub entry_at : (e : Entry) (es : List Entry) (n : ℕ) → AllByRecursion (λ t. stamp_lt e.stamp t ≡ false) (take n (map stamp_of es)) →
-    AllByRecursion (λ t. stamp_lt e.stamp t ≡ true) (drop n (map stamp_of es)) → insert es n e ≡ with_entry e es
-entry_at e [] zero before behind = sym (entry_none e)
-entry_at e [] (suc n) before behind = sym (entry_none e)
-entry_at e (f ∷ es) zero before behind = sym (entry_here e f es behind.0)
-entry_at e (f ∷ es) (suc n) before behind = ap (λ fs. f ∷ fs) (entry_at e es n before.1 behind) ∙ sym (entry_there e f es before.0)
 
 pub all_with_entry : (P : Entry → Type 0) (e : Entry) (es : List Entry) → P e → AllByRecursion P es → AllByRecursion P (with_entry e es)
 all_with_entry P e [] here all = subst (AllByRecursion P) (sym (entry_none e)) (here, tt)
@@ -155,6 +150,29 @@ entry_missing s (e ∷ es) same =
     tail_same : (t : Stamp) (ss ts : List Stamp) → t ∷ ss ≡ t ∷ ts → ss ≡ ts
     tail_same t ss ts e = cc
 
+length_stamps : (es : List Entry) → length (map stamp_of es) ≡ length es
+length_stamps [] = refl
+length_stamps (e ∷ es) = ap suc (length_stamps es)
+
+-- whether a stamp was found among those of entries
+in_queue : (es : List Entry) (stamps : List Stamp) (s : Stamp) (r : Option ℕ) → stamps ≡ map stamp_of es → IfSome r (IsFirst s stamps) →
+    IfNone r (without s stamps ≡ stamps) → is_some r ≡ is_some (find (is_at s) es)
+in_queue es stamps s None same some none = ap is_some (sym (entry_missing s es (subst (λ ss. without s ss ≡ ss) same none)).1)
+in_queue [] stamps s (Some place) same some none = absurd (omega (arith, ap length same, some.within))
+in_queue (e ∷ es) stamps s (Some place) same some none =
+    ap is_some (entry_found s (e ∷ es) place e s (subst (λ ss. AllByRecursion (λ t. stamp_eq t s ≡ false) (take place ss)) same some.before)
+    (omega (arith, length_stamps (e ∷ es), ap length same, some.within)) (subst (λ ss. stamp_eq (get_or ss place s) s ≡ true) same some.here)).1
+
+-- the first stamp, with one more entry
+pub first_with : (e : Entry) (es : List Entry) → lesser_of (option_map stamp_of (first_of es)) (Some e.stamp) ≡ option_map stamp_of (first_of (with_entry e es))
+unfolding first_of
+first_with e [] = ap (λ fs. option_map stamp_of (first_of fs)) (sym (entry_none e))
+first_with e (f ∷ es) =
+    elim (bool_cases (stamp_lt e.stamp f.stamp)) [
+      | inl h ↦ rw h (ap (λ fs. option_map stamp_of (first_of fs)) (sym (entry_here e f es h)))
+      | inr h ↦ rw h (ap (λ fs. option_map stamp_of (first_of fs)) (sym (entry_there e f es h)))
+    ]
+
 -- ---- queues by origin
 
 at_in : (s : Stamp) (e : Entry) → stamp_eq e.stamp s ≡ true → is_in (min s.origin 15) e ≡ true
@@ -212,38 +230,43 @@ is_in_own : (e : Entry) → is_in (min e.stamp.origin 15) e ≡ true
 is_in_own e = grind (arith, nat_tests)
 
 -- an entry is added to its queue
-pub filed_with : (queues : List (List Entry)) (e : Entry) (waiting : List Entry) (place : ℕ) (q : List Entry) → length queues ≡ 16 →
-    place ≡ min e.stamp.origin 15 → q ≡ with_entry e (get_or queues place []) → IsAscending (map stamp_of waiting) →
-    ((i : ℕ) → i < 16 → get_or queues i [] ≡ filter (is_in i) waiting) →
-    (i : ℕ) → i < 16 → get_or (set queues place q) i [] ≡ filter (is_in i) (with_entry e waiting)
+pub filed_with : (queues : List (List Stamp)) (e : Entry) (waiting : List Entry) (place : ℕ) (q : List Stamp) → length queues ≡ 16 →
+    place ≡ min e.stamp.origin 15 → q ≡ with_stamp e.stamp (get_or queues place []) → IsAscending (map stamp_of waiting) →
+    ((i : ℕ) → i < 16 → get_or queues i [] ≡ map stamp_of (filter (is_in i) waiting)) →
+    (i : ℕ) → i < 16 → get_or (set queues place q) i [] ≡ map stamp_of (filter (is_in i) (with_entry e waiting))
 filed_with queues e waiting place q len at is up filed i within =
     elim (same_place i place) [
       | inl here ↦ ap (λ j. get_or (set queues place q) j []) here ∙ get_or-set_same queues place q [] (omega arith) ∙ is
-          ∙ ap (with_entry e) (filed place (omega arith))
-          ∙ sym (kept_with (is_in place) e waiting (ap (λ j. is_in j e) at ∙ is_in_own e) up)
-          ∙ ap (λ j. filter (is_in j) (with_entry e waiting)) (sym here)
+          ∙ ap (with_stamp e.stamp) (filed place (omega arith))
+          ∙ sym (stamps_with e (filter (is_in place) waiting))
+          ∙ ap (map stamp_of) (sym (kept_with (is_in place) e waiting (ap (λ j. is_in j e) at ∙ is_in_own e) up))
+          ∙ ap (λ j. map stamp_of (filter (is_in j) (with_entry e waiting))) (sym here)
       | inr there ↦ get_or-set_other queues place i q [] there ∙ filed i within
-          ∙ sym (dropped_with (is_in i) e waiting (not_in e i (λ same. there (same ∙ sym at))))
+          ∙ ap (map stamp_of) (sym (dropped_with (is_in i) e waiting (not_in e i (λ same. there (same ∙ sym at)))))
     ]
 
 -- an entry is taken out of its queue
-pub filed_without : (queues : List (List Entry)) (s : Stamp) (waiting : List Entry) (place : ℕ) (q : List Entry) → length queues ≡ 16 →
-    place ≡ min s.origin 15 → q ≡ without_entry s (get_or queues place []) →
-    ((i : ℕ) → i < 16 → get_or queues i [] ≡ filter (is_in i) waiting) →
-    (i : ℕ) → i < 16 → get_or (set queues place q) i [] ≡ filter (is_in i) (without_entry s waiting)
+pub filed_without : (queues : List (List Stamp)) (s : Stamp) (waiting : List Entry) (place : ℕ) (q : List Stamp) → length queues ≡ 16 →
+    place ≡ min s.origin 15 → q ≡ without s (get_or queues place []) →
+    ((i : ℕ) → i < 16 → get_or queues i [] ≡ map stamp_of (filter (is_in i) waiting)) →
+    (i : ℕ) → i < 16 → get_or (set queues place q) i [] ≡ map stamp_of (filter (is_in i) (without_entry s waiting))
 filed_without queues s waiting place q len at is filed i within =
     elim (same_place i place) [
       | inl here ↦ ap (λ j. get_or (set queues place q) j []) here ∙ get_or-set_same queues place q [] (omega arith) ∙ is
-          ∙ ap (without_entry s) (filed place (omega arith) ∙ ap (λ j. filter (is_in j) waiting) at)
-          ∙ sym (without_in s waiting) ∙ ap (λ j. filter (is_in j) (without_entry s waiting)) (sym (here ∙ at))
+          ∙ ap (without s) (filed place (omega arith) ∙ ap (λ j. map stamp_of (filter (is_in j) waiting)) at)
+          ∙ sym (stamps_without s (filter (is_in (min s.origin 15)) waiting))
+          ∙ ap (map stamp_of) (sym (without_in s waiting)) ∙ ap (λ j. map stamp_of (filter (is_in j) (without_entry s waiting))) (sym (here ∙ at))
       | inr there ↦ get_or-set_other queues place i q [] there ∙ filed i within
-          ∙ sym (without_elsewhere s i waiting (λ same. there (same ∙ sym at)))
+          ∙ ap (map stamp_of) (sym (without_elsewhere s i waiting (λ same. there (same ∙ sym at))))
     ]
 
-pub found_filed : (queues : List (List Entry)) (s : Stamp) (waiting : List Entry) (place : ℕ) → place ≡ min s.origin 15 →
-    ((i : ℕ) → i < 16 → get_or queues i [] ≡ filter (is_in i) waiting) → find (is_at s) (get_or queues place []) ≡ find (is_at s) waiting
-found_filed queues s waiting place at filed =
-    ap (find (is_at s)) (filed place (omega arith) ∙ ap (λ j. filter (is_in j) waiting) at) ∙ found_in s waiting
+-- whether an entry of a stamp is in its queue
+pub found_filed : (queues : List (List Stamp)) (s : Stamp) (waiting : List Entry) (place : ℕ) (r : Option ℕ) → place ≡ min s.origin 15 →
+    ((i : ℕ) → i < 16 → get_or queues i [] ≡ map stamp_of (filter (is_in i) waiting)) → IfSome r (IsFirst s (get_or queues place [])) →
+    IfNone r (without s (get_or queues place []) ≡ get_or queues place []) → is_some r ≡ is_some (find (is_at s) waiting)
+found_filed queues s waiting place r at filed some none =
+    in_queue (filter (is_in (min s.origin 15)) waiting) (get_or queues place []) s r (filed place (omega arith) ∙ ap (λ j. map stamp_of (filter (is_in j) waiting)) at) some none
+    ∙ ap is_some (found_in s waiting)
 
 -- a queue has the entries of its origin
 one_origin : (origin : ℕ) (e : Entry) → origin < 15 → is_in origin e ≡ (e.stamp.origin == origin)
@@ -255,39 +278,8 @@ of_origin origin (e ∷ es) small =
     ap (λ b. cond b (e ∷ filter (is_in origin) es) (filter (is_in origin) es)) (one_origin origin e small)
     ∙ ap (λ fs. cond (e.stamp.origin == origin) (e ∷ fs) fs) (of_origin origin es small)
 
--- ---- one queue, with its stamps beside it
-
-pub queue_added : (entries reserved new : List Entry) (stamps : List Stamp) (e : Entry) (place : ℕ) → stamps ≡ map stamp_of entries →
-    IsPlace e.stamp stamps place → reserved ≡ entries → new ≡ insert reserved place e → new ≡ with_entry e entries
-queue_added entries reserved new stamps e place beside is same put =
-    put ∙ ap (λ es. insert es place e) same
-    ∙ entry_at e entries place
-    (subst (λ ss. AllByRecursion (λ t. stamp_lt e.stamp t ≡ false) (take place ss)) beside is.before)
-    (subst (λ ss. AllByRecursion (λ t. stamp_lt e.stamp t ≡ true) (drop place ss)) beside is.behind)
-
-pub queue_missed : (entries : List Entry) (stamps : List Stamp) (s : Stamp) → stamps ≡ map stamp_of entries → without s stamps ≡ stamps →
-    (without_entry s entries ≡ entries) × (find (is_at s) entries ≡ None)
-queue_missed entries stamps s beside same = entry_missing s entries (subst (λ ss. without s ss ≡ ss) beside same)
-
-length_stamps : (es : List Entry) → length (map stamp_of es) ≡ length es
-length_stamps [] = refl
-length_stamps (e ∷ es) = ap suc (length_stamps es)
-
-pub queue_taken : (entries new : List Entry) (stamps : List Stamp) (s : Stamp) (place : ℕ) (r : Option Entry) → stamps ≡ map stamp_of entries →
-    IsFirst s stamps place → IsSome r → OnSome r (new ≡ remove entries place) → IfSome r (λ y. y ≡ get_or entries place y) →
-    (new ≡ without_entry s entries) × (r ≡ find (is_at s) entries)
-queue_taken entries new stamps s place None beside is some rest value = absurd (cc)
-queue_taken entries new stamps s place (Some y) beside is some rest value =
-    let found = entry_found s entries place y s (subst (λ ss. AllByRecursion (λ t. stamp_eq t s ≡ false) (take place ss)) beside is.before)
-    (omega (arith, length_stamps entries, ap length beside, is.within)) (subst (λ ss. stamp_eq (get_or ss place s) s ≡ true) beside is.here) in
-    (rest ∙ found.0, ap (λ e. Some e) value ∙ found.1)
-
-pub place_of_entry : (entries : List Entry) (stamps : List Stamp) (s : Stamp) (place n : ℕ) → stamps ≡ map stamp_of entries → IsFirst s stamps place →
-    length entries ≡ n → place < n
-place_of_entry entries stamps s place n beside is len = omega (arith, length_stamps entries, ap length beside, is.within)
-
 -- queues that are all empty
-pub all_empty : (queues : List (List Entry)) (i : ℕ) → AllByRecursion (λ q. q ≡ []) queues → get_or queues i [] ≡ []
+pub all_empty : (queues : List (List Stamp)) (i : ℕ) → AllByRecursion (λ q. q ≡ []) queues → get_or queues i [] ≡ []
 all_empty [] i all = refl
 all_empty (q ∷ queues) zero all = all.0
 all_empty (q ∷ queues) (suc i) all = all_empty queues i all.1

@@ -56,22 +56,22 @@ one_of_two P (Some s) None h k = h
 one_of_two P (Some s) (Some t) h k =
     elim (bool_cases (stamp_lt t s)) [ inl e ↦ rw e k | inr e ↦ rw e h ]
 
-still_found : (queues : List (List Entry)) (n : ℕ) (r : Option Stamp) → IfSome r (IsFirstOfOne queues n) → IfSome r (IsFirstOfOne queues (n + 1))
+still_found : (queues : List (List Stamp)) (n : ℕ) (r : Option Stamp) → IfSome r (IsFirstOfOne queues n) → IfSome r (IsFirstOfOne queues (n + 1))
 still_found queues n None h = tt
 still_found queues n (Some s) h = record { place = h.place; within = omega arith; here = h.here }
 
-new_found : (queues : List (List Entry)) (n : ℕ) (f : Option Stamp) → first_at queues n ≡ f → IfSome f (IsFirstOfOne queues (n + 1))
+new_found : (queues : List (List Stamp)) (n : ℕ) (f : Option Stamp) → first_at queues n ≡ f → IfSome f (IsFirstOfOne queues (n + 1))
 new_found queues n None e = tt
 new_found queues n (Some s) e = record { place = n; within = omega arith; here = e }
 
 last_or_before : (i n : ℕ) → i < n + 1 → (i < n) ⊎ (i ≡ n)
 last_or_before i n h = grind arith
 
-pub no_queue : (queues : List (List Entry)) → IsLeastFirst None queues 0
+pub no_queue : (queues : List (List Stamp)) → IsLeastFirst None queues 0
 no_queue queues = record { found = tt; least = λ i within. absurd (omega arith) }
 
 -- one more queue
-pub queue_more : (queues : List (List Entry)) (n : ℕ) (r f : Option Stamp) → IsLeastFirst r queues n → first_at queues n ≡ f →
+pub queue_more : (queues : List (List Stamp)) (n : ℕ) (r f : Option Stamp) → IsLeastFirst r queues n → first_at queues n ≡ f →
     IsLeastFirst (lesser_of r f) queues (n + 1)
 queue_more queues n r f so_far e = record {
   found = one_of_two (IsFirstOfOne queues (n + 1)) r f (still_found queues n r so_far.found) (new_found queues n f e);
@@ -104,19 +104,24 @@ own_queue e = grind (arith, nat_tests)
 in_range : (e : Entry) → min e.stamp.origin 15 < 16
 in_range e = omega arith
 
-first_is : (queues : List (List Entry)) (waiting : List Entry) → ((i : ℕ) → i < 16 → get_or queues i [] ≡ filter (is_in i) waiting) →
-    (i : ℕ) → i < 16 → first_at queues i ≡ option_map stamp_of (first_of (filter (is_in i) waiting))
-first_is queues waiting filed i within = ap (λ q. option_map stamp_of (first_of q)) (filed i within)
+first_stamp : (es : List Entry) → first_of (map stamp_of es) ≡ option_map stamp_of (first_of es)
+unfolding first_of
+first_stamp [] = refl
+first_stamp (e ∷ es) = refl
 
-own_first : (queues : List (List Entry)) (e : Entry) (es : List Entry) → ((i : ℕ) → i < 16 → get_or queues i [] ≡ filter (is_in i) (e ∷ es)) →
+first_is : (queues : List (List Stamp)) (waiting : List Entry) → ((i : ℕ) → i < 16 → get_or queues i [] ≡ map stamp_of (filter (is_in i) waiting)) →
+    (i : ℕ) → i < 16 → first_at queues i ≡ option_map stamp_of (first_of (filter (is_in i) waiting))
+first_is queues waiting filed i within = ap first_of (filed i within) ∙ first_stamp (filter (is_in i) waiting)
+
+own_first : (queues : List (List Stamp)) (e : Entry) (es : List Entry) → ((i : ℕ) → i < 16 → get_or queues i [] ≡ map stamp_of (filter (is_in i) (e ∷ es))) →
     first_at queues (min e.stamp.origin 15) ≡ Some e.stamp
 unfolding first_of
 own_first queues e es filed =
     first_is queues (e ∷ es) filed (min e.stamp.origin 15) (in_range e)
     ∙ ap (λ b. option_map stamp_of (first_of (cond b (e ∷ filter (is_in (min e.stamp.origin 15)) es) (filter (is_in (min e.stamp.origin 15)) es)))) (own_queue e)
 
-pub least_is_first : (queues : List (List Entry)) (waiting : List Entry) (r : Option Stamp) → IsAscending (map stamp_of waiting) →
-    ((i : ℕ) → i < 16 → get_or queues i [] ≡ filter (is_in i) waiting) → IsLeastFirst r queues 16 → r ≡ option_map stamp_of (first_of waiting)
+pub least_is_first : (queues : List (List Stamp)) (waiting : List Entry) (r : Option Stamp) → IsAscending (map stamp_of waiting) →
+    ((i : ℕ) → i < 16 → get_or queues i [] ≡ map stamp_of (filter (is_in i) waiting)) → IsLeastFirst r queues 16 → r ≡ option_map stamp_of (first_of waiting)
 unfolding first_of
 least_is_first queues [] None up filed least = refl
 least_is_first queues [] (Some s) up filed least =

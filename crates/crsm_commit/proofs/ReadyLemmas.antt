@@ -69,8 +69,19 @@ decided spec members heard votes s time most count least all is enough counted e
 pub both : (a b c d : ℕ) → a ≤ b → c ≤ d → (nat_le a b && nat_le c d) ≡ true
 both a b c d h k = grind (arith, nat_tests)
 
-pub not_second : (a b c d : ℕ) → d < c → (nat_le a b && nat_le c d) ≡ false
-not_second a b c d h = grind (arith, nat_tests)
+never_second : (a : Bool) (c d : ℕ) → d < c → (a && nat_le c d) ≡ false
+never_second true c d h = grind (arith, nat_tests)
+never_second false c d h = refl
+
+-- some member's time is not reached
+pub unstable : (spec members : List ℕ) (heard : List (ℕ × ℕ)) (votes : List (Stamp × ℕ)) (s : Stamp) (time least : ℕ) →
+    AllByRecursion (λ h. 1 ≤ h.1) heard → time ≡ max s.time 1 → nat_le time least ≡ list_all (reached heard time) members → least < time →
+    may_commit spec members heard votes s ≡ false
+unfolding is_stable
+unstable spec members heard votes s time least all is e above =
+    let stable : list_all (reached heard s.time) members ≡ nat_le time least =
+    sym (all_reached_from_one heard s.time members all) ∙ ap (λ t. list_all (reached heard t) members) (sym is) ∙ sym e in
+    ap (λ b. is_replicated spec votes s && b) stable ∙ never_second (is_replicated spec votes s) time least above
 
 -- too few have voted
 pub too_few : (spec members : List ℕ) (heard : List (ℕ × ℕ)) (votes : List (Stamp × ℕ)) (s : Stamp) →

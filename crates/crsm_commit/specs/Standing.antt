@@ -1,7 +1,9 @@
 -- What the pending entries stand for, and which of them is ready.
 use Rattle.std.specs.Prelude.{◌≡◌, ℕ, ◌<◌, Bool, true, ◌&&◌, List, [], ◌∷◌, length, map, filter, slice_index_or, Option, None, Some, if◌then◌else◌}
+use Rattle.std.specs.Option.{option_map}
 use Rattle.crsm_base.specs.declared.Stamp.{Stamp}
 use Rattle.crsm_base.specs.declared.Entry.{Entry}
+use Rattle.crsm_spec.specs.Lists.{first_of}
 use Rattle.crsm_spec.specs.Ready.{is_replicated, is_stable}
 use Rattle.crsm_phase.specs.Owed.{IsAscending}
 use Rattle.crsm_commit.specs.Masks.{mask_at, mask_of}
@@ -13,7 +15,8 @@ use Rattle.crsm_commit.specs.declared.pending.Pending.{Pending}
 pub record StandsFor (pending : Pending) (tracked : Stamp → Bool) (waiting : List Entry) (votes : List (Stamp × ℕ)) : Type 0 where
   pub count : length pending.queues ≡ 16
   pub ascending : IsAscending (map stamp_of waiting)
-  pub queues : (i : ℕ) → i < 16 → slice_index_or pending.queues i [] ≡ filter (is_in i) waiting
+  pub queues : (i : ℕ) → i < 16 → slice_index_or pending.queues i [] ≡ map stamp_of (filter (is_in i) waiting)
+  pub first : pending.first ≡ option_map stamp_of (first_of waiting)
   pub masks : (s : Stamp) → tracked s ≡ true → mask_at pending.votes s ≡ mask_of votes s
 
 -- a majority of the Spec has logged the stamp, and each member has reached its time

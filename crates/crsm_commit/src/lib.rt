@@ -8,7 +8,6 @@
 mod latest;
 mod laws;
 mod pending;
-mod queue;
 mod stamps;
 mod votes;
 

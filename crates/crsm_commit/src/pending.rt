@@ -1,6 +1,6 @@
 //! Entries that are not executed yet, and when the least of them is ready.
 
-ghost use Rattle.std.specs.Prelude.{◌≡◌, ℕ, ◌<◌, ◌≤◌, Bool, true, false, ◌==◌, ◌&&◌, not, [], ◌∷◌, List, map, filter, find, IfOk, OnOk, OnErr, bit_or, ◌^◌, min};
+ghost use Rattle.std.specs.Prelude.{◌≡◌, ℕ, ◌<◌, ◌≤◌, Bool, true, false, ◌==◌, ◌&&◌, not, [], ◌∷◌, List, map, filter, find, is_some, IfOk, OnOk, OnErr, bit_or, ◌^◌, min};
 ghost use Rattle.std.specs.List.{AllByRecursion};
 ghost use Rattle.crsm_base.specs.declared.Stamp.{Stamp};
 ghost use Rattle.crsm_base.specs.declared.Entry.{Entry};
@@ -13,7 +13,7 @@ ghost use Rattle.crsm_commit.specs.Masks.{mask_of};
 ghost use Rattle.crsm_commit.specs.Waiting.{stamp_of, is_at, without_entry};
 
 use crate::latest::Latest;
-use crate::queue::Queue;
+use crate::stamps::Stamps;
 use crate::votes::Votes;
 use crsm_base::{Entry, Members, NoMemory, Stamp, majority};
 use std::alloc::Global;
@@ -21,13 +21,15 @@ use std::alloc::Global;
 /// How many queues there are: one for each replica, and the last for any other origin.
 const QUEUES: usize = 16;
 
-/// The entries that were added and not taken, and who has logged which stamp.
+/// The entries that were added and not taken, by their stamps, and who has logged which stamp.
 ///
 /// Some stamps are tracked: what it answers for these is what all votes say. One that is taken is tracked no more, so
 /// votes for it need not be counted from then on.
 #[derive(Drop)]
 pub struct Pending {
-    queues: [Queue; 16],
+    queues: [Stamps; 16],
+    /// The least stamp of all queues: the one that each step asks for.
+    first: Option<Stamp>,
     votes: Votes,
 }
 
@@ -40,36 +42,38 @@ impl Pending {
     {
         Pending {
             queues: [
-                Queue::new(alloc),
-                Queue::new(alloc),
-                Queue::new(alloc),
-                Queue::new(alloc),
-                Queue::new(alloc),
-                Queue::new(alloc),
-                Queue::new(alloc),
-                Queue::new(alloc),
-                Queue::new(alloc),
-                Queue::new(alloc),
-                Queue::new(alloc),
-                Queue::new(alloc),
-                Queue::new(alloc),
-                Queue::new(alloc),
-                Queue::new(alloc),
-                Queue::new(alloc),
+                Stamps::new(alloc),
+                Stamps::new(alloc),
+                Stamps::new(alloc),
+                Stamps::new(alloc),
+                Stamps::new(alloc),
+                Stamps::new(alloc),
+                Stamps::new(alloc),
+                Stamps::new(alloc),
+                Stamps::new(alloc),
+                Stamps::new(alloc),
+                Stamps::new(alloc),
+                Stamps::new(alloc),
+                Stamps::new(alloc),
+                Stamps::new(alloc),
+                Stamps::new(alloc),
+                Stamps::new(alloc),
             ],
+            first: None,
             votes: Votes::new(alloc),
         }
     }
 
     /// Adds an entry that was logged. An `Err` changes nothing.
-    pub fn add(&mut self, entry: Entry) -> Result<(), NoMemory>
+    pub fn add(&mut self, entry: &Entry) -> Result<(), NoMemory>
         ensures ok { OnOk result ((tracked : Stamp → Bool) (waiting : List Entry) (votes : List (Stamp × ℕ)) →
-            StandsFor self.old tracked waiting votes → StandsFor self.new tracked (with_entry entry waiting) votes) }
+            StandsFor self.old tracked waiting votes → StandsFor self.new tracked (with_entry entry.now waiting) votes) }
         ensures err { OnErr result ((tracked : Stamp → Bool) (waiting : List Entry) (votes : List (Stamp × ℕ)) →
             StandsFor self.old tracked waiting votes → StandsFor self.new tracked waiting votes) }
     {
         let place = queue_of(entry.stamp.origin);
-        self.queues[place].add(entry)?;
+        self.queues[place].add(entry.stamp)?;
+        self.first = lesser(self.first, Some(entry.stamp));
         Ok(())
     }
 
@@ -94,27 +98,32 @@ impl Pending {
             AllByRecursion (λ e. tracked e.stamp ≡ true) waiting →
             result ≡ first_ready spec.now members.now heard votes waiting }
     {
-        let stamp = least_first(&self.queues)?;
+        let stamp = self.first?;
+        // Mostly this is what is waited for, so it is looked at first.
+        if stamp.time.max(1) > latest.least(members) {
+            return None;
+        }
         let votes = count_in(self.votes.of(stamp), spec);
-        if votes >= majority(spec.count()) && stamp.time.max(1) <= latest.least(members) {
+        if votes >= majority(spec.count()) {
             Some(stamp)
         } else {
             None
         }
     }
 
-    /// Takes the entry of this stamp, which is tracked no more from then on. None comes where no such entry is pending.
-    pub fn take(&mut self, stamp: Stamp) -> Option<Entry>
+    /// Takes the entry of this stamp, which is tracked no more from then on, and answers whether one was pending.
+    pub fn take(&mut self, stamp: Stamp) -> bool
         ensures entry { (tracked : Stamp → Bool) (waiting : List Entry) (votes : List (Stamp × ℕ)) →
-            StandsFor self.old tracked waiting votes → result ≡ find (is_at stamp) waiting }
+            StandsFor self.old tracked waiting votes → result ≡ is_some (find (is_at stamp) waiting) }
         ensures rest { (tracked : Stamp → Bool) (waiting : List Entry) (votes : List (Stamp × ℕ)) →
             StandsFor self.old tracked waiting votes →
             StandsFor self.new (λ s. tracked s && not (stamp_eq stamp s)) (without_entry stamp waiting) votes }
     {
         let place = queue_of(stamp.origin);
-        let entry = self.queues[place].take(stamp);
+        let taken = self.queues[place].remove(stamp).is_some();
+        self.first = least_first(&self.queues);
         self.votes.forget(stamp);
-        entry
+        taken
     }
 
     /// The stamps of the pending entries of an origin, in rising time.
@@ -124,7 +133,7 @@ impl Pending {
             StandsFor self.now tracked waiting votes →
             result.now ≡ map stamp_of (filter (λ e. e.stamp.origin == origin) waiting) }
     {
-        self.queues[origin as usize].stamps()
+        self.queues[origin as usize].as_slice()
     }
 }
 
@@ -168,12 +177,12 @@ fn lesser(a: Option<Stamp>, b: Option<Stamp>) -> Option<Stamp>
 }
 
 /// The least of the first stamps of the queues.
-fn least_first(queues: &[Queue; 16]) -> Option<Stamp>
+fn least_first(queues: &[Stamps; 16]) -> Option<Stamp>
     ensures { IsLeastFirst result queues.now 16 }
 {
     let mut least = None;
     for place in 0..QUEUES {
-        least = lesser(least, queues[place].first());
+        least = lesser(least, queues[place].as_slice().first().copied());
     }
     least
 }

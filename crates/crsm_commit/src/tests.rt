@@ -29,13 +29,13 @@ fn entry(alloc: Global, time: u64, origin: u32) -> Entry
 fn queues_rise(rt: HostRuntime) -> Result<(), Fail> {
     let alloc = rt.alloc();
     let mut pending = Pending::new(alloc);
-    pending.add(entry(alloc, 9, 1))?;
-    pending.add(entry(alloc, 5, 1))?;
-    pending.add(entry(alloc, 7, 0))?;
+    pending.add(&entry(alloc, 9, 1))?;
+    pending.add(&entry(alloc, 5, 1))?;
+    pending.add(&entry(alloc, 7, 0))?;
     assert_eq!(rt; pending.queue(1), [stamp(5, 1), stamp(9, 1)].as_slice());
     assert!(rt; pending.queue(2).is_empty());
-    assert!(rt; pending.take(stamp(5, 1)).is_some());
-    assert!(rt; pending.take(stamp(5, 1)).is_none());
+    assert!(rt; pending.take(stamp(5, 1)));
+    assert!(rt; !pending.take(stamp(5, 1)));
     assert_eq!(rt; pending.queue(1), [stamp(9, 1)].as_slice());
     Ok(())
 }
@@ -49,8 +49,8 @@ fn the_first_is_ready_once_replicated_and_stable(rt: HostRuntime) -> Result<(), 
     let mut latest = Latest::new();
     let mut pending = Pending::new(alloc);
     pending.voted(stamp(5, 1), 2)?;
-    pending.add(entry(alloc, 7, 0))?;
-    pending.add(entry(alloc, 5, 1))?;
+    pending.add(&entry(alloc, 7, 0))?;
+    pending.add(&entry(alloc, 5, 1))?;
     latest.hear(0, 5);
     latest.hear(1, 5);
     latest.hear(2, 6);
@@ -66,7 +66,7 @@ fn the_first_is_ready_once_replicated_and_stable(rt: HostRuntime) -> Result<(), 
     assert_eq!(rt; pending.ready(&latest, &members, &strangers), None);
     assert_eq!(rt; latest.of(2), 6);
     assert_eq!(rt; latest.least(&members), 5);
-    assert!(rt; pending.take(stamp(5, 1)).is_some());
+    assert!(rt; pending.take(stamp(5, 1)));
     assert_eq!(rt; pending.ready(&latest, &members, &members), None);
     Ok(())
 }

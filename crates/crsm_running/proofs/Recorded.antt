@@ -330,12 +330,12 @@ unfolding last_stamp executed known decision
 same_last log e = refl
 
 -- an entry is logged above the last executed one
-pub waits_with : (old new : Pending) (votes : List (Stamp × ℕ)) (me n : ℕ) (log : Log) (e copy : Entry) → fits me n log (Rec.Prepare e) ≡ true → is_above (last_stamp log) e.stamp ≡ true → copy ≡ e →
-    ((tracked : Stamp → Bool) (waiting : List Entry) (votes : List (Stamp × ℕ)) → StandsFor old tracked waiting votes → StandsFor new tracked (with_entry copy waiting) votes) →
+pub waits_with : (old new : Pending) (votes : List (Stamp × ℕ)) (me n : ℕ) (log : Log) (e : Entry) → fits me n log (Rec.Prepare e) ≡ true → is_above (last_stamp log) e.stamp ≡ true →
+    ((tracked : Stamp → Bool) (waiting : List Entry) (votes : List (Stamp × ℕ)) → StandsFor old tracked waiting votes → StandsFor new tracked (with_entry e waiting) votes) →
     Waits old votes log → Waits new votes (Rec.Prepare e ∷ log)
-waits_with old new votes me n log e copy fit above same adds w a =
+waits_with old new votes me n log e fit above adds w a =
     let was : StandsFor old (is_above (last_stamp log)) (unexecuted log) votes = w (prepares me n log e fit).active_is in
-    let is : with_entry copy (unexecuted log) ≡ unexecuted (Rec.Prepare e ∷ log) = ap (λ f. with_entry f (unexecuted log)) same ∙ sym (unexecuted_with me n log e fit above) in
+    let is : with_entry e (unexecuted log) ≡ unexecuted (Rec.Prepare e ∷ log) = sym (unexecuted_with me n log e fit above) in
     subst (λ o. StandsFor new (is_above o) (unexecuted (Rec.Prepare e ∷ log)) votes) (sym (same_last log e))
     (subst (λ es. StandsFor new (is_above (last_stamp log)) es votes) is (adds (is_above (last_stamp log)) (unexecuted log) votes was))
 

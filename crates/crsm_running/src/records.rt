@@ -31,8 +31,7 @@ impl Running {
             Runs self.new (record r { log = Rec.Prepare entry.now ∷ r.log })) }
     {
         if is_above(last, entry.stamp) {
-            let copy = entry.copy(self.alloc)?;
-            self.pending.add(copy)?;
+            self.pending.add(entry)?;
         }
         Ok(())
     }

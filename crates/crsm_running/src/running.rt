@@ -16,7 +16,6 @@ use std::alloc::Global;
 /// What a replica keeps of its epoch while it runs.
 #[derive(Drop)]
 pub struct Running {
-    pub(crate) alloc: Global,
     pub(crate) clock: Rising,
     /// The latest times, its own too.
     pub(crate) latest: Latest,
@@ -35,7 +34,6 @@ impl Running {
             Runs result (record (forgotten r) { log = Rec.Enter (known r.log) ∷ r.log }) }
     {
         Running {
-            alloc,
             clock: Rising::new(),
             latest: Latest::new(),
             pending: Pending::new(alloc),

@@ -7,8 +7,8 @@ use Rattle.crsm_running.proofs.running.Running.log_entry.Goals as goal
 pub returns-in_ok-add : goal.returns-in_ok-add
 returns-in_ok-add c r s last fit =
     with_pending c.args.self.now r c.add.new.self _ r.votes s (fit, each_fits c.args.self.now r s)
-    (waits_with c.args.self.now.pending c.add.new.self r.votes r.me r.n r.log c.args.entry.now c.in_ok-copy.copy fit
-    (ap (λ o. is_above o c.args.entry.now.stamp) (sym last) ∙ sym c.is_above.ensures ∙ c.if-is_above.true) c.in_ok-copy.ensures c.in_ok-add.ensures.ok (the_waiting c.args.self.now r s))
+    (waits_with c.args.self.now.pending c.add.new.self r.votes r.me r.n r.log c.args.entry.now fit
+    (ap (λ o. is_above o c.args.entry.now.stamp) (sym last) ∙ sym c.is_above.ensures ∙ c.if-is_above.true) c.in_ok-add.ensures.ok (the_waiting c.args.self.now r s))
 
 pub returns-else-is_above : goal.returns-else-is_above
 returns-else-is_above c r s last fit =
