@@ -88,7 +88,7 @@ pub fn adopt(desk: &mut Desk, place: u64, entries: &[Entry]) -> Result<bool, NoM
 {
     let entries = copied(desk.alloc(), entries)?;
     let rec = Rec::Adopt { place, entries };
-    let fits = desk.keep_known(&rec)?;
+    let fits = desk.keep_known(rec)?;
     Ok(fits)
 }
 

@@ -85,7 +85,7 @@ pub fn promise(desk: &mut Desk, instance: u64, ballot: Ballot) -> Result<bool, N
     ensures { TriesWhere (λ x. FitsBallot ballot) (keep (RecOnPaper.Promise instance ballot)) desk.old result desk.new }
 {
     let rec = Rec::Promise { instance, ballot };
-    let fits = desk.keep_known(&rec)?;
+    let fits = desk.keep_known(rec)?;
     Ok(fits)
 }
 
@@ -105,7 +105,7 @@ pub fn accept(
         ballot,
         decision,
     };
-    let fits = desk.keep_known(&rec)?;
+    let fits = desk.keep_known(rec)?;
     Ok(fits)
 }
 

@@ -47,7 +47,7 @@ pub fn suspend_once(desk: &mut Desk) -> Result<bool, NoMemory>
     }
     let epoch = desk.known();
     let rec = Rec::Suspend { epoch };
-    let fits = desk.keep_known(&rec)?;
+    let fits = desk.keep_known(rec)?;
     Ok(fits)
 }
 

@@ -128,6 +128,10 @@ pub none_ready : (count : ℕ) (desk : Desk) (x : Draft) (p : Committed count de
 unfolding ready_of
 none_ready count desk x p a h = over count desk x p a (not_ready p.left (unexecuted p.left.replica.log) h)
 
+-- nothing is ready before the first
+pub none_at_first : (desk : Desk) (x : Draft) → active x.replica.log ≡ true → StandsFor desk x → None ≡ ready_of x.replica → StandsFor desk (commits x)
+none_at_first desk x a s h = none_ready 0 desk x (record { left = x; stands = s; runs = a; goes_on = refl; fewer = omega arith }) a h
+
 empty : (es : List Entry) → length es ≡ 0 → es ≡ []
 empty [] h = refl
 empty (e ∷ es) h = absurd (omega arith)

@@ -16,6 +16,11 @@ pub(crate) fn commits(desk: &mut Desk) -> Result<(), NoMemory>
     if !desk.is_active() {
         return Ok(());
     }
+    // Mostly nothing is ready, and then nothing need be counted.
+    let next = desk.ready()?;
+    if next.is_none() {
+        return Ok(());
+    }
     for _done in 0..desk.unexecuted_len() {
         let Some(stamp) = desk.ready()? else {
             return Ok(());

@@ -16,7 +16,7 @@ pub(crate) fn log_entry(desk: &mut Desk, entry: &Entry) -> Result<bool, NoMemory
     let rec = Rec::Prepare {
         entry: entry.copy(desk.alloc())?,
     };
-    desk.keep(&rec)
+    desk.keep(rec)
 }
 
 /// Executes the logged entry of this stamp. `false` comes exactly where its record does not fit, and the desk is as before.
@@ -25,5 +25,5 @@ pub(crate) fn commit(desk: &mut Desk, stamp: Stamp) -> Result<bool, NoMemory>
     ensures { MakesFitting (keep (Record.Commit stamp)) desk.old result desk.new }
 {
     let rec = Rec::Commit { stamp };
-    desk.keep(&rec)
+    desk.keep(rec)
 }

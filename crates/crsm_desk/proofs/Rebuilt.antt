@@ -1,6 +1,6 @@
 -- What a desk stands for once one thing of it is changed.
-use Rattle.std.proofs.Common.{◌≡◌, ◌<◌, ◌≤◌, ℕ, ◌+◌, Bool, true, false, List, [], ◌∷◌, ◌++◌, map, refl, sym, subst, arith, cond, count_by}
-use Rattle.std.specs.Prelude.{◌&&◌, ◌==◌, nat_eq, Some}
+use Rattle.std.proofs.Common.{◌≡◌, ◌<◌, ◌≤◌, ℕ, ◌+◌, Bool, true, false, List, [], ◌∷◌, ◌++◌, map, refl, sym, ◌∙◌, subst, arith, cond, count_by}
+use Rattle.std.specs.Prelude.{◌&&◌, ◌==◌, nat_eq, Option, None, Some}
 use Rattle.std.specs.Global.{Vec}
 use Rattle.std.specs.List.{AllByRecursion}
 use Rattle.std.proofs.lemmas.Bool.Decides.{nat_tests}
@@ -32,7 +32,7 @@ use Rattle.crsm_answers.proofs.Kept.{rises_kept, told_kept}
 use Rattle.crsm_desk.specs.declared.desk.Desk.{Desk}
 use Rattle.crsm_desk.specs.declared.gathered.Gathered.{Gathered}
 use Rattle.crsm_desk.specs.declared.desk.Waiting.{Waiting as WaitingInMemory}
-use Rattle.crsm_desk.specs.Recorded.{InBoth, Recorded}
+use Rattle.crsm_desk.specs.Recorded.{Applied, InBoth, Recorded}
 use Rattle.crsm_desk.specs.Sound.{FitsSend, FitsReply, FitsWaiting, FitsPushed}
 use Rattle.crsm_desk.specs.Standing.{StandsInside, IsPlain, learnt, on_paper}
 
@@ -231,6 +231,27 @@ pub it_does_not : (fit : Bool) (me n : ℕ) (log : Log) (rec : Rec) (m : Made) (
     (fit ≡ fits me n log rec) × Recorded fit me n log rec m ledger output → (fits me n log rec ≡ false) × SaysOfLog me n ledger log × Holds output m
 it_does_not true me n log rec m ledger output is p = absurd (cc)
 it_does_not false me n log rec m ledger output is p = (sym p.0, p.1.0, p.1.1)
+
+-- the ledger has it, and these are its lines
+pub applied_one : (o : Option (List Line)) (lines : List Line) (me n : ℕ) (log : Log) (rec : Rec) (ledger : Ledger) → o ≡ Some lines → Applied o me n log rec ledger →
+    (fits me n log rec ≡ true) × (lines ≡ lines_of me log rec) × SaysOfLog me n ledger (rec ∷ log)
+applied_one None lines me n log rec ledger is p = absurd (cc)
+applied_one (Some found) lines me n log rec ledger is p = (let same : found ≡ lines = cc in (p.0, sym same ∙ p.1, p.2))
+
+-- it has it not
+pub applied_none : (o : Option (List Line)) (me n : ℕ) (log : Log) (rec : Rec) (ledger : Ledger) → ((lines : List Line) → o ≡ Some lines → ⊥) →
+    Applied o me n log rec ledger → (fits me n log rec ≡ false) × SaysOfLog me n ledger log
+applied_none None me n log rec ledger is_none p = p
+applied_none (Some found) me n log rec ledger is_none p = absurd (is_none found refl)
+
+-- the output has it too
+pub in_both : (me n : ℕ) (log : Log) (rec : Rec) (m : Made) (ledger : Ledger) (output new : Output) (lines : List Line) → SaysOfLog me n ledger (rec ∷ log) →
+    lines ≡ lines_of me log rec → Holds output m →
+    ((m : Made) → Holds output m → Holds new (record m { batch = m.batch ++ rec ∷ []; lines = m.lines ++ lines })) → InBoth me n log rec m ledger new
+in_both me n log rec m ledger output new lines says same holds keeps = record {
+  says = says;
+  holds = subst (λ ls. Holds new (record m { batch = m.batch ++ rec ∷ []; lines = m.lines ++ ls })) same (keeps m holds);
+}
 
 pub unrecorded : (desk : Desk) (x : Draft) (ledger : Ledger) (output : Output) → StandsInside desk x → SaysOfLog x.replica.me x.replica.n ledger x.replica.log → Holds output (made_of x) →
     StandsInside (record desk { ledger = ledger; output = output }) x

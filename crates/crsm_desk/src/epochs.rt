@@ -32,7 +32,7 @@ impl Desk {
         if !is_rec_spelt(&rec) {
             return Err(NoMemory);
         }
-        let fit = put(self.alloc, &mut self.ledger, &mut self.output, &rec)?;
+        let fit = put(&mut self.ledger, &mut self.output, rec)?;
         if !fit {
             return Ok(false);
         }
@@ -48,7 +48,7 @@ impl Desk {
     {
         let epoch = self.known();
         let rec = Rec::Enter { epoch };
-        let fit = put(self.alloc, &mut self.ledger, &mut self.output, &rec)?;
+        let fit = put(&mut self.ledger, &mut self.output, rec)?;
         if !fit {
             return Ok(());
         }

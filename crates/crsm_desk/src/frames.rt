@@ -1,7 +1,8 @@
 //! The frames of a step: new ones, and those that go again.
 
-ghost use Rattle.std.specs.Prelude.{◌≡◌, ◌<◌, ◌++◌, map, All, OnOk};
+ghost use Rattle.std.specs.Prelude.{◌≡◌, ◌<◌, [], ◌∷◌, ◌++◌, map, All, OnOk};
 ghost use Rattle.crsm_output.specs.Made.{Made, Holds};
+ghost use Rattle.crsm_running.specs.Linked.{others_of};
 ghost use Rattle.crsm_running.specs.Standing.{Runs};
 ghost use Rattle.crsm_spec.specs.Log.{known};
 ghost use Rattle.crsm_spec.specs.Replica.{Replica};
@@ -13,31 +14,50 @@ use crsm_output::Output;
 use crsm_running::Running;
 use std::alloc::Global;
 
-/// Sends the next frame to each of these replicas.
+/// Sends the next frame to each of these members but me.
 pub fn send_next(
     alloc: Global,
     output: &mut Output,
     running: &Running,
     me: u32,
     epoch: u64,
-    replicas: &[u32],
+    members: &[u32],
     payload: &InEpoch,
 ) -> Result<(), NoMemory>
-    requires { All (λ k. k < 15) replicas.now }
+    requires { All (λ k. k < 15) members.now }
     ensures { OnOk result ((r : Replica) (m : Made) → Runs running.now r → Holds output.old m → me ≡ r.me → epoch ≡ known r.log →
-        Holds output.new (record m { sends = m.sends ++ map (next_frame r payload.now) replicas.now })) }
+        Holds output.new (record m { sends = m.sends ++ map (next_frame r payload.now) (others_of me members.now) })) }
 {
-    for k in replicas {
-        let seq = running.pushed_to(*k);
-        let datagram = Datagram::Frame {
-            from: me,
-            to: *k,
-            epoch,
-            seq,
-            payload: payload.copy(alloc)?,
-        };
-        output.send(*k, datagram)?;
+    for k in members {
+        if *k != me {
+            send_frame(output, running, me, epoch, *k, payload.copy(alloc)?)?;
+        }
     }
+    Ok(())
+}
+
+/// Sends the next frame to replica `k`.
+fn send_frame(
+    output: &mut Output,
+    running: &Running,
+    me: u32,
+    epoch: u64,
+    k: u32,
+    payload: InEpoch,
+) -> Result<(), NoMemory>
+    requires { k < 15 }
+    ensures { OnOk result ((r : Replica) (m : Made) → Runs running.now r → Holds output.old m → me ≡ r.me → epoch ≡ known r.log →
+        Holds output.new (record m { sends = m.sends ++ next_frame r payload k ∷ [] })) }
+{
+    let seq = running.pushed_to(k);
+    let datagram = Datagram::Frame {
+        from: me,
+        to: k,
+        epoch,
+        seq,
+        payload,
+    };
+    output.send(k, datagram)?;
     Ok(())
 }
 

@@ -19,7 +19,6 @@ impl Desk {
     pub fn push_at(&mut self, time: u64, payload: InEpoch) -> Result<(), NoMemory>
         ensures { IfOk result (λ _. (x : Draft) (reading : ℕ) → StandsFor self.old x → FitsPayload payload → would x reading ≡ Some time → StandsFor self.new (push_to_members payload (issued_at time x))) }
     {
-        let members = self.other_members()?;
         let number = self.me();
         send_next(
             self.alloc,
@@ -27,7 +26,7 @@ impl Desk {
             &self.running,
             number,
             self.ledger.known().epoch,
-            &members,
+            self.ledger.known().members.as_slice(),
             &payload,
         )?;
         self.running

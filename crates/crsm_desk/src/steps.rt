@@ -74,7 +74,7 @@ impl Desk {
         let me = self.me.min(MAX_REPLICAS - 1);
         let n = self.ledger.n().min(MAX_REPLICAS);
         let rec = Rec::Boot { me, n };
-        let fit = put(self.alloc, &mut self.ledger, &mut self.output, &rec)?;
+        let fit = put(&mut self.ledger, &mut self.output, rec)?;
         if !fit {
             return Err(NoMemory);
         }

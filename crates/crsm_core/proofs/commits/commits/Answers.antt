@@ -1,15 +1,26 @@
-use Rattle.std.proofs.Common.{◌≡◌, ◌∙◌, sym, true, false, arith}
-use Rattle.std.specs.Prelude.{Some}
+use Rattle.std.proofs.Common.{◌≡◌, ◌∙◌, sym, refl, true, false, arith}
+use Rattle.std.specs.Prelude.{Option, None, Some}
+use Rattle.std.specs.Option.{is_none}
 use Rattle.crsm_spec.specs.Types.{Stamp}
 use Rattle.crsm_spec.specs.Log.{active}
 use Rattle.crsm_running.specs.First.{ready_of}
-use Rattle.crsm_core.proofs.CommitLemmas.{begins, commit_one, not_active, none_ready, all_committed}
+use Rattle.crsm_core.proofs.CommitLemmas.{begins, commit_one, not_active, none_at_first, none_ready, all_committed}
 use Rattle.crsm_core.proofs.commits.commits.Goals as goal
 
 pub returns-then-not-is_active : goal.returns-then-not-is_active
 returns-then-not-is_active c = λ x s.
     let a : active x.replica.log ≡ false = cc (c.is_active.ensures x s) in
     not_active c.args.desk.now x a s
+
+none_of : (o : Option Stamp) → is_none o ≡ true → None ≡ o
+none_of None h = refl
+none_of (Some s) h = absurd (cc h)
+
+pub returns-then-is_none : goal.returns-then-is_none
+returns-then-is_none c = λ x s.
+    let a : active x.replica.log ≡ true = cc (c.is_active.ensures x s) in
+    let none : is_none c.in_ok-next.next ≡ true = cc (c.is_none.ensures, c.if-is_none.true) in
+    none_at_first c.args.desk.now x a s (none_of c.in_ok-next.next none ∙ c.in_ok-next.ensures.value x s a)
 
 pub loop-done-init : goal.loop-done-init
 loop-done-init c = λ x s.
