@@ -107,13 +107,18 @@ impl Output {
         ensures nothing { OnOk result (Holds self.new nothing) }
     {
         let alloc = self.alloc;
-        let made = mem::replace(self, Output::new(alloc));
-        let mut sends = made.sends;
-        let mut lines = made.lines;
-        add(made.excess, &mut lines)?;
-        hand_out(made.replies, &mut sends, &mut lines)?;
+        let records = mem::replace(&mut self.records, Recs::new(alloc));
+        let mut sends = mem::replace(&mut self.sends, Sends::new(alloc));
+        let mut lines = mem::replace(&mut self.lines, Lines::new(alloc));
+        if !self.excess.is_empty() {
+            add(mem::replace(&mut self.excess, Vec::new(alloc)), &mut lines)?;
+        }
+        if !self.replies.is_empty() {
+            let replies = mem::replace(&mut self.replies, Vec::new(alloc));
+            hand_out(replies, &mut sends, &mut lines)?;
+        }
         Ok(Batch {
-            records: made.records,
+            records,
             sends,
             lines,
         })
