@@ -1,5 +1,5 @@
 -- Entries in their queues, with one more and without one.
-use Rattle.std.proofs.Common.{◌≡◌, ℕ, ◌<◌, Bool, true, false, cond, refl, sym, ◌∙◌, ap, subst, arith, List, [], ◌∷◌, length, get_or, set, take, drop, zero, suc, ◌⊎◌, inl, inr, min, map, get_or-set_same, get_or-set_other, Option, Some, None, IfSome}
+use Rattle.std.proofs.Common.{◌≡◌, ℕ, ◌<◌, Bool, true, false, cond, refl, sym, ◌∙◌, ap, subst, arith, List, [], ◌∷◌, length, get_or, set, take, zero, suc, ◌⊎◌, inl, inr, min, map, get_or-set_same, get_or-set_other, Option, Some, None, IfSome}
 use Rattle.std.specs.Prelude.{◌==◌, filter, find, remove, is_some, IfNone}
 use Rattle.std.specs.Option.{option_map}
 use Rattle.std.specs.List.{AllByRecursion}

@@ -59,9 +59,13 @@ impl Output {
     pub fn keep(&mut self, rec: Rec, lines: Lines) -> Result<(), NoMemory>
         ensures { OnOk result ((m : Made) → Holds self.old m → Holds self.new (record m { batch = m.batch ++ rec ∷ []; lines = m.lines ++ lines })) }
     {
+        self.records.push(rec)?;
+        if self.lines.as_slice().is_empty() {
+            self.lines = lines;
+            return Ok(());
+        }
         let mut more = lines;
         self.lines.append(&mut more)?;
-        self.records.push(rec)?;
         Ok(())
     }
 

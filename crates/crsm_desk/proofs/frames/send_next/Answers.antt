@@ -1,6 +1,6 @@
-use Rattle.std.proofs.Common.{◌≡◌, ◌∙◌, ◌+◌, ◌<◌, ◌++◌, ap, sym, subst, map, arith, take, get_or, [], ◌∷◌}
+use Rattle.std.proofs.Common.{◌+◌, ◌++◌, sym, subst, map, arith, take, get_or, [], ◌∷◌}
 use Rattle.std.proofs.lemmas.List.{take_all}
-use Rattle.crsm_output.specs.Made.{Made, Holds}
+use Rattle.crsm_output.specs.Made.{Holds}
 use Rattle.crsm_running.specs.Linked.{others_of}
 use Rattle.crsm_spec.specs.Draft.{next_frame}
 use Rattle.crsm_desk.proofs.Sending.{sent-none, sent-other, passed-me}

@@ -1,10 +1,10 @@
-use Rattle.std.proofs.Common.{◌≡◌, ◌∙◌, ◌<◌, ap, sym, subst, arith, [], length-set, get_or, set, map}
-use Rattle.std.specs.Prelude.{filter, is_some, IfSome, IfNone}
+use Rattle.std.proofs.Common.{◌≡◌, ◌∙◌, ap, sym, subst, arith, [], length-set, map}
+use Rattle.std.specs.Prelude.{IfSome, IfNone}
 use Rattle.std.proofs.lemmas.List.{get_or_default}
 use Rattle.crsm_phase.specs.Owed.{IsAscending, without}
 use Rattle.crsm_phase.proofs.Ordered.{ascending_without}
 use Rattle.crsm_commit.specs.Places.{IsFirst}
-use Rattle.crsm_commit.specs.Waiting.{is_in, stamp_of, without_entry}
+use Rattle.crsm_commit.specs.Waiting.{stamp_of, without_entry}
 use Rattle.crsm_commit.proofs.Filed.{filed_without, found_filed, stamps_without}
 use Rattle.crsm_commit.proofs.LeastLemmas.{least_is_first}
 use Rattle.crsm_commit.proofs.VotesLemmas.{counted_without}

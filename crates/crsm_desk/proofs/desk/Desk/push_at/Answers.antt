@@ -1,4 +1,4 @@
-use Rattle.std.proofs.Common.{◌≡◌, ◌∙◌, ◌<◌, ap, sym, subst, arith, All}
+use Rattle.std.proofs.Common.{◌≡◌, ◌∙◌, ◌<◌, ap, arith}
 use Rattle.std.specs.Prelude.{◌==◌, not}
 use Rattle.std.proofs.lemmas.List.Elements.{All-filter}
 use Rattle.crsm_output.specs.Made.{made_of}
