@@ -9,14 +9,15 @@ use Rattle.crsm_world.specs.Schedule.{Schedule, ended, schedule_text, transcript
 use Rattle.crsm_app.specs.State.{State, read_text, shown_text, IsGood, StandsAt}
 use Rattle.crsm_app.specs.Refused.{CutShort, cut_line}
 use Rattle.crsm_app.specs.Run.{SoFar, of_transcript, of_all, RanPartly, RanToEnd, RanToBad, RanSoFar, RanTooLong}
+use Rattle.crsm_app.proofs.Stream.{nothing_pending}
 use Rattle.crsm_app.specs.declared.status.Cause.TheVariants.{Unreadable}
 
 -- ---- the end of the input
 
 -- the end comes in the middle of a line, or before the first
-pub cut_bad : (b a h w : Option (List ℕ)) (st : State) (total : ℕ) → total ≤ 1073741824 → AtEnd a → SoFar b a h w st [] total
+pub cut_bad : (b a h w : Option (List ℕ)) (st : State) (total : ℕ) → total ≤ 1073741824 → AtEnd a → SoFar b a h w st [] total → st.pending ≡ []
     → ((read : Option Schedule) → StandsAt st.world read → CutShort read st.part) → RanToBad b a h w (st.number + 1) Unreadable
-cut_bad b a h w st total within ended s cut = record {
+cut_bad b a h w st total within ended s done cut = record {
   read = s.read;
   good = s.good;
   line_is = ap (λ n. n + 1) s.number;
@@ -24,7 +25,7 @@ cut_bad b a h w st total within ended s cut = record {
   within = subst (λ n. n ≤ 1073741824) (sym s.taken_len ∙ ap (λ ys. length (read_text s.read ++ ys)) (append-nil st.part)) within;
   takes = rw append-nil at s.takes;
   bad = cut_line refl (record { lacks = s.part; cut = cut s.read s.stands; ended = ended });
-  puts = s.puts;
+  puts = nothing_pending b a h w st [] total s done;
 }
 
 -- all lines are done
@@ -49,9 +50,10 @@ finish_by b a h w v st held (Some s) ended good stands t p world none put =
 
 -- a front of the final lines was written
 pub finish_partly : (b a h w v : Option (List ℕ)) (st : State) (total : ℕ) (held : Held)
-    → AtEnd a → SoFar b a h w st [] total → st.world ≡ Some held → length st.part ≡ 0
+    → AtEnd a → SoFar b a h w st [] total → st.pending ≡ [] → st.world ≡ Some held → length st.part ≡ 0
     → ((s : Schedule) → StandsFor held (last_world s) → PutsFront w v (finals_text s)) → RanPartly b a h v
-finish_partly b a h w v st total held ended s world none put = finish_by b a h w v st held s.read ended s.good s.stands s.takes s.puts world none put
+finish_partly b a h w v st total held ended s done world none put =
+    finish_by b a h w v st held s.read ended s.good s.stands s.takes (nothing_pending b a h w st [] total s done) world none put
 
 well_by : (b a h w v : Option (List ℕ)) (st : State) (total : ℕ) (held : Held) (r : Option Schedule) → total ≤ 1073741824 → AtEnd a
     → IsGood r → StandsAt st.world r → Takes b a (read_text r ++ (st.part ++ [])) → length (read_text r ++ (st.part ++ [])) ≡ total → Puts h w (shown_text r)
@@ -70,28 +72,28 @@ well_by b a h w v st total held (Some s) within ended good stands t l p world sh
 
 -- the final lines were written
 pub finish_well : (b a h w v : Option (List ℕ)) (st : State) (total : ℕ) (held : Held) → total ≤ 1073741824 → AtEnd a
-    → SoFar b a h w st [] total → st.world ≡ Some held → length st.part ≡ 0
+    → SoFar b a h w st [] total → st.pending ≡ [] → st.world ≡ Some held → length st.part ≡ 0
     → ((s : Schedule) → StandsFor held (last_world s) → Puts w v (finals_text s)) → RanToEnd b a h v
-finish_well b a h w v st total held within ended s world short put =
-    well_by b a h w v st total held s.read within ended s.good s.stands s.takes s.taken_len s.puts world short put
+finish_well b a h w v st total held within ended s done world short put =
+    well_by b a h w v st total held s.read within ended s.good s.stands s.takes s.taken_len (nothing_pending b a h w st [] total s done) world short put
 
 -- ---- faults and limits
 
 -- all whole lines are handled
-pub ran_so_far : (b a h w : Option (List ℕ)) (st : State) (total : ℕ) → SoFar b a h w st [] total → RanSoFar b a h w
-ran_so_far b a h w st total s = record {
+pub ran_so_far : (b a h w : Option (List ℕ)) (st : State) (total : ℕ) → SoFar b a h w st [] total → st.pending ≡ [] → RanSoFar b a h w
+ran_so_far b a h w st total s done = record {
   read = s.read;
   good = s.good;
   rest = st.part;
   whole = s.part;
   short = s.short;
   takes = rw append-nil at s.takes;
-  puts = s.puts;
+  puts = nothing_pending b a h w st [] total s done;
 }
 
 -- one byte beyond the limit
-pub ran_too_long : (b a c h w : Option (List ℕ)) (st : State) (x : ℕ) → SoFar b a h w st [] 1073741824 → Takes a c (x ∷ []) → RanTooLong b c h w
-ran_too_long b a c h w st x s t =
+pub ran_too_long : (b a c h w : Option (List ℕ)) (st : State) (x : ℕ) → SoFar b a h w st [] 1073741824 → st.pending ≡ [] → Takes a c (x ∷ []) → RanTooLong b c h w
+ran_too_long b a c h w st x s done t =
     let text : read_text s.read ++ (st.part ++ []) ++ (x ∷ []) ≡ read_text s.read ++ (st.part ++ x ∷ []) =
     append_assoc (read_text s.read) (st.part ++ []) (x ∷ []) ∙ ap (λ ys. read_text s.read ++ (ys ++ x ∷ [])) (append-nil st.part) in
     record {
@@ -103,7 +105,7 @@ ran_too_long b a c h w st x s t =
       long = rw append-nil at s.taken_len;
       more = x;
       takes = subst (λ y. Takes b c y) text (takes_after b a c (read_text s.read ++ (st.part ++ [])) (x ∷ []) s.takes t);
-      puts = s.puts;
+      puts = nothing_pending b a h w st [] 1073741824 s done;
     }
 
 -- nothing was read or written

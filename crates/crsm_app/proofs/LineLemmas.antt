@@ -1,6 +1,6 @@
 -- What the readers and the world answer makes a line handled or refused.
 use Rattle.std.specs.Option.{option_map}
-use Rattle.std.proofs.Common.{◌≡◌, ◌≢◌, ℕ, ◌+◌, List, [], Option, Some, None, Result, Ok, Err, IfOk, IfErr, refl, ap, sym, ◌∙◌, subst}
+use Rattle.std.proofs.Common.{◌≡◌, ◌≢◌, ℕ, ◌+◌, List, [], ◌++◌, Option, Some, None, Result, Ok, Err, IfOk, IfErr, refl, ap, sym, ◌∙◌, subst}
 use Rattle.crsm_base.specs.declared.Line.{Line}
 use Rattle.crsm_text.specs.declared.LineError.{LineError}
 use Rattle.crsm_text.specs.declared.LineError.TheVariants.{Unreadable as not_readable, NoMemory as no_memory}
@@ -124,28 +124,21 @@ advances_next line old new before held lines some world next = record {
   after = λ read stands. handled_next read line before held lines next (subst (λ w. StandsAt w read) some stands);
 }
 
-state_of : Option Held → ℕ → List ℕ → State
-state_of world number part = record { world = world; number = number; part = part }
-
-state_is : (st : State) (world : Option Held) (number : ℕ) (part : List ℕ) → st.world ≡ world → st.number ≡ number → st.part ≡ part
-    → st ≡ record { world = world; number = number; part = part }
-unfolding state_of
-state_is st world number part a b c =
-    ap (λ w. state_of w st.number st.part) a ∙ ap (λ n. state_of world n st.part) b ∙ ap (λ ys. state_of world number ys) c
-
--- the part was handled as a line
-pub handles_from : (old new : State) (line : List ℕ) (lines : List Line) → line ≡ old.part → Advances old.world line new.world lines
-    → new.number ≡ old.number + 1 → new.part ≡ [] → Handles old new lines
+-- the part and what came behind it were handled as a line
+pub handles_from : (old new : State) (tail : List ℕ) (lines : List Line) (world : Option Held) → Advances old.world (old.part ++ tail) world lines → new.world ≡ world
+    → new.number ≡ old.number + 1 → new.part ≡ [] → Handles old new tail lines
 unfolding Advances Handles
-handles_from old new line lines line_is advances number part = record {
+handles_from old new tail lines world advances same number part = record {
   held = advances.held;
-  state = state_is new (Some advances.held) (old.number + 1) [] advances.world number part;
-  after = subst (λ ys. (read : Option Schedule) → StandsAt old.world read → HandledAfter read ys advances.held lines) line_is advances.after;
+  world = same ∙ advances.world;
+  number = number;
+  part = part;
+  after = advances.after;
 }
 
-pub handles_number : (old new : State) (lines : List Line) → Handles old new lines → new.number ≡ old.number + 1
+pub handles_number : (old new : State) (tail : List ℕ) (lines : List Line) → Handles old new tail lines → new.number ≡ old.number + 1
 unfolding Handles
-handles_number old new lines h = ap (λ (s : State). s.number) h.state
+handles_number old new tail lines h = h.number
 
 -- the same of an answer that may be an error
 pub advances_if : {E : Type 0} (result : Result (List Line) E) (line : List ℕ) (old : Option Held) (before held : Held) → old ≡ Some before
@@ -177,3 +170,7 @@ pub stops_if : {X : Type 0} (result : Result X Stop) (line : List ℕ) (old : Op
     → ((c : World) → StandsFor before c → IfErr result (λ stopped. StopsNext stopped c line)) → IfErr result (λ stopped. StopsAt stopped old line)
 stops_if (Ok x) line old before some next = tt
 stops_if (Err e) line old before some next = stops_as_next old e before line some next
+
+pub stops_no_memory : (old : Option Held) (line : List ℕ) → StopsAt Stop.NoMemory old line
+unfolding StopsAt
+stops_no_memory old line = tt

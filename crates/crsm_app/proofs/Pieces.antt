@@ -1,8 +1,9 @@
 -- What each call of a replay does, in the words of its contract.
-use Rattle.std.proofs.Common.{◌≡◌, ◌≢◌, ℕ, ◌+◌, ◌<◌, ◌≤◌, List, [], ◌∷◌, ◌++◌, Option, Some, None, length, refl, ap, sym, subst, arith}
+use Rattle.std.proofs.Common.{◌≡◌, ℕ, ◌+◌, ◌<◌, ◌≤◌, List, [], ◌∷◌, ◌++◌, Option, Some, None, Result, Ok, Err, OnOk, IfErr, length, refl, ap, sym, subst, arith, append_assoc}
 use Rattle.std.proofs.lemmas.List.{append-nil}
 use Rattle.crsm_base.specs.declared.Line.{Line}
 use Rattle.crsm_schedule.specs.Transcript.{lines_text}
+use Rattle.crsm_text.specs.Words.{Lacks}
 use Rattle.crsm_io.specs.Streams.{Takes, Puts, PutsFront, AtEnd}
 use Rattle.crsm_spec.specs.World.{finals}
 use Rattle.crsm_world.specs.declared.World.{World as Held}
@@ -11,52 +12,137 @@ use Rattle.crsm_world.specs.Schedule.{Schedule, last_world, finals_text}
 use Rattle.crsm_app.specs.State.{State, StandsAt}
 use Rattle.crsm_app.specs.Handled.{Handles, StopsAt}
 use Rattle.crsm_app.specs.Refused.{CutShort}
-use Rattle.crsm_app.specs.Run.{SoFar, CarriesOn, Ends, Finishes, FinishesWell, Ran}
+use Rattle.crsm_app.specs.Causes.{status_of}
+use Rattle.crsm_app.specs.Run.{SoFar, CarriesOn, Halts, Ends, Finishes, FinishesWell, Ran}
 use Rattle.crsm_app.specs.declared.status.Cause.{Cause}
 use Rattle.crsm_app.specs.declared.status.Cause.TheVariants.{Unreadable as unreadable}
 use Rattle.crsm_app.specs.declared.status.Status.{Status}
 use Rattle.crsm_app.specs.declared.status.Stop.{Stop}
-use Rattle.crsm_app.proofs.Stream.{more, line_partly, line_bad, nothing_more, more_part, too_long, taken_more}
+use Rattle.crsm_app.specs.declared.status.Halt.{Halt}
+use Rattle.crsm_app.proofs.Stream.{more, flushed, partly, all_front, front_front, none_front, front_then, line_bad, more_part, too_long, carries_then, halts_then, taken_more}
 use Rattle.crsm_app.proofs.Ends.{cut_bad, finish_partly, finish_well, ran_so_far, ran_too_long, nothing_ran}
 
 -- ---- a line
 
-pub line_carries : (w v : Option (List ℕ)) (old new : State) (lines : List Line) → Handles old new lines → Puts w v (lines_text (old.number + 1) lines) → CarriesOn w v old new (10 ∷ [])
+pub line_carries : (w : Option (List ℕ)) (old mid new : State) (tail : List ℕ) (lines : List Line) → Handles old mid tail lines
+    → new.world ≡ mid.world → new.number ≡ mid.number → new.part ≡ mid.part → new.pending ≡ old.pending ++ lines_text (old.number + 1) lines
+    → CarriesOn w w old new (tail ++ 10 ∷ []) []
 unfolding CarriesOn Handles
-line_carries w v old new lines handled put = λ before after had ahead total s. more before after had w v old new lines ahead total s handled put
+line_carries w old mid new tail lines handled world number part pending = λ before after had ahead total s.
+    more before after had w old mid new tail lines ahead total
+    (subst (λ ys. SoFar before after had w old ys total) (append_assoc tail (10 ∷ []) ahead) s) handled world number part pending
 
-pub line_ends : (w v : Option (List ℕ)) (old new : State) (lines : List Line) → Handles old new lines → PutsFront w v (lines_text (old.number + 1) lines) → Ends Status.WriteFault w v old (10 ∷ [])
-unfolding Ends Handles Ran
-line_ends w v old new lines handled put = λ before after had ahead total short s. line_partly before after had w v old new lines ahead total s handled put
+pub line_refused : (w : Option (List ℕ)) (old new : State) (tail : List ℕ) (cause : Cause) → Lacks 10 tail → StopsAt (Stop.Bad cause) old.world (old.part ++ tail)
+    → new.pending ≡ old.pending → Halts (Status.BadInput (old.number + 1) cause) w w old new (tail ++ 10 ∷ [])
+unfolding Halts StopsAt Ran
+line_refused w old new tail cause lacks stops same = λ before after had ahead total short s. record {
+  ran = λ now put.
+      line_bad before after had w now old tail ahead total cause short (subst (λ ys. SoFar before after had w old ys total) (append_assoc tail (10 ∷ []) ahead) s)
+      lacks stops (subst (λ x. Puts w now x) same put);
+  partly = λ now put. partly before after had w now old ((tail ++ 10 ∷ []) ++ ahead) total s (subst (λ x. PutsFront w now x) same put);
+}
 
-pub line_refused : (w : Option (List ℕ)) (old : State) (cause : Cause) → StopsAt (Stop.Bad cause) old.world old.part → Ends (Status.BadInput (old.number + 1) cause) w w old (10 ∷ [])
-unfolding Ends StopsAt Ran
-line_refused w old cause stops = λ before after had ahead total short s. line_bad before after had w old ahead total cause short s stops
+-- memory ran out, and a front of what was pending still is
+pub no_memory_halts : (w : Option (List ℕ)) (old new : State) (bytes lost : List ℕ) → old.pending ≡ new.pending ++ lost → Halts Status.NoMemory w w old new bytes
+unfolding Halts Ran
+no_memory_halts w old new bytes lost cut = λ before after had ahead total short s. record {
+  ran = λ now put. partly before after had w now old (bytes ++ ahead) total s (all_front w now old.pending new.pending lost cut put);
+  partly = λ now put. partly before after had w now old (bytes ++ ahead) total s (front_front w now old.pending new.pending lost cut put);
+}
 
-pub no_memory_ends : (w : Option (List ℕ)) (old : State) (bytes : List ℕ) → Ends Status.NoMemory w w old bytes
-unfolding Ends Ran
-no_memory_ends w old bytes = λ before after had ahead total short s. nothing_more before after had w old (bytes ++ ahead) total s
+-- ---- a front of a line
 
--- ---- a byte
-
-pub byte_carries : (w : Option (List ℕ)) (old new : State) (byte : ℕ) → byte ≢ 10 → length old.part < 16777216
-    → new.world ≡ old.world → new.number ≡ old.number → new.part ≡ old.part ++ byte ∷ [] → CarriesOn w w old new (byte ∷ [])
+pub front_carries : (w : Option (List ℕ)) (old new : State) (front : List ℕ) → Lacks 10 front → length old.part + length front ≤ 16777216
+    → new.world ≡ old.world → new.number ≡ old.number → new.part ≡ old.part ++ front → new.pending ≡ old.pending → CarriesOn w w old new front []
 unfolding CarriesOn
-byte_carries w old new byte other short d n p = λ before after had ahead total s. more_part before after had w old new byte ahead total s other short d n p
+front_carries w old new front lacks short world number part pending = λ before after had ahead total s.
+    more_part before after had w old new front ahead total s lacks short world number part pending
 
-pub byte_ends : (w : Option (List ℕ)) (old : State) (byte : ℕ) → byte ≢ 10 → 16777216 ≤ length old.part → Ends (Status.BadInput (old.number + 1) unreadable) w w old (byte ∷ [])
-unfolding Ends Ran
-byte_ends w old byte other long = λ before after had ahead total short s. too_long before after had w old byte ahead total short s other long
+pub front_halts : (w : Option (List ℕ)) (old new : State) (front : List ℕ) → Lacks 10 front → 16777216 < length old.part + length front
+    → new.pending ≡ old.pending → Halts (Status.BadInput (old.number + 1) unreadable) w w old new front
+unfolding Halts Ran
+front_halts w old new front lacks long same = λ before after had ahead total short s. record {
+  ran = λ now put. too_long before after had w now old front ahead total short s lacks long (subst (λ x. Puts w now x) same put);
+  partly = λ now put. partly before after had w now old (front ++ ahead) total s (subst (λ x. PutsFront w now x) same put);
+}
+
+-- ---- what is pending is written
+
+pub flush_carries : (w v : Option (List ℕ)) (old new : State) → Puts w v old.pending
+    → new ≡ record { world = old.world; number = old.number; part = old.part; pending = [] } → CarriesOn w v old new [] []
+unfolding CarriesOn
+flush_carries w v old new put is = λ before after had ahead total s. flushed before after had w v old new ahead total s put is
+
+pub flush_halts : (w v : Option (List ℕ)) (old new : State) → PutsFront w v old.pending → new.pending ≡ [] → Halts Status.WriteFault w v old new []
+unfolding Halts Ran
+flush_halts w v old new put none = λ before after had ahead total short s. record {
+  ran = λ now more.
+      partly before after had w now old ahead total s
+      (front_then w v now old.pending put (all_front v now [] [] [] refl (subst (λ x. Puts v now x) none more)));
+  partly = λ now more. partly before after had w now old ahead total s (front_then w v now old.pending put (subst (λ x. PutsFront v now x) none more));
+}
+
+-- the same of an answer
+pub flush_on : {X : Type 0} (result : Result X Halt) (w v : Option (List ℕ)) (old new : State) → OnOk result (Puts w v old.pending)
+    → new ≡ record { world = old.world; number = old.number; part = old.part; pending = [] } → OnOk result (CarriesOn w v old new [] [])
+flush_on (Ok x) w v old new put is = flush_carries w v old new put is
+flush_on (Err e) w v old new put is = tt
+
+pub flush_off : {X : Type 0} (result : Result X Halt) (w v : Option (List ℕ)) (old new : State) → IfErr result (λ halt. halt ≡ Halt.WriteFault) → PutsFront w v old.pending
+    → new ≡ record { world = old.world; number = old.number; part = old.part; pending = [] } → IfErr result (λ halt. Halts (status_of halt) w v old new [])
+flush_off (Ok x) w v old new fault put is = tt
+flush_off (Err e) w v old new fault put is =
+    subst (λ halt. Halts (status_of halt) w v old new []) (sym fault) (flush_halts w v old new put (ap (λ (st : State). st.pending) is))
 
 -- ---- a piece
 
-pub nothing_carries : (w : Option (List ℕ)) (st : State) → CarriesOn w w st st []
+pub nothing_carries : (w : Option (List ℕ)) (st : State) (bytes : List ℕ) → CarriesOn w w st st bytes bytes
 unfolding CarriesOn
-nothing_carries w st = λ before after had ahead total s. s
+nothing_carries w st bytes = λ before after had ahead total s. s
+
+-- a run that halted, once what was pending is written
+halted_ends : (result : Status) (w v u : Option (List ℕ)) (old mid : State) (bytes : List ℕ) → Halts result w v old mid bytes → Puts v u mid.pending → Ends result w u old bytes
+unfolding Halts Ends
+halted_ends result w v u old mid bytes halts put = λ before after had ahead total short s. (halts before after had ahead total short s).ran u put
+
+halted_faults : (result : Status) (w v u : Option (List ℕ)) (old mid : State) (bytes : List ℕ) → Halts result w v old mid bytes → PutsFront v u mid.pending → Ends Status.WriteFault w u old bytes
+unfolding Halts Ends Ran
+halted_faults result w v u old mid bytes halts put = λ before after had ahead total short s. (halts before after had ahead total short s).partly u put
+
+carried_faults : (w v u : Option (List ℕ)) (old mid : State) (bytes : List ℕ) → CarriesOn w v old mid bytes [] → PutsFront v u mid.pending → Ends Status.WriteFault w u old bytes
+unfolding CarriesOn Ends Ran
+carried_faults w v u old mid bytes on put = λ before after had ahead total short s. partly before after had v u mid ahead total (on before after had ahead total s) put
+
+-- the last bytes of a piece
+pub carries_if : {X : Type 0} (result : Result X Halt) (w v : Option (List ℕ)) (x y z : State) (bytes rest : List ℕ) → CarriesOn w v x y bytes rest
+    → OnOk result (CarriesOn v v y z rest []) → OnOk result (CarriesOn w v x z bytes [])
+carries_if (Ok r) w v x y z bytes rest one other = carries_then w v v x y z bytes rest [] one other
+carries_if (Err e) w v x y z bytes rest one other = tt
+
+pub halts_if : {X : Type 0} (result : Result X Halt) (w v : Option (List ℕ)) (x y z : State) (bytes rest : List ℕ) → CarriesOn w v x y bytes rest
+    → IfErr result (λ halt. Halts (status_of halt) v v y z rest) → IfErr result (λ halt. Halts (status_of halt) w v x z bytes)
+halts_if (Ok r) w v x y z bytes rest one other = tt
+halts_if (Err e) w v x y z bytes rest one other = halts_then (status_of e) w v v x y z bytes rest one other
+
+-- what a piece is to the run, by what its lines are
+pub piece_carries : {X : Type 0} (taken : Result X Halt) (w v u : Option (List ℕ)) (old mid new : State) (bytes : List ℕ) → OnOk taken (CarriesOn w v old mid bytes [])
+    → Puts v u mid.pending → new ≡ record { world = mid.world; number = mid.number; part = mid.part; pending = [] } → OnOk taken (CarriesOn w u old new bytes [])
+piece_carries (Ok x) w v u old mid new bytes on put is = carries_then w v u old mid new bytes [] [] on (flush_carries v u mid new put is)
+piece_carries (Err e) w v u old mid new bytes on put is = tt
+
+pub piece_ends : {X : Type 0} (taken : Result X Halt) (w v u : Option (List ℕ)) (old mid : State) (bytes : List ℕ) → IfErr taken (λ halt. Halts (status_of halt) w v old mid bytes)
+    → Puts v u mid.pending → IfErr taken (λ halt. Ends (status_of halt) w u old bytes)
+piece_ends (Ok x) w v u old mid bytes halts put = tt
+piece_ends (Err e) w v u old mid bytes halts put = halted_ends (status_of e) w v u old mid bytes halts put
+
+pub piece_faults : {X : Type 0} (taken : Result X Halt) (w v u : Option (List ℕ)) (old mid : State) (bytes : List ℕ) → OnOk taken (CarriesOn w v old mid bytes [])
+    → IfErr taken (λ halt. Halts (status_of halt) w v old mid bytes) → PutsFront v u mid.pending → Ends Status.WriteFault w u old bytes
+piece_faults (Ok x) w v u old mid bytes on halts put = carried_faults w v u old mid bytes on put
+piece_faults (Err e) w v u old mid bytes on halts put = halted_faults (status_of e) w v u old mid bytes halts put
 
 -- bytes that were taken are handled
 pub carries_at : (b a c h w v : Option (List ℕ)) (old new : State) (total : ℕ) (xs : List ℕ)
-    → SoFar b a h w old [] total → Takes a c xs → CarriesOn w v old new xs → SoFar b c h v new [] (total + length xs)
+    → SoFar b a h w old [] total → Takes a c xs → CarriesOn w v old new xs [] → SoFar b c h v new [] (total + length xs)
 unfolding CarriesOn
 carries_at b a c h w v old new total xs s takes on =
     on b c h [] (total + length xs) (subst (λ ys. SoFar b c h w old ys (total + length xs)) (sym (append-nil xs)) (taken_more b a c h w old total xs s takes))
@@ -77,36 +163,36 @@ cut_in_line : (part : List ℕ) → 0 < length part → (read : Option Schedule)
 cut_in_line part some None = tt
 cut_in_line part some (Some s) = λ none. let zero : length part ≡ 0 = ap length none in omega (arith, some, zero)
 
-pub unbegun_finishes : (w : Option (List ℕ)) (st : State) → st.world ≡ None → Finishes (Status.BadInput (st.number + 1) unreadable) w w st
+pub unbegun_finishes : (w : Option (List ℕ)) (st : State) → st.pending ≡ [] → st.world ≡ None → Finishes (Status.BadInput (st.number + 1) unreadable) w w st
 unfolding Finishes Ran
-unbegun_finishes w st none = λ before after had total within ended s.
-    cut_bad before after had w st total within ended s (λ read stands. cut_unbegun st.part read (subst (λ x. StandsAt x read) none stands))
+unbegun_finishes w st done none = λ before after had total within ended s.
+    cut_bad before after had w st total within ended s done (λ read stands. cut_unbegun st.part read (subst (λ x. StandsAt x read) none stands))
 
-pub cut_finishes : (w : Option (List ℕ)) (st : State) → 0 < length st.part → Finishes (Status.BadInput (st.number + 1) unreadable) w w st
+pub cut_finishes : (w : Option (List ℕ)) (st : State) → st.pending ≡ [] → 0 < length st.part → Finishes (Status.BadInput (st.number + 1) unreadable) w w st
 unfolding Finishes Ran
-cut_finishes w st some = λ before after had total within ended s. cut_bad before after had w st total within ended s (λ read stands. cut_in_line st.part some read)
+cut_finishes w st done some = λ before after had total within ended s. cut_bad before after had w st total within ended s done (λ read stands. cut_in_line st.part some read)
 
 pub no_memory_finishes : (w : Option (List ℕ)) (st : State) → Finishes Status.NoMemory w w st
 unfolding Finishes Ran
-no_memory_finishes w st = λ before after had total within ended s. nothing_more before after had w st [] total s
+no_memory_finishes w st = λ before after had total within ended s. partly before after had w w st [] total s (none_front w st.pending)
 
 -- the final lines that a world gives are those of the schedule
 final_lines_are : (held : Held) (lines : List Line) (s : Schedule) → lines ≡ finals (last_world s) → lines_text 0 lines ≡ finals_text s
 unfolding finals_text
 final_lines_are held lines s is = ap (λ ls. lines_text 0 ls) is
 
-pub partly_finishes : (w v : Option (List ℕ)) (st : State) (held : Held) (lines : List Line) → st.world ≡ Some held → length st.part ≡ 0
+pub partly_finishes : (w v : Option (List ℕ)) (st : State) (held : Held) (lines : List Line) → st.pending ≡ [] → st.world ≡ Some held → length st.part ≡ 0
     → ((s : Schedule) → StandsFor held (last_world s) → lines ≡ finals (last_world s)) → PutsFront w v (lines_text 0 lines) → Finishes Status.WriteFault w v st
 unfolding Finishes Ran
-partly_finishes w v st held lines world none is put = λ before after had total within ended s.
-    finish_partly before after had w v st total held ended s world none
+partly_finishes w v st held lines done world none is put = λ before after had total within ended s.
+    finish_partly before after had w v st total held ended s done world none
     (λ sch stands. subst (λ ys. PutsFront w v ys) (final_lines_are held lines sch (is sch stands)) put)
 
-pub well_finishes : (w v : Option (List ℕ)) (st : State) (held : Held) (lines : List Line) → st.world ≡ Some held → length st.part ≡ 0
+pub well_finishes : (w v : Option (List ℕ)) (st : State) (held : Held) (lines : List Line) → st.pending ≡ [] → st.world ≡ Some held → length st.part ≡ 0
     → ((s : Schedule) → StandsFor held (last_world s) → lines ≡ finals (last_world s)) → Puts w v (lines_text 0 lines) → FinishesWell w v st
 unfolding FinishesWell
-well_finishes w v st held lines world none is put = λ before after had total within ended s.
-    finish_well before after had w v st total held within ended s world none
+well_finishes w v st held lines done world none is put = λ before after had total within ended s.
+    finish_well before after had w v st total held within ended s done world none
     (λ sch stands. subst (λ ys. Puts w v ys) (final_lines_are held lines sch (is sch stands)) put)
 
 pub finishes_at : (result : Status) (b a c h w v : Option (List ℕ)) (st : State) (total : ℕ)
@@ -121,13 +207,13 @@ finishes_well_at b a c h w v st total s takes within ended finishes = finishes b
 
 -- ---- faults, limits and other words
 
-pub read_fault_at : (b a c h w : Option (List ℕ)) (st : State) (total : ℕ) → SoFar b a h w st [] total → Takes a c [] → Ran Status.ReadFault b c h w
+pub read_fault_at : (b a c h w : Option (List ℕ)) (st : State) (total : ℕ) → SoFar b a h w st [] total → st.pending ≡ [] → Takes a c [] → Ran Status.ReadFault b c h w
 unfolding Ran
-read_fault_at b a c h w st total s takes = ran_so_far b c h w st (total + 0) (taken_more b a c h w st total [] s takes)
+read_fault_at b a c h w st total s done takes = ran_so_far b c h w st (total + 0) (taken_more b a c h w st total [] s takes) done
 
-pub too_long_at : (b a c h w : Option (List ℕ)) (st : State) (x : ℕ) → SoFar b a h w st [] 1073741824 → Takes a c (x ∷ []) → Ran Status.InputTooLong b c h w
+pub too_long_at : (b a c h w : Option (List ℕ)) (st : State) (x : ℕ) → SoFar b a h w st [] 1073741824 → st.pending ≡ [] → Takes a c (x ∷ []) → Ran Status.InputTooLong b c h w
 unfolding Ran
-too_long_at b a c h w st x s takes = ran_too_long b a c h w st x s takes
+too_long_at b a c h w st x s done takes = ran_too_long b a c h w st x s done takes
 
 pub no_memory_at : (b h : Option (List ℕ)) → Ran Status.NoMemory b b h h
 unfolding Ran

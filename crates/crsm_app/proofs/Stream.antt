@@ -1,12 +1,12 @@
 -- A replay in mid-stream goes on, or ends at a bad line.
-use Rattle.std.proofs.Common.{◌≡◌, ◌≢◌, ℕ, ◌+◌, ◌<◌, ◌≤◌, List, [], ◌∷◌, ◌++◌, Option, Some, None, length, refl, ap, sym, ◌∙◌, subst, arith, append_assoc, length-append, take, drop, get_or}
-use Rattle.std.specs.Option.{option_map}
-use Rattle.std.proofs.lemmas.List.{append-nil, append_cancel_left, take_more, drop_more, take-append-drop}
+use Rattle.std.proofs.Common.{◌≡◌, ℕ, ◌+◌, ◌<◌, ◌≤◌, List, [], ◌∷◌, ◌++◌, Option, Some, None, length, refl, ap, sym, ◌∙◌, subst, arith, append_assoc, length-append, take, drop, zero, suc}
+use Rattle.std.proofs.lemmas.List.{append-nil, length-take-le, take-append-drop}
 use Rattle.crsm_base.specs.declared.Line.{Line}
+use Rattle.crsm_text.specs.Words.{Lacks}
 use Rattle.crsm_text.proofs.WordsLemmas.{Lacks-append}
 use Rattle.crsm_schedule.specs.Transcript.{lines_text}
 use Rattle.crsm_io.specs.Streams.{Takes, Puts, PutsFront}
-use Rattle.crsm_io.proofs.Steps.{puts_after, takes_after}
+use Rattle.crsm_io.proofs.Steps.{puts_after, puts_none, takes_after}
 use Rattle.crsm_world.specs.declared.World.{World as Held}
 use Rattle.crsm_world.specs.Standing.{StandsFor}
 use Rattle.crsm_world.specs.Schedule.{Schedule, no_events, with_event, line_count, ended, schedule_text, transcript, last_world}
@@ -14,7 +14,7 @@ use Rattle.crsm_world.proofs.Schedules.{last_world-none, schedule_text-none, tra
 use Rattle.crsm_app.specs.State.{State, read_text, shown_text, IsGood, count_of, StandsAt}
 use Rattle.crsm_app.specs.Handled.{HandledAfter, Handled}
 use Rattle.crsm_app.specs.Refused.{Refused, bad_line, long_line}
-use Rattle.crsm_app.specs.Run.{SoFar, CarriesOn, Ends, WrotePart, of_transcript, RanPartly, RanToBad}
+use Rattle.crsm_app.specs.Run.{SoFar, CarriesOn, Halts, Ends, of_transcript, RanPartly, RanToBad}
 use Rattle.crsm_app.specs.declared.status.Status.{Status}
 use Rattle.crsm_app.specs.declared.status.Cause.{Cause}
 use Rattle.crsm_app.specs.declared.status.Cause.TheVariants.{Unreadable}
@@ -48,155 +48,233 @@ one_more (Some s) held line lines h = record {
   shown = ap (λ ls. transcript s ++ lines_text (line_count s + 1) ls) h.lines_are ∙ sym (transcript-push (line_count s + 1) s h.event refl);
 }
 
--- what is so far, once one more line was handled
-pub more : (b a h w v : Option (List ℕ)) (old new : State) (lines : List Line) (ahead : List ℕ) (total : ℕ)
-    → SoFar b a h w old (10 ∷ ahead) total → Handled old new lines → Puts w v (lines_text (old.number + 1) lines) → SoFar b a h v new ahead total
-more b a h w v old new lines ahead total s handled put =
-    let m = one_more s.read handled.held old.part lines (handled.after s.read s.stands) in
+-- what is so far, once one more line was handled and its text is pending
+pub more : (b a h w : Option (List ℕ)) (old mid new : State) (tail : List ℕ) (lines : List Line) (ahead : List ℕ) (total : ℕ)
+    → SoFar b a h w old (tail ++ 10 ∷ ahead) total → Handled old mid tail lines
+    → new.world ≡ mid.world → new.number ≡ mid.number → new.part ≡ mid.part → new.pending ≡ old.pending ++ lines_text (old.number + 1) lines
+    → SoFar b a h w new ahead total
+more b a h w old mid new tail lines ahead total s handled world_is number_is part_is pending_is =
+    let line : List ℕ = old.part ++ tail in
+    let m = one_more s.read handled.held line lines (handled.after s.read s.stands) in
     let number : old.number + 1 ≡ count_of s.read + 1 = ap (λ n. n + 1) s.number in
-    let text : read_text s.read ++ (old.part ++ 10 ∷ ahead) ≡ schedule_text m.next ++ ahead =
-    ap (λ ys. read_text s.read ++ ys) (sym (append_assoc old.part (10 ∷ []) ahead))
-    ∙ sym (append_assoc (read_text s.read) (ended old.part) ahead) ∙ ap (λ ys. ys ++ ahead) (sym m.text) in
-    let shown : shown_text s.read ++ lines_text (old.number + 1) lines ≡ transcript m.next =
-    ap (λ n. shown_text s.read ++ lines_text n lines) number ∙ m.shown in
-    subst (λ st. SoFar b a h v st ahead total) (sym handled.state) (record {
+    let none : new.part ≡ [] = part_is ∙ handled.part in
+    let text : read_text s.read ++ (old.part ++ (tail ++ 10 ∷ ahead)) ≡ schedule_text m.next ++ (new.part ++ ahead) =
+    ap (λ ys. read_text s.read ++ ys) (sym (append_assoc old.part tail (10 ∷ ahead)) ∙ sym (append_assoc line (10 ∷ []) ahead))
+    ∙ sym (append_assoc (read_text s.read) (ended line) ahead) ∙ ap (λ ys. ys ++ ahead) (sym m.text)
+    ∙ ap (λ (ys : List ℕ). schedule_text m.next ++ (ys ++ ahead)) (sym none) in
+    let long : length new.part ≡ 0 = ap length none in
+    record {
       read = Some m.next;
       good = m.good s.good;
-      stands = m.stands;
-      number = number ∙ sym m.count;
-      part = tt;
-      short = omega arith;
+      stands = subst (λ x. StandsAt x (Some m.next)) (sym (world_is ∙ handled.world)) m.stands;
+      number = number_is ∙ handled.number ∙ number ∙ sym m.count;
+      part = subst (λ ys. Lacks 10 ys) (sym none) tt;
+      short = omega (arith, long);
       takes = subst (λ x. Takes b a x) text s.takes;
       taken_len = ap length (sym text) ∙ s.taken_len;
-      puts = subst (λ x. Puts h v x) shown (puts_after h w v (shown_text s.read) (lines_text (old.number + 1) lines) s.puts put);
-    })
-
--- a front of a text, where all of the text would have made t of s
-partly : (h w v full : Option (List ℕ)) (s t text x : List ℕ) → Puts h w s → PutsFront w v text → Puts w full text → Puts h full t → PutsFront h v (t ++ x)
-partly None w v full s t text x hw wv wf hf =
-    let none : v ≡ None = rw hw at wv.put in
-    record { front = []; rest = t ++ x; cut = refl; put = none }
-partly (Some hh) w v full s t text x hw wv wf hf =
-    let a : full ≡ Some (hh ++ s ++ text) = rw hw at wf in
-    let same : hh ++ (s ++ text) ≡ hh ++ t = let e : hh ++ s ++ text ≡ hh ++ t = cc in sym (append_assoc hh s text) ∙ e in
-    let t_is : s ++ text ≡ t = append_cancel_left hh (s ++ text) t same in
-    let now : v ≡ Some (hh ++ s ++ wv.front) = rw hw at wv.put in
-    record {
-      front = s ++ wv.front;
-      rest = wv.rest ++ x;
-      cut = ap (λ y. y ++ x) (sym t_is ∙ ap (λ y. s ++ y) wv.cut ∙ sym (append_assoc s wv.front wv.rest)) ∙ append_assoc (s ++ wv.front) wv.rest x;
-      put = now ∙ ap Some (append_assoc hh s wv.front);
+      written = s.written;
+      puts = s.puts;
+      shown =
+          sym m.shown ∙ ap (λ n. shown_text s.read ++ lines_text n lines) (sym number) ∙ ap (λ ys. ys ++ lines_text (old.number + 1) lines) s.shown
+          ∙ append_assoc s.written old.pending (lines_text (old.number + 1) lines) ∙ ap (λ ys. s.written ++ ys) (sym pending_is);
     }
 
--- nothing of what is to be written next was written
-nothing_written : (b a h w : Option (List ℕ)) (read : Option Schedule) (rest : List ℕ) → Puts h w (shown_text read) → WrotePart read rest a h w
-nothing_written b a h w read rest puts = of_transcript (record { front = shown_text read; rest = []; cut = sym (append-nil (shown_text read)); put = puts })
+-- ---- what is pending is written
 
-pub nothing_more : (b a h w : Option (List ℕ)) (st : State) (ahead : List ℕ) (total : ℕ) → SoFar b a h w st ahead total → RanPartly b a h w
-nothing_more b a h w st ahead total s = record {
+-- all of it
+pub flushed : (b a h w v : Option (List ℕ)) (old new : State) (ahead : List ℕ) (total : ℕ)
+    → SoFar b a h w old ahead total → Puts w v old.pending → new ≡ record { world = old.world; number = old.number; part = old.part; pending = [] }
+    → SoFar b a h v new ahead total
+flushed b a h w v old new ahead total s put is =
+    subst (λ st. SoFar b a h v st ahead total) (sym is) (record {
+      read = s.read;
+      good = s.good;
+      stands = s.stands;
+      number = s.number;
+      part = s.part;
+      short = s.short;
+      takes = s.takes;
+      taken_len = s.taken_len;
+      written = s.written ++ old.pending;
+      puts = puts_after h w v s.written old.pending s.puts put;
+      shown = s.shown ∙ sym (append-nil (s.written ++ old.pending));
+    })
+
+-- what was written, once all of it is
+pub all_put : (b a h w v : Option (List ℕ)) (st : State) (ahead : List ℕ) (total : ℕ) (s : SoFar b a h w st ahead total) → Puts w v st.pending → Puts h v (shown_text s.read)
+all_put b a h w v st ahead total s put = subst (λ x. Puts h v x) (sym s.shown) (puts_after h w v s.written st.pending s.puts put)
+
+-- what was written, where nothing is pending
+pub nothing_pending : (b a h w : Option (List ℕ)) (st : State) (ahead : List ℕ) (total : ℕ) (s : SoFar b a h w st ahead total) → st.pending ≡ [] → Puts h w (shown_text s.read)
+nothing_pending b a h w st ahead total s none =
+    subst (λ x. Puts h w x) (sym (s.shown ∙ ap (λ ys. s.written ++ ys) none ∙ append-nil s.written)) s.puts
+
+-- a front of it
+pub partly : (b a h w v : Option (List ℕ)) (st : State) (ahead : List ℕ) (total : ℕ) → SoFar b a h w st ahead total → PutsFront w v st.pending → RanPartly b a h v
+partly b a h w v st ahead total s put = record {
   read = s.read;
   good = s.good;
   rest = st.part ++ ahead;
   takes = s.takes;
-  wrote = nothing_written b a h w s.read (st.part ++ ahead) s.puts;
+  wrote = of_transcript (record {
+    front = s.written ++ put.front;
+    rest = put.rest;
+    cut = s.shown ∙ ap (λ ys. s.written ++ ys) put.cut ∙ sym (append_assoc s.written put.front put.rest);
+    put = puts_after h w v s.written put.front s.puts put.put;
+  });
 }
 
--- a line was handled, and a front of its text written
-pub line_partly : (b a h w v : Option (List ℕ)) (old new : State) (lines : List Line) (ahead : List ℕ) (total : ℕ)
-    → SoFar b a h w old (10 ∷ ahead) total → Handled old new lines → PutsFront w v (lines_text (old.number + 1) lines) → RanPartly b a h v
-line_partly b a h w v old new lines ahead total s handled put =
-    let text : List ℕ = lines_text (old.number + 1) lines in
-    let full : Option (List ℕ) = option_map (λ (y : List ℕ). y ++ text) w in
-    let t = more b a h w full old new lines ahead total s handled refl in
+-- all of a front of it
+pub all_front : (w v : Option (List ℕ)) (text front rest : List ℕ) → text ≡ front ++ rest → Puts w v front → PutsFront w v text
+all_front w v text front rest cut put = record { front = front; rest = rest; cut = cut; put = put }
+
+-- a front of a front of it
+pub front_front : (w v : Option (List ℕ)) (text front rest : List ℕ) → text ≡ front ++ rest → PutsFront w v front → PutsFront w v text
+front_front w v text front rest cut put = record {
+  front = put.front;
+  rest = put.rest ++ rest;
+  cut = cut ∙ ap (λ ys. ys ++ rest) put.cut ∙ append_assoc put.front put.rest rest;
+  put = put.put;
+}
+
+-- nothing of it
+pub none_front : (w : Option (List ℕ)) (text : List ℕ) → PutsFront w w text
+none_front w text = record { front = []; rest = text; cut = refl; put = puts_none w }
+
+no_front : (x y : List ℕ) → [] ≡ x ++ y → x ≡ []
+no_front [] y e = refl
+no_front (n ∷ x) y e = absurd (omega (arith, ap length e))
+
+-- a front of it, and then nothing
+pub front_then : (w v u : Option (List ℕ)) (text : List ℕ) → PutsFront w v text → PutsFront v u [] → PutsFront w u text
+front_then w v u text one other =
+    let none : one.front ++ other.front ≡ one.front = ap (λ ys. one.front ++ ys) (no_front other.front other.rest other.cut) ∙ append-nil one.front in
     record {
-      read = t.read;
-      good = t.good;
-      rest = new.part ++ ahead;
-      takes = t.takes;
-      wrote = of_transcript (rw append-nil at (partly h w v full (shown_text s.read) (shown_text t.read) text [] s.puts put refl t.puts));
+      front = one.front ++ other.front;
+      rest = one.rest;
+      cut = one.cut ∙ ap (λ ys. ys ++ one.rest) (sym none);
+      put = puts_after w v u one.front other.front one.put other.put;
     }
 
--- a line that is refused
-pub line_bad : (b a h w : Option (List ℕ)) (old : State) (ahead : List ℕ) (total : ℕ) (cause : Cause) → total ≤ 1073741824
-    → SoFar b a h w old (10 ∷ ahead) total → ((read : Option Schedule) → StandsAt old.world read → Refused read cause old.part)
-    → RanToBad b a h w (old.number + 1) cause
-line_bad b a h w old ahead total cause within s refused = record {
+-- ---- a line that is refused
+
+pub line_bad : (b a h w v : Option (List ℕ)) (old : State) (tail ahead : List ℕ) (total : ℕ) (cause : Cause) → total ≤ 1073741824
+    → SoFar b a h w old (tail ++ 10 ∷ ahead) total → Lacks 10 tail → ((read : Option Schedule) → StandsAt old.world read → Refused read cause (old.part ++ tail))
+    → Puts w v old.pending → RanToBad b a h v (old.number + 1) cause
+line_bad b a h w v old tail ahead total cause within s lacks refused put = record {
   read = s.read;
   good = s.good;
   line_is = ap (λ n. n + 1) s.number;
-  rest = old.part ++ 10 ∷ ahead;
+  rest = old.part ++ (tail ++ 10 ∷ ahead);
   within = subst (λ n. n ≤ 1073741824) (sym s.taken_len) within;
   takes = s.takes;
-  bad = bad_line (record { line = old.part; rest = ahead; text_is = refl; lacks = s.part; refused = refused s.read s.stands });
-  puts = s.puts;
+  bad = bad_line (record {
+    line = old.part ++ tail;
+    rest = ahead;
+    text_is = sym (append_assoc old.part tail (10 ∷ ahead));
+    lacks = Lacks-append 10 old.part tail s.part lacks;
+    refused = refused s.read s.stands;
+  });
+  puts = all_put b a h w v old (tail ++ 10 ∷ ahead) total s put;
 }
 
--- ---- a byte of a line
+-- ---- a front of a line
 
--- one more byte
-pub more_part : (b a h w : Option (List ℕ)) (old new : State) (byte : ℕ) (ahead : List ℕ) (total : ℕ)
-    → SoFar b a h w old (byte ∷ ahead) total → byte ≢ 10 → length old.part < 16777216
-    → new.world ≡ old.world → new.number ≡ old.number → new.part ≡ old.part ++ byte ∷ [] → SoFar b a h w new ahead total
-more_part b a h w old new byte ahead total s other short d n p =
-    let text : read_text s.read ++ (old.part ++ byte ∷ ahead) ≡ read_text s.read ++ (new.part ++ ahead) =
-    ap (λ ys. read_text s.read ++ ys) (sym (append_assoc old.part (byte ∷ []) ahead) ∙ ap (λ ys. ys ++ ahead) (sym p)) in
-    let long : length (old.part ++ byte ∷ []) ≡ length old.part + 1 = length-append old.part (byte ∷ []) in
+pub more_part : (b a h w : Option (List ℕ)) (old new : State) (front ahead : List ℕ) (total : ℕ)
+    → SoFar b a h w old (front ++ ahead) total → Lacks 10 front → length old.part + length front ≤ 16777216
+    → new.world ≡ old.world → new.number ≡ old.number → new.part ≡ old.part ++ front → new.pending ≡ old.pending → SoFar b a h w new ahead total
+more_part b a h w old new front ahead total s lacks short world_is number_is part_is pending_is =
+    let text : read_text s.read ++ (old.part ++ (front ++ ahead)) ≡ read_text s.read ++ (new.part ++ ahead) =
+    ap (λ ys. read_text s.read ++ ys) (sym (append_assoc old.part front ahead) ∙ ap (λ ys. ys ++ ahead) (sym part_is)) in
+    let long : length new.part ≡ length old.part + length front = ap length part_is ∙ length-append old.part front in
     record {
       read = s.read;
       good = s.good;
-      stands = subst (λ x. StandsAt x s.read) (sym d) s.stands;
-      number = n ∙ s.number;
-      part = rw p (Lacks-append 10 old.part (byte ∷ []) s.part (other, tt));
-      short = rw p (omega (arith, long, short));
+      stands = subst (λ x. StandsAt x s.read) (sym world_is) s.stands;
+      number = number_is ∙ s.number;
+      part = subst (λ ys. Lacks 10 ys) (sym part_is) (Lacks-append 10 old.part front s.part lacks);
+      short = omega (arith, long, short);
       takes = subst (λ x. Takes b a x) text s.takes;
       taken_len = ap length (sym text) ∙ s.taken_len;
+      written = s.written;
       puts = s.puts;
+      shown = s.shown ∙ ap (λ ys. s.written ++ ys) (sym pending_is);
     }
 
+lacks_front : (xs : List ℕ) (n : ℕ) → Lacks 10 xs → Lacks 10 (take n xs)
+lacks_front xs zero lacks = tt
+lacks_front [] (suc n) lacks = tt
+lacks_front (x ∷ xs) (suc n) lacks = (lacks.0, lacks_front xs n lacks.1)
+
 -- a line that is too long
-pub too_long : (b a h w : Option (List ℕ)) (old : State) (byte : ℕ) (ahead : List ℕ) (total : ℕ) → total ≤ 1073741824
-    → SoFar b a h w old (byte ∷ ahead) total → byte ≢ 10 → 16777216 ≤ length old.part → RanToBad b a h w (old.number + 1) Unreadable
-too_long b a h w old byte ahead total within s other long =
-    let short = s.short in
-    let len : length (old.part ++ byte ∷ []) ≡ length old.part + 1 = length-append old.part (byte ∷ []) in
+pub too_long : (b a h w v : Option (List ℕ)) (old : State) (front ahead : List ℕ) (total : ℕ) → total ≤ 1073741824
+    → SoFar b a h w old (front ++ ahead) total → Lacks 10 front → 16777216 < length old.part + length front
+    → Puts w v old.pending → RanToBad b a h v (old.number + 1) Unreadable
+too_long b a h w v old front ahead total within s lacks long put =
+    let whole : List ℕ = old.part ++ front in
+    let len : length whole ≡ length old.part + length front = length-append old.part front in
     record {
       read = s.read;
       good = s.good;
       line_is = ap (λ n. n + 1) s.number;
-      rest = old.part ++ byte ∷ ahead;
+      rest = old.part ++ (front ++ ahead);
       within = subst (λ n. n ≤ 1073741824) (sym s.taken_len) within;
       takes = s.takes;
       bad = long_line refl (record {
-        line = old.part ++ byte ∷ [];
-        rest = ahead;
-        text_is = sym (append_assoc old.part (byte ∷ []) ahead);
-        lacks = Lacks-append 10 old.part (byte ∷ []) s.part (other, tt);
-        long = omega (arith, len, short, long);
+        line = take 16777217 whole;
+        rest = drop 16777217 whole ++ ahead;
+        text_is =
+            sym (append_assoc old.part front ahead) ∙ ap (λ ys. ys ++ ahead) (sym (take-append-drop 16777217 whole))
+            ∙ append_assoc (take 16777217 whole) (drop 16777217 whole) ahead;
+        lacks = lacks_front whole 16777217 (Lacks-append 10 old.part front s.part lacks);
+        long = length-take-le 16777217 whole (omega (arith, len, long));
       });
-      puts = s.puts;
+      puts = all_put b a h w v old (front ++ ahead) total s put;
     }
 
--- ---- a piece
+-- ---- one after another
 
--- a byte after a front
-pub carries_more : (w v u : Option (List ℕ)) (x y z : State) (bytes : List ℕ) (i : ℕ) → i < length bytes
-    → CarriesOn w v x y (take i bytes) → CarriesOn v u y z (get_or bytes i 0 ∷ []) → CarriesOn w u x z (take (i + 1) bytes)
+pub carries_then : (w v u : Option (List ℕ)) (x y z : State) (bytes rest last : List ℕ) → CarriesOn w v x y bytes rest → CarriesOn v u y z rest last → CarriesOn w u x z bytes last
 unfolding CarriesOn
-carries_more w v u x y z bytes i within front byte = λ before after had ahead total s.
-    let text : take (i + 1) bytes ++ ahead ≡ take i bytes ++ (get_or bytes i 0 ∷ ahead) =
-    ap (λ ys. ys ++ ahead) (take_more bytes i 0 within) ∙ append_assoc (take i bytes) (get_or bytes i 0 ∷ []) ahead in
-    byte before after had ahead total (front before after had (get_or bytes i 0 ∷ ahead) total (subst (λ ys. SoFar before after had w x ys total) text s))
+carries_then w v u x y z bytes rest last one other = λ before after had ahead total s. other before after had ahead total (one before after had ahead total s)
 
--- an end at a byte after a front
-pub ends_more : (result : Status) (w v u : Option (List ℕ)) (x y : State) (bytes : List ℕ) (i : ℕ) → i < length bytes
-    → CarriesOn w v x y (take i bytes) → Ends result v u y (get_or bytes i 0 ∷ []) → Ends result w u x bytes
-unfolding CarriesOn Ends
-ends_more result w v u x y bytes i within front byte = λ before after had ahead total short s.
-    let rest : List ℕ = drop (i + 1) bytes ++ ahead in
-    let text : bytes ++ ahead ≡ take i bytes ++ (get_or bytes i 0 ∷ rest) =
-    ap (λ ys. ys ++ ahead) (sym (take-append-drop i bytes) ∙ ap (λ ys. take i bytes ++ ys) (drop_more bytes i 0 within))
-    ∙ append_assoc (take i bytes) (get_or bytes i 0 ∷ drop (i + 1) bytes) ahead in
-    byte before after had rest total short (front before after had (get_or bytes i 0 ∷ rest) total (subst (λ ys. SoFar before after had w x ys total) text s))
+-- the same, where the bytes that are handled next are a front of the rest
+pub carries_line : (w v : Option (List ℕ)) (x y : State) (line behind : List ℕ) → CarriesOn w v x y (line ++ 10 ∷ []) [] → CarriesOn w v x y (line ++ 10 ∷ behind) behind
+unfolding CarriesOn
+carries_line w v x y line behind on = λ before after had ahead total s.
+    on before after had (behind ++ ahead) total
+    (subst (λ ys. SoFar before after had w x ys total) (append_assoc line (10 ∷ behind) ahead ∙ sym (append_assoc line (10 ∷ []) (behind ++ ahead))) s)
+
+pub halts_then : (result : Status) (w v u : Option (List ℕ)) (x y z : State) (bytes rest : List ℕ) → CarriesOn w v x y bytes rest → Halts result v u y z rest → Halts result w u x z bytes
+unfolding CarriesOn Halts
+halts_then result w v u x y z bytes rest one other = λ before after had ahead total within s. other before after had ahead total within (one before after had ahead total s)
+
+pub halts_line : (result : Status) (w v : Option (List ℕ)) (x y : State) (line behind : List ℕ) → Halts result w v x y (line ++ 10 ∷ []) → Halts result w v x y (line ++ 10 ∷ behind)
+unfolding Halts
+halts_line result w v x y line behind halts = λ before after had ahead total within s.
+    halts before after had (behind ++ ahead) total within
+    (subst (λ ys. SoFar before after had w x ys total) (append_assoc line (10 ∷ behind) ahead ∙ sym (append_assoc line (10 ∷ []) (behind ++ ahead))) s)
+
+-- the line at the front of the rest
+pub past_line : (w v : Option (List ℕ)) (x y z : State) (bytes rest line behind : List ℕ) → rest ≡ line ++ 10 ∷ behind → CarriesOn w v x y bytes rest
+    → CarriesOn v v y z (line ++ 10 ∷ []) [] → CarriesOn w v x z bytes behind
+past_line w v x y z bytes rest line behind is one other =
+    carries_then w v v x y z bytes rest behind one (subst (λ ys. CarriesOn v v y z ys behind) (sym is) (carries_line v v y z line behind other))
+
+pub at_line : (result : Status) (w v : Option (List ℕ)) (x y z : State) (bytes rest line behind : List ℕ) → rest ≡ line ++ 10 ∷ behind → CarriesOn w v x y bytes rest
+    → Halts result v v y z (line ++ 10 ∷ []) → Halts result w v x z bytes
+at_line result w v x y z bytes rest line behind is one other =
+    halts_then result w v v x y z bytes rest one (subst (λ ys. Halts result v v y z ys) (sym is) (halts_line result v v y z line behind other))
+
+-- what is pending behind it
+pub past_flush : (w v u : Option (List ℕ)) (x y z : State) (bytes rest : List ℕ) → CarriesOn w v x y bytes rest → CarriesOn v u y z [] [] → CarriesOn w u x z bytes rest
+unfolding CarriesOn
+past_flush w v u x y z bytes rest one other = λ before after had ahead total s. other before after had (rest ++ ahead) total (one before after had ahead total s)
+
+pub at_flush : (result : Status) (w v u : Option (List ℕ)) (x y z : State) (bytes rest : List ℕ) → CarriesOn w v x y bytes rest → Halts result v u y z [] → Halts result w u x z bytes
+unfolding CarriesOn Halts
+at_flush result w v u x y z bytes rest one other = λ before after had ahead total within s.
+    other before after had (rest ++ ahead) total within (one before after had ahead total s)
 
 -- bytes that were taken are ahead
 pub taken_more : (b a c h w : Option (List ℕ)) (st : State) (total : ℕ) (xs : List ℕ)
@@ -213,5 +291,7 @@ taken_more b a c h w st total xs s t =
       short = s.short;
       takes = subst (λ x. Takes b c x) text (takes_after b a c (read_text s.read ++ (st.part ++ [])) xs s.takes t);
       taken_len = ap length (sym text) ∙ length-append (read_text s.read ++ (st.part ++ [])) xs ∙ ap (λ n. n + length xs) s.taken_len;
+      written = s.written;
       puts = s.puts;
+      shown = s.shown;
     }

@@ -1,5 +1,5 @@
 -- A line that is handled: what it adds to what has been read, and its lines of the transcript.
-use Rattle.std.specs.Prelude.{◌≡◌, ℕ, ◌+◌, List, [], Option, Some, None}
+use Rattle.std.specs.Prelude.{◌≡◌, ℕ, ◌+◌, List, [], ◌++◌, Option, Some, None}
 use Rattle.crsm_base.specs.declared.Line.{Line}
 use Rattle.crsm_schedule.specs.declared.Event.{Event}
 use Rattle.crsm_schedule.specs.Grammar.{IsSize, first_text, event_text}
@@ -49,14 +49,16 @@ pub record Advanced (old : Option Held) (line : List ℕ) (new : Option Held) (l
 unfoldable pub Advances : Option Held → List ℕ → Option Held → List Line → Type 0
 Advances old line new lines = Advanced old line new lines
 
--- the part was handled as a line
-pub record Handled (old new : State) (lines : List Line) : Type 0 where
+-- the part and what came behind it were handled as a line
+pub record Handled (old new : State) (tail : List ℕ) (lines : List Line) : Type 0 where
   pub held : Held
-  pub state : new ≡ record { world = Some held; number = old.number + 1; part = [] }
-  pub after : (read : Option Schedule) → StandsAt old.world read → HandledAfter read old.part held lines
+  pub world : new.world ≡ Some held
+  pub number : new.number ≡ old.number + 1
+  pub part : new.part ≡ []
+  pub after : (read : Option Schedule) → StandsAt old.world read → HandledAfter read (old.part ++ tail) held lines
 
-unfoldable pub Handles : State → State → List Line → Type 0
-Handles old new lines = Handled old new lines
+unfoldable pub Handles : State → State → List ℕ → List Line → Type 0
+Handles old new tail lines = Handled old new tail lines
 
 -- a line is not handled: it is refused, or memory ran out
 unfoldable pub StopsFirst : Stop → List ℕ → Type 0

@@ -12,7 +12,8 @@ use Rattle.crsm_app.specs.declared.status.Status.{Status}
 
 -- ---- in mid-stream
 
--- This has been read and its transcript written, so many bytes were taken, and the last of these are still ahead.
+-- This has been read, and its transcript is what was written and what is pending; so many bytes were taken, and the last
+-- of these are still ahead.
 pub record SoFar (before after had has : Option (List ℕ)) (state : State) (ahead : List ℕ) (total : ℕ) : Type 0 where
   pub read : Option Schedule
   pub good : IsGood read
@@ -22,7 +23,9 @@ pub record SoFar (before after had has : Option (List ℕ)) (state : State) (ahe
   pub short : length state.part ≤ 16777216
   pub takes : Takes before after (read_text read ++ (state.part ++ ahead))
   pub taken_len : length (read_text read ++ (state.part ++ ahead)) ≡ total
-  pub puts : Puts had has (shown_text read)
+  pub written : List ℕ
+  pub puts : Puts had has written
+  pub shown : shown_text read ≡ written ++ state.pending
 
 -- ---- by the status
 
@@ -94,10 +97,20 @@ Ran Status.InputTooLong before after had has = RanTooLong before after had has
 
 -- ---- pieces
 
--- these bytes were handled, and what was so far goes on
-unfoldable pub CarriesOn : Option (List ℕ) → Option (List ℕ) → State → State → List ℕ → Type 0
-CarriesOn has now old new bytes = (before after had : Option (List ℕ)) (ahead : List ℕ) (total : ℕ)
-    → SoFar before after had has old (bytes ++ ahead) total → SoFar before after had now new ahead total
+-- these bytes were handled but for the rest, and what was so far goes on
+unfoldable pub CarriesOn : Option (List ℕ) → Option (List ℕ) → State → State → List ℕ → List ℕ → Type 0
+CarriesOn has now old new bytes rest = (before after had : Option (List ℕ)) (ahead : List ℕ) (total : ℕ)
+    → SoFar before after had has old (bytes ++ ahead) total → SoFar before after had now new (rest ++ ahead) total
+
+-- the run ends once what is pending is written, or with a front of it
+pub record Halted (result : Status) (before after had has : Option (List ℕ)) (pending : List ℕ) : Type 0 where
+  pub ran : (now : Option (List ℕ)) → Puts has now pending → Ran result before after had now
+  pub partly : (now : Option (List ℕ)) → PutsFront has now pending → RanPartly before after had now
+
+-- in these bytes the run ends, but for what is pending
+unfoldable pub Halts : Status → Option (List ℕ) → Option (List ℕ) → State → State → List ℕ → Type 0
+Halts result has now old new bytes = (before after had : Option (List ℕ)) (ahead : List ℕ) (total : ℕ) → total ≤ 1073741824
+    → SoFar before after had has old (bytes ++ ahead) total → Halted result before after had now new.pending
 
 -- in these bytes the run ends
 unfoldable pub Ends : Status → Option (List ℕ) → Option (List ℕ) → State → List ℕ → Type 0

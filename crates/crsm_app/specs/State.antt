@@ -4,11 +4,13 @@ use Rattle.crsm_world.specs.declared.World.{World}
 use Rattle.crsm_world.specs.Standing.{StandsFor}
 use Rattle.crsm_world.specs.Schedule.{Schedule, IsSchedule, schedule_text, transcript, finals_text, last_world, line_count}
 
--- the world once the first line has come, how many lines have come, and what has come of the next
+-- the world once the first line has come, how many lines have come, what has come of the next, and the text that is
+-- still to be written
 pub record State : Type 0 where
   pub world : Option World
   pub number : ℕ
   pub part : List ℕ
+  pub pending : List ℕ
 
 -- ---- what has been read
 

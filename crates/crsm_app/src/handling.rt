@@ -1,6 +1,6 @@
 //! One line of a schedule: it begins a world, or is an event of it.
 
-ghost use Rattle.std.specs.Prelude.{◌≡◌, IfOk, IfErr};
+ghost use Rattle.std.specs.Prelude.{◌≡◌, ◌++◌, IfOk, IfErr, OnOk};
 ghost use Rattle.std.specs.Option.{option_map};
 ghost use Rattle.crsm_schedule.specs.Grammar.{FitsEvent, event_text};
 ghost use Rattle.crsm_schedule.specs.Transcript.{lines_text};
@@ -15,9 +15,6 @@ use crsm_base::{Bytes, Lines, NoMemory};
 use crsm_schedule::{Event, LineError, push_line, read_event, read_first};
 use crsm_world::{Bad, World};
 use std::alloc::Global;
-
-/// The room that is made for the text of a line, in bytes: few lines take more.
-const LINE_ROOM: usize = 96;
 
 impl From<NoMemory> for Stop {
     ghost use Rattle.std.specs.Prelude.{◌≡◌};
@@ -119,14 +116,12 @@ pub(crate) fn take_line(
     }
 }
 
-/// The text of the lines of a transcript.
-pub(crate) fn text_of(alloc: Global, at: u64, lines: &Lines) -> Result<Bytes, NoMemory>
-    ensures { IfOk result (λ text. text ≡ lines_text at lines.now) }
+/// Adds the text of the lines of a transcript. After an error what is there is of no use.
+pub(crate) fn push_lines(text: &mut Bytes, at: u64, lines: &Lines) -> Result<(), NoMemory>
+    ensures { OnOk result (text.new ≡ text.old ++ lines_text at lines.now) }
 {
-    let mut text = Bytes::new(alloc);
-    text.reserve(lines.as_slice().len().saturating_mul(LINE_ROOM))?;
     for line in lines.as_slice() {
-        push_line(&mut text, at, line)?;
+        push_line(text, at, line)?;
     }
-    Ok(text)
+    Ok(())
 }

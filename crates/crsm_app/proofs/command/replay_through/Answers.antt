@@ -8,7 +8,7 @@ use Rattle.crsm_app.proofs.command.replay_through.Goals as goal
 
 pub returns-in_default-clause-ran : goal.returns-in_default-clause-ran
 returns-in_default-clause-ran g c =
-    read_fault_at _ _ (g.I.Source.left c.read.new.self) _ _ c.loop-count.replay c.loop-count.total c.loop-count.invariant.so_far c.in_default.ensures.taken
+    read_fault_at _ _ (g.I.Source.left c.read.new.self) _ _ c.loop-count.replay c.loop-count.total c.loop-count.invariant.so_far c.loop-count.invariant.pending c.in_default.ensures.taken
 
 pub returns-in-Err-clause-ran : goal.returns-in-Err-clause-ran
 returns-in-Err-clause-ran g c =
@@ -39,7 +39,7 @@ returns-then-total-eq-MAX_INPUT_BYTES-clause-ran g c =
     let whole = c.requires in
     let one : length c.read.new.buf ≡ 1 = omega (arith, length-take {A = ℕ}, c.read.auto.buf, left, whole, want) in
     let byte = one_byte c.read.new.buf c.in-Ok.count (omega (arith, c.if-count-eq0.false)) c.in-Ok.ensures.bound one in
-    too_long_at _ _ (g.I.Source.left c.read.new.self) _ _ c.loop-count.replay byte.0 s
+    too_long_at _ _ (g.I.Source.left c.read.new.self) _ _ c.loop-count.replay byte.0 s c.loop-count.invariant.pending
     (subst (λ x. Takes (g.I.Source.left c.loop-count.input) (g.I.Source.left c.read.new.self) x) byte.1 c.in-Ok.ensures.taken)
 
 -- what was read stands at the front of the buffer
@@ -87,6 +87,7 @@ loop-count-preserved g c =
     record {
       so_far = subst (λ n. SoFar (g.I.Source.left c.args.input.now) (g.I.Source.left c.read.new.self) (g.O.Sink.written c.args.output.now) (g.O.Sink.written c.feed.new.output) c.feed.new.self [] n)
           (ap (λ n. c.loop-count.total + n) len) so_far;
+      pending = c.in_default-feed.ensures.pending;
       within = omega (arith, fits, want, bound);
       number = omega (arith, number, more, fed);
       read_later = omega (arith, before, read);

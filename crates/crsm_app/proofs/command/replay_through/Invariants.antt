@@ -1,10 +1,11 @@
-use Rattle.std.proofs.Common.{◌≤◌, ◌-◌, []}
+use Rattle.std.proofs.Common.{◌≡◌, ◌≤◌, ◌-◌, []}
 use Rattle.crsm_app.specs.Run.{SoFar}
 use Rattle.crsm_app.proofs.command.replay_through.Given as goal
 
 abbrev pub invariant-loop-count : goal.invariant-loop-count
 invariant-loop-count g l = record {
   so_far : SoFar (g.I.Source.left l.fn.input) (g.I.Source.left l.input) (g.O.Sink.written l.fn.output) (g.O.Sink.written l.output) l.replay [] l.total;
+  pending : l.replay.pending ≡ [];
   within : l.total ≤ 1073741824;
   number : l.replay.number ≤ l.total;
   read_later : g.I.Source.faults l.fn.input ≤ g.I.Source.faults l.input;

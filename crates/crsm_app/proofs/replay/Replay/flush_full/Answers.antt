@@ -1,0 +1,12 @@
+use Rattle.std.proofs.Common.{[]}
+use Rattle.crsm_app.proofs.Pieces.{nothing_carries, flush_on, flush_off}
+use Rattle.crsm_app.proofs.replay.Replay.flush_full.Goals as goal
+
+pub returns-then-as_slice-lt-FULL_BYTES-clause-ok : goal.returns-then-as_slice-lt-FULL_BYTES-clause-ok
+returns-then-as_slice-lt-FULL_BYTES-clause-ok g c = nothing_carries (g.O.Sink.written c.args.output.now) c.args.self.now []
+
+pub returns-clause-ok : goal.returns-clause-ok
+returns-clause-ok g c = flush_on c.flush.result _ _ c.args.self.now c.flush.new.self c.flush.ensures.put c.flush.ensures.state
+
+pub returns-clause-err : goal.returns-clause-err
+returns-clause-err g c = flush_off c.flush.result _ _ c.args.self.now c.flush.new.self c.flush.ensures.fault c.flush.ensures.front c.flush.ensures.state
