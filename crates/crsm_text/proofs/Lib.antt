@@ -5,3 +5,4 @@ pub mod Commas
 pub mod TextLaws
 pub mod Hex
 pub mod Rows
+mod Digits

@@ -7,6 +7,9 @@ ghost use Rattle.crsm_text.specs.Words.{Lacks};
 use itoa::Buffer;
 use std::str::from_utf8;
 
+/// Where a number is below this, ten times the number and a digit fit.
+const MOST_TENS: u64 = 1_000_000_000_000_000_000;
+
 /// The bytes before the first separator, and those after it.
 pub fn split_field(input: &[u8], separator: u8) -> Option<(&[u8], &[u8])>
     ensures found { IfSome result (λ s. input.now ≡ s.0.now ++ separator ∷ s.1.now) }
@@ -23,6 +26,39 @@ pub fn split_field(input: &[u8], separator: u8) -> Option<(&[u8], &[u8])>
 
 /// The number that a word spells in decimal digits, without a leading zero.
 pub fn read_number(word: &[u8]) -> Option<u64>
+    ensures found { IfSome result (λ n. word.now ≡ decimal n) }
+    ensures only { (n : ℕ) → n < 2 ^ 64 → word.now ≡ decimal n → result ≡ Some n }
+{
+    match read_digits(word) {
+        Some(number) => Some(number),
+        None => read_any(word),
+    }
+}
+
+// Digit by digit, as far as the next one surely fits: nearly every number is read so.
+fn read_digits(word: &[u8]) -> Option<u64>
+    ensures { IfSome result (λ n. word.now ≡ decimal n) }
+{
+    let [first, others @ ..] = word else {
+        return None;
+    };
+    if *first == b'0' && word.len() == 1 {
+        return Some(0);
+    }
+    if *first < b'1' || *first > b'9' {
+        return None;
+    }
+    let mut number = u64::from(*first - b'0');
+    for byte in others {
+        if *byte < b'0' || *byte > b'9' || number >= MOST_TENS {
+            return None;
+        }
+        number = number * 10 + u64::from(*byte - b'0');
+    }
+    Some(number)
+}
+
+fn read_any(word: &[u8]) -> Option<u64>
     ensures found { IfSome result (λ n. word.now ≡ decimal n) }
     ensures only { (n : ℕ) → n < 2 ^ 64 → word.now ≡ decimal n → result ≡ Some n }
 {

@@ -1,7 +1,7 @@
 //! Adds words to bytes. After an error a front of the text may have been added.
 
-ghost use Rattle.std.specs.Prelude.{◌≡◌, ◌≤◌, ◌++◌, ◌∷◌, OnOk, decimal, length};
-ghost use Rattle.hex.specs.Hex.{encode_lower};
+ghost use Rattle.std.specs.Prelude.{◌≡◌, ◌≤◌, ◌++◌, ◌∷◌, ◌<◌, OnOk, decimal, length, slice_index};
+ghost use Rattle.hex.specs.Hex.{encode_lower, lower_digits};
 ghost use Rattle.crsm_text.specs.Words.{named, numbers, commas};
 ghost use Rattle.crsm_text.specs.Values.{value_text, option_text, answer_text};
 
@@ -63,17 +63,28 @@ pub fn push_named(out: &mut Bytes, name: &[u8], values: &[u64]) -> Result<(), No
     Ok(())
 }
 
-// The digits of a piece are written on the stack, so that no list is made for them.
+fn digit(value: u8) -> u8
+    requires { value < 16 }
+    ensures { result ≡ slice_index lower_digits value }
+{
+    if value < 10 {
+        b'0' + value
+    } else {
+        b'a' + (value - 10)
+    }
+}
+
+// The digits of a piece are written on the stack, and added at once.
 fn push_piece(out: &mut Bytes, piece: &[u8]) -> Result<(), NoMemory>
     requires { length piece.now ≤ 64 }
     ensures { OnOk result (out.new ≡ out.old ++ encode_lower piece.now) }
 {
     let mut row = [0; 2 * PIECE_BYTES];
-    let digits = &mut row[..2 * piece.len()];
-    let Ok(()) = hex::encode_to_slice(piece, digits) else {
-        unreachable!();
-    };
-    out.append(digits)
+    for (i, byte) in piece.iter().enumerate() {
+        row[2 * i] = digit(*byte / 16);
+        row[2 * i + 1] = digit(*byte % 16);
+    }
+    out.append(&row[..2 * piece.len()])
 }
 
 /// Adds bytes in lower-case hexadecimal.
