@@ -1,22 +1,22 @@
 //! Prints the lines of a transcript.
 
-ghost use Rattle.std.specs.Prelude.{◌≡◌, ◌++◌, ◌∷◌, [], OnOk, OnErr, codes};
-ghost use Rattle.hex.specs.Hex.{encode_lower};
-ghost use Rattle.crsm_text.specs.Words.{named};
-ghost use Rattle.crsm_schedule.specs.Transcript.{line_words, line_text, outcome_text, kind_text, state_text};
+ghost use Rattle.std.specs.Prelude.{◌≡◌, ◌≤◌, ◌++◌, ◌∷◌, [], OnOk, OnErr, codes, decimal, length};
+ghost use Rattle.crsm_text.specs.Words.{named, numbers};
+ghost use Rattle.crsm_schedule.specs.Transcript.{line_text, outcome_text, kind_text, state_text};
 
 use crsm_base::{Bytes, Line, NoMemory, Outcome, SendKind, State};
-use crsm_text::{push_answer, push_hex, push_members, push_named, push_number, push_numbers};
+use crsm_text::{push_answer, push_hex, push_members, push_named, push_numbered, push_numbers};
 use std::alloc::Global;
 
-/// Adds the kind of a datagram, between two spaces.
-fn push_kind(out: &mut Bytes, kind: SendKind) -> Result<(), NoMemory>
-    ensures { OnOk result (out.new ≡ out.old ++ 32 ∷ (kind_text kind ++ 32 ∷ [])) }
+/// The kind of a datagram, between two spaces.
+fn spaced_kind(kind: SendKind) -> &'static [u8]
+    ensures text { result.now ≡ 32 ∷ (kind_text kind ++ 32 ∷ []) }
+    ensures short { length result.now ≤ 8 }
 {
     match kind {
-        SendKind::Frame => out.append(b" frame "),
-        SendKind::Ack => out.append(b" ack "),
-        SendKind::Part => out.append(b" part "),
+        SendKind::Frame => b" frame ",
+        SendKind::Ack => b" ack ",
+        SendKind::Part => b" part ",
     }
 }
 
@@ -31,30 +31,46 @@ fn push_state(out: &mut Bytes, state: State) -> Result<(), NoMemory>
     }
 }
 
-/// Adds the part that the lines of all replies begin with, and a space.
-fn push_reply(out: &mut Bytes, replica: u32, client: u64, number: u64) -> Result<(), NoMemory>
-    ensures { OnOk result (out.new ≡ out.old ++ (named (codes "reply") (replica ∷ client ∷ number ∷ []) ++ 32 ∷ [])) }
+/// Adds the number of a line, the part that the lines of all replies begin with, and a space.
+fn push_reply(
+    out: &mut Bytes,
+    at: u64,
+    replica: u32,
+    client: u64,
+    number: u64,
+) -> Result<(), NoMemory>
+    ensures { OnOk result (out.new ≡ out.old ++ (decimal at ++ 32 ∷ (named (codes "reply") (replica ∷ client ∷ number ∷ []) ++ 32 ∷ []))) }
 {
-    push_named(out, b"reply", &[u64::from(replica), client, number])?;
-    out.push(b' ')?;
-    Ok(())
+    let values = [u64::from(replica), client, number];
+    push_numbered(out, at, b"reply", &values, b" ")
 }
 
-/// Adds a word, the number of a receiver, and the bytes that it gets.
-fn push_datagram(out: &mut Bytes, name: &[u8], receiver: u64, bytes: &Bytes) -> Result<(), NoMemory>
-    ensures { OnOk result (out.new ≡ out.old ++ (named name.now (receiver ∷ []) ++ 32 ∷ encode_lower bytes.now)) }
+fn push_final(
+    out: &mut Bytes,
+    replica: u32,
+    state: State,
+    known: u64,
+    executed: u64,
+) -> Result<(), NoMemory>
+    ensures { OnOk result (out.new ≡ out.old ++ (named (codes "final") (replica ∷ []) ++ 32 ∷ (state_text state ++ numbers (known ∷ executed ∷ [])) ++ 10 ∷ [])) }
 {
-    push_named(out, name, &[receiver])?;
+    push_named(out, b"final", &[u64::from(replica)])?;
     out.push(b' ')?;
-    push_hex(out, bytes.as_slice())?;
-    Ok(())
+    push_state(out, state)?;
+    push_numbers(out, &[known, executed])?;
+    out.push(b'\n')
 }
 
-fn push_words(out: &mut Bytes, line: &Line) -> Result<(), NoMemory>
-    ensures { OnOk result (out.new ≡ out.old ++ line_words line.now) }
+/// Adds a line of the transcript with its line feed, behind the number of the line of input that caused it.
+/// A final line has no number. After an error a front of the line may have been added.
+pub fn push_line(out: &mut Bytes, at: u64, line: &Line) -> Result<(), NoMemory>
+    ensures { OnOk result (out.new ≡ out.old ++ line_text at line.now) }
 {
     match line {
-        Line::Boot { replica, count } => push_named(out, b"boot", &[u64::from(*replica), *count]),
+        Line::Boot { replica, count } => {
+            let values = [u64::from(*replica), *count];
+            push_numbered(out, at, b"boot", &values, b"\n")
+        }
         Line::Submit {
             replica,
             epoch,
@@ -63,7 +79,7 @@ fn push_words(out: &mut Bytes, line: &Line) -> Result<(), NoMemory>
             number,
         } => {
             let values = [u64::from(*replica), *epoch, *time, *client, *number];
-            push_named(out, b"submit", &values)
+            push_numbered(out, at, b"submit", &values, b"\n")
         }
         Line::Log {
             replica,
@@ -72,7 +88,7 @@ fn push_words(out: &mut Bytes, line: &Line) -> Result<(), NoMemory>
         } => {
             let origin = u64::from(stamp.origin);
             let values = [u64::from(*replica), *epoch, stamp.time, origin];
-            push_named(out, b"log", &values)
+            push_numbered(out, at, b"log", &values, b"\n")
         }
         Line::Exec {
             replica,
@@ -88,15 +104,14 @@ fn push_words(out: &mut Bytes, line: &Line) -> Result<(), NoMemory>
             let values = [
                 replica, *place, *epoch, stamp.time, origin, *client, *number,
             ];
-            push_named(out, b"exec", &values)?;
-            out.push(b' ')?;
-            push_answer(out, answer)
+            push_numbered(out, at, b"exec", &values, b" ")?;
+            push_answer(out, answer)?;
+            out.push(b'\n')
         }
-        Line::Suspend { replica, epoch } => push_named(
-            out,
-            b"suspend",
-            &[u64::from(*replica), *epoch],
-        ),
+        Line::Suspend { replica, epoch } => {
+            let values = [u64::from(*replica), *epoch];
+            push_numbered(out, at, b"suspend", &values, b"\n")
+        }
         Line::Promise {
             replica,
             instance,
@@ -104,7 +119,7 @@ fn push_words(out: &mut Bytes, line: &Line) -> Result<(), NoMemory>
             by,
         } => {
             let values = [u64::from(*replica), *instance, *round, u64::from(*by)];
-            push_named(out, b"promise", &values)
+            push_numbered(out, at, b"promise", &values, b"\n")
         }
         Line::Accept {
             replica,
@@ -113,7 +128,7 @@ fn push_words(out: &mut Bytes, line: &Line) -> Result<(), NoMemory>
             by,
         } => {
             let values = [u64::from(*replica), *instance, *round, u64::from(*by)];
-            push_named(out, b"accept", &values)
+            push_numbered(out, at, b"accept", &values, b"\n")
         }
         Line::Decide {
             replica,
@@ -122,12 +137,16 @@ fn push_words(out: &mut Bytes, line: &Line) -> Result<(), NoMemory>
             base_len,
             count,
         } => {
-            push_named(out, b"decide", &[u64::from(*replica), *epoch])?;
-            out.push(b' ')?;
+            let values = [u64::from(*replica), *epoch];
+            push_numbered(out, at, b"decide", &values, b" ")?;
             push_members(out, members)?;
-            push_numbers(out, &[*base_len, *count])
+            push_numbers(out, &[*base_len, *count])?;
+            out.push(b'\n')
         }
-        Line::Enter { replica, epoch } => push_named(out, b"enter", &[u64::from(*replica), *epoch]),
+        Line::Enter { replica, epoch } => {
+            let values = [u64::from(*replica), *epoch];
+            push_numbered(out, at, b"enter", &values, b"\n")
+        }
         Line::TooMany {
             replica,
             epoch,
@@ -135,7 +154,7 @@ fn push_words(out: &mut Bytes, line: &Line) -> Result<(), NoMemory>
             bytes,
         } => {
             let values = [u64::from(*replica), *epoch, *count, *bytes];
-            push_named(out, b"toomany", &values)
+            push_numbered(out, at, b"toomany", &values, b"\n")
         }
         Line::Send {
             index,
@@ -145,9 +164,9 @@ fn push_words(out: &mut Bytes, line: &Line) -> Result<(), NoMemory>
             bytes,
         } => {
             let values = [*index, u64::from(*from), u64::from(*to)];
-            push_named(out, b"send", &values)?;
-            push_kind(out, *kind)?;
-            push_hex(out, bytes.as_slice())
+            push_numbered(out, at, b"send", &values, spaced_kind(*kind))?;
+            push_hex(out, bytes.as_slice())?;
+            out.push(b'\n')
         }
         Line::ReplyOk {
             replica,
@@ -156,10 +175,11 @@ fn push_words(out: &mut Bytes, line: &Line) -> Result<(), NoMemory>
             place,
             answer,
         } => {
-            push_reply(out, *replica, *client, *number)?;
+            push_reply(out, at, *replica, *client, *number)?;
             push_named(out, b"ok", &[*place])?;
             out.push(b' ')?;
-            push_answer(out, answer)
+            push_answer(out, answer)?;
+            out.push(b'\n')
         }
         Line::ReplyNo {
             replica,
@@ -167,8 +187,9 @@ fn push_words(out: &mut Bytes, line: &Line) -> Result<(), NoMemory>
             number,
             code,
         } => {
-            push_reply(out, *replica, *client, *number)?;
-            push_named(out, b"no", &[u64::from(*code)])
+            push_reply(out, at, *replica, *client, *number)?;
+            push_named(out, b"no", &[u64::from(*code)])?;
+            out.push(b'\n')
         }
         Line::ReplyDropped {
             replica,
@@ -177,39 +198,32 @@ fn push_words(out: &mut Bytes, line: &Line) -> Result<(), NoMemory>
             epoch,
             stamp,
         } => {
-            push_reply(out, *replica, *client, *number)?;
+            push_reply(out, at, *replica, *client, *number)?;
             let origin = u64::from(stamp.origin);
-            push_named(out, b"no", &[6, *epoch, stamp.time, origin])
+            push_named(out, b"no", &[6, *epoch, stamp.time, origin])?;
+            out.push(b'\n')
         }
-        Line::Down { replica } => push_named(out, b"down", &[u64::from(*replica)]),
+        Line::Down { replica } => {
+            let values = [u64::from(*replica)];
+            push_numbered(out, at, b"down", &values, b"\n")
+        }
         Line::Final {
             replica,
             state,
             known,
             executed,
-        } => {
-            push_named(out, b"final", &[u64::from(*replica)])?;
-            out.push(b' ')?;
-            push_state(out, *state)?;
-            push_numbers(out, &[*known, *executed])
+        } => push_final(out, *replica, *state, *known, *executed),
+        Line::Out { to, bytes } => {
+            push_numbered(out, at, b"out", &[u64::from(*to)], b" ")?;
+            push_hex(out, bytes.as_slice())?;
+            out.push(b'\n')
         }
-        Line::Out { to, bytes } => { push_datagram(out, b"out", u64::from(*to), bytes) }
-        Line::Back { address, bytes } => { push_datagram(out, b"back", *address, bytes) }
+        Line::Back { address, bytes } => {
+            push_numbered(out, at, b"back", &[*address], b" ")?;
+            push_hex(out, bytes.as_slice())?;
+            out.push(b'\n')
+        }
     }
-}
-
-/// Adds a line of the transcript with its line feed, behind the number of the line of input that caused it.
-/// A final line has no number. After an error a front of the line may have been added.
-pub fn push_line(out: &mut Bytes, at: u64, line: &Line) -> Result<(), NoMemory>
-    ensures { OnOk result (out.new ≡ out.old ++ line_text at line.now) }
-{
-    let is_final = matches!(line, Line::Final { .. });
-    if !is_final {
-        push_number(out, at)?;
-        out.push(b' ')?;
-    }
-    push_words(out, line)?;
-    out.push(b'\n')
 }
 
 fn push_outcome(out: &mut Bytes, outcome: &Outcome) -> Result<(), NoMemory>

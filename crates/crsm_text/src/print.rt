@@ -1,6 +1,6 @@
 //! Adds words to bytes. After an error a front of the text may have been added.
 
-ghost use Rattle.std.specs.Prelude.{◌≡◌, ◌≤◌, ◌++◌, ◌∷◌, ◌<◌, OnOk, decimal, length, slice_index};
+ghost use Rattle.std.specs.Prelude.{◌≡◌, ◌≤◌, ◌++◌, ◌∷◌, ◌<◌, ◌+◌, OnOk, decimal, drop, length, slice_index, take};
 ghost use Rattle.hex.specs.Hex.{encode_lower, lower_digits};
 ghost use Rattle.crsm_text.specs.Words.{named, numbers, commas};
 ghost use Rattle.crsm_text.specs.Values.{value_text, option_text, answer_text};
@@ -13,6 +13,9 @@ const SPACED_BYTES: usize = 21;
 
 /// How many numbers are written into a row.
 const ROW_NUMBERS: usize = 8;
+
+/// The room of a number, a word of 8 bytes, 8 numbers and an end of 8 bytes, with spaces between them.
+const LINE_BYTES: usize = 208;
 
 /// The bytes that are written in hexadecimal at a time.
 const PIECE_BYTES: usize = 64;
@@ -72,6 +75,44 @@ fn digit(value: u8) -> u8
     } else {
         b'a' + (value - 10)
     }
+}
+
+// Writes the text so that it ends at `end`, and returns where it starts.
+fn write_text(text: &[u8], row: &mut [u8], end: usize) -> usize
+    requires { (length text.now ≤ end) × (end ≤ length row.old) }
+    ensures start { result + length text.now ≡ end }
+    ensures written { drop result row.new ≡ text.now ++ drop end row.old }
+    ensures before { take result row.new ≡ take result row.old }
+{
+    let start = end - text.len();
+    row[start..end].copy_from_slice(text);
+    start
+}
+
+/// Adds a number, a word, a number behind it for each value, and an end, with a space before the word and each value.
+/// They are written into a row of spaces, from its end, so that they are added at once.
+pub fn push_numbered(
+    out: &mut Bytes,
+    number: u64,
+    name: &[u8],
+    values: &[u64],
+    end: &[u8],
+) -> Result<(), NoMemory>
+    requires name { length name.now ≤ 8 }
+    requires values { length values.now ≤ 8 }
+    requires end { length end.now ≤ 8 }
+    ensures { OnOk result (out.new ≡ out.old ++ (decimal number ++ 32 ∷ (named name.now values.now ++ end.now))) }
+{
+    let mut row = [b' '; LINE_BYTES];
+    let mut at = write_text(end, &mut row, LINE_BYTES);
+    let mut left = values.len();
+    while left > 0 {
+        left -= 1;
+        at = write_digits(values[left], &mut row, at) - 1;
+    }
+    let word = write_text(name, &mut row, at);
+    let begin = write_digits(number, &mut row, word - 1);
+    out.append(&row[begin..])
 }
 
 // The digits of a piece are written on the stack, and added at once.

@@ -1,4 +1,4 @@
-use Rattle.std.proofs.Common.{◌≡◌, ◌+◌, get_or, arith, rules}
+use Rattle.std.proofs.Common.{◌≡◌, ◌+◌, get_or, arith}
 use Rattle.crsm_text.proofs.Digits.{behind_first, one_digit, first_digit, next_digit}
 use Rattle.crsm_text.proofs.fields.read_digits.Goals as goal
 
