@@ -14,7 +14,7 @@ use Rattle.crsm_world.proofs.Schedules.{last_world-none, schedule_text-none, tra
 use Rattle.crsm_app.specs.State.{State, read_text, shown_text, IsGood, count_of, StandsAt}
 use Rattle.crsm_app.specs.Handled.{HandledAfter, Handled}
 use Rattle.crsm_app.specs.Refused.{Refused, bad_line, long_line}
-use Rattle.crsm_app.specs.Run.{SoFar, CarriesOn, Halts, Ends, of_transcript, RanPartly, RanToBad}
+use Rattle.crsm_app.specs.Run.{SoFar, CarriesOn, Halts, of_transcript, RanPartly, RanToBad}
 use Rattle.crsm_app.specs.declared.status.Status.{Status}
 use Rattle.crsm_app.specs.declared.status.Cause.{Cause}
 use Rattle.crsm_app.specs.declared.status.Cause.TheVariants.{Unreadable}

@@ -1,4 +1,4 @@
-use Rattle.std.proofs.Common.{◌+◌, refl, ap, ◌∙◌}
+use Rattle.std.proofs.Common.{◌+◌, ap, ◌∙◌}
 use Rattle.crsm_app.proofs.LineLemmas.{handles_from}
 use Rattle.crsm_app.proofs.replay.Replay.handle.Goals as goal
 

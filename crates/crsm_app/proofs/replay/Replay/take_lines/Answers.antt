@@ -1,6 +1,5 @@
-use Rattle.std.proofs.Common.{◌≡◌, ◌+◌, ◌++◌, ◌∷◌, length, length-append, refl, ap, sym, ◌∙◌, subst, arith}
+use Rattle.std.proofs.Common.{◌≡◌, ◌+◌, ◌∷◌, length, length-append, ap, ◌∙◌, arith}
 use Rattle.std.proofs.lemmas.Result.{err_from_is_err_and}
-use Rattle.std.specs.Option.{IsSomeAnd}
 use Rattle.crsm_app.specs.Causes.{status_of}
 use Rattle.crsm_app.proofs.Lists.{no_split, none_such}
 use Rattle.crsm_app.proofs.Stream.{past_line, past_flush, at_line, at_flush}
