@@ -67,8 +67,8 @@ fn stopped_disk(shell: Shell<MemDisk>, stop: Stop) -> Result<MemDisk, NoMemory>
     let mut port = Outlet { empties: 0 };
     shell.arm(Some(stop.calls), stop.fill);
     match shell.flush(&mut port) {
-        Ok(()) => Ok(image_of_disk(&shell.into_disk())?),
-        Err(TurnError::DiskFault) => Ok(image_of_disk(&shell.into_disk())?),
+        Ok(()) => Ok(image_of_disk(shell.into_disk())?),
+        Err(TurnError::DiskFault) => Ok(image_of_disk(shell.into_disk())?),
         Err(_) => Err(NoMemory),
     }
 }

@@ -58,10 +58,10 @@ pub(crate) fn told_by(ledger: &Ledger) -> Told
 }
 
 /// The disk as the crash leaves it.
-pub(crate) fn image_of_disk(disk: &MemDisk) -> Result<MemDisk, NoMemory>
-    ensures { IfOk result (λ image. (me n : ℕ) (log : Log) → HasLog me n (image_of disk.now.first disk.now.calls disk.now.fill) log → IsDisk me n image log) }
+pub(crate) fn image_of_disk(disk: MemDisk) -> Result<MemDisk, NoMemory>
+    ensures { IfOk result (λ image. (me n : ℕ) (log : Log) → HasLog me n (image_of disk.first disk.calls disk.fill) log → IsDisk me n image log) }
 {
-    Ok(disk.image()?)
+    Ok(disk.into_image()?)
 }
 
 /// What a shell leaves that goes down now, with nothing pending.
@@ -69,6 +69,6 @@ pub(crate) fn left_by(shell: Shell<MemDisk>) -> Result<Left, NoMemory>
     ensures { IfOk result (λ left. (me n : ℕ) (r : Replica) → IsUpAs me n shell r.log r [] → IsLeft me n left r.log) }
 {
     let told = told_by(shell.state());
-    let disk = image_of_disk(&shell.into_disk())?;
+    let disk = image_of_disk(shell.into_disk())?;
     Ok(Left { disk, told })
 }
