@@ -68,6 +68,7 @@ fn copied(alloc: Global, bytes: &[u8]) -> Result<Bytes, NoMemory>
     ensures { IfOk result (λ b. b ≡ bytes.now) }
 {
     let mut copy = Bytes::new(alloc);
+    copy.reserve(bytes.len())?;
     copy.append(bytes)?;
     Ok(copy)
 }
