@@ -7,13 +7,13 @@ use Rattle.crsm_spec.specs.World.{Mail}
 use Rattle.crsm_post.specs.declared.mail.Mail.{Mail as MailInMemory}
 use Rattle.crsm_post.specs.declared.post.Post.{Post}
 use Rattle.crsm_post.specs.Mailed.{IsMail, HasMail, HasFresh, PostStands, is_fresh_for, is_up_among, used_up}
-use Rattle.crsm_post.proofs.Mails.{mail_length, mail_more, mail_used}
+use Rattle.crsm_post.proofs.Mails.{mail_length, mail_grown, mail_more, mail_used}
 use Rattle.crsm_post.proofs.Numbers.{has_used, has_sent, has_kept, has_fewer}
 
 pub marks : (old : Post) (mail : List Mail) (bytes i : ℕ) (m : MailInMemory) → PostStands old mail bytes → slice_get old.mail.items i ≡ Some m
     → PostStands (record old { mail = with_item old.mail i (record m { is_used = true }) }) (used_up i mail) bytes
 marks old mail bytes i m h e = record {
-  held = mail_used old.mail.items mail i m h.held e;
+  held = mail_used old.spelling old.mail.items mail i m h.held e;
   fresh = has_used (λ k. true) mail i old.fresh.items h.fresh;
   near = has_used (is_up_among old.ups.items) mail i old.near.items h.near;
   counted = h.counted;
@@ -22,7 +22,7 @@ marks old mail bytes i m h e = record {
 pub unmarked : (old : Post) (mail : List Mail) (bytes i : ℕ) → PostStands old mail bytes → length old.mail.items ≤ i → PostStands old (used_up i mail) bytes
 unfolding used_up
 unmarked old mail bytes i h l =
-    let none : slice_get mail i ≡ None = slice_get_past mail i (omega (arith, l, mail_length old.mail.items mail h.held)) in
+    let none : slice_get mail i ≡ None = slice_get_past mail i (omega (arith, l, mail_length old.spelling old.mail.items mail h.held)) in
     rw none h
 
 -- all that is fresh is near, whoever is up
@@ -47,11 +47,20 @@ nears old mail bytes near h e = record {
   counted = h.counted;
 }
 
+-- more is spelt than was sent
+pub spelt_more : (old : Post) (mail : List Mail) (bytes : ℕ) (spelling more : List ℕ) → PostStands old mail bytes → spelling ≡ old.spelling ++ more → PostStands (record old { spelling = spelling }) mail bytes
+spelt_more old mail bytes spelling more h e = record {
+  held = subst (λ (bs : List ℕ). HasMail bs old.mail.items mail) (sym e) (mail_grown old.spelling more old.mail.items mail h.held);
+  fresh = h.fresh;
+  near = h.near;
+  counted = h.counted;
+}
+
 pub sends : (old : Post) (mail : List Mail) (bytes : ℕ) (items : Vec MailInMemory Global) (fresh near : Vec ℕ Global) (m : MailInMemory) (p : Mail) → PostStands old mail bytes
-    → items.items ≡ old.mail.items ++ m ∷ [] → fresh.items ≡ old.fresh.items ++ length mail ∷ [] → near.items ≡ old.near.items ++ length mail ∷ [] → IsMail m p
+    → items.items ≡ old.mail.items ++ m ∷ [] → fresh.items ≡ old.fresh.items ++ length mail ∷ [] → near.items ≡ old.near.items ++ length mail ∷ [] → IsMail old.spelling m p
     → PostStands (record old { mail = items; fresh = fresh; near = near }) (mail ++ p ∷ []) bytes
 sends old mail bytes items fresh near m p h e f g is = record {
-  held = let P : List MailInMemory → Type 0 = λ ms. HasMail ms (mail ++ p ∷ []) in subst P (sym e) (mail_more old.mail.items mail m p h.held is);
+  held = let P : List MailInMemory → Type 0 = λ ms. HasMail old.spelling ms (mail ++ p ∷ []) in subst P (sym e) (mail_more old.spelling old.mail.items mail m p h.held is);
   fresh = subst (HasFresh (λ k. true) (mail ++ p ∷ [])) (sym f) (has_sent (λ k. true) mail p old.fresh.items h.fresh);
   near = subst (HasFresh (is_up_among old.ups.items) (mail ++ p ∷ [])) (sym g) (has_sent (is_up_among old.ups.items) mail p old.near.items h.near);
   counted = h.counted;

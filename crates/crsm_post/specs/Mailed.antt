@@ -1,5 +1,5 @@
 -- The datagrams of a world, and how they are held in memory.
-use Rattle.std.specs.Prelude.{◌≡◌, ◌<◌, ℕ, Bool, true, false, ◌&&◌, not, List, [], ◌∷◌, length, filter, Option, option_map, slice_get, slice_set}
+use Rattle.std.specs.Prelude.{◌≡◌, ◌<◌, ◌≤◌, ℕ, Bool, true, false, ◌&&◌, not, List, [], ◌∷◌, length, filter, Option, option_map, slice_get, slice_set, slice_range}
 use Rattle.std.specs.List.{AllByRecursion, flat_map, range_with_len}
 use Rattle.std.specs.Option.{option_map_or}
 use Rattle.crsm_base.specs.Messages.{datagram_bytes, FitsDatagram}
@@ -9,22 +9,32 @@ use Rattle.crsm_base.specs.declared.send.To.TheVariants as to_whom
 use Rattle.crsm_spec.specs.Types.{Datagram}
 use Rattle.crsm_spec.specs.World.{Mail}
 use Rattle.crsm_post.specs.declared.mail.Mail.{Mail as MailInMemory}
+use Rattle.crsm_post.specs.declared.mail.Letter.{Letter}
 use Rattle.crsm_post.specs.declared.post.Post.{Post}
 
--- the datagram in memory is this one on paper, which has a spelling
-pub record IsMail (m : MailInMemory) (p : Mail) : Type 0 where
+-- The datagram in memory is this one on paper, which has a spelling: it stands at its place among the bytes of all.
+pub record IsMail (spelling : List ℕ) (m : MailInMemory) (p : Mail) : Type 0 where
   pub from : m.from ≡ p.from
   pub to : m.to ≡ p.to
-  pub bytes : m.bytes ≡ datagram_bytes p.datagram
+  pub order : m.start ≤ m.end
+  pub within : m.end ≤ length spelling
+  pub bytes : slice_range spelling m.start m.end ≡ datagram_bytes p.datagram
   pub fits : FitsDatagram p.datagram
   pub used : m.is_used ≡ p.used
 
 -- one by one
-abbrev pub HasMail : List MailInMemory → List Mail → Type 0
-HasMail [] [] = Unit {0}
-HasMail (m ∷ ms) (p ∷ ps) = IsMail m p × HasMail ms ps
-HasMail [] (p ∷ ps) = ⊥
-HasMail (m ∷ ms) [] = ⊥
+abbrev pub HasMail : List ℕ → List MailInMemory → List Mail → Type 0
+HasMail spelling [] [] = Unit {0}
+HasMail spelling (m ∷ ms) (p ∷ ps) = IsMail spelling m p × HasMail spelling ms ps
+HasMail spelling [] (p ∷ ps) = ⊥
+HasMail spelling (m ∷ ms) [] = ⊥
+
+-- the letter is this datagram on paper, which has a spelling
+pub record IsLetter (l : Letter) (p : Mail) : Type 0 where
+  pub from : l.from ≡ p.from
+  pub to : l.to ≡ p.to
+  pub bytes : l.bytes.now ≡ datagram_bytes p.datagram
+  pub fits : FitsDatagram p.datagram
 
 -- ---- single datagrams
 
@@ -83,7 +93,7 @@ pub record HasFresh (test : ℕ → Bool) (mail : List Mail) (numbers : List ℕ
 
 -- The post holds these datagrams, and so many bytes are counted.
 pub record PostStands (post : Post) (mail : List Mail) (bytes : ℕ) : Type 0 where
-  pub held : HasMail post.mail.items mail
+  pub held : HasMail post.spelling post.mail.items mail
   pub fresh : HasFresh (λ k. true) mail post.fresh.items
   pub near : HasFresh (is_up_among post.ups.items) mail post.near.items
   pub counted : post.bytes ≡ bytes

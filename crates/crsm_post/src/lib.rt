@@ -6,6 +6,6 @@ mod mail;
 mod post;
 mod sending;
 
-pub use mail::Mail;
+pub use mail::Letter;
 pub use post::Post;
 pub use sending::letters_in;

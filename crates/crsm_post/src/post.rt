@@ -3,10 +3,10 @@
 ghost use Rattle.std.specs.Prelude.{◌≡◌, ◌+◌, [], ℕ, List, nat_le, length, slice_get, Some, None, MatchOption, OnOk};
 ghost use Rattle.crsm_base.specs.Limits.{most_world};
 ghost use Rattle.crsm_spec.specs.World as on_paper;
-ghost use Rattle.crsm_post.specs.Mailed.{PostStands, IsMail, used_up, is_used_at, receiver_of, receiver_or};
+ghost use Rattle.crsm_post.specs.Mailed.{PostStands, IsMail, IsLetter, used_up, is_used_at, receiver_of, receiver_or};
 
-use crate::mail::Mail;
-use crsm_base::{MAX_WORLD_BYTES, NoMemory};
+use crate::mail::{Letter, Mail};
+use crsm_base::{Bytes, MAX_WORLD_BYTES, NoMemory};
 use std::alloc::Global;
 
 /// Every datagram that was sent, by number, and how many bytes the world has.
@@ -14,6 +14,8 @@ use std::alloc::Global;
 pub struct Post {
     pub(crate) alloc: Global,
     pub(crate) mail: Vec<Mail>,
+    /// The bytes of all datagrams, one behind the other.
+    pub(crate) spelling: Bytes,
     /// The numbers of the fresh ones, ascending. A used one may stand here too.
     pub(crate) fresh: Vec<u64>,
     /// Which replicas were up when those that are due were last asked for.
@@ -32,6 +34,7 @@ impl Post {
         Post {
             alloc,
             mail: Vec::new(alloc),
+            spelling: Bytes::new(alloc),
             fresh: Vec::new(alloc),
             ups: Vec::new(alloc),
             near: Vec::new(alloc),
@@ -60,12 +63,38 @@ impl Post {
         self.mail.len() as u64
     }
 
-    /// The datagram with this number.
-    pub fn find(&self, number: u64) -> Option<&Mail>
+    /// What is kept of the datagram with this number.
+    pub(crate) fn find(&self, number: u64) -> Option<&Mail>
         ensures { (mail : List on_paper.Mail) (bytes : ℕ) → PostStands self.now mail bytes →
-            MatchOption result (slice_get mail number ≡ None) (λ m. (p : on_paper.Mail) × (slice_get mail number ≡ Some p) × IsMail m.now p) }
+            MatchOption result (slice_get mail number ≡ None) (λ m. (p : on_paper.Mail) × (slice_get mail number ≡ Some p) × IsMail self.now.spelling m.now p) }
     {
         self.mail.get(number as usize)
+    }
+
+    /// The datagram with this number.
+    pub fn letter(&self, number: u64) -> Option<Letter<'_>>
+        ensures { (mail : List on_paper.Mail) (bytes : ℕ) → PostStands self.now mail bytes →
+            MatchOption result (slice_get mail number ≡ None) (λ l. (p : on_paper.Mail) × (slice_get mail number ≡ Some p) × IsLetter l p) }
+    {
+        match self.find(number) {
+            Some(mail) => self.read(*mail),
+            None => None,
+        }
+    }
+
+    /// A datagram with its bytes: none where they are not there.
+    fn read(&self, mail: Mail) -> Option<Letter<'_>>
+        ensures { (p : on_paper.Mail) → IsMail self.now.spelling mail p → MatchOption result ⊥ (λ l. IsLetter l p) }
+    {
+        let bytes = self.spelling.as_slice();
+        if mail.start > mail.end || mail.end > bytes.len() {
+            return None;
+        }
+        Some(Letter {
+            from: mail.from,
+            to: mail.to,
+            bytes: &bytes[mail.start..mail.end],
+        })
     }
 
     /// The datagram with this number was delivered or lost.

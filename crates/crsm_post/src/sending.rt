@@ -1,6 +1,6 @@
 //! What leaves a replica.
 
-ghost use Rattle.std.specs.Prelude.{◌≡◌, ◌≤◌, ◌+◌, ◌++◌, ◌∷◌, [], ℕ, List, length, map, OnOk};
+ghost use Rattle.std.specs.Prelude.{◌≡◌, ◌≤◌, ◌+◌, ◌++◌, ◌∷◌, [], ℕ, List, drop, length, map, IfOk, OnOk};
 ghost use Rattle.std.specs.List.{AllByRecursion};
 ghost use Rattle.crsm_base.specs.Messages.{FitsDatagram, datagram_bytes};
 ghost use Rattle.crsm_spec.specs.World as on_paper;
@@ -10,6 +10,7 @@ use crate::mail::Mail;
 use crate::post::Post;
 use crsm_base::{Bytes, Datagram, Line, Lines, NoMemory, Send, SendKind, To};
 use crsm_wire::put_datagram;
+use std::alloc::Global;
 
 impl Post {
     /// A datagram leaves replica `k`, and its line is told.
@@ -26,25 +27,27 @@ impl Post {
         ensures lines { OnOk result ((mail : List on_paper.Mail) (bytes : ℕ) → PostStands self.old mail bytes →
             lines.new ≡ lines.old ++ on_paper.send_line k (length mail) (to, datagram.now) ∷ []) }
     {
-        let mut bytes = Bytes::new(self.alloc);
-        put_datagram(datagram, &mut bytes)?;
         let index = self.count();
+        let start = self.spelling.as_slice().len();
+        put_datagram(datagram, &mut self.spelling)?;
+        let end = self.spelling.as_slice().len();
         lines.push(Line::Send {
             index,
             from: k,
             to,
             kind: kind_of(datagram),
-            bytes: bytes.copy(self.alloc)?,
+            bytes: behind(self.alloc, &self.spelling, start)?,
         })?;
-        self.keep(bytes.as_slice().len() as u64)?;
         self.fresh.push(index)?;
         self.near.push(index)?;
         self.mail.push(Mail {
             from: k,
             to,
-            bytes,
+            start,
+            end,
             is_used: false,
         })?;
+        self.keep((end - start) as u64)?;
         Ok(())
     }
 
@@ -78,6 +81,18 @@ impl Post {
         }
         Ok(())
     }
+}
+
+/// The bytes from here on, in a list of their own that has room for no more.
+fn behind(alloc: Global, bytes: &Bytes, start: usize) -> Result<Bytes, NoMemory>
+    requires { start ≤ length bytes.now }
+    ensures { IfOk result (λ copy. copy ≡ drop start bytes.now) }
+{
+    let last = &bytes.as_slice()[start..];
+    let mut copy = Bytes::new(alloc);
+    copy.reserve(last.len())?;
+    copy.append(last)?;
+    Ok(copy)
 }
 
 /// The kind of a datagram between replicas.

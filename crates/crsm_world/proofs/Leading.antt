@@ -1,5 +1,5 @@
 -- What the endings of a step lead to.
-use Rattle.std.proofs.Common.{◌≡◌, ◌-◌, ℕ, true, false, cond, List, [], ◌∷◌, ◌++◌, length, take, Some, ap, sym, ◌∙◌, subst, append-nil}
+use Rattle.std.proofs.Common.{◌≡◌, ◌-◌, ℕ, true, false, cond, List, [], ◌∷◌, ◌++◌, length, take, Some, append_assoc, ap, sym, ◌∙◌, subst, append-nil}
 use Rattle.std.specs.Prelude.{slice_get, slice_set}
 use Rattle.crsm_spec.specs.Types.{Line}
 use Rattle.crsm_spec.specs.Draft.{Draft}
@@ -11,10 +11,68 @@ use Rattle.crsm_site.specs.Outcomes.{is_cut_kept}
 use Rattle.crsm_world.specs.declared.world.World.{World}
 use Rattle.crsm_world.specs.Placed.{SitesStand}
 use Rattle.crsm_post.specs.Mailed.{PostStands}
-use Rattle.crsm_world.specs.Leaving.{LetsOut}
+use Rattle.crsm_post.specs.declared.Post.{Post}
+use Rattle.crsm_world.specs.declared.sites.Sites.{Sites}
+use Rattle.crsm_world.specs.declared.ending.Leaving.{Leaving}
+use Rattle.crsm_world.specs.Leaving.{LetsOut, Leaves}
 use Rattle.crsm_world.specs.Turning.{turn_at}
-use Rattle.crsm_world.specs.Standing.{Leads}
+use Rattle.crsm_world.specs.Standing.{Leads, LeadsOn}
 use Rattle.crsm_world.proofs.Turns.{IsUp, turn_here, log_here}
+
+-- ---- behind other lines
+
+pub on_as : (m n : Moment) (s : Sites) (p : Post) (before lines : List Line) → m ≡ n → LeadsOn n s p before lines → LeadsOn m s p before lines
+on_as m n s p before lines e h = subst (λ (x : Moment). LeadsOn x s p before lines) (sym e) h
+
+pub on_still : (v : Cluster) (s : Sites) (p : Post) (lines : List Line) → SitesStand s v.n v.sites → PostStands p v.mail v.bytes → LeadsOn (silent v v) s p lines lines
+unfolding silent
+on_still v s p lines places mail = record { places = places; mail = mail; told = sym (append-nil lines) }
+
+pub on_whole : (v : Cluster) (k : ℕ) (x : Draft) (s : Sites) (p : Post) (before lines : List Line) → SitesStand s v.n (slice_set v.sites k (Site.Up x.replica))
+    → LetsOut before v.mail v.bytes k x x.sends x.replies p lines → LeadsOn (whole_step v k x) s p before lines
+unfolding whole_step after_step
+on_whole v k x s p before lines h o = record { places = h; mail = o.stands; told = o.told }
+
+pub on_kept : (count : ℕ) (v : Cluster) (k : ℕ) (x : Draft) (s : Sites) (p : Post) (before lines all : List Line) → SitesStand s v.n (slice_set v.sites k (Site.Down x.replica.log))
+    → LetsOut before v.mail v.bytes k x (take count x.sends) (take (count - length x.sends) x.replies) p lines → all ≡ lines ++ Line.Down k ∷ [] → LeadsOn (cut_step count v k x) s p before all
+unfolding cut_step then_down after_step
+on_kept count v k x s p before lines all h o e = record { places = h; mail = o.stands; told = e ∙ ap (λ ls. ls ++ Line.Down k ∷ []) o.told ∙ append_assoc before _ (Line.Down k ∷ []) }
+
+pub on_down : (v : Cluster) (k : ℕ) (place : Site) (s : Sites) (p : Post) (before all : List Line) → slice_get v.sites k ≡ Some place → SitesStand s v.n (slice_set v.sites k (Site.Down (log_of place)))
+    → PostStands p v.mail v.bytes → all ≡ before ++ Line.Down k ∷ [] → LeadsOn (down v k) s p before all
+unfolding down with_site
+on_down v k place s p before all e h mail g = record {
+  places = subst (λ (log : _). SitesStand s v.n (slice_set v.sites k (Site.Down log))) (sym (log_here v k place e)) h;
+  mail = mail;
+  told = g;
+}
+
+pub on_begun : (v : Cluster) (m : Moment) (s : Sites) (p : Post) (before lines : List Line) → LeadsOn m s p before lines → LeadsOn (begun_at v m) s p before lines
+unfolding begun_at
+on_begun v m s p before lines h = record { places = h.places; mail = h.mail; told = h.told }
+
+-- behind no lines
+pub leads_on : (m : Moment) (w : World) (before lines : List Line) → before ≡ [] → LeadsOn m w.sites w.post before lines → Leads m w lines
+leads_on m w before lines e h = record { after = record { sites = h.places; post = h.mail }; told = h.told ∙ ap (λ ls. ls ++ m.lines) e }
+
+-- ---- what is left
+
+pub leaves_as : (m n : Moment) (v : Cluster) (l : Leaving) (s : Sites) → m ≡ n → Leaves n v l s → Leaves m v l s
+leaves_as m n v l s e h = subst (λ (x : Moment). Leaves x v l s) (sym e) h
+
+pub leaves_cut : (calls fill : ℕ) (v : Cluster) (k : ℕ) (x : Draft) (l : Leaving) (s : Sites) → is_cut_kept calls fill x ≡ true → Leaves (cut_step 0 v k x) v l s → Leaves (cut_at calls fill v k x) v l s
+unfolding cut_at is_cut_kept
+leaves_cut calls fill v k x l s e h = leaves_as (cut_at calls fill v k x) (cut_step 0 v k x) v l s (ap (λ b. cond b (cut_step 0 v k x) (lost_step v k x)) e) h
+
+pub leaves_lost : (calls fill : ℕ) (v : Cluster) (k : ℕ) (x : Draft) (l : Leaving) (s : Sites) → is_cut_kept calls fill x ≡ false → Leaves (down v k) v l s → Leaves (cut_at calls fill v k x) v l s
+unfolding cut_at is_cut_kept lost_step
+leaves_lost calls fill v k x l s e h = leaves_as (cut_at calls fill v k x) (down v k) v l s (ap (λ b. cond b (cut_step 0 v k x) (lost_step v k x)) e) h
+
+pub leaves_here : (ends : Ending) (v : Cluster) (k j : ℕ) (t : Turn) (reading : ℕ) (l : Leaving) (s : Sites) (u : IsUp v.sites k j) → Leaves (ends v j (turn u.replica (t, reading))) v l s → Leaves (turn_at ends v k t reading) v l s
+leaves_here ends v k j t reading l s u h =
+    leaves_as (turn_at ends v k t reading) (ends v j (turn u.replica (t, reading))) v l s (turn_here ends v k t reading u.replica u.up ∙ ap (λ i. ends v i (turn u.replica (t, reading))) (sym u.number)) h
+
+-- ---- a whole world
 
 pub leads_as : (m n : Moment) (w : World) (lines : List Line) → m ≡ n → Leads n w lines → Leads m w lines
 leads_as m n w lines e h = subst (λ (x : Moment). Leads x w lines) (sym e) h
@@ -22,36 +80,6 @@ leads_as m n w lines e h = subst (λ (x : Moment). Leads x w lines) (sym e) h
 pub leads_still : (v : Cluster) (w : World) (lines : List Line) → SitesStand w.sites v.n v.sites → PostStands w.post v.mail v.bytes → lines ≡ [] → Leads (silent v v) w lines
 unfolding silent
 leads_still v w lines s p e = record { after = record { sites = s; post = p }; told = e }
-
-pub leads_whole : (v : Cluster) (k : ℕ) (x : Draft) (w : World) (lines : List Line) → SitesStand w.sites v.n (slice_set v.sites k (Site.Up x.replica))
-    → LetsOut v.mail v.bytes k x x.sends x.replies w.post lines → Leads (whole_step v k x) w lines
-unfolding whole_step after_step
-leads_whole v k x w lines s o = record { after = record { sites = s; post = o.stands }; told = o.told }
-
-pub leads_kept : (count : ℕ) (v : Cluster) (k : ℕ) (x : Draft) (w : World) (lines all : List Line) → SitesStand w.sites v.n (slice_set v.sites k (Site.Down x.replica.log))
-    → LetsOut v.mail v.bytes k x (take count x.sends) (take (count - length x.sends) x.replies) w.post lines → all ≡ lines ++ Line.Down k ∷ [] → Leads (cut_step count v k x) w all
-unfolding cut_step then_down after_step
-leads_kept count v k x w lines all s o e = record { after = record { sites = s; post = o.stands }; told = e ∙ ap (λ ls. ls ++ Line.Down k ∷ []) o.told }
-
-pub leads_down : (v : Cluster) (k : ℕ) (p : Site) (w : World) (lines all : List Line) → slice_get v.sites k ≡ Some p → SitesStand w.sites v.n (slice_set v.sites k (Site.Down (log_of p)))
-    → PostStands w.post v.mail v.bytes → lines ≡ [] → all ≡ lines ++ Line.Down k ∷ [] → Leads (down v k) w all
-unfolding down with_site
-leads_down v k p w lines all e s h f g = record {
-  after = record { sites = subst (λ (log : _). SitesStand w.sites v.n (slice_set v.sites k (Site.Down log))) (sym (log_here v k p e)) s; post = h };
-  told = g ∙ ap (λ ls. ls ++ Line.Down k ∷ []) f;
-}
-
-pub leads_cut : (calls fill : ℕ) (v : Cluster) (k : ℕ) (x : Draft) (w : World) (lines : List Line) → is_cut_kept calls fill x ≡ true → Leads (cut_step 0 v k x) w lines → Leads (cut_at calls fill v k x) w lines
-unfolding cut_at is_cut_kept
-leads_cut calls fill v k x w lines e h = leads_as (cut_at calls fill v k x) (cut_step 0 v k x) w lines (ap (λ b. cond b (cut_step 0 v k x) (lost_step v k x)) e) h
-
-pub leads_lost : (calls fill : ℕ) (v : Cluster) (k : ℕ) (x : Draft) (w : World) (lines : List Line) → is_cut_kept calls fill x ≡ false → Leads (down v k) w lines → Leads (cut_at calls fill v k x) w lines
-unfolding cut_at is_cut_kept lost_step
-leads_lost calls fill v k x w lines e h = leads_as (cut_at calls fill v k x) (down v k) w lines (ap (λ b. cond b (cut_step 0 v k x) (lost_step v k x)) e) h
-
-pub leads_here : (ends : Ending) (v : Cluster) (k j : ℕ) (t : Turn) (reading : ℕ) (w : World) (lines : List Line) (u : IsUp v.sites k j) → Leads (ends v j (turn u.replica (t, reading))) w lines → Leads (turn_at ends v k t reading) w lines
-leads_here ends v k j t reading w lines u h =
-    leads_as (turn_at ends v k t reading) (ends v j (turn u.replica (t, reading))) w lines (turn_here ends v k t reading u.replica u.up ∙ ap (λ i. ends v i (turn u.replica (t, reading))) (sym u.number)) h
 
 pub leads_begun : (v : Cluster) (m : Moment) (w : World) (lines : List Line) → Leads m w lines → Leads (begun_at v m) w lines
 unfolding begun_at

@@ -1,5 +1,5 @@
 -- What a step lets out, from the batch that it made.
-use Rattle.std.proofs.Common.{◌≡◌, ◌+◌, ◌-◌, ℕ, zero, suc, min, List, [], ◌∷◌, ◌++◌, length, map, take, drop, refl, ap, ◌∙◌, subst, arith, length-append}
+use Rattle.std.proofs.Common.{◌≡◌, ◌+◌, ◌-◌, ℕ, zero, suc, min, List, [], ◌∷◌, ◌++◌, length, map, take, drop, refl, ap, ◌∙◌, subst, arith, append_assoc, length-append}
 use Rattle.std.specs.List.{AllByRecursion}
 use Rattle.std.proofs.Math.Seq.{take-append_seam}
 use Rattle.std.proofs.lemmas.List.{take-map, length-map, take_all}
@@ -53,14 +53,14 @@ all_taken P (x ∷ xs) (suc n) all = (all.0, all_taken P xs n all.1)
 
 -- ---- the whole
 
-pub lets_out : (mail : List Mail) (bytes k count : ℕ) (x : Draft) (sends : List Send) (told : List Line) (letters own out shown size : ℕ) (post : Post) (answers first second third : List Line)
+pub lets_out : (before : List Line) (mail : List Mail) (bytes k count : ℕ) (x : Draft) (sends : List Send) (told : List Line) (letters own out shown size : ℕ) (post : Post) (answers first second third : List Line)
     → sends ≡ map to_replica x.sends ++ map to_address x.replies → told ≡ (x.lines ++ x.excess) ++ map line_of x.replies
-    → letters ≡ length (sent_of sends) → own ≡ length told - (length sends - letters) → out ≡ min count (length sends) → answers ≡ drop own told → shown ≡ min (out - letters) (length answers)
+    → letters ≡ length (sent_of sends) → own ≡ length told - (length sends - letters) → out ≡ min count (length sends) → answers ≡ drop own told → shown ≡ out - letters
     → size ≡ body_size x.batch → PostStands post (mail ++ map (mail_of k) (sent_of (take out sends))) (bytes + size + mail_size (sent_of (take out sends)))
-    → first ≡ take own told → second ≡ first ++ send_lines k (length mail) (sent_of (take out sends)) → third ≡ second ++ take shown answers
-    → LetsOut mail bytes k x (take count x.sends) (take (count - length x.sends) x.replies) post third
+    → first ≡ before ++ take own told → second ≡ first ++ send_lines k (length mail) (sent_of (take out sends)) → third ≡ second ++ take shown answers
+    → LetsOut before mail bytes k x (take count x.sends) (take (count - length x.sends) x.replies) post third
 unfolding line_of
-lets_out mail bytes k count x sends told letters own out shown size post answers first second third s t l o u g w z h a b d =
+lets_out before mail bytes k count x sends told letters own out shown size post answers first second third s t l o u g w z h a b d =
     let own_lines = x.lines ++ x.excess in
     let ls : letters ≡ length x.sends = l ∙ ap length (ap sent_of s ∙ sent_made x.sends x.replies) in
     let total : length sends ≡ length x.sends + length x.replies =
@@ -77,18 +77,20 @@ lets_out mail bytes k count x sends told letters own out shown size post answers
     record {
       stands = subst (λ (xs : List (ℕ × Datagram)). PostStands post (mail ++ map (mail_of k) xs) (bytes + body_size x.batch + mail_size xs)) sent_is
           (subst (λ (n : ℕ). PostStands post (mail ++ map (mail_of k) (sent_of (take out sends))) (bytes + n + mail_size (sent_of (take out sends)))) z h);
-      told = d ∙ ap (λ ls. ls ++ take shown answers) (b ∙ ap (λ ls. ls ++ send_lines k (length mail) (sent_of (take out sends))) (a ∙ front))
-          ∙ ap (λ xs. (own_lines ++ send_lines k (length mail) xs) ++ take shown answers) sent_is
-          ∙ ap (λ ls. (own_lines ++ send_lines k (length mail) (take count x.sends)) ++ ls) shown_is;
+      told = d ∙ ap (λ ls. ls ++ take shown answers) (b ∙ ap (λ ls. ls ++ send_lines k (length mail) (sent_of (take out sends))) (a ∙ ap (λ ls. before ++ ls) front))
+          ∙ ap (λ ls. ls ++ take shown answers) (append_assoc before own_lines (send_lines k (length mail) (sent_of (take out sends))))
+          ∙ append_assoc before (own_lines ++ send_lines k (length mail) (sent_of (take out sends))) (take shown answers)
+          ∙ ap (λ xs. before ++ ((own_lines ++ send_lines k (length mail) xs) ++ take shown answers)) sent_is
+          ∙ ap (λ ls. before ++ ((own_lines ++ send_lines k (length mail) (take count x.sends)) ++ ls)) shown_is;
     }
 
-pub lets_all_out : (mail : List Mail) (bytes k count : ℕ) (x : Draft) (sends : List Send) (post : Post) (lines : List Line)
+pub lets_all_out : (before : List Line) (mail : List Mail) (bytes k count : ℕ) (x : Draft) (sends : List Send) (post : Post) (lines : List Line)
     → sends ≡ map to_replica x.sends ++ map to_address x.replies → count ≡ length sends
-    → LetsOut mail bytes k x (take count x.sends) (take (count - length x.sends) x.replies) post lines → LetsOut mail bytes k x x.sends x.replies post lines
-lets_all_out mail bytes k count x sends post lines s n h =
+    → LetsOut before mail bytes k x (take count x.sends) (take (count - length x.sends) x.replies) post lines → LetsOut before mail bytes k x x.sends x.replies post lines
+lets_all_out before mail bytes k count x sends post lines s n h =
     let total : length sends ≡ length x.sends + length x.replies =
     ap length s ∙ length-append (map to_replica x.sends) (map to_address x.replies) ∙ ap (λ n. n + length (map to_address x.replies)) (length-map x.sends to_replica) ∙ ap (λ n. length x.sends + n) (length-map x.replies to_address) in
     let a : take count x.sends ≡ x.sends = take_all count x.sends (omega arith) in
     let b : take (count - length x.sends) x.replies ≡ x.replies = take_all (count - length x.sends) x.replies (omega arith) in
-    subst (λ (ys : List Reply). LetsOut mail bytes k x x.sends ys post lines) b
-    (subst (λ (xs : List (ℕ × Datagram)). LetsOut mail bytes k x xs (take (count - length x.sends) x.replies) post lines) a h)
+    subst (λ (ys : List Reply). LetsOut before mail bytes k x x.sends ys post lines) b
+    (subst (λ (xs : List (ℕ × Datagram)). LetsOut before mail bytes k x xs (take (count - length x.sends) x.replies) post lines) a h)

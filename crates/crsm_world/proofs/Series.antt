@@ -11,7 +11,7 @@ use Rattle.crsm_spec.specs.Node.{Turn, turn, input_of}
 use Rattle.crsm_base.proofs.DatagramLaws.{datagram_of-bytes}
 use Rattle.crsm_site.specs.declared.Step.{Step}
 use Rattle.crsm_site.specs.Outcomes.{Makes}
-use Rattle.crsm_post.specs.declared.Mail.{Mail as MailInMemory}
+use Rattle.crsm_post.specs.declared.Letter.{Letter}
 use Rattle.crsm_world.specs.Leaving.{LetsOut}
 use Rattle.crsm_spec.specs.Step.{Input, step}
 use Rattle.crsm_spec.specs.Acts.{Single}
@@ -19,9 +19,9 @@ use Rattle.crsm_spec.specs.World.{Site, Mail, World as Cluster, Moment, is_full,
 use Rattle.crsm_spec.specs.Moments.{single, begun_at, come, step_at, step_at_site, use_up, go_each, go_all, world_after, lines_of}
 use Rattle.crsm_world.specs.declared.world.World.{World}
 use Rattle.crsm_world.specs.Placed.{SitesPend}
-use Rattle.crsm_post.specs.Mailed.{IsMail, PostStands, used_up, receiver_of}
+use Rattle.crsm_post.specs.Mailed.{IsLetter, PostStands, used_up, receiver_of}
 use Rattle.crsm_world.specs.Several.{IsFor, AreFor, together, each_gone, all_gone}
-use Rattle.crsm_world.specs.Standing.{Holds, HoldsBeside, Leads, LeadsBeside}
+use Rattle.crsm_world.specs.Standing.{Holds, HoldsBeside, Leads, LeadsOn, LeadsBeside}
 use Rattle.crsm_world.proofs.Turns.{get_set}
 
 -- the delivery of datagram i
@@ -72,19 +72,19 @@ lines_first : (m : Moment) (ms : List Moment) → lines_of (m ∷ ms) ≡ m.line
 unfolding lines_of
 lines_first m ms = refl
 
-pub each_next : (v : Cluster) (t : ℕ) (is : List ℕ) (i : ℕ) (w new : World) (lines more all : List Line) (b : Bool) → Going v t is i w lines → i < length is
+pub each_next : (v : Cluster) (t : ℕ) (is : List ℕ) (i : ℕ) (w new : World) (lines all : List Line) (b : Bool) → Going v t is i w lines → i < length is
     → ((mail : List Mail) (bytes : ℕ) → PostStands w.post mail bytes → b ≡ nat_le most_world bytes) → b ≡ false
-    → ((u : Cluster) → Holds w u → Leads (gone t (get_or is i 0) u) new more) → all ≡ lines ++ more → Going v t is (i + 1) new all
-each_next v t is i w new lines more all b g l f e step a =
+    → ((u : Cluster) → Holds w u → LeadsOn (gone t (get_or is i 0) u) new.sites new.post lines all) → Going v t is (i + 1) new all
+each_next v t is i w new lines all b g l f e step =
     let x = get_or is i 0 in
     let m = gone t x g.now in
     let went = step g.now g.held in
     let rest : go_each t (drop i is) g.now ≡ m ∷ go_each t (drop (i + 1) is) m.after = ap (λ js. go_each t js g.now) (next is i l) ∙ going_on t x (drop (i + 1) is) g.now (full_as w g.now b false g.held f e) in
     record {
       now = m.after;
-      held = went.after;
+      held = record { sites = went.places; post = went.mail };
       after = g.after ∙ ap (world_after g.now) rest ∙ after_first g.now m _;
-      told = ap (λ ls. ls ++ lines_of (go_each t (drop (i + 1) is) m.after)) (a ∙ ap (λ ls. lines ++ ls) went.told) ∙ append_assoc lines m.lines _
+      told = ap (λ ls. ls ++ lines_of (go_each t (drop (i + 1) is) m.after)) went.told ∙ append_assoc lines m.lines _
           ∙ ap (λ ls. lines ++ ls) (sym (lines_first m _)) ∙ ap (λ ms. lines ++ lines_of ms) (sym rest) ∙ g.told;
     }
 
@@ -202,12 +202,12 @@ all_end v t is i k w new lines g l kept =
 
 -- ---- a step that is taken
 
-beside_whole : (k : ℕ) (v u : Cluster) (x : Draft) (w : World) (lines : List Line) → SitesPend k w.sites u.n (slice_set u.sites k (Site.Up x.replica)) → LetsOut u.mail u.bytes k x x.sends x.replies w.post lines
+beside_whole : (k : ℕ) (v u : Cluster) (x : Draft) (w : World) (lines : List Line) → SitesPend k w.sites u.n (slice_set u.sites k (Site.Up x.replica)) → LetsOut [] u.mail u.bytes k x x.sends x.replies w.post lines
     → LeadsBeside k (begun_at v (whole_step u k x)) w lines
 unfolding begun_at whole_step after_step
 beside_whole k v u x w lines s o = record { after = record { sites = s; post = o.stands }; told = o.told }
 
-turn_is : (r : Replica) (m : MailInMemory) (p : Mail) (from t : ℕ) (bytes : List ℕ) → IsMail m p → from ≡ m.from → bytes ≡ m.bytes → turn r (Turn.In from bytes, t) ≡ step_of r p t
+turn_is : (r : Replica) (m : Letter) (p : Mail) (from t : ℕ) (bytes : List ℕ) → IsLetter m p → from ≡ m.from → bytes ≡ m.bytes.now → turn r (Turn.In from bytes, t) ≡ step_of r p t
 unfolding turn input_of
 turn_is r m p from t bytes is e f =
     ap (λ a. turn r (Turn.In a bytes, t)) (e ∙ is.from) ∙ ap (λ b. turn r (Turn.In p.from b, t)) (f ∙ is.bytes)
@@ -216,17 +216,17 @@ turn_is r m p from t bytes is e f =
 pub not_found : (k i : ℕ) (mail : List Mail) → IsFor k mail i → slice_get mail i ≡ None → ⊥
 not_found k i mail f e = let g = f.is in cc
 
-pub taken : (k t i : ℕ) (v : Cluster) (r : Replica) (f : IsFor k v.mail i) (m : MailInMemory) (p : Mail) (from : ℕ) (bytes : List ℕ) (w : World) (made : Step) (lines : List Line)
-    → slice_get v.sites k ≡ Some (Site.Up r) → slice_get v.mail i ≡ Some p → IsMail m p → from ≡ m.from → bytes ≡ m.bytes
+pub taken : (k t i : ℕ) (v : Cluster) (r : Replica) (f : IsFor k v.mail i) (m : Letter) (p : Mail) (from : ℕ) (bytes : List ℕ) (w : World) (made : Step) (lines : List Line)
+    → slice_get v.sites k ≡ Some (Site.Up r) → slice_get v.mail i ≡ Some p → IsLetter m p → from ≡ m.from → bytes ≡ m.bytes.now
     → Makes made (turn r (Turn.In from bytes, t)) × SitesPend k w.sites v.n (slice_set v.sites k (Site.Up (turn r (Turn.In from bytes, t)).replica))
-    → ((x : Draft) → Makes made x → LetsOut (used_up i v.mail) v.bytes k x x.sends x.replies w.post lines) → LeadsBeside k (gone t i v) w lines
+    → ((x : Draft) → Makes made x → LetsOut [] (used_up i v.mail) v.bytes k x x.sends x.replies w.post lines) → LeadsBeside k (gone t i v) w lines
 unfolding use_up used_up
 taken k t i v r f m p from bytes w made lines up found is e g stands out =
     let same : p ≡ f.found = let h = f.is in cc in
     let y = turn r (Turn.In from bytes, t) in
     let whole = beside_whole k v (use_up i v) y w lines stands.1 (out y stands.0) in
     subst (λ (n : Moment). LeadsBeside k n w lines) (sym (gone_is k t i v r f up))
-    (subst (λ (x : Draft). LeadsBeside k (begun_at v (whole_step (use_up i v) k x)) w lines) (turn_is r m f.found from t bytes (subst (λ (q : Mail). IsMail m q) same is) e g) whole)
+    (subst (λ (x : Draft). LeadsBeside k (begun_at v (whole_step (use_up i v) k x)) w lines) (turn_is r m f.found from t bytes (subst (λ (q : Mail). IsLetter m q) same is) e g) whole)
 
 pub nothing_gone : (v : Cluster) (t : ℕ) (w : World) (lines : List Line) → Holds w v → lines ≡ [] → Leads (all_gone t [] v) w lines
 unfolding all_gone together world_after lines_of go_all

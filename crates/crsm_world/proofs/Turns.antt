@@ -12,9 +12,9 @@ use Rattle.crsm_spec.specs.Step.{Input, step}
 use Rattle.crsm_spec.specs.Node.{Turn, turn, input_of}
 use Rattle.crsm_spec.specs.World.{Site, Mail, World, Ending, is_up, log_of, log_at}
 use Rattle.crsm_spec.specs.Moments.{silent, step_at, step_at_site, junk_at, come, use_up}
-use Rattle.crsm_post.specs.declared.Mail.{Mail as MailInMemory}
+use Rattle.crsm_post.specs.declared.Letter.{Letter}
 use Rattle.crsm_world.specs.Placed.{is_up_in, up_in}
-use Rattle.crsm_post.specs.Mailed.{IsMail, used_up}
+use Rattle.crsm_post.specs.Mailed.{IsLetter, used_up}
 use Rattle.crsm_world.specs.Turning.{turn_at, turn_at_site}
 
 -- ---- a replica that is up, or not
@@ -87,10 +87,10 @@ turn_junk ends v k from reading bytes none = at (slice_get v.sites k)
 
 -- ---- datagrams that come
 
-pub come_found : (ends : Ending) (v : World) (reading : ℕ) (m : MailInMemory) (p : Mail) → IsMail m p → turn_at ends v m.to (Turn.In m.from m.bytes) reading ≡ come ends v reading (Some p)
+pub come_found : (ends : Ending) (v : World) (reading : ℕ) (m : Letter) (p : Mail) → IsLetter m p → turn_at ends v m.to (Turn.In m.from m.bytes.now) reading ≡ come ends v reading (Some p)
 unfolding come
 come_found ends v reading m p is =
-    ap (λ k. turn_at ends v k (Turn.In m.from m.bytes) reading) is.to ∙ ap (λ a. turn_at ends v p.to (Turn.In a m.bytes) reading) is.from
+    ap (λ k. turn_at ends v k (Turn.In m.from m.bytes.now) reading) is.to ∙ ap (λ a. turn_at ends v p.to (Turn.In a m.bytes.now) reading) is.from
     ∙ ap (λ b. turn_at ends v p.to (Turn.In p.from b) reading) is.bytes ∙ turn_datagram ends v p.to p.from p.datagram reading is.fits
 
 pub come_missed : (ends : Ending) (v : World) (reading : ℕ) → come ends v reading None ≡ silent v v

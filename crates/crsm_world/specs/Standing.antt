@@ -1,8 +1,10 @@
 -- What a world stands for.
-use Rattle.std.specs.Prelude.{◌≡◌, ℕ, true, false, List}
+use Rattle.std.specs.Prelude.{◌≡◌, ℕ, true, false, List, ◌++◌}
 use Rattle.crsm_spec.specs.Types.{Line}
 use Rattle.crsm_spec.specs.World.{World as Cluster, Moment}
 use Rattle.crsm_world.specs.declared.world.World.{World}
+use Rattle.crsm_world.specs.declared.sites.Sites.{Sites}
+use Rattle.crsm_post.specs.declared.Post.{Post}
 use Rattle.crsm_world.specs.Placed.{SitesStand, SitesPend}
 use Rattle.crsm_post.specs.Mailed.{PostStands}
 
@@ -20,6 +22,12 @@ pub record HoldsBeside (k : ℕ) (w : World) (v : Cluster) : Type 0 where
 pub record Leads (m : Moment) (w : World) (lines : List Line) : Type 0 where
   pub after : Holds w m.after
   pub told : lines ≡ m.lines
+
+-- the sites and the post are what the moment leads to, and its lines stand behind those before
+pub record LeadsOn (m : Moment) (sites : Sites) (post : Post) (before lines : List Line) : Type 0 where
+  pub places : SitesStand sites m.after.n m.after.sites
+  pub mail : PostStands post m.after.mail m.after.bytes
+  pub told : lines ≡ before ++ m.lines
 
 -- the same where the last steps of replica k are not kept yet
 pub record LeadsBeside (k : ℕ) (m : Moment) (w : World) (lines : List Line) : Type 0 where

@@ -1,6 +1,7 @@
 //! What comes of an event.
 
 ghost use Rattle.std.specs.Prelude.{◌≡◌, ◌<◌, None, Some, ℕ, fold, drop, length, slice_get, IfOk, OnOk};
+ghost use Rattle.crsm_site.specs.Arriving.{turn_of, IsShort};
 ghost use Rattle.crsm_base.specs.Spelling.{FitsCommand};
 ghost use Rattle.crsm_schedule.specs.Grammar.{FitsSingle};
 ghost use Rattle.crsm_spec.specs.Acts.{Single as OneStep};
@@ -11,35 +12,88 @@ ghost use Rattle.crsm_spec.specs.World as on_paper;
 ghost use Rattle.crsm_base.specs.declared.Datagram.{Datagram as Message};
 ghost use Rattle.crsm_base.specs.Messages.{datagram_bytes};
 ghost use Rattle.crsm_world.specs.Doing.{single_of};
-ghost use Rattle.crsm_world.specs.Standing.{Holds, Leads};
+ghost use Rattle.crsm_world.specs.Standing.{Holds, Leads, LeadsOn};
 ghost use Rattle.crsm_world.specs.Turning.{ending_of, FitsEnding, IsGenuine, turn_at};
 
 use crate::ending::Ending;
+use crate::outgoing::leave;
 use crate::world::World;
-use crsm_base::{Bytes, Command, Datagram, Lines, NoMemory};
+use crsm_base::{Bytes, Command, Datagram, Lines, MAX_DATAGRAM_BYTES, NoMemory};
 use crsm_schedule::Single;
 use crsm_site::Coming;
 use crsm_wire::write_datagram;
 
 impl World {
-    /// The datagram with this number comes to its receiver.
-    fn come(&mut self, ending: Ending, number: u64, reading: u64) -> Result<Lines, NoMemory>
-        requires { FitsEnding ending }
-        ensures { IfOk result (λ lines. (v : on_paper.World) → Holds self.old v →
-            Leads (moments.come (ending_of ending) v reading (slice_get v.mail number)) self.new lines) }
+    /// Something comes to a replica, whose step ends so. Nothing happens where it is not up.
+    fn arrive(
+        &mut self,
+        k: u64,
+        ending: Ending,
+        coming: Coming<'_>,
+        reading: u64,
+        lines: &mut Lines,
+    ) -> Result<(), NoMemory>
+        requires ends { FitsEnding ending }
+        requires short { IsShort coming }
+        ensures { OnOk result ((v : on_paper.World) → Holds self.old v →
+            LeadsOn (turn_at (ending_of ending) v k (turn_of coming.entry) reading) self.new.sites self.new.post lines.old lines.new) }
     {
-        let Some(mail) = self.post.find(number) else {
-            return Ok(Lines::new(self.alloc));
+        let leaving = self.sites.arrive(k, ending, coming, reading)?;
+        leave(self.alloc, &mut self.post, leaving, lines)?;
+        Ok(())
+    }
+
+    /// Bytes come to a replica from an address.
+    fn bytes_arrive(
+        &mut self,
+        k: u64,
+        ending: Ending,
+        from: u64,
+        bytes: &[u8],
+        reading: u64,
+        lines: &mut Lines,
+    ) -> Result<(), NoMemory>
+        requires { FitsEnding ending }
+        ensures { OnOk result ((v : on_paper.World) → Holds self.old v →
+            LeadsOn (turn_at (ending_of ending) v k (Turn.In from bytes.now) reading) self.new.sites self.new.post lines.old lines.new) }
+    {
+        // No datagram is longer.
+        if bytes.len() > MAX_DATAGRAM_BYTES as usize {
+            return Err(NoMemory);
+        }
+        let coming = Coming::Bytes { from, bytes };
+        self.arrive(k, ending, coming, reading, lines)?;
+        Ok(())
+    }
+
+    /// The datagram with this number comes to its receiver. Its bytes stay where they are kept.
+    fn come(
+        &mut self,
+        ending: Ending,
+        number: u64,
+        reading: u64,
+        lines: &mut Lines,
+    ) -> Result<(), NoMemory>
+        requires { FitsEnding ending }
+        ensures { OnOk result ((v : on_paper.World) → Holds self.old v →
+            LeadsOn (moments.come (ending_of ending) v reading (slice_get v.mail number)) self.new.sites self.new.post lines.old lines.new) }
+    {
+        let Some(letter) = self.post.letter(number) else {
+            return Ok(());
         };
-        let mail = mail.copy(self.alloc)?;
-        let lines = self.bytes_arrive(
-            u64::from(mail.to),
-            ending,
-            u64::from(mail.from),
-            mail.bytes.as_slice(),
-            reading,
-        )?;
-        Ok(lines)
+        // No datagram is longer.
+        if letter.bytes.len() > MAX_DATAGRAM_BYTES as usize {
+            return Err(NoMemory);
+        }
+        let coming = Coming::Bytes {
+            from: u64::from(letter.from),
+            bytes: letter.bytes,
+        };
+        let leaving = self
+            .sites
+            .arrive(u64::from(letter.to), ending, coming, reading)?;
+        leave(self.alloc, &mut self.post, leaving, lines)?;
+        Ok(())
     }
 
     /// The datagram with this number is used, and comes to its receiver.
@@ -48,14 +102,15 @@ impl World {
         ending: Ending,
         number: u64,
         reading: u64,
-    ) -> Result<Lines, NoMemory>
+        lines: &mut Lines,
+    ) -> Result<(), NoMemory>
         requires { FitsEnding ending }
-        ensures { IfOk result (λ lines. (v : on_paper.World) → Holds self.old v →
-            Leads (moments.single (ending_of ending) v (OneStep.Go number reading)) self.new lines) }
+        ensures { OnOk result ((v : on_paper.World) → Holds self.old v →
+            LeadsOn (moments.single (ending_of ending) v (OneStep.Go number reading)) self.new.sites self.new.post lines.old lines.new) }
     {
         self.post.use_up(number);
-        let lines = self.come(ending, number, reading)?;
-        Ok(lines)
+        self.come(ending, number, reading, lines)?;
+        Ok(())
     }
 
     /// A client's command comes to a replica.
@@ -65,19 +120,59 @@ impl World {
         k: u64,
         reading: u64,
         command: &Command,
-    ) -> Result<Lines, NoMemory>
+        lines: &mut Lines,
+    ) -> Result<(), NoMemory>
         requires ends { FitsEnding ending }
         requires fits { FitsCommand command.now }
-        ensures { IfOk result (λ lines. (v : on_paper.World) → Holds self.old v →
-            Leads (turn_at (ending_of ending) v k (Turn.In command.now.client (datagram_bytes (Message.Request command.now))) reading) self.new lines) }
+        ensures { OnOk result ((v : on_paper.World) → Holds self.old v →
+            LeadsOn (turn_at (ending_of ending) v k (Turn.In command.now.client (datagram_bytes (Message.Request command.now))) reading) self.new.sites self.new.post lines.old lines.new) }
     {
         let datagram = Datagram::Request {
             command: command.copy(self.alloc)?,
         };
         let mut bytes = Bytes::new(self.alloc);
         write_datagram(self.alloc, &datagram, &mut bytes)?;
-        let lines = self.bytes_arrive(k, ending, command.client, bytes.as_slice(), reading)?;
-        Ok(lines)
+        self.bytes_arrive(k, ending, command.client, bytes.as_slice(), reading, lines)?;
+        Ok(())
+    }
+
+    /// One step of one replica, which ends so. Its lines go behind those so far.
+    fn add_single(
+        &mut self,
+        ending: Ending,
+        single: &Single,
+        lines: &mut Lines,
+    ) -> Result<(), NoMemory>
+        requires ends { FitsEnding ending }
+        requires fits { FitsSingle single.now }
+        ensures { OnOk result ((v : on_paper.World) → Holds self.old v → IsGenuine single.now →
+            LeadsOn (moments.single (ending_of ending) v (single_of single.now)) self.new.sites self.new.post lines.old lines.new) }
+    {
+        match single {
+            Single::Request {
+                replica,
+                reading,
+                command,
+            } => Ok(self.request(ending, *replica, *reading, command, lines)?),
+            Single::Go { number, reading } => Ok(self.go(ending, *number, *reading, lines)?),
+            Single::Again { number, reading } => Ok(self.come(ending, *number, *reading, lines)?),
+            Single::Tick { replica, reading } => {
+                Ok(self.arrive(*replica, ending, Coming::Tick, *reading, lines)?)
+            }
+            Single::Suspect {
+                replica,
+                reading,
+                members,
+            } => {
+                let coming = Coming::Suspect(members.copy(self.alloc)?);
+                Ok(self.arrive(*replica, ending, coming, *reading, lines)?)
+            }
+            Single::Junk {
+                replica,
+                reading,
+                bytes,
+            } => Ok(self.bytes_arrive(*replica, ending, 0, bytes.as_slice(), *reading, lines)?),
+        }
     }
 
     /// One step of one replica, which ends so.
@@ -87,30 +182,8 @@ impl World {
         ensures { IfOk result (λ lines. (v : on_paper.World) → Holds self.old v → IsGenuine single.now →
             Leads (moments.single (ending_of ending) v (single_of single.now)) self.new lines) }
     {
-        match single {
-            Single::Request {
-                replica,
-                reading,
-                command,
-            } => Ok(self.request(ending, *replica, *reading, command)?),
-            Single::Go { number, reading } => Ok(self.go(ending, *number, *reading)?),
-            Single::Again { number, reading } => Ok(self.come(ending, *number, *reading)?),
-            Single::Tick { replica, reading } => {
-                Ok(self.arrive(*replica, ending, Coming::Tick, *reading)?)
-            }
-            Single::Suspect {
-                replica,
-                reading,
-                members,
-            } => {
-                let coming = Coming::Suspect(members.copy(self.alloc)?);
-                Ok(self.arrive(*replica, ending, coming, *reading)?)
-            }
-            Single::Junk {
-                replica,
-                reading,
-                bytes,
-            } => Ok(self.bytes_arrive(*replica, ending, 0, bytes.as_slice(), *reading)?),
-        }
+        let mut lines = Lines::new(self.alloc);
+        self.add_single(ending, single, &mut lines)?;
+        Ok(lines)
     }
 }

@@ -1,4 +1,6 @@
-//! How a step ends.
+//! How a step ends, and what it leaves to be let out.
+
+use crsm_site::Step;
 
 /// Where the put of a step stops: after so many device calls, with this byte in the ranges that were not synced.
 #[derive(Clone, Copy)]
@@ -18,4 +20,17 @@ pub(crate) enum Ending {
     Lost,
     /// It stops within its put.
     At { stop: Stop },
+}
+
+/// What came of a replica where something came to it, before its datagrams and lines are out.
+#[derive(Drop)]
+pub(crate) enum Leaving {
+    /// It was not up.
+    Nothing,
+    /// All of its step goes out.
+    Whole { k: u32, step: Step },
+    /// So many of the sends and replies of its step go out. It is down.
+    Cut { k: u32, step: Step, sends: u64 },
+    /// It is down, and nothing goes out.
+    Down { k: u32 },
 }

@@ -11,6 +11,7 @@ ghost use Rattle.crsm_world.specs.Standing.{Holds, Leads};
 ghost use Rattle.crsm_world.specs.Starting.{CanStart};
 
 use crate::ending::{Ending, Stop};
+use crate::outgoing::leave;
 use crate::world::World;
 use crsm_base::{Lines, NoMemory};
 use crsm_schedule::Event;
@@ -31,7 +32,9 @@ impl World {
         let Some(k) = self.sites.up(replica) else {
             return Ok(Lines::new(self.alloc));
         };
-        let lines = self.go_down(k)?;
+        let leaving = self.sites.go_down(k)?;
+        let mut lines = Lines::new(self.alloc);
+        leave(self.alloc, &mut self.post, leaving, &mut lines)?;
         Ok(lines)
     }
 

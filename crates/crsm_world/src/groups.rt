@@ -25,8 +25,7 @@ impl World {
             if self.post.is_full() {
                 return Ok(lines);
             }
-            let mut more = self.go(Ending::Whole, *number, reading)?;
-            lines.append(&mut more)?;
+            self.go(Ending::Whole, *number, reading, &mut lines)?;
         }
         Ok(lines)
     }
@@ -48,20 +47,21 @@ impl World {
             LeadsBeside k (moments.single on_paper.whole_step v (OneStep.Go number reading)) self.new lines) }
         ensures count { OnOk result (length self.new.sites.items.items ≡ length self.old.sites.items.items) }
     {
-        let Some(mail) = self.post.find(number) else {
-            return Ok(Lines::new(self.alloc));
+        let mut lines = Lines::new(self.alloc);
+        let Some(letter) = self.post.letter(number) else {
+            return Ok(lines);
         };
         // No datagram is longer.
-        if mail.bytes.as_slice().len() > MAX_DATAGRAM_BYTES as usize {
+        if letter.bytes.len() > MAX_DATAGRAM_BYTES as usize {
             return Err(NoMemory);
         }
         let coming = Coming::Bytes {
-            from: u64::from(mail.from),
-            bytes: mail.bytes.as_slice(),
+            from: u64::from(letter.from),
+            bytes: letter.bytes,
         };
         let step = self.sites.take(k, coming, reading)?;
         self.post.use_up(number);
-        let lines = let_all_out(self.alloc, &mut self.post, k, &step)?;
+        let_all_out(self.alloc, &mut self.post, k, step, &mut lines)?;
         Ok(lines)
     }
 
@@ -120,7 +120,8 @@ impl World {
             return Ok(Lines::new(self.alloc));
         };
         self.use_up_all(others);
-        let lines = self.go(Ending::Lost, *first, reading)?;
+        let mut lines = Lines::new(self.alloc);
+        self.go(Ending::Lost, *first, reading, &mut lines)?;
         Ok(lines)
     }
 }

@@ -1,6 +1,6 @@
 //! Lines behind lines.
 
-ghost use Rattle.std.specs.Prelude.{◌≡◌, ◌++◌, OnOk};
+ghost use Rattle.std.specs.Prelude.{◌≡◌, ◌++◌, ℕ, drop, take, OnOk};
 
 use crsm_base::{Line, Lines, NoMemory};
 use std::alloc::Global;
@@ -12,5 +12,25 @@ pub(crate) fn add(alloc: Global, more: &[Line], lines: &mut Lines) -> Result<(),
     for line in more {
         lines.push(line.copy(alloc)?)?;
     }
+    Ok(())
+}
+
+/// Puts the first of these lines behind others, so many of them. Those that stand behind the first stay.
+pub(crate) fn add_first(
+    alloc: Global,
+    more: &mut Lines,
+    count: usize,
+    lines: &mut Lines,
+) -> Result<(), NoMemory>
+    ensures added { OnOk result (lines.new ≡ lines.old ++ take count more.old) }
+    ensures stay { OnOk result (drop count more.new ≡ drop count more.old) }
+{
+    let told = more.as_slice();
+    if count < told.len() {
+        add(alloc, &told[..count], lines)?;
+        return Ok(());
+    }
+    // All of them go, as they mostly do: they are moved.
+    lines.append(more)?;
     Ok(())
 }

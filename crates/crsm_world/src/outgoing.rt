@@ -1,46 +1,65 @@
 //! What a step lets out.
 
-ghost use Rattle.std.specs.Prelude.{◌≡◌, ◌≤◌, ◌-◌, ℕ, List, length, take, IfOk};
+ghost use Rattle.std.specs.Prelude.{◌≡◌, ◌≤◌, ◌-◌, ◌++◌, ℕ, List, drop, length, take, OnOk};
 ghost use Rattle.std.specs.List.{AllByRecursion};
 ghost use Rattle.crsm_core.specs.Standing.{FitsSent};
 ghost use Rattle.crsm_site.specs.Outcomes.{Makes};
 ghost use Rattle.crsm_spec.specs.Draft.{Draft};
 ghost use Rattle.crsm_spec.specs.World as on_paper;
-ghost use Rattle.crsm_world.specs.Leaving.{LetsOut};
+ghost use Rattle.crsm_world.specs.Leaving.{LetsOut, Leaves, FitsLeaving};
+ghost use Rattle.crsm_world.specs.Standing.{LeadsOn};
+ghost use Rattle.crsm_world.specs.declared.sites.Sites.{Sites};
 ghost use Rattle.crsm_post.specs.Mailed.{PostStands};
 
-use crate::lines::add;
-use crsm_base::{Lines, NoMemory};
+use crate::ending::Leaving;
+use crate::lines::{add, add_first};
+use crsm_base::{Line, Lines, NoMemory};
 use crsm_post::{Post, letters_in};
 use crsm_site::Step;
 use std::alloc::Global;
 
 /// A step of replica `k` is kept, and so many of its sends and replies go out. Its own lines come first, then those
-/// of the sends, then those of the replies.
+/// of the sends, then those of the replies, all behind the lines so far.
 pub(crate) fn let_out(
     alloc: Global,
     post: &mut Post,
     k: u32,
-    step: &Step,
+    step: Step,
     count: u64,
-) -> Result<Lines, NoMemory>
-    requires { AllByRecursion FitsSent step.now.batch.sends }
-    ensures { IfOk result (λ lines. (mail : List on_paper.Mail) (bytes : ℕ) (x : Draft) → PostStands post.old mail bytes → Makes step.now x →
-        LetsOut mail bytes k x (take count x.sends) (take (count - length x.sends) x.replies) post.new lines) }
+    lines: &mut Lines,
+) -> Result<(), NoMemory>
+    requires { AllByRecursion FitsSent step.batch.sends }
+    ensures { OnOk result ((mail : List on_paper.Mail) (bytes : ℕ) (x : Draft) → PostStands post.old mail bytes → Makes step x →
+        LetsOut lines.old mail bytes k x (take count x.sends) (take (count - length x.sends) x.replies) post.new lines.new) }
 {
-    let sends = step.batch.sends.as_slice();
-    let told = step.batch.lines.as_slice();
-    let letters = letters_in(sends);
-    let own = told.len().saturating_sub(sends.len() - letters);
-    let out = count.min(sends.len() as u64) as usize;
-    let mut lines = Lines::new(alloc);
-    add(alloc, &told[..own], &mut lines)?;
+    let mut step = step;
+    let sent = step.batch.sends.as_slice().len();
+    let letters = letters_in(step.batch.sends.as_slice());
+    let told = step.batch.lines.as_slice().len();
+    let own = told.saturating_sub(sent - letters);
+    let out = count.min(sent as u64) as usize;
+    add_first(alloc, &mut step.batch.lines, own, lines)?;
     post.keep(step.size)?;
-    post.send_all(k, &sends[..out], &mut lines)?;
-    let answers = &told[own..];
-    let shown = out.saturating_sub(letters).min(answers.len());
-    add(alloc, &answers[..shown], &mut lines)?;
-    Ok(lines)
+    post.send_all(k, &step.batch.sends.as_slice()[..out], lines)?;
+    let shown = out.saturating_sub(letters);
+    add_replies(alloc, &step.batch.lines, own, shown, lines)?;
+    Ok(())
+}
+
+/// Puts so many of the lines of replies behind others. They are behind the step's own lines.
+fn add_replies(
+    alloc: Global,
+    told: &Lines,
+    own: usize,
+    shown: usize,
+    lines: &mut Lines,
+) -> Result<(), NoMemory>
+    ensures { OnOk result (lines.new ≡ lines.old ++ take shown (drop own told.now)) }
+{
+    let told = told.as_slice();
+    let answers = &told[own.min(told.len())..];
+    add(alloc, &answers[..shown.min(answers.len())], lines)?;
+    Ok(())
 }
 
 /// The same where all of it goes out.
@@ -48,13 +67,40 @@ pub(crate) fn let_all_out(
     alloc: Global,
     post: &mut Post,
     k: u32,
-    step: &Step,
-) -> Result<Lines, NoMemory>
-    requires { AllByRecursion FitsSent step.now.batch.sends }
-    ensures { IfOk result (λ lines. (mail : List on_paper.Mail) (bytes : ℕ) (x : Draft) → PostStands post.old mail bytes → Makes step.now x →
-        LetsOut mail bytes k x x.sends x.replies post.new lines) }
+    step: Step,
+    lines: &mut Lines,
+) -> Result<(), NoMemory>
+    requires { AllByRecursion FitsSent step.batch.sends }
+    ensures { OnOk result ((mail : List on_paper.Mail) (bytes : ℕ) (x : Draft) → PostStands post.old mail bytes → Makes step x →
+        LetsOut lines.old mail bytes k x x.sends x.replies post.new lines.new) }
 {
     let all = step.batch.sends.as_slice().len() as u64;
-    let lines = let_out(alloc, post, k, step, all)?;
-    Ok(lines)
+    let_out(alloc, post, k, step, all, lines)?;
+    Ok(())
+}
+
+/// What a replica left goes out, behind the lines so far.
+pub(crate) fn leave(
+    alloc: Global,
+    post: &mut Post,
+    leaving: Leaving,
+    lines: &mut Lines,
+) -> Result<(), NoMemory>
+    requires { FitsLeaving leaving }
+    ensures { OnOk result ((m : on_paper.Moment) (v : on_paper.World) (sites : Sites) → PostStands post.old v.mail v.bytes → Leaves m v leaving sites →
+        LeadsOn m sites post.new lines.old lines.new) }
+{
+    match leaving {
+        Leaving::Nothing => Ok(()),
+        Leaving::Whole { k, step } => Ok(let_all_out(alloc, post, k, step, lines)?),
+        Leaving::Cut { k, step, sends } => {
+            let_out(alloc, post, k, step, sends, lines)?;
+            lines.push(Line::Down { replica: k })?;
+            Ok(())
+        }
+        Leaving::Down { k } => {
+            lines.push(Line::Down { replica: k })?;
+            Ok(())
+        }
+    }
 }

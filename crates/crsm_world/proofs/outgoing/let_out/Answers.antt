@@ -1,4 +1,7 @@
-use Rattle.std.proofs.Common.{◌≡◌, ◌∙◌, ◌-◌, ◌++◌, min, take, drop, length, ap, arith, take_all, length-drop}
+use Rattle.std.proofs.Common.{◌∙◌, ◌+◌, ◌++◌, take, drop, length, map, ap, refl, subst, sym, List}
+use Rattle.crsm_base.specs.declared.send.Send.{Send}
+use Rattle.crsm_spec.specs.World.{mail_of, mail_size, send_lines}
+use Rattle.crsm_post.specs.Mailed.{PostStands, sent_of}
 use Rattle.crsm_world.proofs.Letting.{lets_out}
 use Rattle.crsm_world.proofs.outgoing.let_out.Goals as goal
 
@@ -6,11 +9,15 @@ pub returns : goal.returns
 returns c mail bytes x h made =
     let told = c.as_slice-told.result.now in
     let own = c.saturating_sub-own.result in
-    let sends = c.as_slice-sends.result.now in
-    let start = c.in_ok-add.ensures ∙ ap (λ ls. ls ++ take own told) c.new-lines.ensures in
-    let answers = take (length told - own) (drop own told) in
-    let answers_are : answers ≡ drop own told = take_all (length told - own) (drop own told) (omega (arith, length-drop own told)) in
-    lets_out mail bytes c.args.k c.args.count x sends told c.letters_in-letters.result own c.min-out.result c.min-shown.result c.args.step.now.size c.send_all.new.self answers c.add.new.lines c.send_all.new.lines c.add-2.new.lines
-    (c.as_slice-sends.ensures ∙ made.batch.made.sends) (c.as_slice-told.ensures ∙ made.batch.made.lines)
-    c.letters_in-letters.ensures.count c.saturating_sub-own.ensures c.min-out.ensures answers_are (c.min-shown.ensures ∙ ap (λ n. min n (length answers)) c.saturating_sub.ensures)
-    made.size (c.in_ok-send_all.ensures.post mail _ (c.in_ok-keep.ensures mail bytes h)) start (c.in_ok-send_all.ensures.lines mail _ (c.in_ok-keep.ensures mail bytes h)) c.in_ok-add-2.ensures
+    let sends = c.as_slice-sent.result.now in
+    let out = c.min-out.result in
+    let k = c.args.k in
+    let same = c.as_slice-2.ensures ∙ sym c.as_slice-sent.ensures in
+    let kept = c.in_ok-keep.ensures mail bytes h in
+    lets_out c.args.lines.now mail bytes k c.args.count x sends told c.letters_in-letters.result own out c.saturating_sub-shown.result c.args.step.size c.send_all.new.self (drop own told) c.add_first.new.lines c.send_all.new.lines c.add_replies.new.lines
+    (c.as_slice-sent.ensures ∙ made.batch.made.sends) (c.as_slice-told.ensures ∙ made.batch.made.lines)
+    (c.letters_in-letters.ensures.count ∙ ap (λ (ss : List Send). length (sent_of ss)) (c.as_slice.ensures ∙ sym c.as_slice-sent.ensures)) c.saturating_sub-own.ensures c.min-out.ensures refl c.saturating_sub-shown.ensures made.size
+    (subst (λ (ss : List Send). PostStands c.send_all.new.self (mail ++ map (mail_of k) (sent_of (take out ss))) (bytes + c.args.step.size + mail_size (sent_of (take out ss)))) same (c.in_ok-send_all.ensures.post mail _ kept))
+    (c.in_ok-add_first.ensures.added ∙ ap (λ ls. c.args.lines.now ++ take own ls) (sym c.as_slice-told.ensures))
+    (c.in_ok-send_all.ensures.lines mail _ kept ∙ ap (λ (ss : List Send). c.add_first.new.lines ++ send_lines k (length mail) (sent_of (take out ss))) same)
+    (c.in_ok-add_replies.ensures ∙ ap (λ ls. c.send_all.new.lines ++ take c.saturating_sub-shown.result ls) (c.in_ok-add_first.ensures.stay ∙ ap (drop own) (sym c.as_slice-told.ensures)))

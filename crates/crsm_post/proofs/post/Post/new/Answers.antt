@@ -6,8 +6,8 @@ use Rattle.crsm_post.proofs.post.Post.new.Goals as goal
 
 pub returns : goal.returns
 returns c = record {
-  held = let P : List MailInMemory → Type 0 = λ ms. HasMail ms [] in subst P (sym c.new.ensures.items) tt;
-  fresh = has_none (λ k. true) _ c.new-2.ensures.items;
-  near = has_none (is_up_among _) _ c.new-4.ensures.items;
+  held = let P : List MailInMemory → Type 0 = λ ms. HasMail c.new-2.result ms [] in subst P (sym c.new.ensures.items) tt;
+  fresh = has_none (λ k. true) _ c.new-3.ensures.items;
+  near = has_none (is_up_among _) _ c.new-5.ensures.items;
   counted = refl;
 }

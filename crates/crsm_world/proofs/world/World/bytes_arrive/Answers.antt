@@ -3,4 +3,4 @@ use Rattle.crsm_world.proofs.world.World.bytes_arrive.Goals as goal
 
 pub returns : goal.returns
 unfolding turn_of
-returns c v h = c.in_ok-lines.ensures v h
+returns c v h = c.in_ok-arrive.ensures v h

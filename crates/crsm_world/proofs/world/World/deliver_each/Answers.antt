@@ -8,8 +8,8 @@ loop-number-init c v h = each_begins v c.args.reading c.args.due.now c.args.self
 pub loop-number-preserved : goal.loop-number-preserved
 unfolding ending_of
 loop-number-preserved c v h =
-    each_next v c.args.reading c.args.due.now c.loop-number.number-index c.loop-number.self c.go.new.self c.loop-number.lines c.in_ok-more.more c.append.new.self c.is_full.result (c.loop-number.invariant v h) c.loop-number-test.true c.is_full.ensures c.if-is_full.false
-    c.in_ok-more.ensures c.in_ok-append.ensures.ok
+    each_next v c.args.reading c.args.due.now c.loop-number.number-index c.loop-number.self c.go.new.self c.loop-number.lines c.go.new.lines c.is_full.result (c.loop-number.invariant v h) c.loop-number-test.true c.is_full.ensures c.if-is_full.false
+    c.in_ok-go.ensures
 
 pub returns-then-is_full : goal.returns-then-is_full
 returns-then-is_full c v h = each_full v c.args.reading c.args.due.now c.loop-number.number-index c.loop-number.self c.loop-number.lines c.is_full.result (c.loop-number.invariant v h) c.loop-number-test.true c.is_full.ensures c.if-is_full.true

@@ -1,3 +1,7 @@
+use Rattle.std.proofs.Common.{refl, subst, List}
+use Rattle.crsm_spec.specs.Types.{Line}
+use Rattle.crsm_post.specs.Mailed.{used_up}
+use Rattle.crsm_world.specs.Leaving.{LetsOut}
 use Rattle.crsm_site.specs.Arriving.{turn_of}
 use Rattle.crsm_world.proofs.Series.{taken, not_found}
 use Rattle.crsm_world.proofs.world.World.take.Goals as goal
@@ -9,5 +13,5 @@ pub returns-clause-leads : goal.returns-clause-leads
 unfolding turn_of
 returns-clause-leads c v r h e f =
     let found = c.in-Some.ensures v.mail v.bytes h.post in
-    taken c.args.k c.args.reading c.args.number v r f c.in-Some.mail.now found.0 c.from.result c.as_slice-2.result.now _ c.in_ok-step.step _ e found.1 found.2 c.from.ensures c.as_slice-2.ensures
-    (c.in_ok-step.ensures.stands v.n v.sites r h.sites e) (λ x m. c.in_ok-lines.ensures _ v.bytes x (c.use_up.ensures v.mail v.bytes h.post) m)
+    taken c.args.k c.args.reading c.args.number v r f c.in-Some.letter found.0 c.from.result c.in-Some.letter.bytes.now _ c.in_ok-step.step _ e found.1 found.2 c.from.ensures refl
+    (c.in_ok-step.ensures.stands v.n v.sites r h.sites e) (λ x m. subst (λ (ls : List Line). LetsOut ls (used_up c.args.number v.mail) v.bytes c.args.k x x.sends x.replies c.let_all_out.new.post c.let_all_out.new.lines) c.new-lines.ensures (c.in_ok-let_all_out.ensures _ v.bytes x (c.use_up.ensures v.mail v.bytes h.post) m))

@@ -1,18 +1,16 @@
-use Rattle.std.proofs.Common.{subst, List}
-use Rattle.crsm_spec.specs.World.{Site}
+use Rattle.std.proofs.Common.{refl, subst, List}
+use Rattle.crsm_spec.specs.World.{Site, log_of}
 use Rattle.crsm_spec.specs.Node.{turn}
 use Rattle.crsm_site.specs.Arriving.{turn_of}
-use Rattle.crsm_spec.specs.World.{log_of}
 use Rattle.crsm_world.specs.Placed.{SitesStand}
 use Rattle.crsm_world.proofs.Turns.{set_twice, get_set}
-use Rattle.crsm_world.proofs.Leading.{leads_kept}
-use Rattle.crsm_world.proofs.world.World.step_kept.Goals as goal
+use Rattle.crsm_world.proofs.sites.Sites.step_kept.Goals as goal
 
-pub returns : goal.returns
+pub returns-clause-leaves : goal.returns-clause-leaves
 unfolding log_of
-returns c v r h e =
+returns-clause-leaves c v r h e =
     let x = turn r (turn_of c.args.coming, c.args.reading) in
-    let made = c.in_ok-step.ensures.stands v.n v.sites r h.sites e in
+    let made = c.in_ok-step.ensures.stands v.n v.sites r h e in
     let down = c.in_ok-crash.ensures v.n _ (Site.Up x.replica) made.1 (get_set v.sites c.args.k (Site.Up x.replica) (Site.Up r) e) in
     let sites = subst (λ (ps : List Site). SitesStand c.crash.new.self v.n ps) (set_twice v.sites c.args.k (Site.Up x.replica) (Site.Down x.replica.log)) down in
-    leads_kept c.args.sends v c.args.k x _ _ _ sites (c.in_ok-lines.ensures v.mail v.bytes x h.post made.0) c.in_ok-lines-2.ensures
+    (x, refl, made.0, sites)
