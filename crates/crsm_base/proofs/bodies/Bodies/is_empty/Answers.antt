@@ -1,0 +1,7 @@
+use Rattle.std.proofs.Common.{◌∙◌, ℕ, ◌==◌, length, ap, sym}
+use Rattle.crsm_base.proofs.PiecesLemmas.{count}
+use Rattle.crsm_base.proofs.bodies.Bodies.is_empty.Goals as goal
+
+pub returns : goal.returns
+returns c =
+    c.is_empty.ensures ∙ ap (λ (n : ℕ). n == 0) (c.self.inside.ends.ok.0 ∙ sym (count 0 c.self.inside.ends.items c.self.inside.text.items) ∙ ap length c.self.view_is)
