@@ -40,9 +40,9 @@ fn command(alloc: Global, time: u32) -> Result<Bytes, NoMemory> {
 /// The bodies of a log of so many commands.
 fn log(alloc: Global, size: u32) -> Result<Bodies, NoMemory> {
     let mut bodies = Bodies::new(alloc);
-    bodies.push(boot(alloc)?)?;
+    bodies.push(boot(alloc)?.as_slice())?;
     for time in 0..size {
-        bodies.push(command(alloc, time)?)?;
+        bodies.push(command(alloc, time)?.as_slice())?;
     }
     Ok(bodies)
 }

@@ -62,7 +62,7 @@ fn messages(alloc: Global, size: u32) -> Result<Bodies, NoMemory> {
     for number in 0..size.div_ceil(PAGE) {
         for replica in 0..REPLICAS {
             let place = number.wrapping_mul(PAGE);
-            all.push(message(alloc, replica, size, place)?)?;
+            all.push(message(alloc, replica, size, place)?.as_slice())?;
         }
     }
     Ok(all)
@@ -72,8 +72,11 @@ fn messages(alloc: Global, size: u32) -> Result<Bodies, NoMemory> {
 fn collected(alloc: Global, messages: &Bodies) -> Result<u64, Fault> {
     let mut collect = Collect::start(alloc, 0, 0, members(alloc)?, None, members(alloc)?);
     let mut turn = 0u32;
-    for bytes in messages.as_slice() {
-        let control = read_control(alloc, bytes.as_slice())?;
+    for index in 0..messages.len() {
+        let Some(bytes) = messages.get(index) else {
+            break;
+        };
+        let control = read_control(alloc, bytes)?;
         match collect.take(turn % REPLICAS, control)? {
             Got::Complete(decision) => return Ok(decision.tail.as_slice().len() as u64),
             Got::TooMany { count, .. } => return Ok(count),

@@ -42,7 +42,7 @@ fn answer_to(alloc: Global, line: &str) -> Result<String, Fault> {
 fn boot_on(alloc: Global, disk: MemDisk) -> Result<String, Fault> {
     match Shell::boot(alloc, 0, 1, &[70], disk) {
         Ok(booted) => {
-            let bodies = booted.bodies.as_slice().len();
+            let bodies = booted.bodies.len();
             let lines = booted.lines.as_slice().len();
             let boots = booted.shell.state().boot();
             Ok(format!(in alloc;

@@ -1,7 +1,7 @@
 //! What a run leaves on its devices.
 
 use crate::fault::Fault;
-use crsm_base::Bytes;
+use crsm_base::Bodies;
 use crsm_disk::MemDisk;
 use crsm_port::MemPort;
 use crsm_shell::Shell;
@@ -25,19 +25,21 @@ pub fn sent_by(alloc: Global, port: &MemPort) -> Result<String, Fault> {
 /// The lengths of the bodies that a boot finds on the disk as a crash leaves it now, in order.
 pub fn kept_on(alloc: Global, disk: &MemDisk) -> Result<String, Fault> {
     match Shell::boot(alloc, 0, 1, &[70], disk.image()?) {
-        Ok(booted) => lengths(alloc, booted.bodies.as_slice()),
+        Ok(booted) => lengths(alloc, &booted.bodies),
         Err((why, _)) => Ok(format!(in alloc; "{why}")?),
     }
 }
 
-fn lengths(alloc: Global, bodies: &[Bytes]) -> Result<String, Fault> {
+fn lengths(alloc: Global, bodies: &Bodies) -> Result<String, Fault> {
     if bodies.is_empty() {
         return Ok(format!(in alloc; "kept none")?);
     }
     let mut text = format!(in alloc; "kept")?;
-    for body in bodies {
-        let word = format!(in alloc; " {}", body.as_slice().len())?;
-        text.push_str(word.as_str())?;
+    for index in 0..bodies.len() {
+        if let Some(body) = bodies.get(index) {
+            let word = format!(in alloc; " {}", body.len())?;
+            text.push_str(word.as_str())?;
+        }
     }
     Ok(text)
 }

@@ -36,13 +36,13 @@ pub fn ledger_with(alloc: Global, me: u32, n: u64, count: u64) -> Result<Ledger,
         return Err(Fault::Unreadable);
     }
     let mut bodies = Bodies::new(alloc);
-    bodies.push(boot(alloc, me, n as u32)?)?;
+    bodies.push(boot(alloc, me, n as u32)?.as_slice())?;
     for index in 0..count {
         let time = index.wrapping_add(1);
         let mut body = Bytes::new(alloc);
         write_u8(alloc, &PREPARE, &mut body)?;
         put_entry(alloc, 0, time, time, &mut body)?;
-        bodies.push(body)?;
+        bodies.push(body.as_slice())?;
     }
     Ok(Ledger::recover(alloc, me, n as u32, &bodies)?)
 }

@@ -32,7 +32,7 @@ fn read_body(alloc: Global, line: &str) -> Result<Bytes, Fault> {
 pub fn read_log(alloc: Global, text: &str) -> Result<Bodies, Fault> {
     let mut bodies = Bodies::new(alloc);
     for line in text.lines() {
-        bodies.push(read_body(alloc, line)?)?;
+        bodies.push(read_body(alloc, line)?.as_slice())?;
     }
     Ok(bodies)
 }

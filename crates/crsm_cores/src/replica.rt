@@ -136,7 +136,7 @@ pub fn run(
     requires some { 1 ≤ n }
     requires few { n ≤ 15 }
 {
-    let at = (bodies.as_slice().len() as u64).wrapping_add(1);
+    let at = (bodies.len() as u64).wrapping_add(1);
     let mut core = awaiting(alloc, me, n, bodies)?;
     live(alloc, me, &mut core, at, text, out)
 }

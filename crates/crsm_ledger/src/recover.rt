@@ -24,12 +24,13 @@ impl Ledger {
         ensures bad { IfErr result (λ e. IfBadLog e (IsBadAt me n bodies.now)) }
     {
         let mut ledger = Ledger::new(alloc, me, n)?;
-        let mut entry = 0;
-        for body in bodies.as_slice() {
-            if let Err(error) = ledger.take_body(entry, body.as_slice()) {
+        for index in 0..bodies.len() {
+            let Some(body) = bodies.get(index) else {
+                unreachable!();
+            };
+            if let Err(error) = ledger.take_body(index as u64, body) {
                 return Err(error);
             }
-            entry += 1;
         }
         Ok(ledger)
     }

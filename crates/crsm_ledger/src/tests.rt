@@ -219,7 +219,7 @@ fn join(high: u8, low: u8) -> u8 {
 fn log(alloc: Global, count: usize) -> Result<Bodies, NoMemory> {
     let mut bodies = Bodies::new(alloc);
     for digits in LOG.iter().take(count) {
-        bodies.push(bytes(alloc, digits)?)?;
+        bodies.push(bytes(alloc, digits)?.as_slice())?;
     }
     Ok(bodies)
 }
@@ -252,7 +252,7 @@ fn tells_the_facts(rt: HostRuntime) -> Result<(), Fail> {
 /// Whether the log with this body behind it is bad there, for this reason.
 fn is_bad(alloc: Global, count: usize, digits: &str, reason: u32) -> Result<bool, LedgerError> {
     let mut bodies = log(alloc, count)?;
-    bodies.push(bytes(alloc, digits)?)?;
+    bodies.push(bytes(alloc, digits)?.as_slice())?;
     match Ledger::recover(alloc, 0, 3, &bodies) {
         Err(LedgerError::BadLog { entry, why }) => Ok(entry == count as u64 && why == reason),
         Err(error) => Err(error),
@@ -284,7 +284,7 @@ fn one_read(alloc: Global, time: u64) -> Result<Bytes, NoMemory> {
 fn reads(alloc: Global, count: u64) -> Result<Bodies, NoMemory> {
     let mut bodies = log(alloc, 2)?;
     for time in 0..count {
-        bodies.push(one_read(alloc, time)?)?;
+        bodies.push(one_read(alloc, time)?.as_slice())?;
     }
     Ok(bodies)
 }

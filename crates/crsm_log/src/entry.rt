@@ -5,7 +5,7 @@ ghost use Rattle.crsm_log.specs.First.{ReadsFirst};
 ghost use Rattle.crsm_log.specs.declared.errors.MountError.TheVariants.{DiskFault, BadGate};
 
 use crate::errors::MountError;
-use crsm_base::{Bodies, Bytes, MAX_LOG_BYTES, NoMemory};
+use crsm_base::{Bodies, MAX_LOG_BYTES, NoMemory};
 use std::alloc::Global;
 
 /// Where an entry of this length at this gate ends, its next gate included, if that is within the limit.
@@ -63,16 +63,6 @@ fn at_gate(bytes: &[u8]) -> First<'_>
     }
 }
 
-// These bytes in a list of their own.
-fn copied(alloc: Global, bytes: &[u8]) -> Result<Bytes, NoMemory>
-    ensures { IfOk result (λ b. b ≡ bytes.now) }
-{
-    let mut copy = Bytes::new(alloc);
-    copy.reserve(bytes.len())?;
-    copy.append(bytes)?;
-    Ok(copy)
-}
-
 // The place of the closed gate, and the bodies before it.
 pub(crate) fn read_entries(alloc: Global, file: &[u8]) -> Result<(u64, Bodies), MountError>
     ensures read { IfOk result (λ r. entries (length file.now) file.now ≡ found r.1) }
@@ -91,7 +81,7 @@ pub(crate) fn read_entries(alloc: Global, file: &[u8]) -> Result<(u64, Bodies), 
             First::Closed => return Ok((end, bodies)),
             First::Passes => return Err(MountError::BadGate { entry }),
             First::Entry { body, rest } => {
-                bodies.push(copied(alloc, body)?)?;
+                bodies.push(body)?;
                 end += 5 + body.len() as u64;
                 entry += 1;
                 bytes = rest;

@@ -17,7 +17,7 @@ fn disk_of(alloc: Global, bytes: &[u8]) -> Result<MemDisk, Fail> {
 // The log on a disk, and how many bodies it had.
 fn mounted<D: Disk + Drop>(alloc: Global, disk: D) -> Result<(Log<D>, usize), MountError> {
     match Log::mount(alloc, disk) {
-        Ok((log, bodies)) => Ok((log, bodies.as_slice().len())),
+        Ok((log, bodies)) => Ok((log, bodies.len())),
         Err((why, _disk)) => Err(why),
     }
 }

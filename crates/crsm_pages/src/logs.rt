@@ -82,12 +82,12 @@ fn entry_body(
 /// The bodies of a log with this load, each entry executed as soon as it is logged, or none.
 fn bodies_of(alloc: Global, load: Load, is_executed: bool) -> Result<Bodies, NoMemory> {
     let mut bodies = Bodies::new(alloc);
-    bodies.push(first_body(alloc)?)?;
+    bodies.push(first_body(alloc)?.as_slice())?;
     for time in 0..load.count {
-        bodies.push(entry_body(alloc, time, load.action, is_executed)?)?;
+        bodies.push(entry_body(alloc, time, load.action, is_executed)?.as_slice())?;
     }
     if let Some(action) = load.last {
-        bodies.push(entry_body(alloc, load.count, action, is_executed)?)?;
+        bodies.push(entry_body(alloc, load.count, action, is_executed)?.as_slice())?;
     }
     Ok(bodies)
 }
@@ -108,7 +108,7 @@ fn last_body(alloc: Global, end: End) -> Result<Option<Bytes>, NoMemory> {
 pub fn ledger(alloc: Global, load: Load, is_executed: bool, end: End) -> Result<Ledger, Fault> {
     let mut bodies = bodies_of(alloc, load, is_executed)?;
     if let Some(body) = last_body(alloc, end)? {
-        bodies.push(body)?;
+        bodies.push(body.as_slice())?;
     }
     Ok(Ledger::recover(alloc, 0, 3, &bodies)?)
 }

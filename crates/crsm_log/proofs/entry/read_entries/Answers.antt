@@ -18,7 +18,7 @@ overflow_add-entry c = omega (arith, length_le-size c.entries.bodies, c.entries.
 
 pub entries-preserved : goal.entries-preserved
 entries-preserved c =
-    let pushed : c.push.new.self ≡ c.entries.bodies ++ c.in-Entry.body.now ∷ [] = c.in_ok-push-in-Entry.ensures.ok ∙ ap (λ (b : List ℕ). c.entries.bodies ++ b ∷ []) c.in_ok-copied-in-Entry.ensures in
+    let pushed : c.push.new.self ≡ c.entries.bodies ++ c.in-Entry.body.now ∷ [] = c.in_ok-push-in-Entry.ensures.ok in
     record {
       read = ap (λ bs. onto bs (entries (length c.in-Entry.rest.now) c.in-Entry.rest.now)) pushed ∙ onto-push c.entries.bodies c.in-Entry.body.now (entries (length c.in-Entry.rest.now) c.in-Entry.rest.now)
           ∙ ap (onto c.entries.bodies) (sym c.in-Entry.ensures.read) ∙ c.entries.invariant.read;
