@@ -11,6 +11,9 @@ use crate::number::{put_u32, take_u32};
 use crsm_base::{Bytes, Entries, Entry, MAX_TAIL_BYTES, MAX_TAIL_ENTRIES, NoMemory};
 use std::alloc::Global;
 
+// no entry is spelt in fewer bytes: 33 of numbers, a tag, and a key of a byte with its length
+const LEAST_ENTRY_BYTES: usize = 36;
+
 /// Appends the spelling of a list of entries.
 #[tactic(auto, unfolding(crsm_base::specs::Spelling::entries_bytes))]
 pub fn put_entries(entries: &Entries, out: &mut Bytes) -> Result<(), NoMemory>
@@ -34,6 +37,8 @@ fn take_many_entries(
     ensures { IfOk result (λ r. option_map (λ x. (x.0, x.1.now)) r ≡ many_entries_at count bytes.now) }
 {
     let mut entries = Entries::new(alloc);
+    // what is told may be more than the bytes can spell
+    entries.reserve((count as usize).min(bytes.len() / LEAST_ENTRY_BYTES))?;
     let mut rest = bytes;
     for _ in 0..count {
         let Some((entry, after)) = take_entry(alloc, rest)? else {
