@@ -16,6 +16,25 @@ pub fn pair(first: u64, second: u64) -> [u8; 16]
     cells
 }
 
+/// A number of eight bytes, a stamp, two numbers of eight bytes and two of one byte.
+#[tactic(auto, unfolding(crsm_base::specs::Spelling::u64_bytes, crsm_base::specs::Spelling::stamp_bytes))]
+pub fn stamp_and_pair(
+    number: u64,
+    stamp: Stamp,
+    first: u64,
+    second: u64,
+    third: u8,
+    fourth: u8,
+) -> [u8; 35]
+    requires { FitsStamp stamp }
+    ensures { result ≡ (u64_bytes number ++ stamp_bytes stamp) ++ (u64_bytes first ++ (u64_bytes second ++ third ∷ u8_bytes fourth)) }
+{
+    let mut cells = [0; 35];
+    cells[..17].copy_from_slice(&before_stamp(number, stamp));
+    cells[17..].copy_from_slice(&pair_and_bytes(first, second, third, fourth));
+    cells
+}
+
 /// Two numbers of eight bytes and two of one byte.
 #[tactic(auto, unfolding(crsm_base::specs::Spelling::u64_bytes))]
 pub fn pair_and_bytes(first: u64, second: u64, third: u8, fourth: u8) -> [u8; 18]

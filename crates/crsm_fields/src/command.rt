@@ -2,10 +2,10 @@
 
 ghost use Rattle.std.specs.Prelude.{◌≡◌, ◌∷◌, ◌++◌, IfOk, OnOk};
 ghost use Rattle.std.specs.Option.{option_map};
-ghost use Rattle.crsm_base.specs.Spelling.{u64_bytes, key_bytes, FitsKey, op_bytes, FitsOp, command_bytes, FitsCommand, entry_bytes, FitsEntry};
+ghost use Rattle.crsm_base.specs.Spelling.{u64_bytes, stamp_bytes, FitsStamp, key_bytes, FitsKey, op_bytes, FitsOp, command_bytes, FitsCommand, entry_bytes, FitsEntry};
 ghost use Rattle.crsm_base.specs.Reading.{get_at, put_at, delete_at, cas_at, op_at, command_at, entry_at};
 
-use crate::cells::{before_stamp, pair_and_bytes};
+use crate::cells::{pair_and_bytes, stamp_and_pair};
 use crate::number::{take_u8, take_u64};
 use crate::stamp::take_stamp;
 use crate::value::{put_option_val, put_tagged_key, put_val, take_key, take_option_val, take_val};
@@ -66,14 +66,46 @@ pub fn put_command(command: &Command, out: &mut Bytes) -> Result<(), NoMemory>
     }
 }
 
+// the numbers of an entry, the tag of its operation and the key
+#[tactic(auto, unfolding(crsm_base::specs::Spelling::key_bytes))]
+fn put_entry_front(entry: &Entry, tag: u8, key: &Key, out: &mut Bytes) -> Result<(), NoMemory>
+    requires stamp { FitsStamp entry.now.stamp }
+    requires key { FitsKey key.now }
+    ensures { OnOk result (out.new ≡ out.old ++ ((u64_bytes entry.now.epoch ++ stamp_bytes entry.now.stamp)
+        ++ (u64_bytes entry.now.command.client ++ (u64_bytes entry.now.command.number ++ tag ∷ key_bytes key.now)))) }
+{
+    let bytes = key.as_slice();
+    let front = stamp_and_pair(
+        entry.epoch,
+        entry.stamp,
+        entry.command.client,
+        entry.command.number,
+        tag,
+        bytes.len() as u8,
+    );
+    out.append(&front)?;
+    out.append(bytes)
+}
+
 /// Appends the spelling of an entry.
-#[tactic(auto, unfolding(crsm_base::specs::Spelling::entry_bytes))]
+#[tactic(auto, unfolding(crsm_base::specs::Spelling::entry_bytes, crsm_base::specs::Spelling::command_bytes, crsm_base::specs::Spelling::op_bytes))]
 pub fn put_entry(entry: &Entry, out: &mut Bytes) -> Result<(), NoMemory>
     requires { FitsEntry entry.now }
     ensures { OnOk result (out.new ≡ out.old ++ entry_bytes entry.now) }
 {
-    out.append(&before_stamp(entry.epoch, entry.stamp))?;
-    put_command(&entry.command, out)
+    match &entry.command.op {
+        Op::Get(key) => put_entry_front(entry, 1, key, out),
+        Op::Put(key, val) => {
+            put_entry_front(entry, 2, key, out)?;
+            put_val(val, out)
+        }
+        Op::Delete(key) => put_entry_front(entry, 3, key, out),
+        Op::Cas(key, expected, new) => {
+            put_entry_front(entry, 4, key, out)?;
+            put_option_val(expected, out)?;
+            put_option_val(new, out)
+        }
+    }
 }
 
 #[tactic(auto, unfolding(crsm_base::specs::Reading::get_at))]
