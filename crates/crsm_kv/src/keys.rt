@@ -20,11 +20,11 @@ pub fn value_of<'a>(keys: &'a Keys, key: &Key) -> Option<&'a Val>
     keys.get(key)
 }
 
-/// Whether the key is there, or one more has room.
+/// Whether the key is there, or one more has room. Mostly there is room, so the key is not sought.
 fn has_room(keys: &Keys, key: &Key) -> bool
     ensures { result ≡ (is_some (value_at key.now keys.now.entries) || nat_lt (length keys.now.entries) most_keys) }
 {
-    value_of(keys, key).is_some() || keys.len() < MAX_KEYS as usize
+    keys.len() < MAX_KEYS as usize || value_of(keys, key).is_some()
 }
 
 /// Whether the value, or its absence, is the expected one.
