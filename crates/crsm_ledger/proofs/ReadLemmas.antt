@@ -1,6 +1,6 @@
 -- What each field says of the log.
 use Rattle.std.proofs.Common.{◌≡◌, ℕ, refl, ap}
-use Rattle.std.specs.Prelude.{Option, None, Some, unwrap_or}
+use Rattle.std.specs.Prelude.{List, Option, None, Some, unwrap_or}
 use Rattle.std.specs.Option.{option_map_or}
 use Rattle.crsm_spec.specs.Types.{Decision}
 use Rattle.crsm_spec.specs.Lists.{numbers_below}
@@ -16,6 +16,10 @@ me-is s = ap (λ f. f.me) s.facts
 pub n-is : {me n : ℕ} {l : Ledger} {log : Log} → Says me n l log → l.n ≡ n
 unfolding facts_of
 n-is s = ap (λ f. f.n) s.facts
+
+pub founders-are : {me n : ℕ} {l : Ledger} {log : Log} → Says me n l log → l.founders ≡ numbers_below n
+unfolding facts_of
+founders-are s = ap (λ f. f.founders) s.facts
 
 pub boots-is : {me n : ℕ} {l : Ledger} {log : Log} → Says me n l log → l.boots ≡ boots log
 unfolding facts_of

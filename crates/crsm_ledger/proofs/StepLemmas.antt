@@ -157,14 +157,15 @@ says-adopt {me} {n} {l} {log} s place es h below done = record {
 
 -- ---- no record
 
-pub says-nothing : (me n : ℕ) (l : Ledger) (members : List ℕ) (tail logged : List Entry) → n ≤ 15 → fields_of l ≡ record { me = me; n = n; boots = 0; known = record { epoch = 0; spec = None; members = members; base_len = 0; tail = tail }; start = 0; live = false; suspended = false; entered = false; promised = no_ballot; accepted = None; logged = logged } → members ≡ numbers_below n → tail ≡ [] → logged ≡ [] → HasExecuted l.history 0 [] → Says me n l []
+pub says-nothing : (me n : ℕ) (l : Ledger) (founders members : List ℕ) (tail logged : List Entry) → n ≤ 15 → fields_of l ≡ record { me = me; n = n; founders = founders; boots = 0; known = record { epoch = 0; spec = None; members = members; base_len = 0; tail = tail }; start = 0; live = false; suspended = false; entered = false; promised = no_ballot; accepted = None; logged = logged } → founders ≡ numbers_below n → members ≡ numbers_below n → tail ≡ [] → logged ≡ [] → HasExecuted l.history 0 [] → Says me n l []
 unfolding facts_of boots known known_decision decision start live suspended has_entered promised accepted logged logged_in executed
-says-nothing me n l members tail entries few fields all none nothing done = record {
+says-nothing me n l founders members tail entries few fields first all none nothing done = record {
   few = few;
   facts = fields
-      ∙ ap (λ (ks : List ℕ). record { me = me; n = n; boots = 0; known = record { epoch = 0; spec = None; members = ks; base_len = 0; tail = tail }; start = 0; live = false; suspended = false; entered = false; promised = no_ballot; accepted = None; logged = entries }) all
-      ∙ ap (λ (es : List Entry). record { me = me; n = n; boots = 0; known = record { epoch = 0; spec = None; members = numbers_below n; base_len = 0; tail = es }; start = 0; live = false; suspended = false; entered = false; promised = no_ballot; accepted = None; logged = entries }) none
-      ∙ ap (λ (es : List Entry). record { me = me; n = n; boots = 0; known = record { epoch = 0; spec = None; members = numbers_below n; base_len = 0; tail = [] }; start = 0; live = false; suspended = false; entered = false; promised = no_ballot; accepted = None; logged = es }) nothing;
+      ∙ ap (λ (ks : List ℕ). record { me = me; n = n; founders = ks; boots = 0; known = record { epoch = 0; spec = None; members = members; base_len = 0; tail = tail }; start = 0; live = false; suspended = false; entered = false; promised = no_ballot; accepted = None; logged = entries }) first
+      ∙ ap (λ (ks : List ℕ). record { me = me; n = n; founders = numbers_below n; boots = 0; known = record { epoch = 0; spec = None; members = ks; base_len = 0; tail = tail }; start = 0; live = false; suspended = false; entered = false; promised = no_ballot; accepted = None; logged = entries }) all
+      ∙ ap (λ (es : List Entry). record { me = me; n = n; founders = numbers_below n; boots = 0; known = record { epoch = 0; spec = None; members = numbers_below n; base_len = 0; tail = es }; start = 0; live = false; suspended = false; entered = false; promised = no_ballot; accepted = None; logged = entries }) none
+      ∙ ap (λ (es : List Entry). record { me = me; n = n; founders = numbers_below n; boots = 0; known = record { epoch = 0; spec = None; members = numbers_below n; base_len = 0; tail = [] }; start = 0; live = false; suspended = false; entered = false; promised = no_ballot; accepted = None; logged = es }) nothing;
   executed = done;
   none_above = record { logged = λ x after. refl; entered = λ x after. refl; executed = tt };
 }

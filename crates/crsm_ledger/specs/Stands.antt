@@ -28,6 +28,7 @@ pub record NoneAbove (log : Log) : Type 0 where
 pub record Facts : Type 0 where
   pub me : ℕ
   pub n : ℕ
+  pub founders : List ℕ
   pub boots : ℕ
   pub known : Decision
   pub start : ℕ
@@ -43,6 +44,7 @@ abbrev pub fields_of : Ledger → Facts
 fields_of l = record {
   me = l.me;
   n = l.n;
+  founders = l.founders;
   boots = l.boots;
   known = l.known;
   start = l.start;
@@ -59,6 +61,7 @@ unfoldable pub facts_of : ℕ → ℕ → Log → Facts
 facts_of me n log = record {
   me = me;
   n = n;
+  founders = numbers_below n;
   boots = boots log;
   known = known_decision n log;
   start = start log;

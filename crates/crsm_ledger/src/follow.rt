@@ -8,7 +8,6 @@ ghost use Rattle.crsm_base.specs.Spelling.{FitsEntry, FitsEntries, FitsDecision}
 ghost use Rattle.crsm_ledger.specs.Stands.{Follows};
 
 use crate::ledger::{Ledger, NO_BALLOT};
-use crate::logged::Logged;
 use crsm_base::{Ballot, Decision, Entries, Entry, NoMemory, Rec};
 
 impl Ledger {
@@ -108,7 +107,7 @@ impl Ledger {
         self.has_entered = false;
         self.promised = NO_BALLOT;
         self.accepted = None;
-        self.logged = Logged::new(self.alloc);
+        self.logged.clear();
     }
 
     pub(crate) fn follow_enter(&mut self)

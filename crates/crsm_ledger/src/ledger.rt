@@ -25,6 +25,8 @@ pub struct Ledger {
     pub(crate) alloc: Global,
     pub(crate) me: u32,
     pub(crate) n: u32,
+    /// The replicas that began the cluster.
+    pub(crate) founders: Members,
     pub(crate) is_spent: bool,
     pub(crate) boots: u64,
     pub(crate) known: Decision,
@@ -60,12 +62,15 @@ impl Ledger {
         requires few { n ≤ 15 }
         ensures { IfOk result (λ ledger. StandsFor me n ledger []) }
     {
-        let members = members_of(alloc, first_replicas(n))?;
+        let numbers = first_replicas(n);
+        let founders = members_of(alloc, numbers)?;
+        let members = members_of(alloc, numbers)?;
         let history = History::new(alloc)?;
         Ok(Ledger {
             alloc,
             me,
             n,
+            founders,
             is_spent: false,
             boots: 0,
             known: Decision {
@@ -191,13 +196,21 @@ impl Ledger {
     }
 
     /// The replicas whose majorities count in the known epoch.
+    pub fn counted(&self) -> &Members
+        ensures { (me n : ℕ) (log : List Rec) → StandsFor me n self.now log → result.now ≡ spec n log }
+    {
+        match &self.known.spec {
+            Some(members) => members,
+            None => &self.founders,
+        }
+    }
+
+    /// A copy of the replicas whose majorities count in the known epoch.
     pub fn spec(&self) -> Result<Members, NoMemory>
         ensures { (me n : ℕ) (log : List Rec) → StandsFor me n self.now log → IfOk result (λ members. members ≡ spec n log) }
     {
-        match &self.known.spec {
-            Some(members) => Ok(members.copy(self.alloc)?),
-            None => Ok(members_of(self.alloc, first_replicas(self.n))?),
-        }
+        let members = self.counted().copy(self.alloc)?;
+        Ok(members)
     }
 
     /// Keeps a record and gives its lines. `NotFit` comes exactly where the record may not come next, with its kind,

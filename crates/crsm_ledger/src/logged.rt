@@ -1,6 +1,6 @@
 //! The entries of one epoch that were logged, by ascending stamp.
 
-ghost use Rattle.std.specs.Prelude.{◌≡◌, ◌<◌, ◌≤◌, ◌==◌, nat_lt, true, false, [], length, get_or, not, IfSome, OnOk, OnErr};
+ghost use Rattle.std.specs.Prelude.{◌≡◌, ◌<◌, ◌≤◌, ◌==◌, nat_lt, true, false, [], insert, length, get_or, not, IfSome, OnOk, OnErr};
 ghost use Rattle.std.specs.List.{list_any, AllByRecursion};
 ghost use Rattle.std.specs.Option.{option_copied};
 ghost use Rattle.std.specs.List.Sorted.{IsPartitionPoint};
@@ -61,8 +61,15 @@ impl Logged {
         ensures err { OnErr result (self.new ≡ self.old) }
     {
         let place = count_up_to(self.items.as_slice(), entry.stamp);
-        self.items.insert(place, entry)?;
+        put_at(&mut self.items, place, entry)?;
         Ok(())
+    }
+
+    /// Lets all entries go, and keeps their room.
+    pub fn clear(&mut self)
+        ensures { self.new ≡ [] }
+    {
+        self.items.clear();
     }
 
     /// The entries above a stamp, all of them where there is none.
@@ -87,6 +94,21 @@ impl Logged {
     {
         is_newest_of(self.items.as_slice(), entry)
     }
+}
+
+/// Puts an entry at a place, which is mostly the end. After an error the entries are as before.
+#[tactic(auto, using(std::proofs::lemmas::List::Edits::insert_end))]
+fn put_at(items: &mut Vec<Entry>, place: usize, entry: Entry) -> Result<(), NoMemory>
+    requires { place ≤ length items.old.items }
+    ensures ok { OnOk result (items.new.items ≡ insert items.old.items place entry) }
+    ensures err { OnErr result (items.new.items ≡ items.old.items) }
+{
+    if place == items.len() {
+        items.push(entry)?;
+    } else {
+        items.insert(place, entry)?;
+    }
+    Ok(())
 }
 
 #[tactic(auto, unfolding(crsm_spec::specs::Lists::first_of))]
