@@ -38,6 +38,14 @@ impl Frames {
         Ok(())
     }
 
+    /// Makes room for so many frames more. The list stays as it is.
+    pub fn reserve(&mut self, additional: usize) -> Result<(), NoMemory>
+        ensures { self.new ≡ self.old }
+    {
+        self.items.reserve(additional)?;
+        Ok(())
+    }
+
     pub fn as_slice(&self) -> &[(u64, InEpoch)]
         ensures { result.now ≡ self.now }
     {

@@ -63,8 +63,10 @@ impl Out {
     pub fn due(&self) -> Result<Frames, NoMemory>
         ensures { IfOk result (λ frames. (pushed : List InEpoch) (acked : ℕ) → StandsFor self.now pushed acked → frames ≡ take 64 (unacked pushed acked)) }
     {
+        let count = self.frames.len().min(MAX_SENT_AGAIN as usize);
         let mut due = Frames::new(self.alloc);
-        for index in 0..self.frames.len().min(MAX_SENT_AGAIN as usize) {
+        due.reserve(count)?;
+        for index in 0..count {
             let payload = self.frames[index].copy(self.alloc)?;
             due.push((self.first + index as u64, payload))?;
         }
