@@ -1,8 +1,9 @@
 -- The digits of numbers and of bytes, one after another.
-use Rattle.std.proofs.Common.{◌≡◌, ℕ, suc, ◌+◌, ◌-◌, ◌*◌, ◌/◌, ◌%◌, ◌^◌, ◌<◌, List, [], ◌∷◌, ◌++◌, decimal, length, get_or, take, drop, sym, ap, ◌∙◌, arith}
+use Rattle.std.proofs.Common.{◌≡◌, ℕ, suc, ◌+◌, ◌-◌, ◌*◌, ◌/◌, ◌%◌, ◌^◌, ◌<◌, List, [], ◌∷◌, ◌++◌, decimal, length, get_or, take, drop, refl, sym, ap, ◌∙◌, arith}
 use Rattle.std.proofs.lemmas.Fmt.{decimal_digit, decimal_step}
-use Rattle.std.proofs.lemmas.List.{take_more, take_all, drop_all, append-nil}
-use Rattle.hex.specs.Hex.{encode_with, encode_lower}
+use Rattle.std.proofs.lemmas.List.{take_more, take_all}
+use Rattle.std.specs.Prelude.{slice_index}
+use Rattle.hex.specs.Hex.{encode_with, encode_lower, lower_digits}
 
 -- the items behind the first
 pub behind_first : (xs : List ℕ) (i : ℕ) → i < length (take (length xs - 1) (drop 1 xs)) → get_or (take (length xs - 1) (drop 1 xs)) i 0 ≡ get_or xs (i + 1) 0
@@ -32,9 +33,11 @@ next_digit xs i n d within is small some fits front =
     ∙ ap (λ m. decimal m ++ (48 + d) ∷ []) (sym tens) ∙ ap (λ m. decimal ((n * 10 + d) / 10) ++ (48 + m) ∷ []) (sym ones)
     ∙ sym (decimal_step (n * 10 + d) (omega (arith, some)) fits)
 
--- all bytes are written
-pub encode_front : (bytes row : List ℕ) (i : ℕ) → i ≡ length bytes → take (2 * i) row ++ encode_lower (drop i bytes) ≡ encode_lower bytes → take (2 * length bytes) row ≡ encode_lower bytes
+-- the digits of the first bytes are the first digits
+pub encode_take : (bytes rest : List ℕ) → take (2 * length bytes) (encode_lower (bytes ++ rest)) ≡ encode_lower bytes
 unfolding encode_with
-encode_front bytes row i is text =
-    let none : drop i bytes ≡ [] = drop_all i bytes (omega (arith, is)) in
-    ap (λ n. take (2 * n) row) (sym is) ∙ sym (append-nil (take (2 * i) row)) ∙ ap (λ ys. take (2 * i) row ++ encode_lower ys) (sym none) ∙ text
+encode_take [] rest = refl
+encode_take (b ∷ bytes) rest =
+    let two : 2 * length (b ∷ bytes) ≡ suc (suc (2 * length bytes)) = omega arith in
+    ap (λ n. take n (encode_lower (b ∷ bytes ++ rest))) two
+    ∙ ap (λ (s : List ℕ). slice_index lower_digits (b / 16) ∷ slice_index lower_digits (b % 16) ∷ s) (encode_take bytes rest)

@@ -115,17 +115,33 @@ pub fn push_numbered(
     out.append(&row[begin..])
 }
 
-// The digits of a piece are written on the stack, and added at once.
+// The digits of a piece are written on the stack, and added at once. The piece is filled up with zeros, and its first and
+// second digits are made apart, since such loops are done many bytes at a time.
 fn push_piece(out: &mut Bytes, piece: &[u8]) -> Result<(), NoMemory>
     requires { length piece.now ≤ 64 }
     ensures { OnOk result (out.new ≡ out.old ++ encode_lower piece.now) }
 {
-    let mut row = [0; 2 * PIECE_BYTES];
-    for (i, byte) in piece.iter().enumerate() {
-        row[2 * i] = digit(*byte / 16);
-        row[2 * i + 1] = digit(*byte % 16);
-    }
+    let mut filled = [0; PIECE_BYTES];
+    filled[..piece.len()].copy_from_slice(piece);
+    let row = digits_of(&filled);
     out.append(&row[..2 * piece.len()])
+}
+
+fn digits_of(bytes: &[u8; PIECE_BYTES]) -> [u8; 2 * PIECE_BYTES]
+    ensures { result ≡ encode_lower bytes.now }
+{
+    let mut firsts = [0; PIECE_BYTES];
+    let mut seconds = [0; PIECE_BYTES];
+    for (i, byte) in bytes.iter().enumerate() {
+        firsts[i] = digit(*byte / 16);
+        seconds[i] = digit(*byte % 16);
+    }
+    let mut row = [0; 2 * PIECE_BYTES];
+    for i in 0..PIECE_BYTES {
+        row[2 * i] = firsts[i];
+        row[2 * i + 1] = seconds[i];
+    }
+    row
 }
 
 /// Adds bytes in lower-case hexadecimal.
