@@ -4,6 +4,7 @@ mod Cores
 pub mod Files
 mod Groups
 mod Keeping
+mod Making
 mod Pending
 mod Ports
 mod Propositions

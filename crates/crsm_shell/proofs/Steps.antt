@@ -138,8 +138,3 @@ module _ (r : Replica) where
       go : (i : Option Input) → Grown r (option_map_or (λ i. step r i t.1) i (begun r))
       go None = nothing_grown
       go (Some i) = step_grown i t.1
-
--- a turn that takes nothing does nothing
-pub turn_nothing : (r : Replica) (t : Turn × ℕ) → input_of t.0 ≡ None → turn r t ≡ begun r
-unfolding turn
-turn_nothing r t is = ap (λ (i : Option Input). option_map_or (λ i. step r i t.1) i (begun r)) is

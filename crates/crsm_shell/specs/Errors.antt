@@ -28,7 +28,6 @@ keep_failure errors.NoMemory = boots.NoMemory
 -- what a failed input is
 abbrev pub take_failure : TakeError → TurnError
 take_failure take.PortFault = errors.PortFault
-take_failure take.NoMemory = errors.NoMemory
 
 -- what a failed put is
 abbrev pub put_failure : PutError → TurnError

@@ -1,5 +1,5 @@
 -- What a shell takes, and the step that it makes of it.
-use Rattle.std.specs.Prelude.{◌≡◌, ◌≢◌, ℕ, List, [], ◌∷◌, ◌++◌, length, Option, Result, Ok, Err}
+use Rattle.std.specs.Prelude.{◌≡◌, ◌≢◌, ℕ, List, [], ◌∷◌, ◌++◌, length, take, Option, Result, Ok, Err}
 use Rattle.crsm_spec.specs.Log.{Log}
 use Rattle.crsm_spec.specs.Replica.{Replica}
 use Rattle.crsm_spec.specs.Draft.{Draft}
@@ -22,16 +22,17 @@ use Rattle.crsm_shell.specs.declared.errors.TurnError.TheVariants as errors
 use Rattle.crsm_shell.specs.declared.shell.Shell.{Shell}
 use Rattle.crsm_shell.specs.declared.turned.Turned.{Turned}
 use Rattle.crsm_shell.specs.Standing.{ShellStands}
+use Rattle.crsm_shell.specs.Words.{buffer_of}
 
--- the turn that was taken
-unfoldable pub turn_of : Taken → Turn
-turn_of (taken.Datagram from bytes) = Turn.In from bytes
-turn_of taken.Tick = Turn.Tick
-turn_of (taken.Suspect members) = Turn.Suspect members
+-- the turn that was taken; a datagram is the front of the buffer
+unfoldable pub turn_of : List ℕ → Taken → Turn
+turn_of buffer (taken.Datagram from len) = Turn.In from (take len buffer)
+turn_of buffer taken.Tick = Turn.Tick
+turn_of buffer (taken.Suspect members) = Turn.Suspect members
 
--- the step of what was taken, at its reading
-abbrev pub step_of : Replica → Turned → Draft
-step_of r t = turn r (turn_of t.taken, t.reading)
+-- the step of what was taken into this buffer, at its reading
+abbrev pub step_of : List ℕ → Replica → Turned → Draft
+step_of buffer r t = turn r (turn_of buffer t.taken, t.reading)
 
 -- The step is made, with its batch and the bytes of its records, and is pending behind those before it.
 pub record MakesStep {D : Type 0} {g : _} (new : Shell D g) (m : Meaning) (kept : Log) (r : Replica) (steps : List Draft) (x : Draft) (batch : Batch) (bytes : ℕ) : Type 0 where
@@ -44,26 +45,26 @@ pub record MakesStep {D : Type 0} {g : _} (new : Shell D g) (m : Meaning) (kept 
 
 -- the same of what was taken
 abbrev pub TakesStep : {D : Type 0} {g : _} → Shell D g → Meaning → (kept : Log) → Replica → (steps : List Draft) → Turned → Type 0
-TakesStep new m kept r steps t = MakesStep new m kept r steps (step_of r t) t.batch t.size
+TakesStep new m kept r steps t = MakesStep new m kept r steps (step_of (buffer_of new) r t) t.batch t.size
 
 -- how long a datagram may be that is received whole
 abbrev pub most_received : ℕ
 most_received = 8192
 
--- An input is taken off the port as it is wanted; only a receive calls the port.
-abbrev pub Receives : What → PortMeaning → PortMeaning → Result Taken TurnError → Type 0
-Receives what old new (Ok t) = TakesInput what most_received old new (Ok t)
-Receives what old new (Err errors.PortFault) = TakesInput what most_received old new (Err take_error.PortFault)
-Receives what old new (Err errors.NoMemory) = (r : Result Taken TakeError) × TakesInput what most_received old new r × (r ≢ Err take_error.PortFault)
-Receives what old new (Err errors.Failed) = ⊥
-Receives what old new (Err errors.DiskFault) = ⊥
-Receives what old new (Err errors.LogFull) = ⊥
+-- An input is taken off the port into the buffer as it is wanted; only a receive calls the port.
+abbrev pub Receives : What → List ℕ → PortMeaning → PortMeaning → Result Taken TurnError → Type 0
+Receives what buffer old new (Ok t) = TakesInput what most_received buffer old new (Ok t)
+Receives what buffer old new (Err errors.PortFault) = TakesInput what most_received buffer old new (Err take_error.PortFault)
+Receives what buffer old new (Err errors.NoMemory) = (r : Result Taken TakeError) × TakesInput what most_received buffer old new r × (r ≢ Err take_error.PortFault)
+Receives what buffer old new (Err errors.Failed) = ⊥
+Receives what buffer old new (Err errors.DiskFault) = ⊥
+Receives what buffer old new (Err errors.LogFull) = ⊥
 
 -- The same of a whole step; where the replica failed before, nothing is taken. No other error comes.
-abbrev pub Takes : What → PortMeaning → PortMeaning → Result Turned TurnError → Type 0
-Takes what old new (Ok t) = Receives what old new (Ok t.taken)
-Takes what old new (Err errors.Failed) = new ≡ old
-Takes what old new (Err why) = Receives what old new (Err why)
+abbrev pub Takes : What → List ℕ → PortMeaning → PortMeaning → Result Turned TurnError → Type 0
+Takes what buffer old new (Ok t) = Receives what buffer old new (Ok t.taken)
+Takes what buffer old new (Err errors.Failed) = new ≡ old
+Takes what buffer old new (Err why) = Receives what buffer old new (Err why)
 
 -- The clock is read once, unless nothing is taken any more.
 abbrev pub Reads : Option Readings → Option Readings → Result Turned TurnError → Type 0

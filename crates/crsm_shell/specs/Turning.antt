@@ -1,5 +1,5 @@
 -- What a turn makes.
-use Rattle.std.specs.Prelude.{◌≡◌, List, [], Ok}
+use Rattle.std.specs.Prelude.{◌≡◌, ℕ, List, [], Ok}
 use Rattle.crsm_spec.specs.Replica.{Replica}
 use Rattle.crsm_spec.specs.World.{body_size}
 use Rattle.crsm_core.specs.Standing.{Answers}
@@ -12,15 +12,16 @@ use Rattle.crsm_shell.specs.declared.turned.Turned.{Turned}
 use Rattle.crsm_shell.specs.Flushing.{SendsPosts}
 use Rattle.crsm_shell.specs.Standing.{ShellStands}
 use Rattle.crsm_shell.specs.Taking.{most_received, step_of}
+use Rattle.crsm_shell.specs.Words.{buffer_of}
 
 -- The step of what was taken is answered and kept, and nothing is pending.
 pub record KeepsStep {D : Type 0} {g : _} (new : Shell D g) (m : Meaning) (r : Replica) (t : Turned) : Type 0 where
-  pub answers : Answers t.batch (step_of r t)
-  pub stands : ShellStands new m (step_of r t).replica.log (step_of r t).replica []
-  pub size : t.size ≡ body_size (step_of r t).batch
+  pub answers : Answers t.batch (step_of (buffer_of new) r t)
+  pub stands : ShellStands new m (step_of (buffer_of new) r t).replica.log (step_of (buffer_of new) r t).replica []
+  pub size : t.size ≡ body_size (step_of (buffer_of new) r t).batch
 
--- The input is taken off the port, and then these are sent over it.
-pub record TakesAndSends (what : What) (posts : List Post) (old new : PortMeaning) (t : Turned) : Type 0 where
+-- The input is taken off the port into the buffer, and then these are sent over it.
+pub record TakesAndSends (what : What) (buffer : List ℕ) (posts : List Post) (old new : PortMeaning) (t : Turned) : Type 0 where
   pub between : PortMeaning
-  pub taken : TakesInput what most_received old between (Ok t.taken)
+  pub taken : TakesInput what most_received buffer old between (Ok t.taken)
   pub sent : SendsPosts posts between new

@@ -14,6 +14,10 @@ gate_of shell = logs.gate_of shell.log
 abbrev pub peers_of : {D : Type 0} {g : _} → Shell D g → List ℕ
 peers_of shell = shell.peers.items
 
+-- where it receives a datagram
+abbrev pub buffer_of : {D : Type 0} {g : _} → Shell D g → List ℕ
+buffer_of shell = shell.buffer.items
+
 -- how many steps are pending
 abbrev pub pending_of : {D : Type 0} {g : _} → Shell D g → ℕ
 pending_of shell = shell.pending

@@ -93,7 +93,6 @@ impl From<TakeError> for TurnError {
     fn from(why: TakeError) -> TurnError {
         match why {
             TakeError::PortFault => TurnError::PortFault,
-            TakeError::NoMemory => TurnError::NoMemory,
         }
     }
 }

@@ -12,7 +12,7 @@ ghost use Rattle.crsm_spec.specs.Replica.{Replica};
 ghost use Rattle.crsm_turns.specs.Outgoing.{posts_for};
 ghost use Rattle.crsm_shell.specs.Flushing.{IsFull, IsOneOf, SendsNone, SendsPosts, StopsFlush, keep_calls, keep_count};
 ghost use Rattle.crsm_shell.specs.Standing.{ShellStands, records_of, sends_of};
-ghost use Rattle.crsm_shell.specs.Words.{disk_of, gate_of, peers_of, has_failed};
+ghost use Rattle.crsm_shell.specs.Words.{buffer_of, disk_of, gate_of, peers_of, has_failed};
 
 use crate::errors::TurnError;
 use crate::keep::keep;
@@ -29,6 +29,7 @@ impl<D: Disk> Shell<D> {
         ensures stands { (kept : Log) (r : Replica) (steps : List Draft) → ShellStands self.old (D.meaning (disk_of self.old)) kept r steps →
             OnOk result (ShellStands self.new (D.meaning (disk_of self.new)) r.log r []) }
         ensures peers { peers_of self.new ≡ peers_of self.old }
+        ensures buffer { buffer_of self.new ≡ buffer_of self.old }
 
         // What is sent, once all is kept; and nothing else is.
         ensures sent { (kept : Log) (r : Replica) (steps : List Draft) → ShellStands self.old (D.meaning (disk_of self.old)) kept r steps →

@@ -20,7 +20,7 @@ pub struct Shell<D: Disk> {
     pub(crate) log: Log<D>,
     // The address of each replica.
     pub(crate) peers: Vec<u64>,
-    // Where a datagram is received.
+    // Where a datagram is received, and read.
     pub(crate) buffer: Vec<u8>,
     // The records and the datagrams of the steps that are pending.
     pub(crate) body: Bytes,

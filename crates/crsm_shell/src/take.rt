@@ -10,7 +10,8 @@ ghost use Rattle.crsm_shell.specs.Standing.{ShellStands};
 ghost use Rattle.crsm_spec.specs.Node.{turn};
 ghost use Rattle.crsm_shell.specs.Errors.{is_lasting};
 ghost use Rattle.crsm_shell.specs.Taking.{MakesStep, Reads, Receives, Takes, TakesStep, most_received, turn_of};
-ghost use Rattle.crsm_shell.specs.Words.{disk_of, gate_of, peers_of, pending_of, has_failed};
+ghost use Rattle.crsm_turns.specs.Input.{IsWithin};
+ghost use Rattle.crsm_shell.specs.Words.{buffer_of, disk_of, gate_of, peers_of, pending_of, has_failed};
 
 use crate::errors::TurnError;
 use crate::make::make;
@@ -22,7 +23,6 @@ use crsm_disk::Disk;
 use crsm_output::Batch;
 use crsm_port::Port;
 use crsm_turns::{Taken, What, take_input, write_records};
-use std::alloc::Global;
 
 impl<D: Disk> Shell<D> {
     /// Takes the input that is wanted and makes its step, at one reading of the clock. The step pends until it is
@@ -44,7 +44,7 @@ impl<D: Disk> Shell<D> {
 
         // One reading; the input off the port, if any; the disk is not touched.
         ensures clock { Reads (C.readings clock.old) (C.readings clock.new) result }
-        ensures port { Takes what (P.meaning port.old) (P.meaning port.new) result }
+        ensures port { Takes what (buffer_of self.new) (P.meaning port.old) (P.meaning port.new) result }
         ensures disk { disk_of self.new ≡ disk_of self.old }
         ensures gate { gate_of self.new ≡ gate_of self.old }
         ensures peers { peers_of self.new ≡ peers_of self.old }
@@ -59,7 +59,7 @@ impl<D: Disk> Shell<D> {
             return Err(TurnError::Failed);
         }
         let reading = clock.now();
-        let taken = match receive(self.alloc, what, port, &mut self.buffer) {
+        let taken = match receive(what, port, &mut self.buffer) {
             Ok(taken) => taken,
             Err(why) => {
                 self.failed = why.is_lasting();
@@ -79,17 +79,19 @@ impl<D: Disk> Shell<D> {
     fn step(&mut self, taken: &Taken, reading: u64) -> Result<(Batch, u64), NoMemory>
         requires well { self.old.failed ≡ false }
         requires few { self.old.pending < 32 }
+        requires within { IsWithin most_received taken.now }
         ensures stands { (kept : Log) (r : Replica) (steps : List Draft) → ShellStands self.old (D.meaning (disk_of self.old)) kept r steps →
-            IfOk result (λ b. MakesStep self.new (D.meaning (disk_of self.new)) kept r steps (turn r (turn_of taken.now, reading)) b.0 b.1) }
+            IfOk result (λ b. MakesStep self.new (D.meaning (disk_of self.new)) kept r steps (turn r (turn_of (buffer_of self.new) taken.now, reading)) b.0 b.1) }
         ensures spelt { IfOk result (λ b. AllByRecursion FitsSent b.0.sends) }
         ensures counted { OnOk result (self.new.pending ≡ self.old.pending + 1) }
         ensures log { self.new.log ≡ self.old.log }
         ensures peers { self.new.peers ≡ self.old.peers }
+        ensures buffer { self.new.buffer ≡ self.old.buffer }
         ensures lasting { self.new.failed ≡ is_err result }
     {
         // Whoever sees an error below must not go on from half a step.
         self.failed = true;
-        let batch = make(self.alloc, &mut self.core, taken, reading)?;
+        let batch = make(self.alloc, &mut self.core, taken, &self.buffer, reading)?;
         let before = self.body.as_slice().len() as u64;
         write_records(batch.records.as_slice(), &mut self.body)?;
         self.outbox.add(batch.sends.as_slice(), &self.peers)?;
@@ -100,15 +102,11 @@ impl<D: Disk> Shell<D> {
 }
 
 /// The input that is wanted.
-fn receive<P: Port>(
-    alloc: Global,
-    what: What,
-    port: &mut P,
-    buffer: &mut [u8],
-) -> Result<Taken, TurnError>
+fn receive<P: Port>(what: What, port: &mut P, buffer: &mut [u8]) -> Result<Taken, TurnError>
     requires { length buffer.old ≡ most_received }
-    ensures { Receives what (P.meaning port.old) (P.meaning port.new) result }
+    ensures within { IfOk result (IsWithin most_received) }
+    ensures taken { Receives what buffer.new (P.meaning port.old) (P.meaning port.new) result }
 {
-    let taken = take_input(alloc, what, port, buffer)?;
+    let taken = take_input(what, port, buffer)?;
     Ok(taken)
 }

@@ -16,7 +16,7 @@ ghost use Rattle.crsm_shell.specs.Flushing.{IsOneOf, keep_calls};
 ghost use Rattle.crsm_shell.specs.Standing.{ShellStands, records_of, sends_of};
 ghost use Rattle.crsm_shell.specs.Taking.{Reads, step_of};
 ghost use Rattle.crsm_shell.specs.Turning.{KeepsStep, TakesAndSends};
-ghost use Rattle.crsm_shell.specs.Words.{disk_of, gate_of, peers_of, pending_of, has_failed};
+ghost use Rattle.crsm_shell.specs.Words.{buffer_of, disk_of, gate_of, peers_of, pending_of, has_failed};
 
 use crate::errors::TurnError;
 use crate::shell::Shell;
@@ -45,12 +45,12 @@ impl<D: Disk> Shell<D> {
         // One reading, one input, the calls of one put at most, and then the sends.
         ensures clock { Reads (C.readings clock.old) (C.readings clock.new) result }
         ensures port { (kept : Log) (r : Replica) (steps : List Draft) → ShellStands self.old (D.meaning (disk_of self.old)) kept r steps →
-            IfOk result (λ t. TakesAndSends what (posts_for (peers_of self.old) (sends_of (steps ++ step_of r t ∷ []))) (P.meaning port.old) (P.meaning port.new) t) }
+            IfOk result (λ t. TakesAndSends what (buffer_of self.new) (posts_for (peers_of self.old) (sends_of (steps ++ step_of (buffer_of self.new) r t ∷ []))) (P.meaning port.old) (P.meaning port.new) t) }
         ensures calls { (kept : Log) (r : Replica) (steps : List Draft) → ShellStands self.old (D.meaning (disk_of self.old)) kept r steps →
-            IfOk result (λ t. (D.meaning (disk_of self.new)).history ≡ recorded (keep_calls (gate_of self.old) (body_bytes (records_of (steps ++ step_of r t ∷ [])))) (D.meaning (disk_of self.old)).history) }
+            IfOk result (λ t. (D.meaning (disk_of self.new)).history ≡ recorded (keep_calls (gate_of self.old) (body_bytes (records_of (steps ++ step_of (buffer_of self.new) r t ∷ [])))) (D.meaning (disk_of self.old)).history) }
         ensures goes { Goes (D.meaning (disk_of self.old)) (D.meaning (disk_of self.new)) }
         ensures any_moment { (kept : Log) (r : Replica) (steps : List Draft) → ShellStands self.old (D.meaning (disk_of self.old)) kept r steps → IsTrue (D.meaning (disk_of self.old)).honest →
-            IfOk result (λ t. LeavesOnly (D.meaning (disk_of self.old)) (D.meaning (disk_of self.new)) (IsOneOf r.me r.n kept (step_of r t).replica.log)) }
+            IfOk result (λ t. LeavesOnly (D.meaning (disk_of self.old)) (D.meaning (disk_of self.new)) (IsOneOf r.me r.n kept (step_of (buffer_of self.new) r t).replica.log)) }
 
         // Which error comes, and when.
         ensures failed { IsErrOf result TurnError.Failed ↔ (has_failed self.old ≡ true) }

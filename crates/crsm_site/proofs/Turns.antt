@@ -34,31 +34,31 @@ nothing : (d : Post) → [] ≡ d ∷ [] → ⊥
 nothing d e = false≢true (ap (λ (ds : List Post). is_some (first_post ds)) e)
 
 -- of one datagram that waits, and is short enough, all is taken
-received : (from : ℕ) (bytes : List ℕ) → length bytes ≤ 8192 → (t u : Traffic) → t.waiting ≡ (record { address = from; bytes = bytes }) ∷ [] → (got : Taken) → IsFirst 8192 t u got →
-    turn_taken got ≡ Turn.In from bytes
+received : (from : ℕ) (bytes : List ℕ) → length bytes ≤ 8192 → (t u : Traffic) → t.waiting ≡ (record { address = from; bytes = bytes }) ∷ [] → (buffer : List ℕ) (got : Taken) → IsFirst 8192 buffer t u got →
+    turn_taken buffer got ≡ Turn.In from bytes
 unfolding turn_taken
-received from bytes short t u waits taken.Tick first =
+received from bytes short t u waits buffer taken.Tick first =
     let one : Post = record { address = from; bytes = bytes } in
     let none : [] ≡ one ∷ [] = sym first.0 ∙ waits in
     absurd (nothing one none)
-received from bytes short t u waits (taken.Datagram k piece) first =
+received from bytes short t u waits buffer (taken.Datagram k len) first =
     let one : Post = record { address = from; bytes = bytes } in
     let same : first.0 ≡ one = ap (λ (ds : List Post). post_or one (first_post ds)) (sym first.2 ∙ waits) in
     let address : k ≡ from = first.3 ∙ ap (λ (d : Post). d.address) same in
-    let whole : piece ≡ bytes = first.4 ∙ ap (λ (d : Post). take 8192 d.bytes) same ∙ take_all 8192 bytes short in
-    ap (λ (x : ℕ). Turn.In x piece) address ∙ ap (Turn.In from) whole
-received from bytes short t u waits (taken.Suspect ms) first = absurd first
+    let whole : take len buffer ≡ bytes = first.4 ∙ ap (λ (d : Post). take 8192 d.bytes) same ∙ take_all 8192 bytes short in
+    ap (λ (x : ℕ). Turn.In x (take len buffer)) address ∙ ap (Turn.In from) whole
+received from bytes short t u waits buffer (taken.Suspect ms) first = absurd first
 
 -- what is taken off a port where this waits is the turn of it
-pub turn_arrives : (c : Coming) (p u : Inlet) (wanted : What) (got : Taken) → IsShort c → Asks c wanted p → TakesInput wanted 8192 (meaning_of p) (meaning_of u) (Ok got) →
-    turn_taken got ≡ turn_of c
+pub turn_arrives : (c : Coming) (p u : Inlet) (wanted : What) (buffer : List ℕ) (got : Taken) → IsShort c → Asks c wanted p → TakesInput wanted 8192 buffer (meaning_of p) (meaning_of u) (Ok got) →
+    turn_taken buffer got ≡ turn_of c
 unfolding turn_of turn_taken
-turn_arrives (coming.Bytes from bytes) p u wanted got short asks takes =
-    let it : TakesInput what.Receive 8192 (meaning_of p) (meaning_of u) (Ok got) = subst (λ w. TakesInput w 8192 (meaning_of p) (meaning_of u) (Ok got)) asks.0 takes in
-    received from bytes.now short (traffic_of p.letter) (traffic_of u.letter) asks.1 got (it.first (traffic_of p.letter) (traffic_of u.letter) refl refl)
-turn_arrives coming.Tick p u wanted got short asks takes =
-    let it : TakesInput what.Tick 8192 (meaning_of p) (meaning_of u) (Ok got) = subst (λ w. TakesInput w 8192 (meaning_of p) (meaning_of u) (Ok got)) asks takes in
-    ap (λ (r : Result Taken TakeError). turn_taken (taken_of r)) it.1
-turn_arrives (coming.Suspect ms) p u wanted got short asks takes =
-    let it : TakesInput (what.Suspect ms) 8192 (meaning_of p) (meaning_of u) (Ok got) = subst (λ w. TakesInput w 8192 (meaning_of p) (meaning_of u) (Ok got)) asks takes in
-    ap (λ (r : Result Taken TakeError). turn_taken (taken_of r)) it.1
+turn_arrives (coming.Bytes from bytes) p u wanted buffer got short asks takes =
+    let it : TakesInput what.Receive 8192 buffer (meaning_of p) (meaning_of u) (Ok got) = subst (λ w. TakesInput w 8192 buffer (meaning_of p) (meaning_of u) (Ok got)) asks.0 takes in
+    received from bytes.now short (traffic_of p.letter) (traffic_of u.letter) asks.1 buffer got (it.first (traffic_of p.letter) (traffic_of u.letter) refl refl)
+turn_arrives coming.Tick p u wanted buffer got short asks takes =
+    let it : TakesInput what.Tick 8192 buffer (meaning_of p) (meaning_of u) (Ok got) = subst (λ w. TakesInput w 8192 buffer (meaning_of p) (meaning_of u) (Ok got)) asks takes in
+    ap (λ (r : Result Taken TakeError). turn_taken buffer (taken_of r)) it.1
+turn_arrives (coming.Suspect ms) p u wanted buffer got short asks takes =
+    let it : TakesInput (what.Suspect ms) 8192 buffer (meaning_of p) (meaning_of u) (Ok got) = subst (λ w. TakesInput w 8192 buffer (meaning_of p) (meaning_of u) (Ok got)) asks takes in
+    ap (λ (r : Result Taken TakeError). turn_taken buffer (taken_of r)) it.1

@@ -25,7 +25,7 @@ cut (suc n) zero d h = absurd (omega arith)
 cut (suc n) (suc most) [] h = absurd (omega arith)
 cut (suc n) (suc most) (y ∷ d) h = ap (λ r. y ∷ r) (cut n most d (omega arith))
 
-pub fails : (old new : Meaning) (before after : List ℕ) (e : Failed) → PortReceives old new before after (Err e) → Receives (length before) old new (Err error.PortFault)
+pub fails : (old new : Meaning) (before after : List ℕ) (e : Failed) → PortReceives old new before after (Err e) → Receives (length before) after old new (Err error.PortFault)
 fails old new before after e r = record {
   losses = r.losses;
   later = r.later;
@@ -40,7 +40,7 @@ fails old new before after e r = record {
     none_is_some : {n : ℕ} → None ≡ Some n → ⊥
     none_is_some h = cc
 
-pub nothing : (old new : Meaning) (before after : List ℕ) → PortReceives old new before after (Ok got.Nothing) → Receives (length before) old new (Ok taken.Tick)
+pub nothing : (old new : Meaning) (before after : List ℕ) → PortReceives old new before after (Ok got.Nothing) → Receives (length before) after old new (Ok taken.Tick)
 nothing old new before after r = record {
   losses = r.losses;
   later = r.later;
@@ -55,24 +55,9 @@ nothing old new before after r = record {
     ok : IsErrOf {E = TakeError} (Ok taken.Tick) error.PortFault → ⊥
     ok h = cc
 
-pub no_memory : (old new : Meaning) (before after : List ℕ) (g : Got) → PortReceives old new before after (Ok g) → Receives (length before) old new (Err error.NoMemory)
-no_memory old new before after g r = record {
-  losses = r.losses;
-  later = r.later;
-  counted = tt;
-  fault = λ is. absurd (other is);
-  no_fault = λ _. r.no_fault;
-  first = λ t u a b. tt;
-  none_taken = λ is. absurd (other is);
-  well = λ p a good is. other is;
-}
-  where
-    other : IsErrOf {T = Taken} (Err error.NoMemory) error.PortFault → ⊥
-    other h = cc
-
-pub datagram : (old new : Meaning) (before after : List ℕ) (from len : ℕ) (bytes : List ℕ) → bytes ≡ take len after → PortReceives old new before after (Ok (got.Datagram from len))
-    → Receives (length before) old new (Ok (taken.Datagram from bytes))
-datagram old new before after from len bytes whole r = record {
+pub datagram : (old new : Meaning) (before after : List ℕ) (from len : ℕ) → PortReceives old new before after (Ok (got.Datagram from len))
+    → Receives (length before) after old new (Ok (taken.Datagram from len))
+datagram old new before after from len r = record {
   losses = r.losses;
   later = r.later;
   counted = r.empties;
@@ -83,9 +68,9 @@ datagram old new before after from len bytes whole r = record {
   well = λ p a good is. ok is;
 }
   where
-    ok : IsErrOf {E = TakeError} (Ok (taken.Datagram from bytes)) error.PortFault → ⊥
+    ok : IsErrOf {E = TakeError} (Ok (taken.Datagram from len)) error.PortFault → ⊥
     ok h = cc
 
-    as_first : (t u : Traffic) → Takes t u before after (got.Datagram from len) → IsFirst (length before) t u (taken.Datagram from bytes)
+    as_first : (t u : Traffic) → Takes t u before after (got.Datagram from len) → IsFirst (length before) after t u (taken.Datagram from len)
     as_first t u (d, rest, waits, address, size, copied, gone) =
-        (d, rest, waits, address, whole ∙ ap (take len) copied ∙ front len d.bytes (drop len before) (omega arith) ∙ cut len (length before) d.bytes size, gone)
+        (d, rest, waits, address, ap (take len) copied ∙ front len d.bytes (drop len before) (omega arith) ∙ cut len (length before) d.bytes size, gone)

@@ -13,30 +13,36 @@ use Rattle.crsm_turns.specs.declared.input.TakeError.TheVariants.{PortFault}
 -- a tick where the count of empty receives rose, a datagram where it stands
 abbrev pub CountsTick : ℕ → ℕ → Taken → Type 0
 CountsTick old new taken.Tick = Rose old new × (old ≤ new)
-CountsTick old new (taken.Datagram from bytes) = new ≡ old
+CountsTick old new (taken.Datagram from len) = new ≡ old
 CountsTick old new (taken.Suspect members) = ⊥
 
--- the first datagram that waits, cut to a length; a tick where none waits
-abbrev pub IsFirst : ℕ → Traffic → Traffic → Taken → Type 0
-IsFirst size old new taken.Tick = (old.waiting ≡ []) × (new ≡ old)
-IsFirst size old new (taken.Datagram from bytes) = (d : Post) × (rest : List Post) × (old.waiting ≡ d ∷ rest) × (from ≡ d.address)
-    × (bytes ≡ take size d.bytes) × (new ≡ record old { waiting = rest; taken = old.taken ++ d ∷ [] })
-IsFirst size old new (taken.Suspect members) = ⊥
+-- a datagram is no longer than the buffer
+abbrev pub IsWithin : ℕ → Taken → Type 0
+IsWithin size taken.Tick = Unit {0}
+IsWithin size (taken.Datagram from len) = len ≤ size
+IsWithin size (taken.Suspect members) = Unit {0}
 
--- what a receive into a buffer of this length owes
-pub record Receives (size : ℕ) (old new : Meaning) (result : Result Taken TakeError) : Type 0 where
+-- the first datagram that waits, cut to a length, is the front of the buffer; a tick where none waits
+abbrev pub IsFirst : ℕ → List ℕ → Traffic → Traffic → Taken → Type 0
+IsFirst size buffer old new taken.Tick = (old.waiting ≡ []) × (new ≡ old)
+IsFirst size buffer old new (taken.Datagram from len) = (d : Post) × (rest : List Post) × (old.waiting ≡ d ∷ rest) × (from ≡ d.address)
+    × (take len buffer ≡ take size d.bytes) × (new ≡ record old { waiting = rest; taken = old.taken ++ d ∷ [] })
+IsFirst size buffer old new (taken.Suspect members) = ⊥
+
+-- what a receive into a buffer of this length owes, with the buffer after it
+pub record Receives (size : ℕ) (buffer : List ℕ) (old new : Meaning) (result : Result Taken TakeError) : Type 0 where
   pub losses : new.losses ≡ old.losses
   pub later : old.faults ≤ new.faults
   pub counted : IfOk result (CountsTick old.empties new.empties)
   pub fault : IsErrOf result PortFault → Rose old.faults new.faults
   pub no_fault : (IsErrOf result PortFault → ⊥) → new.faults ≡ old.faults
-  pub first : (t u : Traffic) → old.traffic ≡ Some t → new.traffic ≡ Some u → IfOk result (IsFirst size t u)
+  pub first : (t u : Traffic) → old.traffic ≡ Some t → new.traffic ≡ Some u → IfOk result (IsFirst size buffer t u)
   pub none_taken : IsErrOf result PortFault → new.traffic ≡ old.traffic
   -- a port all of whose calls go well does not fail
   pub well : (p : Plan) → old.plan ≡ Some p → p.good ≡ None → IsErrOf result PortFault → ⊥
 
--- what is taken for what is wanted: only a receive calls the port
-abbrev pub TakesInput : What → ℕ → Meaning → Meaning → Result Taken TakeError → Type 0
-TakesInput what.Receive size old new result = Receives size old new result
-TakesInput what.Tick size old new result = (new ≡ old) × (result ≡ Ok taken.Tick)
-TakesInput (what.Suspect members) size old new result = (new ≡ old) × (result ≡ Ok (taken.Suspect members))
+-- what is taken for what is wanted, with the buffer after it: only a receive calls the port
+abbrev pub TakesInput : What → ℕ → List ℕ → Meaning → Meaning → Result Taken TakeError → Type 0
+TakesInput what.Receive size buffer old new result = Receives size buffer old new result
+TakesInput what.Tick size buffer old new result = (new ≡ old) × (result ≡ Ok taken.Tick)
+TakesInput (what.Suspect members) size buffer old new result = (new ≡ old) × (result ≡ Ok (taken.Suspect members))

@@ -1,11 +1,10 @@
 //! The input of a step.
 
-ghost use Rattle.std.specs.Prelude.{◌≡◌, length, IfOk};
-ghost use Rattle.crsm_turns.specs.Input.{TakesInput};
+ghost use Rattle.std.specs.Prelude.{length, IfOk};
+ghost use Rattle.crsm_turns.specs.Input.{IsWithin, TakesInput};
 
-use crsm_base::{Bytes, Members, NoMemory};
+use crsm_base::Members;
 use crsm_port::{Got, Port};
-use std::alloc::Global;
 
 /// The input that is wanted.
 #[derive(Debug, Drop)]
@@ -20,8 +19,8 @@ pub enum What {
 /// The input that is taken.
 #[derive(Debug, Drop)]
 pub enum Taken {
-    /// Bytes that came from an address. They may spell no datagram.
-    Datagram { from: u64, bytes: Bytes },
+    /// So many bytes that came from an address: the front of the buffer. They may spell no datagram.
+    Datagram { from: u64, len: usize },
     Tick,
     Suspect(Members),
 }
@@ -31,56 +30,28 @@ pub enum Taken {
 pub enum TakeError {
     /// The port failed in a receive.
     PortFault,
-    NoMemory,
 }
 
-impl From<NoMemory> for TakeError {
-    ghost use Rattle.std.specs.Prelude.{◌≡◌};
-    ghost use Rattle.crsm_turns.specs.declared.input.TakeError.TheVariants as errors;
-
-    ghost from_gives = { λ _ e. e ≡ errors.NoMemory };
-
-    fn from(_e: NoMemory) -> TakeError {
-        TakeError::NoMemory
-    }
-}
-
-/// Takes the input that is wanted. A datagram that is longer than the buffer is cut to it. Nothing is received but
-/// for `Receive`, and nothing is sent.
-pub fn take_input<P: Port>(
-    alloc: Global,
-    what: What,
-    port: &mut P,
-    buf: &mut [u8],
-) -> Result<Taken, TakeError>
-    ensures { TakesInput what (length buf.old) (P.meaning port.old) (P.meaning port.new) result }
+/// Takes the input that is wanted. A datagram is left in the buffer; one that is longer is cut to it. Nothing is
+/// received but for `Receive`, and nothing is sent.
+pub fn take_input<P: Port>(what: What, port: &mut P, buf: &mut [u8]) -> Result<Taken, TakeError>
+    ensures within { IfOk result (IsWithin (length buf.old)) }
+    ensures taken { TakesInput what (length buf.old) buf.new (P.meaning port.old) (P.meaning port.new) result }
 {
     match what {
-        What::Receive => receive(alloc, port, buf),
+        What::Receive => receive(port, buf),
         What::Tick => Ok(Taken::Tick),
         What::Suspect(members) => Ok(Taken::Suspect(members)),
     }
 }
 
-fn receive<P: Port>(alloc: Global, port: &mut P, buf: &mut [u8]) -> Result<Taken, TakeError>
-    ensures { TakesInput What.Receive (length buf.old) (P.meaning port.old) (P.meaning port.new) result }
+fn receive<P: Port>(port: &mut P, buf: &mut [u8]) -> Result<Taken, TakeError>
+    ensures within { IfOk result (IsWithin (length buf.old)) }
+    ensures taken { TakesInput What.Receive (length buf.old) buf.new (P.meaning port.old) (P.meaning port.new) result }
 {
     match port.recv(buf) {
         Err(_) => Err(TakeError::PortFault),
         Ok(Got::Nothing) => Ok(Taken::Tick),
-        Ok(Got::Datagram { from, len }) => {
-            let bytes = copied(alloc, &buf[..len])?;
-            Ok(Taken::Datagram { from, bytes })
-        }
+        Ok(Got::Datagram { from, len }) => Ok(Taken::Datagram { from, len }),
     }
-}
-
-/// These bytes in a list of their own, which has room for them and no more.
-fn copied(alloc: Global, bytes: &[u8]) -> Result<Bytes, NoMemory>
-    ensures { IfOk result (λ copy. copy ≡ bytes.now) }
-{
-    let mut copy = Bytes::new(alloc);
-    copy.reserve(bytes.len())?;
-    copy.append(bytes)?;
-    Ok(copy)
 }

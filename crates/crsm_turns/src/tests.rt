@@ -88,18 +88,17 @@ fn takes_what_is_wanted(rt: HostRuntime) -> Result<(), Fail> {
     let mut port = MemPort::new(alloc, &[3])?;
     port.put(70, &[1, 2, 3])?;
     let mut buf = [0u8; 2];
-    let first = take_input(alloc, What::Receive, &mut port, &mut buf);
-    assert!(rt;
-        matches!(&first, Ok(Taken::Datagram { from: 70, bytes }) if bytes.as_slice() == [1, 2].as_slice())
-    );
-    let asked = take_input(alloc, What::Tick, &mut port, &mut buf);
+    let first = take_input(What::Receive, &mut port, &mut buf);
+    assert!(rt; matches!(first, Ok(Taken::Datagram { from: 70, len: 2 })));
+    assert_eq!(rt; buf, [1, 2]);
+    let asked = take_input(What::Tick, &mut port, &mut buf);
     assert!(rt; matches!(asked, Ok(Taken::Tick)));
-    let empty = take_input(alloc, What::Receive, &mut port, &mut buf);
+    let empty = take_input(What::Receive, &mut port, &mut buf);
     assert!(rt; matches!(empty, Ok(Taken::Tick)));
-    let fault = take_input(alloc, What::Receive, &mut port, &mut buf);
+    let fault = take_input(What::Receive, &mut port, &mut buf);
     assert!(rt; matches!(fault, Err(TakeError::PortFault)));
     let seen = Members::from_slice(alloc, &[1]).ok().ok_or("members")?;
-    let down = take_input(alloc, What::Suspect(seen), &mut port, &mut buf);
+    let down = take_input(What::Suspect(seen), &mut port, &mut buf);
     assert!(rt; matches!(&down, Ok(Taken::Suspect(members)) if members.has(1)));
     Ok(())
 }

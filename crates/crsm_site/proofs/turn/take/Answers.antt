@@ -3,6 +3,7 @@ use Rattle.crsm_disk.specs.Memory.{good_left}
 use Rattle.crsm_ledger.specs.Recovered.{with_records}
 use Rattle.crsm_spec.specs.Node.{Turn, turn}
 use Rattle.crsm_shell.specs.Taking.{turn_of as turn_taken}
+use Rattle.crsm_shell.specs.Words.{buffer_of}
 use Rattle.crsm_site.specs.Arriving.{turn_of}
 use Rattle.crsm_site.specs.Outcomes.{Makes}
 use Rattle.crsm_site.specs.Standing.{IsUpAs}
@@ -14,9 +15,9 @@ returns-in-Ok-clause-stands c me n kept r steps up =
     let t = c.in-Ok.turned in
     let made = c.in-Ok.ensures.stands kept r steps up.stands in
     let reading : t.reading ≡ c.args.reading = c.in-Ok.ensures.clock.is in
-    let came : turn_taken t.taken ≡ turn_of c.args.coming =
-    turn_arrives c.args.coming c.wanted-what.result.1 c.take.new.port c.wanted-what.result.0 t.taken c.requires c.wanted-what.ensures c.in-Ok.ensures.port in
-    let same : (turn_taken t.taken, t.reading) ≡ (turn_of c.args.coming, c.args.reading) =
+    let came : turn_taken (buffer_of c.take.new.self) t.taken ≡ turn_of c.args.coming =
+    turn_arrives c.args.coming c.wanted-what.result.1 c.take.new.port c.wanted-what.result.0 (buffer_of c.take.new.self) t.taken c.requires c.wanted-what.ensures c.in-Ok.ensures.port in
+    let same : (turn_taken (buffer_of c.take.new.self) t.taken, t.reading) ≡ (turn_of c.args.coming, c.args.reading) =
     ap (λ (x : Turn). (x, t.reading)) came ∙ ap (λ (x : ℕ). (turn_of c.args.coming, x)) reading in
     let P : Turn × ℕ → Type 0 = λ q.
     Makes (record { batch = t.batch; size = t.size }) (turn r q) × ((turn r q).replica.log ≡ with_records r.log (turn r q).batch)

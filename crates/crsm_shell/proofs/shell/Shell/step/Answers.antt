@@ -4,7 +4,8 @@ use Rattle.std.proofs.Math.Logic.{∥∥₁_elim, ∥∥₁_map}
 use Rattle.crsm_base.specs.declared.rec.Rec.{Rec}
 use Rattle.crsm_base.specs.declared.send.Send.{Send}
 use Rattle.crsm_base.specs.Records.{FitsRec, body_bytes}
-use Rattle.crsm_core.specs.Standing.{FitsSent}
+use Rattle.crsm_core.specs.Standing.{Answers, CoreStands, FitsSent}
+use Rattle.crsm_spec.specs.Node.{turn}
 use Rattle.crsm_turns.specs.Outgoing.{FitsSend, posts_for}
 use Rattle.crsm_shell.specs.Standing.{ShellStands}
 use Rattle.crsm_shell.specs.Taking.{turn_of}
@@ -37,12 +38,13 @@ pub returns-clause-stands : goal.returns-clause-stands
 returns-clause-stands g c kept r steps s =
     let old = c.args.self.now in
     let m = g.D.Disk.meaning (disk_of old) in
-    let a = c.in_ok-batch.ensures r (inside old m kept r steps s).core in
+    let a = subst (λ (buffer : List ℕ). let x = turn r (turn_of buffer c.args.taken.now, c.args.reading) in Answers c.in_ok-batch.batch x × CoreStands c.make.new.core x.replica)
+    c.deref.ensures.value (c.in_ok-batch.ensures r (inside old m kept r steps s).core) in
     let batch = c.in_ok-batch.batch in
     let body = c.in_ok-write_records.ensures.behind ∙ ap (λ (b : List Rec). old.body ++ body_bytes b) c.as_slice-2.ensures in
-    let posts = c.in_ok-add.ensures ∙ ap (λ (ps : List ℕ). old.outbox ++ posts_for ps c.as_slice-3.result.now) c.deref.ensures.value
+    let posts = c.in_ok-add.ensures ∙ ap (λ (ps : List ℕ). old.outbox ++ posts_for ps c.as_slice-3.result.now) c.deref-2.ensures.value
     ∙ ap (λ (ss : List Send). old.outbox ++ posts_for old.peers.items ss) c.as_slice-3.ensures in
     let after = ap length c.as_slice-4.ensures in
     let before = ap length c.as_slice.ensures in
     let long = ap length body ∙ length-append old.body (body_bytes batch.records) in
-    one_more old _ m kept r steps _ batch _ s a.0 a.1 (turn_grown r (turn_of c.args.taken.now, c.args.reading)) refl body posts refl refl (omega (arith, after, before, long))
+    one_more old _ m kept r steps _ batch _ s a.0 a.1 (turn_grown r (turn_of old.buffer.items c.args.taken.now, c.args.reading)) refl body posts refl refl (omega (arith, after, before, long))
