@@ -9,7 +9,7 @@ use Rattle.crsm_base.specs.Order.{stamp_lt, stamp_eq}
 use Rattle.crsm_base.specs.Records.{FitsRec}
 use Rattle.crsm_base.specs.Spelling.{FitsStamp, FitsEntry, FitsOption}
 use Rattle.crsm_ledger.specs.Stands.{founding, known_decision}
-use Rattle.crsm_ledger.proofs.ReadLemmas.{known-spec, known-members}
+use Rattle.crsm_ledger.proofs.ReadLemmas.{known-spec}
 use Rattle.crsm_commit.specs.Waiting.{without_entry}
 use Rattle.crsm_running.specs.First.{ready_first, ready_of}
 use Rattle.crsm_answers.proofs.Kept.{next_is}
@@ -19,8 +19,7 @@ use Rattle.crsm_spec.specs.Ready.{is_ready}
 use Rattle.crsm_spec.specs.Replica.{Replica}
 use Rattle.crsm_spec.specs.Choice.{when◌then◌otherwise◌}
 use Rattle.crsm_spec.specs.Frames.{with_stamp}
-use Rattle.crsm_spec.specs.Log.{Log, decision, members, spec, unexecuted}
-use Rattle.crsm_spec.specs.Quorum.{spec_decided}
+use Rattle.crsm_spec.specs.Log.{Log, decision, spec, unexecuted}
 
 base_of : (n : ℕ) (o : Option Decision) → (unwrap_or o (founding n)).base_len ≡ option_map_or (λ d. d.base_len) o 0
 base_of n None = refl
@@ -45,20 +44,6 @@ some_of n (Some d) not = refl
 pub some-known : (n : ℕ) (log : Log) → ((known_decision n log).epoch ≡ 0 → ⊥) → Some (known_decision n log) ≡ decision log
 unfolding known_decision
 some-known n log not = some_of n (decision log) not
-
--- the Spec that a decision names
-pub spec-named : (n : ℕ) (log : Log) (d : Decision) (ms : List ℕ) → d ≡ known_decision n log → d.spec ≡ Some ms → ms ≡ spec n log
-spec-named n log d ms is named =
-    ap (λ (o : Option (List ℕ)). unwrap_or o (numbers_below n)) (sym named) ∙ ap (λ (e : Decision). unwrap_or e.spec (numbers_below n)) is ∙ known-spec n log
-
--- the first epoch's Spec
-pub spec-first : (n : ℕ) (log : Log) (d : Decision) → ((e : Decision) → decision log ≡ Some e → 1 ≤ e.epoch) → d ≡ known_decision n log → d.epoch ≡ 0 → d.members ≡ spec n log
-unfolding members spec spec_decided
-spec-first n log d later is first =
-    let none : None ≡ decision log = none-known n log later (ap (λ (e : Decision). e.epoch) (sym is) ∙ first) in
-    ap (λ (e : Decision). e.members) is ∙ known-members n log
-    ∙ ap (λ (o : Option Decision). option_map_or (λ (e : Decision). e.members) o (numbers_below n)) (sym none)
-    ∙ ap (spec_decided n) none
 
 by_order : (b : Bool) (s t : Stamp) (ts more : List Stamp) → FitsStamp s → FitsStamp t × AllByRecursion FitsStamp ts → AllByRecursion FitsStamp more →
     AllByRecursion FitsStamp (when b then s ∷ t ∷ ts otherwise t ∷ more)

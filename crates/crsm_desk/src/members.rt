@@ -36,8 +36,7 @@ impl Desk {
         ensures value { (x : Draft) → StandsFor self.now x → IfOk result (λ ks. ks.items ≡ others x.replica) }
         ensures below { IfOk result (λ ks. All (λ k. k < 15) ks.items) }
     {
-        let spec = self.ledger.spec()?;
-        let others = except(self.alloc, spec.as_slice(), self.me)?;
+        let others = except(self.alloc, self.ledger.counted().as_slice(), self.me)?;
         Ok(others)
     }
 

@@ -1,6 +1,6 @@
 //! What a desk says of the replica.
 
-ghost use Rattle.std.specs.Prelude.{◌≡◌, ◌≢◌, ◌<◌, true, length, All, IfOk, IfSome, Some};
+ghost use Rattle.std.specs.Prelude.{◌≡◌, ◌≢◌, ◌<◌, true, length, All, IfOk, Some};
 ghost use Rattle.crsm_base.specs.Order.{ballot_eq};
 ghost use Rattle.crsm_base.specs.Spelling.{FitsOption, FitsStamp};
 ghost use Rattle.std.specs.Option.{option_map_or};
@@ -13,7 +13,7 @@ ghost use Rattle.crsm_spec.specs.Coordinate.{has_accepted};
 ghost use Rattle.crsm_desk.specs.Standing.{StandsFor, ready_of};
 
 use crate::desk::Desk;
-use crsm_base::{Ballot, Decision, MAX_REPLICAS, Members, NoMemory, Stamp};
+use crsm_base::{Ballot, Decision, MAX_REPLICAS, NoMemory, Stamp};
 use std::alloc::Global;
 
 impl Desk {
@@ -222,44 +222,10 @@ impl Desk {
         ensures value { (x : Draft) → StandsFor self.now x → active x.replica.log ≡ true → IfOk result (λ r. r ≡ ready_of x.replica) }
         ensures fits { IfOk result (λ r. FitsOption FitsStamp r) }
     {
-        match self.spec_at_hand() {
-            Some(spec) => Ok(self.ready_by(spec)),
-            None => Ok(self.ready_by_copy()?),
-        }
-    }
-
-    #[tactic(auto, unfolding(crate::specs::Standing::StandsFor))]
-    /// The same, by a copy of the known epoch's Spec.
-    fn ready_by_copy(&self) -> Result<Option<Stamp>, NoMemory>
-        ensures value { (x : Draft) → StandsFor self.now x → active x.replica.log ≡ true → IfOk result (λ r. r ≡ ready_of x.replica) }
-        ensures fits { IfOk result (λ r. FitsOption FitsStamp r) }
-    {
-        let spec = self.ledger.spec()?;
-        Ok(self.ready_by(&spec))
-    }
-
-    #[tactic(auto, unfolding(crate::specs::Standing::StandsFor))]
-    /// The same, where the known epoch's Spec is this one.
-    fn ready_by(&self, spec: &Members) -> Option<Stamp>
-        ensures value { (x : Draft) → StandsFor self.now x → active x.replica.log ≡ true → spec.now ≡ spec_of x.replica → result ≡ ready_of x.replica }
-        ensures fits { FitsOption FitsStamp result }
-    {
-        let ready = self.running.ready(&self.ledger.known().members, spec);
-        of_a_replica(ready)
-    }
-
-    /// The known epoch's Spec, where it is kept. The first epoch's are its members.
-    fn spec_at_hand(&self) -> Option<&Members>
-        ensures { IfSome result (λ spec. (x : Draft) → StandsFor self.now x → spec.now ≡ spec_of x.replica) }
-    {
-        let known = self.ledger.known();
-        if let Some(spec) = &known.spec {
-            return Some(spec);
-        }
-        if known.epoch == 0 {
-            return Some(&known.members);
-        }
-        None
+        let ready = self
+            .running
+            .ready(&self.ledger.known().members, self.ledger.counted());
+        Ok(of_a_replica(ready))
     }
 }
 

@@ -7,7 +7,7 @@ use Rattle.crsm_desk.proofs.desk.Desk.others.Goals as goal
 pub returns-clause-value : goal.returns-clause-value
 unfolding StandsFor others spec_of
 returns-clause-value c x s =
-    let is = c.as_slice.ensures.value ∙ c.in_ok-spec.ensures x.replica.me x.replica.n x.replica.log s.ledger in
+    let is = c.as_slice.ensures.value ∙ c.counted.ensures x.replica.me x.replica.n x.replica.log s.ledger in
     let mine = subst (λ (m : ℕ). c.in_ok-others.others.items ≡ but_for m c.as_slice.result.now) s.me c.in_ok-others.ensures.value in
     subst (λ (ms : List ℕ). c.in_ok-others.others.items ≡ but_for x.replica.me ms) is mine
 
