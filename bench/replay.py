@@ -1,8 +1,9 @@
 """Replay: events a second of a schedule, also as a ratio to another program's.
 
-    python3 bench/replay.py [--requests COUNT] [--replicas N] [-- COMMAND ..]
+    python3 bench/replay.py [--requests COUNT] [--replicas N] [--schedule FILE] [-- COMMAND ..]
 
-The other program reads the same schedule from its standard input. It is run once, since it may be slow.
+The schedule is one of requests, or that of the file. The other program reads the same schedule from its standard input.
+It is run once, since it may be slow.
 """
 
 import argparse
@@ -20,6 +21,7 @@ def arguments():
     parser = argparse.ArgumentParser(description=__doc__)
     parser.add_argument("--requests", type=int, default=REQUESTS)
     parser.add_argument("--replicas", type=int, default=REPLICAS)
+    parser.add_argument("--schedule", help="a file to be replayed in place of requests")
     parser.add_argument("command", nargs="*")
     return parser.parse_args()
 
@@ -31,14 +33,24 @@ def rate(command, whole, one, runs):
     return (whole.count(b"\n") - one.count(b"\n")) / max(long - short, 1e-9), output
 
 
+def schedules(asked):
+    """The whole schedule, and a short one, whose time is that of a start."""
+    if asked.schedule is None:
+        return schedule(asked.requests, asked.replicas), schedule(1, asked.replicas)
+    with open(asked.schedule, "rb") as file:
+        whole = file.read()
+    return whole, whole[: whole.index(b"\n") + 1]
+
+
 def main():
     """Prints the rates, and ends with status 1 where the two outputs differ."""
     asked = arguments()
-    whole, one = schedule(asked.requests, asked.replicas), schedule(1, asked.replicas)
+    whole, one = schedules(asked)
     ours, transcript = rate([program("crsm"), "replay"], whole, one, runs=5)
     sent = transcript.count(b" send ")
     events = whole.count(b"\n") - 1
-    print(f"{events} events of {asked.replicas} replicas, {sent} datagrams: {ours:.0f} events a second")
+    replicas = one.split()[1].decode()
+    print(f"{events} events of {replicas} replicas, {sent} datagrams: {ours:.0f} events a second")
     if not asked.command:
         return 0
     theirs, other = rate(asked.command, whole, one, runs=1)
