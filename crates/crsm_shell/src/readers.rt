@@ -10,7 +10,7 @@ ghost use Rattle.crsm_spec.specs.Draft.{Draft};
 ghost use Rattle.crsm_spec.specs.Log.{Log};
 ghost use Rattle.crsm_spec.specs.Replica.{Replica};
 ghost use Rattle.crsm_shell.specs.Standing.{HasLog, ShellStands};
-ghost use Rattle.crsm_shell.specs.Words.{disk_of, gate_of, peers_of, pending_of, has_failed};
+ghost use Rattle.crsm_shell.specs.Words.{buffer_of, disk_of, gate_of, peers_of, pending_of, has_failed};
 
 use crate::shell::Shell;
 use crsm_disk::Disk;
@@ -34,6 +34,13 @@ impl<D: Disk> Shell<D> {
         ensures well { (kept : Log) (r : Replica) (steps : List Draft) → ShellStands self.now (D.meaning (disk_of self.now)) kept r steps → result ≡ false }
     {
         self.failed
+    }
+
+    /// Where datagrams are received: the one that was taken last is its front, of the length that was told.
+    pub fn buffer(&self) -> &[u8]
+        ensures { result.now ≡ buffer_of self.now }
+    {
+        self.buffer.as_slice()
     }
 
     /// What the records say, those of the pending steps among them.
