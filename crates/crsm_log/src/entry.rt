@@ -72,7 +72,7 @@ pub(crate) fn read_entries(alloc: Global, file: &[u8]) -> Result<(u64, Bodies), 
     ensures bad_gate { IfErr result (λ why. (entry : ℕ) → why ≡ BadGate entry → entries (length file.now) file.now ≡ bad entry) }
     ensures no_fault { IfErr result (λ why. why ≢ DiskFault) }
 {
-    let mut bodies = Bodies::new(alloc);
+    let mut bodies = Bodies::with_room(alloc, file.len())?;
     let mut end = 0u64;
     let mut entry = 0u64;
     let mut bytes = file;
