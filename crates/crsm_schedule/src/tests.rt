@@ -1,8 +1,8 @@
 //! The texts of lines, compared with texts written by hand.
 
-use crate::{Event, Numbers, print_outcome, push_line, read_event, read_first};
+use crate::{Event, Numbers, Single, print_outcome, push_line, read_event, read_first};
 use crsm_base::{
-    Answer, Bytes, Line, Lines, Members, Outcome, Refusal, SendKind, Stamp, State, Val,
+    Answer, Bytes, Command, Line, Lines, Members, Op, Outcome, Refusal, SendKind, Stamp, State, Val,
 };
 use std::test::Fail;
 
@@ -184,17 +184,27 @@ fn outcomes(rt: HostRuntime) -> Result<(), Fail> {
     Ok(())
 }
 
+/// Client 7's first command: where `a` is missing, it becomes empty.
+fn is_asked(command: &Command) -> bool {
+    command.client == 7
+        && command.number == 1
+        && matches!(&command.op, Op::Cas(key, None, Some(val))
+            if key.as_slice() == b"a".as_slice() && val.as_slice().is_empty())
+}
+
 #[test]
 fn copies(rt: HostRuntime) -> Result<(), Fail> {
     let alloc = rt.alloc();
     assert_eq!(rt; read_first(b"replicas 15"), Some(15));
     assert_eq!(rt; read_first(b"replicas 16"), None);
     let event = read_event(alloc, b"cut at 3 1 request 0 5 7 1 cas 61 none empty")?;
-    let text = format!(in alloc; "{:?}", event.copy(alloc)?)?;
-    assert_eq!(rt;
-        text.as_str(),
-        "CutAt { calls: 3, fill: 1, single: Request { replica: 0, reading: 5, command: Command { client: 7, number: 1, op: Cas(Key { items: [97] }, None, Some(Val { items: [] })) } } }"
-    );
+    let copy = event.copy(alloc)?;
+    let is_same = matches!(&copy, Event::CutAt {
+        calls: 3,
+        fill: 1,
+        single: Single::Request { replica: 0, reading: 5, command },
+    } if is_asked(command));
+    assert!(rt; is_same);
     let mut numbers = Numbers::new(alloc);
     numbers.push(3)?;
     numbers.push(1)?;

@@ -1,6 +1,7 @@
 //! Words at the edges of what is read.
 
 use crate::{read_members, read_number, read_op};
+use crsm_base::Op;
 use std::test::Fail;
 
 #[test]
@@ -27,10 +28,8 @@ fn values(rt: HostRuntime) -> Result<(), Fail> {
     let members = read_members(rt.alloc(), b"0,2,14")?;
     assert_eq!(rt; members.as_slice(), [0, 2, 14].as_slice());
     let op = read_op(rt.alloc(), b"put 6b0f empty")?;
-    let text = format!(in rt.alloc(); "{op:?}")?;
-    assert_eq!(rt;
-        text.as_str(),
-        "Put(Key { items: [107, 15] }, Val { items: [] })"
-    );
+    let is_read = matches!(&op, Op::Put(key, val)
+        if key.as_slice() == [0x6b, 0x0f].as_slice() && val.as_slice().is_empty());
+    assert!(rt; is_read);
     Ok(())
 }
