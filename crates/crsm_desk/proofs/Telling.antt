@@ -1,29 +1,12 @@
 -- Control messages of what is known.
-use Rattle.std.proofs.Common.{◌≡◌, ◌+◌, ◌<◌, ℕ, List, [], ◌∷◌, refl, sym, ap, ◌∙◌, subst, length, take, get_or}
+use Rattle.std.proofs.Common.{◌≡◌, ◌+◌, ◌<◌, ℕ, List, [], ◌∷◌, refl, sym, ap, ◌∙◌, length, take, get_or}
 use Rattle.std.specs.Prelude.{fold, Option, Some, None}
-use Rattle.std.specs.List.{AllByRecursion}
 use Rattle.std.specs.Option.{option_map_or}
 use Rattle.std.proofs.lemmas.List.{take_more}
 use Rattle.std.proofs.lemmas.Grind.{fold-append}
-use Rattle.crsm_base.specs.Records.{FitsRec}
-use Rattle.crsm_base.specs.Spelling.{FitsDecision}
-use Rattle.crsm_spec.specs.Types.{Decision, Rec, Control}
-use Rattle.crsm_spec.specs.Log.{Log, decision}
+use Rattle.crsm_spec.specs.Types.{Decision, Control}
+use Rattle.crsm_spec.specs.Log.{decision}
 use Rattle.crsm_spec.specs.Draft.{Draft, tell, tell_each, tell_decision}
-
--- the decision of the known epoch has a spelling
-pub decision-fits : (log : Log) → AllByRecursion FitsRec log → (d : Decision) → decision log ≡ Some d → FitsDecision d
-unfolding decision
-decision-fits [] fit d is = absurd (cc)
-decision-fits (Rec.Boot m k ∷ log) fit d is = decision-fits log fit.1 d is
-decision-fits (Rec.Prepare e ∷ log) fit d is = decision-fits log fit.1 d is
-decision-fits (Rec.Commit t ∷ log) fit d is = decision-fits log fit.1 d is
-decision-fits (Rec.Adopt place es ∷ log) fit d is = decision-fits log fit.1 d is
-decision-fits (Rec.Suspend y ∷ log) fit d is = decision-fits log fit.1 d is
-decision-fits (Rec.Promise i b ∷ log) fit d is = decision-fits log fit.1 d is
-decision-fits (Rec.Accept i b a ∷ log) fit d is = decision-fits log fit.1 d is
-decision-fits (Rec.Decide a ∷ log) fit d is = (let same : a ≡ d = cc in subst FitsDecision same fit.0)
-decision-fits (Rec.Enter y ∷ log) fit d is = decision-fits log fit.1 d is
 
 -- it is told where there is one
 pub tell-known : (k : ℕ) (x : Draft) (d : Decision) → decision x.replica.log ≡ Some d → tell_decision k x ≡ tell (Control.Decide d) x k

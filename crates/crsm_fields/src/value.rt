@@ -5,7 +5,7 @@ ghost use Rattle.std.specs.Option.{option_map};
 ghost use Rattle.crsm_base.specs.Spelling.{key_bytes, FitsKey, val_bytes, FitsVal, option_bytes, FitsOption};
 ghost use Rattle.crsm_base.specs.Reading.{key_at, val_at, option_val_at};
 
-use crate::number::{put_u8, put_u16, take_run, take_u8, take_u16};
+use crate::number::{put_u8, put_u16, take_u8, take_u16};
 use crsm_base::{Bytes, Key, MAX_KEY_BYTES, MAX_VAL_BYTES, NoMemory, Val};
 use std::alloc::Global;
 
@@ -56,20 +56,8 @@ pub fn put_option_val(val: &Option<Val>, out: &mut Bytes) -> Result<(), NoMemory
     }
 }
 
-fn key_of(alloc: Global, bytes: &[u8]) -> Result<Key, NoMemory>
-    ensures { IfOk result (λ key. key ≡ bytes.now) }
-{
-    Key::from_slice(alloc, bytes)
-}
-
-fn val_of(alloc: Global, bytes: &[u8]) -> Result<Val, NoMemory>
-    ensures { IfOk result (λ val. val ≡ bytes.now) }
-{
-    Val::from_slice(alloc, bytes)
-}
-
 /// Takes a key off the front of the bytes: the value and the bytes after it.
-#[tactic(auto, unfolding(crsm_base::specs::Reading::key_at))]
+#[tactic(auto, unfolding(crsm_base::specs::Reading::key_at, crsm_base::specs::Reading::run_at))]
 pub fn take_key(alloc: Global, bytes: &[u8]) -> Result<Option<(Key, &[u8])>, NoMemory>
     ensures { IfOk result (λ r. option_map (λ x. (x.0, x.1.now)) r ≡ key_at bytes.now) }
 {
@@ -79,14 +67,15 @@ pub fn take_key(alloc: Global, bytes: &[u8]) -> Result<Option<(Key, &[u8])>, NoM
     if len < 1 || u32::from(len) > MAX_KEY_BYTES {
         return Ok(None);
     }
-    let Some((key, rest)) = take_run(len as usize, rest) else {
+    let count = len as usize;
+    if rest.len() < count {
         return Ok(None);
-    };
-    Ok(Some((key_of(alloc, key)?, rest)))
+    }
+    Ok(Some((Key::from_front(alloc, rest, count)?, &rest[count..])))
 }
 
 /// Takes a value off the front of the bytes: the value and the bytes after it.
-#[tactic(auto, unfolding(crsm_base::specs::Reading::val_at))]
+#[tactic(auto, unfolding(crsm_base::specs::Reading::val_at, crsm_base::specs::Reading::run_at))]
 pub fn take_val(alloc: Global, bytes: &[u8]) -> Result<Option<(Val, &[u8])>, NoMemory>
     ensures { IfOk result (λ r. option_map (λ x. (x.0, x.1.now)) r ≡ val_at bytes.now) }
 {
@@ -96,10 +85,11 @@ pub fn take_val(alloc: Global, bytes: &[u8]) -> Result<Option<(Val, &[u8])>, NoM
     if u32::from(len) > MAX_VAL_BYTES {
         return Ok(None);
     }
-    let Some((val, rest)) = take_run(len as usize, rest) else {
+    let count = len as usize;
+    if rest.len() < count {
         return Ok(None);
-    };
-    Ok(Some((val_of(alloc, val)?, rest)))
+    }
+    Ok(Some((Val::from_front(alloc, rest, count)?, &rest[count..])))
 }
 
 /// Takes a value that may be missing off the front of the bytes: the value and the bytes after it.

@@ -84,7 +84,7 @@ module _ (one : (a b : List Rec) (s : List ℕ) → SpeltBody a s → SpeltBody 
   group =
       let r = (boot me n log).replica in
       let grown = (boot_grown me n log).log in
-      let fits = subst (λ (k : ℕ). EachFits k n r.log) mine (subst (λ (k : ℕ). EachFits r.me k r.log) count (core_fits begun.core r begins.core)) in
+      let fits = subst (λ (k : ℕ). EachFits k n r.log) mine (subst (λ (k : ℕ). EachFits r.me k r.log) count (core_fits begun.core.value r begins.core)) in
       record { spelt = begins.spelt; fit = (fits_in_turn me n log records (subst (EachFits me n) grown fits)).0; log = grown }
 
   -- what was found

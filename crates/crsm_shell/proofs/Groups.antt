@@ -27,7 +27,7 @@ module _ {D : Type 0} {g : _} (shell : Shell D g) (m : Meaning) (kept : Log) (r 
   unfolding ShellStands
   group s = record {
     spelt = s.spelt;
-    fit = (fits_in_turn r.me r.n kept (records_of steps) (subst (EachFits r.me r.n) s.log (core_fits shell.core r s.core))).0;
+    fit = (fits_in_turn r.me r.n kept (records_of steps) (subst (EachFits r.me r.n) s.log (core_fits shell.core.value r s.core))).0;
     log = s.log;
   }
 

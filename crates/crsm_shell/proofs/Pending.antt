@@ -29,7 +29,7 @@ unfolding sends_in
 sends_are batch x a = a.made.sends
 
 module _ {D : Type 0} {g : _} (old new : Shell D g) (m : Meaning) (kept : Log) (r : Replica) (steps : List Draft) (x : Draft) (batch : Batch) (bytes : ℕ) where
-  pub one_more : ShellStands old m kept r steps → Answers batch x → CoreStands new.core x.replica → Grown r x → new.failed ≡ false →
+  pub one_more : ShellStands old m kept r steps → Answers batch x → CoreStands new.core.value x.replica → Grown r x → new.failed ≡ false →
       new.body ≡ old.body ++ body_bytes batch.records → new.outbox ≡ old.outbox ++ posts_for old.peers.items batch.sends →
       new.peers.items ≡ old.peers.items → new.pending ≡ old.pending + 1 → bytes ≡ length (body_bytes batch.records) → MakesStep new m kept r steps x batch bytes
   unfolding ShellStands body_size

@@ -12,7 +12,7 @@ use Rattle.crsm_shell.specs.declared.errors.BootError.TheVariants as errors
 
 -- it is the boot on this log
 pub record BeginsOn (b : Begun) (me n : ℕ) (log : Log) : Type 0 where
-  pub core : CoreStands b.core (boot me n log).replica
+  pub core : CoreStands b.core.value (boot me n log).replica
   pub body : b.body ≡ body_bytes (boot me n log).batch
   pub lines : b.lines ≡ (boot me n log).lines
   pub spelt : AllByRecursion FitsRec (boot me n log).batch

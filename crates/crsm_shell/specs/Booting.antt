@@ -56,7 +56,7 @@ IsBootedOrBefore me n log old file = IsAsBefore old file ⊎ HasLog me n file (b
 
 -- the shell is that of this boot, and nothing is pending
 pub record IsBooted {D : Type 0} {g : _} (b : Booted D g) (begun : Begun) (bodies : List (List ℕ)) : Type 0 where
-  pub core : b.shell.core ≡ begun.core
+  pub core : b.shell.core.value ≡ begun.core.value
   pub peers : b.shell.peers.items ≡ begun.peers.items
   pub body : b.shell.body ≡ []
   pub outbox : b.shell.outbox ≡ []

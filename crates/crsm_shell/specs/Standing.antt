@@ -42,7 +42,7 @@ HasLog me n file log = IsLogOf me n file log
 -- ---- the shell
 
 pub record StandsInside {D : Type 0} {g : _} (shell : Shell D g) (m : Meaning) (kept : Log) (r : Replica) (steps : List Draft) : Type 0 where
-  pub core : CoreStands shell.core r
+  pub core : CoreStands shell.core.value r
   pub well : shell.failed ≡ false
   pub body : shell.body ≡ body_bytes (records_of steps)
   pub spelt : AllByRecursion FitsRec (records_of steps)

@@ -17,7 +17,7 @@ use std::alloc::Global;
 /// A core whose boot is made and not kept yet.
 #[derive(Drop)]
 pub(crate) struct Begun {
-    pub(crate) core: Core,
+    pub(crate) core: Box<Core>,
     /// The address of each replica.
     pub(crate) peers: Vec<u64>,
     /// Room for a datagram that is received.
@@ -51,12 +51,19 @@ pub(crate) fn begin(
     let mut body = Bytes::new(alloc);
     write_records(batch.records.as_slice(), &mut body)?;
     Ok(Begun {
-        core,
+        core: in_a_place(alloc, core)?,
         peers,
         buffer,
         body,
         lines: batch.lines,
     })
+}
+
+/// The core in a place of its own.
+fn in_a_place(alloc: Global, core: Core) -> Result<Box<Core>, NoMemory>
+    ensures { IfOk result (λ boxed. boxed.value ≡ core) }
+{
+    Ok(Box::new(alloc, core)?)
 }
 
 /// The ledger of the bodies.

@@ -93,7 +93,7 @@ fn keep_boot<D: Disk>(
 ) -> Result<Booted<D>, (BootError, D)>
     requires well { logs.has_failed log ≡ false }
     requires room { length begun.buffer.items ≡ 8192 }
-    requires stands { ∥ IsOfOne begun.core ∥₁ }
+    requires stands { ∥ IsOfOne begun.core.value ∥₁ }
     ensures kept { IfOk result (λ b. IsBooted b begun bodies × KeptWell (logs.gate_of log) begun.body (D.meaning (logs.disk_of log)) (D.meaning (disk_of b.shell))) }
     ensures not_kept { IfErr result (λ e. FailsToKeep (logs.gate_of log) begun.body (D.meaning (logs.disk_of log)) (D.meaning e.1) e.0) }
 {

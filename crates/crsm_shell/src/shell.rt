@@ -16,7 +16,8 @@ use std::alloc::Global;
 #[derive(Drop)]
 pub struct Shell<D: Disk> {
     pub(crate) alloc: Global,
-    pub(crate) core: Core,
+    // In a place of its own, since it is large and a shell is moved.
+    pub(crate) core: Box<Core>,
     pub(crate) log: Log<D>,
     // The address of each replica.
     pub(crate) peers: Vec<u64>,
@@ -29,5 +30,5 @@ pub struct Shell<D: Disk> {
     pub(crate) failed: bool,
     ghost well: { failed ≡ false → has_failed log ≡ false },
     ghost room: { length buffer.items ≡ 8192 },
-    ghost stands: { failed ≡ false → ∥ IsOfOne core ∥₁ },
+    ghost stands: { failed ≡ false → ∥ IsOfOne core.value ∥₁ },
 }

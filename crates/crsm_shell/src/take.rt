@@ -91,7 +91,7 @@ impl<D: Disk> Shell<D> {
     {
         // Whoever sees an error below must not go on from half a step.
         self.failed = true;
-        let batch = make(self.alloc, &mut self.core, taken, &self.buffer, reading)?;
+        let batch = make(self.alloc, &mut *self.core, taken, &self.buffer, reading)?;
         let before = self.body.as_slice().len() as u64;
         write_records(batch.records.as_slice(), &mut self.body)?;
         self.outbox.add(batch.sends.as_slice(), &self.peers)?;

@@ -6,6 +6,7 @@ mod entries;
 mod fields;
 mod messages;
 
+pub use decision::is_decision_spelt;
 pub use messages::{is_control_spelt, is_rec_spelt};
 
 #[cfg(test)]

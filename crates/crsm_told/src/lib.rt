@@ -7,4 +7,4 @@ mod telling;
 mod tests;
 
 pub use laws::parts_are_spelt;
-pub use telling::tell;
+pub use telling::{spell, spell_decision, tell};

@@ -1,21 +1,46 @@
 //! A control message on its way.
 
-ghost use Rattle.std.specs.Prelude.{◌≡◌, ◌<◌, ◌++◌, OnOk};
-ghost use Rattle.crsm_base.specs.Messages.{FitsControl};
+ghost use Rattle.std.specs.Prelude.{◌≡◌, ◌<◌, ◌++◌, IfOk, OnOk};
+ghost use Rattle.crsm_base.specs.declared.Control.{Control};
 ghost use Rattle.crsm_spec.specs.Log.{boots};
 ghost use Rattle.crsm_spec.specs.Replica.{Replica};
 ghost use Rattle.crsm_spec.specs.Draft.{parts_to};
 ghost use Rattle.crsm_output.specs.Made.{Made, Holds};
+ghost use Rattle.crsm_told.specs.Spellings.{IsSpelling, IsSpellingOf};
 
-use crsm_base::{Bytes, Control, NoMemory};
+use crsm_base::{Bytes, Control as Message, Decision, NoMemory};
 use crsm_output::Output;
 use crsm_segment::cut;
-use crsm_spelt::is_control_spelt;
-use crsm_wire::write_control;
+use crsm_spelt::{is_control_spelt, is_decision_spelt};
+use crsm_wire::{put_control, put_decide};
 use std::alloc::Global;
 
-/// Sends the parts of a control message to replica `to`: the `number`th that boot `boot` of replica `from` makes. A
-/// message that has no spelling is answered like want of memory.
+/// The spelling of a control message. One that has none is answered like want of memory.
+pub fn spell(alloc: Global, message: &Message) -> Result<Bytes, NoMemory>
+    ensures { IfOk result (λ bytes. IsSpellingOf bytes message.now) }
+{
+    if !is_control_spelt(message) {
+        return Err(NoMemory);
+    }
+    let mut bytes = Bytes::new(alloc);
+    put_control(message, &mut bytes)?;
+    Ok(bytes)
+}
+
+/// The spelling of the control message that tells a decision. A decision that has none is answered like want of memory.
+pub fn spell_decision(alloc: Global, decision: &Decision) -> Result<Bytes, NoMemory>
+    ensures { IfOk result (λ bytes. IsSpellingOf bytes (Control.Decide decision.now)) }
+{
+    if !is_decision_spelt(decision) {
+        return Err(NoMemory);
+    }
+    let mut bytes = Bytes::new(alloc);
+    put_decide(decision, &mut bytes)?;
+    Ok(bytes)
+}
+
+/// Sends the parts of the control message with this spelling to replica `to`: the `number`th that boot `boot` of
+/// replica `from` makes.
 pub fn tell(
     alloc: Global,
     output: &mut Output,
@@ -23,17 +48,13 @@ pub fn tell(
     to: u32,
     boot: u64,
     number: u64,
-    control: &Control,
+    spelling: &[u8],
 ) -> Result<(), NoMemory>
-    ensures { OnOk result ((r : Replica) (m : Made) → Holds output.old m → from ≡ r.me → boot ≡ boots r.log → number ≡ r.made →
-        FitsControl control.now → Holds output.new (record m { sends = m.sends ++ parts_to r to control.now })) }
+    requires { IsSpelling spelling.now }
+    ensures { OnOk result ((r : Replica) (m : Made) (c : Control) → Holds output.old m → from ≡ r.me → boot ≡ boots r.log → number ≡ r.made →
+        IsSpellingOf spelling.now c → Holds output.new (record m { sends = m.sends ++ parts_to r to c })) }
 {
-    if !is_control_spelt(control) {
-        return Err(NoMemory);
-    }
-    let mut bytes = Bytes::new(alloc);
-    write_control(alloc, control, &mut bytes)?;
-    let parts = cut(alloc, from, to, boot, number, bytes.as_slice())?;
+    let parts = cut(alloc, from, to, boot, number, spelling)?;
     output.send_all(parts)?;
     Ok(())
 }

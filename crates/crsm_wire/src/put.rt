@@ -1,10 +1,12 @@
 //! Appending the spelling of control messages and datagrams.
 
 ghost use Rattle.std.specs.Prelude.{◌≡◌, ◌<◌, ◌++◌, OnOk};
+ghost use Rattle.crsm_base.specs.declared.Control.{Control as ControlOnPaper};
+ghost use Rattle.crsm_base.specs.Spelling.{FitsDecision};
 ghost use Rattle.crsm_base.specs.Messages.{bool_bytes, control_bytes, FitsControl, payload_bytes, FitsPayload, datagram_bytes, FitsDatagram};
 
 use crate::head::{head, put_clock_time, put_head, put_prepare_ok};
-use crsm_base::{Bytes, Control, Datagram, InEpoch, NoMemory};
+use crsm_base::{Bytes, Control, Datagram, Decision, InEpoch, NoMemory};
 use crsm_fields::{
     put_ballot, put_command, put_decision, put_entries, put_entry, put_members, put_option_stamp,
     put_option_vote, put_outcome, put_u8, put_u32, put_u64,
@@ -16,6 +18,17 @@ fn put_bool(flag: bool, out: &mut Bytes) -> Result<(), NoMemory>
     if flag { put_u8(1, out) } else { put_u8(0, out) }
 }
 
+/// Appends the spelling of the control message that tells this decision. After an error a front of it may be there.
+#[tactic(auto, unfolding(crsm_base::specs::Messages::control_bytes))]
+pub fn put_decide(decision: &Decision, out: &mut Bytes) -> Result<(), NoMemory>
+    requires { FitsDecision decision.now }
+    ensures { OnOk result (out.new ≡ out.old ++ control_bytes (ControlOnPaper.Decide decision.now)) }
+{
+    put_u8(8, out)?;
+    put_decision(decision, out)
+}
+
+/// Appends the spelling of a control message. After an error a front of it may be there.
 #[tactic(auto, unfolding(crsm_base::specs::Messages::control_bytes))]
 pub fn put_control(control: &Control, out: &mut Bytes) -> Result<(), NoMemory>
     requires { FitsControl control.now }
@@ -83,10 +96,7 @@ pub fn put_control(control: &Control, out: &mut Bytes) -> Result<(), NoMemory>
             put_u64(*instance, out)?;
             put_ballot(*ballot, out)
         }
-        Control::Decide { decision } => {
-            put_u8(8, out)?;
-            put_decision(decision, out)
-        }
+        Control::Decide { decision } => put_decide(decision, out),
         Control::Retrieve { known, from } => {
             put_u8(9, out)?;
             put_u64(*known, out)?;

@@ -3,6 +3,9 @@ use Rattle.std.proofs.lemmas.Result.{err_from_is_err_and}
 use Rattle.std.specs.List.{AllByRecursion}
 use Rattle.crsm_base.specs.declared.rec.Rec.{Rec}
 use Rattle.crsm_base.specs.Records.{FitsRec, body_bytes}
+use Rattle.crsm_core.specs.Standing.{CoreStands}
+use Rattle.crsm_core.specs.declared.replica.Core.{Core}
+use Rattle.crsm_spec.specs.Step.{boot}
 use Rattle.crsm_shell.proofs.Boots.{boot_lines}
 use Rattle.crsm_shell.proofs.Records.{kept_fit, kept_spelt}
 use Rattle.crsm_shell.proofs.begin.begin.Goals as goal
@@ -26,7 +29,7 @@ returns-clause-found c =
       w.0,
       w.1,
       record {
-        core = a.1;
+        core = subst (λ (core : Core). CoreStands core (boot me n w.0).replica) (sym c.in_ok-in_a_place.ensures) a.1;
         body = c.in_ok-write_records.ensures.behind ∙ ap (λ (b : List ℕ). b ++ body_bytes c.as_slice.result.now) c.new-body.ensures
             ∙ ap (λ (rs : List Rec). body_bytes rs) (c.as_slice.ensures ∙ a.0.made.records);
         lines = boot_lines me n w.0 c.in_ok-batch.batch a.0.made;

@@ -1,19 +1,29 @@
-use Rattle.std.proofs.Common.{◌≡◌, ◌∙◌, subst, sym, Some}
+use Rattle.std.proofs.Common.{◌≡◌, ◌∙◌, ℕ, List, ap, arith, subst, sym, Some}
 use Rattle.crsm_base.specs.Spelling.{FitsDecision}
+use Rattle.crsm_told.specs.Spellings.{IsSpellingOf}
+use Rattle.crsm_spec.specs.Types.{Decision, Control}
 use Rattle.crsm_spec.specs.Log.{decision}
 use Rattle.crsm_spec.specs.Draft.{Draft}
 use Rattle.crsm_desk.specs.Standing.{StandsFor}
-use Rattle.crsm_desk.proofs.Telling.{decision-fits, tell-known, tell-unknown}
+use Rattle.crsm_desk.proofs.Known.{none-known, some-known}
+use Rattle.crsm_desk.proofs.Telling.{tell-known, tell-unknown}
 use Rattle.crsm_desk.proofs.desk.Desk.tell_decision.Goals as goal
 
-pub returns-in_ok-tell : goal.returns-in_ok-tell
+pub returns-then-known-eq0 : goal.returns-then-known-eq0
 unfolding StandsFor
-returns-in_ok-tell c x s =
-    let is : decision x.replica.log ≡ Some c.in-Some.decision = sym (c.in_ok-decision.ensures x s) ∙ c.in-Some.is in
-    let fit : FitsDecision c.in-Some.decision = decision-fits x.replica.log s.sound.spelt c.in-Some.decision is in
-    subst (λ (y : Draft). StandsFor c.tell.new.self y) (sym (tell-known c.args.k x c.in-Some.decision is)) (c.in_ok-tell.ensures x s fit)
+returns-then-known-eq0 c x s =
+    let none = none-known x.replica.n x.replica.log s.sound.later (ap (λ d. d.epoch) (sym (c.known-known.ensures x.replica.me x.replica.n x.replica.log s.ledger)) ∙ c.if-known-eq0.true) in
+    subst (λ (y : Draft). StandsFor c.args.self.now y) (sym (tell-unknown c.args.k x (λ d is. absurd (cc (none, is))))) s
 
-pub returns-in_default : goal.returns-in_default
+pub returns : goal.returns
 unfolding StandsFor
-returns-in_default c x s =
-    subst (λ (y : Draft). StandsFor c.args.self.now y) (sym (tell-unknown c.args.k x (λ d is. c.in_default.not-Some d (c.in_ok-decision.ensures x s ∙ is)))) s
+returns c x s =
+    let same = c.known-known.ensures x.replica.me x.replica.n x.replica.log s.ledger in
+    let known : Decision = c.known-known.result.now in
+    let is : decision x.replica.log ≡ Some known = sym (ap (λ (d : Decision). Some d) same ∙ some-known x.replica.n x.replica.log
+    (λ zero.
+    let epochs = ap (λ (d : Decision). d.epoch) same in
+    let other = c.if-known-eq0.false in
+    omega (arith, epochs, other, zero))) in
+    subst (λ (y : Draft). StandsFor c.tell_spelt.new.self y) (sym (tell-known c.args.k x known is))
+    (c.in_ok-tell_spelt.ensures x (Control.Decide known) s (subst (λ (bytes : List ℕ). IsSpellingOf bytes (Control.Decide known)) (sym c.as_slice.ensures) c.in_ok-spelling.ensures))
