@@ -1,13 +1,13 @@
 //! Members.
 
-ghost use Rattle.std.specs.Prelude.{◌≡◌, ◌++◌, IfOk, OnOk, Some, None, if◌then◌else◌};
+ghost use Rattle.std.specs.Prelude.{◌≡◌, ◌≤◌, ◌++◌, length, take, IfOk, OnOk, Some, None, if◌then◌else◌};
 ghost use Rattle.std.specs.Option.{option_map};
 ghost use Rattle.crsm_base.specs.Parser.{passing};
 ghost use Rattle.crsm_base.specs.Spelling.{members_bytes};
 ghost use Rattle.crsm_base.specs.Reading.{run_at, is_members, members_at};
 
 use crate::number::{put_u8, take_run, take_u8};
-use crsm_base::{Bytes, Members, MembersError, NoMemory};
+use crsm_base::{Bytes, MAX_REPLICAS, Members, MembersError, NoMemory};
 use std::alloc::Global;
 
 /// Appends the members, one byte each.
@@ -29,22 +29,30 @@ pub fn put_members(members: &Members, out: &mut Bytes) -> Result<(), NoMemory>
     put_replicas(members, out)
 }
 
-fn widened(alloc: Global, bytes: &[u8]) -> Result<Vec<u32>, NoMemory>
-    ensures { IfOk result (λ v. v.items ≡ bytes.now) }
+// as many numbers as there may be members
+const ROOM: usize = MAX_REPLICAS as usize;
+
+// the bytes as numbers, with zeros behind them
+fn widened(cells: &[u8]) -> [u32; ROOM]
+    requires { length cells.now ≤ 15 }
+    ensures { take (length cells.now) result ≡ cells.now }
 {
-    let mut numbers = Vec::with_capacity(alloc, bytes.len())?;
-    for byte in bytes {
-        numbers.push(u32::from(*byte))?;
+    let mut numbers = [0; ROOM];
+    for (place, byte) in cells.iter().enumerate() {
+        numbers[place] = u32::from(*byte);
     }
-    Ok(numbers)
+    numbers
 }
 
 // the members of which each byte is one, if they are members
 fn members_of(alloc: Global, cells: &[u8]) -> Result<Option<Members>, NoMemory>
     ensures { IfOk result (λ r. r ≡ (if is_members cells.now then Some cells.now else None)) }
 {
-    let numbers = widened(alloc, cells)?;
-    match Members::from_slice(alloc, numbers.as_slice()) {
+    if cells.len() > ROOM {
+        return Ok(None);
+    }
+    let numbers = widened(cells);
+    match Members::from_slice(alloc, &numbers[..cells.len()]) {
         Ok(members) => Ok(Some(members)),
         Err(MembersError::NotAscending) => Ok(None),
         Err(MembersError::NoMemory) => Err(NoMemory),
