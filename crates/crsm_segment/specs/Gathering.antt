@@ -45,6 +45,10 @@ is_refused peer h bytes = has_other_count peer h || not (fits h bytes)
 abbrev pub empty_gathering : Heading → Gathering
 empty_gathering h = record { boot = h.boot; number = h.number; count = h.count; slots = replicate h.count None; given = false }
 
+-- a message that was given out
+abbrev pub given_gathering : Heading → Gathering
+given_gathering h = record { boot = h.boot; number = h.number; count = h.count; slots = []; given = true }
+
 -- where a part goes that is neither passed nor refused
 abbrev pub gathering_for : Option Gathering → Heading → Gathering
 gathering_for None h = empty_gathering h

@@ -28,6 +28,7 @@ pub fn cut(
         let start = size * index as usize;
         let end = (start + size).min(bytes.len());
         let mut piece = Bytes::new(alloc);
+        piece.reserve(end - start)?;
         piece.append(&bytes[start..end])?;
         sends.push(Send {
             to: To::Replica(to),

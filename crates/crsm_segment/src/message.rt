@@ -1,7 +1,7 @@
 //! The newest message of a peer, by its parts.
 
 ghost use Rattle.std.specs.Prelude.{◌≡◌, ◌<◌, IfOk, OnOk, OnErr, None, false, replicate};
-ghost use Rattle.crsm_segment.specs.Gathering.{has_passed, is_before, is_same, has_other_count, fits, empty_gathering, is_filled, all_bytes, after_add, after_heading};
+ghost use Rattle.crsm_segment.specs.Gathering.{has_passed, is_before, is_same, has_other_count, fits, empty_gathering, given_gathering, is_filled, all_bytes, after_add, after_heading};
 ghost use Rattle.crsm_segment.specs.Answering.{answer_of_add, answer_of};
 
 use crsm_base::{Bytes, MAX_CONTROL_BYTES, MAX_PARTS, NoMemory, PART_BYTES};
@@ -87,6 +87,7 @@ fn kept(alloc: Global, bytes: &[u8]) -> Result<Bytes, NoMemory>
     ensures { IfOk result (λ copy. copy ≡ bytes.now) }
 {
     let mut copy = Bytes::new(alloc);
+    copy.reserve(bytes.len())?;
     copy.append(bytes)?;
     Ok(copy)
 }
@@ -104,6 +105,19 @@ impl Message {
             slots,
             given: false,
         })
+    }
+
+    /// One whose only part has come and was given out.
+    fn given_at_once(alloc: Global, h: Heading) -> Message
+        ensures { result ≡ given_gathering h }
+    {
+        Message {
+            boot: h.boot,
+            number: h.number,
+            count: h.count,
+            slots: Vec::new(alloc),
+            given: true,
+        }
     }
 
     fn is_of(&self, h: Heading) -> bool
@@ -222,6 +236,12 @@ pub fn take_part(
         if message.is_of(h) {
             return message.add(alloc, h.index, bytes);
         }
+    }
+    // The only part of its message is the message: no slot is made for it.
+    if h.count == 1 {
+        let whole = kept(alloc, bytes)?;
+        *peer = Some(Message::given_at_once(alloc, h));
+        return Ok(Taken::Whole(whole));
     }
     let mut message = Message::new(alloc, h)?;
     let taken = message.add(alloc, h.index, bytes)?;

@@ -1,7 +1,7 @@
 -- The datagrams that carry a control message.
-use Rattle.std.proofs.Common.{◌≡◌, ◌<◌, ◌≤◌, ℕ, zero, suc, ◌+◌, ◌/◌, ◌*◌, ◌^◌, List, [], ◌∷◌, length, map, take, drop, refl, ap, arith, Bool, true, false, nat_lt, nat_eq, cond}
+use Rattle.std.proofs.Common.{◌≡◌, ◌<◌, ◌≤◌, ℕ, zero, suc, ◌+◌, ◌/◌, ◌*◌, ◌^◌, List, [], ◌∷◌, length, map, take, drop, refl, ap, ◌∙◌, arith, Bool, true, false, nat_lt, nat_eq, cond}
 use Rattle.std.specs.List.{enumerate_from, AllByRecursion}
-use Rattle.std.proofs.lemmas.List.{length-take, length-drop}
+use Rattle.std.proofs.lemmas.List.{take_all, length-take, length-drop}
 use Rattle.std.proofs.lemmas.Bool.Decides.{nat_tests}
 use Rattle.crsm_base.specs.declared.datagram.Datagram.TheVariants as datagram
 use Rattle.crsm_base.specs.Limits.{most_parts}
@@ -28,6 +28,20 @@ same_each from to boot number message (p ∷ ps) =
 pub as_cut : (r : Replica) (k : ℕ) (c : Control) → sends_of r.me k (boots r.log) r.made (control_bytes c) ≡ map to_replica (parts_to r k c)
 unfolding sends_of parts_to
 as_cut r k c = same_each r.me k (boots r.log) r.made (control_bytes c) (enumerate_from 0 (cut (control_bytes c)))
+
+-- a message no longer than a part is one part
+one_piece : (m : List ℕ) → 1 ≤ length m → length m ≤ 8000 → cut m ≡ m ∷ []
+unfolding cut part_count cut_into
+one_piece m some short =
+    let one : (length m + 7999) / 8000 ≡ 1 = omega (arith, some, short) in
+    ap (λ n. cut_into n m) one ∙ ap (λ z. z ∷ []) (take_all 8000 m short)
+
+pub one_part : (r : Replica) (k : ℕ) (c : Control) → 1 ≤ length (control_bytes c) → length (control_bytes c) ≤ 8000 →
+    parts_to r k c ≡ (k, datagram.Part r.me k (boots r.log) r.made 0 1 (control_bytes c)) ∷ []
+unfolding parts_to
+one_part r k c some short =
+    ap (λ pieces. map (λ p. (k, datagram.Part r.me k (boots r.log) r.made p.0 (length pieces) p.1)) (enumerate_from 0 pieces))
+    (one_piece (control_bytes c) some short)
 
 -- the part at index i of n has a length that it may have
 pub record IsPart (n : ℕ) (p : ℕ × List ℕ) : Type 0 where

@@ -6,7 +6,7 @@ pub loop-index-preserved : goal.loop-index-preserved
 loop-index-preserved c =
     let made : c.append.new.self ≡ part_at c.args.bytes.now c.loop-index.index =
     c.in_ok-append.ensures.ok
-    ∙ ap (λ z. z ++ take (c.min-end.result - 8000 * c.loop-index.index) (drop (8000 * c.loop-index.index) c.args.bytes.now)) c.new-piece.ensures
+    ∙ ap (λ z. z ++ take (c.min-end.result - 8000 * c.loop-index.index) (drop (8000 * c.loop-index.index) c.args.bytes.now)) (c.reserve.ensures ∙ c.new-piece.ensures)
     ∙ ap (λ n. take (n - 8000 * c.loop-index.index) (drop (8000 * c.loop-index.index) c.args.bytes.now)) c.min-end.ensures
     ∙ piece_is c.args.bytes.now (8000 * c.loop-index.index) in
     c.in_ok-push.ensures.ok
