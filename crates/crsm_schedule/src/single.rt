@@ -1,6 +1,6 @@
 //! Reads steps of one replica.
 
-ghost use Rattle.std.specs.Prelude.{◌≡◌, ℕ, ◌≤◌, ◌++◌, List, IfSome, IfOk, codes, length};
+ghost use Rattle.std.specs.Prelude.{◌≡◌, ℕ, ◌≤◌, ◌++◌, List, IfOk, codes, length};
 ghost use Rattle.hex.specs.Hex.{encode_lower, IsBytes};
 ghost use Rattle.crsm_text.specs.Reads.{ReadsAs};
 ghost use Rattle.crsm_schedule.specs.declared.event.Single.{Single};
@@ -30,28 +30,34 @@ fn request_of(alloc: Global, text: &[u8]) -> Result<Single, LineError>
     })
 }
 
-fn go_of(text: &[u8]) -> Option<Single>
-    ensures found { IfSome result (λ s. FitsSingle s × (codes "go " ++ text.now ≡ single_text s)) }
-    ensures only { (s : Single) → FitsSingle s → codes "go " ++ text.now ≡ single_text s → result ≡ Some s }
+fn go_of(text: &[u8]) -> Result<Single, LineError>
+    ensures found { IfOk result (λ s. FitsSingle s × (codes "go " ++ text.now ≡ single_text s)) }
+    ensures only { (s : Single) → FitsSingle s → codes "go " ++ text.now ≡ single_text s → ReadsAs result s }
 {
-    let (number, reading) = two_numbers(text)?;
-    Some(Single::Go { number, reading })
+    let Some((number, reading)) = two_numbers(text) else {
+        return Err(LineError::Unreadable);
+    };
+    Ok(Single::Go { number, reading })
 }
 
-fn again_of(text: &[u8]) -> Option<Single>
-    ensures found { IfSome result (λ s. FitsSingle s × (codes "again " ++ text.now ≡ single_text s)) }
-    ensures only { (s : Single) → FitsSingle s → codes "again " ++ text.now ≡ single_text s → result ≡ Some s }
+fn again_of(text: &[u8]) -> Result<Single, LineError>
+    ensures found { IfOk result (λ s. FitsSingle s × (codes "again " ++ text.now ≡ single_text s)) }
+    ensures only { (s : Single) → FitsSingle s → codes "again " ++ text.now ≡ single_text s → ReadsAs result s }
 {
-    let (number, reading) = two_numbers(text)?;
-    Some(Single::Again { number, reading })
+    let Some((number, reading)) = two_numbers(text) else {
+        return Err(LineError::Unreadable);
+    };
+    Ok(Single::Again { number, reading })
 }
 
-fn tick_of(text: &[u8]) -> Option<Single>
-    ensures found { IfSome result (λ s. FitsSingle s × (codes "tick " ++ text.now ≡ single_text s)) }
-    ensures only { (s : Single) → FitsSingle s → codes "tick " ++ text.now ≡ single_text s → result ≡ Some s }
+fn tick_of(text: &[u8]) -> Result<Single, LineError>
+    ensures found { IfOk result (λ s. FitsSingle s × (codes "tick " ++ text.now ≡ single_text s)) }
+    ensures only { (s : Single) → FitsSingle s → codes "tick " ++ text.now ≡ single_text s → ReadsAs result s }
 {
-    let (replica, reading) = two_numbers(text)?;
-    Some(Single::Tick { replica, reading })
+    let Some((replica, reading)) = two_numbers(text) else {
+        return Err(LineError::Unreadable);
+    };
+    Ok(Single::Tick { replica, reading })
 }
 
 fn suspect_of(alloc: Global, text: &[u8]) -> Result<Single, LineError>
@@ -107,13 +113,13 @@ pub(crate) fn read_single(alloc: Global, text: &[u8]) -> Result<Single, LineErro
         return request_of(alloc, rest);
     }
     if let Some(rest) = text.strip_prefix(b"go ") {
-        return go_of(rest).ok_or(LineError::Unreadable);
+        return go_of(rest);
     }
     if let Some(rest) = text.strip_prefix(b"again ") {
-        return again_of(rest).ok_or(LineError::Unreadable);
+        return again_of(rest);
     }
     if let Some(rest) = text.strip_prefix(b"tick ") {
-        return tick_of(rest).ok_or(LineError::Unreadable);
+        return tick_of(rest);
     }
     if let Some(rest) = text.strip_prefix(b"suspect ") {
         return suspect_of(alloc, rest);
