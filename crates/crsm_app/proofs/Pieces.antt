@@ -5,7 +5,7 @@ use Rattle.crsm_base.specs.declared.Line.{Line}
 use Rattle.crsm_schedule.specs.Transcript.{lines_text}
 use Rattle.crsm_text.specs.Words.{Lacks}
 use Rattle.crsm_io.specs.Streams.{Takes, Puts, PutsFront, AtEnd}
-use Rattle.crsm_spec.specs.World.{finals}
+use Rattle.crsm_spec.specs.World.{World, finals}
 use Rattle.crsm_world.specs.declared.World.{World as Held}
 use Rattle.crsm_world.specs.Standing.{StandsFor}
 use Rattle.crsm_world.specs.Schedule.{Schedule, last_world, finals_text}
@@ -93,6 +93,34 @@ pub flush_off : {X : Type 0} (result : Result X Halt) (w v : Option (List ℕ)) 
 flush_off (Ok x) w v old new fault put is = tt
 flush_off (Err e) w v old new fault put is =
     subst (λ halt. Halts (status_of halt) w v old new []) (sym fault) (flush_halts w v old new put (ap (λ (st : State). st.pending) is))
+
+-- ---- the world takes something back
+
+-- the world is another one that stands for the same
+held_on : (world held : Held) (read : Option Schedule) → ((v : World) → StandsFor world v → StandsFor held v) → StandsAt (Some world) read → StandsAt (Some held) read
+held_on world held None keeps stands = absurd stands
+held_on world held (Some s) keeps stands = keeps (last_world s) stands
+
+pub world_carries : (w : Option (List ℕ)) (old new : State) (world held : Held) → ((v : World) → StandsFor world v → StandsFor held v) → old.world ≡ Some world
+    → new ≡ record { world = Some held; number = old.number; part = old.part; pending = old.pending } → CarriesOn w w old new [] []
+unfolding CarriesOn
+world_carries w old new world held keeps here is = λ before after had ahead total s. subst (λ st. SoFar before after had w st ahead total) (sym is) (record {
+  read = s.read;
+  good = s.good;
+  stands = held_on world held s.read keeps (subst (λ x. StandsAt x s.read) here s.stands);
+  number = s.number;
+  part = s.part;
+  short = s.short;
+  takes = s.takes;
+  taken_len = s.taken_len;
+  written = s.written;
+  puts = s.puts;
+  shown = s.shown;
+})
+
+-- the last of what was handled is followed by that
+pub and_back : (w : Option (List ℕ)) (x y z : State) (bytes : List ℕ) → CarriesOn w w y z [] [] → CarriesOn w w x y bytes [] → CarriesOn w w x z bytes []
+and_back w x y z bytes back on = carries_then w w w x y z bytes [] [] on back
 
 -- ---- a piece
 

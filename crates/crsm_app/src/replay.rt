@@ -108,7 +108,18 @@ impl Replay {
             self.pending.clear();
             return Err(Halt::NoMemory);
         };
+        self.give_back(lines);
         Ok(())
+    }
+
+    /// Gives the lines back to the world, which uses their room.
+    fn give_back(&mut self, lines: Lines)
+        ensures carries { (has : Option (List ℕ)) → CarriesOn has has self.old self.new [] [] }
+        ensures number { self.new.number ≡ self.old.number }
+    {
+        if let Some(world) = &mut self.world {
+            world.take_back(lines);
+        }
     }
 
     /// Keeps a front of a line.

@@ -182,7 +182,7 @@ impl World {
         ensures { IfOk result (λ lines. (v : on_paper.World) → Holds self.old v → IsGenuine single.now →
             Leads (moments.single (ending_of ending) v (single_of single.now)) self.new lines) }
     {
-        let mut lines = Lines::new(self.alloc);
+        let mut lines = self.no_lines();
         self.add_single(ending, single, &mut lines)?;
         Ok(lines)
     }

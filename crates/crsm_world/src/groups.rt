@@ -20,7 +20,7 @@ impl World {
     fn deliver_each(&mut self, reading: u64, due: &[u64]) -> Result<Lines, NoMemory>
         ensures { IfOk result (λ lines. (v : on_paper.World) → Holds self.old v → Leads (each_gone reading due.now v) self.new lines) }
     {
-        let mut lines = Lines::new(self.alloc);
+        let mut lines = self.no_lines();
         for number in due {
             if self.post.is_full() {
                 return Ok(lines);

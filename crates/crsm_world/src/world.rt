@@ -10,7 +10,7 @@ ghost use Rattle.crsm_spec.specs.Possible.{possible};
 ghost use Rattle.crsm_spec.specs.Replica.{Replica};
 ghost use Rattle.crsm_spec.specs.World as on_paper;
 ghost use Rattle.crsm_world.specs.Doing.{act_of, bad_of};
-ghost use Rattle.crsm_world.specs.Standing.{StandsFor, IsSpent};
+ghost use Rattle.crsm_world.specs.Standing.{Holds, StandsFor, IsSpent};
 
 use crate::bad::Bad;
 use crate::sites::Sites;
@@ -20,6 +20,7 @@ use crsm_post::Post;
 use crsm_schedule::Event;
 use crsm_shell::Shell;
 use std::alloc::Global;
+use std::mem;
 
 /// A cluster: its replicas, and every datagram that was sent.
 #[derive(Drop)]
@@ -28,6 +29,8 @@ pub struct World {
     pub(crate) sites: Sites,
     pub(crate) post: Post,
     pub(crate) is_spent: bool,
+    /// Lines that were taken back: only their room is of use.
+    spare: Lines,
 }
 
 impl World {
@@ -44,6 +47,7 @@ impl World {
             post: Post::new(alloc),
             // It is none before all have booted.
             is_spent: true,
+            spare: Lines::new(alloc),
         };
         let mut lines = Lines::new(alloc);
         for k in 0..n {
@@ -80,6 +84,25 @@ impl World {
         };
         self.is_spent = false;
         Ok(lines)
+    }
+
+    /// Takes back the lines of a step, so that the next step uses their room.
+    #[tactic(auto, unfolding(crate::specs::Standing::StandsFor, crate::specs::Standing::IsSpent))]
+    pub fn take_back(&mut self, lines: Lines)
+        ensures stands { (v : on_paper.World) → StandsFor self.old v → StandsFor self.new v }
+        ensures stays_spent { IsSpent self.old → IsSpent self.new }
+    {
+        self.spare = lines;
+    }
+
+    /// No lines yet, with the room of those that were taken back.
+    pub(crate) fn no_lines(&mut self) -> Lines
+        ensures none { result ≡ [] }
+        ensures holds { (v : on_paper.World) → Holds self.old v → Holds self.new v }
+    {
+        let mut lines = mem::replace(&mut self.spare, Lines::new(self.alloc));
+        lines.clear();
+        lines
     }
 
     /// The shell of a replica that is up: none where it is down, and where no replica has this number. Its core is that of

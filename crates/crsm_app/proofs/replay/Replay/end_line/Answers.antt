@@ -1,8 +1,8 @@
-use Rattle.std.proofs.Common.{◌≡◌, ◌+◌, ◌++◌, [], ap, sym, ◌∙◌, subst}
+use Rattle.std.proofs.Common.{◌≡◌, ◌+◌, ◌++◌, [], ◌∷◌, ap, sym, ◌∙◌, subst}
 use Rattle.std.proofs.lemmas.List.{append-nil}
 use Rattle.crsm_schedule.specs.Transcript.{lines_text}
 use Rattle.crsm_app.proofs.LineLemmas.{handles_number}
-use Rattle.crsm_app.proofs.Pieces.{line_carries, line_refused, no_memory_halts}
+use Rattle.crsm_app.proofs.Pieces.{line_carries, line_refused, no_memory_halts, and_back}
 use Rattle.crsm_app.specs.Handled.{StopsAt}
 use Rattle.crsm_app.proofs.replay.Replay.end_line.Goals as goal
 
@@ -29,11 +29,12 @@ pub returns-clause-ok : goal.returns-clause-ok
 returns-clause-ok c = λ has.
     let number : c.self.inside.number ≡ c.args.self.now.number = ap (λ x. x.number) c.self.view_is in
     let same : c.reserve.new.self ≡ c.args.self.now.pending = c.reserve.ensures ∙ ap (λ x. x.pending) c.self-2.view_is ∙ c.in-Ok.ensures.pending in
-    line_carries has c.args.self.now c.handle.new.self _ c.args.tail.now c.in-Ok.lines c.in-Ok.ensures.ok
+    and_back has c.args.self.now _ c.give_back.new.self (c.args.tail.now ++ 10 ∷ []) (c.give_back.ensures.carries has)
+    (line_carries has c.args.self.now c.handle.new.self _ c.args.tail.now c.in-Ok.lines c.in-Ok.ensures.ok
     (ap (λ x. x.world) c.self-2.view_is) (ap (λ x. x.number) c.self-2.view_is) (ap (λ x. x.part) c.self-2.view_is)
     (c.in-Ok-push_lines.ensures ∙ ap (λ ys. ys ++ lines_text (c.self.inside.number + 1) c.in-Ok.lines) same
-    ∙ ap (λ n. c.args.self.now.pending ++ lines_text (n + 1) c.in-Ok.lines) number)
+    ∙ ap (λ n. c.args.self.now.pending ++ lines_text (n + 1) c.in-Ok.lines) number))
 
 pub returns-clause-number : goal.returns-clause-number
 returns-clause-number c =
-    ap (λ x. x.number) c.self-2.view_is ∙ handles_number c.args.self.now c.handle.new.self c.args.tail.now c.in-Ok.lines c.in-Ok.ensures.ok
+    c.give_back.ensures.number ∙ ap (λ x. x.number) c.self-2.view_is ∙ handles_number c.args.self.now c.handle.new.self c.args.tail.now c.in-Ok.lines c.in-Ok.ensures.ok

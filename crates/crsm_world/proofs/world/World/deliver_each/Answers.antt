@@ -3,7 +3,7 @@ use Rattle.crsm_world.proofs.Series.{each_begins, each_next, each_full, each_end
 use Rattle.crsm_world.proofs.world.World.deliver_each.Goals as goal
 
 pub loop-number-init : goal.loop-number-init
-loop-number-init c v h = each_begins v c.args.reading c.args.due.now c.args.self.now _ h c.new-lines.ensures
+loop-number-init c v h = each_begins v c.args.reading c.args.due.now c.no_lines-lines.new.self _ h c.no_lines-lines.ensures.none
 
 pub loop-number-preserved : goal.loop-number-preserved
 unfolding ending_of
@@ -12,7 +12,7 @@ loop-number-preserved c v h =
     c.in_ok-go.ensures
 
 pub returns-then-is_full : goal.returns-then-is_full
-returns-then-is_full c v h = each_full v c.args.reading c.args.due.now c.loop-number.number-index c.loop-number.self c.loop-number.lines c.is_full.result (c.loop-number.invariant v h) c.loop-number-test.true c.is_full.ensures c.if-is_full.true
+returns-then-is_full c v h = each_full v c.args.reading c.args.due.now c.loop-number.number-index c.loop-number.self c.loop-number.lines c.is_full.result (c.loop-number.invariant v (c.no_lines-lines.ensures.holds v h)) c.loop-number-test.true c.is_full.ensures c.if-is_full.true
 
 pub returns : goal.returns
-returns c v h = each_ends v c.args.reading c.args.due.now c.loop-number.number-index c.loop-number.self c.loop-number.lines (c.loop-number.invariant v h) c.loop-number-test.false
+returns c v h = each_ends v c.args.reading c.args.due.now c.loop-number.number-index c.loop-number.self c.loop-number.lines (c.loop-number.invariant v (c.no_lines-lines.ensures.holds v h)) c.loop-number-test.false
