@@ -7,6 +7,7 @@
 //! synced reads as a closed or as an open gate.
 #![tactic(auto)]
 
+mod boot;
 mod devices;
 mod fault;
 mod log;
@@ -14,11 +15,10 @@ mod tale;
 mod traces;
 mod words;
 
+use crate::boot::boot_text;
 use crate::fault::Fault;
 use crate::log::disk_of;
 use crate::tale::tale_of;
-use crsm_disk::MemDisk;
-use crsm_shell::{BootError, Shell};
 use std::alloc::Global;
 
 fn main(rt: HostRuntime) -> Result<(), Fault> {
@@ -34,23 +34,6 @@ fn main(rt: HostRuntime) -> Result<(), Fault> {
 fn answer_to(alloc: Global, line: &str) -> Result<String, Fault> {
     match line.split_once(' ') {
         Some(("run", script)) => tale_of(alloc, script),
-        _ => boot_on(alloc, disk_of(alloc, line)?),
-    }
-}
-
-/// What a boot says of this disk.
-fn boot_on(alloc: Global, disk: MemDisk) -> Result<String, Fault> {
-    match Shell::boot(alloc, 0, 1, &[70], disk) {
-        Ok(booted) => {
-            let bodies = booted.bodies.len();
-            let lines = booted.lines.as_slice().len();
-            let boots = booted.shell.state().boot();
-            Ok(format!(in alloc;
-                "boot {boots} behind {bodies} bodies, {lines} lines, {} bytes",
-                booted.size
-            )?)
-        }
-        Err((BootError::BadLog { entry, why }, _)) => Ok(format!(in alloc; "{entry}, {why}")?),
-        Err((why, _)) => Ok(format!(in alloc; "{why}")?),
+        _ => Ok(boot_text(alloc, disk_of(alloc, line)?)?),
     }
 }

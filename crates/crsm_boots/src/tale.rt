@@ -1,106 +1,156 @@
 //! A replica that is a cluster of its own, over devices in memory, driven by the words of a line.
 
+use crate::boot::boot;
 use crate::devices::Devices;
 use crate::fault::Fault;
-use crate::traces::{kept_on, sent_by};
-use crate::words::{Word, calls_of, word_of};
+use crate::traces::{push_kept, push_refusal, push_sent};
+use crate::words::{Word, calls_of, parted, word_of};
 use crsm_disk::MemDisk;
-use crsm_shell::{Shell, TurnError, What};
-use std::alloc::Global;
+use crsm_shell::{BootError, Shell, TurnError, What};
+use std::alloc::{AllocError, Global};
 
 /// What comes of a replica that boots on an empty disk and does what the words say. The first two words are the calls
 /// of its disk and of its port that fail.
 pub fn tale_of(alloc: Global, script: &str) -> Result<String, Fault> {
-    let (disk_fails, rest) = script.split_once(' ').ok_or(Fault::Unreadable)?;
-    let (port_fails, words) = rest.split_once(' ').ok_or(Fault::Unreadable)?;
-    let devices = Devices::new(alloc, &calls_of(alloc, port_fails)?)?;
-    let disk = MemDisk::new(alloc, &calls_of(alloc, disk_fails)?, None, 0)?;
-    match Shell::boot(alloc, 0, 1, &[70], disk) {
-        Ok(booted) => run(alloc, booted.shell, devices, words),
-        Err((why, disk)) => {
-            let kept = kept_on(alloc, &disk)?;
-            Ok(format!(in alloc; "{why}, {} calls, {kept}", disk.calls())?)
-        }
+    let mut out = String::new(alloc);
+    push_tale(alloc, script, &mut out)?;
+    Ok(out)
+}
+
+fn push_tale(alloc: Global, script: &str, out: &mut String) -> Result<(), Fault> {
+    let (disk_fails, rest) = parted(script)?;
+    let (port_fails, words) = parted(rest)?;
+    let mut devices = devices_of(alloc, port_fails)?;
+    push_life(alloc, disk_fails, &mut devices, words, out)
+}
+
+/// Devices whose port fails at these calls.
+fn devices_of(alloc: Global, fails: &str) -> Result<Devices, Fault> {
+    let fails = calls_of(alloc, fails)?;
+    Devices::new(alloc, &fails)
+}
+
+/// An empty disk that fails at these calls.
+fn empty_disk(alloc: Global, fails: &str) -> Result<MemDisk, Fault> {
+    let fails = calls_of(alloc, fails)?;
+    Ok(MemDisk::new(alloc, &fails, None, 0)?)
+}
+
+/// Appends what comes of a boot on an empty disk, and of the words behind it.
+fn push_life(
+    alloc: Global,
+    disk_fails: &str,
+    devices: &mut Devices,
+    words: &str,
+    out: &mut String,
+) -> Result<(), Fault> {
+    match boot(alloc, empty_disk(alloc, disk_fails)?) {
+        Ok(booted) => push_run(alloc, booted.shell, devices, words, out),
+        Err((why, disk)) => push_failure(alloc, why, &disk, out),
     }
 }
 
-fn run(
+fn push_failure(
     alloc: Global,
-    shell: Shell<MemDisk>,
-    devices: Devices,
-    words: &str,
-) -> Result<String, Fault> {
-    let mut shell = shell;
-    let mut devices = devices;
-    let told = told_by(alloc, &mut shell, &mut devices, words)?;
-    let executed = shell.state().executed_len();
-    let end = if shell.failed() { "failed" } else { "up" };
-    let disk = shell.into_disk();
-    let sent = sent_by(alloc, &devices.port)?;
-    let kept = kept_on(alloc, &disk)?;
-    Ok(format!(in alloc;
-        "{told}{end}, {executed} executed, {} calls, {kept}, {sent}",
-        disk.calls()
-    )?)
+    why: BootError,
+    disk: &MemDisk,
+    out: &mut String,
+) -> Result<(), Fault> {
+    push_refusal(why, out)?;
+    out.push_str(", ")?;
+    push_kept(alloc, disk, out)
 }
 
-/// What comes of the words, in order.
-fn told_by(
+/// Appends what comes of the words, and what they leave on the devices.
+fn push_run(
     alloc: Global,
+    shell: Shell<MemDisk>,
+    devices: &mut Devices,
+    words: &str,
+    out: &mut String,
+) -> Result<(), Fault> {
+    let mut shell = shell;
+    push_words(&mut shell, devices, words, out)?;
+    push_left(alloc, &shell.into_disk(), devices, out)
+}
+
+fn push_left(
+    alloc: Global,
+    disk: &MemDisk,
+    devices: &Devices,
+    out: &mut String,
+) -> Result<(), Fault> {
+    push_kept(alloc, disk, out)?;
+    out.push_str(", ")?;
+    push_sent(&devices.port, out)
+}
+
+/// Appends what comes of the words, in order, and how the replica stands behind them.
+fn push_words(
     shell: &mut Shell<MemDisk>,
     devices: &mut Devices,
     words: &str,
-) -> Result<String, Fault> {
-    let mut text = String::new(alloc);
+    out: &mut String,
+) -> Result<(), Fault> {
     for word in words.split(' ') {
-        let told = told_of(alloc, shell, devices, word_of(word)?)?;
-        text.push_str(told.as_str())?;
+        push_word(shell, devices, word_of(word)?, out)?;
     }
-    Ok(text)
+    let end = if shell.failed() { "failed" } else { "up" };
+    write!(out, "{end}, {} executed, ", shell.state().executed_len())?;
+    Ok(())
 }
 
-fn told_of(
-    alloc: Global,
+fn push_word(
     shell: &mut Shell<MemDisk>,
     devices: &mut Devices,
     word: Word,
-) -> Result<String, Fault> {
+    out: &mut String,
+) -> Result<(), Fault> {
     match word {
         Word::Requests(count) => devices.come(count)?,
         Word::Junk => devices.port.put(9, &[0xff])?,
         Word::Stop { calls, fill } => shell.arm(Some(calls), fill),
-        Word::Take(count) => return receives(alloc, shell, devices, count),
-        Word::Tick => {
-            return Ok(match take(shell, devices, What::Tick)? {
-                Ok(size) => format!(in alloc; "a tick of {size} bytes; ")?,
-                Err(why) => format!(in alloc; "{why}; ")?,
-            });
-        }
-        Word::Flush => {
-            return Ok(match shell.flush(&mut devices.port) {
-                Ok(()) => format!(in alloc; "flushed; ")?,
-                Err(why) => format!(in alloc; "{why}; ")?,
-            });
-        }
+        Word::Take(count) => push_receives(shell, devices, count, out)?,
+        Word::Tick => push_tick(take(shell, devices, What::Tick)?, out)?,
+        Word::Flush => push_flush(shell.flush(&mut devices.port), out)?,
     }
-    Ok(String::new(alloc))
+    Ok(())
 }
 
-/// So many receives, up to the first that fails.
-fn receives(
-    alloc: Global,
+/// Appends what comes of so many receives, up to the first that fails.
+fn push_receives(
     shell: &mut Shell<MemDisk>,
     devices: &mut Devices,
     count: u64,
-) -> Result<String, Fault> {
+    out: &mut String,
+) -> Result<(), Fault> {
     let mut bytes = 0u64;
     for taken in 0..count {
         match take(shell, devices, What::Receive)? {
             Ok(size) => bytes = bytes.saturating_add(size),
-            Err(why) => return Ok(format!(in alloc; "{why} after {taken} steps; ")?),
+            Err(why) => {
+                write!(out, "{why} after {taken} steps; ")?;
+                return Ok(());
+            }
         }
     }
-    Ok(format!(in alloc; "{count} steps of {bytes} bytes; ")?)
+    write!(out, "{count} steps of {bytes} bytes; ")?;
+    Ok(())
+}
+
+/// Appends how many bytes a tick's records take, or why there was none.
+fn push_tick(tick: Result<u64, TurnError>, out: &mut String) -> Result<(), AllocError> {
+    match tick {
+        Ok(size) => write!(out, "a tick of {size} bytes; "),
+        Err(why) => write!(out, "{why}; "),
+    }
+}
+
+fn push_flush(flush: Result<(), TurnError>, out: &mut String) -> Result<(), AllocError> {
+    match flush {
+        Ok(()) => out.push_str("flushed; "),
+        Err(why) => write!(out, "{why}; "),
+    }
 }
 
 /// Takes a step, and gives how many bytes its records take.
@@ -112,8 +162,6 @@ fn take(
     if shell.pending() >= 32 {
         return Err(Fault::TooMany);
     }
-    match shell.take(what, &mut devices.clock, &mut devices.port) {
-        Ok(turned) => Ok(Ok(turned.size)),
-        Err(why) => Ok(Err(why)),
-    }
+    let turned = shell.take(what, &mut devices.clock, &mut devices.port);
+    Ok(turned.map(|turned| turned.size))
 }

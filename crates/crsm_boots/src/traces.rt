@@ -1,45 +1,62 @@
 //! What a run leaves on its devices.
 
+use crate::boot::found_on;
 use crate::fault::Fault;
 use crsm_base::Bodies;
 use crsm_disk::MemDisk;
 use crsm_port::MemPort;
-use crsm_shell::Shell;
-use std::alloc::Global;
+use crsm_shell::BootError;
+use std::alloc::{AllocError, Global};
 
-/// The numbers of the requests whose replies were sent, in order.
-pub fn sent_by(alloc: Global, port: &MemPort) -> Result<String, Fault> {
-    if port.sent().len() == 0 {
-        return Ok(format!(in alloc; "sent none")?);
-    }
-    let mut text = format!(in alloc; "sent")?;
-    for index in 0..port.sent().len() {
-        let (_, bytes) = port.sent().get(index).ok_or(Fault::Unreadable)?;
-        let number = bytes.get(16).ok_or(Fault::Unreadable)?;
-        let word = format!(in alloc; " {number}")?;
-        text.push_str(word.as_str())?;
-    }
-    Ok(text)
+/// Appends how many calls of the disk there were, and the lengths of the bodies that a boot finds on it as a crash leaves
+/// it now, in order.
+pub fn push_kept(alloc: Global, disk: &MemDisk, out: &mut String) -> Result<(), Fault> {
+    write!(out, "{} calls, ", disk.calls())?;
+    push_found(alloc, disk.image()?, out)?;
+    Ok(())
 }
 
-/// The lengths of the bodies that a boot finds on the disk as a crash leaves it now, in order.
-pub fn kept_on(alloc: Global, disk: &MemDisk) -> Result<String, Fault> {
-    match Shell::boot(alloc, 0, 1, &[70], disk.image()?) {
-        Ok(booted) => lengths(alloc, &booted.bodies),
-        Err((why, _)) => Ok(format!(in alloc; "{why}")?),
+fn push_found(alloc: Global, disk: MemDisk, out: &mut String) -> Result<(), AllocError> {
+    match found_on(alloc, disk) {
+        Ok(found) => push_lengths(&found.bodies, out),
+        Err(why) => push_refusal(why, out),
     }
 }
 
-fn lengths(alloc: Global, bodies: &Bodies) -> Result<String, Fault> {
+/// Appends why a boot refuses.
+pub fn push_refusal(why: BootError, out: &mut String) -> Result<(), AllocError> {
+    write!(out, "{why}")
+}
+
+fn push_lengths(bodies: &Bodies, out: &mut String) -> Result<(), AllocError> {
     if bodies.is_empty() {
-        return Ok(format!(in alloc; "kept none")?);
+        return out.push_str("kept none");
     }
-    let mut text = format!(in alloc; "kept")?;
+    out.push_str("kept")?;
     for index in 0..bodies.len() {
         if let Some(body) = bodies.get(index) {
-            let word = format!(in alloc; " {}", body.len())?;
-            text.push_str(word.as_str())?;
+            write!(out, " {}", body.len())?;
         }
     }
-    Ok(text)
+    Ok(())
+}
+
+/// Appends the numbers of the requests whose replies were sent, in order.
+pub fn push_sent(port: &MemPort, out: &mut String) -> Result<(), Fault> {
+    if port.sent().len() == 0 {
+        out.push_str("sent none")?;
+        return Ok(());
+    }
+    out.push_str("sent")?;
+    for index in 0..port.sent().len() {
+        let number = answered(port, index).ok_or(Fault::Unreadable)?;
+        write!(out, " {number}")?;
+    }
+    Ok(())
+}
+
+/// The number of the request that the datagram of this index answers.
+fn answered(port: &MemPort, index: usize) -> Option<u8> {
+    let (_, bytes) = port.sent().get(index)?;
+    bytes.get(16).copied()
 }

@@ -21,19 +21,23 @@ pub enum Word {
 /// The word that is spelt so.
 pub fn word_of(text: &str) -> Result<Word, Fault> {
     match text.split_once(':') {
-        Some(("requests", count)) => Ok(Word::Requests(number(count)?)),
-        Some(("take", count)) => Ok(Word::Take(number(count)?)),
-        Some(("stop", calls)) => stop(calls, 0),
-        Some(("open", calls)) => stop(calls, 1),
-        _ => plain_word(text),
+        Some((name, count)) => counted_word(name, number(count)?),
+        None => plain_word(text),
     }
 }
 
-fn stop(calls: &str, fill: u8) -> Result<Word, Fault> {
-    Ok(Word::Stop {
-        calls: number(calls)?,
-        fill,
-    })
+fn counted_word(name: &str, count: u64) -> Result<Word, Fault> {
+    match name {
+        "requests" => Ok(Word::Requests(count)),
+        "take" => Ok(Word::Take(count)),
+        "stop" => Ok(stop(count, 0)),
+        "open" => Ok(stop(count, 1)),
+        _ => Err(Fault::Unreadable),
+    }
+}
+
+fn stop(calls: u64, fill: u8) -> Word {
+    Word::Stop { calls, fill }
 }
 
 fn plain_word(text: &str) -> Result<Word, Fault> {
@@ -43,6 +47,11 @@ fn plain_word(text: &str) -> Result<Word, Fault> {
         "flush" => Ok(Word::Flush),
         _ => Err(Fault::Unreadable),
     }
+}
+
+/// The two parts of a text around its first space.
+pub fn parted(text: &str) -> Result<(&str, &str), Fault> {
+    text.split_once(' ').ok_or(Fault::Unreadable)
 }
 
 /// The calls that fail: their numbers with commas between, or `-` where none does.
