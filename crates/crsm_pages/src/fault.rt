@@ -2,7 +2,7 @@
 
 use crsm_base::NoMemory;
 use crsm_ledger::LedgerError;
-use std::alloc::AllocError;
+use std::alloc::{AllocError, AllocFailed};
 use std::io;
 use thiserror::Error;
 
@@ -31,6 +31,12 @@ impl From<NoMemory> for Fault {
 
 impl From<AllocError> for Fault {
     fn from(_: AllocError) -> Fault {
+        Fault::NoMemory
+    }
+}
+
+impl<T: Drop> From<AllocFailed<T>> for Fault {
+    fn from(_: AllocFailed<T>) -> Fault {
         Fault::NoMemory
     }
 }

@@ -1,7 +1,6 @@
 //! How pages of executed entries fit to ledgers.
 
-use crate::fault::Fault;
-use crate::text::entries_text;
+use crate::text::push_entries;
 use crsm_base::{Command, Control, Entries, Entry, Key, NoMemory, Op, Stamp};
 use crsm_ledger::Ledger;
 use crsm_transfer::{Fit, fit};
@@ -31,31 +30,45 @@ fn entries(alloc: Global, from: u64, count: u64) -> Result<Entries, NoMemory> {
     Ok(entries)
 }
 
-fn answer_text(alloc: Global, answer: &Fit) -> Result<String, Fault> {
-    match answer {
-        Fit::Ahead => Ok(format!(in alloc; "ahead")?),
-        Fit::Gap => Ok(format!(in alloc; "a gap")?),
-        Fit::Nothing => Ok(format!(in alloc; "nothing")?),
-        Fit::Adopt(entries) => {
-            let text = entries_text(alloc, entries.as_slice())?;
-            Ok(format!(in alloc; "adopts {text}")?)
-        }
-    }
-}
-
 /// How a page of so many entries from a place on fits, whose sender knows an epoch.
-pub fn fit_line(
+fn fit_of(
     alloc: Global,
     ledger: &Ledger,
     known: u64,
     from: u64,
     count: u64,
-) -> Result<String, Fault> {
+) -> Result<Fit, NoMemory> {
     let page = Control::Page {
         known,
         from,
         entries: entries(alloc, from, count)?,
     };
-    let answer = answer_text(alloc, &fit(alloc, ledger, &page)?)?;
-    Ok(format!(in alloc; "  {count} of epoch {known} from {from}: {answer}")?)
+    fit(alloc, ledger, &page)
+}
+
+fn push_answer(answer: &Fit, out: &mut String) -> Result<(), NoMemory> {
+    match answer {
+        Fit::Ahead => writeln!(out, "ahead")?,
+        Fit::Gap => writeln!(out, "a gap")?,
+        Fit::Nothing => writeln!(out, "nothing")?,
+        Fit::Adopt(entries) => {
+            out.push_str("adopts ")?;
+            push_entries(entries.as_slice(), out)?;
+            out.push('\n')?;
+        }
+    }
+    Ok(())
+}
+
+/// Appends how a page of so many entries from a place on fits, whose sender knows an epoch.
+pub fn push_fit(
+    alloc: Global,
+    ledger: &Ledger,
+    known: u64,
+    from: u64,
+    count: u64,
+    out: &mut String,
+) -> Result<(), NoMemory> {
+    write!(out, "  {count} of epoch {known} from {from}: ")?;
+    push_answer(&fit_of(alloc, ledger, known, from, count)?, out)
 }

@@ -79,17 +79,31 @@ fn entry_body(
     Ok(body)
 }
 
-/// The bodies of a log with this load, each entry executed as soon as it is logged, or none.
-fn bodies_of(alloc: Global, load: Load, is_executed: bool) -> Result<Bodies, NoMemory> {
-    let mut bodies = Bodies::new(alloc);
+fn push_entry(
+    alloc: Global,
+    time: u64,
+    action: Action,
+    is_executed: bool,
+    bodies: &mut Bodies,
+) -> Result<(), NoMemory> {
+    bodies.push(entry_body(alloc, time, action, is_executed)?.as_slice())
+}
+
+/// Adds the bodies of a log with this load, each entry executed as soon as it is logged, or none.
+fn push_load(
+    alloc: Global,
+    load: Load,
+    is_executed: bool,
+    bodies: &mut Bodies,
+) -> Result<(), NoMemory> {
     bodies.push(first_body(alloc)?.as_slice())?;
     for time in 0..load.count {
-        bodies.push(entry_body(alloc, time, load.action, is_executed)?.as_slice())?;
+        push_entry(alloc, time, load.action, is_executed, bodies)?;
     }
     if let Some(action) = load.last {
-        bodies.push(entry_body(alloc, load.count, action, is_executed)?.as_slice())?;
+        push_entry(alloc, load.count, action, is_executed, bodies)?;
     }
-    Ok(bodies)
+    Ok(())
 }
 
 /// The body that makes an end of a log.
@@ -104,11 +118,23 @@ fn last_body(alloc: Global, end: End) -> Result<Option<Bytes>, NoMemory> {
     Ok(Some(body))
 }
 
-/// A ledger with this load, executed or only logged, and with this end.
-pub fn ledger(alloc: Global, load: Load, is_executed: bool, end: End) -> Result<Ledger, Fault> {
-    let mut bodies = bodies_of(alloc, load, is_executed)?;
+fn bodies_of(alloc: Global, load: Load, is_executed: bool, end: End) -> Result<Bodies, NoMemory> {
+    let mut bodies = Bodies::new(alloc);
+    push_load(alloc, load, is_executed, &mut bodies)?;
     if let Some(body) = last_body(alloc, end)? {
         bodies.push(body.as_slice())?;
     }
-    Ok(Ledger::recover(alloc, 0, 3, &bodies)?)
+    Ok(bodies)
+}
+
+/// A ledger with this load, executed or only logged, and with this end.
+pub fn ledger(
+    alloc: Global,
+    load: Load,
+    is_executed: bool,
+    end: End,
+) -> Result<Box<Ledger>, Fault> {
+    let bodies = bodies_of(alloc, load, is_executed, end)?;
+    let ledger = Ledger::recover(alloc, 0, 3, &bodies)?;
+    Ok(Box::new(alloc, ledger)?)
 }
