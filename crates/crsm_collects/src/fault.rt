@@ -43,8 +43,8 @@ impl From<AllocError> for Fault {
     }
 }
 
-impl From<AllocFailed<u64>> for Fault {
-    fn from(_: AllocFailed<u64>) -> Fault {
+impl<T: Drop> From<AllocFailed<T>> for Fault {
+    fn from(_: AllocFailed<T>) -> Fault {
         Fault::NoMemory
     }
 }

@@ -14,16 +14,25 @@ use std::alloc::Global;
 /// The greatest epoch and start that a collection takes.
 const MOST: u64 = u64::MAX - 4_096;
 
-/// The numbers of a text, with a space between each two.
-fn numbers_of(alloc: Global, text: &str) -> Result<Vec<u64>, Fault> {
-    let mut numbers = Vec::new(alloc);
-    for word in text.split(" ") {
-        let Ok(number) = word.parse::<u64>() else {
-            return Err(Fault::Unreadable);
-        };
-        numbers.push(number)?;
+/// The number that a word spells.
+fn number_of(word: Option<&str>) -> Result<u64, Fault> {
+    match word {
+        Some(word) => word.parse::<u64>().map_err(|_| Fault::Unreadable),
+        None => Err(Fault::Unreadable),
     }
-    Ok(numbers)
+}
+
+/// The numbers of a text that has so many, with a space between each two.
+fn numbers_of<const N: usize>(text: &str) -> Result<[u64; N], Fault> {
+    let mut words = text.split(" ");
+    let mut numbers = [0u64; N];
+    for number in &mut numbers {
+        *number = number_of(words.next())?;
+    }
+    match words.next() {
+        Some(_) => Err(Fault::Unreadable),
+        None => Ok(numbers),
+    }
 }
 
 /// The number of a replica.
@@ -58,35 +67,28 @@ fn begun(alloc: Global, text: &str) -> Result<Collect, Fault> {
     let (text, members) = parted(text)?;
     let (text, next) = parted(text)?;
     let (text, spec) = parted(text)?;
-    let members = read_members(alloc, members.as_bytes())?;
-    let next = members_of(alloc, next)?;
-    let spec = read_members(alloc, spec.as_bytes())?;
-    let numbers = numbers_of(alloc, text)?;
-    let &[epoch, start] = numbers.as_slice() else {
-        return Err(Fault::Unreadable);
-    };
+    let [epoch, start] = numbers_of::<2>(text)?;
     if epoch > MOST || start > MOST {
         return Err(Fault::Unreadable);
     }
+    let members = read_members(alloc, members.as_bytes())?;
+    let next = members_of(alloc, next)?;
+    let spec = read_members(alloc, spec.as_bytes())?;
     Ok(Collect::start(alloc, epoch, start, spec, next, members))
 }
 
 /// What a replica's own frozen log brings.
 fn own(alloc: Global, collect: &mut Collect, text: &str) -> Result<String, Fault> {
-    let numbers = numbers_of(alloc, text)?;
-    let &[me, n, count] = numbers.as_slice() else {
-        return Err(Fault::Unreadable);
-    };
+    let [me, n, count] = numbers_of::<3>(text)?;
     let me = replica_of(me)?;
     let ledger = ledger_with(alloc, me, n, count)?;
     let got = collect.take_own(me, &ledger)?;
-    text_of(alloc, &got)
+    Ok(text_of(alloc, &got)?)
 }
 
-/// What a page brings.
-fn page(alloc: Global, collect: &mut Collect, text: &str) -> Result<String, Fault> {
-    let numbers = numbers_of(alloc, text)?;
-    let &[
+/// The page of a line, and the replica that it is from.
+fn page_line(text: &str) -> Result<(u64, PageLine), Fault> {
+    let [
         from,
         epoch,
         executed,
@@ -96,11 +98,7 @@ fn page(alloc: Global, collect: &mut Collect, text: &str) -> Result<String, Faul
         first,
         count,
         number,
-    ] = numbers.as_slice()
-    else {
-        return Err(Fault::Unreadable);
-    };
-    let from = replica_of(from)?;
+    ] = numbers_of::<9>(text)?;
     let page = PageLine {
         epoch,
         executed,
@@ -111,16 +109,20 @@ fn page(alloc: Global, collect: &mut Collect, text: &str) -> Result<String, Faul
         count,
         number,
     };
+    Ok((from, page))
+}
+
+/// What a page brings.
+fn page(alloc: Global, collect: &mut Collect, text: &str) -> Result<String, Fault> {
+    let (from, page) = page_line(text)?;
+    let from = replica_of(from)?;
     let got = collect.take(from, page.message(alloc)?)?;
-    text_of(alloc, &got)
+    Ok(text_of(alloc, &got)?)
 }
 
 /// Where the next page of a replica begins.
 fn cursor(alloc: Global, collect: &Collect, text: &str) -> Result<String, Fault> {
-    let numbers = numbers_of(alloc, text)?;
-    let &[k] = numbers.as_slice() else {
-        return Err(Fault::Unreadable);
-    };
+    let [k] = numbers_of::<1>(text)?;
     let k = replica_of(k)?;
     let time = collect.cursor(k).map_or(0, |stamp| stamp.time);
     let state = if collect.is_whole(k) {
@@ -134,14 +136,14 @@ fn cursor(alloc: Global, collect: &Collect, text: &str) -> Result<String, Fault>
 /// The answer to a line. One that begins a collection replaces the collection.
 pub fn answer_to(
     alloc: Global,
-    collect: &mut Option<Collect>,
+    collect: &mut Option<Box<Collect>>,
     line: &str,
 ) -> Result<String, Fault> {
     let Some((word, text)) = line.split_once(" ") else {
         return Err(Fault::Unreadable);
     };
     if word == "collect" {
-        *collect = Some(begun(alloc, text)?);
+        *collect = Some(Box::new(alloc, begun(alloc, text)?)?);
         return Ok(format!(in alloc; "begun")?);
     }
     let Some(collect) = collect else {

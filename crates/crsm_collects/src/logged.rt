@@ -30,19 +30,30 @@ fn boot(alloc: Global, me: u32, n: u32) -> Result<Bytes, NoMemory>
     Ok(body)
 }
 
+/// The body that logs an entry of replica 0 of this time, numbered likewise.
+fn entry(alloc: Global, time: u64) -> Result<Bytes, NoMemory> {
+    let mut body = Bytes::new(alloc);
+    write_u8(alloc, &PREPARE, &mut body)?;
+    put_entry(alloc, 0, time, time, &mut body)?;
+    Ok(body)
+}
+
+/// Adds the bodies that log so many entries, of times from 1 on.
+fn push_entries(alloc: Global, count: u64, bodies: &mut Bodies) -> Result<(), NoMemory> {
+    for index in 0..count {
+        bodies.push(entry(alloc, index.wrapping_add(1))?.as_slice())?;
+    }
+    Ok(())
+}
+
 /// The ledger of a replica that has logged so many entries of replica 0, of times from 1 on and numbered likewise.
-pub fn ledger_with(alloc: Global, me: u32, n: u64, count: u64) -> Result<Ledger, Fault> {
+pub fn ledger_with(alloc: Global, me: u32, n: u64, count: u64) -> Result<Box<Ledger>, Fault> {
     if me > 14 || n < 1 || n > 15 {
         return Err(Fault::Unreadable);
     }
     let mut bodies = Bodies::new(alloc);
     bodies.push(boot(alloc, me, n as u32)?.as_slice())?;
-    for index in 0..count {
-        let time = index.wrapping_add(1);
-        let mut body = Bytes::new(alloc);
-        write_u8(alloc, &PREPARE, &mut body)?;
-        put_entry(alloc, 0, time, time, &mut body)?;
-        bodies.push(body.as_slice())?;
-    }
-    Ok(Ledger::recover(alloc, me, n as u32, &bodies)?)
+    push_entries(alloc, count, &mut bodies)?;
+    let ledger = Ledger::recover(alloc, me, n as u32, &bodies)?;
+    Ok(Box::new(alloc, ledger)?)
 }

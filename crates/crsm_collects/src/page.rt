@@ -36,21 +36,32 @@ impl PageLine {
         ensures { IfOk result FitsControl }
     {
         let mut bytes = Bytes::new(alloc);
-        write_u8(alloc, &SUSPEND_OK, &mut bytes)?;
-        write_u64(alloc, &self.epoch, &mut bytes)?;
-        write_u64(alloc, &self.executed, &mut bytes)?;
-        put_option(alloc, self.last, &mut bytes)?;
-        put_option(alloc, self.after, &mut bytes)?;
-        write_u8(alloc, &u8::from(self.whole), &mut bytes)?;
+        self.put_head(alloc, &mut bytes)?;
+        self.put_entries(alloc, &mut bytes)?;
+        Ok(read_control(alloc, bytes.as_slice())?)
+    }
+
+    /// Appends what stands before the entries.
+    fn put_head(&self, alloc: Global, out: &mut Bytes) -> Result<(), NoMemory> {
+        write_u8(alloc, &SUSPEND_OK, out)?;
+        write_u64(alloc, &self.epoch, out)?;
+        write_u64(alloc, &self.executed, out)?;
+        put_option(alloc, self.last, out)?;
+        put_option(alloc, self.after, out)?;
+        write_u8(alloc, &u8::from(self.whole), out)
+    }
+
+    /// Appends how many entries there are, and the entries.
+    fn put_entries(&self, alloc: Global, out: &mut Bytes) -> Result<(), Fault> {
         let Ok(count) = u32::try_from(self.count) else {
             return Err(Fault::NoPage);
         };
-        write_u32(alloc, &count, &mut bytes)?;
+        write_u32(alloc, &count, out)?;
         for index in 0..self.count {
             let time = self.first.wrapping_add(index);
-            put_entry(alloc, self.epoch, time, self.number, &mut bytes)?;
+            put_entry(alloc, self.epoch, time, self.number, out)?;
         }
-        Ok(read_control(alloc, bytes.as_slice())?)
+        Ok(())
     }
 }
 
