@@ -1,9 +1,12 @@
-ghost use Rattle.std.specs.Prelude.{◌≡◌};
+ghost use Rattle.std.specs.Prelude.{◌≡◌, ◌<◌};
 
 use super::*;
-use crsm_base::{Command, Entry, Key, Members, Op, Stamp};
+use crsm_base::{Command, Entry, Key, Members, MembersError, NoMemory, Op, Stamp};
 use std::alloc::Global;
 use std::test::Fail;
+
+/// The members of the epoch.
+const MEMBERS: [u32; 3] = [0, 1, 2];
 
 fn stamp(time: u64, origin: u32) -> Stamp
     ensures { result.time ≡ time }
@@ -25,13 +28,34 @@ fn entry(alloc: Global, time: u64, origin: u32) -> Entry
     }
 }
 
+/// Adds an entry of this time and replica.
+fn add(alloc: Global, pending: &mut Pending, time: u64, origin: u32) -> Result<(), NoMemory> {
+    pending.add(&entry(alloc, time, origin))
+}
+
+/// What members of whom the first two told 5 and the last one told 6 have told.
+fn told() -> Latest {
+    let mut latest = Latest::new();
+    latest.hear(0, 5);
+    latest.hear(1, 5);
+    latest.hear(2, 6);
+    latest
+}
+
+/// What is ready where the votes of these replicas count.
+fn ready(alloc: Global, pending: &Pending, spec: &[u32]) -> Result<Option<Stamp>, MembersError> {
+    let members = Members::from_slice(alloc, &MEMBERS)?;
+    let spec = Members::from_slice(alloc, spec)?;
+    Ok(pending.ready(&told(), &members, &spec))
+}
+
 #[test]
 fn queues_rise(rt: HostRuntime) -> Result<(), Fail> {
     let alloc = rt.alloc();
     let mut pending = Pending::new(alloc);
-    pending.add(&entry(alloc, 9, 1))?;
-    pending.add(&entry(alloc, 5, 1))?;
-    pending.add(&entry(alloc, 7, 0))?;
+    add(alloc, &mut pending, 9, 1)?;
+    add(alloc, &mut pending, 5, 1)?;
+    add(alloc, &mut pending, 7, 0)?;
     assert_eq!(rt; pending.queue(1), [stamp(5, 1), stamp(9, 1)].as_slice());
     assert!(rt; pending.queue(2).is_empty());
     assert!(rt; pending.take(stamp(5, 1)));
@@ -43,30 +67,27 @@ fn queues_rise(rt: HostRuntime) -> Result<(), Fail> {
 #[test]
 fn the_first_is_ready_once_replicated_and_stable(rt: HostRuntime) -> Result<(), Fail> {
     let alloc = rt.alloc();
-    let members = Members::from_slice(alloc, &[0, 1, 2])?;
-    let five = Members::from_slice(alloc, &[0, 1, 2, 3, 4])?;
-    let strangers = Members::from_slice(alloc, &[1, 3, 4])?;
-    let mut latest = Latest::new();
     let mut pending = Pending::new(alloc);
     pending.voted(stamp(5, 1), 2)?;
-    pending.add(&entry(alloc, 7, 0))?;
-    pending.add(&entry(alloc, 5, 1))?;
-    latest.hear(0, 5);
-    latest.hear(1, 5);
-    latest.hear(2, 6);
-    assert_eq!(rt; pending.ready(&latest, &members, &members), None);
+    add(alloc, &mut pending, 7, 0)?;
+    add(alloc, &mut pending, 5, 1)?;
+    assert_eq!(rt; ready(alloc, &pending, &MEMBERS)?, None);
     pending.voted(stamp(5, 1), 2)?;
-    assert_eq!(rt; pending.ready(&latest, &members, &members), None);
+    assert_eq!(rt; ready(alloc, &pending, &MEMBERS)?, None);
     pending.voted(stamp(5, 1), 0)?;
-    assert_eq!(rt;
-        pending.ready(&latest, &members, &members),
-        Some(stamp(5, 1))
-    );
-    assert_eq!(rt; pending.ready(&latest, &members, &five), None);
-    assert_eq!(rt; pending.ready(&latest, &members, &strangers), None);
+    assert_eq!(rt; ready(alloc, &pending, &MEMBERS)?, Some(stamp(5, 1)));
+    assert_eq!(rt; ready(alloc, &pending, &[0, 1, 2, 3, 4])?, None);
+    assert_eq!(rt; ready(alloc, &pending, &[1, 3, 4])?, None);
+    assert!(rt; pending.take(stamp(5, 1)));
+    assert_eq!(rt; ready(alloc, &pending, &MEMBERS)?, None);
+    Ok(())
+}
+
+#[test]
+fn the_least_time_of_the_members_counts(rt: HostRuntime) -> Result<(), Fail> {
+    let members = Members::from_slice(rt.alloc(), &MEMBERS)?;
+    let latest = told();
     assert_eq!(rt; latest.of(2), 6);
     assert_eq!(rt; latest.least(&members), 5);
-    assert!(rt; pending.take(stamp(5, 1)));
-    assert_eq!(rt; pending.ready(&latest, &members, &members), None);
     Ok(())
 }
