@@ -11,6 +11,6 @@ pub record IsRunning (core : Core) : Type 0 where
 
 -- each core of the cluster does
 pub record AreRunning (cluster : Cluster) : Type 0 where
-  pub first : IsRunning cluster.first
-  pub second : IsRunning cluster.second
-  pub third : IsRunning cluster.third
+  pub first : IsRunning cluster.first.value
+  pub second : IsRunning cluster.second.value
+  pub third : IsRunning cluster.third.value

@@ -1,9 +1,9 @@
 //! Replicas in memory: steps for a stream of requests, with all that is sent delivered at once, as bytes.
 
-ghost use Rattle.std.specs.Prelude.{◌<◌, ◌≤◌, IfOk, OnOk};
+ghost use Rattle.std.specs.Prelude.{◌≡◌, ◌<◌, ◌≤◌, [], ℕ, IfOk, OnOk};
 ghost use Rattle.std.specs.List.{AllByRecursion};
 ghost use Rattle.crsm_core.specs.Inputs.{FitsInput};
-ghost use Rattle.crsm_core.specs.Standing.{FitsSent};
+ghost use Rattle.crsm_core.specs.Standing.{CoreAwaits, FitsSent};
 ghost use Rattle.crsm_bench.specs.Running.{IsRunning, AreRunning};
 
 use crate::fault::Fault;
@@ -31,20 +31,39 @@ struct Mail {
 /// Replicas 0, 1 and 2. Those that are beyond a cluster of fewer get nothing.
 #[derive(Drop)]
 struct Cluster {
-    first: Core,
-    second: Core,
-    third: Core,
+    first: Box<Core>,
+    second: Box<Core>,
+    third: Box<Core>,
 }
 
-/// A replica of a cluster of so many, at its first boot.
-fn booted(alloc: Global, me: u32, n: u32) -> Result<Core, NoMemory>
+/// A core before its first boot.
+fn created(alloc: Global, me: u32, n: u32) -> Result<Box<Core>, NoMemory>
     requires me { me < 15 }
     requires some { 1 ≤ n }
     requires few { n ≤ 15 }
-    ensures { IfOk result IsRunning }
+    ensures { IfOk result (λ core. CoreAwaits core.value me n []) }
 {
-    let mut core = Core::new(Ledger::new(alloc, me, n)?)?;
+    let core = Core::new(Ledger::new(alloc, me, n)?)?;
+    Ok(Box::new(alloc, core)?)
+}
+
+/// The first boot of a core. Nobody keeps its records.
+fn begin(core: &mut Core) -> Result<(), NoMemory>
+    ensures { (me n : ℕ) → CoreAwaits core.old me n [] → OnOk result (IsRunning core.new) }
+{
     let _boot = core.begin()?;
+    Ok(())
+}
+
+/// A replica of a cluster of so many, at its first boot.
+fn booted(alloc: Global, me: u32, n: u32) -> Result<Box<Core>, NoMemory>
+    requires me { me < 15 }
+    requires some { 1 ≤ n }
+    requires few { n ≤ 15 }
+    ensures { IfOk result (λ core. IsRunning core.value) }
+{
+    let mut core = created(alloc, me, n)?;
+    begin(&mut core)?;
     Ok(core)
 }
 
@@ -186,15 +205,24 @@ fn request(alloc: Global, number: u32) -> Result<Input, Fault>
     input_of(alloc, CLIENT, bytes.as_slice())
 }
 
+/// Hands the request of this number to replica 0, and answers what it sends.
+fn submit(alloc: Global, cluster: &mut Cluster, number: u32) -> Result<Vec<Mail>, Fault>
+    requires { AreRunning cluster.old }
+    ensures { OnOk result (AreRunning cluster.new) }
+{
+    let input = request(alloc, number)?;
+    let mut mail = Vec::new(alloc);
+    step(alloc, cluster, 0, &input, u64::from(number), &mut mail)?;
+    Ok(mail)
+}
+
 /// Hands a request to replica 0, delivers until nothing is under way, and counts the steps.
 fn serve(alloc: Global, cluster: &mut Cluster, number: u32) -> Result<u64, Fault>
     requires { AreRunning cluster.old }
     ensures { OnOk result (AreRunning cluster.new) }
 {
-    let input = request(alloc, number)?;
     let reading = u64::from(number);
-    let mut mail = Vec::new(alloc);
-    step(alloc, cluster, 0, &input, reading, &mut mail)?;
+    let mut mail = submit(alloc, cluster, number)?;
     let mut steps = 1u64;
     for _ in 0..MOST_DELIVERIES {
         steps = steps.wrapping_add(mail.len() as u64);
