@@ -65,48 +65,99 @@ pub fn read_again(alloc: Global, kind: Kind, bytes: &[u8]) -> Result<Found, NoMe
         Kind::Stamp => again!(alloc, bytes, read_stamp, write_stamp),
         Kind::Ballot => again!(alloc, bytes, read_ballot, write_ballot),
         Kind::OptionStamp => again!(alloc, bytes, read_option_stamp, write_option_stamp),
-        _ => stored_again(alloc, kind, bytes),
+        _ => long_again(alloc, kind, bytes),
     }
 }
 
-/// Keys, values, commands and what they are answered.
-fn stored_again(alloc: Global, kind: Kind, bytes: &[u8]) -> Result<Found, NoMemory> {
+/// The kinds of which some values take more bytes than others, beside an optional timestamp.
+fn long_again(alloc: Global, kind: Kind, bytes: &[u8]) -> Result<Found, NoMemory> {
     match kind {
-        Kind::Key => again!(alloc, bytes, read_key, write_key),
-        Kind::Val => again!(alloc, bytes, read_val, write_val),
-        Kind::OptionVal => again!(alloc, bytes, read_option_val, write_option_val),
-        Kind::Op => again!(alloc, bytes, read_op, write_op),
-        Kind::Command => again!(alloc, bytes, read_command, write_command),
-        Kind::Answer => again!(alloc, bytes, read_answer, write_answer),
-        Kind::Outcome => again!(alloc, bytes, read_outcome, write_outcome),
-        _ => logged_again(alloc, kind, bytes),
-    }
-}
-
-/// Entries, decisions and records.
-fn logged_again(alloc: Global, kind: Kind, bytes: &[u8]) -> Result<Found, NoMemory> {
-    match kind {
-        Kind::Entry => again!(alloc, bytes, read_entry, write_entry),
-        Kind::Entries => again!(alloc, bytes, read_entries, write_entries),
-        Kind::Members => again!(alloc, bytes, read_members, write_members),
-        Kind::Decision => again!(alloc, bytes, read_decision, write_decision),
-        Kind::OptionVote => again!(alloc, bytes, read_option_vote, write_option_vote),
-        Kind::Rec => again!(alloc, bytes, read_rec, write_rec),
-        _ => whole_inputs_again(alloc, kind, bytes),
-    }
-}
-
-/// Bytes that are read up to their end.
-fn whole_inputs_again(alloc: Global, kind: Kind, bytes: &[u8]) -> Result<Found, NoMemory> {
-    match kind {
-        Kind::Datagram => whole_again!(alloc, bytes, read_datagram, write_datagram),
-        Kind::Control => whole_again!(alloc, bytes, read_control, write_control),
-        Kind::Body => match read_recs(alloc, bytes)? {
-            Some(recs) => Ok(Found::Records {
-                count: recs.as_slice().len(),
-            }),
-            None => Ok(Found::Nothing),
-        },
+        Kind::Key => key_again(alloc, bytes),
+        Kind::Val => value_again(alloc, bytes),
+        Kind::OptionVal => optional_value_again(alloc, bytes),
+        Kind::Op => operation_again(alloc, bytes),
+        Kind::Command => command_again(alloc, bytes),
+        Kind::Answer => answer_again(alloc, bytes),
+        Kind::Outcome => outcome_again(alloc, bytes),
+        Kind::Entry => entry_again(alloc, bytes),
+        Kind::Entries => entries_again(alloc, bytes),
+        Kind::Members => members_again(alloc, bytes),
+        Kind::Decision => decision_again(alloc, bytes),
+        Kind::OptionVote => optional_vote_again(alloc, bytes),
+        Kind::Rec => record_again(alloc, bytes),
+        Kind::Body => body_again(alloc, bytes),
+        Kind::Datagram => datagram_again(alloc, bytes),
+        Kind::Control => control_again(alloc, bytes),
         _ => Ok(Found::Nothing),
     }
+}
+
+fn key_again(alloc: Global, bytes: &[u8]) -> Result<Found, NoMemory> {
+    again!(alloc, bytes, read_key, write_key)
+}
+
+fn value_again(alloc: Global, bytes: &[u8]) -> Result<Found, NoMemory> {
+    again!(alloc, bytes, read_val, write_val)
+}
+
+fn optional_value_again(alloc: Global, bytes: &[u8]) -> Result<Found, NoMemory> {
+    again!(alloc, bytes, read_option_val, write_option_val)
+}
+
+fn operation_again(alloc: Global, bytes: &[u8]) -> Result<Found, NoMemory> {
+    again!(alloc, bytes, read_op, write_op)
+}
+
+fn command_again(alloc: Global, bytes: &[u8]) -> Result<Found, NoMemory> {
+    again!(alloc, bytes, read_command, write_command)
+}
+
+fn answer_again(alloc: Global, bytes: &[u8]) -> Result<Found, NoMemory> {
+    again!(alloc, bytes, read_answer, write_answer)
+}
+
+fn outcome_again(alloc: Global, bytes: &[u8]) -> Result<Found, NoMemory> {
+    again!(alloc, bytes, read_outcome, write_outcome)
+}
+
+fn entry_again(alloc: Global, bytes: &[u8]) -> Result<Found, NoMemory> {
+    again!(alloc, bytes, read_entry, write_entry)
+}
+
+fn entries_again(alloc: Global, bytes: &[u8]) -> Result<Found, NoMemory> {
+    again!(alloc, bytes, read_entries, write_entries)
+}
+
+fn members_again(alloc: Global, bytes: &[u8]) -> Result<Found, NoMemory> {
+    again!(alloc, bytes, read_members, write_members)
+}
+
+fn decision_again(alloc: Global, bytes: &[u8]) -> Result<Found, NoMemory> {
+    again!(alloc, bytes, read_decision, write_decision)
+}
+
+fn optional_vote_again(alloc: Global, bytes: &[u8]) -> Result<Found, NoMemory> {
+    again!(alloc, bytes, read_option_vote, write_option_vote)
+}
+
+fn record_again(alloc: Global, bytes: &[u8]) -> Result<Found, NoMemory> {
+    again!(alloc, bytes, read_rec, write_rec)
+}
+
+/// The records of a whole log body, which are counted and not written.
+fn body_again(alloc: Global, bytes: &[u8]) -> Result<Found, NoMemory> {
+    match read_recs(alloc, bytes)? {
+        Some(recs) => Ok(Found::Records {
+            count: recs.as_slice().len(),
+        }),
+        None => Ok(Found::Nothing),
+    }
+}
+
+fn datagram_again(alloc: Global, bytes: &[u8]) -> Result<Found, NoMemory> {
+    whole_again!(alloc, bytes, read_datagram, write_datagram)
+}
+
+fn control_again(alloc: Global, bytes: &[u8]) -> Result<Found, NoMemory> {
+    whole_again!(alloc, bytes, read_control, write_control)
 }
