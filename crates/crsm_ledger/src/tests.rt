@@ -3,6 +3,7 @@
 use crate::{Ledger, LedgerError};
 use crsm_base::{Bodies, Bytes, Line, NoMemory, Rec};
 use std::alloc::Global;
+use std::process::Abort;
 use std::test::Fail;
 
 /// A log, one record a body.
@@ -215,13 +216,41 @@ fn join(high: u8, low: u8) -> u8 {
     high.wrapping_mul(16).wrapping_add(low)
 }
 
+/// Puts the body that hexadecimal digits spell behind the others.
+fn push(alloc: Global, bodies: &mut Bodies, digits: &str) -> Result<(), NoMemory> {
+    bodies.push(bytes(alloc, digits)?.as_slice())
+}
+
+/// Puts the first bodies of the log behind the others.
+fn push_log(alloc: Global, bodies: &mut Bodies, count: usize) -> Result<(), NoMemory> {
+    for digits in LOG.iter().take(count) {
+        push(alloc, bodies, digits)?;
+    }
+    Ok(())
+}
+
 /// The first bodies of the log.
 fn log(alloc: Global, count: usize) -> Result<Bodies, NoMemory> {
     let mut bodies = Bodies::new(alloc);
-    for digits in LOG.iter().take(count) {
-        bodies.push(bytes(alloc, digits)?.as_slice())?;
-    }
+    push_log(alloc, &mut bodies, count)?;
     Ok(bodies)
+}
+
+/// The first bodies of the log, and one more.
+fn log_and(alloc: Global, count: usize, digits: &str) -> Result<Bodies, NoMemory> {
+    let mut bodies = log(alloc, count)?;
+    push(alloc, &mut bodies, digits)?;
+    Ok(bodies)
+}
+
+fn boxed(alloc: Global, ledger: Ledger) -> Result<Box<Ledger>, NoMemory> {
+    Ok(Box::new(alloc, ledger)?)
+}
+
+/// The ledger of replica 0 among three, from these bodies.
+fn recovered(alloc: Global, bodies: &Bodies) -> Result<Box<Ledger>, LedgerError> {
+    let ledger = Ledger::recover(alloc, 0, 3, bodies)?;
+    Ok(boxed(alloc, ledger)?)
 }
 
 fn facts(ledger: &Ledger) -> Facts {
@@ -239,85 +268,152 @@ fn facts(ledger: &Ledger) -> Facts {
     )
 }
 
+/// The facts that these bodies tell.
+fn facts_of(alloc: Global, bodies: &Bodies) -> Result<Facts, LedgerError> {
+    let ledger = recovered(alloc, bodies)?;
+    Ok(facts(&ledger))
+}
+
+fn facts_after(alloc: Global, count: usize) -> Result<Facts, LedgerError> {
+    facts_of(alloc, &log(alloc, count)?)
+}
+
 #[test]
 fn tells_the_facts(rt: HostRuntime) -> Result<(), Fail> {
-    let alloc = rt.alloc();
     for (count, expected) in FACTS.iter().enumerate() {
-        let ledger = Ledger::recover(alloc, 0, 3, &log(alloc, count + 1)?)?;
-        assert!(rt; facts(&ledger) == *expected, "after {count}");
+        let told = facts_after(rt.alloc(), count + 1)?;
+        assert!(rt; told == *expected, "after {count}");
     }
     Ok(())
 }
 
+/// Which of the bodies is bad, if one is, and why.
+fn bad_body(alloc: Global, bodies: &Bodies) -> Result<Option<(u64, u32)>, LedgerError> {
+    match facts_of(alloc, bodies) {
+        Err(LedgerError::BadLog { entry, why }) => Ok(Some((entry, why))),
+        Err(error) => Err(error),
+        Ok(_) => Ok(None),
+    }
+}
+
 /// Whether the log with this body behind it is bad there, for this reason.
 fn is_bad(alloc: Global, count: usize, digits: &str, reason: u32) -> Result<bool, LedgerError> {
-    let mut bodies = log(alloc, count)?;
-    bodies.push(bytes(alloc, digits)?.as_slice())?;
-    match Ledger::recover(alloc, 0, 3, &bodies) {
-        Err(LedgerError::BadLog { entry, why }) => Ok(entry == count as u64 && why == reason),
-        Err(error) => Err(error),
-        Ok(_) => Ok(false),
-    }
+    let bad = bad_body(alloc, &log_and(alloc, count, digits)?)?;
+    Ok(bad == Some((count as u64, reason)))
 }
 
 #[test]
 fn names_the_first_bad_body(rt: HostRuntime) -> Result<(), Fail> {
-    for (count, digits, why) in BAD {
+    for bad in BAD.iter() {
+        let (count, digits, why) = *bad;
         assert!(rt; is_bad(rt.alloc(), count, digits, why)?, "{count} {digits}");
     }
     Ok(())
 }
 
-/// A body that logs and executes a read of one key, at this time.
-fn one_read(alloc: Global, time: u64) -> Result<Bytes, NoMemory> {
-    let mut body = bytes(alloc, "020000000000000000")?;
+/// Writes a body that logs and executes a read of one key, at this time.
+fn write_read(body: &mut Bytes, time: u64) -> Result<(), NoMemory> {
+    body.append(b"\x02\x00\x00\x00\x00\x00\x00\x00\x00")?;
     body.append(&time.to_be_bytes())?;
     body.append(b"\x00\x00\x00\x00\x00\x00\x00\x00\x07")?;
     body.append(&time.to_be_bytes())?;
     body.append(b"\x01\x01a\x03")?;
     body.append(&time.to_be_bytes())?;
-    body.push(0)?;
+    body.push(0)
+}
+
+fn one_read(alloc: Global, time: u64) -> Result<Bytes, NoMemory> {
+    let mut body = Bytes::new(alloc);
+    write_read(&mut body, time)?;
     Ok(body)
+}
+
+fn push_read(alloc: Global, bodies: &mut Bodies, time: u64) -> Result<(), NoMemory> {
+    bodies.push(one_read(alloc, time)?.as_slice())
 }
 
 /// A log in which so many reads are executed.
 fn reads(alloc: Global, count: u64) -> Result<Bodies, NoMemory> {
     let mut bodies = log(alloc, 2)?;
     for time in 0..count {
-        bodies.push(one_read(alloc, time)?.as_slice())?;
+        push_read(alloc, &mut bodies, time)?;
     }
     Ok(bodies)
 }
 
-#[test]
-fn lends_executed_entries(rt: HostRuntime) -> Result<(), Fail> {
-    let alloc = rt.alloc();
-    let ledger = Ledger::recover(alloc, 0, 3, &reads(alloc, 3_000)?)?;
+fn ledger_of_reads(alloc: Global, count: u64) -> Result<Box<Ledger>, LedgerError> {
+    recovered(alloc, &reads(alloc, count)?)
+}
+
+/// The time of the executed entry at this place.
+fn time_at(ledger: &Ledger, place: u64) -> Result<Option<u64>, NoMemory> {
+    match ledger.executed(place)? {
+        Some(entry) => Ok(Some(entry.stamp.time)),
+        None => Ok(None),
+    }
+}
+
+fn spec_count(ledger: &Ledger) -> Result<u32, NoMemory> {
+    Ok(ledger.spec()?.count())
+}
+
+/// Looks for the bytes of the last of 3000 executed reads, and behind it.
+fn look_for_bytes(rt: &impl Abort, ledger: &Ledger) {
     assert_eq!(rt; ledger.executed_len(), 3_000);
     assert_eq!(rt; ledger.spelt(2_999).map(|bytes| bytes.len()), Some(36));
     assert!(rt; ledger.spelt(3_000).is_none());
-    let entry = ledger.executed(2_999)?;
-    assert!(rt; entry.is_some_and(|entry| entry.stamp.time == 2_999));
-    assert!(rt; ledger.executed(3_000)?.is_none());
-    assert_eq!(rt; ledger.spec()?.count(), 3);
+}
+
+/// Looks for the last of 3000 executed reads, and behind it.
+fn look_for_entries(rt: &impl Abort, ledger: &Ledger) -> Result<(), NoMemory> {
+    assert_eq!(rt; time_at(ledger, 2_999)?, Some(2_999));
+    assert_eq!(rt; time_at(ledger, 3_000)?, None);
+    assert_eq!(rt; spec_count(ledger)?, 3);
     Ok(())
 }
 
 #[test]
-fn refuses_and_stays(rt: HostRuntime) -> Result<(), Fail> {
-    let mut ledger = Ledger::new(rt.alloc(), 1, 3)?;
-    let before = facts(&ledger);
-    let refused = ledger.apply(&Rec::Enter { epoch: 0 });
-    assert!(rt; matches!(refused, Err(LedgerError::NotFit { why: 9 })));
-    assert!(rt; facts(&ledger) == before);
+fn lends_executed_entries(rt: HostRuntime) -> Result<(), Fail> {
+    let ledger = ledger_of_reads(rt.alloc(), 3_000)?;
+    look_for_bytes(&rt, &ledger);
+    look_for_entries(&rt, &ledger)?;
+    Ok(())
+}
+
+/// The kind of the record that enters the epoch, where the ledger refuses it.
+fn refused_entry(ledger: &mut Ledger, epoch: u64) -> Result<Option<u32>, LedgerError> {
+    match ledger.apply(&Rec::Enter { epoch }) {
+        Err(LedgerError::NotFit { why }) => Ok(Some(why)),
+        Err(error) => Err(error),
+        Ok(_) => Ok(None),
+    }
+}
+
+/// Whether the ledger takes the boot of replica 1, its first, and tells it.
+fn boots(ledger: &mut Ledger) -> Result<bool, LedgerError> {
     let lines = ledger.apply(&Rec::Boot { me: 1, n: 3 })?;
-    let is_boot = matches!(
+    Ok(matches!(
         lines.as_slice(),
         [Line::Boot {
             replica: 1,
             count: 1
         }]
-    );
-    assert!(rt; is_boot);
+    ))
+}
+
+/// An empty log's ledger refuses to enter an epoch, stays as it was, and then takes its first boot.
+fn refuse_and_boot(rt: &impl Abort, ledger: &mut Ledger) -> Result<(), LedgerError> {
+    let before = facts(ledger);
+    assert_eq!(rt; refused_entry(ledger, 0)?, Some(9));
+    assert!(rt; facts(ledger) == before);
+    assert!(rt; boots(ledger)?);
+    Ok(())
+}
+
+#[test]
+fn refuses_and_stays(rt: HostRuntime) -> Result<(), Fail> {
+    let alloc = rt.alloc();
+    let mut ledger = boxed(alloc, Ledger::new(alloc, 1, 3)?)?;
+    refuse_and_boot(&rt, &mut ledger)?;
     Ok(())
 }
