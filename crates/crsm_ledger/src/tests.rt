@@ -1,7 +1,7 @@
 //! Logs with the facts that they tell, and records that do not fit.
 
 use crate::{Ledger, LedgerError};
-use crsm_base::{Bodies, Bytes, Line, NoMemory, Rec};
+use crsm_base::{Bodies, Bytes, Line, Lines, NoMemory, Rec};
 use std::alloc::Global;
 use std::process::Abort;
 use std::test::Fail;
@@ -380,9 +380,13 @@ fn lends_executed_entries(rt: HostRuntime) -> Result<(), Fail> {
     Ok(())
 }
 
+fn enter(ledger: &mut Ledger, epoch: u64) -> Result<Lines, LedgerError> {
+    ledger.apply(&Rec::Enter { epoch })
+}
+
 /// The kind of the record that enters the epoch, where the ledger refuses it.
 fn refused_entry(ledger: &mut Ledger, epoch: u64) -> Result<Option<u32>, LedgerError> {
-    match ledger.apply(&Rec::Enter { epoch }) {
+    match enter(ledger, epoch) {
         Err(LedgerError::NotFit { why }) => Ok(Some(why)),
         Err(error) => Err(error),
         Ok(_) => Ok(None),
