@@ -1,17 +1,28 @@
 use crate::{Log, MountError, PutError, end_of};
+use crsm_base::NoMemory;
 use crsm_disk::{Disk, FileDisk, MemDisk};
 use std::alloc::Global;
 use std::fs;
 use std::fs::OpenOptions;
+use std::process::Abort;
 use std::test::Fail;
 
-// A disk with these bytes, all of them synced.
-fn disk_of(alloc: Global, bytes: &[u8]) -> Result<MemDisk, Fail> {
-    let mut disk = MemDisk::new(alloc, &[], None, 0)?;
+fn write_all(disk: &mut MemDisk, bytes: &[u8]) -> Result<(), Fail> {
     disk.reserve(2, bytes.len() as u64)?;
     disk.write_at(0, bytes)?;
     disk.sync()?;
-    Ok(disk.image()?)
+    Ok(())
+}
+
+fn empty_disk(alloc: Global) -> Result<MemDisk, NoMemory> {
+    MemDisk::new(alloc, &[], None, 0)
+}
+
+// A disk with these bytes, all of them synced.
+fn disk_of(alloc: Global, bytes: &[u8]) -> Result<MemDisk, Fail> {
+    let mut disk = empty_disk(alloc)?;
+    write_all(&mut disk, bytes)?;
+    Ok(disk.into_image()?)
 }
 
 // The log on a disk, and how many bodies it had.
@@ -27,17 +38,39 @@ fn count_on<D: Disk + Drop>(alloc: Global, disk: D) -> Result<usize, MountError>
     Ok(count)
 }
 
+// A log on an empty disk.
+fn fresh_log(alloc: Global) -> Result<Log<MemDisk>, Fail> {
+    Ok(mounted(alloc, empty_disk(alloc)?)?.0)
+}
+
+#[test]
+fn fresh_log_is_a_closed_gate(rt: HostRuntime) -> Result<(), Fail> {
+    let alloc = rt.alloc();
+    let (log, count) = mounted(alloc, empty_disk(alloc)?)?;
+    assert_eq!(rt; count, 0);
+    assert_eq!(rt; log.into_disk().bytes(), [0].as_slice());
+    Ok(())
+}
+
 #[test]
 fn body_stands_behind_its_gate(rt: HostRuntime) -> Result<(), Fail> {
-    let alloc = rt.alloc();
-    let (mut log, count) = mounted(alloc, MemDisk::new(alloc, &[], None, 0)?)?;
-    assert_eq!(rt; count, 0);
-    log.put(alloc, &[0xaa])?;
+    let mut log = fresh_log(rt.alloc())?;
+    log.put(rt.alloc(), &[0xaa])?;
     let disk = log.into_disk();
     assert_eq!(rt; disk.bytes(), [1, 0, 0, 0, 1, 0xaa, 0].as_slice());
-    let fresh = mounted(alloc, MemDisk::new(alloc, &[], None, 0)?)?.0;
-    assert_eq!(rt; fresh.into_disk().bytes(), [0].as_slice());
     Ok(())
+}
+
+// A log on an empty disk that stops after so many further calls.
+fn stopping_log(alloc: Global, stop: u64, fill: u8) -> Result<Log<MemDisk>, Fail> {
+    let mut log = fresh_log(alloc)?;
+    log.arm(Some(stop), fill);
+    Ok(log)
+}
+
+// What a crash leaves of the log's disk.
+fn image_of(log: Log<MemDisk>) -> Result<MemDisk, NoMemory> {
+    log.into_disk().into_image()
 }
 
 #[test]
@@ -52,10 +85,9 @@ fn stop_at_each_call(rt: HostRuntime) -> Result<(), Fail> {
         (3, 2, 0),
         (4, 0, 1),
     ] {
-        let mut log = mounted(alloc, MemDisk::new(alloc, &[], None, 0)?)?.0;
-        log.arm(Some(stop), fill);
+        let mut log = stopping_log(alloc, stop, fill)?;
         assert_eq!(rt; log.put(alloc, &[0xaa]).is_ok(), stop >= 4);
-        let image = log.into_disk().image()?;
+        let image = image_of(log)?;
         if stop == 1 {
             assert_eq!(rt; image.bytes(), [0, 1, 1, 1, 1, 1, 1].as_slice());
         }
@@ -82,6 +114,12 @@ fn files_are_read(rt: HostRuntime) -> Result<(), Fail> {
     Ok(())
 }
 
+// Puts twice on a log whose disk fails.
+fn meet_failure(rt: &impl Abort, alloc: Global, log: &mut Log<MemDisk>) {
+    assert_eq!(rt; log.put(alloc, &[1]), Err(PutError::DiskFault));
+    assert_eq!(rt; log.put(alloc, &[1]), Err(PutError::Failed));
+}
+
 #[test]
 fn each_failing_call_is_a_fault(rt: HostRuntime) -> Result<(), Fail> {
     let alloc = rt.alloc();
@@ -91,8 +129,7 @@ fn each_failing_call_is_a_fault(rt: HostRuntime) -> Result<(), Fail> {
         match mounted(alloc, disk) {
             Ok((mut log, _count)) => {
                 assert!(rt; call > 5);
-                assert_eq!(rt; log.put(alloc, &[1]), Err(PutError::DiskFault));
-                assert_eq!(rt; log.put(alloc, &[1]), Err(PutError::Failed));
+                meet_failure(&rt, alloc, &mut log);
                 assert_eq!(rt; log.into_disk().calls(), call);
             }
             Err(why) => {
@@ -111,18 +148,36 @@ fn entry_ends_at_the_limit(rt: HostRuntime) {
     assert_eq!(rt; end_of(u64::MAX, u64::MAX), None);
 }
 
-#[test]
-fn file_is_cut_by_hand(rt: HostRuntime) -> Result<(), Fail> {
-    let alloc = rt.alloc();
-    let mut log = mounted(alloc, FileDisk::open(&rt, "log")?)?.0;
+// The file's disk, which is made where there is none.
+fn open(rt: &HostRuntime) -> Result<FileDisk, Fail> {
+    Ok(FileDisk::open(rt, "log")?)
+}
+
+fn put_two(alloc: Global, log: &mut Log<FileDisk>) -> Result<(), PutError> {
     log.put(alloc, &[1, 2, 3])?;
-    log.put(alloc, &[4])?;
-    assert_eq!(rt; count_on(alloc, FileDisk::open(&rt, "log")?), Ok(2));
+    log.put(alloc, &[4])
+}
+
+fn write_log(rt: &HostRuntime) -> Result<(), Fail> {
+    let mut log = mounted(rt.alloc(), open(rt)?)?.0;
+    put_two(rt.alloc(), &mut log)?;
+    Ok(())
+}
+
+fn cut_file(rt: &HostRuntime, len: u64) -> Result<(), Fail> {
     OpenOptions::new()
         .write(true)
-        .open(&rt, "log")?
-        .set_len(14)?;
-    let refused = count_on(alloc, FileDisk::open(&rt, "log")?);
+        .open(rt, "log")?
+        .set_len(len)?;
+    Ok(())
+}
+
+#[test]
+fn file_is_cut_by_hand(rt: HostRuntime) -> Result<(), Fail> {
+    write_log(&rt)?;
+    assert_eq!(rt; count_on(rt.alloc(), open(&rt)?), Ok(2));
+    cut_file(&rt, 14)?;
+    let refused = count_on(rt.alloc(), open(&rt)?);
     assert_eq!(rt; refused, Err(MountError::BadGate { entry: 1 }));
     fs::remove_file(&rt, "log")?;
     Ok(())
