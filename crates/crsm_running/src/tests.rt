@@ -21,18 +21,43 @@ fn prepare(alloc: Global, time: u64) -> Rec {
     }
 }
 
+/// What is kept of an epoch in which nothing has happened yet.
+fn fresh(alloc: Global) -> Result<Box<Running>, NoMemory> {
+    Ok(Box::new(alloc, Running::new(alloc))?)
+}
+
+/// Replica 0 issues a time and pushes it to these.
+fn push(running: &mut Running, members: &Members, time: u64) -> Result<(), NoMemory> {
+    running.push_at(time, 0, members, &InEpoch::ClockTime { at: time })
+}
+
+/// Replica 0 logs an entry of time 5.
+fn log(running: &mut Running, alloc: Global, last: Option<Stamp>) -> Result<(), NoMemory> {
+    running.keep(&prepare(alloc, 5), last)
+}
+
+/// Replica 0 executes its entry of time 5.
+fn execute(running: &mut Running) -> Result<(), NoMemory> {
+    running.keep(&Rec::Commit { stamp: stamp(5) }, None)
+}
+
+/// How many frames replica 2 is sent again.
+fn due_to_last(running: &Running) -> Result<usize, NoMemory> {
+    Ok(running.due(2)?.as_slice().len())
+}
+
 /// Replica 0 has issued time 9 and pushed it to these.
-fn pushed(alloc: Global, members: &Members) -> Result<Running, NoMemory> {
-    let mut running = Running::new(alloc);
-    running.push_at(9, 0, members, &InEpoch::ClockTime { at: 9 })?;
+fn pushed(alloc: Global, members: &Members) -> Result<Box<Running>, NoMemory> {
+    let mut running = fresh(alloc)?;
+    push(&mut running, members, 9)?;
     Ok(running)
 }
 
 /// Replica 0 alone has logged and voted for an entry of time 5.
-fn logged(alloc: Global) -> Result<Running, NoMemory> {
-    let mut running = Running::new(alloc);
+fn logged(alloc: Global) -> Result<Box<Running>, NoMemory> {
+    let mut running = fresh(alloc)?;
     running.count_vote(stamp(5), 0, None)?;
-    running.keep(&prepare(alloc, 5), None)?;
+    log(&mut running, alloc, None)?;
     Ok(running)
 }
 
@@ -61,23 +86,24 @@ fn what_came_is_not_due(rt: HostRuntime) -> Result<(), Fail> {
     let members = Members::from_slice(rt.alloc(), &[0, 1, 2])?;
     let mut running = pushed(rt.alloc(), &members)?;
     for want in [1, 0] {
-        assert_eq!(rt; running.due(2)?.as_slice().len(), want);
+        assert_eq!(rt; due_to_last(&running)?, want);
         running.acked(2, 1);
     }
     Ok(())
 }
 
 #[test]
-fn a_frame_is_taken_with_its_time(rt: HostRuntime) {
-    let mut running = Running::new(rt.alloc());
+fn a_frame_is_taken_with_its_time(rt: HostRuntime) -> Result<(), Fail> {
+    let mut running = fresh(rt.alloc())?;
     running.take_next(1, 5);
     assert_eq!(rt; running.next_from(1), 1);
     assert_eq!(rt; running.latest_from(1), 5);
+    Ok(())
 }
 
 #[test]
 fn debts_are_paid_in_order(rt: HostRuntime) -> Result<(), Fail> {
-    let mut running = Running::new(rt.alloc());
+    let mut running = fresh(rt.alloc())?;
     for time in [7, 5] {
         running.owe(stamp(time))?;
     }
@@ -94,7 +120,7 @@ fn an_entry_is_ready_once_its_time_is_reached(rt: HostRuntime) -> Result<(), Fai
     let members = Members::from_slice(rt.alloc(), &[0])?;
     let mut running = logged(rt.alloc())?;
     assert_eq!(rt; running.ready(&members, &members), None);
-    running.push_at(5, 0, &members, &InEpoch::ClockTime { at: 5 })?;
+    push(&mut running, &members, 5)?;
     assert_eq!(rt; running.ready(&members, &members), Some(stamp(5)));
     Ok(())
 }
@@ -103,9 +129,9 @@ fn an_entry_is_ready_once_its_time_is_reached(rt: HostRuntime) -> Result<(), Fai
 fn an_executed_entry_is_no_longer_pending(rt: HostRuntime) -> Result<(), Fail> {
     let mut running = logged(rt.alloc())?;
     assert_eq!(rt; running.own_unexecuted(0), 1);
-    running.keep(&Rec::Commit { stamp: stamp(5) }, None)?;
+    execute(&mut running)?;
     assert_eq!(rt; running.own_unexecuted(0), 0);
-    running.keep(&prepare(rt.alloc(), 5), Some(stamp(5)))?;
+    log(&mut running, rt.alloc(), Some(stamp(5)))?;
     assert_eq!(rt; running.own_unexecuted(0), 0);
     Ok(())
 }
