@@ -47,10 +47,14 @@ fn hands_out_in_order(rt: HostRuntime) -> Result<(), Fail> {
 fn keeps_what_was_sent(rt: HostRuntime) -> Result<(), Fail> {
     let mut port = failing_at(rt.alloc(), &[2])?;
     assert_eq!(rt; (&mut *port).reserve(2, 4), Ok(()));
-    assert_eq!(rt; port.send(7, &[1, 2, 3]), Ok(()));
-    assert_eq!(rt; port.send(8, &[4]), Err(Failed));
-    assert_eq!(rt; port.send(9, &[5]), Ok(()));
-    assert_eq!(rt; port.send(9, &[]), Err(Failed));
+    for (to, bytes, want) in [
+        (7, [1, 2, 3].as_slice(), Ok(())),
+        (8, [4].as_slice(), Err(Failed)),
+        (9, [5].as_slice(), Ok(())),
+        (9, [].as_slice(), Err(Failed)),
+    ] {
+        assert_eq!(rt; port.send(to, bytes), want);
+    }
     assert_eq!(rt; port.sent().len(), 2);
     for (index, want) in [(0, (7, 3)), (1, (9, 1))] {
         assert_eq!(rt; sent(&port, index), Some(want));
