@@ -1,16 +1,18 @@
 """Replay: events a second of a schedule, also as a ratio to another program's.
 
-    python3 bench/replay.py [--requests COUNT] [--replicas N] [--schedule FILE] [-- COMMAND ..]
+    python3 bench/replay.py [--requests COUNT] [--replicas N] [--schedule FILE] [--runs COUNT] [-- COMMAND ..]
 
 The schedule is one of requests, or that of the file. The other program reads the same schedule from its standard input.
-It is run once, since it may be slow.
+It is timed once, since it may be slow. A run that is timed writes to the null device, and the two outputs are compared
+apart from that.
 """
 
 import argparse
 import sys
+from subprocess import DEVNULL
 
 from schedule import schedule
-from timing import fastest, program
+from timing import RUNS, fastest, program, run_once
 
 REQUESTS = 12_000
 REPLICAS = 5
@@ -22,15 +24,16 @@ def arguments():
     parser.add_argument("--requests", type=int, default=REQUESTS)
     parser.add_argument("--replicas", type=int, default=REPLICAS)
     parser.add_argument("--schedule", help="a file to be replayed in place of requests")
+    parser.add_argument("--runs", type=int, default=RUNS, help="how often this program is timed")
     parser.add_argument("command", nargs="*")
     return parser.parse_args()
 
 
 def rate(command, whole, one, runs):
-    """Events a second beyond the time of a schedule of one request, and the output."""
-    long, output = fastest(command, whole, runs)
-    short, _ = fastest(command, one, runs)
-    return (whole.count(b"\n") - one.count(b"\n")) / max(long - short, 1e-9), output
+    """Events a second beyond the time of a schedule of one request, while nobody reads the output."""
+    long, _ = fastest(command, whole, runs, DEVNULL)
+    short, _ = fastest(command, one, runs, DEVNULL)
+    return (whole.count(b"\n") - one.count(b"\n")) / max(long - short, 1e-9)
 
 
 def schedules(asked):
@@ -46,16 +49,18 @@ def main():
     """Prints the rates, and ends with status 1 where the two outputs differ."""
     asked = arguments()
     whole, one = schedules(asked)
-    ours, transcript = rate([program("crsm"), "replay"], whole, one, runs=5)
+    replay = [program("crsm"), "replay"]
+    _, transcript = run_once(replay, whole)
+    ours = rate(replay, whole, one, asked.runs)
     sent = transcript.count(b" send ")
     events = whole.count(b"\n") - 1
     replicas = one.split()[1].decode()
     print(f"{events} events of {replicas} replicas, {sent} datagrams: {ours:.0f} events a second")
     if not asked.command:
         return 0
-    theirs, other = rate(asked.command, whole, one, runs=1)
+    theirs = rate(asked.command, whole, one, runs=1)
     print(f"the other program: {theirs:.0f} events a second, ratio {ours / theirs:.1f}")
-    if other != transcript:
+    if run_once(asked.command, whole)[1] != transcript:
         print("the two outputs differ", file=sys.stderr)
         return 1
     return 0

@@ -4,6 +4,7 @@ import os
 import resource
 import subprocess
 import sys
+import tempfile
 
 TOP = os.path.dirname(os.path.dirname(os.path.abspath(__file__)))
 RUNS = 5
@@ -23,19 +24,22 @@ def children_seconds():
     return usage.ru_utime + usage.ru_stime
 
 
-def run_once(command, given=b""):
-    """Runs a program on these bytes: its processor time in seconds, and its output."""
-    before = children_seconds()
-    done = subprocess.run(command, input=given, stdout=subprocess.PIPE, check=False)
-    seconds = children_seconds() - before
+def run_once(command, given=b"", to=subprocess.PIPE):
+    """Runs a program on these bytes, as a file: its processor time in seconds, and its output where that is kept."""
+    with tempfile.TemporaryFile() as file:
+        file.write(given)
+        file.seek(0)
+        before = children_seconds()
+        done = subprocess.run(command, stdin=file, stdout=to, check=False)
+        seconds = children_seconds() - before
     if done.returncode != 0:
         sys.exit(f"{command[0]} ended with status {done.returncode}")
     return seconds, done.stdout
 
 
-def fastest(command, given=b"", runs=RUNS):
-    """The least time of some runs in seconds, and the output."""
-    results = [run_once(command, given) for _ in range(runs)]
+def fastest(command, given=b"", runs=RUNS, to=subprocess.PIPE):
+    """The least time of some runs in seconds, and the output where it is kept."""
+    results = [run_once(command, given, to) for _ in range(runs)]
     return min(seconds for seconds, _ in results), results[0][1]
 
 
