@@ -14,7 +14,7 @@ use Rattle.crsm_spec.specs.Moments.{silent, begun_at, with_room, start_at}
 use Rattle.crsm_steps.specs.Laws.{Extends, same, more}
 use Rattle.crsm_steps.specs.Happenings.{Marks, CanCome, Ends, Happens, IsReached}
 use Rattle.crsm_steps.specs.Happenings.Ends.{IsWhole, IsCut, IsLost}
-use Rattle.crsm_steps.specs.Happenings.Happens.{Nothing, Steps, Junk, Stops, Starts}
+use Rattle.crsm_steps.specs.Happenings.Happens.{Nothing, Steps, Junk, Stops, Joins, Starts}
 use Rattle.crsm_steps.specs.Happenings.IsReached.{first, next}
 use Rattle.crsm_steps.proofs.Fitted.{step_changes}
 use Rattle.crsm_steps.proofs.Moments.{moment_goes_on}
@@ -131,6 +131,9 @@ moment_placed n w m reached (Steps v p k r e input reading lt c z ends) few spel
     step_placed n w v reached p k r e input reading c spelt a z ends (next reached (Steps v p k r e input reading lt c z ends)) few (moment_goes_on w m (Steps v p k r e input reading lt c z ends))
 moment_placed n w m reached (Junk k r e z ends) few spelt a = junk_placed w k r e z ends a
 moment_placed n w m reached (Stops k) few spelt a = stop_placed w k a
+moment_placed n w m reached (Joins f) few spelt a =
+    let v = with_room w (length w.sites) in
+    still_placed w v (λ j. sym (seat_log_at v j) ∙ ap (λ (s : Seat). s.log) (sym (room_seats w (length w.sites) j)) ∙ seat_log_at w j) a
 moment_placed n w m reached (Starts k d f) few spelt a = start_placed w k f (moment_goes_on w m (Starts k d f)) a
 
 -- ---- every world

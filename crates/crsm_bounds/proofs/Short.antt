@@ -25,7 +25,7 @@ use Rattle.crsm_spec.specs.Run.{ArePossible, moments, moments_of_run, all_worlds
 use Rattle.crsm_steps.specs.Happenings.{Marks, Ends, Happens, IsReached, GoOn}
 use Rattle.crsm_steps.specs.Happenings.Marks.{none, mark}
 use Rattle.crsm_steps.specs.Happenings.Ends.{IsWhole, IsCut, IsLost}
-use Rattle.crsm_steps.specs.Happenings.Happens.{Nothing, Steps, Junk, Stops, Starts}
+use Rattle.crsm_steps.specs.Happenings.Happens.{Nothing, Steps, Junk, Stops, Joins, Starts}
 use Rattle.crsm_steps.proofs.Moments.{set_case}
 use Rattle.crsm_steps.proofs.Happen.{act_happens, runs}
 use Rattle.crsm_epoch.specs.Seats.{Seat}
@@ -180,6 +180,7 @@ moment_grown w m (Steps v p k r e input reading lt c z ends) =
     grown_then (same_logs w v (marked_sites p)) (marked_bytes p) (ends_grown v k (step r input reading) z ends (subst (λ l. IsKept l (step r input reading)) (sym (up_log v k r e)) (step_kept r input reading)))
 moment_grown w m (Junk k r e z ends) = ends_grown w k (begun r) z ends (subst (λ l. IsKept l (begun r)) (sym (up_log w k r e)) (begun_kept r))
 moment_grown w m (Stops k) = down_grown w k
+moment_grown w m (Joins f) = let b = room_bytes w (length w.sites) in grown_same w (with_room w (length w.sites)) (room_logs w (length w.sites)) (omega (arith, b))
 moment_grown w m (Starts k d f) = start_grown w k
 
 -- ---- a few moments behind a world that is not full

@@ -21,10 +21,10 @@ use Rattle.crsm_steps.specs.Laws.{AllFit, Extends, same, LogsGoOn}
 use Rattle.crsm_steps.specs.Messages.{Hears}
 use Rattle.crsm_steps.specs.Changes.{Changes, stay, and_then}
 use Rattle.crsm_steps.specs.Happenings.{Marks, CanCome, Ends, Happens, IsReached}
-use Rattle.crsm_steps.specs.Happenings.CanCome.{IsMail, IsCommand, IsTick, IsSuspicion}
+use Rattle.crsm_steps.specs.Happenings.CanCome.{IsMail, IsCommand, IsReply, IsTick, IsSuspicion}
 use Rattle.crsm_steps.specs.Happenings.Marks.{none}
 use Rattle.crsm_steps.specs.Happenings.Ends.{IsWhole, IsCut, IsLost}
-use Rattle.crsm_steps.specs.Happenings.Happens.{Nothing, Steps, Junk, Stops, Starts}
+use Rattle.crsm_steps.specs.Happenings.Happens.{Nothing, Steps, Junk, Stops, Joins, Starts}
 use Rattle.crsm_steps.specs.Happenings.IsReached.{first, next}
 use Rattle.crsm_steps.proofs.Logs.{extends_then, log_change, change_grows, changes_grow}
 use Rattle.crsm_steps.proofs.Fitted.{step_changes}
@@ -125,7 +125,8 @@ module _ (n : ℕ) (w : World) (reached : IsReached n w) (few : HasFewBoots w) (
           let was = subst (Among (sent_in w)) (same_came from a d (Datagram.Frame j me e i (InEpoch.Prepare g)) q) (among_map (λ m. m.datagram) w.mail (record { from = from; to = k; datagram = d; used = s.0 }) s.1) in
           let logged = ((epochs_hold_always n w reached few).says j me e i g was).0 in
           all_at _ (log_at w j) (Rec.Prepare g) (log_spelt w j f.sites) (subst (λ l. Logged l g) (seat_log_at w j) logged)
-      go z (IsCommand c x) q = absurd (cc)
+      go z (IsCommand b c x) q = absurd (cc)
+      go z (IsReply b c d t) q = absurd (cc)
       go z IsTick q = absurd (cc)
       go z (IsSuspicion ms x) q = absurd (cc)
 
@@ -137,7 +138,8 @@ module _ (n : ℕ) (w : World) (reached : IsReached n w) (few : HasFewBoots w) (
 
       go : (z : Input) → CanCome w k z → z ≡ Input.Came a (Datagram.Request c) → FitsCommand c
       go z (IsMail from d s) q = absurd (subst IsBetween (same_came from a d (Datagram.Request c) q) ((all_held n w reached).mail (record { from = from; to = k; datagram = d; used = s.0 }) s.1))
-      go z (IsCommand d x) q = subst FitsCommand (same_request d c (same_came d.client a (Datagram.Request d) (Datagram.Request c) q)) x
+      go z (IsReply b e d t) q = absurd (cc)
+      go z (IsCommand b d x) q = subst FitsCommand (same_request d c (same_came b a (Datagram.Request d) (Datagram.Request c) q)) x
       go z IsTick q = absurd (cc)
       go z (IsSuspicion ms x) q = absurd (cc)
 
@@ -271,6 +273,7 @@ moment_sites n w m most g (Steps v p k r e input reading lt c z ends) few' short
     (λ kept. step_fits n w g f z.after few (logs_fit n z.after (next g (Steps v p k r e input reading lt c z ends)) few') short v p k r e input c reading lt kept)
 moment_sites n w m most g (Junk k r e z ends) few' short few f = step_sites n w w none g k r e (begun r) z ends f.sites (λ kept. (f.sites k (Site.Up r) e).1)
 moment_sites n w m most g (Stops k) few' short few f = down_sites w k f.sites
+moment_sites n w m most g (Joins lt) few' short few f = room_sites w (length w.sites) (inr (refl, lt)) f.sites
 moment_sites n w m most g (Starts k d small) few' short few f = start_sites n w k most (all_held n w g).size small f.sites
 
 first_sites : (n : ℕ) → n ≤ 15 → SitesFit (begin n).sites
@@ -295,6 +298,7 @@ moment_tells n w m g (Steps v p k r e input reading lt c z ends) few' short few 
     step_tells n w g f z.after few (logs_fit n z.after (next g (Steps v p k r e input reading lt c z ends)) few') short v p k r e input c reading lt (kept_by n w v p g k r e (step r input reading) z ends t.0) (step_changes r input reading) same s t.1
 moment_tells n w m g (Junk k r e z ends) few' short few f s t = absurd t
 moment_tells n w m g (Stops k) few' short few f s t = absurd t
+moment_tells n w m g (Joins lt) few' short few f s t = absurd t
 moment_tells n w m g (Starts k d small) few' short few f s t = absurd t
 
 pub fine : (n : ℕ) (w : World) → n ≤ 15 → (g : IsReached n w) → HasShortLogs w → Fine n w g

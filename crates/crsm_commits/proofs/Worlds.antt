@@ -17,7 +17,7 @@ use Rattle.crsm_steps.specs.Laws.{Extends, same, more, LogsGoOn}
 use Rattle.crsm_steps.specs.Changes.{Changes, stay, and_then}
 use Rattle.crsm_steps.specs.Happenings.{Marks, CanCome, Ends, Happens}
 use Rattle.crsm_steps.specs.Happenings.Ends.{IsWhole, IsCut, IsLost}
-use Rattle.crsm_steps.specs.Happenings.Happens.{Nothing, Steps, Junk, Stops, Starts}
+use Rattle.crsm_steps.specs.Happenings.Happens.{Nothing, Steps, Junk, Stops, Joins, Starts}
 use Rattle.crsm_steps.specs.Happenings.IsReached.{first, next}
 use Rattle.crsm_steps.proofs.Logs.{log_change, change_grows, extends_then, numbers_stay}
 use Rattle.crsm_steps.proofs.Fitted.{step_changes}
@@ -275,6 +275,7 @@ moment_witnessed n w m (Nothing v p) h well a = marked_witnessed n w v p a
 moment_witnessed n w m (Steps v p k r e input reading lt c z ends) h well a = held_step n w v p (held_marked n w v p h) k r e input reading c z ends well (marked_witnessed n w v p a)
 moment_witnessed n w m (Junk k r e z ends) h well a = ended n w k (Site.Up r) e a (begun r) (begun_witnessed n w k r e a) z ends
 moment_witnessed n w m (Stops k) h well a = went_down n w k a
+moment_witnessed n w m (Joins f) h well a = let v = with_room w (length w.sites) in same_seats n (seats w) (seats v) (sent_in w) (sent_in v) (room_seats w (length w.sites)) (room_sent w (length w.sites)) a
 moment_witnessed n w m (Starts k d f) h well a = start_after n w k f a
 
 -- ---- every world

@@ -15,7 +15,7 @@ use Rattle.crsm_spec.specs.Moments.{silent, begun_at, with_room, start_at}
 use Rattle.crsm_steps.specs.Laws.{AllFit, Extends, same, LogsGoOn}
 use Rattle.crsm_steps.specs.Happenings.{Marks, CanCome, Ends, Happens, IsReached}
 use Rattle.crsm_steps.specs.Happenings.Ends.{IsWhole, IsCut, IsLost}
-use Rattle.crsm_steps.specs.Happenings.Happens.{Nothing, Steps, Junk, Stops, Starts}
+use Rattle.crsm_steps.specs.Happenings.Happens.{Nothing, Steps, Junk, Stops, Joins, Starts}
 use Rattle.crsm_steps.specs.Happenings.IsReached.{first, next}
 use Rattle.crsm_steps.proofs.Fitted.{step_changes}
 use Rattle.crsm_steps.proofs.Moments.{moment_goes_on}
@@ -277,6 +277,9 @@ moment_held n w m past (Nothing v p) few spelt g = held_still n w past g (silent
 moment_held n w m past (Steps v p k r e input reading lt c z ends) few spelt g = step_held n w v past g p k r e input reading lt c spelt z ends few
 moment_held n w m past (Junk k r e z ends) few spelt g = junk_held n w past g k r e z ends
 moment_held n w m past (Stops k) few spelt g = stop_held n w past g k
+moment_held n w m past (Joins f) few spelt g =
+    let v = with_room w (length w.sites) in
+    held_still n w past g (silent w v) (Joins f) (λ j. sym (seat_log_at v j) ∙ ap (λ (s : Seat). s.log) (sym (room_seats w (length w.sites) j)) ∙ seat_log_at w j) (λ j q e. room_up w (length w.sites) j q e) (λ s t. t)
 moment_held n w m past (Starts k d f) few spelt g = start_held n w past g k (Starts k d f) f (λ s t. t)
 
 -- ---- every world

@@ -17,8 +17,10 @@ use Rattle.crsm_decisions.proofs.Worlds.{ballots_hold}
 use Rattle.crsm_agreement.specs.Openings.{IsEpochOf}
 use Rattle.crsm_agreement.proofs.Agree.{holder, epoch_holds, opening_same}
 use Rattle.crsm_agreement.proofs.Lists.{fronts, get_append, get_take, taken_length}
-use Rattle.crsm_runs.proofs.Lists.{of_each}
+use Rattle.crsm_runs.proofs.Lists.{of_each, each_of}
 use Rattle.crsm_runs.proofs.Runs.{last_on, is_the_list}
+use Rattle.crsm_runs.specs.Last.{IsLast, IsBefore, start_in, GoesOnWith, IsDurableIn, DecisionsAgreeIn}
+use Rattle.crsm_runs.proofs.Last.{end_before, last_of_run}
 use Rattle.crsm_durable.specs.Laws.{DecisionsAlwaysAgree}
 use Rattle.crsm_durable.proofs.Lists.{among_contains, among_place, front_length}
 
@@ -50,62 +52,59 @@ decided_in w d a =
     let i = among_place w.sites t.0 t.1 in
     (i.0, subst (λ l. Among l (Rec.Decide d)) (sym (log_there w i.0 t.0 i.1)) (decided (log_of t.0) d t.2))
 
-module _ (n : ℕ) (acts : List Act) (most : n ≤ 15) (p : ArePossible (begin n) acts) where
-  base_of : (k : ℕ) (d : Decision) → Among (log_at (last_world n acts) k) (Rec.Decide d) → (h : ℕ) × (log : Log) × Extends log (log_at (last_world n acts) h) × (d.base_len ≤ length (executed log))
+module _ (n : ℕ) (end : World) (list : List Entry) (last : IsLast n end list) where
+  base_of : (k : ℕ) (d : Decision) → Among (log_at end k) (Rec.Decide d) → (h : ℕ) × (log : Log) × Extends log (log_at end h) × (d.base_len ≤ length (executed log))
   base_of k d a =
-      let w = last_on n acts most p in
-      let c = (ballots_hold n (last_world n acts) w.reached w.spelt.few w.spelt.messages).decided k d a in
-      let t = holder n (last_world n acts) w.reached w.spelt.few w.spelt.messages (known c.log) k d a (next_is (known c.log) c.next) in
+      let w = end_before n end list last in
+      let c = (ballots_hold n end w.reached w.spelt.few w.spelt.messages).decided k d a in
+      let t = holder n end w.reached w.spelt.few w.spelt.messages (known c.log) k d a (next_is (known c.log) c.next) in
       (t.0, t.1.old, t.1.earlier, t.1.long)
     where
       next_is : (e : ℕ) → d.epoch ≡ e + 1 → d.epoch ≡ suc e
       next_is e h = omega (arith, h)
 
-  pub base_within : (d : Decision) → Among (all_decisions n acts) d → d.base_len ≤ length (the_list n acts)
-  unfolding all_decisions
+  pub base_within : (d : Decision) → Among (decisions_in end) d → d.base_len ≤ length list
   base_within d a =
-      let k = decided_in (last_world n acts) d a in
+      let k = decided_in end d a in
       let t = base_of k.0 d k.1 in
-      let f = front_length (executed t.1) (the_list n acts) ((is_the_list n acts most p).ends t.0 t.1 t.2) in
+      let f = front_length (executed t.1) list (last.front t.0 t.1 t.2) in
       let l = t.3 in omega (arith, f, l)
 
-  starts_so : (d : Decision) → Among (all_decisions n acts) d → AreFronts (start_of n acts d) (the_list n acts)
-  unfolding all_decisions start_of
-  starts_so d a = fronts (take d.base_len (the_list n acts) ++ d.tail) (the_list n acts) agrees
+  starts_so : (d : Decision) → Among (decisions_in end) d → AreFronts (start_in list d) list
+  unfolding start_in
+  starts_so d a = fronts (take d.base_len list ++ d.tail) list agrees
     where
-      k : (k : ℕ) × Among (log_at (last_world n acts) k) (Rec.Decide d)
-      k = decided_in (last_world n acts) d a
+      k : (k : ℕ) × Among (log_at end k) (Rec.Decide d)
+      k = decided_in end d a
 
-      is_epoch : IsEpochOf d.epoch (log_at (last_world n acts))
+      is_epoch : IsEpochOf d.epoch (log_at end)
       is_epoch = inr (k.0, d, k.1, refl)
 
-      in_tail : (i : ℕ) (x y : Entry) → slice_get d.tail i ≡ Some x → slice_get (the_list n acts) (d.base_len + i) ≡ Some y → x ≡ y
+      in_tail : (i : ℕ) (x y : Entry) → slice_get d.tail i ≡ Some x → slice_get list (d.base_len + i) ≡ Some y → x ≡ y
       in_tail i x y q r =
-          let w = last_on n acts most p in
-          let h = epoch_holds n (last_world n acts) w.reached w.spelt.few w.spelt.messages d.epoch is_epoch in
+          let w = end_before n end list last in
+          let h = epoch_holds n end w.reached w.spelt.few w.spelt.messages d.epoch is_epoch in
           let at = h.opens.tail k.0 d k.1 refl i x q in
-          elim (is_the_list n acts most p).is [
-            | inl e ↦ absurd (none-some y (subst (λ l. slice_get l (d.base_len + i) ≡ Some y) e r))
-            | inr t ↦ opening_same n (last_world n acts) w.reached w.spelt.few w.spelt.messages d.epoch is_epoch h t.0 t.1 t.2 (d.base_len + i) x y at (subst (λ l. slice_get l (d.base_len + i) ≡ Some y) t.3 r)
-          ]
+          let t = last.held (d.base_len + i) y r in
+          opening_same n end w.reached w.spelt.few w.spelt.messages d.epoch is_epoch h t.0 t.1 t.2 (d.base_len + i) x y at t.3
 
-      agrees : (i : ℕ) (x y : Entry) → slice_get (take d.base_len (the_list n acts) ++ d.tail) i ≡ Some x → slice_get (the_list n acts) i ≡ Some y → x ≡ y
-      agrees i x y q r = elim (get_append (take d.base_len (the_list n acts)) d.tail i x q) [
-        | inl f ↦ same_Some x y (sym (get_take d.base_len (the_list n acts) i x f) ∙ r)
-        | inr f ↦ in_tail f.0 x y f.2 (subst (λ z. slice_get (the_list n acts) z ≡ Some y) (f.1 ∙ ap (λ z. z + f.0) (taken_length d.base_len (the_list n acts) (base_within d a))) r)
+      agrees : (i : ℕ) (x y : Entry) → slice_get (take d.base_len list ++ d.tail) i ≡ Some x → slice_get list i ≡ Some y → x ≡ y
+      agrees i x y q r = elim (get_append (take d.base_len list) d.tail i x q) [
+        | inl f ↦ same_Some x y (sym (get_take d.base_len list i x f) ∙ r)
+        | inr f ↦ in_tail f.0 x y f.2 (subst (λ z. slice_get list z ≡ Some y) (f.1 ∙ ap (λ z. z + f.0) (taken_length d.base_len list (base_within d a))) r)
       ]
 
-  pub decisions_agree : DecisionsAgree n acts
-  unfolding all_decisions
+  pub decisions_agree : DecisionsAgreeIn end list
   decisions_agree = record {
     one = λ d e hd he same_epoch.
-        let w = last_on n acts most p in
-        let j = decided_in (last_world n acts) d (among_contains (all_decisions n acts) d hd) in
-        let k = decided_in (last_world n acts) e (among_contains (all_decisions n acts) e he) in
-        decisions_are_one n (last_world n acts) w.reached w.spelt.few w.spelt.messages j.0 k.0 d e j.1 k.1 same_epoch;
-    base = of_each (λ d. d.base_len ≤ length (the_list n acts)) (all_decisions n acts) base_within;
-    start = of_each (λ d. AreFronts (start_of n acts d) (the_list n acts)) (all_decisions n acts) starts_so;
+        let w = end_before n end list last in
+        let j = decided_in end d (among_contains (decisions_in end) d hd) in
+        let k = decided_in end e (among_contains (decisions_in end) e he) in
+        decisions_are_one n end w.reached w.spelt.few w.spelt.messages j.0 k.0 d e j.1 k.1 same_epoch;
+    base = of_each (λ d. d.base_len ≤ length list) (decisions_in end) base_within;
+    start = of_each (λ d. AreFronts (start_in list d) list) (decisions_in end) starts_so;
   }
 
 pub decisions_always_agree : DecisionsAlwaysAgree
-decisions_always_agree n acts most p = decisions_agree n acts most p
+unfolding all_decisions start_of start_in
+decisions_always_agree n acts most p = let a = decisions_agree n (last_world n acts) (the_list n acts) (last_of_run n acts most p) in record { one = a.one; base = a.base; start = a.start }

@@ -31,8 +31,10 @@ use Rattle.crsm_agreement.proofs.Agree.{holder, has_base, epoch_before, epoch_ho
 use Rattle.crsm_agreement.proofs.Lists.{get_below, get_left, get_right, take_get, taken_length}
 use Rattle.crsm_agreement.proofs.Logs.{stands_on, start_decide}
 use Rattle.crsm_runs.specs.Runs.{IsOnTheWay}
-use Rattle.crsm_runs.proofs.Lists.{of_each}
+use Rattle.crsm_runs.proofs.Lists.{of_each, each_of}
 use Rattle.crsm_runs.proofs.Runs.{on_the_way, is_the_list}
+use Rattle.crsm_runs.specs.Last.{IsLast, IsBefore, start_in, GoesOnWith, IsDurableIn, DecisionsAgreeIn}
+use Rattle.crsm_runs.proofs.Last.{end_before, last_of_run}
 use Rattle.crsm_durable.specs.Laws.{ExecutedAreDurable}
 use Rattle.crsm_durable.proofs.Lists.{front_get}
 use Rattle.crsm_durable.proofs.Decisions.{decided_in, base_within}
@@ -51,13 +53,10 @@ kept_by w counted x test d many keeps = (
   of_each (KeepsEntry w x) (filter test counted) (λ k a. keeps k (filter_among test counted k a).1),
 )
 
-module _ (n : ℕ) (acts : List Act) (most : n ≤ 15) (p : ArePossible (begin n) acts) (w : World) (in_run : Among (all_worlds n acts) w) where
-  on : IsOnTheWay n acts w
-  on = on_the_way n acts most p w in_run
-
+module _ (n : ℕ) (end : World) (list : List Entry) (last : IsLast n end list) (w : World) (on : IsBefore n end w) where
   -- the Spec of a log is that of its epoch in the run
-  spec_here : (e k : ℕ) (log : Log) → Extends log (log_at w k) → known log ≡ e → spec n log ≡ spec_at (last_world n acts) e
-  spec_here e k log x kn = spec_is n acts most p e k log (extends_then x (on.goes_on k)) kn
+  spec_here : (e k : ℕ) (log : Log) → Extends log (log_at w k) → known log ≡ e → spec n log ≡ spec_at end e
+  spec_here e k log x kn = spec_is n end list last e k log (extends_then x (on.goes_on k)) kn
 
   distinct_here : (e k : ℕ) (log : Log) → Extends log (log_at w k) → known log ≡ e → Distinct (spec n log)
   distinct_here = distinct_spec n w on.reached on.spelt.few on.spelt.messages
@@ -70,7 +69,7 @@ module _ (n : ℕ) (acts : List Act) (most : n ≤ 15) (p : ArePossible (begin n
     keeps k rec a h = (rec, contains_among (log_at w k) rec a, h)
 
     -- what was committed in an epoch is kept by a majority of its Spec
-    committed_kept : (e : ℕ) → EpochHolds n e (log_at w) → (place : ℕ) → CommitOf e (log_at w) place x → IsKeptBy w (spec_at (last_world n acts) e) x
+    committed_kept : (e : ℕ) → EpochHolds n e (log_at w) → (place : ℕ) → CommitOf e (log_at w) place x → IsKeptBy w (spec_at end e) x
     committed_kept e h place c =
         let was = extends_then (more (Rec.Commit x.stamp) same) c.kept in
         let r = h.facts.replicated place x c in
@@ -80,7 +79,7 @@ module _ (n : ℕ) (acts : List Act) (most : n ≤ 15) (p : ArePossible (begin n
         (λ k t. keeps k (Rec.Prepare x) (logged_is e (log_at w k) x (r.2 k t)).0 refl))
 
     -- what each of those who accepted a decision keeps is kept by a majority of the Spec before it
-    chosen_kept : (e j : ℕ) (d : Decision) → Among (log_at w j) (Rec.Decide d) → d.epoch ≡ e + 1 → ((k : ℕ) (b : Ballot) → Among (log_at w k) (Rec.Accept d.epoch b d) → KeepsEntry w x k) → IsKeptBy w (spec_at (last_world n acts) e) x
+    chosen_kept : (e j : ℕ) (d : Decision) → Among (log_at w j) (Rec.Decide d) → d.epoch ≡ e + 1 → ((k : ℕ) (b : Ballot) → Among (log_at w k) (Rec.Accept d.epoch b d) → KeepsEntry w x k) → IsKeptBy w (spec_at end e) x
     chosen_kept e j d a at each =
         let c = (ballots_hold n w on.reached on.spelt.few on.spelt.messages).decided j d a in
         let kn = known_at (known c.log) c.next in
@@ -140,17 +139,17 @@ module _ (n : ℕ) (acts : List Act) (most : n ≤ 15) (p : ArePossible (begin n
       ]
 
       -- a majority of the Spec of its own epoch keeps it
-      own_kept : IsKeptBy w (spec_at (last_world n acts) x.epoch) x
+      own_kept : IsKeptBy w (spec_at end x.epoch) x
       own_kept =
           let e = known (log_at w k) in
           let h = holds e (known_epoch n w on.reached on.spelt.few on.spelt.messages k (log_at w k) same) in
           go e h (known_epoch n w on.reached on.spelt.few on.spelt.messages k (log_at w k) same) (h.placed k (log_at w k) same refl place x there)
         where
-          commits : (e : ℕ) → EpochHolds n e (log_at w) → CommitOf e (log_at w) place x → IsKeptBy w (spec_at (last_world n acts) x.epoch) x
-          commits e h c = subst (λ z. IsKeptBy w (spec_at (last_world n acts) z) x) (sym ((unexecuted_logged c.log x c.next).1 ∙ c.epoch)) (committed_kept e h place c)
+          commits : (e : ℕ) → EpochHolds n e (log_at w) → CommitOf e (log_at w) place x → IsKeptBy w (spec_at end x.epoch) x
+          commits e h c = subst (λ z. IsKeptBy w (spec_at end z) x) (sym ((unexecuted_logged c.log x c.next).1 ∙ c.epoch)) (committed_kept e h place c)
 
           -- from the decision of the epoch after its own
-          by_decision : (j : ℕ) (d : Decision) → Among (log_at w j) (Rec.Decide d) → d.epoch ≡ suc x.epoch → IsKeptBy w (spec_at (last_world n acts) x.epoch) x
+          by_decision : (j : ℕ) (d : Decision) → Among (log_at w j) (Rec.Decide d) → d.epoch ≡ suc x.epoch → IsKeptBy w (spec_at end x.epoch) x
           by_decision j d a at = elim (cases_lt place d.base_len) [
             | inr ge ↦ chosen_kept x.epoch j d a (next_is at) (λ i b v. voter_keeps x.epoch j d a (next_is at) (later at) i b v)
             | inl short ↦ (let t = holder n w on.reached on.spelt.few on.spelt.messages x.epoch j d a at in
@@ -167,12 +166,12 @@ module _ (n : ℕ) (acts : List Act) (most : n ≤ 15) (p : ArePossible (begin n
               later : d.epoch ≡ suc x.epoch → x.epoch < d.epoch
               later h = omega (arith, h)
 
-              of_holder : (h : EpochHolds n x.epoch (log_at w)) → (slice_get h.opening place ≡ Some x) ⊎ ((length h.opening ≤ place) × CommitOf x.epoch (log_at w) place x) → IsKeptBy w (spec_at (last_world n acts) x.epoch) x
+              of_holder : (h : EpochHolds n x.epoch (log_at w)) → (slice_get h.opening place ≡ Some x) ⊎ ((length h.opening ≤ place) × CommitOf x.epoch (log_at w) place x) → IsKeptBy w (spec_at end x.epoch) x
               of_holder h (inl q) = let l = h.opens.older place x q in absurd (omega (arith, l))
               of_holder h (inr q) = commits x.epoch h q.1
 
           -- some log has that decision
-          next_epoch : (e : ℕ) → IsEpochOf e (log_at w) → x.epoch < e → IsKeptBy w (spec_at (last_world n acts) x.epoch) x
+          next_epoch : (e : ℕ) → IsEpochOf e (log_at w) → x.epoch < e → IsKeptBy w (spec_at end x.epoch) x
           next_epoch zero is lt = absurd (omega (arith, lt))
           next_epoch (suc e) (inl z) lt = absurd (omega (arith, z))
           next_epoch (suc e) (inr t) lt = elim (cases_lt x.epoch e) [
@@ -180,25 +179,25 @@ module _ (n : ℕ) (acts : List Act) (most : n ≤ 15) (p : ArePossible (begin n
             | inr ge ↦ by_decision t.0 t.1 t.2 (t.3 ∙ omega (arith, lt, ge))
           ]
 
-          go : (e : ℕ) (h : EpochHolds n e (log_at w)) → IsEpochOf e (log_at w) → (slice_get h.opening place ≡ Some x) ⊎ ((length h.opening ≤ place) × CommitOf e (log_at w) place x) → IsKeptBy w (spec_at (last_world n acts) x.epoch) x
+          go : (e : ℕ) (h : EpochHolds n e (log_at w)) → IsEpochOf e (log_at w) → (slice_get h.opening place ≡ Some x) ⊎ ((length h.opening ≤ place) × CommitOf e (log_at w) place x) → IsKeptBy w (spec_at end x.epoch) x
           go e h is (inr q) = commits e h q.1
           go e h is (inl q) = next_epoch e is (h.opens.older place x q)
 
       -- each later decision begins its epoch with it
-      starts_with : (j : ℕ) (d : Decision) → Among (log_at w j) (Rec.Decide d) → x.epoch < d.epoch → slice_get (start_of n acts d) place ≡ Some x
-      unfolding start_of all_decisions
+      starts_with : (j : ℕ) (d : Decision) → Among (log_at w j) (Rec.Decide d) → x.epoch < d.epoch → slice_get (start_in list d) place ≡ Some x
+      unfolding start_in
       starts_with j d a lt = elim (cases_lt place d.base_len) [
-        | inl short ↦ get_left (take d.base_len (the_list n acts)) d.tail place x (take_get d.base_len (the_list n acts) place x short
-            (front_get (executed (log_at w k)) (the_list n acts) ((is_the_list n acts most p).ends k (log_at w k) (on.goes_on k)) place x there))
-        | inr ge ↦ (let base = base_within n acts most p d (in_world (last_world n acts) j d (extends_among (on.goes_on j) (Rec.Decide d) a)) in
-            subst (λ z. slice_get (take d.base_len (the_list n acts) ++ d.tail) z ≡ Some x) (omega (arith, ge))
-            (get_right (take d.base_len (the_list n acts)) d.tail d.base_len (place - d.base_len) x (taken_length d.base_len (the_list n acts) base) (in_tail j d a lt ge)))
+        | inl short ↦ get_left (take d.base_len list) d.tail place x (take_get d.base_len list place x short
+            (front_get (executed (log_at w k)) list (last.front k (log_at w k) (on.goes_on k)) place x there))
+        | inr ge ↦ (let base = base_within n end list last d (in_world end j d (extends_among (on.goes_on j) (Rec.Decide d) a)) in
+            subst (λ z. slice_get (take d.base_len list ++ d.tail) z ≡ Some x) (omega (arith, ge))
+            (get_right (take d.base_len list) d.tail d.base_len (place - d.base_len) x (taken_length d.base_len list base) (in_tail j d a lt ge)))
       ]
 
-      pub durable : IsDurable n acts w x place
+      pub durable : IsDurableIn end list w x place
       durable = record {
         kept = own_kept;
-        later = of_each (λ d. x.epoch < d.epoch → GoesOnIn n acts w x place d) (decisions_in w) (λ d a lt.
+        later = of_each (λ d. x.epoch < d.epoch → GoesOnWith end list w x place d) (decisions_in w) (λ d a lt.
             let t = decided_in w d a in
             record {
               start = starts_with t.0 d t.1 lt;
@@ -207,4 +206,9 @@ module _ (n : ℕ) (acts : List Act) (most : n ≤ 15) (p : ArePossible (begin n
       }
 
 pub executed_are_durable : ExecutedAreDurable
-executed_are_durable n acts most p w a k place x there = durable n acts most p w a x k place there
+unfolding start_of start_in
+executed_are_durable n acts most p w a k place x there =
+    let on = on_the_way n acts most p w a in
+    let last = last_of_run n acts most p in
+    let t = durable n (last_world n acts) (the_list n acts) last w (record { reached = on.reached; spelt = on.spelt; goes_on = on.goes_on }) x k place there in
+    record { kept = t.kept; later = of_each (λ d. x.epoch < d.epoch → GoesOnIn n acts w x place d) (decisions_in w) (λ d m lt. let g = each_of (λ d. x.epoch < d.epoch → GoesOnWith (last_world n acts) (the_list n acts) w x place d) (decisions_in w) t.later d m lt in record { start = g.start; kept = g.kept }) }

@@ -6,7 +6,7 @@ use Rattle.std.specs.Option.{option_map_or}
 use Rattle.std.proofs.lemmas.Bool.{eqb-true, eq-eqb, false≢true, ne_eqb}
 use Rattle.std.proofs.lemmas.Option.{none-some, same_Some}
 use Rattle.std.proofs.lemmas.List.Sums.{length-filter}
-use Rattle.crsm_spec.specs.Types.{Decision, Rec}
+use Rattle.crsm_spec.specs.Types.{Entry, Decision, Rec}
 use Rattle.crsm_spec.specs.Lists.{Among, numbers_below}
 use Rattle.crsm_spec.specs.Log.{Log, known, decision, spec}
 use Rattle.crsm_spec.specs.Quorum.{spec_decided}
@@ -34,6 +34,8 @@ use Rattle.crsm_decisions.proofs.Notes.{extends_among}
 use Rattle.crsm_decisions.proofs.Worlds.{ballots_hold}
 use Rattle.crsm_decisions.proofs.Agree.{Knows, First, Later, knows, decided_later, decisions_are_one}
 use Rattle.crsm_runs.proofs.Runs.{last_on}
+use Rattle.crsm_runs.specs.Last.{IsLast, IsBefore, start_in, GoesOnWith, IsDurableIn, DecisionsAgreeIn}
+use Rattle.crsm_runs.proofs.Last.{end_before, last_of_run}
 use Rattle.crsm_durable.proofs.Lists.{among_contains}
 use Rattle.crsm_durable.proofs.Decisions.{decided_in}
 
@@ -178,28 +180,28 @@ in_world w k d a = go (slice_get w.sites k) refl a
     go None e b = absurd b
     go (Some s) e b = flat_in (λ s. decisions (log_of s)) w.sites s d (got_among w.sites k s e) (in_decisions (log_of s) d b)
 
-module _ (n : ℕ) (acts : List Act) (most : n ≤ 15) (p : ArePossible (begin n) acts) where
+module _ (n : ℕ) (end : World) (list : List Entry) (last : IsLast n end list) where
   -- it is that of each log that knows the epoch
-  pub spec_is : (e k : ℕ) (log : Log) → Extends log (log_at (last_world n acts) k) → known log ≡ e → spec n log ≡ spec_at (last_world n acts) e
+  pub spec_is : (e k : ℕ) (log : Log) → Extends log (log_at end k) → known log ≡ e → spec n log ≡ spec_at end e
   unfolding spec_at decision_of
   spec_is e k log x kn =
-      let w = last_on n acts most p in
-      let size = (all_held n (last_world n acts) w.reached).size in
-      go (decision log) refl (knows k n log (end_fits k n x (logs_fit n (last_world n acts) w.reached w.spelt.few k)) e kn) (find (λ d. d.epoch == e) (decisions_in (last_world n acts))) refl
-      ∙ ap (λ m. spec_decided m (find (λ d. d.epoch == e) (decisions_in (last_world n acts)))) (sym size)
+      let w = end_before n end list last in
+      let size = (all_held n end w.reached).size in
+      go (decision log) refl (knows k n log (end_fits k n x (logs_fit n end w.reached w.spelt.few k)) e kn) (find (λ d. d.epoch == e) (decisions_in end)) refl
+      ∙ ap (λ m. spec_decided m (find (λ d. d.epoch == e) (decisions_in end))) (sym size)
     where
-      go : (o : Option Decision) → decision log ≡ o → Knows log e o → (f : Option Decision) → find (λ d. d.epoch == e) (decisions_in (last_world n acts)) ≡ f → spec n log ≡ spec_decided n f
+      go : (o : Option Decision) → decision log ≡ o → Knows log e o → (f : Option Decision) → find (λ d. d.epoch == e) (decisions_in end) ≡ f → spec n log ≡ spec_decided n f
       go None is (First h) None q = spec_of_decision n log None is
       go None is (First h) (Some c) q =
-          let w = last_on n acts most p in
-          let t = find_some e (decisions_in (last_world n acts)) c q in
-          let r = decided_in (last_world n acts) c t.0 in
-          let l = decided_later r.0 n (log_at (last_world n acts) r.0) c (logs_fit n (last_world n acts) w.reached w.spelt.few r.0) r.1 in
+          let w = end_before n end list last in
+          let t = find_some e (decisions_in end) c q in
+          let r = decided_in end c t.0 in
+          let l = decided_later r.0 n (log_at end r.0) c (logs_fit n end w.reached w.spelt.few r.0) r.1 in
           let at = t.1 in absurd (omega (arith, l, at, h))
-      go (Some _) is (Later d a at lt) None q = absurd (find_none e (decisions_in (last_world n acts)) q d (in_world (last_world n acts) k d (extends_among x (Rec.Decide d) a)) at)
+      go (Some _) is (Later d a at lt) None q = absurd (find_none e (decisions_in end) q d (in_world end k d (extends_among x (Rec.Decide d) a)) at)
       go (Some _) is (Later d a at lt) (Some c) q =
-          let w = last_on n acts most p in
-          let t = find_some e (decisions_in (last_world n acts)) c q in
-          let r = decided_in (last_world n acts) c t.0 in
-          let same_one = decisions_are_one n (last_world n acts) w.reached w.spelt.few w.spelt.messages k r.0 d c (extends_among x (Rec.Decide d) a) r.1 (at ∙ sym t.1) in
+          let w = end_before n end list last in
+          let t = find_some e (decisions_in end) c q in
+          let r = decided_in end c t.0 in
+          let same_one = decisions_are_one n end w.reached w.spelt.few w.spelt.messages k r.0 d c (extends_among x (Rec.Decide d) a) r.1 (at ∙ sym t.1) in
           spec_of_decision n log (Some d) is ∙ ap (λ z. spec_decided n (Some z)) same_one

@@ -583,7 +583,7 @@ module _ (n k : ℕ) (v : ℕ → Seat) (sent : List Datagram) (r : Replica) (in
     kept x y (Acks m p) f ex g = good_same n k v sent x y _ g refl refl refl (λ a j e i q h. elim h [ inl w ↦ absurd (cc) | inr w ↦ absurd w ]) refl
     kept x y (IsAcked m next p h) f ex g = good_same n k v sent x y [] g refl refl (no_sends x) (none_old x) refl
     kept x y (Pays s t a m w lt) f ex g = good_tell x y (InEpoch.PrepareOk s t) t g ex a (time_ok s t) w (λ z q. absurd (cc)) (λ z u q. subst (λ b. Among x.replica.owed b) (ok_same s t z u q) m) refl
-    kept x y (Owes ss a h) f ex g = good_owed n k v sent x y g refl refl refl refl refl refl refl refl refl h
+    kept x y (Owes ss a h) f ex g = good_owed n k v sent x y g refl refl refl refl refl refl refl refl refl h.0
     kept x y (TellsTime t a i w) f ex g = good_tell x y (InEpoch.ClockTime t) t g ex a (time_clock t) w (λ z q. absurd (cc)) (λ z u q. absurd (cc)) refl
     kept x y (SendsAgain m d a h l) f ex g = good_same n k v sent x y _ g refl refl refl (λ b j e i q w. elim w [ inl z ↦ again_old x g a m d l b j e i q z | inr z ↦ absurd z ]) refl
     kept x y (Tells m c h) f ex g = tells_kept m c x g

@@ -19,9 +19,9 @@ use Rattle.crsm_spec.specs.Moments.{use_up, silent, begun_at, with_room, start_a
 use Rattle.crsm_steps.specs.Laws.{AllFit, Extends, same, more, LogsGoOn}
 use Rattle.crsm_steps.specs.Happenings.{Marks, CanCome, Ends, Happens, IsReached}
 use Rattle.crsm_steps.specs.Happenings.Marks.{none, mark}
-use Rattle.crsm_steps.specs.Happenings.CanCome.{IsMail, IsCommand, IsTick, IsSuspicion}
+use Rattle.crsm_steps.specs.Happenings.CanCome.{IsMail, IsCommand, IsReply, IsTick, IsSuspicion}
 use Rattle.crsm_steps.specs.Happenings.Ends.{IsWhole, IsCut, IsLost}
-use Rattle.crsm_steps.specs.Happenings.Happens.{Nothing, Steps, Junk, Stops, Starts}
+use Rattle.crsm_steps.specs.Happenings.Happens.{Nothing, Steps, Junk, Stops, Joins, Starts}
 use Rattle.crsm_steps.specs.Happenings.IsReached.{first, next}
 use Rattle.crsm_steps.proofs.Logs.{extends_then, steps_grow}
 use Rattle.crsm_steps.proofs.Fitted.{step_changes}
@@ -252,7 +252,8 @@ came_sent w k input (IsMail from d s) a m j e i p q =
   where
     came_is : (a b : ℕ) (c d : Datagram) → Input.Came a c ≡ Input.Came b d → c ≡ d
     came_is a b c d h = cc
-came_sent w k input (IsCommand c f) a m j e i p q = absurd (cc)
+came_sent w k input (IsCommand b c f) a m j e i p q = absurd (cc)
+came_sent w k input (IsReply b c d t) a m j e i p q = absurd (cc)
 came_sent w k input IsTick a m j e i p q = absurd (cc)
 came_sent w k input (IsSuspicion ms f) a m j e i p q = absurd (cc)
 
@@ -466,6 +467,7 @@ moment_held n w m (Nothing v p) h well = held_marked n w v p h
 moment_held n w m (Steps v p k r e input reading lt c z ends) h well = held_step n w v p (held_marked n w v p h) k r e input reading c z ends well
 moment_held n w m (Junk k r e z ends) h well = held_junk n w h k r e z ends
 moment_held n w m (Stops k) h well = held_stop n w k h
+moment_held n w m (Joins f) h well = held_room n w (length w.sites) h
 moment_held n w m (Starts k d f) h well = held_start n w k h f well
 
 -- ---- the first world

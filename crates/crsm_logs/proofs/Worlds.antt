@@ -17,9 +17,9 @@ use Rattle.crsm_spec.specs.Moments.{use_up, silent, begun_at, with_room, start_a
 use Rattle.crsm_steps.specs.Laws.{AllFit, Extends}
 use Rattle.crsm_steps.specs.Happenings.{Marks, CanCome, Ends, Happens, IsReached}
 use Rattle.crsm_steps.specs.Happenings.Marks.{none, mark}
-use Rattle.crsm_steps.specs.Happenings.CanCome.{IsMail, IsCommand, IsTick, IsSuspicion}
+use Rattle.crsm_steps.specs.Happenings.CanCome.{IsMail, IsCommand, IsReply, IsTick, IsSuspicion}
 use Rattle.crsm_steps.specs.Happenings.Ends.{IsWhole, IsCut, IsLost}
-use Rattle.crsm_steps.specs.Happenings.Happens.{Nothing, Steps, Junk, Stops, Starts}
+use Rattle.crsm_steps.specs.Happenings.Happens.{Nothing, Steps, Junk, Stops, Joins, Starts}
 use Rattle.crsm_steps.specs.Happenings.IsReached.{first, next}
 use Rattle.crsm_steps.specs.Changes.{AsksFor}
 use Rattle.crsm_steps.proofs.Logs.{steps_grow, steps_fit, changes_numbers}
@@ -149,10 +149,15 @@ wished n w h k input (IsMail from d s) ms (inr a) = absurd (subst IsBetween (cam
   where
     came_is : (a b : ℕ) (c d : Datagram) → Input.Came a c ≡ Input.Came b d → c ≡ d
     came_is a b c d h = cc
-wished n w h k input (IsCommand c f) ms (inl e) = absurd (cc)
-wished n w h k input (IsCommand c f) ms (inr a) = absurd (not_so a.1)
+wished n w h k input (IsReply b c d t) ms (inl e) = absurd (cc)
+wished n w h k input (IsReply b c d t) ms (inr a) = absurd (not_so a.1)
   where
-    not_so : Input.Came c.client (Datagram.Request c) ≡ Input.Came a.0 (Datagram.Operate ms) → ⊥
+    not_so : Input.Came b (Datagram.Reply c d t) ≡ Input.Came a.0 (Datagram.Operate ms) → ⊥
+    not_so e = cc
+wished n w h k input (IsCommand b c f) ms (inl e) = absurd (cc)
+wished n w h k input (IsCommand b c f) ms (inr a) = absurd (not_so a.1)
+  where
+    not_so : Input.Came b (Datagram.Request c) ≡ Input.Came a.0 (Datagram.Operate ms) → ⊥
     not_so e = cc
 wished n w h k input IsTick ms (inl e) = absurd (cc)
 wished n w h k input IsTick ms (inr a) = absurd (not_so a.1)
@@ -226,6 +231,7 @@ moment_held n w m (Steps v p k r e input reading lt c z ends) h =
     ended n v hv k (step r input reading) t.0 t.1 z ends
 moment_held n w m (Junk k r e z ends) h = ended n w h k (begun r) (h.sites k (Site.Up r) e) tt z ends
 moment_held n w m (Stops k) h = went_down n w h k
+moment_held n w m (Joins f) h = held_room n w (length w.sites) h
 moment_held n w m (Starts k d f) h = held_start n w k h
 
 -- ---- every world

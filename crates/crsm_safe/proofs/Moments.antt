@@ -22,7 +22,7 @@ use Rattle.crsm_steps.specs.Laws.{LogsGoOn}
 use Rattle.crsm_steps.specs.Happenings.{Marks, CanCome, Ends, Happens, Brings, IsLedBy, IsReached}
 use Rattle.crsm_steps.specs.Happenings.Marks.{none}
 use Rattle.crsm_steps.specs.Happenings.Ends.{IsWhole, IsCut, IsLost}
-use Rattle.crsm_steps.specs.Happenings.Happens.{Nothing, Steps, Junk, Stops, Starts}
+use Rattle.crsm_steps.specs.Happenings.Happens.{Nothing, Steps, Junk, Stops, Joins, Starts}
 use Rattle.crsm_steps.specs.Happenings.IsReached.{first, next}
 use Rattle.crsm_steps.proofs.Logs.{extends_then}
 use Rattle.crsm_steps.proofs.Moments.{moment_goes_on}
@@ -336,6 +336,10 @@ module _ (n : ℕ) (end : World) (list : List Entry) (last : IsLast n end list) 
       steps_hold v p k r e input reading lt c led z ends (next g i) (moment_goes_on w (begun_at w z) i) on
   moment_holds m (Junk k r e z ends) led on = junk_holds k r e z ends (moment_goes_on w (begun_at w z) (Junk k r e z ends))
   moment_holds m (Stops k) led on = down_holds k (moment_goes_on w (down w k) (Stops k))
+  moment_holds m (Joins f) led on =
+      let v = with_room w (length w.sites) in
+      same_holds end list w v lines act [] (moment_goes_on w (silent w v) (Joins f)) (room_logs w (length w.sites)) tt
+      (λ j q e. inl (room_up w (length w.sites) j q e)) h
   moment_holds m (Starts k d f) led on = start_holds k (moment_goes_on w (start_at w k) (Starts k d f))
 
 -- ---- the first world

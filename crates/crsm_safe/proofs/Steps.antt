@@ -21,7 +21,7 @@ use Rattle.crsm_spec.specs.Safe.{IsExecOf, command_of}
 use Rattle.crsm_steps.specs.Laws.{AllFit, Extends, same, more, LogsGoOn}
 use Rattle.crsm_steps.specs.Messages.{Hears}
 use Rattle.crsm_steps.specs.Happenings.{CanCome, Brings, IsReached}
-use Rattle.crsm_steps.specs.Happenings.CanCome.{IsMail, IsCommand, IsTick, IsSuspicion}
+use Rattle.crsm_steps.specs.Happenings.CanCome.{IsMail, IsCommand, IsReply, IsTick, IsSuspicion}
 use Rattle.crsm_steps.proofs.Logs.{extends_then}
 use Rattle.crsm_epoch.specs.Seats.{Logged}
 use Rattle.crsm_epoch.specs.Worlds.{sent_in}
@@ -202,7 +202,8 @@ module _ {n : ℕ} {end : World} {list : List Entry} {w u : World} {lines : List
       go z (IsMail from d m) q =
           let was = subst (Among (sent_in w)) (same_came from a d (Datagram.Frame j me e i (InEpoch.Prepare f)) q) (among_map (λ m. m.datagram) w.mail (record { from = from; to = k; datagram = d; used = m.0 }) m.1) in
           subst (λ l. Logged (log_at w l) f) (sym o) (subst (λ l. Logged l f) (seat_log_at w j) ((epochs_hold_always n w s.reached spelt_w.few).says j me e i f was).0)
-      go z (IsCommand c x) q = absurd (cc)
+      go z (IsCommand b c x) q = absurd (cc)
+      go z (IsReply b c d t) q = absurd (cc)
       go z IsTick q = absurd (cc)
       go z (IsSuspicion ms x) q = absurd (cc)
 
@@ -327,7 +328,8 @@ module _ {n : ℕ} {end : World} {list : List Entry} {w u : World} {lines : List
 
       go : (z : Input) (m : CanCome w k z) → Brings act m → z ≡ Input.Came a (Datagram.Request c) → command_of (Some act) ≡ Some c
       go z (IsMail from d m) b q = absurd (subst IsBetween (same_came from a d (Datagram.Request c) q) ((all_held n w s.reached).mail (record { from = from; to = k; datagram = d; used = m.0 }) m.1))
-      go z (IsCommand d m) b q = b ∙ ap (λ z. Some z) (same_request d c (same_came d.client a (Datagram.Request d) (Datagram.Request c) q))
+      go z (IsReply x y d t) b q = absurd (cc)
+      go z (IsCommand x d m) b q = b ∙ ap (λ z. Some z) (same_request d c (same_came x a (Datagram.Request d) (Datagram.Request c) q))
       go z IsTick b q = absurd (cc)
       go z (IsSuspicion ms m) b q = absurd (cc)
 

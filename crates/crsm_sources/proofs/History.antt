@@ -8,7 +8,7 @@ use Rattle.crsm_spec.specs.World.{World, Moment}
 use Rattle.crsm_steps.specs.Changes.{Changes, stay, and_then}
 use Rattle.crsm_steps.specs.Happenings.{Ends, Happens, IsReached}
 use Rattle.crsm_steps.specs.Happenings.Ends.{IsWhole, IsCut, IsLost}
-use Rattle.crsm_steps.specs.Happenings.Happens.{Nothing, Steps, Junk, Stops, Starts}
+use Rattle.crsm_steps.specs.Happenings.Happens.{Nothing, Steps, Junk, Stops, Joins, Starts}
 use Rattle.crsm_steps.specs.Happenings.IsReached.{first, next}
 use Rattle.crsm_steps.proofs.Fitted.{step_changes}
 use Rattle.crsm_sources.specs.Sayings.{Saying, IsToldBy}
@@ -29,6 +29,7 @@ TellsAt (Nothing v p) s = ⊥
 TellsAt (Steps v p k r e input reading lt c m ends) s = Sends ends × TellsIn (step_changes r input reading) s
 TellsAt (Junk k r e m ends) s = ⊥
 TellsAt (Stops k) s = ⊥
+TellsAt (Joins f) s = ⊥
 TellsAt (Starts k d f) s = ⊥
 
 -- some step of the history told it

@@ -1,5 +1,5 @@
 -- The note of each draft is true of its replica's past.
-use Rattle.std.proofs.Common.{◌≡◌, ℕ, ◌+◌, List, [], ◌∷◌, ◌++◌, refl, sym, ◌∙◌, ap, subst, inl, inr, map}
+use Rattle.std.proofs.Common.{length, ◌≡◌, ℕ, ◌+◌, List, [], ◌∷◌, ◌++◌, refl, sym, ◌∙◌, ap, subst, inl, inr, map}
 use Rattle.std.specs.Prelude.{◌⊎◌, ◌<◌, ◌^◌, IsTrue, Option, Some, None, slice_get}
 use Rattle.crsm_spec.specs.Types.{Ballot, Entry, Decision, InEpoch, Control}
 use Rattle.crsm_base.specs.Order.{ballot_lt}
@@ -19,7 +19,7 @@ use Rattle.crsm_steps.specs.Changes.{Change, Changes, stay, and_then, IsAnswer, 
 use Rattle.crsm_steps.specs.Happenings.{Marks, CanCome, Ends, Happens, IsReached}
 use Rattle.crsm_steps.specs.Happenings.Marks.{none}
 use Rattle.crsm_steps.specs.Happenings.Ends.{IsWhole, IsCut, IsLost}
-use Rattle.crsm_steps.specs.Happenings.Happens.{Nothing, Steps, Junk, Stops, Starts}
+use Rattle.crsm_steps.specs.Happenings.Happens.{Nothing, Steps, Junk, Stops, Joins, Starts}
 use Rattle.crsm_steps.specs.Happenings.IsReached.{first, next}
 use Rattle.crsm_steps.proofs.Fitted.{step_changes}
 use Rattle.crsm_steps.proofs.Logs.{tell_still, replies_still}
@@ -271,6 +271,7 @@ notes_moment n w m q (Junk k r e z ends) g = notes_junk
     notes_junk : Notes n z.after
     notes_junk = notes_end n w w none g k (begun r) z ends (Junk k r e z ends) (λ s. note_on n w (begun_at w z) (Junk k r e z ends) k (instance (begun r)) r.note (g k r e))
 notes_moment n w m q (Stops k) g = notes_down n w k g (Stops k)
+notes_moment n w m q (Joins f) g = notes_by n w (silent w (with_room w (length w.sites))) (Joins f) g 0 (λ j r e. inl (room_up w (length w.sites) j r e))
 notes_moment n w m q (Starts k d f) g = notes_started n w k g (Starts k d f)
 
 first_note : (n k : ℕ) (r : Replica) → slice_get (begin n).sites k ≡ Some (Site.Up r) → r.note ≡ Note.Quiet

@@ -21,9 +21,9 @@ use Rattle.crsm_steps.specs.Laws.{Extends, same, more}
 use Rattle.crsm_steps.specs.Changes.{stay}
 use Rattle.crsm_steps.specs.Happenings.{Marks, WasSent, CanCome, Ends, Happens, IsReached}
 use Rattle.crsm_steps.specs.Happenings.Marks.{none, mark}
-use Rattle.crsm_steps.specs.Happenings.CanCome.{IsMail, IsCommand, IsTick, IsSuspicion}
+use Rattle.crsm_steps.specs.Happenings.CanCome.{IsMail, IsCommand, IsReply, IsTick, IsSuspicion}
 use Rattle.crsm_steps.specs.Happenings.Ends.{IsWhole, IsCut, IsLost}
-use Rattle.crsm_steps.specs.Happenings.Happens.{Nothing, Steps, Junk, Stops, Starts}
+use Rattle.crsm_steps.specs.Happenings.Happens.{Nothing, Steps, Junk, Stops, Joins, Starts}
 use Rattle.crsm_steps.specs.Happenings.IsReached.{first, next}
 use Rattle.crsm_steps.proofs.Fitted.{step_changes}
 use Rattle.crsm_steps.proofs.Happen.{sent_before}
@@ -218,7 +218,8 @@ same_input a b c d h = cc
 part_told : (n : ℕ) (w : World) (q : IsReached n w) (g : Known n w q) (k : ℕ) (input : Input) → CanCome w k input → (me address : ℕ) (p : Piece) →
     input ≡ Input.Came address (Datagram.Part p.from me p.boot p.number p.index p.count p.bytes) → IsFor g.told me p
 part_told n w q g k input (IsMail from d s) me address p e = g.mail from k d s p.from me p.boot p.number p.index p.count p.bytes (same_input from address d _ e)
-part_told n w q g k input (IsCommand c f) me address p e = absurd (cc)
+part_told n w q g k input (IsCommand a c f) me address p e = absurd (cc)
+part_told n w q g k input (IsReply a c d t) me address p e = absurd (cc)
 part_told n w q g k input IsTick me address p e = absurd (cc)
 part_told n w q g k input (IsSuspicion ms f) me address p e = absurd (cc)
 
@@ -378,6 +379,8 @@ known_moment n w m r (Steps v p k q e input reading lt c z ends) g = stepped n w
 known_moment n w m r (Junk k q e z ends) g =
     ended n w w none r g k q e (begun q) z ends (Junk k q e z ends) g.told (mid_begun g.told k q g.apart (g.up k q e)) (λ s a. a) (λ kept s a. inl a) (λ sends s a. inl a)
 known_moment n w m r (Stops k) g = stopped n w k r g (Stops k)
+known_moment n w m r (Joins f) g = known_quietly n w r g (silent w (with_room w (length w.sites))) (Joins f) 0
+    (λ j q e. inr (g.up j q (room_up w (length w.sites) j q e))) (λ from to d s. inl (subst (λ l. InMail l from to d) (room_mail w (length w.sites)) s))
 known_moment n w m r (Starts k d f) g = started n w k r g (Starts k d f)
 
 at_number : (n a c i : ℕ) (r : Replica) → slice_get (map (λ k. Site.Up (founding_boot k n).replica) (range_with_len a c)) i ≡ Some (Site.Up r) → Site.Up (founding_boot (a + i) n).replica ≡ Site.Up r

@@ -19,7 +19,7 @@ use Rattle.crsm_steps.specs.Happenings.{Marks, WasSent, CanCome, Ends, Happens, 
 use Rattle.crsm_steps.specs.Happenings.Marks.{none, mark}
 use Rattle.crsm_steps.specs.Happenings.CanCome.{IsMail, IsCommand, IsTick, IsSuspicion}
 use Rattle.crsm_steps.specs.Happenings.Ends.{IsWhole, IsCut, IsLost}
-use Rattle.crsm_steps.specs.Happenings.Happens.{Nothing, Steps, Junk, Stops, Starts}
+use Rattle.crsm_steps.specs.Happenings.Happens.{Nothing, Steps, Junk, Stops, Joins, Starts}
 use Rattle.crsm_steps.specs.Happenings.IsReached.{first, next}
 use Rattle.crsm_steps.specs.Laws.{IsRunOf}
 
@@ -146,7 +146,7 @@ module _ (led : Act) where
 
   singles : (ends : Ending) → IsEnding ends → (w : World) (s : Single) → FitsSingle s → ((c : Command) → command_of_single s ≡ Some c → command_of (Some led) ≡ Some c) → IsAt w (single ends w s)
   unfolding single command_of_single
-  singles ends h w (Single.Request k t c) f by = at_once ends h w k (Input.Came c.client (Datagram.Request c)) t f.1 (IsCommand c f.2) (by c refl)
+  singles ends h w (Single.Request k t c) f by = at_once ends h w k (Input.Came c.client (Datagram.Request c)) t f.1 (IsCommand c.client c f.2) (by c refl)
   singles ends h w (Single.Go i t) f by = comes ends h w (use_up i w) (mark i none) t f.1 (slice_get w.mail i) (λ m e. got_sent w i m e)
   singles ends h w (Single.Again i t) f by = comes_once ends h w t f.1 (slice_get w.mail i) (λ m e. got_sent w i m e)
   singles ends h w (Single.Tick k t) f by = at_once ends h w k Input.Ticked t f.1 IsTick tt

@@ -18,7 +18,7 @@ use Rattle.crsm_spec.specs.Run.{after_acts, ArePossible, moments, moments_of_run
 use Rattle.crsm_steps.specs.Happenings.{Marks, Ends, Happens, GoOn}
 use Rattle.crsm_steps.specs.Happenings.Marks.{none, mark}
 use Rattle.crsm_steps.specs.Happenings.Ends.{IsWhole, IsCut, IsLost}
-use Rattle.crsm_steps.specs.Happenings.Happens.{Nothing, Steps, Junk, Stops, Starts}
+use Rattle.crsm_steps.specs.Happenings.Happens.{Nothing, Steps, Junk, Stops, Joins, Starts}
 use Rattle.crsm_steps.specs.Laws.{Extends, same, more, LogsGoOn, KeptBeforeSent, IgnoredInputsEnd}
 use Rattle.crsm_steps.proofs.Logs.{extends_then, steps_grow}
 use Rattle.crsm_steps.proofs.Happen.{run_happens}
@@ -120,6 +120,7 @@ moment_goes_on w m (Nothing v p) = stays w v (marked_sites p)
 moment_goes_on w m (Steps v p k r e input reading lt c n h) = on_then w v n.after (stays w v (marked_sites p)) (ends_go_on v k r (step r input reading) e (steps_grow r input reading) n h)
 moment_goes_on w m (Junk k r e n h) = junk_goes_on w k r e n h
 moment_goes_on w m (Stops k) = goes_down w k
+moment_goes_on w m (Joins f) = room_stays w (length w.sites)
 moment_goes_on w m (Starts k h f) = starts_go_on w k
 
 -- ---- runs

@@ -1,6 +1,6 @@
 -- Each rule is made of changes.
-use Rattle.std.proofs.Common.{◌≡◌, ℕ, ◌+◌, ◌<◌, List, [], ◌∷◌, ◌++◌, length, refl, sym, ◌∙◌, ap, subst, inl, inr, Bool, true, false, map, take}
-use Rattle.std.specs.Prelude.{◌≢◌, IsTrue, Option, Some, None, not, nat_lt, nat_le, ◌==◌, ◌&&◌, ◌||◌, fold}
+use Rattle.std.proofs.Common.{◌≡◌, ℕ, ◌+◌, ◌<◌, List, [], ◌∷◌, ◌++◌, length, refl, sym, ◌∙◌, ap, subst, inl, inr, Bool, true, false, cond, map, take}
+use Rattle.std.specs.Prelude.{◌⊎◌, filter, ◌≢◌, IsTrue, Option, Some, None, not, nat_lt, nat_le, ◌==◌, ◌&&◌, ◌||◌, fold}
 use Rattle.std.specs.Option.{option_map_or}
 use Rattle.std.proofs.lemmas.Bool.{and_parts, eqb-true, eq-eqb, false≢true, not-true, ltb-true, ltb-false, leb-true}
 use Rattle.crsm_base.specs.Order.{ballot_lt, ballot_eq}
@@ -27,7 +27,7 @@ use Rattle.crsm_spec.specs.Coordinate.{forget_epoch, adopt_tail, enter, advance,
 use Rattle.crsm_spec.specs.Controls.{on_suspend, is_page_of, take_page, on_suspend_ok, if_next, tell_promise, on_p1a, on_p1b, on_p1no, on_p2a, on_p2b, retrieve_base, on_decide, page_from, on_retrieve, new_entries, may_adopt, on_page, if_spec, on_control}
 use Rattle.crsm_spec.specs.Step.{Input, if_fitting, on_whole_message, on_part, ask_page, missing, tell_collect, renew, ask_all, on_tick, on_datagram, on_input, idle_at}
 use Rattle.crsm_steps.specs.Messages.{Hears, IsAsked, IsTold, Answers}
-use Rattle.crsm_steps.specs.Changes.{Change, IsPeer, IsAnswer, IsVote, IsNextRound, AsksFor}
+use Rattle.crsm_steps.specs.Changes.{Change, IsPaid, IsPeer, IsAnswer, IsVote, IsNextRound, AsksFor}
 use Rattle.crsm_steps.specs.Changes.Change.{Submits, Refuses, Commits, Takes, Acks, IsAcked, Pays, Owes, TellsTime, SendsAgain, Tells, Gathers, Suspends, Collects, TakesPage, Completes, Refrains, GivesUp, Asks, CountsAnswer, Proposes, IsOutbid, AcceptsOwn, CountsVote, Promises, Accepts, Chooses, Learns, AdoptsTail, AdoptsPage, Enters}
 use Rattle.crsm_steps.proofs.Tests.{or_parts, not_not, same_number, next_number, same_ballot, same_stamp, ballot_is, among_take, above_top, not_astray}
 use Rattle.crsm_steps.proofs.Going.{Goes, here, both, once, either, of_option, each}
@@ -85,6 +85,48 @@ pay_active s t x a = a
 pay_owed : (s : Stamp) (t : ℕ) (x : Draft) (u : Stamp) → Among x.replica.owed u → Among (pay s t x).replica.owed u
 unfolding pay push_to_members push_to issued_at
 pay_owed s t x u h = h
+
+pay_back : (s : Stamp) (t : ℕ) (x : Draft) (u : Stamp) → Among (pay s t x).replica.owed u → Among x.replica.owed u
+unfolding pay push_to_members push_to issued_at
+pay_back s t x u m = m
+
+-- ---- what was pushed
+
+pushed_old : (j : ℕ) (a b : List (ℕ × InEpoch)) (p : InEpoch) → Among (map (λ f. f.1) (filter (λ f. f.0 == j) a)) p → Among (map (λ f. f.1) (filter (λ f. f.0 == j) (a ++ b))) p
+pushed_old j [] b p m = absurd m
+pushed_old j (f ∷ a) b p m = go (f.0 == j) m (pushed_old j a b p)
+  where
+    go : (c : Bool) → Among (map (λ (g : ℕ × InEpoch). g.1) (cond c (f ∷ filter (λ f. f.0 == j) a) (filter (λ f. f.0 == j) a))) p →
+        (Among (map (λ (g : ℕ × InEpoch). g.1) (filter (λ f. f.0 == j) a)) p → Among (map (λ (g : ℕ × InEpoch). g.1) (filter (λ f. f.0 == j) (a ++ b))) p) →
+        Among (map (λ (g : ℕ × InEpoch). g.1) (cond c (f ∷ filter (λ f. f.0 == j) (a ++ b)) (filter (λ f. f.0 == j) (a ++ b)))) p
+    go true (inl e) k = inl e
+    go true (inr h) k = inr (k h)
+    go false h k = k h
+
+pushed_new : (j : ℕ) (p : InEpoch) (ks : List ℕ) (a : List (ℕ × InEpoch)) → Among ks j → Among (map (λ f. f.1) (filter (λ f. f.0 == j) (a ++ map (λ k. (k, p)) ks))) p
+pushed_new j p ks (f ∷ a) m = go (f.0 == j) (pushed_new j p ks a m)
+  where
+    go : (c : Bool) → Among (map (λ (g : ℕ × InEpoch). g.1) (filter (λ f. f.0 == j) (a ++ map (λ k. (k, p)) ks))) p →
+        Among (map (λ (g : ℕ × InEpoch). g.1) (cond c (f ∷ filter (λ f. f.0 == j) (a ++ map (λ k. (k, p)) ks)) (filter (λ f. f.0 == j) (a ++ map (λ k. (k, p)) ks)))) p
+    go true h = inr h
+    go false h = h
+pushed_new j p [] [] m = absurd m
+pushed_new j p (k ∷ ks) [] (inl e) = subst (λ (c : Bool). Among (map (λ (g : ℕ × InEpoch). g.1) (cond c ((k, p) ∷ filter (λ f. f.0 == j) (map (λ k. (k, p)) ks)) (filter (λ f. f.0 == j) (map (λ k. (k, p)) ks)))) p) (sym (eq-eqb k j e)) (inl refl)
+pushed_new j p (k ∷ ks) [] (inr m) = go (k == j) (pushed_new j p ks [] m)
+  where
+    go : (c : Bool) → Among (map (λ (g : ℕ × InEpoch). g.1) (filter (λ f. f.0 == j) (map (λ k. (k, p)) ks))) p →
+        Among (map (λ (g : ℕ × InEpoch). g.1) (cond c ((k, p) ∷ filter (λ f. f.0 == j) (map (λ k. (k, p)) ks)) (filter (λ f. f.0 == j) (map (λ k. (k, p)) ks)))) p
+    go true h = inr h
+    go false h = h
+
+-- what is left to pay once this one is paid
+pay_left : (s : Stamp) (ss : List Stamp) (t : ℕ) (x : Draft) → s.time < t → (u : Stamp) → Among (s ∷ ss) u ⊎ IsPaid x u → Among ss u ⊎ IsPaid (pay s t x) u
+unfolding pay push_to_members push_to issued_at frames_to other_members members_of
+pay_left s ss t x lt u (inl (inl e)) =
+    inr (λ j m. (t, subst (λ v. Among (map (λ f. f.1) (filter (λ f. f.0 == j) (x.replica.pushed ++ map (λ k. (k, InEpoch.PrepareOk s t)) (other_members x.replica)))) (InEpoch.PrepareOk v t)) e
+    (pushed_new j (InEpoch.PrepareOk s t) (other_members x.replica) x.replica.pushed m), subst (λ v. v.time < t) e lt))
+pay_left s ss t x lt u (inl (inr m)) = inl m
+pay_left s ss t x lt u (inr p) = inr (λ j m. let q = p j m in (q.0, pushed_old j x.replica.pushed (map (λ k. (k, InEpoch.PrepareOk s t)) (other_members x.replica)) (InEpoch.PrepareOk u q.0) q.1, q.2))
 
 pub commit_active : (s : Stamp) (x : Draft) → IsTrue (active x.replica.log) → IsTrue (active (keep (Rec.Commit s) x).replica.log)
 unfolding active live suspended keep
@@ -249,9 +291,9 @@ module _ (r : Replica) (input : Input) (reading : ℕ) where
       either (is_odd_frame x.replica k p) (λ h. here) (λ odd.
       once (Takes a k e seq p i other (same_number e (known x.replica.log) older newer) peer (eqb-true seq (next_from x.replica k) (not_not (seq == next_from x.replica k) next)) odd))))))
 
-  of_ack : (k e next : ℕ) (x : Draft) → G x (on_ack k e next x)
+  of_ack : (a k e next : ℕ) (x : Draft) → input ≡ Input.Came a (Datagram.Ack k r.me e next) → G x (on_ack k e next x)
   unfolding on_ack
-  of_ack k e next x =
+  of_ack a k e next x i =
       let known_here = e == known x.replica.log in
       let here_active = active x.replica.log in
       let member = has (members_of x.replica) k in
@@ -259,7 +301,8 @@ module _ (r : Replica) (input : Input) (reading : ℕ) where
       let p = and_parts ((known_here && here_active) && member) (nat_le next (length (frames_to x.replica k))) h in
       let q = and_parts (known_here && here_active) member p.0 in
       let s = and_parts known_here here_active q.0 in
-      once (IsAcked k next (s.1, q.1) (leb-true next (length (frames_to x.replica k)) p.1))) (λ h. here)
+      let of_known = subst (λ f. input ≡ Input.Came a (Datagram.Ack k r.me f next)) (eqb-true e (known x.replica.log) s.0) i in
+      once (IsAcked k next (s.1, q.1) (leb-true next (length (frames_to x.replica k)) p.1, (a, of_known)))) (λ h. here)
 
   of_again_to : (k : ℕ) (x : Draft) → IsTrue (active x.replica.log) → Among (other_members x.replica) k → G x (again_to x k)
   unfolding again_to
@@ -274,16 +317,18 @@ module _ (r : Replica) (input : Input) (reading : ℕ) where
       each (λ y. y.replica ≡ x.replica) again_to (other_members x.replica)
       (λ y k m e. of_again_to k y (subst (λ w. IsTrue (active w.log)) (sym e) a) (subst (λ w. Among (other_members w) k) (sym e) m)) (λ y k e. again_all k y ∙ e) x refl
 
-  of_pay_run : (ss : List Stamp) (x : Draft) → IsTrue (active x.replica.log) → ((s : Stamp) → Among ss s → Among x.replica.owed s) → G x (pay_run reading ss x)
+  of_pay_run : (ss : List Stamp) (x : Draft) → IsTrue (active x.replica.log) → ((s : Stamp) → Among ss s → Among x.replica.owed s) →
+      ((s : Stamp) → Among x.replica.owed s → Among ss s ⊎ IsPaid x s) → G x (pay_run reading ss x)
   unfolding pay_run
-  of_pay_run [] x a h = once (Owes [] a h)
-  of_pay_run (s ∷ ss) x a h =
+  of_pay_run [] x a h q = once (Owes [] a (h, q))
+  of_pay_run (s ∷ ss) x a h q =
       of_option _ _ (would x reading) (λ t e. either (nat_lt s.time t) (λ lt. both (once (Pays s t a (h s (inl refl)) e (ltb-true s.time t lt)))
-      (of_pay_run ss (pay s t x) (pay_active s t x a) (λ u m. pay_owed s t x u (h u (inr m))))) (λ lt. once (Owes (s ∷ ss) a h))) (λ e. once (Owes (s ∷ ss) a h))
+      (of_pay_run ss (pay s t x) (pay_active s t x a) (λ u m. pay_owed s t x u (h u (inr m))) (λ u m. pay_left s ss t x (ltb-true s.time t lt) u (q u (pay_back s t x u m)))))
+      (λ lt. once (Owes (s ∷ ss) a (h, q)))) (λ e. once (Owes (s ∷ ss) a (h, q)))
 
   pub of_owed_oks : (x : Draft) → G x (owed_oks reading x)
   unfolding owed_oks
-  of_owed_oks x = either (active x.replica.log) (λ a. of_pay_run x.replica.owed x a (λ s m. m)) (λ a. here)
+  of_owed_oks x = either (active x.replica.log) (λ a. of_pay_run x.replica.owed x a (λ s m. m) (λ s m. inl m)) (λ a. here)
 
   of_tell_time : (t : Option ℕ) (x : Draft) → IsTrue (active x.replica.log) → IsTrue (is_idle x.replica reading) → would x reading ≡ t → G x (tell_time t x)
   unfolding tell_time
@@ -630,7 +675,10 @@ module _ (r : Replica) (input : Input) (reading : ℕ) where
       either (is_astray x.replica from to) (λ h. here) (λ h.
       let t = not_astray r from to (subst (λ w. is_astray w from to ≡ false) same h) in
       of_frame a from e seq p x (subst (λ k. input ≡ Input.Came a (Datagram.Frame from k e seq p)) t.1 i) t.0)
-  of_datagram a (Datagram.Ack from to e next) x same i = either (is_astray x.replica from to) (λ h. here) (λ h. of_ack from e next x)
+  of_datagram a (Datagram.Ack from to e next) x same i =
+      either (is_astray x.replica from to) (λ h. here) (λ h.
+      let t = not_astray r from to (subst (λ w. is_astray w from to ≡ false) same h) in
+      of_ack a from e next x (subst (λ k. input ≡ Input.Came a (Datagram.Ack from k e next)) t.1 i))
   of_datagram a (Datagram.Part from to boot number index count bytes) x same i =
       either (is_astray x.replica from to) (λ h. here) (λ h.
       let t = not_astray r from to (subst (λ w. is_astray w from to ≡ false) same h) in

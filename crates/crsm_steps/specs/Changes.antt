@@ -50,6 +50,14 @@ IsRefusal r input x b top = (top ≡ promised x.replica.log) ⊎ ((k : ℕ) × H
 abbrev pub AsksFor : Input → List ℕ → Type 0
 AsksFor input ms = (input ≡ Input.Suspected ms) ⊎ ((address : ℕ) × (input ≡ Input.Came address (Datagram.Operate ms)))
 
+-- the input is this Ack of the known epoch
+abbrev pub IsAckOf : Replica → Input → Draft → ℕ → ℕ → Type 0
+IsAckOf r input x k next = (address : ℕ) × (input ≡ Input.Came address (Datagram.Ack k r.me (known x.replica.log) next))
+
+-- the PREPAREOK of this stamp was pushed to each other member
+abbrev pub IsPaid : Draft → Stamp → Type 0
+IsPaid x s = (j : ℕ) → Among (other_members x.replica) j → (t : ℕ) × Among (frames_to x.replica j) (InEpoch.PrepareOk s t) × (s.time < t)
+
 -- One change of a step of r with this input and reading, from x.
 pub data Change (r : Replica) (input : Input) (reading : ℕ) (x : Draft) : Draft → Type 0 where
   -- ---- clients
@@ -67,13 +75,15 @@ pub data Change (r : Replica) (input : Input) (reading : ℕ) (x : Draft) : Draf
   Takes : (address k e seq : ℕ) (p : InEpoch) → input ≡ Input.Came address (Datagram.Frame k r.me e seq p) → k ≢ r.me → e ≡ known x.replica.log →
       IsPeer x.replica k → seq ≡ next_from x.replica k → is_odd_frame x.replica k p ≡ false → Change r input reading x (take_frame k p x)
   Acks : (k : ℕ) → IsPeer x.replica k → Change r input reading x (ack k x)
-  IsAcked : (k next : ℕ) → IsPeer x.replica k → next ≤ length (frames_to x.replica k) →
+  IsAcked : (k next : ℕ) → IsPeer x.replica k → (next ≤ length (frames_to x.replica k)) × IsAckOf r input x k next →
       Change r input reading x (record x { replica = record x.replica { acked = (k, next) ∷ x.replica.acked } })
   -- an owed PREPAREOK is sent
   Pays : (s : Stamp) (t : ℕ) → IsTrue (active x.replica.log) → Among x.replica.owed s → would x reading ≡ Some t → s.time < t →
       Change r input reading x (pay s t x)
   -- these are owed still
-  Owes : (ss : List Stamp) → IsTrue (active x.replica.log) → ((s : Stamp) → Among ss s → Among x.replica.owed s) → Change r input reading x (owing ss x)
+  Owes : (ss : List Stamp) → IsTrue (active x.replica.log) →
+      ((s : Stamp) → Among ss s → Among x.replica.owed s) × ((s : Stamp) → Among x.replica.owed s → Among ss s ⊎ IsPaid x s) →
+      Change r input reading x (owing ss x)
   -- an idle replica tells its time
   TellsTime : (t : ℕ) → IsTrue (active x.replica.log) → IsTrue (is_idle x.replica reading) → would x reading ≡ Some t →
       Change r input reading x (push_to_members (InEpoch.ClockTime t) (issued_at t x))

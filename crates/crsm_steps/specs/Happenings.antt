@@ -2,14 +2,14 @@
 use Rattle.std.specs.Prelude.{◌≡◌, ℕ, ◌<◌, ◌^◌, ◌⊎◌, Bool, false, List, [], ◌∷◌, length, Some, slice_get}
 use Rattle.crsm_base.specs.Members.{IsMembers}
 use Rattle.crsm_base.specs.Spelling.{FitsCommand}
-use Rattle.crsm_spec.specs.Types.{Command, Datagram}
+use Rattle.crsm_spec.specs.Types.{Command, Datagram, Outcome}
 use Rattle.crsm_spec.specs.Lists.{Among}
 use Rattle.crsm_spec.specs.Replica.{Replica}
 use Rattle.crsm_spec.specs.Draft.{Draft, begun}
 use Rattle.crsm_spec.specs.Step.{Input, step}
 use Rattle.crsm_spec.specs.World.{Site, World, Moment, begin, is_up_at, whole_step, cut_step, lost_step, down}
 use Rattle.crsm_spec.specs.Acts.{Act}
-use Rattle.crsm_spec.specs.Moments.{use_up, silent, begun_at, start_at}
+use Rattle.crsm_spec.specs.Moments.{use_up, silent, begun_at, with_room, start_at}
 use Rattle.crsm_spec.specs.Safe.{command_of}
 
 -- some datagrams of the world are marked as used
@@ -24,7 +24,8 @@ WasSent w from to d = (used : Bool) × Among w.mail (record { from = from; to = 
 -- An input that can come to replica k: a datagram that was sent to it, a client's command, a tick or a suspicion.
 pub data CanCome (w : World) (k : ℕ) : Input → Type 0 where
   IsMail : (from : ℕ) (d : Datagram) → WasSent w from k d → CanCome w k (Input.Came from d)
-  IsCommand : (c : Command) → FitsCommand c → CanCome w k (Input.Came c.client (Datagram.Request c))
+  IsCommand : (address : ℕ) (c : Command) → FitsCommand c → CanCome w k (Input.Came address (Datagram.Request c))
+  IsReply : (address client number : ℕ) (told : Outcome) → CanCome w k (Input.Came address (Datagram.Reply client number told))
   IsTick : CanCome w k Input.Ticked
   IsSuspicion : (ms : List ℕ) → IsMembers ms → CanCome w k (Input.Suspected ms)
 
@@ -44,6 +45,8 @@ pub data Happens (w : World) : Moment → Type 0 where
   -- bytes that are no datagram reach a replica
   Junk : (k : ℕ) (r : Replica) → slice_get w.sites k ≡ Some (Site.Up r) → (m : Moment) → Ends w k (begun r) m → Happens w (begun_at w m)
   Stops : (k : ℕ) → Happens w (down w k)
+  -- the next new number is a replica's, which has not started
+  Joins : length w.sites < 15 → Happens w (silent w (with_room w (length w.sites)))
   -- a replica that is down starts, or the next new one
   Starts : (k : ℕ) → is_up_at w k ≡ false → (k < length w.sites) ⊎ ((k ≡ length w.sites) × (k < 15)) → Happens w (start_at w k)
 
@@ -55,7 +58,8 @@ pub data IsReached (n : ℕ) : World → Type 0 where
 -- a command comes by the act that is its request
 abbrev pub Brings : Act → {w : World} {k : ℕ} {input : Input} → CanCome w k input → Type 0
 Brings a (CanCome.IsMail from d s) = Unit {0}
-Brings a (CanCome.IsCommand c f) = command_of (Some a) ≡ Some c
+Brings a (CanCome.IsCommand address c f) = command_of (Some a) ≡ Some c
+Brings a (CanCome.IsReply address client number told) = Unit {0}
 Brings a CanCome.IsTick = Unit {0}
 Brings a (CanCome.IsSuspicion ms f) = Unit {0}
 
@@ -64,6 +68,7 @@ IsLedBy a (Happens.Nothing v p) = Unit {0}
 IsLedBy a (Happens.Steps v p k r e input reading lt c m ends) = Brings a c
 IsLedBy a (Happens.Junk k r e m ends) = Unit {0}
 IsLedBy a (Happens.Stops k) = Unit {0}
+IsLedBy a (Happens.Joins f) = Unit {0}
 IsLedBy a (Happens.Starts k d f) = Unit {0}
 
 -- Each of these moments goes on from the one before, beginning at w, and is one that the act leads to there.
