@@ -1,9 +1,9 @@
 #!/usr/bin/env bash
-# The worked examples compute through every definition: Opened.antt of crsm_examples names each that stays shut otherwise.
+# The worked examples compute through every definition: Opened.antt of crsm_law_examples names each that stays shut otherwise.
 # With --write the list is written anew.
 set -u
 cd "$(dirname "$0")/.." || exit 1
-list=crates/crsm_examples/proofs/Opened.antt
+list=crates/crsm_law_examples/proofs/Opened.antt
 names() {
   for crate in crsm_base crsm_spec; do
     for file in crates/$crate/specs/*.antt; do

@@ -8,12 +8,12 @@ use Rattle.crsm_schedule.specs.Grammar.{first_text, event_text}
 use Rattle.crsm_world.specs.Schedule.{Schedule, IsSchedule, ended, schedule_text}
 use Rattle.crsm_app.specs.State.{read_text, IsGood, count_of}
 use Rattle.crsm_app.specs.Refused.{Refused, CutShort, BeginsBad, bad_line, long_line, cut_line}
-use Rattle.crsm_app.proofs.Lines.{nil_not_cons, some_same, none_not_some, lines_read, read_is, read_lacks, first_line, split_lines, front_short, GoodNext, next_good, same_read, good_lacks, good_not_refused, one_cause, long_unreadable, GoesOn}
+use Rattle.crsm_app.proofs.Lines.{nil_not_cons, some_same, none_not_some, lines_read, read_is, read_lacks, first_line, split_lines, prefix_short, GoodNext, next_good, same_read, good_lacks, good_not_refused, one_cause, long_unreadable, GoesOn}
 use Rattle.crsm_app.specs.declared.status.Cause.{Cause}
 
 -- ---- what begins well does not begin badly
 
--- the front of a text, where the whole begins with a line
+-- the prefix of a text, where the whole begins with a line
 line_whole : (line rest r k more text : List ℕ) → text ≡ line ++ 10 ∷ rest → text ++ r ≡ k ++ 10 ∷ more → line ++ 10 ∷ (rest ++ r) ≡ k ++ 10 ∷ more
 line_whole line rest r k more text is e = sym (append_assoc line (10 ∷ rest) r) ∙ ap (λ y. y ++ r) (sym is) ∙ e
 
@@ -26,7 +26,7 @@ not_bad read after cause rest r k more good e left (bad_line b) =
 not_bad read after cause rest r k more good e left (long_line is b) =
     let kl = good_lacks read k good in
     let whole : b.line ++ (b.rest ++ r) ≡ k ++ 10 ∷ more = sym (append_assoc b.line b.rest r) ∙ ap (λ y. y ++ r) (sym b.text_is) ∙ e in
-    let short = front_short b.line k (b.rest ++ r) more b.lacks whole in
+    let short = prefix_short b.line k (b.rest ++ r) more b.lacks whole in
     let long = b.long in
     let limit = kl.1 in
     omega (arith, short, long, limit)
@@ -92,8 +92,8 @@ good_not_bad read after cause s rest r good is text left bad =
 pub line_first : (line rest r text : List ℕ) → text ≡ line ++ 10 ∷ rest → text ++ r ≡ line ++ 10 ∷ (rest ++ r)
 line_first line rest r text is = ap (λ z. z ++ r) is ∙ append_assoc line (10 ∷ rest) r
 
-front_first : (line rest r text : List ℕ) → text ≡ line ++ rest → text ++ r ≡ line ++ (rest ++ r)
-front_first line rest r text is = ap (λ z. z ++ r) is ∙ append_assoc line rest r
+prefix_first : (line rest r text : List ℕ) → text ≡ line ++ rest → text ++ r ≡ line ++ (rest ++ r)
+prefix_first line rest r text is = ap (λ z. z ++ r) is ∙ append_assoc line rest r
 
 -- one text begins badly for one cause
 same_cause : (r : Option Schedule) (left : Option (List ℕ)) (c d : Cause) (x y u v : List ℕ) → x ++ u ≡ y ++ v → left ≡ Some u
@@ -103,8 +103,8 @@ same_cause r left c d x y u v text is (bad_line b) (bad_line o) =
     let cut = split_unique 10 b.line o.line (b.rest ++ u) (o.rest ++ v) b.lacks o.lacks whole in
     one_cause r c d o.line (subst (λ z. Refused r c z) cut.0 b.refused) o.refused
 same_cause r left c d x y u v text is (bad_line b) (long_line o_is o) =
-    let whole = sym (front_first o.line o.rest v y o.text_is) ∙ sym text ∙ line_first b.line b.rest u x b.text_is in
-    let short = front_short o.line b.line (o.rest ++ v) (b.rest ++ u) o.lacks whole in
+    let whole = sym (prefix_first o.line o.rest v y o.text_is) ∙ sym text ∙ line_first b.line b.rest u x b.text_is in
+    let short = prefix_short o.line b.line (o.rest ++ v) (b.rest ++ u) o.lacks whole in
     let long = o.long in
     long_unreadable r c b.line b.refused (omega (arith, short, long)) ∙ sym o_is
 same_cause r left c d x y u v text is (bad_line b) (cut_line o_is o) =
@@ -112,8 +112,8 @@ same_cause r left c d x y u v text is (bad_line b) (cut_line o_is o) =
     let whole = sym (append-nil y) ∙ ap (λ z. y ++ z) (sym none) ∙ sym text ∙ line_first b.line b.rest u x b.text_is in
     absurd (lacks_not 10 y b.line (b.rest ++ u) o.lacks whole)
 same_cause r left c d x y u v text is (long_line b_is b) (bad_line o) =
-    let whole = sym (front_first b.line b.rest u x b.text_is) ∙ text ∙ line_first o.line o.rest v y o.text_is in
-    let short = front_short b.line o.line (b.rest ++ u) (o.rest ++ v) b.lacks whole in
+    let whole = sym (prefix_first b.line b.rest u x b.text_is) ∙ text ∙ line_first o.line o.rest v y o.text_is in
+    let short = prefix_short b.line o.line (b.rest ++ u) (o.rest ++ v) b.lacks whole in
     let long = b.long in
     b_is ∙ sym (long_unreadable r d o.line o.refused (omega (arith, short, long)))
 same_cause r left c d x y u v text is (long_line b_is b) (long_line o_is o) = b_is ∙ sym o_is

@@ -1,10 +1,10 @@
 -- A replay ends: at the end of its input, at a fault, at a limit.
 use Rattle.std.proofs.Common.{◌≡◌, ℕ, ◌+◌, ◌≤◌, List, [], ◌∷◌, ◌++◌, Option, Some, None, length, refl, ap, sym, ◌∙◌, subst, append_assoc}
 use Rattle.std.proofs.lemmas.List.{append-nil, nil_from_length}
-use Rattle.crsm_io.specs.Streams.{Takes, Puts, PutsFront, AtEnd}
+use Rattle.crsm_io.specs.Streams.{Takes, Puts, PutsPrefix, AtEnd}
 use Rattle.crsm_io.proofs.Steps.{puts_after, puts_none, takes_after, takes_none}
 use Rattle.crsm_world.specs.declared.World.{World as Held}
-use Rattle.crsm_world.specs.Standing.{StandsFor}
+use Rattle.crsm_world.specs.World.{StandsFor}
 use Rattle.crsm_world.specs.Schedule.{Schedule, ended, schedule_text, transcript, finals_text, last_world}
 use Rattle.crsm_app.specs.State.{State, read_text, shown_text, IsGood, StandsAt}
 use Rattle.crsm_app.specs.Refused.{CutShort, cut_line}
@@ -31,7 +31,7 @@ cut_bad b a h w st total within ended s done cut = record {
 -- all lines are done
 finish_by : (b a h w v : Option (List ℕ)) (st : State) (held : Held) (r : Option Schedule)
     → AtEnd a → IsGood r → StandsAt st.world r → Takes b a (read_text r ++ (st.part ++ [])) → Puts h w (shown_text r)
-    → st.world ≡ Some held → length st.part ≡ 0 → ((s : Schedule) → StandsFor held (last_world s) → PutsFront w v (finals_text s)) → RanPartly b a h v
+    → st.world ≡ Some held → length st.part ≡ 0 → ((s : Schedule) → StandsFor held (last_world s) → PutsPrefix w v (finals_text s)) → RanPartly b a h v
 finish_by b a h w v st held None ended good stands t p world none put = absurd (subst (λ x. StandsAt x None) world stands)
 finish_by b a h w v st held (Some s) ended good stands t p world none put =
     let f = put s (subst (λ x. StandsAt x (Some s)) world stands) in
@@ -41,17 +41,17 @@ finish_by b a h w v st held (Some s) ended good stands t p world none put =
       rest = st.part ++ [];
       takes = t;
       wrote = of_all (append-nil st.part ∙ nil_from_length st.part none) ended (record {
-        front = transcript s ++ f.front;
+        prefix = transcript s ++ f.prefix;
         rest = f.rest;
-        cut = ap (λ ys. transcript s ++ ys) f.cut ∙ sym (append_assoc (transcript s) f.front f.rest);
-        put = puts_after h w v (transcript s) f.front p f.put;
+        cut = ap (λ ys. transcript s ++ ys) f.cut ∙ sym (append_assoc (transcript s) f.prefix f.rest);
+        put = puts_after h w v (transcript s) f.prefix p f.put;
       });
     }
 
--- a front of the final lines was written
+-- a prefix of the final lines was written
 pub finish_partly : (b a h w v : Option (List ℕ)) (st : State) (total : ℕ) (held : Held)
     → AtEnd a → SoFar b a h w st [] total → st.pending ≡ [] → st.world ≡ Some held → length st.part ≡ 0
-    → ((s : Schedule) → StandsFor held (last_world s) → PutsFront w v (finals_text s)) → RanPartly b a h v
+    → ((s : Schedule) → StandsFor held (last_world s) → PutsPrefix w v (finals_text s)) → RanPartly b a h v
 finish_partly b a h w v st total held ended s done world none put =
     finish_by b a h w v st held s.read ended s.good s.stands s.takes (nothing_pending b a h w st [] total s done) world none put
 
@@ -115,5 +115,5 @@ nothing_ran b h = record {
   good = tt;
   rest = [];
   takes = takes_none b;
-  wrote = of_transcript (record { front = []; rest = []; cut = refl; put = puts_none h });
+  wrote = of_transcript (record { prefix = []; rest = []; cut = refl; put = puts_none h });
 }

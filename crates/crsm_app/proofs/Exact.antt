@@ -7,7 +7,7 @@ use Rattle.crsm_world.specs.Schedule.{Schedule, IsSchedule, ended, schedule_text
 use Rattle.crsm_app.specs.State.{read_text, IsGood, count_of}
 use Rattle.crsm_app.specs.Refused.{BeginsBad, bad_line, long_line, cut_line}
 use Rattle.crsm_app.specs.Run.{Ran, RanToEnd, RanToBad, RanTooLong, IsDone, IsRefused, IsTooLong}
-use Rattle.crsm_app.proofs.Lines.{lines_read, read_is, first_line, front_short, same_read}
+use Rattle.crsm_app.proofs.Lines.{lines_read, read_is, first_line, prefix_short, same_read}
 use Rattle.crsm_app.specs.declared.status.Cause.{Cause}
 use Rattle.crsm_app.specs.declared.status.Status.{Status}
 use Rattle.crsm_app.proofs.BadLines.{not_bad, told, good_not_bad, line_first, next_read, both_lines, same_bad}
@@ -62,9 +62,9 @@ good_of_bad before after had has read text more cause ran good is bad =
 no_bad_part : (r : Option Schedule) (c : Cause) (rest z text more : List ℕ) → Lacks 10 rest → length rest ≤ 16777216 → 0 < length z
     → rest ++ z ≡ text ++ more → length text ≤ length rest → BeginsBad r (Some more) c text → ⊥
 no_bad_part r c rest z text more lacks short some seam within (bad_line b) =
-    let front = front_short rest b.line z (b.rest ++ more) lacks (seam ∙ line_first b.line b.rest more text b.text_is) in
+    let prefix = prefix_short rest b.line z (b.rest ++ more) lacks (seam ∙ line_first b.line b.rest more text b.text_is) in
     let len : length text ≡ length b.line + length (10 ∷ b.rest) = ap length b.text_is ∙ length-append b.line (10 ∷ b.rest) in
-    omega (arith, front, len, within)
+    omega (arith, prefix, len, within)
 no_bad_part r c rest z text more lacks short some seam within (long_line is b) =
     let len : length text ≡ length b.line + length b.rest = ap length b.text_is ∙ length-append b.line b.rest in
     let long = b.long in
@@ -94,7 +94,7 @@ part_within : (r s : Option Schedule) (c : Cause) (rest z text more : List ℕ) 
 part_within r s c rest z text more [] p q lacks short some within same seam bad =
     part_by r s c rest z text more [] p q lacks short some within (sym (same ∙ append-nil (lines_read r)) ∙ sym (append-nil (lines_read s))) (sym seam) bad
 part_within r s c rest z text more (k ∷ ks) p q lacks short some within same seam bad =
-    let front = front_short rest k z (flat_map ended ks ++ (text ++ more)) lacks (seam ∙ first_line k ks (text ++ more)) in
+    let prefix = prefix_short rest k z (flat_map ended ks ++ (text ++ more)) lacks (seam ∙ first_line k ks (text ++ more)) in
     let whole : read_text s ++ [] ≡ read_text r ++ (k ++ 10 ∷ (flat_map ended ks ++ [])) =
     ap (λ y. y ++ []) (read_is s ∙ ap (λ ls. flat_map ended ls) same) ∙ flat_more (lines_read r) k ks ∙ ap (λ y. y ++ (k ++ 10 ∷ (flat_map ended ks ++ []))) (sym (read_is r)) in
     let long : length (read_text s ++ []) ≡ length (read_text r) + length (k ++ 10 ∷ (flat_map ended ks ++ [])) = ap length whole ∙ length-append (read_text r) (k ++ 10 ∷ (flat_map ended ks ++ [])) in
@@ -102,7 +102,7 @@ part_within r s c rest z text more (k ∷ ks) p q lacks short some within same s
     let none : length (read_text s ++ []) ≡ length (read_text s) = ap length (append-nil (read_text s)) in
     let a : length (read_text s ++ text) ≡ length (read_text s) + length text = length-append (read_text s) text in
     let b : length (read_text r ++ rest) ≡ length (read_text r) + length rest = length-append (read_text r) rest in
-    omega (arith, front, long, line, none, a, b, within)
+    omega (arith, prefix, long, line, none, a, b, within)
   where
     flat_more : (ls : List (List ℕ)) (k : List ℕ) (ks : List (List ℕ)) → flat_map ended (ls ++ k ∷ ks) ++ [] ≡ flat_map ended ls ++ (k ++ 10 ∷ (flat_map ended ks ++ []))
     flat_more [] k ks = first_line k ks []

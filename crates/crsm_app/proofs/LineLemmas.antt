@@ -14,7 +14,7 @@ use Rattle.crsm_spec.specs.Possible.{possible}
 use Rattle.crsm_world.specs.declared.Bad.{Bad}
 use Rattle.crsm_world.specs.declared.World.{World as Held}
 use Rattle.crsm_world.specs.Doing.{act_of, bad_of}
-use Rattle.crsm_world.specs.Standing.{StandsFor}
+use Rattle.crsm_world.specs.World.{StandsFor}
 use Rattle.crsm_world.specs.Schedule.{Schedule, last_world}
 use Rattle.crsm_app.specs.Causes.{cause_of}
 use Rattle.crsm_app.specs.Refused.{RefusedFirst, RefusedNext, unreadable_next, impossible_next, Refused}

@@ -86,11 +86,11 @@ split_lines (l ∷ ls) (m ∷ ms) x y p q e =
       | inr r ↦ inr (record { more = r.more; lines = ap (λ x. x ∷ ms) (sym heads) ∙ ap (λ xs. l ∷ xs) r.lines; rest = r.rest })
     ]
 
--- a front without the element ends before it
-pub front_short : (line k z more : List ℕ) → Lacks 10 line → line ++ z ≡ k ++ 10 ∷ more → length line ≤ length k
-front_short [] k z more p e = omega arith
-front_short (a ∷ line) [] z more p e = absurd (p.0 (heads_same a 10 (line ++ z) more e))
-front_short (a ∷ line) (b ∷ k) z more p e = let tails = tails_same a b (line ++ z) (k ++ 10 ∷ more) e in let h = front_short line k z more p.1 tails in omega (arith, h)
+-- a prefix without the element ends before it
+pub prefix_short : (line k z more : List ℕ) → Lacks 10 line → line ++ z ≡ k ++ 10 ∷ more → length line ≤ length k
+prefix_short [] k z more p e = omega arith
+prefix_short (a ∷ line) [] z more p e = absurd (p.0 (heads_same a 10 (line ++ z) more e))
+prefix_short (a ∷ line) (b ∷ k) z more p e = let tails = tails_same a b (line ++ z) (k ++ 10 ∷ more) e in let h = prefix_short line k z more p.1 tails in omega (arith, h)
 
 -- ---- what comes next in a schedule
 

@@ -13,7 +13,7 @@ take_nil : (n : ℕ) → take {A = ℕ} n [] ≡ []
 take_nil zero = refl
 take_nil (suc n) = refl
 
--- a front of one byte
+-- a prefix of one byte
 pub one_byte : (xs : List ℕ) (n : ℕ) → 0 < n → n ≤ length xs → length xs ≡ 1 → (x : ℕ) × (take n xs ≡ x ∷ [])
 one_byte [] n some within len = absurd (omega arith)
 one_byte (x ∷ []) zero some within len = absurd (omega arith)

@@ -4,10 +4,10 @@ use Rattle.std.proofs.lemmas.List.{append-nil}
 use Rattle.crsm_base.specs.declared.Line.{Line}
 use Rattle.crsm_schedule.specs.Transcript.{lines_text}
 use Rattle.crsm_text.specs.Words.{Lacks}
-use Rattle.crsm_io.specs.Streams.{Takes, Puts, PutsFront, AtEnd}
+use Rattle.crsm_io.specs.Streams.{Takes, Puts, PutsPrefix, AtEnd}
 use Rattle.crsm_spec.specs.World.{World, finals}
 use Rattle.crsm_world.specs.declared.World.{World as Held}
-use Rattle.crsm_world.specs.Standing.{StandsFor}
+use Rattle.crsm_world.specs.World.{StandsFor}
 use Rattle.crsm_world.specs.Schedule.{Schedule, last_world, finals_text}
 use Rattle.crsm_app.specs.State.{State, StandsAt}
 use Rattle.crsm_app.specs.Handled.{Handles, StopsAt}
@@ -19,7 +19,7 @@ use Rattle.crsm_app.specs.declared.status.Cause.TheVariants.{Unreadable as unrea
 use Rattle.crsm_app.specs.declared.status.Status.{Status}
 use Rattle.crsm_app.specs.declared.status.Stop.{Stop}
 use Rattle.crsm_app.specs.declared.status.Halt.{Halt}
-use Rattle.crsm_app.proofs.Stream.{more, flushed, partly, all_front, front_front, none_front, front_then, line_bad, more_part, too_long, carries_then, halts_then, taken_more}
+use Rattle.crsm_app.proofs.Stream.{more, flushed, partly, all_prefix, prefix_prefix, none_prefix, prefix_then, line_bad, more_part, too_long, carries_then, halts_then, taken_more}
 use Rattle.crsm_app.proofs.Ends.{cut_bad, finish_partly, finish_well, ran_so_far, ran_too_long, nothing_ran}
 
 -- ---- a line
@@ -39,31 +39,31 @@ line_refused w old new tail cause lacks stops same = λ before after had ahead t
   ran = λ now put.
       line_bad before after had w now old tail ahead total cause short (subst (λ ys. SoFar before after had w old ys total) (append_assoc tail (10 ∷ []) ahead) s)
       lacks stops (subst (λ x. Puts w now x) same put);
-  partly = λ now put. partly before after had w now old ((tail ++ 10 ∷ []) ++ ahead) total s (subst (λ x. PutsFront w now x) same put);
+  partly = λ now put. partly before after had w now old ((tail ++ 10 ∷ []) ++ ahead) total s (subst (λ x. PutsPrefix w now x) same put);
 }
 
--- memory ran out, and a front of what was pending still is
+-- memory ran out, and a prefix of what was pending still is
 pub no_memory_halts : (w : Option (List ℕ)) (old new : State) (bytes lost : List ℕ) → old.pending ≡ new.pending ++ lost → Halts Status.NoMemory w w old new bytes
 unfolding Halts Ran
 no_memory_halts w old new bytes lost cut = λ before after had ahead total short s. record {
-  ran = λ now put. partly before after had w now old (bytes ++ ahead) total s (all_front w now old.pending new.pending lost cut put);
-  partly = λ now put. partly before after had w now old (bytes ++ ahead) total s (front_front w now old.pending new.pending lost cut put);
+  ran = λ now put. partly before after had w now old (bytes ++ ahead) total s (all_prefix w now old.pending new.pending lost cut put);
+  partly = λ now put. partly before after had w now old (bytes ++ ahead) total s (prefix_prefix w now old.pending new.pending lost cut put);
 }
 
--- ---- a front of a line
+-- ---- a prefix of a line
 
-pub front_carries : (w : Option (List ℕ)) (old new : State) (front : List ℕ) → Lacks 10 front → length old.part + length front ≤ 16777216
-    → new.world ≡ old.world → new.number ≡ old.number → new.part ≡ old.part ++ front → new.pending ≡ old.pending → CarriesOn w w old new front []
+pub prefix_carries : (w : Option (List ℕ)) (old new : State) (prefix : List ℕ) → Lacks 10 prefix → length old.part + length prefix ≤ 16777216
+    → new.world ≡ old.world → new.number ≡ old.number → new.part ≡ old.part ++ prefix → new.pending ≡ old.pending → CarriesOn w w old new prefix []
 unfolding CarriesOn
-front_carries w old new front lacks short world number part pending = λ before after had ahead total s.
-    more_part before after had w old new front ahead total s lacks short world number part pending
+prefix_carries w old new prefix lacks short world number part pending = λ before after had ahead total s.
+    more_part before after had w old new prefix ahead total s lacks short world number part pending
 
-pub front_halts : (w : Option (List ℕ)) (old new : State) (front : List ℕ) → Lacks 10 front → 16777216 < length old.part + length front
-    → new.pending ≡ old.pending → Halts (Status.BadInput (old.number + 1) unreadable) w w old new front
+pub prefix_halts : (w : Option (List ℕ)) (old new : State) (prefix : List ℕ) → Lacks 10 prefix → 16777216 < length old.part + length prefix
+    → new.pending ≡ old.pending → Halts (Status.BadInput (old.number + 1) unreadable) w w old new prefix
 unfolding Halts Ran
-front_halts w old new front lacks long same = λ before after had ahead total short s. record {
-  ran = λ now put. too_long before after had w now old front ahead total short s lacks long (subst (λ x. Puts w now x) same put);
-  partly = λ now put. partly before after had w now old (front ++ ahead) total s (subst (λ x. PutsFront w now x) same put);
+prefix_halts w old new prefix lacks long same = λ before after had ahead total short s. record {
+  ran = λ now put. too_long before after had w now old prefix ahead total short s lacks long (subst (λ x. Puts w now x) same put);
+  partly = λ now put. partly before after had w now old (prefix ++ ahead) total s (subst (λ x. PutsPrefix w now x) same put);
 }
 
 -- ---- what is pending is written
@@ -73,13 +73,13 @@ pub flush_carries : (w v : Option (List ℕ)) (old new : State) → Puts w v old
 unfolding CarriesOn
 flush_carries w v old new put is = λ before after had ahead total s. flushed before after had w v old new ahead total s put is
 
-pub flush_halts : (w v : Option (List ℕ)) (old new : State) → PutsFront w v old.pending → new.pending ≡ [] → Halts Status.WriteFault w v old new []
+pub flush_halts : (w v : Option (List ℕ)) (old new : State) → PutsPrefix w v old.pending → new.pending ≡ [] → Halts Status.WriteFault w v old new []
 unfolding Halts Ran
 flush_halts w v old new put none = λ before after had ahead total short s. record {
   ran = λ now more.
       partly before after had w now old ahead total s
-      (front_then w v now old.pending put (all_front v now [] [] [] refl (subst (λ x. Puts v now x) none more)));
-  partly = λ now more. partly before after had w now old ahead total s (front_then w v now old.pending put (subst (λ x. PutsFront v now x) none more));
+      (prefix_then w v now old.pending put (all_prefix v now [] [] [] refl (subst (λ x. Puts v now x) none more)));
+  partly = λ now more. partly before after had w now old ahead total s (prefix_then w v now old.pending put (subst (λ x. PutsPrefix v now x) none more));
 }
 
 -- the same of an answer
@@ -88,7 +88,7 @@ pub flush_on : {X : Type 0} (result : Result X Halt) (w v : Option (List ℕ)) (
 flush_on (Ok x) w v old new put is = flush_carries w v old new put is
 flush_on (Err e) w v old new put is = tt
 
-pub flush_off : {X : Type 0} (result : Result X Halt) (w v : Option (List ℕ)) (old new : State) → IfErr result (λ halt. halt ≡ Halt.WriteFault) → PutsFront w v old.pending
+pub flush_off : {X : Type 0} (result : Result X Halt) (w v : Option (List ℕ)) (old new : State) → IfErr result (λ halt. halt ≡ Halt.WriteFault) → PutsPrefix w v old.pending
     → new ≡ record { world = old.world; number = old.number; part = old.part; pending = [] } → IfErr result (λ halt. Halts (status_of halt) w v old new [])
 flush_off (Ok x) w v old new fault put is = tt
 flush_off (Err e) w v old new fault put is =
@@ -133,11 +133,11 @@ halted_ends : (result : Status) (w v u : Option (List ℕ)) (old mid : State) (b
 unfolding Halts Ends
 halted_ends result w v u old mid bytes halts put = λ before after had ahead total short s. (halts before after had ahead total short s).ran u put
 
-halted_faults : (result : Status) (w v u : Option (List ℕ)) (old mid : State) (bytes : List ℕ) → Halts result w v old mid bytes → PutsFront v u mid.pending → Ends Status.WriteFault w u old bytes
+halted_faults : (result : Status) (w v u : Option (List ℕ)) (old mid : State) (bytes : List ℕ) → Halts result w v old mid bytes → PutsPrefix v u mid.pending → Ends Status.WriteFault w u old bytes
 unfolding Halts Ends Ran
 halted_faults result w v u old mid bytes halts put = λ before after had ahead total short s. (halts before after had ahead total short s).partly u put
 
-carried_faults : (w v u : Option (List ℕ)) (old mid : State) (bytes : List ℕ) → CarriesOn w v old mid bytes [] → PutsFront v u mid.pending → Ends Status.WriteFault w u old bytes
+carried_faults : (w v u : Option (List ℕ)) (old mid : State) (bytes : List ℕ) → CarriesOn w v old mid bytes [] → PutsPrefix v u mid.pending → Ends Status.WriteFault w u old bytes
 unfolding CarriesOn Ends Ran
 carried_faults w v u old mid bytes on put = λ before after had ahead total short s. partly before after had v u mid ahead total (on before after had ahead total s) put
 
@@ -164,7 +164,7 @@ piece_ends (Ok x) w v u old mid bytes halts put = tt
 piece_ends (Err e) w v u old mid bytes halts put = halted_ends (status_of e) w v u old mid bytes halts put
 
 pub piece_faults : {X : Type 0} (taken : Result X Halt) (w v u : Option (List ℕ)) (old mid : State) (bytes : List ℕ) → OnOk taken (CarriesOn w v old mid bytes [])
-    → IfErr taken (λ halt. Halts (status_of halt) w v old mid bytes) → PutsFront v u mid.pending → Ends Status.WriteFault w u old bytes
+    → IfErr taken (λ halt. Halts (status_of halt) w v old mid bytes) → PutsPrefix v u mid.pending → Ends Status.WriteFault w u old bytes
 piece_faults (Ok x) w v u old mid bytes on halts put = carried_faults w v u old mid bytes on put
 piece_faults (Err e) w v u old mid bytes on halts put = halted_faults (status_of e) w v u old mid bytes halts put
 
@@ -202,7 +202,7 @@ cut_finishes w st done some = λ before after had total within ended s. cut_bad 
 
 pub no_memory_finishes : (w : Option (List ℕ)) (st : State) → Finishes Status.NoMemory w w st
 unfolding Finishes Ran
-no_memory_finishes w st = λ before after had total within ended s. partly before after had w w st [] total s (none_front w st.pending)
+no_memory_finishes w st = λ before after had total within ended s. partly before after had w w st [] total s (none_prefix w st.pending)
 
 -- the final lines that a world gives are those of the schedule
 final_lines_are : (held : Held) (lines : List Line) (s : Schedule) → lines ≡ finals (last_world s) → lines_text 0 lines ≡ finals_text s
@@ -210,11 +210,11 @@ unfolding finals_text
 final_lines_are held lines s is = ap (λ ls. lines_text 0 ls) is
 
 pub partly_finishes : (w v : Option (List ℕ)) (st : State) (held : Held) (lines : List Line) → st.pending ≡ [] → st.world ≡ Some held → length st.part ≡ 0
-    → ((s : Schedule) → StandsFor held (last_world s) → lines ≡ finals (last_world s)) → PutsFront w v (lines_text 0 lines) → Finishes Status.WriteFault w v st
+    → ((s : Schedule) → StandsFor held (last_world s) → lines ≡ finals (last_world s)) → PutsPrefix w v (lines_text 0 lines) → Finishes Status.WriteFault w v st
 unfolding Finishes Ran
 partly_finishes w v st held lines done world none is put = λ before after had total within ended s.
     finish_partly before after had w v st total held ended s done world none
-    (λ sch stands. subst (λ ys. PutsFront w v ys) (final_lines_are held lines sch (is sch stands)) put)
+    (λ sch stands. subst (λ ys. PutsPrefix w v ys) (final_lines_are held lines sch (is sch stands)) put)
 
 pub well_finishes : (w v : Option (List ℕ)) (st : State) (held : Held) (lines : List Line) → st.pending ≡ [] → st.world ≡ Some held → length st.part ≡ 0
     → ((s : Schedule) → StandsFor held (last_world s) → lines ≡ finals (last_world s)) → Puts w v (lines_text 0 lines) → FinishesWell w v st

@@ -5,10 +5,10 @@ use Rattle.crsm_base.specs.declared.Line.{Line}
 use Rattle.crsm_text.specs.Words.{Lacks}
 use Rattle.crsm_text.proofs.WordsLemmas.{Lacks-append}
 use Rattle.crsm_schedule.specs.Transcript.{lines_text}
-use Rattle.crsm_io.specs.Streams.{Takes, Puts, PutsFront}
+use Rattle.crsm_io.specs.Streams.{Takes, Puts, PutsPrefix}
 use Rattle.crsm_io.proofs.Steps.{puts_after, puts_none, takes_after}
 use Rattle.crsm_world.specs.declared.World.{World as Held}
-use Rattle.crsm_world.specs.Standing.{StandsFor}
+use Rattle.crsm_world.specs.World.{StandsFor}
 use Rattle.crsm_world.specs.Schedule.{Schedule, no_events, with_event, line_count, ended, schedule_text, transcript, last_world}
 use Rattle.crsm_world.proofs.Schedules.{last_world-none, schedule_text-none, transcript-none, line_count-none, schedule-none, last_world-push, schedule_text-push, transcript-push, line_count-push, schedule-push}
 use Rattle.crsm_app.specs.State.{State, read_text, shown_text, IsGood, count_of, StandsAt}
@@ -109,51 +109,51 @@ pub nothing_pending : (b a h w : Option (List ℕ)) (st : State) (ahead : List �
 nothing_pending b a h w st ahead total s none =
     subst (λ x. Puts h w x) (sym (s.shown ∙ ap (λ ys. s.written ++ ys) none ∙ append-nil s.written)) s.puts
 
--- a front of it
-pub partly : (b a h w v : Option (List ℕ)) (st : State) (ahead : List ℕ) (total : ℕ) → SoFar b a h w st ahead total → PutsFront w v st.pending → RanPartly b a h v
+-- a prefix of it
+pub partly : (b a h w v : Option (List ℕ)) (st : State) (ahead : List ℕ) (total : ℕ) → SoFar b a h w st ahead total → PutsPrefix w v st.pending → RanPartly b a h v
 partly b a h w v st ahead total s put = record {
   read = s.read;
   good = s.good;
   rest = st.part ++ ahead;
   takes = s.takes;
   wrote = of_transcript (record {
-    front = s.written ++ put.front;
+    prefix = s.written ++ put.prefix;
     rest = put.rest;
-    cut = s.shown ∙ ap (λ ys. s.written ++ ys) put.cut ∙ sym (append_assoc s.written put.front put.rest);
-    put = puts_after h w v s.written put.front s.puts put.put;
+    cut = s.shown ∙ ap (λ ys. s.written ++ ys) put.cut ∙ sym (append_assoc s.written put.prefix put.rest);
+    put = puts_after h w v s.written put.prefix s.puts put.put;
   });
 }
 
--- all of a front of it
-pub all_front : (w v : Option (List ℕ)) (text front rest : List ℕ) → text ≡ front ++ rest → Puts w v front → PutsFront w v text
-all_front w v text front rest cut put = record { front = front; rest = rest; cut = cut; put = put }
+-- all of a prefix of it
+pub all_prefix : (w v : Option (List ℕ)) (text prefix rest : List ℕ) → text ≡ prefix ++ rest → Puts w v prefix → PutsPrefix w v text
+all_prefix w v text prefix rest cut put = record { prefix = prefix; rest = rest; cut = cut; put = put }
 
--- a front of a front of it
-pub front_front : (w v : Option (List ℕ)) (text front rest : List ℕ) → text ≡ front ++ rest → PutsFront w v front → PutsFront w v text
-front_front w v text front rest cut put = record {
-  front = put.front;
+-- a prefix of a prefix of it
+pub prefix_prefix : (w v : Option (List ℕ)) (text prefix rest : List ℕ) → text ≡ prefix ++ rest → PutsPrefix w v prefix → PutsPrefix w v text
+prefix_prefix w v text prefix rest cut put = record {
+  prefix = put.prefix;
   rest = put.rest ++ rest;
-  cut = cut ∙ ap (λ ys. ys ++ rest) put.cut ∙ append_assoc put.front put.rest rest;
+  cut = cut ∙ ap (λ ys. ys ++ rest) put.cut ∙ append_assoc put.prefix put.rest rest;
   put = put.put;
 }
 
 -- nothing of it
-pub none_front : (w : Option (List ℕ)) (text : List ℕ) → PutsFront w w text
-none_front w text = record { front = []; rest = text; cut = refl; put = puts_none w }
+pub none_prefix : (w : Option (List ℕ)) (text : List ℕ) → PutsPrefix w w text
+none_prefix w text = record { prefix = []; rest = text; cut = refl; put = puts_none w }
 
-no_front : (x y : List ℕ) → [] ≡ x ++ y → x ≡ []
-no_front [] y e = refl
-no_front (n ∷ x) y e = absurd (omega (arith, ap length e))
+no_prefix : (x y : List ℕ) → [] ≡ x ++ y → x ≡ []
+no_prefix [] y e = refl
+no_prefix (n ∷ x) y e = absurd (omega (arith, ap length e))
 
--- a front of it, and then nothing
-pub front_then : (w v u : Option (List ℕ)) (text : List ℕ) → PutsFront w v text → PutsFront v u [] → PutsFront w u text
-front_then w v u text one other =
-    let none : one.front ++ other.front ≡ one.front = ap (λ ys. one.front ++ ys) (no_front other.front other.rest other.cut) ∙ append-nil one.front in
+-- a prefix of it, and then nothing
+pub prefix_then : (w v u : Option (List ℕ)) (text : List ℕ) → PutsPrefix w v text → PutsPrefix v u [] → PutsPrefix w u text
+prefix_then w v u text one other =
+    let none : one.prefix ++ other.prefix ≡ one.prefix = ap (λ ys. one.prefix ++ ys) (no_prefix other.prefix other.rest other.cut) ∙ append-nil one.prefix in
     record {
-      front = one.front ++ other.front;
+      prefix = one.prefix ++ other.prefix;
       rest = one.rest;
       cut = one.cut ∙ ap (λ ys. ys ++ one.rest) (sym none);
-      put = puts_after w v u one.front other.front one.put other.put;
+      put = puts_after w v u one.prefix other.prefix one.put other.put;
     }
 
 -- ---- a line that is refused
@@ -178,21 +178,21 @@ line_bad b a h w v old tail ahead total cause within s lacks refused put = recor
   puts = all_put b a h w v old (tail ++ 10 ∷ ahead) total s put;
 }
 
--- ---- a front of a line
+-- ---- a prefix of a line
 
-pub more_part : (b a h w : Option (List ℕ)) (old new : State) (front ahead : List ℕ) (total : ℕ)
-    → SoFar b a h w old (front ++ ahead) total → Lacks 10 front → length old.part + length front ≤ 16777216
-    → new.world ≡ old.world → new.number ≡ old.number → new.part ≡ old.part ++ front → new.pending ≡ old.pending → SoFar b a h w new ahead total
-more_part b a h w old new front ahead total s lacks short world_is number_is part_is pending_is =
-    let text : read_text s.read ++ (old.part ++ (front ++ ahead)) ≡ read_text s.read ++ (new.part ++ ahead) =
-    ap (λ ys. read_text s.read ++ ys) (sym (append_assoc old.part front ahead) ∙ ap (λ ys. ys ++ ahead) (sym part_is)) in
-    let long : length new.part ≡ length old.part + length front = ap length part_is ∙ length-append old.part front in
+pub more_part : (b a h w : Option (List ℕ)) (old new : State) (prefix ahead : List ℕ) (total : ℕ)
+    → SoFar b a h w old (prefix ++ ahead) total → Lacks 10 prefix → length old.part + length prefix ≤ 16777216
+    → new.world ≡ old.world → new.number ≡ old.number → new.part ≡ old.part ++ prefix → new.pending ≡ old.pending → SoFar b a h w new ahead total
+more_part b a h w old new prefix ahead total s lacks short world_is number_is part_is pending_is =
+    let text : read_text s.read ++ (old.part ++ (prefix ++ ahead)) ≡ read_text s.read ++ (new.part ++ ahead) =
+    ap (λ ys. read_text s.read ++ ys) (sym (append_assoc old.part prefix ahead) ∙ ap (λ ys. ys ++ ahead) (sym part_is)) in
+    let long : length new.part ≡ length old.part + length prefix = ap length part_is ∙ length-append old.part prefix in
     record {
       read = s.read;
       good = s.good;
       stands = subst (λ x. StandsAt x s.read) (sym world_is) s.stands;
       number = number_is ∙ s.number;
-      part = subst (λ ys. Lacks 10 ys) (sym part_is) (Lacks-append 10 old.part front s.part lacks);
+      part = subst (λ ys. Lacks 10 ys) (sym part_is) (Lacks-append 10 old.part prefix s.part lacks);
       short = omega (arith, long, short);
       takes = subst (λ x. Takes b a x) text s.takes;
       taken_len = ap length (sym text) ∙ s.taken_len;
@@ -201,35 +201,35 @@ more_part b a h w old new front ahead total s lacks short world_is number_is par
       shown = s.shown ∙ ap (λ ys. s.written ++ ys) (sym pending_is);
     }
 
-lacks_front : (xs : List ℕ) (n : ℕ) → Lacks 10 xs → Lacks 10 (take n xs)
-lacks_front xs zero lacks = tt
-lacks_front [] (suc n) lacks = tt
-lacks_front (x ∷ xs) (suc n) lacks = (lacks.0, lacks_front xs n lacks.1)
+lacks_prefix : (xs : List ℕ) (n : ℕ) → Lacks 10 xs → Lacks 10 (take n xs)
+lacks_prefix xs zero lacks = tt
+lacks_prefix [] (suc n) lacks = tt
+lacks_prefix (x ∷ xs) (suc n) lacks = (lacks.0, lacks_prefix xs n lacks.1)
 
 -- a line that is too long
-pub too_long : (b a h w v : Option (List ℕ)) (old : State) (front ahead : List ℕ) (total : ℕ) → total ≤ 1073741824
-    → SoFar b a h w old (front ++ ahead) total → Lacks 10 front → 16777216 < length old.part + length front
+pub too_long : (b a h w v : Option (List ℕ)) (old : State) (prefix ahead : List ℕ) (total : ℕ) → total ≤ 1073741824
+    → SoFar b a h w old (prefix ++ ahead) total → Lacks 10 prefix → 16777216 < length old.part + length prefix
     → Puts w v old.pending → RanToBad b a h v (old.number + 1) Unreadable
-too_long b a h w v old front ahead total within s lacks long put =
-    let whole : List ℕ = old.part ++ front in
-    let len : length whole ≡ length old.part + length front = length-append old.part front in
+too_long b a h w v old prefix ahead total within s lacks long put =
+    let whole : List ℕ = old.part ++ prefix in
+    let len : length whole ≡ length old.part + length prefix = length-append old.part prefix in
     record {
       read = s.read;
       good = s.good;
       line_is = ap (λ n. n + 1) s.number;
-      rest = old.part ++ (front ++ ahead);
+      rest = old.part ++ (prefix ++ ahead);
       within = subst (λ n. n ≤ 1073741824) (sym s.taken_len) within;
       takes = s.takes;
       bad = long_line refl (record {
         line = take 16777217 whole;
         rest = drop 16777217 whole ++ ahead;
         text_is =
-            sym (append_assoc old.part front ahead) ∙ ap (λ ys. ys ++ ahead) (sym (take-append-drop 16777217 whole))
+            sym (append_assoc old.part prefix ahead) ∙ ap (λ ys. ys ++ ahead) (sym (take-append-drop 16777217 whole))
             ∙ append_assoc (take 16777217 whole) (drop 16777217 whole) ahead;
-        lacks = lacks_front whole 16777217 (Lacks-append 10 old.part front s.part lacks);
+        lacks = lacks_prefix whole 16777217 (Lacks-append 10 old.part prefix s.part lacks);
         long = length-take-le 16777217 whole (omega (arith, len, long));
       });
-      puts = all_put b a h w v old (front ++ ahead) total s put;
+      puts = all_put b a h w v old (prefix ++ ahead) total s put;
     }
 
 -- ---- one after another
@@ -238,7 +238,7 @@ pub carries_then : (w v u : Option (List ℕ)) (x y z : State) (bytes rest last 
 unfolding CarriesOn
 carries_then w v u x y z bytes rest last one other = λ before after had ahead total s. other before after had ahead total (one before after had ahead total s)
 
--- the same, where the bytes that are handled next are a front of the rest
+-- the same, where the bytes that are handled next are a prefix of the rest
 pub carries_line : (w v : Option (List ℕ)) (x y : State) (line behind : List ℕ) → CarriesOn w v x y (line ++ 10 ∷ []) [] → CarriesOn w v x y (line ++ 10 ∷ behind) behind
 unfolding CarriesOn
 carries_line w v x y line behind on = λ before after had ahead total s.
@@ -255,7 +255,7 @@ halts_line result w v x y line behind halts = λ before after had ahead total wi
     halts before after had (behind ++ ahead) total within
     (subst (λ ys. SoFar before after had w x ys total) (append_assoc line (10 ∷ behind) ahead ∙ sym (append_assoc line (10 ∷ []) (behind ++ ahead))) s)
 
--- the line at the front of the rest
+-- the line at the prefix of the rest
 pub past_line : (w v : Option (List ℕ)) (x y z : State) (bytes rest line behind : List ℕ) → rest ≡ line ++ 10 ∷ behind → CarriesOn w v x y bytes rest
     → CarriesOn v v y z (line ++ 10 ∷ []) [] → CarriesOn w v x z bytes behind
 past_line w v x y z bytes rest line behind is one other =

@@ -7,7 +7,7 @@ use Rattle.crsm_spec.specs.World.{World, begin, first_lines}
 use Rattle.crsm_spec.specs.Moments.{act}
 use Rattle.crsm_world.specs.declared.World.{World as Held}
 use Rattle.crsm_world.specs.Doing.{act_of}
-use Rattle.crsm_world.specs.Standing.{StandsFor}
+use Rattle.crsm_world.specs.World.{StandsFor}
 use Rattle.crsm_world.specs.Schedule.{Schedule, IsNext, last_world}
 use Rattle.crsm_app.specs.Refused.{RefusedFirst, RefusedNext, Refused}
 use Rattle.crsm_app.specs.State.{State, StandsAt}

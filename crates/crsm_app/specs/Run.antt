@@ -1,6 +1,6 @@
 -- What a run does: how it stands in mid-stream, and what it did by its status.
 use Rattle.std.specs.Prelude.{◌≡◌, ℕ, ◌+◌, ◌≤◌, ◌⊎◌, List, [], ◌∷◌, ◌++◌, Option, length}
-use Rattle.crsm_io.specs.Streams.{Takes, Puts, PutsFront, AtEnd}
+use Rattle.crsm_io.specs.Streams.{Takes, Puts, PutsPrefix, AtEnd}
 use Rattle.crsm_text.specs.Words.{Lacks}
 use Rattle.crsm_world.specs.Schedule.{Schedule, IsSchedule, schedule_text, transcript, finals_text}
 use Rattle.crsm_app.specs.State.{State, read_text, shown_text, whole_text, IsGood, count_of, StandsAt}
@@ -71,11 +71,11 @@ pub record RanTooLong (before after had has : Option (List ℕ)) : Type 0 where
   pub takes : Takes before after (read_text read ++ (rest ++ more ∷ []))
   pub puts : Puts had has (shown_text read)
 
--- A front of the transcript of what has been read was written, or, at the end of the input, a front of all that is to
+-- A prefix of the transcript of what has been read was written, or, at the end of the input, a prefix of all that is to
 -- be written.
 pub data WrotePart (read : Option Schedule) (rest : List ℕ) (after had has : Option (List ℕ)) : Type 0 where
-  of_transcript : PutsFront had has (shown_text read) → WrotePart read rest after had has
-  of_all : rest ≡ [] → AtEnd after → PutsFront had has (whole_text read) → WrotePart read rest after had has
+  of_transcript : PutsPrefix had has (shown_text read) → WrotePart read rest after had has
+  of_all : rest ≡ [] → AtEnd after → PutsPrefix had has (whole_text read) → WrotePart read rest after had has
 
 -- a part of what is to be written was written
 pub record RanPartly (before after had has : Option (List ℕ)) : Type 0 where
@@ -102,10 +102,10 @@ unfoldable pub CarriesOn : Option (List ℕ) → Option (List ℕ) → State →
 CarriesOn has now old new bytes rest = (before after had : Option (List ℕ)) (ahead : List ℕ) (total : ℕ)
     → SoFar before after had has old (bytes ++ ahead) total → SoFar before after had now new (rest ++ ahead) total
 
--- the run ends once what is pending is written, or with a front of it
+-- the run ends once what is pending is written, or with a prefix of it
 pub record Halted (result : Status) (before after had has : Option (List ℕ)) (pending : List ℕ) : Type 0 where
   pub ran : (now : Option (List ℕ)) → Puts has now pending → Ran result before after had now
-  pub partly : (now : Option (List ℕ)) → PutsFront has now pending → RanPartly before after had now
+  pub partly : (now : Option (List ℕ)) → PutsPrefix has now pending → RanPartly before after had now
 
 -- in these bytes the run ends, but for what is pending
 unfoldable pub Halts : Status → Option (List ℕ) → Option (List ℕ) → State → State → List ℕ → Type 0

@@ -1,7 +1,7 @@
 //! The commands, by their words.
 
 ghost use Rattle.std.specs.Prelude.{◌≡◌, ◌≢◌, ◌<◌, ◌≤◌, ◌+◌, ◌↔◌, ◌++◌, ℕ, IsTrue, List, Option, Some, length, [], ◌∷◌, map, codes, string_bytes};
-ghost use Rattle.crsm_device.specs.Counts.{Rose};
+ghost use Rattle.crsm_faults.specs.Counts.{Rose};
 ghost use Rattle.crsm_text.specs.Words.{Lacks};
 ghost use Rattle.crsm_spec.specs.Safe.{Agreed, Answered, RealTime};
 ghost use Rattle.crsm_spec.specs.Durable.{KeepsAnswered};
@@ -15,7 +15,7 @@ ghost use Rattle.crsm_app.specs.declared.status.Cause.{Cause};
 use crate::replay::Replay;
 use crate::status::{Halt, Status};
 use crsm_io::{Sink, Source};
-use crsm_safe::{answered_are_kept, runs_are_safe};
+use crsm_law_runs::{answered_are_kept, runs_are_safe};
 use std::alloc::Global;
 
 /// How many bytes an input has at most.
@@ -152,7 +152,7 @@ pub fn run<I: Source, O: Sink>(
     // A transcript has all lines of the protocol's run, in order, and no other.
     ensures shows { (s : Schedule) → ShowsAll s }
 
-    // In every schedule that is run all executed lists, at any moments, are fronts of one list; each answer is the
+    // In every schedule that is run all executed lists, at any moments, are prefixes of one list; each answer is the
     // sequential store's at its place of that list; what is submitted after an answer stands behind the answered
     // command; and what was answered is never lost.
     ensures agreement { (s : Schedule) → IsSchedule s → Agreed s.replicas (acts_of s) }

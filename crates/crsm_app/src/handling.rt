@@ -6,7 +6,7 @@ ghost use Rattle.crsm_schedule.specs.Grammar.{FitsEvent, event_text};
 ghost use Rattle.crsm_schedule.specs.Transcript.{lines_text};
 ghost use Rattle.crsm_spec.specs.World as on_paper;
 ghost use Rattle.crsm_world.specs.Doing.{bad_of};
-ghost use Rattle.crsm_world.specs.Standing.{StandsFor};
+ghost use Rattle.crsm_world.specs.World.{StandsFor};
 ghost use Rattle.crsm_app.specs.Causes.{cause_of};
 ghost use Rattle.crsm_app.specs.Handled.{BeginsWorld, DoesEvent, Advances, StopsFirst, StopsNext, StopsAt};
 

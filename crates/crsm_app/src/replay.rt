@@ -2,8 +2,8 @@
 //! one piece are gathered, and written at its end.
 
 ghost use Rattle.std.specs.Prelude.{◌≡◌, ◌≢◌, ◌+◌, ◌-◌, ◌<◌, ◌≤◌, ◌^◌, ◌++◌, ◌∷◌, [], ℕ, List, Option, None, IfOk, IfErr, OnOk, OnErr, length, IsErrOf};
-ghost use Rattle.crsm_device.specs.Counts.{Rose};
-ghost use Rattle.crsm_io.specs.Streams.{Puts, PutsFront};
+ghost use Rattle.crsm_faults.specs.Counts.{Rose};
+ghost use Rattle.crsm_io.specs.Streams.{Puts, PutsPrefix};
 ghost use Rattle.crsm_text.specs.Words.{Lacks};
 ghost use Rattle.crsm_app.specs.Causes.{status_of};
 ghost use Rattle.crsm_app.specs.Handled.{Advances, Handles, StopsAt};
@@ -122,26 +122,26 @@ impl Replay {
         }
     }
 
-    /// Keeps a front of a line.
-    fn keep(&mut self, front: &[u8]) -> Result<(), Halt>
-        requires number { self.old.number + length front.now < 2 ^ 64 }
-        requires lacks { Lacks 10 front.now }
-        ensures ok { (has : Option (List ℕ)) → OnOk result (CarriesOn has has self.old self.new front.now []) }
-        ensures err { (has : Option (List ℕ)) → IfErr result (λ halt. Halts (status_of halt) has has self.old self.new front.now) }
+    /// Keeps a prefix of a line.
+    fn keep(&mut self, prefix: &[u8]) -> Result<(), Halt>
+        requires number { self.old.number + length prefix.now < 2 ^ 64 }
+        requires lacks { Lacks 10 prefix.now }
+        ensures ok { (has : Option (List ℕ)) → OnOk result (CarriesOn has has self.old self.new prefix.now []) }
+        ensures err { (has : Option (List ℕ)) → IfErr result (λ halt. Halts (status_of halt) has has self.old self.new prefix.now) }
         ensures number { self.new.number ≡ self.old.number }
         ensures fault { IfErr result (λ halt. halt ≢ Halt.WriteFault) }
     {
-        if front.is_empty() {
+        if prefix.is_empty() {
             return Ok(());
         }
-        if self.part.len().saturating_add(front.len()) as u64 > MAX_LINE_BYTES {
+        if self.part.len().saturating_add(prefix.len()) as u64 > MAX_LINE_BYTES {
             let line = self.number + 1;
             return Err(Halt::BadInput {
                 line,
                 cause: Cause::Unreadable,
             });
         }
-        let Ok(()) = self.part.extend_from_slice(front) else {
+        let Ok(()) = self.part.extend_from_slice(prefix) else {
             return Err(Halt::NoMemory);
         };
         Ok(())
@@ -150,7 +150,7 @@ impl Replay {
     /// Writes what is pending, after which nothing is.
     fn flush<O: Sink>(&mut self, output: &mut O) -> Result<(), Halt>
         ensures put { OnOk result (Puts (O.written output.old) (O.written output.new) self.old.pending) }
-        ensures front { PutsFront (O.written output.old) (O.written output.new) self.old.pending }
+        ensures prefix { PutsPrefix (O.written output.old) (O.written output.new) self.old.pending }
         ensures state { self.new ≡ record { world = self.old.world; number = self.old.number; part = self.old.part; pending = [] } }
         ensures fault { IfErr result (λ halt. halt ≡ Halt.WriteFault) }
         ensures later { O.faults output.old ≤ O.faults output.new }

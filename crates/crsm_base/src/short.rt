@@ -88,7 +88,7 @@ impl ShortBytes {
     }
 
     /// A list of the first of these bytes, so many.
-    pub(crate) fn from_front(
+    pub(crate) fn from_prefix(
         alloc: Global,
         bytes: &[u8],
         count: usize,

@@ -23,9 +23,9 @@ fn pushed_val(alloc: Global, bytes: &[u8]) -> Result<Val, NoMemory> {
     Ok(val)
 }
 
-/// The key of a front of so many bytes, and one byte more.
+/// The key of a prefix of so many bytes, and one byte more.
 fn joined_key(alloc: Global, count: usize) -> Result<Key, NoMemory> {
-    let mut key = Key::from_front(alloc, &LONG, count.min(LONG.len()))?;
+    let mut key = Key::from_prefix(alloc, &LONG, count.min(LONG.len()))?;
     key.push(11)?;
     Ok(key)
 }
@@ -60,7 +60,7 @@ fn values_grow_by_bytes(rt: HostRuntime) -> Result<(), Fail> {
 }
 
 #[test]
-fn fronts_grow(rt: HostRuntime) -> Result<(), Fail> {
+fn prefixes_grow(rt: HostRuntime) -> Result<(), Fail> {
     let alloc = rt.alloc();
     assert_eq!(rt; joined_key(alloc, 0)?.as_slice(), [11u8].as_slice());
     assert_eq!(rt;

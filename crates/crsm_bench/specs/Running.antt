@@ -1,7 +1,7 @@
 -- Cores that stand for replicas on paper.
 use Rattle.crsm_spec.specs.Replica.{Replica}
 use Rattle.crsm_core.specs.declared.replica.Core.{Core}
-use Rattle.crsm_core.specs.Standing.{CoreStands}
+use Rattle.crsm_core.specs.Core.{CoreStands}
 use Rattle.crsm_bench.specs.declared.cores.Cluster.{Cluster}
 
 -- the core stands for some replica

@@ -3,7 +3,7 @@
 ghost use Rattle.std.specs.Prelude.{◌≡◌, ◌<◌, ◌≤◌, [], ℕ, IfOk, OnOk};
 ghost use Rattle.std.specs.List.{AllByRecursion};
 ghost use Rattle.crsm_core.specs.Inputs.{FitsInput};
-ghost use Rattle.crsm_core.specs.Standing.{CoreAwaits, FitsSent};
+ghost use Rattle.crsm_core.specs.Core.{CoreAwaits, FitsSent};
 ghost use Rattle.crsm_bench.specs.Running.{IsRunning, AreRunning};
 
 use crate::fault::Fault;

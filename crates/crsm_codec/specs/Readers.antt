@@ -2,12 +2,12 @@
 use Rattle.std.specs.Prelude.{◌≡◌, ℕ, ◌≤◌, List, ◌++◌, length, take}
 
 -- the value is spelt by so many first bytes
-abbrev pub IsFront : {X : Type 0} → (X → List ℕ → Type 0) → List ℕ → X × ℕ → Type 0
-IsFront Spelt bytes front = (front.1 ≤ length bytes) × Spelt front.0 (take front.1 bytes)
+abbrev pub IsPrefix : {X : Type 0} → (X → List ℕ → Type 0) → List ℕ → X × ℕ → Type 0
+IsPrefix Spelt bytes prefix = (prefix.1 ≤ length bytes) × Spelt prefix.0 (take prefix.1 bytes)
 
 -- no first bytes spell a value
-abbrev pub HasNoFront : {X : Type 0} → (X → List ℕ → Type 0) → List ℕ → Type 0
-HasNoFront {X = X} Spelt bytes = (x : X) (len : ℕ) → Spelt x (take len bytes) → ⊥
+abbrev pub HasNoPrefix : {X : Type 0} → (X → List ℕ → Type 0) → List ℕ → Type 0
+HasNoPrefix {X = X} Spelt bytes = (x : X) (len : ℕ) → Spelt x (take len bytes) → ⊥
 
 -- each value has one spelling, each spelling one value, and none begins another
 abbrev pub OneSpelling : {X : Type 0} → (X → List ℕ → Type 0) → Type 0

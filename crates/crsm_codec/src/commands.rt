@@ -4,16 +4,16 @@ ghost use Rattle.std.specs.Prelude.{◌≡◌, ◌++◌, List, ℕ, length, IfOk
 ghost use Rattle.crsm_base.specs.declared.Op.{Op};
 ghost use Rattle.crsm_base.specs.declared.Command.{Command};
 ghost use Rattle.crsm_base.specs.Spelling.{FitsCommand, FitsKey, FitsOp, FitsOption, FitsVal, Spelt, SpeltCommand, SpeltKey, SpeltOp, SpeltVal, command_bytes, key_bytes, op_bytes, option_bytes, val_bytes};
-ghost use Rattle.crsm_codec.specs.Readers.{IsFront, HasNoFront};
+ghost use Rattle.crsm_codec.specs.Readers.{IsPrefix, HasNoPrefix};
 
 use crsm_base::{Bytes, Command, Key, NoMemory, Op, Val};
 use std::alloc::Global;
 
-/// Reads a key, of 1 to 64 bytes from the front of the bytes: the value and how many bytes it takes, or `None`
+/// Reads a key, of 1 to 64 bytes from the prefix of the bytes: the value and how many bytes it takes, or `None`
 /// exactly where no first bytes spell one.
 pub fn read_key(alloc: Global, bytes: &[u8]) -> Result<Option<(Key, usize)>, NoMemory>
-    ensures found { IfOk result (λ r. IfSome r (IsFront SpeltKey bytes.now)) }
-    ensures none { IfOk result (λ r. IfNone r (HasNoFront SpeltKey bytes.now)) }
+    ensures found { IfOk result (λ r. IfSome r (IsPrefix SpeltKey bytes.now)) }
+    ensures none { IfOk result (λ r. IfNone r (HasNoPrefix SpeltKey bytes.now)) }
     ensures again { (key : List ℕ) (rest : List ℕ) → FitsKey key → bytes.now ≡ key_bytes key ++ rest →
         IfOk result (λ r. r ≡ Some (key, length (key_bytes key))) }
 {
@@ -34,11 +34,11 @@ pub fn write_key(alloc: Global, key: &Key, out: &mut Bytes) -> Result<(), NoMemo
     out.append(spelling.as_slice())
 }
 
-/// Reads a value, of at most 512 bytes from the front of the bytes: the value and how many bytes it takes, or
+/// Reads a value, of at most 512 bytes from the prefix of the bytes: the value and how many bytes it takes, or
 /// `None` exactly where no first bytes spell one.
 pub fn read_val(alloc: Global, bytes: &[u8]) -> Result<Option<(Val, usize)>, NoMemory>
-    ensures found { IfOk result (λ r. IfSome r (IsFront SpeltVal bytes.now)) }
-    ensures none { IfOk result (λ r. IfNone r (HasNoFront SpeltVal bytes.now)) }
+    ensures found { IfOk result (λ r. IfSome r (IsPrefix SpeltVal bytes.now)) }
+    ensures none { IfOk result (λ r. IfNone r (HasNoPrefix SpeltVal bytes.now)) }
     ensures again { (val : List ℕ) (rest : List ℕ) → FitsVal val → bytes.now ≡ val_bytes val ++ rest →
         IfOk result (λ r. r ≡ Some (val, length (val_bytes val))) }
 {
@@ -59,14 +59,14 @@ pub fn write_val(alloc: Global, val: &Val, out: &mut Bytes) -> Result<(), NoMemo
     out.append(spelling.as_slice())
 }
 
-/// Reads a value that may be missing from the front of the bytes: the value and how many bytes it takes, or `None`
+/// Reads a value that may be missing from the prefix of the bytes: the value and how many bytes it takes, or `None`
 /// exactly where no first bytes spell one.
 pub fn read_option_val(
     alloc: Global,
     bytes: &[u8],
 ) -> Result<Option<(Option<Val>, usize)>, NoMemory>
-    ensures found { IfOk result (λ r. IfSome r (IsFront (Spelt (option_bytes val_bytes) (FitsOption FitsVal)) bytes.now)) }
-    ensures none { IfOk result (λ r. IfNone r (HasNoFront (Spelt (option_bytes val_bytes) (FitsOption FitsVal)) bytes.now)) }
+    ensures found { IfOk result (λ r. IfSome r (IsPrefix (Spelt (option_bytes val_bytes) (FitsOption FitsVal)) bytes.now)) }
+    ensures none { IfOk result (λ r. IfNone r (HasNoPrefix (Spelt (option_bytes val_bytes) (FitsOption FitsVal)) bytes.now)) }
     ensures again { (val : Option (List ℕ)) (rest : List ℕ) → FitsOption FitsVal val → bytes.now ≡ option_bytes val_bytes val ++ rest →
         IfOk result (λ r. r ≡ Some (val, length (option_bytes val_bytes val))) }
 {
@@ -87,11 +87,11 @@ pub fn write_option_val(alloc: Global, val: &Option<Val>, out: &mut Bytes) -> Re
     out.append(spelling.as_slice())
 }
 
-/// Reads an operation from the front of the bytes: the value and how many bytes it takes, or `None` exactly where
+/// Reads an operation from the prefix of the bytes: the value and how many bytes it takes, or `None` exactly where
 /// no first bytes spell one.
 pub fn read_op(alloc: Global, bytes: &[u8]) -> Result<Option<(Op, usize)>, NoMemory>
-    ensures found { IfOk result (λ r. IfSome r (IsFront SpeltOp bytes.now)) }
-    ensures none { IfOk result (λ r. IfNone r (HasNoFront SpeltOp bytes.now)) }
+    ensures found { IfOk result (λ r. IfSome r (IsPrefix SpeltOp bytes.now)) }
+    ensures none { IfOk result (λ r. IfNone r (HasNoPrefix SpeltOp bytes.now)) }
     ensures again { (op : Op) (rest : List ℕ) → FitsOp op → bytes.now ≡ op_bytes op ++ rest →
         IfOk result (λ r. r ≡ Some (op, length (op_bytes op))) }
 {
@@ -112,11 +112,11 @@ pub fn write_op(alloc: Global, op: &Op, out: &mut Bytes) -> Result<(), NoMemory>
     out.append(spelling.as_slice())
 }
 
-/// Reads a command from the front of the bytes: the value and how many bytes it takes, or `None` exactly where no
+/// Reads a command from the prefix of the bytes: the value and how many bytes it takes, or `None` exactly where no
 /// first bytes spell one.
 pub fn read_command(alloc: Global, bytes: &[u8]) -> Result<Option<(Command, usize)>, NoMemory>
-    ensures found { IfOk result (λ r. IfSome r (IsFront SpeltCommand bytes.now)) }
-    ensures none { IfOk result (λ r. IfNone r (HasNoFront SpeltCommand bytes.now)) }
+    ensures found { IfOk result (λ r. IfSome r (IsPrefix SpeltCommand bytes.now)) }
+    ensures none { IfOk result (λ r. IfNone r (HasNoPrefix SpeltCommand bytes.now)) }
     ensures again { (command : Command) (rest : List ℕ) → FitsCommand command → bytes.now ≡ command_bytes command ++ rest →
         IfOk result (λ r. r ≡ Some (command, length (command_bytes command))) }
 {

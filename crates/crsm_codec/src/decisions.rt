@@ -6,16 +6,16 @@ ghost use Rattle.crsm_base.specs.declared.Decision.{Decision};
 ghost use Rattle.crsm_base.specs.Members.{IsMembers};
 ghost use Rattle.crsm_base.specs.Spelling.{FitsDecision, FitsOption, Spelt, SpeltDecision, SpeltMembers, decision_bytes, members_bytes, option_bytes};
 ghost use Rattle.crsm_base.specs.Messages.{FitsVote, vote_bytes};
-ghost use Rattle.crsm_codec.specs.Readers.{IsFront, HasNoFront};
+ghost use Rattle.crsm_codec.specs.Readers.{IsPrefix, HasNoPrefix};
 
 use crsm_base::{Ballot, Bytes, Decision, Members, NoMemory};
 use std::alloc::Global;
 
-/// Reads members from the front of the bytes: the value and how many bytes it takes, or `None` exactly where no
+/// Reads members from the prefix of the bytes: the value and how many bytes it takes, or `None` exactly where no
 /// first bytes spell one.
 pub fn read_members(alloc: Global, bytes: &[u8]) -> Result<Option<(Members, usize)>, NoMemory>
-    ensures found { IfOk result (λ r. IfSome r (IsFront SpeltMembers bytes.now)) }
-    ensures none { IfOk result (λ r. IfNone r (HasNoFront SpeltMembers bytes.now)) }
+    ensures found { IfOk result (λ r. IfSome r (IsPrefix SpeltMembers bytes.now)) }
+    ensures none { IfOk result (λ r. IfNone r (HasNoPrefix SpeltMembers bytes.now)) }
     ensures again { (members : List ℕ) (rest : List ℕ) → IsMembers members → bytes.now ≡ members_bytes members ++ rest →
         IfOk result (λ r. r ≡ Some (members, length (members_bytes members))) }
 {
@@ -35,11 +35,11 @@ pub fn write_members(alloc: Global, members: &Members, out: &mut Bytes) -> Resul
     out.append(spelling.as_slice())
 }
 
-/// Reads a decision from the front of the bytes: the value and how many bytes it takes, or `None` exactly where no
+/// Reads a decision from the prefix of the bytes: the value and how many bytes it takes, or `None` exactly where no
 /// first bytes spell one.
 pub fn read_decision(alloc: Global, bytes: &[u8]) -> Result<Option<(Decision, usize)>, NoMemory>
-    ensures found { IfOk result (λ r. IfSome r (IsFront SpeltDecision bytes.now)) }
-    ensures none { IfOk result (λ r. IfNone r (HasNoFront SpeltDecision bytes.now)) }
+    ensures found { IfOk result (λ r. IfSome r (IsPrefix SpeltDecision bytes.now)) }
+    ensures none { IfOk result (λ r. IfNone r (HasNoPrefix SpeltDecision bytes.now)) }
     ensures again { (decision : Decision) (rest : List ℕ) → FitsDecision decision → bytes.now ≡ decision_bytes decision ++ rest →
         IfOk result (λ r. r ≡ Some (decision, length (decision_bytes decision))) }
 {
@@ -60,14 +60,14 @@ pub fn write_decision(alloc: Global, decision: &Decision, out: &mut Bytes) -> Re
     out.append(spelling.as_slice())
 }
 
-/// Reads what an acceptor has accepted, if anything: the ballot and the decision from the front of the bytes: the
+/// Reads what an acceptor has accepted, if anything: the ballot and the decision from the prefix of the bytes: the
 /// value and how many bytes it takes, or `None` exactly where no first bytes spell one.
 pub fn read_option_vote(
     alloc: Global,
     bytes: &[u8],
 ) -> Result<Option<(Option<(Ballot, Decision)>, usize)>, NoMemory>
-    ensures found { IfOk result (λ r. IfSome r (IsFront (Spelt (option_bytes vote_bytes) (FitsOption FitsVote)) bytes.now)) }
-    ensures none { IfOk result (λ r. IfNone r (HasNoFront (Spelt (option_bytes vote_bytes) (FitsOption FitsVote)) bytes.now)) }
+    ensures found { IfOk result (λ r. IfSome r (IsPrefix (Spelt (option_bytes vote_bytes) (FitsOption FitsVote)) bytes.now)) }
+    ensures none { IfOk result (λ r. IfNone r (HasNoPrefix (Spelt (option_bytes vote_bytes) (FitsOption FitsVote)) bytes.now)) }
     ensures again { (vote : Option (Ballot × Decision)) (rest : List ℕ) → FitsOption FitsVote vote → bytes.now ≡ option_bytes vote_bytes vote ++ rest →
         IfOk result (λ r. r ≡ Some (vote, length (option_bytes vote_bytes vote))) }
 {

@@ -3,16 +3,16 @@
 ghost use Rattle.std.specs.Prelude.{◌≡◌, ◌++◌, List, ℕ, length, IfOk, IfSome, IfNone, OnOk, OnErr};
 ghost use Rattle.crsm_base.specs.declared.Entry.{Entry};
 ghost use Rattle.crsm_base.specs.Spelling.{FitsEntries, FitsEntry, SpeltEntries, SpeltEntry, entries_bytes, entry_bytes};
-ghost use Rattle.crsm_codec.specs.Readers.{IsFront, HasNoFront};
+ghost use Rattle.crsm_codec.specs.Readers.{IsPrefix, HasNoPrefix};
 
 use crsm_base::{Bytes, Entries, Entry, NoMemory};
 use std::alloc::Global;
 
-/// Reads an entry from the front of the bytes: the value and how many bytes it takes, or `None` exactly where no
+/// Reads an entry from the prefix of the bytes: the value and how many bytes it takes, or `None` exactly where no
 /// first bytes spell one.
 pub fn read_entry(alloc: Global, bytes: &[u8]) -> Result<Option<(Entry, usize)>, NoMemory>
-    ensures found { IfOk result (λ r. IfSome r (IsFront SpeltEntry bytes.now)) }
-    ensures none { IfOk result (λ r. IfNone r (HasNoFront SpeltEntry bytes.now)) }
+    ensures found { IfOk result (λ r. IfSome r (IsPrefix SpeltEntry bytes.now)) }
+    ensures none { IfOk result (λ r. IfNone r (HasNoPrefix SpeltEntry bytes.now)) }
     ensures again { (entry : Entry) (rest : List ℕ) → FitsEntry entry → bytes.now ≡ entry_bytes entry ++ rest →
         IfOk result (λ r. r ≡ Some (entry, length (entry_bytes entry))) }
 {
@@ -33,11 +33,11 @@ pub fn write_entry(alloc: Global, entry: &Entry, out: &mut Bytes) -> Result<(), 
     out.append(spelling.as_slice())
 }
 
-/// Reads a list of entries, strictly rising, at most 4,096 of them in at most 2,097,152 bytes from the front of the
+/// Reads a list of entries, strictly rising, at most 4,096 of them in at most 2,097,152 bytes from the prefix of the
 /// bytes: the value and how many bytes it takes, or `None` exactly where no first bytes spell one.
 pub fn read_entries(alloc: Global, bytes: &[u8]) -> Result<Option<(Entries, usize)>, NoMemory>
-    ensures found { IfOk result (λ r. IfSome r (IsFront SpeltEntries bytes.now)) }
-    ensures none { IfOk result (λ r. IfNone r (HasNoFront SpeltEntries bytes.now)) }
+    ensures found { IfOk result (λ r. IfSome r (IsPrefix SpeltEntries bytes.now)) }
+    ensures none { IfOk result (λ r. IfNone r (HasNoPrefix SpeltEntries bytes.now)) }
     ensures again { (entries : List Entry) (rest : List ℕ) → FitsEntries entries → bytes.now ≡ entries_bytes entries ++ rest →
         IfOk result (λ r. r ≡ Some (entries, length (entries_bytes entries))) }
 {

@@ -2,16 +2,16 @@
 
 ghost use Rattle.std.specs.Prelude.{◌≡◌, ◌++◌, List, ℕ, length, IfOk, IfSome, IfNone, OnOk, OnErr, ◌<◌, ◌^◌};
 ghost use Rattle.crsm_base.specs.Spelling.{SpeltReplica, SpeltU16, SpeltU32, SpeltU64, SpeltU8, u16_bytes, u32_bytes, u64_bytes, u8_bytes};
-ghost use Rattle.crsm_codec.specs.Readers.{IsFront, HasNoFront};
+ghost use Rattle.crsm_codec.specs.Readers.{IsPrefix, HasNoPrefix};
 
 use crsm_base::{Bytes, NoMemory};
 use std::alloc::Global;
 
-/// Reads a byte from the front of the bytes: the value and how many bytes it takes, or `None` exactly where no
+/// Reads a byte from the prefix of the bytes: the value and how many bytes it takes, or `None` exactly where no
 /// first bytes spell one.
 pub fn read_u8(_alloc: Global, bytes: &[u8]) -> Result<Option<(u8, usize)>, NoMemory>
-    ensures found { IfOk result (λ r. IfSome r (IsFront SpeltU8 bytes.now)) }
-    ensures none { IfOk result (λ r. IfNone r (HasNoFront SpeltU8 bytes.now)) }
+    ensures found { IfOk result (λ r. IfSome r (IsPrefix SpeltU8 bytes.now)) }
+    ensures none { IfOk result (λ r. IfNone r (HasNoPrefix SpeltU8 bytes.now)) }
     ensures again { (number : ℕ) (rest : List ℕ) → number < 256 → bytes.now ≡ u8_bytes number ++ rest →
         IfOk result (λ r. r ≡ Some (number, length (u8_bytes number))) }
 {
@@ -29,11 +29,11 @@ pub fn write_u8(_alloc: Global, number: &u8, out: &mut Bytes) -> Result<(), NoMe
     crsm_fields::put_u8(*number, out)
 }
 
-/// Reads a number of two bytes from the front of the bytes: the value and how many bytes it takes, or `None`
+/// Reads a number of two bytes from the prefix of the bytes: the value and how many bytes it takes, or `None`
 /// exactly where no first bytes spell one.
 pub fn read_u16(_alloc: Global, bytes: &[u8]) -> Result<Option<(u16, usize)>, NoMemory>
-    ensures found { IfOk result (λ r. IfSome r (IsFront SpeltU16 bytes.now)) }
-    ensures none { IfOk result (λ r. IfNone r (HasNoFront SpeltU16 bytes.now)) }
+    ensures found { IfOk result (λ r. IfSome r (IsPrefix SpeltU16 bytes.now)) }
+    ensures none { IfOk result (λ r. IfNone r (HasNoPrefix SpeltU16 bytes.now)) }
     ensures again { (number : ℕ) (rest : List ℕ) → number < 2 ^ 16 → bytes.now ≡ u16_bytes number ++ rest →
         IfOk result (λ r. r ≡ Some (number, length (u16_bytes number))) }
 {
@@ -51,11 +51,11 @@ pub fn write_u16(_alloc: Global, number: &u16, out: &mut Bytes) -> Result<(), No
     crsm_fields::put_u16(*number, out)
 }
 
-/// Reads a number of four bytes from the front of the bytes: the value and how many bytes it takes, or `None`
+/// Reads a number of four bytes from the prefix of the bytes: the value and how many bytes it takes, or `None`
 /// exactly where no first bytes spell one.
 pub fn read_u32(_alloc: Global, bytes: &[u8]) -> Result<Option<(u32, usize)>, NoMemory>
-    ensures found { IfOk result (λ r. IfSome r (IsFront SpeltU32 bytes.now)) }
-    ensures none { IfOk result (λ r. IfNone r (HasNoFront SpeltU32 bytes.now)) }
+    ensures found { IfOk result (λ r. IfSome r (IsPrefix SpeltU32 bytes.now)) }
+    ensures none { IfOk result (λ r. IfNone r (HasNoPrefix SpeltU32 bytes.now)) }
     ensures again { (number : ℕ) (rest : List ℕ) → number < 2 ^ 32 → bytes.now ≡ u32_bytes number ++ rest →
         IfOk result (λ r. r ≡ Some (number, length (u32_bytes number))) }
 {
@@ -73,11 +73,11 @@ pub fn write_u32(_alloc: Global, number: &u32, out: &mut Bytes) -> Result<(), No
     crsm_fields::put_u32(*number, out)
 }
 
-/// Reads a number of eight bytes from the front of the bytes: the value and how many bytes it takes, or `None`
+/// Reads a number of eight bytes from the prefix of the bytes: the value and how many bytes it takes, or `None`
 /// exactly where no first bytes spell one.
 pub fn read_u64(_alloc: Global, bytes: &[u8]) -> Result<Option<(u64, usize)>, NoMemory>
-    ensures found { IfOk result (λ r. IfSome r (IsFront SpeltU64 bytes.now)) }
-    ensures none { IfOk result (λ r. IfNone r (HasNoFront SpeltU64 bytes.now)) }
+    ensures found { IfOk result (λ r. IfSome r (IsPrefix SpeltU64 bytes.now)) }
+    ensures none { IfOk result (λ r. IfNone r (HasNoPrefix SpeltU64 bytes.now)) }
     ensures again { (number : ℕ) (rest : List ℕ) → number < 2 ^ 64 → bytes.now ≡ u64_bytes number ++ rest →
         IfOk result (λ r. r ≡ Some (number, length (u64_bytes number))) }
 {
@@ -95,11 +95,11 @@ pub fn write_u64(_alloc: Global, number: &u64, out: &mut Bytes) -> Result<(), No
     crsm_fields::put_u64(*number, out)
 }
 
-/// Reads a replica's number, one byte below 15 from the front of the bytes: the value and how many bytes it takes,
+/// Reads a replica's number, one byte below 15 from the prefix of the bytes: the value and how many bytes it takes,
 /// or `None` exactly where no first bytes spell one.
 pub fn read_replica(_alloc: Global, bytes: &[u8]) -> Result<Option<(u32, usize)>, NoMemory>
-    ensures found { IfOk result (λ r. IfSome r (IsFront SpeltReplica bytes.now)) }
-    ensures none { IfOk result (λ r. IfNone r (HasNoFront SpeltReplica bytes.now)) }
+    ensures found { IfOk result (λ r. IfSome r (IsPrefix SpeltReplica bytes.now)) }
+    ensures none { IfOk result (λ r. IfNone r (HasNoPrefix SpeltReplica bytes.now)) }
     ensures again { (replica : ℕ) (rest : List ℕ) → replica < 15 → bytes.now ≡ u8_bytes replica ++ rest →
         IfOk result (λ r. r ≡ Some (replica, length (u8_bytes replica))) }
 {

@@ -4,16 +4,16 @@ ghost use Rattle.std.specs.Prelude.{◌≡◌, ◌++◌, List, ℕ, length, IfOk
 ghost use Rattle.crsm_base.specs.declared.Answer.{Answer};
 ghost use Rattle.crsm_base.specs.declared.Outcome.{Outcome};
 ghost use Rattle.crsm_base.specs.Spelling.{FitsAnswer, FitsOutcome, SpeltAnswer, SpeltOutcome, answer_bytes, outcome_bytes};
-ghost use Rattle.crsm_codec.specs.Readers.{IsFront, HasNoFront};
+ghost use Rattle.crsm_codec.specs.Readers.{IsPrefix, HasNoPrefix};
 
 use crsm_base::{Answer, Bytes, NoMemory, Outcome};
 use std::alloc::Global;
 
-/// Reads an answer of the store from the front of the bytes: the value and how many bytes it takes, or `None`
+/// Reads an answer of the store from the prefix of the bytes: the value and how many bytes it takes, or `None`
 /// exactly where no first bytes spell one.
 pub fn read_answer(alloc: Global, bytes: &[u8]) -> Result<Option<(Answer, usize)>, NoMemory>
-    ensures found { IfOk result (λ r. IfSome r (IsFront SpeltAnswer bytes.now)) }
-    ensures none { IfOk result (λ r. IfNone r (HasNoFront SpeltAnswer bytes.now)) }
+    ensures found { IfOk result (λ r. IfSome r (IsPrefix SpeltAnswer bytes.now)) }
+    ensures none { IfOk result (λ r. IfNone r (HasNoPrefix SpeltAnswer bytes.now)) }
     ensures again { (answer : Answer) (rest : List ℕ) → FitsAnswer answer → bytes.now ≡ answer_bytes answer ++ rest →
         IfOk result (λ r. r ≡ Some (answer, length (answer_bytes answer))) }
 {
@@ -34,11 +34,11 @@ pub fn write_answer(alloc: Global, answer: &Answer, out: &mut Bytes) -> Result<(
     out.append(spelling.as_slice())
 }
 
-/// Reads an outcome from the front of the bytes: the value and how many bytes it takes, or `None` exactly where no
+/// Reads an outcome from the prefix of the bytes: the value and how many bytes it takes, or `None` exactly where no
 /// first bytes spell one.
 pub fn read_outcome(alloc: Global, bytes: &[u8]) -> Result<Option<(Outcome, usize)>, NoMemory>
-    ensures found { IfOk result (λ r. IfSome r (IsFront SpeltOutcome bytes.now)) }
-    ensures none { IfOk result (λ r. IfNone r (HasNoFront SpeltOutcome bytes.now)) }
+    ensures found { IfOk result (λ r. IfSome r (IsPrefix SpeltOutcome bytes.now)) }
+    ensures none { IfOk result (λ r. IfNone r (HasNoPrefix SpeltOutcome bytes.now)) }
     ensures again { (outcome : Outcome) (rest : List ℕ) → FitsOutcome outcome → bytes.now ≡ outcome_bytes outcome ++ rest →
         IfOk result (λ r. r ≡ Some (outcome, length (outcome_bytes outcome))) }
 {

@@ -3,16 +3,16 @@
 ghost use Rattle.std.specs.Prelude.{◌≡◌, ◌++◌, List, ℕ, length, IfOk, IfSome, IfNone, OnOk, OnErr};
 ghost use Rattle.crsm_base.specs.declared.Rec.{Rec};
 ghost use Rattle.crsm_base.specs.Records.{FitsRec, SpeltRec, rec_bytes, SpeltBody};
-ghost use Rattle.crsm_codec.specs.Readers.{IsFront, HasNoFront};
+ghost use Rattle.crsm_codec.specs.Readers.{IsPrefix, HasNoPrefix};
 
 use crsm_base::{Bytes, NoMemory, Rec, Recs};
 use std::alloc::Global;
 
-/// Reads a record from the front of the bytes: the value and how many bytes it takes, or `None` exactly where no
+/// Reads a record from the prefix of the bytes: the value and how many bytes it takes, or `None` exactly where no
 /// first bytes spell one.
 pub fn read_rec(alloc: Global, bytes: &[u8]) -> Result<Option<(Rec, usize)>, NoMemory>
-    ensures found { IfOk result (λ r. IfSome r (IsFront SpeltRec bytes.now)) }
-    ensures none { IfOk result (λ r. IfNone r (HasNoFront SpeltRec bytes.now)) }
+    ensures found { IfOk result (λ r. IfSome r (IsPrefix SpeltRec bytes.now)) }
+    ensures none { IfOk result (λ r. IfNone r (HasNoPrefix SpeltRec bytes.now)) }
     ensures again { (rec : Rec) (rest : List ℕ) → FitsRec rec → bytes.now ≡ rec_bytes rec ++ rest →
         IfOk result (λ r. r ≡ Some (rec, length (rec_bytes rec))) }
 {

@@ -4,16 +4,16 @@ ghost use Rattle.std.specs.Prelude.{◌≡◌, ◌++◌, List, ℕ, length, IfOk
 ghost use Rattle.crsm_base.specs.declared.Ballot.{Ballot};
 ghost use Rattle.crsm_base.specs.declared.Stamp.{Stamp};
 ghost use Rattle.crsm_base.specs.Spelling.{FitsBallot, FitsOption, FitsStamp, Spelt, SpeltBallot, SpeltStamp, ballot_bytes, option_bytes, stamp_bytes};
-ghost use Rattle.crsm_codec.specs.Readers.{IsFront, HasNoFront};
+ghost use Rattle.crsm_codec.specs.Readers.{IsPrefix, HasNoPrefix};
 
 use crsm_base::{Ballot, Bytes, NoMemory, Stamp};
 use std::alloc::Global;
 
-/// Reads a stamp from the front of the bytes: the value and how many bytes it takes, or `None` exactly where no
+/// Reads a stamp from the prefix of the bytes: the value and how many bytes it takes, or `None` exactly where no
 /// first bytes spell one.
 pub fn read_stamp(_alloc: Global, bytes: &[u8]) -> Result<Option<(Stamp, usize)>, NoMemory>
-    ensures found { IfOk result (λ r. IfSome r (IsFront SpeltStamp bytes.now)) }
-    ensures none { IfOk result (λ r. IfNone r (HasNoFront SpeltStamp bytes.now)) }
+    ensures found { IfOk result (λ r. IfSome r (IsPrefix SpeltStamp bytes.now)) }
+    ensures none { IfOk result (λ r. IfNone r (HasNoPrefix SpeltStamp bytes.now)) }
     ensures again { (stamp : Stamp) (rest : List ℕ) → FitsStamp stamp → bytes.now ≡ stamp_bytes stamp ++ rest →
         IfOk result (λ r. r ≡ Some (stamp, length (stamp_bytes stamp))) }
 {
@@ -34,14 +34,14 @@ pub fn write_stamp(alloc: Global, stamp: &Stamp, out: &mut Bytes) -> Result<(), 
     out.append(spelling.as_slice())
 }
 
-/// Reads a stamp that may be missing from the front of the bytes: the value and how many bytes it takes, or `None`
+/// Reads a stamp that may be missing from the prefix of the bytes: the value and how many bytes it takes, or `None`
 /// exactly where no first bytes spell one.
 pub fn read_option_stamp(
     _alloc: Global,
     bytes: &[u8],
 ) -> Result<Option<(Option<Stamp>, usize)>, NoMemory>
-    ensures found { IfOk result (λ r. IfSome r (IsFront (Spelt (option_bytes stamp_bytes) (FitsOption FitsStamp)) bytes.now)) }
-    ensures none { IfOk result (λ r. IfNone r (HasNoFront (Spelt (option_bytes stamp_bytes) (FitsOption FitsStamp)) bytes.now)) }
+    ensures found { IfOk result (λ r. IfSome r (IsPrefix (Spelt (option_bytes stamp_bytes) (FitsOption FitsStamp)) bytes.now)) }
+    ensures none { IfOk result (λ r. IfNone r (HasNoPrefix (Spelt (option_bytes stamp_bytes) (FitsOption FitsStamp)) bytes.now)) }
     ensures again { (stamp : Option Stamp) (rest : List ℕ) → FitsOption FitsStamp stamp → bytes.now ≡ option_bytes stamp_bytes stamp ++ rest →
         IfOk result (λ r. r ≡ Some (stamp, length (option_bytes stamp_bytes stamp))) }
 {
@@ -66,11 +66,11 @@ pub fn write_option_stamp(
     out.append(spelling.as_slice())
 }
 
-/// Reads a ballot from the front of the bytes: the value and how many bytes it takes, or `None` exactly where no
+/// Reads a ballot from the prefix of the bytes: the value and how many bytes it takes, or `None` exactly where no
 /// first bytes spell one.
 pub fn read_ballot(_alloc: Global, bytes: &[u8]) -> Result<Option<(Ballot, usize)>, NoMemory>
-    ensures found { IfOk result (λ r. IfSome r (IsFront SpeltBallot bytes.now)) }
-    ensures none { IfOk result (λ r. IfNone r (HasNoFront SpeltBallot bytes.now)) }
+    ensures found { IfOk result (λ r. IfSome r (IsPrefix SpeltBallot bytes.now)) }
+    ensures none { IfOk result (λ r. IfNone r (HasNoPrefix SpeltBallot bytes.now)) }
     ensures again { (ballot : Ballot) (rest : List ℕ) → FitsBallot ballot → bytes.now ≡ ballot_bytes ballot ++ rest →
         IfOk result (λ r. r ≡ Some (ballot, length (ballot_bytes ballot))) }
 {

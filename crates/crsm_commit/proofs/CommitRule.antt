@@ -6,7 +6,7 @@ use Rattle.crsm_base.specs.declared.Entry.{Entry}
 use Rattle.crsm_base.specs.Order.{stamp_eq}
 use Rattle.crsm_spec.specs.Lists.{first_of}
 use Rattle.crsm_spec.specs.Ready.{is_next}
-use Rattle.crsm_commit.specs.Standing.{StandsFor, may_commit, first_ready}
+use Rattle.crsm_commit.specs.Pending.{StandsFor, may_commit, first_ready}
 use Rattle.crsm_commit.specs.declared.pending.Pending.{Pending}
 use Rattle.crsm_commit.proofs.Bits.{same_stamp, vote_other}
 use Rattle.crsm_commit.proofs.Filed.{bool_cases}

@@ -1,7 +1,7 @@
 pub mod Bits
 pub mod CommitRule
 pub mod Filed
-pub mod Fronts
+pub mod Prefixes
 pub mod LatestLemmas
 pub mod LeastLemmas
 pub mod MasksLemmas

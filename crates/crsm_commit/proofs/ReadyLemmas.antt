@@ -11,7 +11,7 @@ use Rattle.crsm_spec.specs.Lists.{first_of}
 use Rattle.crsm_spec.specs.Paxos.{majority}
 use Rattle.crsm_spec.specs.Ready.{reached, votes_for, is_replicated, is_stable}
 use Rattle.crsm_commit.specs.Waiting.{stamp_of}
-use Rattle.crsm_commit.specs.Standing.{may_commit, first_ready}
+use Rattle.crsm_commit.specs.Pending.{may_commit, first_ready}
 
 -- nothing waits
 pub none_ready : (spec members : List ℕ) (heard : List (ℕ × ℕ)) (votes : List (Stamp × ℕ)) (waiting : List Entry) →

@@ -2,5 +2,5 @@ pub mod Heard
 pub mod Least
 pub mod Masks
 pub mod Places
-pub mod Standing
+pub mod Pending
 pub mod Waiting

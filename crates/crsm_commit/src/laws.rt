@@ -4,7 +4,7 @@ ghost use Rattle.std.specs.Prelude.{◌≡◌, ℕ, ◌↔◌, ◌∷◌, ◌&&�
 ghost use Rattle.crsm_base.specs.declared.Stamp.{Stamp};
 ghost use Rattle.crsm_base.specs.declared.Entry.{Entry};
 ghost use Rattle.crsm_spec.specs.Ready.{is_replicated, is_stable, is_next};
-ghost use Rattle.crsm_commit.specs.Standing.{StandsFor, first_ready};
+ghost use Rattle.crsm_commit.specs.Pending.{StandsFor, first_ready};
 ghost use Rattle.crsm_commit.specs.declared.pending.Pending.{Pending};
 
 /// What `ready` gives is the stamp of which the commit rule holds, and nothing where it holds of none.

@@ -34,7 +34,7 @@ pub struct Pending {
 }
 
 impl Pending {
-    ghost use Rattle.crsm_commit.specs.Standing.{StandsFor, first_ready};
+    ghost use Rattle.crsm_commit.specs.Pending.{StandsFor, first_ready};
 
     /// Nothing is pending.
     pub fn new(alloc: Global) -> Pending

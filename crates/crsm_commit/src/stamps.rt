@@ -9,13 +9,13 @@ use crsm_base::{NoMemory, Stamp};
 use std::alloc::Global;
 use std::marker::Model;
 
-/// Stamps in ascending order, in one piece. The first is dropped without moving the others; room that was left in front
+/// Stamps in ascending order, in one piece. The first is dropped without moving the others; room that was left in prefix
 /// is given back once it is half of all.
 #[derive(Drop)]
 pub struct Stamps {
     items: Vec<Stamp>,
-    /// How many items at the front are dropped.
-    front: usize,
+    /// How many items at the prefix are dropped.
+    prefix: usize,
 }
 
 impl Model for Stamps {
@@ -25,9 +25,9 @@ impl Model for Stamps {
 
     ghost Value = { List Stamp };
 
-    ghost view = { λ s. drop s.front s.items.items };
+    ghost view = { λ s. drop s.prefix s.items.items };
 
-    ghost invariant = { λ s. (s.front ≤ vec_len s.items) × IsAscending (drop s.front s.items.items) };
+    ghost invariant = { λ s. (s.prefix ≤ vec_len s.items) × IsAscending (drop s.prefix s.items.items) };
 }
 
 impl Stamps {
@@ -36,7 +36,7 @@ impl Stamps {
     {
         Stamps {
             items: Vec::new(alloc),
-            front: 0,
+            prefix: 0,
         }
     }
 
@@ -44,7 +44,7 @@ impl Stamps {
         ensures value { result.now ≡ self.now }
         ensures ascending { IsAscending self.now }
     {
-        &self.items[self.front..]
+        &self.items[self.prefix..]
     }
 
     /// Adds a stamp, and answers its place. An `Err` changes nothing.
@@ -54,7 +54,7 @@ impl Stamps {
         ensures err { OnErr result (self.new ≡ self.old) }
     {
         let place = place_for(self.as_slice(), stamp);
-        self.items.insert(self.front + place, stamp)?;
+        self.items.insert(self.prefix + place, stamp)?;
         Ok(place)
     }
 
@@ -66,23 +66,23 @@ impl Stamps {
     {
         let place = place_of(self.as_slice(), stamp)?;
         if place == 0 {
-            self.front += 1;
+            self.prefix += 1;
             self.compact();
         } else {
-            self.items.remove(self.front + place);
+            self.items.remove(self.prefix + place);
         }
         Some(place)
     }
 
-    /// Moves the stamps to the front, where at least half of the items are dropped ones.
+    /// Moves the stamps to the prefix, where at least half of the items are dropped ones.
     fn compact(&mut self)
         ensures { self.new ≡ self.old }
     {
-        let rest = self.items.len() - self.front;
-        if rest <= self.front {
-            self.items.copy_within(self.front.., 0);
+        let rest = self.items.len() - self.prefix;
+        if rest <= self.prefix {
+            self.items.copy_within(self.prefix.., 0);
             self.items.truncate(rest);
-            self.front = 0;
+            self.prefix = 0;
         }
     }
 }

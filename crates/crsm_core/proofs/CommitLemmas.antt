@@ -11,10 +11,10 @@ use Rattle.crsm_spec.specs.Ready.{is_ready, is_next, is_replicated, is_stable, a
 use Rattle.crsm_spec.specs.Draft.{Draft, keep}
 use Rattle.crsm_spec.specs.Clients.{commit_run, commits}
 use Rattle.crsm_spec.specs.Step.{if_fitting}
-use Rattle.crsm_desk.specs.declared.desk.Desk.{Desk}
-use Rattle.crsm_desk.specs.Sound.{IsSound}
-use Rattle.crsm_desk.specs.Standing.{StandsFor}
-use Rattle.crsm_running.specs.First.{ready_of, ready_first}
+use Rattle.crsm_replica.specs.declared.desk.Desk.{Desk}
+use Rattle.crsm_replica.specs.Sound.{IsSound}
+use Rattle.crsm_replica.specs.Replica.{StandsFor}
+use Rattle.crsm_epoch_state.specs.First.{ready_of, ready_first}
 use Rattle.crsm_core.proofs.Fitting.{stands_as, if_fits}
 
 -- ---- what is ready

@@ -5,9 +5,9 @@ use Rattle.std.proofs.lemmas.Bool.Decides.{nat_tests}
 use Rattle.crsm_spec.specs.Choice.{when◌then◌otherwise◌}
 use Rattle.crsm_spec.specs.Draft.{Draft}
 use Rattle.crsm_spec.specs.Step.{if_fitting}
-use Rattle.crsm_desk.specs.declared.desk.Desk.{Desk}
-use Rattle.crsm_desk.specs.Sound.{IsSound}
-use Rattle.crsm_desk.specs.Standing.{StandsFor}
+use Rattle.crsm_replica.specs.declared.desk.Desk.{Desk}
+use Rattle.crsm_replica.specs.Sound.{IsSound}
+use Rattle.crsm_replica.specs.Replica.{StandsFor}
 
 pub if_fits : (x y : Draft) → y.fitting ≡ true → if_fitting x y ≡ y
 unfolding if_fitting when◌then◌otherwise◌

@@ -9,8 +9,8 @@ use Rattle.crsm_spec.specs.Replica.{Replica, members_of, latest_from, frames_to,
 use Rattle.crsm_spec.specs.Draft.{Draft, keep, send, count_vote, tell_decision, tell_retrieve}
 use Rattle.crsm_spec.specs.Frames.{time_of, is_wrong, is_odd_frame, owe, ack, hear, take_frame, on_frame, on_ack}
 use Rattle.crsm_spec.specs.Step.{if_fitting}
-use Rattle.crsm_desk.specs.declared.desk.Desk.{Desk}
-use Rattle.crsm_desk.specs.Standing.{StandsFor}
+use Rattle.crsm_replica.specs.declared.desk.Desk.{Desk}
+use Rattle.crsm_replica.specs.Replica.{StandsFor}
 use Rattle.std.proofs.lemmas.Bool.{leb-false}
 use Rattle.crsm_core.proofs.Fitting.{if_not, stands_as, done, ignored, is_lt, not_lt, is_le, not_le, is_eq, not_eq}
 

@@ -11,8 +11,8 @@ use Rattle.crsm_spec.specs.Log.{active}
 use Rattle.crsm_spec.specs.Replica.{members_of, other_members, last_issued, frames_to}
 use Rattle.crsm_spec.specs.Draft.{Draft, would, issued_at, push_to, push_to_members, next_frame}
 use Rattle.crsm_spec.specs.Frames.{pay, owing, pay_run, owed_oks}
-use Rattle.crsm_desk.specs.declared.desk.Desk.{Desk}
-use Rattle.crsm_desk.specs.Standing.{StandsFor}
+use Rattle.crsm_replica.specs.declared.desk.Desk.{Desk}
+use Rattle.crsm_replica.specs.Replica.{StandsFor}
 use Rattle.crsm_core.proofs.Fitting.{stands_as, is_lt, not_lt}
 
 -- ---- the run does not look at what is owed

@@ -11,8 +11,8 @@ use Rattle.crsm_spec.specs.Replica.{Replica, last_issued, is_congested}
 use Rattle.crsm_spec.specs.Draft.{Draft, keep, count_vote, would, issued_at, push_to, push_to_members}
 use Rattle.crsm_spec.specs.Clients.{own_unexecuted, refusal, refuse, await, submit, submit_at, take_or_refuse, on_request}
 use Rattle.crsm_spec.specs.Step.{if_fitting}
-use Rattle.crsm_desk.specs.declared.desk.Desk.{Desk}
-use Rattle.crsm_desk.specs.Standing.{StandsFor}
+use Rattle.crsm_replica.specs.declared.desk.Desk.{Desk}
+use Rattle.crsm_replica.specs.Replica.{StandsFor}
 use Rattle.crsm_core.proofs.Fitting.{if_not, stands_as, done, ignored, is_le, not_le, is_eq, not_eq}
 
 pub runs : (log : Log) → live log ≡ true → suspended log ≡ false → active log ≡ true

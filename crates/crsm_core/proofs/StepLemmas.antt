@@ -17,13 +17,13 @@ use Rattle.crsm_spec.specs.Clients.{on_request, commits, replies}
 use Rattle.crsm_spec.specs.Step.{Input as InputOnPaper, if_fitting, on_whole_message, on_part, on_tick, on_datagram, on_input, idle_at, step}
 use Rattle.crsm_output.specs.declared.batch.Batch.{Batch}
 use Rattle.crsm_output.specs.Made.{made_of, IsBatchOf, to_replica, to_address}
-use Rattle.crsm_desk.specs.declared.desk.Desk.{Desk}
-use Rattle.crsm_desk.specs.Sound.{IsSound, FitsSend, FitsReply}
-use Rattle.crsm_desk.specs.Standing.{StandsFor}
+use Rattle.crsm_replica.specs.declared.desk.Desk.{Desk}
+use Rattle.crsm_replica.specs.Sound.{IsSound, FitsSend, FitsReply}
+use Rattle.crsm_replica.specs.Replica.{StandsFor}
 use Rattle.crsm_segment.specs.Taking.{piece}
 use Rattle.crsm_core.specs.declared.input.Input.{Input}
 use Rattle.crsm_core.specs.Inputs.{input_of}
-use Rattle.crsm_core.specs.Standing.{Answers, FitsSent}
+use Rattle.crsm_core.specs.Core.{Answers, FitsSent}
 use Rattle.crsm_core.proofs.Fitting.{stands_as, is_lt, not_lt, is_eq, not_eq}
 
 -- ---- astray

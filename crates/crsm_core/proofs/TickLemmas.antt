@@ -10,8 +10,8 @@ use Rattle.crsm_spec.specs.Replica.{Replica, last_issued, is_congested, other_me
 use Rattle.crsm_spec.specs.Draft.{Draft, would, issued_at, push_to_members}
 use Rattle.crsm_spec.specs.Frames.{is_idle, idle, tell_time, again_to, send_again}
 use Rattle.crsm_spec.specs.Step.{on_tick, ask_all, renew}
-use Rattle.crsm_desk.specs.declared.desk.Desk.{Desk}
-use Rattle.crsm_desk.specs.Standing.{StandsFor}
+use Rattle.crsm_replica.specs.declared.desk.Desk.{Desk}
+use Rattle.crsm_replica.specs.Replica.{StandsFor}
 use Rattle.crsm_core.proofs.Fitting.{stands_as, is_lt, not_lt, is_le, not_le}
 
 -- ---- an idle replica
@@ -51,7 +51,7 @@ pub active_tick : (x : Draft) → active x.replica.log ≡ true → send_again x
 unfolding on_tick when◌then◌otherwise◌
 active_tick x a = rw a refl
 
-pub quiet_tick : (x : Draft) → active x.replica.log ≡ false → ask_all (renew x.replica.note x) ≡ on_tick x
+pub quiet_tick : (x : Draft) → active x.replica.log ≡ false → ask_all (renew x.replica.coordinator x) ≡ on_tick x
 unfolding on_tick when◌then◌otherwise◌
 quiet_tick x a = rw a refl
 

@@ -1,2 +1,2 @@
 pub mod Inputs
-pub mod Standing
+pub mod Core

@@ -1,11 +1,11 @@
 //! Commits.
 
 ghost use Rattle.crsm_spec.specs.Clients as clients;
-ghost use Rattle.crsm_desk.specs.Standing.{Makes};
+ghost use Rattle.crsm_replica.specs.Replica.{Makes};
 
 use crate::records::commit;
 use crsm_base::NoMemory;
-use crsm_desk::{Desk, commits_go_on, desks_are_sound};
+use crsm_replica::{Desk, commits_go_on, desks_are_sound};
 
 /// While active: executes what is ready.
 pub(crate) fn commits(desk: &mut Desk) -> Result<(), NoMemory>

@@ -10,13 +10,13 @@ ghost use Rattle.crsm_spec.specs.Replica.{members_of, latest_from};
 ghost use Rattle.crsm_spec.specs.Draft.{Draft};
 ghost use Rattle.crsm_spec.specs.Frames as frames;
 ghost use Rattle.crsm_spec.specs.Step.{if_fitting};
-ghost use Rattle.crsm_desk.specs.Standing.{StandsFor};
-ghost use Rattle.crsm_coordinate.specs.Hearing.{FollowsFrom};
-ghost use Rattle.crsm_coordinate.specs.Rules.{Follows};
+ghost use Rattle.crsm_replica.specs.Replica.{StandsFor};
+ghost use Rattle.crsm_reconfigure.specs.Hearing.{FollowsFrom};
+ghost use Rattle.crsm_reconfigure.specs.Rules.{Follows};
 
 use crate::records::log_entry;
 use crsm_base::{Entry, InEpoch, NoMemory};
-use crsm_desk::{Desk, desks_are_sound};
+use crsm_replica::{Desk, desks_are_sound};
 
 /// A frame of an epoch from k.
 pub(crate) fn on_frame(

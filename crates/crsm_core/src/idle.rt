@@ -3,10 +3,10 @@
 ghost use Rattle.std.specs.Prelude.{◌≡◌};
 ghost use Rattle.crsm_spec.specs.Draft.{Draft};
 ghost use Rattle.crsm_spec.specs.Frames as frames;
-ghost use Rattle.crsm_desk.specs.Standing.{StandsFor, Makes};
+ghost use Rattle.crsm_replica.specs.Replica.{StandsFor, Makes};
 
 use crsm_base::{IDLE_UNITS, InEpoch, NoMemory};
-use crsm_desk::Desk;
+use crsm_replica::Desk;
 
 /// At a tick a replica that has been idle tells its time.
 pub(crate) fn idle(desk: &mut Desk, reading: u64) -> Result<(), NoMemory>

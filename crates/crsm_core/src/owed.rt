@@ -1,10 +1,10 @@
 //! Acknowledgements that are owed.
 
 ghost use Rattle.crsm_spec.specs.Frames as frames;
-ghost use Rattle.crsm_desk.specs.Standing.{Makes};
+ghost use Rattle.crsm_replica.specs.Replica.{Makes};
 
 use crsm_base::{InEpoch, NoMemory};
-use crsm_desk::{Desk, desks_are_sound};
+use crsm_replica::{Desk, desks_are_sound};
 
 /// Sends the acknowledgements that are due: while the least owed stamp's time is below the time that would be issued.
 pub(crate) fn owed_oks(desk: &mut Desk, reading: u64) -> Result<(), NoMemory>

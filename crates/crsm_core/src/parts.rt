@@ -5,11 +5,11 @@ ghost use Rattle.crsm_segment.specs.Taking.{is_sized, piece};
 ghost use Rattle.crsm_spec.specs.Draft.{Draft};
 ghost use Rattle.crsm_spec.specs.Step as rules;
 ghost use Rattle.crsm_base.specs.MessageReading.{control_of};
-ghost use Rattle.crsm_coordinate.specs.Hearing.{FollowsFrom};
+ghost use Rattle.crsm_reconfigure.specs.Hearing.{FollowsFrom};
 
 use crsm_base::NoMemory;
-use crsm_coordinate::on_control;
-use crsm_desk::{Desk, desks_are_sound};
+use crsm_reconfigure::on_control;
+use crsm_replica::{Desk, desks_are_sound};
 use crsm_wire::{WireError, read_control};
 
 /// What a part of a control message says of itself.

@@ -3,10 +3,10 @@
 ghost use Rattle.crsm_base.specs.Spelling.{FitsEntry, FitsStamp};
 ghost use Rattle.crsm_spec.specs.Types.{Rec as Record};
 ghost use Rattle.crsm_spec.specs.Draft.{keep};
-ghost use Rattle.crsm_desk.specs.Standing.{MakesFitting};
+ghost use Rattle.crsm_replica.specs.Replica.{MakesFitting};
 
 use crsm_base::{Entry, NoMemory, Rec, Stamp};
-use crsm_desk::Desk;
+use crsm_replica::Desk;
 
 /// Logs an entry. `false` comes exactly where its record does not fit, and the desk is as before.
 pub(crate) fn log_entry(desk: &mut Desk, entry: &Entry) -> Result<bool, NoMemory>

@@ -3,21 +3,21 @@
 ghost use Rattle.std.specs.Prelude.{◌<◌, ◌≤◌, ℕ, IfOk, OnErr, IsErr};
 ghost use Rattle.std.specs.List.{AllByRecursion};
 ghost use Rattle.crsm_base.specs.Records.{FitsRec};
-ghost use Rattle.crsm_ledger.specs.Stands.{StandsFor as SaysOfLog};
-ghost use Rattle.crsm_running.specs.Standing.{EachFits};
+ghost use Rattle.crsm_ledger.specs.Ledger.{StandsFor as SaysOfLog};
+ghost use Rattle.crsm_epoch_state.specs.EpochState.{EachFits};
 ghost use Rattle.crsm_spec.specs.Clock.{u64_max};
 ghost use Rattle.crsm_spec.specs.Log.{Log, boots};
 ghost use Rattle.crsm_spec.specs.Replica.{Replica};
 ghost use Rattle.crsm_spec.specs.Step.{boot, step};
 ghost use Rattle.crsm_core.specs.Inputs.{input_of, FitsInput};
-ghost use Rattle.crsm_core.specs.Standing.{CoreAwaits, CoreStands, Answers, IsSpent};
+ghost use Rattle.crsm_core.specs.Core.{CoreAwaits, CoreStands, Answers, IsSpent};
 
 use crate::input::Input;
 use crate::step;
 use crsm_base::NoMemory;
-use crsm_desk::{Desk, desks_are_sound};
 use crsm_ledger::Ledger;
 use crsm_output::Batch;
+use crsm_replica::{Desk, desks_are_sound};
 
 /// One replica in memory. After an error it is spent, and a new one is made of its log.
 #[derive(Drop)]
@@ -38,7 +38,7 @@ impl Core {
         })
     }
 
-    #[tactic(auto, unfolding(crate::specs::Standing::IsSpent))]
+    #[tactic(auto, unfolding(crate::specs::Core::IsSpent))]
     /// Puts the boot on record; the first one of a replica that began the cluster enters epoch 0.
     pub fn begin(&mut self) -> Result<Batch, NoMemory>
         ensures ruled { IfOk result (λ batch. (me n : ℕ) (log : Log) → CoreAwaits self.old me n log → boots log < u64_max →
@@ -58,7 +58,7 @@ impl Core {
         Ok(batch)
     }
 
-    #[tactic(auto, unfolding(crate::specs::Standing::IsSpent))]
+    #[tactic(auto, unfolding(crate::specs::Core::IsSpent))]
     /// One step, at this reading of the clock. What it has made is to be kept and then sent.
     pub fn step(&mut self, input: &Input, reading: u64) -> Result<Batch, NoMemory>
         requires { FitsInput input.now }

@@ -5,12 +5,12 @@ ghost use Rattle.crsm_base.specs.Spelling.{FitsCommand};
 ghost use Rattle.crsm_spec.specs.Clients as clients;
 ghost use Rattle.crsm_spec.specs.Draft.{Draft, would};
 ghost use Rattle.crsm_spec.specs.Step.{if_fitting};
-ghost use Rattle.crsm_desk.specs.Standing.{StandsFor};
-ghost use Rattle.crsm_coordinate.specs.Rules.{Follows};
+ghost use Rattle.crsm_replica.specs.Replica.{StandsFor};
+ghost use Rattle.crsm_reconfigure.specs.Rules.{Follows};
 
 use crate::records::log_entry;
 use crsm_base::{Command, Entry, InEpoch, MAX_OWN_UNEXECUTED, NoMemory, Refusal, Stamp};
-use crsm_desk::{Desk, desks_are_sound};
+use crsm_replica::{Desk, desks_are_sound};
 
 /// A client's request: refused for the first cause that there is, and otherwise submitted.
 pub(crate) fn on_request(

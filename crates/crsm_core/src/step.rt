@@ -6,9 +6,9 @@ ghost use Rattle.crsm_spec.specs.Draft.{Draft, begun};
 ghost use Rattle.crsm_spec.specs.Frames as frames;
 ghost use Rattle.crsm_spec.specs.Replica.{Replica};
 ghost use Rattle.crsm_spec.specs.Step as rules;
-ghost use Rattle.crsm_desk.specs.Standing.{StandsFor, Makes};
+ghost use Rattle.crsm_replica.specs.Replica.{StandsFor, Makes};
 ghost use Rattle.crsm_core.specs.Inputs.{input_of, FitsInput};
-ghost use Rattle.crsm_coordinate.specs.Rules.{Follows};
+ghost use Rattle.crsm_reconfigure.specs.Rules.{Follows};
 
 use crate::commits::commits;
 use crate::frames::{on_ack, on_frame};
@@ -19,8 +19,8 @@ use crate::parts::{Heading, on_part};
 use crate::requests::on_request;
 use crate::ticks::on_tick;
 use crsm_base::{Datagram, NoMemory};
-use crsm_coordinate::on_suspect;
-use crsm_desk::Desk;
+use crsm_reconfigure::on_suspect;
+use crsm_replica::Desk;
 use crsm_segment::parts_of_datagrams;
 
 /// One step: the rule of the input, the acknowledgements that are due, at a tick the clock's time, the commits, the replies.

@@ -2,14 +2,14 @@
 
 ghost use Rattle.crsm_spec.specs.Frames as frames;
 ghost use Rattle.crsm_spec.specs.Step as rules;
-ghost use Rattle.crsm_desk.specs.Standing.{Makes};
-ghost use Rattle.crsm_coordinate.specs.Rules.{Follows};
+ghost use Rattle.crsm_replica.specs.Replica.{Makes};
+ghost use Rattle.crsm_reconfigure.specs.Rules.{Follows};
 
 use crsm_base::NoMemory;
-use crsm_coordinate::renew_and_ask;
-use crsm_desk::{Desk, desks_are_sound};
+use crsm_reconfigure::renew_and_ask;
+use crsm_replica::{Desk, desks_are_sound};
 
-/// A tick: frames again while active, and otherwise the note's messages and a question to all.
+/// A tick: frames again while active, and otherwise the coordinator's messages and a question to all.
 pub(crate) fn on_tick(desk: &mut Desk) -> Result<(), NoMemory>
     ensures { Follows rules.on_tick desk.old result desk.new }
 {

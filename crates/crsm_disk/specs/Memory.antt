@@ -1,6 +1,6 @@
 -- A disk in memory.
 use Rattle.std.specs.Prelude.{ℕ, List, length, Option, Some, true}
-use Rattle.crsm_device.specs.Failing.{Failing, good_of, least}
+use Rattle.crsm_faults.specs.Failing.{Failing, good_of, least}
 use Rattle.crsm_image.specs.Calls.{Call, contents}
 use Rattle.crsm_image.specs.Image.{IsImage, IsLeftSince}
 use Rattle.crsm_disk.specs.Meaning.{Meaning}

@@ -2,17 +2,17 @@
 
 ghost use Rattle.std.specs.Prelude.{◌≡◌, ◌+◌, ◌-◌, ◌≤◌, [], ◌∷◌, length, IfOk, OnOk, OnErr, Some, None};
 ghost use Rattle.std.specs.Bool.{OnTrue, OnFalse};
-ghost use Rattle.crsm_device.specs.Counts.{raised, Rose};
-ghost use Rattle.crsm_device.specs.Failing.{IsNotEnd, good_of, least, one_less};
+ghost use Rattle.crsm_faults.specs.Counts.{raised, Rose};
+ghost use Rattle.crsm_faults.specs.Failing.{IsNotEnd, good_of, least, one_less};
 ghost use Rattle.crsm_image.specs.Calls.{contents, wrote, cut, synced};
 ghost use Rattle.crsm_image.specs.Image.{IsImage, image_of};
 ghost use Rattle.crsm_disk.specs.Memory.{good_left, meaning_of};
 
 use crate::Disk;
 use crate::content::{copy, overwrite, paint_unsynced};
-use crate::record::{Record, note_write};
+use crate::record::{Record, coordinator_write};
 use crsm_base::{Failed, NoMemory};
-use crsm_device::{Failures, raise};
+use crsm_faults::{Failures, raise};
 use std::alloc::Global;
 use std::marker::Model;
 
@@ -163,7 +163,7 @@ impl MemDisk {
     {
         let hole = at.saturating_sub(self.bytes.len() as u64);
         overwrite(&mut self.bytes, at as usize, bytes);
-        note_write(&mut self.records, &mut self.written, at, bytes);
+        coordinator_write(&mut self.records, &mut self.written, at, bytes);
         self.room_calls -= 1;
         self.room_bytes -= hole + bytes.len() as u64;
     }

@@ -20,7 +20,12 @@ pub(crate) fn is_sync(call: &Record) -> bool
 }
 
 // Records a write.
-pub(crate) fn note_write(records: &mut Vec<Record>, written: &mut Vec<u8>, at: u64, bytes: &[u8])
+pub(crate) fn coordinator_write(
+    records: &mut Vec<Record>,
+    written: &mut Vec<u8>,
+    at: u64,
+    bytes: &[u8],
+)
     requires place { vec_len records.old < vec_capacity records.old }
     requires room { vec_len written.old + length bytes.now ≤ vec_capacity written.old }
     ensures records { records.new.items ≡ records.old.items ++ Write at (length bytes.now) ∷ [] }

@@ -6,7 +6,7 @@ use std::process::Abort;
 use std::test::Fail;
 
 // The first bytes of a disk.
-fn front<D: Disk + Drop>(alloc: Global, mut disk: D) -> Result<Vec<u8>, Fail> {
+fn prefix<D: Disk + Drop>(alloc: Global, mut disk: D) -> Result<Vec<u8>, Fail> {
     let mut buf = Vec::from_elem(alloc, 9u8, 8)?;
     let count = disk.read_at(0, &mut buf).map_err(Fail::from)?;
     buf.truncate(count);
@@ -15,7 +15,7 @@ fn front<D: Disk + Drop>(alloc: Global, mut disk: D) -> Result<Vec<u8>, Fail> {
 
 // Whether a disk has these bytes and no more.
 fn reads<D: Disk + Drop>(alloc: Global, disk: D, bytes: &[u8]) -> Result<bool, Fail> {
-    Ok(front(alloc, disk)?.as_slice() == bytes)
+    Ok(prefix(alloc, disk)?.as_slice() == bytes)
 }
 
 // Whether a crash may leave these bytes.

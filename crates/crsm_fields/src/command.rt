@@ -35,13 +35,13 @@ pub fn put_op(op: &Op, out: &mut Bytes) -> Result<(), NoMemory>
 
 // the numbers of a command, the tag of its operation and the key
 #[tactic(auto, unfolding(crsm_base::specs::Spelling::key_bytes))]
-fn put_front(command: &Command, tag: u8, key: &Key, out: &mut Bytes) -> Result<(), NoMemory>
+fn put_prefix(command: &Command, tag: u8, key: &Key, out: &mut Bytes) -> Result<(), NoMemory>
     requires { FitsKey key.now }
     ensures { OnOk result (out.new ≡ out.old ++ (u64_bytes command.now.client ++ (u64_bytes command.now.number ++ tag ∷ key_bytes key.now))) }
 {
     let bytes = key.as_slice();
-    let front = pair_and_bytes(command.client, command.number, tag, bytes.len() as u8);
-    out.append(&front)?;
+    let prefix = pair_and_bytes(command.client, command.number, tag, bytes.len() as u8);
+    out.append(&prefix)?;
     out.append(bytes)
 }
 
@@ -52,14 +52,14 @@ pub fn put_command(command: &Command, out: &mut Bytes) -> Result<(), NoMemory>
     ensures { OnOk result (out.new ≡ out.old ++ command_bytes command.now) }
 {
     match &command.op {
-        Op::Get(key) => put_front(command, 1, key, out),
+        Op::Get(key) => put_prefix(command, 1, key, out),
         Op::Put(key, val) => {
-            put_front(command, 2, key, out)?;
+            put_prefix(command, 2, key, out)?;
             put_val(val, out)
         }
-        Op::Delete(key) => put_front(command, 3, key, out),
+        Op::Delete(key) => put_prefix(command, 3, key, out),
         Op::Cas(key, expected, new) => {
-            put_front(command, 4, key, out)?;
+            put_prefix(command, 4, key, out)?;
             put_option_val(expected, out)?;
             put_option_val(new, out)
         }
@@ -68,14 +68,14 @@ pub fn put_command(command: &Command, out: &mut Bytes) -> Result<(), NoMemory>
 
 // the numbers of an entry, the tag of its operation and the key
 #[tactic(auto, unfolding(crsm_base::specs::Spelling::key_bytes))]
-fn put_entry_front(entry: &Entry, tag: u8, key: &Key, out: &mut Bytes) -> Result<(), NoMemory>
+fn put_entry_prefix(entry: &Entry, tag: u8, key: &Key, out: &mut Bytes) -> Result<(), NoMemory>
     requires stamp { FitsStamp entry.now.stamp }
     requires key { FitsKey key.now }
     ensures { OnOk result (out.new ≡ out.old ++ ((u64_bytes entry.now.epoch ++ stamp_bytes entry.now.stamp)
         ++ (u64_bytes entry.now.command.client ++ (u64_bytes entry.now.command.number ++ tag ∷ key_bytes key.now)))) }
 {
     let bytes = key.as_slice();
-    let front = stamp_and_pair(
+    let prefix = stamp_and_pair(
         entry.epoch,
         entry.stamp,
         entry.command.client,
@@ -83,7 +83,7 @@ fn put_entry_front(entry: &Entry, tag: u8, key: &Key, out: &mut Bytes) -> Result
         tag,
         bytes.len() as u8,
     );
-    out.append(&front)?;
+    out.append(&prefix)?;
     out.append(bytes)
 }
 
@@ -94,14 +94,14 @@ pub fn put_entry(entry: &Entry, out: &mut Bytes) -> Result<(), NoMemory>
     ensures { OnOk result (out.new ≡ out.old ++ entry_bytes entry.now) }
 {
     match &entry.command.op {
-        Op::Get(key) => put_entry_front(entry, 1, key, out),
+        Op::Get(key) => put_entry_prefix(entry, 1, key, out),
         Op::Put(key, val) => {
-            put_entry_front(entry, 2, key, out)?;
+            put_entry_prefix(entry, 2, key, out)?;
             put_val(val, out)
         }
-        Op::Delete(key) => put_entry_front(entry, 3, key, out),
+        Op::Delete(key) => put_entry_prefix(entry, 3, key, out),
         Op::Cas(key, expected, new) => {
-            put_entry_front(entry, 4, key, out)?;
+            put_entry_prefix(entry, 4, key, out)?;
             put_option_val(expected, out)?;
             put_option_val(new, out)
         }
@@ -157,7 +157,7 @@ fn take_cas(alloc: Global, bytes: &[u8]) -> Result<Option<(Op, &[u8])>, NoMemory
     Ok(Some((Op::Cas(key, expected, new), rest)))
 }
 
-/// Takes an operation off the front of the bytes: the value and the bytes after it.
+/// Takes an operation off the prefix of the bytes: the value and the bytes after it.
 #[tactic(auto, unfolding(crsm_base::specs::Reading::op_at))]
 pub fn take_op(alloc: Global, bytes: &[u8]) -> Result<Option<(Op, &[u8])>, NoMemory>
     ensures { IfOk result (λ r. option_map (λ x. (x.0, x.1.now)) r ≡ op_at bytes.now) }
@@ -174,7 +174,7 @@ pub fn take_op(alloc: Global, bytes: &[u8]) -> Result<Option<(Op, &[u8])>, NoMem
     }
 }
 
-/// Takes a command off the front of the bytes: the value and the bytes after it.
+/// Takes a command off the prefix of the bytes: the value and the bytes after it.
 #[tactic(auto, unfolding(crsm_base::specs::Reading::command_at))]
 pub fn take_command(alloc: Global, bytes: &[u8]) -> Result<Option<(Command, &[u8])>, NoMemory>
     ensures { IfOk result (λ r. option_map (λ x. (x.0, x.1.now)) r ≡ command_at bytes.now) }
@@ -191,7 +191,7 @@ pub fn take_command(alloc: Global, bytes: &[u8]) -> Result<Option<(Command, &[u8
     Ok(Some((Command { client, number, op }, rest)))
 }
 
-/// Takes an entry off the front of the bytes: the value and the bytes after it.
+/// Takes an entry off the prefix of the bytes: the value and the bytes after it.
 #[tactic(auto, unfolding(crsm_base::specs::Reading::entry_at))]
 pub fn take_entry(alloc: Global, bytes: &[u8]) -> Result<Option<(Entry, &[u8])>, NoMemory>
     ensures { IfOk result (λ r. option_map (λ x. (x.0, x.1.now)) r ≡ entry_at bytes.now) }

@@ -138,7 +138,7 @@ fn take_bare_decision(alloc: Global, bytes: &[u8]) -> Result<Option<(Decision, &
     Ok(Some((decision, rest)))
 }
 
-/// Takes a decision off the front of the bytes: the value and the bytes after it.
+/// Takes a decision off the prefix of the bytes: the value and the bytes after it.
 #[tactic(auto, unfolding(crsm_base::specs::Reading::decision_at))]
 pub fn take_decision(alloc: Global, bytes: &[u8]) -> Result<Option<(Decision, &[u8])>, NoMemory>
     ensures { IfOk result (λ r. option_map (λ x. (x.0, x.1.now)) r ≡ decision_at bytes.now) }

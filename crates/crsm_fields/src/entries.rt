@@ -74,7 +74,7 @@ fn rises(entries: &[Entry]) -> bool
     true
 }
 
-/// Takes a list of entries off the front of the bytes: the value and the bytes after it.
+/// Takes a list of entries off the prefix of the bytes: the value and the bytes after it.
 #[tactic(auto, unfolding(crsm_base::specs::Reading::entries_at))]
 pub fn take_entries(alloc: Global, bytes: &[u8]) -> Result<Option<(Entries, &[u8])>, NoMemory>
     ensures { IfOk result (λ r. option_map (λ x. (x.0, x.1.now)) r ≡ entries_at bytes.now) }

@@ -1,4 +1,4 @@
-//! Appending the spelling of a field or a record to bytes, and taking one off the front of bytes.
+//! Appending the spelling of a field or a record to bytes, and taking one off the prefix of bytes.
 #![tactic(auto)]
 
 mod cells;

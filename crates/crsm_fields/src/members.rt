@@ -76,7 +76,7 @@ pub fn take_replicas(
     Ok(Some((members, rest)))
 }
 
-/// Takes members off the front of the bytes: the value and the bytes after it.
+/// Takes members off the prefix of the bytes: the value and the bytes after it.
 #[tactic(auto, unfolding(crsm_base::specs::Reading::members_at))]
 pub fn take_members(alloc: Global, bytes: &[u8]) -> Result<Option<(Members, &[u8])>, NoMemory>
     ensures { IfOk result (λ r. option_map (λ x. (x.0, x.1.now)) r ≡ members_at bytes.now) }

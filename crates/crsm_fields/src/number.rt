@@ -50,7 +50,7 @@ pub fn put_u64(number: u64, out: &mut Bytes) -> Result<(), NoMemory>
     out.append(&cells)
 }
 
-/// Takes a byte off the front of the bytes: the value and the bytes after it.
+/// Takes a byte off the prefix of the bytes: the value and the bytes after it.
 #[tactic(auto, unfolding(crsm_base::specs::Parser::u8_at))]
 pub fn take_u8(bytes: &[u8]) -> Option<(u8, &[u8])>
     ensures { option_map (λ x. (x.0, x.1.now)) result ≡ u8_at bytes.now }
@@ -61,7 +61,7 @@ pub fn take_u8(bytes: &[u8]) -> Option<(u8, &[u8])>
     }
 }
 
-/// Takes a number of two bytes off the front of the bytes: the value and the bytes after it.
+/// Takes a number of two bytes off the prefix of the bytes: the value and the bytes after it.
 #[tactic(auto, unfolding(crsm_base::specs::Reading::u16_at))]
 pub fn take_u16(bytes: &[u8]) -> Option<(u16, &[u8])>
     ensures { option_map (λ x. (x.0, x.1.now)) result ≡ u16_at bytes.now }
@@ -72,7 +72,7 @@ pub fn take_u16(bytes: &[u8]) -> Option<(u16, &[u8])>
     Some((BigEndian::read_u16(bytes), &bytes[2..]))
 }
 
-/// Takes a number of four bytes off the front of the bytes: the value and the bytes after it.
+/// Takes a number of four bytes off the prefix of the bytes: the value and the bytes after it.
 #[tactic(auto, unfolding(crsm_base::specs::Reading::u32_at))]
 pub fn take_u32(bytes: &[u8]) -> Option<(u32, &[u8])>
     ensures { option_map (λ x. (x.0, x.1.now)) result ≡ u32_at bytes.now }
@@ -83,7 +83,7 @@ pub fn take_u32(bytes: &[u8]) -> Option<(u32, &[u8])>
     Some((BigEndian::read_u32(bytes), &bytes[4..]))
 }
 
-/// Takes a number of eight bytes off the front of the bytes: the value and the bytes after it.
+/// Takes a number of eight bytes off the prefix of the bytes: the value and the bytes after it.
 #[tactic(auto, unfolding(crsm_base::specs::Reading::u64_at))]
 pub fn take_u64(bytes: &[u8]) -> Option<(u64, &[u8])>
     ensures { option_map (λ x. (x.0, x.1.now)) result ≡ u64_at bytes.now }
@@ -94,7 +94,7 @@ pub fn take_u64(bytes: &[u8]) -> Option<(u64, &[u8])>
     Some((BigEndian::read_u64(bytes), &bytes[8..]))
 }
 
-/// Takes a replica's number off the front of the bytes: the value and the bytes after it.
+/// Takes a replica's number off the prefix of the bytes: the value and the bytes after it.
 #[tactic(auto, unfolding(crsm_base::specs::Reading::replica_at))]
 pub fn take_replica(bytes: &[u8]) -> Option<(u32, &[u8])>
     ensures { option_map (λ x. (x.0, x.1.now)) result ≡ replica_at bytes.now }
@@ -107,7 +107,7 @@ pub fn take_replica(bytes: &[u8]) -> Option<(u32, &[u8])>
     }
 }
 
-/// Takes so many bytes off the front of the bytes: the value and the bytes after it.
+/// Takes so many bytes off the prefix of the bytes: the value and the bytes after it.
 #[tactic(auto, unfolding(crsm_base::specs::Reading::run_at))]
 pub fn take_run(len: usize, bytes: &[u8]) -> Option<(&[u8], &[u8])>
     ensures { option_map (λ x. (x.0.now, x.1.now)) result ≡ run_at len bytes.now }

@@ -85,7 +85,7 @@ fn take_stale(_alloc: Global, bytes: &[u8]) -> Result<Option<(Answer, &[u8])>, N
     Ok(Some((Answer::Stale(number), rest)))
 }
 
-/// Takes an answer off the front of the bytes: the value and the bytes after it.
+/// Takes an answer off the prefix of the bytes: the value and the bytes after it.
 #[tactic(auto, unfolding(crsm_base::specs::Reading::answer_at))]
 pub fn take_answer(alloc: Global, bytes: &[u8]) -> Result<Option<(Answer, &[u8])>, NoMemory>
     ensures { IfOk result (λ r. option_map (λ x. (x.0, x.1.now)) r ≡ answer_at bytes.now) }
@@ -114,7 +114,7 @@ fn take_answered(alloc: Global, bytes: &[u8]) -> Result<Option<(Outcome, &[u8])>
     Ok(Some((Outcome::Answered(answer), rest)))
 }
 
-/// Takes an outcome off the front of the bytes: the value and the bytes after it.
+/// Takes an outcome off the prefix of the bytes: the value and the bytes after it.
 #[tactic(auto, unfolding(crsm_base::specs::Reading::outcome_at))]
 pub fn take_outcome(alloc: Global, bytes: &[u8]) -> Result<Option<(Outcome, &[u8])>, NoMemory>
     ensures { IfOk result (λ r. option_map (λ x. (x.0, x.1.now)) r ≡ outcome_at bytes.now) }

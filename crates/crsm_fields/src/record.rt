@@ -186,7 +186,7 @@ fn take_enter(_alloc: Global, bytes: &[u8]) -> Result<Option<(Rec, &[u8])>, NoMe
     Ok(Some((Rec::Enter { epoch }, rest)))
 }
 
-/// Takes a record off the front of the bytes: the value and the bytes after it.
+/// Takes a record off the prefix of the bytes: the value and the bytes after it.
 #[tactic(auto, unfolding(crsm_base::specs::RecordReading::rec_at))]
 pub fn take_rec(alloc: Global, bytes: &[u8]) -> Result<Option<(Rec, &[u8])>, NoMemory>
     ensures { IfOk result (λ r. option_map (λ x. (x.0, x.1.now)) r ≡ rec_at bytes.now) }

@@ -42,7 +42,7 @@ pub fn put_ballot(ballot: Ballot, out: &mut Bytes) -> Result<(), NoMemory>
     out.append(&number_and_byte(ballot.round, ballot.by as u8))
 }
 
-/// Takes a stamp off the front of the bytes: the value and the bytes after it.
+/// Takes a stamp off the prefix of the bytes: the value and the bytes after it.
 #[tactic(auto, unfolding(crsm_base::specs::Reading::stamp_at))]
 pub fn take_stamp(bytes: &[u8]) -> Option<(Stamp, &[u8])>
     ensures { option_map (λ x. (x.0, x.1.now)) result ≡ stamp_at bytes.now }
@@ -52,7 +52,7 @@ pub fn take_stamp(bytes: &[u8]) -> Option<(Stamp, &[u8])>
     Some((Stamp { time, origin }, rest))
 }
 
-/// Takes a stamp that may be missing off the front of the bytes: the value and the bytes after it.
+/// Takes a stamp that may be missing off the prefix of the bytes: the value and the bytes after it.
 #[tactic(auto, unfolding(crsm_base::specs::MessageReading::option_stamp_at))]
 pub fn take_option_stamp(bytes: &[u8]) -> Option<(Option<Stamp>, &[u8])>
     ensures { option_map (λ x. (x.0, x.1.now)) result ≡ option_stamp_at bytes.now }
@@ -68,7 +68,7 @@ pub fn take_option_stamp(bytes: &[u8]) -> Option<(Option<Stamp>, &[u8])>
     }
 }
 
-/// Takes a ballot off the front of the bytes: the value and the bytes after it.
+/// Takes a ballot off the prefix of the bytes: the value and the bytes after it.
 #[tactic(auto, unfolding(crsm_base::specs::Reading::ballot_at))]
 pub fn take_ballot(bytes: &[u8]) -> Option<(Ballot, &[u8])>
     ensures { option_map (λ x. (x.0, x.1.now)) result ≡ ballot_at bytes.now }

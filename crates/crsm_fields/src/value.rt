@@ -56,7 +56,7 @@ pub fn put_option_val(val: &Option<Val>, out: &mut Bytes) -> Result<(), NoMemory
     }
 }
 
-/// Takes a key off the front of the bytes: the value and the bytes after it.
+/// Takes a key off the prefix of the bytes: the value and the bytes after it.
 #[tactic(auto, unfolding(crsm_base::specs::Reading::key_at, crsm_base::specs::Reading::run_at))]
 pub fn take_key(alloc: Global, bytes: &[u8]) -> Result<Option<(Key, &[u8])>, NoMemory>
     ensures { IfOk result (λ r. option_map (λ x. (x.0, x.1.now)) r ≡ key_at bytes.now) }
@@ -71,10 +71,10 @@ pub fn take_key(alloc: Global, bytes: &[u8]) -> Result<Option<(Key, &[u8])>, NoM
     if rest.len() < count {
         return Ok(None);
     }
-    Ok(Some((Key::from_front(alloc, rest, count)?, &rest[count..])))
+    Ok(Some((Key::from_prefix(alloc, rest, count)?, &rest[count..])))
 }
 
-/// Takes a value off the front of the bytes: the value and the bytes after it.
+/// Takes a value off the prefix of the bytes: the value and the bytes after it.
 #[tactic(auto, unfolding(crsm_base::specs::Reading::val_at, crsm_base::specs::Reading::run_at))]
 pub fn take_val(alloc: Global, bytes: &[u8]) -> Result<Option<(Val, &[u8])>, NoMemory>
     ensures { IfOk result (λ r. option_map (λ x. (x.0, x.1.now)) r ≡ val_at bytes.now) }
@@ -89,10 +89,10 @@ pub fn take_val(alloc: Global, bytes: &[u8]) -> Result<Option<(Val, &[u8])>, NoM
     if rest.len() < count {
         return Ok(None);
     }
-    Ok(Some((Val::from_front(alloc, rest, count)?, &rest[count..])))
+    Ok(Some((Val::from_prefix(alloc, rest, count)?, &rest[count..])))
 }
 
-/// Takes a value that may be missing off the front of the bytes: the value and the bytes after it.
+/// Takes a value that may be missing off the prefix of the bytes: the value and the bytes after it.
 #[tactic(auto, unfolding(crsm_base::specs::Reading::option_val_at))]
 pub fn take_option_val(
     alloc: Global,

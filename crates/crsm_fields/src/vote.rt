@@ -40,7 +40,7 @@ fn take_vote(alloc: Global, bytes: &[u8]) -> Result<Option<((Ballot, Decision), 
     Ok(Some(((ballot, decision), rest)))
 }
 
-/// Takes what an acceptor has accepted, if anything off the front of the bytes: the value and the bytes after it.
+/// Takes what an acceptor has accepted, if anything off the prefix of the bytes: the value and the bytes after it.
 #[tactic(auto, unfolding(crsm_base::specs::MessageReading::option_vote_at))]
 pub fn take_option_vote(
     alloc: Global,

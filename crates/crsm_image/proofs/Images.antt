@@ -16,7 +16,7 @@ take_min (suc n) (x ∷ l) = let e : min (suc n) (suc (length l)) ≡ suc (min n
 pub torn_done : (at : ℕ) (bytes l : List ℕ) → Torn at (length bytes) l (overwritten l at bytes)
 torn_done at bytes l =
     let end = drop (at + length bytes) l in
-    let front = take at l ++ replicate (at - length l) 0 ++ bytes in
+    let prefix = take at l ++ replicate (at - length l) 0 ++ bytes in
     let lt = length-take at l in
     let lr = length-replicate {A = ℕ} (at - length l) 0 in
     let l1 = length-append (take at l) (replicate (at - length l) 0) in
@@ -34,7 +34,7 @@ torn_done at bytes l =
 pub shortened_done : (n : ℕ) (l : List ℕ) → Shortened n l (take n l)
 shortened_done n l = record {
   no_shorter = omega (arith, length-take n l);
-  front = ap (λ (k : ℕ). take k l) (length-take n l) ∙ take_min n l;
+  prefix = ap (λ (k : ℕ). take k l) (length-take n l) ∙ take_min n l;
 }
 
 -- a disk as it reads is one of its images

@@ -14,8 +14,8 @@ module _ (a n fill : ℕ) (l : List ℕ) where
   abbrev to : ℕ
   to = min a (length l) + min n (length l - min a (length l))
 
-  abbrev front : List ℕ
-  front = take (min a (length l)) l
+  abbrev prefix : List ℕ
+  prefix = take (min a (length l)) l
 
   abbrev middle : List ℕ
   middle = replicate (min a (length l) + min n (length l - min a (length l)) - min a (length l)) fill
@@ -23,37 +23,37 @@ module _ (a n fill : ℕ) (l : List ℕ) where
   abbrev back : List ℕ
   back = drop (min a (length l) + min n (length l - min a (length l))) l
 
-  front_long : length front ≡ min a (length l)
-  front_long = omega (arith, length-take (min a (length l)) l)
+  prefix_long : length prefix ≡ min a (length l)
+  prefix_long = omega (arith, length-take (min a (length l)) l)
 
   middle_long : length middle ≡ min n (length l - min a (length l))
   middle_long = omega (arith, length-replicate {A = ℕ} (min a (length l) + min n (length l - min a (length l)) - min a (length l)) fill)
 
-  both_long : length (front ++ middle) ≡ min a (length l) + min n (length l - min a (length l))
-  both_long = omega (arith, length-append front middle, front_long, middle_long)
+  both_long : length (prefix ++ middle) ≡ min a (length l) + min n (length l - min a (length l))
+  both_long = omega (arith, length-append prefix middle, prefix_long, middle_long)
 
   pub length_ranged : length (ranged a n fill l) ≡ length l
-  length_ranged = omega (arith, length-append (front ++ middle) back, both_long, length-drop (min a (length l) + min n (length l - min a (length l))) l)
+  length_ranged = omega (arith, length-append (prefix ++ middle) back, both_long, length-drop (min a (length l) + min n (length l - min a (length l))) l)
 
   module _ (i : ℕ) (lt : i < length l) where
     pub ranged_before : i < a → get_or (ranged a n fill l) i 0 ≡ get_or l i 0
     ranged_before before =
-        get_or_append_left (front ++ middle) back 0 i (omega (arith, both_long, lt, before))
-        ∙ get_or_append_left front middle 0 i (omega (arith, front_long, lt, before))
+        get_or_append_left (prefix ++ middle) back 0 i (omega (arith, both_long, lt, before))
+        ∙ get_or_append_left prefix middle 0 i (omega (arith, prefix_long, lt, before))
         ∙ get_or-take (min a (length l)) l i 0 (omega (arith, lt, before))
 
     pub ranged_in : a ≤ i → i < a + n → get_or (ranged a n fill l) i 0 ≡ fill
     ranged_in le below =
-        let at : length front + (i - a) ≡ i = omega (arith, front_long, lt, le) in
-        get_or_append_left (front ++ middle) back 0 i (omega (arith, both_long, lt, le, below))
-        ∙ ap (λ (k : ℕ). get_or (front ++ middle) k 0) (sym at) ∙ get_or-append-add front middle (i - a) 0
+        let at : length prefix + (i - a) ≡ i = omega (arith, prefix_long, lt, le) in
+        get_or_append_left (prefix ++ middle) back 0 i (omega (arith, both_long, lt, le, below))
+        ∙ ap (λ (k : ℕ). get_or (prefix ++ middle) k 0) (sym at) ∙ get_or-append-add prefix middle (i - a) 0
         ∙ get_or-replicate (min a (length l) + min n (length l - min a (length l)) - min a (length l)) (i - a) fill 0 (omega (arith, lt, le, below))
 
     pub ranged_after : a + n ≤ i → get_or (ranged a n fill l) i 0 ≡ get_or l i 0
     ranged_after past =
-        let at : length (front ++ middle) + (i - (a + n)) ≡ i = omega (arith, both_long, lt, past) in
+        let at : length (prefix ++ middle) + (i - (a + n)) ≡ i = omega (arith, both_long, lt, past) in
         let there : min a (length l) + min n (length l - min a (length l)) + (i - (a + n)) ≡ i = omega (arith, lt, past) in
-        ap (λ (k : ℕ). get_or ((front ++ middle) ++ back) k 0) (sym at) ∙ get_or-append-add (front ++ middle) back (i - (a + n)) 0
+        ap (λ (k : ℕ). get_or ((prefix ++ middle) ++ back) k 0) (sym at) ∙ get_or-append-add (prefix ++ middle) back (i - (a + n)) 0
         ∙ get_or-drop (min a (length l) + min n (length l - min a (length l))) l (i - (a + n)) 0 ∙ ap (λ (k : ℕ). get_or l k 0) there
 
 pub length_painted : (calls : List Call) (fill : ℕ) (l : List ℕ) → length (painted calls fill l) ≡ length l
@@ -120,11 +120,11 @@ shortened_painted calls fill n x y s le =
     let ly = length_painted calls fill y in
     record {
       no_shorter = omega (arith, lx, ly, s.no_shorter);
-      front = ext_get_or 0 (take (length (painted calls fill y)) (painted calls fill x)) (painted calls fill y)
+      prefix = ext_get_or 0 (take (length (painted calls fill y)) (painted calls fill x)) (painted calls fill y)
           (omega (arith, length-take (length (painted calls fill y)) (painted calls fill x), lx, ly, le))
           (λ i lt.
           let low : i < length y = omega (arith, lt, length-take (length (painted calls fill y)) (painted calls fill x), ly) in
-          let agree : get_or x i 0 ≡ get_or y i 0 = sym (get_or-take (length y) x i 0 low) ∙ ap (λ (l : List ℕ). get_or l i 0) s.front in
+          let agree : get_or x i 0 ≡ get_or y i 0 = sym (get_or-take (length y) x i 0 low) ∙ ap (λ (l : List ℕ). get_or l i 0) s.prefix in
           get_or-take (length (painted calls fill y)) (painted calls fill x) i 0 (omega (arith, low, ly)) ∙ same_painted calls fill x y i (omega (arith, low, le)) low agree);
     }
 

@@ -4,6 +4,7 @@
 ghost use Rattle.std.specs.Prelude.{ℕ, List};
 ghost use Rattle.crsm_image.specs.Calls.{Call, contents};
 ghost use Rattle.crsm_image.specs.Image.{IsImage, image_of};
+ghost use Rattle.crsm_image.specs.Torn.{IsTorn};
 
 /// Bytes as they read are one of their images.
 pub fn reads_as_image()
@@ -13,4 +14,9 @@ pub fn reads_as_image()
 /// So are they with one byte in each place that was not synced.
 pub fn fills_as_image()
     ensures { (first : List ℕ) (calls : List Call) (fill : ℕ) → IsImage first calls (image_of first calls fill) }
+{}
+
+/// Each image of that sentence is reached step by step. So what is proved of every image holds of these.
+pub fn each_image_is_reached()
+    ensures { (first : List ℕ) (calls : List Call) (image : List ℕ) → IsTorn first calls image → IsImage first calls image }
 {}

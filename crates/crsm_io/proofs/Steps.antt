@@ -27,6 +27,6 @@ pub takes_none : (a : Option (List ℕ)) → Takes a a []
 takes_none None = refl
 takes_none (Some h) = refl
 
--- a longer front put
+-- a longer prefix put
 pub puts_more : (a b c : Option (List ℕ)) (bytes : List ℕ) (i n : ℕ) → Puts a b (take i bytes) → Puts b c (take n (drop i bytes)) → Puts a c (take (i + n) bytes)
 puts_more a b c bytes i n p q = rw take-add (puts_after a b c _ _ p q)

@@ -14,14 +14,14 @@ Puts before after put = after ≡ option_map (λ (had : List ℕ). had ++ put) b
 abbrev pub AtEnd : Option (List ℕ) → Type 0
 AtEnd left = IfSome left (λ bytes. bytes ≡ [])
 
--- the front that an answer names, nothing where it is a fault
-abbrev pub front_of : {E : Type 0} → Result ℕ E → List ℕ → List ℕ
-front_of (Ok n) bytes = take n bytes
-front_of (Err e) bytes = []
+-- the prefix that an answer names, nothing where it is a fault
+abbrev pub prefix_of : {E : Type 0} → Result ℕ E → List ℕ → List ℕ
+prefix_of (Ok n) bytes = take n bytes
+prefix_of (Err e) bytes = []
 
--- a front of the bytes was put
-pub record PutsFront (before after : Option (List ℕ)) (bytes : List ℕ) : Type 0 where
-  pub front : List ℕ
+-- a prefix of the bytes was put
+pub record PutsPrefix (before after : Option (List ℕ)) (bytes : List ℕ) : Type 0 where
+  pub prefix : List ℕ
   pub rest : List ℕ
-  pub cut : bytes ≡ front ++ rest
-  pub put : Puts before after front
+  pub cut : bytes ≡ prefix ++ rest
+  pub put : Puts before after prefix

@@ -1,13 +1,13 @@
 //! A source and a sink in memory, whose calls fail by a list of their numbers.
 
 ghost use Rattle.std.specs.Prelude.{◌≡◌, ℕ, ◌-◌, ◌+◌, ◌<◌, ◌≤◌, ◌↔◌, ◌⊎◌, ◌++◌, [], drop, take, max, Some, length, IfOk, IsErr, OnOk, OnErr};
-ghost use Rattle.crsm_device.specs.Counts.{Rose};
-ghost use Rattle.crsm_io.specs.Streams.{Takes, Puts, AtEnd, front_of};
+ghost use Rattle.crsm_faults.specs.Counts.{Rose};
+ghost use Rattle.crsm_io.specs.Streams.{Takes, Puts, AtEnd, prefix_of};
 ghost use Rattle.crsm_io.specs.Memory.{NextIsListed, one_later};
 
 use crate::streams::{Sink, Source};
 use crsm_base::{Failed, NoMemory};
-use crsm_device::{Failures, raise};
+use crsm_faults::{Failures, raise};
 use std::alloc::Global;
 use std::marker::Model;
 
@@ -56,7 +56,7 @@ impl Source for MemSource {
 
     fn read(&mut self, buf: &mut [u8]) -> Result<usize, Failed>
         ensures bound { IfOk result (λ n. n ≤ length buf.new) }
-        ensures taken { Takes (Some self.old.left) (Some self.new.left) (front_of result buf.new) }
+        ensures taken { Takes (Some self.old.left) (Some self.new.left) (prefix_of result buf.new) }
         ensures end { IfOk result (λ n. n ≡ 0 → 0 < length buf.new → AtEnd (Some self.new.left)) }
         ensures later { self.old.faults ≤ self.new.faults }
         ensures rose { OnErr result (Rose self.old.faults self.new.faults) }
@@ -67,14 +67,14 @@ impl Source for MemSource {
             raise(&mut self.faults);
             return Err(Failed);
         }
-        let count = copy_front(&self.bytes[self.at..], buf);
+        let count = copy_prefix(&self.bytes[self.at..], buf);
         self.at += count;
         Ok(count)
     }
 }
 
 /// Copies as much of the bytes as the buffer takes.
-pub(crate) fn copy_front(bytes: &[u8], buf: &mut [u8]) -> usize
+pub(crate) fn copy_prefix(bytes: &[u8], buf: &mut [u8]) -> usize
     ensures within { (result ≤ length bytes.now) × (result ≤ length buf.new) }
     ensures copied { bytes.now ≡ take result buf.new ++ drop result bytes.now }
     ensures end { result ≡ 0 → 0 < length buf.new → bytes.now ≡ [] }
@@ -148,7 +148,7 @@ impl Sink for MemSink {
     fn write(&mut self, piece: &[u8]) -> Result<usize, Failed>
         ensures bound { IfOk result (λ n. n ≤ length piece.now) }
         ensures some { IfOk result (λ n. 0 < length piece.now → 0 < n) }
-        ensures put { Puts (Some self.old.written) (Some self.new.written) (front_of result piece.now) }
+        ensures put { Puts (Some self.old.written) (Some self.new.written) (prefix_of result piece.now) }
         ensures later { self.old.faults ≤ self.new.faults }
         ensures rose { OnErr result (Rose self.old.faults self.new.faults) }
         ensures refused { IsErr result → NextIsListed self.old.failing ⊎ (self.old.room < length piece.now) }

@@ -2,7 +2,7 @@
 
 ghost use Rattle.std.specs.Prelude.{◌≡◌, ℕ, ◌+◌, ◌-◌, ◌^◌, min, Some, None, Ok, length, IfOk};
 
-use crate::memory::copy_front;
+use crate::memory::copy_prefix;
 use crate::streams::{Sink, Source};
 use crsm_base::{Failed, NoMemory};
 use std::alloc::Global;
@@ -41,7 +41,7 @@ impl Source for NeverSource {
     ghost faults = { λ _. 0 };
 
     fn read(&mut self, buf: &mut [u8]) -> Result<usize, Failed> {
-        let count = copy_front(&self.bytes[self.at..], buf);
+        let count = copy_prefix(&self.bytes[self.at..], buf);
         self.at += count;
         Ok(count)
     }

@@ -13,7 +13,7 @@ use Rattle.crsm_spec.specs.Log.{Log, known, start, members, boots, active, above
 use Rattle.crsm_spec.specs.Fits.{fits, booted, is_newest, can_be_members}
 use Rattle.crsm_ledger.specs.declared.ledger.Ledger.{Ledger}
 use Rattle.crsm_ledger.specs.Executed.{position_of, goes_on_behind}
-use Rattle.crsm_ledger.specs.Stands.{Says}
+use Rattle.crsm_ledger.specs.Ledger.{Says}
 use Rattle.crsm_ledger.proofs.ExecutedLemmas.{goes_on-position}
 use Rattle.crsm_ledger.proofs.ReadLemmas.{me-is, n-is, boots-is, known-is, start-is, live-is, suspended-is, entered-is, promised-is, accepted-is, logged-is, known-epoch, known-members}
 

@@ -14,7 +14,7 @@ use Rattle.crsm_spec.specs.Lines.{lines_of, exec_line, exec_lines}
 use Rattle.crsm_ledger.specs.declared.ledger.Ledger.{Ledger}
 use Rattle.crsm_ledger.specs.declared.history.History.{History}
 use Rattle.crsm_ledger.specs.Executed.{HasExecuted}
-use Rattle.crsm_ledger.specs.Stands.{Says}
+use Rattle.crsm_ledger.specs.Ledger.{Says}
 use Rattle.crsm_ledger.proofs.ListLemmas.{all_more}
 use Rattle.crsm_ledger.proofs.LoggedLemmas.{with_entry-all}
 use Rattle.crsm_ledger.proofs.ReadLemmas.{me-is, boots-is, logged-is}

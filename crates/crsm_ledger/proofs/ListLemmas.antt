@@ -122,7 +122,7 @@ filter-push p [] x = refl
 filter-push p (y ∷ xs) x =
     ap (λ rest. if p y then y ∷ rest else rest) (filter-push p xs x) ∙ filter_by_test (p y) y (filter p xs) (if p x then x ∷ [] else [])
 
--- a list is its front and its rest
+-- a list is its prefix and its rest
 pub halves : {X : Type 0} (xs : List X) (k : ℕ) → xs ≡ take k xs ++ drop k xs
 halves xs zero = refl
 halves [] (suc k) = refl
@@ -134,6 +134,6 @@ item_suc (y ∷ xs) zero x within more = cc
 item_suc (y ∷ xs) (suc i) x within more =
     let rest : take (suc i) xs ≡ take i xs ++ x ∷ [] = cc in item_suc xs i x (omega arith) rest
 
--- the item by which the front grows
+-- the item by which the prefix grows
 pub item_at : {X : Type 0} (xs : List X) (i : ℕ) (x : X) → i < length xs → take (i + 1) xs ≡ take i xs ++ x ∷ [] → slice_get xs i ≡ Some x
 item_at xs i x within more = item_suc xs i x within (let next : i + 1 ≡ suc i = omega arith in rw next at more)

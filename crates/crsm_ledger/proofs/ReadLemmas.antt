@@ -7,7 +7,7 @@ use Rattle.crsm_spec.specs.Lists.{numbers_below}
 use Rattle.crsm_spec.specs.Quorum.{spec_decided}
 use Rattle.crsm_spec.specs.Log.{Log, decision, known, start, members, spec, boots, live, suspended, has_entered, promised, accepted, logged}
 use Rattle.crsm_ledger.specs.declared.ledger.Ledger.{Ledger}
-use Rattle.crsm_ledger.specs.Stands.{Says, facts_of, known_decision, founding}
+use Rattle.crsm_ledger.specs.Ledger.{Says, facts_of, known_decision, founding}
 
 pub me-is : {me n : ℕ} {l : Ledger} {log : Log} → Says me n l log → l.me ≡ me
 unfolding facts_of

@@ -8,7 +8,7 @@ use Rattle.crsm_spec.specs.Fits.{fits}
 use Rattle.crsm_ledger.specs.declared.error.LedgerError.{LedgerError}
 use Rattle.crsm_ledger.specs.declared.error.LedgerError.TheVariants.{BadLog, NotFit, NoMemory}
 use Rattle.crsm_ledger.specs.Recovered.{with_records, FitInTurn, AreKept, Misfit, IsBad, IsBadAt, IfBadLog}
-use Rattle.crsm_ledger.specs.Stands.{kind}
+use Rattle.crsm_ledger.specs.Ledger.{kind}
 use Rattle.crsm_ledger.proofs.ListLemmas.{halves, item_at}
 
 pub with_records-push : (log : Log) (recs : List Rec) (rec : Rec) → with_records log (recs ++ rec ∷ []) ≡ rec ∷ with_records log recs
@@ -44,7 +44,7 @@ misfit-at me n log recs i rec entry at why more fit bad = (
     before = take i recs;
     rec = rec;
     after = drop (i + 1) recs;
-    among = halves recs (i + 1) ∙ ap (λ (front : List Rec). front ++ drop (i + 1) recs) more ∙ append_assoc (take i recs) (rec ∷ []) (drop (i + 1) recs);
+    among = halves recs (i + 1) ∙ ap (λ (prefix : List Rec). prefix ++ drop (i + 1) recs) more ∙ append_assoc (take i recs) (rec ∷ []) (drop (i + 1) recs);
     fit = fit;
     misfit = bad.1;
     why_is = bad.2;
@@ -66,7 +66,7 @@ bad-at me n bodies items i item body log entry at why all within more same numbe
 -- the bodies with one more
 pub kept-more : (me n : ℕ) (items : List (List ℕ)) (i : ℕ) (item body : List ℕ) (log : Log) (recs : List Rec) → take (i + 1) items ≡ take i items ++ item ∷ [] → body ≡ item → AreKept me n [] (take i items) log → SpeltBody recs body → FitInTurn me n log recs → AreKept me n [] (take (i + 1) items) (with_records log recs)
 kept-more me n items i item body log recs more same kept spelt fit =
-    subst (λ (front : List (List ℕ)). AreKept me n [] front (with_records log recs)) (sym more)
+    subst (λ (prefix : List (List ℕ)). AreKept me n [] prefix (with_records log recs)) (sym more)
     (kept-push me n [] log (take i items) item recs kept (subst (λ (b : List ℕ). SpeltBody recs b) same spelt) fit)
 
 -- what is said of an answer that is this error

@@ -1,4 +1,4 @@
--- Records that are taken off the front of a body one by one.
+-- Records that are taken off the prefix of a body one by one.
 use Rattle.std.proofs.Common.{◌≡◌, ℕ, true, false, ◌≤◌, ◌<◌, ◌+◌, List, [], ◌∷◌, ◌++◌, length, refl, ap, sym, ◌∙◌, subst, arith, append_assoc, Some, None, inr}
 use Rattle.std.specs.List.{flat_map, AllByRecursion}
 use Rattle.std.proofs.lemmas.Grind.{flat_map-append}
@@ -11,7 +11,7 @@ use Rattle.crsm_base.proofs.BodyLaws.{HasRead, reads_on, goes_on_as}
 use Rattle.crsm_spec.specs.Types.{Rec}
 use Rattle.crsm_spec.specs.Log.{Log}
 use Rattle.crsm_spec.specs.Fits.{fits}
-use Rattle.crsm_ledger.specs.Stands.{kind}
+use Rattle.crsm_ledger.specs.Ledger.{kind}
 use Rattle.crsm_ledger.specs.Recovered.{with_records, FitInTurn, IsBad}
 use Rattle.crsm_ledger.proofs.ListLemmas.{all-append}
 

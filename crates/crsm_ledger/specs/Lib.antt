@@ -2,4 +2,4 @@ pub mod Executed
 pub mod Pieces
 pub mod Recovered
 pub mod Sorted
-pub mod Stands
+pub mod Ledger

@@ -6,7 +6,7 @@ use Rattle.crsm_spec.specs.Log.{Log}
 use Rattle.crsm_spec.specs.Fits.{fits}
 use Rattle.crsm_ledger.specs.declared.error.LedgerError.{LedgerError}
 use Rattle.crsm_ledger.specs.declared.ledger.Ledger.{Ledger}
-use Rattle.crsm_ledger.specs.Stands.{StandsFor, kind}
+use Rattle.crsm_ledger.specs.Ledger.{StandsFor, kind}
 
 -- the log with these records kept behind it, one after the other
 abbrev pub with_records : Log → List Rec → Log

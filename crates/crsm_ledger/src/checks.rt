@@ -8,7 +8,7 @@ ghost use Rattle.crsm_base.specs.Order.{stamp_lt, stamp_eq, ballot_lt};
 ghost use Rattle.crsm_spec.specs.Fits.{fits, can_be_members};
 ghost use Rattle.crsm_spec.specs.Lists.{first_of, numbers_below};
 ghost use Rattle.crsm_ledger.specs.Executed.{goes_on_behind};
-ghost use Rattle.crsm_ledger.specs.Stands.{Says};
+ghost use Rattle.crsm_ledger.specs.Ledger.{Says};
 
 use crate::history::Position;
 use crate::ledger::Ledger;

@@ -5,7 +5,7 @@ ghost use Rattle.crsm_base.specs.declared.Rec.{Rec};
 ghost use Rattle.crsm_base.specs.declared.Stamp.{Stamp};
 ghost use Rattle.crsm_base.specs.Spelling.{FitsEntry, FitsEntries, FitsDecision};
 ghost use Rattle.crsm_spec.specs.Lines.{lines_of};
-ghost use Rattle.crsm_ledger.specs.Stands.{Keeps};
+ghost use Rattle.crsm_ledger.specs.Ledger.{Keeps};
 
 use crate::ledger::Ledger;
 use crate::steps::one_line;

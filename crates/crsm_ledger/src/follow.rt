@@ -5,7 +5,7 @@ ghost use Rattle.crsm_base.specs.declared.Rec.{Rec};
 ghost use Rattle.crsm_base.specs.declared.Stamp.{Stamp};
 ghost use Rattle.crsm_base.specs.Records.{FitsRec};
 ghost use Rattle.crsm_base.specs.Spelling.{FitsEntry, FitsEntries, FitsDecision};
-ghost use Rattle.crsm_ledger.specs.Stands.{Follows};
+ghost use Rattle.crsm_ledger.specs.Ledger.{Follows};
 
 use crate::ledger::{Ledger, NO_BALLOT};
 use crsm_base::{Ballot, Decision, Entries, Entry, NoMemory, Rec};

@@ -8,7 +8,7 @@ ghost use Rattle.crsm_base.specs.Spelling.{entry_bytes, FitsEntry};
 ghost use Rattle.crsm_base.specs.Records.{FitsRec};
 ghost use Rattle.crsm_spec.specs.Fits.{fits, goes_on};
 ghost use Rattle.crsm_spec.specs.Lines.{lines_of};
-ghost use Rattle.crsm_ledger.specs.Stands.{kind};
+ghost use Rattle.crsm_ledger.specs.Ledger.{kind};
 ghost use Rattle.crsm_spec.specs.Log.{boots, start, live, suspended, executed, logged, unexecuted, last_stamp, promised, accepted, spec};
 
 use crate::checks::stands_behind;
@@ -53,7 +53,7 @@ fn members_of(alloc: Global, numbers: &[u32]) -> Result<Members, NoMemory>
 }
 
 impl Ledger {
-    ghost use Rattle.crsm_ledger.specs.Stands.{StandsFor, IsSpent, known_decision};
+    ghost use Rattle.crsm_ledger.specs.Ledger.{StandsFor, IsSpent, known_decision};
 
     /// The ledger of an empty log, of replica `me` in a cluster that began with `n` replicas.
     pub fn new(alloc: Global, me: u32, n: u32) -> Result<Ledger, NoMemory>
@@ -239,7 +239,7 @@ impl Ledger {
 }
 
 /// The record's kind, its first byte.
-#[tactic(auto, unfolding(crate::specs::Stands::kind))]
+#[tactic(auto, unfolding(crate::specs::Ledger::kind))]
 pub(crate) fn kind_of(rec: &Rec) -> u32
     ensures { result ≡ kind rec.now }
 {

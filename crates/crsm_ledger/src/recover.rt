@@ -3,7 +3,7 @@
 ghost use Rattle.std.specs.Prelude.{◌≡◌, ◌<◌, ◌≤◌, ℕ, [], List, IfOk, IfErr};
 ghost use Rattle.crsm_base.specs.declared.Rec.{Rec};
 ghost use Rattle.crsm_base.specs.Records.{FitsRec};
-ghost use Rattle.crsm_ledger.specs.Stands.{StandsFor};
+ghost use Rattle.crsm_ledger.specs.Ledger.{StandsFor};
 ghost use Rattle.crsm_ledger.specs.Recovered.{AreKept, IfBadLog, IsBadAt, TakesBody, TakesRecord};
 
 use crate::error::LedgerError;

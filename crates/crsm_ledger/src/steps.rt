@@ -3,7 +3,7 @@
 ghost use Rattle.std.specs.Prelude.{◌≡◌, ℕ, ◌∷◌, [], IfOk};
 ghost use Rattle.crsm_base.specs.declared.Rec.{Rec};
 ghost use Rattle.crsm_base.specs.Records.{FitsRec};
-ghost use Rattle.crsm_ledger.specs.Stands.{Keeps};
+ghost use Rattle.crsm_ledger.specs.Ledger.{Keeps};
 
 use crate::ledger::Ledger;
 use crsm_base::{Ballot, Decision, Line, Lines, NoMemory, Rec};

@@ -3,8 +3,8 @@ use Rattle.std.proofs.Common.{◌≡◌, inr, ℕ, ◌+◌, ◌-◌, ◌<◌, Li
 use Rattle.std.specs.Prelude.{Option, Some, None}
 use Rattle.crsm_image.specs.Bytes.{Torn, overwritten}
 use Rattle.crsm_image.specs.Calls.{History, noted, synced, wrote}
-use Rattle.crsm_device.specs.Failing.{one_less}
-use Rattle.crsm_device.specs.Plan.{Plan, spent}
+use Rattle.crsm_faults.specs.Failing.{one_less}
+use Rattle.crsm_faults.specs.Plan.{Plan, spent}
 use Rattle.crsm_disk.specs.Meaning.{Meaning, LeavesOnly, Only}
 use Rattle.crsm_disk.proofs.Moments.{joined, weaker}
 use Rattle.crsm_log.specs.Format.{found, reading, bodies_in, size}

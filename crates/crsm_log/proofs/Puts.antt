@@ -44,9 +44,9 @@ module _ (l : List ℕ) (end : ℕ) (bs : List (List ℕ)) (read : reading l ≡
   pub torn_behind : (n : ℕ) (c : List ℕ) → Torn (end + 1) n l c → reading c ≡ found bs
   torn_behind n c torn =
       let m : min (end + 1) (length l) ≡ end + 1 = omega (arith, inside) in
-      let front : take (end + 1) c ≡ take (end + 1) l = sym (ap (λ (k : ℕ). take k c) m) ∙ torn.before in
+      let prefix : take (end + 1) c ≡ take (end + 1) l = sym (ap (λ (k : ℕ). take k c) m) ∙ torn.before in
       let whole : c ≡ take end l ++ get_or l end 0 ∷ drop (end + 1) c =
-      sym (take-append-drop (end + 1) c) ∙ ap (λ (t : List ℕ). t ++ drop (end + 1) c) (front ∙ gate_in) ∙ append_assoc (take end l) (get_or l end 0 ∷ []) (drop (end + 1) c) in
+      sym (take-append-drop (end + 1) c) ∙ ap (λ (t : List ℕ). t ++ drop (end + 1) c) (prefix ∙ gate_in) ∙ append_assoc (take end l) (get_or l end 0 ∷ []) (drop (end + 1) c) in
       ap reading whole ∙ shut_reads bs (take end l) (get_or l end 0) (drop (end + 1) c) is_run shut
 
   pub written_behind : (body : List ℕ) → overwritten l (end + 1) (four_bytes (length body) ++ body ++ 0 ∷ []) ≡ staged (take end l) (get_or l end 0) body (drop (end + 1 + length (four_bytes (length body) ++ body ++ 0 ∷ [])) l)
@@ -75,9 +75,9 @@ module _ (run : List ℕ) (end : ℕ) (long : length run ≡ end) (gate : ℕ) (
   pub torn_gate : (c : List ℕ) → Torn end 1 (staged run gate body junk) c → c ≡ staged run (get_or c end 0) body junk
   torn_gate c torn =
       let m : min end (length (staged run gate body junk)) ≡ end = omega (arith, size_is) in
-      let front : take end c ≡ run = sym (ap (λ (k : ℕ). take k c) m) ∙ torn.before ∙ take_at run (gate ∷ rest) end long in
+      let prefix : take end c ≡ run = sym (ap (λ (k : ℕ). take k c) m) ∙ torn.before ∙ take_at run (gate ∷ rest) end long in
       let inside : end < length c = omega (arith, torn.no_shorter, size_is) in
-      sym (take-append-drop end c) ∙ ap (λ (t : List ℕ). t ++ drop end c) front
+      sym (take-append-drop end c) ∙ ap (λ (t : List ℕ). t ++ drop end c) prefix
       ∙ ap (λ (t : List ℕ). run ++ t) (drop_more c end 0 inside ∙ ap (λ (t : List ℕ). get_or c end 0 ∷ t) (torn.after ∙ back))
 
   pub written_gate : overwritten (staged run gate body junk) end (1 ∷ []) ≡ staged run 1 body junk
@@ -90,7 +90,7 @@ module _ (run : List ℕ) (end : ℕ) (long : length run ≡ end) (gate : ℕ) (
 
   pub next_gate : get_or (staged run 1 body junk) (end + 5 + length body) 0 ≡ 0
   next_gate =
-      let front : List ℕ = run ++ 1 ∷ (four_bytes (length body) ++ body) in
+      let prefix : List ℕ = run ++ 1 ∷ (four_bytes (length body) ++ body) in
       let whole : staged run 1 body junk ≡ (run ++ 1 ∷ (four_bytes (length body) ++ body)) ++ 0 ∷ junk = sym (append_assoc run (1 ∷ (four_bytes (length body) ++ body)) (0 ∷ junk)) in
       let at : end + 5 + length body ≡ length (run ++ 1 ∷ (four_bytes (length body) ++ body)) = omega (arith, length-append run (1 ∷ (four_bytes (length body) ++ body)), long) in
       ap (λ (t : List ℕ). get_or t (end + 5 + length body) 0) whole
@@ -121,7 +121,7 @@ module _ (run : List ℕ) (end : ℕ) (long : length run ≡ end) (gate : ℕ) (
 
 pub length_overwritten : (l : List ℕ) (at : ℕ) (bs : List ℕ) → at + length bs ≤ length (overwritten l at bs)
 length_overwritten l at bs =
-    let front = take at l ++ replicate (at - length l) 0 in
+    let prefix = take at l ++ replicate (at - length l) 0 in
     omega (
       arith,
       length-append (take at l ++ replicate (at - length l) 0 ++ bs) (drop (at + length bs) l),

@@ -2,8 +2,8 @@
 use Rattle.std.proofs.Common.{◌<◌, ◌≡◌, ◌↔◌, ℕ, zero, suc, ◌-◌, List, [], ◌∷◌, ◌++◌, drop, length, take, min, Result, Ok, Err, IsErr, refl, sym, ◌∙◌, ap, subst, arith}
 use Rattle.std.specs.Prelude.{Option, Some, None}
 use Rattle.crsm_base.specs.declared.memory.Failed.{Failed}
-use Rattle.crsm_device.specs.Failing.{one_less}
-use Rattle.crsm_device.specs.Plan.{HasRoom, Plan, spent}
+use Rattle.crsm_faults.specs.Failing.{one_less}
+use Rattle.crsm_faults.specs.Plan.{HasRoom, Plan, spent}
 use Rattle.crsm_image.specs.Calls.{Call, noted}
 use Rattle.crsm_disk.specs.Contract.{Answers, Goes as Moves}
 use Rattle.crsm_disk.specs.Meaning.{LeavesOnly, Meaning, Only}
@@ -201,5 +201,5 @@ module _ {A : Type 0} (m1 m2 : Meaning) (p q : Plan) (room : m1.plan ≡ Some q)
 pub whole_read : (seen before after : List ℕ) (n : ℕ) → ReadsAt seen 0 before after n → length before ≡ length seen → take n after ≡ seen
 whole_read seen before after n r same =
     let all : n ≡ length seen = omega (arith, r.count, same) in
-    let front : take n seen ≡ seen = take_all n seen (omega (arith, all)) in
-    ap (take n) r.read ∙ ap (λ (l : List ℕ). take n (l ++ drop n before)) front ∙ take_at seen (drop n before) n (sym all)
+    let prefix : take n seen ≡ seen = take_all n seen (omega (arith, all)) in
+    ap (take n) r.read ∙ ap (λ (l : List ℕ). take n (l ++ drop n before)) prefix ∙ take_at seen (drop n before) n (sym all)

@@ -18,31 +18,31 @@ nothing_painted (synced ∷ calls) fill l s = refl
 nothing_painted (wrote at bytes ∷ calls) fill l s = absurd (cc)
 nothing_painted (cut n ∷ calls) fill l s = absurd (cc)
 
--- painting behind a front leaves it
-behind_front : (front back : List ℕ) (n fill : ℕ) → (x : List ℕ) × (ranged (length front) n fill (front ++ back) ≡ front ++ x)
-behind_front front back n fill =
-    let l = front ++ back in
-    let from : min (length front) (length (front ++ back)) ≡ length front = omega (arith, length-append front back) in
-    let to = length front + min n (length (front ++ back) - length front) in (
-      replicate (to - length front) fill ++ drop to l,
-      ap (λ (k : ℕ). let t = k + min n (length (front ++ back) - k) in take k (front ++ back) ++ replicate (t - k) fill ++ drop t (front ++ back)) from
-          ∙ ap (λ (a : List ℕ). a ++ replicate (to - length front) fill ++ drop to (front ++ back)) (take_at front back (length front) refl)
-          ∙ append_assoc front (replicate (to - length front) fill) (drop to (front ++ back)),
+-- painting behind a prefix leaves it
+behind_prefix : (prefix back : List ℕ) (n fill : ℕ) → (x : List ℕ) × (ranged (length prefix) n fill (prefix ++ back) ≡ prefix ++ x)
+behind_prefix prefix back n fill =
+    let l = prefix ++ back in
+    let from : min (length prefix) (length (prefix ++ back)) ≡ length prefix = omega (arith, length-append prefix back) in
+    let to = length prefix + min n (length (prefix ++ back) - length prefix) in (
+      replicate (to - length prefix) fill ++ drop to l,
+      ap (λ (k : ℕ). let t = k + min n (length (prefix ++ back) - k) in take k (prefix ++ back) ++ replicate (t - k) fill ++ drop t (prefix ++ back)) from
+          ∙ ap (λ (a : List ℕ). a ++ replicate (to - length prefix) fill ++ drop to (prefix ++ back)) (take_at prefix back (length prefix) refl)
+          ∙ append_assoc prefix (replicate (to - length prefix) fill) (drop to (prefix ++ back)),
     )
 
 -- painting one byte
-one_painted : (front back : List ℕ) (g fill : ℕ) → ranged (length front) 1 fill (front ++ g ∷ back) ≡ front ++ fill ∷ back
-one_painted front back g fill =
-    let long = length-append front (g ∷ back) in
-    let from : min (length front) (length (front ++ g ∷ back)) ≡ length front = omega (arith, long) in
-    let to : length front + min 1 (length (front ++ g ∷ back) - length front) ≡ length front + 1 = omega (arith, long) in
-    let one : length front + 1 - length front ≡ 1 = omega arith in
-    ap (λ (k : ℕ). let t = k + min 1 (length (front ++ g ∷ back) - k) in take k (front ++ g ∷ back) ++ replicate (t - k) fill ++ drop t (front ++ g ∷ back)) from
-    ∙ ap (λ (t : ℕ). take (length front) (front ++ g ∷ back) ++ replicate (t - length front) fill ++ drop t (front ++ g ∷ back)) to
-    ∙ ap (λ (k : ℕ). take (length front) (front ++ g ∷ back) ++ replicate k fill ++ drop (length front + 1) (front ++ g ∷ back)) one
-    ∙ ap (λ (a : List ℕ). a ++ (fill ∷ []) ++ drop (length front + 1) (front ++ g ∷ back)) (take_at front (g ∷ back) (length front) refl)
-    ∙ ap (λ (b : List ℕ). front ++ (fill ∷ []) ++ b) (ap (drop (length front + 1)) (sym (append_assoc front (g ∷ []) back)) ∙ drop_at (front ++ g ∷ []) back (length front + 1) (omega (arith, length-append front (g ∷ []))))
-    ∙ append_assoc front (fill ∷ []) back
+one_painted : (prefix back : List ℕ) (g fill : ℕ) → ranged (length prefix) 1 fill (prefix ++ g ∷ back) ≡ prefix ++ fill ∷ back
+one_painted prefix back g fill =
+    let long = length-append prefix (g ∷ back) in
+    let from : min (length prefix) (length (prefix ++ g ∷ back)) ≡ length prefix = omega (arith, long) in
+    let to : length prefix + min 1 (length (prefix ++ g ∷ back) - length prefix) ≡ length prefix + 1 = omega (arith, long) in
+    let one : length prefix + 1 - length prefix ≡ 1 = omega arith in
+    ap (λ (k : ℕ). let t = k + min 1 (length (prefix ++ g ∷ back) - k) in take k (prefix ++ g ∷ back) ++ replicate (t - k) fill ++ drop t (prefix ++ g ∷ back)) from
+    ∙ ap (λ (t : ℕ). take (length prefix) (prefix ++ g ∷ back) ++ replicate (t - length prefix) fill ++ drop t (prefix ++ g ∷ back)) to
+    ∙ ap (λ (k : ℕ). take (length prefix) (prefix ++ g ∷ back) ++ replicate k fill ++ drop (length prefix + 1) (prefix ++ g ∷ back)) one
+    ∙ ap (λ (a : List ℕ). a ++ (fill ∷ []) ++ drop (length prefix + 1) (prefix ++ g ∷ back)) (take_at prefix (g ∷ back) (length prefix) refl)
+    ∙ ap (λ (b : List ℕ). prefix ++ (fill ∷ []) ++ b) (ap (drop (length prefix + 1)) (sym (append_assoc prefix (g ∷ []) back)) ∙ drop_at (prefix ++ g ∷ []) back (length prefix + 1) (omega (arith, length-append prefix (g ∷ []))))
+    ∙ append_assoc prefix (fill ∷ []) back
 
 module _ (h : History) (end : ℕ) (body : List ℕ) (fill : ℕ) (quiet : IsTrue (is_synced h.calls)) (w : IsWhole (contents h.first h.calls) end) where
   abbrev file : List ℕ
@@ -60,16 +60,16 @@ module _ (h : History) (end : ℕ) (body : List ℕ) (fill : ℕ) (quiet : IsTru
   abbrev junk : List ℕ
   junk = drop (end + 1 + length (four_bytes (length body) ++ body ++ 0 ∷ [])) (contents h.first h.calls)
 
-  abbrev front : List ℕ
-  front = take end (contents h.first h.calls)
+  abbrev prefix : List ℕ
+  prefix = take end (contents h.first h.calls)
 
-  runs : IsRun bs front
+  runs : IsRun bs prefix
   runs = is_run file end bs w.whole w.place w.inside w.shut
 
-  long : length front ≡ end
+  long : length prefix ≡ end
   long = run_long file end bs w.whole w.place w.inside w.shut
 
-  staged_is : overwritten file (end + 1) entry ≡ staged front gate body junk
+  staged_is : overwritten file (end + 1) entry ≡ staged prefix gate body junk
   staged_is = written_behind file end bs w.whole w.place w.inside w.shut body
 
   pub none_made : StopKeeps h end body 0 fill
@@ -77,40 +77,40 @@ module _ (h : History) (end : ℕ) (body : List ℕ) (fill : ℕ) (quiet : IsTru
 
   pub one_made : StopKeeps h end body 1 fill
   one_made =
-      let at : length (front ++ gate ∷ []) ≡ end + 1 = omega (arith, length-append front (gate ∷ []), long) in
+      let at : length (prefix ++ gate ∷ []) ≡ end + 1 = omega (arith, length-append prefix (gate ∷ []), long) in
       let back : List ℕ = four_bytes (length body) ++ body ++ 0 ∷ junk in
-      let split : staged front gate body junk ≡ (front ++ gate ∷ []) ++ (four_bytes (length body) ++ body ++ 0 ∷ junk) = sym (append_assoc front (gate ∷ []) (four_bytes (length body) ++ body ++ 0 ∷ junk)) in
-      let kept_front = behind_front (front ++ gate ∷ []) (four_bytes (length body) ++ body ++ 0 ∷ junk) (length entry) fill in
+      let split : staged prefix gate body junk ≡ (prefix ++ gate ∷ []) ++ (four_bytes (length body) ++ body ++ 0 ∷ junk) = sym (append_assoc prefix (gate ∷ []) (four_bytes (length body) ++ body ++ 0 ∷ junk)) in
+      let kept_prefix = behind_prefix (prefix ++ gate ∷ []) (four_bytes (length body) ++ body ++ 0 ∷ junk) (length entry) fill in
       ap reading (
       ap (ranged (end + 1) (length entry) fill) (nothing_painted h.calls fill (overwritten file (end + 1) entry) quiet ∙ staged_is ∙ split)
-      ∙ ap (λ (k : ℕ). ranged k (length entry) fill ((front ++ gate ∷ []) ++ (four_bytes (length body) ++ body ++ 0 ∷ junk))) (sym at)
-      ∙ kept_front.1 ∙ append_assoc front (gate ∷ []) kept_front.0
+      ∙ ap (λ (k : ℕ). ranged k (length entry) fill ((prefix ++ gate ∷ []) ++ (four_bytes (length body) ++ body ++ 0 ∷ junk))) (sym at)
+      ∙ kept_prefix.1 ∙ append_assoc prefix (gate ∷ []) kept_prefix.0
       )
-      ∙ shut_reads bs front gate kept_front.0 runs w.shut
+      ∙ shut_reads bs prefix gate kept_prefix.0 runs w.shut
 
   pub two_made : StopKeeps h end body 2 fill
-  two_made = ap reading staged_is ∙ shut_reads bs front gate (four_bytes (length body) ++ body ++ 0 ∷ junk) runs w.shut
+  two_made = ap reading staged_is ∙ shut_reads bs prefix gate (four_bytes (length body) ++ body ++ 0 ∷ junk) runs w.shut
 
-  opened : overwritten (overwritten file (end + 1) entry) end (1 ∷ []) ≡ staged front 1 body junk
-  opened = ap (λ (l : List ℕ). overwritten l end (1 ∷ [])) staged_is ∙ written_gate front end long gate body junk
+  opened : overwritten (overwritten file (end + 1) entry) end (1 ∷ []) ≡ staged prefix 1 body junk
+  opened = ap (λ (l : List ℕ). overwritten l end (1 ∷ [])) staged_is ∙ written_gate prefix end long gate body junk
 
-  three_image : ranged end 1 fill (overwritten (overwritten file (end + 1) entry) end (1 ∷ [])) ≡ staged front fill body junk
+  three_image : ranged end 1 fill (overwritten (overwritten file (end + 1) entry) end (1 ∷ [])) ≡ staged prefix fill body junk
   three_image =
-      ap (ranged end 1 fill) opened ∙ ap (λ (k : ℕ). ranged k 1 fill (staged front 1 body junk)) (sym long)
-      ∙ one_painted front (four_bytes (length body) ++ body ++ 0 ∷ junk) 1 fill
+      ap (ranged end 1 fill) opened ∙ ap (λ (k : ℕ). ranged k 1 fill (staged prefix 1 body junk)) (sym long)
+      ∙ one_painted prefix (four_bytes (length body) ++ body ++ 0 ∷ junk) 1 fill
 
   pub three_made : StopKeeps h end body 3 fill
   three_made = elim (cases_eq fill 1) [
     | inl is ↦
         let k : kept 3 fill bs body ≡ bs ++ body ∷ [] = grind (arith, nat_tests) in
-        ap reading (three_image ∙ ap (λ (g : ℕ). staged front g body junk) is) ∙ open_reads bs front body junk runs ∙ ap found (sym k)
+        ap reading (three_image ∙ ap (λ (g : ℕ). staged prefix g body junk) is) ∙ open_reads bs prefix body junk runs ∙ ap found (sym k)
     | inr other ↦
         let k : kept 3 fill bs body ≡ bs = grind (arith, nat_tests) in
-        ap reading three_image ∙ shut_reads bs front fill (four_bytes (length body) ++ body ++ 0 ∷ junk) runs other ∙ ap found (sym k)
+        ap reading three_image ∙ shut_reads bs prefix fill (four_bytes (length body) ++ body ++ 0 ∷ junk) runs other ∙ ap found (sym k)
   ]
 
   pub four_made : StopKeeps h end body 4 fill
-  four_made = ap reading opened ∙ open_reads bs front body junk runs
+  four_made = ap reading opened ∙ open_reads bs prefix body junk runs
 
   pub stop_keeps : (made : ℕ) → made ≤ 4 → StopKeeps h end body made fill
   stop_keeps zero le = none_made

@@ -1,8 +1,8 @@
 -- What a log keeps true, and what its calls do to its disk.
 use Rattle.std.specs.Prelude.{◌≡◌, ◌≢◌, ◌⊎◌, ℕ, ◌+◌, ◌<◌, ◌≤◌, ◌-◌, List, [], ◌∷◌, ◌++◌, length, take, Bool, true, false, IsTrue, Option, Some, None, slice_index, Result, OnOk, OnErr, if◌then◌else◌, nat_lt}
 use Rattle.crsm_base.specs.declared.memory.Failed.{Failed}
-use Rattle.crsm_device.specs.Counts.{Rose}
-use Rattle.crsm_device.specs.Plan.{Plan}
+use Rattle.crsm_faults.specs.Counts.{Rose}
+use Rattle.crsm_faults.specs.Plan.{Plan}
 use Rattle.crsm_image.specs.Calls.{Call, wrote, cut, synced, History, noted}
 use Rattle.crsm_disk.specs.Meaning.{LeavesOnly, Meaning, Only}
 use Rattle.crsm_log.specs.Format.{found, bad, reading, bodies_of, size, four_bytes}

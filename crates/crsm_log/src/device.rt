@@ -1,8 +1,8 @@
 // The calls of a disk that a log makes.
 ghost use Rattle.std.specs.Prelude.{◌≡◌, ◌≢◌, ◌+◌, ◌-◌, ◌^◌, ◌<◌, ◌≤◌, ℕ, List, [], ◌∷◌, ◌++◌, length, false, true, IsTrue, IfOk, IfErr, OnOk, OnErr, IsErrOf, MatchResult, Some};
 ghost use Rattle.crsm_image.specs.Bytes.{overwritten, Torn};
-ghost use Rattle.crsm_device.specs.Counts.{Rose};
-ghost use Rattle.crsm_device.specs.Plan.{Plan, spent};
+ghost use Rattle.crsm_faults.specs.Counts.{Rose};
+ghost use Rattle.crsm_faults.specs.Plan.{Plan, spent};
 ghost use Rattle.crsm_image.specs.Calls.{wrote, synced};
 ghost use Rattle.crsm_disk.specs.Meaning.{LeavesOnly, Meaning, Only};
 ghost use Rattle.crsm_log.specs.Format.{four_bytes, reading, found, bad, bodies_of};

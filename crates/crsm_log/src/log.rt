@@ -1,7 +1,7 @@
 // The log.
 ghost use Rattle.std.specs.Prelude.{◌≡◌, ◌≢◌, ◌+◌, ◌^◌, ◌<◌, ◌≤◌, ◌↔◌, ◌∷◌, [], ◌++◌, ℕ, length, true, false, IsTrue, IfOk, IfErr, OnOk, OnErr, IsErr, IsErrOf, Some};
-ghost use Rattle.crsm_device.specs.Counts.{Rose};
-ghost use Rattle.crsm_device.specs.Plan.{Plan};
+ghost use Rattle.crsm_faults.specs.Counts.{Rose};
+ghost use Rattle.crsm_faults.specs.Plan.{Plan};
 ghost use Rattle.crsm_disk.specs.Contract.{Arms};
 ghost use Rattle.crsm_disk.specs.Meaning.{LeavesOnly, Meaning, Only, Same};
 ghost use Rattle.crsm_log.specs.Format.{reading, found, bodies_of};

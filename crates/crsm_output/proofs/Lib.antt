@@ -1,1 +1,3 @@
 mod Iterated
+mod Sizes
+mod Parts

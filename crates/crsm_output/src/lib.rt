@@ -2,9 +2,13 @@
 #![tactic(auto)]
 
 mod batch;
+mod laws;
 mod output;
+mod telling;
 #[cfg(test)]
 mod tests;
 
 pub use batch::Batch;
+pub use laws::parts_are_spelt;
 pub use output::{Output, Reply};
+pub use telling::{spell, spell_decision, tell};

@@ -1,7 +1,7 @@
-//! A step that makes one of each.
+//! A step that makes one of each, and a short control message.
 
-use super::{Output, Reply};
-use crsm_base::{Datagram, Line, Lines, Outcome, Rec, Refusal, To};
+use super::{Output, Reply, spell, tell};
+use crsm_base::{Control, Datagram, Line, Lines, Outcome, Rec, Refusal, To};
 use std::test::Fail;
 
 #[test]
@@ -57,5 +57,18 @@ fn hands_out_in_order(rt: HostRuntime) -> Result<(), Fail> {
         matches!(batch.sends.as_slice(), [first, second] if first.to == To::Replica(2) && second.to == To::Address(9));
     assert!(rt; receivers);
     assert!(rt; output.take()?.lines.as_slice().is_empty());
+    Ok(())
+}
+
+#[test]
+fn sends_one_part(rt: HostRuntime) -> Result<(), Fail> {
+    let alloc = rt.alloc();
+    let mut output = Output::new(alloc);
+    let control = Control::Retrieve { known: 1, from: 2 };
+    let spelling = spell(alloc, &control)?;
+    tell(alloc, &mut output, 0, 2, 1, 7, spelling.as_slice())?;
+    let batch = output.take()?;
+    let is_one = matches!(batch.sends.as_slice(), [send] if send.to == To::Replica(2));
+    assert!(rt; is_one);
     Ok(())
 }

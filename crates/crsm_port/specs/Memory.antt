@@ -1,6 +1,6 @@
 -- A port in memory.
 use Rattle.std.specs.Prelude.{ℕ, List, take, drop, Some}
-use Rattle.crsm_device.specs.Failing.{Failing, good_of}
+use Rattle.crsm_faults.specs.Failing.{Failing, good_of}
 use Rattle.crsm_port.specs.Meaning.{Meaning, Post, Traffic}
 
 pub record Memory : Type 0 where

@@ -314,8 +314,8 @@ cut_at_parts text e fits same =
     absurd (omega (arith, first, second, fifth))
 
 -- a text does not begin so
-abbrev pub Lacks-front : List ℕ → List ℕ → Type 0
-Lacks-front front text = (rest : List ℕ) → text ≢ front ++ rest
+abbrev pub Lacks-prefix : List ℕ → List ℕ → Type 0
+Lacks-prefix prefix text = (rest : List ℕ) → text ≢ prefix ++ rest
 
 -- the parts of a step that is stopped before its records are kept
 pub record LostParts (text : List ℕ) (e : Event) : Type 0 where
@@ -324,7 +324,7 @@ pub record LostParts (text : List ℕ) (e : Event) : Type 0 where
   pub fits : FitsSingle single
   pub split : text ≡ single_text single
 
-pub lost_parts : (text : List ℕ) (e : Event) → FitsEvent e → Lacks-front (codes "batch ") text → codes "cut lost " ++ text ≡ event_text e → LostParts text e
+pub lost_parts : (text : List ℕ) (e : Event) → FitsEvent e → Lacks-prefix (codes "batch ") text → codes "cut lost " ++ text ≡ event_text e → LostParts text e
 lost_parts text (CutLost s) fits none same = record { single = s; is = refl; fits = fits; split = cc }
 lost_parts text (CutLostBatch t ns) fits none same =
     absurd (none (decimal t ++ 32 ∷ commas ns) (let tails : text ≡ batch_text t ns = cc in tails))

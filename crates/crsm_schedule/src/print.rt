@@ -62,7 +62,7 @@ fn push_final(
 }
 
 /// Adds a line of the transcript with its line feed, behind the number of the line of input that caused it.
-/// A final line has no number. After an error a front of the line may have been added.
+/// A final line has no number. After an error a prefix of the line may have been added.
 pub fn push_line(out: &mut Bytes, at: u64, line: &Line) -> Result<(), NoMemory>
     ensures { OnOk result (out.new ≡ out.old ++ line_text at line.now) }
 {

@@ -5,7 +5,7 @@ use Rattle.std.proofs.lemmas.Bool.Decides.{nat_tests}
 use Rattle.std.proofs.lemmas.List.Elements.{Contains-append_right, filter-append}
 use Rattle.std.proofs.lemmas.List.Folds.{list_any_at, list_any-append}
 use Rattle.crsm_spec.specs.Parts.{Piece, has_index}
-use Rattle.crsm_segment.specs.Standing.{bytes_at, AreOnce}
+use Rattle.crsm_segment.specs.Gather.{bytes_at, AreOnce}
 
 -- ---- tests on lists
 

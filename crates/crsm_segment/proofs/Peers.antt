@@ -7,7 +7,7 @@ use Rattle.crsm_spec.specs.Lists.{numbers_below}
 use Rattle.crsm_spec.specs.Parts.{Piece, is_older, is_same_message, kept_of, has_index, is_complete, is_old, is_odd, with_part}
 use Rattle.crsm_segment.specs.Gathering.{Gathering}
 use Rattle.crsm_segment.specs.Taking.{is_sized, after_part}
-use Rattle.crsm_segment.specs.Standing.{is_of, is_newer, bytes_at, AreOnce, EachOnce, IsNewest, PeerStandsFor}
+use Rattle.crsm_segment.specs.Gather.{is_of, is_newer, bytes_at, AreOnce, EachOnce, IsNewest, PeerStandsFor}
 use Rattle.crsm_segment.proofs.Facts.{both_false, any_true, any_false, filter_push, filter_push_other, once_push}
 
 -- ---- tests

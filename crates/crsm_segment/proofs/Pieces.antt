@@ -52,16 +52,16 @@ piece_is m a = elim (cases_lt (length m) (a + 8000)) [
 ]
 
 -- the parts joined are the message
-front : (k : ℕ) (m : List ℕ) → concat (cut_into k m) ≡ take (8000 * k) m
+prefix : (k : ℕ) (m : List ℕ) → concat (cut_into k m) ≡ take (8000 * k) m
 unfolding cut_into
-front zero m = let none : 8000 * 0 ≡ 0 = omega arith in ap (λ n. take n m) (sym none)
-front (suc k) m =
+prefix zero m = let none : 8000 * 0 ≡ 0 = omega arith in ap (λ n. take n m) (sym none)
+prefix (suc k) m =
     let more : 8000 + 8000 * k ≡ 8000 * suc k = omega arith in
-    ap (λ z. take 8000 m ++ z) (front k (drop 8000 m)) ∙ sym (take-add 8000 (8000 * k) m) ∙ ap (λ n. take n m) more
+    ap (λ z. take 8000 m ++ z) (prefix k (drop 8000 m)) ∙ sym (take-add 8000 (8000 * k) m) ∙ ap (λ n. take n m) more
 
 pub joined_again : (m : List ℕ) → concat (cut m) ≡ m
 unfolding cut part_count
-joined_again m = front (part_count (length m)) m ∙ take_all (8000 * part_count (length m)) m (omega arith)
+joined_again m = prefix (part_count (length m)) m ∙ take_all (8000 * part_count (length m)) m (omega arith)
 
 -- ---- the loop that cuts
 

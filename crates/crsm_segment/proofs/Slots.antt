@@ -12,7 +12,7 @@ use Rattle.crsm_spec.specs.Parts.{Piece, is_same_message, kept_of, has_index, is
 use Rattle.crsm_segment.specs.Gathering.{Gathering, has_slot, with_slot, is_filled, all_bytes, after_add}
 use Rattle.crsm_segment.specs.Answering.{answer_of_add}
 use Rattle.crsm_segment.specs.Taking.{taken_whole}
-use Rattle.crsm_segment.specs.Standing.{is_of, is_newer, bytes_at, AreOnce, EachOnce, IsNewest}
+use Rattle.crsm_segment.specs.Gather.{is_of, is_newer, bytes_at, AreOnce, EachOnce, IsNewest}
 use Rattle.crsm_segment.specs.declared.message.Taken.TheVariants.{Whole, More}
 use Rattle.crsm_segment.proofs.Facts.{in_filter, filter_push, some_at, bytes_at_push, bytes_at_other, once_push, bytes_once}
 

@@ -11,7 +11,7 @@ use Rattle.crsm_spec.specs.Parts.{Piece, is_older, is_same_message, kept_of, has
 use Rattle.crsm_segment.specs.Gathering.{Gathering, part_of, is_before, is_same, has_passed, has_other_count, fits, empty_gathering, gathering_for, after_add, after_heading}
 use Rattle.crsm_segment.specs.Answering.{answer_of, answer_of_add}
 use Rattle.crsm_segment.specs.Taking.{is_sized, after_part, taken_whole, taken_of}
-use Rattle.crsm_segment.specs.Standing.{is_of, is_newer, bytes_at, EachOnce, IsNewest, PeerStandsFor, StandsFor}
+use Rattle.crsm_segment.specs.Gather.{is_of, is_newer, bytes_at, EachOnce, IsNewest, PeerStandsFor, StandsFor}
 use Rattle.crsm_segment.specs.declared.message.Heading.{Heading}
 use Rattle.crsm_segment.specs.declared.message.Taken.{Taken}
 use Rattle.crsm_segment.specs.declared.message.Taken.TheVariants.{Old, Odd}

@@ -13,7 +13,7 @@ use Rattle.crsm_spec.specs.Lists.{numbers_below}
 use Rattle.crsm_spec.specs.Parts.{Piece, is_same_message, kept_of, has_index, is_complete, is_old, is_odd, joined, whole_with, cut}
 use Rattle.crsm_segment.specs.Pieces.{send_of, piece_of, sends_of}
 use Rattle.crsm_segment.specs.Taking.{piece, is_sized, after_part, taken_whole, taken_of}
-use Rattle.crsm_segment.specs.Standing.{bytes_at, AreOnce, EachOnce}
+use Rattle.crsm_segment.specs.Gather.{bytes_at, AreOnce, EachOnce}
 use Rattle.crsm_segment.specs.Arriving.{Cut, AreApart, IsOf, IsWholeOf, taken_from}
 use Rattle.crsm_segment.specs.declared.message.Taken.TheVariants.{Whole, More, Old, Odd}
 use Rattle.crsm_segment.proofs.Facts.{in_filter, to_filter, bytes_once}

@@ -2,5 +2,5 @@ pub mod Pieces
 pub mod Taking
 pub mod Gathering
 pub mod Answering
-pub mod Standing
+pub mod Gather
 pub mod Arriving

@@ -3,7 +3,7 @@
 ghost use Rattle.std.specs.Prelude.{◌≡◌, ◌<◌, ◌≤◌, List, [], length, IfOk, OnOk, OnErr, None, replicate};
 ghost use Rattle.crsm_spec.specs.Parts.{Piece};
 ghost use Rattle.crsm_segment.specs.Taking.{after_part, taken_of, piece};
-ghost use Rattle.crsm_segment.specs.Standing.{StandsFor};
+ghost use Rattle.crsm_segment.specs.Gather.{StandsFor};
 
 use crate::message::{Heading, Message, Taken, take_part};
 use crsm_base::NoMemory;

@@ -8,15 +8,15 @@ use Rattle.crsm_spec.specs.Replica.{fresh}
 use Rattle.crsm_spec.specs.Step.{boot}
 use Rattle.crsm_spec.specs.World.{body_size}
 use Rattle.crsm_core.specs.declared.replica.Core.{Core}
-use Rattle.crsm_core.specs.Standing.{CoreStands}
-use Rattle.crsm_device.specs.Plan.{Plan}
+use Rattle.crsm_core.specs.Core.{CoreStands}
+use Rattle.crsm_faults.specs.Plan.{Plan}
 use Rattle.crsm_disk.specs.Meaning.{LeavesOnly, Meaning}
 use Rattle.crsm_disk.proofs.Moments.{joined, weaker}
 use Rattle.crsm_image.specs.Calls.{Call, History}
 use Rattle.crsm_ledger.specs.Recovered.{AreKept}
 use Rattle.crsm_log.specs.Format.{bodies_in, bodies_of, found, reading, size}
 use Rattle.crsm_log.specs.Log.{IsAsBefore, MeetsIn, Mounts, Used, mount_calls, mount_count, put_calls, recorded}
-use Rattle.crsm_running.specs.Standing.{EachFits}
+use Rattle.crsm_epoch_state.specs.EpochState.{EachFits}
 use Rattle.crsm_turns.specs.Outgoing.{posts_for}
 use Rattle.crsm_shell.specs.declared.begin.Begun.{Begun}
 use Rattle.crsm_shell.specs.declared.boot.Booted.{Booted}
@@ -28,7 +28,7 @@ use Rattle.crsm_shell.specs.Beginning.{BeginsOn}
 use Rattle.crsm_shell.specs.Booting.{Boots, BootsOn, FailsToKeep, IsBooted, IsBootedOrBefore, RefusesBoot, boot_body}
 use Rattle.crsm_shell.specs.Errors.{keep_failure}
 use Rattle.crsm_shell.specs.Flushing.{Adds, IsFull, IsLeft, IsPast, KeptWell, NotKept, keep_calls, keep_count}
-use Rattle.crsm_shell.specs.Standing.{HasLog, ShellStands, records_of, sends_of}
+use Rattle.crsm_shell.specs.Shell.{HasLog, ShellStands, records_of, sends_of}
 use Rattle.crsm_shell.proofs.Boots.{boot_grown, boot_some, goes_behind, meets_behind, rose_behind, used_more}
 use Rattle.crsm_shell.proofs.Cores.{core_fits}
 use Rattle.crsm_shell.proofs.Files.{IsGroup, added, has_log, kept_after}

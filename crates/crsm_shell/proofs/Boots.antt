@@ -11,8 +11,8 @@ use Rattle.crsm_output.specs.Made.{IsBatchOf, line_of, made_of}
 use Rattle.crsm_spec.specs.Draft.{Draft, Reply, begun, keep}
 use Rattle.crsm_spec.specs.Replica.{fresh}
 use Rattle.crsm_spec.specs.Step.{boot, boot_again, first_boot, founding_boot}
-use Rattle.crsm_device.specs.Counts.{Rose, raised}
-use Rattle.crsm_device.specs.Plan.{Plan}
+use Rattle.crsm_faults.specs.Counts.{Rose, raised}
+use Rattle.crsm_faults.specs.Plan.{Plan}
 use Rattle.crsm_log.specs.Log.{Goes, MeetsIn, Serves, Used, less}
 use Rattle.crsm_disk.specs.Meaning.{Meaning}
 use Rattle.crsm_shell.proofs.Steps.{Grown}

@@ -1,8 +1,8 @@
 -- What is known of the log of a core.
 use Rattle.crsm_core.specs.declared.replica.Core.{Core}
-use Rattle.crsm_core.specs.Standing.{CoreStands}
-use Rattle.crsm_desk.specs.Standing.{StandsFor}
-use Rattle.crsm_running.specs.Standing.{EachFits}
+use Rattle.crsm_core.specs.Core.{CoreStands}
+use Rattle.crsm_replica.specs.Replica.{StandsFor}
+use Rattle.crsm_epoch_state.specs.EpochState.{EachFits}
 use Rattle.crsm_spec.specs.Draft.{begun}
 use Rattle.crsm_spec.specs.Replica.{Replica}
 

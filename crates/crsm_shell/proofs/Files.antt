@@ -18,7 +18,7 @@ use Rattle.crsm_log.specs.Format.{bodies_in, bodies_of, found, reading}
 use Rattle.crsm_log.specs.Log.{IsSettled, is_quiet, is_synced, put_calls, recorded}
 use Rattle.crsm_log.specs.Stop.{IsWhole, StopKeeps, kept}
 use Rattle.crsm_shell.specs.Flushing.{Adds, IsLeft, IsOneOf}
-use Rattle.crsm_shell.specs.Standing.{HasLog}
+use Rattle.crsm_shell.specs.Shell.{HasLog}
 
 -- ---- bytes of records
 

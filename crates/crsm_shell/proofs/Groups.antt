@@ -1,6 +1,6 @@
 -- The steps that pend on a shell, as a group of records behind the log that is kept.
 use Rattle.std.proofs.Common.{◌≡◌, IsTrue, ℕ, ◌<◌, List, length, sym, subst, inl}
-use Rattle.crsm_running.specs.Standing.{EachFits}
+use Rattle.crsm_epoch_state.specs.EpochState.{EachFits}
 use Rattle.crsm_spec.specs.Log.{Log}
 use Rattle.crsm_spec.specs.Moments.{is_kept}
 use Rattle.crsm_spec.specs.Replica.{Replica}
@@ -13,7 +13,7 @@ use Rattle.crsm_log.specs.Format.{bodies_of, size}
 use Rattle.crsm_log.specs.Log.{IsSettled}
 use Rattle.crsm_shell.specs.declared.shell.Shell.{Shell}
 use Rattle.crsm_shell.specs.Flushing.{Adds, IsFull, IsLeft, IsOneOf, IsPast, StopsFlush, StopsPut}
-use Rattle.crsm_shell.specs.Standing.{HasLog, ShellStands, StandsInside, records_of}
+use Rattle.crsm_shell.specs.Shell.{HasLog, ShellStands, StandsInside, records_of}
 use Rattle.crsm_shell.proofs.Cores.{core_fits}
 use Rattle.crsm_shell.proofs.Files.{IsGroup, added, one_of, one_of_two}
 use Rattle.crsm_shell.proofs.Records.{fits_in_turn}

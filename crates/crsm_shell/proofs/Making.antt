@@ -9,7 +9,7 @@ use Rattle.crsm_spec.specs.Draft.{Draft, begun}
 use Rattle.crsm_spec.specs.Node.{Turn, turn, input_of}
 use Rattle.crsm_spec.specs.Step.{Input, step}
 use Rattle.crsm_core.specs.declared.replica.Core.{Core}
-use Rattle.crsm_core.specs.Standing.{Answers, CoreStands}
+use Rattle.crsm_core.specs.Core.{Answers, CoreStands}
 use Rattle.crsm_output.specs.declared.batch.Batch.{Batch}
 
 -- bytes that are a datagram are stepped on

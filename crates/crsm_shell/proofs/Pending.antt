@@ -12,9 +12,9 @@ use Rattle.crsm_disk.specs.Meaning.{Meaning}
 use Rattle.crsm_ledger.specs.Recovered.{with_records}
 use Rattle.crsm_output.specs.declared.batch.Batch.{Batch}
 use Rattle.crsm_turns.specs.Outgoing.{FitsSend, posts_for}
-use Rattle.crsm_core.specs.Standing.{Answers, CoreStands, FitsSent}
+use Rattle.crsm_core.specs.Core.{Answers, CoreStands, FitsSent}
 use Rattle.crsm_shell.specs.declared.shell.Shell.{Shell}
-use Rattle.crsm_shell.specs.Standing.{HasLog, ShellStands, StandsInside, records_of, sends_in, sends_of}
+use Rattle.crsm_shell.specs.Shell.{HasLog, ShellStands, StandsInside, records_of, sends_in, sends_of}
 use Rattle.crsm_shell.specs.Taking.{MakesStep}
 use Rattle.crsm_shell.proofs.Records.{all_more, body_more, posts_more, records_push, sends_push, with_more}
 use Rattle.crsm_shell.proofs.Steps.{Grown}

@@ -2,8 +2,8 @@
 use Rattle.std.proofs.Common.{◌≡◌, ℕ, ◌≤◌, List, length, refl, sym, ◌∙◌, ap, subst}
 use Rattle.std.specs.Prelude.{Option, Some, None, option_map}
 use Rattle.std.proofs.lemmas.Option.{none-some}
-use Rattle.crsm_device.specs.Failing.{one_less}
-use Rattle.crsm_device.specs.Plan.{HasRoom, Plan, spent}
+use Rattle.crsm_faults.specs.Failing.{one_less}
+use Rattle.crsm_faults.specs.Plan.{HasRoom, Plan, spent}
 use Rattle.crsm_port.specs.Meaning.{Meaning, Post, Traffic}
 use Rattle.crsm_turns.specs.Outgoing.{GoesOut, SendsAll, bytes_in, raised_by, with_all_sent}
 use Rattle.crsm_shell.specs.Flushing.{GoesWell, SendsNone, SendsPosts}

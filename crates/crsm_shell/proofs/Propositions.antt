@@ -26,7 +26,7 @@ use Rattle.crsm_base.specs.Records.{FitsRec}
 use Rattle.crsm_base.specs.Spelling.{FitsAnswer, FitsBallot, FitsCommand, FitsDecision, FitsEntries, FitsEntry, FitsKey, FitsOp, FitsOption, FitsOutcome, FitsStamp, FitsVal, IsBefore, Rises, RisesAfter}
 use Rattle.crsm_base.specs.declared.send.To.{To}
 use Rattle.crsm_base.specs.declared.send.To.TheVariants as to_whom
-use Rattle.crsm_core.specs.Standing.{FitsSent, FitsTo}
+use Rattle.crsm_core.specs.Core.{FitsSent, FitsTo}
 
 option_prop : {X : Type 0} (Fits : X → Type 0) → ((x : X) → IsProp (Fits x)) → (o : Option X) → IsProp (FitsOption Fits o)
 option_prop Fits h None = Unit-prop

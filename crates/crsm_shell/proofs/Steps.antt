@@ -14,9 +14,9 @@ use Rattle.crsm_spec.specs.Node.{Turn, turn, input_of}
 use Rattle.crsm_spec.specs.Step.{Input, step}
 use Rattle.crsm_ledger.specs.Recovered.{with_records}
 use Rattle.crsm_ledger.proofs.RecoverLemmas.{with_records-push}
-use Rattle.crsm_steps.specs.Changes.{Change, Changes, stay, and_then}
-use Rattle.crsm_steps.specs.Changes.Change.{Submits, Refuses, Commits, Replies, Takes, Acks, IsAcked, Pays, Owes, TellsTime, SendsAgain, Tells, Gathers, Suspends, Collects, TakesPage, Completes, Refrains, GivesUp, Asks, CountsAnswer, Proposes, IsOutbid, AcceptsOwn, CountsVote, Promises, Accepts, Chooses, Learns, AdoptsTail, AdoptsPage, Enters}
-use Rattle.crsm_steps.proofs.Fitted.{step_changes}
+use Rattle.crsm_law_steps.specs.Changes.{Change, Changes, stay, and_then}
+use Rattle.crsm_law_steps.specs.Changes.Change.{Submits, Refuses, Commits, Replies, Takes, Acks, IsAcked, Pays, Owes, TellsTime, SendsAgain, Tells, Gathers, Suspends, Collects, TakesPage, Completes, Refrains, GivesUp, Asks, CountsAnswer, Proposes, IsPreempted, AcceptsOwn, CountsVote, Promises, Accepts, Chooses, Learns, AdoptsTail, AdoptsPage, Enters}
+use Rattle.crsm_law_steps.proofs.Fitted.{step_changes}
 
 -- the draft's log is that of r with the records of the draft behind it, and its numbers are those of r
 pub record Grown (r : Replica) (x : Draft) : Type 0 where
@@ -108,7 +108,7 @@ module _ (r : Replica) where
     changed x y (Asks own seen b n by lt) g = more _ x y g refl refl refl refl
     changed x y (CountsAnswer b own answers a n i h) g = same x y refl refl refl refl g
     changed x y (Proposes b own answers n h) g = same x y refl refl refl refl g
-    changed x y (IsOutbid b own value acceptors top answers n h) g = same x y refl refl refl refl g
+    changed x y (IsPreempted b own value acceptors top answers n h) g = same x y refl refl refl refl g
     changed x y (AcceptsOwn b own value acceptors n h i j) g = more _ x y g refl refl refl refl
     changed x y (CountsVote b own value acceptors k n v) g = same x y refl refl refl refl g
     changed x y (Promises k b h lt) g = more _ x y g refl refl refl refl

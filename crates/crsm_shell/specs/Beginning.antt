@@ -5,7 +5,7 @@ use Rattle.crsm_base.specs.Records.{FitsRec, body_bytes}
 use Rattle.crsm_ledger.specs.Recovered.{IsBadAt}
 use Rattle.crsm_spec.specs.Log.{Log}
 use Rattle.crsm_spec.specs.Step.{boot}
-use Rattle.crsm_core.specs.Standing.{CoreStands}
+use Rattle.crsm_core.specs.Core.{CoreStands}
 use Rattle.crsm_shell.specs.declared.begin.Begun.{Begun}
 use Rattle.crsm_shell.specs.declared.errors.BootError.{BootError}
 use Rattle.crsm_shell.specs.declared.errors.BootError.TheVariants as errors

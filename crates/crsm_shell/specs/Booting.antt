@@ -4,8 +4,8 @@ use Rattle.crsm_base.specs.Records.{body_bytes}
 use Rattle.crsm_spec.specs.Log.{Log}
 use Rattle.crsm_spec.specs.Step.{boot}
 use Rattle.crsm_spec.specs.World.{body_size}
-use Rattle.crsm_device.specs.Counts.{Rose}
-use Rattle.crsm_device.specs.Plan.{Plan}
+use Rattle.crsm_faults.specs.Counts.{Rose}
+use Rattle.crsm_faults.specs.Plan.{Plan}
 use Rattle.crsm_disk.specs.Meaning.{LeavesOnly, Meaning}
 use Rattle.crsm_ledger.specs.Recovered.{IsBadAt}
 use Rattle.crsm_log.specs.Format.{bad, bodies_of, found, reading, size}
@@ -17,7 +17,7 @@ use Rattle.crsm_shell.specs.declared.errors.BootError.TheVariants.{DiskFault, Lo
 use Rattle.crsm_shell.specs.declared.errors.TurnError.{TurnError}
 use Rattle.crsm_shell.specs.Errors.{keep_failure}
 use Rattle.crsm_shell.specs.Flushing.{IsFull, NotKept}
-use Rattle.crsm_shell.specs.Standing.{HasLog, ShellStands}
+use Rattle.crsm_shell.specs.Shell.{HasLog, ShellStands}
 
 -- the body that a boot on this log puts
 abbrev pub boot_body : (me n : ℕ) → Log → List ℕ

@@ -4,10 +4,10 @@ use Rattle.crsm_base.specs.declared.limits.TheConstants.{MAX_LOG_BYTES}
 use Rattle.crsm_spec.specs.Log.{Log}
 use Rattle.crsm_spec.specs.Moments.{is_kept}
 use Rattle.crsm_spec.specs.Replica.{Replica}
-use Rattle.crsm_device.specs.Plan.{Plan}
+use Rattle.crsm_faults.specs.Plan.{Plan}
 use Rattle.crsm_image.specs.Calls.{Call, History}
 use Rattle.crsm_image.specs.Image.{image_of}
-use Rattle.crsm_device.specs.Counts.{Rose}
+use Rattle.crsm_faults.specs.Counts.{Rose}
 use Rattle.crsm_disk.specs.Meaning.{LeavesOnly, Meaning, Same}
 use Rattle.crsm_log.specs.Log.{Goes, Used, put_calls, recorded}
 use Rattle.crsm_log.specs.Format.{bodies_of, found, reading, size}
@@ -15,7 +15,7 @@ use Rattle.crsm_port.specs.Meaning.{Meaning as PortMeaning, Post}
 use Rattle.crsm_turns.specs.Outgoing.{GoesOut, with_all_sent}
 use Rattle.crsm_shell.specs.declared.errors.TurnError.{TurnError}
 use Rattle.crsm_shell.specs.declared.errors.TurnError.TheVariants as errors
-use Rattle.crsm_shell.specs.Standing.{HasLog}
+use Rattle.crsm_shell.specs.Shell.{HasLog}
 
 -- ---- the port
 

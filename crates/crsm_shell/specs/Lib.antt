@@ -3,7 +3,7 @@ pub mod Booting
 pub mod Errors
 pub mod Flushing
 pub mod Running
-pub mod Standing
+pub mod Shell
 pub mod Taking
 pub mod Turning
 pub mod Words

@@ -6,7 +6,7 @@ use Rattle.crsm_spec.specs.Draft.{Draft}
 use Rattle.crsm_spec.specs.Node.{Turn, turn}
 use Rattle.crsm_spec.specs.World.{body_size}
 use Rattle.crsm_clock.specs.Readings.{Readings, Gives}
-use Rattle.crsm_core.specs.Standing.{Answers}
+use Rattle.crsm_core.specs.Core.{Answers}
 use Rattle.crsm_output.specs.declared.batch.Batch.{Batch}
 use Rattle.crsm_disk.specs.Meaning.{Meaning}
 use Rattle.crsm_port.specs.Meaning.{Meaning as PortMeaning}
@@ -21,10 +21,10 @@ use Rattle.crsm_shell.specs.declared.errors.TurnError.{TurnError}
 use Rattle.crsm_shell.specs.declared.errors.TurnError.TheVariants as errors
 use Rattle.crsm_shell.specs.declared.shell.Shell.{Shell}
 use Rattle.crsm_shell.specs.declared.turned.Turned.{Turned}
-use Rattle.crsm_shell.specs.Standing.{ShellStands}
+use Rattle.crsm_shell.specs.Shell.{ShellStands}
 use Rattle.crsm_shell.specs.Words.{buffer_of}
 
--- the turn that was taken; a datagram is the front of the buffer
+-- the turn that was taken; a datagram is the prefix of the buffer
 unfoldable pub turn_of : List ℕ → Taken → Turn
 turn_of buffer (taken.Datagram from len) = Turn.In from (take len buffer)
 turn_of buffer taken.Tick = Turn.Tick

@@ -2,7 +2,7 @@
 use Rattle.std.specs.Prelude.{◌≡◌, ℕ, List, [], Ok}
 use Rattle.crsm_spec.specs.Replica.{Replica}
 use Rattle.crsm_spec.specs.World.{body_size}
-use Rattle.crsm_core.specs.Standing.{Answers}
+use Rattle.crsm_core.specs.Core.{Answers}
 use Rattle.crsm_disk.specs.Meaning.{Meaning}
 use Rattle.crsm_port.specs.Meaning.{Meaning as PortMeaning, Post}
 use Rattle.crsm_turns.specs.Input.{TakesInput}
@@ -10,7 +10,7 @@ use Rattle.crsm_turns.specs.declared.input.What.{What}
 use Rattle.crsm_shell.specs.declared.shell.Shell.{Shell}
 use Rattle.crsm_shell.specs.declared.turned.Turned.{Turned}
 use Rattle.crsm_shell.specs.Flushing.{SendsPosts}
-use Rattle.crsm_shell.specs.Standing.{ShellStands}
+use Rattle.crsm_shell.specs.Shell.{ShellStands}
 use Rattle.crsm_shell.specs.Taking.{most_received, step_of}
 use Rattle.crsm_shell.specs.Words.{buffer_of}
 

@@ -2,7 +2,7 @@
 
 ghost use Rattle.std.specs.Prelude.{◌≡◌, ◌<◌, ◌≤◌, ℕ, [], length, IfOk, IfErr};
 ghost use Rattle.crsm_ledger.specs.Recovered.{AreKept};
-ghost use Rattle.crsm_ledger.specs.Stands.{StandsFor};
+ghost use Rattle.crsm_ledger.specs.Ledger.{StandsFor};
 ghost use Rattle.crsm_spec.specs.Clock.{u64_max};
 ghost use Rattle.crsm_spec.specs.Log.{Log, boots};
 ghost use Rattle.crsm_shell.specs.Beginning.{BeginsOn, IsRefusal};

@@ -10,7 +10,7 @@ ghost use Rattle.crsm_log.specs.Words as logs;
 ghost use Rattle.crsm_shell.specs.Booting.{Boots, BootsOn, FailsToKeep, IsBooted, IsBootedOrBefore, RefusesBoot};
 ghost use Rattle.crsm_shell.specs.Flushing.{KeptWell};
 ghost use Rattle.crsm_shell.specs.Running.{IsOfOne};
-ghost use Rattle.crsm_shell.specs.Standing.{HasLog};
+ghost use Rattle.crsm_shell.specs.Shell.{HasLog};
 ghost use Rattle.crsm_shell.specs.Words.{disk_of, peers_of};
 
 use crate::begin::{Begun, begin};

@@ -2,8 +2,8 @@
 
 ghost use Rattle.std.specs.Prelude.{◌≡◌, ◌+◌, ◌↔◌, ◌∷◌, [], List, true, is_err, IsTrue, IsErr, IfErr, OnOk, OnErr, IsErrOf, Some};
 ghost use Rattle.crsm_base.specs.Records.{body_bytes};
-ghost use Rattle.crsm_device.specs.Counts.{Rose};
-ghost use Rattle.crsm_device.specs.Plan.{Plan};
+ghost use Rattle.crsm_faults.specs.Counts.{Rose};
+ghost use Rattle.crsm_faults.specs.Plan.{Plan};
 ghost use Rattle.crsm_disk.specs.Meaning.{LeavesOnly, Same};
 ghost use Rattle.crsm_log.specs.Log.{Goes, Used, recorded};
 ghost use Rattle.crsm_spec.specs.Draft.{Draft};
@@ -11,7 +11,7 @@ ghost use Rattle.crsm_spec.specs.Log.{Log};
 ghost use Rattle.crsm_spec.specs.Replica.{Replica};
 ghost use Rattle.crsm_turns.specs.Outgoing.{posts_for};
 ghost use Rattle.crsm_shell.specs.Flushing.{IsFull, IsOneOf, SendsNone, SendsPosts, StopsFlush, keep_calls, keep_count};
-ghost use Rattle.crsm_shell.specs.Standing.{ShellStands, records_of, sends_of};
+ghost use Rattle.crsm_shell.specs.Shell.{ShellStands, records_of, sends_of};
 ghost use Rattle.crsm_shell.specs.Words.{buffer_of, disk_of, gate_of, peers_of, has_failed};
 
 use crate::errors::TurnError;

@@ -2,12 +2,12 @@
 
 ghost use Rattle.std.specs.Prelude.{◌≡◌, ℕ, List, []};
 ghost use Rattle.crsm_spec.specs.Log.{Log};
-ghost use Rattle.crsm_shell.specs.Standing.{HasLog};
+ghost use Rattle.crsm_shell.specs.Shell.{HasLog};
 
 use crsm_codec::one_spelling_each;
 
 /// An empty file is an empty log.
-#[tactic(auto, unfolding(crate::specs::Standing::HasLog))]
+#[tactic(auto, unfolding(crate::specs::Shell::HasLog))]
 pub fn empty_files_have_empty_logs()
     ensures { (me n : ℕ) → HasLog me n [] [] }
 {}

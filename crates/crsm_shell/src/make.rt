@@ -4,7 +4,7 @@ ghost use Rattle.std.specs.Prelude.{length, IfOk};
 ghost use Rattle.crsm_spec.specs.Draft.{begun};
 ghost use Rattle.crsm_spec.specs.Node.{Turn, turn};
 ghost use Rattle.crsm_spec.specs.Replica.{Replica};
-ghost use Rattle.crsm_core.specs.Standing.{Answers, CoreStands};
+ghost use Rattle.crsm_core.specs.Core.{Answers, CoreStands};
 ghost use Rattle.crsm_turns.specs.Input.{IsWithin};
 ghost use Rattle.crsm_shell.specs.Taking.{turn_of};
 

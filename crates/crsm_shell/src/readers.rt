@@ -5,11 +5,11 @@ ghost use Rattle.crsm_disk.specs.Contract.{Arms};
 ghost use Rattle.crsm_disk.specs.Meaning.{Only};
 ghost use Rattle.crsm_image.specs.Calls.{History};
 ghost use Rattle.crsm_image.specs.Image.{image_of};
-ghost use Rattle.crsm_ledger.specs.Stands.{StandsFor as SaysOfLog};
+ghost use Rattle.crsm_ledger.specs.Ledger.{StandsFor as SaysOfLog};
 ghost use Rattle.crsm_spec.specs.Draft.{Draft};
 ghost use Rattle.crsm_spec.specs.Log.{Log};
 ghost use Rattle.crsm_spec.specs.Replica.{Replica};
-ghost use Rattle.crsm_shell.specs.Standing.{HasLog, ShellStands};
+ghost use Rattle.crsm_shell.specs.Shell.{HasLog, ShellStands};
 ghost use Rattle.crsm_shell.specs.Words.{buffer_of, disk_of, gate_of, peers_of, pending_of, has_failed};
 
 use crate::shell::Shell;
@@ -19,7 +19,7 @@ use crsm_log::stop_keeps;
 
 impl<D: Disk> Shell<D> {
     /// How many steps are pending.
-    #[tactic(auto, unfolding(crate::specs::Standing::ShellStands))]
+    #[tactic(auto, unfolding(crate::specs::Shell::ShellStands))]
     pub fn pending(&self) -> u32
         ensures value { result ≡ pending_of self.now }
         ensures steps { (kept : Log) (r : Replica) (steps : List Draft) → ShellStands self.now (D.meaning (disk_of self.now)) kept r steps → result ≡ length steps }
@@ -28,7 +28,7 @@ impl<D: Disk> Shell<D> {
     }
 
     /// Whether a fault of the disk, a full log or want of memory came.
-    #[tactic(auto, unfolding(crate::specs::Standing::ShellStands))]
+    #[tactic(auto, unfolding(crate::specs::Shell::ShellStands))]
     pub fn failed(&self) -> bool
         ensures value { result ≡ has_failed self.now }
         ensures well { (kept : Log) (r : Replica) (steps : List Draft) → ShellStands self.now (D.meaning (disk_of self.now)) kept r steps → result ≡ false }
@@ -36,7 +36,7 @@ impl<D: Disk> Shell<D> {
         self.failed
     }
 
-    /// Where datagrams are received: the one that was taken last is its front, of the length that was told.
+    /// Where datagrams are received: the one that was taken last is its prefix, of the length that was told.
     pub fn buffer(&self) -> &[u8]
         ensures { result.now ≡ buffer_of self.now }
     {
@@ -44,7 +44,7 @@ impl<D: Disk> Shell<D> {
     }
 
     /// What the records say, those of the pending steps among them.
-    #[tactic(auto, unfolding(crate::specs::Standing::ShellStands))]
+    #[tactic(auto, unfolding(crate::specs::Shell::ShellStands))]
     pub fn state(&self) -> &Ledger
         ensures { (kept : Log) (r : Replica) (steps : List Draft) → ShellStands self.now (D.meaning (disk_of self.now)) kept r steps → SaysOfLog r.me r.n result.now r.log }
     {
@@ -52,7 +52,7 @@ impl<D: Disk> Shell<D> {
     }
 
     /// Stops a disk that can be stopped after so many further calls.
-    #[tactic(auto, unfolding(crate::specs::Standing::ShellStands))]
+    #[tactic(auto, unfolding(crate::specs::Shell::ShellStands))]
     pub fn arm(&mut self, stop: Option<u64>, fill: u8)
         ensures armed { Arms stop fill (D.meaning (disk_of self.old)) (D.meaning (disk_of self.new)) }
         ensures stands { (kept : Log) (r : Replica) (steps : List Draft) → ShellStands self.old (D.meaning (disk_of self.old)) kept r steps →
@@ -66,7 +66,7 @@ impl<D: Disk> Shell<D> {
     }
 
     /// The disk as the last call left it. The pending steps are lost.
-    #[tactic(auto, unfolding(crate::specs::Standing::ShellStands))]
+    #[tactic(auto, unfolding(crate::specs::Shell::ShellStands))]
     pub fn into_disk(self) -> D
         ensures disk { result ≡ disk_of self }
 

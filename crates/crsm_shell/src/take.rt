@@ -2,11 +2,11 @@
 
 ghost use Rattle.std.specs.Prelude.{◌≡◌, ◌<◌, ◌≤◌, ◌+◌, ◌∷◌, [], ◌++◌, ◌↔◌, List, true, false, length, is_err, IfOk, OnOk, OnErr, IsErrOf, MatchResult};
 ghost use Rattle.std.specs.List.{AllByRecursion};
-ghost use Rattle.crsm_core.specs.Standing.{FitsSent};
+ghost use Rattle.crsm_core.specs.Core.{FitsSent};
 ghost use Rattle.crsm_spec.specs.Draft.{Draft};
 ghost use Rattle.crsm_spec.specs.Log.{Log};
 ghost use Rattle.crsm_spec.specs.Replica.{Replica};
-ghost use Rattle.crsm_shell.specs.Standing.{ShellStands};
+ghost use Rattle.crsm_shell.specs.Shell.{ShellStands};
 ghost use Rattle.crsm_spec.specs.Node.{turn};
 ghost use Rattle.crsm_shell.specs.Errors.{is_lasting};
 ghost use Rattle.crsm_shell.specs.Taking.{MakesStep, Reads, Receives, Takes, TakesStep, most_received, turn_of};

@@ -6,7 +6,7 @@ use Rattle.crsm_spec.specs.Types.{Stamp, Ballot, Entry, Decision, Rec, Control}
 use Rattle.crsm_base.specs.Order.{stamp_eq, stamp_lt, ballot_lt, ballot_eq}
 use Rattle.crsm_spec.specs.Lists.{has}
 use Rattle.crsm_spec.specs.Log.{Log, known, decision, executed, live, suspended, promised, accepted}
-use Rattle.crsm_spec.specs.Replica.{spec_of, Note, LogPage}
+use Rattle.crsm_spec.specs.Replica.{spec_of, Coordinator, LogPage}
 use Rattle.crsm_spec.specs.Paxos.{Answer}
 use Rattle.crsm_spec.specs.Draft.{Draft, keep, noting, tell, tell_decision, tell_retrieve}
 use Rattle.crsm_spec.specs.Collect.{suspend_ok, first_page, cursor, is_whole}
@@ -38,11 +38,11 @@ unfoldable pub take_page : List ℕ → List LogPage → LogPage → Draft → D
 take_page ms pages p x =
     let all = pages ++ p ∷ [] in
     when p.whole then on_whole ms all x
-    otherwise tell (Control.Suspend (known x.replica.log) (cursor all p.from)) (noting (Note.Collecting ms all) x) p.from
+    otherwise tell (Control.Suspend (known x.replica.log) (cursor all p.from)) (noting (Coordinator.Collecting ms all) x) p.from
 
 -- A page counts while collecting, where it is the one that was asked for.
-unfoldable pub on_suspend_ok : ℕ → Option Stamp → LogPage → Note → Draft → Draft
-on_suspend_ok e after p (Note.Collecting ms pages) x =
+unfoldable pub on_suspend_ok : ℕ → Option Stamp → LogPage → Coordinator → Draft → Draft
+on_suspend_ok e after p (Coordinator.Collecting ms pages) x =
     when is_page_of (known x.replica.log) e (cursor pages p.from) after p && not (is_whole pages p.from)
     then take_page ms pages p x otherwise x
 on_suspend_ok e after p _ x = x
@@ -71,18 +71,18 @@ on_p1a k i b x =
     otherwise tell (Control.P1no i b top) x k)
 
 -- A promise counts while its ballot is asked for, the first of each replica.
-unfoldable pub on_p1b : ℕ → Ballot → Answer Decision → Note → Draft → Draft
-on_p1b i b a (Note.Asking c own answers) x =
+unfoldable pub on_p1b : ℕ → Ballot → Answer Decision → Coordinator → Draft → Draft
+on_p1b i b a (Coordinator.Preparing c own answers) x =
     when (i == known x.replica.log + 1 && ballot_eq b c) && not (has (map (λ f. f.replica) answers) a.replica)
     then count_answer c own answers a x otherwise x
 on_p1b i b a _ x = x
 
 -- A refusal ends the ballot where more was promised.
-unfoldable pub on_p1no : ℕ → Ballot → Ballot → Note → Draft → Draft
-on_p1no i b top (Note.Asking c own answers) x =
-    when (i == known x.replica.log + 1 && ballot_eq b c) && ballot_lt b top then noting (Note.Over own top) x otherwise x
-on_p1no i b top (Note.Proposing c own value acceptors) x =
-    when (i == known x.replica.log + 1 && ballot_eq b c) && ballot_lt b top then noting (Note.Over own top) x otherwise x
+unfoldable pub on_p1no : ℕ → Ballot → Ballot → Coordinator → Draft → Draft
+on_p1no i b top (Coordinator.Preparing c own answers) x =
+    when (i == known x.replica.log + 1 && ballot_eq b c) && ballot_lt b top then noting (Coordinator.Preempted own top) x otherwise x
+on_p1no i b top (Coordinator.Proposing c own value acceptors) x =
+    when (i == known x.replica.log + 1 && ballot_eq b c) && ballot_lt b top then noting (Coordinator.Preempted own top) x otherwise x
 on_p1no i b top _ x = x
 
 -- A ballot proposes d: accepted where no more was promised and the base is executed here.
@@ -96,8 +96,8 @@ on_p2a k i b d x =
     otherwise tell (Control.P2b i b) (keep (Rec.Accept i b d) x) k)
 
 -- A vote counts while its ballot proposes.
-unfoldable pub on_p2b : ℕ → ℕ → Ballot → Note → Draft → Draft
-on_p2b k i b (Note.Proposing c own value acceptors) x =
+unfoldable pub on_p2b : ℕ → ℕ → Ballot → Coordinator → Draft → Draft
+on_p2b k i b (Coordinator.Proposing c own value acceptors) x =
     when (i == known x.replica.log + 1 && ballot_eq b c) && not (has acceptors k)
     then count_acceptor c own value acceptors k x otherwise x
 on_p2b k i b _ x = x
@@ -157,12 +157,12 @@ if_spec k x y = when has (spec_of x.replica) k then y otherwise x
 unfoldable pub on_control : ℕ → Control → Draft → Draft
 on_control k (Control.Suspend e after) x = on_suspend k e after x
 on_control k (Control.SuspendOk e done last after whole es) x =
-    if_spec k x (on_suspend_ok e after (record { from = k; executed = done; last = last; whole = whole; entries = es }) x.replica.note x)
+    if_spec k x (on_suspend_ok e after (record { from = k; executed = done; last = last; whole = whole; entries = es }) x.replica.coordinator x)
 on_control k (Control.P1a i b) x = on_p1a k i b x
-on_control k (Control.P1b i b v) x = if_spec k x (on_p1b i b (record { replica = k; accepted = v }) x.replica.note x)
-on_control k (Control.P1no i b top) x = if_spec k x (on_p1no i b top x.replica.note x)
+on_control k (Control.P1b i b v) x = if_spec k x (on_p1b i b (record { replica = k; accepted = v }) x.replica.coordinator x)
+on_control k (Control.P1no i b top) x = if_spec k x (on_p1no i b top x.replica.coordinator x)
 on_control k (Control.P2a i b d) x = on_p2a k i b d x
-on_control k (Control.P2b i b) x = if_spec k x (on_p2b k i b x.replica.note x)
+on_control k (Control.P2b i b) x = if_spec k x (on_p2b k i b x.replica.coordinator x)
 on_control k (Control.Decide d) x = on_decide k d x
 on_control k (Control.Retrieve e from) x = on_retrieve k e from x
 on_control k (Control.Page e from es) x = on_page k e from es x

@@ -7,7 +7,7 @@ use Rattle.crsm_spec.specs.Clock.{u64_max}
 use Rattle.crsm_spec.specs.Lists.{numbers_below, has}
 use Rattle.crsm_spec.specs.Log.{known, start, decision, executed, suspended, promised, accepted, no_ballot}
 use Rattle.crsm_spec.specs.Fits.{fits, can_be_members}
-use Rattle.crsm_spec.specs.Replica.{named_spec, next_spec, Replica, Note, LogPage, spec_of, others}
+use Rattle.crsm_spec.specs.Replica.{named_spec, next_spec, Replica, Coordinator, LogPage, spec_of, others}
 use Rattle.crsm_spec.specs.Draft.{Draft, keep, noting, tell_all, tell_each}
 use Rattle.crsm_spec.specs.Collect.{own_page, whole_ones, collected, size_of, is_within}
 use Rattle.crsm_spec.specs.Quorum.{has_majority}
@@ -40,9 +40,9 @@ enter x =
 unfoldable pub advance : Draft → Draft
 advance x = enter (adopt_tail x)
 
--- Learns a decision: the old epoch is over, and with it any note.
+-- Learns a decision: the old epoch is over, and with it any coordinator.
 unfoldable pub learn : Decision → Draft → Draft
-learn d x = advance (forget_epoch (noting Note.Quiet (keep (Rec.Decide d) x)))
+learn d x = advance (forget_epoch (noting Coordinator.Idle (keep (Rec.Decide d) x)))
 
 -- the other replicas of the Spec before and of the one after
 unfoldable pub both_specs : Replica → Replica → List ℕ
@@ -62,7 +62,7 @@ instance x = known x.replica.log + 1
 unfoldable pub count_acceptor : Ballot → Decision → Decision → List ℕ → ℕ → Draft → Draft
 count_acceptor b own value acceptors k x =
     let ks = k ∷ acceptors in
-    let y = noting (Note.Proposing b own value ks) x in
+    let y = noting (Coordinator.Proposing b own value ks) x in
     when has_majority (spec_of x.replica) ks then on_chosen value y otherwise y
 
 -- this ballot was accepted here
@@ -73,14 +73,14 @@ has_accepted b x = option_map_or (λ a. ballot_eq a.0 b) (accepted x.replica.log
 unfoldable pub accept_own : Ballot → Decision → Decision → List ℕ → Draft → Draft
 accept_own b own value acceptors x =
     let r = x.replica in
-    when ballot_lt b (promised r.log) then noting (Note.Over own (promised r.log)) x
+    when ballot_lt b (promised r.log) then noting (Coordinator.Preempted own (promised r.log)) x
     otherwise when nat_le value.base_len (length (executed r.log)) && not (has_accepted b x)
     then count_acceptor b own value acceptors r.me (keep (Rec.Accept (instance x) b value) x)
     otherwise x
 
 -- tells all that have not accepted the proposal, where there still is one
-unfoldable pub tell_proposal : Note → Draft → Draft
-tell_proposal (Note.Proposing b own value acceptors) x =
+unfoldable pub tell_proposal : Coordinator → Draft → Draft
+tell_proposal (Coordinator.Proposing b own value acceptors) x =
     tell_each (filter (λ k. not (has acceptors k)) (others x.replica)) (Control.P2a (instance x) b value) x
 tell_proposal _ x = x
 
@@ -88,19 +88,19 @@ tell_proposal _ x = x
 unfoldable pub propose : Ballot → Decision → List (Answer Decision) → Draft → Draft
 propose b own answers x =
     let value = value_of own answers in
-    let y = accept_own b own value [] (noting (Note.Proposing b own value []) x) in
-    tell_proposal y.replica.note y
+    let y = accept_own b own value [] (noting (Coordinator.Proposing b own value []) x) in
+    tell_proposal y.replica.coordinator y
 
 -- k has promised: at a majority propose
 unfoldable pub count_answer : Ballot → Decision → List (Answer Decision) → Answer Decision → Draft → Draft
 count_answer b own answers a x =
     let all = answers ++ a ∷ [] in
-    let y = noting (Note.Asking b own all) x in
+    let y = noting (Coordinator.Preparing b own all) x in
     when has_majority (spec_of x.replica) (map (λ f. f.replica) all) then propose b own all y otherwise y
 
 -- asks all for a promise, where that is still asked
-unfoldable pub tell_ask : Note → Draft → Draft
-tell_ask (Note.Asking b own answers) x =
+unfoldable pub tell_ask : Coordinator → Draft → Draft
+tell_ask (Coordinator.Preparing b own answers) x =
     tell_each (filter (λ k. not (has (map (λ f. f.replica) answers) k)) (others x.replica)) (Control.P1a (instance x) b) x
 tell_ask _ x = x
 
@@ -108,8 +108,8 @@ tell_ask _ x = x
 unfoldable pub ask : Ballot → Decision → Draft → Draft
 ask b own x =
     let a : Answer Decision = record { replica = x.replica.me; accepted = accepted x.replica.log } in
-    let y = count_answer b own [] a (noting (Note.Asking b own []) (keep (Rec.Promise (instance x) b) x)) in
-    tell_ask y.replica.note y
+    let y = count_answer b own [] a (noting (Coordinator.Preparing b own []) (keep (Rec.Promise (instance x) b) x)) in
+    tell_ask y.replica.coordinator y
 
 -- of two ballots the greater one
 unfoldable pub greater_ballot : Ballot → Ballot → Ballot
@@ -119,7 +119,7 @@ greater_ballot a b = when ballot_lt a b then b otherwise a
 unfoldable pub begin_proposing : Decision → Ballot → Draft → Draft
 begin_proposing own seen x =
     let top = greater_ballot (promised x.replica.log) seen in
-    when top.round == u64_max then noting Note.Quiet x
+    when top.round == u64_max then noting Coordinator.Idle x
     otherwise ask (record { round = top.round + 1; by = x.replica.me }) own x
 
 -- ---- collecting
@@ -127,8 +127,8 @@ begin_proposing own seen x =
 -- the decision is proposed, unless its tail passes a limit
 unfoldable pub on_complete : Decision → Draft → Draft
 on_complete d x =
-    when is_within d.tail then begin_proposing d no_ballot (noting (Note.Over d no_ballot) x)
-    otherwise noting Note.Quiet (record x {
+    when is_within d.tail then begin_proposing d no_ballot (noting (Coordinator.Preempted d no_ballot) x)
+    otherwise noting Coordinator.Idle (record x {
       excess = x.excess ++ Line.TooMany x.replica.me (known x.replica.log) (length d.tail) (size_of d.tail) ∷ [];
     })
 
@@ -136,7 +136,7 @@ on_complete d x =
 unfoldable pub on_whole : List ℕ → List LogPage → Draft → Draft
 on_whole ms pages x =
     let r = x.replica in
-    let y = noting (Note.Collecting ms pages) x in
+    let y = noting (Coordinator.Collecting ms pages) x in
     when has_majority (spec_of r) (whole_ones (spec_of r) pages)
     then on_complete (collected (spec_of r) (named_spec r ms) r.log ms pages) y otherwise y
 
@@ -157,7 +157,7 @@ may_reconfigure r ms =
 unfoldable pub collect : List ℕ → Draft → Draft
 collect ms x =
     let pages = own_page x.replica.me x.replica.log ∷ [] in
-    on_whole ms pages (tell_all (Control.Suspend (known x.replica.log) None) (noting (Note.Collecting ms pages) x))
+    on_whole ms pages (tell_all (Control.Suspend (known x.replica.log) None) (noting (Coordinator.Collecting ms pages) x))
 
 -- A suspicion, or an operator's wish: these are to be the members of the next epoch.
 unfoldable pub on_suspect : List ℕ → Draft → Draft

@@ -53,12 +53,12 @@ all_decisions n acts = decisions_in (last_world n acts)
 unfoldable pub start_of : ℕ → List Act → Decision → List Entry
 start_of n acts d = take d.base_len (the_list n acts) ++ d.tail
 
--- one of the lists is a front of the other
-abbrev pub AreFronts : List Entry → List Entry → Type 0
-AreFronts es fs = IsPrefixOf es fs ⊎ IsPrefixOf fs es
+-- one of the lists is a prefix of the other
+abbrev pub ArePrefixes : List Entry → List Entry → Type 0
+ArePrefixes es fs = IsPrefixOf es fs ⊎ IsPrefixOf fs es
 
--- Decisions of one epoch are equal, and each start is a front of the one list or goes on from it.
+-- Decisions of one epoch are equal, and each start is a prefix of the one list or goes on from it.
 pub record DecisionsAgree (n : ℕ) (acts : List Act) : Type 0 where
   pub one : (d e : Decision) → Contains (all_decisions n acts) d → Contains (all_decisions n acts) e → d.epoch ≡ e.epoch → d ≡ e
   pub base : AllByRecursion (λ d. d.base_len ≤ length (the_list n acts)) (all_decisions n acts)
-  pub start : AllByRecursion (λ d. AreFronts (start_of n acts d) (the_list n acts)) (all_decisions n acts)
+  pub start : AllByRecursion (λ d. ArePrefixes (start_of n acts d) (the_list n acts)) (all_decisions n acts)

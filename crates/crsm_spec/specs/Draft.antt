@@ -9,7 +9,7 @@ use Rattle.crsm_spec.specs.Fits.{fits}
 use Rattle.crsm_base.specs.Messages.{control_bytes}
 use Rattle.crsm_spec.specs.Lines.{lines_of}
 use Rattle.crsm_spec.specs.Parts.{cut}
-use Rattle.crsm_spec.specs.Replica.{Replica, Note, frames_to, other_members, others, last_issued}
+use Rattle.crsm_spec.specs.Replica.{Replica, Coordinator, frames_to, other_members, others, last_issued}
 use Rattle.crsm_spec.specs.Choice.{when◌then◌otherwise◌}
 
 -- A reply to a client: where it goes, which command it is on, what it says, and its line.
@@ -58,9 +58,9 @@ reply a x = record x { replies = x.replies ++ a ∷ [] }
 unfoldable pub count_vote : Stamp → ℕ → Draft → Draft
 count_vote s k x = record x { replica = record x.replica { votes = (s, k) ∷ x.replica.votes } }
 
--- changes the note
-unfoldable pub noting : Note → Draft → Draft
-noting note x = record x { replica = record x.replica { note = note } }
+-- changes the coordinator
+unfoldable pub noting : Coordinator → Draft → Draft
+noting coordinator x = record x { replica = record x.replica { coordinator = coordinator } }
 
 -- the time that the replica would issue
 unfoldable pub would : Draft → ℕ → Option ℕ

@@ -9,7 +9,7 @@ use Rattle.crsm_spec.specs.Proposing.{Proposing, start_proposing, value_proposed
 pub record Replica (D : Type 0) : Type 0 where
   pub known : ℕ
   pub held : Acceptance D
-  pub note : Option (Proposing D)
+  pub coordinator : Option (Proposing D)
 
 pub data Message (D : Type 0) : Type 0 where
   Ask : (i : ℕ) (b : Ballot) → Message D
@@ -23,14 +23,14 @@ pub record World (D : Type 0) : Type 0 where
   pub replica : ℕ → Replica D
   pub sent : List (Message D)
 
--- a replica begins a proposal, a message comes to it (again, late or in any order), or it loses its note
+-- a replica begins a proposal, a message comes to it (again, late or in any order), or it loses its coordinator
 pub data Event (D : Type 0) : Type 0 where
   Begin : (r : ℕ) (own : D) → Event D
   Comes : (r which : ℕ) → Event D
   Crash : (r : ℕ) → Event D
 
 abbrev pub start_world : {D : Type 0} → World D
-start_world = record { replica = λ _. record { known = 0; held = fresh_acceptance; note = None }; sent = [] }
+start_world = record { replica = λ _. record { known = 0; held = fresh_acceptance; coordinator = None }; sent = [] }
 
 abbrev pub with_replica : {D : Type 0} → World D → ℕ → Replica D → List (Message D) → World D
 with_replica w r x ms = record { replica = λ q. if q == r then x else w.replica q; sent = w.sent ++ ms }
@@ -42,18 +42,18 @@ abbrev pub begins : {D : Type 0} → List ℕ → World D → ℕ → D → Worl
 begins {D} spec w r own =
     let x : Replica D = w.replica r in
     let b : Ballot = next_ballot r x in
-    with_replica w r (record { known = x.known; held = after_promise x.held b; note = Some (start_proposing b own (length spec)) })
+    with_replica w r (record { known = x.known; held = after_promise x.held b; coordinator = Some (start_proposing b own (length spec)) })
     (Ask (x.known + 1) b ∷ Told (x.known + 1) b r x.held.accepted ∷ [])
 
-abbrev pub with_note : {D : Type 0} → World D → ℕ → Option (Proposing D) → List (Message D) → World D
-with_note w r note ms = with_replica w r (record { known = (w.replica r).known; held = (w.replica r).held; note = note }) ms
+abbrev pub with_coordinator : {D : Type 0} → World D → ℕ → Option (Proposing D) → List (Message D) → World D
+with_coordinator w r coordinator ms = with_replica w r (record { known = (w.replica r).known; held = (w.replica r).held; coordinator = coordinator }) ms
 
 abbrev pub asked : {D : Type 0} → World D → ℕ → ℕ → Ballot → World D
 asked w r i b =
     if not (i == (w.replica r).known + 1) || ballot_lt b (w.replica r).held.promised then w
     else (if ballot_lt (w.replica r).held.promised b
-    then with_replica w r (record { known = (w.replica r).known; held = after_promise (w.replica r).held b; note = (w.replica r).note }) (Told i b r (w.replica r).held.accepted ∷ [])
-    else with_note w r (w.replica r).note (Told i b r (w.replica r).held.accepted ∷ []))
+    then with_replica w r (record { known = (w.replica r).known; held = after_promise (w.replica r).held b; coordinator = (w.replica r).coordinator }) (Told i b r (w.replica r).held.accepted ∷ [])
+    else with_coordinator w r (w.replica r).coordinator (Told i b r (w.replica r).held.accepted ∷ []))
 
 abbrev pub is_held_below : {D : Type 0} → Held D → Ballot → Bool
 is_held_below None b = true
@@ -67,22 +67,22 @@ abbrev pub offered : {D : Type 0} → World D → ℕ → ℕ → Ballot → D �
 offered w r i b d =
     if not (i == (w.replica r).known + 1) || ballot_lt b (w.replica r).held.promised then w
     else (if is_held_below (w.replica r).held.accepted b
-    then with_replica w r (record { known = (w.replica r).known; held = after_accept (w.replica r).held b d; note = (w.replica r).note }) (Voted i b r ∷ [])
-    else (if is_held_in (w.replica r).held.accepted b then with_note w r (w.replica r).note (Voted i b r ∷ []) else w))
+    then with_replica w r (record { known = (w.replica r).known; held = after_accept (w.replica r).held b d; coordinator = (w.replica r).coordinator }) (Voted i b r ∷ [])
+    else (if is_held_in (w.replica r).held.accepted b then with_coordinator w r (w.replica r).coordinator (Voted i b r ∷ []) else w))
 
-abbrev pub told_note : {D : Type 0} → World D → ℕ → Option (Proposing D) → ℕ → Ballot → ℕ → Held D → World D
-told_note w r None i b from h = w
-told_note w r (Some p) i b from h =
-    with_note w r (Some (after_p1b p from b h))
+abbrev pub told_coordinator : {D : Type 0} → World D → ℕ → Option (Proposing D) → ℕ → Ballot → ℕ → Held D → World D
+told_coordinator w r None i b from h = w
+told_coordinator w r (Some p) i b from h =
+    with_coordinator w r (Some (after_p1b p from b h))
     (if counts_answer p from b && nat_le (majority p.size) (length p.heard + 1) then Offer i p.ballot (value_proposed (after_answer p from h)) ∷ [] else [])
 
-abbrev pub voted_note : {D : Type 0} → World D → ℕ → Option (Proposing D) → ℕ → Ballot → ℕ → World D
-voted_note w r None i b from = w
-voted_note w r (Some p) i b from =
-    with_note w r (Some (after_p2b p from b)) (if counts_vote p from b && makes_majority p then Decide i (value_proposed p) ∷ [] else [])
+abbrev pub voted_coordinator : {D : Type 0} → World D → ℕ → Option (Proposing D) → ℕ → Ballot → ℕ → World D
+voted_coordinator w r None i b from = w
+voted_coordinator w r (Some p) i b from =
+    with_coordinator w r (Some (after_p2b p from b)) (if counts_vote p from b && makes_majority p then Decide i (value_proposed p) ∷ [] else [])
 
 abbrev pub decided : {D : Type 0} → World D → ℕ → ℕ → World D
-decided w r i = if nat_lt (w.replica r).known i then with_replica w r (record { known = i; held = fresh_acceptance; note = None }) [] else w
+decided w r i = if nat_lt (w.replica r).known i then with_replica w r (record { known = i; held = fresh_acceptance; coordinator = None }) [] else w
 
 -- the message is of the instance that the replica takes part in, and from a replica of its Spec
 abbrev pub is_counted : {D : Type 0} → (ℕ → List ℕ) → World D → ℕ → ℕ → ℕ → Bool
@@ -91,15 +91,15 @@ is_counted spec_of w r i from = i == (w.replica r).known + 1 && is_heard (spec_o
 abbrev pub comes : {D : Type 0} → (ℕ → List ℕ) → World D → ℕ → Option (Message D) → World D
 comes spec_of w r None = w
 comes spec_of w r (Some (Ask i b)) = asked w r i b
-comes spec_of w r (Some (Told i b from h)) = if is_counted spec_of w r i from then told_note w r (w.replica r).note i b from h else w
+comes spec_of w r (Some (Told i b from h)) = if is_counted spec_of w r i from then told_coordinator w r (w.replica r).coordinator i b from h else w
 comes spec_of w r (Some (Offer i b d)) = offered w r i b d
-comes spec_of w r (Some (Voted i b from)) = if is_counted spec_of w r i from then voted_note w r (w.replica r).note i b from else w
+comes spec_of w r (Some (Voted i b from)) = if is_counted spec_of w r i from then voted_coordinator w r (w.replica r).coordinator i b from else w
 comes spec_of w r (Some (Decide i d)) = decided w r i
 
 abbrev pub happens : {D : Type 0} → (ℕ → List ℕ) → World D → Event D → World D
 happens spec_of w (Begin r own) = begins (spec_of ((w.replica r).known + 1)) w r own
 happens spec_of w (Comes r which) = comes spec_of w r (slice_get w.sent which)
-happens spec_of w (Crash r) = with_note w r None []
+happens spec_of w (Crash r) = with_coordinator w r None []
 
 abbrev pub world_after : {D : Type 0} → (ℕ → List ℕ) → World D → List (Event D) → World D
 world_after spec_of w [] = w

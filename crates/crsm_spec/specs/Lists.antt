@@ -24,7 +24,7 @@ unfoldable pub greatest : List ℕ → ℕ
 greatest [] = 0
 greatest (x ∷ xs) = max x (greatest xs)
 
--- xs is a front of ys
+-- xs is a prefix of ys
 abbrev pub IsPrefixOf : {A : Type 0} → List A → List A → Type 0
 IsPrefixOf {A} xs ys = (rest : List A) × (xs ++ rest ≡ ys)
 

@@ -18,13 +18,13 @@ pub record LogPage : Type 0 where
   pub whole : Bool
   pub entries : List Entry
 
--- What a coordinator is at. From `Asking` on it keeps the decision that it collected, `own`.
-pub data Note : Type 0 where
-  Quiet : Note
-  Collecting : (members : List ℕ) (pages : List LogPage) → Note
-  Asking : (b : Ballot) (own : Decision) (answers : List (Answer Decision)) → Note
-  Proposing : (b : Ballot) (own value : Decision) (acceptors : List ℕ) → Note
-  Over : (own : Decision) (seen : Ballot) → Note
+-- What a coordinator is at. From `Preparing` on it keeps the decision that it collected, `own`.
+pub data Coordinator : Type 0 where
+  Idle : Coordinator
+  Collecting : (members : List ℕ) (pages : List LogPage) → Coordinator
+  Preparing : (b : Ballot) (own : Decision) (answers : List (Answer Decision)) → Coordinator
+  Proposing : (b : Ballot) (own value : Decision) (acceptors : List ℕ) → Coordinator
+  Preempted : (own : Decision) (seen : Ballot) → Coordinator
 
 -- A client that waits for an entry which was submitted here.
 pub record Waiting : Type 0 where
@@ -44,7 +44,7 @@ pub record Replica : Type 0 where
   pub acked : List (ℕ × ℕ)  -- each Ack taken in this epoch, behind its sender
   pub taken : List ℕ  -- the sender of each frame taken in this epoch
   pub parts : List Piece  -- each part taken in this boot, in order
-  pub note : Note
+  pub coordinator : Coordinator
   pub made : ℕ  -- how many control messages this boot has made
   pub waiting : List Waiting  -- in order of submission
 
@@ -63,7 +63,7 @@ fresh me n log =
       acked = [];
       taken = [];
       parts = [];
-      note = Note.Quiet;
+      coordinator = Coordinator.Idle;
       made = 0;
       waiting = [];
     }

@@ -46,10 +46,10 @@ AnswersAt es place e a = (slice_get es place ≡ Some e) × (a ≡ answer_after 
 
 -- ---- agreement
 
--- All executed lists, at any moments, are fronts of one list. It rises by epoch and stamp, and each entry of it was
+-- All executed lists, at any moments, are prefixes of one list. It rises by epoch and stamp, and each entry of it was
 -- submitted by its origin for a client's request before it was executed anywhere.
 pub record Agreed (n : ℕ) (acts : List Act) : Type 0 where
-  pub fronts : AllByRecursion (λ es. IsPrefixOf es (the_list n acts)) (all_lists n acts)
+  pub prefixes : AllByRecursion (λ es. IsPrefixOf es (the_list n acts)) (all_lists n acts)
   pub ascending : Rises (the_list n acts)
   pub submitted : (p : ℕ) (e : Entry) → slice_get (the_list n acts) p ≡ Some e →
       (i : ℕ) × (t : Told) × (slice_get (seen n acts) i ≡ Some t) × Submits t e

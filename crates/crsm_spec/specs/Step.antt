@@ -4,7 +4,7 @@ use Rattle.std.specs.Option.{option_map_or}
 use Rattle.crsm_spec.specs.Types.{Rec, Datagram, Control}
 use Rattle.crsm_spec.specs.Log.{Log, known, active}
 use Rattle.crsm_base.specs.MessageReading.{control_of}
-use Rattle.crsm_spec.specs.Replica.{Replica, Note, LogPage, fresh, others}
+use Rattle.crsm_spec.specs.Replica.{Replica, Coordinator, LogPage, fresh, others}
 use Rattle.crsm_spec.specs.Parts.{Piece}
 use Rattle.crsm_spec.specs.Parts.{with_part, whole_with}
 use Rattle.crsm_spec.specs.Draft.{Draft, begun, keep, tell, tell_all, retrieve}
@@ -53,22 +53,22 @@ missing r pages = filter (λ k. not (is_whole pages k)) (others r)
 unfoldable pub tell_collect : List LogPage → Draft → Draft
 tell_collect pages x = fold (ask_page pages) x (missing x.replica pages)
 
--- what the note says to do again
-unfoldable pub renew : Note → Draft → Draft
-renew Note.Quiet x = x
-renew (Note.Collecting ms pages) x = tell_collect pages x
-renew (Note.Asking b own answers) x = tell_ask (Note.Asking b own answers) x
-renew (Note.Proposing b own value acceptors) x =
-    let y = accept_own b own value acceptors x in tell_proposal y.replica.note y
-renew (Note.Over own seen) x = begin_proposing own seen x
+-- what the coordinator says to do again
+unfoldable pub renew : Coordinator → Draft → Draft
+renew Coordinator.Idle x = x
+renew (Coordinator.Collecting ms pages) x = tell_collect pages x
+renew (Coordinator.Preparing b own answers) x = tell_ask (Coordinator.Preparing b own answers) x
+renew (Coordinator.Proposing b own value acceptors) x =
+    let y = accept_own b own value acceptors x in tell_proposal y.replica.coordinator y
+renew (Coordinator.Preempted own seen) x = begin_proposing own seen x
 
 -- asks all for what is known and executed beyond here, while not active
 unfoldable pub ask_all : Draft → Draft
 ask_all x = when active x.replica.log then x otherwise tell_all (retrieve x) x
 
--- A tick: frames again while active, and otherwise the note's messages and a question to all.
+-- A tick: frames again while active, and otherwise the coordinator's messages and a question to all.
 unfoldable pub on_tick : Draft → Draft
-on_tick x = when active x.replica.log then send_again x otherwise ask_all (renew x.replica.note x)
+on_tick x = when active x.replica.log then send_again x otherwise ask_all (renew x.replica.coordinator x)
 
 -- ---- the rule of each input
 

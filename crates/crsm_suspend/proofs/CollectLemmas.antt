@@ -16,9 +16,9 @@ use Rattle.crsm_spec.specs.Quorum.{has_majority}
 use Rattle.crsm_spec.specs.Controls.{are_above, is_page_of}
 use Rattle.crsm_spec.specs.Coordinate.{most_collected}
 use Rattle.crsm_spec.specs.Collect.{own_page, frozen, pages_of, is_whole, cursor, whole_ones, first_pages, all_entries, base_of, floor_of, union, collected, size_of, is_within}
-use Rattle.crsm_collection.proofs.Law.{has_in, has_from}
-use Rattle.crsm_collection.proofs.Merge.{union_goes_on}
-use Rattle.crsm_collection.proofs.Sorted.{kept_from, kept_in}
+use Rattle.crsm_law_collection.proofs.Law.{has_in, has_from}
+use Rattle.crsm_law_collection.proofs.Merge.{union_goes_on}
+use Rattle.crsm_law_collection.proofs.Sorted.{kept_from, kept_in}
 use Rattle.crsm_suspend.specs.Pages.{asked_stamp}
 use Rattle.crsm_suspend.specs.Reports.{head_of, report_of, page_from, HasReports}
 use Rattle.crsm_suspend.specs.declared.report.Page.{Page}

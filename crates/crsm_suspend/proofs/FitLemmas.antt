@@ -14,12 +14,12 @@ use Rattle.crsm_spec.specs.Log.{Log, known, start, logged, logged_in, last_stamp
 use Rattle.crsm_spec.specs.Replica.{LogPage}
 use Rattle.crsm_spec.specs.Collect.{pages_of, collected, size_of, is_within}
 use Rattle.crsm_spec.specs.Coordinate.{most_collected}
-use Rattle.crsm_collection.specs.Collecting.{Rises}
-use Rattle.crsm_collection.specs.Starts.{IsMadeOf}
-use Rattle.crsm_collection.proofs.Fronts.{collected_is_made}
-use Rattle.crsm_collection.proofs.Law.{flat_from}
-use Rattle.crsm_collection.proofs.Logged.{logged_epoch}
-use Rattle.crsm_collection.proofs.Sorted.{all_at, all_from, kept_from, above_from}
+use Rattle.crsm_law_collection.specs.Collecting.{Rises}
+use Rattle.crsm_law_collection.specs.Starts.{IsMadeOf}
+use Rattle.crsm_law_collection.proofs.Prefixes.{collected_is_made}
+use Rattle.crsm_law_collection.proofs.Law.{flat_from}
+use Rattle.crsm_law_collection.proofs.Logged.{logged_epoch}
+use Rattle.crsm_law_collection.proofs.Sorted.{all_at, all_from, kept_from, above_from}
 use Rattle.crsm_suspend.specs.Collecting.{CanTell, FitsGot, got_decided}
 use Rattle.crsm_suspend.specs.declared.got.Got.TheVariants as Got
 

@@ -5,7 +5,7 @@ use Rattle.crsm_spec.specs.Types.{Stamp, Decision, Control}
 use Rattle.crsm_spec.specs.Choice.{when◌then◌otherwise◌}
 use Rattle.crsm_spec.specs.Lists.{has}
 use Rattle.crsm_spec.specs.Log.{known}
-use Rattle.crsm_spec.specs.Replica.{Note, LogPage, spec_of, named_spec}
+use Rattle.crsm_spec.specs.Replica.{Coordinator, LogPage, spec_of, named_spec}
 use Rattle.crsm_spec.specs.Draft.{Draft, noting, tell}
 use Rattle.crsm_spec.specs.Quorum.{has_majority}
 use Rattle.crsm_spec.specs.Collect.{whole_ones, collected, cursor, is_whole, is_within}
@@ -16,11 +16,11 @@ use Rattle.crsm_suspend.specs.declared.got.Got.TheVariants as Got
 use Rattle.crsm_suspend.specs.Coordinating.{on_got, PagesAreTaken, ReportsAreCounted}
 use Rattle.crsm_suspend.proofs.CollectLemmas.{more_from}
 
-decided : (ms : List ℕ) (pages : List LogPage) (d : Decision) (x : Draft) → on_complete d (noting (Note.Collecting ms pages) x) ≡ on_got ms pages (got_decided d) x
+decided : (ms : List ℕ) (pages : List LogPage) (d : Decision) (x : Draft) → on_complete d (noting (Coordinator.Collecting ms pages) x) ≡ on_got ms pages (got_decided d) x
 unfolding on_complete got_decided on_got when◌then◌otherwise◌
 decided ms pages d x = go (is_within d.tail) refl
   where
-    go : (b : Bool) → is_within d.tail ≡ b → on_complete d (noting (Note.Collecting ms pages) x) ≡ on_got ms pages (got_decided d) x
+    go : (b : Bool) → is_within d.tail ≡ b → on_complete d (noting (Coordinator.Collecting ms pages) x) ≡ on_got ms pages (got_decided d) x
     go true e = rw e refl
     go false e = rw e refl
 
@@ -36,7 +36,7 @@ reports_are_counted ms pages x = go (has_majority (spec_of x.replica) (whole_one
 -- ---- a page
 
 asked_on : (ms : List ℕ) (all : List LogPage) (k : ℕ) (s : Stamp) (x : Draft) → cursor all k ≡ Some s →
-    tell (Control.Suspend (known x.replica.log) (cursor all k)) (noting (Note.Collecting ms all) x) k ≡ on_got ms all (got_more k (cursor all k)) x
+    tell (Control.Suspend (known x.replica.log) (cursor all k)) (noting (Coordinator.Collecting ms all) x) k ≡ on_got ms all (got_more k (cursor all k)) x
 unfolding on_got
 asked_on ms all k s x e = rw e refl
 
@@ -49,7 +49,7 @@ page_taken ms pages e after p x h = go p.whole refl
     all = pages ++ p ∷ []
 
     go : (b : Bool) → p.whole ≡ b →
-        (when b then on_whole ms all x otherwise tell (Control.Suspend (known x.replica.log) (cursor all p.from)) (noting (Note.Collecting ms all) x) p.from)
+        (when b then on_whole ms all x otherwise tell (Control.Suspend (known x.replica.log) (cursor all p.from)) (noting (Coordinator.Collecting ms all) x) p.from)
         ≡ on_got ms all (when b then got_whole x.replica.log (spec_of x.replica) (named_spec x.replica ms) ms all otherwise got_more p.from (cursor all p.from)) x
     go true w = reports_are_counted ms all x
     go false w = let s = more_from x.replica.log (spec_of x.replica) pages e after p h w in asked_on ms all p.from s.0 x s.1
@@ -65,8 +65,8 @@ same ms pages x = refl
 
 pub pages_are_taken : PagesAreTaken
 unfolding on_control if_spec on_suspend_ok when◌then◌otherwise◌
-pages_are_taken k e executed last after whole es ms pages x note =
-    ap (λ n. if_spec k x (on_suspend_ok e after p n x)) note ∙ go (has (spec_of x.replica) k) (is_page_of (known x.replica.log) e (cursor pages k) after p && not (is_whole pages k)) refl refl
+pages_are_taken k e executed last after whole es ms pages x coordinator =
+    ap (λ n. if_spec k x (on_suspend_ok e after p n x)) coordinator ∙ go (has (spec_of x.replica) k) (is_page_of (known x.replica.log) e (cursor pages k) after p && not (is_whole pages k)) refl refl
   where
     p : LogPage
     p = page_in k executed last whole es
@@ -76,7 +76,7 @@ pages_are_taken k e executed last after whole es ms pages x note =
     asked a b f g = asked_as x pages e after p a b f g
 
     go : (a b : Bool) → has (spec_of x.replica) k ≡ a → (is_page_of (known x.replica.log) e (cursor pages k) after p && not (is_whole pages k)) ≡ b →
-        if_spec k x (on_suspend_ok e after p (Note.Collecting ms pages) x)
+        if_spec k x (on_suspend_ok e after p (Coordinator.Collecting ms pages) x)
         ≡ on_got ms (pages_after x.replica.log (spec_of x.replica) pages k (Control.SuspendOk e executed last after whole es))
         (got_of x.replica.log (spec_of x.replica) (named_spec x.replica ms) ms pages k (Control.SuspendOk e executed last after whole es)) x
     go true true f g = rw (f, g, asked true true f g) (page_taken ms pages e after p x (asked true true f g))

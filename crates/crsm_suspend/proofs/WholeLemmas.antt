@@ -18,7 +18,7 @@ use Rattle.crsm_suspend.specs.Pages.{is_over}
 use Rattle.crsm_suspend.proofs.FrozenLemmas.{above_none, above_next}
 use Rattle.crsm_suspend.specs.Reports.{head_of, report_of, no_report, HasReports}
 use Rattle.crsm_suspend.specs.declared.report.Report.{Report}
-use Rattle.crsm_collection.proofs.Merge.{union_goes_on}
+use Rattle.crsm_law_collection.proofs.Merge.{union_goes_on}
 
 -- ---- lists with one more at their end
 
@@ -194,10 +194,10 @@ module _ (o : Option Stamp) (es : List Entry) (i : ℕ) (e : Entry) (l : i < len
 pub page_more : (set : List Entry) (o : Option Stamp) (pages : List (List Entry)) (i : ℕ) (page : List Entry) → i < length pages → page ≡ get_or pages i page →
     fold with_new set (above o (flat_map (λ es. es) (take (i + 1) pages))) ≡ fold with_new (fold with_new set (above o (flat_map (λ es. es) (take i pages)))) (above o page)
 page_more set o pages i page l at =
-    let front : List Entry = flat_map (λ es. es) (take i pages) in
+    let prefix : List Entry = flat_map (λ es. es) (take i pages) in
     ap (λ ps. fold with_new set (above o (flat_map (λ es. es) ps))) (take_more pages i page l ∙ ap (λ p. take i pages ++ p ∷ []) (sym at))
-    ∙ ap (λ es. fold with_new set (above o es)) (flat_map-append (λ (es : List Entry). es) (take i pages) (page ∷ []) ∙ ap (λ es. front ++ es) (append-nil page))
-    ∙ ap (fold with_new set) (above-append o front page) ∙ fold-append with_new set (above o front) (above o page)
+    ∙ ap (λ es. fold with_new set (above o es)) (flat_map-append (λ (es : List Entry). es) (take i pages) (page ∷ []) ∙ ap (λ es. prefix ++ es) (append-nil page))
+    ∙ ap (fold with_new set) (above-append o prefix page) ∙ fold-append with_new set (above o prefix) (above o page)
 
 -- ---- no replica
 

@@ -2,7 +2,7 @@
 use Rattle.std.specs.Prelude.{◌≡◌, ℕ, Bool, List, [], ◌∷◌, ◌++◌, Option, Some}
 use Rattle.crsm_spec.specs.Types.{Stamp, Entry, Control, Line}
 use Rattle.crsm_spec.specs.Log.{known, no_ballot}
-use Rattle.crsm_spec.specs.Replica.{Note, LogPage, spec_of, named_spec}
+use Rattle.crsm_spec.specs.Replica.{Coordinator, LogPage, spec_of, named_spec}
 use Rattle.crsm_spec.specs.Draft.{Draft, noting, tell}
 use Rattle.crsm_spec.specs.Coordinate.{begin_proposing, on_whole}
 use Rattle.crsm_spec.specs.Controls.{on_control}
@@ -14,18 +14,18 @@ use Rattle.crsm_suspend.specs.declared.got.Got.TheVariants.{Stranger, More, Kept
 -- with a line that tells why.
 unfoldable pub on_got : List ℕ → List LogPage → Got → Draft → Draft
 on_got ms pages Stranger x = x
-on_got ms pages (More k after) x = tell (Control.Suspend (known x.replica.log) (Some after)) (noting (Note.Collecting ms pages) x) k
-on_got ms pages Kept x = noting (Note.Collecting ms pages) x
-on_got ms pages (Complete d) x = begin_proposing d no_ballot (noting (Note.Over d no_ballot) (noting (Note.Collecting ms pages) x))
+on_got ms pages (More k after) x = tell (Control.Suspend (known x.replica.log) (Some after)) (noting (Coordinator.Collecting ms pages) x) k
+on_got ms pages Kept x = noting (Coordinator.Collecting ms pages) x
+on_got ms pages (Complete d) x = begin_proposing d no_ballot (noting (Coordinator.Preempted d no_ballot) (noting (Coordinator.Collecting ms pages) x))
 on_got ms pages (TooMany count bytes) x =
-    let y = noting (Note.Collecting ms pages) x in
-    noting Note.Quiet (record y { excess = y.excess ++ Line.TooMany y.replica.me (known y.replica.log) count bytes ∷ [] })
+    let y = noting (Coordinator.Collecting ms pages) x in
+    noting Coordinator.Idle (record y { excess = y.excess ++ Line.TooMany y.replica.me (known y.replica.log) count bytes ∷ [] })
 
 -- That is the rule of a message that brings a page to a replica which collects, ..
 abbrev pub PagesAreTaken : Type 0
 PagesAreTaken =
     (k e executed : ℕ) (last after : Option Stamp) (whole : Bool) (es : List Entry) (ms : List ℕ) (pages : List LogPage) (x : Draft) →
-    x.replica.note ≡ Note.Collecting ms pages →
+    x.replica.coordinator ≡ Coordinator.Collecting ms pages →
     let answer = Control.SuspendOk e executed last after whole es in
     let log = x.replica.log in
     let spec = spec_of x.replica in

@@ -6,7 +6,7 @@ ghost use Rattle.crsm_base.specs.Messages.{FitsControl};
 ghost use Rattle.crsm_base.specs.Spelling.{FitsOption};
 ghost use Rattle.crsm_base.specs.declared.Rec.{Rec};
 ghost use Rattle.crsm_base.specs.declared.Stamp.{Stamp};
-ghost use Rattle.crsm_ledger.specs.Stands.{StandsFor};
+ghost use Rattle.crsm_ledger.specs.Ledger.{StandsFor};
 ghost use Rattle.crsm_spec.specs.Collect.{own_page, collected};
 ghost use Rattle.crsm_spec.specs.Coordinate.{most_collected};
 ghost use Rattle.crsm_spec.specs.Log.{known, start as start_of};

@@ -4,7 +4,7 @@ ghost use Rattle.std.specs.Prelude.{◌≡◌, ◌==◌, ℕ, List, length, IfOk
 ghost use Rattle.crsm_base.specs.declared.Rec.{Rec};
 ghost use Rattle.crsm_spec.specs.Collect.{first_page, suspend_ok};
 ghost use Rattle.crsm_spec.specs.Log.{above};
-ghost use Rattle.crsm_ledger.specs.Stands.{StandsFor};
+ghost use Rattle.crsm_ledger.specs.Ledger.{StandsFor};
 ghost use Rattle.crsm_suspend.specs.Pages.{asked_stamp};
 
 use crate::checks::is_above;

@@ -30,17 +30,17 @@ ahead_all [] left fit some e = absurd (omega (arith, some))
 ahead_all (n ∷ ns) left fit some e = record { next = n; later = ns; is = refl; fits = fit.0; later_fit = fit.1; text = e }
 
 -- what stands before a comma is the next number
-pub ahead_front : (n : ℕ) (later front behind : List ℕ) → n < 2 ^ 64 → Lacks 44 front → front ++ 44 ∷ behind ≡ commas (n ∷ later)
-    → (front ≡ decimal n) × (1 ≤ length later) × (behind ≡ commas later)
-ahead_front n [] front behind fits lacks e = absurd (lacks_not 44 (decimal n) front behind (Lacks-decimal 44 n (omega arith) fits) (sym e))
-ahead_front n (m ∷ later) front behind fits lacks e =
-    let s = split_unique 44 front (decimal n) behind (commas (m ∷ later)) lacks (Lacks-decimal 44 n (omega arith) fits) e in
+pub ahead_prefix : (n : ℕ) (later prefix behind : List ℕ) → n < 2 ^ 64 → Lacks 44 prefix → prefix ++ 44 ∷ behind ≡ commas (n ∷ later)
+    → (prefix ≡ decimal n) × (1 ≤ length later) × (behind ≡ commas later)
+ahead_prefix n [] prefix behind fits lacks e = absurd (lacks_not 44 (decimal n) prefix behind (Lacks-decimal 44 n (omega arith) fits) (sym e))
+ahead_prefix n (m ∷ later) prefix behind fits lacks e =
+    let s = split_unique 44 prefix (decimal n) behind (commas (m ∷ later)) lacks (Lacks-decimal 44 n (omega arith) fits) e in
     (s.0, omega arith, s.1)
 
-pub ahead_next : (ns read left : List ℕ) (front behind : List ℕ) → Ahead ns read left → Lacks 44 front → left ≡ front ++ 44 ∷ behind
-    → (n : ℕ) × (n < 2 ^ 64) × (front ≡ decimal n) × Ahead ns (read ++ n ∷ []) behind
-ahead_next ns read left front behind a lacks e =
-    let f = ahead_front a.next a.later front behind a.fits lacks (sym e ∙ a.text) in
+pub ahead_next : (ns read left : List ℕ) (prefix behind : List ℕ) → Ahead ns read left → Lacks 44 prefix → left ≡ prefix ++ 44 ∷ behind
+    → (n : ℕ) × (n < 2 ^ 64) × (prefix ≡ decimal n) × Ahead ns (read ++ n ∷ []) behind
+ahead_next ns read left prefix behind a lacks e =
+    let f = ahead_prefix a.next a.later prefix behind a.fits lacks (sym e ∙ a.text) in
     let b = ahead_all a.later behind a.later_fit f.1 f.2 in (
       a.next,
       a.fits,
@@ -56,7 +56,7 @@ ahead_next ns read left front behind a lacks e =
     )
 
 -- without a comma one number is left
-pub ahead_last : (ns read left : List ℕ) → Ahead ns read left → ((front behind : List ℕ) → Lacks 44 front → left ≢ front ++ 44 ∷ behind)
+pub ahead_last : (ns read left : List ℕ) → Ahead ns read left → ((prefix behind : List ℕ) → Lacks 44 prefix → left ≢ prefix ++ 44 ∷ behind)
     → (n : ℕ) × (n < 2 ^ 64) × (left ≡ decimal n) × (ns ≡ read ++ n ∷ [])
 ahead_last ns read left a none = last_by a.next a.later a.is a.fits a.text where
   last_by : (n : ℕ) (later : List ℕ) → ns ≡ read ++ n ∷ later → n < 2 ^ 64 → left ≡ commas (n ∷ later)

@@ -26,10 +26,10 @@ first_digit (x ∷ xs) n some is small = ap (λ y. y ∷ []) is ∙ sym (decimal
 
 -- one digit more
 pub next_digit : (xs : List ℕ) (i n d : ℕ) → i < length xs → get_or xs i 0 ≡ 48 + d → d < 10 → 0 < n → n * 10 + d < 2 ^ 64 → take i xs ≡ decimal n → take (i + 1) xs ≡ decimal (n * 10 + d)
-next_digit xs i n d within is small some fits front =
+next_digit xs i n d within is small some fits prefix =
     let tens : (n * 10 + d) / 10 ≡ n = omega (arith, small) in
     let ones : (n * 10 + d) % 10 ≡ d = omega (arith, small) in
-    take_more xs i 0 within ∙ ap (λ ys. ys ++ get_or xs i 0 ∷ []) front ∙ ap (λ y. decimal n ++ y ∷ []) is
+    take_more xs i 0 within ∙ ap (λ ys. ys ++ get_or xs i 0 ∷ []) prefix ∙ ap (λ y. decimal n ++ y ∷ []) is
     ∙ ap (λ m. decimal m ++ (48 + d) ∷ []) (sym tens) ∙ ap (λ m. decimal ((n * 10 + d) / 10) ++ (48 + m) ∷ []) (sym ones)
     ∙ sym (decimal_step (n * 10 + d) (omega (arith, some)) fits)
 

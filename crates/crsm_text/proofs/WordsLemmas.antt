@@ -10,7 +10,7 @@ pub Lacks-append : (c : ℕ) (xs ys : List ℕ) → Lacks c xs → Lacks c ys �
 Lacks-append c [] ys p q = q
 Lacks-append c (x ∷ xs) ys p q = (p.0, Lacks-append c xs ys p.1 q)
 
--- each element of a front that differs
+-- each element of a prefix that differs
 pub Lacks-take : (c : ℕ) (xs : List ℕ) (i : ℕ) → i ≤ length xs → ((k : ℕ) → k < i → get_or xs k 0 ≢ c) → Lacks c (take i xs)
 Lacks-take c xs zero short h = tt
 Lacks-take c [] (suc i) short h = tt

@@ -19,8 +19,8 @@ pub fn read_numbers(alloc: Global, word: &[u8]) -> Result<Vec<u64>, LineError>
 {
     let mut numbers = Vec::new(alloc);
     let mut rest = word;
-    while let Some((front, behind)) = split_field(rest, b',') {
-        let Some(number) = read_number(front) else {
+    while let Some((prefix, behind)) = split_field(rest, b',') {
+        let Some(number) = read_number(prefix) else {
             return Err(LineError::Unreadable);
         };
         numbers.push(number)?;

@@ -1,4 +1,4 @@
-//! Adds words to bytes. After an error a front of the text may have been added.
+//! Adds words to bytes. After an error a prefix of the text may have been added.
 
 ghost use Rattle.std.specs.Prelude.{◌≡◌, ◌≤◌, ◌++◌, ◌∷◌, ◌<◌, ◌+◌, OnOk, decimal, drop, length, slice_index, take};
 ghost use Rattle.hex.specs.Hex.{encode_lower, lower_digits};

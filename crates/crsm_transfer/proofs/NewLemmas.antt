@@ -7,7 +7,7 @@ use Rattle.crsm_spec.specs.Types.{Entry, Decision}
 use Rattle.crsm_spec.specs.Choice.{when◌then◌otherwise◌}
 use Rattle.crsm_spec.specs.Log.{Log, decision, executed, known, active, live, suspended}
 use Rattle.crsm_spec.specs.Controls.{new_entries}
-use Rattle.crsm_ledger.specs.Stands.{known_decision, founding}
+use Rattle.crsm_ledger.specs.Ledger.{known_decision, founding}
 use Rattle.crsm_transfer.specs.declared.answer.Fit.TheVariants.{Ahead, Gap, Nothing, Adopt}
 use Rattle.crsm_transfer.specs.Fitting.{new_above, fit_of}
 

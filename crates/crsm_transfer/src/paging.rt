@@ -6,7 +6,7 @@ ghost use Rattle.crsm_base.specs.declared.Rec.{Rec};
 ghost use Rattle.crsm_base.specs.declared.Control.{Control};
 ghost use Rattle.crsm_spec.specs.Log.{known, executed};
 ghost use Rattle.crsm_spec.specs.Collect.{first_page};
-ghost use Rattle.crsm_ledger.specs.Stands.{StandsFor};
+ghost use Rattle.crsm_ledger.specs.Ledger.{StandsFor};
 ghost use Rattle.crsm_transfer.specs.Paging.{page_at, next_in, size_of_found};
 
 use crsm_base::{Control, Entries, Entry, MAX_PAGE_BYTES, NoMemory};

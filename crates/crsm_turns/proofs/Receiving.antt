@@ -10,13 +10,13 @@ use Rattle.crsm_turns.specs.declared.input.TakeError.TheVariants as error
 use Rattle.crsm_turns.specs.declared.input.Taken.{Taken}
 use Rattle.crsm_turns.specs.declared.input.Taken.TheVariants as taken
 
--- the front that was copied is the front of the datagram
-front : (n : ℕ) (d x : List ℕ) → n ≤ length d → take n (take n d ++ x) ≡ take n d
-front zero d x h = refl
-front (suc n) [] x h = absurd (omega arith)
-front (suc n) (y ∷ d) x h = ap (λ r. y ∷ r) (front n d x (omega arith))
+-- the prefix that was copied is the prefix of the datagram
+prefix : (n : ℕ) (d x : List ℕ) → n ≤ length d → take n (take n d ++ x) ≡ take n d
+prefix zero d x h = refl
+prefix (suc n) [] x h = absurd (omega arith)
+prefix (suc n) (y ∷ d) x h = ap (λ r. y ∷ r) (prefix n d x (omega arith))
 
--- a front up to the end of the list or so many
+-- a prefix up to the end of the list or so many
 cut : (n most : ℕ) (d : List ℕ) → n ≡ min most (length d) → take n d ≡ take most d
 cut zero zero d h = refl
 cut zero (suc most) [] h = refl
@@ -73,4 +73,4 @@ datagram old new before after from len r = record {
 
     as_first : (t u : Traffic) → Takes t u before after (got.Datagram from len) → IsFirst (length before) after t u (taken.Datagram from len)
     as_first t u (d, rest, waits, address, size, copied, gone) =
-        (d, rest, waits, address, ap (take len) copied ∙ front len d.bytes (drop len before) (omega arith) ∙ cut len (length before) d.bytes size, gone)
+        (d, rest, waits, address, ap (take len) copied ∙ prefix len d.bytes (drop len before) (omega arith) ∙ cut len (length before) d.bytes size, gone)

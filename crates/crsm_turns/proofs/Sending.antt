@@ -1,9 +1,9 @@
 -- One datagram after another goes out.
 use Rattle.std.proofs.Common.{◌≡◌, ◌+◌, ◌≤◌, ◌<◌, take, drop, get_or, ℕ, suc, List, [], ◌∷◌, ◌++◌, length, Option, Some, None, Result, Ok, Err, refl, sym, ◌∙◌, ap, subst, option_map, append-nil, append_assoc, inl, inr, arith}
 use Rattle.crsm_base.specs.declared.memory.Failed.{Failed}
-use Rattle.crsm_device.specs.Counts.{Rose}
-use Rattle.crsm_device.specs.Plan.{Plan, spent}
-use Rattle.crsm_device.specs.Failing.{one_less}
+use Rattle.crsm_faults.specs.Counts.{Rose}
+use Rattle.crsm_faults.specs.Plan.{Plan, spent}
+use Rattle.crsm_faults.specs.Failing.{one_less}
 use Rattle.crsm_port.specs.Meaning.{Meaning, Post, Traffic, Sends, with_sent}
 use Rattle.crsm_turns.proofs.Letters.{one_letter}
 use Rattle.crsm_turns.specs.Letters.{posts_of, size_of}

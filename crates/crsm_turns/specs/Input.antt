@@ -1,7 +1,7 @@
 -- The input that a step takes off a port.
 use Rattle.std.specs.Prelude.{◌≡◌, ◌≤◌, ℕ, List, [], ◌∷◌, ◌++◌, take, Some, None, Result, Ok, IfOk, IsErrOf}
-use Rattle.crsm_device.specs.Counts.{Rose}
-use Rattle.crsm_device.specs.Plan.{Plan}
+use Rattle.crsm_faults.specs.Counts.{Rose}
+use Rattle.crsm_faults.specs.Plan.{Plan}
 use Rattle.crsm_port.specs.Meaning.{Meaning, Post, Traffic}
 use Rattle.crsm_turns.specs.declared.input.What.{What}
 use Rattle.crsm_turns.specs.declared.input.What.TheVariants as what
@@ -22,7 +22,7 @@ IsWithin size taken.Tick = Unit {0}
 IsWithin size (taken.Datagram from len) = len ≤ size
 IsWithin size (taken.Suspect members) = Unit {0}
 
--- the first datagram that waits, cut to a length, is the front of the buffer; a tick where none waits
+-- the first datagram that waits, cut to a length, is the prefix of the buffer; a tick where none waits
 abbrev pub IsFirst : ℕ → List ℕ → Traffic → Traffic → Taken → Type 0
 IsFirst size buffer old new taken.Tick = (old.waiting ≡ []) × (new ≡ old)
 IsFirst size buffer old new (taken.Datagram from len) = (d : Post) × (rest : List Post) × (old.waiting ≡ d ∷ rest) × (from ≡ d.address)

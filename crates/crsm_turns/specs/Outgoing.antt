@@ -5,7 +5,7 @@ use Rattle.crsm_base.specs.declared.send.Send.{Send}
 use Rattle.crsm_base.specs.declared.send.To.{To}
 use Rattle.crsm_base.specs.declared.send.To.TheVariants as to_whom
 use Rattle.crsm_base.specs.Messages.{FitsDatagram, datagram_bytes}
-use Rattle.crsm_device.specs.Plan.{Plan, spent}
+use Rattle.crsm_faults.specs.Plan.{Plan, spent}
 use Rattle.crsm_port.specs.Meaning.{Meaning, Post, Traffic}
 
 -- ---- where datagrams go

@@ -9,7 +9,7 @@ use crsm_base::{Bytes, NoMemory, Rec};
 use crsm_fields::put_rec;
 
 /// Writes the records of one more step behind those of the steps before it. After `NoMemory` some of them, and a
-/// front of the next, may stand there.
+/// prefix of the next, may stand there.
 #[tactic(auto, unfolding(crsm_base::specs::Records::body_bytes))]
 pub fn write_records(records: &[Rec], body: &mut Bytes) -> Result<(), NoMemory>
     requires { AllByRecursion FitsRec records.now }

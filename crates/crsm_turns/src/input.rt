@@ -19,7 +19,7 @@ pub enum What {
 /// The input that is taken.
 #[derive(Debug, Drop)]
 pub enum Taken {
-    /// So many bytes that came from an address: the front of the buffer. They may spell no datagram.
+    /// So many bytes that came from an address: the prefix of the buffer. They may spell no datagram.
     Datagram { from: u64, len: usize },
     Tick,
     Suspect(Members),

@@ -88,7 +88,7 @@ impl Outbox {
                 Ok(())
             }
             Err(NoMemory) => {
-                // A front of the datagram may stand there.
+                // A prefix of the datagram may stand there.
                 self.letters.clear();
                 self.text.clear();
                 Err(NoMemory)

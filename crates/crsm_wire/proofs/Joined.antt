@@ -3,7 +3,7 @@ use Rattle.std.proofs.Common.{◌≡◌, ℕ, ◌≤◌, List, [], ◌++◌, len
 use Rattle.std.proofs.lemmas.List.{append-nil, take_at, drop_at, drop_all}
 use borrow.Rule.Slice.PartMut.{put_mid}
 
-pub join : (front back room : List ℕ) (n k : ℕ) → length front ≡ n → length room ≤ k → put_mid n k (front ++ room) back ≡ front ++ back
-join front back room n k is_front fits =
-    let behind : drop k (drop n (front ++ room)) ≡ [] = ap (λ (l : List ℕ). drop k l) (drop_at front room n is_front) ∙ drop_all k room fits in
-    rw (take_at front room n is_front, behind) (ap (λ (l : List ℕ). front ++ l) (append-nil back))
+pub join : (prefix back room : List ℕ) (n k : ℕ) → length prefix ≡ n → length room ≤ k → put_mid n k (prefix ++ room) back ≡ prefix ++ back
+join prefix back room n k is_prefix fits =
+    let behind : drop k (drop n (prefix ++ room)) ≡ [] = ap (λ (l : List ℕ). drop k l) (drop_at prefix room n is_prefix) ∙ drop_all k room fits in
+    rw (take_at prefix room n is_prefix, behind) (ap (λ (l : List ℕ). prefix ++ l) (append-nil back))

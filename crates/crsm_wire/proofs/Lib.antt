@@ -1,2 +1,5 @@
 mod Joined
 mod Same
+pub mod Lengths
+pub mod Rising
+pub mod Sums

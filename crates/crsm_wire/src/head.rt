@@ -62,11 +62,11 @@ fn prepare_ok(stamp: Stamp, at: u64) -> [u8; 18]
     cells
 }
 
-fn joined(front: &[u8; 19], back: &[u8; 18]) -> [u8; 37]
-    ensures { result ≡ front.now ++ back.now }
+fn joined(prefix: &[u8; 19], back: &[u8; 18]) -> [u8; 37]
+    ensures { result ≡ prefix.now ++ back.now }
 {
     let mut cells = [0; 37];
-    cells[..19].copy_from_slice(front);
+    cells[..19].copy_from_slice(prefix);
     cells[19..].copy_from_slice(back);
     cells
 }
@@ -89,15 +89,15 @@ pub fn put_head(
 
 /// Appends the head of a frame and the payload that a stamp was kept.
 pub fn put_prepare_ok(
-    front: &[u8; 19],
+    prefix: &[u8; 19],
     stamp: Stamp,
     at: u64,
     out: &mut Bytes,
 ) -> Result<(), NoMemory>
     requires { FitsStamp stamp }
-    ensures { OnOk result (out.new ≡ out.old ++ (front.now ++ 2 ∷ (stamp_bytes stamp ++ u64_bytes at))) }
+    ensures { OnOk result (out.new ≡ out.old ++ (prefix.now ++ 2 ∷ (stamp_bytes stamp ++ u64_bytes at))) }
 {
-    out.append(&joined(front, &prepare_ok(stamp, at)))
+    out.append(&joined(prefix, &prepare_ok(stamp, at)))
 }
 
 /// Appends the payload that tells a clock's time, behind its tag.

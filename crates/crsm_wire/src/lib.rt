@@ -2,14 +2,22 @@
 #![tactic(auto)]
 
 mod datagram;
+mod decision;
+mod entries;
 mod fault;
+mod fields;
 mod head;
 mod laws;
+mod messages;
 mod put;
 mod read;
 mod take;
+#[cfg(test)]
+mod tests;
 
+pub use decision::is_decision_spelt;
 pub use fault::WireError;
 pub use laws::one_spelling_each;
+pub use messages::{is_control_spelt, is_rec_spelt};
 pub use put::{put_control, put_datagram, put_decide};
 pub use read::{read_control, read_datagram, write_control, write_datagram};

@@ -18,7 +18,7 @@ fn put_bool(flag: bool, out: &mut Bytes) -> Result<(), NoMemory>
     if flag { put_u8(1, out) } else { put_u8(0, out) }
 }
 
-/// Appends the spelling of the control message that tells this decision. After an error a front of it may be there.
+/// Appends the spelling of the control message that tells this decision. After an error a prefix of it may be there.
 #[tactic(auto, unfolding(crsm_base::specs::Messages::control_bytes))]
 pub fn put_decide(decision: &Decision, out: &mut Bytes) -> Result<(), NoMemory>
     requires { FitsDecision decision.now }
@@ -28,7 +28,7 @@ pub fn put_decide(decision: &Decision, out: &mut Bytes) -> Result<(), NoMemory>
     put_decision(decision, out)
 }
 
-/// Appends the spelling of a control message. After an error a front of it may be there.
+/// Appends the spelling of a control message. After an error a prefix of it may be there.
 #[tactic(auto, unfolding(crsm_base::specs::Messages::control_bytes))]
 pub fn put_control(control: &Control, out: &mut Bytes) -> Result<(), NoMemory>
     requires { FitsControl control.now }
@@ -117,25 +117,25 @@ pub fn put_control(control: &Control, out: &mut Bytes) -> Result<(), NoMemory>
 
 // what a frame begins with, and its payload
 #[tactic(auto, unfolding(crsm_base::specs::Messages::payload_bytes))]
-fn put_frame(front: &[u8; 19], payload: &InEpoch, out: &mut Bytes) -> Result<(), NoMemory>
+fn put_frame(prefix: &[u8; 19], payload: &InEpoch, out: &mut Bytes) -> Result<(), NoMemory>
     requires { FitsPayload payload.now }
-    ensures { OnOk result (out.new ≡ out.old ++ (front.now ++ payload_bytes payload.now)) }
+    ensures { OnOk result (out.new ≡ out.old ++ (prefix.now ++ payload_bytes payload.now)) }
 {
     match payload {
         InEpoch::Prepare { entry } => {
-            out.append(front)?;
+            out.append(prefix)?;
             put_u8(1, out)?;
             put_entry(entry, out)
         }
-        InEpoch::PrepareOk { stamp, at } => put_prepare_ok(front, *stamp, *at, out),
+        InEpoch::PrepareOk { stamp, at } => put_prepare_ok(prefix, *stamp, *at, out),
         InEpoch::ClockTime { at } => {
-            out.append(front)?;
+            out.append(prefix)?;
             put_clock_time(*at, out)
         }
     }
 }
 
-/// Appends the one spelling of a datagram, piece by piece. After `NoMemory` a front of it may have been added.
+/// Appends the one spelling of a datagram, piece by piece. After `NoMemory` a prefix of it may have been added.
 #[tactic(auto, unfolding(crsm_base::specs::Messages::datagram_bytes))]
 pub fn put_datagram(datagram: &Datagram, out: &mut Bytes) -> Result<(), NoMemory>
     requires { FitsDatagram datagram.now }
@@ -149,8 +149,8 @@ pub fn put_datagram(datagram: &Datagram, out: &mut Bytes) -> Result<(), NoMemory
             seq,
             payload,
         } => {
-            let front = head(1, *from, *to, *epoch, *seq);
-            put_frame(&front, payload, out)
+            let prefix = head(1, *from, *to, *epoch, *seq);
+            put_frame(&prefix, payload, out)
         }
         Datagram::Ack {
             from,

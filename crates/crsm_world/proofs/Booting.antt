@@ -7,14 +7,14 @@ use Rattle.crsm_spec.specs.Draft.{Draft, Reply}
 use Rattle.crsm_spec.specs.Step.{boot}
 use Rattle.crsm_spec.specs.World.{Site, Mail, World as Cluster, body_size, mail_of, mail_size, send_lines, whole_step, after_step, log_of, log_at}
 use Rattle.crsm_spec.specs.Moments.{begun_at, with_room, start_at}
-use Rattle.crsm_site.specs.declared.Boot.{Boot}
-use Rattle.crsm_site.specs.Outcomes.{IsQuiet}
+use Rattle.crsm_machine.specs.declared.Boot.{Boot}
+use Rattle.crsm_machine.specs.Outcomes.{IsQuiet}
 use Rattle.crsm_world.specs.declared.sites.Sites.{Sites}
-use Rattle.crsm_post.specs.declared.Post.{Post}
+use Rattle.crsm_network.specs.declared.Post.{Post}
 use Rattle.crsm_world.specs.declared.world.World.{World}
 use Rattle.crsm_world.specs.Placed.{SitesStand, SitesBoot, roomed}
-use Rattle.crsm_post.specs.Mailed.{PostStands}
-use Rattle.crsm_world.specs.Standing.{Leads}
+use Rattle.crsm_network.specs.Mailed.{PostStands}
+use Rattle.crsm_world.specs.World.{Leads}
 use Rattle.crsm_world.specs.Starting.{CanStart}
 use Rattle.crsm_world.proofs.Turns.{log_here}
 use Rattle.crsm_world.proofs.Leading.{leads_as}

@@ -8,10 +8,10 @@ use Rattle.std.proofs.lemmas.List.{take_more, map-append}
 use Rattle.std.proofs.lemmas.Option.{get_or_from_slice_get}
 use Rattle.crsm_spec.specs.World.{Site as Place, World as Cluster, is_up, is_up_at}
 use Rattle.crsm_spec.specs.Moments.{deliverable}
-use Rattle.crsm_post.specs.Mailed.{is_fresh_for, is_up_among, numbers_of}
-use Rattle.crsm_post.proofs.Numbers.{filter_alike, numbers_fresh}
-use Rattle.crsm_site.specs.declared.Site.{Site}
-use Rattle.crsm_site.specs.Standing.{SiteStands}
+use Rattle.crsm_network.specs.Mailed.{is_fresh_for, is_up_among, numbers_of}
+use Rattle.crsm_network.proofs.Numbers.{filter_alike, numbers_fresh}
+use Rattle.crsm_machine.specs.declared.Site.{Site}
+use Rattle.crsm_machine.specs.Machine.{SiteStands}
 use Rattle.crsm_world.specs.declared.sites.Sites.{Sites}
 use Rattle.crsm_world.specs.Placed.{SitesStand}
 use Rattle.crsm_world.proofs.Places.{site_got, sites_length}

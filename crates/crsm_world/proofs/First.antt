@@ -17,10 +17,10 @@ use Rattle.crsm_spec.specs.World.{Site, World as Cluster, Moment, begin, first_l
 use Rattle.crsm_spec.specs.Moments.{begun_at, with_room, start_at}
 use Rattle.crsm_world.specs.declared.world.World.{World}
 use Rattle.crsm_world.specs.Placed.{SitesStand, roomed}
-use Rattle.crsm_post.specs.Mailed.{PostStands}
-use Rattle.crsm_world.specs.Standing.{Holds, Leads}
+use Rattle.crsm_network.specs.Mailed.{PostStands}
+use Rattle.crsm_world.specs.World.{Holds, Leads}
 use Rattle.crsm_world.specs.Starting.{CanStart}
-use Rattle.crsm_post.proofs.Numbers.{range_more}
+use Rattle.crsm_network.proofs.Numbers.{range_more}
 use Rattle.crsm_world.proofs.Turns.{log_here}
 use Rattle.crsm_world.proofs.Booting.{room_is, log_down}
 

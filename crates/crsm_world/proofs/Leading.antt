@@ -7,16 +7,16 @@ use Rattle.crsm_spec.specs.Node.{Turn, turn}
 use Rattle.crsm_spec.specs.World.{Site, World as Cluster, Moment, Ending, whole_step, cut_step, lost_step, then_down, after_step, down, with_site, log_of}
 use Rattle.crsm_spec.specs.Moments.{silent, cut_at, begun_at, world_after, lines_of}
 use Rattle.crsm_world.specs.Several.{together}
-use Rattle.crsm_site.specs.Outcomes.{is_cut_kept}
+use Rattle.crsm_machine.specs.Outcomes.{is_cut_kept}
 use Rattle.crsm_world.specs.declared.world.World.{World}
 use Rattle.crsm_world.specs.Placed.{SitesStand}
-use Rattle.crsm_post.specs.Mailed.{PostStands}
-use Rattle.crsm_post.specs.declared.Post.{Post}
+use Rattle.crsm_network.specs.Mailed.{PostStands}
+use Rattle.crsm_network.specs.declared.Post.{Post}
 use Rattle.crsm_world.specs.declared.sites.Sites.{Sites}
 use Rattle.crsm_world.specs.declared.ending.Leaving.{Leaving}
 use Rattle.crsm_world.specs.Leaving.{LetsOut, Leaves}
 use Rattle.crsm_world.specs.Turning.{turn_at}
-use Rattle.crsm_world.specs.Standing.{Leads, LeadsOn}
+use Rattle.crsm_world.specs.World.{Leads, LeadsOn}
 use Rattle.crsm_world.proofs.Turns.{IsUp, turn_here, log_here}
 
 -- ---- behind other lines

@@ -8,9 +8,9 @@ use Rattle.crsm_output.specs.Made.{to_replica, to_address, line_of}
 use Rattle.crsm_spec.specs.Types.{Datagram, Line}
 use Rattle.crsm_spec.specs.Draft.{Draft, Reply}
 use Rattle.crsm_spec.specs.World.{Mail, body_size, mail_of, mail_size, send_lines}
-use Rattle.crsm_post.specs.declared.Post.{Post}
+use Rattle.crsm_network.specs.declared.Post.{Post}
 use Rattle.crsm_world.specs.Leaving.{LetsOut}
-use Rattle.crsm_post.specs.Mailed.{PostStands, sent_to, to_mail, sent_of}
+use Rattle.crsm_network.specs.Mailed.{PostStands, sent_to, to_mail, sent_of}
 
 -- ---- what is among what is sent
 
@@ -30,7 +30,7 @@ sent_taken zero xs ys = refl
 sent_taken (suc n) [] ys = ap sent_of (take-map to_address (suc n) ys) ∙ none_of (take (suc n) ys)
 sent_taken (suc n) (x ∷ xs) ys = ap (λ zs. x ∷ zs) (sent_taken n xs ys)
 
--- ---- fronts
+-- ---- prefixes
 
 take_same : {X : Type 0} (xs : List X) (a b : ℕ) → min a (length xs) ≡ min b (length xs) → take a xs ≡ take b xs
 take_same [] zero zero e = refl
@@ -67,7 +67,7 @@ lets_out before mail bytes k count x sends told letters own out shown size post 
     ap length s ∙ length-append (map to_replica x.sends) (map to_address x.replies) ∙ ap (λ n. n + length (map to_address x.replies)) (length-map x.sends to_replica) ∙ ap (λ n. length x.sends + n) (length-map x.replies to_address) in
     let told_long : length told ≡ length own_lines + length x.replies = ap length t ∙ length-append own_lines (map line_of x.replies) ∙ ap (λ n. length own_lines + n) (length-map x.replies line_of) in
     let own_is : own ≡ length own_lines = omega arith in
-    let front : take own told ≡ own_lines = ap (λ n. take n told) own_is ∙ ap (take (length own_lines)) t ∙ take-append_seam own_lines (map line_of x.replies) in
+    let prefix : take own told ≡ own_lines = ap (λ n. take n told) own_is ∙ ap (take (length own_lines)) t ∙ take-append_seam own_lines (map line_of x.replies) in
     let rest : answers ≡ map line_of x.replies = g ∙ ap (λ n. drop n told) own_is ∙ ap (drop (length own_lines)) t ∙ drop_seam own_lines (map line_of x.replies) in
     let rest_long : length answers ≡ length x.replies = ap length rest ∙ length-map x.replies line_of in
     let sent_is : sent_of (take out sends) ≡ take count x.sends =
@@ -77,7 +77,7 @@ lets_out before mail bytes k count x sends told letters own out shown size post 
     record {
       stands = subst (λ (xs : List (ℕ × Datagram)). PostStands post (mail ++ map (mail_of k) xs) (bytes + body_size x.batch + mail_size xs)) sent_is
           (subst (λ (n : ℕ). PostStands post (mail ++ map (mail_of k) (sent_of (take out sends))) (bytes + n + mail_size (sent_of (take out sends)))) z h);
-      told = d ∙ ap (λ ls. ls ++ take shown answers) (b ∙ ap (λ ls. ls ++ send_lines k (length mail) (sent_of (take out sends))) (a ∙ ap (λ ls. before ++ ls) front))
+      told = d ∙ ap (λ ls. ls ++ take shown answers) (b ∙ ap (λ ls. ls ++ send_lines k (length mail) (sent_of (take out sends))) (a ∙ ap (λ ls. before ++ ls) prefix))
           ∙ ap (λ ls. ls ++ take shown answers) (append_assoc before own_lines (send_lines k (length mail) (sent_of (take out sends))))
           ∙ append_assoc before (own_lines ++ send_lines k (length mail) (sent_of (take out sends))) (take shown answers)
           ∙ ap (λ xs. before ++ ((own_lines ++ send_lines k (length mail) xs) ++ take shown answers)) sent_is

@@ -7,7 +7,7 @@ use Rattle.std.specs.Vec.{with_item}
 use Rattle.std.proofs.lemmas.Option.{slice_get_past, slice_get-get_or}
 use Rattle.std.proofs.lemmas.List.{length-set, length-append}
 use Rattle.crsm_spec.specs.World.{Site as Place}
-use Rattle.crsm_site.specs.declared.Site.{Site}
+use Rattle.crsm_machine.specs.declared.Site.{Site}
 use Rattle.std.specs.List.{enumerate_from}
 use Rattle.std.proofs.lemmas.List.{take_more, map-append, take_all}
 use Rattle.std.proofs.lemmas.List.FromFn.{length-enumerate_from, get_or-enumerate_from}
@@ -21,13 +21,13 @@ use Rattle.crsm_spec.specs.Replica.{Replica}
 use Rattle.crsm_spec.specs.Draft.{Draft}
 use Rattle.crsm_spec.specs.Step.{boot}
 use Rattle.crsm_spec.specs.World.{is_up, final_line}
-use Rattle.crsm_site.specs.declared.Step.{Step}
-use Rattle.crsm_site.specs.declared.Boot.{Boot}
-use Rattle.crsm_site.specs.Outcomes.{Makes, Boots, IsCut}
-use Rattle.crsm_site.specs.Standing.{SiteStands, SitePends}
+use Rattle.crsm_machine.specs.declared.Step.{Step}
+use Rattle.crsm_machine.specs.declared.Boot.{Boot}
+use Rattle.crsm_machine.specs.Outcomes.{Makes, Boots, IsCut}
+use Rattle.crsm_machine.specs.Machine.{SiteStands, SitePends}
 use Rattle.crsm_world.specs.declared.sites.Sites.{Sites}
 use Rattle.crsm_world.specs.Placed.{EachIs, IsPlace, SitesStand, IsPending, IsPlaceBeside, SitesPend, SitesCut, SitesBoot, is_up_in, up_in, roomed}
-use Rattle.crsm_post.proofs.Gets.{got}
+use Rattle.crsm_network.proofs.Gets.{got}
 
 pub each_length : (P : ℕ → Site → Place → Type 0) (k : ℕ) (ss : List Site) (ps : List Place) → EachIs P k ss ps → length ss ≡ length ps
 each_length P k [] [] h = refl

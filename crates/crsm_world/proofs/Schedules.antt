@@ -172,7 +172,7 @@ all_append : {A : Type 0} (P : A → Type 0) (xs ys : List A) → AllByRecursion
 all_append P [] ys p q = q
 all_append P (x ∷ xs) ys p q = (p.0, all_append P xs ys p.1 q)
 
--- the element behind a front
+-- the element behind a prefix
 get_behind : {A : Type 0} (xs : List A) (y : A) (ys : List A) → slice_get (xs ++ y ∷ ys) (length xs) ≡ Some y
 get_behind [] y ys = refl
 get_behind (x ∷ xs) y ys = get_behind xs y ys
@@ -181,24 +181,24 @@ act_on-event : (s : Schedule) (i : ℕ) → act_on s (suc (suc i)) ≡ slice_get
 unfolding act_on
 act_on-event s i = refl
 
-acts_split : (s : Schedule) (front : List Event) (e : Event) (es : List Event) → s.events ≡ front ++ e ∷ es → acts_of s ≡ map act_of front ++ act_of e ∷ map act_of es
+acts_split : (s : Schedule) (prefix : List Event) (e : Event) (es : List Event) → s.events ≡ prefix ++ e ∷ es → acts_of s ≡ map act_of prefix ++ act_of e ∷ map act_of es
 unfolding acts_of
-acts_split s front e es whole = ap (λ xs. map act_of xs) whole ∙ map-append act_of front (e ∷ es)
+acts_split s prefix e es whole = ap (λ xs. map act_of xs) whole ∙ map-append act_of prefix (e ∷ es)
 
-numbered_from : (s : Schedule) (w : World) (front es : List Event) (at : ℕ) → at ≡ length front + 2 → s.events ≡ front ++ es → AllByRecursion (IsNumbered s) (shown_from w at es)
+numbered_from : (s : Schedule) (w : World) (prefix es : List Event) (at : ℕ) → at ≡ length prefix + 2 → s.events ≡ prefix ++ es → AllByRecursion (IsNumbered s) (shown_from w at es)
 unfolding shown_from
-numbered_from s w front [] at is whole = tt
-numbered_from s w front (e ∷ es) at is whole =
-    let acts : acts_of s ≡ map act_of front ++ act_of e ∷ map act_of es = acts_split s front e es whole in
-    let place : length (map act_of front) ≡ length front = length-map front act_of in
-    let behind : at ≡ suc (suc (length front)) = omega (arith, is) in
+numbered_from s w prefix [] at is whole = tt
+numbered_from s w prefix (e ∷ es) at is whole =
+    let acts : acts_of s ≡ map act_of prefix ++ act_of e ∷ map act_of es = acts_split s prefix e es whole in
+    let place : length (map act_of prefix) ≡ length prefix = length-map prefix act_of in
+    let behind : at ≡ suc (suc (length prefix)) = omega (arith, is) in
     let here : act_on s at ≡ Some (act_of e) =
-    ap (λ n. act_on s n) behind ∙ act_on-event s (length front) ∙ ap (λ xs. slice_get xs (length front)) acts
-    ∙ ap (λ n. slice_get (map act_of front ++ act_of e ∷ map act_of es) n) (sym place) ∙ get_behind (map act_of front) (act_of e) (map act_of es) in
-    let more : length (front ++ e ∷ []) ≡ length front + 1 = length-append front (e ∷ []) in
+    ap (λ n. act_on s n) behind ∙ act_on-event s (length prefix) ∙ ap (λ xs. slice_get xs (length prefix)) acts
+    ∙ ap (λ n. slice_get (map act_of prefix ++ act_of e ∷ map act_of es) n) (sym place) ∙ get_behind (map act_of prefix) (act_of e) (map act_of es) in
+    let more : length (prefix ++ e ∷ []) ≡ length prefix + 1 = length-append prefix (e ∷ []) in
     all_append (IsNumbered s) (map (shown_by at (Some (act_of e))) (act w (act_of e)).lines) (shown_from (act w (act_of e)).after (at + 1) es)
     (numbered_lines s at (Some (act_of e)) (act w (act_of e)).lines (sym here))
-    (numbered_from s (act w (act_of e)).after (front ++ e ∷ []) es (at + 1) (omega (arith, is, more)) (whole ∙ sym (append_assoc front (e ∷ []) es)))
+    (numbered_from s (act w (act_of e)).after (prefix ++ e ∷ []) es (at + 1) (omega (arith, is, more)) (whole ∙ sym (append_assoc prefix (e ∷ []) es)))
 
 pub shows_all : (s : Schedule) → ShowsAll s
 unfolding shown seen act_on acts_of

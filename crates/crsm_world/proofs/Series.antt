@@ -9,9 +9,9 @@ use Rattle.crsm_spec.specs.Replica.{Replica}
 use Rattle.crsm_spec.specs.Draft.{Draft, begun}
 use Rattle.crsm_spec.specs.Node.{Turn, turn, input_of}
 use Rattle.crsm_base.proofs.DatagramLaws.{datagram_of-bytes}
-use Rattle.crsm_site.specs.declared.Step.{Step}
-use Rattle.crsm_site.specs.Outcomes.{Makes}
-use Rattle.crsm_post.specs.declared.Letter.{Letter}
+use Rattle.crsm_machine.specs.declared.Step.{Step}
+use Rattle.crsm_machine.specs.Outcomes.{Makes}
+use Rattle.crsm_network.specs.declared.Letter.{Letter}
 use Rattle.crsm_world.specs.Leaving.{LetsOut}
 use Rattle.crsm_spec.specs.Step.{Input, step}
 use Rattle.crsm_spec.specs.Acts.{Single}
@@ -19,9 +19,9 @@ use Rattle.crsm_spec.specs.World.{Site, Mail, World as Cluster, Moment, is_full,
 use Rattle.crsm_spec.specs.Moments.{single, begun_at, come, step_at, step_at_site, use_up, go_each, go_all, world_after, lines_of}
 use Rattle.crsm_world.specs.declared.world.World.{World}
 use Rattle.crsm_world.specs.Placed.{SitesPend}
-use Rattle.crsm_post.specs.Mailed.{IsLetter, PostStands, used_up, receiver_of}
+use Rattle.crsm_network.specs.Mailed.{IsLetter, PostStands, used_up, receiver_of}
 use Rattle.crsm_world.specs.Several.{IsFor, AreFor, together, each_gone, all_gone}
-use Rattle.crsm_world.specs.Standing.{Holds, HoldsBeside, Leads, LeadsOn, LeadsBeside}
+use Rattle.crsm_world.specs.World.{Holds, HoldsBeside, Leads, LeadsOn, LeadsBeside}
 use Rattle.crsm_world.proofs.Turns.{get_set}
 
 -- the delivery of datagram i

@@ -12,9 +12,9 @@ use Rattle.crsm_spec.specs.Step.{Input, step}
 use Rattle.crsm_spec.specs.Node.{Turn, turn, input_of}
 use Rattle.crsm_spec.specs.World.{Site, Mail, World, Ending, is_up, log_of, log_at}
 use Rattle.crsm_spec.specs.Moments.{silent, step_at, step_at_site, junk_at, come, use_up}
-use Rattle.crsm_post.specs.declared.Letter.{Letter}
+use Rattle.crsm_network.specs.declared.Letter.{Letter}
 use Rattle.crsm_world.specs.Placed.{is_up_in, up_in}
-use Rattle.crsm_post.specs.Mailed.{IsLetter, used_up}
+use Rattle.crsm_network.specs.Mailed.{IsLetter, used_up}
 use Rattle.crsm_world.specs.Turning.{turn_at, turn_at_site}
 
 -- ---- a replica that is up, or not

@@ -1,14 +1,14 @@
 -- What comes of a replica where something comes to it, and what of that is let out.
 use Rattle.std.specs.Prelude.{◌≡◌, ◌+◌, ℕ, List, ◌++◌, length, map, Some, slice_get, slice_set}
 use Rattle.std.specs.List.{AllByRecursion}
-use Rattle.crsm_core.specs.Standing.{FitsSent}
+use Rattle.crsm_core.specs.Core.{FitsSent}
 use Rattle.crsm_spec.specs.Types.{Datagram, Line}
 use Rattle.crsm_spec.specs.Draft.{Draft, Reply}
 use Rattle.crsm_spec.specs.World.{Mail, Site, World as Cluster, Moment, body_size, mail_of, mail_size, send_lines, whole_step, cut_step, down, log_of}
 use Rattle.crsm_spec.specs.Moments.{silent}
-use Rattle.crsm_post.specs.declared.Post.{Post}
-use Rattle.crsm_post.specs.Mailed.{PostStands}
-use Rattle.crsm_site.specs.Outcomes.{Makes}
+use Rattle.crsm_network.specs.declared.Post.{Post}
+use Rattle.crsm_network.specs.Mailed.{PostStands}
+use Rattle.crsm_machine.specs.Outcomes.{Makes}
 use Rattle.crsm_world.specs.declared.ending.Leaving.{Leaving}
 use Rattle.crsm_world.specs.declared.ending.Leaving.TheVariants as leaving
 use Rattle.crsm_world.specs.declared.sites.Sites.{Sites}

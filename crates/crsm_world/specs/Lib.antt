@@ -5,5 +5,5 @@ pub mod Turning
 pub mod Several
 pub mod Starting
 pub mod Refusing
-pub mod Standing
+pub mod World
 pub mod Schedule

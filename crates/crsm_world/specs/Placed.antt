@@ -6,11 +6,11 @@ use Rattle.crsm_spec.specs.Log.{Log}
 use Rattle.crsm_spec.specs.Replica.{Replica}
 use Rattle.crsm_spec.specs.Draft.{Draft}
 use Rattle.crsm_spec.specs.Step.{boot}
-use Rattle.crsm_site.specs.declared.Site.{Site}
-use Rattle.crsm_site.specs.declared.Step.{Step}
-use Rattle.crsm_site.specs.declared.Boot.{Boot}
-use Rattle.crsm_site.specs.Outcomes.{Makes, Boots, is_cut_kept, spec_at}
-use Rattle.crsm_site.specs.Standing.{SiteStands, SitePends}
+use Rattle.crsm_machine.specs.declared.Site.{Site}
+use Rattle.crsm_machine.specs.declared.Step.{Step}
+use Rattle.crsm_machine.specs.declared.Boot.{Boot}
+use Rattle.crsm_machine.specs.Outcomes.{Makes, Boots, is_cut_kept, spec_at}
+use Rattle.crsm_machine.specs.Machine.{SiteStands, SitePends}
 use Rattle.crsm_world.specs.declared.sites.Sites.{Sites}
 
 -- each site is held as this says, by number from k

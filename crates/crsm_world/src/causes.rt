@@ -2,7 +2,7 @@
 
 ghost use Rattle.std.specs.Prelude.{◌≡◌, [], ◌∷◌, ◌==◌, not, true, false, is_some, ℕ};
 ghost use Rattle.std.specs.List.{list_any};
-ghost use Rattle.crsm_post.specs.Mailed.{receiver_or};
+ghost use Rattle.crsm_network.specs.Mailed.{receiver_or};
 ghost use Rattle.crsm_spec.specs.Possible as possible;
 ghost use Rattle.crsm_spec.specs.World as on_paper;
 ghost use Rattle.crsm_spec.specs.Log.{spec};
@@ -10,7 +10,7 @@ ghost use Rattle.crsm_base.specs.MessageReading.{datagram_of};
 ghost use Rattle.crsm_spec.specs.Acts.{Act, Single as OneStep, Bad as Cause};
 ghost use Rattle.crsm_world.specs.Doing.{act_of, single_of};
 ghost use Rattle.crsm_world.specs.Refusing.{Answers};
-ghost use Rattle.crsm_world.specs.Standing.{Holds};
+ghost use Rattle.crsm_world.specs.World.{Holds};
 
 use crate::bad::Bad;
 use crate::replicas::{are_too_few, is_none, one_is_past};

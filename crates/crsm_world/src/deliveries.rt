@@ -1,7 +1,7 @@
 //! What comes of an event.
 
 ghost use Rattle.std.specs.Prelude.{◌≡◌, ◌<◌, None, Some, ℕ, fold, drop, length, slice_get, IfOk, OnOk};
-ghost use Rattle.crsm_site.specs.Arriving.{turn_of, IsShort};
+ghost use Rattle.crsm_machine.specs.Arriving.{turn_of, IsShort};
 ghost use Rattle.crsm_base.specs.Spelling.{FitsCommand};
 ghost use Rattle.crsm_schedule.specs.Grammar.{FitsSingle};
 ghost use Rattle.crsm_spec.specs.Acts.{Single as OneStep};
@@ -12,15 +12,15 @@ ghost use Rattle.crsm_spec.specs.World as on_paper;
 ghost use Rattle.crsm_base.specs.declared.Datagram.{Datagram as Message};
 ghost use Rattle.crsm_base.specs.Messages.{datagram_bytes};
 ghost use Rattle.crsm_world.specs.Doing.{single_of};
-ghost use Rattle.crsm_world.specs.Standing.{Holds, Leads, LeadsOn};
+ghost use Rattle.crsm_world.specs.World.{Holds, Leads, LeadsOn};
 ghost use Rattle.crsm_world.specs.Turning.{ending_of, FitsEnding, IsGenuine, turn_at};
 
 use crate::ending::Ending;
 use crate::outgoing::leave;
 use crate::world::World;
 use crsm_base::{Bytes, Command, Datagram, Lines, MAX_DATAGRAM_BYTES, NoMemory};
+use crsm_machine::Coming;
 use crsm_schedule::Single;
-use crsm_site::Coming;
 use crsm_wire::write_datagram;
 
 impl World {

@@ -7,7 +7,7 @@ ghost use Rattle.crsm_spec.specs.Acts.{Act};
 ghost use Rattle.crsm_spec.specs.Possible.{possible};
 ghost use Rattle.crsm_spec.specs.World as on_paper;
 ghost use Rattle.crsm_world.specs.Doing.{act_of};
-ghost use Rattle.crsm_world.specs.Standing.{Holds, Leads};
+ghost use Rattle.crsm_world.specs.World.{Holds, Leads};
 ghost use Rattle.crsm_world.specs.Starting.{CanStart};
 
 use crate::ending::{Ending, Stop};

@@ -6,14 +6,14 @@ ghost use Rattle.crsm_spec.specs.Acts.{Single as OneStep};
 ghost use Rattle.crsm_spec.specs.Moments as moments;
 ghost use Rattle.crsm_spec.specs.Replica.{Replica};
 ghost use Rattle.crsm_spec.specs.World as on_paper;
-ghost use Rattle.crsm_world.specs.Standing.{Holds, HoldsBeside, Leads, LeadsBeside};
+ghost use Rattle.crsm_world.specs.World.{Holds, HoldsBeside, Leads, LeadsBeside};
 ghost use Rattle.crsm_world.specs.Several.{AreFor, IsFor, each_gone, all_gone};
 
 use crate::ending::Ending;
 use crate::outgoing::let_all_out;
 use crate::world::World;
 use crsm_base::{Lines, MAX_DATAGRAM_BYTES, NoMemory};
-use crsm_site::{Coming, sites_pend_nothing};
+use crsm_machine::{Coming, sites_pend_nothing};
 
 impl World {
     /// Delivers these in their order, each as a moment of its own, up to where the world is full.

@@ -2,20 +2,20 @@
 
 ghost use Rattle.std.specs.Prelude.{◌≡◌, ◌≤◌, ◌-◌, ◌++◌, ℕ, List, drop, length, take, OnOk};
 ghost use Rattle.std.specs.List.{AllByRecursion};
-ghost use Rattle.crsm_core.specs.Standing.{FitsSent};
-ghost use Rattle.crsm_site.specs.Outcomes.{Makes};
+ghost use Rattle.crsm_core.specs.Core.{FitsSent};
+ghost use Rattle.crsm_machine.specs.Outcomes.{Makes};
 ghost use Rattle.crsm_spec.specs.Draft.{Draft};
 ghost use Rattle.crsm_spec.specs.World as on_paper;
 ghost use Rattle.crsm_world.specs.Leaving.{LetsOut, Leaves, FitsLeaving};
-ghost use Rattle.crsm_world.specs.Standing.{LeadsOn};
+ghost use Rattle.crsm_world.specs.World.{LeadsOn};
 ghost use Rattle.crsm_world.specs.declared.sites.Sites.{Sites};
-ghost use Rattle.crsm_post.specs.Mailed.{PostStands};
+ghost use Rattle.crsm_network.specs.Mailed.{PostStands};
 
 use crate::ending::Leaving;
 use crate::lines::{add, add_first};
 use crsm_base::{Line, Lines, NoMemory};
-use crsm_post::{Post, letters_in};
-use crsm_site::Step;
+use crsm_machine::Step;
+use crsm_network::{Post, letters_in};
 use std::alloc::Global;
 
 /// A step of replica `k` is kept, and so many of its sends and replies go out. Its own lines come first, then those

@@ -2,20 +2,20 @@
 
 ghost use Rattle.std.specs.Prelude.{◌≡◌, ◌≤◌, ◌<◌, [], ℕ, List, length, map, Some, None, slice_get, slice_set, IfOk, IfSome, IsTrue, MatchOption, OnOk};
 ghost use Rattle.std.specs.List.{AllByRecursion, enumerate_from};
-ghost use Rattle.crsm_core.specs.Standing.{FitsSent};
+ghost use Rattle.crsm_core.specs.Core.{FitsSent};
 ghost use Rattle.crsm_spec.specs.Log.{Log};
 ghost use Rattle.crsm_spec.specs.Node.{turn};
 ghost use Rattle.crsm_spec.specs.Replica.{Replica};
 ghost use Rattle.crsm_spec.specs.World as on_paper;
-ghost use Rattle.crsm_site.specs.Arriving.{turn_of, IsShort};
-ghost use Rattle.crsm_site.specs.Outcomes.{Makes};
-ghost use Rattle.crsm_site.specs.Standing.{SiteStands};
+ghost use Rattle.crsm_machine.specs.Arriving.{turn_of, IsShort};
+ghost use Rattle.crsm_machine.specs.Outcomes.{Makes};
+ghost use Rattle.crsm_machine.specs.Machine.{SiteStands};
 ghost use Rattle.crsm_world.specs.Placed.{SitesStand, SitesPend, SitesCut, SitesBoot, is_up_in, up_in, roomed, spec_in};
 
 use crate::ending::Stop;
 use crate::founders::Founders;
 use crsm_base::{Line, Lines, MAX_REPLICAS, Members, NoMemory};
-use crsm_site::{Boot, Coming, Site, Step};
+use crsm_machine::{Boot, Coming, Site, Step};
 use std::alloc::Global;
 
 /// The place of each replica, by number.

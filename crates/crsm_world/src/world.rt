@@ -3,20 +3,20 @@
 ghost use Rattle.std.specs.Prelude.{◌≡◌, ◌≢◌, ◌≤◌, ◌+◌, ◌<◌, None, IfOk, IfErr, IsErrOf, IsErr, IfSome, Some, [], slice_get, is_some};
 ghost use Rattle.crsm_disk.specs.Memory.{meaning_of};
 ghost use Rattle.crsm_schedule.specs.Grammar.{FitsEvent};
-ghost use Rattle.crsm_shell.specs.Standing.{ShellStands};
+ghost use Rattle.crsm_shell.specs.Shell.{ShellStands};
 ghost use Rattle.crsm_shell.specs.Words.{disk_of};
 ghost use Rattle.crsm_spec.specs.Moments.{act};
 ghost use Rattle.crsm_spec.specs.Possible.{possible};
 ghost use Rattle.crsm_spec.specs.Replica.{Replica};
 ghost use Rattle.crsm_spec.specs.World as on_paper;
 ghost use Rattle.crsm_world.specs.Doing.{act_of, bad_of};
-ghost use Rattle.crsm_world.specs.Standing.{Holds, StandsFor, IsSpent};
+ghost use Rattle.crsm_world.specs.World.{Holds, StandsFor, IsSpent};
 
 use crate::bad::Bad;
 use crate::sites::Sites;
 use crsm_base::{Lines, NoMemory};
 use crsm_disk::MemDisk;
-use crsm_post::Post;
+use crsm_network::Post;
 use crsm_schedule::Event;
 use crsm_shell::Shell;
 use std::alloc::Global;
@@ -59,7 +59,7 @@ impl World {
     }
 
     /// Does an event, and gives its lines. After a cause other than memory the world is as before.
-    #[tactic(auto, unfolding(crate::specs::Standing::StandsFor, crate::specs::Standing::IsSpent))]
+    #[tactic(auto, unfolding(crate::specs::World::StandsFor, crate::specs::World::IsSpent))]
     pub fn step(&mut self, event: &Event) -> Result<Lines, Bad>
         requires { FitsEvent event.now }
         ensures possible { (v : on_paper.World) → StandsFor self.old v → IfOk result (λ lines. possible v (act_of event.now) ≡ None) }
@@ -87,7 +87,7 @@ impl World {
     }
 
     /// Takes back the lines of a step, so that the next step uses their room.
-    #[tactic(auto, unfolding(crate::specs::Standing::StandsFor, crate::specs::Standing::IsSpent))]
+    #[tactic(auto, unfolding(crate::specs::World::StandsFor, crate::specs::World::IsSpent))]
     pub fn take_back(&mut self, lines: Lines)
         ensures stands { (v : on_paper.World) → StandsFor self.old v → StandsFor self.new v }
         ensures stays_spent { IsSpent self.old → IsSpent self.new }
@@ -107,7 +107,7 @@ impl World {
 
     /// The shell of a replica that is up: none where it is down, and where no replica has this number. Its core is that of
     /// the replica, and its disk has the replica's log.
-    #[tactic(auto, unfolding(crate::specs::Standing::StandsFor))]
+    #[tactic(auto, unfolding(crate::specs::World::StandsFor))]
     pub fn shell(&self, replica: u32) -> Option<&Shell<MemDisk>>
         ensures up { (v : on_paper.World) → StandsFor self.now v → is_some result ≡ on_paper.is_up_at v replica }
         ensures stands { IfSome result (λ shell. (v : on_paper.World) (r : Replica) → StandsFor self.now v → slice_get v.sites replica ≡ Some (on_paper.Site.Up r) →
@@ -120,7 +120,7 @@ impl World {
     }
 
     /// The last lines.
-    #[tactic(auto, unfolding(crate::specs::Standing::StandsFor, crate::specs::Standing::IsSpent, crsm_spec::specs::World::finals))]
+    #[tactic(auto, unfolding(crate::specs::World::StandsFor, crate::specs::World::IsSpent, crsm_spec::specs::World::finals))]
     pub fn finals(&self) -> Result<Lines, NoMemory>
         ensures lines { (v : on_paper.World) → StandsFor self.now v → IfOk result (λ lines. lines ≡ on_paper.finals v) }
         ensures spent { IsSpent self.now → IsErr result }

@@ -68,8 +68,8 @@ held_in None b e = absurd (no e)
     no e = cc
 held_in (Some h) b e = (h, refl, ballot_eq_is h.0 b e)
 
-pub no_note : {D : Type 0} (p : Proposing D) → None ≡ Some p → ⊥
-no_note p e = cc
+pub no_coordinator : {D : Type 0} (p : Proposing D) → None ≡ Some p → ⊥
+no_coordinator p e = cc
 
 pub heard_contains : (xs : List ℕ) (r : ℕ) → is_heard xs r ≡ true → Contains xs r
 heard_contains [] r h = absurd (no h)

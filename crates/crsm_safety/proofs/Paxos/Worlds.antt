@@ -11,12 +11,12 @@ use Rattle.crsm_spec.specs.Paxos.PaxosStep.{Promises, Accepts, Proposes}
 use Rattle.crsm_spec.specs.Proposing.{Proposing, start_proposing, value_proposed, is_heard, counts_answer, counts_vote, after_answer, makes_majority}
 use Rattle.crsm_spec.specs.Following.{IsReached, IsUnused, IsUsed, IsOther, Follows, lowest}
 use Rattle.crsm_safety.proofs.Paxos.Instances.{with_cases, with_same}
-use Rattle.crsm_spec.specs.Epochs.{Replica, World, Message, Event, start_world, with_replica, next_ballot, begins, asked, offered, told_note, voted_note, with_note, decided, is_counted, is_held_below, is_held_in, comes, happens, world_after}
+use Rattle.crsm_spec.specs.Epochs.{Replica, World, Message, Event, start_world, with_replica, next_ballot, begins, asked, offered, told_coordinator, voted_coordinator, with_coordinator, decided, is_counted, is_held_below, is_held_in, comes, happens, world_after}
 use Rattle.crsm_spec.specs.Epochs.Message.{Ask, Told, Offer, Voted, Decide}
 use Rattle.crsm_spec.specs.Epochs.Event.{Begin, Comes, Crash}
 use Rattle.crsm_safety.proofs.Paxos.Laws.{Laws}
 use Rattle.crsm_safety.proofs.Paxos.Majority.{nat_eq_is}
-use Rattle.crsm_safety.proofs.Paxos.Basics.{changed, changed_at, changed_cases, either_false, not_false, clash, both, not_true, le_from, held_in, no_note, heard_contains, got, next_above, next_high, held_below, more_promises, more_votes, more_proposals, more_used, in_one, in_two, in_none}
+use Rattle.crsm_safety.proofs.Paxos.Basics.{changed, changed_at, changed_cases, either_false, not_false, clash, both, not_true, le_from, held_in, no_coordinator, heard_contains, got, next_above, next_high, held_below, more_promises, more_votes, more_proposals, more_used, in_one, in_two, in_none}
 
 module _ (D : Type 0) (spec_of : ℕ → List ℕ) (laws : Laws D) where
   -- what a message says holds of its instance
@@ -31,7 +31,7 @@ module _ (D : Type 0) (spec_of : ℕ → List ℕ) (laws : Laws D) where
   abbrev IsBehind : Replica D → ℕ → Ballot → Type 0
   IsBehind x i b = (i < x.known + 1) ⊎ ((i ≡ x.known + 1) × (ballot_lt x.held.promised b ≡ false))
 
-  record HasNote (s : Instance D) (i r : ℕ) (promised : Ballot) (p : Proposing D) : Type 0 where
+  record HasCoordinator (s : Instance D) (i r : ℕ) (promised : Ballot) (p : Proposing D) : Type 0 where
     pub follows : Follows (spec_of i) s p
     pub by : p.ballot.by ≡ r
     pub behind : ballot_lt promised p.ballot ≡ false
@@ -41,15 +41,15 @@ module _ (D : Type 0) (spec_of : ℕ → List ℕ) (laws : Laws D) where
     pub present : (r : ℕ) → (s ((w.replica r).known + 1)).acceptor r ≡ (w.replica r).held
     pub future : (r i : ℕ) → (w.replica r).known + 1 < i → (s i).acceptor r ≡ fresh_acceptance
     pub behind : (i : ℕ) (q : Proposal D) → Contains (s i).proposals q → IsBehind (w.replica q.ballot.by) i q.ballot
-    pub notes : (r : ℕ) (p : Proposing D) → (w.replica r).note ≡ Some p → HasNote (s ((w.replica r).known + 1)) ((w.replica r).known + 1) r (w.replica r).held.promised p
+    pub coordinators : (r : ℕ) (p : Proposing D) → (w.replica r).coordinator ≡ Some p → HasCoordinator (s ((w.replica r).known + 1)) ((w.replica r).known + 1) r (w.replica r).held.promised p
     pub sound : (m : Message D) → Contains w.sent m → IsSound s m
 
   -- ---- a replica changes with no step of its instance
 
-  module _ (w : World D) (s : ℕ → Instance D) (inv : Inv w s) (r : ℕ) (note : Option (Proposing D)) (ms : List (Message D))
-      (noted : (p : Proposing D) → note ≡ Some p → HasNote (s ((w.replica r).known + 1)) ((w.replica r).known + 1) r (w.replica r).held.promised p)
+  module _ (w : World D) (s : ℕ → Instance D) (inv : Inv w s) (r : ℕ) (coordinator : Option (Proposing D)) (ms : List (Message D))
+      (noted : (p : Proposing D) → coordinator ≡ Some p → HasCoordinator (s ((w.replica r).known + 1)) ((w.replica r).known + 1) r (w.replica r).held.promised p)
       (new : (m : Message D) → Contains ms m → IsSound s m) where
-    still : Inv (with_note w r note ms) s
+    still : Inv (with_coordinator w r coordinator ms) s
     unfolding changed
     still = record {
       reached = inv.reached;
@@ -62,22 +62,22 @@ module _ (D : Type 0) (spec_of : ℕ → List ℕ) (laws : Laws D) where
       behind = λ i q c. changed_cases w.replica r _ q.ballot.by (λ x. IsBehind x i q.ballot)
           (λ same. subst (λ z. IsBehind (w.replica z) i q.ballot) same (inv.behind i q c))
           (λ other. inv.behind i q c);
-      notes = λ q p. changed_cases w.replica r _ q (λ x. x.note ≡ Some p → HasNote (s (x.known + 1)) (x.known + 1) q x.held.promised p)
-          (λ same e. subst (λ z. HasNote (s ((w.replica r).known + 1)) ((w.replica r).known + 1) z (w.replica r).held.promised p) (sym same) (noted p e))
-          (λ other. inv.notes q p);
+      coordinators = λ q p. changed_cases w.replica r _ q (λ x. x.coordinator ≡ Some p → HasCoordinator (s (x.known + 1)) (x.known + 1) q x.held.promised p)
+          (λ same e. subst (λ z. HasCoordinator (s ((w.replica r).known + 1)) ((w.replica r).known + 1) z (w.replica r).held.promised p) (sym same) (noted p e))
+          (λ other. inv.coordinators q p);
       sound = λ m c. elim (Contains-append_cases w.sent ms m c) [ inl old ↦ inv.sound m old | inr fresh ↦ new m fresh ];
     }
 
   -- ---- a replica takes a step of its instance
 
-  module _ (w : World D) (s : ℕ → Instance D) (inv : Inv w s) (r : ℕ) (held : Acceptance D) (note : Option (Proposing D)) (ms : List (Message D)) (e : PaxosStep D)
+  module _ (w : World D) (s : ℕ → Instance D) (inv : Inv w s) (r : ℕ) (held : Acceptance D) (coordinator : Option (Proposing D)) (ms : List (Message D)) (e : PaxosStep D)
       (may : MayTake (spec_of ((w.replica r).known + 1)) (s ((w.replica r).known + 1)) e)
       (elsewhere : (q : ℕ) → q ≢ r → (after_step (s ((w.replica r).known + 1)) e).acceptor q ≡ (s ((w.replica r).known + 1)).acceptor q)
       (here : (after_step (s ((w.replica r).known + 1)) e).acceptor r ≡ held)
       (raised : ballot_lt held.promised (w.replica r).held.promised ≡ false)
       (proposed : (q : Proposal D) → Contains (after_step (s ((w.replica r).known + 1)) e).proposals q →
       Contains (s ((w.replica r).known + 1)).proposals q ⊎ ((q.ballot.by ≡ r) × (ballot_lt held.promised q.ballot ≡ false)))
-      (noted : (p : Proposing D) → note ≡ Some p → HasNote (after_step (s ((w.replica r).known + 1)) e) ((w.replica r).known + 1) r held.promised p)
+      (noted : (p : Proposing D) → coordinator ≡ Some p → HasCoordinator (after_step (s ((w.replica r).known + 1)) e) ((w.replica r).known + 1) r held.promised p)
       (others : (p : Proposing D) → p.ballot.by ≢ r → IsOther e p.ballot)
       (new : (m : Message D) → Contains ms m → IsSound (changed s ((w.replica r).known + 1) (after_step (s ((w.replica r).known + 1)) e)) m) where
     at : ℕ
@@ -90,7 +90,7 @@ module _ (D : Type 0) (spec_of : ℕ → List ℕ) (laws : Laws D) where
     s' = changed s at stepped
 
     x' : Replica D
-    x' = record { known = (w.replica r).known; held = held; note = note }
+    x' = record { known = (w.replica r).known; held = held; coordinator = coordinator }
 
     grown : (m : Message D) → IsSound s m → IsSound s' m
     unfolding s' stepped at
@@ -126,15 +126,15 @@ module _ (D : Type 0) (spec_of : ℕ → List ℕ) (laws : Laws D) where
         ])
         (λ other. inv.behind i q c)
 
-    other_note : (q : ℕ) (p : Proposing D) (pr : Ballot) (j : ℕ) → q ≢ r → HasNote (s j) j q pr p → HasNote (s' j) j q pr p
+    other_coordinator : (q : ℕ) (p : Proposing D) (pr : Ballot) (j : ℕ) → q ≢ r → HasCoordinator (s j) j q pr p → HasCoordinator (s' j) j q pr p
     unfolding s' stepped at
-    other_note q p pr j apart n =
-        changed_cases s at stepped j (λ z. HasNote z j q pr p)
-        (λ same. subst (λ k. HasNote (s k) k q pr p → HasNote stepped k q pr p) (sym same)
+    other_coordinator q p pr j apart n =
+        changed_cases s at stepped j (λ z. HasCoordinator z j q pr p)
+        (λ same. subst (λ k. HasCoordinator (s k) k q pr p → HasCoordinator stepped k q pr p) (sym same)
         (λ m. record { follows = laws.others (spec_of at) (s at) p e (others p (λ is. apart (sym m.by ∙ is))) m.follows; by = m.by; behind = m.behind }) n)
         (λ other. n)
 
-    turn : Inv (with_replica w r (record { known = (w.replica r).known; held = held; note = note }) ms) (changed s ((w.replica r).known + 1) (after_step (s ((w.replica r).known + 1)) e))
+    turn : Inv (with_replica w r (record { known = (w.replica r).known; held = held; coordinator = coordinator }) ms) (changed s ((w.replica r).known + 1) (after_step (s ((w.replica r).known + 1)) e))
     unfolding s' stepped at changed x'
     turn = record {
       reached = λ i. changed_cases s at stepped i (λ z. IsReached (spec_of i) z)
@@ -159,9 +159,9 @@ module _ (D : Type 0) (spec_of : ℕ → List ℕ) (laws : Laws D) where
                 (changed_at w.replica r x' (λ x. IsBehind x i q.ballot) (inr (same, own.1)))
           ])
           (λ other c. behind_old i q c);
-      notes = λ q p. changed_cases w.replica r x' q (λ x. x.note ≡ Some p → HasNote (s' (x.known + 1)) (x.known + 1) q x.held.promised p)
-          (λ same is. subst (λ z. HasNote (s' at) at z held.promised p) (sym same) (changed_at s at stepped (λ z. HasNote z at r held.promised p) (noted p is)))
-          (λ apart is. other_note q p (w.replica q).held.promised ((w.replica q).known + 1) apart (inv.notes q p is));
+      coordinators = λ q p. changed_cases w.replica r x' q (λ x. x.coordinator ≡ Some p → HasCoordinator (s' (x.known + 1)) (x.known + 1) q x.held.promised p)
+          (λ same is. subst (λ z. HasCoordinator (s' at) at z held.promised p) (sym same) (changed_at s at stepped (λ z. HasCoordinator z at r held.promised p) (noted p is)))
+          (λ apart is. other_coordinator q p (w.replica q).held.promised ((w.replica q).known + 1) apart (inv.coordinators q p is));
       sound = λ m c. elim (Contains-append_cases w.sent ms m c) [ inl old ↦ grown m (inv.sound m old) | inr fresh ↦ new m fresh ];
     }
 
@@ -175,15 +175,15 @@ module _ (D : Type 0) (spec_of : ℕ → List ℕ) (laws : Laws D) where
     held_is = inv.present r
 
     -- a promise of r, above its promise
-    module _ (b : Ballot) (note : Option (Proposing D)) (ms : List (Message D)) (higher : ballot_lt (w.replica r).held.promised b ≡ true)
-        (noted : (p : Proposing D) → note ≡ Some p → HasNote (after_step (s ((w.replica r).known + 1)) (Promises r b)) ((w.replica r).known + 1) r b p)
+    module _ (b : Ballot) (coordinator : Option (Proposing D)) (ms : List (Message D)) (higher : ballot_lt (w.replica r).held.promised b ≡ true)
+        (noted : (p : Proposing D) → coordinator ≡ Some p → HasCoordinator (after_step (s ((w.replica r).known + 1)) (Promises r b)) ((w.replica r).known + 1) r b p)
         (new : (m : Message D) → Contains ms m → IsSound (changed s ((w.replica r).known + 1) (after_step (s ((w.replica r).known + 1)) (Promises r b))) m) where
-      promise_good : Good (with_replica w r (record { known = (w.replica r).known; held = after_promise (w.replica r).held b; note = note }) ms)
+      promise_good : Good (with_replica w r (record { known = (w.replica r).known; held = after_promise (w.replica r).held b; coordinator = coordinator }) ms)
       unfolding Good
       promise_good =
           let f : ℕ → Acceptance D = (s ((w.replica r).known + 1)).acceptor in (
             changed s ((w.replica r).known + 1) (after_step (s ((w.replica r).known + 1)) (Promises r b)),
-            turn w s inv r (after_promise (w.replica r).held b) note ms (Promises r b)
+            turn w s inv r (after_promise (w.replica r).held b) coordinator ms (Promises r b)
                 (subst (λ z. ballot_lt z.promised b ≡ true) (sym held_is) higher)
                 (λ q apart. with_cases D (λ a. a ≡ f q) f r (after_promise (f r) b) q (λ same. absurd (apart same)) refl)
                 (with_same D (λ a. a ≡ after_promise (w.replica r).held b) f r (after_promise (f r) b) (ap (λ z. after_promise z b) held_is))
@@ -216,18 +216,18 @@ module _ (D : Type 0) (spec_of : ℕ → List ℕ) (laws : Laws D) where
         (λ p e.
         let b : Ballot = next_ballot r (w.replica r) in
         let is : start_proposing b own (length (spec_of ((w.replica r).known + 1))) ≡ p = cc in
-        subst (λ z. HasNote (after_step (s ((w.replica r).known + 1)) (Promises r b)) ((w.replica r).known + 1) r b z) is
+        subst (λ z. HasCoordinator (after_step (s ((w.replica r).known + 1)) (Promises r b)) ((w.replica r).known + 1) r b z) is
         (record { follows = laws.starts (spec_of ((w.replica r).known + 1)) (after_step (s ((w.replica r).known + 1)) (Promises r b)) b own unused_next; by = refl; behind = below-irrefl b }))
         (λ m c. elim (in_two _ _ m c) [
           | inl is ↦ subst (λ z. IsSound (changed s ((w.replica r).known + 1) (after_step (s ((w.replica r).known + 1)) (Promises r (next_ballot r (w.replica r))))) z) is (next_high r (w.replica r))
           | inr is ↦ subst (λ z. IsSound (changed s ((w.replica r).known + 1) (after_step (s ((w.replica r).known + 1)) (Promises r (next_ballot r (w.replica r))))) z) is (told_now (next_ballot r (w.replica r)))
         ])
 
-    -- the note of r after a step that does not propose
-    old_note : (e : PaxosStep D) (held : Acceptance D) → ((p : Proposing D) → IsOther e p.ballot) → ballot_lt held.promised (w.replica r).held.promised ≡ false →
-        (p : Proposing D) → (w.replica r).note ≡ Some p → HasNote (after_step (s ((w.replica r).known + 1)) e) ((w.replica r).known + 1) r held.promised p
-    old_note e held other raised p is =
-        let n = inv.notes r p is in
+    -- the coordinator of r after a step that does not propose
+    old_coordinator : (e : PaxosStep D) (held : Acceptance D) → ((p : Proposing D) → IsOther e p.ballot) → ballot_lt held.promised (w.replica r).held.promised ≡ false →
+        (p : Proposing D) → (w.replica r).coordinator ≡ Some p → HasCoordinator (after_step (s ((w.replica r).known + 1)) e) ((w.replica r).known + 1) r held.promised p
+    old_coordinator e held other raised p is =
+        let n = inv.coordinators r p is in
         record {
           follows = laws.others (spec_of ((w.replica r).known + 1)) (s ((w.replica r).known + 1)) p e (other p) n.follows;
           by = n.by;
@@ -243,8 +243,8 @@ module _ (D : Type 0) (spec_of : ℕ → List ℕ) (laws : Laws D) where
 
         go : (t : Bool) → (not (i == x.known + 1) || ballot_lt b x.held.promised) ≡ t →
             Good (cond t w (cond (ballot_lt x.held.promised b)
-            (with_replica w r (record { known = x.known; held = after_promise x.held b; note = x.note }) (Told i b r x.held.accepted ∷ []))
-            (with_note w r x.note (Told i b r x.held.accepted ∷ []))))
+            (with_replica w r (record { known = x.known; held = after_promise x.held b; coordinator = x.coordinator }) (Told i b r x.held.accepted ∷ []))
+            (with_coordinator w r x.coordinator (Told i b r x.held.accepted ∷ []))))
         go true e = (s, inv)
         go false e = elim_below (ballot_lt x.held.promised b) refl
           where
@@ -253,12 +253,12 @@ module _ (D : Type 0) (spec_of : ℕ → List ℕ) (laws : Laws D) where
 
             elim_below : (t : Bool) → ballot_lt x.held.promised b ≡ t →
                 Good (cond t
-                (with_replica w r (record { known = x.known; held = after_promise x.held b; note = x.note }) (Told i b r x.held.accepted ∷ []))
-                (with_note w r x.note (Told i b r x.held.accepted ∷ [])))
+                (with_replica w r (record { known = x.known; held = after_promise x.held b; coordinator = x.coordinator }) (Told i b r x.held.accepted ∷ []))
+                (with_coordinator w r x.coordinator (Told i b r x.held.accepted ∷ [])))
             elim_below true up =
-                subst (λ j. Good (with_replica w r (record { known = x.known; held = after_promise x.held b; note = x.note }) (Told j b r x.held.accepted ∷ []))) (sym now)
-                (promise_good b x.note (Told (x.known + 1) b r x.held.accepted ∷ []) up
-                (old_note (Promises r b) (after_promise x.held b) (λ p. tt) (below_not_back x.held.promised b up))
+                subst (λ j. Good (with_replica w r (record { known = x.known; held = after_promise x.held b; coordinator = x.coordinator }) (Told j b r x.held.accepted ∷ []))) (sym now)
+                (promise_good b x.coordinator (Told (x.known + 1) b r x.held.accepted ∷ []) up
+                (old_coordinator (Promises r b) (after_promise x.held b) (λ p. tt) (below_not_back x.held.promised b up))
                 (λ m c. subst (λ z. IsSound (changed s (x.known + 1) (after_step (s (x.known + 1)) (Promises r b))) z) (in_one _ m c) (told_now b)))
             elim_below false level =
                 let same : x.held.promised ≡ b = same_from_both x.held.promised b level (either_false _ _ e).1 in
@@ -268,7 +268,7 @@ module _ (D : Type 0) (spec_of : ℕ → List ℕ) (laws : Laws D) where
                 subst (λ z. Contains (s (x.known + 1)).promises (record { ballot = z; answer = record { replica = r; accepted = x.held.accepted } }) ⊎ IsUsed (s (x.known + 1)) z) same
                 (subst (λ a. Contains (s (x.known + 1)).promises (record { ballot = a.promised; answer = record { replica = r; accepted = a.accepted } }) ⊎ IsUsed (s (x.known + 1)) a.promised) held_is again) in (
                   s,
-                  still w s inv r x.note (Told i b r x.held.accepted ∷ []) (inv.notes r)
+                  still w s inv r x.coordinator (Told i b r x.held.accepted ∷ []) (inv.coordinators r)
                       (λ m c. subst (λ z. IsSound s z) (in_one _ m c) (subst (λ j. IsSound s (Told j b r x.held.accepted)) (sym now) told)),
                 )
 
@@ -286,7 +286,7 @@ module _ (D : Type 0) (spec_of : ℕ → List ℕ) (laws : Laws D) where
 
         go : (t : Bool) → (not (i == x.known + 1) || ballot_lt b x.held.promised) ≡ t →
             Good (cond t w (cond (is_held_below x.held.accepted b)
-            (with_replica w r (record { known = x.known; held = after_accept x.held b d; note = x.note }) (Voted i b r ∷ [])) (cond (is_held_in x.held.accepted b) (with_note w r x.note (Voted i b r ∷ [])) w)))
+            (with_replica w r (record { known = x.known; held = after_accept x.held b d; coordinator = x.coordinator }) (Voted i b r ∷ [])) (cond (is_held_in x.held.accepted b) (with_coordinator w r x.coordinator (Voted i b r ∷ [])) w)))
         go true e = (s, inv)
         go false e = by_held (is_held_below x.held.accepted b) refl
           where
@@ -294,10 +294,10 @@ module _ (D : Type 0) (spec_of : ℕ → List ℕ) (laws : Laws D) where
             now = nat_eq_is i (x.known + 1) (not_false _ (either_false _ _ e).0)
 
             by_held : (t : Bool) → is_held_below x.held.accepted b ≡ t →
-                Good (cond t (with_replica w r (record { known = x.known; held = after_accept x.held b d; note = x.note }) (Voted i b r ∷ [])) (cond (is_held_in x.held.accepted b) (with_note w r x.note (Voted i b r ∷ [])) w))
+                Good (cond t (with_replica w r (record { known = x.known; held = after_accept x.held b d; coordinator = x.coordinator }) (Voted i b r ∷ [])) (cond (is_held_in x.held.accepted b) (with_coordinator w r x.coordinator (Voted i b r ∷ [])) w))
             by_held false high = again (is_held_in x.held.accepted b) refl
               where
-                again : (t : Bool) → is_held_in x.held.accepted b ≡ t → Good (cond t (with_note w r x.note (Voted i b r ∷ [])) w)
+                again : (t : Bool) → is_held_in x.held.accepted b ≡ t → Good (cond t (with_coordinator w r x.coordinator (Voted i b r ∷ [])) w)
                 again false other = (s, inv)
                 again true same =
                     let h = held_in x.held.accepted b same in
@@ -305,7 +305,7 @@ module _ (D : Type 0) (spec_of : ℕ → List ℕ) (laws : Laws D) where
                     laws.voted (spec_of (x.known + 1)) (s (x.known + 1)) r (inv.reached (x.known + 1)) h.0 (ap (λ a. a.accepted) held_is ∙ h.1) in
                     let sound : IsSound s (Voted (x.known + 1) b r) = (h.0.1, subst (λ z. Contains (s (x.known + 1)).votes (record { ballot = z; acceptor = r; value = h.0.1 })) h.2 vote) in (
                       s,
-                      still w s inv r x.note (Voted i b r ∷ []) (inv.notes r)
+                      still w s inv r x.coordinator (Voted i b r ∷ []) (inv.coordinators r)
                           (λ m c. subst (λ z. IsSound s z) (in_one _ m c) (subst (λ j. IsSound s (Voted j b r)) (sym now) sound)),
                     )
             by_held true low =
@@ -314,15 +314,15 @@ module _ (D : Type 0) (spec_of : ℕ → List ℕ) (laws : Laws D) where
                   takes = record { not_below = (either_false _ _ e).1; above = held_below x.held.accepted b low };
                   proposed = subst (λ j. Contains (s j).proposals (record { ballot = b; value = d })) now there;
                 } in
-                subst (λ j. Good (with_replica w r (record { known = x.known; held = after_accept x.held b d; note = x.note }) (Voted j b r ∷ []))) (sym now) (
+                subst (λ j. Good (with_replica w r (record { known = x.known; held = after_accept x.held b d; coordinator = x.coordinator }) (Voted j b r ∷ []))) (sym now) (
                   changed s (x.known + 1) (after_step z (Accepts r b d)),
-                  turn w s inv r (after_accept x.held b d) x.note (Voted (x.known + 1) b r ∷ []) (Accepts r b d)
+                  turn w s inv r (after_accept x.held b d) x.coordinator (Voted (x.known + 1) b r ∷ []) (Accepts r b d)
                       (subst (λ a. MayAccept a z.proposals b d) (sym held_is) may)
                       (λ q apart. with_cases D (λ a. a ≡ f q) f r (after_accept (f r) b d) q (λ same. absurd (apart same)) refl)
                       (with_same D (λ a. a ≡ after_accept x.held b d) f r (after_accept (f r) b d) (ap (λ a. after_accept a b d) held_is))
                       (either_false _ _ e).1
                       (λ q c. inl c)
-                      (old_note (Accepts r b d) (after_accept x.held b d) (λ p. tt) (either_false _ _ e).1)
+                      (old_coordinator (Accepts r b d) (after_accept x.held b d) (λ p. tt) (either_false _ _ e).1)
                       (λ p apart. tt)
                       (λ m c. subst (λ y. IsSound (changed s (x.known + 1) (after_step z (Accepts r b d))) y) (in_one _ m c)
                       (d, changed_at s (x.known + 1) (after_step z (Accepts r b d)) (λ y. Contains y.votes (record { ballot = b; acceptor = r; value = d })) (Contains-push z.votes _))),
@@ -330,11 +330,11 @@ module _ (D : Type 0) (spec_of : ℕ → List ℕ) (laws : Laws D) where
 
     -- ---- an answer comes
 
-    same_note : (p q : Proposing D) (z : Instance D) → Some p ≡ Some q → HasNote z ((w.replica r).known + 1) r (w.replica r).held.promised p → HasNote z ((w.replica r).known + 1) r (w.replica r).held.promised q
-    same_note p q z e n = let is : p ≡ q = cc in subst (λ y. HasNote z ((w.replica r).known + 1) r (w.replica r).held.promised y) is n
+    same_coordinator : (p q : Proposing D) (z : Instance D) → Some p ≡ Some q → HasCoordinator z ((w.replica r).known + 1) r (w.replica r).held.promised p → HasCoordinator z ((w.replica r).known + 1) r (w.replica r).held.promised q
+    same_coordinator p q z e n = let is : p ≡ q = cc in subst (λ y. HasCoordinator z ((w.replica r).known + 1) r (w.replica r).held.promised y) is n
 
     module _ (b : Ballot) (from : ℕ) (h : Held D) (sound : IsSound s (Told ((w.replica r).known + 1) b from h)) (member : Contains (spec_of ((w.replica r).known + 1)) from)
-        (p : Proposing D) (n : HasNote (s ((w.replica r).known + 1)) ((w.replica r).known + 1) r (w.replica r).held.promised p) (counts : counts_answer p from b ≡ true) where
+        (p : Proposing D) (n : HasCoordinator (s ((w.replica r).known + 1)) ((w.replica r).known + 1) r (w.replica r).held.promised p) (counts : counts_answer p from b ≡ true) where
       told_open : p.has_proposed ≡ false
       told_open = not_true _ (both _ _ (both _ _ counts).1).0
 
@@ -344,7 +344,7 @@ module _ (D : Type 0) (spec_of : ℕ → List ℕ) (laws : Laws D) where
         | inr used ↦ absurd (n.follows.unused told_open used.0 used.1 (used.2 ∙ ballot_eq_is b p.ballot (both _ _ counts).0))
       ]
 
-      told_waits : nat_le (majority p.size) (length p.heard + 1) ≡ false → Good (with_note w r (Some (after_answer p from h)) [])
+      told_waits : nat_le (majority p.size) (length p.heard + 1) ≡ false → Good (with_coordinator w r (Some (after_answer p from h)) [])
       unfolding Good
       told_waits few =
           let kept : Follows (spec_of ((w.replica r).known + 1)) (s ((w.replica r).known + 1)) (after_answer p from h) =
@@ -353,12 +353,12 @@ module _ (D : Type 0) (spec_of : ℕ → List ℕ) (laws : Laws D) where
           (subst (λ c. (cond c (after_answer p from h) p).has_proposed ≡ p.has_proposed) (sym counts) (few ∙ sym told_open))) in (
             s,
             still w s inv r (Some (after_answer p from h)) []
-                (λ q e. same_note (after_answer p from h) q _ e (record { follows = kept; by = n.by; behind = n.behind }))
+                (λ q e. same_coordinator (after_answer p from h) q _ e (record { follows = kept; by = n.by; behind = n.behind }))
                 (λ m c. absurd (in_none m c)),
           )
 
       told_proposes : nat_le (majority p.size) (length p.heard + 1) ≡ true →
-          Good (with_note w r (Some (after_answer p from h)) (Offer ((w.replica r).known + 1) p.ballot (value_proposed (after_answer p from h)) ∷ []))
+          Good (with_coordinator w r (Some (after_answer p from h)) (Offer ((w.replica r).known + 1) p.ballot (value_proposed (after_answer p from h)) ∷ []))
       unfolding Good
       told_proposes enough =
           let z : Instance D = s ((w.replica r).known + 1) in
@@ -371,26 +371,26 @@ module _ (D : Type 0) (spec_of : ℕ → List ℕ) (laws : Laws D) where
                   | inl old ↦ inl old
                   | inr new ↦ inr (sym (ap (λ y. y.ballot.by) new) ∙ n.by, subst (λ y. ballot_lt (w.replica r).held.promised y.ballot ≡ false) new n.behind)
                 ])
-                (λ q e. same_note (after_answer p from h) q _ e (record { follows = made.3; by = n.by; behind = n.behind }))
+                (λ q e. same_coordinator (after_answer p from h) q _ e (record { follows = made.3; by = n.by; behind = n.behind }))
                 (λ q apart same. apart (sym (ap (λ y. y.by) same) ∙ n.by))
                 (λ m c. subst (λ y. IsSound (changed s ((w.replica r).known + 1) (after_step z (Proposes p.ballot p.own made.0))) y) (in_one _ m c)
                 (changed_at s ((w.replica r).known + 1) (after_step z (Proposes p.ballot p.own made.0))
                 (λ y. Contains y.proposals (record { ballot = p.ballot; value = value_proposed (after_answer p from h) })) (made.3.proposed enough))),
           )
 
-    unchanged_note : (p : Proposing D) → HasNote (s ((w.replica r).known + 1)) ((w.replica r).known + 1) r (w.replica r).held.promised p → Good (with_note w r (Some p) [])
+    unchanged_coordinator : (p : Proposing D) → HasCoordinator (s ((w.replica r).known + 1)) ((w.replica r).known + 1) r (w.replica r).held.promised p → Good (with_coordinator w r (Some p) [])
     unfolding Good
-    unchanged_note p n = (s, still w s inv r (Some p) [] (λ q e. same_note p q _ e n) (λ m c. absurd (in_none m c)))
+    unchanged_coordinator p n = (s, still w s inv r (Some p) [] (λ q e. same_coordinator p q _ e n) (λ m c. absurd (in_none m c)))
 
     good_told : (i : ℕ) (b : Ballot) (from : ℕ) (h : Held D) → IsSound s (Told i b from h) → i ≡ (w.replica r).known + 1 → Contains (spec_of i) from →
-        (note : Option (Proposing D)) → (w.replica r).note ≡ note → Good (told_note w r note i b from h)
+        (coordinator : Option (Proposing D)) → (w.replica r).coordinator ≡ coordinator → Good (told_coordinator w r coordinator i b from h)
     unfolding Good
     good_told i b from h sound now member None is = (s, inv)
     good_told i b from h sound now member (Some p) is =
-        subst (λ j. Good (told_note w r (Some p) j b from h)) (sym now) (go (counts_answer p from b) refl (nat_le (majority p.size) (length p.heard + 1)) refl)
+        subst (λ j. Good (told_coordinator w r (Some p) j b from h)) (sym now) (go (counts_answer p from b) refl (nat_le (majority p.size) (length p.heard + 1)) refl)
       where
-        n : HasNote (s ((w.replica r).known + 1)) ((w.replica r).known + 1) r (w.replica r).held.promised p
-        n = inv.notes r p is
+        n : HasCoordinator (s ((w.replica r).known + 1)) ((w.replica r).known + 1) r (w.replica r).held.promised p
+        n = inv.coordinators r p is
 
         sound' : IsSound s (Told ((w.replica r).known + 1) b from h)
         sound' = subst (λ j. IsSound s (Told j b from h)) now sound
@@ -399,22 +399,22 @@ module _ (D : Type 0) (spec_of : ℕ → List ℕ) (laws : Laws D) where
         member' = subst (λ j. Contains (spec_of j) from) now member
 
         go : (c : Bool) → counts_answer p from b ≡ c → (m : Bool) → nat_le (majority p.size) (length p.heard + 1) ≡ m →
-            Good (with_note w r (Some (cond c (after_answer p from h) p)) (cond (c && m) (Offer ((w.replica r).known + 1) p.ballot (value_proposed (after_answer p from h)) ∷ []) []))
-        go false e m k = unchanged_note p n
+            Good (with_coordinator w r (Some (cond c (after_answer p from h) p)) (cond (c && m) (Offer ((w.replica r).known + 1) p.ballot (value_proposed (after_answer p from h)) ∷ []) []))
+        go false e m k = unchanged_coordinator p n
         go true e true k = told_proposes b from h sound' member' p n e k
         go true e false k = told_waits b from h sound' member' p n e k
 
     -- ---- a vote comes
 
     good_voted : (i : ℕ) (b : Ballot) (from : ℕ) → IsSound s (Voted i b from) → i ≡ (w.replica r).known + 1 → Contains (spec_of i) from →
-        (note : Option (Proposing D)) → (w.replica r).note ≡ note → Good (voted_note w r note i b from)
+        (coordinator : Option (Proposing D)) → (w.replica r).coordinator ≡ coordinator → Good (voted_coordinator w r coordinator i b from)
     unfolding Good
     good_voted i b from sound now member None is = (s, inv)
     good_voted i b from sound now member (Some p) is =
-        subst (λ j. Good (voted_note w r (Some p) j b from)) (sym now) (go (counts_vote p from b) refl (makes_majority p) refl)
+        subst (λ j. Good (voted_coordinator w r (Some p) j b from)) (sym now) (go (counts_vote p from b) refl (makes_majority p) refl)
       where
-        n : HasNote (s ((w.replica r).known + 1)) ((w.replica r).known + 1) r (w.replica r).held.promised p
-        n = inv.notes r p is
+        n : HasCoordinator (s ((w.replica r).known + 1)) ((w.replica r).known + 1) r (w.replica r).held.promised p
+        n = inv.coordinators r p is
 
         cast : IsSound s (Voted ((w.replica r).known + 1) b from)
         cast = subst (λ j. IsSound s (Voted j b from)) now sound
@@ -425,7 +425,7 @@ module _ (D : Type 0) (spec_of : ℕ → List ℕ) (laws : Laws D) where
         more : Proposing D
         more = record p { voters = p.voters ++ from ∷ [] }
 
-        counted : counts_vote p from b ≡ true → HasNote (s ((w.replica r).known + 1)) ((w.replica r).known + 1) r (w.replica r).held.promised more
+        counted : counts_vote p from b ≡ true → HasCoordinator (s ((w.replica r).known + 1)) ((w.replica r).known + 1) r (w.replica r).held.promised more
         counted e = record {
           follows = subst (λ c. Follows (spec_of ((w.replica r).known + 1)) (s ((w.replica r).known + 1)) (cond c more p)) e
               (laws.votes (spec_of ((w.replica r).known + 1)) (s ((w.replica r).known + 1)) p from b cast.0 (inv.reached _) n.follows member' cast.1);
@@ -434,13 +434,13 @@ module _ (D : Type 0) (spec_of : ℕ → List ℕ) (laws : Laws D) where
         }
 
         go : (c : Bool) → counts_vote p from b ≡ c → (m : Bool) → makes_majority p ≡ m →
-            Good (with_note w r (Some (cond c more p)) (cond (c && m) (Decide ((w.replica r).known + 1) (value_proposed p) ∷ []) []))
-        go false e m k = unchanged_note p n
-        go true e false k = unchanged_note more (counted e)
+            Good (with_coordinator w r (Some (cond c more p)) (cond (c && m) (Decide ((w.replica r).known + 1) (value_proposed p) ∷ []) []))
+        go false e m k = unchanged_coordinator p n
+        go true e false k = unchanged_coordinator more (counted e)
         go true e true k = (
           s,
           still w s inv r (Some more) (Decide ((w.replica r).known + 1) (value_proposed p) ∷ [])
-              (λ q is. same_note more q _ is (counted e))
+              (λ q is. same_coordinator more q _ is (counted e))
               (λ m c. subst (λ y. IsSound s y) (in_one _ m c)
               (laws.chooses (spec_of ((w.replica r).known + 1)) (s ((w.replica r).known + 1)) p from b cast.0 (inv.reached _) n.follows member' cast.1 e k)),
         )
@@ -451,7 +451,7 @@ module _ (D : Type 0) (spec_of : ℕ → List ℕ) (laws : Laws D) where
     unfolding Good changed
     good_decided i = go (nat_lt (w.replica r).known i) refl
       where
-        go : (t : Bool) → nat_lt (w.replica r).known i ≡ t → Good (cond t (with_replica w r (record { known = i; held = fresh_acceptance; note = None }) []) w)
+        go : (t : Bool) → nat_lt (w.replica r).known i ≡ t → Good (cond t (with_replica w r (record { known = i; held = fresh_acceptance; coordinator = None }) []) w)
         go false e = (s, inv)
         go true e =
             let late : (w.replica r).known < i = grind (arith, nat_tests) in (
@@ -470,9 +470,9 @@ module _ (D : Type 0) (spec_of : ℕ → List ℕ) (laws : Laws D) where
                       | inr now ↦ inl (let at : j ≡ (w.replica r).known + 1 = now.0 in omega arith)
                     ])
                     (λ other. inv.behind j q c);
-                notes = λ q p. changed_cases w.replica r _ q (λ x. x.note ≡ Some p → HasNote (s (x.known + 1)) (x.known + 1) q x.held.promised p)
-                    (λ same is. absurd (no_note p is))
-                    (λ other. inv.notes q p);
+                coordinators = λ q p. changed_cases w.replica r _ q (λ x. x.coordinator ≡ Some p → HasCoordinator (s (x.known + 1)) (x.known + 1) q x.held.promised p)
+                    (λ same is. absurd (no_coordinator p is))
+                    (λ other. inv.coordinators q p);
                 sound = λ m c. elim (Contains-append_cases w.sent [] m c) [ inl old ↦ inv.sound m old | inr none ↦ absurd (in_none m none) ];
               },
             )
@@ -490,15 +490,15 @@ module _ (D : Type 0) (spec_of : ℕ → List ℕ) (laws : Laws D) where
     good_comes None there = (s, inv)
     good_comes (Some (Ask i b)) there = good_asked i b (inv.sound (Ask i b) (there _ refl))
     good_comes (Some (Told i b from h)) there =
-        good_counted (is_counted spec_of w r i from) i from refl _ (λ now member. good_told i b from h (inv.sound (Told i b from h) (there _ refl)) now member (w.replica r).note refl)
+        good_counted (is_counted spec_of w r i from) i from refl _ (λ now member. good_told i b from h (inv.sound (Told i b from h) (there _ refl)) now member (w.replica r).coordinator refl)
     good_comes (Some (Offer i b d)) there = good_offered i b d (inv.sound (Offer i b d) (there _ refl))
     good_comes (Some (Voted i b from)) there =
-        good_counted (is_counted spec_of w r i from) i from refl _ (λ now member. good_voted i b from (inv.sound (Voted i b from) (there _ refl)) now member (w.replica r).note refl)
+        good_counted (is_counted spec_of w r i from) i from refl _ (λ now member. good_voted i b from (inv.sound (Voted i b from) (there _ refl)) now member (w.replica r).coordinator refl)
     good_comes (Some (Decide i d)) there = good_decided i
 
-    good_crash : Good (with_note w r None [])
+    good_crash : Good (with_coordinator w r None [])
     unfolding Good
-    good_crash = (s, still w s inv r None [] (λ p is. absurd (no_note p is)) (λ m c. absurd (in_none m c)))
+    good_crash = (s, still w s inv r None [] (λ p is. absurd (no_coordinator p is)) (λ m c. absurd (in_none m c)))
 
   good_happens : (w : World D) (e : Event D) → Good w → Good (happens spec_of w e)
   unfolding Good
@@ -519,7 +519,7 @@ module _ (D : Type 0) (spec_of : ℕ → List ℕ) (laws : Laws D) where
       present = λ r. refl;
       future = λ r i late. refl;
       behind = λ i q c. absurd (let h = c.1 in let n : ⊥ = omega arith in n);
-      notes = λ r p is. absurd (no_note p is);
+      coordinators = λ r p is. absurd (no_coordinator p is);
       sound = λ m c. absurd (in_none m c);
     },
   )

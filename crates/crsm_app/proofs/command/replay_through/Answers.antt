@@ -42,14 +42,14 @@ returns-then-total-eq-MAX_INPUT_BYTES-clause-ran g c =
     too_long_at _ _ (g.I.Source.left c.read.new.self) _ _ c.loop-count.replay byte.0 s c.loop-count.invariant.pending
     (subst (λ x. Takes (g.I.Source.left c.loop-count.input) (g.I.Source.left c.read.new.self) x) byte.1 c.in-Ok.ensures.taken)
 
--- what was read stands at the front of the buffer
-front_is : (count : ℕ) (read rest : List ℕ) → count ≤ length read → take count (read ++ rest) ≡ take count read
-front_is count read rest within = take-append-le count read rest within
+-- what was read stands at the prefix of the buffer
+prefix_is : (count : ℕ) (read rest : List ℕ) → count ≤ length read → take count (read ++ rest) ≡ take count read
+prefix_is count read rest within = take-append-le count read rest within
 
 pub returns-in-Err-feed-clause-ran : goal.returns-in-Err-feed-clause-ran
 returns-in-Err-feed-clause-ran g c =
     let text : take c.in-Ok.count (c.read.new.buf ++ drop c.room-want.result c.loop-count.buf) ≡ take c.in-Ok.count c.read.new.buf =
-    front_is c.in-Ok.count c.read.new.buf (drop c.room-want.result c.loop-count.buf) c.in-Ok.ensures.bound in
+    prefix_is c.in-Ok.count c.read.new.buf (drop c.room-want.result c.loop-count.buf) c.in-Ok.ensures.bound in
     let bound = c.in-Ok.ensures.bound in
     let len : length (take c.in-Ok.count c.read.new.buf) ≡ c.in-Ok.count = omega (arith, length-take {A = ℕ}, bound) in
     let within = c.loop-count.invariant.within in
@@ -63,7 +63,7 @@ returns-in-Err-feed-clause-ran g c =
 pub loop-count-preserved : goal.loop-count-preserved
 loop-count-preserved g c =
     let text : take c.in-Ok.count (c.read.new.buf ++ drop c.room-want.result c.loop-count.buf) ≡ take c.in-Ok.count c.read.new.buf =
-    front_is c.in-Ok.count c.read.new.buf (drop c.room-want.result c.loop-count.buf) c.in-Ok.ensures.bound in
+    prefix_is c.in-Ok.count c.read.new.buf (drop c.room-want.result c.loop-count.buf) c.in-Ok.ensures.bound in
     let on = rw text at c.in_default-feed.ensures.ok in
     let bound = c.in-Ok.ensures.bound in
     let len : length (take c.in-Ok.count c.read.new.buf) ≡ c.in-Ok.count = omega (arith, length-take {A = ℕ}, bound) in

@@ -1,5 +1,5 @@
 use Rattle.crsm_spec.specs.Draft.{Draft}
-use Rattle.crsm_desk.specs.Standing.{StandsFor}
+use Rattle.crsm_replica.specs.Replica.{StandsFor}
 use Rattle.crsm_core.proofs.CommitLemmas.{Committed}
 use Rattle.crsm_core.proofs.commits.commits.Given as goal
 

@@ -4,7 +4,7 @@ use Rattle.crsm_spec.specs.Types.{Entry, Rec}
 use Rattle.crsm_spec.specs.Replica.{latest_from}
 use Rattle.crsm_spec.specs.Draft.{Draft, keep, count_vote}
 use Rattle.crsm_spec.specs.Frames.{ack, owe}
-use Rattle.crsm_desk.specs.Standing.{StandsFor}
+use Rattle.crsm_replica.specs.Replica.{StandsFor}
 use Rattle.crsm_core.proofs.Fitting.{if_fits, stands_as}
 use Rattle.crsm_core.proofs.FrameLemmas.{heard_at, me_kept, heard_kept, is_taken, is_not_taken}
 use Rattle.crsm_core.proofs.frames.take_prepare.Goals as goal

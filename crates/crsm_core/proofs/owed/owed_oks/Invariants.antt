@@ -1,5 +1,5 @@
 use Rattle.crsm_spec.specs.Draft.{Draft}
-use Rattle.crsm_desk.specs.Standing.{StandsFor}
+use Rattle.crsm_replica.specs.Replica.{StandsFor}
 use Rattle.crsm_core.proofs.OwedLemmas.{Paid}
 use Rattle.crsm_core.proofs.owed.owed_oks.Given as goal
 

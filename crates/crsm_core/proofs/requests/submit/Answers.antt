@@ -3,7 +3,7 @@ use Rattle.crsm_base.specs.Spelling.{FitsEntry}
 use Rattle.crsm_spec.specs.Types.{Stamp, Entry, Rec}
 use Rattle.crsm_spec.specs.Clients.{await}
 use Rattle.crsm_spec.specs.Draft.{Draft, keep, count_vote}
-use Rattle.crsm_desk.specs.Standing.{StandsFor}
+use Rattle.crsm_replica.specs.Replica.{StandsFor}
 use Rattle.crsm_core.proofs.Fitting.{if_fits, stands_as}
 use Rattle.crsm_core.proofs.RequestLemmas.{is_submitted, is_not_submitted, would_kept, entry_is, entry_fits, stamp_is}
 use Rattle.crsm_core.proofs.requests.submit.Goals as goal

@@ -15,4 +15,4 @@ returns-then-is_active c = λ x s.
 pub returns : goal.returns
 returns c = λ x s.
     let a : active x.replica.log ≡ false = cc (c.is_active.ensures x s) in
-    fitted_as c.renew_and_ask.new.desk x (ask_all (renew x.replica.note x)) (on_tick x) (quiet_tick x a) (c.in_ok-renew_and_ask.ensures x s)
+    fitted_as c.renew_and_ask.new.desk x (ask_all (renew x.replica.coordinator x)) (on_tick x) (quiet_tick x a) (c.in_ok-renew_and_ask.ensures x s)

@@ -10,9 +10,9 @@ loop-at-preserved g c = record {
   later = omega arith;
 }
 
-pub returns-in_err-at-clause-front : goal.returns-in_err-at-clause-front
-returns-in_err-at-clause-front g c = record {
-  front = take c.loop-at.at c.args.bytes.now;
+pub returns-in_err-at-clause-prefix : goal.returns-in_err-at-clause-prefix
+returns-in_err-at-clause-prefix g c = record {
+  prefix = take c.loop-at.at c.args.bytes.now;
   rest = drop c.loop-at.at c.args.bytes.now;
   cut = sym (take-append-drop c.loop-at.at c.args.bytes.now);
   put = rw append-nil at (puts_after _ _ _ _ _ c.loop-at.invariant.put c.in_err-at.ensures.put);

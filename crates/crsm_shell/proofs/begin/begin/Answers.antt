@@ -3,7 +3,7 @@ use Rattle.std.proofs.lemmas.Result.{err_from_is_err_and}
 use Rattle.std.specs.List.{AllByRecursion}
 use Rattle.crsm_base.specs.declared.rec.Rec.{Rec}
 use Rattle.crsm_base.specs.Records.{FitsRec, body_bytes}
-use Rattle.crsm_core.specs.Standing.{CoreStands}
+use Rattle.crsm_core.specs.Core.{CoreStands}
 use Rattle.crsm_core.specs.declared.replica.Core.{Core}
 use Rattle.crsm_spec.specs.Step.{boot}
 use Rattle.crsm_shell.proofs.Boots.{boot_lines}

@@ -1,6 +1,6 @@
 use Rattle.std.proofs.Common.{[]}
 use Rattle.crsm_log.specs.Format.{bodies_of}
-use Rattle.crsm_shell.specs.Standing.{HasLog}
+use Rattle.crsm_shell.specs.Shell.{HasLog}
 use Rattle.crsm_shell.proofs.Records.{kept_once}
 use Rattle.crsm_shell.proofs.laws.logs_are_one.Goals as goal
 

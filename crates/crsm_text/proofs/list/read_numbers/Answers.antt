@@ -3,8 +3,8 @@ use Rattle.crsm_text.specs.Words.{commas}
 use Rattle.crsm_text.proofs.Commas.{Fit, Fit-push, Ahead, ahead_all, ahead_next, ahead_last, commas-cons}
 use Rattle.crsm_text.proofs.list.read_numbers.Goals as goal
 
-pub loop-front-init : goal.loop-front-init
-loop-front-init c =
+pub loop-prefix-init : goal.loop-prefix-init
+loop-prefix-init c =
     let e : c.new-numbers.result.items ≡ [] = c.new-numbers.ensures.items in
     record {
       fit = subst (λ (xs : List ℕ). Fit xs) (sym e) tt;
@@ -12,40 +12,40 @@ loop-front-init c =
       only = λ ns fit some t. subst (λ (xs : List ℕ). Ahead ns xs c.args.word.now) (sym e) (ahead_all ns c.args.word.now fit some t);
     }
 
-pub loop-front-preserved : goal.loop-front-preserved
-loop-front-preserved c =
-    let items : List ℕ = c.loop-front.numbers.items in
+pub loop-prefix-preserved : goal.loop-prefix-preserved
+loop-prefix-preserved c =
+    let items : List ℕ = c.loop-prefix.numbers.items in
     let number : ℕ = c.in-Some-read_number.number in
     let behind : List ℕ = c.in-Some.behind.now in
     let e : c.push.new.self.items ≡ items ++ number ∷ [] = c.in_ok-push.ensures.items in
-    let spelt : c.in-Some.front.now ≡ decimal number = c.in-Some-read_number.ensures.found in
-    let split : c.loop-front.rest.now ≡ c.in-Some.front.now ++ 44 ∷ behind = c.in-Some.ensures.found in
+    let spelt : c.in-Some.prefix.now ≡ decimal number = c.in-Some-read_number.ensures.found in
+    let split : c.loop-prefix.rest.now ≡ c.in-Some.prefix.now ++ 44 ∷ behind = c.in-Some.ensures.found in
     record {
-      fit = subst (λ (xs : List ℕ). Fit xs) (sym e) (Fit-push items number c.loop-front.invariant.fit (omega arith));
+      fit = subst (λ (xs : List ℕ). Fit xs) (sym e) (Fit-push items number c.loop-prefix.invariant.fit (omega arith));
       found = λ ns some t.
-          let left : c.loop-front.rest.now ≡ commas (number ∷ ns) =
+          let left : c.loop-prefix.rest.now ≡ commas (number ∷ ns) =
           split ∙ ap (λ (s : List ℕ). s ++ 44 ∷ behind) spelt ∙ ap (λ (s : List ℕ). decimal number ++ 44 ∷ s) t ∙ sym (commas-cons number ns some) in
-          c.loop-front.invariant.found (number ∷ ns) (omega arith) left
+          c.loop-prefix.invariant.found (number ∷ ns) (omega arith) left
           ∙ ap commas (sym (append_assoc items (number ∷ []) ns) ∙ ap (λ (s : List ℕ). s ++ ns) (sym e));
       only = λ ns fit some t.
-          let a = ahead_next ns items c.loop-front.rest.now c.in-Some.front.now behind (c.loop-front.invariant.only ns fit some t) c.in-Some.ensures.word split in
+          let a = ahead_next ns items c.loop-prefix.rest.now c.in-Some.prefix.now behind (c.loop-prefix.invariant.only ns fit some t) c.in-Some.ensures.word split in
           let same : number ≡ a.0 = cc (c.in-Some-read_number.ensures.only a.0 a.1 a.2) in
           subst (λ (xs : List ℕ). Ahead ns xs behind) (ap (λ (k : ℕ). items ++ k ∷ []) (sym same) ∙ sym e) a.3;
     }
 
 pub returns-in_default-read_number-clause-only : goal.returns-in_default-read_number-clause-only
 returns-in_default-read_number-clause-only c = λ ns fit some t.
-    let a = ahead_next ns c.loop-front.numbers.items c.loop-front.rest.now c.in-Some.front.now c.in-Some.behind.now (c.loop-front.invariant.only ns fit some t) c.in-Some.ensures.word c.in-Some.ensures.found in
+    let a = ahead_next ns c.loop-prefix.numbers.items c.loop-prefix.rest.now c.in-Some.prefix.now c.in-Some.behind.now (c.loop-prefix.invariant.only ns fit some t) c.in-Some.ensures.word c.in-Some.ensures.found in
     cc (c.in_default-read_number.ensures.only a.0 a.1 a.2)
 
 pub returns-in_default-read_number-2-clause-only : goal.returns-in_default-read_number-2-clause-only
 returns-in_default-read_number-2-clause-only c = λ ns fit some t.
-    let a = ahead_last ns c.loop-front.numbers.items c.loop-front.rest.now (c.loop-front.invariant.only ns fit some t) (λ front behind lacks split. c.in_default.ensures.only front behind lacks split) in
+    let a = ahead_last ns c.loop-prefix.numbers.items c.loop-prefix.rest.now (c.loop-prefix.invariant.only ns fit some t) (λ prefix behind lacks split. c.in_default.ensures.only prefix behind lacks split) in
     cc (c.in_default-read_number-2.ensures.only a.0 a.1 a.2)
 
 pub returns-clause-only : goal.returns-clause-only
 returns-clause-only c = λ ns fit some t.
-    let a = ahead_last ns c.loop-front.numbers.items c.loop-front.rest.now (c.loop-front.invariant.only ns fit some t) (λ front behind lacks split. c.in_default.ensures.only front behind lacks split) in
+    let a = ahead_last ns c.loop-prefix.numbers.items c.loop-prefix.rest.now (c.loop-prefix.invariant.only ns fit some t) (λ prefix behind lacks split. c.in_default.ensures.only prefix behind lacks split) in
     let same : c.in-Some-read_number-2.number ≡ a.0 = cc (c.in-Some-read_number-2.ensures.only a.0 a.1 a.2) in
-    let e : c.push-2.new.self.items ≡ c.loop-front.numbers.items ++ c.in-Some-read_number-2.number ∷ [] = c.in_ok-push-2.ensures.items in
-    e ∙ ap (λ (k : ℕ). c.loop-front.numbers.items ++ k ∷ []) same ∙ sym a.3
+    let e : c.push-2.new.self.items ≡ c.loop-prefix.numbers.items ++ c.in-Some-read_number-2.number ∷ [] = c.in_ok-push-2.ensures.items in
+    e ∙ ap (λ (k : ℕ). c.loop-prefix.numbers.items ++ k ∷ []) same ∙ sym a.3

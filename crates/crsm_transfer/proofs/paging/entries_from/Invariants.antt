@@ -2,7 +2,7 @@ use Rattle.std.proofs.Common.{◌≡◌, ℕ, List, ◌++◌, drop}
 use Rattle.crsm_spec.specs.Types.{Rec}
 use Rattle.crsm_spec.specs.Log.{executed}
 use Rattle.crsm_spec.specs.Collect.{run_within, first_page}
-use Rattle.crsm_ledger.specs.Stands.{StandsFor}
+use Rattle.crsm_ledger.specs.Ledger.{StandsFor}
 use Rattle.crsm_transfer.proofs.paging.entries_from.Given as goal
 
 abbrev pub invariant-loop-place : goal.invariant-loop-place

@@ -3,4 +3,4 @@ use Rattle.crsm_wire.proofs.Joined.{join}
 use Rattle.crsm_wire.proofs.head.joined.Goals as goal
 
 pub returns : goal.returns
-returns c = rw (c.copy_from_slice.ensures.after, c.copy_from_slice-2.ensures.after) (join c.args.front.now c.args.back.now (0 ∷ 0 ∷ 0 ∷ 0 ∷ 0 ∷ 0 ∷ 0 ∷ 0 ∷ 0 ∷ 0 ∷ 0 ∷ 0 ∷ 0 ∷ 0 ∷ 0 ∷ 0 ∷ 0 ∷ 0 ∷ []) 19 18 c.told-front (omega arith))
+returns c = rw (c.copy_from_slice.ensures.after, c.copy_from_slice-2.ensures.after) (join c.args.prefix.now c.args.back.now (0 ∷ 0 ∷ 0 ∷ 0 ∷ 0 ∷ 0 ∷ 0 ∷ 0 ∷ 0 ∷ 0 ∷ 0 ∷ 0 ∷ 0 ∷ 0 ∷ 0 ∷ 0 ∷ 0 ∷ 0 ∷ []) 19 18 c.told-prefix (omega arith))

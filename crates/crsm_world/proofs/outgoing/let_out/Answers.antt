@@ -1,7 +1,7 @@
 use Rattle.std.proofs.Common.{◌∙◌, ◌+◌, ◌++◌, take, drop, length, map, ap, refl, subst, sym, List}
 use Rattle.crsm_base.specs.declared.send.Send.{Send}
 use Rattle.crsm_spec.specs.World.{mail_of, mail_size, send_lines}
-use Rattle.crsm_post.specs.Mailed.{PostStands, sent_of}
+use Rattle.crsm_network.specs.Mailed.{PostStands, sent_of}
 use Rattle.crsm_world.proofs.Letting.{lets_out}
 use Rattle.crsm_world.proofs.outgoing.let_out.Goals as goal
 

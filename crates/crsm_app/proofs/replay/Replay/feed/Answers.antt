@@ -12,4 +12,4 @@ returns-in-Ok-clause-err g c =
 pub returns-in-Err-clause-err : goal.returns-in-Err-clause-err
 returns-in-Err-clause-err g c =
     rw c.in-Err.ensures.fault (piece_faults c.take_lines-taken.result _ _ _ c.args.self.now c.take_lines-taken.new.self c.args.piece.now c.take_lines-taken.ensures.ok c.take_lines-taken.ensures.err
-    c.in-Err.ensures.front)
+    c.in-Err.ensures.prefix)

@@ -1,7 +1,7 @@
 use Rattle.std.proofs.Common.{◌≡◌, ◌++◌, length, ap, sym, ◌∙◌, subst, arith}
 use Rattle.crsm_schedule.specs.Transcript.{lines_text}
 use Rattle.crsm_world.specs.Schedule.{last_world}
-use Rattle.crsm_io.specs.Streams.{Puts, PutsFront}
+use Rattle.crsm_io.specs.Streams.{Puts, PutsPrefix}
 use Rattle.crsm_app.proofs.Pieces.{unbegun_finishes, cut_finishes, no_memory_finishes, partly_finishes, well_finishes}
 use Rattle.crsm_app.proofs.replay.Replay.finish.Goals as goal
 
@@ -43,4 +43,4 @@ returns-clause-err g c =
     let none = c.if-len-gt0.false in
     partly_finishes (g.O.Sink.written c.args.output.now) (g.O.Sink.written c.put_all.new.sink) c.args.self.now c.in-Some.world c.in-Ok.lines c.requires.pending
     (sym (ap (λ x. x.world) c.self.view_is) ∙ c.in-Some.is) (omega (arith, len, is, none)) (λ s stands. c.in-Ok.ensures.lines (last_world s) stands)
-    (subst (λ y. PutsFront (g.O.Sink.written c.args.output.now) (g.O.Sink.written c.put_all.new.sink) y) (c.as_slice.ensures ∙ c.in-Ok-push_lines.ensures ∙ ap (λ ys. ys ++ lines_text 0 c.in-Ok.lines) c.new-text.ensures) c.in-Err.ensures.front)
+    (subst (λ y. PutsPrefix (g.O.Sink.written c.args.output.now) (g.O.Sink.written c.put_all.new.sink) y) (c.as_slice.ensures ∙ c.in-Ok-push_lines.ensures ∙ ap (λ ys. ys ++ lines_text 0 c.in-Ok.lines) c.new-text.ensures) c.in-Err.ensures.prefix)

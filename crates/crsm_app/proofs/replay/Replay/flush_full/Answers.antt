@@ -9,4 +9,4 @@ pub returns-clause-ok : goal.returns-clause-ok
 returns-clause-ok g c = flush_on c.flush.result _ _ c.args.self.now c.flush.new.self c.flush.ensures.put c.flush.ensures.state
 
 pub returns-clause-err : goal.returns-clause-err
-returns-clause-err g c = flush_off c.flush.result _ _ c.args.self.now c.flush.new.self c.flush.ensures.fault c.flush.ensures.front c.flush.ensures.state
+returns-clause-err g c = flush_off c.flush.result _ _ c.args.self.now c.flush.new.self c.flush.ensures.fault c.flush.ensures.prefix c.flush.ensures.state

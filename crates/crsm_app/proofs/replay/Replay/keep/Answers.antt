@@ -1,12 +1,12 @@
 use Rattle.std.proofs.Common.{◌≡◌, ◌++◌, [], length, refl, ap, sym, ◌∙◌, subst, arith}
 use Rattle.std.proofs.lemmas.List.{append-nil, nil_from_length}
 use Rattle.crsm_app.specs.Run.{CarriesOn}
-use Rattle.crsm_app.proofs.Pieces.{nothing_carries, front_carries, front_halts, no_memory_halts}
+use Rattle.crsm_app.proofs.Pieces.{nothing_carries, prefix_carries, prefix_halts, no_memory_halts}
 use Rattle.crsm_app.proofs.replay.Replay.keep.Goals as goal
 
 pub returns-then-is_empty-clause-ok : goal.returns-then-is_empty-clause-ok
 returns-then-is_empty-clause-ok c = λ has.
-    subst (λ ys. CarriesOn has has c.args.self.now c.args.self.now ys []) (sym (nil_from_length c.args.front.now (grind (arith, c.is_empty.ensures, c.if-is_empty.true)))) (nothing_carries has c.args.self.now [])
+    subst (λ ys. CarriesOn has has c.args.self.now c.args.self.now ys []) (sym (nil_from_length c.args.prefix.now (grind (arith, c.is_empty.ensures, c.if-is_empty.true)))) (nothing_carries has c.args.self.now [])
 
 pub overflow_add-line : goal.overflow_add-line
 overflow_add-line c =
@@ -24,7 +24,7 @@ returns-then-saturating_add-gt-MAX_LINE_BYTES-clause-err c = λ has.
     let is = c.len.ensures in
     let sum = c.saturating_add.ensures in
     let long = c.if-saturating_add-gt-MAX_LINE_BYTES.true in
-    rw number (front_halts has c.args.self.now c.args.self.now c.args.front.now c.requires.lacks (omega (arith, len, is, sum, long)) refl)
+    rw number (prefix_halts has c.args.self.now c.args.self.now c.args.prefix.now c.requires.lacks (omega (arith, len, is, sum, long)) refl)
 
 pub returns-in_default-clause-err : goal.returns-in_default-clause-err
 returns-in_default-clause-err c = λ has.
@@ -38,5 +38,5 @@ returns-clause-ok c = λ has.
     let is = c.len.ensures in
     let sum = c.saturating_add.ensures in
     let short = c.if-saturating_add-gt-MAX_LINE_BYTES.false in
-    front_carries has c.args.self.now _ c.args.front.now c.requires.lacks (omega (arith, len, is, sum, short))
-    (ap (λ x. x.world) c.self.view_is) (ap (λ x. x.number) c.self.view_is) (c.in-Ok.ensures.items ∙ ap (λ ys. ys ++ c.args.front.now) part) (ap (λ x. x.pending) c.self.view_is)
+    prefix_carries has c.args.self.now _ c.args.prefix.now c.requires.lacks (omega (arith, len, is, sum, short))
+    (ap (λ x. x.world) c.self.view_is) (ap (λ x. x.number) c.self.view_is) (c.in-Ok.ensures.items ∙ ap (λ ys. ys ++ c.args.prefix.now) part) (ap (λ x. x.pending) c.self.view_is)

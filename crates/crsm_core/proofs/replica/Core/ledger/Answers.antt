@@ -1,5 +1,5 @@
 use Rattle.std.proofs.Common.{subst}
-use Rattle.crsm_ledger.specs.Stands.{StandsFor as SaysOfLog}
+use Rattle.crsm_ledger.specs.Ledger.{StandsFor as SaysOfLog}
 use Rattle.crsm_spec.specs.Draft.{begun}
 use Rattle.crsm_spec.specs.Replica.{Replica}
 use Rattle.crsm_core.proofs.StepLemmas.{begun_is}

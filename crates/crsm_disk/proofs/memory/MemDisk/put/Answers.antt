@@ -11,10 +11,10 @@ use Rattle.crsm_disk.proofs.memory.MemDisk.put.Goals as goal
 pub invariant_of-self : goal.invariant_of-self
 invariant_of-self c =
     let i = c.self.invariant in
-    let n = c.note_write.ensures in
+    let n = c.coordinator_write.ensures in
     let old = told c.self.inside.records.items c.self.inside.written.items [] in
-    let e : told c.note_write.new.records.items c.note_write.new.written.items [] ≡ wrote c.args.at c.args.bytes.now ∷ told c.self.inside.records.items c.self.inside.written.items [] =
-    ap (λ rs. told rs c.note_write.new.written.items []) n.records ∙ ap (λ (ws : List ℕ). told (c.self.inside.records.items ++ Write c.args.at (length c.args.bytes.now) ∷ []) ws []) n.written
+    let e : told c.coordinator_write.new.records.items c.coordinator_write.new.written.items [] ≡ wrote c.args.at c.args.bytes.now ∷ told c.self.inside.records.items c.self.inside.written.items [] =
+    ap (λ rs. told rs c.coordinator_write.new.written.items []) n.records ∙ ap (λ (ws : List ℕ). told (c.self.inside.records.items ++ Write c.args.at (length c.args.bytes.now) ∷ []) ws []) n.written
     ∙ told_write c.self.inside.records.items c.self.inside.written.items [] c.args.at c.args.bytes.now i.sizes in
     let R : Memory → Type 0 = λ m. (c.args.at - length (contents m.first m.calls)) + length c.args.bytes.now ≤ m.room_bytes in
     let fits = subst R (sym c.self.view_is) c.requires.bytes in
@@ -32,9 +32,9 @@ invariant_of-self c =
 pub returns : goal.returns
 returns c =
     let i = c.self.invariant in
-    let n = c.note_write.ensures in
-    let e : told c.note_write.new.records.items c.note_write.new.written.items [] ≡ wrote c.args.at c.args.bytes.now ∷ told c.self.inside.records.items c.self.inside.written.items [] =
-    ap (λ rs. told rs c.note_write.new.written.items []) n.records ∙ ap (λ (ws : List ℕ). told (c.self.inside.records.items ++ Write c.args.at (length c.args.bytes.now) ∷ []) ws []) n.written
+    let n = c.coordinator_write.ensures in
+    let e : told c.coordinator_write.new.records.items c.coordinator_write.new.written.items [] ≡ wrote c.args.at c.args.bytes.now ∷ told c.self.inside.records.items c.self.inside.written.items [] =
+    ap (λ rs. told rs c.coordinator_write.new.written.items []) n.records ∙ ap (λ (ws : List ℕ). told (c.self.inside.records.items ++ Write c.args.at (length c.args.bytes.now) ∷ []) ws []) n.written
     ∙ told_write c.self.inside.records.items c.self.inside.written.items [] c.args.at c.args.bytes.now i.sizes in
     let h : c.saturating_sub-hole.result ≡ c.args.at - length (contents c.self.inside.first.items (told c.self.inside.records.items c.self.inside.written.items [])) = omega (arith, c.saturating_sub-hole.ensures, c.len.ensures, ap length i.bytes) in
     rw (← c.self.view_is, e, h) refl

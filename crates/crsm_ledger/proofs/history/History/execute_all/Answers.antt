@@ -20,9 +20,9 @@ loop-entry-preserved c = λ x es has.
     let more : take (c.loop-entry.entry-index + 1) c.args.entries.now ≡ before ++ c.entry-item.result ∷ [] = grind (arith, common_steps) in
     let step = c.in_ok-execute.ensures x (es ++ before) so_far.0 in (
       subst (λ (done : List Entry). HasExecuted c.execute.new.self x done)
-          (append_assoc es before (c.entry-item.result ∷ []) ∙ ap (λ (front : List Entry). es ++ front) (sym more)) step.0,
+          (append_assoc es before (c.entry-item.result ∷ []) ∙ ap (λ (prefix : List Entry). es ++ prefix) (sym more)) step.0,
       step.1
           ∙ ap (λ (ls : List Line). ls ++ exec_line c.args.me (es ++ before) c.entry-item.result ∷ []) so_far.1
           ∙ lines-push c.args.me es before c.entry-item.result c.args.lines.now
-          ∙ ap (λ (front : List Entry). c.args.lines.now ++ exec_lines c.args.me es front) (sym more),
+          ∙ ap (λ (prefix : List Entry). c.args.lines.now ++ exec_lines c.args.me es prefix) (sym more),
     )

@@ -13,5 +13,5 @@ loop-entry-preserved c = λ x es has.
     let before : List Entry = take c.loop-entry.entry-index c.args.entries.now in
     let more : take (c.loop-entry.entry-index + 1) c.args.entries.now ≡ before ++ c.entry-item.result ∷ [] = grind (arith, common_steps) in
     subst (λ (done : List Entry). HasExecuted c.run.new.self x done)
-    (append_assoc es before (c.entry-item.result ∷ []) ∙ ap (λ (front : List Entry). es ++ front) (sym more))
+    (append_assoc es before (c.entry-item.result ∷ []) ∙ ap (λ (prefix : List Entry). es ++ prefix) (sym more))
     (c.in_ok-_answer.ensures.executed x (es ++ before) (c.loop-entry.invariant x es has))

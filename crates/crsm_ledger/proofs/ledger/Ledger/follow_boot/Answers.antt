@@ -1,6 +1,6 @@
 use Rattle.std.proofs.Common.{◌≡◌, ℕ, ◌+◌, ◌<◌, ◌∷◌, subst, sym, arith, false}
 use Rattle.crsm_spec.specs.Types.{Rec}
-use Rattle.crsm_ledger.specs.Stands.{Says}
+use Rattle.crsm_ledger.specs.Ledger.{Says}
 use Rattle.crsm_spec.specs.Clock.{u64_max}
 use Rattle.crsm_ledger.proofs.KeepLemmas.{boots-below}
 use Rattle.crsm_ledger.proofs.StepLemmas.{says-boot}

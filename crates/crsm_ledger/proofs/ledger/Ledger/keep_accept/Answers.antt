@@ -1,6 +1,6 @@
 use Rattle.std.proofs.Common.{◌∷◌, ◌∙◌, subst}
 use Rattle.crsm_spec.specs.Types.{Decision, Rec}
-use Rattle.crsm_ledger.specs.Stands.{Follows}
+use Rattle.crsm_ledger.specs.Ledger.{Follows}
 use Rattle.crsm_ledger.proofs.KeepLemmas.{lines-accept}
 use Rattle.crsm_ledger.proofs.ledger.Ledger.keep_accept.Goals as goal
 

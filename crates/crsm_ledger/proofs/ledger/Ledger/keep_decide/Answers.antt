@@ -1,6 +1,6 @@
 use Rattle.std.proofs.Common.{◌≡◌, ◌∷◌, ◌∙◌, ap, length, subst}
 use Rattle.crsm_spec.specs.Types.{Decision, Rec}
-use Rattle.crsm_ledger.specs.Stands.{Follows}
+use Rattle.crsm_ledger.specs.Ledger.{Follows}
 use Rattle.crsm_ledger.proofs.KeepLemmas.{lines-decide}
 use Rattle.crsm_ledger.proofs.ledger.Ledger.keep_decide.Goals as goal
 

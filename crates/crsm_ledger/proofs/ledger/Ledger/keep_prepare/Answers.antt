@@ -1,6 +1,6 @@
 use Rattle.std.proofs.Common.{◌∷◌, ◌∙◌, subst}
 use Rattle.crsm_spec.specs.Types.{Entry, Rec}
-use Rattle.crsm_ledger.specs.Stands.{Follows}
+use Rattle.crsm_ledger.specs.Ledger.{Follows}
 use Rattle.crsm_ledger.proofs.KeepLemmas.{lines-prepare}
 use Rattle.crsm_ledger.proofs.ledger.Ledger.keep_prepare.Goals as goal
 

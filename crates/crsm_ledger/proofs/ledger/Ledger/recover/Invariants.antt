@@ -1,6 +1,6 @@
 use Rattle.std.proofs.Common.{[], take}
 use Rattle.crsm_spec.specs.Log.{Log}
-use Rattle.crsm_ledger.specs.Stands.{StandsFor}
+use Rattle.crsm_ledger.specs.Ledger.{StandsFor}
 use Rattle.crsm_ledger.specs.Recovered.{AreKept}
 use Rattle.crsm_ledger.proofs.ledger.Ledger.recover.Given as goal
 

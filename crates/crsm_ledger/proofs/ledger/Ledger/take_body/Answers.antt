@@ -8,7 +8,7 @@ use Rattle.crsm_spec.specs.Log.{Log}
 use Rattle.crsm_spec.specs.Fits.{fits}
 use Rattle.crsm_ledger.specs.declared.error.LedgerError.{LedgerError}
 use Rattle.crsm_ledger.specs.declared.error.LedgerError.TheVariants.{BadLog}
-use Rattle.crsm_ledger.specs.Stands.{StandsFor, kind}
+use Rattle.crsm_ledger.specs.Ledger.{StandsFor, kind}
 use Rattle.crsm_ledger.specs.Recovered.{FitInTurn, with_records, IsBad, IfBadLog}
 use Rattle.crsm_ledger.proofs.RecoverLemmas.{with_records-push, fit-push, bad_more, refused_as}
 use Rattle.crsm_ledger.proofs.TakenLemmas.{taken_fits, bad_behind}

@@ -3,7 +3,7 @@ use Rattle.crsm_base.specs.Records.{rec_bytes, FitsRec}
 use Rattle.crsm_base.proofs.BodyLaws.{HasRead}
 use Rattle.crsm_spec.specs.Types.{Rec}
 use Rattle.crsm_spec.specs.Log.{Log}
-use Rattle.crsm_ledger.specs.Stands.{StandsFor}
+use Rattle.crsm_ledger.specs.Ledger.{StandsFor}
 use Rattle.crsm_ledger.specs.Recovered.{FitInTurn, with_records}
 use Rattle.crsm_ledger.proofs.ledger.Ledger.take_body.Given as goal
 

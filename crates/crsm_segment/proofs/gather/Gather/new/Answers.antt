@@ -1,5 +1,5 @@
 use Rattle.std.proofs.Common.{subst, sym, []}
-use Rattle.crsm_segment.specs.Standing.{StandsFor}
+use Rattle.crsm_segment.specs.Gather.{StandsFor}
 use Rattle.crsm_segment.proofs.Steps.{stands_at_first}
 use Rattle.crsm_segment.proofs.gather.Gather.new.Goals as goal
 

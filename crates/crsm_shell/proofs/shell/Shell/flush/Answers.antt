@@ -9,7 +9,7 @@ use Rattle.crsm_turns.specs.Outgoing.{posts_for}
 use Rattle.crsm_shell.specs.declared.errors.TurnError.{TurnError}
 use Rattle.crsm_shell.specs.declared.errors.TurnError.TheVariants as errors
 use Rattle.crsm_shell.specs.Flushing.{SendsPosts, keep_calls, keep_count}
-use Rattle.crsm_shell.specs.Standing.{ShellStands, records_of, sends_of}
+use Rattle.crsm_shell.specs.Shell.{ShellStands, records_of, sends_of}
 use Rattle.crsm_shell.specs.Words.{disk_of, gate_of}
 use Rattle.crsm_shell.proofs.Files.{no_body}
 use Rattle.crsm_shell.proofs.Groups.{full_at, inside, kept_all, left_alone, left_one, past_at, stops_flush}

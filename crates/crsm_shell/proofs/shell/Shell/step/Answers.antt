@@ -4,11 +4,11 @@ use Rattle.std.proofs.Math.Logic.{∥∥₁_elim, ∥∥₁_map}
 use Rattle.crsm_base.specs.declared.rec.Rec.{Rec}
 use Rattle.crsm_base.specs.declared.send.Send.{Send}
 use Rattle.crsm_base.specs.Records.{FitsRec, body_bytes}
-use Rattle.crsm_core.specs.Standing.{Answers, CoreStands, FitsSent}
+use Rattle.crsm_core.specs.Core.{Answers, CoreStands, FitsSent}
 use Rattle.crsm_core.specs.declared.replica.Core.{Core}
 use Rattle.crsm_spec.specs.Node.{turn}
 use Rattle.crsm_turns.specs.Outgoing.{FitsSend, posts_for}
-use Rattle.crsm_shell.specs.Standing.{ShellStands}
+use Rattle.crsm_shell.specs.Shell.{ShellStands}
 use Rattle.crsm_shell.specs.Taking.{turn_of}
 use Rattle.crsm_shell.specs.Words.{disk_of}
 use Rattle.crsm_shell.proofs.Groups.{inside}

@@ -4,7 +4,7 @@ use Rattle.crsm_shell.specs.declared.errors.TurnError.{TurnError}
 use Rattle.crsm_shell.specs.declared.errors.TurnError.TheVariants as errors
 use Rattle.crsm_shell.specs.declared.turned.Turned.{Turned}
 use Rattle.crsm_shell.specs.Errors.{is_lasting}
-use Rattle.crsm_shell.specs.Standing.{ShellStands}
+use Rattle.crsm_shell.specs.Shell.{ShellStands}
 use Rattle.crsm_shell.proofs.shell.Shell.take.Goals as goal
 
 abbrev failing : TurnError → Result Turned TurnError

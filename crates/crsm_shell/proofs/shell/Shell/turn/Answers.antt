@@ -1,7 +1,7 @@
 use Rattle.std.proofs.Common.{◌≡◌, ℕ, List, [], ◌∷◌, ◌++◌, sym, subst}
 use Rattle.crsm_spec.specs.World.{body_size}
-use Rattle.crsm_core.specs.Standing.{Answers}
-use Rattle.crsm_shell.specs.Standing.{ShellStands}
+use Rattle.crsm_core.specs.Core.{Answers}
+use Rattle.crsm_shell.specs.Shell.{ShellStands}
 use Rattle.crsm_shell.specs.Taking.{step_of}
 use Rattle.crsm_shell.specs.Words.{buffer_of, disk_of}
 use Rattle.crsm_shell.proofs.shell.Shell.turn.Goals as goal

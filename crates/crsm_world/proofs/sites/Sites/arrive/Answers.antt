@@ -2,7 +2,7 @@ use Rattle.std.specs.Prelude.{slice_get}
 use Rattle.std.proofs.Common.{◌∙◌, ap, sym}
 use Rattle.crsm_spec.specs.World.{Site, whole_step, cut_step, lost_step}
 use Rattle.crsm_spec.specs.Moments.{cut_at}
-use Rattle.crsm_site.specs.Arriving.{turn_of}
+use Rattle.crsm_machine.specs.Arriving.{turn_of}
 use Rattle.crsm_world.specs.Turning.{ending_of}
 use Rattle.crsm_world.proofs.Turns.{turn_silent, up_found}
 use Rattle.crsm_world.proofs.Leading.{leaves_here}

@@ -1,8 +1,8 @@
 use Rattle.std.proofs.Common.{◌≡◌, ◌∙◌, ap, sym, subst, arith}
 use Rattle.std.proofs.Common.{◌<◌, ℕ, List, length, get_or}
 use Rattle.crsm_spec.specs.World.{final_line}
-use Rattle.crsm_site.specs.declared.Site.{Site}
-use Rattle.crsm_site.specs.Standing.{SiteStands}
+use Rattle.crsm_machine.specs.declared.Site.{Site}
+use Rattle.crsm_machine.specs.Machine.{SiteStands}
 use Rattle.crsm_world.proofs.Places.{finals_next, finals_done}
 use Rattle.crsm_world.proofs.sites.Sites.finals.Goals as goal
 

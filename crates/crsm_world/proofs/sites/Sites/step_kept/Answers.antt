@@ -1,7 +1,7 @@
 use Rattle.std.proofs.Common.{refl, subst, List}
 use Rattle.crsm_spec.specs.World.{Site, log_of}
 use Rattle.crsm_spec.specs.Node.{turn}
-use Rattle.crsm_site.specs.Arriving.{turn_of}
+use Rattle.crsm_machine.specs.Arriving.{turn_of}
 use Rattle.crsm_world.specs.Placed.{SitesStand}
 use Rattle.crsm_world.proofs.Turns.{set_twice, get_set}
 use Rattle.crsm_world.proofs.sites.Sites.step_kept.Goals as goal

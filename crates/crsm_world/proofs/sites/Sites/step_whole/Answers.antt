@@ -1,6 +1,6 @@
 use Rattle.std.proofs.Common.{refl}
 use Rattle.crsm_spec.specs.Node.{turn}
-use Rattle.crsm_site.specs.Arriving.{turn_of}
+use Rattle.crsm_machine.specs.Arriving.{turn_of}
 use Rattle.crsm_world.proofs.sites.Sites.step_whole.Goals as goal
 
 pub returns-clause-leaves : goal.returns-clause-leaves

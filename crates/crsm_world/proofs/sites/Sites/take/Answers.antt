@@ -2,9 +2,9 @@ use Rattle.std.proofs.Common.{subst}
 use Rattle.std.proofs.Common.{◌++◌, ◌∷◌, []}
 use Rattle.crsm_spec.specs.Replica.{Replica}
 use Rattle.crsm_spec.specs.Node.{turn}
-use Rattle.crsm_site.specs.Arriving.{turn_of}
-use Rattle.crsm_site.specs.Outcomes.{Makes}
-use Rattle.crsm_site.specs.Standing.{SitePends}
+use Rattle.crsm_machine.specs.Arriving.{turn_of}
+use Rattle.crsm_machine.specs.Outcomes.{Makes}
+use Rattle.crsm_machine.specs.Machine.{SitePends}
 use Rattle.crsm_world.proofs.Places.{take_set}
 use Rattle.crsm_world.proofs.sites.Sites.take.Goals as goal
 

@@ -1,5 +1,5 @@
 use Rattle.crsm_spec.specs.World as on_paper
-use Rattle.crsm_world.specs.Standing.{Holds}
+use Rattle.crsm_world.specs.World.{Holds}
 use Rattle.crsm_world.proofs.Series.{Going}
 use Rattle.crsm_world.proofs.world.World.deliver_each.Given as goal
 

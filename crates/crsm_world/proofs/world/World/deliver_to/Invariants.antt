@@ -3,7 +3,7 @@ use Rattle.std.specs.Prelude.{slice_get}
 use Rattle.crsm_spec.specs.Replica.{Replica}
 use Rattle.crsm_spec.specs.World as on_paper
 use Rattle.crsm_world.specs.Several.{AreFor}
-use Rattle.crsm_world.specs.Standing.{Holds}
+use Rattle.crsm_world.specs.World.{Holds}
 use Rattle.crsm_world.proofs.Series.{Together}
 use Rattle.crsm_world.proofs.world.World.deliver_to.Given as goal
 

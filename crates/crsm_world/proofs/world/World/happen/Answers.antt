@@ -6,7 +6,7 @@ use Rattle.crsm_spec.specs.Moments.{act, moments_of, lose_batch}
 use Rattle.crsm_world.specs.Doing.{act_of}
 use Rattle.crsm_world.specs.Turning.{ending_of}
 use Rattle.crsm_world.specs.Several.{together, each_gone, all_gone, AreFor}
-use Rattle.crsm_world.specs.Standing.{Leads}
+use Rattle.crsm_world.specs.World.{Leads}
 use Rattle.crsm_world.proofs.Leading.{leads_one}
 use Rattle.crsm_world.proofs.Allowed.{none_of, genuine, up_here, can_start, for_one}
 use Rattle.crsm_world.proofs.world.World.happen.Goals as goal

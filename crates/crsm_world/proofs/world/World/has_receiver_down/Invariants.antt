@@ -2,7 +2,7 @@ use Rattle.std.proofs.Common.{◌≡◌, false, take}
 use Rattle.std.specs.List.{list_any}
 use Rattle.crsm_spec.specs.Possible as possible
 use Rattle.crsm_spec.specs.World as on_paper
-use Rattle.crsm_world.specs.Standing.{Holds}
+use Rattle.crsm_world.specs.World.{Holds}
 use Rattle.crsm_world.proofs.world.World.has_receiver_down.Given as goal
 
 abbrev pub invariant-loop-number : goal.invariant-loop-number

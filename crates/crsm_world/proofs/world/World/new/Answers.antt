@@ -2,7 +2,7 @@ use Rattle.std.proofs.Common.{◌≡◌, ◌∙◌, ap, sym, refl, subst, arith,
 use Rattle.crsm_spec.specs.World.{World}
 use Rattle.crsm_spec.specs.Moments.{start_at}
 use Rattle.crsm_world.specs.Starting.{CanStart}
-use Rattle.crsm_world.specs.Standing.{StandsFor, Holds, Leads}
+use Rattle.crsm_world.specs.World.{StandsFor, Holds, Leads}
 use Rattle.crsm_world.proofs.First.{part, part_lines, no_part, no_lines, all_parts, all_lines, next_can, part_next, lines_more}
 use Rattle.crsm_world.proofs.world.World.new.Goals as goal
 

@@ -1,5 +1,5 @@
 use Rattle.std.proofs.Common.{◌≡◌}
-use Rattle.crsm_world.specs.Standing.{Holds}
+use Rattle.crsm_world.specs.World.{Holds}
 use Rattle.crsm_world.proofs.First.{part, part_lines}
 use Rattle.crsm_world.proofs.world.World.new.Given as goal
 

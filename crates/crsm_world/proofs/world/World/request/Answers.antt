@@ -3,7 +3,7 @@ use Rattle.crsm_spec.specs.Node.{Turn}
 use Rattle.crsm_world.specs.Turning.{ending_of, turn_at}
 use Rattle.crsm_base.specs.Messages.{datagram_bytes}
 use Rattle.crsm_spec.specs.Types.{Datagram}
-use Rattle.crsm_world.specs.Standing.{LeadsOn}
+use Rattle.crsm_world.specs.World.{LeadsOn}
 use Rattle.crsm_world.proofs.world.World.request.Goals as goal
 
 pub returns : goal.returns

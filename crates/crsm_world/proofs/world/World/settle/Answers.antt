@@ -1,8 +1,8 @@
 use Rattle.std.proofs.Common.{◌∙◌, subst, ap, List, ℕ}
 use Rattle.std.specs.Prelude.{filter}
-use Rattle.crsm_post.specs.Mailed.{is_fresh_for, is_up_among, numbers_of}
+use Rattle.crsm_network.specs.Mailed.{is_fresh_for, is_up_among, numbers_of}
 use Rattle.crsm_world.specs.Several.{each_gone}
-use Rattle.crsm_world.specs.Standing.{Leads}
+use Rattle.crsm_world.specs.World.{Leads}
 use Rattle.crsm_world.proofs.Due.{those_due}
 use Rattle.crsm_world.proofs.world.World.settle.Goals as goal
 

@@ -2,9 +2,9 @@ use Rattle.std.proofs.Common.{◌≡◌, ◌∙◌, ap, sym, subst, Some}
 use Rattle.std.specs.Prelude.{slice_get}
 use Rattle.std.proofs.lemmas.Option.{IfSome_then}
 use Rattle.crsm_spec.specs.World.{Site}
-use Rattle.crsm_site.specs.Standing.{SiteStands}
+use Rattle.crsm_machine.specs.Machine.{SiteStands}
 use Rattle.crsm_world.specs.Placed.{is_up_in}
-use Rattle.crsm_world.specs.Standing.{StandsFor}
+use Rattle.crsm_world.specs.World.{StandsFor}
 use Rattle.crsm_world.proofs.Reasons.{up_is}
 use Rattle.crsm_world.proofs.Places.{up_got, up_missed}
 use Rattle.crsm_world.proofs.world.World.shell.Goals as goal

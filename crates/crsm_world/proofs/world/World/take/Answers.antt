@@ -1,8 +1,8 @@
 use Rattle.std.proofs.Common.{refl, subst, List}
 use Rattle.crsm_spec.specs.Types.{Line}
-use Rattle.crsm_post.specs.Mailed.{used_up}
+use Rattle.crsm_network.specs.Mailed.{used_up}
 use Rattle.crsm_world.specs.Leaving.{LetsOut}
-use Rattle.crsm_site.specs.Arriving.{turn_of}
+use Rattle.crsm_machine.specs.Arriving.{turn_of}
 use Rattle.crsm_world.proofs.Series.{taken, not_found}
 use Rattle.crsm_world.proofs.world.World.take.Goals as goal
 

@@ -1,4 +1,4 @@
-use Rattle.crsm_world.specs.Standing.{StandsFor}
+use Rattle.crsm_world.specs.World.{StandsFor}
 use Rattle.crsm_world.proofs.world.World.take_back.Goals as goal
 
 pub returns-clause-stands : goal.returns-clause-stands

@@ -1,5 +1,0 @@
-use Rattle.crsm_collection.proofs.Pages.{answers_are_pages}
-use Rattle.crsm_collection.proofs.answers_are_pages.Goals as goal
-
-pub returns : goal.returns
-returns c = answers_are_pages

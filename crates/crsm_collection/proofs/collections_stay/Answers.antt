@@ -1,5 +1,0 @@
-use Rattle.crsm_collection.proofs.Law.{collections_stay}
-use Rattle.crsm_collection.proofs.collections_stay.Goals as goal
-
-pub returns : goal.returns
-returns c = collections_stay

@@ -1,5 +1,0 @@
-use Rattle.crsm_collection.proofs.Fronts.{complete_is_collected}
-use Rattle.crsm_collection.proofs.complete_is_collected.Goals as goal
-
-pub returns : goal.returns
-returns c = complete_is_collected

@@ -1,5 +1,0 @@
-use Rattle.crsm_collection.proofs.Keep.{facts_begin}
-use Rattle.crsm_collection.proofs.facts_begin.Goals as goal
-
-pub returns : goal.returns
-returns c = facts_begin

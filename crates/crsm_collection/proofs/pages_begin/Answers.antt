@@ -1,5 +1,0 @@
-use Rattle.crsm_collection.proofs.Pages.{pages_begin}
-use Rattle.crsm_collection.proofs.pages_begin.Goals as goal
-
-pub returns : goal.returns
-returns c = pages_begin

@@ -1,5 +1,0 @@
-use Rattle.crsm_collection.proofs.Pages.{pages_go_on}
-use Rattle.crsm_collection.proofs.pages_go_on.Goals as goal
-
-pub returns : goal.returns
-returns c = pages_go_on

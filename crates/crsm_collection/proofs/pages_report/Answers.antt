@@ -1,5 +1,0 @@
-use Rattle.crsm_collection.proofs.Pages.{pages_report}
-use Rattle.crsm_collection.proofs.pages_report.Goals as goal
-
-pub returns : goal.returns
-returns c = pages_report

@@ -1,5 +1,0 @@
-use Rattle.crsm_collection.proofs.Law.{reports_make}
-use Rattle.crsm_collection.proofs.reports_make_collections.Goals as goal
-
-pub returns : goal.returns
-returns c = reports_make

@@ -1,5 +1,0 @@
-pub mod Seats
-pub mod Effects
-pub mod Logs
-pub mod Steps
-pub mod Worlds

@@ -1,5 +1,0 @@
-use Rattle.crsm_commits.proofs.Worlds.{commits_are_witnessed}
-use Rattle.crsm_commits.proofs.commits_are_witnessed.Goals as goal
-
-pub returns : goal.returns
-returns c n w r few = commits_are_witnessed n w r few

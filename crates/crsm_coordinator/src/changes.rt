@@ -1,0 +1,118 @@
+//! How a coordinator changes.
+
+ghost use Rattle.std.specs.Prelude.{◌≡◌, ◌<◌, ◌+◌, ℕ, Option, Some, List, [], ◌∷◌, ◌++◌, true, false, map, length, IfOk};
+ghost use Rattle.crsm_base.specs.declared.Decision.{Decision};
+ghost use Rattle.crsm_base.specs.declared.Ballot.{Ballot};
+ghost use Rattle.crsm_base.specs.Messages.{FitsVote};
+ghost use Rattle.crsm_base.specs.Spelling.{FitsBallot, FitsOption};
+ghost use Rattle.crsm_spec.specs.Lists.{has};
+ghost use Rattle.crsm_spec.specs.Paxos.{Answer};
+ghost use Rattle.crsm_spec.specs.Quorum.{spec_decided, has_majority};
+ghost use Rattle.crsm_spec.specs.Replica.{Coordinator as CoordinatorOnPaper};
+ghost use Rattle.crsm_coordinator.specs.Coordinator.{CoordinatorStands, IsOwn, VotedIs, answered, preempted_by};
+
+use crate::coordinator::{Coordinator, Voted};
+use crate::readers::is_chosen_with;
+use crsm_base::{Ballot, Decision, Members, NoMemory};
+use crsm_paxos::{Proposer, StartError};
+use std::alloc::Global;
+
+impl Coordinator {
+    #[tactic(auto, unfolding(crate::specs::Coordinator::CoordinatorStands))]
+    /// The coordinator of one that is at nothing.
+    pub fn quiet() -> Coordinator
+        ensures { (me n : ℕ) (known : Option Decision) → CoordinatorStands result me n known CoordinatorOnPaper.Idle }
+    {
+        Coordinator::Idle
+    }
+
+    /// The coordinator of one that is to propose its own decision above this ballot.
+    pub fn over(own: Decision, seen: Ballot) -> Coordinator
+        ensures { (me n : ℕ) (known : Option Decision) → IsOwn me n known own → FitsBallot seen → CoordinatorStands result me n known (CoordinatorOnPaper.Preempted own seen) }
+    {
+        Coordinator::Preempted { own, seen }
+    }
+
+    /// Asks for the ballot of replica `me` in the round after that of a ballot, over this Spec, and counts its own
+    /// promise, with what it had accepted. There is such a round.
+    pub fn asking(
+        alloc: Global,
+        own: Decision,
+        above: Ballot,
+        me: u32,
+        spec: &Members,
+        accepted: Option<(Ballot, Decision)>,
+    ) -> Result<Coordinator, NoMemory>
+        requires { me < 15 }
+        ensures { (n round : ℕ) (known : Option Decision) → IsOwn me n known own → spec.now ≡ spec_decided n known → FitsOption FitsVote accepted → round ≡ above.round + 1 → FitsBallot (record { round = round; by = me }) → IfOk result (λ coordinator. CoordinatorStands coordinator me n known (answered (spec_decided n known) (record { round = round; by = me }) own (record { replica = me; accepted = accepted } ∷ []))) }
+    {
+        let size = spec.count();
+        let mut proposer = match Proposer::start(alloc, own, above, me, size) {
+            Ok(proposer) => proposer,
+            Err(_) => return Err(NoMemory),
+        };
+        let ballot = proposer.ballot();
+        proposer.on_p1b(me, ballot, accepted)?;
+        Ok(Coordinator::Proposing(proposer))
+    }
+
+    /// Counts the promise of a replica, with what it had accepted.
+    pub fn with_answer(
+        self,
+        k: u32,
+        accepted: Option<(Ballot, Decision)>,
+    ) -> Result<Coordinator, NoMemory>
+        requires { k < 15 }
+        ensures { (me n : ℕ) (known : Option Decision) (b : Ballot) (own : Decision) (answers : List (Answer Decision)) → CoordinatorStands self me n known (CoordinatorOnPaper.Preparing b own answers) → has (spec_decided n known) k ≡ true → has (map (λ f. f.replica) answers) k ≡ false → FitsOption FitsVote accepted → IfOk result (λ coordinator. CoordinatorStands coordinator me n known (answered (spec_decided n known) b own (answers ++ record { replica = k; accepted = accepted } ∷ []))) }
+    {
+        match self {
+            Coordinator::Proposing(mut proposer) => {
+                let ballot = proposer.ballot();
+                proposer.on_p1b(k, ballot, accepted)?;
+                Ok(Coordinator::Proposing(proposer))
+            }
+            other => Ok(other),
+        }
+    }
+
+    /// Counts the vote of a replica, once.
+    pub fn with_vote(self, k: u32) -> Result<Voted, NoMemory>
+        requires { k < 15 }
+        ensures { (me n : ℕ) (known : Option Decision) (b : Ballot) (own value : Decision) (acceptors : List ℕ) → CoordinatorStands self me n known (CoordinatorOnPaper.Proposing b own value acceptors) → has (spec_decided n known) k ≡ true → IfOk result (λ voted. VotedIs voted me n known b own value (k ∷ acceptors)) }
+    {
+        match self {
+            Coordinator::Proposing(mut proposer) => {
+                if is_chosen_with(&proposer, k) {
+                    return Ok(Voted::Chosen(proposer.into_value()));
+                }
+                let ballot = proposer.ballot();
+                proposer.on_p2b(k, ballot)?;
+                Ok(Voted::More(Coordinator::Proposing(proposer)))
+            }
+            other => Ok(Voted::More(other)),
+        }
+    }
+
+    /// Its ballot is over, since this one was seen.
+    pub fn preempted(self, top: Ballot) -> Coordinator
+        ensures { (me n : ℕ) (known : Option Decision) (m : CoordinatorOnPaper) → CoordinatorStands self me n known m → FitsBallot top → CoordinatorStands result me n known (preempted_by m top) }
+    {
+        match self {
+            Coordinator::Proposing(proposer) => Coordinator::Preempted {
+                own: proposer.into_own(),
+                seen: top,
+            },
+            other => other,
+        }
+    }
+
+    /// The decision of one's own that is to be proposed again, and the ballot that was seen.
+    pub fn into_own(self) -> Option<(Decision, Ballot)>
+        ensures { (me n : ℕ) (known : Option Decision) (own : Decision) (seen : Ballot) → CoordinatorStands self me n known (CoordinatorOnPaper.Preempted own seen) → (result ≡ Some (own, seen)) × IsOwn me n known own × FitsBallot seen }
+    {
+        match self {
+            Coordinator::Preempted { own, seen } => Some((own, seen)),
+            _ => None,
+        }
+    }
+}

@@ -1,0 +1,44 @@
+-- What a core stands for, and what it answers.
+use Rattle.std.specs.Prelude.{◌≡◌, ℕ, ◌<◌, true, false}
+use Rattle.std.specs.List.{AllByRecursion}
+use Rattle.crsm_base.specs.declared.send.Send.{Send}
+use Rattle.crsm_base.specs.declared.send.To.{To}
+use Rattle.crsm_base.specs.declared.send.To.TheVariants as to_whom
+use Rattle.crsm_base.specs.Messages.{FitsDatagram}
+use Rattle.crsm_base.specs.Records.{FitsRec}
+use Rattle.crsm_spec.specs.Log.{Log}
+use Rattle.crsm_spec.specs.Replica.{Replica}
+use Rattle.crsm_spec.specs.Draft.{Draft, begun}
+use Rattle.crsm_output.specs.declared.batch.Batch.{Batch}
+use Rattle.crsm_output.specs.Made.{made_of, IsBatchOf}
+use Rattle.crsm_replica.specs.Replica.{StandsFor, AwaitsBoot}
+use Rattle.crsm_core.specs.declared.replica.Core.{Core}
+
+-- memory ran out, and the core says nothing any more
+unfoldable pub IsSpent : Core → Type 0
+IsSpent core = core.is_spent ≡ true
+
+-- The core is that of the ledger of this log of replica me, and its boot is not on record yet.
+pub record CoreAwaits (core : Core) (me n : ℕ) (log : Log) : Type 0 where
+  pub unspent : core.is_spent ≡ false
+  pub waits : AwaitsBoot core.desk me n log
+
+-- The core stands for the replica: all that it keeps is what the replica's lists say.
+pub record CoreStands (core : Core) (r : Replica) : Type 0 where
+  pub unspent : core.is_spent ≡ false
+  pub stands : StandsFor core.desk (begun r)
+
+-- a replica to which a datagram may go
+abbrev pub FitsTo : To → Type 0
+FitsTo (to_whom.Replica k) = k < 15
+FitsTo (to_whom.Address a) = Unit {0}
+
+-- the datagram has a spelling
+abbrev pub FitsSent : Send → Type 0
+FitsSent s = FitsTo s.to × FitsDatagram s.datagram
+
+-- The batch is what the draft has made, and each record and each datagram of it has a spelling.
+pub record Answers (batch : Batch) (x : Draft) : Type 0 where
+  pub made : IsBatchOf batch (made_of x)
+  pub records : AllByRecursion FitsRec batch.records
+  pub sends : AllByRecursion FitsSent batch.sends

@@ -1,8 +1,0 @@
-use Rattle.std.proofs.Common.{◌++◌, map, take}
-use Rattle.crsm_output.specs.Made.{Made, Holds}
-use Rattle.crsm_desk.specs.Again.{frame_again}
-use Rattle.crsm_desk.proofs.frames.send_again.Given as goal
-
-abbrev pub invariant-loop-frame : goal.invariant-loop-frame
-invariant-loop-frame l =
-    (m : Made) → Holds l.initial.output m → Holds l.output (record m { sends = m.sends ++ map (frame_again l.me l.epoch l.to) (take l.frame-index l.frames) })

@@ -1,4 +1,0 @@
-pub mod Again
-pub mod Recorded
-pub mod Sound
-pub mod Standing

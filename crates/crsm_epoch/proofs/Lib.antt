@@ -1,9 +1,0 @@
-pub mod Words
-pub mod Moved
-pub mod Quiet
-pub mod Takes
-pub mod Pushes
-pub mod Drafts
-pub mod Seated
-pub mod Kept
-pub mod Worlds

@@ -1,0 +1,46 @@
+-- What is kept of an epoch, and what it stands for.
+use Rattle.std.specs.Prelude.{◌≡◌, ℕ, ◌≤◌, Bool, true, [], ◌∷◌, Option, None, Some}
+use Rattle.std.specs.List.{AllByRecursion}
+use Rattle.crsm_base.specs.Order.{stamp_lt}
+use Rattle.crsm_spec.specs.Types.{Stamp, Rec}
+use Rattle.crsm_spec.specs.Log.{Log, active, last_stamp, unexecuted}
+use Rattle.crsm_spec.specs.Fits.{fits}
+use Rattle.crsm_spec.specs.Replica.{Replica, last_issued}
+use Rattle.crsm_spec.specs.Ready.{all_heard}
+use Rattle.crsm_commit.specs.Heard.{HasHeard}
+use Rattle.crsm_commit.specs.Pending.{StandsFor}
+use Rattle.crsm_epoch_state.specs.Linked.{LinksStand}
+use Rattle.crsm_epoch_state.specs.declared.state.EpochState.{EpochState}
+
+-- each record fits behind those before it
+abbrev pub EachFits : ℕ → ℕ → Log → Type 0
+EachFits me n [] = Unit {0}
+EachFits me n (rec ∷ log) = (fits me n log rec ≡ true) × EachFits me n log
+
+-- a record that is not of entering an epoch
+abbrev pub IsNoEnter : Rec → Type 0
+IsNoEnter (Rec.Enter x) = ⊥
+IsNoEnter _ = Unit {0}
+
+-- the replica with nothing of its epoch
+abbrev pub forgotten : Replica → Replica
+forgotten r = record r { issued = []; heard = []; votes = []; owed = []; pushed = []; acked = []; taken = [] }
+
+-- whether a stamp is above the last executed one
+abbrev pub is_above : Option Stamp → Stamp → Bool
+is_above None s = true
+is_above (Some last) s = stamp_lt last s
+
+pub record RunsInside (running : EpochState) (r : Replica) : Type 0 where
+  pub fitting : EachFits r.me r.n r.log
+  pub clock : running.clock ≡ last_issued r
+  pub latest : HasHeard running.latest (all_heard r)
+  pub from_one : AllByRecursion (λ h. 1 ≤ h.1) (all_heard r)
+  pub owed : running.owed ≡ r.owed
+  pub links : LinksStand running.links r
+  pub waiting : active r.log ≡ true → StandsFor running.pending (is_above (last_stamp r.log)) (unexecuted r.log) r.votes
+
+-- What is kept stands for the replica: for its times, votes, debts and links, and while it is active for its
+-- unexecuted entries. Each record of its log fits.
+unfoldable pub Runs : EpochState → Replica → Type 0
+Runs running r = RunsInside running r

@@ -1,5 +1,0 @@
-use Rattle.crsm_examples.proofs.ChangeOfEpochs.{changes}
-use Rattle.crsm_examples.proofs.epochs_change.Goals as goal
-
-pub returns : goal.returns
-returns c = changes

@@ -1,0 +1,9 @@
+-- A suspended replica logs no more in the epoch that it knows, whatever comes: its later logs have the same entries.
+use Rattle.std.specs.Prelude.{◌≡◌, ℕ, IsTrue}
+use Rattle.crsm_spec.specs.Log.{Log, known, logged_in, suspended}
+use Rattle.crsm_law_steps.specs.Laws.{Extends, AllFit}
+
+abbrev pub StaysFrozen : Type 0
+StaysFrozen =
+    (me n : ℕ) (log later : Log) → Extends log later → AllFit me n later → IsTrue (suspended log) →
+    logged_in (known log) later ≡ logged_in (known log) log

@@ -1,0 +1,37 @@
+-- Two datagrams are delivered together, with one log entry for both steps.
+use Rattle.std.proofs.Common.{◌≡◌, List, [], ◌∷◌, ◌++◌, refl}
+use Rattle.std.specs.Prelude.{Some}
+use Rattle.crsm_spec.specs.Types.{Op, Answer, Line, State, SendKind}
+use Rattle.crsm_spec.specs.Acts.{Act}
+use Rattle.crsm_law_examples.specs.Words.{replay, request, stamp, u64}
+use Rattle.crsm_law_examples.proofs.Opened.{the_model}
+
+abbrev schedule : List Act
+schedule =
+    Act.One (request 0 5 7 1 (Op.Put (97 ∷ []) (98 ∷ [])))
+    ∷ Act.One (request 0 6 7 2 (Op.Get (97 ∷ [])))
+    ∷ Act.Batch 20 (0 ∷ 1 ∷ [])
+    ∷ []
+
+transcript : replay 2 schedule ≡ Some (
+    (Line.Boot 0 1 ∷
+    Line.Enter 0 0 ∷
+    Line.Boot 1 1 ∷
+    Line.Enter 1 0 ∷ [])
+    ∷ (Line.Submit 0 0 5 7 1 ∷
+    Line.Send 0 0 1 SendKind.Frame (1 ∷ 0 ∷ 1 ∷ u64 0 ++ u64 0 ++ 1 ∷ u64 0 ++ u64 5 ++ 0 ∷ u64 7 ++ u64 1 ++ 2 ∷ 1 ∷ 97 ∷ 0 ∷ 1 ∷ 98 ∷ []) ∷ [])
+    ∷ (Line.Submit 0 0 6 7 2 ∷
+    Line.Send 1 0 1 SendKind.Frame (1 ∷ 0 ∷ 1 ∷ u64 0 ++ u64 1 ++ 1 ∷ u64 0 ++ u64 6 ++ 0 ∷ u64 7 ++ u64 2 ++ 1 ∷ 1 ∷ 97 ∷ []) ∷ [])
+    ∷ (Line.Log 1 0 (stamp 5 0) ∷
+    Line.Exec 1 0 0 (stamp 5 0) 7 1 Answer.Done ∷
+    Line.Send 2 1 0 SendKind.Ack (2 ∷ 1 ∷ 0 ∷ u64 0 ++ u64 1 ++ []) ∷
+    Line.Send 3 1 0 SendKind.Frame (1 ∷ 1 ∷ 0 ∷ u64 0 ++ u64 0 ++ 2 ∷ u64 5 ++ 0 ∷ u64 20 ++ []) ∷
+    Line.Log 1 0 (stamp 6 0) ∷
+    Line.Exec 1 1 0 (stamp 6 0) 7 2 (Answer.Found (98 ∷ [])) ∷
+    Line.Send 4 1 0 SendKind.Ack (2 ∷ 1 ∷ 0 ∷ u64 0 ++ u64 2 ++ []) ∷
+    Line.Send 5 1 0 SendKind.Frame (1 ∷ 1 ∷ 0 ∷ u64 0 ++ u64 1 ++ 2 ∷ u64 6 ++ 0 ∷ u64 21 ++ []) ∷ [])
+    ∷ (Line.Final 0 State.Live 0 0 ∷
+    Line.Final 1 State.Live 0 2 ∷ [])
+    ∷ [])
+unfolding the_model
+transcript = refl

@@ -1,0 +1,12 @@
+//! Worked examples of the protocol: schedules, and the whole transcripts that the definitions of `crsm_spec` give for
+//! them, line for line and byte for byte. Each file of `proofs/` shows what its name says, by computation; there is no
+//! code.
+#![tactic(auto)]
+
+ghost use Rattle.crsm_law_examples.specs.Changing.{ChangesEpochs};
+
+/// There are possible runs in which an epoch is decided and a command is answered that the decision saved: the premises of
+/// the laws of all runs can be met.
+pub fn epochs_change()
+    ensures { ChangesEpochs }
+{}

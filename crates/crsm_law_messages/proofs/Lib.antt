@@ -1,0 +1,9 @@
+pub mod Words
+pub mod Gathered
+pub mod Effects
+pub mod History
+pub mod Telling
+pub mod Truth
+pub mod Worlds
+pub mod Coordinators
+pub mod Counted

@@ -1,0 +1,66 @@
+-- The laws of what is heard and of what was told.
+use Rattle.std.specs.Prelude.{◌≡◌, ℕ, ◌+◌, ◌<◌, IsTrue, length, Some, slice_get}
+use Rattle.crsm_base.specs.Messages.{control_bytes, FitsControl}
+use Rattle.crsm_base.specs.MessageReading.{control_of}
+use Rattle.crsm_spec.specs.Types.{Decision, Control}
+use Rattle.crsm_spec.specs.Log.{Log, known, decision, executed, suspended, promised, accepted}
+use Rattle.crsm_spec.specs.Replica.{Replica}
+use Rattle.crsm_spec.specs.Collect.{suspend_ok}
+use Rattle.crsm_spec.specs.Controls.{page_from}
+use Rattle.crsm_spec.specs.Step.{Input}
+use Rattle.crsm_spec.specs.World.{Site, World, log_at}
+use Rattle.crsm_law_steps.specs.Messages.{Hears}
+use Rattle.crsm_law_steps.specs.Laws.{Extends}
+use Rattle.crsm_law_steps.specs.Happenings.{Marks, CanCome, IsReached}
+use Rattle.crsm_law_messages.specs.Sayings.{Saying, WasTold}
+
+-- ---- what is heard was told
+
+-- k told j a message whose bytes are read as c
+pub record IsSource (n : ℕ) (w : World) (k j : ℕ) (c : Control) : Type 0 where
+  pub saying : Saying
+  pub from : saying.from ≡ k
+  pub to : saying.to ≡ j
+  pub was_told : WasTold n w saying
+  pub reads : control_of (control_bytes saying.message) ≡ Some c
+
+-- A replica j hears c of k: whatever was lost, came twice, or came in another order.
+pub record HearsIn (n : ℕ) (w : World) (k j : ℕ) (c : Control) : Type 0 where
+  pub reached : IsReached n w
+  pub marked : World
+  pub marks : Marks w marked
+  pub replica : Replica
+  pub up : slice_get marked.sites j ≡ Some (Site.Up replica)
+  pub input : Input
+  pub can_come : CanCome w j input
+  pub hears : Hears replica input k c
+
+-- What a replica hears of another was told to it by that one.
+abbrev pub HeardWasTold : Type 0
+HeardWasTold = (n : ℕ) (w : World) (k j : ℕ) (c : Control) → HearsIn n w k j c → IsSource n w k j c
+
+-- Where each message that was told has a spelling, it is the very message.
+abbrev pub HeardIsTold : Type 0
+HeardIsTold =
+    (n : ℕ) (w : World) (k j : ℕ) (c : Control) → HearsIn n w k j c → ((s : Saying) → WasTold n w s → FitsControl s.message) →
+    (s : Saying) × (s.from ≡ k) × (s.to ≡ j) × (s.message ≡ c) × WasTold n w s
+
+-- ---- what was told is true
+
+-- What a message says of the log of its teller, as it was when it was told.
+abbrev pub Says : Log → Control → Type 0
+Says log (Control.Suspend e after) = e ≡ known log
+Says log (Control.SuspendOk e done last after whole es) =
+    IsTrue (suspended log) × (Control.SuspendOk e done last after whole es ≡ suspend_ok log after)
+Says log (Control.P1a i b) = i ≡ known log + 1
+Says log (Control.P1b i b v) = (i ≡ known log + 1) × (promised log ≡ b) × (v ≡ accepted log)
+Says log (Control.P1no i b top) = (i ≡ known log + 1) × (top ≡ promised log)
+Says log (Control.P2a i b d) = i ≡ known log + 1
+Says log (Control.P2b i b) = (i ≡ known log + 1) × (d : Decision) × (accepted log ≡ Some (b, d))
+Says log (Control.Decide d) = decision log ≡ Some d
+Says log (Control.Retrieve e from) = (e ≡ known log) × (from ≡ length (executed log))
+Says log (Control.Page e from es) = (from < length (executed log)) × (Control.Page e from es ≡ page_from log from)
+
+-- What was told is true of an earlier log of its teller, which the teller's log goes on from.
+abbrev pub ToldIsTrue : Type 0
+ToldIsTrue = (n : ℕ) (w : World) (s : Saying) → WasTold n w s → (old : Log) × Extends old (log_at w s.from) × Says old s.message

@@ -1,0 +1,49 @@
+//! What a replica hears was told to it, and what was told is true of its teller's log.
+#![tactic(auto)]
+
+ghost use Rattle.crsm_law_messages.specs.Laws.{HeardWasTold, HeardIsTold, ToldIsTrue};
+ghost use Rattle.crsm_law_messages.specs.Proposals.{CoordinatorsAreTrue, AskedWasAsked, ProposedWasProposed};
+ghost use Rattle.crsm_law_messages.specs.Counted.{AnswersAreTrue, VotesAreTrue};
+
+/// What a replica hears was told to it by the replica of which it hears, in parts that were lost, came twice or came in
+/// another order.
+pub fn heard_was_told()
+    ensures { HeardWasTold }
+{}
+
+/// Where the messages that were told have spellings, a replica hears the very messages that were told.
+pub fn heard_is_told()
+    ensures { HeardIsTold }
+{}
+
+/// What was told is true of an earlier log of its teller, which the teller's log goes on from.
+pub fn told_is_true()
+    ensures { ToldIsTrue }
+{}
+
+/// What a coordinator's coordinator says is true of its past: it asked for its ballot, and the answers and the votes that it has
+/// counted came to it.
+pub fn coordinators_are_true()
+    ensures { CoordinatorsAreTrue }
+{}
+
+/// Who tells that it asks for a ballot has asked for it.
+pub fn asked_was_asked()
+    ensures { AskedWasAsked }
+{}
+
+/// A decision that is told as proposed in a ballot was proposed in that ballot, with the answers of a majority.
+pub fn proposed_was_proposed()
+    ensures { ProposedWasProposed }
+{}
+
+/// Each answer that a coordinator has counted is a promise on record at the replica that answered, with what that replica had
+/// accepted then.
+pub fn answers_are_true()
+    ensures { AnswersAreTrue }
+{}
+
+/// Each vote that a coordinator has counted is an acceptance on record at the replica that voted.
+pub fn votes_are_true()
+    ensures { VotesAreTrue }
+{}

@@ -1,0 +1,11 @@
+-- What is seen on the way to a world: the lines of the first boots, and those of each moment with the act that led to it.
+use Rattle.std.specs.Prelude.{ℕ, List, ◌++◌, map, Some, None}
+use Rattle.crsm_spec.specs.World.{World, Moment, begin, first_lines}
+use Rattle.crsm_spec.specs.Acts.{Act}
+use Rattle.crsm_spec.specs.Run.{Told, told_by}
+use Rattle.crsm_law_steps.specs.Happenings.{Happens, IsLedBy}
+
+pub data IsSeen (n : ℕ) : World → List Told → Type 0 where
+  boots : IsSeen n (begin n) (map (told_by None) (first_lines n))
+  then_on : {w : World} {m : Moment} {lines : List Told} → IsSeen n w lines → (a : Act) (h : Happens w m) → IsLedBy a h →
+      IsSeen n m.after (lines ++ map (told_by (Some a)) m.lines)

@@ -1,5 +1,0 @@
-use Rattle.crsm_logs.proofs.Worlds.{decisions_are_ordered}
-use Rattle.crsm_logs.proofs.decisions_are_ordered.Goals as goal
-
-pub returns : goal.returns
-returns c n w r k = decisions_are_ordered n w r k

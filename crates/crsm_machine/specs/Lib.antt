@@ -1,0 +1,4 @@
+pub mod Arriving
+pub mod Inlets
+pub mod Outcomes
+pub mod Machine

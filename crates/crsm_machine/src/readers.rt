@@ -1,0 +1,107 @@
+//! What a site tells.
+
+ghost use Rattle.std.specs.Prelude.{◌≡◌, ◌∷◌, [], ℕ, length, is_some, IfOk, IfSome, if◌then◌else◌};
+ghost use Rattle.crsm_spec.specs.Log as logs;
+ghost use Rattle.crsm_spec.specs.Replica.{Replica};
+ghost use Rattle.crsm_spec.specs.World as world;
+ghost use Rattle.crsm_ledger.specs.Ledger.{StandsFor as SaysOfLog};
+ghost use Rattle.crsm_disk.specs.Memory.{meaning_of};
+ghost use Rattle.crsm_shell.specs.Shell.{ShellStands};
+ghost use Rattle.crsm_shell.specs.Words.{disk_of};
+ghost use Rattle.crsm_machine.specs.Outcomes.{spec_at};
+ghost use Rattle.crsm_machine.specs.Machine.{SiteStands, IsToldOf};
+
+use crate::left::{NOTHING, Told, told_by};
+use crate::place::Place;
+use crate::site::Site;
+use crsm_base::{Members, NoMemory, State};
+use crsm_disk::MemDisk;
+use crsm_ledger::Ledger;
+use crsm_shell::Shell;
+
+impl Site {
+    /// Whether the replica is up.
+    #[tactic(auto, unfolding(crate::specs::Machine::SiteStands, crsm_spec::specs::World::is_up))]
+    pub fn is_up(&self) -> bool
+        ensures { (me n : ℕ) (s : world.Site) → SiteStands self.now me n s → result ≡ world.is_up s }
+    {
+        matches!(&self.place, Place::Up(_))
+    }
+
+    /// The shell of a replica that is up.
+    #[tactic(auto, unfolding(crate::specs::Machine::SiteStands, crsm_spec::specs::World::is_up))]
+    pub fn shell(&self) -> Option<&Shell<MemDisk>>
+        ensures up { (me n : ℕ) (s : world.Site) → SiteStands self.now me n s → is_some result ≡ world.is_up s }
+        ensures stands { IfSome result (λ shell. (me n : ℕ) (r : Replica) → SiteStands self.now me n (world.Site.Up r) → ShellStands shell.now (meaning_of (disk_of shell.now)) r.log r []) }
+    {
+        match &self.place {
+            Place::Up(shell) => Some(shell),
+            Place::Down(_) => None,
+            Place::Spent => None,
+        }
+    }
+
+    /// What the records of its log say.
+    #[tactic(auto, unfolding(crate::specs::Machine::SiteStands, crsm_spec::specs::World::log_of))]
+    fn told(&self) -> Told
+        ensures { (me n : ℕ) (s : world.Site) → SiteStands self.now me n s → IsToldOf result (world.log_of s) }
+    {
+        match &self.place {
+            Place::Up(shell) => told_by(shell.state()),
+            Place::Down(left) => left.told,
+            Place::Spent => NOTHING,
+        }
+    }
+
+    /// The known epoch.
+    pub fn known(&self) -> u64
+        ensures { (me n : ℕ) (s : world.Site) → SiteStands self.now me n s → result ≡ logs.known (world.log_of s) }
+    {
+        self.told().known
+    }
+
+    /// How many entries are executed.
+    pub fn executed_len(&self) -> u64
+        ensures { (me n : ℕ) (s : world.Site) → SiteStands self.now me n s → result ≡ length (logs.executed (world.log_of s)) }
+    {
+        self.told().executed
+    }
+
+    /// How the replica stands.
+    #[tactic(auto, unfolding(crate::specs::Machine::SiteStands, crsm_spec::specs::World::state_of))]
+    pub fn state(&self) -> State
+        ensures { (me n : ℕ) (s : world.Site) → SiteStands self.now me n s → result ≡ world.state_of s }
+    {
+        match &self.place {
+            Place::Up(shell) => state_of(shell.state()),
+            Place::Down(_) => State::Down,
+            Place::Spent => State::Down,
+        }
+    }
+
+    /// The replicas whose majorities count in the known epoch of a replica that is up.
+    #[tactic(auto, unfolding(crate::specs::Machine::SiteStands, crate::specs::Outcomes::spec_at))]
+    pub fn spec(&self) -> Result<Option<Members>, NoMemory>
+        ensures { IfOk result (λ members. (me n : ℕ) (s : world.Site) → SiteStands self.now me n s → members ≡ spec_at n s) }
+    {
+        match &self.place {
+            Place::Up(shell) => Ok(Some(shell.state().spec()?)),
+            Place::Down(_) => Ok(None),
+            Place::Spent => Ok(None),
+        }
+    }
+}
+
+/// How a replica that is up stands, by its ledger.
+#[tactic(auto, unfolding(crsm_spec::specs::Log::active))]
+fn state_of(ledger: &Ledger) -> State
+    ensures { (me n : ℕ) (log : logs.Log) → SaysOfLog me n ledger.now log → result ≡ (if logs.active log then State.Live else if logs.live log then State.Held else State.Out) }
+{
+    if !ledger.live() {
+        return State::Out;
+    }
+    if ledger.suspended() {
+        return State::Held;
+    }
+    State::Live
+}

@@ -1,0 +1,126 @@
+//! A decision of one's own begins to be proposed.
+
+ghost use Rattle.std.specs.Prelude.{◌≡◌, ◌+◌, ◌<◌, ◌^◌, ℕ, List, [], ◌∷◌, true, IfOk};
+ghost use Rattle.crsm_base.specs.Spelling.{FitsBallot};
+ghost use Rattle.crsm_base.specs.declared.Ballot.{Ballot as BallotOnPaper};
+ghost use Rattle.crsm_spec.specs.Log.{decision, accepted};
+ghost use Rattle.crsm_spec.specs.Paxos.{value_of};
+ghost use Rattle.crsm_spec.specs.Quorum.{has_majority};
+ghost use Rattle.crsm_spec.specs.Replica.{spec_of};
+ghost use Rattle.crsm_spec.specs.Draft.{Draft};
+ghost use Rattle.crsm_spec.specs.Coordinate.{greater_ballot, begin_proposing};
+ghost use Rattle.crsm_coordinator.specs.Coordinator.{CoordinatorStands, IsOwn, answered};
+ghost use Rattle.crsm_replica.specs.Replica.{StandsFor};
+ghost use Rattle.crsm_reconfigure.specs.Rules.{CanPropose, BeginsAlike, MakesWhere};
+
+use crate::fitting::fits_own;
+use crate::promising::{is_below, promise};
+use crate::renewing::accept_and_tell;
+use crate::telling::{next_instance, tell_ask};
+use crsm_base::{Ballot, Decision, NoMemory};
+use crsm_coordinator::Coordinator;
+use crsm_replica::{Desk, desks_are_sound};
+
+/// Whether the records would fit that come of beginning to propose this decision of one's own, one round above what was
+/// promised and seen. They fit alike in whatever the coordinator is and whether the epoch is suspended.
+pub fn may_begin(desk: &Desk, own: &Decision, seen: Ballot) -> Result<bool, NoMemory>
+    ensures { IfOk result (λ fit. (x y : Draft) → StandsFor desk.now x → CanPropose own.now seen x → BeginsAlike x y → fit ≡ (begin_proposing own.now seen y).fitting) }
+{
+    desks_are_sound();
+    let top = greater(desk.promised(), seen);
+    if top.round == u64::MAX {
+        return Ok(true);
+    }
+    let is_alone = is_alone(desk)?;
+    if !is_alone {
+        return Ok(true);
+    }
+    let ballot = above(top, desk.me());
+    let accepted = desk.accepted()?;
+    let value = value_alone(own, &accepted);
+    let fits = fits_own(desk, ballot, value, true)?;
+    Ok(fits)
+}
+
+/// Begins proposing a decision of one's own, one round above what was promised and seen. Where there is no such round the
+/// coordinator is at nothing.
+pub fn begin_proposing(desk: &mut Desk, own: Decision, seen: Ballot) -> Result<(), NoMemory>
+    ensures { MakesWhere (λ x. CanPropose own seen x × ((begin_proposing own seen x).fitting ≡ true)) (begin_proposing own seen) desk.old result desk.new }
+{
+    desks_are_sound();
+    let top = greater(desk.promised(), seen);
+    if top.round == u64::MAX {
+        desk.set_coordinator(Coordinator::quiet());
+        return Ok(());
+    }
+    let is_alone = is_alone(desk)?;
+    let coordinator = asking(desk, own, top)?;
+    let ballot = above(top, desk.me());
+    let instance = next_instance(desk)?;
+    promise(desk, instance, ballot)?;
+    desk.set_coordinator(coordinator);
+    if is_alone {
+        accept_and_tell(desk)?;
+        return Ok(());
+    }
+    tell_ask(desk)?;
+    Ok(())
+}
+
+/// The coordinator of one that asks for a ballot in the round after this one, with its own promise counted.
+fn asking(desk: &Desk, own: Decision, top: Ballot) -> Result<Coordinator, NoMemory>
+    ensures { IfOk result (λ coordinator. (x : Draft) (round : ℕ) → StandsFor desk.now x → IsOwn x.replica.me x.replica.n (decision x.replica.log) own → round ≡ top.round + 1 → FitsBallot (record { round = round; by = x.replica.me }) →
+        CoordinatorStands coordinator x.replica.me x.replica.n (decision x.replica.log) (answered (spec_of x.replica) (record { round = round; by = x.replica.me }) own (record { replica = x.replica.me; accepted = accepted x.replica.log } ∷ []))) }
+{
+    desks_are_sound();
+    let me = desk.me();
+    let spec = desk.spec()?;
+    let accepted = desk.accepted()?;
+    let coordinator = Coordinator::asking(desk.alloc(), own, top, me, &spec, accepted)?;
+    Ok(coordinator)
+}
+
+/// Whether this replica alone is a majority.
+pub(crate) fn is_alone(desk: &Desk) -> Result<bool, NoMemory>
+    ensures { IfOk result (λ alone. (x : Draft) → StandsFor desk.now x → alone ≡ has_majority (spec_of x.replica) (x.replica.me ∷ [])) }
+{
+    let spec = desk.spec()?;
+    Ok(is_majority_of(spec.as_slice(), desk.me()))
+}
+
+/// Whether one replica is a majority of these.
+#[tactic(auto, unfolding(crsm_spec::specs::Quorum::has_majority, crsm_spec::specs::Lists::has))]
+fn is_majority_of(spec: &[u32], replica: u32) -> bool
+    ensures { result ≡ has_majority spec.now (replica ∷ []) }
+{
+    let votes = spec.iter().filter(|other| **other == replica).count();
+    spec.len() / 2 < votes
+}
+
+/// The value that a replica proposes which only itself has answered.
+fn value_alone<'a>(own: &'a Decision, accepted: &'a Option<(Ballot, Decision)>) -> &'a Decision
+    ensures { (me : ℕ) → result.now ≡ value_of own.now (record { replica = me; accepted = accepted.now } ∷ []) }
+{
+    match accepted {
+        Some((_, value)) => value,
+        None => own,
+    }
+}
+
+/// Of two ballots the greater one.
+fn greater(a: Ballot, b: Ballot) -> Ballot
+    ensures { result ≡ greater_ballot a b }
+{
+    if is_below(a, b) { b } else { a }
+}
+
+/// The ballot of a replica in the round after that of another ballot, which is not the last one.
+fn above(top: Ballot, me: u32) -> Ballot
+    requires { top.round + 1 < 2 ^ 64 }
+    ensures { result ≡ record { round = top.round + 1; by = me } }
+{
+    Ballot {
+        round: top.round + 1,
+        by: me,
+    }
+}

@@ -1,0 +1,4 @@
+pub mod Again
+pub mod Recorded
+pub mod Sound
+pub mod Replica

@@ -1,0 +1,98 @@
+//! The single changes of a step that are no records: votes, datagrams and waiting clients.
+
+ghost use Rattle.std.specs.Prelude.{◌≡◌, ◌<◌, [], ◌∷◌, ◌++◌, IfOk};
+ghost use Rattle.crsm_base.specs.Messages.{FitsDatagram};
+ghost use Rattle.crsm_base.specs.Spelling.{FitsCommand, FitsEntry, refusal_number};
+ghost use Rattle.crsm_spec.specs.Log.{known};
+ghost use Rattle.crsm_spec.specs.Types.{Line};
+ghost use Rattle.crsm_spec.specs.Draft.{send, count_vote};
+ghost use Rattle.crsm_spec.specs.Clients.{refuse, await};
+ghost use Rattle.crsm_replica.specs.Replica.{StandsFor, Makes};
+
+use crate::desk::{Desk, Waiting};
+use crsm_base::{Command, Datagram, Entry, Line, NoMemory, Outcome, Refusal, Stamp};
+use crsm_output::Reply;
+
+impl Desk {
+    #[tactic(auto, unfolding(crate::specs::Replica::StandsFor))]
+    /// Counts a vote.
+    pub fn count_vote(&mut self, stamp: Stamp, k: u32) -> Result<(), NoMemory>
+        requires { k < 15 }
+        ensures { Makes (count_vote stamp k) self.old result self.new }
+    {
+        let last = self.ledger.last_stamp();
+        self.running.count_vote(stamp, k, last)?;
+        Ok(())
+    }
+
+    #[tactic(auto, unfolding(crate::specs::Replica::StandsFor))]
+    /// Sends a datagram to a replica.
+    pub fn send(&mut self, k: u32, datagram: Datagram) -> Result<(), NoMemory>
+        requires to { k < 15 }
+        requires spelt { FitsDatagram datagram }
+        ensures { Makes (send k datagram) self.old result self.new }
+    {
+        self.output.send(k, datagram)?;
+        Ok(())
+    }
+
+    #[tactic(auto, unfolding(crate::specs::Replica::StandsFor))]
+    /// Tells a client why its command is not taken.
+    pub fn refuse(&mut self, address: u64, command: &Command, why: Refusal) -> Result<(), NoMemory>
+        requires { FitsCommand command.now }
+        ensures { Makes (refuse address command.now why) self.old result self.new }
+    {
+        self.output.reply(Reply {
+            address,
+            client: command.client,
+            number: command.number,
+            says: Outcome::Refused(why),
+            line: Line::ReplyNo {
+                replica: self.me,
+                client: command.client,
+                number: command.number,
+                code: code_of(why),
+            },
+        })?;
+        Ok(())
+    }
+
+    #[tactic(auto, unfolding(crate::specs::Replica::StandsFor))]
+    /// A client waits for the entry.
+    pub fn await_entry(&mut self, address: u64, entry: Entry) -> Result<(), NoMemory>
+        requires { FitsEntry entry }
+        ensures { Makes (await address entry) self.old result self.new }
+    {
+        self.waiting.push(Waiting { address, entry })?;
+        Ok(())
+    }
+
+    #[tactic(auto, unfolding(crate::specs::Replica::StandsFor))]
+    /// A collection is past its limits: so many entries, of so many bytes.
+    pub fn refuse_collection(&mut self, count: u64, bytes: u64) -> Result<(), NoMemory>
+        ensures { Makes (λ x. record x { excess = x.excess ++ Line.TooMany x.replica.me (known x.replica.log) count bytes ∷ [] }) self.old result self.new }
+    {
+        let epoch = self.known();
+        self.output.exceed(Line::TooMany {
+            replica: self.me,
+            epoch,
+            count,
+            bytes,
+        })?;
+        Ok(())
+    }
+}
+
+/// The number that stands for a refusal in its line.
+fn code_of(why: Refusal) -> u32
+    ensures { result ≡ refusal_number why }
+{
+    match why {
+        Refusal::NotLive => 1,
+        Refusal::Suspended => 2,
+        Refusal::Busy => 3,
+        Refusal::Congested => 4,
+        Refusal::ClockSpent => 5,
+        Refusal::Dropped => 6,
+    }
+}

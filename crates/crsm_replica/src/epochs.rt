@@ -1,0 +1,92 @@
+//! The changes of epochs, and the coordinator's coordinator.
+
+ghost use Rattle.std.specs.Prelude.{◌≡◌, ℕ, IfOk};
+ghost use Rattle.crsm_base.specs.Spelling.{FitsDecision};
+ghost use Rattle.crsm_ledger.specs.Ledger.{StandsFor as SaysOfLog};
+ghost use Rattle.crsm_coordinator.specs.Coordinator.{CoordinatorStands};
+ghost use Rattle.crsm_spec.specs.Log.{Log, decision};
+ghost use Rattle.crsm_spec.specs.Types.{Rec};
+ghost use Rattle.crsm_spec.specs.Replica.{Coordinator};
+ghost use Rattle.crsm_spec.specs.Draft.{Draft, noting};
+ghost use Rattle.crsm_spec.specs.Coordinate.{enter};
+ghost use Rattle.crsm_spec.specs.Step.{if_fitting};
+ghost use Rattle.crsm_replica.specs.Replica.{StandsFor, AwaitsBoot, Makes, learnt};
+
+use crate::desk::Desk;
+use crate::records::put;
+use crsm_base::{Decision, NoMemory, Rec};
+use crsm_coordinator::Coordinator as CoordinatorInMemory;
+use crsm_epoch_state::EpochState;
+use crsm_ledger::Ledger;
+use crsm_wire::is_rec_spelt;
+
+impl Desk {
+    #[tactic(auto, unfolding(crate::specs::Replica::StandsFor))]
+    /// Learns a decision: the old epoch is over, and with it any coordinator. `false` comes exactly where it does not fit, and the desk is as before.
+    pub fn learn_decision(&mut self, decision: &Decision) -> Result<bool, NoMemory>
+        ensures { IfOk result (λ fit. (x : Draft) → StandsFor self.old x → FitsDecision decision.now → (fit ≡ (learnt decision.now x).fitting) × StandsFor self.new (if_fitting x (learnt decision.now x))) }
+    {
+        let rec = Rec::Decide {
+            decision: decision.copy(self.alloc)?,
+        };
+        if !is_rec_spelt(&rec) {
+            return Err(NoMemory);
+        }
+        let fit = put(&mut self.ledger, &mut self.output, rec)?;
+        if !fit {
+            return Ok(false);
+        }
+        self.running = EpochState::new(self.alloc);
+        self.coordinator = CoordinatorInMemory::quiet();
+        Ok(true)
+    }
+
+    #[tactic(auto, unfolding(crate::specs::Replica::StandsFor))]
+    /// Enters the known epoch where that fits.
+    pub fn enter(&mut self) -> Result<(), NoMemory>
+        ensures { Makes (enter) self.old result self.new }
+    {
+        let epoch = self.known();
+        let rec = Rec::Enter { epoch };
+        let fit = put(&mut self.ledger, &mut self.output, rec)?;
+        if !fit {
+            return Ok(());
+        }
+        self.running = EpochState::new(self.alloc);
+        Ok(())
+    }
+
+    #[tactic(auto, unfolding(crate::specs::Replica::StandsFor))]
+    /// What the coordinator is at.
+    pub fn coordinator(&self) -> &CoordinatorInMemory
+        ensures { (x : Draft) → StandsFor self.now x → CoordinatorStands result.now x.replica.me x.replica.n (decision x.replica.log) x.replica.coordinator }
+    {
+        &self.coordinator
+    }
+
+    #[tactic(auto, unfolding(crate::specs::Replica::StandsFor))]
+    /// The coordinator is at this from now on, where it stands for a coordinator on paper.
+    pub fn set_coordinator(&mut self, coordinator: CoordinatorInMemory)
+        ensures { (x : Draft) (m : Coordinator) → StandsFor self.old x → CoordinatorStands coordinator x.replica.me x.replica.n (decision x.replica.log) m → StandsFor self.new (noting m x) }
+    {
+        self.coordinator = coordinator;
+    }
+
+    #[tactic(auto, unfolding(crate::specs::Replica::StandsFor))]
+    /// Takes the coordinator out: the coordinator is at nothing then.
+    pub fn take_coordinator(&mut self) -> CoordinatorInMemory
+        ensures coordinator { (x : Draft) → StandsFor self.old x → CoordinatorStands result x.replica.me x.replica.n (decision x.replica.log) x.replica.coordinator }
+        ensures quiet { (x : Draft) → StandsFor self.old x → StandsFor self.new (noting Coordinator.Idle x) }
+    {
+        std::mem::replace(&mut self.coordinator, CoordinatorInMemory::quiet())
+    }
+
+    #[tactic(auto, unfolding(crate::specs::Replica::StandsFor, crate::specs::Replica::AwaitsBoot))]
+    /// The ledger.
+    pub fn ledger(&self) -> &Ledger
+        ensures before { (me n : ℕ) (log : Log) → AwaitsBoot self.now me n log → SaysOfLog me n result.now log }
+        ensures stands { (x : Draft) → StandsFor self.now x → SaysOfLog x.replica.me x.replica.n result.now x.replica.log }
+    {
+        &self.ledger
+    }
+}

@@ -1,0 +1,86 @@
+//! The frames of a step: new ones, and those that go again.
+
+ghost use Rattle.std.specs.Prelude.{◌≡◌, ◌<◌, [], ◌∷◌, ◌++◌, map, All, OnOk};
+ghost use Rattle.crsm_output.specs.Made.{Made, Holds};
+ghost use Rattle.crsm_epoch_state.specs.Linked.{others_of};
+ghost use Rattle.crsm_epoch_state.specs.EpochState.{Runs};
+ghost use Rattle.crsm_spec.specs.Log.{known};
+ghost use Rattle.crsm_spec.specs.Replica.{Replica};
+ghost use Rattle.crsm_spec.specs.Draft.{next_frame};
+ghost use Rattle.crsm_replica.specs.Again.{frame_again};
+
+use crsm_base::{Datagram, InEpoch, NoMemory};
+use crsm_epoch_state::EpochState;
+use crsm_output::Output;
+use std::alloc::Global;
+
+/// Sends the next frame to each of these members but me.
+pub fn send_next(
+    alloc: Global,
+    output: &mut Output,
+    running: &EpochState,
+    me: u32,
+    epoch: u64,
+    members: &[u32],
+    payload: &InEpoch,
+) -> Result<(), NoMemory>
+    requires { All (λ k. k < 15) members.now }
+    ensures { OnOk result ((r : Replica) (m : Made) → Runs running.now r → Holds output.old m → me ≡ r.me → epoch ≡ known r.log →
+        Holds output.new (record m { sends = m.sends ++ map (next_frame r payload.now) (others_of me members.now) })) }
+{
+    for k in members {
+        if *k != me {
+            send_frame(output, running, me, epoch, *k, payload.copy(alloc)?)?;
+        }
+    }
+    Ok(())
+}
+
+/// Sends the next frame to replica `k`.
+fn send_frame(
+    output: &mut Output,
+    running: &EpochState,
+    me: u32,
+    epoch: u64,
+    k: u32,
+    payload: InEpoch,
+) -> Result<(), NoMemory>
+    requires { k < 15 }
+    ensures { OnOk result ((r : Replica) (m : Made) → Runs running.now r → Holds output.old m → me ≡ r.me → epoch ≡ known r.log →
+        Holds output.new (record m { sends = m.sends ++ next_frame r payload k ∷ [] })) }
+{
+    let seq = running.pushed_to(k);
+    let datagram = Datagram::Frame {
+        from: me,
+        to: k,
+        epoch,
+        seq,
+        payload,
+    };
+    output.send(k, datagram)?;
+    Ok(())
+}
+
+/// Sends frames to replica `to` again.
+pub fn send_again(
+    alloc: Global,
+    output: &mut Output,
+    me: u32,
+    epoch: u64,
+    to: u32,
+    frames: &[(u64, InEpoch)],
+) -> Result<(), NoMemory>
+    ensures { OnOk result ((m : Made) → Holds output.old m → Holds output.new (record m { sends = m.sends ++ map (frame_again me epoch to) frames.now })) }
+{
+    for frame in frames {
+        let datagram = Datagram::Frame {
+            from: me,
+            to,
+            epoch,
+            seq: frame.0,
+            payload: frame.1.copy(alloc)?,
+        };
+        output.send(to, datagram)?;
+    }
+    Ok(())
+}

@@ -1,0 +1,70 @@
+//! The parts of control messages that have come, of all replicas that there can be.
+
+ghost use Rattle.std.specs.Prelude.{◌≡◌, ◌<◌, true, List, [], IfOk};
+ghost use Rattle.crsm_segment.specs.Gather.{StandsFor as HasGathered};
+ghost use Rattle.crsm_segment.specs.Taking.{is_sized, piece, whole_of};
+ghost use Rattle.crsm_spec.specs.Parts.{Piece, with_part, whole_with};
+
+use crsm_base::{Bytes, MAX_REPLICAS, NoMemory};
+use crsm_segment::{Gather, Taken, parts_of_datagrams};
+use std::alloc::Global;
+use std::marker::Model;
+
+/// The parts of control messages that have come.
+#[derive(Drop)]
+pub struct Gathered {
+    inside: Gather,
+}
+
+impl Model for Gathered {
+    ghost use Rattle.std.specs.Prelude.{◌≡◌, List, Option, length};
+    ghost use Rattle.crsm_segment.specs.Gathering.{Gathering};
+
+    ghost Value = { List (Option Gathering) };
+
+    ghost view = { λ g. g.inside };
+
+    ghost invariant = { λ g. length g.inside ≡ 15 };
+}
+
+impl Gathered {
+    /// None has come.
+    pub fn new(alloc: Global) -> Result<Gathered, NoMemory>
+        ensures { IfOk result (λ gathered. HasGathered gathered []) }
+    {
+        Ok(Gathered {
+            inside: Gather::new(alloc, MAX_REPLICAS)?,
+        })
+    }
+
+    /// Takes a part, which is as long as it has to be, and gives the message that is whole with it.
+    pub fn take(
+        &mut self,
+        from: u32,
+        boot: u64,
+        number: u64,
+        index: u32,
+        count: u32,
+        bytes: &[u8],
+    ) -> Result<Option<Bytes>, NoMemory>
+        requires from { from < 15 }
+        requires sized { is_sized (piece from boot number index count bytes.now) ≡ true }
+        ensures { IfOk result (λ whole. (parts : List Piece) → HasGathered self.old parts →
+            HasGathered self.new (with_part (piece from boot number index count bytes.now) parts) × (whole ≡ whole_with (piece from boot number index count bytes.now) parts)) }
+    {
+        parts_of_datagrams();
+        let taken = self.inside.take(from, boot, number, index, count, bytes)?;
+        Ok(whole_message(taken))
+    }
+}
+
+/// The message that an answer gives.
+#[tactic(auto, unfolding(crsm_segment::specs::Taking::whole_of))]
+fn whole_message(taken: Taken) -> Option<Bytes>
+    ensures { result ≡ whole_of taken }
+{
+    match taken {
+        Taken::Whole(message) => Some(message),
+        Taken::More | Taken::Old | Taken::Odd => None,
+    }
+}

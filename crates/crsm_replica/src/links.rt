@@ -1,0 +1,116 @@
+//! The changes that concern the numbered links and the clock.
+
+ghost use Rattle.std.specs.Prelude.{◌≡◌, ◌≢◌, ℕ, ◌<◌, ◌≤◌, List, ◌∷◌, length, Some, IfOk};
+ghost use Rattle.crsm_base.specs.Messages.{FitsPayload};
+ghost use Rattle.crsm_base.specs.Spelling.{FitsStamp};
+ghost use Rattle.crsm_base.specs.declared.Stamp.{Stamp};
+ghost use Rattle.crsm_spec.specs.Replica.{latest_from, frames_to};
+ghost use Rattle.crsm_spec.specs.Draft.{Draft, would, push_to_members, issued_at};
+ghost use Rattle.crsm_spec.specs.Frames.{ack, owe, owing, again_to};
+ghost use Rattle.crsm_replica.specs.Replica.{StandsFor, Makes};
+
+use crate::desk::Desk;
+use crate::frames::{send_again, send_next};
+use crsm_base::{Datagram, InEpoch, NoMemory, Stamp};
+
+impl Desk {
+    #[tactic(auto, unfolding(crate::specs::Replica::StandsFor))]
+    /// Issues this time, which it would issue at some reading, and pushes a payload to the other members.
+    pub fn push_at(&mut self, time: u64, payload: InEpoch) -> Result<(), NoMemory>
+        ensures { IfOk result (λ _. (x : Draft) (reading : ℕ) → StandsFor self.old x → FitsPayload payload → would x reading ≡ Some time → StandsFor self.new (push_to_members payload (issued_at time x))) }
+    {
+        let number = self.me();
+        send_next(
+            self.alloc,
+            &mut self.output,
+            &self.running,
+            number,
+            self.ledger.known().epoch,
+            self.ledger.known().members.as_slice(),
+            &payload,
+        )?;
+        self.running
+            .push_at(time, number, &self.ledger.known().members, &payload)?;
+        Ok(())
+    }
+
+    #[tactic(auto, unfolding(crate::specs::Replica::StandsFor))]
+    /// Takes the next frame of another replica k, and with it this time, which is above the latest of k.
+    pub fn take_next(&mut self, k: u32, time: u64) -> Result<(), NoMemory>
+        requires { k < 15 }
+        ensures { IfOk result (λ _. (x : Draft) → StandsFor self.old x → k ≢ x.replica.me → latest_from x.replica.heard k < time → StandsFor self.new (record x { replica = record x.replica { taken = k ∷ x.replica.taken; heard = (k, time) ∷ x.replica.heard } })) }
+    {
+        self.running.take_next(k, time);
+        Ok(())
+    }
+
+    #[tactic(auto, unfolding(crate::specs::Replica::StandsFor))]
+    /// Tells k which frame is expected next.
+    pub fn ack(&mut self, k: u32) -> Result<(), NoMemory>
+        requires { k < 15 }
+        ensures { Makes (ack k) self.old result self.new }
+    {
+        let epoch = self.known();
+        let next = self.running.next_from(k);
+        self.output.send(
+            k,
+            Datagram::Ack {
+                from: self.me,
+                to: k,
+                epoch,
+                next,
+            },
+        )?;
+        Ok(())
+    }
+
+    #[tactic(auto, unfolding(crate::specs::Replica::StandsFor))]
+    /// All frames to k below this number, of those that were pushed, have come.
+    pub fn acked(&mut self, k: u32, next: u64) -> Result<(), NoMemory>
+        requires { k < 15 }
+        ensures { IfOk result (λ _. (x : Draft) → StandsFor self.old x → next ≤ length (frames_to x.replica k) → StandsFor self.new (record x { replica = record x.replica { acked = (k, next) ∷ x.replica.acked } })) }
+    {
+        self.running.acked(k, next);
+        Ok(())
+    }
+
+    #[tactic(auto, unfolding(crate::specs::Replica::StandsFor))]
+    /// Owes an acknowledgement.
+    pub fn owe(&mut self, stamp: Stamp) -> Result<(), NoMemory>
+        requires { FitsStamp stamp }
+        ensures { Makes (owe stamp) self.old result self.new }
+    {
+        self.running.owe(stamp)?;
+        Ok(())
+    }
+
+    #[tactic(auto, unfolding(crate::specs::Replica::StandsFor))]
+    /// The acknowledgement that was owed first is owed no more.
+    pub fn paid(&mut self) -> Result<(), NoMemory>
+        ensures { IfOk result (λ _. (x : Draft) (s : Stamp) (ss : List Stamp) → StandsFor self.old x → x.replica.owed ≡ s ∷ ss → StandsFor self.new (owing ss x)) }
+    {
+        self.running.paid();
+        Ok(())
+    }
+
+    #[tactic(auto, unfolding(crate::specs::Replica::StandsFor))]
+    /// Sends the first unacknowledged frames to k again.
+    pub fn again_to(&mut self, k: u32) -> Result<(), NoMemory>
+        requires { k < 15 }
+        ensures { Makes (λ x. again_to x k) self.old result self.new }
+    {
+        if self.running.pushed_to(k) == 0 {
+            return Ok(());
+        }
+        let due = self.running.due(k)?;
+        send_again(
+            self.alloc,
+            &mut self.output,
+            self.me,
+            self.ledger.known().epoch,
+            k,
+            due.as_slice(),
+        )?;
+        Ok(())
+    }
+}

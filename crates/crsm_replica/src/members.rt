@@ -1,0 +1,92 @@
+//! Which replicas are members of the known epoch, and which are counted.
+
+ghost use Rattle.std.specs.Prelude.{◌≡◌, ◌==◌, ◌<◌, ◌≤◌, not, filter, All, IfOk};
+ghost use Rattle.crsm_spec.specs.Lists.{has};
+ghost use Rattle.crsm_spec.specs.Replica.{members_of, spec_of, others, other_members};
+ghost use Rattle.crsm_spec.specs.Draft.{Draft};
+ghost use Rattle.crsm_replica.specs.Replica.{StandsFor};
+
+use crate::desk::Desk;
+use crsm_base::{Members, NoMemory};
+use std::alloc::Global;
+
+impl Desk {
+    #[tactic(auto, unfolding(crate::specs::Replica::StandsFor))]
+    /// Whether k is a member of the known epoch.
+    pub fn is_member(&self, k: u32) -> bool
+        ensures { (x : Draft) → StandsFor self.now x → result ≡ has (members_of x.replica) k }
+    {
+        is_among(self.ledger.known().members.as_slice(), k)
+    }
+
+    #[tactic(auto, unfolding(crate::specs::Replica::StandsFor))]
+    /// Whether k is counted in the known epoch.
+    pub fn is_of_spec(&self, k: u32) -> bool
+        ensures { (x : Draft) → StandsFor self.now x → result ≡ has (spec_of x.replica) k }
+    {
+        match &self.ledger.known().spec {
+            Some(spec) => is_among(spec.as_slice(), k),
+            None => k < self.ledger.n(),
+        }
+    }
+
+    #[tactic(auto, unfolding(crate::specs::Replica::StandsFor))]
+    /// The other replicas that are counted, ascending.
+    pub fn others(&self) -> Result<Vec<u32>, NoMemory>
+        ensures value { (x : Draft) → StandsFor self.now x → IfOk result (λ ks. ks.items ≡ others x.replica) }
+        ensures below { IfOk result (λ ks. All (λ k. k < 15) ks.items) }
+    {
+        let others = except(self.alloc, self.ledger.counted().as_slice(), self.me)?;
+        Ok(others)
+    }
+
+    #[tactic(auto, unfolding(crate::specs::Replica::StandsFor))]
+    /// The other members, ascending.
+    pub fn other_members(&self) -> Result<Vec<u32>, NoMemory>
+        ensures value { (x : Draft) → StandsFor self.now x → IfOk result (λ ks. ks.items ≡ other_members x.replica) }
+        ensures below { IfOk result (λ ks. All (λ k. k < 15) ks.items) }
+    {
+        let others = except(self.alloc, self.ledger.known().members.as_slice(), self.me)?;
+        Ok(others)
+    }
+
+    #[tactic(auto, unfolding(crate::specs::Replica::StandsFor))]
+    /// The replicas that are counted, ascending.
+    pub fn spec(&self) -> Result<Members, NoMemory>
+        ensures { (x : Draft) → StandsFor self.now x → IfOk result (λ ks. ks ≡ spec_of x.replica) }
+    {
+        let spec = self.ledger.spec()?;
+        Ok(spec)
+    }
+
+    #[tactic(auto, unfolding(crate::specs::Replica::StandsFor))]
+    /// The members, ascending.
+    pub fn members(&self) -> Result<Members, NoMemory>
+        ensures { (x : Draft) → StandsFor self.now x → IfOk result (λ ks. ks ≡ members_of x.replica) }
+    {
+        let members = self.ledger.known().members.copy(self.alloc)?;
+        Ok(members)
+    }
+}
+
+/// Whether the replica is among these.
+#[tactic(auto, unfolding(crsm_spec::specs::Lists::has))]
+fn is_among(replicas: &[u32], k: u32) -> bool
+    ensures { result ≡ has replicas.now k }
+{
+    replicas.iter().any(|other| *other == k)
+}
+
+/// These replicas but for one.
+fn except(alloc: Global, replicas: &[u32], me: u32) -> Result<Vec<u32>, NoMemory>
+    ensures value { IfOk result (λ ks. ks.items ≡ filter (λ k. not (k == me)) replicas.now) }
+    ensures below { All (λ k. k < 15) replicas.now → IfOk result (λ ks. All (λ k. k < 15) ks.items) }
+{
+    let mut others = Vec::new(alloc);
+    for k in replicas {
+        if *k != me {
+            others.push(*k)?;
+        }
+    }
+    Ok(others)
+}

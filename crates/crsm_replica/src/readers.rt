@@ -1,0 +1,249 @@
+//! What a desk says of the replica.
+
+ghost use Rattle.std.specs.Prelude.{◌≡◌, ◌≢◌, ◌<◌, true, length, All, IfOk, Some};
+ghost use Rattle.crsm_base.specs.Order.{ballot_eq};
+ghost use Rattle.crsm_base.specs.Spelling.{FitsOption, FitsStamp};
+ghost use Rattle.std.specs.Option.{option_map_or};
+ghost use Rattle.crsm_spec.specs.Lists.{has, first_of};
+ghost use Rattle.crsm_spec.specs.Log.{known, start, executed, unexecuted, decision, live, suspended, active, promised, accepted};
+ghost use Rattle.crsm_spec.specs.Replica.{members_of, spec_of, others, other_members, last_issued, latest_from, next_from, frames_to, is_congested};
+ghost use Rattle.crsm_spec.specs.Draft.{Draft, would};
+ghost use Rattle.crsm_spec.specs.Clients.{own_unexecuted};
+ghost use Rattle.crsm_spec.specs.Coordinate.{has_accepted};
+ghost use Rattle.crsm_replica.specs.Replica.{StandsFor, ready_of};
+
+use crate::desk::Desk;
+use crsm_base::{Ballot, Decision, MAX_REPLICAS, NoMemory, Stamp};
+use std::alloc::Global;
+
+impl Desk {
+    /// Where memory is taken from.
+    pub fn alloc(&self) -> Global {
+        self.alloc
+    }
+
+    #[tactic(auto, unfolding(crate::specs::Replica::StandsFor))]
+    /// Its number.
+    pub fn me(&self) -> u32
+        ensures value { (x : Draft) → StandsFor self.now x → result ≡ x.replica.me }
+        ensures below { result < 15 }
+    {
+        self.me.min(MAX_REPLICAS - 1)
+    }
+
+    #[tactic(auto, unfolding(crate::specs::Replica::StandsFor))]
+    /// The known epoch.
+    pub fn known(&self) -> u64
+        ensures { (x : Draft) → StandsFor self.now x → result ≡ known x.replica.log }
+    {
+        self.ledger.known().epoch
+    }
+
+    #[tactic(auto, unfolding(crate::specs::Replica::StandsFor))]
+    /// How many entries are executed where the known epoch begins.
+    pub fn start(&self) -> u64
+        ensures { (x : Draft) → StandsFor self.now x → result ≡ start x.replica.log }
+    {
+        self.ledger.start()
+    }
+
+    #[tactic(auto, unfolding(crate::specs::Replica::StandsFor))]
+    /// How many entries are executed.
+    pub fn executed_len(&self) -> u64
+        ensures { (x : Draft) → StandsFor self.now x → result ≡ length (executed x.replica.log) }
+    {
+        self.ledger.executed_len()
+    }
+
+    #[tactic(auto, unfolding(crate::specs::Replica::StandsFor))]
+    /// How many executed entries the known epoch's decision takes for granted; 0 in the first epoch.
+    pub fn base_len(&self) -> u64
+        ensures { (x : Draft) → StandsFor self.now x → result ≡ option_map_or (λ d. d.base_len) (decision x.replica.log) 0 }
+    {
+        self.ledger.known().base_len
+    }
+
+    #[tactic(auto, unfolding(crate::specs::Replica::StandsFor))]
+    /// This boot has entered the known epoch.
+    pub fn is_live(&self) -> bool
+        ensures { (x : Draft) → StandsFor self.now x → result ≡ live x.replica.log }
+    {
+        self.ledger.live()
+    }
+
+    #[tactic(auto, unfolding(crate::specs::Replica::StandsFor))]
+    /// The replica takes no more part in the known epoch.
+    pub fn is_suspended(&self) -> bool
+        ensures { (x : Draft) → StandsFor self.now x → result ≡ suspended x.replica.log }
+    {
+        self.ledger.suspended()
+    }
+
+    #[tactic(auto, unfolding(crate::specs::Replica::StandsFor))]
+    /// The replica is live and not suspended.
+    pub fn is_active(&self) -> bool
+        ensures { (x : Draft) → StandsFor self.now x → result ≡ active x.replica.log }
+    {
+        if self.ledger.suspended() {
+            return false;
+        }
+        self.ledger.live()
+    }
+
+    #[tactic(auto, unfolding(crate::specs::Replica::StandsFor))]
+    /// The ballot that was promised on the next decision.
+    pub fn promised(&self) -> Ballot
+        ensures { (x : Draft) → StandsFor self.now x → result ≡ promised x.replica.log }
+    {
+        self.ledger.promised()
+    }
+
+    #[tactic(auto, unfolding(crate::specs::Replica::StandsFor))]
+    /// This ballot's decision was accepted here.
+    pub fn has_accepted(&self, b: Ballot) -> bool
+        ensures { (x : Draft) → StandsFor self.now x → result ≡ has_accepted b x }
+    {
+        match self.ledger.accepted() {
+            Some((ballot, _)) => is_same_ballot(*ballot, b),
+            None => false,
+        }
+    }
+
+    #[tactic(auto, unfolding(crate::specs::Replica::StandsFor))]
+    /// The accepted decision with its ballot.
+    pub fn accepted(&self) -> Result<Option<(Ballot, Decision)>, NoMemory>
+        ensures { (x : Draft) → StandsFor self.now x → IfOk result (λ r. r ≡ accepted x.replica.log) }
+    {
+        match self.ledger.accepted() {
+            Some((ballot, decision)) => Ok(Some((*ballot, decision.copy(self.alloc)?))),
+            None => Ok(None),
+        }
+    }
+
+    #[tactic(auto, unfolding(crate::specs::Replica::StandsFor))]
+    /// The decision of the known epoch, of which the first has none.
+    pub fn decision(&self) -> Result<Option<Decision>, NoMemory>
+        ensures { (x : Draft) → StandsFor self.now x → IfOk result (λ r. r ≡ decision x.replica.log) }
+    {
+        let known = self.ledger.known();
+        if known.epoch == 0 {
+            return Ok(None);
+        }
+        Ok(Some(known.copy(self.alloc)?))
+    }
+
+    #[tactic(auto, unfolding(crate::specs::Replica::StandsFor))]
+    /// The time that would be issued at this reading.
+    pub fn would(&self, reading: u64) -> Option<u64>
+        ensures { (x : Draft) → StandsFor self.now x → result ≡ would x reading }
+    {
+        self.running.would(reading)
+    }
+
+    #[tactic(auto, unfolding(crate::specs::Replica::StandsFor))]
+    /// The time that was issued last, 0 before the first.
+    pub fn last_issued(&self) -> u64
+        ensures { (x : Draft) → StandsFor self.now x → result ≡ last_issued x.replica }
+    {
+        self.running.last_issued()
+    }
+
+    #[tactic(auto, unfolding(crate::specs::Replica::StandsFor))]
+    /// The latest time heard of another replica, 0 before the first.
+    pub fn latest_from(&self, k: u32) -> u64
+        requires { k < 15 }
+        ensures { (x : Draft) → StandsFor self.now x → (k ≢ x.replica.me) → result ≡ latest_from x.replica.heard k }
+    {
+        self.running.latest_from(k)
+    }
+
+    #[tactic(auto, unfolding(crate::specs::Replica::StandsFor))]
+    /// The number of the next frame from k.
+    pub fn next_from(&self, k: u32) -> u64
+        requires { k < 15 }
+        ensures { (x : Draft) → StandsFor self.now x → result ≡ next_from x.replica k }
+    {
+        self.running.next_from(k)
+    }
+
+    #[tactic(auto, unfolding(crate::specs::Replica::StandsFor))]
+    /// How many frames were pushed to k.
+    pub fn pushed_to(&self, k: u32) -> u64
+        requires { k < 15 }
+        ensures { (x : Draft) → StandsFor self.now x → result ≡ length (frames_to x.replica k) }
+    {
+        self.running.pushed_to(k)
+    }
+
+    #[tactic(auto, unfolding(crate::specs::Replica::StandsFor))]
+    /// Some link to a member holds as many frames as it may.
+    pub fn is_congested(&self) -> bool
+        ensures { (x : Draft) → StandsFor self.now x → result ≡ is_congested x.replica }
+    {
+        self.running
+            .is_congested(self.me, &self.ledger.known().members)
+    }
+
+    #[tactic(auto, unfolding(crate::specs::Replica::StandsFor))]
+    /// How many of its own entries are not executed, while it is active.
+    pub fn own_unexecuted(&self) -> u64
+        ensures { (x : Draft) → StandsFor self.now x → active x.replica.log ≡ true → result ≡ length (own_unexecuted x.replica) }
+    {
+        self.running.own_unexecuted(self.me())
+    }
+
+    #[tactic(auto, unfolding(crate::specs::Replica::StandsFor))]
+    /// How many entries are not executed, while it is active.
+    pub fn unexecuted_len(&self) -> u64
+        ensures { (x : Draft) → StandsFor self.now x → active x.replica.log ≡ true → result ≡ length (unexecuted x.replica.log) }
+    {
+        self.ledger.unexecuted().len() as u64
+    }
+
+    #[tactic(auto, unfolding(crate::specs::Replica::StandsFor))]
+    /// How many acknowledgements are owed.
+    pub fn owed_len(&self) -> u64
+        ensures { (x : Draft) → StandsFor self.now x → result ≡ length x.replica.owed }
+    {
+        self.running.owed_len()
+    }
+
+    #[tactic(auto, unfolding(crate::specs::Replica::StandsFor))]
+    /// The least stamp whose acknowledgement is owed.
+    pub fn first_owed(&self) -> Option<Stamp>
+        ensures { (x : Draft) → StandsFor self.now x → result ≡ first_of x.replica.owed }
+    {
+        self.running.first_owed()
+    }
+
+    #[tactic(auto, unfolding(crate::specs::Replica::StandsFor))]
+    /// The stamp of the entry that is executed next, where it is ready, while the replica is active.
+    pub fn ready(&self) -> Result<Option<Stamp>, NoMemory>
+        ensures value { (x : Draft) → StandsFor self.now x → active x.replica.log ≡ true → IfOk result (λ r. r ≡ ready_of x.replica) }
+        ensures fits { IfOk result (λ r. FitsOption FitsStamp r) }
+    {
+        let ready = self
+            .running
+            .ready(&self.ledger.known().members, self.ledger.counted());
+        Ok(of_a_replica(ready))
+    }
+}
+
+/// Whether these are one ballot.
+#[tactic(auto, unfolding(crsm_base::specs::Order::ballot_eq))]
+fn is_same_ballot(a: Ballot, b: Ballot) -> bool
+    ensures { result ≡ ballot_eq a b }
+{
+    a.round == b.round && a.by == b.by
+}
+
+/// The stamp, where its origin can be a replica.
+fn of_a_replica(stamp: Option<Stamp>) -> Option<Stamp>
+    ensures same { FitsOption FitsStamp stamp → result ≡ stamp }
+    ensures fits { FitsOption FitsStamp result }
+{
+    match stamp {
+        Some(stamp) if stamp.origin < MAX_REPLICAS => Some(stamp),
+        _ => None,
+    }
+}

@@ -1,0 +1,76 @@
+//! The records of a step.
+
+ghost use Rattle.std.specs.Prelude.{◌≡◌, ℕ, false, List, IfOk, None};
+ghost use Rattle.crsm_base.specs.Records.{FitsRec};
+ghost use Rattle.crsm_ledger.specs.Ledger.{StandsFor as SaysOfLog};
+ghost use Rattle.crsm_output.specs.Made.{Made, Holds};
+ghost use Rattle.crsm_spec.specs.Draft.{Draft, keep};
+ghost use Rattle.crsm_spec.specs.Fits.{fits};
+ghost use Rattle.crsm_spec.specs.Step.{if_fitting};
+ghost use Rattle.crsm_spec.specs.Types.{Rec};
+ghost use Rattle.crsm_replica.specs.Recorded.{Applied, Recorded};
+ghost use Rattle.crsm_replica.specs.Replica.{StandsFor, MakesFitting, IsPlain};
+
+use crate::desk::Desk;
+use crsm_base::{Lines, NoMemory, Rec};
+use crsm_ledger::{Ledger, LedgerError};
+use crsm_output::Output;
+use crsm_wire::is_rec_spelt;
+
+impl Desk {
+    #[tactic(auto, unfolding(crate::specs::Replica::StandsFor))]
+    /// Keeps a record, which gives its lines. `false` comes exactly where it does not fit, and the desk is as before.
+    pub fn keep(&mut self, rec: Rec) -> Result<bool, NoMemory>
+        requires plain { IsPlain rec }
+        requires spelt { FitsRec rec }
+        ensures { MakesFitting (keep rec) self.old result self.new }
+    {
+        let last = self.ledger.last_stamp();
+        let Some(lines) = apply(&mut self.ledger, &rec)? else {
+            return Ok(false);
+        };
+        self.running.keep(&rec, last)?;
+        self.output.keep(rec, lines)?;
+        Ok(true)
+    }
+
+    /// Keeps a record that has a spelling by what the desk stands for. `false` comes exactly where it does not fit, and
+    /// the desk is as before.
+    pub fn keep_known(&mut self, rec: Rec) -> Result<bool, NoMemory>
+        requires { IsPlain rec }
+        ensures { IfOk result (λ fit. (x : Draft) → StandsFor self.old x → FitsRec rec → (fit ≡ (keep rec x).fitting) × StandsFor self.new (if_fitting x (keep rec x))) }
+    {
+        if !is_rec_spelt(&rec) {
+            return Err(NoMemory);
+        }
+        let fit = self.keep(rec)?;
+        Ok(fit)
+    }
+}
+
+/// Puts a record into the ledger, and answers its lines. None comes exactly where it does not fit, and changes nothing.
+fn apply(ledger: &mut Ledger, rec: &Rec) -> Result<Option<Lines>, NoMemory>
+    requires { FitsRec rec.now }
+    ensures kept { (me n : ℕ) (log : List Rec) → SaysOfLog me n ledger.old log → IfOk result (λ lines. Applied lines me n log rec.now ledger.new) }
+    ensures unchanged { IfOk result (λ lines. lines ≡ None → ledger.new ≡ ledger.old) }
+{
+    match ledger.apply(rec) {
+        Ok(lines) => Ok(Some(lines)),
+        Err(LedgerError::NotFit { .. }) => Ok(None),
+        Err(_) => Err(NoMemory),
+    }
+}
+
+/// Puts a record into the ledger and into the output. `false` comes exactly where it does not fit, and changes nothing.
+pub fn put(ledger: &mut Ledger, output: &mut Output, rec: Rec) -> Result<bool, NoMemory>
+    requires { FitsRec rec }
+    ensures kept { (me n : ℕ) (log : List Rec) (m : Made) → SaysOfLog me n ledger.old log → Holds output.old m →
+        IfOk result (λ fit. (fit ≡ fits me n log rec) × Recorded fit me n log rec m ledger.new output.new) }
+    ensures unchanged { IfOk result (λ fit. fit ≡ false → (ledger.new ≡ ledger.old) × (output.new ≡ output.old)) }
+{
+    let Some(lines) = apply(ledger, &rec)? else {
+        return Ok(false);
+    };
+    output.keep(rec, lines)?;
+    Ok(true)
+}

@@ -1,0 +1,172 @@
+//! Replies to waiting clients.
+
+ghost use Rattle.std.specs.Prelude.{◌≡◌, ◌<◌, ◌^◌, false, IsTrue, None, IfOk};
+ghost use Rattle.crsm_results.specs.Answering.{answered};
+ghost use Rattle.crsm_base.specs.Spelling.{FitsAnswer, FitsVal};
+ghost use Rattle.crsm_spec.specs.Log.{executed};
+ghost use Rattle.crsm_spec.specs.Draft.{Draft};
+ghost use Rattle.crsm_spec.specs.Clients.{find_executed, answer_found, is_dropped, reply_ok, reply_dropped, replies};
+ghost use Rattle.crsm_replica.specs.Sound.{FitsWaiting};
+ghost use Rattle.crsm_replica.specs.Replica.{StandsFor, Makes, on_paper};
+
+use crate::desk::{Desk, Waiting};
+use crsm_base::{Answer, Entry, Line, MAX_VAL_BYTES, NoMemory, Outcome, Refusal, Val};
+use crsm_output::Reply;
+use crsm_results::{answer_to, executions, has_no_answer};
+use std::mem;
+
+impl Desk {
+    /// Answers each waiting client whose entry is executed or dropped. The others wait on.
+    pub fn replies(&mut self) -> Result<(), NoMemory>
+        ensures { Makes (replies) self.old result self.new }
+    {
+        if self.all_wait() {
+            return Ok(());
+        }
+        self.answer_waiting()?;
+        Ok(())
+    }
+
+    /// No waiting client's entry is executed or dropped.
+    fn all_wait(&self) -> bool
+        ensures { IsTrue result → (x : Draft) → StandsFor self.now x → replies x ≡ x }
+    {
+        for client in self.waiting.as_slice() {
+            if !self.waits_on(&client.entry) {
+                return false;
+            }
+        }
+        true
+    }
+
+    /// The entry is neither executed nor dropped.
+    fn waits_on(&self, entry: &Entry) -> bool
+        ensures { IsTrue result → (x : Draft) → StandsFor self.now x → (None ≡ answered (executed x.replica.log) entry.now) × (is_dropped x.replica entry.now ≡ false) }
+    {
+        if self.is_dropped(entry) {
+            return false;
+        }
+        has_no_answer(&self.ledger, entry)
+    }
+
+    /// Answers the clients in turn.
+    fn answer_waiting(&mut self) -> Result<(), NoMemory>
+        ensures { Makes (replies) self.old result self.new }
+    {
+        let told = executions(self.alloc, self.output.lines())?;
+        let clients = mem::replace(&mut self.waiting, Vec::new(self.alloc));
+        for client in clients {
+            self.answer_client(client, &told)?;
+        }
+        Ok(())
+    }
+
+    /// Answers a client whose entry is executed or dropped, or lets it wait on. `executions` are those of the step's lines.
+    fn answer_client(&mut self, client: Waiting, executions: &[usize]) -> Result<(), NoMemory>
+        ensures { IfOk result (λ _. (x : Draft) → StandsFor self.old x → FitsWaiting (on_paper client) →
+            StandsFor self.new (answer_found (on_paper client) (find_executed (executed x.replica.log) client.entry) x)) }
+    {
+        let found = answer_to(
+            self.alloc,
+            &self.ledger,
+            self.output.lines(),
+            executions,
+            &client.entry,
+        )?;
+        match found {
+            Some((place, answer)) => self.reply_ok(&client, place, answer)?,
+            None => self.drop_or_wait(client)?,
+        }
+        Ok(())
+    }
+
+    /// Answers a client whose entry is dropped, and lets any other wait on.
+    fn drop_or_wait(&mut self, client: Waiting) -> Result<(), NoMemory>
+        ensures { IfOk result (λ _. (x : Draft) → StandsFor self.old x → FitsWaiting (on_paper client) → StandsFor self.new (answer_found (on_paper client) None x)) }
+    {
+        if self.is_dropped(&client.entry) {
+            self.reply_dropped(&client)?;
+        } else {
+            self.waiting.push(client)?;
+        }
+        Ok(())
+    }
+
+    /// A later epoch has begun here without the entry.
+    fn is_dropped(&self, entry: &Entry) -> bool
+        ensures { (x : Draft) → StandsFor self.now x → result ≡ is_dropped x.replica entry.now }
+    {
+        let is_later = entry.epoch < self.ledger.known().epoch;
+        self.ledger.start() <= self.ledger.executed_len() && is_later
+    }
+
+    /// Tells a client the answer at this place.
+    fn reply_ok(&mut self, client: &Waiting, place: u64, answer: Answer) -> Result<(), NoMemory>
+        ensures { IfOk result (λ _. (x : Draft) → StandsFor self.old x → FitsWaiting (on_paper client.now) → StandsFor self.new (reply_ok (on_paper client.now) place answer x)) }
+    {
+        if !is_answer_spelt(&answer) {
+            return Err(NoMemory);
+        }
+        let said = answer.copy(self.alloc)?;
+        self.output.reply(Reply {
+            address: client.address,
+            client: client.entry.command.client,
+            number: client.entry.command.number,
+            says: Outcome::Answered(said),
+            line: Line::ReplyOk {
+                replica: self.me,
+                client: client.entry.command.client,
+                number: client.entry.command.number,
+                place,
+                answer,
+            },
+        })?;
+        Ok(())
+    }
+
+    /// Tells a client that its entry will never be executed.
+    fn reply_dropped(&mut self, client: &Waiting) -> Result<(), NoMemory>
+        ensures { IfOk result (λ _. (x : Draft) → StandsFor self.old x → FitsWaiting (on_paper client.now) → StandsFor self.new (reply_dropped (on_paper client.now) x)) }
+    {
+        self.output.reply(Reply {
+            address: client.address,
+            client: client.entry.command.client,
+            number: client.entry.command.number,
+            says: Outcome::Refused(Refusal::Dropped),
+            line: Line::ReplyDropped {
+                replica: self.me,
+                client: client.entry.command.client,
+                number: client.entry.command.number,
+                epoch: client.entry.epoch,
+                stamp: client.entry.stamp,
+            },
+        })?;
+        Ok(())
+    }
+}
+
+/// Whether the value is no longer than a value may be.
+fn is_val_spelt(val: &Val) -> bool
+    ensures { IsTrue result → FitsVal val.now }
+{
+    val.as_slice().len() <= MAX_VAL_BYTES as usize
+}
+
+/// Each number of the store has a spelling.
+fn is_number_spelt(_number: u64) -> bool
+    ensures { IsTrue result → _number < 2 ^ 64 }
+{
+    true
+}
+
+/// Whether the answer has a spelling, which each one of the store has.
+fn is_answer_spelt(answer: &Answer) -> bool
+    ensures { IsTrue result → FitsAnswer answer.now }
+{
+    match answer {
+        Answer::Found(val) => is_val_spelt(val),
+        Answer::Differs(Some(val)) => is_val_spelt(val),
+        Answer::Stale(number) => is_number_spelt(*number),
+        Answer::Missing | Answer::Done | Answer::Differs(None) | Answer::NoRoom => true,
+    }
+}

@@ -1,0 +1,84 @@
+//! Where a boot and a step begin and end.
+
+ghost use Rattle.std.specs.Prelude.{◌≡◌, ◌<◌, ◌≤◌, ℕ, List, IfOk};
+ghost use Rattle.std.specs.List.{AllByRecursion};
+ghost use Rattle.crsm_base.specs.Records.{FitsRec};
+ghost use Rattle.crsm_ledger.specs.Ledger.{StandsFor as SaysOfLog};
+ghost use Rattle.crsm_output.specs.Made.{made_of, IsBatchOf};
+ghost use Rattle.crsm_epoch_state.specs.EpochState.{EachFits};
+ghost use Rattle.crsm_spec.specs.Clock.{u64_max};
+ghost use Rattle.crsm_spec.specs.Types.{Rec};
+ghost use Rattle.crsm_spec.specs.Log.{boots};
+ghost use Rattle.crsm_spec.specs.Draft.{Draft, begun};
+ghost use Rattle.crsm_spec.specs.Step.{boot, boot_again};
+ghost use Rattle.crsm_replica.specs.Replica.{StandsFor, AwaitsBoot};
+
+use crate::desk::Desk;
+use crate::gathered::Gathered;
+use crate::records::put;
+use crsm_base::{MAX_REPLICAS, NoMemory, Rec};
+use crsm_coordinator::Coordinator;
+use crsm_epoch_state::EpochState;
+use crsm_ledger::Ledger;
+use crsm_output::{Batch, Output};
+
+impl Desk {
+    #[tactic(auto, unfolding(crate::specs::Replica::AwaitsBoot))]
+    /// The desk of a ledger, before its boot is on record.
+    pub fn new(ledger: Ledger) -> Result<Desk, NoMemory>
+        ensures { IfOk result (λ desk. (me n : ℕ) (log : List Rec) → SaysOfLog me n ledger log → EachFits me n log → AllByRecursion FitsRec log →
+            me < 15 → 1 ≤ n → AwaitsBoot desk me n log) }
+    {
+        let alloc = ledger.alloc();
+        let me = ledger.me();
+        Ok(Desk {
+            alloc,
+            me,
+            ledger,
+            running: EpochState::new(alloc),
+            gathered: Gathered::new(alloc)?,
+            coordinator: Coordinator::quiet(),
+            made: 0,
+            waiting: Vec::new(alloc),
+            output: Output::new(alloc),
+        })
+    }
+
+    #[tactic(auto, unfolding(crate::specs::Replica::StandsFor))]
+    /// Puts the boot on record; the first one of a replica that began the cluster enters epoch 0.
+    pub fn begin(&mut self) -> Result<(), NoMemory>
+        ensures { IfOk result (λ _. (me n : ℕ) (log : List Rec) → AwaitsBoot self.old me n log → boots log < u64_max → StandsFor self.new (boot me n log)) }
+    {
+        let is_founding = self.ledger.boot() == 0 && self.me < self.ledger.n();
+        self.boot_again()?;
+        if is_founding {
+            self.enter()?;
+        }
+        Ok(())
+    }
+
+    #[tactic(auto, unfolding(crate::specs::Replica::StandsFor))]
+    /// Hands out what the step has made; the next one begins.
+    pub fn take_batch(&mut self) -> Result<Batch, NoMemory>
+        ensures { IfOk result (λ batch. (x : Draft) → StandsFor self.old x → IsBatchOf batch (made_of x) × StandsFor self.new (begun x.replica)) }
+    {
+        let batch = self.output.take()?;
+        Ok(batch)
+    }
+
+    /// Puts the boot on record, where that fits.
+    #[tactic(auto, unfolding(crate::specs::Replica::StandsFor, crate::specs::Replica::AwaitsBoot))]
+    fn boot_again(&mut self) -> Result<(), NoMemory>
+        ensures { IfOk result (λ _. (me n : ℕ) (log : List Rec) → AwaitsBoot self.old me n log → boots log < u64_max → StandsFor self.new (boot_again me n log)) }
+    {
+        let me = self.me.min(MAX_REPLICAS - 1);
+        let n = self.ledger.n().min(MAX_REPLICAS);
+        let rec = Rec::Boot { me, n };
+        let fit = put(&mut self.ledger, &mut self.output, rec)?;
+        if !fit {
+            return Err(NoMemory);
+        }
+        self.running = EpochState::new(self.alloc);
+        Ok(())
+    }
+}

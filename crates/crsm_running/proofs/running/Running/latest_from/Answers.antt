@@ -1,8 +1,0 @@
-use Rattle.std.proofs.Common.{◌∙◌}
-use Rattle.crsm_running.proofs.Times.{latest_of_other}
-use Rattle.crsm_running.specs.Standing.{Runs}
-use Rattle.crsm_running.proofs.running.Running.latest_from.Goals as goal
-
-pub returns : goal.returns
-unfolding Runs
-returns c r s other = c.of.ensures _ s.latest ∙ latest_of_other r c.args.k other

@@ -1,0 +1,57 @@
+-- What a shell stands for.
+use Rattle.std.specs.Prelude.{◌≡◌, ℕ, List, [], ◌++◌, length, map, false, IsTrue}
+use Rattle.std.specs.List.{flat_map, AllByRecursion}
+use Rattle.crsm_base.specs.declared.send.Send.{Send}
+use Rattle.crsm_base.specs.Records.{FitsRec, body_bytes}
+use Rattle.crsm_spec.specs.Types.{Rec}
+use Rattle.crsm_spec.specs.Log.{Log}
+use Rattle.crsm_spec.specs.Replica.{Replica}
+use Rattle.crsm_spec.specs.Draft.{Draft}
+use Rattle.crsm_output.specs.Made.{to_replica, to_address}
+use Rattle.crsm_ledger.specs.Recovered.{AreKept, with_records}
+use Rattle.crsm_log.specs.Format.{reading, found, bodies_of}
+use Rattle.crsm_disk.specs.Meaning.{Meaning}
+use Rattle.crsm_turns.specs.Outgoing.{posts_for}
+use Rattle.crsm_core.specs.Core.{CoreStands}
+use Rattle.crsm_shell.specs.declared.shell.Shell.{Shell}
+
+-- ---- steps that are pending
+
+-- the records of these steps, in order
+unfoldable pub records_of : List Draft → List Rec
+records_of steps = flat_map (λ x. x.batch) steps
+
+-- what a step sends: the datagrams to replicas, and then the replies
+unfoldable pub sends_in : Draft → List Send
+sends_in x = map to_replica x.sends ++ map to_address x.replies
+
+-- what these steps send, in order
+unfoldable pub sends_of : List Draft → List Send
+sends_of steps = flat_map sends_in steps
+
+-- ---- the file of a log
+
+pub record IsLogOf (me n : ℕ) (file : List ℕ) (log : Log) : Type 0 where
+  pub whole : reading file ≡ found (bodies_of file)
+  pub kept : AreKept me n [] (bodies_of file) log
+
+-- The file is whole, its bodies are records of replica me that fit one behind the other, and the log is of these.
+unfoldable pub HasLog : (me n : ℕ) → List ℕ → Log → Type 0
+HasLog me n file log = IsLogOf me n file log
+
+-- ---- the shell
+
+pub record StandsInside {D : Type 0} {g : _} (shell : Shell D g) (m : Meaning) (kept : Log) (r : Replica) (steps : List Draft) : Type 0 where
+  pub core : CoreStands shell.core.value r
+  pub well : shell.failed ≡ false
+  pub body : shell.body ≡ body_bytes (records_of steps)
+  pub spelt : AllByRecursion FitsRec (records_of steps)
+  pub outbox : shell.outbox ≡ posts_for shell.peers.items (sends_of steps)
+  pub pending : shell.pending ≡ length steps
+  pub log : r.log ≡ with_records kept (records_of steps)
+  pub file : IsTrue m.honest → HasLog r.me r.n m.seen kept
+
+-- The shell, whose disk means m, is that of replica r. On the disk is the log `kept`; these steps came since and are
+-- pending. It has not failed.
+unfoldable pub ShellStands : {D : Type 0} {g : _} → Shell D g → Meaning → (kept : Log) → Replica → (steps : List Draft) → Type 0
+ShellStands shell m kept r steps = StandsInside shell m kept r steps

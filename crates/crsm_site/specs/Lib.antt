@@ -1,4 +1,0 @@
-pub mod Arriving
-pub mod Inlets
-pub mod Outcomes
-pub mod Standing

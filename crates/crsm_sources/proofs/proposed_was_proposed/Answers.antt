@@ -1,5 +1,0 @@
-use Rattle.crsm_sources.proofs.Notes.{proposed_was_proposed}
-use Rattle.crsm_sources.proofs.proposed_was_proposed.Goals as goal
-
-pub returns : goal.returns
-returns c n w s i b d t e = proposed_was_proposed n w s i b d t e

@@ -1,3 +1,0 @@
-pub mod Lengths
-pub mod Rising
-pub mod Sums

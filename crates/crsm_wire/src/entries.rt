@@ -1,0 +1,64 @@
+//! Lists of entries.
+
+ghost use Rattle.std.specs.Prelude.{◌≡◌, ◌≤◌, IsTrue, length};
+ghost use Rattle.std.specs.Option.{IfSome};
+ghost use Rattle.crsm_base.specs.Order.{entry_lt};
+ghost use Rattle.crsm_base.specs.Reading.{is_rising};
+ghost use Rattle.crsm_base.specs.Spelling.{FitsEntries};
+ghost use Rattle.crsm_wire.specs.Sized.{AreSized};
+
+use crate::fields::entry_size;
+use crsm_base::{Entries, Entry, MAX_TAIL_BYTES, MAX_TAIL_ENTRIES};
+
+#[tactic(auto, unfolding(crsm_base::specs::Order::entry_lt, crsm_base::specs::Order::stamp_lt))]
+fn precedes(a: &Entry, b: &Entry) -> bool
+    ensures { result ≡ entry_lt a.now b.now }
+{
+    a.epoch < b.epoch || (a.epoch == b.epoch && a.stamp < b.stamp)
+}
+
+#[tactic(auto, unfolding(crsm_base::specs::Reading::is_rising))]
+fn rises(entries: &[Entry]) -> bool
+    ensures { result ≡ is_rising entries.now }
+{
+    let Some((first, others)) = entries.split_first() else {
+        return true;
+    };
+    let mut last = first;
+    for entry in others {
+        if !precedes(last, entry) {
+            return false;
+        }
+        last = entry;
+    }
+    true
+}
+
+/// How many bytes the entries' spellings have together, where each has one.
+fn total_size(entries: &[Entry]) -> Option<u64>
+    requires { length entries.now ≤ 4096 }
+    ensures { IfSome result (λ size. AreSized entries.now size) }
+{
+    let mut total = 0;
+    for entry in entries {
+        total += entry_size(entry)?;
+    }
+    Some(total)
+}
+
+/// Whether the list of entries has a spelling.
+pub fn are_entries_spelt(entries: &Entries) -> bool
+    ensures { IsTrue result → FitsEntries entries.now }
+{
+    let items = entries.as_slice();
+    if items.len() > MAX_TAIL_ENTRIES as usize {
+        return false;
+    }
+    if !rises(items) {
+        return false;
+    }
+    match total_size(items) {
+        Some(size) => size <= MAX_TAIL_BYTES as u64,
+        None => false,
+    }
+}
