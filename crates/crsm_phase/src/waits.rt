@@ -63,7 +63,7 @@ impl Waits {
     pub fn first(&self) -> Option<Stamp>
         ensures { result ≡ first_of self.now }
     {
-        let least = *self.owed.prefix()?;
+        let least = *self.owed.front()?;
         Some(least)
     }
 
@@ -72,7 +72,7 @@ impl Waits {
         ensures due { result ≡ due_of self.now (issue clock.now reading) }
         ensures ascending { IsAscending self.now }
     {
-        let stamp = *self.owed.prefix()?;
+        let stamp = *self.owed.front()?;
         let time = clock.would(reading)?;
         if stamp.time < time { Some(stamp) } else { None }
     }
