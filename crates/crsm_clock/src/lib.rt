@@ -10,6 +10,3 @@ pub use clock::Clock;
 pub use list::ListClock;
 pub use rising::{Rising, issues_rise};
 pub use system::SystemClock;
-
-#[cfg(test)]
-mod tests;

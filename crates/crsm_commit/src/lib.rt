@@ -14,6 +14,3 @@ mod votes;
 pub use latest::Latest;
 pub use laws::{fewer_may_be_tracked, ready_is_exact, untracked_votes_do_not_count};
 pub use pending::Pending;
-
-#[cfg(test)]
-mod tests;

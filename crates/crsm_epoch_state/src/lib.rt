@@ -10,6 +10,3 @@ mod records;
 mod state;
 
 pub use state::EpochState;
-
-#[cfg(test)]
-mod tests;

@@ -64,19 +64,3 @@ fn is_next_listed(calls: &mut u64, listed: &[u64]) -> bool
     *calls += 1;
     listed.contains(calls)
 }
-
-#[cfg(test)]
-mod tests {
-    use super::*;
-    use std::test::Fail;
-
-    #[test]
-    fn second_call_fails(rt: HostRuntime) -> Result<(), Fail> {
-        let mut failures = Failures::new(rt.alloc(), &[2, 0])?;
-        for (calls, fails) in [(1, false), (2, true), (3, false)] {
-            assert_eq!(rt; failures.next_fails(), fails, "at {calls}");
-            assert_eq!(rt; failures.calls(), calls);
-        }
-        Ok(())
-    }
-}

@@ -5,8 +5,6 @@ mod memory;
 mod never;
 mod standard;
 mod streams;
-#[cfg(test)]
-mod tests;
 
 pub use memory::{MemSink, MemSource};
 pub use never::{NeverSink, NeverSource};

@@ -4,7 +4,5 @@
 mod clients;
 mod keys;
 mod store;
-#[cfg(test)]
-mod tests;
 
 pub use store::Store;

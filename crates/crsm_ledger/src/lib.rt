@@ -14,8 +14,6 @@ mod recover;
 mod replicas;
 mod spelt;
 mod steps;
-#[cfg(test)]
-mod tests;
 
 pub use error::LedgerError;
 pub use ledger::Ledger;

@@ -9,6 +9,3 @@ mod outbound;
 pub use frames::Frames;
 pub use inbound::{In, Take, taken_is_a_prefix};
 pub use outbound::Out;
-
-#[cfg(test)]
-mod tests;

@@ -5,8 +5,6 @@ mod batch;
 mod laws;
 mod output;
 mod telling;
-#[cfg(test)]
-mod tests;
 
 pub use batch::Batch;
 pub use laws::parts_are_spelt;

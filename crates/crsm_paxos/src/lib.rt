@@ -5,8 +5,6 @@ mod acceptor;
 mod order;
 mod proposer;
 mod readers;
-#[cfg(test)]
-mod tests;
 
 pub use acceptor::{Accepted, Acceptor, Promised};
 pub use proposer::{Next, Proposer, StartError};

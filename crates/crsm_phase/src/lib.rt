@@ -6,6 +6,3 @@ mod waits;
 
 pub use unasked::idle;
 pub use waits::Waits;
-
-#[cfg(test)]
-mod tests;

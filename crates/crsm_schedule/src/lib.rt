@@ -7,8 +7,6 @@ mod numbers;
 mod print;
 mod read;
 mod single;
-#[cfg(test)]
-mod tests;
 
 pub use crsm_text::LineError;
 pub use event::{Event, Single};

@@ -5,8 +5,6 @@ mod cutting;
 mod gather;
 mod laws;
 mod message;
-#[cfg(test)]
-mod tests;
 
 pub use cutting::cut;
 pub use gather::Gather;

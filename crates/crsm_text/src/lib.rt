@@ -6,8 +6,6 @@ mod fields;
 mod list;
 mod op;
 mod print;
-#[cfg(test)]
-mod tests;
 mod value;
 
 pub use error::LineError;

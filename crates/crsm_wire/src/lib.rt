@@ -12,8 +12,6 @@ mod messages;
 mod put;
 mod read;
 mod take;
-#[cfg(test)]
-mod tests;
 
 pub use decision::is_decision_spelt;
 pub use fault::WireError;

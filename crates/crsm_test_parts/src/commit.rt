@@ -1,7 +1,7 @@
 ghost use Rattle.std.specs.Prelude.{◌≡◌, ◌<◌};
 
-use super::*;
 use crsm_base::{Command, Entry, Key, Members, MembersError, NoMemory, Op, Stamp};
+use crsm_commit::{Latest, Pending};
 use std::alloc::Global;
 use std::test::Fail;
 

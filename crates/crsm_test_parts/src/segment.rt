@@ -1,7 +1,7 @@
 //! A message of two parts, and parts that are old, odd or of a newer message.
 
-use super::{Gather, Taken, cut};
 use crsm_base::{Datagram, Send};
+use crsm_segment::{Gather, Taken, cut};
 use std::test::Fail;
 
 fn bytes_of(send: &Send) -> &[u8] {

@@ -1,7 +1,7 @@
 //! A step that makes one of each, and a short control message.
 
-use super::{Output, Reply, spell, tell};
 use crsm_base::{Control, Datagram, Line, Lines, Outcome, Rec, Refusal, To};
+use crsm_output::{Output, Reply, spell, tell};
 use std::test::Fail;
 
 #[test]

@@ -1,4 +1,6 @@
-use super::*;
+//! Keys, values and lists of bytes, short and long.
+
+use crsm_base::{Bytes, Key, NoMemory, Val};
 use std::alloc::Global;
 use std::test::Fail;
 

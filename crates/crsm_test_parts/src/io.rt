@@ -2,10 +2,10 @@
 
 ghost use Rattle.std.specs.Prelude.{◌≤◌, IfOk};
 
-use crate::{
+use crsm_base::Failed;
+use crsm_io::{
     MemSink, MemSource, NeverSink, NeverSource, Sink, Source, StdSink, StdSource, put_all,
 };
-use crsm_base::Failed;
 use std::io::{self, ErrorKind, Read, Write};
 use std::test::Fail;
 

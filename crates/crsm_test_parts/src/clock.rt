@@ -1,4 +1,6 @@
-use super::*;
+//! Times that are issued, and clocks of a list.
+
+use crsm_clock::{Clock, ListClock, Rising, SystemClock};
 use std::test::Fail;
 
 fn next<C: Clock + Drop>(mut clock: C) -> u64 {

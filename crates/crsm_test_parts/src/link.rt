@@ -1,5 +1,7 @@
-use super::*;
+//! Both ends of a link, through loss and repeats.
+
 use crsm_base::{InEpoch, NoMemory};
+use crsm_link::{In, Out, Take};
 use std::alloc::Global;
 use std::test::Fail;
 

@@ -1,10 +1,10 @@
 //! The texts of lines, compared with texts written by hand.
 
-use crate::{Event, Numbers, Single, print_outcome, push_line, read_event, read_first};
 use crsm_base::{
     Answer, Bytes, Command, Line, Members, NoMemory, Op, Outcome, Refusal, SendKind, Stamp, State,
     Val,
 };
+use crsm_schedule::{Event, Numbers, Single, print_outcome, push_line, read_event, read_first};
 use std::alloc::Global;
 use std::test::Fail;
 

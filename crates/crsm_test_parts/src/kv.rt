@@ -1,7 +1,7 @@
 //! Compare-and-set by a table, and the limits at their full size.
 
-use crate::Store;
 use crsm_base::{Answer, Command, Key, NoMemory, Op, Val};
+use crsm_kv::Store;
 use std::alloc::Global;
 use std::process::Abort;
 use std::test::Fail;

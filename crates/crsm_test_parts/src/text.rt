@@ -1,7 +1,7 @@
 //! Words at the edges of what is read.
 
-use crate::{read_members, read_number, read_op};
 use crsm_base::Op;
+use crsm_text::{read_members, read_number, read_op};
 use std::test::Fail;
 
 #[test]

@@ -1,5 +1,7 @@
-use super::*;
+//! Values that have no encoding.
+
 use crsm_base::{Ballot, Control, Rec, Stamp};
+use crsm_wire::{is_control_spelt, is_rec_spelt};
 use std::test::Fail;
 
 #[test]

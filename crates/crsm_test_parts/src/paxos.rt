@@ -2,8 +2,8 @@
 
 ghost use Rattle.std.specs.Prelude.{◌<◌};
 
-use super::{Accepted, Acceptor, Next, Promised, Proposer, StartError};
 use crsm_base::{Ballot, Decision, Entries, Members, NoMemory};
+use crsm_paxos::{Accepted, Acceptor, Next, Promised, Proposer, StartError};
 use std::alloc::Global;
 use std::process::Abort;
 use std::test::Fail;

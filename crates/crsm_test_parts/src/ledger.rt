@@ -1,7 +1,7 @@
 //! Logs with the facts that they tell, and records that do not fit.
 
-use crate::{Ledger, LedgerError};
 use crsm_base::{Bodies, Bytes, Line, Lines, NoMemory, Rec};
+use crsm_ledger::{Ledger, LedgerError};
 use std::alloc::Global;
 use std::process::Abort;
 use std::test::Fail;

@@ -1,6 +1,8 @@
-use super::*;
+//! Acknowledgements that are due.
+
 use crsm_base::Stamp;
 use crsm_clock::Rising;
+use crsm_phase::{Waits, idle};
 use std::test::Fail;
 
 #[test]

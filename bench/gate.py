@@ -1,0 +1,143 @@
+"""What a run of the merge gate costs: processor minutes for each crate by kind, and the longest chain of crates.
+
+    python3 bench/gate.py run LOG     runs `rt ci` at the top of the repository and writes what it says to LOG,
+                                      with the processor time of each check behind it
+    python3 bench/gate.py LOG         prints the table of such a log
+
+A crate is proved as a library or a program, its tests are proved beside it, and its must-fail edits begin with a
+proof of their own. Times are sampled four times a second, so each check counts up to a quarter of a second less.
+"""
+
+import os
+import subprocess
+import sys
+import threading
+import time
+
+KINDS = ["library", "tests", "program", "edits"]
+MARK = "gate:"
+TICKS = os.sysconf("SC_CLK_TCK")
+
+
+def kind_of(words, folder):
+    """Which kind of check a process is, by its words and the folder that it runs in."""
+    if "rt-edit" in folder:
+        return "edits"
+    if "--test" in words:
+        return "tests"
+    return "program" if "src/main.rt" in words else "library"
+
+
+def checks():
+    """Each running check of the prover: its process, crate, kind and processor seconds so far."""
+    for pid in filter(str.isdigit, os.listdir("/proc")):
+        try:
+            with open(f"/proc/{pid}/cmdline", "rb") as file:
+                words = file.read().decode(errors="replace").split("\0")
+            if not words[0].endswith("/rattle") or "--crate-name" not in words:
+                continue
+            with open(f"/proc/{pid}/stat", encoding="utf-8", errors="replace") as file:
+                fields = file.read().rpartition(")")[2].split()
+            crate = words[words.index("--crate-name") + 1]
+            seconds = (int(fields[11]) + int(fields[12])) / TICKS
+            yield (pid, fields[19]), crate, kind_of(words, os.readlink(f"/proc/{pid}/cwd")), seconds
+        except (OSError, ValueError, IndexError):
+            continue
+
+
+def run(log):
+    """Runs the gate and writes its log."""
+    seen = {}
+    ended = threading.Event()
+
+    def sample():
+        while not ended.wait(0.25):
+            for process, crate, kind, seconds in checks():
+                seen[process] = (crate, kind, seconds)
+
+    sampler = threading.Thread(target=sample)
+    began = time.monotonic()
+    with open(log, "w", encoding="utf-8") as file:
+        sampler.start()
+        status = subprocess.run(["rt", "ci"], stdout=file, stderr=subprocess.STDOUT, check=False).returncode
+        ended.set()
+        sampler.join()
+        file.seek(0, os.SEEK_END)
+        for crate, kind, seconds in seen.values():
+            file.write(f"{MARK} {crate} {kind} {seconds:.2f}\n")
+        file.write(f"{MARK} wall {time.monotonic() - began:.0f}\n")
+    return status
+
+
+def read(log):
+    """The seconds of each crate by kind, the wall time of the run, and its closing line."""
+    times, wall, last = {}, 0, ""
+    with open(log, encoding="utf-8", errors="replace") as file:
+        for line in file:
+            words = line.split()
+            if words[:2] == [MARK, "wall"]:
+                wall = float(words[2])
+            elif words[:1] == [MARK]:
+                of_crate = times.setdefault(words[1], dict.fromkeys(KINDS, 0.0))
+                of_crate[words[2]] += float(words[3])
+            elif " passed, " in line:
+                last = line.strip()
+    return times, wall, last
+
+
+def below():
+    """The crates of the repository, each with those that it uses."""
+    uses = {}
+    with open("crates.txt", encoding="utf-8") as file:
+        for line in file:
+            name, colon, used = line.split("#")[0].partition(":")
+            if colon:
+                uses[name.split()[0]] = used.split()
+    return uses
+
+
+def longest_chain(times):
+    """The chain of crates whose proofs take longest one after another, and its seconds."""
+    uses, best = below(), {}
+
+    def chain(crate):
+        if crate not in best:
+            under = [chain(it) for it in uses[crate] if it in uses]
+            seconds, crates = max(under, default=(0.0, []), key=lambda it: it[0])
+            own = times.get(crate, dict.fromkeys(KINDS, 0.0))
+            best[crate] = (seconds + own["library"] + own["program"], [*crates, crate])
+        return best[crate]
+
+    return max((chain(it) for it in uses), key=lambda it: it[0])
+
+
+def table(log):
+    """Prints what a run cost."""
+    times, wall, last = read(log)
+    print("| crate | " + " | ".join(KINDS) + " | together |")
+    print("|---" * (len(KINDS) + 2) + "|")
+    rows = sorted(times.items(), key=lambda it: -sum(it[1].values()))
+    for crate, of_crate in rows:
+        cells = [f"{of_crate[kind] / 60:.1f}" if of_crate[kind] else "" for kind in KINDS]
+        print(f"| {crate} | " + " | ".join(cells) + f" | {sum(of_crate.values()) / 60:.1f} |")
+    sums = [sum(of_crate[kind] for _, of_crate in rows) / 60 for kind in KINDS]
+    print("| **all** | " + " | ".join(f"{it:.0f}" for it in sums) + f" | {sum(sums):.0f} |")
+    seconds, crates = longest_chain(times)
+    print(f"\nLongest chain: {seconds / 60:.0f} minutes, {' '.join(crates)}.")
+    print(f"Wall time: {wall / 60:.0f} minutes. {last}")
+
+
+def main():
+    os.chdir(os.path.join(os.path.dirname(os.path.abspath(__file__)), ".."))
+    words = sys.argv[1:]
+    if len(words) == 2 and words[0] == "run":
+        return run(words[1])
+    if len(words) == 1 and words[0] != "run":
+        table(words[0])
+        return 0
+    print(__doc__.strip(), file=sys.stderr)
+    return 2
+
+
+if __name__ == "__main__":
+    sys.exit(main())
