@@ -5,9 +5,10 @@ use Rattle.crsm_spec.specs.Types.{Entry, Answer, Rec, Datagram, Line}
 use Rattle.crsm_spec.specs.Clock.{u64_max}
 use Rattle.crsm_spec.specs.Log.{known, executed, active}
 use Rattle.crsm_spec.specs.Replica.{Replica, Waiting, members_of, unacked}
-use Rattle.crsm_spec.specs.World.{Site, Mail, World, log_at, is_full}
+use Rattle.crsm_spec.specs.World.{Site, Mail, World, begin, log_at, is_full}
 use Rattle.crsm_spec.specs.Acts.{Single, Act}
-use Rattle.crsm_spec.specs.Run.{ArePossible, after_acts, told}
+use Rattle.crsm_spec.specs.Run.{ArePossible, after_acts, last_world, told}
+use Rattle.crsm_spec.specs.Safe.{AnswersAt}
 
 -- ---- calm states
 
@@ -70,11 +71,13 @@ pub record IsCalmReading (members : List ℕ) (w : World) (reading : ℕ) : Type
 
 -- ---- what they lead to
 
--- the reply to a waiting client of replica k
-pub record IsAnsweredAt (k : ℕ) (lines : List Line) (c : Waiting) : Type 0 where
+-- By these acts replica k has executed the entry of a client that waited, and told him its place and the store's answer
+-- there.
+pub record IsAnsweredAt (k : ℕ) (w : World) (acts : List Act) (c : Waiting) : Type 0 where
   pub place : ℕ
   pub answer : Answer
-  pub line : Contains lines (Line.ReplyOk k c.entry.command.client c.entry.command.number place answer)
+  pub answers : AnswersAt (executed (log_at (after_acts w acts) k)) place c.entry answer
+  pub line : Contains (map (λ t. t.line) (told w acts)) (Line.ReplyOk k c.entry.command.client c.entry.command.number place answer)
 
 -- From w by these acts: each entry of epoch e that its origin had logged is executed at every member, and each client
 -- that waited at a member is answered.
@@ -82,9 +85,10 @@ pub record AllIsDone (e : ℕ) (members : List ℕ) (w : World) (acts : List Act
   pub executed : (f : Entry) → f.epoch ≡ e → Contains (log_at w f.stamp.origin) (Rec.Prepare f) →
       AllByRecursion (λ k. Contains (executed (log_at (after_acts w acts) k)) f) members
   pub answered : (k : ℕ) (r : Replica) (c : Waiting) → Contains members k → IsUpAs w k r → Contains r.waiting c →
-      IsAnsweredAt k (map (λ t. t.line) (told w acts)) c
+      IsAnsweredAt k w acts c
 
--- From a calm state two calm rounds do all that was submitted, where they are possible and leave the world not full.
+-- From w, where it is calm, two calm rounds do all that was submitted, if they are possible and leave the world not full.
+-- It is said of the worlds of runs alone: a world that no run leads to may have acknowledged what nobody took.
 abbrev pub IsBounded : World → Type 0
 IsBounded w =
     (e : ℕ) (members : List ℕ) (t u : ℕ) → IsCalm e members w → IsCalmReading members w t →
@@ -92,3 +96,7 @@ IsBounded w =
     ArePossible w (calm_round members t ++ calm_round members u) →
     is_full (after_acts w (calm_round members t ++ calm_round members u)) ≡ false →
     AllIsDone e members w (calm_round members t ++ calm_round members u)
+
+-- The bound, of the world after every possible run of 1 to 15 replicas.
+abbrev pub RoundsAreBounded : Type 0
+RoundsAreBounded = (n : ℕ) → 1 ≤ n → n ≤ 15 → (acts : List Act) → ArePossible (begin n) acts → IsBounded (last_world n acts)

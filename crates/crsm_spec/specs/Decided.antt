@@ -3,7 +3,7 @@ use Rattle.std.specs.Prelude.{◌≡◌, ℕ, ◌+◌, ◌≤◌, ◌⊎◌, ◌
 use Rattle.std.specs.List.{AllByRecursion}
 use Rattle.crsm_spec.specs.Types.{Ballot, Entry, Decision, Rec}
 use Rattle.crsm_spec.specs.Lists.{IsPrefixOf}
-use Rattle.crsm_spec.specs.Log.{Log}
+use Rattle.crsm_spec.specs.Log.{Log, executed}
 use Rattle.crsm_spec.specs.Paxos.{IsMajority}
 use Rattle.crsm_spec.specs.Quorum.{spec_decided}
 use Rattle.crsm_spec.specs.World.{World, log_of, log_at}
@@ -26,22 +26,24 @@ decisions_in w = flat_map (λ s. decisions (log_of s)) w.sites
 unfoldable pub decision_of : World → ℕ → Option Decision
 decision_of w e = find (λ d. d.epoch == e) (decisions_in w)
 
--- The Spec of epoch e: its votes and its collection are counted over these replicas, and so is the decision after it.
+-- The Spec of epoch e: its votes and its collection are counted over these replicas, and so is the decision after it. Of
+-- epoch 0 nobody keeps a decision, and its Spec is the first n replicas; no law speaks of a later epoch that nobody decided.
 unfoldable pub spec_at : World → ℕ → List ℕ
 spec_at w e = spec_decided w.n (decision_of w e)
 
 -- ---- what was chosen
 
--- k accepted d in this ballot, as the decision after epoch e
-abbrev pub HasAccepted : World → ℕ → ℕ → Ballot → Decision → Type 0
-HasAccepted w e k b d = Contains (log_at w k) (Rec.Accept (e + 1) b d)
+-- k accepted d in this ballot, as the decision after epoch e, and has executed the entries that d stands on
+pub record HasAccepted (w : World) (e : ℕ) (ballot : Ballot) (d : Decision) (k : ℕ) : Type 0 where
+  pub kept : Contains (log_at w k) (Rec.Accept (e + 1) ballot d)
+  pub base : d.base_len ≤ length (executed (log_at w k))
 
--- In one ballot a majority of the Spec of epoch e has accepted d.
+-- In one ballot a majority of the Spec of epoch e has accepted d, and all of that majority hold its base.
 pub record IsChosenAfter (w : World) (e : ℕ) (d : Decision) : Type 0 where
   pub ballot : Ballot
   pub voters : List ℕ
   pub majority : IsMajority (spec_at w e) voters
-  pub accepted : AllByRecursion (λ k. HasAccepted w e k ballot d) voters
+  pub accepted : AllByRecursion (HasAccepted w e ballot d) voters
 
 -- ---- decisions agree
 

@@ -5,7 +5,7 @@ use Rattle.std.specs.List.{list_all}
 use Rattle.crsm_spec.specs.Types.{Entry, Rec}
 use Rattle.crsm_base.specs.Order.{stamp_eq, ballot_lt, entry_lt}
 use Rattle.crsm_spec.specs.Lists.{has, first_of, last_of}
-use Rattle.crsm_spec.specs.Paxos.{majority}
+unfoldable pub use Rattle.crsm_base.specs.Replicas.{can_be_members}
 use Rattle.crsm_spec.specs.Quorum.{spec_decided}
 use Rattle.crsm_spec.specs.Clock.{u64_max}
 use Rattle.crsm_spec.specs.Log.{Log, known, start, members, spec, logged, executed, unexecuted, boots, has_entered, live, suspended, active, promised, accepted}
@@ -22,10 +22,6 @@ is_newest e es = list_all (λ f. not (f.stamp.origin == e.stamp.origin) || nat_l
 unfoldable pub goes_on : List Entry → List Entry → Bool
 goes_on done [] = false
 goes_on done (e ∷ es) = option_map_or (λ f. entry_lt f e) (last_of done) true
-
--- members that an epoch of this Spec may have
-unfoldable pub can_be_members : List ℕ → List ℕ → Bool
-can_be_members spec ms = list_all (has spec) ms && nat_le (majority (length spec)) (length ms)
 
 -- The condition of each kind of record, at replica me of n.
 unfoldable pub fits : ℕ → ℕ → Log → Rec → Bool

@@ -7,7 +7,6 @@ pub mod Paxos
 pub mod Proposing
 pub mod Following
 pub mod InstanceLaws
-pub mod BallotOrder
 pub mod Epochs
 pub mod Quorum
 pub mod Log

@@ -1,6 +1,7 @@
 -- Words on lists that std lacks.
-use Rattle.std.specs.Prelude.{◌⊎◌, ◌≡◌, ℕ, Bool, ◌==◌, List, [], ◌∷◌, ◌++◌, Option, None, Some, max}
-use Rattle.std.specs.List.{last_or, list_any, range_with_len}
+use Rattle.std.specs.Prelude.{◌⊎◌, ◌≡◌, ℕ, List, [], ◌∷◌, ◌++◌, Option, None, Some, max}
+use Rattle.std.specs.List.{last_or}
+unfoldable pub use Rattle.crsm_base.specs.Replicas.{has, numbers_below}
 
 -- the last element
 unfoldable pub last_of : {A : Type 0} → List A → Option A
@@ -10,14 +11,6 @@ last_of xs = last_or None xs
 unfoldable pub first_of : {A : Type 0} → List A → Option A
 first_of [] = None
 first_of (x ∷ xs) = Some x
-
--- the numbers below n, in order
-unfoldable pub numbers_below : ℕ → List ℕ
-numbers_below n = range_with_len 0 n
-
--- whether k is among the numbers
-unfoldable pub has : List ℕ → ℕ → Bool
-has ks k = list_any (λ j. j == k) ks
 
 -- the greatest of the numbers, 0 of none
 unfoldable pub greatest : List ℕ → ℕ

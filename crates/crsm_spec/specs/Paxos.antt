@@ -1,9 +1,10 @@
 -- Single-decree Paxos over any decisions D: an acceptor, the value of a proposal, and what is chosen in an instance.
-use Rattle.std.specs.Prelude.{◌≡◌, ◌≢◌, ℕ, ◌+◌, ◌/◌, ◌≤◌, Bool, false, ◌==◌, ◌||◌, ◌&&◌, not, nat_lt, nat_eq, if◌then◌else◌, List, [], ◌∷◌, ◌++◌, map, fold, length, Contains, IsTrue, Option, Some, None}
+use Rattle.std.specs.Prelude.{◌≡◌, ◌≢◌, ℕ, ◌≤◌, Bool, false, ◌==◌, ◌||◌, ◌&&◌, not, nat_lt, nat_eq, if◌then◌else◌, List, [], ◌∷◌, ◌++◌, map, fold, length, Contains, IsTrue, Option, Some, None}
 use Rattle.std.specs.List.{IsDistinct}
 use Rattle.std.specs.Option.{ForSome}
 use Rattle.crsm_spec.specs.Types.{Ballot}
 use Rattle.crsm_base.specs.Order.{ballot_lt}
+pub use Rattle.crsm_base.specs.Replicas.{majority}
 
 -- a decision that was accepted, with its ballot
 abbrev pub Held : Type 0 → Type 0
@@ -102,10 +103,6 @@ abbrev pub value_of : {D : Type 0} → D → List (Answer D) → D
 value_of own answers = value_of_best own (best_of answers)
 
 -- ---- majorities
-
--- the least number that is more than half of n
-abbrev pub majority : ℕ → ℕ
-majority n = n / 2 + 1
 
 -- these are distinct replicas of the Spec, and at least a majority of it
 pub record IsMajority (spec replicas : List ℕ) : Type 0 where

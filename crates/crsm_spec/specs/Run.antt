@@ -47,7 +47,7 @@ unfoldable pub told : World → List Act → List Told
 told w [] = []
 told w (a ∷ acts) = let m = act w a in map (told_by (Some a)) m.lines ++ told m.after acts
 
--- all lines of a run, those of the first boots in prefix
+-- all lines of a run, those of the first boots in front
 unfoldable pub seen : ℕ → List Act → List Told
 seen n acts = map (told_by None) (first_lines n) ++ told (begin n) acts
 

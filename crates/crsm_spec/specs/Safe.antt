@@ -36,6 +36,11 @@ abbrev pub IsExecOf : ℕ → Stamp → Line → Type 0
 IsExecOf epoch stamp (Line.Exec k place x s client number a) = (x ≡ epoch) × (s ≡ stamp)
 IsExecOf epoch stamp _ = ⊥
 
+-- the line says that an entry of this epoch and stamp was submitted
+abbrev pub IsSubmitOf : ℕ → Stamp → Line → Type 0
+IsSubmitOf epoch stamp (Line.Submit k x time client number) = (x ≡ epoch) × (record { time = time; origin = k } ≡ stamp)
+IsSubmitOf epoch stamp _ = ⊥
+
 -- the i-th line of a run is this one
 abbrev pub IsLineAt : List Told → ℕ → Line → Type 0
 IsLineAt lines i line = (by : Option Act) × (slice_get lines i ≡ Some (record { by = by; line = line }))
@@ -47,20 +52,23 @@ AnswersAt es place e a = (slice_get es place ≡ Some e) × (a ≡ answer_after 
 -- ---- agreement
 
 -- All executed lists, at any moments, are prefixes of one list. It rises by epoch and stamp, and each entry of it was
--- submitted by its origin for a client's request before it was executed anywhere.
+-- submitted by its origin for a client's request before it was executed anywhere. No epoch and stamp is submitted twice.
 pub record Agreed (n : ℕ) (acts : List Act) : Type 0 where
   pub prefixes : AllByRecursion (λ es. IsPrefixOf es (the_list n acts)) (all_lists n acts)
   pub ascending : Rises (the_list n acts)
   pub submitted : (p : ℕ) (e : Entry) → slice_get (the_list n acts) p ≡ Some e →
       (i : ℕ) × (t : Told) × (slice_get (seen n acts) i ≡ Some t) × Submits t e
       × ((j : ℕ) (u : Told) → slice_get (seen n acts) j ≡ Some u → IsExecOf e.epoch e.stamp u.line → i < j)
+  pub submitted_once : (epoch : ℕ) (stamp : Stamp) (i j : ℕ) (t u : Told) →
+      slice_get (seen n acts) i ≡ Some t → slice_get (seen n acts) j ≡ Some u →
+      IsSubmitOf epoch stamp t.line → IsSubmitOf epoch stamp u.line → i ≡ j
 
 -- ---- answers
 
--- an entry of this epoch and time was submitted at k, by this client with this number
-abbrev pub WasSubmitted : List Told → ℕ → ℕ → ℕ → ℕ → ℕ → Type 0
-WasSubmitted lines k epoch time client number =
-    (i : ℕ) × IsLineAt lines i (Line.Submit k epoch time client number)
+-- before the i-th line an entry of this epoch and time was submitted at k, by this client with this number
+abbrev pub WasSubmitted : List Told → ℕ → ℕ → ℕ → ℕ → ℕ → ℕ → Type 0
+WasSubmitted lines i k epoch time client number =
+    (j : ℕ) × (j < i) × IsLineAt lines j (Line.Submit k epoch time client number)
 
 -- Two reply lines of a run are on one submitted entry.
 abbrev pub AreOnOneEntry : Line → Line → Type 0
@@ -68,8 +76,8 @@ AreOnOneEntry (Line.ReplyOk k c m place a) (Line.ReplyOk k' c' m' place' a') = p
 AreOnOneEntry (Line.ReplyDropped k c m x s) (Line.ReplyDropped k' c' m' x' s') = (x ≡ x') × (s ≡ s')
 AreOnOneEntry _ _ = ⊥
 
--- Each executed entry, and each answer, is the one list's at its place. An entry that is said to be dropped is in no
--- executed list. No entry is replied to twice.
+-- Each executed entry, and each answer, is the one list's at its place. A reply is on an entry of its client and number,
+-- submitted at its replica before. An entry that is said to be dropped is in no executed list. No entry is replied to twice.
 pub record Answered (n : ℕ) (acts : List Act) : Type 0 where
   pub executed : (i k place epoch : ℕ) (s : Stamp) (client number : ℕ) (a : Answer) →
       IsLineAt (seen n acts) i (Line.Exec k place epoch s client number a) →
@@ -78,10 +86,11 @@ pub record Answered (n : ℕ) (acts : List Act) : Type 0 where
   pub answered : (i k client number place : ℕ) (a : Answer) →
       IsLineAt (seen n acts) i (Line.ReplyOk k client number place a) →
       (e : Entry) × AnswersAt (the_list n acts) place e a
-      × (e.stamp.origin ≡ k) × WasSubmitted (seen n acts) k e.epoch e.stamp.time client number
+      × (e.stamp.origin ≡ k) × (e.command.client ≡ client) × (e.command.number ≡ number)
+      × WasSubmitted (seen n acts) i k e.epoch e.stamp.time client number
   pub dropped : (i k client number epoch : ℕ) (s : Stamp) →
       IsLineAt (seen n acts) i (Line.ReplyDropped k client number epoch s) →
-      (s.origin ≡ k) × WasSubmitted (seen n acts) k epoch s.time client number
+      (s.origin ≡ k) × WasSubmitted (seen n acts) i k epoch s.time client number
       × AllByRecursion (AllByRecursion (λ e. ((e.epoch ≡ epoch) × (e.stamp ≡ s)) → ⊥)) (all_lists n acts)
   pub once : (i j : ℕ) (t u : Told) → slice_get (seen n acts) i ≡ Some t → slice_get (seen n acts) j ≡ Some u →
       AreOnOneEntry t.line u.line → i ≡ j

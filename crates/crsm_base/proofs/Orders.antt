@@ -1,19 +1,8 @@
 -- Ballots are in a total order.
-use Rattle.std.proofs.Common.{◌≡◌, ◌<◌, ◌⊎◌, Bool, true, false, arith, inl, inr, refl}
+use Rattle.std.proofs.Common.{◌≡◌, ◌⊎◌, Bool, true, false, arith, inl, inr, refl}
 use Rattle.std.proofs.lemmas.Bool.Decides.{nat_tests}
 use Rattle.crsm_base.specs.declared.stamp.Ballot.{Ballot}
 use Rattle.crsm_base.specs.Order.{ballot_lt, ballot_eq}
-
-abbrev pub Below : Ballot → Ballot → Type 0
-Below a b = (a.round < b.round) ⊎ ((a.round ≡ b.round) × (a.by < b.by))
-
-pub below_is : (a b : Ballot) → ballot_lt a b ≡ true → Below a b
-unfolding ballot_lt
-below_is a b h = grind (arith, nat_tests)
-
-pub below_from : (a b : Ballot) → Below a b → ballot_lt a b ≡ true
-unfolding ballot_lt
-below_from a b h = grind (arith, nat_tests)
 
 pub below-irrefl : (a : Ballot) → ballot_lt a a ≡ false
 unfolding ballot_lt

@@ -1,0 +1,47 @@
+//! The orders of stamps, ballots and entries.
+
+ghost use Rattle.std.specs.Prelude.{◌≡◌};
+ghost use Rattle.crsm_base.specs.Order.{ballot_eq, ballot_lt, entry_lt, stamp_eq, stamp_lt};
+
+use crate::command::Entry;
+use crate::stamp::{Ballot, Stamp};
+
+/// Whether one stamp is before the other: by time, then by origin.
+#[tactic(auto, unfolding(crate::specs::Order::stamp_lt))]
+pub fn stamp_precedes(a: Stamp, b: Stamp) -> bool
+    ensures { result ≡ stamp_lt a b }
+{
+    a < b
+}
+
+/// Whether these are one stamp.
+#[tactic(auto, unfolding(crate::specs::Order::stamp_eq))]
+pub fn is_same_stamp(a: Stamp, b: Stamp) -> bool
+    ensures { result ≡ stamp_eq a b }
+{
+    a == b
+}
+
+/// Whether one ballot is before the other: by round, then by proposer.
+#[tactic(auto, unfolding(crate::specs::Order::ballot_lt))]
+pub fn ballot_precedes(a: Ballot, b: Ballot) -> bool
+    ensures { result ≡ ballot_lt a b }
+{
+    a < b
+}
+
+/// Whether these are one ballot.
+#[tactic(auto, unfolding(crate::specs::Order::ballot_eq))]
+pub fn is_same_ballot(a: Ballot, b: Ballot) -> bool
+    ensures { result ≡ ballot_eq a b }
+{
+    a == b
+}
+
+/// Whether one entry is before the other in the global order: by epoch, then by stamp.
+#[tactic(auto, unfolding(crate::specs::Order::entry_lt))]
+pub fn entry_precedes(a: &Entry, b: &Entry) -> bool
+    ensures { result ≡ entry_lt a.now b.now }
+{
+    a.epoch < b.epoch || (a.epoch == b.epoch && stamp_precedes(a.stamp, b.stamp))
+}
