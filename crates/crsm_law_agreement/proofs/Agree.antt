@@ -9,11 +9,12 @@ use Rattle.crsm_spec.specs.Log.{Log, known, decision, spec, executed}
 use Rattle.crsm_spec.specs.Fits.{fits}
 use Rattle.crsm_spec.specs.Quorum.{spec_decided}
 use Rattle.crsm_spec.specs.World.{World, log_at}
-use Rattle.crsm_law_steps.specs.Laws.{AllFit, Extends, same, more}
+use Rattle.crsm_log_facts.specs.Logs.{AllFit, Extends, same, more}
 use Rattle.crsm_law_steps.specs.Happenings.{IsReached}
 use Rattle.crsm_law_collection.specs.Collecting.{CommitOf}
-use Rattle.crsm_law_collection.proofs.Law.{same_place, get_some}
-use Rattle.crsm_law_collection.proofs.Logged.{end_fits}
+use Rattle.crsm_law_collection.proofs.Law.{same_place}
+use Rattle.crsm_log_facts.proofs.Lists.{get_some, get_inside}
+use Rattle.crsm_log_facts.proofs.Logged.{end_fits}
 use Rattle.crsm_law_epoch.specs.LogWorlds.{HasFewBoots}
 use Rattle.crsm_law_epoch.proofs.LogWorlds.{logs_fit}
 use Rattle.crsm_law_messages.specs.Counted.{AllSpelt}
@@ -25,7 +26,7 @@ use Rattle.crsm_law_decisions.proofs.Worlds.{ballots_hold, decisions_are_collect
 use Rattle.crsm_law_decisions.proofs.Agree.{Knows, First, Later, knows, decisions_are_one}
 use Rattle.crsm_law_agreement.specs.Openings.{IsOpening, IsEpochOf, EpochHolds}
 use Rattle.crsm_law_agreement.specs.Laws.{EpochsHold, ListsAgree}
-use Rattle.crsm_law_agreement.proofs.Lists.{prefixes, get_below}
+use Rattle.crsm_law_agreement.proofs.Lists.{prefixes}
 use Rattle.crsm_law_agreement.proofs.Worlds.{all_placed}
 use Rattle.crsm_law_agreement.proofs.Facts.{epoch_facts}
 use Rattle.crsm_law_agreement.proofs.Openings.{first_opening, next_opening, opens_next, of_opening, newer_next}
@@ -124,7 +125,7 @@ module _ (n : ℕ) (w : World) (q : IsReached n w) (few : HasFewBoots w) (spelt 
             let t = stands_on (log_at w j) (Rec.Decide d) on_record in
             let size = oa.begin j (Rec.Decide d ∷ t.rest) t.earlier (known_decide d t.rest ∙ at) in
             let is = start_decide d t.rest in
-            let l = get_below a p x q in
+            let l = get_inside a p x q in
             let y = get_some d.tail (p - d.base_len) (omega (arith, ge, size, is, l)) in
             let place : d.base_len + (p - d.base_len) ≡ p = omega (arith, ge) in
             let in_a = subst (λ z. slice_get a z ≡ Some y.0) place (oa.tail j d on_record at (p - d.base_len) y.0 y.1) in
@@ -149,7 +150,7 @@ module _ (n : ℕ) (w : World) (q : IsReached n w) (few : HasFewBoots w) (spelt 
           newer = λ f o lt h o' p x. newer_next n e g.opening g.counted (log_at w) g.opens g.placed g.facts d made holds.0 holds.1.old holds.1.earlier holds.1.epoch holds.1.long only f o lt
               (λ i y le q. elim (cases_lt f e) [
                 | inl l ↦ g.newer f o l h o' i y le q
-                | inr ge ↦ (let low = get_below o i y (one g.opening o g.opens (subst (λ z. IsOpening z o (log_at w)) (same_epoch f lt ge) o') i y q) in absurd (omega (arith, low, le)))
+                | inr ge ↦ (let low = get_inside o i y (one g.opening o g.opens (subst (λ z. IsOpening z o (log_at w)) (same_epoch f lt ge) o') i y q) in absurd (omega (arith, low, le)))
               ]) p x;
           specs = specs_later;
           placed = all_placed n w q few spelt (suc e) opening opens;
@@ -205,7 +206,7 @@ module _ (n : ℕ) (w : World) (q : IsReached n w) (few : HasFewBoots w) (spelt 
     where
       go : (opening : List Entry) → slice_get opening p ≡ Some x → (slice_get opening p ≡ Some y) ⊎ ((length opening ≤ p) × CommitOf (known b) (log_at w) p y) → x ≡ y
       go opening at (inl q) = same_Some x y (sym at ∙ q)
-      go opening at (inr q) = let l = get_below opening p x at in let m = q.0 in absurd (omega (arith, l, m))
+      go opening at (inr q) = let l = get_inside opening p x at in let m = q.0 in absurd (omega (arith, l, m))
 
   one_epoch_same : (j k : ℕ) (a b : Log) → Extends a (log_at w j) → Extends b (log_at w k) → known a ≡ known b → (p : ℕ) (x y : Entry) → slice_get (executed a) p ≡ Some x → slice_get (executed b) p ≡ Some y → x ≡ y
   one_epoch_same j k a b xa xb is p x y f g =
@@ -215,8 +216,8 @@ module _ (n : ℕ) (w : World) (q : IsReached n w) (few : HasFewBoots w) (spelt 
       go : (h : EpochHolds n (known b) (log_at w)) → (slice_get h.opening p ≡ Some x) ⊎ ((length h.opening ≤ p) × CommitOf (known b) (log_at w) p x) →
           (slice_get h.opening p ≡ Some y) ⊎ ((length h.opening ≤ p) × CommitOf (known b) (log_at w) p y) → x ≡ y
       go h (inl u) (inl v) = same_Some x y (sym u ∙ v)
-      go h (inl u) (inr v) = let l = get_below h.opening p x u in let m = v.0 in absurd (omega (arith, l, m))
-      go h (inr u) (inl v) = let l = get_below h.opening p y v in let m = u.0 in absurd (omega (arith, l, m))
+      go h (inl u) (inr v) = let l = get_inside h.opening p x u in let m = v.0 in absurd (omega (arith, l, m))
+      go h (inr u) (inl v) = let l = get_inside h.opening p y v in let m = u.0 in absurd (omega (arith, l, m))
       go h (inr u) (inr v) = same_place (known b) n (length h.opening) h.counted (log_at w) h.facts p x y u.1 v.1
 
   pub same_entries : (j k : ℕ) (a b : Log) → Extends a (log_at w j) → Extends b (log_at w k) → (p : ℕ) (x y : Entry) → slice_get (executed a) p ≡ Some x → slice_get (executed b) p ≡ Some y → x ≡ y
@@ -240,7 +241,7 @@ module _ (n : ℕ) (w : World) (q : IsReached n w) (few : HasFewBoots w) (spelt 
     where
       in_opening : (e : ℕ) (opening : List Entry) → slice_get opening p ≡ Some x → (slice_get opening p ≡ Some y) ⊎ ((length opening ≤ p) × CommitOf e (log_at w) p y) → x ≡ y
       in_opening e opening q (inl t) = same_Some x y (sym q ∙ t)
-      in_opening e opening q (inr t) = let l = get_below opening p x q in let m = t.0 in absurd (omega (arith, l, m))
+      in_opening e opening q (inr t) = let l = get_inside opening p x q in let m = t.0 in absurd (omega (arith, l, m))
 
 pub epochs_hold : EpochsHold
 epochs_hold n w q few spelt e h = epoch_holds n w q few spelt e h

@@ -7,25 +7,24 @@ use Rattle.crsm_spec.specs.Lists.{Among, has, numbers_below}
 use Rattle.crsm_spec.specs.Log.{Log, known, decision, members, logged_in, has_entered}
 use Rattle.crsm_spec.specs.Paxos.{majority}
 use Rattle.crsm_spec.specs.World.{World, log_at}
-use Rattle.crsm_law_steps.specs.Laws.{Extends, same, more}
+use Rattle.crsm_log_facts.specs.Logs.{Extends, same, more, Logged}
 use Rattle.crsm_law_steps.specs.Happenings.{IsReached}
-use Rattle.crsm_law_steps.proofs.Logs.{extends_then}
-use Rattle.crsm_law_epoch.specs.Seats.{Logged}
+use Rattle.crsm_log_facts.proofs.Logged.{extends_trans, logged_is}
 use Rattle.crsm_law_epoch.specs.Worlds.{seats, sent_in}
 use Rattle.crsm_law_epoch.proofs.Worlds.{seat_log_at}
 use Rattle.crsm_law_collection.specs.Collecting.{CommitOf, EpochFacts}
 use Rattle.crsm_law_epoch.specs.LogWorlds.{HasFewBoots}
 use Rattle.crsm_law_epoch.proofs.LogWorlds.{logs_fit, epochs_hold_always}
 use Rattle.crsm_law_epoch.specs.Witness.{Witnessed}
-use Rattle.crsm_law_epoch.proofs.CommitLogs.{unexecuted_logged, logged_is}
+use Rattle.crsm_law_epoch.proofs.CommitLogs.{unexecuted_logged}
 use Rattle.crsm_law_epoch.proofs.CommitWorlds.{commits_are_witnessed}
 use Rattle.crsm_law_messages.specs.Counted.{AllSpelt}
 use Rattle.crsm_law_decisions.specs.Laws.{IsSpecOf}
 use Rattle.crsm_law_decisions.proofs.Agree.{known_are_one}
 use Rattle.crsm_law_agreement.specs.Openings.{IsOpening, IsPlaced}
-use Rattle.crsm_law_agreement.proofs.Lists.{get_below}
 use Rattle.crsm_law_agreement.proofs.Logs.{entered_as, is_logged}
 use Rattle.crsm_law_agreement.proofs.Worlds.{one_entry, all_placed}
+use Rattle.crsm_log_facts.proofs.Lists.{get_inside}
 
 same_members : (n : ℕ) (a b : Log) → decision a ≡ decision b → members n a ≡ members n b
 unfolding members
@@ -52,7 +51,7 @@ epoch_facts n w q few spelt e opening counted opens specs =
     older p y lt (inr b) = let l = b.0 in absurd (omega (arith, lt, l))
 
     later : (p : ℕ) (y : Entry) → length opening ≤ p → (slice_get opening p ≡ Some y) ⊎ ((length opening ≤ p) × CommitOf e (log_at w) p y) → CommitOf e (log_at w) p y
-    later p y le (inl a) = let l = get_below opening p y a in absurd (omega (arith, le, l))
+    later p y le (inl a) = let l = get_inside opening p y a in absurd (omega (arith, le, l))
     later p y le (inr b) = b.1
 
     at_seat : (k : ℕ) (f : Entry) → Logged (log_at w k) f → Logged (seats w k).log f
@@ -65,7 +64,7 @@ epoch_facts n w q few spelt e opening counted opens specs =
     witness p x c = commits_are_witnessed n w q few c.by c.log x (subst (Extends (Rec.Commit x.stamp ∷ c.log)) (sym (seat_log_at w c.by)) c.kept, c.next)
 
     old : (p : ℕ) (x : Entry) (c : CommitOf e (log_at w) p x) → Extends c.log (log_at w c.by)
-    old p x c = extends_then (more (Rec.Commit x.stamp) same) c.kept
+    old p x c = extends_trans (more (Rec.Commit x.stamp) same) c.kept
 
     replicated : (p : ℕ) (x : Entry) (c : CommitOf e (log_at w) p x) → (test : ℕ → Bool) × (majority (length counted) ≤ count_by test counted) × ((k : ℕ) → IsTrue (test k) → Among (logged_in e (log_at w k)) x)
     replicated p x c =

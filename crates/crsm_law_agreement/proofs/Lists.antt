@@ -66,11 +66,6 @@ taken_length zero xs le = refl
 taken_length (suc n) [] le = absurd (omega (arith, le))
 taken_length (suc n) (y ∷ xs) le = ap suc (taken_length n xs (omega (arith, le)))
 
-pub get_left : {A : Type 0} (xs ys : List A) (i : ℕ) (x : A) → slice_get xs i ≡ Some x → slice_get (xs ++ ys) i ≡ Some x
-get_left [] ys i x h = absurd (none-some x h)
-get_left (z ∷ xs) ys zero x h = h
-get_left (z ∷ xs) ys (suc i) x h = get_left xs ys i x h
-
 pub get_right : {A : Type 0} (xs ys : List A) (n i : ℕ) (x : A) → length xs ≡ n → slice_get ys i ≡ Some x → slice_get (xs ++ ys) (n + i) ≡ Some x
 get_right [] ys n i x e h = subst (λ j. slice_get ys j ≡ Some x) (zero_plus n i e) h
   where
@@ -78,9 +73,3 @@ get_right [] ys n i x e h = subst (λ j. slice_get ys j ≡ Some x) (zero_plus n
     zero_plus n i e = omega (arith, e)
 get_right (z ∷ xs) ys zero i x e h = absurd (omega (arith, e))
 get_right (z ∷ xs) ys (suc n) i x e h = subst (λ j. slice_get (z ∷ xs ++ ys) j ≡ Some x) (more_is n i) (get_right xs ys n i x (omega (arith, e)) h)
-
--- an element has a place before the end
-pub get_below : {A : Type 0} (xs : List A) (i : ℕ) (x : A) → slice_get xs i ≡ Some x → i < length xs
-get_below [] i x h = absurd (none-some x h)
-get_below (y ∷ xs) zero x h = omega arith
-get_below (y ∷ xs) (suc i) x h = let t = get_below xs i x h in omega (arith, t)

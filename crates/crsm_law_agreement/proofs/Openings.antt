@@ -7,18 +7,19 @@ use Rattle.std.proofs.lemmas.Option.{none-some, same_Some}
 use Rattle.crsm_spec.specs.Types.{Entry, Decision, Rec}
 use Rattle.crsm_spec.specs.Lists.{Among, IsPrefixOf}
 use Rattle.crsm_spec.specs.Log.{Log, known, decision, start, executed}
-use Rattle.crsm_law_steps.specs.Laws.{AllFit, Extends}
+use Rattle.crsm_log_facts.specs.Logs.{AllFit, Extends}
 use Rattle.crsm_law_collection.specs.Collecting.{CommitOf, EpochFacts, IsCollected}
 use Rattle.crsm_law_collection.specs.Starts.{AgreeBelow}
-use Rattle.crsm_law_collection.proofs.Law.{are_well_made, get_some}
-use Rattle.crsm_law_collection.proofs.Logged.{end_fits, logged_epoch}
+use Rattle.crsm_law_collection.proofs.Law.{are_well_made}
+use Rattle.crsm_log_facts.proofs.Lists.{get_some, get_left, get_inside}
+use Rattle.crsm_log_facts.proofs.Logged.{end_fits, logged_epoch}
 use Rattle.crsm_law_collection.proofs.Prefixes.{lists_are_prefixes}
 use Rattle.crsm_law_steps.proofs.Happen.{got_among}
 use Rattle.crsm_law_epoch.proofs.CommitLogs.{unexecuted_logged}
 use Rattle.crsm_law_decisions.proofs.Agree.{Knows, First, Later, knows, decided_later}
 use Rattle.crsm_law_decisions.proofs.Coordinators.{extends_among}
 use Rattle.crsm_law_agreement.specs.Openings.{IsOpening, IsPlaced}
-use Rattle.crsm_law_agreement.proofs.Lists.{get_append, get_take, take_get, taken_length, get_left, get_right, get_below}
+use Rattle.crsm_law_agreement.proofs.Lists.{get_append, get_take, take_get, taken_length, get_right}
 
 start_none : (log : Log) → decision log ≡ None → start log ≡ 0
 unfolding start
@@ -72,7 +73,7 @@ module _ (n e : ℕ) (opening : List Entry) (counted : List ℕ) (logs : ℕ →
   -- and so is the opening before
   pub of_opening : (p : ℕ) (x : Entry) → slice_get opening p ≡ Some x → slice_get next_opening p ≡ Some x
   of_opening p x q =
-      let lt = get_below opening p x q in
+      let lt = get_inside opening p x q in
       let l = low in
       let there = get_some (executed holder) p (omega (arith, lt, l, long)) in
       get_left (take d.base_len (executed holder)) d.tail p x (take_get d.base_len (executed holder) p x (omega (arith, lt, l)) (there.1 ∙ sym (at_holder lt there.0 (placed h holder holds holder_knows p there.0 there.1)) ∙ q))

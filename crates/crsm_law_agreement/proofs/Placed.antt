@@ -11,12 +11,10 @@ use Rattle.crsm_spec.specs.Lists.{Among, first_of}
 use Rattle.crsm_spec.specs.Log.{Log, known, decision, executed, logged, logged_in, entry_of, unexecuted}
 use Rattle.crsm_spec.specs.Collect.{first_page}
 use Rattle.crsm_spec.specs.Controls.{page_from, new_entries, may_adopt}
-use Rattle.crsm_law_steps.specs.Laws.{Extends, same, more}
-use Rattle.crsm_law_steps.proofs.Logs.{extends_then}
-use Rattle.crsm_law_steps.proofs.Tests.{same_stamp}
-use Rattle.crsm_law_epoch.specs.Seats.{Logged}
+use Rattle.crsm_log_facts.specs.Logs.{Extends, same, more, Logged}
+use Rattle.crsm_log_facts.proofs.Logged.{extends_trans, logged_is}
+use Rattle.crsm_log_facts.proofs.Tests.{same_stamp}
 use Rattle.crsm_law_collection.specs.Collecting.{CommitOf}
-use Rattle.crsm_law_epoch.proofs.CommitLogs.{logged_is}
 use Rattle.crsm_law_agreement.specs.Openings.{IsOpening, IsPlaced}
 use Rattle.crsm_law_agreement.proofs.Lists.{get_append, get_take}
 use Rattle.crsm_law_agreement.proofs.Logs.{IsIdle, idle_executed, idle_known}
@@ -28,7 +26,7 @@ EndsPlaced e opening logs now = (log : Log) → Extends log now → known log �
 -- ---- logs go on
 
 pub commit_on : (e : ℕ) (logs later : ℕ → Log) → ((k : ℕ) → Extends (logs k) (later k)) → (p : ℕ) (x : Entry) → CommitOf e logs p x → CommitOf e later p x
-commit_on e logs later grows p x c = record { by = c.by; log = c.log; kept = extends_then c.kept (grows c.by); epoch = c.epoch; next = c.next; place_is = c.place_is }
+commit_on e logs later grows p x c = record { by = c.by; log = c.log; kept = extends_trans c.kept (grows c.by); epoch = c.epoch; next = c.next; place_is = c.place_is }
 
 pub placed_on : (e : ℕ) (opening : List Entry) (logs later : ℕ → Log) → ((k : ℕ) → Extends (logs k) (later k)) → (log : Log) → IsPlaced e opening logs log → IsPlaced e opening later log
 placed_on e opening logs later grows log h p x q = elim (h p x q) [ inl a ↦ inl a | inr b ↦ inr (b.0, commit_on e logs later grows p x b.1) ]
@@ -39,9 +37,9 @@ ends_on e opening logs later grows now h log x kn = placed_on e opening logs lat
 -- an opening was one of the earlier logs
 pub opening_back : (e : ℕ) (opening : List Entry) (logs later : ℕ → Log) → ((k : ℕ) → Extends (logs k) (later k)) → ((k : ℕ) (rec : Rec) → Among (logs k) rec → Among (later k) rec) → IsOpening e opening later → IsOpening e opening logs
 opening_back e opening logs later grows keeps o = record {
-  before = λ k log x. o.before k log (extends_then x (grows k));
+  before = λ k log x. o.before k log (extends_trans x (grows k));
   older = o.older;
-  begin = λ k log x. o.begin k log (extends_then x (grows k));
+  begin = λ k log x. o.begin k log (extends_trans x (grows k));
   tail = λ k d a. o.tail k d (keeps k (Rec.Decide d) a);
 }
 

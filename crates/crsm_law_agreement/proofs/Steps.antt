@@ -14,15 +14,13 @@ use Rattle.crsm_spec.specs.Coordinate.{forget_epoch}
 use Rattle.crsm_spec.specs.Controls.{new_entries, may_adopt}
 use Rattle.crsm_spec.specs.Step.{Input}
 use Rattle.crsm_spec.specs.World.{Site, World, log_at}
-use Rattle.crsm_law_steps.specs.Laws.{AllFit, Extends, same, more}
-use Rattle.crsm_law_steps.specs.Messages.{Hears}
-use Rattle.crsm_law_steps.specs.Changes.{Change, Changes, stay, and_then}
-use Rattle.crsm_law_steps.specs.Changes.Change.{Submits, Refuses, Commits, Replies, Takes, Acks, IsAcked, Pays, Owes, TellsTime, SendsAgain, Tells, Gathers, Suspends, Collects, TakesPage, Completes, Refrains, GivesUp, Asks, CountsAnswer, Proposes, IsPreempted, AcceptsOwn, CountsVote, Promises, Accepts, Chooses, Learns, AdoptsTail, AdoptsPage, Enters}
+use Rattle.crsm_log_facts.specs.Logs.{AllFit, Extends, same, more, Logged}
+use Rattle.crsm_step_facts.specs.Messages.{Hears}
+use Rattle.crsm_step_facts.specs.Changes.{Change, Changes, stay, and_then}
+use Rattle.crsm_step_facts.specs.Changes.Change.{Submits, Refuses, Commits, Replies, Takes, Acks, IsAcked, Pays, Owes, TellsTime, SendsAgain, Tells, Gathers, Suspends, Collects, TakesPage, Completes, Refrains, GivesUp, Asks, CountsAnswer, Proposes, IsPreempted, AcceptsOwn, CountsVote, Promises, Accepts, Chooses, Learns, AdoptsTail, AdoptsPage, Enters}
 use Rattle.crsm_law_steps.specs.Happenings.{Marks, CanCome, IsReached}
-use Rattle.crsm_law_steps.proofs.Logs.{log_change, change_grows, extends_then, tell_still, replies_still}
-use Rattle.crsm_law_epoch.specs.Seats.{Logged}
-use Rattle.crsm_law_collection.proofs.Freeze.{decide_above}
-use Rattle.crsm_law_collection.proofs.Logged.{end_fits}
+use Rattle.crsm_step_facts.proofs.Logs.{log_change, change_grows, tell_still, replies_still}
+use Rattle.crsm_log_facts.proofs.Logged.{extends_trans, decide_above, end_fits}
 use Rattle.crsm_law_epoch.proofs.CommitLogs.{unexecuted_logged}
 use Rattle.crsm_law_messages.specs.Laws.{Says}
 use Rattle.crsm_law_messages.specs.Counted.{AllSpelt}
@@ -86,7 +84,7 @@ module _ (n : ℕ) (w v : World) (reached : IsReached n w) (marks : Marks w v) (
       ]
     where
       then_on : {a : Log} → Extends a (log_at w j) → Extends a (later j)
-      then_on x = extends_then x (grows j)
+      then_on x = extends_trans x (grows j)
 
   -- the rest of the tail stands in the opening
   tail_placed : (log : Log) (d : Decision) → Extends log (later k) → decision log ≡ Some d → d.base_len ≤ length (executed log) → known log ≡ e → (i : ℕ) (x : Entry) →
@@ -101,7 +99,7 @@ module _ (n : ℕ) (w v : World) (reached : IsReached n w) (marks : Marks w v) (
 
   learnt : (x : Draft) (d : Decision) → Extends (Rec.Decide d ∷ x.replica.log) (later k) → EndsPlaced e opening later x.replica.log → EndsPlaced e opening later (Rec.Decide d ∷ x.replica.log)
   learnt x d ext h = decide_placed e opening later x.replica.log d
-      (λ kn p z q. opens.before k x.replica.log (extends_then (more (Rec.Decide d) same) ext) (below kn) p z q) h
+      (λ kn p z q. opens.before k x.replica.log (extends_trans (more (Rec.Decide d) same) ext) (below kn) p z q) h
     where
       below : known (Rec.Decide d ∷ x.replica.log) ≡ e → known x.replica.log < e
       below kn =
@@ -112,7 +110,7 @@ module _ (n : ℕ) (w v : World) (reached : IsReached n w) (marks : Marks w v) (
   committed : (x : Draft) (y : Entry) → Extends (Rec.Commit y.stamp ∷ x.replica.log) (later k) → IsTrue (active x.replica.log) → first_of (unexecuted x.replica.log) ≡ Some y → EndsPlaced e opening later x.replica.log →
       EndsPlaced e opening later (Rec.Commit y.stamp ∷ x.replica.log)
   committed x y ext runs q h =
-      let before = extends_then (more (Rec.Commit y.stamp) same) ext in
+      let before = extends_trans (more (Rec.Commit y.stamp) same) ext in
       commit_placed e opening later k x.replica.log y ext q
       (λ z l ep st. one z y (logged_on x.replica.log (later k) z before l) (logged_on x.replica.log (later k) y before (unexecuted_logged x.replica.log y q).0) (ep ∙ sym (unexecuted_logged x.replica.log y q).1) st)
       (λ kn. let l = live_long k n x.replica.log (end_fits k n before fit) (active_live x.replica.log runs) in let b = opens.begin k x.replica.log before kn in omega (arith, l, b)) h
@@ -150,11 +148,11 @@ module _ (n : ℕ) (w v : World) (reached : IsReached n w) (marks : Marks w v) (
   changed x y (Accepts j b d q i p l) ext h = idle_placed e opening later _ x.replica.log tt h
   changed x y (Chooses b own d acceptors q p) ext h = learnt x d ext h
   changed x y (Learns j d q lt) ext h = learnt x d ext h
-  changed x y (AdoptsTail d q i j) ext h = adopt_placed e opening later x.replica.log _ _ (λ kn z x0 t. tail_placed x.replica.log d (extends_then (more _ same) ext) q i kn z x0 t) h
+  changed x y (AdoptsTail d q i j) ext h = adopt_placed e opening later x.replica.log _ _ (λ kn z x0 t. tail_placed x.replica.log d (extends_trans (more _ same) ext) q i kn z x0 t) h
   changed x y (AdoptsPage j e' from es q may lt) ext h = adopt_placed e opening later x.replica.log _ _ (λ kn i x0 t. page_placed j e' from es x.replica.log q may kn i x0 t) h
   changed x y (Enters q) ext h = idle_placed e opening later _ x.replica.log tt h
 
   pub along : {x y : Draft} → Changes r input reading x y → Extends y.replica.log (later k) → EndsPlaced e opening later x.replica.log → EndsPlaced e opening later y.replica.log
   along stay ext h = h
   along (and_then {y = y} {z = z} p c f) ext h =
-      changed y z c ext (along p (extends_then (change_grows y z (log_change r input reading y z c)) ext) h)
+      changed y z c ext (along p (extends_trans (change_grows y z (log_change r input reading y z c)) ext) h)

@@ -3,7 +3,7 @@ use Rattle.std.specs.Prelude.{◌⊎◌, ℕ}
 use Rattle.crsm_spec.specs.Lists.{IsPrefixOf}
 use Rattle.crsm_spec.specs.Log.{Log, executed}
 use Rattle.crsm_spec.specs.World.{World, log_at}
-use Rattle.crsm_law_steps.specs.Laws.{Extends}
+use Rattle.crsm_log_facts.specs.Logs.{Extends}
 use Rattle.crsm_law_steps.specs.Happenings.{IsReached}
 use Rattle.crsm_law_epoch.specs.LogWorlds.{HasFewBoots}
 use Rattle.crsm_law_messages.specs.Counted.{AllSpelt}

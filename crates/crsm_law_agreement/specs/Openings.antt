@@ -3,7 +3,7 @@ use Rattle.std.specs.Prelude.{◌≡◌, ◌⊎◌, ℕ, ◌+◌, ◌<◌, ◌�
 use Rattle.crsm_spec.specs.Types.{Entry, Decision, Rec}
 use Rattle.crsm_spec.specs.Lists.{Among}
 use Rattle.crsm_spec.specs.Log.{Log, known, start, executed}
-use Rattle.crsm_law_steps.specs.Laws.{Extends}
+use Rattle.crsm_log_facts.specs.Logs.{Extends}
 use Rattle.crsm_law_collection.specs.Collecting.{CommitOf, EpochFacts}
 use Rattle.crsm_law_decisions.specs.Laws.{IsSpecOf}
 

@@ -1,6 +1,3 @@
-pub mod Entries
-pub mod Logs
-pub mod Decisions
 pub mod Steps
 pub mod Worlds
 pub mod Counts

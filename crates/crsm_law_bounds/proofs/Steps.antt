@@ -24,18 +24,20 @@ use Rattle.crsm_spec.specs.Frames.{take_frame, hear, owe, ack, pay, owing, again
 use Rattle.crsm_spec.specs.Coordinate.{forget_epoch, instance, greater_ballot, may_reconfigure, most_collected}
 use Rattle.crsm_spec.specs.Controls.{is_page_of, are_above, new_entries, page_from}
 use Rattle.crsm_spec.specs.Step.{Input}
-use Rattle.crsm_law_steps.specs.Laws.{AllFit, Extends, same, more}
-use Rattle.crsm_law_steps.specs.Messages.{Hears, IsAsked, IsTold, Answers}
-use Rattle.crsm_law_steps.specs.Changes.{Change, Changes, stay, and_then, AsksFor, IsAnswer, IsNextRound, IsRefusal}
-use Rattle.crsm_law_steps.specs.Changes.Change.{Submits, Refuses, Commits, Replies, Takes, Acks, IsAcked, Pays, Owes, TellsTime, SendsAgain, Tells, Gathers, Suspends, Collects, TakesPage, Completes, Refrains, GivesUp, Asks, CountsAnswer, Proposes, IsPreempted, AcceptsOwn, CountsVote, Promises, Accepts, Chooses, Learns, AdoptsTail, AdoptsPage, Enters}
-use Rattle.crsm_law_steps.proofs.Logs.{extends_then, log_change, change_grows, tell_still, replies_still, numbers_stay}
-use Rattle.crsm_law_collection.proofs.Logged.{end_fits, list_all_at}
+use Rattle.crsm_log_facts.specs.Logs.{AllFit, Extends, same, more, AreSpelt}
+use Rattle.crsm_step_facts.specs.Messages.{Hears, IsAsked, IsTold, Answers}
+use Rattle.crsm_step_facts.specs.Changes.{Change, Changes, stay, and_then, AsksFor, IsAnswer, IsNextRound, IsRefusal}
+use Rattle.crsm_step_facts.specs.Changes.Change.{Submits, Refuses, Commits, Replies, Takes, Acks, IsAcked, Pays, Owes, TellsTime, SendsAgain, Tells, Gathers, Suspends, Collects, TakesPage, Completes, Refrains, GivesUp, Asks, CountsAnswer, Proposes, IsPreempted, AcceptsOwn, CountsVote, Promises, Accepts, Chooses, Learns, AdoptsTail, AdoptsPage, Enters}
+use Rattle.crsm_log_facts.proofs.Logged.{extends_trans, end_fits}
+use Rattle.crsm_step_facts.proofs.Logs.{log_change, change_grows, tell_still, replies_still, numbers_stay}
+use Rattle.crsm_log_facts.proofs.Lists.{list_all_at, all_at, all-append}
 use Rattle.crsm_law_epoch.proofs.CommitLogs.{unexecuted_logged}
 use Rattle.crsm_law_messages.proofs.Coordinators.{tell_coordinator, replies_coordinator}
 use Rattle.crsm_law_bounds.specs.Bounds.{most_records}
-use Rattle.crsm_law_bounds.proofs.Entries.{all_at, all_then, take_fits, drop_fits}
-use Rattle.crsm_law_bounds.proofs.Logs.{AreSpelt, decision_fits, known_small, accepted_fits, promised_fits, no_fits, logged_fits, executed_short, last_fits, frozen_fits, asked_page, executed_page}
-use Rattle.crsm_law_bounds.proofs.Decisions.{AnswersFit, value_fits, named_fits, FitsPage, FitPages, cursor_fits, collected_fits}
+use Rattle.crsm_log_facts.proofs.EntriesFit.{take_fits, drop_fits}
+use Rattle.crsm_log_facts.proofs.LogsFit.{decision_fits, known_small, accepted_fits, promised_fits, no_fits, logged_fits, executed_short, last_fits, frozen_fits, asked_page, executed_page}
+use Rattle.crsm_log_facts.specs.Pages.{AnswersFit, FitsPage, FitPages}
+use Rattle.crsm_log_facts.proofs.DecisionsFit.{value_fits, named_fits, cursor_fits, collected_fits}
 
 -- ---- coordinators
 
@@ -253,7 +255,7 @@ module _ (n k : ℕ) (last : Log) (r : Replica) (input : Input) (reading : ℕ) 
       record { log = ((instance_small x was.0, fits), f.log); coordinator = (was.0, fits, was.1, tt); issued = f.issued }
   change_fits x y (CountsAnswer b own answers a q i h) ext me f =
       let was = noted x (Coordinator.Preparing b own answers) f q in
-      record { log = f.log; coordinator = (was.0, was.1, was.2, all_then _ answers (a ∷ []) was.3 (answered x b a f i, tt)); issued = f.issued }
+      record { log = f.log; coordinator = (was.0, was.1, was.2, all-append _ answers (a ∷ []) was.3 (answered x b a f i, tt)); issued = f.issued }
   change_fits x y (Proposes b own answers q h) ext me f =
       let was = noted x (Coordinator.Preparing b own answers) f q in
       record { log = f.log; coordinator = (was.0, was.1, was.2, value_fits own answers was.2 was.3); issued = f.issued }
@@ -281,7 +283,7 @@ module _ (n k : ℕ) (last : Log) (r : Replica) (input : Input) (reading : ℕ) 
   pub changes_fit : {x y : Draft} → Changes r input reading x y → Extends y.replica.log last → x.replica.me ≡ r.me → Fit x → Fit y × (y.replica.me ≡ r.me)
   changes_fit stay ext me f = (f, me)
   changes_fit (and_then {y = y} {z = z} p c fitting) ext me f =
-      let e = extends_then (change_grows y z (log_change r input reading y z c)) ext in
+      let e = extends_trans (change_grows y z (log_change r input reading y z c)) ext in
       let t = changes_fit p e me f in
       (change_fits y z c e t.1 t.0, (numbers_stay r input reading y z c).0 ∙ t.1)
 

@@ -17,19 +17,20 @@ use Rattle.crsm_spec.specs.Draft.{Draft, begun, keep}
 use Rattle.crsm_spec.specs.Step.{Input, step, boot, boot_again, founding_boot, first_boot}
 use Rattle.crsm_spec.specs.World.{Site, World, Moment, begin, log_of, log_at, with_site, whole_step, cut_step, lost_step, down, after_step, then_down}
 use Rattle.crsm_spec.specs.Moments.{silent, begun_at, with_room, start_at}
-use Rattle.crsm_law_steps.specs.Laws.{AllFit, Extends, same, LogsGoOn}
-use Rattle.crsm_law_steps.specs.Messages.{Hears}
-use Rattle.crsm_law_steps.specs.Changes.{Changes, stay, and_then}
+use Rattle.crsm_log_facts.specs.Logs.{AllFit, Extends, same, Logged, AreSpelt}
+use Rattle.crsm_law_steps.specs.Laws.{LogsGoOn}
+use Rattle.crsm_step_facts.specs.Messages.{Hears}
+use Rattle.crsm_step_facts.specs.Changes.{Changes, stay, and_then}
 use Rattle.crsm_law_steps.specs.Happenings.{Marks, CanCome, Ends, Happens, IsReached}
 use Rattle.crsm_law_steps.specs.Happenings.CanCome.{IsMail, IsCommand, IsReply, IsTick, IsSuspicion}
 use Rattle.crsm_law_steps.specs.Happenings.Marks.{none}
 use Rattle.crsm_law_steps.specs.Happenings.Ends.{IsWhole, IsCut, IsLost}
 use Rattle.crsm_law_steps.specs.Happenings.Happens.{Nothing, Steps, Junk, Stops, Joins, Starts}
 use Rattle.crsm_law_steps.specs.Happenings.IsReached.{first, next}
-use Rattle.crsm_law_steps.proofs.Logs.{extends_then, log_change, change_grows, changes_grow}
-use Rattle.crsm_law_steps.proofs.Fitted.{step_changes}
+use Rattle.crsm_log_facts.proofs.Logged.{extends_trans}
+use Rattle.crsm_step_facts.proofs.Logs.{log_change, change_grows, changes_grow}
+use Rattle.crsm_step_facts.proofs.Fitted.{step_changes}
 use Rattle.crsm_law_steps.proofs.Moments.{set_case, moment_goes_on}
-use Rattle.crsm_law_epoch.specs.Seats.{Logged}
 use Rattle.crsm_law_epoch.specs.Worlds.{sent_in}
 use Rattle.crsm_law_epoch.proofs.Words.{get_either, among_map}
 use Rattle.crsm_law_epoch.proofs.Worlds.{marked_sites, seat_log_at, room_there}
@@ -42,8 +43,7 @@ use Rattle.crsm_law_messages.proofs.Truth.{logs_carried}
 use Rattle.crsm_law_messages.proofs.History.{Sends, TellsIn, TellsAt, WasToldIn}
 use Rattle.crsm_law_messages.proofs.Worlds.{all_known, heard_was_told_in, kept_whole, kept_cut}
 use Rattle.crsm_law_bounds.specs.Bounds.{most_records, HasShortLogs, ShortLogsAreSpelt}
-use Rattle.crsm_law_bounds.proofs.Entries.{all_at}
-use Rattle.crsm_law_bounds.proofs.Logs.{AreSpelt}
+use Rattle.crsm_log_facts.proofs.Lists.{all_at}
 use Rattle.crsm_law_bounds.proofs.Steps.{Fit, Comes, changes_fit, told_fits, extends_length}
 
 -- ---- short logs
@@ -186,7 +186,7 @@ module _ (n : ℕ) (w : World) (reached : IsReached n w) (f : Fine n w reached) 
       (s : Saying) → TellsIn path s → FitsControl s.message
   step_tells v p k r up input can reading lt kept stay ext s t = absurd t
   step_tells v p k r up input can reading lt kept (and_then {y = y} {z = z} path c fitting) ext s t =
-      let e = extends_then (change_grows y z (log_change r input reading y z c)) ext in
+      let e = extends_trans (change_grows y z (log_change r input reading y z c)) ext in
       elim t [
         | inl here ↦ draft_tells v p k r up input can reading lt kept y path e s here
         | inr old ↦ step_tells v p k r up input can reading lt kept path e s old

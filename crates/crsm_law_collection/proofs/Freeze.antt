@@ -1,25 +1,18 @@
 -- A suspended replica logs no more.
 use Rattle.std.proofs.Common.{◌≡◌, ℕ, ◌<◌, Bool, true, false, refl, ◌∙◌, ap, ◌⊎◌, inl, inr, arith, ◌∷◌, cond}
 use Rattle.std.proofs.lemmas.Bool.{ltb-true, ne_eqb, and_parts, false≢true}
-use Rattle.std.specs.Prelude.{IsTrue, not, ◌&&◌, nat_lt}
+use Rattle.std.specs.Prelude.{IsTrue, not, ◌&&◌, nat_lt, Some}
 use Rattle.crsm_spec.specs.Types.{Decision, Rec}
 use Rattle.crsm_spec.specs.Quorum.{spec_decided}
-use Rattle.std.specs.Prelude.{Some}
 use Rattle.crsm_spec.specs.Log.{Log, known, decision, logged_in, suspended, live, active, with_entry}
 use Rattle.crsm_spec.specs.Fits.{fits, booted, can_be_members}
-use Rattle.crsm_law_steps.specs.Laws.{Extends, same, more, AllFit}
+use Rattle.crsm_log_facts.specs.Logs.{Extends, same, more, AllFit}
 use Rattle.crsm_law_collection.specs.Frozen.{StaysFrozen}
-use Rattle.crsm_law_collection.proofs.Logged.{prepare_known}
+use Rattle.crsm_log_facts.proofs.Logged.{prepare_known, decide_above}
 
 -- the log is suspended in epoch e, or knows a later one
 abbrev Past : ℕ → Log → Type 0
 Past e log = ((known log ≡ e) × IsTrue (suspended log)) ⊎ (e < known log)
-
-pub decide_above : (me n : ℕ) (log : Log) (d : Decision) → IsTrue (fits me n log (Rec.Decide d)) → known log < d.epoch
-unfolding fits
-decide_above me n log d h =
-    let b = and_parts _ (can_be_members (spec_decided n (Some d)) d.members) h in
-    ltb-true (known log) d.epoch (and_parts (booted log) (nat_lt (known log) d.epoch) b.0).1
 
 not_active : (log : Log) → IsTrue (suspended log) → IsTrue (active log) → ⊥
 unfolding active

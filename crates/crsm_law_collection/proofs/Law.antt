@@ -9,16 +9,19 @@ use Rattle.crsm_spec.specs.Types.{Stamp, Entry, Decision}
 use Rattle.crsm_spec.specs.Lists.{has, Among, first_of, last_of, greatest}
 use Rattle.crsm_spec.specs.Log.{Log, known, logged_in, logged, executed, last_stamp, above, suspended}
 use Rattle.crsm_spec.specs.Replica.{LogPage}
-use Rattle.crsm_law_collection.specs.Counting.{IsMajorityOf}
+use Rattle.crsm_log_facts.specs.Counting.{IsMajorityOf}
 use Rattle.crsm_spec.specs.Collect.{frozen, pages_of, whole_ones, all_entries, first_pages, base_of, floor_of, union, collected}
-use Rattle.crsm_law_steps.specs.Laws.{Extends}
+use Rattle.crsm_log_facts.specs.Logs.{Extends}
 use Rattle.crsm_law_collection.proofs.Choosing.{meet}
-use Rattle.crsm_law_collection.specs.Collecting.{IsAbove, IsCollected, ReportsMakeCollections, CollectionsStay, Stands, CommitsStand, IsWellMade, CollectionsAreWellMade, Rises, CommitOf, EpochFacts, Reports, StandsAt, CollectionLaw}
-use Rattle.crsm_law_collection.proofs.Sorted.{Lt, Le, le_trans, le_lt, le_both, lt_is_le, lt_or_le, all_from, same_rising, upto, upto_from, upto_in, rises_upto, rises_above, split, above_from, above_in, top_at, get_left, among_left, among_right, among_either}
-use Rattle.crsm_law_collection.proofs.Logged.{extends_trans, end_fits, logged_grows, logged_epoch}
+use Rattle.crsm_log_facts.specs.Rising.{IsAbove, Rises}
+use Rattle.crsm_law_collection.specs.Collecting.{IsCollected, ReportsMakeCollections, CollectionsStay, Stands, CommitsStand, IsWellMade, CollectionsAreWellMade, CommitOf, EpochFacts, Reports, StandsAt, CollectionLaw}
+use Rattle.crsm_log_facts.proofs.Sorted.{Lt, Le, le_trans, le_lt, le_both, lt_is_le, lt_or_le, same_rising, upto, upto_from, upto_in, rises_upto, rises_above, split, above_from, above_in, top_at}
+use Rattle.crsm_log_facts.proofs.Lists.{all_from, get_left, among_left, among_right, among_either, flat_from, flat_in, has_from, has_in, get_inside, get_some}
+use Rattle.crsm_log_facts.proofs.Logged.{extends_trans, end_fits, logged_grows, logged_epoch}
 use Rattle.crsm_law_collection.proofs.Freeze.{stays_frozen}
-use Rattle.crsm_law_collection.proofs.Union.{union_rises, union_from, union_has}
+use Rattle.crsm_log_facts.proofs.Union.{union_rises, union_from, union_has}
 use Rattle.crsm_law_collection.proofs.Orderly.{cut, cut_length, cut_has, cut_rises, cut_commits, cut_from, cut_in, logged_now}
+use Rattle.crsm_log_facts.proofs.Pages.{firsts_from, firsts_in, top_high, top_from, found_from, found_none}
 
 -- ---- lists
 
@@ -56,98 +59,6 @@ keep_none e [] h = refl
 keep_none e (x ∷ xs) h =
     ap (λ b. cond b (x ∷ filter (λ x. x.epoch == e) xs) (filter (λ x. x.epoch == e) xs)) (ne_eqb x.epoch e (λ f. let l = h 0 x refl in omega arith))
     ∙ keep_none e xs (λ i y m. h (suc i) y m)
-
-pub get_inside : (xs : List Entry) (i : ℕ) (x : Entry) → slice_get xs i ≡ Some x → i < length xs
-get_inside [] i x e = absurd (none-some x e)
-get_inside (y ∷ ys) zero x e = omega arith
-get_inside (y ∷ ys) (suc i) x e = let r = get_inside ys i x e in omega arith
-
-pub get_some : (xs : List Entry) (i : ℕ) → i < length xs → (x : Entry) × (slice_get xs i ≡ Some x)
-get_some [] i l = absurd (omega arith)
-get_some (y ∷ ys) zero l = (y, refl)
-get_some (y ∷ ys) (suc i) l = get_some ys i (omega arith)
-
-pub flat_from : {A B : Type 0} (f : A → List B) (xs : List A) (z : B) → Among (flat_map f xs) z → (x : A) × Among xs x × Among (f x) z
-flat_from f [] z m = absurd m
-flat_from f (x ∷ xs) z m = go (among_either (f x) (flat_map f xs) z m) (flat_from f xs z)
-  where
-    go : Among (f x) z ⊎ Among (flat_map f xs) z → (Among (flat_map f xs) z → (y : _) × Among xs y × Among (f y) z) → (y : _) × Among (x ∷ xs) y × Among (f y) z
-    go (inl n) r = (x, inl refl, n)
-    go (inr n) r = let s = r n in (s.0, inr s.1, s.2)
-
-pub flat_in : {A B : Type 0} (f : A → List B) (xs : List A) (x : A) (z : B) → Among xs x → Among (f x) z → Among (flat_map f xs) z
-flat_in f [] x z m n = absurd m
-flat_in f (y ∷ xs) x z (inl e) n = among_left (f y) (flat_map f xs) z (subst (λ w. Among (f w) z) (sym e) n)
-flat_in f (y ∷ xs) x z (inr m) n = among_right (f y) (flat_map f xs) z (flat_in f xs x z m n)
-
-pub has_from : (ks : List ℕ) (k : ℕ) → IsTrue (has ks k) → Among ks k
-unfolding has
-has_from [] k h = absurd (false≢true h)
-has_from (j ∷ ks) k h = elim (or_cases (j == k) (list_any (λ i. i == k) ks) h) [ inl t ↦ inl (eqb-true j k t) | inr t ↦ inr (has_from ks k t) ]
-
-pub has_in : (ks : List ℕ) (k : ℕ) → Among ks k → IsTrue (has ks k)
-unfolding has
-has_in [] k m = absurd m
-has_in (j ∷ ks) k (inl e) = or_left (j == k) _ (eq-eqb j k e)
-has_in (j ∷ ks) k (inr m) = or_right (j == k) _ (has_in ks k m)
-
--- ---- first pages
-
-pub firsts_from : (pages : List LogPage) (ks : List ℕ) (p : LogPage) → Among (first_pages ks pages) p → (k : ℕ) × Among ks k × (first_of (pages_of pages k) ≡ Some p)
-unfolding first_pages
-firsts_from pages [] p m = absurd m
-firsts_from pages (k ∷ ks) p m = go (first_of (pages_of pages k)) refl m (firsts_from pages ks p)
-  where
-    go : (o : Option LogPage) → first_of (pages_of pages k) ≡ o → Among (option_map_or (λ p. p ∷ first_pages ks pages) o (first_pages ks pages)) p → (Among (first_pages ks pages) p → (j : ℕ) × Among ks j × (first_of (pages_of pages j) ≡ Some p)) →
-        (j : ℕ) × Among (k ∷ ks) j × (first_of (pages_of pages j) ≡ Some p)
-    go None e n r = let s = r n in (s.0, inr s.1, s.2)
-    go (Some q) e (inl f) r = (k, inl refl, e ∙ ap Some f)
-    go (Some q) e (inr n) r = let s = r n in (s.0, inr s.1, s.2)
-
-pub firsts_in : (pages : List LogPage) (ks : List ℕ) (k : ℕ) (p : LogPage) → Among ks k → first_of (pages_of pages k) ≡ Some p → Among (first_pages ks pages) p
-unfolding first_pages
-firsts_in pages [] k p m e = absurd m
-firsts_in pages (j ∷ ks) k p (inl f) e = subst (λ o. Among (option_map_or (λ p. p ∷ first_pages ks pages) o (first_pages ks pages)) p) (sym (ap (λ i. first_of (pages_of pages i)) f ∙ e)) (inl refl)
-firsts_in pages (j ∷ ks) k p (inr m) e = go (first_of (pages_of pages j)) (firsts_in pages ks k p m e)
-  where
-    go : (o : Option LogPage) → Among (first_pages ks pages) p → Among (option_map_or (λ p. p ∷ first_pages ks pages) o (first_pages ks pages)) p
-    go None n = n
-    go (Some q) n = inr n
-
--- the greatest of the executed lengths
-pub top_high : (ps : List LogPage) (p : LogPage) → Among ps p → p.executed ≤ greatest (map (λ q. q.executed) ps)
-unfolding greatest
-top_high [] p m = absurd m
-top_high (q ∷ ps) p (inl e) = let l : q.executed ≡ p.executed = ap (λ (w : LogPage). w.executed) e in omega arith
-top_high (q ∷ ps) p (inr m) = let l = top_high ps p m in omega arith
-
-pub top_from : (ps : List LogPage) → (greatest (map (λ q. q.executed) ps) ≡ 0) ⊎ ((p : LogPage) × Among ps p × (p.executed ≡ greatest (map (λ q. q.executed) ps)))
-unfolding greatest
-top_from [] = inl refl
-top_from (q ∷ ps) = go (cases_lt q.executed (greatest (map (λ q. q.executed) ps))) (top_from ps)
-  where
-    go : (q.executed < greatest (map (λ q. q.executed) ps)) ⊎ (greatest (map (λ q. q.executed) ps) ≤ q.executed) → (greatest (map (λ q. q.executed) ps) ≡ 0) ⊎ ((p : LogPage) × Among ps p × (p.executed ≡ greatest (map (λ q. q.executed) ps))) →
-        (max q.executed (greatest (map (λ q. q.executed) ps)) ≡ 0) ⊎ ((p : LogPage) × Among (q ∷ ps) p × (p.executed ≡ max q.executed (greatest (map (λ q. q.executed) ps))))
-    go (inl l) (inl z) = absurd (omega (arith, z))
-    go (inl l) (inr r) = inr (r.0, inr r.1, omega (arith, r.2))
-    go (inr l) r = inr (q, inl refl, omega arith)
-
-pub found_from : (base : ℕ) (ps : List LogPage) (p : LogPage) → find (λ q. q.executed == base) ps ≡ Some p → Among ps p × (p.executed ≡ base)
-found_from base [] p e = absurd (none-some p e)
-found_from base (q ∷ ps) p e = go (q.executed == base) refl e (found_from base ps p)
-  where
-    go : (b : Bool) → (q.executed == base) ≡ b → cond b (Some q) (find (λ q. q.executed == base) ps) ≡ Some p → (find (λ q. q.executed == base) ps ≡ Some p → Among ps p × (p.executed ≡ base)) → Among (q ∷ ps) p × (p.executed ≡ base)
-    go true t f r = let g = same_Some q p f in (inl g, ap (λ (w : LogPage). w.executed) (sym g) ∙ eqb-true q.executed base t)
-    go false t f r = let s = r f in (inr s.0, s.1)
-
-pub found_none : (base : ℕ) (ps : List LogPage) (p : LogPage) → find (λ q. q.executed == base) ps ≡ None → Among ps p → p.executed ≡ base → ⊥
-found_none base [] p e m f = m
-found_none base (q ∷ ps) p e m f = go (q.executed == base) refl e m (found_none base ps p)
-  where
-    go : (b : Bool) → (q.executed == base) ≡ b → cond b (Some q) (find (λ q. q.executed == base) ps) ≡ None → Among (q ∷ ps) p → (find (λ q. q.executed == base) ps ≡ None → Among ps p → p.executed ≡ base → ⊥) → ⊥
-    go true t g n r = none-some q (sym g)
-    go false t g (inl i) r = eqb-false q.executed base t (ap (λ (w : LogPage). w.executed) i ∙ f)
-    go false t g (inr n) r = r g n f
 
 -- ---- the law
 

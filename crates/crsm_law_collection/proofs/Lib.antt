@@ -1,12 +1,8 @@
-pub mod Sorted
-pub mod Logged
-pub mod Union
 pub mod Orderly
 pub mod Law
 pub mod Freeze
 pub mod Suffices
 pub mod Pages
-pub mod Merge
 pub mod Prefixes
 pub mod Keep
 pub mod Choosing

@@ -7,19 +7,10 @@ use Rattle.crsm_spec.specs.Lists.{has, first_of, Among}
 use Rattle.crsm_spec.specs.Log.{Log, known, start, logged_in, executed, last_stamp, unexecuted, suspended, above}
 use Rattle.crsm_spec.specs.Paxos.{majority}
 use Rattle.crsm_spec.specs.Replica.{LogPage}
-use Rattle.crsm_law_collection.specs.Counting.{IsMajorityOf}
+use Rattle.crsm_log_facts.specs.Counting.{IsMajorityOf}
 use Rattle.crsm_spec.specs.Collect.{frozen, pages_of, whole_ones, union, collected}
-use Rattle.crsm_law_steps.specs.Laws.{Extends, AllFit}
-
--- strictly ascending by stamp
-abbrev pub Rises : List Entry → Type 0
-Rises [] = Unit {0}
-Rises (x ∷ xs) = AllByRecursion (λ y. IsTrue (stamp_lt x.stamp y.stamp)) xs × Rises xs
-
--- z is above the stamp, if there is one
-abbrev pub IsAbove : Option Stamp → Entry → Type 0
-IsAbove None z = Unit {0}
-IsAbove (Some s) z = IsTrue (stamp_lt s z.stamp)
+use Rattle.crsm_log_facts.specs.Logs.{Extends, AllFit}
+use Rattle.crsm_log_facts.specs.Rising.{Rises}
 
 -- A commit in epoch e that some replica has made by now: it had the log `log`, and executed x at this place.
 -- `logs` says which log each replica has now.

@@ -7,8 +7,9 @@ use Rattle.crsm_spec.specs.Paxos.{majority}
 use Rattle.crsm_spec.specs.Replica.{LogPage}
 use Rattle.crsm_spec.specs.Collect.{pages_of, whole_ones, collected}
 use Rattle.crsm_base.specs.Reading.{is_rising}
-use Rattle.crsm_law_steps.specs.Laws.{Extends}
-use Rattle.crsm_law_collection.specs.Collecting.{Rises, IsAbove, EpochFacts, IsCollected}
+use Rattle.crsm_log_facts.specs.Logs.{Extends}
+use Rattle.crsm_log_facts.specs.Rising.{Rises, IsAbove}
+use Rattle.crsm_law_collection.specs.Collecting.{EpochFacts, IsCollected}
 use Rattle.crsm_law_collection.specs.Paging.{AreParts}
 
 -- What a coordinator makes of parts, where as many reports are whole as a majority, is a collection.
@@ -42,23 +43,3 @@ StartRises =
     EpochFacts e n begins counted logs → IsCollected e begins counted logs d →
     Extends holder (logs h) → known holder ≡ e → IsTrue (is_rising (executed holder)) →
     IsTrue (is_rising (take d.base_len (executed holder) ++ d.tail))
-
--- ---- of any pages
-
--- Whatever pages came: the tail rises and holds entries of whole reports above the floor, of each of their stamps one.
--- The base is not below the start nor below any whole report's executed length, and is one of these.
-pub record IsMadeOf (counted : List ℕ) (log : Log) (pages : List LogPage) (d : Decision) : Type 0 where
-  pub floor : Option Stamp
-  pub rises : Rises d.tail
-  pub from : (z : Entry) → Among d.tail z →
-      ((k : ℕ) × Among (whole_ones counted pages) k × Among (flat_map (λ p. p.entries) (pages_of pages k)) z) × IsAbove floor z
-  pub all : (k : ℕ) (z : Entry) → Among (whole_ones counted pages) k → Among (flat_map (λ p. p.entries) (pages_of pages k)) z →
-      IsAbove floor z → (w : Entry) × Among d.tail w × (w.stamp ≡ z.stamp)
-  pub low : start log ≤ d.base_len
-  pub high : (k : ℕ) (p : LogPage) → Among (whole_ones counted pages) k → first_of (pages_of pages k) ≡ Some p → p.executed ≤ d.base_len
-  pub base : ((d.base_len ≡ start log) × (floor ≡ None))
-      ⊎ ((k : ℕ) × (p : LogPage) × Among (whole_ones counted pages) k × (first_of (pages_of pages k) ≡ Some p) × (p.executed ≡ d.base_len) × (floor ≡ p.last))
-
-abbrev pub CollectedIsMade : Type 0
-CollectedIsMade =
-    (counted members : List ℕ) (named : Option (List ℕ)) (log : Log) (pages : List LogPage) → IsMadeOf counted log pages (collected counted named log members pages)

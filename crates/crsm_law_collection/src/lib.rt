@@ -14,18 +14,12 @@ ghost use Rattle.crsm_law_collection.specs.Paging.{PagesGoOn};
 ghost use Rattle.crsm_law_collection.specs.Paging.{PagesReport};
 ghost use Rattle.crsm_law_collection.specs.Paging.{PagesStay};
 ghost use Rattle.crsm_law_collection.specs.Paging.{AnswersArePages};
-ghost use Rattle.crsm_law_collection.specs.Merging.{UnionIsOne};
-ghost use Rattle.crsm_law_collection.specs.Merging.{UnionGoesOn};
-ghost use Rattle.crsm_law_collection.specs.Merging.{UnionOfSame};
-ghost use Rattle.crsm_law_collection.specs.Merging.{MergedAsTheyCome};
-ghost use Rattle.crsm_law_collection.specs.Merging.{WholeOnesAreMany};
 ghost use Rattle.crsm_law_collection.specs.Starts.{CompleteIsCollected};
 ghost use Rattle.crsm_law_collection.specs.Starts.{ListsArePrefixes};
 ghost use Rattle.crsm_law_collection.specs.Keeping.{FactsBegin};
 ghost use Rattle.crsm_law_collection.specs.Keeping.{FactsGoOn};
 ghost use Rattle.crsm_law_collection.specs.Keeping.{FactsOfStateGoOn};
 ghost use Rattle.crsm_law_collection.specs.Starts.{StartRises};
-ghost use Rattle.crsm_law_collection.specs.Starts.{CollectedIsMade};
 
 /// Whatever was committed, or will be, stands at its place in each decision that a majority's frozen logs make.
 pub fn collection_law()
@@ -87,31 +81,6 @@ pub fn answers_are_pages()
     ensures { AnswersArePages }
 {}
 
-/// The union of reports is the one rising list that holds of each stamp the first entry.
-pub fn union_is_one()
-    ensures { UnionIsOne }
-{}
-
-/// More may be merged later, and what is not above a floor may be left out at once.
-pub fn union_goes_on()
-    ensures { UnionGoesOn }
-{}
-
-/// Where all entries of one stamp are one, the order in which they come does not matter.
-pub fn union_of_same()
-    ensures { UnionOfSame }
-{}
-
-/// Entries that are merged as they come, with the replicas that sent them, are the union of the reports.
-pub fn merged_as_they_come()
-    ensures { MergedAsTheyCome }
-{}
-
-/// As many whole reports as a majority are a majority.
-pub fn whole_ones_are_many()
-    ensures { WholeOnesAreMany }
-{}
-
 /// What a coordinator makes of a majority's whole reports is a collection.
 pub fn complete_is_collected()
     ensures { CompleteIsCollected }
@@ -140,9 +109,4 @@ pub fn facts_of_state_go_on()
 /// What a collection begins the next epoch with rises by epoch and stamp.
 pub fn start_rises()
     ensures { StartRises }
-{}
-
-/// Whatever pages came, the decision's tail rises above its base, and holds what whole reports hold.
-pub fn collected_is_made()
-    ensures { CollectedIsMade }
 {}

@@ -8,9 +8,8 @@ use Rattle.crsm_spec.specs.Log.{Log, known, decision, spec}
 use Rattle.crsm_spec.specs.Quorum.{spec_decided}
 use Rattle.crsm_spec.specs.Fits.{fits}
 use Rattle.crsm_spec.specs.World.{log_at}
-use Rattle.crsm_law_steps.specs.Laws.{AllFit, Extends}
-use Rattle.crsm_law_collection.proofs.Freeze.{decide_above}
-use Rattle.crsm_law_collection.proofs.Logged.{end_fits}
+use Rattle.crsm_log_facts.specs.Logs.{AllFit, Extends}
+use Rattle.crsm_log_facts.proofs.Logged.{decide_above, end_fits}
 use Rattle.crsm_law_epoch.proofs.LogWorlds.{logs_fit}
 use Rattle.crsm_law_decisions.specs.Ballots.{AreBallots}
 use Rattle.crsm_law_decisions.specs.Laws.{DecisionsAreOne, KnownAreOne}

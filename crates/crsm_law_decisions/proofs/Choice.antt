@@ -6,17 +6,18 @@ use Rattle.std.proofs.lemmas.Bool.{leb-true, false≢true}
 use Rattle.std.proofs.lemmas.Option.{none-some}
 use Rattle.std.proofs.lemmas.List.Elements.{Contains-append_right}
 use Rattle.crsm_base.specs.Order.{ballot_lt}
-use Rattle.crsm_spec.specs.BallotOrder.{below-irrefl, le_trans, below_not_back, compare}
+use Rattle.crsm_base.proofs.Orders.{below-irrefl, le_trans, below_not_back, compare}
 use Rattle.crsm_spec.specs.Types.{Ballot, Decision, Rec}
 use Rattle.crsm_spec.specs.Lists.{Among, has}
 use Rattle.crsm_spec.specs.Log.{Log, known, spec}
 use Rattle.crsm_spec.specs.Paxos.{Answer, Found, majority, best_of, value_of, value_of_best}
 use Rattle.crsm_spec.specs.Quorum.{has_majority}
-use Rattle.crsm_law_steps.specs.Laws.{AllFit}
+use Rattle.crsm_log_facts.specs.Logs.{AllFit}
 use Rattle.crsm_safety.proofs.Paxos.Best.{IsBest, best_is}
 use Rattle.crsm_law_collection.proofs.Choosing.{meet}
-use Rattle.crsm_law_collection.proofs.Law.{has_from, reports_make}
-use Rattle.crsm_law_collection.proofs.Logged.{end_fits}
+use Rattle.crsm_log_facts.proofs.Lists.{has_from}
+use Rattle.crsm_law_collection.proofs.Law.{reports_make}
+use Rattle.crsm_log_facts.proofs.Logged.{end_fits}
 use Rattle.crsm_law_collection.proofs.Pages.{pages_report}
 use Rattle.crsm_law_collection.specs.Collecting.{IsCollected}
 use Rattle.crsm_law_collection.specs.Paging.{AreParts}

@@ -5,8 +5,8 @@ use Rattle.crsm_spec.specs.Lists.{Among}
 use Rattle.crsm_spec.specs.Log.{Log, known}
 use Rattle.crsm_spec.specs.Paxos.{Answer}
 use Rattle.crsm_spec.specs.Replica.{Coordinator}
-use Rattle.crsm_law_steps.specs.Laws.{Extends, same, more}
-use Rattle.crsm_law_steps.proofs.Logs.{extends_then}
+use Rattle.crsm_log_facts.specs.Logs.{Extends, same, more}
+use Rattle.crsm_log_facts.proofs.Logged.{extends_trans}
 use Rattle.crsm_law_collection.specs.Paging.{AreParts}
 use Rattle.crsm_law_collection.proofs.Pages.{pages_stay}
 use Rattle.crsm_law_decisions.specs.Ballots.{Offer, IsOffered, IsComplete, HasPromised, NamesOffered, IsSound, AreSound, IsChosen}
@@ -46,7 +46,7 @@ module _ (n : ℕ) (logs later : ℕ → Log) (grows : (k : ℕ) → Extends (lo
   complete_on i d c = record {
     by = c.by;
     log = c.log;
-    earlier = extends_then c.earlier (grows c.by);
+    earlier = extends_trans c.earlier (grows c.by);
     next = c.next;
     members = c.members;
     named = c.named;
@@ -58,12 +58,12 @@ module _ (n : ℕ) (logs later : ℕ → Log) (grows : (k : ℕ) → Extends (lo
   }
 
   pub promised_on : (i : ℕ) (b : Ballot) (a : Answer Decision) → HasPromised logs i b a → HasPromised later i b a
-  promised_on i b a p = record { log = p.log; earlier = extends_then p.earlier (grows a.replica); next = p.next; has_promised = p.has_promised; had_accepted = p.had_accepted }
+  promised_on i b a p = record { log = p.log; earlier = extends_trans p.earlier (grows a.replica); next = p.next; has_promised = p.has_promised; had_accepted = p.had_accepted }
 
   sound_on : (os : List Offer) (o : Offer) → IsSound n logs os o → IsSound n later os o
   sound_on os o s = record {
     log = s.log;
-    was = extends_then s.was (grows o.ballot.by);
+    was = extends_trans s.was (grows o.ballot.by);
     next = s.next;
     only = s.only;
     complete = complete_on o.instance o.own s.complete;
@@ -80,7 +80,7 @@ module _ (n : ℕ) (logs later : ℕ → Log) (grows : (k : ℕ) → Extends (lo
   chosen_on d c = record {
     by = c.by;
     log = c.log;
-    earlier = extends_then c.earlier (grows c.by);
+    earlier = extends_trans c.earlier (grows c.by);
     next = c.next;
     ballot = c.ballot;
     voters = c.voters;

@@ -5,13 +5,13 @@ use Rattle.std.specs.Option.{option_map_or}
 use Rattle.std.proofs.lemmas.Bool.{and_parts, eqb-true, false≢true}
 use Rattle.std.proofs.lemmas.Option.{none-some, same_Some}
 use Rattle.crsm_base.specs.Order.{ballot_lt}
-use Rattle.crsm_spec.specs.BallotOrder.{below-irrefl, below_le, le_below, below_not_back, le_trans}
+use Rattle.crsm_base.proofs.Orders.{below-irrefl, below_le, le_below, below_not_back, le_trans}
 use Rattle.crsm_spec.specs.Types.{Ballot, Decision, Rec}
 use Rattle.crsm_spec.specs.Lists.{Among}
 use Rattle.crsm_spec.specs.Log.{Log, known, decision, promised, accepted}
 use Rattle.crsm_spec.specs.Fits.{fits}
-use Rattle.crsm_law_steps.specs.Laws.{Extends, same, more, AllFit}
-use Rattle.crsm_law_collection.proofs.Freeze.{decide_above}
+use Rattle.crsm_log_facts.specs.Logs.{Extends, same, more, AllFit}
+use Rattle.crsm_log_facts.proofs.Logged.{decide_above}
 
 -- ---- kinds of records
 

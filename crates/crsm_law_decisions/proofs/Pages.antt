@@ -9,8 +9,8 @@ use Rattle.crsm_spec.specs.Log.{Log, known, suspended}
 use Rattle.crsm_spec.specs.Replica.{LogPage}
 use Rattle.crsm_spec.specs.Collect.{suspend_ok, is_whole, cursor}
 use Rattle.crsm_spec.specs.Controls.{is_page_of}
-use Rattle.crsm_law_steps.specs.Laws.{Extends, AllFit}
-use Rattle.crsm_law_steps.proofs.Tests.{same_stamp}
+use Rattle.crsm_log_facts.specs.Logs.{Extends, AllFit}
+use Rattle.crsm_log_facts.proofs.Tests.{same_stamp}
 use Rattle.crsm_law_collection.specs.Paging.{answer_page, AreParts}
 use Rattle.crsm_law_collection.proofs.Pages.{pages_go_on, answers_are_pages}
 

@@ -19,19 +19,18 @@ use Rattle.crsm_spec.specs.Coordinate.{forget_epoch, instance, has_accepted}
 use Rattle.crsm_spec.specs.Controls.{is_page_of}
 use Rattle.crsm_spec.specs.Step.{Input}
 use Rattle.crsm_spec.specs.World.{Site, World, log_at}
-use Rattle.crsm_law_steps.specs.Laws.{AllFit, Extends}
-use Rattle.crsm_law_steps.specs.Messages.{Hears, IsTold}
-use Rattle.crsm_law_steps.specs.Changes.{Change, Changes, stay, and_then, IsAnswer, IsVote}
-use Rattle.crsm_law_steps.specs.Changes.Change.{Submits, Refuses, Commits, Replies, Takes, Acks, IsAcked, Pays, Owes, TellsTime, SendsAgain, Tells, Gathers, Suspends, Collects, TakesPage, Completes, Refrains, GivesUp, Asks, CountsAnswer, Proposes, IsPreempted, AcceptsOwn, CountsVote, Promises, Accepts, Chooses, Learns, AdoptsTail, AdoptsPage, Enters}
+use Rattle.crsm_log_facts.specs.Logs.{AllFit, Extends}
+use Rattle.crsm_step_facts.specs.Messages.{Hears, IsTold}
+use Rattle.crsm_step_facts.specs.Changes.{Change, Changes, stay, and_then, IsAnswer, IsVote}
+use Rattle.crsm_step_facts.specs.Changes.Change.{Submits, Refuses, Commits, Replies, Takes, Acks, IsAcked, Pays, Owes, TellsTime, SendsAgain, Tells, Gathers, Suspends, Collects, TakesPage, Completes, Refrains, GivesUp, Asks, CountsAnswer, Proposes, IsPreempted, AcceptsOwn, CountsVote, Promises, Accepts, Chooses, Learns, AdoptsTail, AdoptsPage, Enters}
 use Rattle.crsm_law_steps.specs.Happenings.{Marks, CanCome, IsReached}
-use Rattle.crsm_law_steps.proofs.Logs.{log_change, change_grows, extends_then, tell_still, replies_still}
+use Rattle.crsm_step_facts.proofs.Logs.{log_change, change_grows, tell_still, replies_still}
+use Rattle.crsm_log_facts.proofs.Logged.{extends_trans, end_fits}
 use Rattle.crsm_law_collection.specs.Paging.{AreParts}
-use Rattle.crsm_law_collection.proofs.Logged.{end_fits}
 use Rattle.crsm_law_collection.proofs.Pages.{pages_begin}
 use Rattle.crsm_law_messages.specs.Sayings.{Saying, IsToldBy}
 use Rattle.crsm_law_messages.specs.Laws.{Says, HearsIn}
 use Rattle.crsm_law_messages.specs.Counted.{AllSpelt}
-use Rattle.crsm_law_messages.proofs.Words.{among_either}
 use Rattle.crsm_law_messages.proofs.History.{TellsIn, WasToldIn}
 use Rattle.crsm_law_messages.proofs.Truth.{told_is_true, voted}
 use Rattle.crsm_law_messages.proofs.Worlds.{heard_is_told, heard_is_told_in}
@@ -41,6 +40,7 @@ use Rattle.crsm_law_decisions.proofs.Logs.{IsPlain, plain_of, plain_no_accept, p
 use Rattle.crsm_law_decisions.proofs.Choice.{share, one_value}
 use Rattle.crsm_law_decisions.proofs.Coordinators.{IsAsking, IsProposing, CoordinatorHolds, extends_among, chosen_on, offered_more, coordinator_keeps}
 use Rattle.crsm_law_decisions.proofs.Pages.{takes_page}
+use Rattle.crsm_log_facts.proofs.Lists.{among_either}
 
 -- a decision names the Spec of its replica or the members
 names_of : (r : Replica) (ms s : List ℕ) → named_spec r ms ≡ Some s → (s ≡ spec_of r) ⊎ (s ≡ ms)
@@ -90,7 +90,7 @@ module _ (n : ℕ) (w v : World) (reached : IsReached n w) (marks : Marks w v) (
       held.told s.0 i b d s.2 s.1
 
   fit_now : (j : ℕ) (log : Log) → Extends log (log_at w j) → AllFit j n log
-  fit_now j log e = end_fits j n (extends_then e (grows j)) (fit j)
+  fit_now j log e = end_fits j n (extends_trans e (grows j)) (fit j)
 
   -- ---- a draft
 
@@ -232,7 +232,7 @@ module _ (n : ℕ) (w v : World) (reached : IsReached n w) (marks : Marks w v) (
       AreParts (known x.replica.log) later (pages ++ p ∷ [])
   page_taken x T g ms pages e after p was hears next not_whole =
       let t = heard_true p.from (Control.SuspendOk e p.executed p.last after p.whole p.entries) hears in
-      takes_page n later fit (known x.replica.log) e pages after p t.log (coordinator_is x T g (Coordinator.Collecting ms pages) was) next not_whole (extends_then t.earlier (grows p.from)) t.says.0 t.says.1
+      takes_page n later fit (known x.replica.log) e pages after p t.log (coordinator_is x T g (Coordinator.Collecting ms pages) was) next not_whole (extends_trans t.earlier (grows p.from)) t.says.0 t.says.1
 
   completes : (x : Draft) (T : Saying → Type 0) (g : Mid x T) (ms : List ℕ) (pages : List LogPage) → Extends x.replica.log (later k) → x.replica.coordinator ≡ Coordinator.Collecting ms pages →
       IsTrue (has_majority (spec_of x.replica) (whole_ones (spec_of x.replica) pages)) →
@@ -300,7 +300,7 @@ module _ (n : ℕ) (w v : World) (reached : IsReached n w) (marks : Marks w v) (
       let t = heard_true a.replica (Control.P1b (known x.replica.log + 1) b a.accepted) h.1 in
       let says = t.says in
       record {
-        promised = record { log = t.log; earlier = extends_then t.earlier (grows a.replica); next = says.0; has_promised = says.1; had_accepted = says.2 };
+        promised = record { log = t.log; earlier = extends_trans t.earlier (grows a.replica); next = says.0; has_promised = says.1; had_accepted = says.2 };
         named = λ c d is.
             let on_log = held_accept a.replica n t.log c d (fit_now a.replica t.log t.earlier) (sym says.2 ∙ is) in
             let there = held.accepted a.replica (known t.log + 1) c d (extends_among t.earlier (Rec.Accept (known t.log + 1) c d) on_log) in
@@ -478,5 +478,5 @@ module _ (n : ℕ) (w v : World) (reached : IsReached n w) (marks : Marks w v) (
   pub along : {y : Draft} (p : Changes r input reading (begun r) y) → Extends y.replica.log (later k) → Mid (begun r) (λ s. ⊥) → Mid y (TellsIn p)
   along stay ext g = g
   along (and_then {y = y} {z = z} p c f) ext g =
-      let before = extends_then (change_grows y z (log_change r input reading y z c)) ext in
+      let before = extends_trans (change_grows y z (log_change r input reading y z c)) ext in
       changed y z (TellsIn (and_then p c f)) c before (telling y (TellsIn p) (along p before g))

@@ -12,12 +12,13 @@ use Rattle.crsm_spec.specs.Draft.{begun, keep}
 use Rattle.crsm_spec.specs.Step.{Input, step, boot, boot_again, founding_boot, first_boot}
 use Rattle.crsm_spec.specs.World.{Site, World, Moment, begin, log_of, log_at, with_site, whole_step, cut_step, lost_step, down, after_step, then_down}
 use Rattle.crsm_spec.specs.Moments.{silent, begun_at, with_room, start_at}
-use Rattle.crsm_law_steps.specs.Laws.{AllFit, Extends, same, LogsGoOn}
+use Rattle.crsm_log_facts.specs.Logs.{AllFit, Extends, same}
+use Rattle.crsm_law_steps.specs.Laws.{LogsGoOn}
 use Rattle.crsm_law_steps.specs.Happenings.{Marks, CanCome, Ends, Happens, IsReached}
 use Rattle.crsm_law_steps.specs.Happenings.Ends.{IsWhole, IsCut, IsLost}
 use Rattle.crsm_law_steps.specs.Happenings.Happens.{Nothing, Steps, Junk, Stops, Joins, Starts}
 use Rattle.crsm_law_steps.specs.Happenings.IsReached.{first, next}
-use Rattle.crsm_law_steps.proofs.Fitted.{step_changes}
+use Rattle.crsm_step_facts.proofs.Fitted.{step_changes}
 use Rattle.crsm_law_steps.proofs.Moments.{moment_goes_on}
 use Rattle.crsm_law_epoch.specs.Seats.{Seat, seat_up, seat_down}
 use Rattle.crsm_law_epoch.proofs.Words.{set_other, set_same}

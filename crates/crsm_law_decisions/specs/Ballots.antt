@@ -7,7 +7,7 @@ use Rattle.crsm_spec.specs.Quorum.{has_majority}
 use Rattle.crsm_spec.specs.Paxos.{Answer, value_of}
 use Rattle.crsm_spec.specs.Replica.{LogPage}
 use Rattle.crsm_spec.specs.Collect.{whole_ones, collected}
-use Rattle.crsm_law_steps.specs.Laws.{Extends}
+use Rattle.crsm_log_facts.specs.Logs.{Extends}
 use Rattle.crsm_law_collection.specs.Paging.{AreParts}
 
 -- The replica of this ballot offers, as the decision after epoch `instance` - 1, what the answers leave of its own one.

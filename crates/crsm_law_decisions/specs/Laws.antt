@@ -4,7 +4,7 @@ use Rattle.crsm_spec.specs.Types.{Ballot, Decision, Rec}
 use Rattle.crsm_spec.specs.Lists.{Among}
 use Rattle.crsm_spec.specs.Log.{Log, known, decision, spec}
 use Rattle.crsm_spec.specs.World.{World, log_at}
-use Rattle.crsm_law_steps.specs.Laws.{Extends, AllFit}
+use Rattle.crsm_log_facts.specs.Logs.{Extends, AllFit}
 use Rattle.crsm_law_steps.specs.Happenings.{IsReached}
 use Rattle.crsm_law_collection.specs.Collecting.{EpochFacts, IsCollected}
 use Rattle.crsm_law_epoch.specs.LogWorlds.{HasFewBoots}

@@ -15,9 +15,10 @@ use Rattle.crsm_spec.specs.Clients.{refusal, refuse, submit, await}
 use Rattle.crsm_spec.specs.Frames.{take_frame, hear, owe, ack, pay, owing, again_frame, is_odd_frame, is_wrong}
 use Rattle.crsm_spec.specs.Coordinate.{forget_epoch}
 use Rattle.crsm_spec.specs.Step.{Input}
-use Rattle.crsm_law_steps.specs.Changes.{Change}
-use Rattle.crsm_law_steps.specs.Changes.Change.{Submits, Refuses, Commits, Replies, Takes, Acks, IsAcked, Pays, Owes, TellsTime, SendsAgain, Tells, Gathers, Suspends, Collects, TakesPage, Completes, Refrains, GivesUp, Asks, CountsAnswer, Proposes, IsPreempted, AcceptsOwn, CountsVote, Promises, Accepts, Chooses, Learns, AdoptsTail, AdoptsPage, Enters}
-use Rattle.crsm_law_steps.proofs.Logs.{tell_still, replies_still}
+use Rattle.crsm_step_facts.specs.Changes.{Change}
+use Rattle.crsm_step_facts.specs.Changes.Change.{Submits, Refuses, Commits, Replies, Takes, Acks, IsAcked, Pays, Owes, TellsTime, SendsAgain, Tells, Gathers, Suspends, Collects, TakesPage, Completes, Refrains, GivesUp, Asks, CountsAnswer, Proposes, IsPreempted, AcceptsOwn, CountsVote, Promises, Accepts, Chooses, Learns, AdoptsTail, AdoptsPage, Enters}
+use Rattle.crsm_step_facts.proofs.Logs.{tell_still, replies_still}
+use Rattle.crsm_log_facts.proofs.Tests.{or_parts}
 
 -- the record is no commit, and no entry of k's own
 pub record IsForeign (k : ℕ) (rec : Rec) : Type 0 where
@@ -44,10 +45,6 @@ pub data Effect (reading : ℕ) (x y : Draft) : Type 0 where
 no_entry : (k : ℕ) (rec : Rec) → ((f : Entry) → rec ≡ Rec.Prepare f → ⊥) → ((f : Entry) → rec ≡ Rec.Commit f.stamp → ⊥) → IsForeign k rec
 no_entry k rec p q = record { entry = λ f e o. p f e; commit = q }
 
-or_false : (a b : Bool) → (a || b) ≡ false → (a ≡ false) × (b ≡ false)
-or_false true b e = absurd (false≢true (sym e))
-or_false false b e = (refl, e)
-
 not_false : (a : Bool) → not a ≡ false → a ≡ true
 not_false true e = refl
 not_false false e = absurd (false≢true (sym e))
@@ -55,7 +52,7 @@ not_false false e = absurd (false≢true (sym e))
 -- an entry that is taken from m is m's own
 pub taken_origin : (x : Replica) (m : ℕ) (g : Entry) → is_odd_frame x m (InEpoch.Prepare g) ≡ false → g.stamp.origin ≡ m
 unfolding is_odd_frame is_wrong
-taken_origin x m g h = eqb-true g.stamp.origin m (not_false (g.stamp.origin == m) (or_false _ (not (g.stamp.origin == m)) (or_false _ _ h).1).1)
+taken_origin x m g h = eqb-true g.stamp.origin m (not_false (g.stamp.origin == m) (or_parts _ (not (g.stamp.origin == m)) (or_parts _ _ h).1).1)
 
 pub same_entry : (f g : Entry) → Rec.Prepare f ≡ Rec.Prepare g → f ≡ g
 same_entry f g e = cc

@@ -12,10 +12,11 @@ use Rattle.crsm_spec.specs.Paxos.{majority}
 use Rattle.crsm_spec.specs.Ready.{is_ready, is_replicated, is_stable, is_next, votes_for, voted, reached, all_heard}
 use Rattle.crsm_spec.specs.Replica.{members_of, spec_of}
 use Rattle.crsm_spec.specs.Draft.{Draft, would}
-use Rattle.crsm_law_steps.specs.Laws.{Extends}
-use Rattle.crsm_law_steps.proofs.Tests.{same_stamp}
-use Rattle.crsm_law_epoch.specs.Seats.{Seat, seat_up, Logged, Receiver, logs_of, taken_of}
-use Rattle.crsm_law_epoch.proofs.Words.{any_is, all_is, among_either, among_left, among_unmap}
+use Rattle.crsm_log_facts.specs.Logs.{Extends, Logged}
+use Rattle.crsm_log_facts.proofs.Tests.{same_stamp}
+use Rattle.crsm_law_epoch.specs.Seats.{Seat, seat_up, Receiver, logs_of, taken_of}
+use Rattle.crsm_law_epoch.proofs.Words.{any_is, among_unmap}
+use Rattle.crsm_log_facts.proofs.Lists.{among_either, among_left, list_all_at, has_from}
 use Rattle.crsm_law_epoch.proofs.Moved.{at, at_same, at_other, at_case}
 use Rattle.crsm_law_epoch.proofs.Drafts.{Good, outs, sender_of, receiver_of, fit_of}
 use Rattle.crsm_law_epoch.proofs.Kept.{live_entered, would_late}
@@ -24,10 +25,6 @@ use Rattle.crsm_law_epoch.proofs.CommitSeats.{stays, changed}
 use Rattle.crsm_law_epoch.proofs.CommitEffects.{Effect}
 use Rattle.crsm_law_epoch.proofs.CommitEffects.Effect.{Still, Within, Off, Entered, Stamped, Executed}
 use Rattle.crsm_law_epoch.proofs.CommitLogs.{extends_cases, committed_entered, unexecuted_logged, enter_new, enter_knows, prepare_knows, commit_knows}
-
-among_has : (ks : List ℕ) (k : ℕ) → IsTrue (has ks k) → Among ks k
-unfolding has
-among_has ks k h = let t = any_is (λ j. j == k) ks h in subst (Among ks) (eqb-true t.0 k t.2) t.1
 
 module _ (n k : ℕ) (v : ℕ → Seat) (sent : List Datagram) where
   abbrev G : Draft → Type 0
@@ -99,8 +96,8 @@ module _ (n k : ℕ) (v : ℕ → Seat) (sent : List Datagram) where
     member_time : (m : ℕ) → IsTrue (has (members n x.replica.log) m) → (t : ℕ) × (f.stamp.time ≤ t) × (((m ≡ k) × Among x.replica.issued t) ⊎ Among x.replica.heard (m, t))
     unfolding is_stable members_of reached all_heard
     member_time m mem =
-        let in_ms = among_has (members x.replica.n x.replica.log) m (subst (λ i. IsTrue (has (members i x.replica.log) m)) (sym g.size) mem) in
-        let r = all_is (reached (all_heard x.replica) f.stamp.time) (members x.replica.n x.replica.log) m stable in_ms in
+        let in_ms = has_from (members x.replica.n x.replica.log) m (subst (λ i. IsTrue (has (members i x.replica.log) m)) (sym g.size) mem) in
+        let r = list_all_at (reached (all_heard x.replica) f.stamp.time) (members x.replica.n x.replica.log) m stable in_ms in
         let t = any_is (λ h. h.0 == m && nat_le f.stamp.time h.1) (map (λ u. (x.replica.me, u)) x.replica.issued ++ x.replica.heard) r in
         let p = and_parts (t.0.0 == m) (nat_le f.stamp.time t.0.1) t.2 in
         let is_m : t.0.0 ≡ m = eqb-true t.0.0 m p.0 in (

@@ -7,26 +7,27 @@ use mathlib.Core.Path.{fun_ext}
 use Rattle.crsm_spec.specs.Choice.{when◌then◌otherwise◌}
 use Rattle.crsm_spec.specs.Types.{Stamp, Entry, Rec, InEpoch, Datagram}
 use Rattle.crsm_spec.specs.Lists.{Among}
-use Rattle.crsm_spec.specs.Log.{Log, active, live, suspended}
+use Rattle.crsm_spec.specs.Log.{Log, active, live, suspended, members}
 use Rattle.crsm_spec.specs.Replica.{Replica, fresh}
 use Rattle.crsm_spec.specs.Draft.{Draft, begun, keep}
 use Rattle.crsm_spec.specs.Step.{Input, step, boot, boot_again, founding_boot, first_boot}
 use Rattle.crsm_spec.specs.World.{Site, World, Moment, begin, log_at, with_site, mail_of, whole_step, cut_step, lost_step, down, after_step, then_down}
 use Rattle.crsm_spec.specs.Moments.{silent, begun_at, with_room, start_at}
-use Rattle.crsm_law_steps.specs.Laws.{Extends, same, more, LogsGoOn}
-use Rattle.crsm_law_steps.specs.Changes.{Changes, stay, and_then}
+use Rattle.crsm_log_facts.specs.Logs.{Extends, same, more, Logged}
+use Rattle.crsm_law_steps.specs.Laws.{LogsGoOn}
+use Rattle.crsm_step_facts.specs.Changes.{Changes, stay, and_then}
 use Rattle.crsm_law_steps.specs.Happenings.{Marks, CanCome, Ends, Happens}
 use Rattle.crsm_law_steps.specs.Happenings.Ends.{IsWhole, IsCut, IsLost}
 use Rattle.crsm_law_steps.specs.Happenings.Happens.{Nothing, Steps, Junk, Stops, Joins, Starts}
 use Rattle.crsm_law_steps.specs.Happenings.IsReached.{first, next}
-use Rattle.crsm_law_steps.proofs.Logs.{log_change, change_grows, extends_then, numbers_stay}
-use Rattle.crsm_law_steps.proofs.Fitted.{step_changes}
+use Rattle.crsm_step_facts.proofs.Logs.{log_change, change_grows, numbers_stay}
+use Rattle.crsm_log_facts.proofs.Logged.{extends_trans}
+use Rattle.crsm_step_facts.proofs.Fitted.{step_changes}
 use Rattle.crsm_law_steps.proofs.Moments.{moment_goes_on}
 use Rattle.crsm_law_epoch.specs.Numbers.{Distinct}
-use Rattle.crsm_spec.specs.Log.{members}
-use Rattle.crsm_law_epoch.specs.Seats.{Seat, seat_up, seat_down, seat_of, Logged}
+use Rattle.crsm_law_epoch.specs.Seats.{Seat, seat_up, seat_down, seat_of}
 use Rattle.crsm_law_epoch.specs.Worlds.{seats, sent_in, IsWell}
-use Rattle.crsm_law_epoch.proofs.Words.{among_left}
+use Rattle.crsm_log_facts.proofs.Lists.{among_left}
 use Rattle.crsm_law_epoch.proofs.Moved.{at, at_same, at_other}
 use Rattle.crsm_law_epoch.proofs.Drafts.{Good}
 use Rattle.crsm_law_epoch.proofs.Kept.{chain_kept}
@@ -82,7 +83,7 @@ module _ (n k : ℕ) (v : ℕ → Seat) (sent : List Datagram) (r : Replica) (in
   pub chain_witnessed : {x y : Draft} → Changes r input reading x y → Extends y.replica.log last → Good n k v sent x → W n k v sent x → W n k v sent y
   chain_witnessed stay ex g a = a
   chain_witnessed (and_then {y = y} {z = z} p c f) ex g a =
-      let ey = extends_then (change_grows y z (log_change r input reading y z c)) ex in
+      let ey = extends_trans (change_grows y z (log_change r input reading y z c)) ex in
       let gy = chain_kept n k v sent r input reading r_me came last distinct p ey g in
       effect_witnessed n k v sent reading y z gy (numbers_stay r input reading y z c).0 (effect r input reading y z c (r_me ∙ sym gy.me)) (chain_witnessed p ey g a)
 

@@ -7,9 +7,9 @@ use Rattle.crsm_spec.specs.Types.{Entry, InEpoch, Datagram}
 use Rattle.crsm_spec.specs.Lists.{Among}
 use Rattle.crsm_spec.specs.Log.{Log, known, active, has_entered}
 use Rattle.crsm_spec.specs.Draft.{Draft}
-use Rattle.crsm_law_steps.specs.Laws.{AllFit}
-use Rattle.crsm_law_epoch.specs.Seats.{Seat, seat_up, Logged, Sender, Receiver, IsFirst, Facts, logs_of}
-use Rattle.crsm_law_epoch.proofs.Words.{among_left, among_right, among_either}
+use Rattle.crsm_log_facts.specs.Logs.{AllFit, Logged}
+use Rattle.crsm_law_epoch.specs.Seats.{Seat, seat_up, Sender, Receiver, IsFirst, Facts, logs_of}
+use Rattle.crsm_log_facts.proofs.Lists.{among_left, among_right, among_either, among_take}
 use Rattle.crsm_law_epoch.proofs.Moved.{at, at_same}
 use Rattle.crsm_law_epoch.proofs.Quiet.{quiet}
 
@@ -31,12 +31,6 @@ pub take_either : {A : Type 0} (xs ys : List A) (c : ℕ) → (take c (xs ++ ys)
 take_either [] ys c = inr (c, refl)
 take_either (x ∷ xs) ys zero = inl refl
 take_either (x ∷ xs) ys (suc c) = elim (take_either xs ys c) [ inl e ↦ inl (ap (λ l. x ∷ l) e) | inr w ↦ inr (w.0, ap (λ l. x ∷ l) w.1) ]
-
-pub some_of : {A : Type 0} (d : ℕ) (xs : List A) (a : A) → Among (take d xs) a → Among xs a
-some_of zero xs a h = absurd h
-some_of (suc d) [] a h = absurd h
-some_of (suc d) (x ∷ xs) a (inl e) = inl e
-some_of (suc d) (x ∷ xs) a (inr h) = inr (some_of d xs a h)
 
 -- of the frames of k all lower ones are there
 abbrev pub IsLowOf : ℕ → List Datagram → Type 0
@@ -100,7 +94,7 @@ module _ (n k : ℕ) (v : ℕ → Seat) (sent : List Datagram) where
       back : (d m j e i : ℕ) (p : InEpoch) → Among (sent ++ (outs x ++ take d ds)) (Datagram.Frame m j e i p) → Among (sent ++ outs x) (Datagram.Frame m j e i p)
       back d m j e i p h = elim (among_either sent _ _ h) [
         | inl a ↦ among_left sent _ _ a
-        | inr b ↦ elim (among_either (outs x) (take d ds) _ b) [ inl a ↦ among_right sent _ _ a | inr a ↦ old m j e i p (some_of d ds _ a) ]
+        | inr b ↦ elim (among_either (outs x) (take d ds) _ b) [ inl a ↦ among_right sent _ _ a | inr a ↦ old m j e i p (among_take d ds _ a) ]
       ]
 
   -- what was out is out, and each frame that is out was

@@ -20,18 +20,20 @@ use Rattle.crsm_spec.specs.Draft.{Draft, keep, noting, send, reply, count_vote, 
 use Rattle.crsm_spec.specs.Clients.{refusal, refuse, submit, await, replies, answer_each, answer_found, reply_ok, reply_dropped, find_executed, is_dropped}
 use Rattle.crsm_spec.specs.Coordinate.{forget_epoch}
 use Rattle.crsm_spec.specs.Step.{Input}
-use Rattle.crsm_law_steps.specs.Laws.{AllFit, Extends}
-use Rattle.crsm_law_steps.specs.Changes.{Change, Changes, stay, and_then}
-use Rattle.crsm_law_steps.specs.Changes.Change.{Submits, Refuses, Commits, Replies, Takes, Acks, IsAcked, Pays, Owes, TellsTime, SendsAgain, Tells, Gathers, Suspends, Collects, TakesPage, Completes, Refrains, GivesUp, Asks, CountsAnswer, Proposes, IsPreempted, AcceptsOwn, CountsVote, Promises, Accepts, Chooses, Learns, AdoptsTail, AdoptsPage, Enters}
-use Rattle.crsm_law_steps.proofs.Logs.{log_change, change_fits, change_grows, extends_then, numbers_stay}
+use Rattle.crsm_log_facts.specs.Logs.{AllFit, Extends, Logged}
+use Rattle.crsm_step_facts.specs.Changes.{Change, Changes, stay, and_then}
+use Rattle.crsm_step_facts.specs.Changes.Change.{Submits, Refuses, Commits, Replies, Takes, Acks, IsAcked, Pays, Owes, TellsTime, SendsAgain, Tells, Gathers, Suspends, Collects, TakesPage, Completes, Refrains, GivesUp, Asks, CountsAnswer, Proposes, IsPreempted, AcceptsOwn, CountsVote, Promises, Accepts, Chooses, Learns, AdoptsTail, AdoptsPage, Enters}
+use Rattle.crsm_step_facts.proofs.Logs.{log_change, change_fits, change_grows, numbers_stay}
+use Rattle.crsm_log_facts.proofs.Logged.{extends_trans}
 use Rattle.crsm_law_epoch.specs.Numbers.{Distinct}
-use Rattle.crsm_law_epoch.specs.Seats.{Seat, seat_up, Logged, Sender, IsTop, IsOther, IsFirst, Facts, logs_of, pushed_to, taken_of}
-use Rattle.crsm_law_epoch.proofs.Words.{get_some, among_left, among_right, among_either, among_unmap, filter_among, among_filter, distinct_filter}
+use Rattle.crsm_law_epoch.specs.Seats.{Seat, seat_up, Sender, IsTop, IsOther, IsFirst, Facts, logs_of, pushed_to, taken_of}
+use Rattle.crsm_log_facts.proofs.Lists.{get_some, among_left, among_right, among_either, kept_from, has_from, has_in, among_take}
+use Rattle.crsm_law_epoch.proofs.Words.{among_unmap, among_filter, distinct_filter}
 use Rattle.crsm_law_epoch.proofs.Moved.{at, at_same}
 use Rattle.crsm_law_epoch.proofs.Quiet.{entered_more, or_right}
 use Rattle.crsm_law_epoch.proofs.Takes.{Takings, took}
 use Rattle.crsm_law_epoch.proofs.Pushes.{Pushings, pushed_all, first_of_sender, sender_after, frame_to, behind, is_new}
-use Rattle.crsm_law_epoch.proofs.Drafts.{Good, IsPrefix, IsLowOf, outs, at_at, take_either, some_of, sends_more, all_more, all_back, sender_of, receiver_of, fit_of, seat_fact, sender_more, receiver_more, prefixes_more}
+use Rattle.crsm_law_epoch.proofs.Drafts.{Good, IsPrefix, IsLowOf, outs, at_at, take_either, sends_more, all_more, all_back, sender_of, receiver_of, fit_of, seat_fact, sender_more, receiver_more, prefixes_more}
 use Rattle.crsm_law_epoch.proofs.Seated.{Olds, good_same, good_owed, good_record, good_off, good_enter}
 
 -- ---- a running log
@@ -142,17 +144,6 @@ pub would_late : (x : Draft) (reading t : ℕ) → IsTop x.replica.issued → wo
 unfolding would issue last_issued
 would_late x reading t p h = top_later x.replica.issued t p (later (unwrap_or (first_of x.replica.issued) 0) reading t _ h)
 
-has_among : (ks : List ℕ) (j : ℕ) → Among ks j → IsTrue (has ks j)
-unfolding has
-has_among [] j h = absurd h
-has_among (k ∷ ks) j (inl e) = or_left (k == j) (list_any (λ i. i == j) ks) (eq-eqb k j e)
-has_among (k ∷ ks) j (inr h) = or_right (k == j) (list_any (λ i. i == j) ks) (has_among ks j h)
-
-among_has : (ks : List ℕ) (j : ℕ) → IsTrue (has ks j) → Among ks j
-unfolding has
-among_has [] j h = absurd (false≢true h)
-among_has (k ∷ ks) j h = elim (or_cases (k == j) (list_any (λ i. i == j) ks) h) [ inl e ↦ inl (eqb-true k j e) | inr w ↦ inr (among_has ks j w) ]
-
 -- more was sent, and no new frame
 mailed : (n : ℕ) (v : ℕ → Seat) (all after : List Datagram) → Facts n v all → ((d : Datagram) → Among all d → Among after d) →
     ((m j e i : ℕ) (p : InEpoch) → Among after (Datagram.Frame m j e i p) → Among all (Datagram.Frame m j e i p)) → Facts n v after
@@ -236,19 +227,19 @@ module _ (n k : ℕ) (v : ℕ → Seat) (sent : List Datagram) (r : Replica) (in
     wide d dg h = elim (among_either sent (outs x) dg h) [ inl b ↦ among_left sent _ dg b | inr b ↦ among_right sent _ dg (among_left (outs x) _ dg b) ]
 
     narrow : (c : ℕ) (dg : Datagram) → Among (sent ++ take c (outs x)) dg → Among (sent ++ outs x) dg
-    narrow c dg h = elim (among_either sent (take c (outs x)) dg h) [ inl b ↦ among_left sent _ dg b | inr b ↦ among_right sent _ dg (some_of c (outs x) dg b) ]
+    narrow c dg h = elim (among_either sent (take c (outs x)) dg h) [ inl b ↦ among_left sent _ dg b | inr b ↦ among_right sent _ dg (among_take c (outs x) dg b) ]
 
     of_part : (d m j e i : ℕ) (q : InEpoch) → Among (sent ++ (outs x ++ take d new_frames)) (Datagram.Frame m j e i q) →
         Among (sent ++ outs x) (Datagram.Frame m j e i q) ⊎ Among new_frames (Datagram.Frame m j e i q)
     of_part d m j e i q h = elim (among_either sent _ _ h) [
       | inl b ↦ inl (among_left sent _ _ b)
-      | inr b ↦ elim (among_either (outs x) (take d new_frames) _ b) [ inl c ↦ inl (among_right sent _ _ c) | inr c ↦ inr (some_of d new_frames _ c) ]
+      | inr b ↦ elim (among_either (outs x) (take d new_frames) _ b) [ inl c ↦ inl (among_right sent _ _ c) | inr c ↦ inr (among_take d new_frames _ c) ]
     ]
 
     part_in_all : (d : ℕ) (dg : Datagram) → Among (sent ++ (outs x ++ take d new_frames)) dg → Among (sent ++ outs y) dg
     part_in_all d dg h = subst (λ l. Among (sent ++ l) dg) (sym eo) (elim (among_either sent _ dg h) [
       | inl b ↦ among_left sent _ dg b
-      | inr b ↦ elim (among_either (outs x) (take d new_frames) dg b) [ inl c ↦ among_right sent _ dg (among_left (outs x) _ dg c) | inr c ↦ among_right sent _ dg (among_right (outs x) _ dg (some_of d new_frames dg c)) ]
+      | inr b ↦ elim (among_either (outs x) (take d new_frames) dg b) [ inl c ↦ among_right sent _ dg (among_left (outs x) _ dg c) | inr c ↦ among_right sent _ dg (among_right (outs x) _ dg (among_take d new_frames dg c)) ]
     ])
 
     part_low : (d : ℕ) → IsLowOf k (sent ++ (outs x ++ take d new_frames))
@@ -356,8 +347,8 @@ module _ (n k : ℕ) (v : ℕ → Seat) (sent : List Datagram) (r : Replica) (in
     others_in : (x : Draft) → G x → (j : ℕ) → Among (other_members x.replica) j → IsOther n k x.replica.log j
     unfolding other_members members_of
     others_in x g j h =
-        let t = filter_among (λ j. not (j == x.replica.me)) (members x.replica.n x.replica.log) j h in (
-          subst (λ z. IsTrue (has (members z x.replica.log) j)) g.size (has_among (members x.replica.n x.replica.log) j t.0),
+        let t = kept_from (λ j. not (j == x.replica.me)) (members x.replica.n x.replica.log) j h in (
+          subst (λ z. IsTrue (has (members z x.replica.log) j)) g.size (has_in (members x.replica.n x.replica.log) j t.0),
           λ e. false≢true (sym (not-true (j == x.replica.me) t.1) ∙ eq-eqb j x.replica.me (e ∙ sym g.me)),
         )
 
@@ -365,7 +356,7 @@ module _ (n k : ℕ) (v : ℕ → Seat) (sent : List Datagram) (r : Replica) (in
     unfolding other_members members_of
     others_every x g j h =
         among_filter (λ j. not (j == x.replica.me)) (members x.replica.n x.replica.log) j (ap not (ne_eqb j x.replica.me (λ e. h.1 (e ∙ g.me))))
-        (among_has (members x.replica.n x.replica.log) j (subst (λ z. IsTrue (has (members z x.replica.log) j)) (sym g.size) h.0))
+        (has_from (members x.replica.n x.replica.log) j (subst (λ z. IsTrue (has (members z x.replica.log) j)) (sym g.size) h.0))
 
     -- a push without a record: the payload is no entry
     good_tell : (x y : Draft) (p : InEpoch) (t : ℕ) → G x → Extends x.replica.log last → IsTrue (active x.replica.log) → time_of p ≡ t → would x reading ≡ Some t → ((f : Entry) → p ≡ InEpoch.Prepare f → ⊥) →
@@ -613,5 +604,5 @@ module _ (n k : ℕ) (v : ℕ → Seat) (sent : List Datagram) (r : Replica) (in
     chain_kept stay ex g = g
     chain_kept (and_then {y = y} {z = z} p c f) ex g =
         let grown = change_grows y z (log_change r input reading y z c) in
-        let ey = extends_then grown ex in
+        let ey = extends_trans grown ex in
         kept y z c f ey (chain_kept p ey g)

@@ -14,10 +14,11 @@ use Rattle.crsm_spec.specs.Fits.{fits, booted}
 use Rattle.crsm_spec.specs.Replica.{fresh}
 use Rattle.crsm_spec.specs.Draft.{Draft, begun, keep}
 use Rattle.crsm_spec.specs.Step.{boot, boot_again, founding_boot, first_boot}
-use Rattle.crsm_law_steps.specs.Laws.{AllFit, Extends, same, more}
+use Rattle.crsm_log_facts.specs.Logs.{AllFit, Extends, same, more}
 use Rattle.crsm_law_epoch.proofs.Words.{is_range}
 use Rattle.crsm_law_epoch.specs.Ordered.{AreOrdered}
 use Rattle.crsm_law_epoch.proofs.LogSteps.{IsOrderedCoordinator, AreBetween}
+use Rattle.crsm_log_facts.proofs.Lists.{has_in}
 
 -- ---- how many boots
 
@@ -59,19 +60,9 @@ again_booted me n log ordered fit = record {
   fit = λ few. let e = boots_again me n log in (boot_fits me n log (omega (arith, few, e)), fit (omega (arith, few, e)));
 }
 
-has_among : (ks : List ℕ) (k : ℕ) → Among ks k → IsTrue (has ks k)
-unfolding has
-has_among [] k h = absurd h
-has_among (j ∷ ks) k (inl e) = ap (λ b. b || list_any (λ i. i == k) ks) (eq-eqb j k e)
-has_among (j ∷ ks) k (inr h) = go (j == k) (has_among ks k h)
-  where
-    go : (c : Bool) → list_any (λ i. i == k) ks ≡ true → (c || list_any (λ i. i == k) ks) ≡ true
-    go true e = refl
-    go false e = e
-
 member : (me n : ℕ) → me < n → has (numbers_below n) me ≡ true
 unfolding numbers_below
-member me n lt = has_among (range_with_len 0 n) me (is_range 0 n me (omega arith) (omega (arith, lt)))
+member me n lt = has_in (range_with_len 0 n) me (is_range 0 n me (omega arith) (omega (arith, lt)))
 
 enter_fits : (me n : ℕ) → me < n → IsTrue (fits me n (Rec.Boot me n ∷ []) (Rec.Enter 0))
 unfolding fits booted boots is_boot known decision members start executed has_entered is_enter

@@ -5,8 +5,8 @@ use Rattle.std.proofs.lemmas.Bool.{ne_eqb, eq-eqb, cases_eq}
 use Rattle.crsm_spec.specs.Types.{Stamp, Entry, InEpoch, Datagram}
 use Rattle.crsm_spec.specs.Lists.{Among}
 use Rattle.crsm_spec.specs.Log.{known, has_entered}
-use Rattle.crsm_law_steps.specs.Laws.{AllFit}
-use Rattle.crsm_law_epoch.specs.Seats.{Seat, Logged, Sender, Receiver, HasStamp, IsFirst, Facts, logs_of}
+use Rattle.crsm_log_facts.specs.Logs.{AllFit, Logged}
+use Rattle.crsm_law_epoch.specs.Seats.{Seat, Sender, Receiver, HasStamp, IsFirst, Facts, logs_of}
 
 unfoldable pub at : ℕ → Seat → (ℕ → Seat) → ℕ → Seat
 at k s v j = cond (eqb j k) s (v j)

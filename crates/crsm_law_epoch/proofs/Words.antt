@@ -7,20 +7,7 @@ use Rattle.std.proofs.lemmas.Option.{none-some, same_Some}
 use Rattle.std.proofs.lemmas.List.Sums.{sum_by-cons}
 use Rattle.crsm_spec.specs.Lists.{Among}
 use Rattle.crsm_law_epoch.specs.Numbers.{Distinct}
-
-pub among_left : {A : Type 0} (xs ys : List A) (a : A) → Among xs a → Among (xs ++ ys) a
-among_left [] ys a h = absurd h
-among_left (x ∷ xs) ys a (inl e) = inl e
-among_left (x ∷ xs) ys a (inr h) = inr (among_left xs ys a h)
-
-pub among_right : {A : Type 0} (xs ys : List A) (a : A) → Among ys a → Among (xs ++ ys) a
-among_right [] ys a h = h
-among_right (x ∷ xs) ys a h = inr (among_right xs ys a h)
-
-pub among_either : {A : Type 0} (xs ys : List A) (a : A) → Among (xs ++ ys) a → Among xs a ⊎ Among ys a
-among_either [] ys a h = inr h
-among_either (x ∷ xs) ys a (inl e) = inl (inl e)
-among_either (x ∷ xs) ys a (inr h) = elim (among_either xs ys a h) [ inl i ↦ inl (inr i) | inr i ↦ inr i ]
+use Rattle.crsm_log_facts.proofs.Lists.{kept_from}
 
 pub among_map : {A B : Type 0} (f : A → B) (xs : List A) (a : A) → Among xs a → Among (map f xs) (f a)
 among_map f [] a h = absurd h
@@ -32,17 +19,6 @@ among_unmap f [] b h = absurd h
 among_unmap f (x ∷ xs) b (inl e) = (x, inl refl, e)
 among_unmap f (x ∷ xs) b (inr h) = let t = among_unmap f xs b h in (t.0, inr t.1, t.2)
 
-pub among_take : {A : Type 0} (n : ℕ) (xs : List A) (a : A) → Among (take n xs) a → Among xs a
-among_take zero xs a h = absurd h
-among_take (suc n) [] a h = absurd h
-among_take (suc n) (x ∷ xs) a (inl e) = inl e
-among_take (suc n) (x ∷ xs) a (inr h) = inr (among_take n xs a h)
-
-pub get_left : {A : Type 0} (xs ys : List A) (i : ℕ) (a : A) → slice_get xs i ≡ Some a → slice_get (xs ++ ys) i ≡ Some a
-get_left [] ys i a h = absurd (none-some a h)
-get_left (x ∷ xs) ys zero a h = h
-get_left (x ∷ xs) ys (suc i) a h = get_left xs ys i a h
-
 pub get_end : {A : Type 0} (xs : List A) (a : A) → slice_get (xs ++ a ∷ []) (length xs) ≡ Some a
 get_end [] a = refl
 get_end (x ∷ xs) a = get_end xs a
@@ -52,11 +28,6 @@ get_either [] b zero a h = inr (refl, same_Some b a h)
 get_either [] b (suc i) a h = absurd (none-some a h)
 get_either (x ∷ xs) b zero a h = inl h
 get_either (x ∷ xs) b (suc i) a h = elim (get_either xs b i a h) [ inl k ↦ inl k | inr k ↦ inr (ap suc k.0, k.1) ]
-
-pub get_some : {A : Type 0} (xs : List A) (i : ℕ) → i < length xs → (a : A) × (slice_get xs i ≡ Some a)
-get_some [] i h = absurd (omega (arith, h))
-get_some (x ∷ xs) zero h = (x, refl)
-get_some (x ∷ xs) (suc i) h = get_some xs i (omega arith)
 
 pub get_among : {A : Type 0} (xs : List A) (i : ℕ) (a : A) → slice_get xs i ≡ Some a → Among xs a
 get_among [] i a h = absurd (none-some a h)
@@ -83,11 +54,6 @@ pub any_is : {A : Type 0} (P : A → Bool) (xs : List A) → IsTrue (list_any P 
 any_is P [] h = absurd (cc)
 any_is P (x ∷ xs) h = elim (or_cases (P x) (list_any P xs) h) [ inl e ↦ (x, inl refl, e) | inr e ↦ (let t = any_is P xs e in (t.0, inr t.1, t.2)) ]
 
-pub all_is : {A : Type 0} (P : A → Bool) (xs : List A) (a : A) → IsTrue (list_all P xs) → Among xs a → IsTrue (P a)
-all_is P [] a h m = absurd m
-all_is P (x ∷ xs) a h (inl e) = subst (λ y. IsTrue (P y)) e (and_parts (P x) (list_all P xs) h).0
-all_is P (x ∷ xs) a h (inr m) = all_is P xs a (and_parts (P x) (list_all P xs) h).1 m
-
 -- ---- filters
 
 filter_in : {A : Type 0} (x a : A) (xs : List A) (b : Bool) → Among (cond b (x ∷ xs) xs) a → ((b ≡ true) × (x ≡ a)) ⊎ Among xs a
@@ -98,10 +64,6 @@ filter_in x a xs false h = inr h
 filter_keep : {A : Type 0} (x a : A) (xs : List A) (b : Bool) → Among xs a → Among (cond b (x ∷ xs) xs) a
 filter_keep x a xs true h = inr h
 filter_keep x a xs false h = h
-
-pub filter_among : {A : Type 0} (P : A → Bool) (xs : List A) (a : A) → Among (filter P xs) a → Among xs a × IsTrue (P a)
-filter_among P [] a h = absurd h
-filter_among P (x ∷ xs) a h = elim (filter_in x a (filter P xs) (P x) h) [ inl e ↦ (inl e.1, subst (λ y. IsTrue (P y)) e.1 e.0) | inr i ↦ (let t = filter_among P xs a i in (inr t.0, t.1)) ]
 
 pub among_filter : {A : Type 0} (P : A → Bool) (xs : List A) (a : A) → IsTrue (P a) → Among xs a → Among (filter P xs) a
 among_filter P [] a p h = absurd h
@@ -129,7 +91,7 @@ distinct_when k ks false p q = q
 
 pub distinct_filter : (P : ℕ → Bool) (ks : List ℕ) → Distinct ks → Distinct (filter P ks)
 distinct_filter P [] h = tt
-distinct_filter P (k ∷ ks) h = distinct_when k (filter P ks) (P k) (λ i. h.0 (filter_among P ks k i).0) (distinct_filter P ks h.1)
+distinct_filter P (k ∷ ks) h = distinct_when k (filter P ks) (P k) (λ i. h.0 (kept_from P ks k i).0) (distinct_filter P ks h.1)
 
 -- ---- a place that changes
 

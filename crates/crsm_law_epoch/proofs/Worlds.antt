@@ -16,22 +16,25 @@ use Rattle.crsm_spec.specs.Draft.{Draft, begun, keep}
 use Rattle.crsm_spec.specs.Step.{Input, step, boot, boot_again, founding_boot, first_boot}
 use Rattle.crsm_spec.specs.World.{Site, Mail, World, Moment, begin, log_of, log_at, with_site, mail_of, whole_step, cut_step, lost_step, down, after_step, then_down}
 use Rattle.crsm_spec.specs.Moments.{use_up, silent, begun_at, with_room, start_at}
-use Rattle.crsm_law_steps.specs.Laws.{AllFit, Extends, same, more, LogsGoOn}
+use Rattle.crsm_log_facts.specs.Logs.{AllFit, Extends, same, more, Logged}
+use Rattle.crsm_law_steps.specs.Laws.{LogsGoOn}
 use Rattle.crsm_law_steps.specs.Happenings.{Marks, CanCome, Ends, Happens, IsReached}
 use Rattle.crsm_law_steps.specs.Happenings.Marks.{none, mark}
 use Rattle.crsm_law_steps.specs.Happenings.CanCome.{IsMail, IsCommand, IsReply, IsTick, IsSuspicion}
 use Rattle.crsm_law_steps.specs.Happenings.Ends.{IsWhole, IsCut, IsLost}
 use Rattle.crsm_law_steps.specs.Happenings.Happens.{Nothing, Steps, Junk, Stops, Joins, Starts}
 use Rattle.crsm_law_steps.specs.Happenings.IsReached.{first, next}
-use Rattle.crsm_law_steps.proofs.Logs.{extends_then, steps_grow}
-use Rattle.crsm_law_steps.proofs.Fitted.{step_changes}
+use Rattle.crsm_log_facts.proofs.Logged.{extends_trans}
+use Rattle.crsm_step_facts.proofs.Logs.{steps_grow}
+use Rattle.crsm_step_facts.proofs.Fitted.{step_changes}
 use Rattle.crsm_law_steps.proofs.Moments.{moment_goes_on}
-use Rattle.crsm_law_epoch.specs.Seats.{Seat, seat_up, seat_down, seat_of, Logged, Sender, Receiver, IsFirst, Facts, logs_of, pushed_to, taken_of}
+use Rattle.crsm_law_epoch.specs.Seats.{Seat, seat_up, seat_down, seat_of, Sender, Receiver, IsFirst, Facts, logs_of, pushed_to, taken_of}
 use Rattle.crsm_law_epoch.specs.Worlds.{seats, sent_in, IsWell, AreSeated, EpochsHold}
-use Rattle.crsm_law_epoch.proofs.Words.{get_some, get_left, get_end, among_left, among_right, among_either, among_map, set_same, set_other}
+use Rattle.crsm_log_facts.proofs.Lists.{get_some, get_left, among_left, among_right, among_either, among_take}
+use Rattle.crsm_law_epoch.proofs.Words.{get_end, among_map, set_same, set_other}
 use Rattle.crsm_law_epoch.proofs.Moved.{at, at_same, at_other, at_case, moved}
 use Rattle.crsm_law_epoch.proofs.Quiet.{stopped, strip, entered_more}
-use Rattle.crsm_law_epoch.proofs.Drafts.{Good, IsPrefix, outs, some_of, seat_fact}
+use Rattle.crsm_law_epoch.proofs.Drafts.{Good, IsPrefix, outs, seat_fact}
 use Rattle.crsm_law_epoch.proofs.Seated.{good_enter}
 use Rattle.crsm_law_epoch.proofs.Kept.{chain_kept}
 
@@ -90,7 +93,7 @@ module _ (n k : ℕ) (v : ℕ → Seat) (sent : List Datagram) (i : Facts n v se
   part = take count (outs x)
 
   sub : (d : Datagram) → Among (sent ++ part) d → Among (sent ++ outs x) d
-  sub d h = elim (among_either sent part d h) [ inl a ↦ among_left sent _ d a | inr b ↦ among_right sent _ d (some_of count (outs x) d b) ]
+  sub d h = elim (among_either sent part d h) [ inl a ↦ among_left sent _ d a | inr b ↦ among_right sent _ d (among_take count (outs x) d b) ]
 
   gone : at k (seat_up x.replica) v k ≡ seat_up x.replica
   gone = at_same n k v (seat_up x.replica)
@@ -107,7 +110,7 @@ module _ (n k : ℕ) (v : ℕ → Seat) (sent : List Datagram) (i : Facts n v se
     source = λ f h. elim (at_case n k v (seat_up x.replica) (λ w. Logged w.log f) f.stamp.origin (g.facts.own k f (subst (λ w. Logged w.log f) (sym gone) h))) [ inl w ↦ inl w.0 | inr w ↦ inr w.1 ];
     one = λ f h a b. g.facts.one k f h (subst (λ w. Logged w.log f) (sym gone) a) (subst (λ w. Logged w.log h) (sym gone) b);
     more = λ d h. among_left sent part d h;
-    frames = λ m j e y p h. elim (among_either sent part _ h) [ inl a ↦ inl a | inr b ↦ inr (g.mine m j e y p (some_of count (outs x) _ b)) ];
+    frames = λ m j e y p h. elim (among_either sent part _ h) [ inl a ↦ inl a | inr b ↦ inr (g.mine m j e y p (among_take count (outs x) _ b)) ];
     says = λ j e y f h. let w = g.facts.says k j e y f (sub _ h) in (subst (λ s. Logged s.log f) gone w.0, w.1, w.2);
     says_ok = λ j e y t u h. let w = g.facts.says_ok k j e y t u (sub _ h) in (w.0, subst (λ s. Logged s.log w.0) gone w.1, w.2, w.3);
     same = λ j e y p q a b. g.facts.same k j e y p q (sub _ a) (sub _ b);
@@ -396,7 +399,7 @@ fit_end me n a b (more {new = c} rec p) h = fit_end me n a c p h.1
 pub well_before : (n : ℕ) (w u : World) → LogsGoOn w u → IsWell n u → IsWell n w
 well_before n w u grows h = record {
   fit = λ k. fit_end k n (log_at w k) (log_at u k) (grows k) (h.fit k);
-  distinct = λ k log e. h.distinct k log (extends_then e (grows k));
+  distinct = λ k log e. h.distinct k log (extends_trans e (grows k));
 }
 
 -- the log of a seat is that at its place

@@ -6,7 +6,7 @@ use Rattle.crsm_spec.specs.Log.{Log, known, active, members, has_entered}
 use Rattle.crsm_spec.specs.Frames.{time_of}
 use Rattle.crsm_spec.specs.Replica.{Replica}
 use Rattle.crsm_spec.specs.World.{Site}
-use Rattle.crsm_law_steps.specs.Laws.{AllFit}
+use Rattle.crsm_log_facts.specs.Logs.{AllFit, Logged}
 use Rattle.crsm_law_collection.specs.Collecting.{CommitOf}
 
 -- A replica's place: its log, and what it remembers of the known epoch while it runs.
@@ -49,10 +49,6 @@ pushed_to j fs = map (λ f. f.1) (filter (λ f. f.0 == j) fs)
 -- how many frames of m were taken
 unfoldable pub taken_of : ℕ → List ℕ → ℕ
 taken_of m ks = count_by (λ j. j == m) ks
-
--- the log has the entry in a Prepare record
-abbrev pub Logged : Log → Entry → Type 0
-Logged log f = Among log (Rec.Prepare f)
 
 -- the first is the greatest
 abbrev pub IsTop : List ℕ → Type 0

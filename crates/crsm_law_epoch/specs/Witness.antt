@@ -5,8 +5,8 @@ use Rattle.crsm_spec.specs.Lists.{Among, has, first_of}
 use Rattle.crsm_spec.specs.Log.{Log, known, members, spec, unexecuted}
 use Rattle.crsm_spec.specs.Paxos.{majority}
 use Rattle.crsm_spec.specs.Frames.{time_of}
-use Rattle.crsm_law_steps.specs.Laws.{Extends}
-use Rattle.crsm_law_epoch.specs.Seats.{Seat, Logged, logs_of}
+use Rattle.crsm_log_facts.specs.Logs.{Extends, Logged}
+use Rattle.crsm_law_epoch.specs.Seats.{Seat, logs_of}
 
 -- Replica `by` had this log when it committed x, the first of its unexecuted entries.
 abbrev pub Committed : (ℕ → Log) → ℕ → Log → Entry → Type 0

@@ -28,7 +28,7 @@ pub fn epochs_hold_always()
 {}
 
 /// In every world that is reached, each commit on record was of an entry that a majority of its epoch's Spec has logged, and
-/// nothing that a member stamps in that epoch, then or later, comes in prefix of it that had not been logged by then.
+/// nothing that a member stamps in that epoch, then or later, comes before it that had not been logged by then.
 pub fn commits_are_witnessed()
     ensures { CommitsAreWitnessed }
 {}

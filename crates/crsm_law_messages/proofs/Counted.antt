@@ -7,9 +7,9 @@ use Rattle.crsm_spec.specs.Draft.{begun}
 use Rattle.crsm_spec.specs.Coordinate.{instance, has_accepted}
 use Rattle.crsm_spec.specs.World.{World, Site, log_at}
 use Rattle.crsm_spec.specs.Moments.{begun_at}
-use Rattle.crsm_law_steps.specs.Messages.{Hears}
-use Rattle.crsm_law_steps.specs.Laws.{Extends}
-use Rattle.crsm_law_steps.proofs.Logs.{changes_numbers}
+use Rattle.crsm_step_facts.specs.Messages.{Hears}
+use Rattle.crsm_log_facts.specs.Logs.{Extends}
+use Rattle.crsm_step_facts.proofs.Logs.{changes_numbers}
 use Rattle.crsm_law_messages.specs.Sayings.{Saying, Past, WasTold}
 use Rattle.crsm_law_messages.specs.Laws.{Says, HearsIn}
 use Rattle.crsm_law_messages.specs.Counted.{AllSpelt, AnswersAreTrue, VotesAreTrue}

@@ -8,7 +8,8 @@ use Rattle.std.proofs.lemmas.List.{append-nil}
 use Rattle.crsm_spec.specs.Lists.{Among, numbers_below}
 use Rattle.crsm_spec.specs.Parts.{Piece, is_same_message, kept_of, has_index, is_complete, is_old, is_odd, joined, with_part, whole_with, cut}
 use Rattle.crsm_segment.proofs.Pieces.{joined_again}
-use Rattle.crsm_law_messages.proofs.Words.{among_either, passed, passes, both}
+use Rattle.crsm_law_messages.proofs.Words.{both}
+use Rattle.crsm_log_facts.proofs.Lists.{among_either, kept_from, kept_in}
 
 -- ---- parts of one message
 
@@ -61,7 +62,7 @@ once_with p parts o = go (is_old p parts || is_odd p parts) (has_index (filter (
     go false true e = o
     go false false e = once_push parts p o (λ z a s i.
         let t = same_keys z p s in
-        false≢true (sym e ∙ index_found (filter (is_same_message p) parts) z p.index (passes (is_same_message p) parts z a (keys_same p z (sym t.0) (sym t.1) (sym t.2))) i))
+        false≢true (sym e ∙ index_found (filter (is_same_message p) parts) z p.index (kept_in (is_same_message p) parts z a (keys_same p z (sym t.0) (sym t.1) (sym t.2))) i))
 
 pub with_among : (p : Piece) (parts : List Piece) (q : Piece) → Among (with_part p parts) q → Among parts q ⊎ (p ≡ q)
 unfolding with_part
@@ -83,7 +84,7 @@ kept_apart p (q ∷ qs) o = go (is_same_message p q) refl (kept_apart p qs o.1)
   where
     go : (b : Bool) → is_same_message p q ≡ b → AreApart (filter (is_same_message p) qs) → AreApart (cond b (q ∷ filter (is_same_message p) qs) (filter (is_same_message p) qs))
     go true e rest = (
-      λ z h i. (let t = passed (is_same_message p) qs z h in let a = same_keys p q e in let b = same_keys p z t.1 in
+      λ z h i. (let t = kept_from (is_same_message p) qs z h in let a = same_keys p q e in let b = same_keys p z t.1 in
           o.0 z t.0 (keys_same q z (sym a.0 ∙ b.0) (sym a.1 ∙ b.1) (sym a.2 ∙ b.2)) i),
       rest,
     )
@@ -138,6 +139,6 @@ whole_is m p parts message once count bytes w =
         let f : ℕ → List ℕ = λ i. get_or (cut m) i [] in
         sym (same_Some _ message h)
         ∙ all_there f p.count 0 kept (kept_apart p (with_part p parts) (once_with p parts once))
-        (λ z a. let t = passed (is_same_message p) (with_part p parts) z a in bytes z t.0 t.1) e
+        (λ z a. let t = kept_from (is_same_message p) (with_part p parts) z a in bytes z t.0 t.1) e
         ∙ ap (λ c. flat_map f (range_with_len 0 c)) count
         ∙ all_pieces f (cut m) 0 (λ i. ap f (omega arith)) ∙ joined_again m

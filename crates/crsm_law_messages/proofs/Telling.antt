@@ -12,13 +12,14 @@ use Rattle.crsm_spec.specs.Parts.{Piece, cut, with_part}
 use Rattle.crsm_spec.specs.Replica.{Replica}
 use Rattle.crsm_spec.specs.Draft.{Draft, begun, tell, parts_to}
 use Rattle.crsm_spec.specs.Step.{Input}
-use Rattle.crsm_law_steps.specs.Messages.{IsTold, Answers}
-use Rattle.crsm_law_steps.specs.Changes.{Changes, stay, and_then}
+use Rattle.crsm_step_facts.specs.Messages.{IsTold, Answers}
+use Rattle.crsm_step_facts.specs.Changes.{Changes, stay, and_then}
 use Rattle.crsm_law_messages.specs.Sayings.{Saying, IsToldBy}
 use Rattle.crsm_law_messages.proofs.History.{TellsIn}
-use Rattle.crsm_law_messages.proofs.Words.{among_either, among_unmap}
+use Rattle.crsm_law_messages.proofs.Words.{among_unmap}
 use Rattle.crsm_law_messages.proofs.Gathered.{IsOnce, once_with, with_among}
 use Rattle.crsm_law_messages.proofs.Effects.{PartsChange, Quiet, TellsOne, GathersOne, IsQuiet, parts_change}
+use Rattle.crsm_log_facts.proofs.Lists.{among_either}
 
 -- ---- parts of what was told
 

@@ -9,12 +9,14 @@ use Rattle.crsm_spec.specs.Log.{accepted}
 use Rattle.crsm_spec.specs.Draft.{Draft}
 use Rattle.crsm_spec.specs.Coordinate.{instance, has_accepted}
 use Rattle.crsm_spec.specs.World.{World, Moment, log_at}
-use Rattle.crsm_law_steps.specs.Messages.{IsTold}
-use Rattle.crsm_law_steps.specs.Laws.{Extends, same, LogsGoOn}
+use Rattle.crsm_step_facts.specs.Messages.{IsTold}
+use Rattle.crsm_log_facts.specs.Logs.{Extends, same}
+use Rattle.crsm_law_steps.specs.Laws.{LogsGoOn}
 use Rattle.crsm_law_steps.specs.Happenings.{Happens}
-use Rattle.crsm_law_steps.proofs.Logs.{extends_then, changes_grow}
+use Rattle.crsm_log_facts.proofs.Logged.{extends_trans}
+use Rattle.crsm_step_facts.proofs.Logs.{changes_grow}
 use Rattle.crsm_law_steps.proofs.Moments.{moment_goes_on}
-use Rattle.crsm_law_steps.proofs.Tests.{same_ballot}
+use Rattle.crsm_log_facts.proofs.Tests.{same_ballot}
 use Rattle.crsm_law_messages.specs.Sayings.{GoesOn, here, on, Past}
 use Rattle.crsm_law_messages.specs.Laws.{Says, ToldIsTrue}
 
@@ -24,12 +26,12 @@ carried P keeps v w here p = p
 carried P keeps v w (on {u = u} {m = m} g h) p = keeps u m h (carried P keeps v u g p)
 
 pub logs_carried : (v w : World) → GoesOn v w → LogsGoOn v w
-logs_carried v w g k = carried (λ u. Extends (log_at v k) (log_at u k)) (λ u m h e. extends_then e (moment_goes_on u m h k)) v w g same
+logs_carried v w g k = carried (λ u. Extends (log_at v k) (log_at u k)) (λ u m h e. extends_trans e (moment_goes_on u m h k)) v w g same
 
 -- a replica's log goes on from that of each of its drafts
 pub past_extends : (n : ℕ) (w : World) (k : ℕ) (p : Past n w k) → Extends p.draft.replica.log (log_at w k)
 past_extends n w k p =
-    extends_then (subst (Extends p.draft.replica.log) (sym p.kept) (changes_grow p.after)) (logs_carried p.moment.after w p.since k)
+    extends_trans (subst (Extends p.draft.replica.log) (sym p.kept) (changes_grow p.after)) (logs_carried p.moment.after w p.since k)
 
 pub voted : (b : Ballot) (o : Option (Ballot × Decision)) → IsTrue (option_map_or (λ a. ballot_eq a.0 b) o false) → (d : Decision) × (o ≡ Some (b, d))
 voted b None h = absurd (false≢true h)

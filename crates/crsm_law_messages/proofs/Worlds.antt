@@ -17,24 +17,25 @@ use Rattle.crsm_spec.specs.Draft.{Draft, begun, keep}
 use Rattle.crsm_spec.specs.Step.{Input, step, boot, boot_again, founding_boot, first_boot}
 use Rattle.crsm_spec.specs.World.{Site, Mail, World, Moment, begin, log_of, log_at, with_site, mail_of, whole_step, cut_step, lost_step, down, after_step, then_down}
 use Rattle.crsm_spec.specs.Moments.{use_up, silent, begun_at, with_room, start_at}
-use Rattle.crsm_law_steps.specs.Laws.{Extends, same, more}
-use Rattle.crsm_law_steps.specs.Changes.{stay}
+use Rattle.crsm_log_facts.specs.Logs.{Extends, same, more}
+use Rattle.crsm_step_facts.specs.Changes.{stay}
 use Rattle.crsm_law_steps.specs.Happenings.{Marks, WasSent, CanCome, Ends, Happens, IsReached}
 use Rattle.crsm_law_steps.specs.Happenings.Marks.{none, mark}
 use Rattle.crsm_law_steps.specs.Happenings.CanCome.{IsMail, IsCommand, IsReply, IsTick, IsSuspicion}
 use Rattle.crsm_law_steps.specs.Happenings.Ends.{IsWhole, IsCut, IsLost}
 use Rattle.crsm_law_steps.specs.Happenings.Happens.{Nothing, Steps, Junk, Stops, Joins, Starts}
 use Rattle.crsm_law_steps.specs.Happenings.IsReached.{first, next}
-use Rattle.crsm_law_steps.proofs.Fitted.{step_changes}
+use Rattle.crsm_step_facts.proofs.Fitted.{step_changes}
 use Rattle.crsm_law_steps.proofs.Happen.{sent_before}
 use Rattle.crsm_law_messages.specs.Sayings.{Saying, here, on, Past, WasTold}
 use Rattle.crsm_law_messages.specs.Laws.{IsSource, HearsIn, HeardWasTold, HeardIsTold}
-use Rattle.crsm_law_messages.proofs.Words.{among_either, among_unmap, among_prefix}
+use Rattle.crsm_law_messages.proofs.Words.{among_unmap}
 use Rattle.crsm_law_messages.proofs.Gathered.{IsOnce, same_keys, with_among, whole_is}
 use Rattle.crsm_law_messages.proofs.Effects.{boots_skip, boots_more}
 use Rattle.crsm_law_messages.proofs.Telling.{IsFor, IsSaid, AreApart, Here, Mid, said_more, here_more, IsNew, Told, told_along}
 use Rattle.crsm_law_messages.proofs.History.{Sends, TellsIn, TellsAt, WasToldIn}
 use Rattle.crsm_law_messages.proofs.Truth.{past_extends}
+use Rattle.crsm_log_facts.proofs.Lists.{among_either, among_take}
 
 -- ---- boots rise
 
@@ -204,7 +205,7 @@ module _ (n : ℕ) (w v : World) (p : Marks w v) (past : IsReached n w) (g : Kno
       ])
       (λ from to d s. elim (sent_after v.mail k (take count x.sends) from to d s) [
         | inl o ↦ inl (old_mail from to d o)
-        | inr z ↦ inr (subst (IsSaid told) z.2 (mid.sends z.0 (among_prefix count x.sends z.0 z.1)))
+        | inr z ↦ inr (subst (IsSaid told) z.2 (mid.sends z.0 (among_take count x.sends z.0 z.1)))
       ])
   ended m IsLost h told mid more_told new new_in =
       known_down n w past g (begun_at w (lost_step v k x)) h k (log_at v k) (ap (λ ss. slice_set ss k (Site.Down (log_at v k))) (marked_sites p)) old_mail

@@ -10,8 +10,8 @@ use Rattle.crsm_spec.specs.World.{Site, World, begin, log_of, log_at}
 use Rattle.crsm_spec.specs.Acts.{Act}
 use Rattle.crsm_spec.specs.Run.{ArePossible, last_world, the_list}
 use Rattle.crsm_spec.specs.Decided.{decisions, decisions_in, all_decisions, start_of, ArePrefixes, DecisionsAgree}
-use Rattle.crsm_law_steps.specs.Laws.{Extends}
-use Rattle.crsm_law_collection.proofs.Law.{flat_from}
+use Rattle.crsm_log_facts.specs.Logs.{Extends}
+use Rattle.crsm_log_facts.proofs.Lists.{flat_from}
 use Rattle.crsm_law_decisions.proofs.Agree.{decisions_are_one}
 use Rattle.crsm_law_decisions.proofs.Worlds.{ballots_hold}
 use Rattle.crsm_law_agreement.specs.Openings.{IsEpochOf}

@@ -6,21 +6,20 @@ use Rattle.std.proofs.lemmas.Option.{same_Some}
 use Rattle.crsm_spec.specs.Types.{Ballot, Entry, Decision, Rec}
 use Rattle.crsm_spec.specs.Lists.{Among, has}
 use Rattle.crsm_spec.specs.Log.{Log, known, spec, executed}
-use Rattle.crsm_spec.specs.Paxos.{majority}
+use Rattle.crsm_spec.specs.Paxos.{majority, IsMajority}
 use Rattle.crsm_spec.specs.Quorum.{has_majority}
 use Rattle.crsm_spec.specs.World.{World, begin, log_at}
 use Rattle.crsm_spec.specs.Acts.{Act}
 use Rattle.crsm_spec.specs.Run.{ArePossible, all_worlds, last_world, the_list}
-use Rattle.crsm_spec.specs.Decided.{decisions_in, all_decisions, spec_at, start_of}
+use Rattle.crsm_spec.specs.Decided.{decisions_in, all_decisions, spec_at, HasAccepted, IsChosenAfter, start_of}
 use Rattle.crsm_spec.specs.Durable.{HoldsEntry, KeepsEntry, IsKeptBy, GoesOnIn, IsDurable}
-use Rattle.crsm_law_steps.specs.Laws.{Extends, same, more}
+use Rattle.crsm_log_facts.specs.Logs.{Extends, same, more}
 use Rattle.crsm_law_steps.proofs.Happen.{got_among}
-use Rattle.crsm_law_steps.proofs.Logs.{extends_then}
+use Rattle.crsm_log_facts.proofs.Logged.{extends_trans, logged_is}
 use Rattle.crsm_law_collection.specs.Collecting.{CommitOf}
-use Rattle.crsm_law_collection.proofs.Law.{has_from, get_some}
+use Rattle.crsm_log_facts.proofs.Lists.{has_from, get_some, kept_from, get_left, get_inside}
 use Rattle.crsm_law_epoch.specs.Numbers.{Distinct}
-use Rattle.crsm_law_epoch.proofs.Words.{filter_among}
-use Rattle.crsm_law_epoch.proofs.CommitLogs.{unexecuted_logged, logged_is}
+use Rattle.crsm_law_epoch.proofs.CommitLogs.{unexecuted_logged}
 use Rattle.crsm_law_epoch.proofs.LogWorlds.{logs_fit}
 use Rattle.crsm_law_decisions.proofs.Choice.{contains_among}
 use Rattle.crsm_law_decisions.proofs.Coordinators.{extends_among}
@@ -28,18 +27,20 @@ use Rattle.crsm_law_decisions.proofs.Worlds.{ballots_hold}
 use Rattle.crsm_law_decisions.proofs.Logs.{known_decide}
 use Rattle.crsm_law_agreement.specs.Openings.{IsOpening, IsEpochOf, EpochHolds}
 use Rattle.crsm_law_agreement.proofs.Agree.{holder, has_base, epoch_before, epoch_holds, known_epoch, one_opening, same_entries}
-use Rattle.crsm_law_agreement.proofs.Lists.{get_below, get_left, get_right, take_get, taken_length}
+use Rattle.crsm_law_agreement.proofs.Lists.{get_right, take_get, taken_length}
 use Rattle.crsm_law_agreement.proofs.Logs.{stands_on, start_decide}
 use Rattle.crsm_law_runs.specs.Runs.{IsOnTheWay}
 use Rattle.crsm_law_runs.proofs.RunLists.{of_each, each_of}
 use Rattle.crsm_law_runs.proofs.Runs.{on_the_way, is_the_list}
 use Rattle.crsm_law_runs.specs.Last.{IsLast, IsBefore, start_in, GoesOnWith, IsDurableIn, DecisionsAgreeIn}
 use Rattle.crsm_law_runs.proofs.Last.{end_before, last_of_run}
-use Rattle.crsm_law_runs.specs.DurableLaws.{ExecutedAreDurable}
+use Rattle.crsm_law_runs.specs.DurableLaws.{DecisionsAreChosen, ExecutedAreDurable}
 use Rattle.crsm_law_runs.proofs.DurableLists.{prefix_get}
 use Rattle.crsm_law_runs.proofs.Decisions.{decided_in, base_within}
 use Rattle.crsm_law_runs.proofs.Specs.{passing, distinct_spec, spec_is, in_world}
 use Rattle.crsm_law_runs.proofs.Keeping.{executed_kept}
+use Rattle.crsm_law_runs.proofs.Worlds.{executed_longer}
+use Rattle.std.specs.List.{AllByRecursion}
 
 many_of : (counted ks : List ℕ) → IsTrue (has_majority counted ks) → majority (length counted) ≤ count_by (has ks) counted
 unfolding has_majority
@@ -50,19 +51,58 @@ kept_by : (w : World) (counted : List ℕ) (x : Entry) (test : ℕ → Bool) →
 kept_by w counted x test d many keeps = (
   filter test counted,
   passing counted test d many,
-  of_each (KeepsEntry w x) (filter test counted) (λ k a. keeps k (filter_among test counted k a).1),
+  of_each (KeepsEntry w x) (filter test counted) (λ k a. keeps k (kept_from test counted k a).1),
 )
+
+-- d was chosen after epoch e by a majority of these
+pub record IsChosenIn (counted : List ℕ) (w : World) (e : ℕ) (d : Decision) : Type 0 where
+  pub ballot : Ballot
+  pub voters : List ℕ
+  pub majority : IsMajority counted voters
+  pub accepted : AllByRecursion (HasAccepted w e ballot d) voters
+
+-- those who pass the test have accepted it, and are a majority
+chosen_by : (w : World) (counted : List ℕ) (e : ℕ) (d : Decision) (b : Ballot) (test : ℕ → Bool) → Distinct counted → majority (length counted) ≤ count_by test counted → ((k : ℕ) → IsTrue (test k) → HasAccepted w e b d k) →
+    IsChosenIn counted w e d
+chosen_by w counted e d b test distinct many has = record {
+  ballot = b;
+  voters = filter test counted;
+  majority = passing counted test distinct many;
+  accepted = of_each (HasAccepted w e b d) (filter test counted) (λ k a. has k (kept_from test counted k a).1);
+}
 
 module _ (n : ℕ) (end : World) (list : List Entry) (last : IsLast n end list) (w : World) (on : IsBefore n end w) where
   -- the Spec of a log is that of its epoch in the run
   spec_here : (e k : ℕ) (log : Log) → Extends log (log_at w k) → known log ≡ e → spec n log ≡ spec_at end e
-  spec_here e k log x kn = spec_is n end list last e k log (extends_then x (on.goes_on k)) kn
+  spec_here e k log x kn = spec_is n end list last e k log (extends_trans x (on.goes_on k)) kn
 
   distinct_here : (e k : ℕ) (log : Log) → Extends log (log_at w k) → known log ≡ e → Distinct (spec n log)
   distinct_here = distinct_spec n w on.reached on.spelt.few on.spelt.messages
 
   holds : (e : ℕ) → IsEpochOf e (log_at w) → EpochHolds n e (log_at w)
   holds = epoch_holds n w on.reached on.spelt.few on.spelt.messages
+
+  -- a decision that is kept was chosen, by replicas that hold its base
+  pub chosen_here : (e j : ℕ) (d : Decision) → Among (log_at w j) (Rec.Decide d) → d.epoch ≡ e + 1 → IsChosenIn (spec_at end e) w e d
+  chosen_here e j d a at =
+      let c = (ballots_hold n w on.reached on.spelt.few on.spelt.messages).decided j d a in
+      let kn = known_at (known c.log) c.next in
+      subst (λ l. IsChosenIn l w e d) (spec_here e c.by c.log c.earlier kn)
+      (chosen_by w (spec n c.log) e d c.ballot (has c.voters) (distinct_here e c.by c.log c.earlier kn) (many_of (spec n c.log) c.voters c.many)
+      (λ k t. accepted_at k c.ballot (c.accepted k (has_from c.voters k t))))
+    where
+      known_at : (k : ℕ) → d.epoch ≡ k + 1 → k ≡ e
+      known_at k h = omega (arith, h, at)
+
+      accepted_at : (k : ℕ) (b : Ballot) → Among (log_at w k) (Rec.Accept d.epoch b d) → HasAccepted w e b d k
+      accepted_at k b v =
+          let t = has_base k n e (log_at w k) d.epoch b d (logs_fit n w on.reached on.spelt.few k) v at in
+          let l = t.long in
+          let m = executed_longer t.old (log_at w k) t.earlier in
+          record {
+            kept = contains_among (log_at w k) (Rec.Accept (e + 1) b d) (subst (λ i. Among (log_at w k) (Rec.Accept i b d)) at v);
+            base = omega (arith, l, m);
+          }
 
   module _ (x : Entry) where
     keeps : (k : ℕ) (rec : Rec) → Among (log_at w k) rec → HoldsEntry x rec → KeepsEntry w x k
@@ -71,7 +111,7 @@ module _ (n : ℕ) (end : World) (list : List Entry) (last : IsLast n end list) 
     -- what was committed in an epoch is kept by a majority of its Spec
     committed_kept : (e : ℕ) → EpochHolds n e (log_at w) → (place : ℕ) → CommitOf e (log_at w) place x → IsKeptBy w (spec_at end e) x
     committed_kept e h place c =
-        let was = extends_then (more (Rec.Commit x.stamp) same) c.kept in
+        let was = extends_trans (more (Rec.Commit x.stamp) same) c.kept in
         let r = h.facts.replicated place x c in
         let counted = h.specs c.by c.log was c.epoch in
         subst (λ l. IsKeptBy w l x) (sym counted ∙ spec_here e c.by c.log was c.epoch)
@@ -120,7 +160,7 @@ module _ (n : ℕ) (end : World) (list : List Entry) (last : IsLast n end list) 
           let t = stands_on (log_at w j) (Rec.Decide d) a in
           let size = h.opens.begin j (Rec.Decide d ∷ t.rest) t.earlier (known_decide d t.rest) in
           let start = start_decide d t.rest in
-          let l = get_below h.opening place x at in
+          let l = get_inside h.opening place x at in
           let y = get_some d.tail (place - d.base_len) (omega (arith, ge, size, start, l)) in
           let back : d.base_len + (place - d.base_len) ≡ place = omega (arith, ge) in
           let in_opening = subst (λ z. slice_get h.opening z ≡ Some y.0) back (h.opens.tail j d a refl (place - d.base_len) y.0 y.1) in
@@ -204,6 +244,16 @@ module _ (n : ℕ) (end : World) (list : List Entry) (last : IsLast n end list) 
               kept = λ e at. chosen_kept e t.0 d t.1 (sym at) (λ i b v. voter_keeps e t.0 d t.1 (sym at) lt i b v);
             });
       }
+
+pub decisions_are_chosen : DecisionsAreChosen
+unfolding all_decisions
+decisions_are_chosen n acts most p =
+    let w = last_world n acts in
+    let last = last_of_run n acts most p in
+    of_each (λ d. (e : ℕ) → e + 1 ≡ d.epoch → IsChosenAfter w e d) (decisions_in w) (λ d a e at.
+    let t = decided_in w d a in
+    let c = chosen_here n w (the_list n acts) last w (end_before n w (the_list n acts) last) e t.0 d t.1 (sym at) in
+    record { ballot = c.ballot; voters = c.voters; majority = c.majority; accepted = c.accepted })
 
 pub executed_are_durable : ExecutedAreDurable
 unfolding start_of start_in

@@ -11,20 +11,17 @@ use Rattle.crsm_spec.specs.Step.{Input, step}
 use Rattle.crsm_spec.specs.World.{Site, World, log_at}
 use Rattle.crsm_spec.specs.Acts.{Act}
 use Rattle.crsm_spec.specs.Run.{Told}
-use Rattle.crsm_law_steps.specs.Laws.{Extends, same}
-use Rattle.crsm_law_steps.proofs.Logs.{extends_then}
-use Rattle.crsm_law_epoch.specs.Seats.{Logged}
+use Rattle.crsm_log_facts.specs.Logs.{Extends, same, Logged}
+use Rattle.crsm_log_facts.proofs.Logged.{extends_trans}
 use Rattle.crsm_law_runs.proofs.Lists.{at_origin, executed_logged}
 use Rattle.crsm_law_runs.proofs.Each.{Each}
-use Rattle.crsm_law_runs.proofs.Effects.{IsSilent}
+use Rattle.crsm_law_runs.proofs.Effects.{IsSilent, Effect, Still, Quiet, Took, Stamped, Refused, Executed, AdoptedTail, AdoptedPage, Answered, effect}
 use Rattle.crsm_law_runs.proofs.Words.{IsLate, IsNew, IsSubmittedIn, seen_by}
 use Rattle.crsm_law_runs.proofs.Holds.{Wait, Stepping, Has, HasIn, IsHere, reply_lines}
-use Rattle.crsm_law_steps.specs.Changes.{Changes, stay, and_then}
-use Rattle.crsm_law_steps.proofs.Logs.{log_change, change_grows, changes_grow, replies_still}
-use Rattle.crsm_law_steps.proofs.Fitted.{step_changes}
-use Rattle.crsm_law_runs.proofs.Effects.{Effect, Still, Quiet, Took, Stamped, Refused, Executed, AdoptedTail, AdoptedPage, Answered, effect}
-use Rattle.crsm_law_runs.proofs.Steps.{last, IsGood}
-use Rattle.crsm_law_runs.proofs.Steps.{spelt_w, quiet_good, took_good, executed_good, tail_good, page_good, stamped_good, is_stamped, the_entry, command_is}
+use Rattle.crsm_step_facts.specs.Changes.{Changes, stay, and_then}
+use Rattle.crsm_step_facts.proofs.Logs.{log_change, change_grows, changes_grow, replies_still}
+use Rattle.crsm_step_facts.proofs.Fitted.{step_changes}
+use Rattle.crsm_law_runs.proofs.Steps.{last, IsGood, spelt_w, quiet_good, took_good, executed_good, tail_good, page_good, stamped_good, is_stamped, the_entry, command_is}
 use Rattle.crsm_law_runs.proofs.Replies.{refused_good, answered_good}
 use Rattle.crsm_law_epoch.proofs.Worlds.{marked_sites}
 
@@ -47,6 +44,7 @@ module _ {n : ℕ} {end : World} {list : List Entry} {w u : World} {lines : List
         logged = λ e h. inr (at_origin n w s.reached few (spelt_w s).messages k e (subst (λ l. Logged l e) (sym s.here) h));
         known = λ p e h. inr (executed_logged n w s.reached few (spelt_w s).messages k (log_at w k) same p e (subst (λ l. slice_get (executed l) p ≡ Some e) (sym s.here) h));
         executes = λ l a. absurd a;
+        submits = λ l a. absurd a;
         late = tt;
         quiet = λ l a. absurd a;
         excess = tt;
@@ -65,6 +63,7 @@ module _ {n : ℕ} {end : World} {list : List Entry} {w u : World} {lines : List
     logged = λ e h. subst (λ l. Has w k l e) (sym log) (g.logged e (subst (λ l. Logged l e) log h));
     known = λ p e h. subst (λ l. Has w k l e) (sym log) (g.known p e (subst (λ l. slice_get (executed l) p ≡ Some e) log h));
     executes = λ l a y t h. subst (λ z. HasIn w k z y t) (sym log) (g.executes l (subst (λ z. Among z l) same_lines a) y t h);
+    submits = λ l a y t h. subst (λ z. HasIn w k z y t) (sym log) (g.submits l (subst (λ z. Among z l) same_lines a) y t h);
     late = subst (λ z. Each (IsLate list) lines (seen_by act z)) (sym same_lines) g.late;
     quiet = λ l a. g.quiet l (subst (λ z. Among z l) same_lines a);
     excess = q.excess g.excess;
@@ -92,7 +91,7 @@ module _ {n : ℕ} {end : World} {list : List Entry} {w u : World} {lines : List
   changes_good : {y : Draft} → Changes r input reading (begun r) y → Extends y.replica.log (last s) → IsGood s [] y
   changes_good stay ext = begun_good
   changes_good (and_then {y = y} {z = z} p c f) ext =
-      let e = extends_then (change_grows y z (log_change r input reading y z c)) ext in
+      let e = extends_trans (change_grows y z (log_change r input reading y z c)) ext in
       effect_good y z (effect r input reading y z c) (begun_grows p) ext (changes_good p e)
 
   pub step_good : IsGood s [] (step r input reading)

@@ -10,10 +10,10 @@ use Rattle.crsm_spec.specs.Step.{Input, step}
 use Rattle.crsm_spec.specs.World.{Site, World, log_at}
 use Rattle.crsm_spec.specs.Acts.{Act}
 use Rattle.crsm_spec.specs.Run.{Told}
-use Rattle.crsm_spec.specs.Safe.{IsExecOf}
+use Rattle.crsm_spec.specs.Safe.{IsExecOf, IsSubmitOf}
 use Rattle.crsm_law_steps.specs.Laws.{LogsGoOn}
 use Rattle.crsm_law_steps.specs.Happenings.{Marks, CanCome, Brings, IsReached}
-use Rattle.crsm_law_epoch.specs.Seats.{Logged}
+use Rattle.crsm_log_facts.specs.Logs.{Logged}
 use Rattle.crsm_law_runs.proofs.Each.{Each}
 use Rattle.crsm_law_runs.proofs.Effects.{ArePlain}
 use Rattle.crsm_law_runs.proofs.Words.{IsLast, IsRight, IsReplyOn, IsReplyLine, IsSubmitLine, IsLate, IsNew, IsSubmittedIn, seen_by}
@@ -50,6 +50,7 @@ pub record Holds (end : World) (list : List Entry) (w : World) (lines : List Tol
   pub within : (t : Told) → Among lines t → IsWithin (log_at w) t.line
   pub submitted : (k : ℕ) (e : Entry) → Logged (log_at w k) e → e.stamp.origin ≡ k → IsSubmittedIn lines e
   pub executes : (t : Told) → Among lines t → (x : ℕ) (s : Stamp) → IsExecOf x s t.line → HasStamp w x s
+  pub submits : (t : Told) → Among lines t → (x : ℕ) (s : Stamp) → IsSubmitOf x s t.line → HasStamp w x s
   pub replies : (t : Told) → Among lines t → (x : ℕ) (s : Stamp) → IsReplyOn list x s t.line → HasStamp w x s
   pub late : Each (IsLate list) [] lines
   pub once : Each IsNew [] lines
@@ -103,6 +104,7 @@ pub record Good (end : World) (list : List Entry) (w : World) (lines : List Told
   pub logged : (e : Entry) → Logged x.replica.log e → Has w k x.replica.log e
   pub known : (p : ℕ) (e : Entry) → slice_get (executed x.replica.log) p ≡ Some e → Has w k x.replica.log e
   pub executes : (l : Line) → Among x.lines l → (y : ℕ) (s : Stamp) → IsExecOf y s l → HasIn w k x.replica.log y s
+  pub submits : (l : Line) → Among x.lines l → (y : ℕ) (s : Stamp) → IsSubmitOf y s l → HasIn w k x.replica.log y s
   pub late : Each (IsLate list) lines (seen_by act x.lines)
   pub quiet : (l : Line) → Among x.lines l → IsReplyLine l → ⊥
   pub excess : ArePlain x.excess

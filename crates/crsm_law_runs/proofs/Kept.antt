@@ -8,13 +8,14 @@ use Rattle.crsm_spec.specs.World.{World, Moment, begin, first_lines, log_at}
 use Rattle.crsm_spec.specs.Acts.{Act}
 use Rattle.crsm_spec.specs.Moments.{world_after, lines_of, act, moments_of}
 use Rattle.crsm_spec.specs.Run.{ArePossible, Told, told_by, moments, moments_of_run, all_worlds, last_world, the_list}
-use Rattle.crsm_law_steps.specs.Laws.{Extends, same, LogsGoOn}
+use Rattle.crsm_log_facts.specs.Logs.{Extends, same}
+use Rattle.crsm_law_steps.specs.Laws.{LogsGoOn}
 use Rattle.crsm_law_steps.specs.Happenings.{GoOn, GoOnBy}
-use Rattle.crsm_law_steps.proofs.Logs.{extends_then}
+use Rattle.crsm_log_facts.proofs.Logged.{extends_trans}
 use Rattle.crsm_law_steps.proofs.Moments.{moment_goes_on}
 use Rattle.crsm_law_steps.proofs.Happen.{act_leads, run_happens}
 use Rattle.crsm_law_epoch.proofs.Words.{among_map}
-use Rattle.crsm_law_collection.proofs.Law.{get_some}
+use Rattle.crsm_log_facts.proofs.Lists.{get_some}
 use Rattle.crsm_law_agreement.proofs.Lists.{get_append}
 use Rattle.crsm_law_runs.proofs.Runs.{on_the_way, list_is_one}
 use Rattle.crsm_law_runs.proofs.DurableLists.{among_contains, prefix_get}
@@ -57,7 +58,7 @@ in_acts n w (a ∷ acts) lines p s i m at =
 goes_to : (w : World) (ms : List Moment) → GoOn w ms → (j : ℕ) (m : Moment) → slice_get ms j ≡ Some m → LogsGoOn w m.after
 goes_to w [] g j m at = absurd (none-some m at)
 goes_to w (x ∷ ms) g zero m at = subst (λ (z : Moment). LogsGoOn w z.after) (same_Some x m at) (moment_goes_on w x g.1)
-goes_to w (x ∷ ms) g (suc j) m at = λ k. extends_then (moment_goes_on w x g.1 k) (goes_to x.after ms g.2 j m at k)
+goes_to w (x ∷ ms) g (suc j) m at = λ k. extends_trans (moment_goes_on w x g.1 k) (goes_to x.after ms g.2 j m at k)
 
 goes_between : (w : World) (ms : List Moment) → GoOn w ms → (i j : ℕ) (a b : Moment) → i ≤ j → slice_get ms i ≡ Some a → slice_get ms j ≡ Some b → LogsGoOn a.after b.after
 goes_between w [] g i j a b le f h = absurd (none-some a f)

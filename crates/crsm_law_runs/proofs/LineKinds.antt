@@ -1,12 +1,12 @@
 -- The kinds of lines, and what each cannot say.
-use Rattle.std.proofs.Common.{ℕ, List, sym, ◌∙◌, ap}
+use Rattle.std.proofs.Common.{ℕ, List, sym, ◌∙◌, ap, subst}
 use Rattle.std.specs.Prelude.{slice_get}
 use Rattle.crsm_spec.specs.Types.{Stamp, Entry, Line, Answer}
 use Rattle.crsm_spec.specs.World.{World}
 use Rattle.crsm_spec.specs.Run.{Told}
-use Rattle.crsm_spec.specs.Safe.{IsExecOf, AreOnOneEntry}
+use Rattle.crsm_spec.specs.Safe.{IsExecOf, IsSubmitOf, AreOnOneEntry}
 use Rattle.crsm_law_runs.proofs.Effects.{IsPlain}
-use Rattle.crsm_law_runs.proofs.Words.{IsRight, IsReplyOn, IsReplyLine, IsSubmitLine, IsLateLine}
+use Rattle.crsm_law_runs.proofs.Words.{IsRight, IsReplyOn, IsReplyLine, IsSubmitLine, IsFirst, IsLateLine}
 
 -- ---- lines of other kinds
 
@@ -77,6 +77,59 @@ late_other list before (Line.Down a) h = tt
 late_other list before (Line.Final a b c d) h = tt
 late_other list before (Line.Out a b) h = tt
 late_other list before (Line.Back a b) h = tt
+
+-- a line that replies on an entry is a reply
+pub on_is_reply : (list : List Entry) (x : ℕ) (t : Stamp) (l : Line) → IsReplyOn list x t l → IsReplyLine l
+on_is_reply list x t (Line.Boot a0 a1) h = absurd h
+on_is_reply list x t (Line.Submit a0 a1 a2 a3 a4) h = absurd h
+on_is_reply list x t (Line.Log a0 a1 a2) h = absurd h
+on_is_reply list x t (Line.Exec a0 a1 a2 a3 a4 a5 a6) h = absurd h
+on_is_reply list x t (Line.Suspend a0 a1) h = absurd h
+on_is_reply list x t (Line.Promise a0 a1 a2 a3) h = absurd h
+on_is_reply list x t (Line.Accept a0 a1 a2 a3) h = absurd h
+on_is_reply list x t (Line.Decide a0 a1 a2 a3 a4) h = absurd h
+on_is_reply list x t (Line.Enter a0 a1) h = absurd h
+on_is_reply list x t (Line.TooMany a0 a1 a2 a3) h = absurd h
+on_is_reply list x t (Line.Send a0 a1 a2 a3 a4) h = absurd h
+on_is_reply list x t (Line.ReplyOk a0 a1 a2 a3 a4) h = tt
+on_is_reply list x t (Line.ReplyNo a0 a1 a2 a3) h = absurd h
+on_is_reply list x t (Line.ReplyDropped a0 a1 a2 a3 a4) h = tt
+on_is_reply list x t (Line.Down a0) h = absurd h
+on_is_reply list x t (Line.Final a0 a1 a2 a3) h = absurd h
+on_is_reply list x t (Line.Out a0 a1) h = absurd h
+on_is_reply list x t (Line.Back a0 a1) h = absurd h
+
+-- a line that submits an entry is a submission
+pub of_submit : (x : ℕ) (t : Stamp) (l : Line) → IsSubmitOf x t l → IsSubmitLine l
+of_submit x t (Line.Boot a0 a1) h = absurd h
+of_submit x t (Line.Submit a0 a1 a2 a3 a4) h = tt
+of_submit x t (Line.Log a0 a1 a2) h = absurd h
+of_submit x t (Line.Exec a0 a1 a2 a3 a4 a5 a6) h = absurd h
+of_submit x t (Line.Suspend a0 a1) h = absurd h
+of_submit x t (Line.Promise a0 a1 a2 a3) h = absurd h
+of_submit x t (Line.Accept a0 a1 a2 a3) h = absurd h
+of_submit x t (Line.Decide a0 a1 a2 a3 a4) h = absurd h
+of_submit x t (Line.Enter a0 a1) h = absurd h
+of_submit x t (Line.TooMany a0 a1 a2 a3) h = absurd h
+of_submit x t (Line.Send a0 a1 a2 a3 a4) h = absurd h
+of_submit x t (Line.ReplyOk a0 a1 a2 a3 a4) h = absurd h
+of_submit x t (Line.ReplyNo a0 a1 a2 a3) h = absurd h
+of_submit x t (Line.ReplyDropped a0 a1 a2 a3 a4) h = absurd h
+of_submit x t (Line.Down a0) h = absurd h
+of_submit x t (Line.Final a0 a1 a2 a3) h = absurd h
+of_submit x t (Line.Out a0 a1) h = absurd h
+of_submit x t (Line.Back a0 a1) h = absurd h
+
+-- what a submission says of the lines before it
+pub first_of_line : (list : List Entry) (before : List Told) (x : ℕ) (s : Stamp) (l : Line) → IsLateLine list before l → IsSubmitOf x s l → IsFirst list before x s
+first_of_line list before x s l n h = go l (kind_of_line l) n h
+  where
+    go : (l : Line) → Kind l → IsLateLine list before l → IsSubmitOf x s l → IsFirst list before x s
+    go l (Plain p a b c) n h = absurd (a (of_submit x s l h))
+    go _ (Exec k place y t c m v) n h = absurd h
+    go _ (Submit k y t c m) n h = subst (λ z. IsFirst list before z s) h.0 (subst (IsFirst list before y) h.1 n)
+    go _ (Ok k c m place a) n h = absurd h
+    go _ (Dropped k c m y t) n h = absurd h
 
 pub one_replies : (l m : Line) → AreOnOneEntry l m → IsReplyLine l × IsReplyLine m
 one_replies (Line.Boot a0 a1) m h = absurd h

@@ -8,18 +8,16 @@ use Rattle.crsm_spec.specs.Types.{Entry, Decision, Rec}
 use Rattle.crsm_spec.specs.Lists.{Among}
 use Rattle.crsm_spec.specs.Log.{Log, known, start, decision, executed, logged_in}
 use Rattle.crsm_spec.specs.World.{World, log_at}
-use Rattle.crsm_law_steps.specs.Laws.{Extends}
+use Rattle.crsm_log_facts.specs.Logs.{Extends, Logged, same, more}
 use Rattle.crsm_law_steps.specs.Happenings.{IsReached}
-use Rattle.crsm_law_epoch.specs.Seats.{Logged}
 use Rattle.crsm_law_epoch.proofs.Worlds.{seat_log_at}
 use Rattle.crsm_law_collection.specs.Collecting.{CommitOf}
-use Rattle.crsm_law_collection.proofs.Law.{are_well_made, get_some, get_inside}
-use Rattle.crsm_law_collection.proofs.Logged.{end_fits}
+use Rattle.crsm_law_collection.proofs.Law.{are_well_made}
+use Rattle.crsm_log_facts.proofs.Lists.{get_some, get_inside}
+use Rattle.crsm_log_facts.proofs.Logged.{end_fits, logged_is, extends_trans}
 use Rattle.crsm_law_epoch.specs.LogWorlds.{HasFewBoots}
 use Rattle.crsm_law_epoch.proofs.LogWorlds.{epochs_hold_always}
-use Rattle.crsm_law_epoch.proofs.CommitLogs.{unexecuted_logged, logged_is}
-use Rattle.crsm_law_steps.proofs.Logs.{extends_then}
-use Rattle.crsm_law_steps.specs.Laws.{same, more}
+use Rattle.crsm_law_epoch.proofs.CommitLogs.{unexecuted_logged}
 use Rattle.crsm_law_messages.specs.Counted.{AllSpelt}
 use Rattle.crsm_law_decisions.proofs.Agree.{Knows, First, Later, knows}
 use Rattle.crsm_law_decisions.proofs.Coordinators.{extends_among}
@@ -45,7 +43,7 @@ module _ (n : ℕ) (w : World) (q : IsReached n w) (few : HasFewBoots w) (spelt 
 
   committed_logged : (e p : ℕ) (x : Entry) → CommitOf e (log_at w) p x → Logged (log_at w x.stamp.origin) x
   committed_logged e p x c =
-      at_origin c.by x (extends_among (extends_then (more (Rec.Commit x.stamp) same) c.kept) (Rec.Prepare x) (unexecuted_logged c.log x c.next).0)
+      at_origin c.by x (extends_among (extends_trans (more (Rec.Commit x.stamp) same) c.kept) (Rec.Prepare x) (unexecuted_logged c.log x c.next).0)
 
   -- where an entry of an opening stands: in a list of the epoch before, or in the decision's tail
   data Stands (e : ℕ) (x : Entry) (p : ℕ) : Type 0 where

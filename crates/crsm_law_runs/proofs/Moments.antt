@@ -24,9 +24,10 @@ use Rattle.crsm_law_steps.specs.Happenings.Marks.{none}
 use Rattle.crsm_law_steps.specs.Happenings.Ends.{IsWhole, IsCut, IsLost}
 use Rattle.crsm_law_steps.specs.Happenings.Happens.{Nothing, Steps, Junk, Stops, Joins, Starts}
 use Rattle.crsm_law_steps.specs.Happenings.IsReached.{first, next}
-use Rattle.crsm_law_steps.proofs.Logs.{extends_then}
+use Rattle.crsm_log_facts.proofs.Logged.{extends_trans}
 use Rattle.crsm_law_steps.proofs.Moments.{moment_goes_on}
-use Rattle.crsm_law_epoch.specs.Seats.{Seat, Logged}
+use Rattle.crsm_law_epoch.specs.Seats.{Seat}
+use Rattle.crsm_log_facts.specs.Logs.{Logged}
 use Rattle.crsm_law_epoch.proofs.Worlds.{marked_sites, seat_log_at, room_seats}
 use Rattle.crsm_law_messages.proofs.Worlds.{set_up, not_up, up_same, room_up, founded_is, all_known, kept_whole, kept_cut}
 use Rattle.crsm_law_epoch.proofs.LogWorlds.{all_held, get_range, from_zero}
@@ -36,11 +37,11 @@ use Rattle.crsm_law_runs.specs.Seen.{IsSeen, boots, then_on}
 use Rattle.crsm_law_runs.proofs.Each.{Each, each_then, each_all}
 use Rattle.crsm_law_runs.proofs.Effects.{IsPlain, ArePlain, plain_then}
 use Rattle.crsm_law_runs.proofs.Words.{IsLast, IsLate, IsNew, submitted_more, seen_by}
-use Rattle.crsm_law_runs.proofs.LineKinds.{plain_right, late_other, one_replies}
+use Rattle.crsm_law_runs.proofs.LineKinds.{plain_right, late_other, of_submit, on_is_reply, one_replies}
 use Rattle.crsm_law_runs.proofs.Holds.{Wait, Holds, Stepping, within_longer, other_within}
 use Rattle.crsm_law_runs.proofs.Drafts.{among_either, among_unmap}
 use Rattle.crsm_law_runs.proofs.Ends.{step_good}
-use Rattle.crsm_law_runs.proofs.Worlds.{kept_holds, stamp_later, executed_longer, plain_at, says_nothing, on_is_reply}
+use Rattle.crsm_law_runs.proofs.Worlds.{kept_holds, stamp_later, executed_longer, plain_at, says_nothing}
 
 -- ---- plain lines, told by an act or by none
 
@@ -77,6 +78,10 @@ module _ (end : World) (list : List Entry) (w u : World) (lines : List Told) (ac
     executes = λ t a y v q. elim (among_either lines (seen_by act ls) t a) [
       | inl b ↦ stamp_later w u y v grows (h.executes t b y v q)
       | inr b ↦ absurd ((says_nothing t.line (plain_told (Some act) ls plain t b)).exec y v q)
+    ];
+    submits = λ t a y v q. elim (among_either lines (seen_by act ls) t a) [
+      | inl b ↦ stamp_later w u y v grows (h.submits t b y v q)
+      | inr b ↦ absurd ((says_nothing t.line (plain_told (Some act) ls plain t b)).submit (of_submit y v t.line q))
     ];
     replies = λ t a y v q. elim (among_either lines (seen_by act ls) t a) [
       | inl b ↦ stamp_later w u y v grows (h.replies t b y v q)
@@ -380,6 +385,7 @@ first_holds n end list =
       within = λ t a. other_within (log_at (begin n)) t.line (says_nothing t.line (plain t a)).reply;
       submitted = λ j e q o. absurd (first_logged n j e q);
       executes = λ t a y v q. absurd ((says_nothing t.line (plain t a)).exec y v q);
+      submits = λ t a y v q. absurd ((says_nothing t.line (plain t a)).submit (of_submit y v t.line q));
       replies = λ t a y v q. absurd ((says_nothing t.line (plain t a)).reply (on_is_reply list y v t.line q));
       late = plain_late None list [] (first_lines n) (first_plain n);
       once = plain_new None [] (first_lines n) (first_plain n);
@@ -395,5 +401,5 @@ seen_reached n w lines (then_on {w = v} {lines = ls} q a h led) = next (seen_rea
 pub seen_holds : (n : ℕ) (end : World) (list : List Entry) → IsLast n end list → (w : World) (lines : List Told) → IsSeen n w lines → LogsGoOn w end → Holds end list w lines
 seen_holds n end list last w lines boots on = first_holds n end list
 seen_holds n end list last w lines (then_on {w = v} {m = m} {lines = ls} q a h led) on =
-    let before : LogsGoOn v end = λ j. extends_then (moment_goes_on v m h j) (on j) in
+    let before : LogsGoOn v end = λ j. extends_trans (moment_goes_on v m h j) (on j) in
     moment_holds n end list last v (seen_reached n v ls q) ls (seen_holds n end list last v ls q before) a m h led on

@@ -1,42 +1,36 @@
 -- What is answered to clients in a step keeps what holds of its drafts.
 use Rattle.std.proofs.Common.{◌≡◌, ℕ, ◌<◌, ◌≤◌, List, [], ◌∷◌, ◌++◌, length, take, refl, sym, ◌∙◌, ap, subst, inl, inr, Bool, true, false, arith, map, append_assoc}
 use Rattle.std.specs.Prelude.{IsTrue, Option, Some, None, slice_get, nat_lt, nat_le, ◌==◌, ◌&&◌}
-use Rattle.std.proofs.lemmas.Bool.{eq-eqb}
+use Rattle.std.proofs.lemmas.Bool.{eq-eqb, and_parts, leb-true, ltb-true, eqb-true, false≢true}
 use Rattle.std.proofs.lemmas.Option.{same_Some}
 use Rattle.std.proofs.lemmas.List.{append-nil, map-append}
 use Rattle.crsm_spec.specs.Choice.{when◌then◌otherwise◌}
 use Rattle.crsm_base.specs.Spelling.{refusal_number}
 use Rattle.crsm_spec.specs.Types.{Outcome, Stamp, Entry, Command, Refusal, Rec, Line}
 use Rattle.crsm_spec.specs.Lists.{Among}
-use Rattle.crsm_spec.specs.Log.{Log, known, executed}
+use Rattle.crsm_spec.specs.Log.{Log, known, executed, start}
 use Rattle.crsm_spec.specs.Replica.{Replica, Waiting}
 use Rattle.crsm_spec.specs.Draft.{Draft, Reply, reply}
-use Rattle.crsm_spec.specs.Clients.{refuse}
+use Rattle.crsm_spec.specs.Clients.{refuse, replies, answer_each, answer_found, reply_ok, reply_dropped, find_executed, is_dropped}
 use Rattle.crsm_spec.specs.Step.{Input}
 use Rattle.crsm_spec.specs.World.{World, log_at}
 use Rattle.crsm_spec.specs.Acts.{Act}
 use Rattle.crsm_spec.specs.Run.{Told, told_by}
 use Rattle.crsm_spec.specs.Safe.{IsExecOf}
-use Rattle.crsm_law_steps.specs.Laws.{Extends}
-use Rattle.crsm_law_epoch.specs.Seats.{Logged}
-use Rattle.crsm_law_collection.proofs.Law.{get_inside, get_some}
+use Rattle.crsm_log_facts.specs.Logs.{Extends, Logged}
+use Rattle.crsm_log_facts.proofs.Lists.{get_inside, get_some}
 use Rattle.crsm_law_decisions.proofs.Coordinators.{extends_among}
-use Rattle.crsm_law_runs.proofs.Lists.{executed_logged}
+use Rattle.crsm_law_runs.proofs.Lists.{executed_logged, older_below}
 use Rattle.crsm_law_runs.proofs.Each.{Each, each_then}
 use Rattle.crsm_law_runs.proofs.Words.{IsRight, IsReplyOn, IsReplyLine, IsSubmitLine, IsNew, seen_by}
-use Rattle.crsm_law_runs.proofs.LineKinds.{one_replies}
+use Rattle.crsm_law_runs.proofs.LineKinds.{one_replies, one_key}
 use Rattle.crsm_law_runs.proofs.Holds.{Wait, Stepping, IsHere, reply_lines}
 use Rattle.crsm_law_runs.proofs.Drafts.{among_right, among_either, told_line, apart_from, without, apart_without, find_at, find_none, take_prefix, get_prefix}
-use Rattle.std.proofs.lemmas.Bool.{and_parts, leb-true, ltb-true, eqb-true, false≢true}
 use Rattle.crsm_base.specs.Order.{stamp_eq}
 use Rattle.crsm_base.specs.Store.{answer_after}
-use Rattle.crsm_spec.specs.Log.{start}
-use Rattle.crsm_spec.specs.Clients.{replies, answer_each, answer_found, reply_ok, reply_dropped, find_executed, is_dropped}
-use Rattle.crsm_law_steps.proofs.Tests.{same_stamp}
-use Rattle.crsm_law_collection.proofs.Sorted.{eq_self}
+use Rattle.crsm_log_facts.proofs.Tests.{same_stamp}
+use Rattle.crsm_log_facts.proofs.Sorted.{eq_self}
 use Rattle.crsm_law_agreement.proofs.Worlds.{one_entry}
-use Rattle.crsm_law_runs.proofs.Lists.{older_below}
-use Rattle.crsm_law_runs.proofs.LineKinds.{one_key}
 use Rattle.crsm_law_runs.proofs.Steps.{last, IsGood, spelt_end, at_end}
 
 module _ {n : ℕ} {end : World} {list : List Entry} {w u : World} {lines : List Told} {k : ℕ} {r : Replica} {input : Input} {reading : ℕ} {act : Act}
@@ -59,6 +53,7 @@ module _ {n : ℕ} {end : World} {list : List Entry} {w u : World} {lines : List
         logged = g.logged;
         known = g.known;
         executes = g.executes;
+        submits = g.submits;
         late = g.late;
         quiet = g.quiet;
         excess = g.excess;
@@ -100,6 +95,7 @@ module _ {n : ℕ} {end : World} {list : List Entry} {w u : World} {lines : List
           logged = g.logged;
           known = g.known;
           executes = g.executes;
+          submits = g.submits;
           late = g.late;
           quiet = g.quiet;
           excess = g.excess;
@@ -216,6 +212,7 @@ module _ {n : ℕ} {end : World} {list : List Entry} {w u : World} {lines : List
     logged = g.logged;
     known = g.known;
     executes = g.executes;
+    submits = g.submits;
     late = g.late;
     quiet = g.quiet;
     excess = g.excess;
@@ -263,6 +260,7 @@ module _ {n : ℕ} {end : World} {list : List Entry} {w u : World} {lines : List
     logged = g.logged;
     known = g.known;
     executes = g.executes;
+    submits = g.submits;
     late = g.late;
     quiet = g.quiet;
     excess = g.excess;

@@ -1,5 +1,5 @@
 -- Every possible run is safe.
-use Rattle.std.proofs.Common.{◌≡◌, ℕ, zero, suc, ◌<◌, ◌≤◌, List, [], ◌∷◌, ◌++◌, length, refl, sym, ◌∙◌, ap, subst, inl, inr, arith, map, append_assoc}
+use Rattle.std.proofs.Common.{◌≡◌, ℕ, zero, suc, ◌<◌, ◌≤◌, List, [], ◌∷◌, ◌++◌, length, take, refl, sym, ◌∙◌, ap, subst, inl, inr, arith, map, append_assoc}
 use Rattle.std.specs.Prelude.{Option, Some, None, slice_get, flat_map}
 use Rattle.std.specs.List.{AllByRecursion}
 use Rattle.std.proofs.lemmas.Bool.{cases_lt}
@@ -14,28 +14,26 @@ use Rattle.crsm_spec.specs.World.{World, Moment, begin, first_lines, log_at}
 use Rattle.crsm_spec.specs.Acts.{Act}
 use Rattle.crsm_spec.specs.Moments.{world_after, lines_of, act, moments_of}
 use Rattle.crsm_spec.specs.Run.{ArePossible, all_worlds, Told, told_by, told, seen, after_acts, last_world, all_lists, the_list}
-use Rattle.crsm_spec.specs.Safe.{Submits, IsExecOf, IsLineAt, WasSubmitted, Agreed, Answered, RealTime, IsSafe}
-use Rattle.crsm_law_steps.specs.Laws.{Extends, same, more}
+use Rattle.crsm_spec.specs.Safe.{Submits, IsExecOf, IsSubmitOf, IsLineAt, WasSubmitted, Agreed, Answered, RealTime, IsSafe}
+use Rattle.crsm_log_facts.specs.Logs.{Extends, same, more, Logged, AreSpelt}
 use Rattle.crsm_law_steps.specs.Happenings.{GoOnBy}
 use Rattle.crsm_law_steps.proofs.Happen.{act_leads}
-use Rattle.crsm_law_epoch.specs.Seats.{Logged}
-use Rattle.crsm_law_collection.proofs.Logged.{end_fits}
+use Rattle.crsm_log_facts.proofs.Logged.{end_fits}
 use Rattle.crsm_law_epoch.proofs.LogWorlds.{logs_fit}
-use Rattle.crsm_law_bounds.specs.Bounds.{IsSpelt}
-use Rattle.crsm_law_bounds.proofs.Entries.{all_at, all_from}
-use Rattle.crsm_law_bounds.proofs.Logs.{AreSpelt, executed_rises}
+use Rattle.crsm_law_bounds.specs.Bounds.{IsSpelt, HasShortLogs}
+use Rattle.crsm_log_facts.proofs.Lists.{all_at, all_from}
+use Rattle.crsm_log_facts.proofs.LogsFit.{executed_rises}
 use Rattle.crsm_law_bounds.proofs.Worlds.{short_logs_are_spelt}
 use Rattle.crsm_law_runs.specs.Seen.{IsSeen, boots, then_on}
 use Rattle.crsm_law_runs.proofs.Lists.{got_among, executed_logged}
 use Rattle.crsm_law_runs.proofs.Each.{each_at, got_before}
-use Rattle.crsm_law_runs.proofs.Words.{IsLast, IsRight, IsLate, IsNew, IsSubmittedIn, seen_by}
-use Rattle.crsm_law_runs.proofs.LineKinds.{one_other_way}
+use Rattle.crsm_law_runs.proofs.Words.{IsLast, IsRight, IsReplyOn, IsLate, IsLateLine, IsFirst, IsNew, IsSubmittedIn, seen_by}
+use Rattle.crsm_law_runs.proofs.LineKinds.{first_of_line, one_other_way}
 use Rattle.crsm_law_runs.proofs.Holds.{Holds}
 use Rattle.crsm_law_runs.proofs.Drafts.{placed, get_prefix}
 use Rattle.crsm_law_runs.proofs.Moments.{seen_reached, seen_holds}
 use Rattle.crsm_law_runs.specs.Runs.{IsTheList}
 use Rattle.crsm_law_runs.proofs.Runs.{last_among, list_is_one}
-use Rattle.crsm_law_bounds.specs.Bounds.{HasShortLogs}
 use Rattle.crsm_law_bounds.proofs.Short.{run_short}
 
 -- ---- what is seen of a run is seen on the way to its last world
@@ -130,8 +128,33 @@ module _ (n : ℕ) (acts : List Act) (most : n ≤ 15) (p : ArePossible (begin n
     ]
   ]
 
-  was_submitted : (e : Entry) → IsSubmittedIn (seen n acts) e → (k x t c m : ℕ) → e.stamp.origin ≡ k → e.epoch ≡ x → e.stamp.time ≡ t → e.command.client ≡ c → e.command.number ≡ m → WasSubmitted (seen n acts) k x t c m
-  was_submitted e s k x t c m ok ox ot oc om = (length s.before, (s.told.by, found_at (seen n acts) s.before s.after s.told s.is ∙ ap (λ l. Some (told_of s.told.by l)) (s.submits.0 ∙ line_is)))
+  -- what its line says of those before it
+  first_there : (e : Entry) (s : IsSubmittedIn (seen n acts) e) → IsFirst list (take (length s.before) (seen n acts)) e.epoch e.stamp
+  first_there e s =
+      subst (IsLateLine list (take (length s.before) (seen n acts))) s.submits.0
+      (each_at (IsLate list) [] (seen n acts) (length s.before) s.told holds.late (found_at (seen n acts) s.before s.after s.told s.is))
+
+  not_reply : (t : Told) (e : Entry) → Submits t e → IsReplyOn list e.epoch e.stamp t.line → ⊥
+  not_reply t e s h = subst (IsReplyOn list e.epoch e.stamp) s.0 h
+
+  reply_after : (e : Entry) (s : IsSubmittedIn (seen n acts) e) (j : ℕ) (u : Told) → slice_get (seen n acts) j ≡ Some u → IsReplyOn list e.epoch e.stamp u.line → length s.before < j
+  reply_after e s j u at h = elim (cases_lt (length s.before) j) [
+    | inl lt ↦ lt
+    | inr le ↦ elim (cases_lt j (length s.before)) [
+      | inl lt ↦ absurd ((first_there e s).replied u (got_before (seen n acts) j (length s.before) u at lt) h)
+      | inr ge ↦ (let is : j ≡ length s.before = omega (arith, le, ge) in
+          let same_one : s.told ≡ u = same_Some s.told u (sym (found_at (seen n acts) s.before s.after s.told s.is) ∙ ap (slice_get (seen n acts)) (sym is) ∙ at) in
+          absurd (not_reply s.told e s.submits (subst (λ (z : Told). IsReplyOn list e.epoch e.stamp z.line) (sym same_one) h)))
+    ]
+  ]
+
+  -- no epoch and stamp is submitted again
+  not_again : (x : ℕ) (s : Stamp) (i j : ℕ) (t u : Told) → slice_get (seen n acts) i ≡ Some t → slice_get (seen n acts) j ≡ Some u → IsSubmitOf x s t.line → IsSubmitOf x s u.line → i < j → ⊥
+  not_again x s i j t u at bt a b lt =
+      (first_of_line list (take j (seen n acts)) x s u.line (each_at (IsLate list) [] (seen n acts) j u holds.late bt) b).submitted t (got_before (seen n acts) i j t at lt) a
+
+  was_submitted : (e : Entry) (s : IsSubmittedIn (seen n acts) e) (i : ℕ) → length s.before < i → (k x t c m : ℕ) → e.stamp.origin ≡ k → e.epoch ≡ x → e.stamp.time ≡ t → e.command.client ≡ c → e.command.number ≡ m → WasSubmitted (seen n acts) i k x t c m
+  was_submitted e s i lt k x t c m ok ox ot oc om = (length s.before, lt, (s.told.by, found_at (seen n acts) s.before s.after s.told s.is ∙ ap (λ l. Some (told_of s.told.by l)) (s.submits.0 ∙ line_is)))
     where
       told_of : Option Act → Line → Told
       told_of by l = record { by = by; line = l }
@@ -154,6 +177,13 @@ module _ (n : ℕ) (acts : List Act) (most : n ≤ 15) (p : ArePossible (begin n
     submitted = λ q e at.
         let s = submitted q e at in
         (length s.before, s.told, found_at (seen n acts) s.before s.after s.told s.is, s.submits, exec_after e s);
+    submitted_once = λ x s i j t u at bt a b. elim (cases_lt i j) [
+      | inl lt ↦ absurd (not_again x s i j t u at bt a b lt)
+      | inr ge ↦ elim (cases_lt j i) [
+        | inl lt ↦ absurd (not_again x s j i u t bt at b a lt)
+        | inr le ↦ omega (arith, ge, le)
+      ]
+    ];
   }
 
   -- ---- answers
@@ -173,11 +203,15 @@ module _ (n : ℕ) (acts : List Act) (most : n ≤ 15) (p : ArePossible (begin n
     executed = λ i k place x s c m a at. told_at i (Line.Exec k place x s c m a) at;
     answered = λ i k c m place a at.
         let t = told_at i (Line.ReplyOk k c m place a) at in
-        (t.0, t.1, t.2, was_submitted t.0 (submitted place t.0 t.1.0) k t.0.epoch t.0.stamp.time c m t.2 refl refl t.3 t.4);
+        let s = submitted place t.0 t.1.0 in
+        let after = reply_after t.0 s i (record { by = at.0; line = Line.ReplyOk k c m place a }) at.1 (t.0, t.1.0, refl, refl) in
+        (t.0, t.1, t.2, t.3, t.4, was_submitted t.0 s i after k t.0.epoch t.0.stamp.time c m t.2 refl refl t.3 t.4);
     dropped = λ i k c m x s at.
-        let t = told_at i (Line.ReplyDropped k c m x s) at in (
+        let t = told_at i (Line.ReplyDropped k c m x s) at in
+        let q = holds.submitted k t.0 t.1 t.2 in
+        let after = reply_after t.0 q i (record { by = at.0; line = Line.ReplyDropped k c m x s }) at.1 (sym t.3, sym t.4) in (
           ap (λ (z : Stamp). z.origin) (sym t.4) ∙ t.2,
-          was_submitted t.0 (holds.submitted k t.0 t.1 t.2) k x s.time c m t.2 t.3 (ap (λ (z : Stamp). z.time) t.4) t.5 t.6,
+          was_submitted t.0 q i after k x s.time c m t.2 t.3 (ap (λ (z : Stamp). z.time) t.4) t.5 t.6,
           none_in x s t.7,
         );
     once = λ i j t u at bt one. elim (cases_lt i j) [
@@ -193,7 +227,7 @@ module _ (n : ℕ) (acts : List Act) (most : n ≤ 15) (p : ArePossible (begin n
 
   real_time : RealTime n acts
   real_time i j k c m place k' x time c' m' a q e lt at bt there ep st =
-      each_at (IsLate list) [] (seen n acts) j (record { by = bt.0; line = Line.Submit k' x time c' m' }) holds.late bt.1 (record { by = at.0; line = Line.ReplyOk k c m place a })
+      (each_at (IsLate list) [] (seen n acts) j (record { by = bt.0; line = Line.Submit k' x time c' m' }) holds.late bt.1).behind (record { by = at.0; line = Line.ReplyOk k c m place a })
       (got_before (seen n acts) i j (record { by = at.0; line = Line.ReplyOk k c m place a }) at.1 lt) k c m place a refl q e there ep st
 
 pub runs_are_safe : IsSafe

@@ -17,12 +17,12 @@ use Rattle.crsm_spec.specs.World.{Site, World, begin, log_of, log_at}
 use Rattle.crsm_spec.specs.Acts.{Act}
 use Rattle.crsm_spec.specs.Run.{ArePossible, last_world}
 use Rattle.crsm_spec.specs.Decided.{decisions, decisions_in, decision_of, spec_at}
-use Rattle.crsm_law_steps.specs.Laws.{Extends}
+use Rattle.crsm_log_facts.specs.Logs.{Extends}
 use Rattle.crsm_law_steps.specs.Happenings.{IsReached}
-use Rattle.crsm_law_collection.proofs.Law.{flat_in}
-use Rattle.crsm_law_collection.proofs.Logged.{end_fits}
+use Rattle.crsm_log_facts.proofs.Lists.{flat_in, kept_from}
+use Rattle.crsm_log_facts.proofs.Logged.{end_fits}
 use Rattle.crsm_law_epoch.specs.Numbers.{Distinct}
-use Rattle.crsm_law_epoch.proofs.Words.{distinct_range, distinct_filter, filter_among}
+use Rattle.crsm_law_epoch.proofs.Words.{distinct_range, distinct_filter}
 use Rattle.crsm_law_epoch.specs.Ordered.{IsOrdered, AreOrdered}
 use Rattle.crsm_law_epoch.specs.LogWorlds.{HasFewBoots}
 use Rattle.crsm_law_epoch.proofs.LogWorlds.{all_held, logs_fit, decisions_are_ordered}
@@ -57,7 +57,7 @@ is_distinct (k ∷ ks) d = (all_apart k ks d.0, is_distinct ks d.1)
 pub passing : (counted : List ℕ) (test : ℕ → Bool) → Distinct counted → majority (length counted) ≤ count_by test counted → IsMajority counted (filter test counted)
 passing counted test d many = record {
   distinct = is_distinct (filter test counted) (distinct_filter test counted d);
-  of_spec = λ r c. contains_among counted r (filter_among test counted r (among_contains (filter test counted) r c)).0;
+  of_spec = λ r c. contains_among counted r (kept_from test counted r (among_contains (filter test counted) r c)).0;
   enough = let l = length-filter test counted in omega (arith, l, many);
 }
 

@@ -5,7 +5,7 @@ use Rattle.std.specs.Option.{option_map_or}
 use Rattle.std.proofs.lemmas.Bool.{cases_eq, cases_lt, ne_eqb, eq-eqb}
 use Rattle.std.proofs.lemmas.Option.{same_Some}
 use Rattle.std.proofs.lemmas.List.{append-nil, map-append, length-append}
-use Rattle.crsm_spec.specs.Types.{Stamp, Entry, Decision, Command, Rec, InEpoch, Datagram, Control, Line}
+use Rattle.crsm_spec.specs.Types.{Stamp, Entry, Decision, Command, Answer, Rec, InEpoch, Datagram, Control, Line}
 use Rattle.crsm_spec.specs.Lists.{Among, first_of}
 use Rattle.crsm_spec.specs.Log.{Log, known, decision, executed, logged, logged_in, entry_of, unexecuted}
 use Rattle.crsm_spec.specs.Lines.{lines_of, exec_lines}
@@ -17,19 +17,18 @@ use Rattle.crsm_spec.specs.Step.{Input, step}
 use Rattle.crsm_spec.specs.World.{World, log_at}
 use Rattle.crsm_spec.specs.Acts.{Act}
 use Rattle.crsm_spec.specs.Run.{Told, told_by}
-use Rattle.crsm_spec.specs.Safe.{IsExecOf, command_of}
-use Rattle.crsm_law_steps.specs.Laws.{AllFit, Extends, same, more, LogsGoOn}
-use Rattle.crsm_law_steps.specs.Messages.{Hears}
+use Rattle.crsm_spec.specs.Safe.{IsExecOf, IsSubmitOf, command_of}
+use Rattle.crsm_log_facts.specs.Logs.{AllFit, Extends, same, more, Logged}
+use Rattle.crsm_law_steps.specs.Laws.{LogsGoOn}
+use Rattle.crsm_step_facts.specs.Messages.{Hears}
 use Rattle.crsm_law_steps.specs.Happenings.{CanCome, Brings, IsReached}
 use Rattle.crsm_law_steps.specs.Happenings.CanCome.{IsMail, IsCommand, IsReply, IsTick, IsSuspicion}
-use Rattle.crsm_law_steps.proofs.Logs.{extends_then}
-use Rattle.crsm_law_epoch.specs.Seats.{Logged}
+use Rattle.crsm_log_facts.proofs.Logged.{extends_trans, end_fits, prepare_known, newest_all}
 use Rattle.crsm_law_epoch.specs.Worlds.{sent_in}
 use Rattle.crsm_law_epoch.proofs.Words.{among_map}
 use Rattle.crsm_law_epoch.proofs.Worlds.{seat_log_at}
-use Rattle.crsm_law_collection.proofs.Sorted.{Le, lt_not, le_self, all_at}
-use Rattle.crsm_law_collection.proofs.Logged.{end_fits, prepare_known, newest_all}
-use Rattle.crsm_law_collection.proofs.Law.{get_some}
+use Rattle.crsm_log_facts.proofs.Sorted.{Le, lt_not, le_self}
+use Rattle.crsm_log_facts.proofs.Lists.{all_at, get_some}
 use Rattle.crsm_law_epoch.proofs.CommitEffects.{same_entry}
 use Rattle.crsm_law_epoch.proofs.LogSteps.{IsBetween}
 use Rattle.crsm_law_epoch.proofs.LogWorlds.{all_held, logs_fit, epochs_hold_always}
@@ -40,12 +39,12 @@ use Rattle.crsm_law_decisions.proofs.Coordinators.{extends_among}
 use Rattle.crsm_law_agreement.proofs.Logs.{is_logged}
 use Rattle.crsm_law_bounds.specs.Bounds.{IsSpelt}
 use Rattle.crsm_law_bounds.proofs.Worlds.{short_before, short_logs_are_spelt}
-use Rattle.crsm_law_bounds.proofs.Logs.{of_known, commit_entry}
+use Rattle.crsm_log_facts.proofs.LogsFit.{of_known, commit_entry}
 use Rattle.crsm_law_runs.proofs.Lists.{got_among, tail_logged, executed_logged}
 use Rattle.crsm_law_runs.proofs.Each.{Each, each_then, each_all}
 use Rattle.crsm_law_runs.proofs.Effects.{ArePlain, IsQuiet, IsKept}
 use Rattle.crsm_law_runs.proofs.Words.{IsRight, IsReplyOn, IsReplyLine, IsSubmitLine, IsLate, IsLateLine, IsNew, IsSubmittedIn, submitted_more, seen_by, exec_right, exec_only}
-use Rattle.crsm_law_runs.proofs.LineKinds.{late_other, Kind, Plain, Exec, Submit, Ok, Dropped, kind_of_line}
+use Rattle.crsm_law_runs.proofs.LineKinds.{late_other, of_submit, on_is_reply, Kind, Plain, Exec, Submit, Ok, Dropped, kind_of_line}
 use Rattle.crsm_law_runs.proofs.Holds.{HasStamp, AreApart, Wait, Stepping, Has, HasIn, IsHere, IsWithin, reply_lines, Good, here_longer}
 use Rattle.crsm_law_runs.proofs.Drafts.{among_left, among_either, among_unmap, among_dropped, placed, told_line, seen_among, no_more, quiet_logs, quiet_executes, quiet_lines, logged_before, page_among, new_among, apart_then, decision_among, get_prefix}
 
@@ -92,7 +91,7 @@ module _ {n : ℕ} {end : World} {list : List Entry} {w u : World} {lines : List
   short_end v q on = short_logs_are_spelt n v s.last.most q (short_before v end on s.last.short)
 
   pub spelt_w : IsSpelt n w
-  spelt_w = short_end w s.reached (λ j. extends_then (s.grows j) (s.on j))
+  spelt_w = short_end w s.reached (λ j. extends_trans (s.grows j) (s.on j))
 
   pub spelt_u : IsSpelt n u
   spelt_u = short_end u s.after s.on
@@ -107,7 +106,7 @@ module _ {n : ℕ} {end : World} {list : List Entry} {w u : World} {lines : List
   at_u a x = subst (Extends a) (sym s.kept) x
 
   pub at_end : (a : Log) → Extends a last → Extends a (log_at end k)
-  at_end a x = extends_then (at_u a x) (s.on k)
+  at_end a x = extends_trans (at_u a x) (s.on k)
 
   -- ---- entries that are logged
 
@@ -151,6 +150,7 @@ module _ {n : ℕ} {end : World} {list : List Entry} {w u : World} {lines : List
       logged = λ e h. subst (λ l. Has w k l e) (sym kept.log) (logs e (subst (λ l. Logged l e) kept.log h));
       known = λ p e h. subst (λ l. Has w k l e) (sym kept.log) (runs p e (subst (λ l. slice_get (executed l) p ≡ Some e) kept.log h));
       executes = λ l a z t h. subst (λ q. HasIn w k q z t) (sym kept.log) (elim (line_of l a) [ inl b ↦ in_more rec x.replica.log z t (g.executes l b z t h) | inr b ↦ (says l b).3 z t h ]);
+      submits = λ l a z t h. subst (λ q. HasIn w k q z t) (sym kept.log) (elim (line_of l a) [ inl b ↦ in_more rec x.replica.log z t (g.submits l b z t h) | inr b ↦ absurd ((says l b).1 (of_submit z t l h)) ]);
       late = subst (λ z. Each (IsLate list) lines (seen_by act z)) (sym kept.lines) (subst (Each (IsLate list) lines) (sym (map-append (told_by (Some act)) x.lines ls))
           (each_then (IsLate list) lines (seen_by act x.lines) (seen_by act ls) g.late
           (each_all (IsLate list) (lines ++ seen_by act x.lines) (seen_by act ls) (λ before t a. let q = seen_among act ls t a in subst (IsLateLine list before) (sym q.2) (late_other list before q.0 (says q.0 q.1).1)))));
@@ -279,7 +279,7 @@ module _ {n : ℕ} {end : World} {list : List Entry} {w u : World} {lines : List
   tail_good d x y is kept ext rest g =
       let log = x.replica.log in
       let done = length (executed log) in
-      let before : Extends log last = extends_then (more (Rec.Adopt done (drop (done - d.base_len) d.tail)) same) ext in
+      let before : Extends log last = extends_trans (more (Rec.Adopt done (drop (done - d.base_len) d.tail)) same) ext in
       let on_record = extends_among (at_u log before) (Rec.Decide d) (decision_among log d is) in
       let fits = all_at _ (log_at u k) (Rec.Decide d) (spelt_u.records k) on_record in
       runs_good (Rec.Adopt done (drop (done - d.base_len) d.tail)) (drop (done - d.base_len) d.tail) x y kept (λ f q. absurd (cc)) refl refl ext
@@ -333,24 +333,43 @@ module _ {n : ℕ} {end : World} {list : List Entry} {w u : World} {lines : List
       go z IsTick b q = absurd (cc)
       go z (IsSuspicion ms m) b q = absurd (cc)
 
-  -- it stands behind all that was answered before
-  is_late : (x : Draft) (e : Entry) → e.stamp.origin ≡ k → IsGood [] x → ((f : Entry) → Has w k x.replica.log f → f.epoch ≡ e.epoch → f.stamp ≡ e.stamp → ⊥) →
-      IsLateLine list (lines ++ seen_by act x.lines) (Line.Submit x.replica.me e.epoch e.stamp.time e.command.client e.command.number)
-  is_late x e o g newly t m j d i place v is q f at ep st = elim (among_either lines (seen_by act x.lines) t m) [
+  -- the stamp that its line tells
+  abbrev now : Draft → Entry → Stamp
+  now x e = record { time = e.stamp.time; origin = x.replica.me }
+
+  now_is : (x : Draft) (e : Entry) → e.stamp.origin ≡ k → IsGood [] x → now x e ≡ e.stamp
+  now_is x e o g = ap (λ z. record { time = e.stamp.time; origin = z }) (g.me ∙ sym o)
+
+  is_behind : (x : Draft) (e : Entry) → e.stamp.origin ≡ k → IsGood [] x → ((f : Entry) → Has w k x.replica.log f → f.epoch ≡ e.epoch → f.stamp ≡ e.stamp → ⊥) →
+      (t : Told) → Among (lines ++ seen_by act x.lines) t → (j d i place : ℕ) (v : Answer) → t.line ≡ Line.ReplyOk j d i place v →
+      (q : ℕ) (f : Entry) → slice_get list q ≡ Some f → f.epoch ≡ e.epoch → f.stamp ≡ now x e → place < q
+  is_behind x e o g newly t m j d i place v is q f at ep st = elim (among_either lines (seen_by act x.lines) t m) [
     | inr b ↦ (let z = seen_among act x.lines t b in absurd (g.quiet z.0 z.1 (subst IsReplyLine (sym is ∙ z.2) tt)))
     | inl b ↦ elim (cases_lt place q) [
       | inl lt ↦ lt
       | inr le ↦ (let within : place < length (executed (log_at w j)) = subst (IsWithin (log_at w)) is (s.holds.within t b) in
           let y = get_some (executed (log_at w j)) q (omega (arith, within, le)) in
-          let prefix = s.last.prefix j (log_at w j) (extends_then (s.grows j) (s.on j)) in
+          let prefix = s.last.prefix j (log_at w j) (extends_trans (s.grows j) (s.on j)) in
           let same_one : y.0 ≡ f = same_Some y.0 f (sym (subst (λ z. slice_get z q ≡ Some y.0) prefix.1 (get_prefix (executed (log_at w j)) prefix.0 q y.0 y.1)) ∙ at) in
           let there = executed_logged n w s.reached spelt_w.few spelt_w.messages j (log_at w j) same q f (subst (λ z. slice_get (executed (log_at w j)) q ≡ Some z) same_one y.1) in
-          absurd (newly f (inr there) ep (st ∙ stamp_is x g)))
+          absurd (newly f (inr there) ep (st ∙ now_is x e o g)))
     ]
   ]
-    where
-      stamp_is : (x : Draft) → IsGood [] x → record { time = e.stamp.time; origin = x.replica.me } ≡ e.stamp
-      stamp_is x g = ap (λ z. record { time = e.stamp.time; origin = z }) (g.me ∙ sym o)
+
+  -- it was not submitted or replied to before, and stands behind all that was answered before
+  is_late : (x : Draft) (e : Entry) → e.stamp.origin ≡ k → IsGood [] x → ((f : Entry) → Has w k x.replica.log f → f.epoch ≡ e.epoch → f.stamp ≡ e.stamp → ⊥) →
+      IsLateLine list (lines ++ seen_by act x.lines) (Line.Submit x.replica.me e.epoch e.stamp.time e.command.client e.command.number)
+  is_late x e o g newly = record {
+    submitted = λ t m h. elim (among_either lines (seen_by act x.lines) t m) [
+      | inl b ↦ (let z = s.holds.submits t b e.epoch (now x e) h in newly z.entry (inr z.logged) z.epoch (z.stamp ∙ now_is x e o g))
+      | inr b ↦ (let q = seen_among act x.lines t b in let z = g.submits q.0 q.1 e.epoch (now x e) (subst (IsSubmitOf e.epoch (now x e)) q.2 h) in newly z.entry z.has z.epoch (z.stamp ∙ now_is x e o g))
+    ];
+    replied = λ t m h. elim (among_either lines (seen_by act x.lines) t m) [
+      | inl b ↦ (let z = s.holds.replies t b e.epoch (now x e) h in newly z.entry (inr z.logged) z.epoch (z.stamp ∙ now_is x e o g))
+      | inr b ↦ (let q = seen_among act x.lines t b in g.quiet q.0 q.1 (on_is_reply list e.epoch (now x e) q.0 (subst (IsReplyOn list e.epoch (now x e)) q.2 h)))
+    ];
+    behind = is_behind x e o g newly;
+  }
 
   pub stamped_good : (a : ℕ) (e : Entry) (x y : Draft) → IsStamped a e x y → command_of (Some act) ≡ Some e.command → e.stamp.origin ≡ k → Extends (Rec.Prepare e ∷ x.replica.log) last → Extends r.log x.replica.log →
       IsGood [] x → IsGood [] y
@@ -386,6 +405,10 @@ module _ {n : ℕ} {end : World} {list : List Entry} {w u : World} {lines : List
         ]);
         known = λ p f h. subst (λ l. Has w k l f) (sym is.log) (has_more rec log f (g.known p f (subst (λ z. slice_get z p ≡ Some f) runs (subst (λ l. slice_get (executed l) p ≡ Some f) is.log h))));
         executes = λ l m z t h. subst (λ q. HasIn w k q z t) (sym is.log) (elim (line_of l m) [ inl b ↦ in_more rec log z t (g.executes l b z t h) | inr q ↦ absurd (subst (IsExecOf z t) (sym q) h) ]);
+        submits = λ l m z t h. subst (λ q. HasIn w k q z t) (sym is.log) (elim (line_of l m) [
+          | inl b ↦ in_more rec log z t (g.submits l b z t h)
+          | inr q ↦ (let i = subst (IsSubmitOf z t) (sym q) h in record { entry = e; epoch = i.0; stamp = sym (now_is x e o g) ∙ i.1; has = inl (o, inl refl) })
+        ]);
         late = subst (λ z. Each (IsLate list) lines (seen_by act z)) (sym is.lines) (subst (Each (IsLate list) lines) (sym (map-append (told_by (Some act)) x.lines (line ∷ [])))
             (each_then (IsLate list) lines (seen_by act x.lines) (seen_by act (line ∷ [])) g.late (subst (IsLateLine list (lines ++ seen_by act x.lines)) (sym (told_line act line)) (is_late x e o g newly), tt)));
         quiet = λ l m h. elim (line_of l m) [ inl b ↦ g.quiet l b h | inr q ↦ subst IsReplyLine (sym q) h ];

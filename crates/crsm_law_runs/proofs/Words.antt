@@ -10,10 +10,9 @@ use Rattle.crsm_spec.specs.Lines.{exec_line, exec_lines}
 use Rattle.crsm_spec.specs.World.{World, log_at}
 use Rattle.crsm_spec.specs.Acts.{Act}
 use Rattle.crsm_spec.specs.Run.{Told, told_by}
-use Rattle.crsm_spec.specs.Safe.{Submits, IsExecOf, AnswersAt, AreOnOneEntry}
-use Rattle.crsm_law_steps.specs.Laws.{Extends}
+use Rattle.crsm_spec.specs.Safe.{Submits, IsExecOf, IsSubmitOf, AnswersAt, AreOnOneEntry}
+use Rattle.crsm_log_facts.specs.Logs.{Extends, Logged}
 use Rattle.crsm_law_steps.specs.Happenings.{IsReached}
-use Rattle.crsm_law_epoch.specs.Seats.{Logged}
 use Rattle.crsm_law_bounds.specs.Bounds.{HasShortLogs}
 
 -- ---- the one list
@@ -57,11 +56,16 @@ IsSubmitLine _ = ⊥
 
 -- ---- what is right of a line behind others
 
--- what is submitted stands behind all that was answered before
+-- What is submitted now, in this epoch with this stamp, was not submitted or replied to before, and stands behind all that was
+-- answered before.
+pub record IsFirst (list : List Entry) (before : List Told) (x : ℕ) (s : Stamp) : Type 0 where
+  pub submitted : (u : Told) → Among before u → IsSubmitOf x s u.line → ⊥
+  pub replied : (u : Told) → Among before u → IsReplyOn list x s u.line → ⊥
+  pub behind : (u : Told) → Among before u → (j d i place : ℕ) (a : Answer) → u.line ≡ Line.ReplyOk j d i place a →
+      (q : ℕ) (e : Entry) → slice_get list q ≡ Some e → e.epoch ≡ x → e.stamp ≡ s → place < q
+
 abbrev pub IsLateLine : List Entry → List Told → Line → Type 0
-IsLateLine list before (Line.Submit k x time c m) =
-    (u : Told) → Among before u → (j d i place : ℕ) (a : Answer) → u.line ≡ Line.ReplyOk j d i place a →
-    (q : ℕ) (e : Entry) → slice_get list q ≡ Some e → e.epoch ≡ x → e.stamp ≡ record { time = time; origin = k } → place < q
+IsLateLine list before (Line.Submit k x time c m) = IsFirst list before x (record { time = time; origin = k })
 IsLateLine list before _ = Unit {0}
 
 abbrev pub IsLate : List Entry → List Told → Told → Type 0
@@ -71,7 +75,7 @@ IsLate list before t = IsLateLine list before t.line
 abbrev pub IsNew : List Told → Told → Type 0
 IsNew before t = (u : Told) → Among before u → AreOnOneEntry u.line t.line → ⊥
 
--- the entry was submitted in some line, and no execution of it told in prefix of that
+-- the entry was submitted in some line, and no execution of it told before that
 pub record IsSubmittedIn (lines : List Told) (e : Entry) : Type 0 where
   pub before : List Told
   pub told : Told

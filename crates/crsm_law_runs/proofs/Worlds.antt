@@ -13,23 +13,18 @@ use Rattle.crsm_spec.specs.Step.{Input, step}
 use Rattle.crsm_spec.specs.World.{Site, World, log_at}
 use Rattle.crsm_spec.specs.Acts.{Act}
 use Rattle.crsm_spec.specs.Run.{Told, told_by}
-use Rattle.crsm_spec.specs.Safe.{IsExecOf}
-use Rattle.crsm_law_steps.specs.Laws.{Extends, same, more, LogsGoOn}
-use Rattle.crsm_law_epoch.specs.Seats.{Logged}
+use Rattle.crsm_spec.specs.Safe.{IsExecOf, IsSubmitOf}
+use Rattle.crsm_log_facts.specs.Logs.{Extends, same, more, Logged}
+use Rattle.crsm_law_steps.specs.Laws.{LogsGoOn}
 use Rattle.crsm_law_decisions.proofs.Coordinators.{extends_among}
-use Rattle.crsm_law_runs.proofs.Each.{Each, each_then, each_all}
+use Rattle.crsm_law_runs.proofs.Each.{Each, each_then, each_all, each_from, each_take, among_prefix}
 use Rattle.crsm_law_runs.proofs.Effects.{IsPlain, ArePlain}
 use Rattle.crsm_law_runs.proofs.Words.{IsRight, IsReplyOn, IsReplyLine, IsSubmitLine, IsLate, IsLateLine, IsNew, IsSubmittedIn, submitted_more, seen_by}
-use Rattle.crsm_law_runs.proofs.LineKinds.{late_other, one_replies, Kind, Plain, Exec, Submit, Ok, Dropped, kind_of_line}
-use Rattle.crsm_law_runs.proofs.Holds.{HasStamp, AreApart, Wait, Holds, Stepping, Has, HasIn, IsHere, IsWithin, reply_lines}
+use Rattle.crsm_law_runs.proofs.LineKinds.{late_other, of_submit, on_is_reply, one_replies, Kind, Plain, Exec, Submit, Ok, Dropped, kind_of_line, plain_right}
+use Rattle.crsm_law_runs.proofs.Holds.{HasStamp, AreApart, Wait, Holds, Stepping, Has, HasIn, IsHere, IsWithin, reply_lines, within_longer, here_within, other_within}
 use Rattle.crsm_law_runs.proofs.Drafts.{among_left, among_right, among_either, among_unmap, seen_among}
-use Rattle.crsm_law_runs.proofs.Steps.{last, IsGood}
-use Rattle.crsm_law_runs.proofs.Each.{each_from, each_take, among_prefix}
-use Rattle.crsm_law_runs.proofs.LineKinds.{plain_right}
-use Rattle.crsm_law_runs.proofs.Holds.{within_longer, here_within, other_within}
+use Rattle.crsm_law_runs.proofs.Steps.{last, IsGood, seen_more}
 use Rattle.crsm_law_runs.proofs.Ends.{step_good}
-use Rattle.crsm_law_runs.proofs.LineKinds.{plain_right}
-use Rattle.crsm_law_runs.proofs.Steps.{seen_more}
 
 -- ---- plain lines
 
@@ -52,27 +47,6 @@ says_nothing l p = go l (kind_of_line l) p
     go _ (Submit a b c d e) h = absurd h
     go _ (Ok a b c d e) h = absurd h
     go _ (Dropped a b c d e) h = absurd h
-
--- a line that replies on an entry is a reply
-pub on_is_reply : (list : List Entry) (x : ℕ) (t : Stamp) (l : Line) → IsReplyOn list x t l → IsReplyLine l
-on_is_reply list x t (Line.Boot a0 a1) h = absurd h
-on_is_reply list x t (Line.Submit a0 a1 a2 a3 a4) h = absurd h
-on_is_reply list x t (Line.Log a0 a1 a2) h = absurd h
-on_is_reply list x t (Line.Exec a0 a1 a2 a3 a4 a5 a6) h = absurd h
-on_is_reply list x t (Line.Suspend a0 a1) h = absurd h
-on_is_reply list x t (Line.Promise a0 a1 a2 a3) h = absurd h
-on_is_reply list x t (Line.Accept a0 a1 a2 a3) h = absurd h
-on_is_reply list x t (Line.Decide a0 a1 a2 a3 a4) h = absurd h
-on_is_reply list x t (Line.Enter a0 a1) h = absurd h
-on_is_reply list x t (Line.TooMany a0 a1 a2 a3) h = absurd h
-on_is_reply list x t (Line.Send a0 a1 a2 a3 a4) h = absurd h
-on_is_reply list x t (Line.ReplyOk a0 a1 a2 a3 a4) h = tt
-on_is_reply list x t (Line.ReplyNo a0 a1 a2 a3) h = absurd h
-on_is_reply list x t (Line.ReplyDropped a0 a1 a2 a3 a4) h = tt
-on_is_reply list x t (Line.Down a0) h = absurd h
-on_is_reply list x t (Line.Final a0 a1 a2 a3) h = absurd h
-on_is_reply list x t (Line.Out a0 a1) h = absurd h
-on_is_reply list x t (Line.Back a0 a1) h = absurd h
 
 -- a reply from here is on an own entry
 reply_origin : (end : World) (list : List Entry) (k : ℕ) (log : Log) (x : ℕ) (t : Stamp) (l : Line) → IsRight end list l → IsHere k log l → IsReplyOn list x t l → t.origin ≡ k
@@ -228,6 +202,7 @@ module _ {n : ℕ} {end : World} {list : List Entry} {w u : World} {lines : List
         | inr ne ↦ submitted_more lines (seen_by act all) e (s.holds.submitted j e (subst (λ l. Logged l e) (s.others j ne) h) o)
       ];
       executes = λ t a y v h. elim (told_of t a) [ inl b ↦ stamp_later w u y v s.grows (s.holds.executes t b y v h) | inr b ↦ executes_of t.line b y v h ];
+      submits = λ t a y v h. elim (told_of t a) [ inl b ↦ stamp_later w u y v s.grows (s.holds.submits t b y v h) | inr b ↦ submits_of t.line b y v h ];
       replies = λ t a y v h. elim (told_of t a) [ inl b ↦ stamp_later w u y v s.grows (s.holds.replies t b y v h) | inr b ↦ (replies_of t.line b y v h).0 ];
       late = late_all;
       once = once_all;
@@ -268,6 +243,11 @@ module _ {n : ℕ} {end : World} {list : List Entry} {w u : World} {lines : List
         executes_of l (Record a) y v h = stamp_here y v (good.executes l a y v h)
         executes_of l (Other p) y v h = absurd ((says_nothing l p).exec y v h)
         executes_of l (Answer a m e) y v h = absurd ((good.answers a m).3 y v (subst (IsExecOf y v) (sym e) h))
+
+        submits_of : (l : Line) → Of l → (y : ℕ) (v : Stamp) → IsSubmitOf y v l → HasStamp u y v
+        submits_of l (Record a) y v h = stamp_here y v (good.submits l a y v h)
+        submits_of l (Other p) y v h = absurd ((says_nothing l p).submit (of_submit y v l h))
+        submits_of l (Answer a m e) y v h = absurd ((good.answers a m).2 (of_submit y v a.line (subst (IsSubmitOf y v) (sym e) h)))
 
         replies_of : (l : Line) → Of l → (y : ℕ) (v : Stamp) → IsReplyOn list y v l → HasStamp u y v × (v.origin ≡ k)
         replies_of l (Record a) y v h = absurd (good.quiet l a (on_is_reply list y v l h))

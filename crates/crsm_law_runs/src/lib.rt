@@ -4,7 +4,7 @@
 ghost use Rattle.crsm_spec.specs.Safe.{IsSafe};
 ghost use Rattle.crsm_law_runs.specs.Laws.{AnsweredAreKept};
 ghost use Rattle.crsm_law_runs.specs.Runs.{WorldsAreOnTheWay, ListIsOne};
-ghost use Rattle.crsm_law_runs.specs.DurableLaws.{DecisionsAlwaysAgree, ExecutedAreDurable};
+ghost use Rattle.crsm_law_runs.specs.DurableLaws.{DecisionsAlwaysAgree, DecisionsAreChosen, ExecutedAreDurable};
 
 /// Of every possible run of 1 to 15 replicas: its executed lists agree, its answers are right, and it keeps real time.
 pub fn runs_are_safe()
@@ -30,6 +30,12 @@ pub fn list_is_one()
 /// Decisions of one epoch are equal, and what each begins its epoch with agrees with the one list.
 pub fn decisions_always_agree()
     ensures { DecisionsAlwaysAgree }
+{}
+
+/// Each decision that is kept was accepted in one ballot by a majority of the replica set of the epoch before it, all of whom
+/// hold the entries that it stands on.
+pub fn decisions_are_chosen()
+    ensures { DecisionsAreChosen }
 {}
 
 /// An entry that some replica has executed is kept by a majority from then on, at its place, and each later epoch begins with

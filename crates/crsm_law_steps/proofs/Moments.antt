@@ -19,8 +19,11 @@ use Rattle.crsm_law_steps.specs.Happenings.{Marks, Ends, Happens, GoOn}
 use Rattle.crsm_law_steps.specs.Happenings.Marks.{none, mark}
 use Rattle.crsm_law_steps.specs.Happenings.Ends.{IsWhole, IsCut, IsLost}
 use Rattle.crsm_law_steps.specs.Happenings.Happens.{Nothing, Steps, Junk, Stops, Joins, Starts}
-use Rattle.crsm_law_steps.specs.Laws.{Extends, same, more, LogsGoOn, KeptBeforeSent, IgnoredInputsEnd}
-use Rattle.crsm_law_steps.proofs.Logs.{extends_then, steps_grow}
+use Rattle.crsm_log_facts.specs.Logs.{Extends, same, more}
+use Rattle.crsm_law_steps.specs.Laws.{LogsGoOn, KeptBeforeSent}
+use Rattle.crsm_step_facts.specs.Steps.{IgnoredInputsEnd}
+use Rattle.crsm_log_facts.proofs.Logged.{extends_trans}
+use Rattle.crsm_step_facts.proofs.Logs.{steps_grow}
 use Rattle.crsm_law_steps.proofs.Happen.{run_happens}
 
 -- ---- one place of a list
@@ -61,7 +64,7 @@ unfolding log_at
 stays v w e j = subst (λ ss. Extends (option_map_or log_of (slice_get v.sites j) []) (option_map_or log_of (slice_get ss j) [])) (sym e) same
 
 pub on_then : (u v w : World) → LogsGoOn u v → LogsGoOn v w → LogsGoOn u w
-on_then u v w p q k = extends_then (p k) (q k)
+on_then u v w p q k = extends_trans (p k) (q k)
 
 goes_down : (w : World) (k : ℕ) → LogsGoOn w (down w k).after
 unfolding down with_site log_at log_of
@@ -159,17 +162,3 @@ unfolding whole_step cut_step lost_step then_down after_step down with_site log_
 kept_before_sent w k r input reading m lt IsWhole = inl (ap (λ o. option_map_or log_of o []) (set_there w.sites k (Site.Up (step r input reading).replica) lt))
 kept_before_sent w k r input reading m lt (IsCut count) = inl (ap (λ o. option_map_or log_of o []) (set_there w.sites k (Site.Down (step r input reading).replica.log) lt))
 kept_before_sent w k r input reading m lt IsLost = inr (refl, refl)
-
--- ---- inputs that are ignored
-
-pub ignored_inputs_end : IgnoredInputsEnd
-unfolding step if_fitting when◌then◌otherwise◌
-ignored_inputs_end r input reading (inl e) = ap (λ y. replies (commits (idle_at input reading (owed_oks reading y)))) (go (on_input input reading (begun r)) e)
-  where
-    go : (y : Draft) → y ≡ begun r → (when y.fitting then y otherwise begun r) ≡ begun r
-    go y e = either_way y.fitting y e
-      where
-        either_way : (c : Bool) (y : Draft) → y ≡ begun r → (when c then y otherwise begun r) ≡ begun r
-        either_way true y e = e
-        either_way false y e = refl
-ignored_inputs_end r input reading (inr e) = ap (λ y. replies (commits (idle_at input reading (owed_oks reading y)))) (ap (λ c. when c then on_input input reading (begun r) otherwise begun r) e ∙ refl)

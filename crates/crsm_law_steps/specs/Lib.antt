@@ -1,4 +1,2 @@
-pub mod Messages
-pub mod Changes
 pub mod Happenings
 pub mod Laws

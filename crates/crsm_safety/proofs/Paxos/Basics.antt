@@ -5,7 +5,7 @@ use Rattle.std.proofs.lemmas.Bool.Decides.{nat_tests}
 use Rattle.std.proofs.lemmas.List.Elements.{Contains-push_cases, Contains-append_left, Contains-append_right}
 use Rattle.crsm_base.specs.declared.stamp.Ballot.{Ballot}
 use Rattle.crsm_base.specs.Order.{ballot_lt}
-use Rattle.crsm_spec.specs.BallotOrder.{ballot_eq_is}
+use Rattle.crsm_base.proofs.Orders.{ballot_eq_is}
 use Rattle.crsm_spec.specs.Paxos.{Held, Promise, Vote, Proposal, Instance, PaxosStep, after_step}
 use Rattle.crsm_spec.specs.Paxos.PaxosStep.{Promises, Accepts, Proposes}
 use Rattle.crsm_spec.specs.Proposing.{Proposing, is_heard}

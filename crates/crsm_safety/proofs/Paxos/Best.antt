@@ -7,7 +7,7 @@ use Rattle.std.proofs.lemmas.List.Elements.{Contains-push, Contains-push_cases, 
 use Rattle.crsm_base.specs.declared.stamp.Ballot.{Ballot}
 use Rattle.crsm_base.specs.Order.{ballot_lt}
 use Rattle.crsm_spec.specs.Paxos.{Answer, Found, Held, IsGreatest, better_answer, better_held, better, best_of, counts_before}
-use Rattle.crsm_spec.specs.BallotOrder.{below-irrefl, le_trans, below_not_back, same_from_both}
+use Rattle.crsm_base.proofs.Orders.{below-irrefl, le_trans, below_not_back, same_from_both}
 
 module _ (D : Type 0) where
   abbrev pub IsBest : List (Answer D) → Option (Found D) → Type 0

@@ -8,7 +8,7 @@ use Rattle.crsm_base.specs.declared.stamp.Ballot.{Ballot}
 use Rattle.crsm_base.specs.Order.{ballot_lt}
 use Rattle.crsm_spec.specs.Paxos.{Held, Acceptance, Answer, Promise, Vote, Proposal, Instance, Found, best_of, value_of, value_of_best, IsMajority, PaxosStep, MayPromise, MayAccept, MayPropose, MayTake, with_acceptor, after_promise, after_accept, after_step, after_steps, fresh, IsRun, IsChosen}
 use Rattle.crsm_spec.specs.Paxos.PaxosStep.{Promises, Accepts, Proposes}
-use Rattle.crsm_spec.specs.BallotOrder.{below-irrefl, below_trans, le_trans, below_le, le_below, below_not_back, compare}
+use Rattle.crsm_base.proofs.Orders.{below-irrefl, below_trans, le_trans, below_le, le_below, below_not_back, compare}
 use Rattle.crsm_safety.proofs.Paxos.Majority.{nat_eq_is, majorities_share, majority_has}
 use Rattle.crsm_safety.proofs.Paxos.Best.{IsBest, best_is}
 

@@ -9,7 +9,7 @@ use Rattle.crsm_base.specs.declared.stamp.Ballot.{Ballot}
 use Rattle.crsm_spec.specs.Paxos.{Held, Answer, Instance, best_of, better_answer, better_held, value_of, value_of_best, IsMajority, PaxosStep, MayPropose, after_step, fresh, IsChosen, majority}
 use Rattle.crsm_spec.specs.Paxos.PaxosStep.{Promises, Accepts, Proposes}
 use Rattle.crsm_base.specs.Order.{ballot_eq}
-use Rattle.crsm_spec.specs.BallotOrder.{ballot_eq_is}
+use Rattle.crsm_base.proofs.Orders.{ballot_eq_is}
 use Rattle.crsm_spec.specs.Proposing.{Proposing, start_proposing, value_proposed, is_heard, counts_answer, counts_vote, after_answer, after_p1b, after_p2b, makes_majority}
 use Rattle.crsm_spec.specs.Following.{IsReached, IsUnused, IsOther, Follows}
 use Rattle.crsm_safety.proofs.Paxos.Basics.{both, not_true}

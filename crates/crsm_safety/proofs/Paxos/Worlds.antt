@@ -5,7 +5,7 @@ use Rattle.std.proofs.lemmas.Bool.Decides.{nat_tests}
 use Rattle.std.proofs.lemmas.List.Elements.{Contains-push_cases, Contains-append_cases, Contains-push}
 use Rattle.crsm_base.specs.declared.stamp.Ballot.{Ballot}
 use Rattle.crsm_base.specs.Order.{ballot_lt}
-use Rattle.crsm_spec.specs.BallotOrder.{ballot_eq_is, below-irrefl, le_trans, below_not_back, same_from_both}
+use Rattle.crsm_base.proofs.Orders.{ballot_eq_is, below-irrefl, le_trans, below_not_back, same_from_both}
 use Rattle.crsm_spec.specs.Paxos.{Held, Acceptance, Proposal, Instance, fresh_acceptance, after_promise, after_accept, PaxosStep, MayTake, MayAccept, after_step, fresh, IsChosen, majority}
 use Rattle.crsm_spec.specs.Paxos.PaxosStep.{Promises, Accepts, Proposes}
 use Rattle.crsm_spec.specs.Proposing.{Proposing, start_proposing, value_proposed, is_heard, counts_answer, counts_vote, after_answer, makes_majority}

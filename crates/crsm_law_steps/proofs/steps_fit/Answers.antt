@@ -1,5 +1,0 @@
-use Rattle.crsm_law_steps.proofs.Logs.{steps_fit}
-use Rattle.crsm_law_steps.proofs.steps_fit.Goals as goal
-
-pub returns : goal.returns
-returns c r input reading h = steps_fit r input reading h

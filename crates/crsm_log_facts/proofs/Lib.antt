@@ -1,0 +1,12 @@
+pub mod Lists
+pub mod Tests
+pub mod Sorted
+pub mod Logged
+pub mod Union
+pub mod Merge
+pub mod Pages
+pub mod Collected
+pub mod EntriesFit
+pub mod LogsFit
+pub mod DecisionsFit
+pub mod Known
