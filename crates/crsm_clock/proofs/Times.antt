@@ -15,7 +15,7 @@ pub issue_next : (last reading : ℕ) → last < u64_max → issue last reading 
 unfolding issue
 issue_next last reading below = let e : (last == u64_max) ≡ false = grind (arith, nat_tests) in rw e refl
 
--- one more number in prefix
+-- one more number in front
 more : (x y : ℕ) (ys : List ℕ) → x < y → IsStrictlyIncreasing (y ∷ ys) → IsStrictlyIncreasing (x ∷ y ∷ ys)
 more x y ys above rises zero within = above
 more x y ys above rises (suc k) within = let e : suc k + 1 ≡ suc (k + 1) = omega arith in rw e (rises k (omega arith))

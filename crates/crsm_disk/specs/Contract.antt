@@ -11,11 +11,12 @@ pub record Goes (step : List ℕ → List ℕ → Type 0) (old new : Meaning) : 
   pub follows : (c : List ℕ) → new.may_leave c → (d : List ℕ) × old.may_leave d × step d c
   pub time : Elapses old new
 
--- Whatever a call does, honesty and the fill stay and the count does not fall. It fails only where the count rose,
--- and where it tells that, and the room serves, exactly where no further call goes well.
+-- Whatever a call does, honesty, the fill and the name of a reference stay and the count does not fall. It fails only
+-- where the count rose, and where it tells that, and the room serves, exactly where no further call goes well.
 pub record Answers {T : Type 0} (calls bytes : ℕ) (old new : Meaning) (result : Result T Failed) : Type 0 where
   pub honest : new.honest ≡ old.honest
   pub fill : new.fill ≡ old.fill
+  pub lent : new.lent ≡ old.lent
   pub later : old.faults ≤ new.faults
   pub failed : OnErr result (Rose old.faults new.faults)
   pub plan : Spends calls bytes old.plan new.plan result

@@ -20,6 +20,8 @@ pub record Meaning : Type 1 where
   -- what the image of a stopped disk holds in the ranges that were not synced
   pub fill : Option ℕ
   pub faults : ℕ
+  -- the name of the reference that it is lent by
+  pub lent : Option ℕ
   -- a disk as it reads is one of its images
   pub as_read : IsTrue honest → may_leave seen
   -- the calls that are told make what is read
@@ -54,3 +56,4 @@ pub record Same (old new : Meaning) : Type 0 where
   pub left : (t : ℕ) (c : List ℕ) → new.left_since t c ↔ old.left_since t c
   pub history : new.history ≡ old.history
   pub honest : new.honest ≡ old.honest
+  pub lent : new.lent ≡ old.lent

@@ -1,5 +1,5 @@
 -- A disk in memory.
-use Rattle.std.specs.Prelude.{ℕ, List, length, Option, Some, true}
+use Rattle.std.specs.Prelude.{ℕ, List, length, Option, Some, None, true}
 use Rattle.crsm_faults.specs.Failing.{Failing, good_of, least}
 use Rattle.crsm_image.specs.Calls.{Call, contents}
 use Rattle.crsm_image.specs.Image.{IsImage, IsLeftSince}
@@ -34,6 +34,7 @@ meaning_of m = record {
   plan = Some (record { calls = m.room_calls; bytes = m.room_bytes; good = good_left m });
   fill = Some m.fill;
   faults = m.faults;
+  lent = None;
   as_read = λ _. reads_image m.first m.calls;
   as_told = told_makes m.first m.calls;
   counts_now = counts_now_lem m.first m.calls;

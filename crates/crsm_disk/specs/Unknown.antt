@@ -15,6 +15,7 @@ unknown faults = record {
   plan = None;
   fill = None;
   faults = faults;
+  lent = None;
   as_read = false≢true;
   as_told = not_told;
   counts_now = λ t c le left. left;

@@ -1,6 +1,6 @@
 //! A disk, what is read of it, and what a crash may leave of it.
 
-ghost use Rattle.std.specs.Prelude.{◌≡◌, ◌+◌, ◌-◌, ◌≤◌, length, take, IsTrue, IfOk, OnOk, is_ok, if◌then◌else◌};
+ghost use Rattle.std.specs.Prelude.{◌≡◌, ◌+◌, ◌-◌, ◌≤◌, length, take, IsTrue, IfOk, OnOk, is_ok, Some, if◌then◌else◌};
 ghost use Rattle.crsm_image.specs.Bytes.{overwritten, Torn, Shortened, ReadsAt};
 ghost use Rattle.crsm_image.specs.Calls.{wrote, cut, synced, noted};
 ghost use Rattle.crsm_disk.specs.Contract.{Answers, Arms, Goes, Reserves};
@@ -59,7 +59,7 @@ pub trait Disk {
 }
 
 impl<D: Disk> Disk for &mut D {
-    ghost meaning = { λ d. D.meaning d.now };
+    ghost meaning = { λ d. record (D.meaning d.now) { lent = Some d.ghost_name } };
 
     fn len(&mut self) -> Result<u64, Failed> {
         (**self).len()

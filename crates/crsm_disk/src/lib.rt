@@ -6,9 +6,7 @@ mod disk;
 mod file;
 mod memory;
 mod record;
-#[cfg(test)]
-mod tests;
 
 pub use disk::Disk;
-pub use file::FileDisk;
+pub use file::{FileDisk, OpenError};
 pub use memory::MemDisk;

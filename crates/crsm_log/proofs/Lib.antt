@@ -1,7 +1,9 @@
+mod Claims
 mod Crash
 mod Entries
 mod Mounts
 mod Puts
 mod Quiet
+mod Reading
 mod Runs
 mod Stops

@@ -1,23 +1,28 @@
 -- What a mount leaves of a disk.
-use Rattle.std.proofs.Common.{◌≡◌, inr, ℕ, ◌+◌, ◌-◌, ◌<◌, List, [], ◌∷◌, ◌++◌, length, get_or, drop, replicate, refl, sym, ◌∙◌, ap, subst, arith, length-drop}
+use Rattle.std.proofs.Common.{◌≡◌, ◌≤◌, IsTrue, inl, inr, false, ℕ, ◌+◌, ◌-◌, ◌<◌, List, [], ◌∷◌, ◌++◌, length, get_or, drop, replicate, refl, sym, ◌∙◌, ap, subst, arith, length-drop}
 use Rattle.std.specs.Prelude.{Option, Some, None}
+use Rattle.std.proofs.lemmas.Bool.Decides.{nat_tests}
+use Rattle.crsm_log.specs.declared.entry.Held.{Held}
+use Rattle.crsm_log.specs.First.{ReadsFile, all_entries}
+use Rattle.crsm_log.specs.Claim.{Holds}
 use Rattle.crsm_image.specs.Bytes.{Torn, overwritten}
 use Rattle.crsm_image.specs.Calls.{History, noted, synced, wrote}
 use Rattle.crsm_faults.specs.Failing.{one_less}
 use Rattle.crsm_faults.specs.Plan.{Plan, spent}
 use Rattle.crsm_disk.specs.Meaning.{Meaning, LeavesOnly, Only}
 use Rattle.crsm_disk.proofs.Moments.{joined, weaker}
-use Rattle.crsm_log.specs.Format.{found, reading, bodies_in, size}
-use Rattle.crsm_log.specs.Log.{IsAsBefore, IsSettled, Serves, Used, less, recorded}
+use Rattle.crsm_log.specs.Format.{bad, broken, found, reading, reading_in, bodies_in, cluster_among, cluster_of, entries_in, gate_in, items_of, size, whole}
+use Rattle.crsm_log.specs.Log.{Fetches, Goes, IsAsBefore, IsSettled, Mounts, Serves, Used, less, mount_calls, mount_count, recorded}
+use Rattle.crsm_log.proofs.Puts.{whole_reading}
 use Rattle.crsm_log.proofs.Quiet.{noted_quiet, pair_quiet}
-use Rattle.crsm_log.proofs.Crash.{reading_short}
+use Rattle.crsm_log.proofs.Crash.{items_long, items_short}
 
 -- a short file gets a closed gate
 module _ (m0 m1 m2 : Meaning) (short : length m0.seen < 6) (same : m1.seen ≡ m0.seen) where
   pub short_leaves : LeavesOnly m0 m1 (IsAsBefore m0) → LeavesOnly m1 m2 (Torn 0 1 m1.seen) → LeavesOnly m0 m2 (IsAsBefore m0)
   short_leaves first second =
       joined m0 m1 m2 (IsAsBefore m0) first
-      (weaker m1 m2 (Torn 0 1 m1.seen) (IsAsBefore m0) second (λ c torn. inr (reading_short c (omega (arith, torn.no_longer, ap length same, short)) ∙ sym (reading_short m0.seen short))))
+      (weaker m1 m2 (Torn 0 1 m1.seen) (IsAsBefore m0) second (λ c torn. inr (items_short c (omega (arith, torn.no_longer, ap length same, short)) ∙ sym (items_short m0.seen short))))
 
   abbrev after : List ℕ
   after = 0 ∷ drop 1 m1.seen
@@ -25,14 +30,14 @@ module _ (m0 m1 m2 : Meaning) (short : length m0.seen < 6) (same : m1.seen ≡ m
   pub gate_written : m2.seen ≡ overwritten m1.seen 0 (0 ∷ []) → m2.seen ≡ 0 ∷ drop 1 m1.seen
   gate_written is = is ∙ (let e : 0 - length m1.seen ≡ 0 = omega arith in ap (λ (k : ℕ). replicate k 0 ++ (0 ∷ []) ++ drop 1 m1.seen) e)
 
-  pub short_settles : m2.seen ≡ overwritten m1.seen 0 (0 ∷ []) → Only m2.seen m2.may_leave → m2.history ≡ recorded (wrote 0 (0 ∷ []) ∷ synced ∷ []) m1.history → IsSettled m2 0 × (reading m2.seen ≡ found [])
+  pub short_settles : m2.seen ≡ overwritten m1.seen 0 (0 ∷ []) → Only m2.seen m2.may_leave → m2.history ≡ recorded (wrote 0 (0 ∷ []) ∷ synced ∷ []) m1.history → IsSettled m2 0 × (items_of m2.seen ≡ whole [])
   short_settles is only told =
       let at = gate_written is in
       let small : length m2.seen < 6 = omega (arith, ap length at, length-drop 1 m1.seen, ap length same, short) in
-      let none = reading_short m2.seen small in (
+      let none = items_short m2.seen small in (
         record {
-          whole = none ∙ sym (ap (λ r. found (bodies_in r)) none);
-          place = ap (λ r. size (bodies_in r)) (sym none);
+          whole = whole_reading m2.seen [] none;
+          place = sym (ap (λ i. size (entries_in i)) none);
           inside = omega (arith, ap length at);
           shut = let z : get_or m2.seen 0 0 ≡ 0 = ap (λ (l : List ℕ). get_or l 0 0) at in λ one. absurd (omega (arith, z, one));
           durable = only;
@@ -42,14 +47,71 @@ module _ (m0 m1 m2 : Meaning) (short : length m0.seen < 6) (same : m1.seen ≡ m
       )
 
 -- a longer one is settled as it is
-pub long_settles : (m : Meaning) (bs : List (List ℕ)) (end : ℕ) → reading m.seen ≡ found bs → end ≡ size bs → end < length m.seen → (get_or m.seen end 0 ≡ 1 → ⊥) → Only m.seen m.may_leave → (before : Option History) → m.history ≡ noted synced before → IsSettled m end
+pub long_settles : (m : Meaning) (bs : List (List ℕ)) (end : ℕ) → reading m.seen ≡ found bs → end ≡ gate_in m.seen → end < length m.seen → (get_or m.seen end 0 ≡ 1 → ⊥) → Only m.seen m.may_leave → (before : Option History) → m.history ≡ noted synced before → IsSettled m end
 long_settles m bs end read place inside shut only before told = record {
   whole = read ∙ sym (ap (λ r. found (bodies_in r)) read);
-  place = place ∙ ap (λ r. size (bodies_in r)) (sym read);
+  place = place;
   inside = inside;
   shut = shut;
   durable = only;
   quiet = noted_quiet m.history before told;
+}
+
+-- a whole file of 6 bytes or more
+module _ (k b : ℕ) (m0 m1 : Meaning) (file : List ℕ) (held : Held) (long : 6 ≤ length file) (fetch : Fetches k b m0 m1 file) (r : ReadsFile file held) where
+  all_of : items_of file ≡ all_entries false file
+  all_of = items_long file long
+
+  file_reads : reading file ≡ found held.bodies
+  file_reads = ap reading_in (items_long file long) ∙ r.read
+
+  long_seen : IsTrue m0.honest → 6 ≤ length m0.seen
+  long_seen honest = omega (arith, ap length (fetch.read honest), long)
+
+  one_sync : (l : List ℕ) → 6 ≤ length l → mount_calls l ≡ synced ∷ []
+  one_sync l le = grind (arith, nat_tests)
+
+  three : (l : List ℕ) → 6 ≤ length l → mount_count l ≡ 3
+  three l le = grind (arith, nat_tests)
+
+  pub long_mounts : Goes m0 m1 → (IsTrue m0.honest → LeavesOnly m0 m1 (IsAsBefore m0)) → Mounts m0 m1 held.gate held.bodies
+  long_mounts goes moments = record {
+    goes = goes;
+    settled = λ honest.
+        let at : m1.seen ≡ file = fetch.seen honest ∙ sym (fetch.read honest) in
+        let shut = r.shut (omega (arith, long)) in
+        long_settles m1 held.bodies held.gate (ap reading at ∙ file_reads)
+        (sym (ap gate_in at ∙ ap (λ i. size (entries_in i)) (items_long file long) ∙ r.place))
+        (omega (arith, shut.0, ap length at))
+        (λ one. shut.1 (ap (λ (l : List ℕ). get_or l held.gate 0) (sym at) ∙ one))
+        (fetch.durable honest) m0.history fetch.history;
+    read = λ honest. ap reading (sym (fetch.read honest)) ∙ file_reads;
+    kept = λ honest. ap reading (fetch.seen honest ∙ sym (fetch.read honest)) ∙ file_reads;
+    cluster = λ honest. ap cluster_of (fetch.seen honest);
+    gate = λ honest. sym (ap gate_in (sym (fetch.read honest)) ∙ ap (λ i. size (entries_in i)) (items_long file long) ∙ r.place);
+    any_moment = moments;
+    history = λ honest. fetch.history ∙ ap (λ calls. recorded calls m0.history) (sym (one_sync m0.seen (long_seen honest)));
+    good = λ honest p is.
+        let room = fetch.plan p is in
+        let U : ℕ → Type 0 = λ n. Used n p m1.plan in
+        subst U (sym (three m0.seen (long_seen honest))) (record { served = room.3; left = (room.0, room.1, room.2) });
+  }
+
+  pub long_holds : IsTrue m0.honest → Holds m0 m1 held
+  long_holds honest = record {
+    cluster = ap cluster_of (sym (fetch.read honest)) ∙ ap (λ i. cluster_among (entries_in i)) (items_long file long) ∙ r.cluster;
+    gate = ap gate_in (sym (fetch.read honest)) ∙ ap (λ i. size (entries_in i)) (items_long file long) ∙ r.place;
+    unwritten = inl (fetch.seen honest);
+  }
+
+pub long_bad : (file seen : List ℕ) (entry : ℕ) → 6 ≤ length file → file ≡ seen → all_entries false file ≡ broken entry → reading seen ≡ bad entry
+long_bad file seen entry long is broken_is = ap reading (sym is) ∙ ap reading_in (items_long file long ∙ broken_is)
+
+pub short_holds : (m0 m2 : Meaning) (held : Held) → length m0.seen < 6 → held.gate ≡ 0 → held.cluster ≡ None → Holds m0 m2 held
+short_holds m0 m2 held short gate cluster = record {
+  cluster = ap (λ i. cluster_among (entries_in i)) (items_short m0.seen short) ∙ sym cluster;
+  gate = ap (λ i. size (entries_in i)) (items_short m0.seen short) ∙ sym gate;
+  unwritten = inr (gate, cluster);
 }
 
 pub three_more : (good : Option ℕ) (k : ℕ) → Serves 3 good → less 3 good ≡ Some k → good ≡ Some (3 + k)

@@ -1,6 +1,6 @@
 -- Two calls of a disk that change it, and what a log says of them.
-use Rattle.std.proofs.Common.{◌<◌, ◌≡◌, ◌↔◌, ℕ, zero, suc, ◌-◌, List, [], ◌∷◌, ◌++◌, drop, length, take, min, Result, Ok, Err, IsErr, refl, sym, ◌∙◌, ap, subst, arith}
-use Rattle.std.specs.Prelude.{Option, Some, None}
+use Rattle.std.proofs.Common.{◌<◌, ◌≤◌, ◌≡◌, ◌↔◌, ℕ, zero, suc, ◌-◌, List, [], ◌∷◌, ◌++◌, drop, length, take, min, Result, Ok, Err, IsErr, refl, sym, ◌∙◌, ap, subst, arith}
+use Rattle.std.specs.Prelude.{Option, Some, None, OnOk}
 use Rattle.crsm_base.specs.declared.memory.Failed.{Failed}
 use Rattle.crsm_faults.specs.Failing.{one_less}
 use Rattle.crsm_faults.specs.Plan.{HasRoom, Plan, spent}
@@ -35,7 +35,7 @@ not_zero good x iff is = let e = iff.1 is in cc
 
 module _ {T : Type 0} (first second : Call) (bytes : ℕ) (old mid new : Meaning) (x : T) (one : Answers 1 bytes old mid (Ok x)) (told : mid.history ≡ noted first old.history) where
   goes : {r : Result T Failed} → Answers 1 0 mid new r → Goes old new
-  goes two = record { honest = two.honest ∙ one.honest; fill = two.fill ∙ one.fill; later = omega (arith, one.later, two.later) }
+  goes two = record { honest = two.honest ∙ one.honest; fill = two.fill ∙ one.fill; lent = two.lent ∙ one.lent; later = omega (arith, one.later, two.later) }
 
   served : (p : Plan) → old.plan ≡ Some p → HasPlace 2 bytes p → Serves 1 p.good
   served p is place = serves_one p.good (not_zero p.good x (one.plan.exact p is (omega arith) place.1))
@@ -141,7 +141,7 @@ module _ {T : Type 0} (c1 c2 c3 c4 : Call) (serves : Plan → Type 0) (old : Mea
 
   module _ (place2 : (p : Plan) → serves p → HasPlace 2 b2 (spent 1 0 (spent 1 b1 p))) (mid new : Meaning) (x : T) (r1 : Ran (c1 ∷ c2 ∷ []) (HasPlace 2 b1) old mid (Ok x)) (left : (p : Plan) → old.plan ≡ Some p → mid.plan ≡ Some (spent 1 0 (spent 1 b1 p))) where
     both_go : Goes mid new → Goes old new
-    both_go g = record { honest = g.honest ∙ r1.goes.honest; fill = g.fill ∙ r1.goes.fill; later = omega (arith, g.later, r1.goes.later) }
+    both_go g = record { honest = g.honest ∙ r1.goes.honest; fill = g.fill ∙ r1.goes.fill; lent = g.lent ∙ r1.goes.lent; later = omega (arith, g.later, r1.goes.later) }
 
     pub second_pair_fails : (f : Failed) → Ran {T = T} (c3 ∷ c4 ∷ []) (HasPlace 2 b2) mid new (Err f) → Ran {T = T} (c1 ∷ c2 ∷ c3 ∷ c4 ∷ []) serves old new (Err f)
     second_pair_fails f r = record {
@@ -167,12 +167,12 @@ module _ {T : Type 0} (c1 c2 c3 c4 : Call) (serves : Plan → Type 0) (old : Mea
     }
 
 -- what a plan says of the calls of a mount: a sync, the length, a read
-module _ {A : Type 0} (m1 m2 : Meaning) (p q : Plan) (room : m1.plan ≡ Some q) (has : HasRoom 3 1 p q) (x : A) (sync : Answers 1 0 m1 m2 (Ok x)) where
+module _ {A : Type 0} (m1 m2 : Meaning) (calls bytes : ℕ) (some : 1 ≤ calls) (p q : Plan) (room : m1.plan ≡ Some q) (has : HasRoom calls bytes p q) (x : A) (sync : Answers 1 0 m1 m2 (Ok x)) where
   sync_serves : Serves 1 q.good
-  sync_serves = serves_one q.good (not_zero q.good x (sync.plan.exact q room (omega (arith, has.calls)) (omega arith)))
+  sync_serves = serves_one q.good (not_zero q.good x (sync.plan.exact q room (omega (arith, has.calls, some)) (omega arith)))
 
   pub sync_meets : (f : Failed) → Answers {T = A} 1 0 m1 m2 (Err f) → p.good ≡ Some 0
-  sync_meets f fails = sym has.good ∙ (fails.plan.exact q room (omega (arith, has.calls)) (omega arith)).0 refl
+  sync_meets f fails = sym has.good ∙ (fails.plan.exact q room (omega (arith, has.calls, some)) (omega arith)).0 refl
 
   pub len_meets : {B : Type 0} (m3 : Meaning) (f : Failed) → Answers {T = B} 0 0 m2 m3 (Err f) → p.good ≡ Some 1
   len_meets m3 f len = sym has.good ∙ meets_one q.good sync_serves ((len.plan.exact (spent 1 0 q) (sync.plan.spends q room) (omega arith) (omega arith)).0 refl)
@@ -184,7 +184,7 @@ module _ {A : Type 0} (m1 m2 : Meaning) (p q : Plan) (room : m1.plan ≡ Some q)
     pub read_meets : {C : Type 0} (m4 : Meaning) (f : Failed) → Answers {T = C} 0 0 m3 m4 (Err f) → p.good ≡ Some 2
     read_meets m4 f read = sym has.good ∙ two_more q.good 0 len_serves ((read.plan.exact (spent 0 0 (spent 1 0 q)) (len.plan.spends (spent 1 0 q) (sync.plan.spends q room)) (omega arith) (omega arith)).0 refl)
 
-    pub fetched : {C : Type 0} (m4 : Meaning) (z : C) → Answers 0 0 m3 m4 (Ok z) → (r : Plan) × (m4.plan ≡ Some r) × (r.good ≡ less 3 p.good) × Serves 3 p.good × HasPlace 2 1 r
+    pub fetched : {C : Type 0} (m4 : Meaning) (z : C) → Answers 0 0 m3 m4 (Ok z) → (r : Plan) × (m4.plan ≡ Some r) × (r.good ≡ less 3 p.good) × Serves 3 p.good × HasPlace (calls - 1) bytes r
     fetched m4 z read =
         let r3 = spent 0 0 (spent 1 0 q) in
         let at3 = len.plan.spends (spent 1 0 q) (sync.plan.spends q room) in
@@ -194,7 +194,7 @@ module _ {A : Type 0} (m1 m2 : Meaning) (p q : Plan) (room : m1.plan ≡ Some q)
           read.plan.spends r3 at3,
           less_three q.good ∙ ap (less 3) has.good,
           subst S has.good (serves_three q.good len_serves three),
-          (omega (arith, has.calls), omega (arith, has.bytes)),
+          (omega (arith, has.calls, some), omega (arith, has.bytes)),
         )
 
 -- a whole read gives all there is
@@ -203,3 +203,8 @@ whole_read seen before after n r same =
     let all : n ≡ length seen = omega (arith, r.count, same) in
     let prefix : take n seen ≡ seen = take_all n seen (omega (arith, all)) in
     ap (take n) r.read ∙ ap (λ (l : List ℕ). take n (l ++ drop n before)) prefix ∙ take_at seen (drop n before) n (sym all)
+
+-- what holds of an `Ok` implies
+pub on_ok : {T E : Type 0} (r : Result T E) (P Q : Type 0) → (P → Q) → OnOk r P → OnOk r Q
+on_ok (Ok x) P Q f p = f p
+on_ok (Err e) P Q f p = tt

@@ -1,11 +1,12 @@
 -- What a log keeps true, and what its calls do to its disk.
 use Rattle.std.specs.Prelude.{◌≡◌, ◌≢◌, ◌⊎◌, ℕ, ◌+◌, ◌<◌, ◌≤◌, ◌-◌, List, [], ◌∷◌, ◌++◌, length, take, Bool, true, false, IsTrue, Option, Some, None, slice_index, Result, OnOk, OnErr, if◌then◌else◌, nat_lt}
 use Rattle.crsm_base.specs.declared.memory.Failed.{Failed}
+use Rattle.crsm_base.specs.declared.limits.TheConstants.{MAX_LOG_BYTES}
 use Rattle.crsm_faults.specs.Counts.{Rose}
 use Rattle.crsm_faults.specs.Plan.{Plan}
 use Rattle.crsm_image.specs.Calls.{Call, wrote, cut, synced, History, noted}
 use Rattle.crsm_disk.specs.Meaning.{LeavesOnly, Meaning, Only}
-use Rattle.crsm_log.specs.Format.{found, bad, reading, bodies_of, size, four_bytes}
+use Rattle.crsm_log.specs.Format.{found, bad, reading, bodies_of, body_entry, cluster_of, gate_in, items_of, four_bytes, has_after, length_of, may_stand, whole, Entry}
 use Rattle.crsm_log.specs.declared.errors.MountError.{MountError}
 use Rattle.crsm_log.specs.declared.errors.MountError.TheVariants.{DiskFault, BadGate}
 
@@ -23,7 +24,7 @@ is_quiet (Some h) = is_synced h.calls
 -- the file is whole, its closed gate stands at this place, and all of it is on the disk
 pub record IsSettled (m : Meaning) (end : ℕ) : Type 0 where
   pub whole : reading m.seen ≡ found (bodies_of m.seen)
-  pub place : end ≡ size (bodies_of m.seen)
+  pub place : end ≡ gate_in m.seen
   pub inside : end < length m.seen
   pub shut : slice_index m.seen end ≢ 1
   pub durable : Only m.seen m.may_leave
@@ -37,13 +38,38 @@ IsSound m end failed = IsTrue m.honest → failed ≡ false → IsSettled m end
 abbrev pub IsBeforeOrAfter : List (List ℕ) → List ℕ → List ℕ → Type 0
 IsBeforeOrAfter bodies body file = (reading file ≡ found bodies) ⊎ (reading file ≡ found (bodies ++ body ∷ []))
 
+-- the entries, with one more or without it
+abbrev pub IsWithOrWithout : List Entry → Entry → List ℕ → Type 0
+IsWithOrWithout entries entry file = (items_of file ≡ whole entries) ⊎ (items_of file ≡ whole (entries ++ entry ∷ []))
+
 -- what a crash might have left before, or bytes that stand for the same
 abbrev pub IsAsBefore : Meaning → List ℕ → Type 0
-IsAsBefore old file = old.may_leave file ⊎ (reading file ≡ reading old.seen)
+IsAsBefore old file = old.may_leave file ⊎ (items_of file ≡ items_of old.seen)
 
--- the four calls that put a body behind the closed gate at this place
+-- the file names this cluster, or none
+abbrev pub HasCluster : Option ℕ → List ℕ → Type 0
+HasCluster cluster file = cluster_of file ≡ cluster
+
+-- the entry may stand behind these
+pub record Follows (entries : List Entry) (entry : Entry) : Type 0 where
+  pub long : length entry.bytes ≡ length_of entry.field
+  pub may : may_stand (has_after false entries) entry.field entry.bytes ≡ true
+
+-- no body of this length may stand at this gate: its entry would pass the limit of a log file, or its length has no field
+abbrev pub IsPast : ℕ → ℕ → Type 0
+IsPast gate length = (MAX_LOG_BYTES < gate + 6 + length) ⊎ (2147483648 ≤ length)
+
+-- what is written behind a gate: the length field, the bytes and the next gate, closed
+abbrev pub entry_bytes : Entry → List ℕ
+entry_bytes entry = four_bytes entry.field ++ entry.bytes ++ 0 ∷ []
+
+-- the four calls that put an entry behind the closed gate at this place
+abbrev pub entry_calls : ℕ → Entry → List Call
+entry_calls gate entry = wrote (gate + 1) (entry_bytes entry) ∷ synced ∷ wrote gate (1 ∷ []) ∷ synced ∷ []
+
+-- the four calls that put a body
 abbrev pub put_calls : ℕ → List ℕ → List Call
-put_calls gate body = wrote (gate + 1) (four_bytes (length body) ++ body ++ 0 ∷ []) ∷ synced ∷ wrote gate (1 ∷ []) ∷ synced ∷ []
+put_calls gate body = entry_calls gate (body_entry body)
 
 -- these calls were told, the first of them first
 abbrev pub recorded : List Call → Option History → Option History
@@ -55,10 +81,11 @@ abbrev pub Serves : ℕ → Option ℕ → Type 0
 Serves n None = Unit {0}
 Serves n (Some good) = n ≤ good
 
--- whatever was called, honesty and the fill stay, and the count does not fall
+-- whatever was called, honesty, the fill and the name of a reference stay, and the count does not fall
 pub record Goes (old new : Meaning) : Type 0 where
   pub honest : new.honest ≡ old.honest
   pub fill : new.fill ≡ old.fill
+  pub lent : new.lent ≡ old.lent
   pub later : old.faults ≤ new.faults
 
 -- Of these calls so many were made, and the next one failed; on a disk whose plan serves, since no more go well.
@@ -94,13 +121,13 @@ pub record Used (n : ℕ) (p : Plan) (new : Option Plan) : Type 0 where
   pub served : Serves n p.good
   pub left : (q : Plan) × (new ≡ Some q) × (q.good ≡ less n p.good)
 
--- all the bytes were read, by three calls, and are on the disk, with room for two calls and a byte
-pub record Fetches (old new : Meaning) (bytes : List ℕ) : Type 0 where
+-- all the bytes were read, by three calls, and are on the disk, with room for so many calls and bytes
+pub record Fetches (calls written : ℕ) (old new : Meaning) (bytes : List ℕ) : Type 0 where
   pub read : IsTrue old.honest → bytes ≡ old.seen
   pub seen : IsTrue old.honest → new.seen ≡ old.seen
   pub durable : IsTrue old.honest → Only new.seen new.may_leave
   pub history : new.history ≡ noted synced old.history
-  pub plan : (p : Plan) → old.plan ≡ Some p → (q : Plan) × (new.plan ≡ Some q) × (q.good ≡ less 3 p.good) × Serves 3 p.good × HasPlace 2 1 q
+  pub plan : (p : Plan) → old.plan ≡ Some p → (q : Plan) × (new.plan ≡ Some q) × (q.good ≡ less 3 p.good) × Serves 3 p.good × HasPlace calls written q
 
 -- how many calls of a disk a mount of this file takes
 abbrev pub mount_count : List ℕ → ℕ
@@ -115,6 +142,8 @@ pub record Mounts (old new : Meaning) (end : ℕ) (bodies : List (List ℕ)) : T
   pub settled : IsTrue old.honest → IsSettled new end
   pub read : IsTrue old.honest → reading old.seen ≡ found bodies
   pub kept : IsTrue old.honest → reading new.seen ≡ found bodies
+  pub cluster : IsTrue old.honest → cluster_of new.seen ≡ cluster_of old.seen
+  pub gate : IsTrue old.honest → end ≡ gate_in old.seen
   pub any_moment : IsTrue old.honest → LeavesOnly old new (IsAsBefore old)
   pub history : IsTrue old.honest → new.history ≡ recorded (mount_calls old.seen) old.history
   pub good : IsTrue old.honest → (p : Plan) → old.plan ≡ Some p → Used (mount_count old.seen) p new.plan

@@ -2,7 +2,7 @@
 use Rattle.std.specs.Prelude.{◌≡◌, ◌≢◌, ℕ, ◌<◌, List, [], ◌∷◌, ◌++◌, length, take, Some, IfSome, slice_index, nat_le, ◌==◌, ◌||◌, ◌&&◌, if◌then◌else◌}
 use Rattle.crsm_image.specs.Calls.{History, contents}
 use Rattle.crsm_image.specs.Image.{image_of}
-use Rattle.crsm_log.specs.Format.{reading, found, bodies_of, size}
+use Rattle.crsm_log.specs.Format.{reading, found, bodies_of, gate_in}
 use Rattle.crsm_log.specs.Log.{recorded, put_calls}
 
 -- A body is kept where all four calls were made, or three and what was not synced holds the byte of an open gate.
@@ -17,6 +17,6 @@ StopKeeps h end body made fill =
 -- the file is whole, and its closed gate stands at this place
 pub record IsWhole (file : List ℕ) (end : ℕ) : Type 0 where
   pub whole : reading file ≡ found (bodies_of file)
-  pub place : end ≡ size (bodies_of file)
+  pub place : end ≡ gate_in file
   pub inside : end < length file
   pub shut : slice_index file end ≢ 1

@@ -1,15 +1,17 @@
-// The calls of a disk that a log makes.
-ghost use Rattle.std.specs.Prelude.{◌≡◌, ◌≢◌, ◌+◌, ◌-◌, ◌^◌, ◌<◌, ◌≤◌, ℕ, List, [], ◌∷◌, ◌++◌, length, false, true, IsTrue, IfOk, IfErr, OnOk, OnErr, IsErrOf, MatchResult, Some};
+//! The calls of a disk that a log makes.
+
+ghost use Rattle.std.specs.Prelude.{◌≡◌, ◌≢◌, ◌+◌, ◌-◌, ◌^◌, ◌<◌, ◌≤◌, ℕ, List, [], ◌∷◌, ◌++◌, length, false, true, IsTrue, IfOk, IfErr, OnOk, OnErr, IsErrOf, MatchResult, Some, None};
 ghost use Rattle.crsm_image.specs.Bytes.{overwritten, Torn};
 ghost use Rattle.crsm_faults.specs.Counts.{Rose};
 ghost use Rattle.crsm_faults.specs.Plan.{Plan, spent};
 ghost use Rattle.crsm_image.specs.Calls.{wrote, synced};
 ghost use Rattle.crsm_disk.specs.Meaning.{LeavesOnly, Meaning, Only};
-ghost use Rattle.crsm_log.specs.Format.{four_bytes, reading, found, bad, bodies_of};
-ghost use Rattle.crsm_log.specs.Log.{IsSettled, IsBeforeOrAfter, IsAsBefore, Goes, StopsAt, Ran, HasPlace, Serves, ServesPut, put_calls, recorded, mount_calls, mount_count, Mounts, Refuses, Fetches, MeetsIn, less};
+ghost use Rattle.crsm_log.specs.Format.{Entry, body_entry, bodies_of, cluster_entry, cluster_of, entries_of, found, items_of, reading, whole};
+ghost use Rattle.crsm_log.specs.Claim.{Holds, IsClaimed};
+ghost use Rattle.crsm_log.specs.Log.{Follows, HasCluster, IsSettled, IsBeforeOrAfter, IsAsBefore, IsWithOrWithout, entry_bytes, entry_calls, Goes, StopsAt, Ran, HasPlace, Serves, ServesPut, put_calls, recorded, mount_calls, mount_count, Mounts, Refuses, Fetches, MeetsIn, less};
 ghost use Rattle.crsm_log.specs.declared.errors.MountError.TheVariants.{DiskFault, BadGate};
 
-use crate::entry::read_entries;
+use crate::entry::{Held, cluster_entry_of, read_entries};
 use crate::errors::MountError;
 use crsm_base::{Bodies, Failed, NoMemory};
 use crsm_disk::Disk;
@@ -31,58 +33,107 @@ pub(crate) fn write_and_sync<D: Disk>(disk: &mut D, at: u64, bytes: &[u8]) -> Re
 }
 
 // Puts an entry behind the closed gate at this place, and then opens the gate.
-pub(crate) fn write_entry<D: Disk>(disk: &mut D, gate: u64, entry: &[u8]) -> Result<(), Failed>
+pub(crate) fn write_entry<D: Disk>(disk: &mut D, gate: u64, bytes: &[u8]) -> Result<(), Failed>
     requires { gate < 2 ^ 33 }
-    ensures ran { (body : List ℕ) → entry.now ≡ four_bytes (length body) ++ body ++ 0 ∷ []
-        → Ran (put_calls gate body) (ServesPut gate (length entry.now + 1) (D.meaning disk.old)) (D.meaning disk.old) (D.meaning disk.new) result }
+    ensures ran { (e : Entry) → bytes.now ≡ entry_bytes e
+        → Ran (entry_calls gate e) (ServesPut gate (length bytes.now + 1) (D.meaning disk.old)) (D.meaning disk.old) (D.meaning disk.new) result }
     ensures left { (p : Plan) → (D.meaning disk.old).plan ≡ Some p → OnOk result ((q : Plan) × ((D.meaning disk.new).plan ≡ Some q) × (q.good ≡ less 4 p.good)) }
-    ensures settled { (body : List ℕ) → entry.now ≡ four_bytes (length body) ++ body ++ 0 ∷ [] → IsTrue (D.meaning disk.old).honest → IsSettled (D.meaning disk.old) gate
-        → OnOk result (IsSettled (D.meaning disk.new) (gate + 5 + length body) × (reading (D.meaning disk.new).seen ≡ found (bodies_of (D.meaning disk.old).seen ++ body ∷ []))) }
-    ensures any_moment { (body : List ℕ) → entry.now ≡ four_bytes (length body) ++ body ++ 0 ∷ [] → IsTrue (D.meaning disk.old).honest → IsSettled (D.meaning disk.old) gate
-        → LeavesOnly (D.meaning disk.old) (D.meaning disk.new) (IsBeforeOrAfter (bodies_of (D.meaning disk.old).seen) body) }
+    ensures settled { (e : Entry) → bytes.now ≡ entry_bytes e → IsTrue (D.meaning disk.old).honest → IsSettled (D.meaning disk.old) gate → Follows (entries_of (D.meaning disk.old).seen) e
+        → OnOk result (IsSettled (D.meaning disk.new) (gate + 5 + length e.bytes) × (items_of (D.meaning disk.new).seen ≡ whole (entries_of (D.meaning disk.old).seen ++ e ∷ []))) }
+    ensures any_moment { (e : Entry) → bytes.now ≡ entry_bytes e → IsTrue (D.meaning disk.old).honest → IsSettled (D.meaning disk.old) gate → Follows (entries_of (D.meaning disk.old).seen) e
+        → LeavesOnly (D.meaning disk.old) (D.meaning disk.new) (IsWithOrWithout (entries_of (D.meaning disk.old).seen) e) }
 {
-    write_and_sync(disk, gate + 1, entry)?;
+    write_and_sync(disk, gate + 1, bytes)?;
     write_and_sync(disk, gate, &[1])?;
     Ok(())
+}
+
+// Puts a body's entry.
+pub(crate) fn write_body<D: Disk>(disk: &mut D, gate: u64, bytes: &[u8]) -> Result<(), Failed>
+    requires { gate < 2 ^ 33 }
+    ensures ran { (body : List ℕ) → bytes.now ≡ entry_bytes (body_entry body)
+        → Ran (put_calls gate body) (ServesPut gate (length bytes.now + 1) (D.meaning disk.old)) (D.meaning disk.old) (D.meaning disk.new) result }
+    ensures left { (p : Plan) → (D.meaning disk.old).plan ≡ Some p → OnOk result ((q : Plan) × ((D.meaning disk.new).plan ≡ Some q) × (q.good ≡ less 4 p.good)) }
+    ensures settled { (body : List ℕ) → bytes.now ≡ entry_bytes (body_entry body) → length body < 2147483648 → IsTrue (D.meaning disk.old).honest → IsSettled (D.meaning disk.old) gate
+        → OnOk result (IsSettled (D.meaning disk.new) (gate + 5 + length body) × (reading (D.meaning disk.new).seen ≡ found (bodies_of (D.meaning disk.old).seen ++ body ∷ []))) }
+    ensures any_moment { (body : List ℕ) → bytes.now ≡ entry_bytes (body_entry body) → length body < 2147483648 → IsTrue (D.meaning disk.old).honest → IsSettled (D.meaning disk.old) gate
+        → LeavesOnly (D.meaning disk.old) (D.meaning disk.new) (IsBeforeOrAfter (bodies_of (D.meaning disk.old).seen) body) }
+    ensures cluster { (body : List ℕ) → bytes.now ≡ entry_bytes (body_entry body) → length body < 2147483648 → IsTrue (D.meaning disk.old).honest → IsSettled (D.meaning disk.old) gate
+        → LeavesOnly (D.meaning disk.old) (D.meaning disk.new) (HasCluster (cluster_of (D.meaning disk.old).seen)) }
+{
+    write_entry(disk, gate, bytes)
+}
+
+// Puts the first cluster entry.
+pub(crate) fn write_cluster<D: Disk>(disk: &mut D, gate: u64, cluster: u64) -> Result<(), Failed>
+    requires { gate < 2 ^ 33 }
+    ensures ran { Ran (entry_calls gate (cluster_entry cluster)) (ServesPut gate 14 (D.meaning disk.old)) (D.meaning disk.old) (D.meaning disk.new) result }
+    ensures left { (p : Plan) → (D.meaning disk.old).plan ≡ Some p → OnOk result ((q : Plan) × ((D.meaning disk.new).plan ≡ Some q) × (q.good ≡ less 4 p.good)) }
+    ensures settled { cluster ≢ 0 → cluster_of (D.meaning disk.old).seen ≡ None → IsTrue (D.meaning disk.old).honest → IsSettled (D.meaning disk.old) gate
+        → OnOk result (IsSettled (D.meaning disk.new) (gate + 13) × (reading (D.meaning disk.new).seen ≡ reading (D.meaning disk.old).seen) × (cluster_of (D.meaning disk.new).seen ≡ Some cluster)) }
+    ensures any_moment { cluster ≢ 0 → cluster_of (D.meaning disk.old).seen ≡ None → IsTrue (D.meaning disk.old).honest → IsSettled (D.meaning disk.old) gate
+        → LeavesOnly (D.meaning disk.old) (D.meaning disk.new) (IsClaimed (D.meaning disk.old).seen cluster) }
+{
+    write_entry(disk, gate, &cluster_entry_of(cluster))
 }
 
 // No longer file is read: memory has no room for it.
 const LONGEST: u64 = 1 << 62;
 
-// All the bytes, every one of them on the disk.
-fn contents<D: Disk>(alloc: Global, disk: &mut D) -> Result<Vec<u8>, MountError>
+// All the bytes, every one of them on the disk, and room for so many writes and syncs and so many written bytes.
+fn contents<D: Disk>(
+    alloc: Global,
+    disk: &mut D,
+    calls: u64,
+    bytes: u64,
+) -> Result<Vec<u8>, MountError>
+    requires { 1 ≤ calls }
     ensures goes { Goes (D.meaning disk.old) (D.meaning disk.new) }
     ensures any_moment { IsTrue (D.meaning disk.old).honest → LeavesOnly (D.meaning disk.old) (D.meaning disk.new) (IsAsBefore (D.meaning disk.old)) }
-    ensures ok { IfOk result (λ bytes. Fetches (D.meaning disk.old) (D.meaning disk.new) bytes.items) }
-    ensures small { IfOk result (λ bytes. length bytes.items ≤ LONGEST) }
+    ensures ok { IfOk result (λ file. Fetches (calls - 1) bytes (D.meaning disk.old) (D.meaning disk.new) file.items) }
+    ensures small { IfOk result (λ file. length file.items ≤ LONGEST) }
     ensures fault { IsErrOf result MountError.DiskFault → Rose (D.meaning disk.old).faults (D.meaning disk.new).faults }
     ensures meets { IsErrOf result MountError.DiskFault → MeetsIn 3 (D.meaning disk.old).plan }
     ensures unwritten { IsTrue (D.meaning disk.old).honest → (D.meaning disk.new).seen ≡ (D.meaning disk.old).seen }
     ensures no_gate { (entry : ℕ) → IsErrOf result (MountError.BadGate entry) → ⊥ }
 {
-    disk.reserve(3, 1)?;
+    disk.reserve(calls, bytes)?;
     disk.sync()?;
     let len = disk.len()?;
     if len > LONGEST {
         return Err(MountError::NoMemory);
     }
-    let mut bytes = Vec::from_elem(alloc, 0u8, len as usize)?;
-    let count = disk.read_at(0, &mut bytes)?;
-    bytes.truncate(count);
-    Ok(bytes)
+    let mut file = Vec::from_elem(alloc, 0u8, len as usize)?;
+    let count = disk.read_at(0, &mut file)?;
+    file.truncate(count);
+    Ok(file)
 }
 
-// The place of the closed gate and the bodies before it. A file that is too short for an entry gets a closed gate.
-pub(crate) fn read_log<D: Disk>(alloc: Global, disk: &mut D) -> Result<(u64, Bodies), MountError>
-    ensures small { IfOk result (λ r. r.0 ≤ 2 ^ 62) }
-    ensures ok { IfOk result (λ r. Mounts (D.meaning disk.old) (D.meaning disk.new) r.0 r.1) }
+// What the disk holds. A file that is too short for an entry gets a closed gate. Of the room for so many writes and
+// syncs and so many written bytes that is made first, at most three and one are used.
+pub(crate) fn read_log<D: Disk>(
+    alloc: Global,
+    disk: &mut D,
+    calls: u64,
+    bytes: u64,
+) -> Result<Held, MountError>
+    requires calls { 3 ≤ calls }
+    requires bytes { 1 ≤ bytes }
+    ensures small { IfOk result (λ held. held.gate ≤ 2 ^ 62) }
+    ensures ok { IfOk result (λ held. Mounts (D.meaning disk.old) (D.meaning disk.new) held.gate held.bodies) }
+    ensures holds { IsTrue (D.meaning disk.old).honest → IfOk result (Holds (D.meaning disk.old) (D.meaning disk.new)) }
+    ensures room { (p : Plan) → (D.meaning disk.old).plan ≡ Some p → OnOk result ((q : Plan) × ((D.meaning disk.new).plan ≡ Some q) × HasPlace (calls - 3) (bytes - 1) q) }
     ensures err { IfErr result (Refuses (D.meaning disk.old) (D.meaning disk.new)) }
 {
-    let file = contents(alloc, disk)?;
+    let file = contents(alloc, disk, calls, bytes)?;
     if file.len() < 6 {
         write_and_sync(disk, 0, &[0])?;
-        return Ok((0, Bodies::new(alloc)));
+        return Ok(Held {
+            gate: 0,
+            bodies: Bodies::new(alloc),
+            cluster: None,
+        });
     }
-    let (end, bodies) = read_entries(alloc, &file)?;
-    Ok((end, bodies))
+    let held = read_entries(alloc, &file)?;
+    Ok(held)
 }

@@ -1,12 +1,24 @@
-// Entries as bytes.
-ghost use Rattle.std.specs.Prelude.{◌≡◌, ◌≢◌, ◌+◌, ◌*◌, ◌^◌, ◌<◌, ◌≤◌, ◌↔◌, ℕ, [], ◌∷◌, ◌++◌, length, IfOk, IfErr, IfSome, IsNone, slice_index, MatchResult, map};
-ghost use Rattle.crsm_log.specs.Format.{four_bytes, Reading, found, bad, entries, size, number_of};
-ghost use Rattle.crsm_log.specs.First.{ReadsFirst};
+//! Entries as bytes.
+
+ghost use Rattle.std.specs.Prelude.{◌≡◌, ◌≢◌, ◌+◌, ◌*◌, ◌^◌, ◌<◌, ◌≤◌, ◌↔◌, ℕ, [], ◌∷◌, ◌++◌, length, IfOk, IfErr, IfSome, IsNone, slice_index, MatchResult, map, false};
+ghost use Rattle.std.specs.Bool.{OnTrue};
+ghost use Rattle.crsm_log.specs.Format.{four_bytes, body_entry, cluster_entry, is_cluster, length_of, number_at, number_in, stands, may_stand};
+ghost use Rattle.crsm_log.specs.Log.{IsPast, entry_bytes};
+ghost use Rattle.crsm_log.specs.First.{ReadsFirst, ReadsFile, ReadsBad};
 ghost use Rattle.crsm_log.specs.declared.errors.MountError.TheVariants.{DiskFault, BadGate};
 
 use crate::errors::MountError;
 use crsm_base::{Bodies, MAX_LOG_BYTES, NoMemory};
 use std::alloc::Global;
+
+// The length field of a cluster entry, whose eight bytes are the cluster's number.
+pub(crate) const CLUSTER_FIELD: u64 = 0x8000_0008;
+
+// A body is shorter than this, so that its length is no field of another kind.
+const BODY_BOUND: u64 = 0x8000_0000;
+
+// How long the bytes of a cluster entry are.
+pub(crate) const CLUSTER_BYTES: u64 = 8;
 
 /// Where an entry of this length at this gate ends, its next gate included, if that is within the limit.
 pub fn end_of(at: u64, length: u64) -> Option<u64>
@@ -17,10 +29,21 @@ pub fn end_of(at: u64, length: u64) -> Option<u64>
     if end > MAX_LOG_BYTES { None } else { Some(end) }
 }
 
+// The end of a body's entry, if a body of this length may stand at this gate.
+pub(crate) fn body_end(at: u64, length: u64) -> Option<u64>
+    ensures none { IsNone result ↔ IsPast at length }
+    ensures some { IfSome result (λ end. (end ≡ at + 6 + length) × (length < 2147483648)) }
+{
+    if length >= BODY_BOUND {
+        return None;
+    }
+    end_of(at, length)
+}
+
 // What is written behind a gate: the length, the body and the next gate, closed.
 pub(crate) fn entry_of(alloc: Global, body: &[u8]) -> Result<Vec<u8>, NoMemory>
-    requires { length body.now < 2 ^ 32 }
-    ensures { IfOk result (λ entry. entry.items ≡ four_bytes (length body.now) ++ body.now ++ 0 ∷ []) }
+    requires { length body.now < 2 ^ 31 }
+    ensures { IfOk result (λ entry. entry.items ≡ entry_bytes (body_entry body.now)) }
 {
     let n = body.len();
     let mut entry = Vec::with_capacity(alloc, n + 5)?;
@@ -33,57 +56,164 @@ pub(crate) fn entry_of(alloc: Global, body: &[u8]) -> Result<Vec<u8>, NoMemory>
     Ok(entry)
 }
 
+// Four bytes of a number, the most significant first.
+fn four_bytes(n: u64) -> [u8; 4]
+    requires { n < 2 ^ 32 }
+    ensures { result ≡ four_bytes n }
+{
+    [
+        (n / 256 / 256 / 256) as u8,
+        (n / 256 / 256 % 256) as u8,
+        (n / 256 % 256) as u8,
+        (n % 256) as u8,
+    ]
+}
+
+// What is written behind a gate for a cluster entry.
+pub(crate) fn cluster_entry_of(cluster: u64) -> [u8; 13]
+    ensures { result ≡ entry_bytes (cluster_entry cluster) }
+{
+    let [a, b, c, d] = four_bytes(cluster >> 32);
+    let [e, f, g, h] = four_bytes(cluster & 0xffff_ffff);
+    [0x80, 0, 0, 8, a, b, c, d, e, f, g, h, 0]
+}
+
+// The number that four bytes are, the most significant first.
+fn number_at(at: usize, bytes: &[u8]) -> u64
+    requires { at + 4 ≤ length bytes.now }
+    ensures value { result ≡ number_at at bytes.now }
+    ensures small { result < 2 ^ 32 }
+{
+    ((bytes[at] as u64 * 256 + bytes[at + 1] as u64) * 256 + bytes[at + 2] as u64) * 256
+        + bytes[at + 3] as u64
+}
+
+// The number that eight bytes are.
+fn number_in(bytes: &[u8]) -> u64
+    requires { 8 ≤ length bytes.now }
+    ensures { result ≡ number_in bytes.now }
+{
+    number_at(0, bytes) * 4_294_967_296 + number_at(4, bytes)
+}
+
+#[tactic(auto, unfolding(crate::specs::Format::is_cluster))]
+fn is_cluster(field: u64) -> bool
+    ensures { result ≡ is_cluster field }
+{
+    field == CLUSTER_FIELD
+}
+
+// How many bytes an entry of this length field has.
+#[tactic(auto, unfolding(crate::specs::Format::length_of))]
+fn length_of(field: u64) -> u64
+    ensures { result ≡ length_of field }
+{
+    if is_cluster(field) {
+        CLUSTER_BYTES
+    } else {
+        field
+    }
+}
+
+// A cluster entry is the first one, and of a number that is not 0. A body is below the bound.
+#[tactic(auto, unfolding(crate::specs::Format::may_stand, crate::specs::Format::length_of))]
+fn may_stand(has_one: bool, field: u64, bytes: &[u8]) -> bool
+    requires { length_of field ≤ length bytes.now }
+    ensures { result ≡ may_stand has_one field bytes.now }
+{
+    if is_cluster(field) {
+        !has_one && number_in(bytes) != 0
+    } else {
+        field < BODY_BOUND
+    }
+}
+
+// Whether an entry of this length field stands here, and a gate behind it.
+#[tactic(auto, unfolding(crate::specs::Format::stands))]
+fn stands(has_one: bool, field: u64, bytes: &[u8]) -> bool
+    ensures value { result ≡ stands has_one field bytes.now }
+    ensures inside { OnTrue result (length_of field < length bytes.now) }
+{
+    let length = length_of(field);
+    length < bytes.len() as u64 && may_stand(has_one, field, &bytes[..length as usize])
+}
+
 /// What stands at a gate.
 #[derive(Drop)]
 enum First<'a> {
     Closed,
-    Passes,
-    Entry { body: &'a [u8], rest: &'a [u8] },
+    Bad,
+    Entry {
+        field: u64,
+        content: &'a [u8],
+        rest: &'a [u8],
+    },
 }
 
-// What stands at the gate that these bytes begin with.
-fn at_gate(bytes: &[u8]) -> First<'_>
-    ensures { ReadsFirst result bytes.now }
+// What stands at the gate that these bytes begin with, behind a cluster entry or without one.
+fn at_gate(has_one: bool, bytes: &[u8]) -> First<'_>
+    ensures { ReadsFirst result has_one bytes.now }
 {
     if bytes.is_empty() || bytes[0] != 1 {
         return First::Closed;
     }
     if bytes.len() < 6 {
-        return First::Passes;
+        return First::Bad;
     }
-    let length = ((bytes[1] as usize * 256 + bytes[2] as usize) * 256 + bytes[3] as usize) * 256
-        + bytes[4] as usize;
+    let field = number_at(1, bytes);
     let behind = &bytes[5..];
-    if length >= behind.len() {
-        return First::Passes;
+    if !stands(has_one, field, behind) {
+        return First::Bad;
     }
+    let length = length_of(field) as usize;
     First::Entry {
-        body: &behind[..length],
+        field,
+        content: &behind[..length],
         rest: &behind[length..],
     }
 }
 
-// The place of the closed gate, and the bodies before it.
-pub(crate) fn read_entries(alloc: Global, file: &[u8]) -> Result<(u64, Bodies), MountError>
-    ensures read { IfOk result (λ r. entries (length file.now) file.now ≡ found r.1) }
-    ensures place { IfOk result (λ r. r.0 ≡ size r.1) }
-    ensures within { IfOk result (λ r. r.0 ≤ length file.now) }
-    ensures shut { 0 < length file.now → IfOk result (λ r. (r.0 < length file.now) × (slice_index file.now r.0 ≢ 1)) }
-    ensures bad_gate { IfErr result (λ why. (entry : ℕ) → why ≡ BadGate entry → entries (length file.now) file.now ≡ bad entry) }
+/// What a file holds: the place of its closed gate, the bodies before it and the cluster that it names.
+#[derive(Drop)]
+pub(crate) struct Held {
+    pub gate: u64,
+    pub bodies: Bodies,
+    pub cluster: Option<u64>,
+}
+
+// What the bytes of a file hold.
+pub(crate) fn read_entries(alloc: Global, file: &[u8]) -> Result<Held, MountError>
+    ensures read { IfOk result (ReadsFile file.now) }
+    ensures bad_gate { IfErr result (ReadsBad file.now) }
     ensures no_fault { IfErr result (λ why. why ≢ DiskFault) }
 {
     let mut bodies = Bodies::with_room(alloc, file.len())?;
-    let mut end = 0u64;
+    let mut cluster: Option<u64> = None;
+    let mut gate = 0u64;
     let mut entry = 0u64;
     let mut bytes = file;
     'entries: loop {
-        match at_gate(bytes) {
-            First::Closed => return Ok((end, bodies)),
-            First::Passes => return Err(MountError::BadGate { entry }),
-            First::Entry { body, rest } => {
-                bodies.push(body)?;
-                end += 5 + body.len() as u64;
-                entry += 1;
+        match at_gate(cluster.is_some(), bytes) {
+            First::Closed => {
+                return Ok(Held {
+                    gate,
+                    bodies,
+                    cluster,
+                });
+            }
+            First::Bad => return Err(MountError::BadGate { entry }),
+            First::Entry {
+                field,
+                content,
+                rest,
+            } => {
+                if is_cluster(field) {
+                    cluster = Some(number_in(content));
+                } else {
+                    bodies.push(content)?;
+                    entry += 1;
+                }
+                gate += 5 + content.len() as u64;
                 bytes = rest;
             }
         }

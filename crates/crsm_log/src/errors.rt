@@ -2,6 +2,8 @@
 
 ghost use Rattle.std.specs.Prelude.{◌≡◌};
 ghost use Rattle.crsm_log.specs.declared.errors.MountError.TheVariants.{DiskFault as MountFault, NoMemory as MountNoMemory};
+ghost use Rattle.crsm_log.specs.declared.errors.ClaimError.TheVariants as claims;
+ghost use Rattle.crsm_log.specs.Errors.{claim_error};
 ghost use Rattle.crsm_log.specs.declared.errors.PutError.TheVariants.{NoMemory as PutNoMemory};
 
 use crsm_base::{Failed, NoMemory};
@@ -13,8 +15,8 @@ use thiserror::Error;
 pub enum MountError {
     #[error("the disk failed")]
     DiskFault,
-    /// An open gate passes the end of the file, behind so many bodies.
-    #[error("the entry behind {entry} others passes the end of the log")]
+    /// An open gate that no entry is behind, with so many bodies before it.
+    #[error("no entry stands behind the open gate behind {entry} bodies")]
     BadGate { entry: u64 },
     #[error("memory ran out")]
     NoMemory,
@@ -64,5 +66,43 @@ impl From<NoMemory> for PutError {
 
     fn from(_: NoMemory) -> Self {
         PutError::NoMemory
+    }
+}
+
+/// Why a log is not claimed for a cluster.
+#[derive(Clone, Copy, Debug, PartialEq, Eq, Error)]
+pub enum ClaimError {
+    #[error("the disk failed")]
+    DiskFault,
+    /// An open gate that no entry is behind, with so many bodies before it.
+    #[error("no entry stands behind the open gate behind {entry} bodies")]
+    BadGate { entry: u64 },
+    /// The log belongs to the cluster of this number.
+    #[error("the log belongs to cluster {found}")]
+    OtherCluster { found: u64 },
+    /// The cluster's entry would end here, past the limit.
+    #[error("the log would end at {end}, past its limit")]
+    Full { end: u64 },
+    #[error("memory ran out")]
+    NoMemory,
+}
+
+impl From<MountError> for ClaimError {
+    ghost from_gives = { λ why e. e ≡ claim_error why };
+
+    fn from(why: MountError) -> Self {
+        match why {
+            MountError::DiskFault => ClaimError::DiskFault,
+            MountError::BadGate { entry } => ClaimError::BadGate { entry },
+            MountError::NoMemory => ClaimError::NoMemory,
+        }
+    }
+}
+
+impl From<Failed> for ClaimError {
+    ghost from_gives = { λ _ e. e ≡ claims.DiskFault };
+
+    fn from(_: Failed) -> Self {
+        ClaimError::DiskFault
     }
 }

@@ -1,5 +1,6 @@
-// What a disk that was stopped in a put stands for.
-ghost use Rattle.std.specs.Prelude.{◌≤◌, List, ℕ, IsTrue};
+//! What a disk that was stopped in a put stands for.
+
+ghost use Rattle.std.specs.Prelude.{◌<◌, ◌≤◌, List, ℕ, IsTrue, length};
 ghost use Rattle.crsm_image.specs.Calls.{History};
 ghost use Rattle.crsm_image.specs.Calls.{contents};
 ghost use Rattle.crsm_log.specs.Log.{is_synced};
@@ -8,5 +9,5 @@ ghost use Rattle.crsm_log.specs.Stop.{IsWhole, StopKeeps};
 /// The bodies on the image of a disk that was stopped after so many of the four calls of a put: the new one is
 /// among them where all four were made, or three and the fill is the byte of an open gate.
 pub fn stop_keeps()
-    ensures { (h : History) (end : ℕ) (body : List ℕ) (fill made : ℕ) → IsTrue (is_synced h.calls) → IsWhole (contents h.first h.calls) end → made ≤ 4 → StopKeeps h end body made fill }
+    ensures { (h : History) (end : ℕ) (body : List ℕ) (fill made : ℕ) → IsTrue (is_synced h.calls) → IsWhole (contents h.first h.calls) end → made ≤ 4 → length body < 2147483648 → StopKeeps h end body made fill }
 {}

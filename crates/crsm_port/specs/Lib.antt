@@ -1,4 +1,5 @@
 pub mod Address
+pub mod Cluster
 pub mod Inside
 pub mod Meaning
 pub mod Memory

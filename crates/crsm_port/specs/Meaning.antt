@@ -12,6 +12,15 @@ pub record Post : Type 0 where
   pub address : ℕ
   pub bytes : List ℕ
 
+-- how a datagram stands on the wire, and what is read of one that comes
+pub record Coat : Type 0 where
+  pub wrap : Post → Post
+  pub unwrap : Post → Post
+
+-- each as it is
+abbrev pub plain : Coat
+plain = record { wrap = λ d. d; unwrap = λ d. d }
+
 -- the datagrams that wait, those taken and those sent, each with the oldest first
 pub record Traffic : Type 0 where
   pub waiting : List Post
@@ -21,18 +30,22 @@ pub record Traffic : Type 0 where
 pub record Meaning : Type 0 where
   -- where it is told
   pub traffic : Option Traffic
+  -- between the bytes of a call and those of the traffic
+  pub coat : Coat
   -- the room for sends and the calls that go well, where they are told
   pub plan : Option Plan
   -- the receives that failed, the sends that failed, and the receives that gave nothing
   pub faults : ℕ
   pub losses : ℕ
   pub empties : ℕ
+  -- the name of the reference that lends it, where one does
+  pub lent : Option ℕ
 
 -- a receive from what waits
-abbrev pub Takes : Traffic → Traffic → List ℕ → List ℕ → Got → Type 0
-Takes old new before after Nothing = (old.waiting ≡ []) × (new ≡ old) × (after ≡ before)
-Takes old new before after (Datagram from len) = (d : Post) × (rest : List Post) × (old.waiting ≡ d ∷ rest) × (from ≡ d.address)
-    × (len ≡ min (length before) (length d.bytes)) × (after ≡ take len d.bytes ++ drop len before)
+abbrev pub Takes : Coat → Traffic → Traffic → List ℕ → List ℕ → Got → Type 0
+Takes coat old new before after Nothing = (old.waiting ≡ []) × (new ≡ old) × (after ≡ before)
+Takes coat old new before after (Datagram from len) = (d : Post) × (rest : List Post) × (old.waiting ≡ d ∷ rest) × (from ≡ (coat.unwrap d).address)
+    × (len ≡ min (length before) (length (coat.unwrap d).bytes)) × (after ≡ take len (coat.unwrap d).bytes ++ drop len before)
     × (new ≡ record old { waiting = rest; taken = old.taken ++ d ∷ [] })
 
 -- Nothing exactly where `empties` rose, and it rises with no other answer
@@ -53,9 +66,11 @@ pub record Receives (old new : Meaning) (before after : List ℕ) (result : Resu
   pub no_fault : OnOk result (new.faults ≡ old.faults)
   pub empties : IfOk result (CountsEmpty old.empties new.empties)
   pub not_empty : OnErr result (new.empties ≡ old.empties)
-  pub taken : (t u : Traffic) → old.traffic ≡ Some t → new.traffic ≡ Some u → IfOk result (Takes t u before after)
+  pub taken : (t u : Traffic) → old.traffic ≡ Some t → new.traffic ≡ Some u → IfOk result (Takes old.coat t u before after)
   pub untaken : OnErr result (new.traffic ≡ old.traffic)
   pub told : IsSome old.traffic ↔ IsSome new.traffic
+  pub coat : new.coat ≡ old.coat
+  pub lent : new.lent ≡ old.lent
   pub plan : Spends 0 0 old.plan new.plan result
 
 -- a send is told behind those before it
@@ -69,8 +84,10 @@ pub record Sends {T : Type 0} (to : ℕ) (bytes : List ℕ) (old new : Meaning) 
   pub failed : OnErr result (Rose old.losses new.losses)
   pub no_loss : OnOk result (new.losses ≡ old.losses)
   pub empties : new.empties ≡ old.empties
-  pub sent : OnOk result (new.traffic ≡ option_map (with_sent (record { address = to; bytes = bytes })) old.traffic)
+  pub sent : OnOk result (new.traffic ≡ option_map (with_sent (old.coat.wrap (record { address = to; bytes = bytes }))) old.traffic)
   pub unsent : OnErr result (new.traffic ≡ old.traffic)
+  pub coat : new.coat ≡ old.coat
+  pub lent : new.lent ≡ old.lent
   pub plan : Spends 1 (length bytes) old.plan new.plan result
 
 -- room is made, and nothing else changes

@@ -1,7 +1,7 @@
 -- A port in memory.
-use Rattle.std.specs.Prelude.{ℕ, List, take, drop, Some}
+use Rattle.std.specs.Prelude.{ℕ, List, take, drop, Some, None}
 use Rattle.crsm_faults.specs.Failing.{Failing, good_of}
-use Rattle.crsm_port.specs.Meaning.{Meaning, Post, Traffic}
+use Rattle.crsm_port.specs.Meaning.{Meaning, Post, Traffic, plain}
 
 pub record Memory : Type 0 where
   -- what was put in, the oldest first, and how many of these were taken
@@ -23,8 +23,10 @@ traffic_of m = record { waiting = drop m.next m.letters; taken = take m.next m.l
 abbrev pub meaning_of : Memory → Meaning
 meaning_of m = record {
   traffic = Some (traffic_of m);
+  coat = plain;
   plan = Some (record { calls = m.room_sends; bytes = m.room_bytes; good = good_of m.failing });
   faults = m.faults;
   losses = m.losses;
   empties = m.empties;
+  lent = None;
 }

@@ -2,14 +2,14 @@
 #![tactic(auto)]
 
 mod address;
+mod cluster;
 mod memory;
 mod port;
 mod posted;
-#[cfg(test)]
-mod tests;
 mod udp;
 
 pub use address::{from_number, number};
+pub use cluster::ClusterPort;
 pub use memory::MemPort;
 pub use port::{Got, Port};
 pub use posted::Posted;

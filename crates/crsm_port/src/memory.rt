@@ -3,7 +3,7 @@
 ghost use Rattle.std.specs.Prelude.{◌≡◌, ◌+◌, ◌-◌, ◌≤◌, ℕ, [], ◌∷◌, ◌++◌, length, min, take, drop, IfOk, OnOk, OnErr, Some};
 ghost use Rattle.crsm_faults.specs.Counts.{raised, Rose};
 ghost use Rattle.crsm_faults.specs.Failing.{IsNotEnd, good_of, one_less};
-ghost use Rattle.crsm_port.specs.Meaning.{CountsEmpty, Takes};
+ghost use Rattle.crsm_port.specs.Meaning.{CountsEmpty, Takes, plain};
 ghost use Rattle.crsm_port.specs.Memory.{meaning_of, traffic_of};
 ghost use Rattle.crsm_port.specs.Sent.{posts_of};
 
@@ -88,7 +88,7 @@ impl MemPort {
     // The next datagram that waits, cut to the buffer. Nothing, where none waits, is counted.
     fn take(&mut self, buf: &mut [u8]) -> Got
         ensures letters { self.new ≡ record self.old { next = self.new.next; empties = self.new.empties } }
-        ensures got { Takes (traffic_of self.old) (traffic_of self.new) buf.old buf.new result }
+        ensures got { Takes plain (traffic_of self.old) (traffic_of self.new) buf.old buf.new result }
         ensures empties { CountsEmpty self.old.empties self.new.empties result }
     {
         match self.letters.get(self.next) {
@@ -137,7 +137,7 @@ impl MemPort {
     }
 }
 
-fn copy(bytes: &[u8], buf: &mut [u8]) -> usize
+pub(crate) fn copy(bytes: &[u8], buf: &mut [u8]) -> usize
     ensures len { result ≡ min (length buf.old) (length bytes.now) }
     ensures bytes { buf.new ≡ take result bytes.now ++ drop result buf.old }
 {

@@ -1,5 +1,6 @@
 //! What a port is.
 
+ghost use Rattle.std.specs.Prelude.{◌≡◌, Some};
 ghost use Rattle.crsm_port.specs.Meaning.{Meaning, Receives, Reserves, Sends};
 
 use crsm_base::{Failed, NoMemory};
@@ -27,10 +28,15 @@ pub trait Port {
     /// Makes room for so many sends of so many bytes together, where the port keeps them.
     fn reserve(&mut self, sends: u64, bytes: u64) -> Result<(), NoMemory>
         ensures { Reserves sends bytes (meaning self.old) (meaning self.new) result };
+
+    /// Asks that the next receive does not wait where nothing has come. A port that never waits need not know of it.
+    fn hurry(&mut self)
+        ensures { meaning self.new ≡ meaning self.old }
+    {}
 }
 
 impl<P: Port> Port for &mut P {
-    ghost meaning = { λ p. P.meaning p.now };
+    ghost meaning = { λ p. record (P.meaning p.now) { lent = Some p.ghost_name } };
 
     fn recv(&mut self, buf: &mut [u8]) -> Result<Got, Failed> {
         (**self).recv(buf)
@@ -42,5 +48,9 @@ impl<P: Port> Port for &mut P {
 
     fn reserve(&mut self, sends: u64, bytes: u64) -> Result<(), NoMemory> {
         (**self).reserve(sends, bytes)
+    }
+
+    fn hurry(&mut self) {
+        (**self).hurry()
     }
 }

@@ -7,67 +7,100 @@ use crate::address::{from_number, number};
 use crate::{Got, Port};
 use crsm_base::{Failed, NoMemory};
 use crsm_faults::raise;
-use std::io::ErrorKind;
-use std::net::{Net, SocketAddr, UdpSocket};
-use std::time::{Clock, Duration};
-use std::{io, thread};
+use mio::net::UdpSocket;
+use mio::{Events, Interest, Poll, Token};
+use std::alloc::Global;
+use std::io::{self, ErrorKind};
+use std::net::{Net, SocketAddr};
+use std::time::Duration;
+
+// How long a receive waits where nothing has come.
+const WAIT_MILLIS: u64 = 1;
+
+// A socket, and what waits for a datagram on it.
+#[derive(Drop)]
+struct Inlet {
+    socket: UdpSocket,
+    poll: Poll,
+    events: Events,
+    hurried: bool,
+}
+
+impl Inlet {
+    fn bind(alloc: Global, net: &impl Net, address: SocketAddr) -> io::Result<Inlet> {
+        let mut socket = UdpSocket::bind(net, address)?;
+        let poll = Poll::new(net)?;
+        poll.registry()
+            .register(&mut socket, Token(0), Interest::READABLE)?;
+        Ok(Inlet {
+            socket,
+            poll,
+            events: Events::with_capacity(alloc, 1)?,
+            hurried: false,
+        })
+    }
+
+    // A poll reports a change: so the socket is asked first, and the poll waits only where the socket had nothing.
+    fn receive(&mut self, buf: &mut [u8]) -> io::Result<(usize, SocketAddr)>
+        ensures { IfOk result (λ r. r.0 ≤ length buf.new) }
+    {
+        let waits = !self.hurried;
+        self.hurried = false;
+        match self.socket.recv_from(buf) {
+            Err(e) if waits && e.kind() == ErrorKind::WouldBlock => {
+                let wait = Duration::from_millis(WAIT_MILLIS);
+                self.poll.poll(&mut self.events, Some(wait))?;
+                self.socket.recv_from(buf)
+            }
+            answer => answer,
+        }
+    }
+}
 
 /// A UDP socket as a port. It counts its faults, losses and empty receives, and tells nothing else.
 #[derive(Drop)]
-pub struct UdpPort<C> {
-    socket: UdpSocket,
-    clock: C,
+pub struct UdpPort {
+    inlet: Inlet,
     faults: u64,
     losses: u64,
     empties: u64,
 }
 
-impl<C: Clock + Drop> UdpPort<C> {
-    /// Binds an address, port 0 for any free one. A receive that finds nothing sleeps by the clock for a millisecond.
-    pub fn bind(net: &impl Net, clock: C, address: u64) -> io::Result<UdpPort<C>>
+impl UdpPort {
+    /// Binds an address, port 0 for any free one. A receive waits up to a millisecond for a datagram, and one that was
+    /// hurried does not wait.
+    pub fn bind(alloc: Global, net: &impl Net, address: u64) -> io::Result<UdpPort>
         requires { address < 2 ^ 48 }
     {
-        let socket = UdpSocket::bind(net, SocketAddr::V4(from_number(address)))?;
-        socket.set_nonblocking(true)?;
         Ok(UdpPort {
-            socket,
-            clock,
+            inlet: Inlet::bind(alloc, net, SocketAddr::V4(from_number(address)))?,
             faults: 0,
             losses: 0,
             empties: 0,
         })
     }
 
-    // A second receive follows a sleep: the system's own timeout is some milliseconds too long.
-    fn wait_for(&self, buf: &mut [u8]) -> io::Result<(usize, SocketAddr)>
-        ensures { IfOk result (λ r. r.0 ≤ length buf.new) }
-    {
-        match self.socket.recv_from(buf) {
-            Err(e) if e.kind() == ErrorKind::WouldBlock => {
-                thread::sleep(&self.clock, Duration::from_millis(1));
-                self.socket.recv_from(buf)
-            }
-            answer => answer,
-        }
-    }
-
     /// The address that the system gave it, where that is one of IPv4.
     pub fn address(&self) -> Option<u64> {
-        match self.socket.local_addr() {
+        match self.inlet.socket.local_addr() {
             Ok(SocketAddr::V4(address)) => Some(number(address)),
             _ => None,
         }
     }
 }
 
-// A receive that gave nothing, where the wait was over, or else a fault.
+// A receive that gave nothing, where the wait was over or was broken off, or else a fault. That a datagram of ours
+// found nobody is no fault of a receive.
 fn missed(faults: &mut u64, empties: &mut u64, kind: ErrorKind) -> Result<Got, Failed>
     ensures later { faults.old ≤ faults.new }
     ensures err { OnErr result ((empties.new ≡ empties.old) × Rose faults.old faults.new) }
     ensures ok { IfOk result (λ got. (got ≡ Got.Nothing) × (faults.new ≡ faults.old) × (empties.old ≤ empties.new) × Rose empties.old empties.new) }
 {
     match kind {
-        ErrorKind::WouldBlock | ErrorKind::TimedOut | ErrorKind::Interrupted => {
+        ErrorKind::WouldBlock
+        | ErrorKind::TimedOut
+        | ErrorKind::Interrupted
+        | ErrorKind::ConnectionRefused => {
             raise(empties);
             Ok(Got::Nothing)
         }
@@ -78,11 +111,11 @@ fn missed(faults: &mut u64, empties: &mut u64, kind: ErrorKind) -> Result<Got, F
     }
 }
 
-impl<C: Clock + Drop> Port for UdpPort<C> {
+impl Port for UdpPort {
     ghost meaning = { λ p. unknown p.faults p.losses p.empties };
 
     fn recv(&mut self, buf: &mut [u8]) -> Result<Got, Failed> {
-        match self.wait_for(buf) {
+        match self.inlet.receive(buf) {
             Ok((len, SocketAddr::V4(from))) => Ok(Got::Datagram {
                 from: number(from),
                 len,
@@ -97,7 +130,10 @@ impl<C: Clock + Drop> Port for UdpPort<C> {
 
     fn send(&mut self, to: u64, bytes: &[u8]) -> Result<(), Failed> {
         let sent = match to < 1 << 48 {
-            true => self.socket.send_to(bytes, SocketAddr::V4(from_number(to))),
+            true => self
+                .inlet
+                .socket
+                .send_to(bytes, SocketAddr::V4(from_number(to))),
             false => Err(io::Error::from(ErrorKind::InvalidInput)),
         };
         match sent {
@@ -111,5 +147,9 @@ impl<C: Clock + Drop> Port for UdpPort<C> {
 
     fn reserve(&mut self, _sends: u64, _bytes: u64) -> Result<(), NoMemory> {
         Ok(())
+    }
+
+    fn hurry(&mut self) {
+        self.inlet.hurried = true;
     }
 }

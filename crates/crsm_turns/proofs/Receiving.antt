@@ -1,13 +1,12 @@
 -- What a receive of a port is, as the input of a step.
-use Rattle.std.proofs.Common.{◌≡◌, ◌≤◌, ℕ, zero, suc, min, List, [], ◌∷◌, ◌++◌, length, take, drop, Some, None, Ok, Err, refl, sym, ◌∙◌, ap, IsErrOf, arith}
+use Rattle.std.proofs.Common.{◌≡◌, ◌≤◌, ℕ, zero, suc, min, List, [], ◌∷◌, ◌++◌, length, take, drop, Option, Some, None, Ok, Err, refl, sym, ◌∙◌, ap, IsErrOf, arith}
 use Rattle.crsm_base.specs.declared.memory.Failed.{Failed}
 use Rattle.crsm_port.specs.Meaning.{Meaning, Traffic, Receives as PortReceives, Takes}
-use Rattle.crsm_port.specs.declared.port.Got.{Got}
 use Rattle.crsm_port.specs.declared.port.Got.TheVariants as got
+use Rattle.crsm_faults.specs.Plan.{Plan, Spends}
 use Rattle.crsm_turns.specs.Input.{Receives, IsFirst}
 use Rattle.crsm_turns.specs.declared.input.TakeError.{TakeError}
 use Rattle.crsm_turns.specs.declared.input.TakeError.TheVariants as error
-use Rattle.crsm_turns.specs.declared.input.Taken.{Taken}
 use Rattle.crsm_turns.specs.declared.input.Taken.TheVariants as taken
 
 -- the prefix that was copied is the prefix of the datagram
@@ -25,6 +24,13 @@ cut (suc n) zero d h = absurd (omega arith)
 cut (suc n) (suc most) [] h = absurd (omega arith)
 cut (suc n) (suc most) (y ∷ d) h = ap (λ r. y ∷ r) (cut n most d (omega arith))
 
+-- what a call took of the room, whatever it gave
+goes_so : {A B : Type 0} {a : A} {b : B} (old new : Option Plan) → Spends 0 0 old new (Ok a) → Spends {T = B} 0 0 old new (Ok b)
+goes_so old new s = record { untold = s.untold; told = s.told; exact = s.exact; spends = s.spends }
+
+fails_so : {A B : Type 0} (old new : Option Plan) (d e : Failed) → Spends {T = A} 0 0 old new (Err d) → Spends {T = B} 0 0 old new (Err e)
+fails_so old new d e s = record { untold = s.untold; told = s.told; exact = s.exact; spends = s.spends }
+
 pub fails : (old new : Meaning) (before after : List ℕ) (e : Failed) → PortReceives old new before after (Err e) → Receives (length before) after old new (Err error.PortFault)
 fails old new before after e r = record {
   losses = r.losses;
@@ -33,7 +39,12 @@ fails old new before after e r = record {
   fault = λ _. r.failed;
   no_fault = λ k. absurd (k refl);
   first = λ t u a b. tt;
+  not_empty = λ _. r.not_empty;
   none_taken = λ _. r.untaken;
+  told = r.told;
+  coat = r.coat;
+  lent = r.lent;
+  plan = fails_so old.plan new.plan e (record {}) r.plan;
   well = λ p a good is. none_is_some (sym good ∙ (r.plan.exact p a (omega arith) (omega arith)).0 refl);
 }
   where
@@ -48,7 +59,12 @@ nothing old new before after r = record {
   fault = λ is. absurd (ok is);
   no_fault = λ _. r.no_fault;
   first = λ t u a b. ((r.taken t u a b).0, (r.taken t u a b).1);
+  not_empty = λ is. absurd (ok is);
   none_taken = λ is. absurd (ok is);
+  told = r.told;
+  coat = r.coat;
+  lent = r.lent;
+  plan = goes_so old.plan new.plan r.plan;
   well = λ p a good is. ok is;
 }
   where
@@ -64,13 +80,19 @@ datagram old new before after from len r = record {
   fault = λ is. absurd (ok is);
   no_fault = λ _. r.no_fault;
   first = λ t u a b. as_first t u (r.taken t u a b);
+  not_empty = λ is. absurd (ok is);
   none_taken = λ is. absurd (ok is);
+  told = r.told;
+  coat = r.coat;
+  lent = r.lent;
+  plan = goes_so old.plan new.plan r.plan;
   well = λ p a good is. ok is;
 }
   where
     ok : IsErrOf {E = TakeError} (Ok (taken.Datagram from len)) error.PortFault → ⊥
     ok h = cc
 
-    as_first : (t u : Traffic) → Takes t u before after (got.Datagram from len) → IsFirst (length before) after t u (taken.Datagram from len)
+    as_first : (t u : Traffic) → Takes old.coat t u before after (got.Datagram from len) → IsFirst (length before) after old.coat t u (taken.Datagram from len)
     as_first t u (d, rest, waits, address, size, copied, gone) =
-        (d, rest, waits, address, ap (take len) copied ∙ prefix len d.bytes (drop len before) (omega arith) ∙ cut len (length before) d.bytes size, gone)
+        let bytes = (old.coat.unwrap d).bytes in
+        (d, rest, waits, address, ap (take len) copied ∙ prefix len bytes (drop len before) (omega (arith, size)) ∙ cut len (length before) bytes size, gone)

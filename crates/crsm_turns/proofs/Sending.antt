@@ -1,10 +1,11 @@
 -- One datagram after another goes out.
-use Rattle.std.proofs.Common.{◌≡◌, ◌+◌, ◌≤◌, ◌<◌, take, drop, get_or, ℕ, suc, List, [], ◌∷◌, ◌++◌, length, Option, Some, None, Result, Ok, Err, refl, sym, ◌∙◌, ap, subst, option_map, append-nil, append_assoc, inl, inr, arith}
+use Rattle.std.proofs.Common.{◌≡◌, ◌+◌, ◌≤◌, ◌<◌, take, drop, get_or, ℕ, suc, List, [], ◌∷◌, ◌++◌, map, length, Option, Some, None, Result, Ok, Err, refl, sym, ◌∙◌, ap, subst, option_map, append-nil, append_assoc, inl, inr, arith}
+use Rattle.std.proofs.lemmas.List.{map-append}
 use Rattle.crsm_base.specs.declared.memory.Failed.{Failed}
 use Rattle.crsm_faults.specs.Counts.{Rose}
 use Rattle.crsm_faults.specs.Plan.{Plan, spent}
 use Rattle.crsm_faults.specs.Failing.{one_less}
-use Rattle.crsm_port.specs.Meaning.{Meaning, Post, Traffic, Sends, with_sent}
+use Rattle.crsm_port.specs.Meaning.{Coat, Meaning, Post, Traffic, Sends, with_sent}
 use Rattle.crsm_turns.proofs.Letters.{one_letter}
 use Rattle.crsm_turns.specs.Letters.{posts_of, size_of}
 use Rattle.crsm_turns.specs.declared.outbox.Letter.{Letter}
@@ -38,9 +39,18 @@ none_more : (t : Option Traffic) → t ≡ option_map (with_all_sent []) t
 none_more None = refl
 none_more (Some t) = ap (λ ps. Some (record t { sent = ps })) (sym (append-nil t.sent))
 
-one_told : (t : Option Traffic) (out : List Post) (d : Post) → option_map (with_sent d) (option_map (with_all_sent out) t) ≡ option_map (with_all_sent (out ++ d ∷ [])) t
-one_told None out d = refl
-one_told (Some t) out d = ap (λ ps. Some (record t { sent = ps })) (append_assoc t.sent out (d ∷ []))
+-- one more, behind those that went out, each with the coat on
+one_told : (c : Coat) (t : Option Traffic) (out : List Post) (d : Post)
+    → option_map (with_sent (c.wrap d)) (option_map (with_all_sent (map c.wrap out)) t) ≡ option_map (with_all_sent (map c.wrap (out ++ d ∷ []))) t
+one_told c None out d = refl
+one_told c (Some t) out d =
+    ap (λ ps. Some (record t { sent = ps })) (append_assoc t.sent (map c.wrap out) (c.wrap d ∷ []) ∙ ap (λ ps. t.sent ++ ps) (sym (map-append c.wrap out (d ∷ []))))
+
+-- the coat of the second port is that of the first
+told_on : (a c : Coat) (t u v : Option Traffic) (out : List Post) (d : Post) → c ≡ a → u ≡ option_map (with_all_sent (map a.wrap out)) t → v ≡ option_map (with_sent (c.wrap d)) u
+    → v ≡ option_map (with_all_sent (map a.wrap (out ++ d ∷ []))) t
+told_on a c t u v out d same before more =
+    more ∙ ap (λ (k : Coat). option_map (with_sent (k.wrap d)) u) same ∙ ap (option_map (with_sent (a.wrap d))) before ∙ one_told a t out d
 
 -- ---- plans without an end
 
@@ -63,6 +73,8 @@ nothing_sent m = record {
   faults = refl;
   empties = refl;
   later = omega arith;
+  coat = refl;
+  lent = refl;
   out = record { out = []; missing = 0; lacks = (refl, refl); counted = omega arith; traffic = none_more m.traffic };
   whole = λ p told good room bytes. record { losses = refl; traffic = none_more m.traffic; plan = told ∙ ap Some (sym (spent_none p good)) };
 }
@@ -74,7 +86,7 @@ module _ {T : Type 0} (posts : List Post) (d : Post) (a b c : Meaning) (s : Send
     missing = s.out.missing;
     lacks = goes _ posts _ d s.out.lacks;
     counted = let on = s.out.counted in let same = r.no_loss in omega arith;
-    traffic = r.sent ∙ ap (option_map (with_sent d)) s.out.traffic ∙ one_told a.traffic s.out.out d;
+    traffic = told_on a.coat b.coat a.traffic b.traffic c.traffic s.out.out d s.coat s.out.traffic r.sent;
   }
 
   lost_out : (e : Failed) → Sends {T = T} d.address d.bytes b c (Err e) → GoesOut (posts ++ d ∷ []) a c
@@ -91,6 +103,8 @@ module _ {T : Type 0} (posts : List Post) (d : Post) (a b c : Meaning) (s : Send
     faults = r.faults ∙ s.faults;
     empties = r.empties ∙ s.empties;
     later = let one = s.later in let two = r.later in omega arith;
+    coat = r.coat ∙ s.coat;
+    lent = r.lent ∙ s.lent;
     out = by_result result r;
     whole = λ p told good room size.
         let more = length_behind posts d in
@@ -101,7 +115,7 @@ module _ {T : Type 0} (posts : List Post) (d : Post) (a b c : Meaning) (s : Send
       all_well : (p : Plan) → p.good ≡ None → length posts + 1 ≤ p.calls → bytes_in posts + length d.bytes ≤ p.bytes → GoesWhole posts p a b → (result : Result T Failed) → Sends d.address d.bytes b c result → GoesWhole (posts ++ d ∷ []) p a c
       all_well p good room size before (Ok x) r = record {
         losses = r.no_loss ∙ before.losses;
-        traffic = r.sent ∙ ap (option_map (with_sent d)) before.traffic ∙ one_told a.traffic posts d;
+        traffic = told_on a.coat b.coat a.traffic b.traffic c.traffic posts d s.coat before.traffic r.sent;
         plan = rw (length_behind posts d, bytes_behind posts d) (r.plan.spends _ before.plan ∙ ap Some (spent_more p (length posts) (bytes_in posts) (length d.bytes) good));
       }
       all_well p good room size before (Err e) r =

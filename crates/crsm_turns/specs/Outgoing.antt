@@ -1,5 +1,5 @@
 -- Datagrams that go out over a port.
-use Rattle.std.specs.Prelude.{◌≡◌, ◌⊎◌, ◌+◌, ◌-◌, ◌^◌, ◌≤◌, ℕ, suc, min, List, [], ◌∷◌, ◌++◌, length, Option, Some, None, option_map, slice_get}
+use Rattle.std.specs.Prelude.{◌≡◌, ◌⊎◌, ◌+◌, ◌-◌, ◌^◌, ◌≤◌, ℕ, suc, min, List, [], ◌∷◌, ◌++◌, length, map, Option, Some, None, option_map, slice_get}
 use Rattle.std.specs.List.{flat_map}
 use Rattle.crsm_base.specs.declared.send.Send.{Send}
 use Rattle.crsm_base.specs.declared.send.To.{To}
@@ -51,18 +51,18 @@ raised_by times count = min (count + times) (2 ^ 64 - 1)
 abbrev pub with_all_sent : List Post → Traffic → Traffic
 with_all_sent out t = record t { sent = t.sent ++ out }
 
--- at most as many are missing as the count of losses rose by
+-- at most as many are missing as the count of losses rose by; those that went out are told as the coat has them
 pub record GoesOut (posts : List Post) (old new : Meaning) : Type 0 where
   pub out : List Post
   pub missing : ℕ
   pub lacks : Lacks missing posts out
   pub counted : raised_by missing old.losses ≤ new.losses
-  pub traffic : new.traffic ≡ option_map (with_all_sent out) old.traffic
+  pub traffic : new.traffic ≡ option_map (with_all_sent (map old.coat.wrap out)) old.traffic
 
 -- all of them go out
 pub record GoesWhole (posts : List Post) (p : Plan) (old new : Meaning) : Type 0 where
   pub losses : new.losses ≡ old.losses
-  pub traffic : new.traffic ≡ option_map (with_all_sent posts) old.traffic
+  pub traffic : new.traffic ≡ option_map (with_all_sent (map old.coat.wrap posts)) old.traffic
   pub plan : new.plan ≡ Some (spent (length posts) (bytes_in posts) p)
 
 -- what sending all of these owes
@@ -70,6 +70,8 @@ pub record SendsAll (posts : List Post) (old new : Meaning) : Type 0 where
   pub faults : new.faults ≡ old.faults
   pub empties : new.empties ≡ old.empties
   pub later : old.losses ≤ new.losses
+  pub coat : new.coat ≡ old.coat
+  pub lent : new.lent ≡ old.lent
   pub out : GoesOut posts old new
   -- where all calls of the port go well and there is room
   pub whole : (p : Plan) → old.plan ≡ Some p → p.good ≡ None → length posts ≤ p.calls → bytes_in posts ≤ p.bytes → GoesWhole posts p old new

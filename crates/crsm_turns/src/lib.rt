@@ -5,8 +5,6 @@
 mod body;
 mod input;
 mod outbox;
-#[cfg(test)]
-mod tests;
 
 pub use body::write_records;
 pub use input::{TakeError, Taken, What, take_input};

@@ -4,9 +4,11 @@ use Rattle.std.proofs.lemmas.Bool.Decides.{nat_tests}
 use Rattle.crsm_image.specs.Calls.{synced, wrote}
 use Rattle.crsm_log.specs.Log.{Used, mount_calls, mount_count, recorded}
 use Rattle.crsm_log.specs.Format.{found}
-use Rattle.crsm_log.proofs.Crash.{reading_short}
+use Rattle.crsm_log.specs.First.{ReadsFile}
+use Rattle.crsm_log.specs.Format.{cluster_among, entries_in, reading_in, size}
+use Rattle.crsm_log.proofs.Crash.{items_short}
 use Rattle.crsm_log.specs.declared.errors.MountError.TheVariants.{DiskFault, BadGate}
-use Rattle.crsm_log.proofs.Mounts.{short_leaves, short_settles, three_more, used_five}
+use Rattle.crsm_log.proofs.Mounts.{long_holds, long_mounts, short_holds, short_leaves, short_settles, three_more, used_five}
 use Rattle.crsm_log.proofs.device.read_log.Goals as goal
 
 not_bad : (entry : ℕ) → DiskFault ≡ BadGate entry → ⊥
@@ -25,6 +27,7 @@ returns-in_err-write_and_sync-clause-err g c =
       goes = record {
         honest = ran.goes.honest ∙ c.contents.ensures.goes.honest;
         fill = ran.goes.fill ∙ c.contents.ensures.goes.fill;
+        lent = ran.goes.lent ∙ c.contents.ensures.goes.lent;
         later = omega (arith, ran.goes.later, c.contents.ensures.goes.later);
       };
       any_moment = λ honest.
@@ -38,7 +41,7 @@ returns-in_err-write_and_sync-clause-err g c =
           let room = fetch.plan p is in
           let count : mount_count m0.seen ≡ 5 = let lt = short honest in grind (arith, nat_tests) in
           let stops = ran.stops in
-          let met = stops.good room.0 room.1 (room.4.0, omega (arith, room.4.1)) in
+          let met = stops.good room.0 room.1 (omega (arith, room.4.0, c.requires.calls), omega (arith, room.4.1, c.requires.bytes)) in
           (3 + stops.made, omega (arith, count, stops.short), three_more p.good stops.made room.3 (sym room.2 ∙ met));
     })
 
@@ -63,11 +66,14 @@ returns-then-len-lt6-clause-ok g c =
       goes = record {
         honest = ran.goes.honest ∙ c.contents.ensures.goes.honest;
         fill = ran.goes.fill ∙ c.contents.ensures.goes.fill;
+        lent = ran.goes.lent ∙ c.contents.ensures.goes.lent;
         later = omega (arith, ran.goes.later, c.contents.ensures.goes.later);
       };
       settled = λ honest. (settles honest).0;
-      read = λ honest. reading_short m0.seen (short honest) ∙ ap found (sym c.new.ensures);
-      kept = λ honest. (settles honest).1 ∙ ap found (sym c.new.ensures);
+      read = λ honest. ap reading_in (items_short m0.seen (short honest)) ∙ ap found (sym c.new.ensures);
+      kept = λ honest. ap reading_in (settles honest).1 ∙ ap found (sym c.new.ensures);
+      cluster = λ honest. ap (λ i. cluster_among (entries_in i)) ((settles honest).1 ∙ sym (items_short m0.seen (short honest)));
+      gate = λ honest. sym (ap (λ i. size (entries_in i)) (items_short m0.seen (short honest)));
       any_moment = λ honest. short_leaves m0 m1 m2 (short honest) (fetch.seen honest) (c.contents.ensures.any_moment honest) (c.write_and_sync.ensures.any_moment (h1 honest) (fetch.durable honest));
       history = λ honest.
           ran.history ∙ ap (recorded (wrote 0 (0 ∷ []) ∷ synced ∷ [])) fetch.history
@@ -76,5 +82,30 @@ returns-then-len-lt6-clause-ok g c =
           let room = fetch.plan p is in
           let U : ℕ → Type 0 = λ n. Used n p m2.plan in
           subst U (sym (short_count m0.seen (short honest)))
-          (used_five p room.0 _ m2.plan room.3 room.2 (ran.good room.0 room.1 (room.4.0, omega (arith, room.4.1))) (wrote_gate.plan room.0 room.1));
+          (used_five p room.0 _ m2.plan room.3 room.2 (ran.good room.0 room.1 (omega (arith, room.4.0, c.requires.calls), omega (arith, room.4.1, c.requires.bytes))) (wrote_gate.plan room.0 room.1));
     }
+
+pub returns-then-len-lt6-clause-holds : goal.returns-then-len-lt6-clause-holds
+returns-then-len-lt6-clause-holds g c honest =
+    let short : length (g.D.Disk.meaning c.args.disk.now).seen < 6 = let e = ap length (c.in_ok-file.ensures.ok.read honest) in omega (arith, e, c.len.ensures) in
+    short_holds _ _ _ short refl refl
+
+pub returns-then-len-lt6-clause-room : goal.returns-then-len-lt6-clause-room
+returns-then-len-lt6-clause-room g c p is =
+    let room = c.in_ok-file.ensures.ok.plan p is in
+    (_, c.in_ok-write_and_sync.ensures.plan room.0 room.1, (omega (arith, room.4.0), omega (arith, room.4.1)))
+
+pub returns-clause-ok : goal.returns-clause-ok
+returns-clause-ok g c =
+    let R : List ℕ → Type 0 = λ file. ReadsFile file c.in_ok-held.held in
+    long_mounts _ _ _ _ c.in_ok-file.file.items c.in_ok-held.held (omega (arith, c.len.ensures, c.if-len-lt6.false)) c.in_ok-file.ensures.ok (subst R c.deref.ensures.value c.in_ok-held.ensures.read) c.contents.ensures.goes c.contents.ensures.any_moment
+
+pub returns-clause-holds : goal.returns-clause-holds
+returns-clause-holds g c honest =
+    let R : List ℕ → Type 0 = λ file. ReadsFile file c.in_ok-held.held in
+    long_holds _ _ _ _ c.in_ok-file.file.items c.in_ok-held.held (omega (arith, c.len.ensures, c.if-len-lt6.false)) c.in_ok-file.ensures.ok (subst R c.deref.ensures.value c.in_ok-held.ensures.read) honest
+
+pub returns-clause-room : goal.returns-clause-room
+returns-clause-room g c p is =
+    let room = c.in_ok-file.ensures.ok.plan p is in
+    (room.0, room.1, (omega (arith, room.4.0), omega (arith, room.4.1)))

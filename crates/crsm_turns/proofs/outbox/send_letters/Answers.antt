@@ -11,5 +11,5 @@ loop-letter-preserved g c = (
   next_rest c.args.letters.now c.loop-letter.letter-index (record { to = 0; len = 0 }) c.args.text.now c.loop-letter.rest.now c.split_at.result.1.now c.loop-letter-test.true c.loop-letter.invariant.0
       c.split_at.ensures.back,
   one_letter_more c.args.letters.now c.loop-letter.letter-index (record { to = 0; len = 0 }) c.args.text.now c.loop-letter.rest.now c.split_at.result.0.now _ _ _ c.send.result
-      c.loop-letter-test.true c.loop-letter.invariant.0 c.split_at.ensures.prefix c.loop-letter.invariant.1 c.send.ensures,
+      c.loop-letter-test.true c.loop-letter.invariant.0 c.split_at.ensures.front c.loop-letter.invariant.1 c.send.ensures,
 )

@@ -1,0 +1,79 @@
+-- How a log is claimed for a cluster.
+use Rattle.std.specs.Prelude.{◌≡◌, ◌≢◌, ◌⊎◌, ℕ, ◌+◌, ◌<◌, List, [], ◌++◌, Bool, false, not, Option, Some, None, if◌then◌else◌, ◌==◌}
+use Rattle.crsm_base.specs.declared.limits.TheConstants.{MAX_LOG_BYTES}
+use Rattle.crsm_faults.specs.Plan.{Plan}
+use Rattle.crsm_image.specs.Calls.{Call}
+use Rattle.crsm_disk.specs.Meaning.{LeavesOnly, Meaning, Only}
+use Rattle.crsm_log.specs.Format.{bad, bodies_of, cluster_entry, cluster_of, found, gate_in, reading}
+use Rattle.crsm_log.specs.Log.{IsAsBefore, MeetsIn, Used, entry_calls, mount_calls, mount_count, recorded}
+use Rattle.crsm_log.specs.declared.entry.Held.{Held}
+use Rattle.crsm_log.specs.declared.errors.ClaimError.{ClaimError}
+use Rattle.crsm_log.specs.declared.errors.ClaimError.TheVariants.{DiskFault, BadGate, OtherCluster, Full, NoMemory}
+
+-- a log that names no cluster gets an entry, unless it is claimed for number 0
+abbrev pub wants_entry : Option ℕ → ℕ → Bool
+wants_entry None cluster = not (cluster == 0)
+wants_entry (Some named) cluster = false
+
+-- the cluster that a log names once it is claimed
+abbrev pub claimed : Option ℕ → ℕ → Option ℕ
+claimed None cluster = if cluster == 0 then None else Some cluster
+claimed (Some named) cluster = Some named
+
+-- it names no cluster, or this one
+abbrev pub IsOpenTo : ℕ → Option ℕ → Type 0
+IsOpenTo cluster None = Unit {0}
+IsOpenTo cluster (Some named) = named ≡ cluster
+
+-- the calls of a disk that claim this file
+abbrev pub entry_if : Bool → ℕ → ℕ → List Call
+entry_if wanted gate cluster = if wanted then entry_calls gate (cluster_entry cluster) else []
+
+abbrev pub claim_calls : List ℕ → ℕ → List Call
+claim_calls file cluster = mount_calls file ++ entry_if (wants_entry (cluster_of file) cluster) (gate_in file) cluster
+
+-- and how many there are, with those that only read
+abbrev pub claim_count : List ℕ → ℕ → ℕ
+claim_count file cluster = mount_count file + (if wants_entry (cluster_of file) cluster then 4 else 0)
+
+-- the bodies of before, and the cluster of before or the claimed one
+pub record IsClaimed (before : List ℕ) (cluster : ℕ) (file : List ℕ) : Type 0 where
+  pub bodies : reading file ≡ reading before
+  pub names : (cluster_of file ≡ cluster_of before) ⊎ (cluster_of file ≡ claimed (cluster_of before) cluster)
+
+-- what a crash might have left before, or such a file
+abbrev pub IsClaimedOrBefore : Meaning → ℕ → List ℕ → Type 0
+IsClaimedOrBefore old cluster file = old.may_leave file ⊎ IsClaimed old.seen cluster file
+
+-- what the disk held when the log was read
+pub record Holds (old new : Meaning) (held : Held) : Type 0 where
+  pub cluster : cluster_of old.seen ≡ held.cluster
+  pub gate : gate_in old.seen ≡ held.gate
+  pub unwritten : (new.seen ≡ old.seen) ⊎ ((held.gate ≡ 0) × (held.cluster ≡ None))
+
+-- why a log that names this cluster, or none, is not claimed for that one
+abbrev pub Forbids : ℕ → Option ℕ → ℕ → ClaimError → Type 0
+Forbids gate named cluster DiskFault = ⊥
+Forbids gate named cluster (BadGate entry) = ⊥
+Forbids gate named cluster (OtherCluster other) = (named ≡ Some other) × (other ≢ cluster)
+Forbids gate named cluster (Full end) = (named ≡ None) × (cluster ≢ 0) × (end ≡ gate + 14) × (MAX_LOG_BYTES < end)
+Forbids gate named cluster NoMemory = ⊥
+
+-- an honest disk is claimed
+pub record Claims (old new : Meaning) (cluster : ℕ) : Type 0 where
+  pub whole : reading old.seen ≡ found (bodies_of old.seen)
+  pub open_to : IsOpenTo cluster (cluster_of old.seen)
+  pub bodies : reading new.seen ≡ reading old.seen
+  pub names : cluster_of new.seen ≡ claimed (cluster_of old.seen) cluster
+  pub durable : Only new.seen new.may_leave
+  pub history : new.history ≡ recorded (claim_calls old.seen cluster) old.history
+  pub good : (p : Plan) → old.plan ≡ Some p → Used (claim_count old.seen cluster) p new.plan
+
+-- it is not, and why
+pub record RefusesClaim (old new : Meaning) (cluster : ℕ) (why : ClaimError) : Type 0 where
+  pub bad_gate : (entry : ℕ) → why ≡ BadGate entry → reading old.seen ≡ bad entry
+  pub other : (named : ℕ) → why ≡ OtherCluster named → (cluster_of old.seen ≡ Some named) × (named ≢ cluster)
+  pub full : (end : ℕ) → why ≡ Full end → (cluster_of old.seen ≡ None) × (cluster ≢ 0) × (end ≡ gate_in old.seen + 14) × (MAX_LOG_BYTES < end)
+  pub unwritten : (why ≡ DiskFault → ⊥) → new.seen ≡ old.seen
+  pub as_before : (why ≡ DiskFault → ⊥) → LeavesOnly old new (IsAsBefore old)
+  pub good : why ≡ DiskFault → MeetsIn (claim_count old.seen cluster) old.plan

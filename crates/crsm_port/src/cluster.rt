@@ -1,0 +1,163 @@
+//! A port of a cluster, over a port that the clusters of a network share.
+
+ghost use Rattle.std.specs.Prelude.{◌≡◌, ◌≢◌, ℕ, ◌+◌, ◌++◌, ◌*◌, ◌≤◌, length, take, IfOk, IfSome};
+ghost use Rattle.crsm_port.specs.Meaning.{Receives, Sends};
+ghost use Rattle.crsm_port.specs.Cluster.{IsShort, clustered, mark_of, unwrapped, wrapped};
+
+use crate::memory::copy;
+use crate::{Got, Port};
+use crsm_base::{Failed, NoMemory};
+use crsm_faults::raise;
+use std::alloc::Global;
+
+// The byte 16 and the number stand in front of a datagram.
+const MARK: usize = 9;
+
+const MOST_SENT: usize = 8_183;
+// The most bytes of a datagram, and its mark.
+const MOST_ON_THE_WIRE: usize = 8_201;
+
+/// A port of one of the clusters that share a network. A datagram stands on the wire behind the byte 16 and the
+/// number of its cluster, and one of another cluster comes up with no bytes. The datagrams of cluster 0 go as they are.
+/// A send of more than 8,183 bytes to another cluster than 0 is a loss.
+#[derive(Drop)]
+pub struct ClusterPort<P> {
+    inner: P,
+    cluster: u64,
+    // A datagram on its way up or down.
+    room: Vec<u8>,
+    too_long: u64,
+    ghost sized: { length room.items ≡ 8201 },
+}
+
+impl<P: Drop> ClusterPort<P> {
+    /// A port of a cluster over this one.
+    pub fn new(alloc: Global, inner: P, cluster: u64) -> Result<ClusterPort<P>, NoMemory>
+        ensures { IfOk result (λ p. (p.inner ≡ inner) × (p.cluster ≡ cluster) × (p.too_long ≡ 0)) }
+    {
+        let room = Vec::from_elem(alloc, 0u8, MOST_ON_THE_WIRE)?;
+        Ok(ClusterPort {
+            inner,
+            cluster,
+            room,
+            too_long: 0,
+        })
+    }
+
+    /// The port below.
+    pub fn into_inner(self) -> P
+        ensures { result ≡ self.inner }
+    {
+        self.inner
+    }
+}
+
+// A datagram of another cluster is handed up with no bytes.
+fn recv_wrapped<P: Port>(
+    inner: &mut P,
+    wire: &mut [u8],
+    cluster: u64,
+    buf: &mut [u8],
+) -> Result<Got, Failed>
+    requires cluster { cluster ≢ 0 }
+    requires room { length wire.old ≡ 8201 }
+    ensures { (too_long : ℕ) → Receives (clustered cluster too_long (P.meaning inner.old)) (clustered cluster too_long (P.meaning inner.new)) buf.old buf.new result }
+{
+    match inner.recv(wire) {
+        Err(Failed) => Err(Failed),
+        Ok(Got::Nothing) => Ok(Got::Nothing),
+        Ok(Got::Datagram { from, len }) => {
+            let len = copy(own_bytes(&wire[..len], cluster), buf);
+            Ok(Got::Datagram { from, len })
+        }
+    }
+}
+
+impl<P: Port> ClusterPort<P> {
+    // There is room for the datagram behind its mark.
+    fn send_wrapped(&mut self, to: u64, bytes: &[u8]) -> Result<(), Failed>
+        requires cluster { self.old.cluster ≢ 0 }
+        requires short { length bytes.now ≤ 8183 }
+        ensures inner { Sends to (wrapped self.old.cluster bytes.now) (P.meaning self.old.inner) (P.meaning self.new.inner) result }
+        ensures same { (self.new.cluster ≡ self.old.cluster) × (self.new.too_long ≡ self.old.too_long) }
+    {
+        let len = wrap(&mut self.room, self.cluster, bytes);
+        self.inner.send(to, &self.room[..len])
+    }
+}
+
+#[tactic(auto, unfolding(crsm_base::specs::Spelling::u64_bytes))]
+fn mark(cluster: u64) -> [u8; MARK]
+    ensures { result ≡ mark_of cluster }
+{
+    let mut mark = [16u8; MARK];
+    mark[1..].copy_from_slice(&cluster.to_be_bytes());
+    mark
+}
+
+// Writes a datagram and its mark from the first byte on, and tells how many bytes that are.
+fn wrap(room: &mut [u8], cluster: u64, bytes: &[u8]) -> usize
+    requires { 9 + length bytes.now ≤ length room.old }
+    ensures len { result ≡ 9 + length bytes.now }
+    ensures bytes { take result room.new ≡ mark_of cluster ++ bytes.now }
+{
+    let (front, rest) = room.split_at_mut(MARK);
+    front.copy_from_slice(&mark(cluster));
+    copy(bytes, rest) + MARK
+}
+
+// What stands behind the mark of the cluster.
+fn own_bytes(wire: &[u8], cluster: u64) -> &[u8]
+    requires { cluster ≢ 0 }
+    ensures { result.now ≡ unwrapped cluster wire.now }
+{
+    match wire.starts_with(&mark(cluster)) {
+        true => &wire[MARK..],
+        false => &[],
+    }
+}
+
+impl<P: Port> Port for ClusterPort<P> {
+    ghost meaning = { λ p. clustered p.cluster p.too_long (P.meaning p.inner) };
+
+    fn recv(&mut self, buf: &mut [u8]) -> Result<Got, Failed> {
+        match self.cluster {
+            0 => self.inner.recv(buf),
+            _ => recv_wrapped(&mut self.inner, &mut self.room, self.cluster, buf),
+        }
+    }
+
+    fn send(&mut self, to: u64, bytes: &[u8]) -> Result<(), Failed>
+        ensures sends { Sends to bytes.now (clustered self.old.cluster self.old.too_long (P.meaning self.old.inner)) (clustered self.new.cluster self.new.too_long (P.meaning self.new.inner)) result }
+        ensures fits { IsShort self.old.cluster bytes.now → Sends to (wrapped self.old.cluster bytes.now) (P.meaning self.old.inner) (P.meaning self.new.inner) result }
+        ensures too_long { (IsShort self.old.cluster bytes.now → ⊥) → P.meaning self.new.inner ≡ P.meaning self.old.inner }
+        ensures counted { IsShort self.old.cluster bytes.now → self.new.too_long ≡ self.old.too_long }
+    {
+        if self.cluster == 0 {
+            return self.inner.send(to, bytes);
+        }
+        if bytes.len() > MOST_SENT {
+            raise(&mut self.too_long);
+            return Err(Failed);
+        }
+        self.send_wrapped(to, bytes)
+    }
+
+    fn reserve(&mut self, sends: u64, bytes: u64) -> Result<(), NoMemory> {
+        match with_marks(sends, bytes) {
+            Some(bytes) => self.inner.reserve(sends, bytes),
+            None => Err(NoMemory),
+        }
+    }
+
+    fn hurry(&mut self) {
+        self.inner.hurry()
+    }
+}
+
+// So many bytes and the marks of so many sends.
+fn with_marks(sends: u64, bytes: u64) -> Option<u64>
+    ensures { IfSome result (λ n. n ≡ bytes + 9 * sends) }
+{
+    sends.checked_mul(MARK as u64)?.checked_add(bytes)
+}
