@@ -2,7 +2,7 @@
 use Rattle.std.proofs.Common.{◌≡◌, ℕ, min, List, [], ◌++◌, length, take, drop, Option, Some, None, Ok, Bor, refl, sym, ◌∙◌, ap, subst, arith}
 use Rattle.crsm_faults.specs.Plan.{Plan}
 use Rattle.crsm_port.specs.declared.port.Got.TheVariants as got
-use Rattle.crsm_port.specs.Meaning.{Post, Receives, Takes, Traffic}
+use Rattle.crsm_port.specs.Meaning.{Post, Receives, Takes, Traffic, plain}
 use Rattle.crsm_machine.specs.declared.inlet.Inlet.{Inlet}
 use Rattle.crsm_machine.specs.declared.inlet.Letter.{Letter}
 use Rattle.crsm_machine.specs.declared.inlet.Letter.TheVariants as letter
@@ -20,12 +20,12 @@ no_plan p h = cc
 
 -- the datagram that waits is taken
 takes : (from : ℕ) (bytes : Bor (List ℕ)) (before after : List ℕ) (len : ℕ) → len ≡ min (length before) (length bytes.now) → after ≡ take len bytes.now ++ drop len before → (t u : Traffic) →
-    Some (traffic_of (letter.Waits from bytes)) ≡ Some t → Some (traffic_of (letter.Taken from bytes)) ≡ Some u → Takes t u before after (got.Datagram from len)
+    Some (traffic_of (letter.Waits from bytes)) ≡ Some t → Some (traffic_of (letter.Taken from bytes)) ≡ Some u → Takes plain t u before after (got.Datagram from len)
 takes from bytes before after len size copied t u told new =
     let d : Post = record { address = from; bytes = bytes.now } in
-    let first : Takes (traffic_of (letter.Waits from bytes)) (traffic_of (letter.Taken from bytes)) before after (got.Datagram from len) = (d, [], refl, refl, size, copied, refl) in
-    subst (λ (x : Traffic). Takes x u before after (got.Datagram from len)) (ap traffic_or told)
-    (subst (λ (x : Traffic). Takes (traffic_of (letter.Waits from bytes)) x before after (got.Datagram from len)) (ap traffic_or new) first)
+    let first : Takes plain (traffic_of (letter.Waits from bytes)) (traffic_of (letter.Taken from bytes)) before after (got.Datagram from len) = (d, [], refl, refl, size, copied, refl) in
+    subst (λ (x : Traffic). Takes plain x u before after (got.Datagram from len)) (ap traffic_or told)
+    (subst (λ (x : Traffic). Takes plain (traffic_of (letter.Waits from bytes)) x before after (got.Datagram from len)) (ap traffic_or new) first)
 
 -- the inlet before and after
 abbrev inlet_of : Letter → (empties losses : ℕ) → Inlet
@@ -45,6 +45,8 @@ came l from bytes empties losses before after len is size copied = record {
   taken = λ t u told new. takes from bytes before after len size copied t u (ap (λ (k : Letter). Some (traffic_of k)) (sym is) ∙ told) new;
   untaken = tt;
   told = (λ _. refl, λ _. refl);
+  coat = refl;
+  lent = refl;
   plan = record {
     untold = λ _. refl;
     told = λ p h. absurd (no_plan p h);

@@ -2,7 +2,7 @@
 use Rattle.std.proofs.Common.{◌≡◌, ℕ, ◌≤◌, List, [], ◌∷◌, ◌++◌, length, take, Result, Ok, Err, Option, Some, None, is_some, refl, sym, ◌∙◌, ap, subst}
 use mathlib.Core.Bool.{false≢true}
 use Rattle.std.proofs.lemmas.List.{take_all}
-use Rattle.crsm_port.specs.Meaning.{Post, Traffic}
+use Rattle.crsm_port.specs.Meaning.{Post, Traffic, plain}
 use Rattle.crsm_spec.specs.Node.{Turn}
 use Rattle.crsm_turns.specs.declared.input.What.{What}
 use Rattle.crsm_turns.specs.declared.input.What.TheVariants as what
@@ -34,7 +34,7 @@ nothing : (d : Post) → [] ≡ d ∷ [] → ⊥
 nothing d e = false≢true (ap (λ (ds : List Post). is_some (first_post ds)) e)
 
 -- of one datagram that waits, and is short enough, all is taken
-received : (from : ℕ) (bytes : List ℕ) → length bytes ≤ 8192 → (t u : Traffic) → t.waiting ≡ (record { address = from; bytes = bytes }) ∷ [] → (buffer : List ℕ) (got : Taken) → IsFirst 8192 buffer t u got →
+received : (from : ℕ) (bytes : List ℕ) → length bytes ≤ 8192 → (t u : Traffic) → t.waiting ≡ (record { address = from; bytes = bytes }) ∷ [] → (buffer : List ℕ) (got : Taken) → IsFirst 8192 buffer plain t u got →
     turn_taken buffer got ≡ Turn.In from bytes
 unfolding turn_taken
 received from bytes short t u waits buffer taken.Tick first =

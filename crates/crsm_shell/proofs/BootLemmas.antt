@@ -13,9 +13,11 @@ use Rattle.crsm_faults.specs.Plan.{Plan}
 use Rattle.crsm_disk.specs.Meaning.{LeavesOnly, Meaning}
 use Rattle.crsm_disk.proofs.Moments.{joined, weaker}
 use Rattle.crsm_image.specs.Calls.{Call, History}
-use Rattle.crsm_ledger.specs.Recovered.{AreKept}
-use Rattle.crsm_log.specs.Format.{bodies_in, bodies_of, found, reading, size}
-use Rattle.crsm_log.specs.Log.{IsAsBefore, MeetsIn, Mounts, Used, mount_calls, mount_count, put_calls, recorded}
+use Rattle.crsm_ledger.specs.Recovered.{AreKept, IsBadAt}
+use Rattle.crsm_log.specs.declared.errors.MountError.{MountError}
+use Rattle.crsm_log.specs.declared.errors.MountError.TheVariants as mount
+use Rattle.crsm_log.specs.Format.{Reading, bodies_in, bodies_of, found, gate_in, reading, reading_in}
+use Rattle.crsm_log.specs.Log.{IsAsBefore, MeetsIn, Mounts, Refuses, Serves, Used, mount_calls, mount_count, put_calls, recorded}
 use Rattle.crsm_epoch_state.specs.EpochState.{EachFits}
 use Rattle.crsm_turns.specs.Outgoing.{posts_for}
 use Rattle.crsm_shell.specs.declared.begin.Begun.{Begun}
@@ -24,9 +26,9 @@ use Rattle.crsm_shell.specs.declared.errors.BootError.{BootError}
 use Rattle.crsm_shell.specs.declared.errors.BootError.TheVariants as boots
 use Rattle.crsm_shell.specs.declared.errors.TurnError.{TurnError}
 use Rattle.crsm_shell.specs.declared.errors.TurnError.TheVariants as errors
-use Rattle.crsm_shell.specs.Beginning.{BeginsOn}
-use Rattle.crsm_shell.specs.Booting.{Boots, BootsOn, FailsToKeep, IsBooted, IsBootedOrBefore, RefusesBoot, boot_body}
-use Rattle.crsm_shell.specs.Errors.{keep_failure}
+use Rattle.crsm_shell.specs.Beginning.{BeginsOn, IsRefusal}
+use Rattle.crsm_shell.specs.Booting.{AddsBoot, Boots, BootsOn, FailsToKeep, IsBooted, IsBootedOrBefore, IsLeftByBoot, IsOfLog, ReadsAsBefore, RefusesBoot, boot_body, refusal_count}
+use Rattle.crsm_shell.specs.Errors.{keep_failure, mount_failure}
 use Rattle.crsm_shell.specs.Flushing.{Adds, IsFull, IsLeft, IsPast, KeptWell, NotKept, keep_calls, keep_count}
 use Rattle.crsm_shell.specs.Shell.{HasLog, ShellStands, records_of, sends_of}
 use Rattle.crsm_shell.proofs.Boots.{boot_grown, boot_some, goes_behind, meets_behind, rose_behind, used_more}
@@ -63,6 +65,21 @@ no_bad_log errors.PortFault entry kind is = cc
 no_bad_log errors.Failed entry kind is = cc
 no_bad_log errors.NoMemory entry kind is = cc
 
+-- the calls of a mount that went well
+mounted_served : (me n : ℕ) (old mid : Meaning) (gate : ℕ) (bodies : List (List ℕ)) → Mounts old mid gate bodies → IsTrue old.honest →
+    (p : Plan) → old.plan ≡ Some p → Serves (refusal_count (reading old.seen) old.seen) p.good
+mounted_served me n old mid gate bodies mounts honest p told =
+    subst (λ (r : Reading). Serves (refusal_count r old.seen) p.good) (sym (mounts.read honest)) (mounts.good honest p told).served
+
+-- a body that is not empty is added behind the others
+adds_some : (body : List ℕ) (before after : List ℕ) → 0 < length body → Adds body before after → reading after ≡ found (bodies_of before ++ body ∷ [])
+adds_some [] before after some adds = absurd (omega (arith, some))
+adds_some (b ∷ body) before after some adds = adds
+
+-- a file with the entries of another reads as that one
+as_read : (old : Meaning) (file : List ℕ) → IsAsBefore old file → ReadsAsBefore old file
+as_read old file = elim [ inl may ↦ inl may | inr same ↦ inr (ap reading_in same) ]
+
 module _ (one : (a b : List Rec) (s : List ℕ) → SpeltBody a s → SpeltBody b s → a ≡ b) (me n : ℕ) (old mid : Meaning) (gate : ℕ) (bodies : List (List ℕ)) (log : Log) (begun : Begun)
     (mounts : Mounts old mid gate bodies) (are_kept : AreKept me n [] bodies log) (begins : BeginsOn begun me n log) where
   abbrev records : List Rec
@@ -97,8 +114,8 @@ module _ (one : (a b : List Rec) (s : List ℕ) → SpeltBody a s → SpeltBody 
   same_reading : IsTrue old.honest → reading mid.seen ≡ reading old.seen
   same_reading honest = mounts.kept honest ∙ sym (mounts.read honest)
 
-  gate_is : IsTrue old.honest → gate ≡ size (bodies_of old.seen)
-  gate_is honest = (mounts.settled honest).place ∙ ap size (same_bodies honest)
+  gate_is : IsTrue old.honest → gate ≡ gate_in old.seen
+  gate_is honest = mounts.gate honest
 
   there : IsTrue old.honest → HasLog me n mid.seen log
   there honest = has_log me n mid.seen bodies log (mounts.kept honest) are_kept
@@ -112,6 +129,12 @@ module _ (one : (a b : List Rec) (s : List ℕ) → SpeltBody a s → SpeltBody 
 
   honest_mid : IsTrue old.honest → IsTrue mid.honest
   honest_mid honest = mounts.goes.honest ∙ honest
+
+  there_before : IsTrue old.honest → HasLog me n old.seen log
+  there_before honest = has_log me n old.seen bodies log (mounts.read honest) are_kept
+
+  served_all : IsTrue old.honest → (p : Plan) → old.plan ≡ Some p → Serves (refusal_count (reading old.seen) old.seen) p.good
+  served_all honest p told = mounted_served me n old mid gate bodies mounts honest p told
 
   -- ---- it is kept
 
@@ -144,8 +167,8 @@ module _ (one : (a b : List Rec) (s : List ℕ) → SpeltBody a s → SpeltBody 
     boots_on honest = record {
       history = well.history ∙ ap (λ (calls : List Call). recorded calls mid.history) (some_calls gate begun.body body_some)
           ∙ ap (λ (k : ℕ). recorded (put_calls k begun.body) mid.history) (gate_is honest)
-          ∙ ap (λ (bs : List ℕ). recorded (put_calls (size (bodies_of old.seen)) bs) mid.history) begins.body
-          ∙ ap (recorded (put_calls (size (bodies_of old.seen)) (boot_body me n log))) (mounts.history honest);
+          ∙ ap (λ (bs : List ℕ). recorded (put_calls (gate_in old.seen) bs) mid.history) begins.body
+          ∙ ap (recorded (put_calls (gate_in old.seen) (boot_body me n log))) (mounts.history honest);
       plan = λ p told.
           let used = mounts.good honest p told in
           let more = well.plan used.left.0 (honest_mid honest) used.left.1 in
@@ -153,12 +176,33 @@ module _ (one : (a b : List Rec) (s : List ℕ) → SpeltBody a s → SpeltBody 
       fits = λ full. well.fits (subst (IsPast gate) (sym begins.body) (subst (λ (k : ℕ). IsPast k (boot_body me n log)) (sym (gate_is honest)) full));
     }
 
+    pub boot_added : IsTrue old.honest → AddsBoot me n b new
+    boot_added honest other kept =
+        let same = one_log other (subst (λ (bs : List (List ℕ)). AreKept me n [] bs other) booted.found kept) in
+        adds_some begun.body mid.seen new.seen body_some (well.added (honest_mid honest))
+        ∙ ap (λ (bs : List (List ℕ)). found (bs ++ begun.body ∷ [])) (same_bodies honest ∙ found_bodies honest ∙ sym booted.found)
+        ∙ ap (λ (body : List ℕ). found (b.bodies ++ body ∷ [])) (begins.body ∙ ap (boot_body me n) same)
+
   -- ---- a crash at any moment
+
+  pub left_by_boot : (new : Meaning) → IsTrue old.honest → LeavesOnly mid new (IsLeft (bodies_of mid.seen) begun.body) → LeavesOnly old new (IsLeftByBoot me n old)
+  left_by_boot new honest left =
+      let P = IsLeftByBoot me n old in
+      joined old mid new P (weaker old mid (IsAsBefore old) P (mounts.any_moment honest) (λ c h. inl (as_read old c h)))
+      (weaker mid new (IsLeft (bodies_of mid.seen) begun.body) P left (λ c. elim [
+        | inl is ↦ inl (inr (is ∙ sym (mounts.settled honest).whole ∙ same_reading honest))
+        | inr is ↦ inr (
+          log,
+          there_before honest,
+          is.1 ∙ ap (λ (bs : List (List ℕ)). found (bs ++ begun.body ∷ [])) (same_bodies honest)
+              ∙ ap (λ (body : List ℕ). found (bodies_of old.seen ++ body ∷ [])) begins.body,
+        )
+      ]))
 
   pub any_moment : (new : Meaning) → IsTrue old.honest → LeavesOnly mid new (IsLeft (bodies_of mid.seen) begun.body) → LeavesOnly old new (IsBootedOrBefore me n log old)
   any_moment new honest left =
       let P = IsBootedOrBefore me n log old in
-      joined old mid new P (weaker old mid (IsAsBefore old) P (mounts.any_moment honest) (λ c h. inl h))
+      joined old mid new P (weaker old mid (IsAsBefore old) P (mounts.any_moment honest) (λ c h. inl (as_read old c h)))
       (weaker mid new (IsLeft (bodies_of mid.seen) begun.body) P left (λ c. elim [
         | inl is ↦ inl (inr (is ∙ sym (mounts.settled honest).whole ∙ same_reading honest))
         | inr is ↦ inr (kept_after me n mid.seen log records (boot me n log).replica.log (there honest) group c
@@ -177,8 +221,66 @@ module _ (one : (a b : List Rec) (s : List ℕ) → SpeltBody a s → SpeltBody 
             let used = mounts.good honest p told in
             meets_behind (mount_count old.seen) stops.made p used.left.0 old.plan stops.short told used.served used.left.2 (stops.good used.left.0 (honest_mid honest) used.left.1) p told;
         bad_log = λ honest entry kind is. absurd (no_bad_log f.turn entry kind (sym f.is ∙ is));
-        full = λ honest other has is.
+        full = λ honest is.
             let past = k.full (log_full f.turn (sym f.is ∙ is)) in
-            let full : IsFull old.seen (boot_body me n log) = subst (IsPast (size (bodies_of old.seen))) begins.body (subst (λ (e : ℕ). IsPast e begun.body) (gate_is honest) past) in
-            subst (λ (l : Log). IsFull old.seen (boot_body me n l)) (same_log honest other has) full;
+            (log, there_before honest, subst (IsPast (gate_in old.seen)) begins.body (subst (λ (e : ℕ). IsPast e begun.body) (gate_is honest) past));
+        served = λ honest of_log p told. served_all honest p told;
+        stays = λ honest other. ap reading (k.unwritten (λ is. other (f.is ∙ ap keep_failure is))).seen ∙ same_reading honest;
       }
+
+-- ---- it is not begun
+
+-- a refused body is no full log
+module _ (me n : ℕ) (old mid : Meaning) (gate : ℕ) (bodies : List (List ℕ)) (mounts : Mounts old mid gate bodies) where
+  at_bodies : IsTrue old.honest → bodies ≡ bodies_of old.seen
+  at_bodies honest = sym (ap bodies_in (mounts.read honest))
+
+  found_again : IsTrue old.honest → reading old.seen ≡ found (bodies_of old.seen)
+  found_again honest = mounts.read honest ∙ ap found (at_bodies honest)
+
+  pub not_begun : (why : BootError) → IsRefusal me n bodies why → RefusesBoot me n old mid why
+  not_begun why refusal = record {
+    goes = mounts.goes;
+    fault = λ is. absurd (subst (IsRefusal me n bodies) is refusal);
+    meets = λ honest is. absurd (subst (IsRefusal me n bodies) is refusal);
+    bad_log = λ honest entry kind is.
+        inr (found_again honest, subst (λ (bs : List (List ℕ)). IsBadAt me n bs entry kind) (at_bodies honest) (subst (IsRefusal me n bodies) is refusal));
+    full = λ honest is. absurd (subst (IsRefusal me n bodies) is refusal);
+    served = λ honest of_log p told. mounted_served me n old mid gate bodies mounts honest p told;
+    stays = λ honest other. mounts.kept honest ∙ sym (mounts.read honest);
+  }
+
+-- ---- it is not mounted
+
+bad_gate_of : (why : MountError) (entry kind : ℕ) → mount_failure why ≡ boots.BadLog entry kind → (why ≡ mount.BadGate entry) × (kind ≡ 10)
+bad_gate_of mount.DiskFault entry kind is = absurd (cc)
+bad_gate_of (mount.BadGate e) entry kind is = (cc, cc)
+bad_gate_of mount.NoMemory entry kind is = absurd (cc)
+
+mount_fault_of : (why : MountError) → mount_failure why ≡ boots.DiskFault → why ≡ mount.DiskFault
+mount_fault_of mount.DiskFault is = refl
+mount_fault_of (mount.BadGate e) is = absurd (cc)
+mount_fault_of mount.NoMemory is = absurd (cc)
+
+never_full : (why : MountError) → mount_failure why ≡ boots.LogFull → ⊥
+never_full mount.DiskFault is = cc
+never_full (mount.BadGate e) is = cc
+never_full mount.NoMemory is = cc
+
+of_gate : (why : MountError) → IsOfLog (mount_failure why) → (entry : ℕ) × (why ≡ mount.BadGate entry)
+of_gate mount.DiskFault h = absurd h
+of_gate (mount.BadGate entry) h = (entry, refl)
+of_gate mount.NoMemory h = absurd h
+
+pub not_mounted : (me n : ℕ) (old new : Meaning) (why : MountError) → Refuses old new why → RefusesBoot me n old new (mount_failure why)
+not_mounted me n old new why refuses = record {
+  goes = refuses.goes;
+  fault = λ is. refuses.fault (mount_fault_of why is);
+  meets = λ honest is p told. let k = refuses.good honest (mount_fault_of why is) p told in let less = k.1 in (k.0, omega (arith, less), k.2);
+  bad_log = λ honest entry kind is. let b = bad_gate_of why entry kind is in inl (b.1, refuses.bad_gate honest entry b.0);
+  full = λ honest is. absurd (never_full why is);
+  served = λ honest of_log p told.
+      let b = of_gate why of_log in
+      subst (λ (r : Reading). Serves (refusal_count r old.seen) p.good) (sym (refuses.bad_gate honest b.0 b.1)) (refuses.served b.0 b.1 p told);
+  stays = λ honest other. ap reading (refuses.unwritten honest (λ is. other (ap mount_failure is)));
+}

@@ -15,7 +15,7 @@ use Rattle.crsm_faults.specs.Counts.{Rose, raised}
 use Rattle.crsm_faults.specs.Plan.{Plan}
 use Rattle.crsm_log.specs.Log.{Goes, MeetsIn, Serves, Used, less}
 use Rattle.crsm_disk.specs.Meaning.{Meaning}
-use Rattle.crsm_shell.proofs.Steps.{Grown}
+use Rattle.crsm_step_facts.specs.Steps.{Grown}
 
 -- ---- the records of a boot
 
@@ -66,7 +66,7 @@ pub rose_behind : (a b c : ℕ) → a ≤ b → Rose b c → Rose a c
 rose_behind a b c le rose = omega (arith, le, rose)
 
 pub goes_behind : (a b c : Meaning) → Goes a b → Goes b c → Goes a c
-goes_behind a b c p q = let l = p.later in let m = q.later in record { honest = q.honest ∙ p.honest; fill = q.fill ∙ p.fill; later = omega (arith, l, m) }
+goes_behind a b c p q = let l = p.later in let m = q.later in record { honest = q.honest ∙ p.honest; fill = q.fill ∙ p.fill; lent = q.lent ∙ p.lent; later = omega (arith, l, m) }
 
 -- ---- what a boot hands out
 

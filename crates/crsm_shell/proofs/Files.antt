@@ -109,8 +109,8 @@ kept_is (suc (suc zero)) fill bodies body h = refl
 kept_is (suc (suc (suc zero))) fill bodies body h = refl
 kept_is (suc (suc (suc (suc made)))) fill bodies body h = absurd (omega (arith, h))
 
-module _ (law : (h : History) (end : ℕ) (body : List ℕ) (fill made : ℕ) → IsTrue (is_synced h.calls) → IsWhole (contents h.first h.calls) end → made ≤ 4 → StopKeeps h end body made fill)
-    (m : Meaning) (end : ℕ) (body : List ℕ) (made : ℕ) (s : IsSettled m end) (short : made < 4) where
+module _ (law : (h : History) (end : ℕ) (body : List ℕ) (fill made : ℕ) → IsTrue (is_synced h.calls) → IsWhole (contents h.first h.calls) end → made ≤ 4 → length body < 2147483648 → StopKeeps h end body made fill)
+    (m : Meaning) (end : ℕ) (body : List ℕ) (made : ℕ) (s : IsSettled m end) (short : made < 4) (small : length body < 2147483648) where
   whole : (h : History) → m.history ≡ Some h → IsWhole (contents h.first h.calls) end
   whole h is =
       subst (λ (file : List ℕ). IsWhole file end) (sym (m.as_told h is)) (record { whole = s.whole; place = s.place; inside = s.inside; shut = s.shut })
@@ -119,7 +119,7 @@ module _ (law : (h : History) (end : ℕ) (body : List ℕ) (fill made : ℕ) �
       reading (image_of h.first h.calls fill) ≡ found (if is_kept made fill then bodies_of m.seen ++ body ∷ [] else bodies_of m.seen)
   from None h fill was is = absurd (none-some h (sym (recorded_none (take made (put_calls end body))) ∙ is))
   from (Some g) h fill was is =
-      let keeps = law g end body fill made (subst (λ (o : Option History). IsTrue (is_quiet o)) was s.quiet) (whole g was) (omega (arith, short)) in
+      let keeps = law g end body fill made (subst (λ (o : Option History). IsTrue (is_quiet o)) was s.quiet) (whole g was) (omega (arith, short)) small in
       let there = subst (λ (o : Option History). IfSome o (λ k. reading (image_of k.first k.calls fill) ≡ found (kept made fill (bodies_of (contents g.first g.calls)) body))) is keeps in
       there ∙ ap found (kept_is made fill (bodies_of (contents g.first g.calls)) body short
       ∙ ap (λ (file : List ℕ). if is_kept made fill then bodies_of file ++ body ∷ [] else bodies_of file) (m.as_told g was))

@@ -1,5 +1,5 @@
 -- The steps that pend on a shell, as a group of records behind the log that is kept.
-use Rattle.std.proofs.Common.{◌≡◌, IsTrue, ℕ, ◌<◌, List, length, sym, subst, inl}
+use Rattle.std.proofs.Common.{◌≡◌, IsTrue, ℕ, ◌<◌, List, length, sym, ◌∙◌, ap, subst, inl}
 use Rattle.crsm_epoch_state.specs.EpochState.{EachFits}
 use Rattle.crsm_spec.specs.Log.{Log}
 use Rattle.crsm_spec.specs.Moments.{is_kept}
@@ -9,7 +9,7 @@ use Rattle.crsm_base.specs.Records.{body_bytes}
 use Rattle.crsm_disk.specs.Meaning.{LeavesOnly, Meaning}
 use Rattle.crsm_disk.proofs.Moments.{started, weaker}
 use Rattle.crsm_image.specs.Image.{image_of}
-use Rattle.crsm_log.specs.Format.{bodies_of, size}
+use Rattle.crsm_log.specs.Format.{bodies_of, gate_in, reading}
 use Rattle.crsm_log.specs.Log.{IsSettled}
 use Rattle.crsm_shell.specs.declared.shell.Shell.{Shell}
 use Rattle.crsm_shell.specs.Flushing.{Adds, IsFull, IsLeft, IsOneOf, IsPast, StopsFlush, StopsPut}
@@ -62,9 +62,14 @@ module _ {D : Type 0} {g : _} (shell : Shell D g) (m : Meaning) (kept : Log) (r 
   kept_all s honest file body is adds =
       added r.me r.n m.seen kept (records_of steps) r.log ((inside s).file honest) (group s) file (subst (λ (b : List ℕ). Adds b m.seen file) is adds)
 
+-- where the disk is not called, a crash leaves its bodies
+pub left_bodies : (m : Meaning) (body : List ℕ) (end : ℕ) → IsSettled m end → LeavesOnly m m (IsLeft (bodies_of m.seen) body)
+left_bodies m body end settled =
+    started m (IsLeft (bodies_of m.seen) body) (λ c left. inl (ap reading (settled.durable c left) ∙ settled.whole))
+
 -- an entry that passes the limit behind the gate passes it behind the bodies
 pub full_at : (m : Meaning) (gate : ℕ) (body bytes : List ℕ) → IsSettled m gate → body ≡ bytes → IsPast gate body → IsFull m.seen bytes
-full_at m gate body bytes s is past = subst (IsPast (size (bodies_of m.seen))) is (subst (λ (k : ℕ). IsPast k body) s.place past)
+full_at m gate body bytes s is past = subst (IsPast (gate_in m.seen)) is (subst (λ (k : ℕ). IsPast k body) s.place past)
 
 pub past_at : (m : Meaning) (gate : ℕ) (body bytes : List ℕ) → IsSettled m gate → body ≡ bytes → IsFull m.seen bytes → IsPast gate body
 past_at m gate body bytes s is full = subst (IsPast gate) (sym is) (subst (λ (k : ℕ). IsPast k bytes) (sym s.place) full)

@@ -5,8 +5,9 @@ pub mod Files
 mod Groups
 mod Keeping
 mod Making
+mod NotBad
 mod Pending
 mod Ports
 mod Propositions
 mod Records
-mod Steps
+mod Turns

@@ -17,7 +17,7 @@ use Rattle.crsm_shell.specs.declared.shell.Shell.{Shell}
 use Rattle.crsm_shell.specs.Shell.{HasLog, ShellStands, StandsInside, records_of, sends_in, sends_of}
 use Rattle.crsm_shell.specs.Taking.{MakesStep}
 use Rattle.crsm_shell.proofs.Records.{all_more, body_more, posts_more, records_push, sends_push, with_more}
-use Rattle.crsm_shell.proofs.Steps.{Grown}
+use Rattle.crsm_step_facts.specs.Steps.{Grown}
 
 -- what is sent has a spelling
 pub sent_fit : (sends : List Send) → AllByRecursion FitsSent sends → AllByRecursion FitsSend sends

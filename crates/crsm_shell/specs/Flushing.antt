@@ -1,6 +1,6 @@
 -- What a flush does to the port and to the disk.
-use Rattle.std.specs.Prelude.{◌≡◌, ◌⊎◌, ℕ, ◌+◌, ◌<◌, ◌≤◌, List, [], ◌∷◌, ◌++◌, length, take, IsTrue, Option, Some, None, if◌then◌else◌, option_map}
-use Rattle.crsm_base.specs.declared.limits.TheConstants.{MAX_LOG_BYTES}
+use Rattle.std.specs.Prelude.{◌≡◌, ◌⊎◌, ℕ, ◌+◌, ◌<◌, ◌≤◌, List, [], ◌∷◌, ◌++◌, length, map, take, IsTrue, Option, Some, None, if◌then◌else◌, option_map}
+use Rattle.crsm_spec.specs.Draft.{Draft}
 use Rattle.crsm_spec.specs.Log.{Log}
 use Rattle.crsm_spec.specs.Moments.{is_kept}
 use Rattle.crsm_spec.specs.Replica.{Replica}
@@ -10,12 +10,15 @@ use Rattle.crsm_image.specs.Image.{image_of}
 use Rattle.crsm_faults.specs.Counts.{Rose}
 use Rattle.crsm_disk.specs.Meaning.{LeavesOnly, Meaning, Same}
 use Rattle.crsm_log.specs.Log.{Goes, Used, put_calls, recorded}
-use Rattle.crsm_log.specs.Format.{bodies_of, found, reading, size}
+use Rattle.crsm_log.specs.Log as logs
+use Rattle.crsm_log.specs.Format.{bodies_of, found, gate_in, reading}
 use Rattle.crsm_port.specs.Meaning.{Meaning as PortMeaning, Post}
 use Rattle.crsm_turns.specs.Outgoing.{GoesOut, with_all_sent}
 use Rattle.crsm_shell.specs.declared.errors.TurnError.{TurnError}
 use Rattle.crsm_shell.specs.declared.errors.TurnError.TheVariants as errors
-use Rattle.crsm_shell.specs.Shell.{HasLog}
+use Rattle.crsm_shell.specs.declared.shell.Shell.{Shell}
+use Rattle.crsm_shell.specs.Shell.{HasLog, group_body}
+use Rattle.crsm_shell.specs.Words.{disk_of, gate_of}
 
 -- ---- the port
 
@@ -30,8 +33,10 @@ pub record SendsPosts (posts : List Post) (old new : PortMeaning) : Type 0 where
   pub faults : new.faults ≡ old.faults
   pub empties : new.empties ≡ old.empties
   pub later : old.losses ≤ new.losses
+  pub coat : new.coat ≡ old.coat
+  pub lent : new.lent ≡ old.lent
   pub out : GoesOut posts old new
-  pub whole : GoesWell old.plan → (new.traffic ≡ option_map (with_all_sent posts) old.traffic) × (new.losses ≡ old.losses) × GoesWell new.plan
+  pub whole : GoesWell old.plan → (new.traffic ≡ option_map (with_all_sent (map old.coat.wrap posts)) old.traffic) × (new.losses ≡ old.losses) × GoesWell new.plan
 
 -- nothing is sent; there may be more room than before
 pub record SendsNone (old new : PortMeaning) : Type 0 where
@@ -67,13 +72,13 @@ Adds (b ∷ body) old new = reading new ≡ found (bodies_of old ++ (b ∷ body)
 abbrev pub IsLeft : List (List ℕ) → List ℕ → List ℕ → Type 0
 IsLeft bodies body file = (reading file ≡ found bodies) ⊎ ((0 < length body) × (reading file ≡ found (bodies ++ body ∷ [])))
 
--- the entry of this body behind this gate would pass the limit of a log file
+-- no entry of this body may stand at this gate: it would pass the limit of a log file, or its length has no field
 abbrev pub IsPast : ℕ → List ℕ → Type 0
-IsPast gate body = (0 < length body) × (MAX_LOG_BYTES < gate + 6 + length body)
+IsPast gate body = (0 < length body) × logs.IsPast gate (length body)
 
--- the entry of this body would pass the limit of a log file
+-- no entry of this body may stand behind those of the file
 abbrev pub IsFull : List ℕ → List ℕ → Type 0
-IsFull file body = IsPast (size (bodies_of file)) body
+IsFull file body = IsPast (gate_in file) body
 
 -- The put of this body stopped: of its four calls so many were made, and the next one failed. The image of such a disk,
 -- whatever fills what was not synced, reads as before or, where all but the last sync were made and the fill is the byte
@@ -122,3 +127,33 @@ pub record StopsFlush (gate : ℕ) (body : List ℕ) (kept : Log) (r : Replica) 
   pub good : (p : Plan) → IsTrue old.honest → old.plan ≡ Some p → p.good ≡ Some made
   pub image : (h : History) (fill : ℕ) → IsTrue old.honest → new.history ≡ Some h →
       HasLog r.me r.n (image_of h.first h.calls fill) (if is_kept made fill then r.log else kept)
+
+-- ---- the group of a shell
+
+-- the body of the pending steps is behind those of the file; none is where they have no record
+abbrev pub AddsGroup : {D : Type 0} {g : _} → (D → Meaning) → (before after : Shell D g) → List Draft → Type 0
+AddsGroup meaning before after steps = Adds (group_body steps) (meaning (disk_of before)).seen (meaning (disk_of after)).seen
+
+-- a crash at any moment leaves the bodies of the file, or these with the body of the pending steps behind them
+abbrev pub LeavesGroup : {D : Type 0} {g : _} → (D → Meaning) → (before after : Shell D g) → List Draft → Type 0
+LeavesGroup meaning before after steps = LeavesOnly (meaning (disk_of before)) (meaning (disk_of after)) (IsLeft (bodies_of (meaning (disk_of before)).seen) (group_body steps))
+
+-- a crash at any moment leaves the log that is kept, or this one
+abbrev pub LeavesLogs : {D : Type 0} {g : _} → (D → Meaning) → (before after : Shell D g) → (kept : Log) → Replica → Type 0
+LeavesLogs meaning before after kept r = LeavesOnly (meaning (disk_of before)) (meaning (disk_of after)) (IsOneOf r.me r.n kept r.log)
+
+-- the disk is full for these steps
+abbrev pub IsFullFor : {D : Type 0} {g : _} → (D → Meaning) → Shell D g → List Draft → Type 0
+IsFullFor meaning shell steps = IsFull (meaning (disk_of shell)).seen (group_body steps)
+
+-- the put of these steps stopped
+abbrev pub StopsGroup : {D : Type 0} {g : _} → (D → Meaning) → (before after : Shell D g) → (kept : Log) → Replica → List Draft → Type 0
+StopsGroup meaning before after kept r steps = StopsFlush (gate_of before) (group_body steps) kept r (meaning (disk_of before)) (meaning (disk_of after))
+
+-- the disk was called for these steps as a put calls it, or not at all where they have no record
+abbrev pub CallsForGroup : {D : Type 0} {g : _} → (D → Meaning) → (before after : Shell D g) → List Draft → Type 0
+CallsForGroup meaning before after steps = (meaning (disk_of after)).history ≡ recorded (keep_calls (gate_of before) (group_body steps)) (meaning (disk_of before)).history
+
+-- so many calls went well
+abbrev pub SpendsForGroup : {D : Type 0} {g : _} → (D → Meaning) → (before after : Shell D g) → List Draft → Type 0
+SpendsForGroup meaning before after steps = (p : Plan) → (meaning (disk_of before)).plan ≡ Some p → Used (keep_count (group_body steps)) p (meaning (disk_of after)).plan

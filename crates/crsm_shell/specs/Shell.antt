@@ -14,12 +14,17 @@ use Rattle.crsm_disk.specs.Meaning.{Meaning}
 use Rattle.crsm_turns.specs.Outgoing.{posts_for}
 use Rattle.crsm_core.specs.Core.{CoreStands}
 use Rattle.crsm_shell.specs.declared.shell.Shell.{Shell}
+use Rattle.crsm_shell.specs.Words.{disk_of}
 
 -- ---- steps that are pending
 
 -- the records of these steps, in order
 unfoldable pub records_of : List Draft → List Rec
 records_of steps = flat_map (λ x. x.batch) steps
+
+-- the body of the log that keeps them
+abbrev pub group_body : List Draft → List ℕ
+group_body steps = body_bytes (records_of steps)
 
 -- what a step sends: the datagrams to replicas, and then the replies
 unfoldable pub sends_in : Draft → List Send
@@ -55,3 +60,11 @@ pub record StandsInside {D : Type 0} {g : _} (shell : Shell D g) (m : Meaning) (
 -- pending. It has not failed.
 unfoldable pub ShellStands : {D : Type 0} {g : _} → Shell D g → Meaning → (kept : Log) → Replica → (steps : List Draft) → Type 0
 ShellStands shell m kept r steps = StandsInside shell m kept r steps
+
+-- a fact of each log, replica and pending steps that the shell stands for, where its disk has this meaning
+abbrev pub WhereStands : {D : Type 0} {g : _} → (D → Meaning) → Shell D g → (Log → Replica → List Draft → Type 0) → Type 0
+WhereStands meaning shell P = (kept : Log) (r : Replica) (steps : List Draft) → ShellStands shell (meaning (disk_of shell)) kept r steps → P kept r steps
+
+-- the same where the disk is honest
+abbrev pub WhereHonest : {D : Type 0} {g : _} → (D → Meaning) → Shell D g → (Log → Replica → List Draft → Type 0) → Type 0
+WhereHonest meaning shell P = (kept : Log) (r : Replica) (steps : List Draft) → ShellStands shell (meaning (disk_of shell)) kept r steps → IsTrue (meaning (disk_of shell)).honest → P kept r steps

@@ -1,5 +1,8 @@
 -- What a shell takes, and the step that it makes of it.
-use Rattle.std.specs.Prelude.{◌≡◌, ◌≢◌, ℕ, List, [], ◌∷◌, ◌++◌, length, take, Option, Result, Ok, Err}
+use Rattle.std.specs.Prelude.{◌≡◌, ℕ, List, [], ◌∷◌, ◌++◌, length, take, Option, Some, None, option_and_then, Result, Ok, Err}
+use Rattle.crsm_base.specs.MessageReading.{datagram_of}
+use Rattle.crsm_base.specs.declared.datagram.Datagram.{Datagram}
+use Rattle.crsm_base.specs.declared.datagram.Datagram.TheVariants as datagram
 use Rattle.crsm_spec.specs.Log.{Log}
 use Rattle.crsm_spec.specs.Replica.{Replica}
 use Rattle.crsm_spec.specs.Draft.{Draft}
@@ -14,7 +17,6 @@ use Rattle.crsm_turns.specs.Input.{TakesInput}
 use Rattle.crsm_turns.specs.declared.input.What.{What}
 use Rattle.crsm_turns.specs.declared.input.Taken.{Taken}
 use Rattle.crsm_turns.specs.declared.input.Taken.TheVariants as taken
-use Rattle.crsm_turns.specs.declared.input.TakeError.{TakeError}
 use Rattle.crsm_turns.specs.declared.input.TakeError.TheVariants as take_error
 use Rattle.crsm_ledger.specs.Recovered.{with_records}
 use Rattle.crsm_shell.specs.declared.errors.TurnError.{TurnError}
@@ -51,23 +53,45 @@ TakesStep new m kept r steps t = MakesStep new m kept r steps (step_of (buffer_o
 abbrev pub most_received : ℕ
 most_received = 8192
 
--- An input is taken off the port into the buffer as it is wanted; only a receive calls the port.
+-- ---- who is heard
+
+-- the replica that a datagram comes from: the sender of a frame, of an acknowledgement or of a part
+unfoldable pub sender_of : Datagram → Option ℕ
+sender_of (datagram.Frame from to epoch seq payload) = Some from
+sender_of (datagram.Ack from to epoch next) = Some from
+sender_of (datagram.Part from to boot number index count bytes) = Some from
+sender_of (datagram.Request command) = None
+sender_of (datagram.Reply client number outcome) = None
+sender_of (datagram.Operate members) = None
+
+-- the replica that a turn hears
+unfoldable pub heard_in : Turn → Option ℕ
+heard_in (Turn.In address bytes) = option_and_then sender_of (datagram_of bytes)
+heard_in Turn.Tick = None
+heard_in (Turn.Suspect members) = None
+
+-- ---- the port and the clock
+
+-- An input is taken off the port into the buffer as it is wanted; only a receive calls the port, and nothing else stops
+-- it than a fault of the port.
 abbrev pub Receives : What → List ℕ → PortMeaning → PortMeaning → Result Taken TurnError → Type 0
 Receives what buffer old new (Ok t) = TakesInput what most_received buffer old new (Ok t)
 Receives what buffer old new (Err errors.PortFault) = TakesInput what most_received buffer old new (Err take_error.PortFault)
-Receives what buffer old new (Err errors.NoMemory) = (r : Result Taken TakeError) × TakesInput what most_received buffer old new r × (r ≢ Err take_error.PortFault)
+Receives what buffer old new (Err errors.NoMemory) = ⊥
 Receives what buffer old new (Err errors.Failed) = ⊥
 Receives what buffer old new (Err errors.DiskFault) = ⊥
 Receives what buffer old new (Err errors.LogFull) = ⊥
 
--- The same of a whole step; where the replica failed before, nothing is taken. No other error comes.
+-- The same of a whole step; where the replica failed before, nothing is taken. Where memory runs out, the input is taken.
 abbrev pub Takes : What → List ℕ → PortMeaning → PortMeaning → Result Turned TurnError → Type 0
 Takes what buffer old new (Ok t) = Receives what buffer old new (Ok t.taken)
 Takes what buffer old new (Err errors.Failed) = new ≡ old
+Takes what buffer old new (Err errors.NoMemory) = (t : Taken) × Receives what buffer old new (Ok t)
 Takes what buffer old new (Err why) = Receives what buffer old new (Err why)
 
--- The clock is read once, unless nothing is taken any more.
+-- The clock is read once, after the input is taken; where none is taken, it is not read.
 abbrev pub Reads : Option Readings → Option Readings → Result Turned TurnError → Type 0
 Reads old new (Ok t) = Gives old new t.reading
 Reads old new (Err errors.Failed) = new ≡ old
+Reads old new (Err errors.PortFault) = new ≡ old
 Reads old new (Err _) = (reading : ℕ) × Gives old new reading

@@ -7,7 +7,7 @@ ghost use Rattle.crsm_log.specs.Format.{found, reading};
 ghost use Rattle.crsm_log.specs.Log.{Goes};
 ghost use Rattle.crsm_spec.specs.Log.{Log as LogOnPaper};
 ghost use Rattle.crsm_log.specs.Words as logs;
-ghost use Rattle.crsm_shell.specs.Booting.{Boots, BootsOn, FailsToKeep, IsBooted, IsBootedOrBefore, RefusesBoot};
+ghost use Rattle.crsm_shell.specs.Booting.{AddsBoot, Boots, BootsOn, FailsToKeep, IsBooted, IsBootedOrBefore, IsLeftByBoot, RefusesBoot};
 ghost use Rattle.crsm_shell.specs.Flushing.{KeptWell};
 ghost use Rattle.crsm_shell.specs.Running.{IsOfOne};
 ghost use Rattle.crsm_shell.specs.Shell.{HasLog};
@@ -62,6 +62,7 @@ impl<D: Disk> Shell<D> {
             IfOk result (λ b. Boots b (D.meaning (disk_of b.shell)) me n log × BootsOn me n log (D.meaning disk) (D.meaning (disk_of b.shell))) }
         ensures peers { IfOk result (λ b. peers_of b.shell ≡ peers.now) }
         ensures goes { IfOk result (λ b. Goes (D.meaning disk) (D.meaning (disk_of b.shell))) }
+        ensures added { IsTrue (D.meaning disk).honest → IfOk result (λ b. AddsBoot me n b (D.meaning (disk_of b.shell))) }
 
         // Why it refuses, and when.
         ensures refused { IfErr result (λ e. RefusesBoot me n (D.meaning disk) (D.meaning e.1) e.0) }
@@ -71,6 +72,8 @@ impl<D: Disk> Shell<D> {
             IfOk result (λ b. LeavesOnly (D.meaning disk) (D.meaning (disk_of b.shell)) (IsBootedOrBefore me n log (D.meaning disk))) }
         ensures any_moment_refused { (log : LogOnPaper) → IsTrue (D.meaning disk).honest → HasLog me n (D.meaning disk).seen log →
             IfErr result (λ e. LeavesOnly (D.meaning disk) (D.meaning e.1) (IsBootedOrBefore me n log (D.meaning disk))) }
+        ensures left { IsTrue (D.meaning disk).honest → IfOk result (λ b. LeavesOnly (D.meaning disk) (D.meaning (disk_of b.shell)) (IsLeftByBoot me n (D.meaning disk))) }
+        ensures left_refused { IsTrue (D.meaning disk).honest → IfErr result (λ e. LeavesOnly (D.meaning disk) (D.meaning e.1) (IsLeftByBoot me n (D.meaning disk))) }
     {
         one_spelling_each();
         let (log, bodies) = match Log::mount(alloc, disk) {

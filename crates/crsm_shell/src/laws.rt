@@ -2,6 +2,7 @@
 
 ghost use Rattle.std.specs.Prelude.{◌≡◌, ℕ, List, []};
 ghost use Rattle.crsm_spec.specs.Log.{Log};
+ghost use Rattle.crsm_shell.specs.Booting.{IsBadLog};
 ghost use Rattle.crsm_shell.specs.Shell.{HasLog};
 
 use crsm_codec::one_spelling_each;
@@ -15,6 +16,13 @@ pub fn empty_files_have_empty_logs()
 /// A file has one log.
 pub fn logs_are_one()
     ensures { (me n : ℕ) (file : List ℕ) (a b : Log) → HasLog me n file a → HasLog me n file b → a ≡ b }
+{
+    one_spelling_each();
+}
+
+/// A file that has a log has no bad body and no bad gate.
+pub fn logs_are_not_bad()
+    ensures { (me n : ℕ) (file : List ℕ) (log : Log) (entry why : ℕ) → HasLog me n file log → IsBadLog me n file entry why → ⊥ }
 {
     one_spelling_each();
 }

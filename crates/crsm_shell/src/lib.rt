@@ -20,6 +20,6 @@ mod turned;
 pub use boot::Booted;
 pub use crsm_turns::{Taken, What};
 pub use errors::{BootError, TurnError};
-pub use laws::{empty_files_have_empty_logs, logs_are_one};
+pub use laws::{empty_files_have_empty_logs, logs_are_not_bad, logs_are_one};
 pub use shell::Shell;
 pub use turned::Turned;

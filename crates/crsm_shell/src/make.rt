@@ -1,71 +1,116 @@
 //! The step of the core for what was taken.
 
-ghost use Rattle.std.specs.Prelude.{length, IfOk};
+ghost use Rattle.std.specs.Prelude.{◌≡◌, length, IfOk, None};
 ghost use Rattle.crsm_spec.specs.Draft.{begun};
 ghost use Rattle.crsm_spec.specs.Node.{Turn, turn};
 ghost use Rattle.crsm_spec.specs.Replica.{Replica};
 ghost use Rattle.crsm_core.specs.Core.{Answers, CoreStands};
+ghost use Rattle.crsm_core.specs.Inputs.{FitsInput, input_of};
+ghost use Rattle.crsm_spec.specs.Step as rules;
 ghost use Rattle.crsm_turns.specs.Input.{IsWithin};
-ghost use Rattle.crsm_shell.specs.Taking.{turn_of};
+ghost use Rattle.crsm_shell.specs.Taking.{heard_in, turn_of};
+ghost use Rattle.crsm_shell.specs.Taking as shells;
 
-use crsm_base::{Lines, NoMemory, Recs, Sends};
+use crsm_base::{Datagram, Lines, NoMemory, Recs, Sends};
 use crsm_core::{Core, Input};
 use crsm_output::Batch;
 use crsm_turns::Taken;
 use crsm_wire::{WireError, read_datagram};
 use std::alloc::Global;
 
+/// A step that was made, and the replica that was heard in it.
+#[derive(Drop)]
+pub(crate) struct Made {
+    pub(crate) batch: Batch,
+    pub(crate) heard: Option<u32>,
+}
+
 /// One step of the core on what was taken into this buffer.
-#[tactic(auto, unfolding(crsm_spec::specs::Node::turn, crsm_spec::specs::Node::input_of, crsm_core::specs::Inputs::input_of, crate::specs::Taking::turn_of))]
+#[tactic(auto, unfolding(crsm_spec::specs::Node::turn, crsm_spec::specs::Node::input_of, crsm_core::specs::Inputs::input_of, crate::specs::Taking::turn_of, crate::specs::Taking::heard_in))]
 pub(crate) fn make(
     alloc: Global,
     core: &mut Core,
     taken: &Taken,
     buffer: &[u8],
     reading: u64,
-) -> Result<Batch, NoMemory>
+) -> Result<Made, NoMemory>
     requires { IsWithin (length buffer.now) taken.now }
-    ensures { IfOk result (λ batch. (r : Replica) → CoreStands core.old r →
-        Answers batch (turn r (turn_of buffer.now taken.now, reading)) × CoreStands core.new (turn r (turn_of buffer.now taken.now, reading)).replica) }
+    ensures step { IfOk result (λ made. (r : Replica) → CoreStands core.old r →
+        Answers made.batch (turn r (turn_of buffer.now taken.now, reading)) × CoreStands core.new (turn r (turn_of buffer.now taken.now, reading)).replica) }
+    ensures heard { IfOk result (λ made. made.heard ≡ heard_in (turn_of buffer.now taken.now)) }
 {
     match taken {
         Taken::Datagram { from, len } => come(alloc, core, *from, &buffer[..*len], reading),
-        Taken::Tick => core.step(&Input::Tick, reading),
+        Taken::Tick => step(core, &Input::Tick, reading, None),
         Taken::Suspect(members) => {
             let members = members.copy(alloc)?;
-            core.step(&Input::Suspect { members }, reading)
+            step(core, &Input::Suspect { members }, reading, None)
         }
     }
 }
 
+/// One step of the core on an input, in which this replica was heard.
+fn step(core: &mut Core, input: &Input, reading: u64, heard: Option<u32>) -> Result<Made, NoMemory>
+    requires { FitsInput input.now }
+    ensures step { IfOk result (λ made. (r : Replica) → CoreStands core.old r →
+        Answers made.batch (rules.step r (input_of input.now) reading) × CoreStands core.new (rules.step r (input_of input.now) reading).replica) }
+    ensures heard { IfOk result (λ made. made.heard ≡ heard) }
+{
+    let batch = core.step(input, reading)?;
+    Ok(Made { batch, heard })
+}
+
 /// One step of the core on bytes from an address. Bytes that are no datagram change nothing.
-#[tactic(auto, unfolding(crsm_core::specs::Inputs::input_of))]
+#[tactic(auto, unfolding(crsm_core::specs::Inputs::input_of, crate::specs::Taking::heard_in))]
 fn come(
     alloc: Global,
     core: &mut Core,
     from: u64,
     bytes: &[u8],
     reading: u64,
-) -> Result<Batch, NoMemory>
-    ensures { IfOk result (λ batch. (r : Replica) → CoreStands core.old r →
-        Answers batch (turn r (Turn.In from bytes.now, reading)) × CoreStands core.new (turn r (Turn.In from bytes.now, reading)).replica) }
+) -> Result<Made, NoMemory>
+    ensures step { IfOk result (λ made. (r : Replica) → CoreStands core.old r →
+        Answers made.batch (turn r (Turn.In from bytes.now, reading)) × CoreStands core.new (turn r (Turn.In from bytes.now, reading)).replica) }
+    ensures heard { IfOk result (λ made. made.heard ≡ heard_in (Turn.In from bytes.now)) }
 {
-    // The datagram is large: it is moved once, into the input.
     match read_datagram(alloc, bytes) {
-        Ok(datagram) => core.step(&Input::Datagram { from, datagram }, reading),
+        Ok(datagram) => {
+            let heard = sender_of(&datagram);
+            // The datagram is large: it is moved once, into the input.
+            step(core, &Input::Datagram { from, datagram }, reading, heard)
+        }
         Err(WireError::NotOne) => Ok(nothing(alloc)),
         Err(WireError::NoMemory) => Err(NoMemory),
     }
 }
 
+/// The replica that a datagram comes from: none where it is a client's or an operator's.
+#[tactic(auto, unfolding(crate::specs::Taking::sender_of))]
+fn sender_of(datagram: &Datagram) -> Option<u32>
+    ensures { result ≡ shells.sender_of datagram.now }
+{
+    match datagram {
+        Datagram::Frame { from, .. } => Some(*from),
+        Datagram::Ack { from, .. } => Some(*from),
+        Datagram::Part { from, .. } => Some(*from),
+        Datagram::Request { .. } => None,
+        Datagram::Reply { .. } => None,
+        Datagram::Operate { .. } => None,
+    }
+}
+
 /// What a step makes that does nothing.
 #[tactic(auto, unfolding(crsm_spec::specs::Draft::begun))]
-fn nothing(alloc: Global) -> Batch
-    ensures { (r : Replica) → Answers result (begun r) }
+fn nothing(alloc: Global) -> Made
+    ensures step { (r : Replica) → Answers result.batch (begun r) }
+    ensures heard { result.heard ≡ None }
 {
-    Batch {
-        records: Recs::new(alloc),
-        sends: Sends::new(alloc),
-        lines: Lines::new(alloc),
+    Made {
+        batch: Batch {
+            records: Recs::new(alloc),
+            sends: Sends::new(alloc),
+            lines: Lines::new(alloc),
+        },
+        heard: None,
     }
 }

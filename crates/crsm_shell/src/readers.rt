@@ -10,6 +10,7 @@ ghost use Rattle.crsm_spec.specs.Draft.{Draft};
 ghost use Rattle.crsm_spec.specs.Log.{Log};
 ghost use Rattle.crsm_spec.specs.Replica.{Replica};
 ghost use Rattle.crsm_shell.specs.Shell.{HasLog, ShellStands};
+ghost use Rattle.crsm_shell.specs.Taking.{most_received};
 ghost use Rattle.crsm_shell.specs.Words.{buffer_of, disk_of, gate_of, peers_of, pending_of, has_failed};
 
 use crate::shell::Shell;
@@ -36,9 +37,10 @@ impl<D: Disk> Shell<D> {
         self.failed
     }
 
-    /// Where datagrams are received: the one that was taken last is its prefix, of the length that was told.
+    /// Where datagrams are received, of 8,192 bytes: the one that was taken last is its prefix, of the length that was told.
     pub fn buffer(&self) -> &[u8]
-        ensures { result.now ≡ buffer_of self.now }
+        ensures value { result.now ≡ buffer_of self.now }
+        ensures room { length result.now ≡ most_received }
     {
         self.buffer.as_slice()
     }

@@ -3,31 +3,27 @@
 ghost use Rattle.std.specs.Prelude.{◌≡◌, ◌<◌, ◌≤◌, ◌+◌, ◌∷◌, [], ◌++◌, ◌↔◌, List, true, false, length, is_err, IfOk, OnOk, OnErr, IsErrOf, MatchResult};
 ghost use Rattle.std.specs.List.{AllByRecursion};
 ghost use Rattle.crsm_core.specs.Core.{FitsSent};
-ghost use Rattle.crsm_spec.specs.Draft.{Draft};
-ghost use Rattle.crsm_spec.specs.Log.{Log};
-ghost use Rattle.crsm_spec.specs.Replica.{Replica};
-ghost use Rattle.crsm_shell.specs.Shell.{ShellStands};
+ghost use Rattle.crsm_shell.specs.Shell.{ShellStands, WhereStands};
 ghost use Rattle.crsm_spec.specs.Node.{turn};
 ghost use Rattle.crsm_shell.specs.Errors.{is_lasting};
-ghost use Rattle.crsm_shell.specs.Taking.{MakesStep, Reads, Receives, Takes, TakesStep, most_received, turn_of};
+ghost use Rattle.crsm_shell.specs.Taking.{MakesStep, Reads, Receives, Takes, TakesStep, heard_in, most_received, turn_of};
 ghost use Rattle.crsm_turns.specs.Input.{IsWithin};
 ghost use Rattle.crsm_shell.specs.Words.{buffer_of, disk_of, gate_of, peers_of, pending_of, has_failed};
 
 use crate::errors::TurnError;
-use crate::make::make;
+use crate::make::{Made, make};
 use crate::shell::Shell;
 use crate::turned::Turned;
 use crsm_base::NoMemory;
 use crsm_clock::Clock;
 use crsm_disk::Disk;
-use crsm_output::Batch;
 use crsm_port::Port;
 use crsm_turns::{Taken, What, take_input, write_records};
 
 impl<D: Disk> Shell<D> {
-    /// Takes the input that is wanted and makes its step, at one reading of the clock. The step pends until it is
-    /// flushed: its records are not kept yet, and nothing is sent. A receive is a tick where the port had nothing. After
-    /// `PortFault` the shell is as before; after another error it has failed for good.
+    /// Takes the input that is wanted and makes its step, at a reading of the clock that is given once the input is there.
+    /// The step pends until it is flushed: its records are not kept yet, and nothing is sent. A receive is a tick where the
+    /// port had nothing. After `PortFault` the shell is as before; after another error it has failed for good.
     pub fn take<C: Clock, P: Port>(
         &mut self,
         what: What,
@@ -37,10 +33,11 @@ impl<D: Disk> Shell<D> {
         requires few { pending_of self.old < 32 }
 
         // The step of the definitions, behind those that pend.
-        ensures stands { (kept : Log) (r : Replica) (steps : List Draft) → ShellStands self.old (D.meaning (disk_of self.old)) kept r steps →
-            IfOk result (TakesStep self.new (D.meaning (disk_of self.new)) kept r steps) }
+        ensures stands { WhereStands D.meaning self.old (λ kept r steps. IfOk result (TakesStep self.new (D.meaning (disk_of self.new)) kept r steps)) }
         ensures spelt { IfOk result (λ t. AllByRecursion FitsSent t.batch.sends) }
         ensures counted { OnOk result (pending_of self.new ≡ pending_of self.old + 1) }
+        ensures within { IfOk result (λ t. IsWithin most_received t.taken) }
+        ensures heard { IfOk result (λ t. t.heard ≡ heard_in (turn_of (buffer_of self.new) t.taken)) }
 
         // One reading; the input off the port, if any; the disk is not touched.
         ensures clock { Reads (C.readings clock.old) (C.readings clock.new) result }
@@ -52,13 +49,11 @@ impl<D: Disk> Shell<D> {
         // It answers Failed exactly where it failed before. It goes on after a fault of the port, as it was.
         ensures failed { IsErrOf result TurnError.Failed ↔ (has_failed self.old ≡ true) }
         ensures lasting { MatchResult result (λ _. has_failed self.new ≡ false) (λ why. has_failed self.new ≡ is_lasting why) }
-        ensures usable { IsErrOf result TurnError.PortFault → (kept : Log) (r : Replica) (steps : List Draft) →
-            ShellStands self.old (D.meaning (disk_of self.old)) kept r steps → ShellStands self.new (D.meaning (disk_of self.new)) kept r steps }
+        ensures usable { IsErrOf result TurnError.PortFault → WhereStands D.meaning self.old (λ kept r steps. ShellStands self.new (D.meaning (disk_of self.new)) kept r steps) }
     {
         if self.failed {
             return Err(TurnError::Failed);
         }
-        let reading = clock.now();
         let taken = match receive(what, port, &mut self.buffer) {
             Ok(taken) => taken,
             Err(why) => {
@@ -66,23 +61,27 @@ impl<D: Disk> Shell<D> {
                 return Err(why);
             }
         };
-        let (batch, size) = self.step(&taken, reading)?;
+        // A receive may have waited: an earlier reading would be stale.
+        let reading = clock.now();
+        let (made, size) = self.step(&taken, reading)?;
         Ok(Turned {
             reading,
             taken,
-            batch,
+            heard: made.heard,
+            batch: made.batch,
             size,
         })
     }
 
     /// The step of what was taken, and how many bytes its records take.
-    fn step(&mut self, taken: &Taken, reading: u64) -> Result<(Batch, u64), NoMemory>
+    fn step(&mut self, taken: &Taken, reading: u64) -> Result<(Made, u64), NoMemory>
         requires well { self.old.failed ≡ false }
         requires few { self.old.pending < 32 }
         requires within { IsWithin most_received taken.now }
-        ensures stands { (kept : Log) (r : Replica) (steps : List Draft) → ShellStands self.old (D.meaning (disk_of self.old)) kept r steps →
-            IfOk result (λ b. MakesStep self.new (D.meaning (disk_of self.new)) kept r steps (turn r (turn_of (buffer_of self.new) taken.now, reading)) b.0 b.1) }
-        ensures spelt { IfOk result (λ b. AllByRecursion FitsSent b.0.sends) }
+        ensures stands { WhereStands D.meaning self.old (λ kept r steps.
+            IfOk result (λ b. MakesStep self.new (D.meaning (disk_of self.new)) kept r steps (turn r (turn_of (buffer_of self.new) taken.now, reading)) b.0.batch b.1)) }
+        ensures spelt { IfOk result (λ b. AllByRecursion FitsSent b.0.batch.sends) }
+        ensures heard { IfOk result (λ b. b.0.heard ≡ heard_in (turn_of (buffer_of self.new) taken.now)) }
         ensures counted { OnOk result (self.new.pending ≡ self.old.pending + 1) }
         ensures log { self.new.log ≡ self.old.log }
         ensures peers { self.new.peers ≡ self.old.peers }
@@ -91,13 +90,13 @@ impl<D: Disk> Shell<D> {
     {
         // Whoever sees an error below must not go on from half a step.
         self.failed = true;
-        let batch = make(self.alloc, &mut *self.core, taken, &self.buffer, reading)?;
+        let made = make(self.alloc, &mut *self.core, taken, &self.buffer, reading)?;
         let before = self.body.as_slice().len() as u64;
-        write_records(batch.records.as_slice(), &mut self.body)?;
-        self.outbox.add(batch.sends.as_slice(), &self.peers)?;
+        write_records(made.batch.records.as_slice(), &mut self.body)?;
+        self.outbox.add(made.batch.sends.as_slice(), &self.peers)?;
         self.pending += 1;
         self.failed = false;
-        Ok((batch, self.body.as_slice().len() as u64 - before))
+        Ok((made, self.body.as_slice().len() as u64 - before))
     }
 }
 

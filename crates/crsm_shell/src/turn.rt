@@ -1,22 +1,17 @@
 //! A turn: a step that is taken and flushed.
 
-ghost use Rattle.std.specs.Prelude.{◌≡◌, ◌<◌, ◌∷◌, [], ◌++◌, ◌↔◌, List, true, false, IfOk, IsTrue, IsErrOf, MatchResult};
+ghost use Rattle.std.specs.Prelude.{◌≡◌, ◌<◌, ◌↔◌, true, false, IfOk, IfErr, IsErr, IsErrOf, MatchResult};
 ghost use Rattle.std.specs.List.{AllByRecursion};
-ghost use Rattle.crsm_base.specs.Records.{body_bytes};
 ghost use Rattle.crsm_core.specs.Core.{FitsSent};
 ghost use Rattle.crsm_faults.specs.Counts.{Rose};
-ghost use Rattle.crsm_disk.specs.Meaning.{LeavesOnly};
-ghost use Rattle.crsm_log.specs.Log.{Goes, recorded};
-ghost use Rattle.crsm_spec.specs.Draft.{Draft};
-ghost use Rattle.crsm_spec.specs.Log.{Log};
-ghost use Rattle.crsm_spec.specs.Replica.{Replica};
-ghost use Rattle.crsm_turns.specs.Outgoing.{posts_for};
+ghost use Rattle.crsm_disk.specs.Meaning.{Same};
+ghost use Rattle.crsm_log.specs.Log.{Goes};
+ghost use Rattle.crsm_turns.specs.Input.{IsWithin};
 ghost use Rattle.crsm_shell.specs.Errors.{is_lasting};
-ghost use Rattle.crsm_shell.specs.Flushing.{IsOneOf, keep_calls};
-ghost use Rattle.crsm_shell.specs.Shell.{ShellStands, records_of, sends_of};
-ghost use Rattle.crsm_shell.specs.Taking.{Reads, step_of};
-ghost use Rattle.crsm_shell.specs.Turning.{KeepsStep, TakesAndSends};
-ghost use Rattle.crsm_shell.specs.Words.{buffer_of, disk_of, gate_of, peers_of, pending_of, has_failed};
+ghost use Rattle.crsm_shell.specs.Shell.{WhereStands};
+ghost use Rattle.crsm_shell.specs.Taking.{Reads, heard_in, most_received, turn_of};
+ghost use Rattle.crsm_shell.specs.Turning.{FailsOnPort, GoesOn, KeepsGroup, KeepsStep, Loses, TakesAndSends};
+ghost use Rattle.crsm_shell.specs.Words.{buffer_of, disk_of, peers_of, pending_of, has_failed};
 
 use crate::errors::TurnError;
 use crate::shell::Shell;
@@ -27,7 +22,9 @@ use crsm_port::Port;
 use crsm_turns::What;
 
 impl<D: Disk> Shell<D> {
-    /// Takes the input that is wanted, and flushes its step with those that pend.
+    /// Takes the input that is wanted, and flushes its step with those that pend. After `PortFault` nothing was kept or
+    /// sent, and the shell is as before; after another error it has failed for good: what was taken is lost, nothing was
+    /// sent, and the disk has the records of all these steps or of none.
     pub fn turn<C: Clock, P: Port>(
         &mut self,
         what: What,
@@ -37,25 +34,27 @@ impl<D: Disk> Shell<D> {
         requires few { pending_of self.old < 32 }
 
         // The step of the definitions, kept with those before it.
-        ensures stands { (kept : Log) (r : Replica) (steps : List Draft) → ShellStands self.old (D.meaning (disk_of self.old)) kept r steps →
-            IfOk result (KeepsStep self.new (D.meaning (disk_of self.new)) r) }
+        ensures stands { WhereStands D.meaning self.old (λ kept r steps. IfOk result (KeepsStep self.new (D.meaning (disk_of self.new)) r)) }
+        ensures kept { WhereStands D.meaning self.old (λ kept r steps. IfOk result (KeepsGroup D.meaning self.old self.new kept r steps)) }
         ensures spelt { IfOk result (λ t. AllByRecursion FitsSent t.batch.sends) }
+        ensures within { IfOk result (λ t. IsWithin most_received t.taken) }
+        ensures heard { IfOk result (λ t. t.heard ≡ heard_in (turn_of (buffer_of self.new) t.taken)) }
         ensures peers { peers_of self.new ≡ peers_of self.old }
 
-        // One reading, one input, the calls of one put at most, and then the sends.
+        // One reading, one input, and then the sends: none at an error.
         ensures clock { Reads (C.readings clock.old) (C.readings clock.new) result }
-        ensures port { (kept : Log) (r : Replica) (steps : List Draft) → ShellStands self.old (D.meaning (disk_of self.old)) kept r steps →
-            IfOk result (λ t. TakesAndSends what (buffer_of self.new) (posts_for (peers_of self.old) (sends_of (steps ++ step_of (buffer_of self.new) r t ∷ []))) (P.meaning port.old) (P.meaning port.new) t) }
-        ensures calls { (kept : Log) (r : Replica) (steps : List Draft) → ShellStands self.old (D.meaning (disk_of self.old)) kept r steps →
-            IfOk result (λ t. (D.meaning (disk_of self.new)).history ≡ recorded (keep_calls (gate_of self.old) (body_bytes (records_of (steps ++ step_of (buffer_of self.new) r t ∷ [])))) (D.meaning (disk_of self.old)).history) }
+        ensures port { WhereStands D.meaning self.old (λ kept r steps.
+            IfOk result (TakesAndSends self.old self.new what (P.meaning port.old) (P.meaning port.new) r steps)) }
+        ensures unsent { IfErr result (FailsOnPort what (buffer_of self.new) (P.meaning port.old) (P.meaning port.new)) }
         ensures goes { Goes (D.meaning (disk_of self.old)) (D.meaning (disk_of self.new)) }
-        ensures any_moment { (kept : Log) (r : Replica) (steps : List Draft) → ShellStands self.old (D.meaning (disk_of self.old)) kept r steps → IsTrue (D.meaning (disk_of self.old)).honest →
-            IfOk result (λ t. LeavesOnly (D.meaning (disk_of self.old)) (D.meaning (disk_of self.new)) (IsOneOf r.me r.n kept (step_of (buffer_of self.new) r t).replica.log)) }
 
-        // Which error comes, and when.
+        // Which error comes, when, and what it leaves.
         ensures failed { IsErrOf result TurnError.Failed ↔ (has_failed self.old ≡ true) }
         ensures lasting { MatchResult result (λ _. has_failed self.new ≡ false) (λ why. has_failed self.new ≡ is_lasting why) }
+        ensures usable { IsErrOf result TurnError.PortFault → WhereStands D.meaning self.old (GoesOn D.meaning self.old self.new) }
+        ensures lost { IfErr result (Loses D.meaning self.old self.new what (C.readings clock.old) (C.readings clock.new) (P.meaning port.old) (P.meaning port.new)) }
         ensures fault { IsErrOf result TurnError.DiskFault → Rose (D.meaning (disk_of self.old)).faults (D.meaning (disk_of self.new)).faults }
+        ensures unwritten { IsErr result → (IsErrOf result TurnError.DiskFault → ⊥) → Same (D.meaning (disk_of self.old)) (D.meaning (disk_of self.new)) }
     {
         let turned = self.take(what, clock, port)?;
         self.flush(port)?;

@@ -3,7 +3,7 @@
 //! A line has the bodies of a log in hexadecimal, with spaces between, or `file` and the bytes of a whole file: then it is
 //! booted on that. `run DISK PORT WORDS` boots it on an empty disk, where these calls of the disk and of the port fail
 //! (`-`: none), and then does what the words say: `requests:N` and `junk` come to the port, `take:N` and `tick` are steps,
-//! `flush` keeps and sends, and `stop:N` or `open:N` stops the disk after so many further calls, where what was not
+//! `flush` keeps and sends, `turn` is a step that is kept and sent at once, and `stop:N` or `open:N` stops the disk after so many further calls, where what was not
 //! synced reads as a closed or as an open gate.
 #![tactic(auto)]
 

@@ -112,6 +112,7 @@ fn push_word(
         Word::Stop { calls, fill } => shell.arm(Some(calls), fill),
         Word::Take(count) => push_receives(shell, devices, count, out)?,
         Word::Tick => push_tick(take(shell, devices, What::Tick)?, out)?,
+        Word::Turn => push_turn(turn(shell, devices)?, out)?,
         Word::Flush => push_flush(shell.flush(&mut devices.port), out)?,
     }
     Ok(())
@@ -146,6 +147,14 @@ fn push_tick(tick: Result<u64, TurnError>, out: &mut String) -> Result<(), Alloc
     }
 }
 
+/// Appends how many bytes the records of a turn take, or why there was none.
+fn push_turn(turn: Result<u64, TurnError>, out: &mut String) -> Result<(), AllocError> {
+    match turn {
+        Ok(size) => write!(out, "a turn of {size} bytes; "),
+        Err(why) => write!(out, "{why}; "),
+    }
+}
+
 fn push_flush(flush: Result<(), TurnError>, out: &mut String) -> Result<(), AllocError> {
     match flush {
         Ok(()) => out.push_str("flushed; "),
@@ -163,5 +172,17 @@ fn take(
         return Err(Fault::TooMany);
     }
     let turned = shell.take(what, &mut devices.clock, &mut devices.port);
+    Ok(turned.map(|turned| turned.size))
+}
+
+/// Takes a step that is kept and sent at once, and gives how many bytes its records take.
+fn turn(
+    shell: &mut Shell<MemDisk>,
+    devices: &mut Devices,
+) -> Result<Result<u64, TurnError>, Fault> {
+    if shell.pending() >= 32 {
+        return Err(Fault::TooMany);
+    }
+    let turned = shell.turn(What::Receive, &mut devices.clock, &mut devices.port);
     Ok(turned.map(|turned| turned.size))
 }

@@ -13,6 +13,8 @@ pub enum Word {
     /// So many receives, each of which is a step.
     Take(u64),
     Tick,
+    /// A receive whose step is kept and sent at once, with those that pend.
+    Turn,
     /// The disk stops after so many further calls, and what was not synced is this byte then.
     Stop { calls: u64, fill: u8 },
     Flush,
@@ -44,6 +46,7 @@ fn plain_word(text: &str) -> Result<Word, Fault> {
     match text {
         "junk" => Ok(Word::Junk),
         "tick" => Ok(Word::Tick),
+        "turn" => Ok(Word::Turn),
         "flush" => Ok(Word::Flush),
         _ => Err(Fault::Unreadable),
     }

@@ -1,6 +1,6 @@
 use Rattle.std.proofs.Common.{◌∙◌, ap}
 use Rattle.crsm_base.specs.declared.decision.Decision.{Decision}
-use Rattle.crsm_ledger.proofs.ReadLemmas.{known-epoch}
+use Rattle.crsm_log_facts.proofs.Known.{known-epoch}
 use Rattle.crsm_machine.proofs.left.told_by.Goals as goal
 
 pub returns : goal.returns

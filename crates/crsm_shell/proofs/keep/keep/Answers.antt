@@ -1,11 +1,11 @@
-use Rattle.std.proofs.Common.{◌≡◌, IsTrue, ℕ, ◌+◌, ◌<◌, length, refl, sym, ◌∙◌, ap, subst, arith, Bool, true, false}
+use Rattle.std.proofs.Common.{◌≡◌, IsTrue, ℕ, ◌+◌, ◌<◌, length, refl, sym, ◌∙◌, ap, subst, inr, arith, Bool, true, false}
 use Rattle.std.specs.Prelude.{Ok, Err, Some, Result}
 use Rattle.std.proofs.lemmas.Bool.Decides.{nat_tests}
+use Rattle.std.proofs.Math.Nat.{lt_of_not-le}
 use Rattle.crsm_log.specs.Words as logs
 use Rattle.crsm_log.specs.declared.errors.PutError.{PutError}
 use Rattle.crsm_log.specs.declared.errors.PutError.TheVariants as put
 use Rattle.crsm_shell.specs.declared.errors.TurnError.TheVariants as errors
-use Rattle.crsm_base.specs.declared.limits.TheConstants.{MAX_LOG_BYTES}
 use Rattle.crsm_shell.specs.Errors.{put_failure}
 use Rattle.crsm_shell.specs.Flushing.{IsOfPut}
 use Rattle.crsm_shell.proofs.Files.{stopped_image}
@@ -49,6 +49,9 @@ returns-in-Err-clause-not_kept g c =
     let e = c.in-Err.ensures in
     let fails : (w : PutError) → why ≡ w → failing why ≡ failing w = λ w is. ap failing is in
     let fault : c.from.result ≡ errors.DiskFault → why ≡ put.DiskFault = λ is. fault_of why (sym c.from.ensures ∙ is) in
+    let end = gate + 6 + length body in
+    let small : c.from.result ≡ errors.DiskFault → length body < 2147483648 = λ is.
+    lt_of_not-le (λ long. not_full end (sym (fault is) ∙ same_err why (put.Full end) ((e.full end).1 (c.requires, refl, inr long)))) in
     record {
       some = some;
       goes = e.goes;
@@ -61,12 +64,12 @@ returns-in-Err-clause-not_kept g c =
             short = s.short;
             history = s.history;
             good = λ p honest told. s.good p told honest;
-            image = λ h fill honest told. stopped_image c.stop_keeps.ensures m gate body s.made (c.args.log.now.sound honest c.requires) s.short h fill (sym s.history ∙ told);
+            image = λ h fill honest told. stopped_image c.stop_keeps.ensures m gate body s.made (c.args.log.now.sound honest c.requires) s.short (small is) h fill (sym s.history ∙ told);
           };
       unwritten = λ other. (e.none refl (λ is. other (c.from.ensures ∙ ap put_failure (same_err why put.DiskFault is)))).0;
       full = λ is.
           let f = full_of why (sym c.from.ensures ∙ is) in
-          let t = (e.full f.0).0 (fails (put.Full f.0) f.1) in (some, subst (λ (k : ℕ). MAX_LOG_BYTES < k) t.1 t.2);
+          let t = (e.full f.0).0 (fails (put.Full f.0) f.1) in (some, t.2);
       fits = λ is past.
           not_full (gate + 6 + length body) (sym (fault is) ∙ same_err why (put.Full (gate + 6 + length body)) ((e.full (gate + 6 + length body)).1 (c.requires, refl, past.1)));
       any_moment = left_by gate m m' body some (λ honest. e.any_moment honest c.requires);

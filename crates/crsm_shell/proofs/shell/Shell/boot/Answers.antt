@@ -5,9 +5,9 @@ use Rattle.crsm_log.specs.Format.{found, reading}
 use Rattle.crsm_log.specs.Words as logs
 use Rattle.crsm_spec.specs.Log.{Log}
 use Rattle.crsm_disk.specs.Meaning.{LeavesOnly}
-use Rattle.crsm_shell.specs.Booting.{Boots, BootsOn, IsBootedOrBefore}
+use Rattle.crsm_shell.specs.Booting.{Boots, BootsOn, IsBootedOrBefore, RefusesBoot}
 use Rattle.crsm_shell.specs.Words.{disk_of}
-use Rattle.crsm_shell.proofs.BootLemmas.{any_moment, boots_on, boots_shell, one_log, refuses, same_log}
+use Rattle.crsm_shell.proofs.BootLemmas.{any_moment, boot_added, boots_on, boots_shell, left_by_boot, not_begun, not_mounted, one_log, refuses, same_log}
 use Rattle.crsm_shell.proofs.Boots.{goes_behind}
 use Rattle.crsm_shell.proofs.shell.Shell.boot.Goals as goal
 
@@ -106,3 +106,57 @@ returns-in-Ok-begin-clause-any_moment_refused g c other honest has =
     IfErr-weaker c.keep_boot.result _ _ (λ e h.
     subst (λ (l : Log). LeavesOnly (g.D.Disk.meaning c.args.disk) (g.D.Disk.meaning e.1) (IsBootedOrBefore c.args.me c.args.n l (g.D.Disk.meaning c.args.disk))) same
     (any_moment one c.args.me c.args.n old mid gate bodies w.0 begun c.in-Ok.ensures.ok w.1 w.2 (g.D.Disk.meaning e.1) honest (h.not_kept.any_moment at_mid))) c.keep_boot.ensures.not_kept
+
+pub returns-in-Ok-begin-clause-added : goal.returns-in-Ok-begin-clause-added
+returns-in-Ok-begin-clause-added g c honest =
+    let one = c.one_spelling_each.ensures.body_has_one in
+    let old = g.D.Disk.meaning c.args.disk in
+    let log = c.in-Ok.mounted.0 in
+    let bodies = c.in-Ok.mounted.1 in
+    let mid = g.D.Disk.meaning (logs.disk_of log) in
+    let gate = logs.gate_of log in
+    let begun = c.in-Ok-begin.begun in
+    let w = c.in-Ok-begin.ensures.found in
+    IfOk-weaker c.keep_boot.result _ _ (λ b h.
+    boot_added one c.args.me c.args.n old mid gate bodies w.0 begun c.in-Ok.ensures.ok w.1 w.2 b (g.D.Disk.meaning (disk_of b.shell)) h.0 h.1 honest) c.keep_boot.ensures.kept
+
+pub returns-in-Ok-begin-clause-left : goal.returns-in-Ok-begin-clause-left
+returns-in-Ok-begin-clause-left g c honest =
+    let one = c.one_spelling_each.ensures.body_has_one in
+    let old = g.D.Disk.meaning c.args.disk in
+    let log = c.in-Ok.mounted.0 in
+    let bodies = c.in-Ok.mounted.1 in
+    let mid = g.D.Disk.meaning (logs.disk_of log) in
+    let gate = logs.gate_of log in
+    let begun = c.in-Ok-begin.begun in
+    let w = c.in-Ok-begin.ensures.found in
+    let at_mid : IsTrue mid.honest = c.in-Ok.ensures.ok.goes.honest ∙ honest in
+    IfOk-weaker c.keep_boot.result _ _ (λ b h.
+    left_by_boot one c.args.me c.args.n old mid gate bodies w.0 begun c.in-Ok.ensures.ok w.1 w.2 (g.D.Disk.meaning (disk_of b.shell)) honest (h.1.any_moment at_mid)) c.keep_boot.ensures.kept
+
+pub returns-in-Ok-begin-clause-left_refused : goal.returns-in-Ok-begin-clause-left_refused
+returns-in-Ok-begin-clause-left_refused g c honest =
+    let one = c.one_spelling_each.ensures.body_has_one in
+    let old = g.D.Disk.meaning c.args.disk in
+    let log = c.in-Ok.mounted.0 in
+    let bodies = c.in-Ok.mounted.1 in
+    let mid = g.D.Disk.meaning (logs.disk_of log) in
+    let gate = logs.gate_of log in
+    let begun = c.in-Ok-begin.begun in
+    let w = c.in-Ok-begin.ensures.found in
+    let at_mid : IsTrue mid.honest = c.in-Ok.ensures.ok.goes.honest ∙ honest in
+    IfErr-weaker c.keep_boot.result _ _ (λ e h.
+    left_by_boot one c.args.me c.args.n old mid gate bodies w.0 begun c.in-Ok.ensures.ok w.1 w.2 (g.D.Disk.meaning e.1) honest (h.not_kept.any_moment at_mid)) c.keep_boot.ensures.not_kept
+
+-- ---- it is not mounted, or not begun
+
+pub returns-in-Err-clause-refused : goal.returns-in-Err-clause-refused
+returns-in-Err-clause-refused g c =
+    subst (RefusesBoot c.args.me c.args.n _ _) (sym c.from.ensures) (not_mounted c.args.me c.args.n _ _ _ c.in-Err.ensures.err)
+
+pub returns-in-Err-begin-clause-refused : goal.returns-in-Err-begin-clause-refused
+returns-in-Err-begin-clause-refused g c =
+    let old = g.D.Disk.meaning c.args.disk in
+    let log = c.in-Ok.mounted.0 in
+    let refuses = not_begun c.args.me c.args.n old (g.D.Disk.meaning (logs.disk_of log)) (logs.gate_of log) c.in-Ok.mounted.1 c.in-Ok.ensures.ok _ c.in-Err-begin.ensures.refused in
+    subst (λ (d : g.row.D.Denot). RefusesBoot c.args.me c.args.n old (g.D.Disk.meaning d) c.in-Err-begin.why) (sym c.into_disk.ensures) refuses

@@ -2,17 +2,19 @@ use Rattle.std.proofs.Common.{◌≡◌, IsTrue, ℕ, List, [], ◌∷◌, lengt
 use Rattle.std.specs.Prelude.{Result, Ok, Err, OnOk}
 use Rattle.std.proofs.lemmas.Result.{err_from_is_err_and}
 use Rattle.crsm_base.specs.Records.{body_bytes}
+use Rattle.crsm_disk.specs.Meaning.{LeavesOnly}
+use Rattle.crsm_log.specs.Format.{bodies_of}
 use Rattle.crsm_log.specs.Log.{Used, recorded}
 use Rattle.crsm_log.specs.Words as logs
 use Rattle.crsm_port.specs.Meaning.{Post}
 use Rattle.crsm_turns.specs.Outgoing.{posts_for}
 use Rattle.crsm_shell.specs.declared.errors.TurnError.{TurnError}
 use Rattle.crsm_shell.specs.declared.errors.TurnError.TheVariants as errors
-use Rattle.crsm_shell.specs.Flushing.{SendsPosts, keep_calls, keep_count}
+use Rattle.crsm_shell.specs.Flushing.{Adds, IsLeft, SendsPosts, keep_calls, keep_count}
 use Rattle.crsm_shell.specs.Shell.{ShellStands, records_of, sends_of}
 use Rattle.crsm_shell.specs.Words.{disk_of, gate_of}
 use Rattle.crsm_shell.proofs.Files.{no_body}
-use Rattle.crsm_shell.proofs.Groups.{full_at, inside, kept_all, left_alone, left_one, past_at, stops_flush}
+use Rattle.crsm_shell.proofs.Groups.{full_at, inside, kept_all, left_alone, left_bodies, left_one, past_at, stops_flush}
 use Rattle.crsm_shell.proofs.Ports.{sends_posts}
 use Rattle.crsm_shell.proofs.shell.Shell.flush.Goals as goal
 
@@ -145,3 +147,37 @@ returns-clause-not_full g c kept r steps s honest full =
     let is = c.as_slice.ensures ∙ (inside old m kept r steps s).body in
     let past = past_at m (gate_of old) c.as_slice.result.now (body_bytes (records_of steps)) (old.log.sound honest (old.well c.if-self.false)) is full in
     (c.in_ok-keep.ensures.kept.fits past, λ fault. no_err tt errors.DiskFault fault)
+
+pub returns-clause-added : goal.returns-clause-added
+returns-clause-added g c kept r steps s honest =
+    let old = c.args.self.now in
+    let m = g.D.Disk.meaning (disk_of old) in
+    let m' = g.D.Disk.meaning (logs.disk_of c.keep.new.log) in
+    let is = c.as_slice.ensures ∙ (inside old m kept r steps s).body in
+    subst (λ (b : List ℕ). Adds b m.seen m'.seen) is (c.in_ok-keep.ensures.kept.added honest)
+
+pub returns-clause-left : goal.returns-clause-left
+returns-clause-left g c kept r steps s honest =
+    let old = c.args.self.now in
+    let m = g.D.Disk.meaning (disk_of old) in
+    let m' = g.D.Disk.meaning (logs.disk_of c.keep.new.log) in
+    let is = c.as_slice.ensures ∙ (inside old m kept r steps s).body in
+    subst (λ (b : List ℕ). LeavesOnly m m' (IsLeft (bodies_of m.seen) b)) is (c.in_ok-keep.ensures.kept.any_moment honest)
+
+pub returns-in_err-keep-clause-left : goal.returns-in_err-keep-clause-left
+returns-in_err-keep-clause-left g c kept r steps s honest =
+    let old = c.args.self.now in
+    let m = g.D.Disk.meaning (disk_of old) in
+    let m' = g.D.Disk.meaning (logs.disk_of c.keep.new.log) in
+    let is = c.as_slice.ensures ∙ (inside old m kept r steps s).body in
+    subst (λ (b : List ℕ). LeavesOnly m m' (IsLeft (bodies_of m.seen) b)) is (c.in_err-keep.ensures.not_kept.any_moment honest)
+
+pub returns-in_err-make_room-clause-left : goal.returns-in_err-make_room-clause-left
+returns-in_err-make_room-clause-left g c kept r steps s honest =
+    let old = c.args.self.now in
+    let m = g.D.Disk.meaning (disk_of old) in
+    left_bodies m (body_bytes (records_of steps)) (gate_of old) (old.log.sound honest (old.well c.if-self.false))
+
+pub returns-then-self-clause-left : goal.returns-then-self-clause-left
+returns-then-self-clause-left g c kept r steps s honest =
+    absurd (both c.args.self.now.failed c.if-self.true (inside c.args.self.now (g.D.Disk.meaning (disk_of c.args.self.now)) kept r steps s).well)

@@ -17,4 +17,4 @@ returns-clause-image g c kept r steps h fill s honest told =
     let settled = old.log.sound honest (old.well stands.well) in
     let now = ap (λ d. (g.D.Disk.meaning d).history) (sym c.into_disk.ensures) ∙ told in
     kept_before r.me r.n m.seen kept (records_of steps) r.log (stands.file honest) (group old m kept r steps s) (image_of h.first h.calls fill)
-    (stopped_image c.stop_keeps.ensures m (gate_of old) [] 0 settled (omega arith) h fill now)
+    (stopped_image c.stop_keeps.ensures m (gate_of old) [] 0 settled (omega arith) (omega arith) h fill now)

@@ -14,34 +14,34 @@ use Rattle.crsm_shell.specs.Words.{disk_of}
 use Rattle.crsm_shell.proofs.Groups.{inside}
 use Rattle.crsm_shell.proofs.Pending.{one_more, sent_fit}
 use Rattle.crsm_shell.proofs.Propositions.{records_prop, sends_prop}
-use Rattle.crsm_shell.proofs.Steps.{turn_grown}
+use Rattle.crsm_step_facts.proofs.Batches.{turn_grown}
 use Rattle.crsm_shell.proofs.shell.Shell.step.Goals as goal
 
 pub write_records-requires : goal.write_records-requires
 write_records-requires g c =
     subst (AllByRecursion FitsRec) (sym c.as_slice-2.ensures)
-    (∥∥₁_elim (c.args.self.now.stands c.requires.well) (records_prop c.in_ok-batch.batch.records) (λ s. (c.in_ok-batch.ensures s.replica (subst (λ (core : Core). CoreStands core s.replica) (sym c.deref_mut.ensures.value) s.stands)).0.records))
+    (∥∥₁_elim (c.args.self.now.stands c.requires.well) (records_prop c.in_ok-made.made.batch.records) (λ s. (c.in_ok-made.ensures.step s.replica (subst (λ (core : Core). CoreStands core s.replica) (sym c.deref_mut.ensures.value) s.stands)).0.records))
 
 pub add-requires : goal.add-requires
 add-requires g c =
     subst (AllByRecursion FitsSend) (sym c.as_slice-3.ensures)
-    (sent_fit c.in_ok-batch.batch.sends (∥∥₁_elim (c.args.self.now.stands c.requires.well) (sends_prop c.in_ok-batch.batch.sends) (λ s. (c.in_ok-batch.ensures s.replica (subst (λ (core : Core). CoreStands core s.replica) (sym c.deref_mut.ensures.value) s.stands)).0.sends)))
+    (sent_fit c.in_ok-made.made.batch.sends (∥∥₁_elim (c.args.self.now.stands c.requires.well) (sends_prop c.in_ok-made.made.batch.sends) (λ s. (c.in_ok-made.ensures.step s.replica (subst (λ (core : Core). CoreStands core s.replica) (sym c.deref_mut.ensures.value) s.stands)).0.sends)))
 
 pub returns-clause-spelt : goal.returns-clause-spelt
 returns-clause-spelt g c =
-    ∥∥₁_elim (c.args.self.now.stands c.requires.well) (sends_prop c.in_ok-batch.batch.sends) (λ s. (c.in_ok-batch.ensures s.replica (subst (λ (core : Core). CoreStands core s.replica) (sym c.deref_mut.ensures.value) s.stands)).0.sends)
+    ∥∥₁_elim (c.args.self.now.stands c.requires.well) (sends_prop c.in_ok-made.made.batch.sends) (λ s. (c.in_ok-made.ensures.step s.replica (subst (λ (core : Core). CoreStands core s.replica) (sym c.deref_mut.ensures.value) s.stands)).0.sends)
 
 pub invariant_of-self-2-clause-stands : goal.invariant_of-self-2-clause-stands
 invariant_of-self-2-clause-stands g c = λ h.
-    ∥∥₁_map (c.args.self.now.stands c.requires.well) (λ s. record { replica = _; stands = (c.in_ok-batch.ensures s.replica (subst (λ (core : Core). CoreStands core s.replica) (sym c.deref_mut.ensures.value) s.stands)).1 })
+    ∥∥₁_map (c.args.self.now.stands c.requires.well) (λ s. record { replica = _; stands = (c.in_ok-made.ensures.step s.replica (subst (λ (core : Core). CoreStands core s.replica) (sym c.deref_mut.ensures.value) s.stands)).1 })
 
 pub returns-clause-stands : goal.returns-clause-stands
 returns-clause-stands g c kept r steps s =
     let old = c.args.self.now in
     let m = g.D.Disk.meaning (disk_of old) in
-    let a = subst (λ (buffer : List ℕ). let x = turn r (turn_of buffer c.args.taken.now, c.args.reading) in Answers c.in_ok-batch.batch x × CoreStands c.make.new.core x.replica)
-    c.deref.ensures.value (c.in_ok-batch.ensures r (subst (λ (core : Core). CoreStands core r) (sym c.deref_mut.ensures.value) (inside old m kept r steps s).core)) in
-    let batch = c.in_ok-batch.batch in
+    let a = subst (λ (buffer : List ℕ). let x = turn r (turn_of buffer c.args.taken.now, c.args.reading) in Answers c.in_ok-made.made.batch x × CoreStands c.make.new.core x.replica)
+    c.deref.ensures.value (c.in_ok-made.ensures.step r (subst (λ (core : Core). CoreStands core r) (sym c.deref_mut.ensures.value) (inside old m kept r steps s).core)) in
+    let batch = c.in_ok-made.made.batch in
     let body = c.in_ok-write_records.ensures.behind ∙ ap (λ (b : List Rec). old.body ++ body_bytes b) c.as_slice-2.ensures in
     let posts = c.in_ok-add.ensures ∙ ap (λ (ps : List ℕ). old.outbox ++ posts_for ps c.as_slice-3.result.now) c.deref-2.ensures.value
     ∙ ap (λ (ss : List Send). old.outbox ++ posts_for old.peers.items ss) c.as_slice-3.ensures in
