@@ -4,6 +4,7 @@ ghost use Rattle.std.specs.Prelude.{◌≡◌, ◌≢◌, ◌<◌, ◌≤◌, �
 ghost use Rattle.crsm_faults.specs.Counts.{Rose};
 ghost use Rattle.crsm_text.specs.Words.{Lacks};
 ghost use Rattle.crsm_spec.specs.Safe.{Agreed, Answered, RealTime};
+ghost use Rattle.crsm_spec.specs.Decided.{DecisionsAgree};
 ghost use Rattle.crsm_spec.specs.Durable.{KeepsAnswered};
 ghost use Rattle.crsm_world.specs.Schedule.{Schedule, IsSchedule, ShowsAll, schedule_text, acts_of};
 ghost use Rattle.crsm_app.specs.Causes.{status_of};
@@ -15,7 +16,7 @@ ghost use Rattle.crsm_app.specs.declared.status.Cause.{Cause};
 use crate::replay::Replay;
 use crate::status::{Halt, Status};
 use crsm_io::{Sink, Source};
-use crsm_law_runs::{answered_are_kept, runs_are_safe};
+use crsm_law_runs::{answered_are_kept, decisions_always_agree, runs_are_safe};
 use std::alloc::Global;
 
 /// How many bytes an input has at most.
@@ -154,14 +155,16 @@ pub fn run<I: Source, O: Sink>(
 
     // In every schedule that is run all executed lists, at any moments, are prefixes of one list; each answer is the
     // sequential store's at its place of that list; what is submitted after an answer stands behind the answered
-    // command; and what was answered is never lost.
+    // command; what was answered is never lost; and decisions of one epoch are equal.
     ensures agreement { (s : Schedule) → IsSchedule s → Agreed s.replicas (acts_of s) }
     ensures answers { (s : Schedule) → IsSchedule s → Answered s.replicas (acts_of s) }
     ensures real_time { (s : Schedule) → IsSchedule s → RealTime s.replicas (acts_of s) }
     ensures durable { (s : Schedule) → IsSchedule s → KeepsAnswered s.replicas (acts_of s) }
+    ensures decisions { (s : Schedule) → IsSchedule s → DecisionsAgree s.replicas (acts_of s) }
 {
     runs_are_safe();
     answered_are_kept();
+    decisions_always_agree();
     if is_replay(words) {
         replay(alloc, input, output)
     } else {

@@ -6,7 +6,7 @@ ghost use Rattle.crsm_spec.specs.World as on_paper;
 ghost use Rattle.crsm_network.specs.Mailed.{PostStands, IsMail, IsLetter, used_up, is_used_at, receiver_of, receiver_or};
 
 use crate::mail::{Letter, Mail};
-use crsm_base::{Bytes, MAX_WORLD_BYTES, NoMemory};
+use crsm_base::{Bytes, MAX_WORLD_BYTES, NoMemory, never};
 use std::alloc::Global;
 
 /// Every datagram that was sent, by number, and how many bytes the world has.
@@ -145,7 +145,7 @@ impl Post {
         ensures { OnOk result ((mail : List on_paper.Mail) (bytes : ℕ) → PostStands self.old mail bytes → PostStands self.new mail (bytes + size)) }
     {
         // All of them are in memory, so that the sum stays in its range.
-        self.bytes = self.bytes.checked_add(size).ok_or(NoMemory)?;
+        self.bytes = self.bytes.checked_add(size).ok_or(never())?;
         Ok(())
     }
 }

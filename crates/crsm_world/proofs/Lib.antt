@@ -9,3 +9,4 @@ pub mod Allowed
 pub mod First
 pub mod Schedules
 pub mod Due
+pub mod SoFar

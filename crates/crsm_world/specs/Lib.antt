@@ -7,3 +7,4 @@ pub mod Starting
 pub mod Refusing
 pub mod World
 pub mod Schedule
+pub mod Laws

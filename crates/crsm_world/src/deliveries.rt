@@ -18,7 +18,7 @@ ghost use Rattle.crsm_world.specs.Turning.{ending_of, FitsEnding, IsGenuine, tur
 use crate::ending::Ending;
 use crate::outgoing::leave;
 use crate::world::World;
-use crsm_base::{Bytes, Command, Datagram, Lines, MAX_DATAGRAM_BYTES, NoMemory};
+use crsm_base::{Bytes, Command, Datagram, Lines, MAX_DATAGRAM_BYTES, NoMemory, never};
 use crsm_machine::Coming;
 use crsm_schedule::Single;
 use crsm_wire::write_datagram;
@@ -59,7 +59,7 @@ impl World {
     {
         // No datagram is longer.
         if bytes.len() > MAX_DATAGRAM_BYTES as usize {
-            return Err(NoMemory);
+            return Err(never());
         }
         let coming = Coming::Bytes { from, bytes };
         self.arrive(k, ending, coming, reading, lines)?;
@@ -83,7 +83,7 @@ impl World {
         };
         // No datagram is longer.
         if letter.bytes.len() > MAX_DATAGRAM_BYTES as usize {
-            return Err(NoMemory);
+            return Err(never());
         }
         let coming = Coming::Bytes {
             from: u64::from(letter.from),

@@ -16,7 +16,7 @@ pub(crate) enum Ending {
     Whole,
     /// It stops when its records are kept and so many of its sends and replies are out.
     Kept { sends: u64 },
-    /// It stops before its records are kept.
+    /// It stops behind the first write of its put: its records are not kept.
     Lost,
     /// It stops within its put.
     At { stop: Stop },

@@ -99,7 +99,11 @@ impl Sites {
         match ending {
             Ending::Whole => Ok(self.step_whole(k, coming, reading)?),
             Ending::Kept { sends } => Ok(self.step_kept(k, sends, coming, reading)?),
-            Ending::Lost => Ok(self.go_down(k)?),
+            Ending::Lost => {
+                // What is not synced then reads as an open gate, and its records are lost all the same.
+                let stop = Stop { calls: 1, fill: 1 };
+                Ok(self.step_stopped(k, stop, coming, reading)?)
+            }
             Ending::At { stop } => Ok(self.step_stopped(k, stop, coming, reading)?),
         }
     }

@@ -12,7 +12,7 @@ ghost use Rattle.crsm_world.specs.Several.{AreFor, IsFor, each_gone, all_gone};
 use crate::ending::Ending;
 use crate::outgoing::let_all_out;
 use crate::world::World;
-use crsm_base::{Lines, MAX_DATAGRAM_BYTES, NoMemory};
+use crsm_base::{Lines, MAX_DATAGRAM_BYTES, NoMemory, never};
 use crsm_machine::{Coming, sites_pend_nothing};
 
 impl World {
@@ -53,7 +53,7 @@ impl World {
         };
         // No datagram is longer.
         if letter.bytes.len() > MAX_DATAGRAM_BYTES as usize {
-            return Err(NoMemory);
+            return Err(never());
         }
         let coming = Coming::Bytes {
             from: u64::from(letter.from),

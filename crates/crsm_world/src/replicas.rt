@@ -1,11 +1,10 @@
 //! Numbers of replicas.
 
 ghost use Rattle.std.specs.Prelude.{◌≡◌, ◌==◌, ◌&&◌, not, nat_lt, nat_le};
-ghost use Rattle.std.specs.List.{list_any, list_all};
-ghost use Rattle.crsm_spec.specs.Lists.{has};
+ghost use Rattle.std.specs.List.{list_any};
 ghost use Rattle.crsm_spec.specs.Possible as possible;
 
-use crsm_base::MAX_REPLICAS;
+use crsm_base::{MAX_REPLICAS, are_among, majority_of};
 
 /// The number is that of no replica so far, nor can it be that of the next new one.
 pub(crate) fn is_none(count: u64, k: u64) -> bool
@@ -24,28 +23,13 @@ pub(crate) fn one_is_past(count: u64, members: &[u32]) -> bool
     members.iter().any(|member| count <= u64::from(*member))
 }
 
-/// Whether the replica is among these.
-#[tactic(auto, unfolding(crsm_spec::specs::Lists::has))]
-fn is_among(replicas: &[u32], replica: u32) -> bool
-    ensures { result ≡ has replicas.now replica }
-{
-    replicas.iter().any(|other| *other == replica)
-}
-
-/// Whether all of these replicas are among the others.
-fn are_among(replicas: &[u32], others: &[u32]) -> bool
-    ensures { result ≡ list_all (has others.now) replicas.now }
-{
-    replicas.iter().all(|replica| is_among(others, *replica))
-}
-
 /// The members are of the Spec, and fewer than a majority of it.
 #[tactic(auto, unfolding(crsm_spec::specs::Possible::are_too_few))]
 pub(crate) fn are_too_few(spec: &[u32], members: &[u32]) -> bool
     ensures { result ≡ possible.are_too_few spec.now members.now }
 {
     let are_of_spec = are_among(members, spec);
-    are_of_spec & (members.len() < spec.len() / 2 + 1)
+    are_of_spec & (members.len() < majority_of(spec))
 }
 
 /// The number can be that of the next new replica.

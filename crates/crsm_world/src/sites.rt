@@ -14,7 +14,7 @@ ghost use Rattle.crsm_world.specs.Placed.{SitesStand, SitesPend, SitesCut, Sites
 
 use crate::ending::Stop;
 use crate::founders::Founders;
-use crsm_base::{Line, Lines, MAX_REPLICAS, Members, NoMemory};
+use crsm_base::{Line, Lines, MAX_REPLICAS, Members, NoMemory, never};
 use crsm_machine::{Boot, Coming, Site, Step};
 use std::alloc::Global;
 
@@ -209,7 +209,7 @@ impl Sites {
         for (k, site) in self.items.iter().enumerate() {
             // There are no more than 15.
             let Ok(replica) = u32::try_from(k) else {
-                return Err(NoMemory);
+                return Err(never());
             };
             lines.push(self.final_line(replica, site))?;
         }

@@ -1,21 +1,24 @@
 //! The world of a cluster.
 
-ghost use Rattle.std.specs.Prelude.{◌≡◌, ◌≢◌, ◌≤◌, ◌+◌, ◌<◌, None, IfOk, IfErr, IsErrOf, IsErr, IfSome, Some, [], slice_get, is_some};
+ghost use Rattle.std.specs.Prelude.{◌≡◌, ◌≢◌, ◌≤◌, ◌+◌, ◌<◌, ℕ, None, IfOk, IfErr, IsErrOf, IsErr, IfSome, Some, List, [], ◌∷◌, ◌++◌, slice_get, is_some};
 ghost use Rattle.crsm_disk.specs.Memory.{meaning_of};
 ghost use Rattle.crsm_schedule.specs.Grammar.{FitsEvent};
 ghost use Rattle.crsm_shell.specs.Shell.{ShellStands};
 ghost use Rattle.crsm_shell.specs.Words.{disk_of};
+ghost use Rattle.crsm_spec.specs.Acts.{Act};
 ghost use Rattle.crsm_spec.specs.Moments.{act};
 ghost use Rattle.crsm_spec.specs.Possible.{possible};
 ghost use Rattle.crsm_spec.specs.Replica.{Replica};
 ghost use Rattle.crsm_spec.specs.World as on_paper;
 ghost use Rattle.crsm_world.specs.Doing.{act_of, bad_of};
+ghost use Rattle.crsm_world.specs.Laws.{HasDone, IsLawful};
 ghost use Rattle.crsm_world.specs.World.{Holds, StandsFor, IsSpent};
 
 use crate::bad::Bad;
 use crate::sites::Sites;
 use crsm_base::{Lines, NoMemory};
 use crsm_disk::MemDisk;
+use crsm_law_runs::{answered_are_kept, decisions_always_agree, runs_are_safe};
 use crsm_network::Post;
 use crsm_schedule::Event;
 use crsm_shell::Shell;
@@ -40,6 +43,7 @@ impl World {
         requires most { n ≤ 15 }
         ensures world { IfOk result (λ made. StandsFor made.0 (on_paper.begin n)) }
         ensures lines { IfOk result (λ made. made.1 ≡ on_paper.first_lines n) }
+        ensures done { IfOk result (λ made. HasDone made.0 n []) }
     {
         let mut world = World {
             alloc,
@@ -58,7 +62,8 @@ impl World {
         Ok((world, lines))
     }
 
-    /// Does an event, and gives its lines. After a cause other than memory the world is as before.
+    /// Does an event, and gives its lines. After a cause other than memory the world is as before. Of all that the world has
+    /// done since it was made, the laws of a run hold.
     #[tactic(auto, unfolding(crate::specs::World::StandsFor, crate::specs::World::IsSpent))]
     pub fn step(&mut self, event: &Event) -> Result<Lines, Bad>
         requires { FitsEvent event.now }
@@ -69,6 +74,8 @@ impl World {
         ensures unchanged { (v : on_paper.World) → StandsFor self.old v → IfErr result (λ bad. bad ≢ Bad.NoMemory → StandsFor self.new v) }
         ensures spent { IsErrOf result Bad.NoMemory → IsSpent self.new }
         ensures stays_spent { IsSpent self.old → IsErrOf result Bad.NoMemory }
+        ensures done { (n : ℕ) (acts : List Act) → HasDone self.old n acts → IfOk result (λ lines. HasDone self.new n (acts ++ act_of event.now ∷ [])) }
+        ensures laws { (n : ℕ) (acts : List Act) → HasDone self.old n acts → IfOk result (λ lines. IsLawful n (acts ++ act_of event.now ∷ [])) }
     {
         if self.is_spent {
             return Err(Bad::NoMemory);
@@ -83,6 +90,9 @@ impl World {
             return Err(Bad::NoMemory);
         };
         self.is_spent = false;
+        runs_are_safe();
+        answered_are_kept();
+        decisions_always_agree();
         Ok(lines)
     }
 
@@ -119,16 +129,20 @@ impl World {
         }
     }
 
-    /// The last lines.
+    /// The last lines, of a world whose acts so far keep the laws of a run.
     #[tactic(auto, unfolding(crate::specs::World::StandsFor, crate::specs::World::IsSpent, crsm_spec::specs::World::finals))]
     pub fn finals(&self) -> Result<Lines, NoMemory>
         ensures lines { (v : on_paper.World) → StandsFor self.now v → IfOk result (λ lines. lines ≡ on_paper.finals v) }
+        ensures laws { (n : ℕ) (acts : List Act) → HasDone self.now n acts → IfOk result (λ lines. IsLawful n acts) }
         ensures spent { IsSpent self.now → IsErr result }
     {
         if self.is_spent {
             return Err(NoMemory);
         }
         let lines = self.sites.finals()?;
+        runs_are_safe();
+        answered_are_kept();
+        decisions_always_agree();
         Ok(lines)
     }
 }

@@ -57,3 +57,9 @@ returns-else-is_replay-clause-real_time g c = λ s good. (c.runs_are_safe.ensure
 
 pub returns-else-is_replay-clause-durable : goal.returns-else-is_replay-clause-durable
 returns-else-is_replay-clause-durable g c = λ s good. c.answered_are_kept.ensures s.replicas (acts_of s) good.size.1 good.possible
+
+pub returns-then-is_replay-clause-decisions : goal.returns-then-is_replay-clause-decisions
+returns-then-is_replay-clause-decisions g c = λ s good. c.decisions_always_agree.ensures s.replicas (acts_of s) good.size.1 good.possible
+
+pub returns-else-is_replay-clause-decisions : goal.returns-else-is_replay-clause-decisions
+returns-else-is_replay-clause-decisions g c = λ s good. c.decisions_always_agree.ensures s.replicas (acts_of s) good.size.1 good.possible

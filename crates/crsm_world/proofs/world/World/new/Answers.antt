@@ -1,6 +1,7 @@
 use Rattle.std.proofs.Common.{◌≡◌, ◌∙◌, ap, sym, refl, subst, arith, ℕ}
 use Rattle.crsm_spec.specs.World.{World}
 use Rattle.crsm_spec.specs.Moments.{start_at}
+use Rattle.crsm_spec.specs.Run.{after_acts, last_world}
 use Rattle.crsm_world.specs.Starting.{CanStart}
 use Rattle.crsm_world.specs.World.{StandsFor, Holds, Leads}
 use Rattle.crsm_world.proofs.First.{part, part_lines, no_part, no_lines, all_parts, all_lines, next_can, part_next, lines_more}
@@ -33,3 +34,10 @@ pub returns-clause-lines : goal.returns-clause-lines
 returns-clause-lines c =
     let e : c.loop-k.k ≡ c.args.n = let a = c.loop-k-test.false in let b = c.loop-k.auto.k-end in omega arith in
     c.loop-k.invariant.told ∙ ap (part_lines c.args.n) e ∙ all_lines c.args.n
+
+pub returns-clause-done : goal.returns-clause-done
+unfolding StandsFor last_world after_acts
+returns-clause-done c =
+    let e : c.loop-k.k ≡ c.args.n = let a = c.loop-k-test.false in let b = c.loop-k.auto.k-end in omega arith in
+    let h = subst (λ (u : World). Holds c.loop-k.world u) (ap (part c.args.n) e ∙ all_parts c.args.n) c.loop-k.invariant.holds in
+    record { some = c.requires.some; most = c.requires.most; possible = tt; stands = record { unspent = refl; holds = record { sites = h.sites; post = h.post } } }
