@@ -9,7 +9,7 @@ use crsm_base::{NoMemory, Stamp};
 use std::alloc::Global;
 use std::marker::Model;
 
-/// Stamps in ascending order, in one piece. The first is dropped without moving the others; room that was left in prefix
+/// Stamps in ascending order, in one piece. The first is dropped without moving the others; room that was left in front
 /// is given back once it is half of all.
 #[derive(Drop)]
 pub struct Stamps {

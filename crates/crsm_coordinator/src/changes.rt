@@ -13,7 +13,7 @@ ghost use Rattle.crsm_coordinator.specs.Coordinator.{CoordinatorStands, IsOwn, V
 
 use crate::coordinator::{Coordinator, Voted};
 use crate::readers::is_chosen_with;
-use crsm_base::{Ballot, Decision, Members, NoMemory};
+use crsm_base::{Ballot, Decision, Members, NoMemory, never};
 use crsm_paxos::{Proposer, StartError};
 use std::alloc::Global;
 
@@ -49,7 +49,8 @@ impl Coordinator {
         let size = spec.count();
         let mut proposer = match Proposer::start(alloc, own, above, me, size) {
             Ok(proposer) => proposer,
-            Err(_) => return Err(NoMemory),
+            Err(StartError::NoMemory) => return Err(NoMemory),
+            Err(StartError::Spent) => return Err(never()),
         };
         let ballot = proposer.ballot();
         proposer.on_p1b(me, ballot, accepted)?;

@@ -11,7 +11,7 @@ ghost use Rattle.crsm_spec.specs.Replica.{Coordinator as CoordinatorOnPaper};
 ghost use Rattle.crsm_coordinator.specs.Coordinator.{CoordinatorStands, takes_answer, takes_vote, is_ended_by, ballot_of, is_chosen_with, stage_of};
 
 use crate::coordinator::{Coordinator, Stage};
-use crsm_base::Ballot;
+use crsm_base::{Ballot, ballot_precedes, is_same_ballot};
 use crsm_paxos::Proposer;
 
 impl Coordinator {
@@ -99,38 +99,24 @@ fn stage_in(has_proposed: bool) -> Stage
     }
 }
 
-#[tactic(auto, unfolding(crsm_base::specs::Order::ballot_eq))]
-fn is_same(a: Ballot, b: Ballot) -> bool
-    ensures { result ≡ ballot_eq a b }
-{
-    a == b
-}
-
-#[tactic(auto, unfolding(crsm_base::specs::Order::ballot_lt))]
-fn is_below(a: Ballot, b: Ballot) -> bool
-    ensures { result ≡ ballot_lt a b }
-{
-    a < b
-}
-
 #[tactic(auto, unfolding(crsm_spec::specs::Lists::has))]
 fn is_answer(proposer: &Proposer, b: Ballot, k: u32) -> bool
     ensures { result ≡ (not proposer.now.has_proposed && (ballot_eq b proposer.now.ballot && not (has proposer.now.heard k))) }
 {
-    !proposer.has_proposed() && is_same(b, proposer.ballot()) && !proposer.has_promise_of(k)
+    !proposer.has_proposed() && is_same_ballot(b, proposer.ballot()) && !proposer.has_promise_of(k)
 }
 
 #[tactic(auto, unfolding(crsm_spec::specs::Lists::has))]
 fn is_vote(proposer: &Proposer, b: Ballot, k: u32) -> bool
     ensures { result ≡ (proposer.now.has_proposed && (ballot_eq b proposer.now.ballot && not (has proposer.now.voters k))) }
 {
-    proposer.has_proposed() && is_same(b, proposer.ballot()) && !proposer.has_vote_of(k)
+    proposer.has_proposed() && is_same_ballot(b, proposer.ballot()) && !proposer.has_vote_of(k)
 }
 
 fn is_end(proposer: &Proposer, b: Ballot, top: Ballot) -> bool
     ensures { result ≡ (ballot_eq b proposer.now.ballot && ballot_lt b top) }
 {
-    is_same(b, proposer.ballot()) && is_below(b, top)
+    is_same_ballot(b, proposer.ballot()) && ballot_precedes(b, top)
 }
 
 #[tactic(auto, unfolding(crsm_spec::specs::Lists::has))]

@@ -2,13 +2,14 @@
 
 ghost use Rattle.std.specs.Prelude.{◌≡◌, ◌++◌, IfOk, OnOk};
 ghost use Rattle.std.specs.Option.{option_map};
-ghost use Rattle.crsm_base.specs.Order.{entry_lt};
 ghost use Rattle.crsm_base.specs.Spelling.{entries_bytes, FitsEntries};
 ghost use Rattle.crsm_base.specs.Reading.{many_entries_at, is_rising, entries_at};
 
 use crate::command::{put_entry, take_entry};
 use crate::number::{put_u32, take_u32};
-use crsm_base::{Bytes, Entries, Entry, MAX_TAIL_BYTES, MAX_TAIL_ENTRIES, NoMemory};
+use crsm_base::{
+    Bytes, Entries, Entry, MAX_TAIL_BYTES, MAX_TAIL_ENTRIES, NoMemory, entry_precedes,
+};
 use std::alloc::Global;
 
 // no entry is spelt in fewer bytes: 33 of numbers, a tag, and a key of a byte with its length
@@ -50,15 +51,9 @@ fn take_many_entries(
     Ok(Some((entries, rest)))
 }
 
-#[tactic(auto, unfolding(crsm_base::specs::Order::entry_lt, crsm_base::specs::Order::stamp_lt))]
-fn precedes(a: &Entry, b: &Entry) -> bool
-    ensures { result ≡ entry_lt a.now b.now }
-{
-    a.epoch < b.epoch || (a.epoch == b.epoch && a.stamp < b.stamp)
-}
-
+/// Whether the entries strictly rise in the global order.
 #[tactic(auto, unfolding(crsm_base::specs::Reading::is_rising))]
-fn rises(entries: &[Entry]) -> bool
+pub fn rises(entries: &[Entry]) -> bool
     ensures { result ≡ is_rising entries.now }
 {
     let Some((first, others)) = entries.split_first() else {
@@ -66,7 +61,7 @@ fn rises(entries: &[Entry]) -> bool
     };
     let mut last = first;
     for entry in others {
-        if !precedes(last, entry) {
+        if !entry_precedes(last, entry) {
             return false;
         }
         last = entry;

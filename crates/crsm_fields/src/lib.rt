@@ -15,7 +15,7 @@ mod vote;
 
 pub use command::{put_command, put_entry, put_op, take_command, take_entry, take_op};
 pub use decision::{put_decision, take_decision};
-pub use entries::{put_entries, take_entries};
+pub use entries::{put_entries, rises, take_entries};
 pub use members::{put_members, take_members};
 pub use number::{
     put_u8, put_u16, put_u32, put_u64, take_replica, take_u8, take_u16, take_u32, take_u64,

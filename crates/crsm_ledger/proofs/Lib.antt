@@ -1,8 +1,6 @@
-pub mod ListLemmas
 pub mod LoggedLemmas
 pub mod PiecesLemmas
 pub mod ExecutedLemmas
-pub mod ReplicasLemmas
 pub mod ReadLemmas
 pub mod FitsLemmas
 pub mod StepLemmas

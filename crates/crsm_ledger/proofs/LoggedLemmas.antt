@@ -10,7 +10,7 @@ use Rattle.crsm_spec.specs.Types.{Stamp, Entry}
 use Rattle.crsm_spec.specs.Lists.{first_of}
 use Rattle.crsm_spec.specs.Log.{with_entry, above}
 use Rattle.crsm_spec.specs.Fits.{is_newest}
-use Rattle.crsm_ledger.proofs.ListLemmas.{all_at, all_more, take-rest}
+use Rattle.crsm_log_facts.proofs.Lists.{all_got, all_more, take-rest}
 use Rattle.crsm_ledger.specs.Sorted.{IsNotBelow, IsSortedByStamp, IsLogged}
 
 -- ---- stamps
@@ -45,7 +45,7 @@ partitioned : (p : Entry → Bool) → ((e f : Entry) → IsNotBelow e f → p f
 partitioned p closed [] sorted i j d ij within passes = absurd (omega arith)
 partitioned p closed (e ∷ es) sorted zero zero d ij within passes = passes
 partitioned p closed (e ∷ es) sorted zero (suc j) d ij within passes =
-    closed e (get_or es j d) (all_at (IsNotBelow e) es j d sorted.0 (omega arith)) passes
+    closed e (get_or es j d) (all_got (IsNotBelow e) es j d sorted.0 (omega arith)) passes
 partitioned p closed (e ∷ es) sorted (suc i) zero d ij within passes = absurd (omega arith)
 partitioned p closed (e ∷ es) sorted (suc i) (suc j) d ij within passes =
     partitioned p closed es sorted.1 i j d (omega arith) (omega arith) passes

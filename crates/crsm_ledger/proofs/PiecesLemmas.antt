@@ -2,7 +2,7 @@
 use Rattle.std.proofs.Common.{◌≡◌, ℕ, suc, zero, ◌<◌, ◌≤◌, ◌+◌, List, [], ◌∷◌, ◌++◌, refl, ap, sym, ◌∙◌, arith, length, get_or, set, length-append, subst}
 use Rattle.std.specs.Prelude.{slice_range, slice_get, Some, None}
 use Rattle.std.specs.List.{AllByRecursion}
-use Rattle.crsm_ledger.proofs.ListLemmas.{all_at, get_or-grown, get_or-set, at_set, length-set, range-grown, range-end}
+use Rattle.crsm_log_facts.proofs.Lists.{all_got, get_or-grown, get_or-set, at_set, length-set, range-grown, range-end}
 use Rattle.crsm_ledger.specs.declared.spelt.Place.{Place}
 use Rattle.crsm_ledger.specs.Pieces.{piece, pieces, IsWithin, Keeps}
 
@@ -90,4 +90,4 @@ unfolding pieces
 length-pieces chunks [] = refl
 length-pieces chunks (p ∷ ps) = ap (λ k. suc k) (length-pieces chunks ps)
 
-pub ruleset pieces_rules = (keeps-refl, keeps-push, keeps-set, within-set, piece-set, length-pieces, pieces-at, pieces-beyond, all_at)
+pub ruleset pieces_rules = (keeps-refl, keeps-push, keeps-set, within-set, piece-set, length-pieces, pieces-at, pieces-beyond, all_got)

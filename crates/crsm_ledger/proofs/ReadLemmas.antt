@@ -7,6 +7,7 @@ use Rattle.crsm_spec.specs.Lists.{numbers_below}
 use Rattle.crsm_spec.specs.Quorum.{spec_decided}
 use Rattle.crsm_spec.specs.Log.{Log, decision, known, start, members, spec, boots, live, suspended, has_entered, promised, accepted, logged}
 use Rattle.crsm_ledger.specs.declared.ledger.Ledger.{Ledger}
+use Rattle.crsm_log_facts.proofs.Known.{known-spec}
 use Rattle.crsm_ledger.specs.Ledger.{Says, facts_of, known_decision, founding}
 
 pub me-is : {me n : ℕ} {l : Ledger} {log : Log} → Says me n l log → l.me ≡ me
@@ -58,31 +59,6 @@ unfolding facts_of
 logged-is s = ap (λ f. f.logged) s.facts
 
 -- ---- what the decision of the known epoch says
-
-epoch-decided : (n : ℕ) (o : Option Decision) → (unwrap_or o (founding n)).epoch ≡ option_map_or (λ d. d.epoch) o 0
-epoch-decided n None = refl
-epoch-decided n (Some d) = refl
-
-pub known-epoch : (n : ℕ) (log : Log) → (known_decision n log).epoch ≡ known log
-unfolding known_decision known
-known-epoch n log = epoch-decided n (decision log)
-
-members-decided : (n : ℕ) (o : Option Decision) → (unwrap_or o (founding n)).members ≡ option_map_or (λ d. d.members) o (numbers_below n)
-members-decided n None = refl
-members-decided n (Some d) = refl
-
-pub known-members : (n : ℕ) (log : Log) → (known_decision n log).members ≡ members n log
-unfolding known_decision members
-known-members n log = members-decided n (decision log)
-
-spec-of-decided : (n : ℕ) (o : Option Decision) → unwrap_or ((unwrap_or o (founding n)).spec) (numbers_below n) ≡ spec_decided n o
-unfolding spec_decided
-spec-of-decided n None = refl
-spec-of-decided n (Some d) = refl
-
-pub known-spec : (n : ℕ) (log : Log) → unwrap_or ((known_decision n log).spec) (numbers_below n) ≡ spec n log
-unfolding known_decision spec
-known-spec n log = spec-of-decided n (decision log)
 
 pub spec-is : {me n : ℕ} {l : Ledger} {log : Log} → Says me n l log → unwrap_or l.known.spec (numbers_below n) ≡ spec n log
 spec-is {n = n} {log = log} s = rw (known-is s) (known-spec n log)

@@ -9,11 +9,7 @@ use Rattle.crsm_ledger.specs.declared.error.LedgerError.{LedgerError}
 use Rattle.crsm_ledger.specs.declared.error.LedgerError.TheVariants.{BadLog, NotFit, NoMemory}
 use Rattle.crsm_ledger.specs.Recovered.{with_records, FitInTurn, AreKept, Misfit, IsBad, IsBadAt, IfBadLog}
 use Rattle.crsm_ledger.specs.Ledger.{kind}
-use Rattle.crsm_ledger.proofs.ListLemmas.{halves, item_at}
-
-pub with_records-push : (log : Log) (recs : List Rec) (rec : Rec) → with_records log (recs ++ rec ∷ []) ≡ rec ∷ with_records log recs
-with_records-push log [] rec = refl
-with_records-push log (r ∷ recs) rec = with_records-push (r ∷ log) recs rec
+use Rattle.crsm_log_facts.proofs.Lists.{halves, item_at}
 
 pub fit-push : (me n : ℕ) (log : Log) (recs : List Rec) (rec : Rec) → FitInTurn me n log recs → fits me n (with_records log recs) rec ≡ true → FitInTurn me n log (recs ++ rec ∷ [])
 fit-push me n log [] rec fit here = (here, tt)

@@ -7,16 +7,10 @@ use Rattle.crsm_spec.specs.Lists.{numbers_below}
 use Rattle.crsm_spec.specs.Log.{Log, decision, known, start, boots, live, suspended, has_entered, promised, accepted, logged_in, logged, executed}
 use Rattle.crsm_spec.specs.Fits.{fits}
 use Rattle.crsm_spec.specs.Lines.{lines_of}
+pub use Rattle.crsm_log_facts.specs.Known.{founding}
+unfoldable pub use Rattle.crsm_log_facts.specs.Known.{known_decision}
 use Rattle.crsm_ledger.specs.declared.ledger.Ledger.{Ledger}
 use Rattle.crsm_ledger.specs.Executed.{HasExecuted}
-
--- what epoch 0 of a cluster of n replicas begins with
-abbrev pub founding : ℕ → Decision
-founding n = record { epoch = 0; spec = None; members = numbers_below n; base_len = 0; tail = [] }
-
--- the decision of the known epoch
-unfoldable pub known_decision : ℕ → Log → Decision
-known_decision n log = unwrap_or (decision log) (founding n)
 
 -- Of epochs above the known one nothing is logged, executed or entered.
 pub record NoneAbove (log : Log) : Type 0 where

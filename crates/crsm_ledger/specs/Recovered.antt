@@ -4,14 +4,10 @@ use Rattle.crsm_base.specs.Records.{SpeltBody}
 use Rattle.crsm_spec.specs.Types.{Rec}
 use Rattle.crsm_spec.specs.Log.{Log}
 use Rattle.crsm_spec.specs.Fits.{fits}
+pub use Rattle.crsm_log_facts.specs.Logs.{with_records}
 use Rattle.crsm_ledger.specs.declared.error.LedgerError.{LedgerError}
 use Rattle.crsm_ledger.specs.declared.ledger.Ledger.{Ledger}
 use Rattle.crsm_ledger.specs.Ledger.{StandsFor, kind}
-
--- the log with these records kept behind it, one after the other
-abbrev pub with_records : Log → List Rec → Log
-with_records log [] = log
-with_records log (rec ∷ recs) = with_records (rec ∷ log) recs
 
 -- each record fits behind those before it
 abbrev pub FitInTurn : ℕ → ℕ → Log → List Rec → Type 0

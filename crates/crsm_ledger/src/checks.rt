@@ -12,9 +12,10 @@ ghost use Rattle.crsm_ledger.specs.Ledger.{Says};
 
 use crate::history::Position;
 use crate::ledger::Ledger;
-use crate::order::{is_ballot_below, is_same_stamp, is_stamp_below};
-use crate::replicas::{can_have, first_replicas, is_among};
-use crsm_base::{Ballot, Decision, Entry, Rec, Stamp};
+use crsm_base::{
+    Ballot, Decision, Entry, Rec, Stamp, ballot_precedes, can_be_members, first_replicas, is_among,
+    is_same_stamp, stamp_precedes,
+};
 
 impl Ledger {
     /// Whether the record may come next: the test of `apply`.
@@ -82,7 +83,7 @@ impl Ledger {
         ensures { (me n : ℕ) (log : List Rec) → Says me n self.now log → result ≡ fits me n log (Rec.Promise instance ballot) }
     {
         let is_next = is_after(instance, self.known.epoch);
-        let is_above = is_ballot_below(self.promised, ballot);
+        let is_above = ballot_precedes(self.promised, ballot);
         (0 < self.boots) & is_next & is_above
     }
 
@@ -91,7 +92,7 @@ impl Ledger {
     {
         let is_next = is_after(instance, self.known.epoch);
         let decides_next = is_after(decision.epoch, self.known.epoch);
-        let is_below_promise = is_ballot_below(ballot, self.promised);
+        let is_below_promise = ballot_precedes(ballot, self.promised);
         let is_above_accepted = is_above(ballot, &self.accepted);
         let has_base = decision.base_len <= self.history.len();
         (0 < self.boots) & is_next & decides_next & !is_below_promise & is_above_accepted & has_base
@@ -157,7 +158,7 @@ pub fn stands_behind(last: Option<Position>, entry: &Entry) -> bool
 fn is_behind(last: Position, entry: &Entry) -> bool
     ensures { result ≡ (nat_lt last.epoch entry.now.epoch || (last.epoch == entry.now.epoch && stamp_lt last.stamp entry.now.stamp)) }
 {
-    let is_later = is_stamp_below(last.stamp, entry.stamp);
+    let is_later = stamp_precedes(last.stamp, entry.stamp);
     last.epoch < entry.epoch || (last.epoch == entry.epoch && is_later)
 }
 
@@ -173,7 +174,7 @@ fn is_above(ballot: Ballot, accepted: &Option<(Ballot, Decision)>) -> bool
     ensures { result ≡ option_map_or (λ a. ballot_lt a.0 ballot) accepted.now true }
 {
     match accepted {
-        Some((other, _)) => is_ballot_below(*other, ballot),
+        Some((other, _)) => ballot_precedes(*other, ballot),
         None => true,
     }
 }
@@ -183,7 +184,7 @@ fn has_members(n: u32, decision: &Decision) -> bool
     ensures { n ≤ 15 → result ≡ can_be_members (unwrap_or decision.now.spec (numbers_below n)) decision.now.members }
 {
     match &decision.spec {
-        Some(spec) => can_have(spec.as_slice(), decision.members.as_slice()),
-        None => can_have(first_replicas(n), decision.members.as_slice()),
+        Some(spec) => can_be_members(spec.as_slice(), decision.members.as_slice()),
+        None => can_be_members(first_replicas(n), decision.members.as_slice()),
     }
 }

@@ -15,8 +15,9 @@ use crate::checks::stands_behind;
 use crate::error::LedgerError;
 use crate::history::History;
 use crate::logged::Logged;
-use crate::replicas::first_replicas;
-use crsm_base::{Ballot, Decision, Entries, Entry, Lines, Members, NoMemory, Rec, Stamp};
+use crsm_base::{
+    Ballot, Decision, Entries, Entry, Lines, Members, NoMemory, Rec, Stamp, first_replicas,
+};
 use std::alloc::Global;
 
 /// What the records of a replica's log say. After an error for want of memory it is spent, and says nothing.

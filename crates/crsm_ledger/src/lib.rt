@@ -8,10 +8,8 @@ mod follow;
 mod history;
 mod ledger;
 mod logged;
-mod order;
 mod owner;
 mod recover;
-mod replicas;
 mod spelt;
 mod steps;
 

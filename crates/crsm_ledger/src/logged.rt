@@ -12,8 +12,7 @@ ghost use Rattle.crsm_spec.specs.Lists.{first_of};
 ghost use Rattle.crsm_spec.specs.Log.{with_entry, above};
 ghost use Rattle.crsm_spec.specs.Fits.{is_newest};
 
-use crate::order::is_stamp_below;
-use crsm_base::{Entry, NoMemory, Stamp};
+use crsm_base::{Entry, NoMemory, Stamp, stamp_precedes};
 use std::alloc::Global;
 use std::marker::Model;
 
@@ -159,7 +158,7 @@ fn is_above_at(entries: &[Entry], place: usize, stamp: Stamp) -> bool
     requires { place < length entries.now }
     ensures { (d : Entry) → result ≡ stamp_lt stamp (get_or entries.now place d).stamp }
 {
-    is_stamp_below(stamp, entries[place].stamp)
+    stamp_precedes(stamp, entries[place].stamp)
 }
 
 #[tactic(auto, unfolding(crsm_spec::specs::Log::above))]

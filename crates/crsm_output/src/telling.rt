@@ -10,29 +10,31 @@ ghost use Rattle.crsm_output.specs.Made.{Made, Holds};
 ghost use Rattle.crsm_output.specs.Spellings.{IsSpelling, IsSpellingOf};
 
 use crate::output::Output;
-use crsm_base::{Bytes, Control as Message, Datagram as Carried, Decision, NoMemory, PART_BYTES};
+use crsm_base::{
+    Bytes, Control as Message, Datagram as Carried, Decision, NoMemory, PART_BYTES, never,
+};
 use crsm_segment::cut;
 use crsm_wire::{is_control_spelt, is_decision_spelt, put_control, put_decide};
 use std::alloc::Global;
 
-/// The spelling of a control message. One that has none is answered like want of memory.
+/// The spelling of a control message. Each that a replica tells has one.
 pub fn spell(alloc: Global, message: &Message) -> Result<Bytes, NoMemory>
     ensures { IfOk result (λ bytes. IsSpellingOf bytes message.now) }
 {
     if !is_control_spelt(message) {
-        return Err(NoMemory);
+        return Err(never());
     }
     let mut bytes = Bytes::new(alloc);
     put_control(message, &mut bytes)?;
     Ok(bytes)
 }
 
-/// The spelling of the control message that tells a decision. A decision that has none is answered like want of memory.
+/// The spelling of the control message that tells a decision. Each that a replica tells has one.
 pub fn spell_decision(alloc: Global, decision: &Decision) -> Result<Bytes, NoMemory>
     ensures { IfOk result (λ bytes. IsSpellingOf bytes (Control.Decide decision.now)) }
 {
     if !is_decision_spelt(decision) {
-        return Err(NoMemory);
+        return Err(never());
     }
     let mut bytes = Bytes::new(alloc);
     put_decide(decision, &mut bytes)?;

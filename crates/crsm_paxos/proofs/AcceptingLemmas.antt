@@ -3,7 +3,7 @@ use Rattle.std.proofs.Common.{◌≡◌, Some, None, true, false, inl, inr, subs
 use Rattle.std.specs.Option.{ForSome, IsSomeAnd}
 use Rattle.crsm_base.specs.declared.stamp.Ballot.{Ballot}
 use Rattle.crsm_base.specs.Order.{ballot_lt}
-use Rattle.crsm_spec.specs.BallotOrder.{below-irrefl, le_trans, compare}
+use Rattle.crsm_base.proofs.Orders.{below-irrefl, le_trans, compare}
 use Rattle.crsm_spec.specs.Paxos.{Acceptance, Held, TakesVote}
 use Rattle.crsm_paxos.specs.Accepting.{NotAbove}
 

@@ -6,8 +6,7 @@ ghost use Rattle.crsm_base.specs.Order.{ballot_lt};
 ghost use Rattle.crsm_spec.specs.Paxos.{MayPromise, TakesVote, after_promise, after_accept};
 ghost use Rattle.crsm_paxos.specs.Accepting.{IsAcceptedNow, NotAbove};
 
-use crate::order::is_below;
-use crsm_base::{Ballot, Decision};
+use crsm_base::{Ballot, Decision, ballot_precedes};
 use std::marker::Model;
 
 /// The answer to a ballot that asks for a promise.
@@ -32,7 +31,8 @@ pub enum Accepted {
     No(Ballot),
 }
 
-/// One replica's promise in an instance, and what it has accepted there. No call takes memory.
+/// One replica's promise in an instance, and what it has accepted there. No call takes memory. A library type: a replica
+/// reads its own promise off its log (`crsm_reconfigure`, promising).
 #[derive(Debug, Drop)]
 pub struct Acceptor {
     promised: Ballot,
@@ -70,9 +70,9 @@ impl Acceptor {
         ensures taken { result ≡ Promised.Yes → self.new ≡ after_promise self.old b }
         ensures kept { result ≢ Promised.Yes → self.new ≡ self.old }
     {
-        if is_below(b, self.promised) {
+        if ballot_precedes(b, self.promised) {
             Promised::No(self.promised)
-        } else if is_below(self.promised, b) {
+        } else if ballot_precedes(self.promised, b) {
             self.promised = b;
             Promised::Yes
         } else {
@@ -89,7 +89,7 @@ impl Acceptor {
         ensures taken { result ≡ Accepted.Yes → self.new ≡ after_accept self.old b d }
         ensures kept { result ≢ Accepted.Yes → self.new ≡ self.old }
     {
-        if is_below(b, self.promised) {
+        if ballot_precedes(b, self.promised) {
             return Accepted::No(self.promised);
         }
         if holds(&self.accepted, b) {

@@ -2,7 +2,6 @@
 #![tactic(auto)]
 
 mod acceptor;
-mod order;
 mod proposer;
 mod readers;
 

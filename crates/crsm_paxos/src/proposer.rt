@@ -7,8 +7,7 @@ ghost use Rattle.crsm_spec.specs.Proposing.{start_proposing, after_p1b, after_p2
 ghost use Rattle.crsm_paxos.specs.Best.{found_of, is_before};
 ghost use Rattle.crsm_paxos.specs.Nexts.{next_of_p1b, next_of_p2b, next_of_no};
 
-use crate::order::is_below;
-use crsm_base::{Ballot, Decision, NoMemory};
+use crsm_base::{Ballot, Decision, NoMemory, ballot_precedes};
 use std::alloc::Global;
 use std::marker::Model;
 
@@ -152,13 +151,14 @@ impl Proposer {
         Ok(Next::Chosen(value))
     }
 
-    /// A replica has refused this ballot, since it promised another.
+    /// A replica has refused this ballot, since it promised another. A library call: a replica's coordinator is preempted as a
+    /// whole (`crsm_coordinator`).
     #[tactic(auto, unfolding(crsm_base::specs::Order::ballot_eq))]
     pub fn on_no(&mut self, b: Ballot, promised: Ballot) -> Next
         ensures next { result ≡ next_of_no self.old b promised }
         ensures kept { self.new ≡ self.old }
     {
-        if b == self.ballot && is_below(b, promised) {
+        if b == self.ballot && ballot_precedes(b, promised) {
             Next::Over(promised)
         } else {
             Next::Wait
@@ -170,7 +170,8 @@ impl Proposer {
 fn is_first(x: &Best, y: &Best) -> bool
     ensures { result ≡ is_before x.now y.now }
 {
-    is_below(y.ballot, x.ballot) || (!is_below(x.ballot, y.ballot) && x.replica < y.replica)
+    ballot_precedes(y.ballot, x.ballot)
+        || (!ballot_precedes(x.ballot, y.ballot) && x.replica < y.replica)
 }
 
 /// What counts of the best so far and a further answer.
@@ -222,8 +223,8 @@ pub(crate) fn value_with<'a>(
     match best {
         None => value,
         Some(known) => {
-            let first = is_below(known.ballot, *ballot)
-                || (!is_below(*ballot, known.ballot) && replica < known.replica);
+            let first = ballot_precedes(known.ballot, *ballot)
+                || (!ballot_precedes(*ballot, known.ballot) && replica < known.replica);
             if first { value } else { &known.value }
         }
     }

@@ -7,7 +7,8 @@ use crsm_base::IDLE_UNITS;
 use crsm_clock::Rising;
 
 /// Whether the reading is so far above the time that was issued last that a replica tells its time: at least
-/// `IDLE_UNITS`. No reading is so far above the greatest number, so a clock that has issued it tells no more.
+/// `IDLE_UNITS`. No reading is so far above the greatest number, so a clock that has issued it tells no more. A library
+/// call: a replica also asks that no link is congested (`crsm_core`, idle).
 pub fn idle(clock: &Rising, reading: u64) -> bool
     ensures { IsTrue result ↔ ((clock.now < u64.MAX) × (clock.now + idle_after ≤ reading)) }
 {

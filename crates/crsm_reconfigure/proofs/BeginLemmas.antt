@@ -17,8 +17,8 @@ use Rattle.crsm_spec.specs.Replica.{Coordinator, spec_of}
 use Rattle.crsm_spec.specs.Draft.{Draft, keep, noting}
 use Rattle.crsm_spec.specs.Coordinate.{instance, accept_own, tell_ask, propose, count_answer, ask, greater_ballot, begin_proposing}
 use Rattle.crsm_spec.specs.Step.{renew}
-use Rattle.crsm_law_steps.proofs.Tests.{above_top}
-use Rattle.crsm_law_bounds.proofs.Logs.{accepted_fits, promised_fits}
+use Rattle.crsm_log_facts.proofs.Tests.{above_top}
+use Rattle.crsm_log_facts.proofs.LogsFit.{accepted_fits, promised_fits}
 use Rattle.crsm_coordinator.specs.declared.coordinator.Coordinator.{Coordinator as InMemory}
 use Rattle.crsm_coordinator.specs.Coordinator.{CoordinatorStands, answered}
 use Rattle.crsm_replica.specs.Sound.{IsSound}

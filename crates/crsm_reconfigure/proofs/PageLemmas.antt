@@ -19,8 +19,8 @@ use Rattle.crsm_transfer.specs.declared.answer.Fit.{Fit}
 use Rattle.crsm_transfer.specs.declared.answer.Fit.TheVariants.{Ahead, Gap, Nothing, Adopt}
 use Rattle.crsm_transfer.specs.Fitting.{IsPage, fit_of, fit_in}
 use Rattle.crsm_transfer.specs.Paging.{page_at}
-use Rattle.crsm_law_bounds.proofs.Entries.{take_fits, drop_fits}
-use Rattle.crsm_law_bounds.proofs.Logs.{decision_fits, known_small, executed_page}
+use Rattle.crsm_log_facts.proofs.EntriesFit.{take_fits, drop_fits}
+use Rattle.crsm_log_facts.proofs.LogsFit.{decision_fits, known_small, executed_page}
 use Rattle.crsm_reconfigure.specs.Rules.{CanAdopt, on_page_in, tell_executed, take_executed, rest_goes_on}
 use Rattle.crsm_reconfigure.proofs.DraftLemmas.{when_yes, when_no, booted_more, rest_fits, enter_fitting, retrieve_fitting}
 

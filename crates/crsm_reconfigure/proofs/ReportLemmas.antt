@@ -26,9 +26,10 @@ use Rattle.crsm_suspend.specs.Coordinating.{on_got, PagesAreTaken}
 use Rattle.crsm_suspend.specs.declared.collect.Collect.{Collect}
 use Rattle.crsm_suspend.specs.declared.got.Got.{Got}
 use Rattle.crsm_suspend.proofs.CollectLemmas.{more_from}
-use Rattle.crsm_law_bounds.proofs.Entries.{all_at}
-use Rattle.crsm_law_bounds.proofs.Decisions.{FitsPage, FitPages, cursor_fits}
-use Rattle.crsm_law_bounds.proofs.Logs.{decision_fits, no_fits}
+use Rattle.crsm_log_facts.proofs.Lists.{all_at}
+use Rattle.crsm_log_facts.specs.Pages.{FitsPage, FitPages}
+use Rattle.crsm_log_facts.proofs.DecisionsFit.{cursor_fits}
+use Rattle.crsm_log_facts.proofs.LogsFit.{decision_fits, no_fits}
 use Rattle.crsm_coordinator.specs.Coordinator.{CoordinatorStands, IsGathering, epoch_of, next_in, named_in}
 use Rattle.crsm_coordinator.specs.declared.coordinator.Coordinator.{Coordinator as InMemory}
 use Rattle.crsm_coordinator.proofs.Counting.{none_counted, push_counted}

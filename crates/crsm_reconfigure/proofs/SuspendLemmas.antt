@@ -11,7 +11,7 @@ use Rattle.crsm_spec.specs.Collect.{suspend_ok}
 use Rattle.crsm_spec.specs.Coordinate.{suspend_once}
 use Rattle.crsm_spec.specs.Controls.{on_suspend}
 use Rattle.crsm_replica.specs.Sound.{IsSound}
-use Rattle.crsm_law_bounds.proofs.Logs.{known_small, last_fits, asked_page}
+use Rattle.crsm_log_facts.proofs.LogsFit.{known_small, last_fits, asked_page}
 use Rattle.crsm_reconfigure.proofs.DraftLemmas.{when_yes, when_no}
 
 pub suspend_old : (k e : ℕ) (after : Option Stamp) (x : Draft) → e < known x.replica.log → on_suspend k e after x ≡ tell_decision k x

@@ -14,10 +14,10 @@ ghost use Rattle.crsm_replica.specs.Replica.{StandsFor};
 ghost use Rattle.crsm_reconfigure.specs.Rules.{CanPropose, BeginsAlike, MakesWhere};
 
 use crate::fitting::fits_own;
-use crate::promising::{is_below, promise};
+use crate::promising::promise;
 use crate::renewing::accept_and_tell;
 use crate::telling::{next_instance, tell_ask};
-use crsm_base::{Ballot, Decision, NoMemory};
+use crsm_base::{Ballot, Decision, NoMemory, ballot_precedes};
 use crsm_coordinator::Coordinator;
 use crsm_replica::{Desk, desks_are_sound};
 
@@ -111,7 +111,7 @@ fn value_alone<'a>(own: &'a Decision, accepted: &'a Option<(Ballot, Decision)>) 
 fn greater(a: Ballot, b: Ballot) -> Ballot
     ensures { result ≡ greater_ballot a b }
 {
-    if is_below(a, b) { b } else { a }
+    if ballot_precedes(a, b) { b } else { a }
 }
 
 /// The ballot of a replica in the round after that of another ballot, which is not the last one.

@@ -10,12 +10,9 @@ ghost use Rattle.crsm_replica.specs.Replica.{StandsFor};
 ghost use Rattle.crsm_reconfigure.specs.Rules.{TriesWhere, MakesWhere};
 
 use crate::learning::learn;
-use crsm_base::{Control, Decision, Members, NoMemory};
+use crsm_base::{Control, Decision, MAX_REPLICAS, Members, NoMemory, first_replicas, is_among};
 use crsm_replica::Desk;
 use std::alloc::Global;
-
-/// All replicas that there can be.
-const ALL: [u32; 15] = [0, 1, 2, 3, 4, 5, 6, 7, 8, 9, 10, 11, 12, 13, 14];
 
 /// A decision that is chosen is learnt and told to all, of the old Spec and of the new one. `false` comes exactly where its
 /// records do not fit, and the desk is as before.
@@ -71,17 +68,11 @@ fn is_other(old: &Members, new: &Members, me: u32, k: u32) -> bool
     is_of_either & (k != me)
 }
 
-#[tactic(auto, unfolding(crsm_spec::specs::Lists::has))]
-pub(crate) fn is_among(replicas: &[u32], replica: u32) -> bool
-    ensures { result ≡ has replicas.now replica }
-{
-    replicas.iter().any(|other| *other == replica)
-}
-
-#[tactic(auto, unfolding(crsm_spec::specs::Lists::numbers_below))]
+/// All replicas that there can be.
+#[tactic(auto, unfolding(crsm_base::specs::Replicas::numbers_below))]
 fn all_replicas() -> &'static [u32]
     ensures value { result.now ≡ numbers_below 15 }
     ensures below { All (λ k. k < 15) result.now }
 {
-    &ALL
+    first_replicas(MAX_REPLICAS)
 }

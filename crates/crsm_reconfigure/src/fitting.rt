@@ -11,11 +11,10 @@ ghost use Rattle.crsm_spec.specs.Draft.{Draft};
 ghost use Rattle.crsm_spec.specs.Coordinate.{accept_own};
 ghost use Rattle.crsm_replica.specs.Replica.{StandsFor};
 
-use crate::promising::is_below;
 use crate::proposing::is_due;
 use crate::tails::tail_goes_on;
 use crate::telling::next_instance;
-use crsm_base::{Ballot, Decision, NoMemory, Rec};
+use crsm_base::{Ballot, Decision, NoMemory, Rec, ballot_precedes};
 use crsm_replica::{Desk, desks_are_sound};
 
 /// Whether the records of the own acceptance of this proposal would fit, which is chosen by it or not.
@@ -29,7 +28,7 @@ pub fn fits_own(
 {
     desks_are_sound();
     let top = desk.promised();
-    if is_below(ballot, top) {
+    if ballot_precedes(ballot, top) {
         return Ok(true);
     }
     let is_due = is_due(desk, ballot, value);

@@ -10,7 +10,7 @@ ghost use Rattle.crsm_spec.specs.Controls.{tell_promise, on_p1a, on_p2a};
 ghost use Rattle.crsm_replica.specs.Replica.{StandsFor};
 ghost use Rattle.crsm_reconfigure.specs.Rules.{FollowsWhere, MakesWhere, TriesWhere, IsNextOr};
 
-use crsm_base::{Ballot, Control, Decision, NoMemory, Rec};
+use crsm_base::{Ballot, Control, Decision, NoMemory, Rec, ballot_precedes, is_same_ballot};
 use crsm_replica::{Desk, desks_are_sound};
 
 /// A ballot of k asks for a promise.
@@ -24,7 +24,7 @@ pub fn on_p1a(desk: &mut Desk, k: u32, instance: u64, ballot: Ballot) -> Result<
         return Ok(());
     }
     let top = desk.promised();
-    if is_below(top, ballot) {
+    if ballot_precedes(top, ballot) {
         let fits = promise(desk, instance, ballot)?;
         if !fits {
             return Ok(());
@@ -32,7 +32,7 @@ pub fn on_p1a(desk: &mut Desk, k: u32, instance: u64, ballot: Ballot) -> Result<
         tell_promise(desk, k, instance, ballot)?;
         return Ok(());
     }
-    if is_same(top, ballot) {
+    if is_same_ballot(top, ballot) {
         tell_promise(desk, k, instance, ballot)?;
         return Ok(());
     }
@@ -57,7 +57,7 @@ pub fn on_p2a(
         return Ok(());
     }
     let top = desk.promised();
-    if is_below(ballot, top) {
+    if ballot_precedes(ballot, top) {
         refuse(desk, k, instance, ballot, top)?;
         return Ok(());
     }
@@ -171,18 +171,4 @@ fn vote(desk: &mut Desk, k: u32, instance: u64, ballot: Ballot) -> Result<(), No
     let control = Control::P2b { instance, ballot };
     desk.tell(k, &control)?;
     Ok(())
-}
-
-#[tactic(auto, unfolding(crsm_base::specs::Order::ballot_eq))]
-pub fn is_same(a: Ballot, b: Ballot) -> bool
-    ensures { result ≡ ballot_eq a b }
-{
-    a == b
-}
-
-#[tactic(auto, unfolding(crsm_base::specs::Order::ballot_lt))]
-pub fn is_below(a: Ballot, b: Ballot) -> bool
-    ensures { result ≡ ballot_lt a b }
-{
-    a < b
 }

@@ -10,9 +10,9 @@ ghost use Rattle.crsm_spec.specs.Coordinate.{accept_own, has_accepted};
 ghost use Rattle.crsm_replica.specs.Replica.{StandsFor};
 
 use crate::counting::count_vote;
-use crate::promising::{accept, is_below};
+use crate::promising::accept;
 use crate::telling::next_instance;
-use crsm_base::{Ballot, Decision, NoMemory};
+use crsm_base::{Ballot, Decision, NoMemory, ballot_precedes};
 use crsm_replica::{Desk, desks_are_sound};
 
 /// The proposer's own acceptance, where its records fit: over where more was promised, otherwise accepted where the base is
@@ -26,7 +26,7 @@ pub fn accept_own(desk: &mut Desk) -> Result<(), NoMemory>
         return Ok(());
     };
     let top = desk.promised();
-    if is_below(ballot, top) {
+    if ballot_precedes(ballot, top) {
         let coordinator = desk.take_coordinator();
         desk.set_coordinator(coordinator.preempted(top));
         return Ok(());

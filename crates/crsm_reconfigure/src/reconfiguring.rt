@@ -14,18 +14,14 @@ ghost use Rattle.crsm_reconfigure.specs.Reports.{CanBegin, begins_fitting, Begun
 ghost use Rattle.crsm_reconfigure.specs.Rules.{Follows, BeginsAlike};
 
 use crate::beginning::may_begin;
-use crate::choosing::is_among;
 use crate::collecting::{NO_BALLOT, go_on};
 use crate::suspending::suspend_once;
-use crsm_base::{Control, Members, NoMemory};
+use crsm_base::{Control, Members, NoMemory, are_among, can_be_members, first_replicas};
 use crsm_replica::{Desk, desks_are_sound};
 use crsm_suspend::{Collect, Got, got_is_by_the_rules};
 
 /// How large a known epoch and its start may be where a collection begins: the numbers behind them stay below the greatest one.
 const MOST_COLLECTED: u64 = u64::MAX - 4_096;
-
-/// All replicas that there can be.
-const ALL: [u32; 15] = [0, 1, 2, 3, 4, 5, 6, 7, 8, 9, 10, 11, 12, 13, 14];
 
 /// A suspicion, or an operator's wish: these are to be the members of the next epoch.
 pub fn on_suspect(desk: &mut Desk, members: &Members) -> Result<(), NoMemory>
@@ -105,7 +101,7 @@ fn can_be_next(desk: &Desk, next: &Members, members: &Members) -> bool
 {
     let me = desk.me();
     let is_of_spec = desk.is_of_spec(me);
-    is_of_spec & can_have(next.as_slice(), members.as_slice())
+    is_of_spec & can_be_members(next.as_slice(), members.as_slice())
 }
 
 /// Whether the records would fit of what is done by this once the epoch is suspended.
@@ -133,28 +129,4 @@ fn tell_suspend(desk: &mut Desk) -> Result<(), NoMemory>
     let control = Control::Suspend { epoch, after: None };
     desk.tell_all(&control)?;
     Ok(())
-}
-
-/// Whether an epoch that counts majorities of `spec` may have these members.
-#[tactic(auto, unfolding(crsm_spec::specs::Fits::can_be_members))]
-fn can_have(spec: &[u32], members: &[u32]) -> bool
-    ensures { result ≡ can_be_members spec.now members.now }
-{
-    let are_of_spec = are_among(members, spec);
-    are_of_spec & (spec.len() / 2 + 1 <= members.len())
-}
-
-/// Whether all of these replicas are among the others.
-fn are_among(replicas: &[u32], others: &[u32]) -> bool
-    ensures { result ≡ list_all (has others.now) replicas.now }
-{
-    replicas.iter().all(|replica| is_among(others, *replica))
-}
-
-/// The numbers of the first `n` replicas.
-#[tactic(auto, using(crsm_ledger::proofs::ReplicasLemmas::first_numbers))]
-fn first_replicas(n: u32) -> &'static [u32]
-    ensures { n ≤ 15 → result.now ≡ numbers_below n }
-{
-    &ALL[..(n as usize).min(15)]
 }

@@ -10,7 +10,7 @@ ghost use Rattle.std.specs.Prelude.{ℕ};
 ghost use Rattle.crsm_replica.specs.Replica.{StandsFor};
 ghost use Rattle.crsm_reconfigure.specs.Rules.{tail_goes_on, rest_goes_on, first_left};
 
-use crsm_base::{Decision, Entries, Entry, NoMemory};
+use crsm_base::{Decision, Entries, Entry, NoMemory, entry_precedes, never};
 use crsm_ledger::Ledger;
 use crsm_replica::Desk;
 
@@ -38,7 +38,7 @@ pub fn rest_goes_on(desk: &Desk, entries: &Entries) -> Result<bool, NoMemory>
     let before = desk.executed_len();
     // No memory holds so many.
     if before > u64::MAX - more {
-        return Err(NoMemory);
+        return Err(never());
     }
     let done = before + more;
     let Some(entry) = first_left(&decision, done) else {
@@ -70,7 +70,7 @@ fn stands_behind(ledger: &Ledger, entry: &Entry) -> Result<bool, NoMemory>
     let Some(last) = found else {
         return Ok(true);
     };
-    let is_behind = is_before(&last, entry);
+    let is_behind = entry_precedes(&last, entry);
     Ok(is_behind)
 }
 
@@ -81,15 +81,5 @@ fn ends_before(entries: &[Entry], entry: &Entry) -> bool
     let Some(last) = entries.get(entries.len().saturating_sub(1)) else {
         return true;
     };
-    is_before(last, entry)
-}
-
-#[tactic(auto, unfolding(crsm_base::specs::Order::entry_lt, crsm_base::specs::Order::stamp_lt))]
-fn is_before(a: &Entry, b: &Entry) -> bool
-    ensures { result ≡ entry_lt a.now b.now }
-{
-    a.epoch < b.epoch
-        || (a.epoch == b.epoch
-            && (a.stamp.time < b.stamp.time
-                || (a.stamp.time == b.stamp.time && a.stamp.origin < b.stamp.origin)))
+    entry_precedes(last, entry)
 }

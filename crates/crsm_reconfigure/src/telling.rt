@@ -10,7 +10,7 @@ ghost use Rattle.crsm_spec.specs.Coordinate.{instance, tell_ask, tell_proposal};
 ghost use Rattle.crsm_spec.specs.Step.{ask_all};
 ghost use Rattle.crsm_replica.specs.Replica.{StandsFor, Makes};
 
-use crsm_base::{Control, NoMemory};
+use crsm_base::{Control, NoMemory, never};
 use crsm_replica::{Desk, desks_are_sound};
 
 /// Asks all for a promise that have not given it.
@@ -65,13 +65,13 @@ pub fn ask_all(desk: &mut Desk) -> Result<(), NoMemory>
     Ok(())
 }
 
-/// The instance that is decided next. Out of memory behind the last epoch, in which nothing is proposed.
+/// The instance that is decided next. No replica knows the last epoch that there can be.
 pub fn next_instance(desk: &Desk) -> Result<u64, NoMemory>
     ensures { IfOk result (λ i. (x : Draft) → StandsFor desk.now x → i ≡ instance x) }
 {
     let known = desk.known();
     if known == u64::MAX {
-        return Err(NoMemory);
+        return Err(never());
     }
     Ok(known + 1)
 }

@@ -7,7 +7,7 @@ use Rattle.std.proofs.lemmas.List.Elements.{recursion_from_All}
 use Rattle.crsm_base.specs.Limits.{most_again}
 use Rattle.crsm_base.specs.Messages.{FitsPayload}
 use Rattle.crsm_base.specs.Records.{FitsRec}
-use Rattle.crsm_ledger.proofs.ListLemmas.{all-append, all-drop, all-take}
+use Rattle.crsm_log_facts.proofs.Lists.{all-append, all-drop, all-take}
 use Rattle.crsm_output.specs.declared.output.Output.{Output}
 use Rattle.crsm_output.specs.Made.{Holds, made_of}
 use Rattle.crsm_epoch_state.specs.declared.state.EpochState.{EpochState}

@@ -9,7 +9,7 @@ use Rattle.crsm_base.specs.Order.{stamp_lt, stamp_eq}
 use Rattle.crsm_base.specs.Records.{FitsRec}
 use Rattle.crsm_base.specs.Spelling.{FitsStamp, FitsEntry, FitsOption}
 use Rattle.crsm_ledger.specs.Ledger.{founding, known_decision}
-use Rattle.crsm_ledger.proofs.ReadLemmas.{known-spec}
+use Rattle.crsm_log_facts.proofs.Known.{known-spec}
 use Rattle.crsm_commit.specs.Waiting.{without_entry}
 use Rattle.crsm_epoch_state.specs.First.{ready_first, ready_of}
 use Rattle.crsm_results.proofs.Kept.{next_is}

@@ -9,7 +9,7 @@ use Rattle.crsm_base.specs.Records.{FitsRec}
 use Rattle.crsm_base.specs.Spelling.{FitsStamp}
 use Rattle.crsm_ledger.specs.declared.ledger.Ledger.{Ledger}
 use Rattle.crsm_ledger.specs.Ledger.{StandsFor as SaysOfLog}
-use Rattle.crsm_ledger.proofs.ListLemmas.{all-push, all-append}
+use Rattle.crsm_log_facts.proofs.Lists.{all-push, all-append}
 use Rattle.crsm_coordinator.specs.declared.coordinator.Coordinator.{Coordinator as CoordinatorInMemory}
 use Rattle.crsm_coordinator.specs.Coordinator.{CoordinatorStands}
 use Rattle.crsm_output.specs.declared.output.Output.{Output}

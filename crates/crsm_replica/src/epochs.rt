@@ -14,7 +14,7 @@ ghost use Rattle.crsm_replica.specs.Replica.{StandsFor, AwaitsBoot, Makes, learn
 
 use crate::desk::Desk;
 use crate::records::put;
-use crsm_base::{Decision, NoMemory, Rec};
+use crsm_base::{Decision, NoMemory, Rec, never};
 use crsm_coordinator::Coordinator as CoordinatorInMemory;
 use crsm_epoch_state::EpochState;
 use crsm_ledger::Ledger;
@@ -30,7 +30,7 @@ impl Desk {
             decision: decision.copy(self.alloc)?,
         };
         if !is_rec_spelt(&rec) {
-            return Err(NoMemory);
+            return Err(never());
         }
         let fit = put(&mut self.ledger, &mut self.output, rec)?;
         if !fit {

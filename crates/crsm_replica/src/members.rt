@@ -7,7 +7,7 @@ ghost use Rattle.crsm_spec.specs.Draft.{Draft};
 ghost use Rattle.crsm_replica.specs.Replica.{StandsFor};
 
 use crate::desk::Desk;
-use crsm_base::{Members, NoMemory};
+use crsm_base::{Members, NoMemory, is_among};
 use std::alloc::Global;
 
 impl Desk {
@@ -67,14 +67,6 @@ impl Desk {
         let members = self.ledger.known().members.copy(self.alloc)?;
         Ok(members)
     }
-}
-
-/// Whether the replica is among these.
-#[tactic(auto, unfolding(crsm_spec::specs::Lists::has))]
-fn is_among(replicas: &[u32], k: u32) -> bool
-    ensures { result ≡ has replicas.now k }
-{
-    replicas.iter().any(|other| *other == k)
 }
 
 /// These replicas but for one.

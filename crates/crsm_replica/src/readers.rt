@@ -13,7 +13,7 @@ ghost use Rattle.crsm_spec.specs.Coordinate.{has_accepted};
 ghost use Rattle.crsm_replica.specs.Replica.{StandsFor, ready_of};
 
 use crate::desk::Desk;
-use crsm_base::{Ballot, Decision, MAX_REPLICAS, NoMemory, Stamp};
+use crsm_base::{Ballot, Decision, MAX_REPLICAS, NoMemory, Stamp, is_same_ballot};
 use std::alloc::Global;
 
 impl Desk {
@@ -227,14 +227,6 @@ impl Desk {
             .ready(&self.ledger.known().members, self.ledger.counted());
         Ok(of_a_replica(ready))
     }
-}
-
-/// Whether these are one ballot.
-#[tactic(auto, unfolding(crsm_base::specs::Order::ballot_eq))]
-fn is_same_ballot(a: Ballot, b: Ballot) -> bool
-    ensures { result ≡ ballot_eq a b }
-{
-    a.round == b.round && a.by == b.by
 }
 
 /// The stamp, where its origin can be a replica.

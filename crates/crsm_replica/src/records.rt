@@ -12,7 +12,7 @@ ghost use Rattle.crsm_replica.specs.Recorded.{Applied, Recorded};
 ghost use Rattle.crsm_replica.specs.Replica.{StandsFor, MakesFitting, IsPlain};
 
 use crate::desk::Desk;
-use crsm_base::{Lines, NoMemory, Rec};
+use crsm_base::{Lines, NoMemory, Rec, never};
 use crsm_ledger::{Ledger, LedgerError};
 use crsm_output::Output;
 use crsm_wire::is_rec_spelt;
@@ -41,7 +41,7 @@ impl Desk {
         ensures { IfOk result (λ fit. (x : Draft) → StandsFor self.old x → FitsRec rec → (fit ≡ (keep rec x).fitting) × StandsFor self.new (if_fitting x (keep rec x))) }
     {
         if !is_rec_spelt(&rec) {
-            return Err(NoMemory);
+            return Err(never());
         }
         let fit = self.keep(rec)?;
         Ok(fit)
@@ -57,7 +57,8 @@ fn apply(ledger: &mut Ledger, rec: &Rec) -> Result<Option<Lines>, NoMemory>
     match ledger.apply(rec) {
         Ok(lines) => Ok(Some(lines)),
         Err(LedgerError::NotFit { .. }) => Ok(None),
-        Err(_) => Err(NoMemory),
+        Err(LedgerError::NoMemory) => Err(NoMemory),
+        Err(LedgerError::BadLog { .. }) => Err(never()),
     }
 }
 

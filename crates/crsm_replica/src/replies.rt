@@ -10,7 +10,7 @@ ghost use Rattle.crsm_replica.specs.Sound.{FitsWaiting};
 ghost use Rattle.crsm_replica.specs.Replica.{StandsFor, Makes, on_paper};
 
 use crate::desk::{Desk, Waiting};
-use crsm_base::{Answer, Entry, Line, MAX_VAL_BYTES, NoMemory, Outcome, Refusal, Val};
+use crsm_base::{Answer, Entry, Line, MAX_VAL_BYTES, NoMemory, Outcome, Refusal, Val, never};
 use crsm_output::Reply;
 use crsm_results::{answer_to, executions, has_no_answer};
 use std::mem;
@@ -105,7 +105,7 @@ impl Desk {
         ensures { IfOk result (λ _. (x : Draft) → StandsFor self.old x → FitsWaiting (on_paper client.now) → StandsFor self.new (reply_ok (on_paper client.now) place answer x)) }
     {
         if !is_answer_spelt(&answer) {
-            return Err(NoMemory);
+            return Err(never());
         }
         let said = answer.copy(self.alloc)?;
         self.output.reply(Reply {

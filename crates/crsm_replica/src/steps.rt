@@ -16,7 +16,7 @@ ghost use Rattle.crsm_replica.specs.Replica.{StandsFor, AwaitsBoot};
 use crate::desk::Desk;
 use crate::gathered::Gathered;
 use crate::records::put;
-use crsm_base::{MAX_REPLICAS, NoMemory, Rec};
+use crsm_base::{MAX_REPLICAS, NoMemory, Rec, never};
 use crsm_coordinator::Coordinator;
 use crsm_epoch_state::EpochState;
 use crsm_ledger::Ledger;
@@ -76,7 +76,7 @@ impl Desk {
         let rec = Rec::Boot { me, n };
         let fit = put(&mut self.ledger, &mut self.output, rec)?;
         if !fit {
-            return Err(NoMemory);
+            return Err(never());
         }
         self.running = EpochState::new(self.alloc);
         Ok(())

@@ -13,7 +13,7 @@ use Rattle.crsm_spec.specs.Lists.{first_of, last_of}
 use Rattle.crsm_spec.specs.Log.{Log, known, with_entry, logged_in, above, last_stamp, logged, unexecuted, entry_of, executed}
 use Rattle.crsm_spec.specs.Lines.{exec_line, exec_lines, lines_of}
 use Rattle.crsm_spec.specs.Fits.{fits, goes_on}
-use Rattle.crsm_ledger.proofs.ListLemmas.{all_more, all-append}
+use Rattle.crsm_log_facts.proofs.Lists.{all_more, all-append}
 use Rattle.crsm_ledger.proofs.KeepLemmas.{commit-same, commit-some}
 use Rattle.crsm_ledger.proofs.StepLemmas.{committed}
 use Rattle.crsm_results.specs.Answering.{IsTrueOf}

@@ -2,14 +2,13 @@
 
 ghost use Rattle.std.specs.Prelude.{◌≡◌, ◌<◌, ◌≤◌, ℕ, false, List, slice_get, IfOk};
 ghost use Rattle.std.specs.Option.{option_map, option_map_or};
-ghost use Rattle.crsm_base.specs.Order.{entry_lt};
 ghost use Rattle.crsm_ledger.specs.Ledger.{StandsFor};
 ghost use Rattle.crsm_spec.specs.Types.{Rec};
 ghost use Rattle.crsm_spec.specs.Clients.{find_executed};
 ghost use Rattle.crsm_spec.specs.Log.{executed};
 ghost use Rattle.crsm_results.specs.Rising.{RisesStrictly, IsBeforeAt, is_same};
 
-use crsm_base::{Entry, NoMemory};
+use crsm_base::{Entry, NoMemory, entry_precedes, is_same_stamp, never};
 use crsm_ledger::Ledger;
 
 /// The place of the entry, where it is executed.
@@ -72,23 +71,15 @@ fn is_before_at(ledger: &Ledger, place: u64, entry: &Entry) -> Result<bool, NoMe
     ensures { (me n : ℕ) (log : List Rec) → StandsFor me n ledger.now log → IfOk result (IsBeforeAt (executed log) place entry.now) }
 {
     match ledger.executed(place)? {
-        Some(found) => Ok(is_before(&found, entry)),
-        None => Err(NoMemory),
+        Some(found) => Ok(entry_precedes(&found, entry)),
+        None => Err(never()),
     }
 }
 
-/// By the epoch, then by the stamp.
-#[tactic(auto, unfolding(crsm_base::specs::Order::entry_lt, crsm_base::specs::Order::stamp_lt))]
-fn is_before(a: &Entry, b: &Entry) -> bool
-    ensures { result ≡ entry_lt a.now b.now }
-{
-    a.epoch < b.epoch || (a.epoch == b.epoch && a.stamp < b.stamp)
-}
-
 /// Whether they are at one point of the order.
-#[tactic(auto, unfolding(crsm_base::specs::Order::stamp_eq, crate::specs::Rising::is_same))]
+#[tactic(auto, unfolding(crate::specs::Rising::is_same))]
 fn are_same(a: &Entry, b: &Entry) -> bool
     ensures { result ≡ is_same b.now a.now }
 {
-    a.epoch == b.epoch && a.stamp.time == b.stamp.time && a.stamp.origin == b.stamp.origin
+    a.epoch == b.epoch && is_same_stamp(a.stamp, b.stamp)
 }

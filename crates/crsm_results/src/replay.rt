@@ -6,7 +6,7 @@ ghost use Rattle.crsm_spec.specs.Types.{Rec};
 ghost use Rattle.crsm_spec.specs.Log.{executed};
 ghost use Rattle.crsm_results.specs.Answering.{IsAnswerAt};
 
-use crsm_base::{Answer, Entry, NoMemory};
+use crsm_base::{Answer, Entry, NoMemory, never};
 use crsm_kv::Store;
 use crsm_ledger::Ledger;
 use std::alloc::Global;
@@ -31,6 +31,6 @@ fn executed_at(ledger: &Ledger, place: u64) -> Result<Entry, NoMemory>
 {
     match ledger.executed(place)? {
         Some(entry) => Ok(entry),
-        None => Err(NoMemory),
+        None => Err(never()),
     }
 }

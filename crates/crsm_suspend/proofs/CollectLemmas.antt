@@ -16,9 +16,8 @@ use Rattle.crsm_spec.specs.Quorum.{has_majority}
 use Rattle.crsm_spec.specs.Controls.{are_above, is_page_of}
 use Rattle.crsm_spec.specs.Coordinate.{most_collected}
 use Rattle.crsm_spec.specs.Collect.{own_page, frozen, pages_of, is_whole, cursor, whole_ones, first_pages, all_entries, base_of, floor_of, union, collected, size_of, is_within}
-use Rattle.crsm_law_collection.proofs.Law.{has_in, has_from}
-use Rattle.crsm_law_collection.proofs.Merge.{union_goes_on}
-use Rattle.crsm_law_collection.proofs.Sorted.{kept_from, kept_in}
+use Rattle.crsm_log_facts.proofs.Lists.{has_in, has_from, kept_from, kept_in, all-push}
+use Rattle.crsm_log_facts.proofs.Merge.{union_goes_on}
 use Rattle.crsm_suspend.specs.Pages.{asked_stamp}
 use Rattle.crsm_suspend.specs.Reports.{head_of, report_of, page_from, HasReports}
 use Rattle.crsm_suspend.specs.declared.report.Page.{Page}
@@ -28,7 +27,6 @@ use Rattle.crsm_base.specs.declared.control.Control.TheVariants.{SuspendOk}
 use Rattle.crsm_suspend.specs.Collecting.{IsCollecting, CanTell, FitsGot, is_asked, got_decided, got_whole, got_more, got_page, got_from, page_in, got_of, pages_after}
 use Rattle.crsm_suspend.specs.declared.collect.Collect.{Collect}
 use Rattle.crsm_suspend.specs.declared.got.Got.TheVariants as Got
-use Rattle.crsm_ledger.proofs.ListLemmas.{all-push}
 use Rattle.crsm_suspend.proofs.WholeLemmas.{report_at}
 use Rattle.crsm_suspend.proofs.FitLemmas.{own_epoch, own_fit}
 use Rattle.crsm_suspend.proofs.GrowLemmas.{whole_more, or_none, cursor_more}

@@ -4,7 +4,7 @@ ghost use Rattle.std.specs.Prelude.{◌≡◌, ◌<◌, ◌+◌, ◌^◌, length
 ghost use Rattle.crsm_spec.specs.Collect.{size_of};
 ghost use Rattle.crsm_base.specs.Spelling.{entry_bytes, key_bytes, op_bytes, option_bytes, val_bytes};
 
-use crsm_base::{Entry, Key, NoMemory, Op, Val};
+use crsm_base::{Entry, Key, NoMemory, Op, Val, never};
 
 /// How many bytes an entry takes, also one of keys and values as long as memory holds.
 pub fn entry_size(entry: &Entry) -> u128
@@ -29,7 +29,7 @@ fn sum(total: u64, size: u128) -> Result<u64, NoMemory>
     ensures { IfOk result (λ sum. sum ≡ total + size) }
 {
     if size > (u64::MAX - total) as u128 {
-        return Err(NoMemory);
+        return Err(never());
     }
     Ok(total + size as u64)
 }

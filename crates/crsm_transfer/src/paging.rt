@@ -13,7 +13,8 @@ use crsm_base::{Control, Entries, Entry, MAX_PAGE_BYTES, NoMemory};
 use crsm_ledger::Ledger;
 use std::alloc::Global;
 
-/// Asks for the executed entries behind one's own, and for decisions above the known epoch.
+/// Asks for the executed entries behind one's own, and for decisions above the known epoch. A library call: a replica
+/// makes the same message where it sends it (`crsm_replica`).
 pub fn want(ledger: &Ledger) -> Control
     ensures { (me n : ℕ) (log : List Rec) → StandsFor me n ledger.now log → result ≡ Control.Retrieve (known log) (length (executed log)) }
 {

@@ -1,38 +1,13 @@
 //! Lists of entries.
 
-ghost use Rattle.std.specs.Prelude.{◌≡◌, ◌≤◌, IsTrue, length};
+ghost use Rattle.std.specs.Prelude.{◌≤◌, IsTrue, length};
 ghost use Rattle.std.specs.Option.{IfSome};
-ghost use Rattle.crsm_base.specs.Order.{entry_lt};
-ghost use Rattle.crsm_base.specs.Reading.{is_rising};
 ghost use Rattle.crsm_base.specs.Spelling.{FitsEntries};
 ghost use Rattle.crsm_wire.specs.Sized.{AreSized};
 
 use crate::fields::entry_size;
 use crsm_base::{Entries, Entry, MAX_TAIL_BYTES, MAX_TAIL_ENTRIES};
-
-#[tactic(auto, unfolding(crsm_base::specs::Order::entry_lt, crsm_base::specs::Order::stamp_lt))]
-fn precedes(a: &Entry, b: &Entry) -> bool
-    ensures { result ≡ entry_lt a.now b.now }
-{
-    a.epoch < b.epoch || (a.epoch == b.epoch && a.stamp < b.stamp)
-}
-
-#[tactic(auto, unfolding(crsm_base::specs::Reading::is_rising))]
-fn rises(entries: &[Entry]) -> bool
-    ensures { result ≡ is_rising entries.now }
-{
-    let Some((first, others)) = entries.split_first() else {
-        return true;
-    };
-    let mut last = first;
-    for entry in others {
-        if !precedes(last, entry) {
-            return false;
-        }
-        last = entry;
-    }
-    true
-}
+use crsm_fields::rises;
 
 /// How many bytes the entries' spellings have together, where each has one.
 fn total_size(entries: &[Entry]) -> Option<u64>

@@ -15,7 +15,7 @@ mod take;
 
 pub use decision::is_decision_spelt;
 pub use fault::WireError;
-pub use laws::one_spelling_each;
+pub use laws::{one_spelling_each, what_is_read_is_spelt};
 pub use messages::{is_control_spelt, is_rec_spelt};
 pub use put::{put_control, put_datagram, put_decide};
 pub use read::{read_control, read_datagram, write_control, write_datagram};

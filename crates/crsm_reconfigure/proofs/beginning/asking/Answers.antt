@@ -4,7 +4,7 @@ use Rattle.crsm_base.specs.Spelling.{FitsBallot, FitsOption}
 use Rattle.crsm_spec.specs.Log.{decision, spec}
 use Rattle.crsm_spec.specs.Quorum.{spec_decided}
 use Rattle.crsm_spec.specs.Replica.{spec_of}
-use Rattle.crsm_law_bounds.proofs.Logs.{accepted_fits}
+use Rattle.crsm_log_facts.proofs.LogsFit.{accepted_fits}
 use Rattle.crsm_coordinator.specs.Coordinator.{CoordinatorStands, IsOwn, answered}
 use Rattle.crsm_reconfigure.proofs.beginning.asking.Goals as goal
 

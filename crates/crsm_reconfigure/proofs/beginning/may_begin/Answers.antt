@@ -5,7 +5,7 @@ use Rattle.crsm_spec.specs.Clock.{u64_max}
 use Rattle.crsm_spec.specs.Log.{accepted}
 use Rattle.crsm_spec.specs.Paxos.{value_of}
 use Rattle.crsm_spec.specs.Coordinate.{greater_ballot}
-use Rattle.crsm_law_bounds.proofs.Logs.{accepted_fits}
+use Rattle.crsm_log_facts.proofs.LogsFit.{accepted_fits}
 use Rattle.crsm_reconfigure.proofs.BeginLemmas.{after, round_left, value_spelt, fits_spent, fits_asking, fits_alone}
 use Rattle.crsm_reconfigure.proofs.beginning.may_begin.Goals as goal
 

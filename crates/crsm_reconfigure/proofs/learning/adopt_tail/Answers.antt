@@ -4,8 +4,8 @@ use Rattle.crsm_base.specs.Spelling.{FitsDecision, FitsEntries, FitsOption}
 use Rattle.crsm_spec.specs.Log.{decision}
 use Rattle.crsm_replica.specs.Replica.{StandsFor}
 use Rattle.crsm_reconfigure.proofs.DraftLemmas.{no_tail, past_tail, some_tail, was_whole}
-use Rattle.crsm_law_bounds.proofs.Entries.{drop_fits}
-use Rattle.crsm_law_bounds.proofs.Logs.{decision_fits}
+use Rattle.crsm_log_facts.proofs.EntriesFit.{drop_fits}
+use Rattle.crsm_log_facts.proofs.LogsFit.{decision_fits}
 use Rattle.crsm_reconfigure.proofs.learning.adopt_tail.Goals as goal
 
 pub returns-in_default : goal.returns-in_default

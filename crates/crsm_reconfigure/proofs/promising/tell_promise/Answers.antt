@@ -6,7 +6,7 @@ use Rattle.crsm_spec.specs.Types.{Control}
 use Rattle.crsm_spec.specs.Draft.{tell}
 use Rattle.crsm_spec.specs.Controls.{tell_promise}
 use Rattle.crsm_replica.specs.Replica.{StandsFor}
-use Rattle.crsm_law_bounds.proofs.Logs.{accepted_fits}
+use Rattle.crsm_log_facts.proofs.LogsFit.{accepted_fits}
 use Rattle.crsm_reconfigure.proofs.promising.tell_promise.Goals as goal
 
 pub returns : goal.returns

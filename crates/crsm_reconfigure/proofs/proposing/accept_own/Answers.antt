@@ -1,24 +1,21 @@
 use Rattle.std.proofs.Common.{◌≡◌, ◌∙◌, sym, subst, ap, true, length}
-use Rattle.std.specs.Prelude.{Some, ◌&&◌, nat_le}
+use Rattle.std.specs.Prelude.{Some, ◌&&◌, nat_le, not}
 use Rattle.crsm_base.specs.Order.{ballot_lt}
 use Rattle.crsm_base.specs.Spelling.{FitsBallot, FitsDecision}
 use Rattle.crsm_spec.specs.Types.{Decision, Rec}
 use Rattle.crsm_spec.specs.Log.{decision, executed}
 use Rattle.crsm_spec.specs.Draft.{Draft, keep, noting}
-use Rattle.crsm_spec.specs.Coordinate.{has_accepted}
+use Rattle.crsm_spec.specs.Coordinate.{has_accepted, count_acceptor, instance}
 use Rattle.crsm_spec.specs.Lists.{has}
 use Rattle.crsm_spec.specs.Replica.{Coordinator, spec_of}
 use Rattle.crsm_spec.specs.Quorum.{spec_decided}
-use Rattle.crsm_spec.specs.Coordinate.{count_acceptor}
 use Rattle.crsm_coordinator.specs.Coordinator.{CoordinatorStands, proposal_of, preempted_by}
-use Rattle.std.specs.Prelude.{not}
 use Rattle.crsm_replica.specs.Replica.{StandsFor}
 use Rattle.crsm_reconfigure.proofs.ProposeLemmas.{own_preempted, own_waits, own_accepts, count_monotone, kept_coordinator, accepted_spec, none_proposed, kept_me}
-use Rattle.crsm_law_bounds.proofs.Logs.{promised_fits}
+use Rattle.crsm_log_facts.proofs.LogsFit.{promised_fits}
 use Rattle.crsm_coordinator.proofs.Coordinators.{proposing_mine}
 use Rattle.crsm_reconfigure.proofs.ChoiceLemmas.{same_value, same_round, noted_twice, spec_is}
 use Rattle.crsm_reconfigure.proofs.DraftLemmas.{was_whole}
-use Rattle.crsm_spec.specs.Coordinate.{instance}
 use Rattle.crsm_reconfigure.proofs.proposing.accept_own.Goals as goal
 
 pub returns-in_default : goal.returns-in_default
@@ -27,9 +24,9 @@ returns-in_default c = λ x b own value acceptors s e f.
     let found : c.in_ok-found.found ≡ Some (b, value) = c.in_ok-found.ensures.value x.replica.me x.replica.n (decision x.replica.log) (Coordinator.Proposing b own value acceptors) (subst (λ z. CoordinatorStands c.coordinator.result.now x.replica.me x.replica.n (decision x.replica.log) z) e (c.coordinator.ensures x s)) in
     absurd (none_proposed c.in_ok-found.found (b, value) found c.in_default.is)
 
-pub returns-then-is_below : goal.returns-then-is_below
+pub returns-then-ballot_precedes : goal.returns-then-ballot_precedes
 unfolding proposal_of preempted_by noting
-returns-then-is_below c = λ x b own value acceptors s e f.
+returns-then-ballot_precedes c = λ x b own value acceptors s e f.
     let m : Coordinator = Coordinator.Proposing b own value acceptors in
     let stands = subst (λ z. CoordinatorStands c.coordinator.result.now x.replica.me x.replica.n (decision x.replica.log) z) e (c.coordinator.ensures x s) in
     let found : c.in_ok-found.found ≡ Some (b, value) = c.in_ok-found.ensures.value x.replica.me x.replica.n (decision x.replica.log) m stands in
@@ -37,7 +34,7 @@ returns-then-is_below c = λ x b own value acceptors s e f.
     let decided : c.in-Some.value ≡ value = same_value c.in_ok-found.found c.in-Some.ballot b c.in-Some.value value c.in-Some.is found in
     let top = c.promised-top.ensures x s in
     let below : ballot_lt c.in-Some.ballot c.promised-top.result ≡ ballot_lt b c.promised-top.result = ap (λ z. ballot_lt z c.promised-top.result) ballot in
-    let rule = own_preempted b c.promised-top.result own value acceptors x top (sym below ∙ sym c.is_below.ensures ∙ c.if-is_below.true) in
+    let rule = own_preempted b c.promised-top.result own value acceptors x top (sym below ∙ sym c.ballot_precedes.ensures ∙ c.if-ballot_precedes.true) in
     let taken = subst (λ z. CoordinatorStands c.take_coordinator-coordinator.result x.replica.me x.replica.n (decision x.replica.log) z) e (c.take_coordinator-coordinator.ensures.coordinator x s) in
     let spelt = subst (λ z. FitsBallot z) (sym top) (promised_fits x.replica.log (c.desks_are_sound.ensures c.args.desk.now x s).spelt) in
     let over = c.preempted.ensures x.replica.me x.replica.n (decision x.replica.log) m taken spelt in
@@ -56,7 +53,7 @@ returns-then-not-is_due c = λ x b own value acceptors s e f.
     let below : ballot_lt c.in-Some.ballot c.promised-top.result ≡ ballot_lt b c.promised-top.result = ap (λ z. ballot_lt z c.promised-top.result) ballot in
     let due : (nat_le c.in-Some.value.base_len (length (executed x.replica.log)) && not (has_accepted c.in-Some.ballot x)) ≡ (nat_le value.base_len (length (executed x.replica.log)) && not (has_accepted b x)) =
     ap (λ (d : Decision). nat_le d.base_len (length (executed x.replica.log)) && not (has_accepted c.in-Some.ballot x)) decided ∙ ap (λ z. nat_le value.base_len (length (executed x.replica.log)) && not (has_accepted z x)) ballot in
-    let rule = own_waits b c.promised-top.result own value acceptors x top (sym below ∙ sym c.is_below.ensures ∙ c.if-is_below.false) (sym due ∙ sym (c.is_due-is_due.ensures x s) ∙ c.if-not-is_due.true) in
+    let rule = own_waits b c.promised-top.result own value acceptors x top (sym below ∙ sym c.ballot_precedes.ensures ∙ c.if-ballot_precedes.false) (sym due ∙ sym (c.is_due-is_due.ensures x s) ∙ c.if-not-is_due.true) in
     subst (λ y. StandsFor c.args.desk.now y) (sym rule) s
 
 pub returns : goal.returns
@@ -71,7 +68,7 @@ returns c = λ x b own value acceptors s e f.
     let below : ballot_lt c.in-Some.ballot c.promised-top.result ≡ ballot_lt b c.promised-top.result = ap (λ z. ballot_lt z c.promised-top.result) ballot in
     let due : (nat_le c.in-Some.value.base_len (length (executed x.replica.log)) && not (has_accepted c.in-Some.ballot x)) ≡ (nat_le value.base_len (length (executed x.replica.log)) && not (has_accepted b x)) =
     ap (λ (d : Decision). nat_le d.base_len (length (executed x.replica.log)) && not (has_accepted c.in-Some.ballot x)) decided ∙ ap (λ z. nat_le value.base_len (length (executed x.replica.log)) && not (has_accepted z x)) ballot in
-    let rule = own_accepts b c.promised-top.result own value acceptors x top (sym below ∙ sym c.is_below.ensures ∙ c.if-is_below.false) (sym due ∙ sym (c.is_due-is_due.ensures x s) ∙ c.if-not-is_due.false) in
+    let rule = own_accepts b c.promised-top.result own value acceptors x top (sym below ∙ sym c.ballot_precedes.ensures ∙ c.if-ballot_precedes.false) (sym due ∙ sym (c.is_due-is_due.ensures x s) ∙ c.if-not-is_due.false) in
     let mine = proposing_mine x.replica.me x.replica.n (decision x.replica.log) c.coordinator.result.now b own value acceptors stands in
     let z : Draft = keep (Rec.Accept (instance x) b value) x in
     let fit : z.fitting ≡ true = count_monotone b own value acceptors x.replica.me z (ap (λ y. y.fitting) (sym rule) ∙ f) in

@@ -17,4 +17,4 @@ returns-in_ok-copy-in-Preempted c = λ x own seen s e.
 pub returns-in_default : goal.returns-in_default
 returns-in_default c = λ x own seen s e.
     let stands = subst (λ m. CoordinatorStands c.coordinator.result.now x.replica.me x.replica.n (decision x.replica.log) m) e (c.coordinator.ensures x s) in
-    absurd (not_over x.replica.me x.replica.n (decision x.replica.log) c.coordinator.result.now own seen stands c.in_default.not-Over)
+    absurd (not_over x.replica.me x.replica.n (decision x.replica.log) c.coordinator.result.now own seen stands c.in_default.not-Preempted)

@@ -6,5 +6,5 @@ returns-in_default c = found_none c.args.entries.now c.args.entry.now (past_end 
 
 pub returns : goal.returns
 returns c =
-    found_some c.args.entries.now c.args.entry.now c.in-Some.last.now c.is_before.result
-    (found_within c.args.entries.now c.saturating_sub.result c.in-Some.last.now c.saturating_sub.ensures c.in-Some.ensures.lookup.0 c.in-Some.ensures.lookup.1) c.is_before.ensures
+    found_some c.args.entries.now c.args.entry.now c.in-Some.last.now c.entry_precedes.result
+    (found_within c.args.entries.now c.saturating_sub.result c.in-Some.last.now c.saturating_sub.ensures c.in-Some.ensures.lookup.0 c.in-Some.ensures.lookup.1) c.entry_precedes.ensures

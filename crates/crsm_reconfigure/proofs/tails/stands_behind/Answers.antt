@@ -12,4 +12,4 @@ returns-in_default c = λ me n log s.
 pub returns : goal.returns
 returns c = λ me n log s.
     let place = c.saturating_sub.ensures ∙ ap (λ i. i - 1) (c.executed_len.ensures me n log s) in
-    found_some (executed log) c.args.entry.now c.in-Some.last c.is_before-is_behind.result (ap (slice_get (executed log)) (sym place) ∙ sym (c.in_ok-found.ensures me n log s) ∙ c.in-Some.is) c.is_before-is_behind.ensures
+    found_some (executed log) c.args.entry.now c.in-Some.last c.entry_precedes-is_behind.result (ap (slice_get (executed log)) (sym place) ∙ sym (c.in_ok-found.ensures me n log s) ∙ c.in-Some.is) c.entry_precedes-is_behind.ensures

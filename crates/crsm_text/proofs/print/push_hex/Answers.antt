@@ -7,7 +7,7 @@ pub loop-rest-preserved : goal.loop-rest-preserved
 loop-rest-preserved c =
     let before = c.loop-rest.out in
     let rest = c.loop-rest.rest.now in
-    let pushed : c.push_piece.new.out ≡ before ++ encode_lower (take 64 rest) = c.in_ok-push_piece.ensures ∙ ap (λ (s : List ℕ). before ++ encode_lower s) c.split_at.ensures.prefix in
+    let pushed : c.push_piece.new.out ≡ before ++ encode_lower (take 64 rest) = c.in_ok-push_piece.ensures ∙ ap (λ (s : List ℕ). before ++ encode_lower s) c.split_at.ensures.front in
     ap (λ (s : List ℕ). s ++ encode_lower c.split_at.result.1.now) pushed
     ∙ ap (λ (s : List ℕ). (before ++ encode_lower (take 64 rest)) ++ encode_lower s) c.split_at.ensures.back
     ∙ append_assoc before (encode_lower (take 64 rest)) (encode_lower (drop 64 rest))

@@ -10,7 +10,8 @@ use Rattle.crsm_ledger.specs.declared.error.LedgerError.{LedgerError}
 use Rattle.crsm_ledger.specs.declared.error.LedgerError.TheVariants.{BadLog}
 use Rattle.crsm_ledger.specs.Ledger.{StandsFor, kind}
 use Rattle.crsm_ledger.specs.Recovered.{FitInTurn, with_records, IsBad, IfBadLog}
-use Rattle.crsm_ledger.proofs.RecoverLemmas.{with_records-push, fit-push, bad_more, refused_as}
+use Rattle.crsm_log_facts.proofs.Logged.{with_records-push}
+use Rattle.crsm_ledger.proofs.RecoverLemmas.{fit-push, bad_more, refused_as}
 use Rattle.crsm_ledger.proofs.TakenLemmas.{taken_fits, bad_behind}
 use Rattle.crsm_ledger.proofs.ledger.Ledger.take_body.Goals.{in-Some-2, in-None}
 use Rattle.crsm_ledger.proofs.ledger.Ledger.take_body.Goals as goal

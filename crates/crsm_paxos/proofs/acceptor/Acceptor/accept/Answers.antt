@@ -15,7 +15,7 @@ pub returns-clause-yes : goal.returns-clause-yes
 returns-clause-yes c = (
   (λ _. subst (λ a. TakesVote a c.args.b) c.self.view_is
       (takes_other (record { promised = c.self.inside.promised; accepted = c.self.inside.accepted }) c.args.b c.self.invariant
-      (let e : ballot_lt c.args.b c.self.inside.promised ≡ false = sym c.is_below.ensures ∙ c.if-is_below.false in e)
+      (let e : ballot_lt c.args.b c.self.inside.promised ≡ false = sym c.ballot_precedes.ensures ∙ c.if-ballot_precedes.false in e)
       (λ is. let yes : c.holds.result ≡ true = c.holds.ensures.1 is in let no : c.holds.result ≡ false = c.if-holds.false in cc))),
   λ _. refl,
 )

@@ -1,7 +1,7 @@
 use Rattle.std.proofs.Common.{◌≡◌, ◌<◌, ℕ, [], ◌∷◌, ◌++◌, subst}
 use Rattle.crsm_replica.specs.Replica.{StandsFor}
 use Rattle.crsm_base.specs.declared.datagram.Datagram.TheVariants as datagram
-use Rattle.crsm_ledger.proofs.ListLemmas.{all-push}
+use Rattle.crsm_log_facts.proofs.Lists.{all-push}
 use Rattle.crsm_output.specs.Made.{made_of, Holds}
 use Rattle.crsm_spec.specs.Types.{Datagram}
 use Rattle.crsm_spec.specs.Log.{known}

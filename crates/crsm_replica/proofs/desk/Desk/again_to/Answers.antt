@@ -2,7 +2,7 @@ use Rattle.std.proofs.Common.{◌≡◌, ◌∙◌, ◌<◌, ◌^◌, ◌++◌, 
 use Rattle.crsm_output.specs.Made.{Holds, made_of}
 use Rattle.crsm_spec.specs.Log.{known}
 use Rattle.crsm_spec.specs.Replica.{frames_to}
-use Rattle.crsm_ledger.proofs.ReadLemmas.{known-epoch}
+use Rattle.crsm_log_facts.proofs.Known.{known-epoch}
 use Rattle.crsm_replica.specs.Again.{frame_again}
 use Rattle.crsm_replica.specs.Replica.{StandsFor}
 use Rattle.crsm_replica.proofs.Framed.{again, again-none}

@@ -2,7 +2,7 @@ use Rattle.std.proofs.Common.{◌≡◌, ◌+◌, ◌++◌, ◌∷◌, [], arith
 use Rattle.std.proofs.lemmas.Grind.{common_steps}
 use Rattle.std.proofs.lemmas.List.{take_all}
 use Rattle.std.specs.List.{AllByRecursion}
-use Rattle.crsm_ledger.proofs.ListLemmas.{all-push}
+use Rattle.crsm_log_facts.proofs.Lists.{all-push}
 use Rattle.crsm_replica.specs.Replica.{StandsFor, on_paper}
 use Rattle.crsm_replica.proofs.Replying.{Waits, replies-wait, waits-paper}
 use Rattle.crsm_replica.proofs.desk.Desk.all_wait.Goals as goal

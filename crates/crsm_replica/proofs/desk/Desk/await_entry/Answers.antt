@@ -1,6 +1,6 @@
 use Rattle.std.proofs.Common.{◌≡◌, [], ◌∷◌, ◌++◌, map, ap, ◌∙◌, rules}
 use Rattle.crsm_replica.specs.Replica.{StandsFor}
-use Rattle.crsm_ledger.proofs.ListLemmas.{all-push, map-push}
+use Rattle.crsm_log_facts.proofs.Lists.{all-push, map-push}
 use Rattle.crsm_spec.specs.Replica.{Waiting}
 use Rattle.crsm_spec.specs.Clients.{await}
 use Rattle.crsm_replica.specs.declared.desk.Waiting.{Waiting as WaitingInMemory}

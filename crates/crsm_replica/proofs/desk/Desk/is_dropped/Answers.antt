@@ -3,7 +3,7 @@ use Rattle.std.specs.Prelude.{◌&&◌, nat_le, nat_lt}
 use Rattle.std.proofs.lemmas.Bool.Decides.{nat_tests}
 use Rattle.crsm_spec.specs.Log.{known, start, executed}
 use Rattle.crsm_spec.specs.Clients.{is_dropped}
-use Rattle.crsm_ledger.proofs.ReadLemmas.{known-epoch}
+use Rattle.crsm_log_facts.proofs.Known.{known-epoch}
 use Rattle.crsm_replica.specs.Replica.{StandsFor}
 use Rattle.crsm_replica.proofs.desk.Desk.is_dropped.Goals as goal
 

@@ -2,7 +2,7 @@ use Rattle.std.proofs.Common.{ap, ◌∙◌}
 use Rattle.crsm_replica.specs.Replica.{StandsFor}
 use Rattle.crsm_spec.specs.Lists.{has}
 use Rattle.crsm_spec.specs.Replica.{members_of}
-use Rattle.crsm_ledger.proofs.ReadLemmas.{known-members}
+use Rattle.crsm_log_facts.proofs.Known.{known-members}
 use Rattle.crsm_replica.proofs.desk.Desk.is_member.Goals as goal
 
 pub returns : goal.returns

@@ -1,6 +1,6 @@
 use Rattle.std.proofs.Common.{ap, ◌∙◌}
 use Rattle.crsm_replica.specs.Replica.{StandsFor}
-use Rattle.crsm_ledger.proofs.ReadLemmas.{known-epoch}
+use Rattle.crsm_log_facts.proofs.Known.{known-epoch}
 use Rattle.crsm_replica.proofs.desk.Desk.known.Goals as goal
 
 pub returns : goal.returns

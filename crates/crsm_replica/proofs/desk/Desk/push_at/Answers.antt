@@ -6,7 +6,7 @@ use Rattle.crsm_epoch_state.specs.Linked.{others_of}
 use Rattle.crsm_spec.specs.Draft.{would}
 use Rattle.crsm_spec.specs.Log.{known}
 use Rattle.crsm_spec.specs.Replica.{members_of, other_members}
-use Rattle.crsm_ledger.proofs.ReadLemmas.{known-epoch, known-members}
+use Rattle.crsm_log_facts.proofs.Known.{known-epoch, known-members}
 use Rattle.crsm_replica.specs.Replica.{StandsFor}
 use Rattle.crsm_replica.proofs.Framed.{pushed}
 use Rattle.crsm_replica.proofs.desk.Desk.push_at.Goals as goal

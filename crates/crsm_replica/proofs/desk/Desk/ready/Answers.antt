@@ -5,7 +5,7 @@ use Rattle.crsm_base.specs.Spelling.{FitsOption, FitsStamp}
 use Rattle.crsm_spec.specs.Types.{Stamp}
 use Rattle.crsm_spec.specs.Replica.{members_of, spec_of}
 use Rattle.crsm_epoch_state.specs.First.{ready_of}
-use Rattle.crsm_ledger.proofs.ReadLemmas.{known-members}
+use Rattle.crsm_log_facts.proofs.Known.{known-members}
 use Rattle.crsm_replica.proofs.Known.{ready-fits}
 use Rattle.crsm_replica.proofs.desk.Desk.ready.Goals as goal
 

@@ -1,6 +1,6 @@
 use Rattle.std.proofs.Common.{ℕ, [], ◌∷◌, ◌++◌, subst, rules}
 use Rattle.crsm_replica.specs.Replica.{StandsFor}
-use Rattle.crsm_ledger.proofs.ListLemmas.{all-push}
+use Rattle.crsm_log_facts.proofs.Lists.{all-push}
 use Rattle.crsm_output.specs.Made.{made_of, Holds, on_paper}
 use Rattle.crsm_base.specs.Spelling.{refusal_number}
 use Rattle.crsm_spec.specs.Types.{Line, Outcome}

@@ -1,5 +1,5 @@
 use Rattle.std.proofs.Common.{ℕ, ◌++◌, ◌∷◌, [], subst}
-use Rattle.crsm_ledger.proofs.ListLemmas.{all-push}
+use Rattle.crsm_log_facts.proofs.Lists.{all-push}
 use Rattle.crsm_output.specs.Made.{made_of, Holds, on_paper as on_paper_too}
 use Rattle.crsm_spec.specs.Types.{Line, Outcome, Refusal}
 use Rattle.crsm_spec.specs.Clients.{reply_dropped}

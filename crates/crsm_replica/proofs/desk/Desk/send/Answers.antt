@@ -1,6 +1,6 @@
 use Rattle.std.proofs.Common.{[], ◌∷◌, ◌++◌}
 use Rattle.crsm_replica.specs.Replica.{StandsFor}
-use Rattle.crsm_ledger.proofs.ListLemmas.{all-push}
+use Rattle.crsm_log_facts.proofs.Lists.{all-push}
 use Rattle.crsm_output.specs.Made.{made_of}
 use Rattle.crsm_spec.specs.Draft.{send}
 use Rattle.crsm_replica.specs.Sound.{FitsSend}

@@ -2,7 +2,7 @@ use Rattle.std.proofs.Common.{◌≡◌, ◌∙◌, ◌<◌, ◌^◌, ap, subst,
 use Rattle.crsm_spec.specs.Types.{Control}
 use Rattle.crsm_spec.specs.Log.{known, executed}
 use Rattle.crsm_spec.specs.Draft.{tell, retrieve, tell_retrieve}
-use Rattle.crsm_ledger.proofs.ReadLemmas.{known-epoch}
+use Rattle.crsm_log_facts.proofs.Known.{known-epoch}
 use Rattle.crsm_replica.specs.Replica.{StandsFor}
 use Rattle.crsm_replica.proofs.Framed.{known-fits}
 use Rattle.crsm_replica.proofs.desk.Desk.tell_retrieve.Goals as goal
