@@ -1,14 +1,16 @@
 """What a run of the merge gate costs: processor minutes for each crate by kind, and the longest chain of crates.
 
     python3 bench/gate.py run LOG     runs `rt ci` at the top of the repository and writes what it says to LOG,
-                                      with the processor time of each check behind it
-    python3 bench/gate.py LOG         prints the table of such a log
+                                      with the processor time of each check behind it, also where it is stopped
+    python3 bench/gate.py LOG..       prints the table of such logs; of several, as where a run went on from what an
+                                      earlier one had proved, the longest time of each kind of check counts
 
 A crate is proved as a library or a program, its tests are proved beside it, and its must-fail edits begin with a
 proof of their own. Times are sampled four times a second, so each check counts up to a quarter of a second less.
 """
 
 import os
+import signal
 import subprocess
 import sys
 import threading
@@ -59,7 +61,9 @@ def run(log):
     began = time.monotonic()
     with open(log, "w", encoding="utf-8") as file:
         sampler.start()
-        status = subprocess.run(["rt", "ci"], stdout=file, stderr=subprocess.STDOUT, check=False).returncode
+        gate = subprocess.Popen(["rt", "ci"], stdout=file, stderr=subprocess.STDOUT)
+        signal.signal(signal.SIGTERM, lambda *_: gate.terminate())
+        status = gate.wait()
         ended.set()
         sampler.join()
         file.seek(0, os.SEEK_END)
@@ -82,6 +86,19 @@ def read(log):
                 of_crate[words[2]] += float(words[3])
             elif " passed, " in line:
                 last = line.strip()
+    return times, wall, last
+
+
+def read_all(logs):
+    """The same of several runs: the longest time of each kind, all wall times, and the last closing line."""
+    times, wall, last = {}, 0, ""
+    for log in logs:
+        more, seconds, said = read(log)
+        wall, last = wall + seconds, said or last
+        for crate, of_crate in more.items():
+            before = times.setdefault(crate, dict.fromkeys(KINDS, 0.0))
+            for kind in KINDS:
+                before[kind] = max(before[kind], of_crate[kind])
     return times, wall, last
 
 
@@ -111,9 +128,9 @@ def longest_chain(times):
     return max((chain(it) for it in uses), key=lambda it: it[0])
 
 
-def table(log):
-    """Prints what a run cost."""
-    times, wall, last = read(log)
+def table(logs):
+    """Prints what runs cost."""
+    times, wall, last = read_all(logs)
     print("| crate | " + " | ".join(KINDS) + " | together |")
     print("|---" * (len(KINDS) + 2) + "|")
     rows = sorted(times.items(), key=lambda it: -sum(it[1].values()))
@@ -132,8 +149,8 @@ def main():
     words = sys.argv[1:]
     if len(words) == 2 and words[0] == "run":
         return run(words[1])
-    if len(words) == 1 and words[0] != "run":
-        table(words[0])
+    if words and words[0] != "run":
+        table(words)
         return 0
     print(__doc__.strip(), file=sys.stderr)
     return 2
