@@ -1,7 +1,8 @@
 """What a run of the merge gate costs: processor minutes for each crate by kind, and the longest chain of crates.
 
     python3 bench/gate.py run LOG     runs `rt ci` at the top of the repository and writes what it says to LOG,
-                                      with the processor time of each check behind it, also where it is stopped
+                                      with the processor time of each check behind it, also where it is stopped;
+                                      with --anew behind LOG it proves all, whatever was kept
     python3 bench/gate.py LOG..       prints the table of such logs; of several, as where a run went on from what an
                                       earlier one had proved, the longest time of each kind of check counts
 
@@ -47,8 +48,8 @@ def checks():
             continue
 
 
-def run(log):
-    """Runs the gate and writes its log."""
+def run(log, words):
+    """Runs the gate with these words and writes its log."""
     seen = {}
     ended = threading.Event()
 
@@ -61,7 +62,7 @@ def run(log):
     began = time.monotonic()
     with open(log, "w", encoding="utf-8") as file:
         sampler.start()
-        gate = subprocess.Popen(["rt", "ci"], stdout=file, stderr=subprocess.STDOUT)
+        gate = subprocess.Popen(["rt", "ci", *words], stdout=file, stderr=subprocess.STDOUT)
         signal.signal(signal.SIGTERM, lambda *_: gate.terminate())
         status = gate.wait()
         ended.set()
@@ -147,8 +148,8 @@ def table(logs):
 def main():
     os.chdir(os.path.join(os.path.dirname(os.path.abspath(__file__)), ".."))
     words = sys.argv[1:]
-    if len(words) == 2 and words[0] == "run":
-        return run(words[1])
+    if words[:1] == ["run"] and words[2:] in ([], ["--anew"]):
+        return run(words[1], words[2:])
     if words and words[0] != "run":
         table(words)
         return 0
