@@ -22,7 +22,7 @@ const MOST_DELIVERIES: u32 = 16;
 
 /// A datagram under way to a replica.
 #[derive(Drop)]
-struct Mail {
+struct Packet {
     from: u32,
     to: u32,
     bytes: Bytes,
@@ -115,7 +115,12 @@ fn step_of(cluster: &mut Cluster, k: u32, input: &Input, reading: u64) -> Result
 }
 
 /// Puts a datagram of replica `from` under way, if it goes to a replica.
-fn post_one(alloc: Global, from: u32, send: &Send, mail: &mut Vec<Mail>) -> Result<(), Fault>
+fn network_one(
+    alloc: Global,
+    from: u32,
+    send: &Send,
+    packets: &mut Vec<Packet>,
+) -> Result<(), Fault>
     requires { FitsSent send.now }
 {
     let To::Replica(to) = send.to else {
@@ -123,18 +128,18 @@ fn post_one(alloc: Global, from: u32, send: &Send, mail: &mut Vec<Mail>) -> Resu
     };
     let mut bytes = Bytes::new(alloc);
     write_datagram(alloc, &send.datagram, &mut bytes)?;
-    match mail.push(Mail { from, to, bytes }) {
+    match packets.push(Packet { from, to, bytes }) {
         Ok(()) => Ok(()),
         Err(_) => Err(Fault::NoMemory),
     }
 }
 
 /// Puts what replica `from` sends to others under way.
-fn post(alloc: Global, from: u32, sends: &[Send], mail: &mut Vec<Mail>) -> Result<(), Fault>
+fn network(alloc: Global, from: u32, sends: &[Send], packets: &mut Vec<Packet>) -> Result<(), Fault>
     requires { AllByRecursion FitsSent sends.now }
 {
     for send in sends {
-        post_one(alloc, from, send, mail)?;
+        network_one(alloc, from, send, packets)?;
     }
     Ok(())
 }
@@ -146,14 +151,14 @@ fn step(
     k: u32,
     input: &Input,
     reading: u64,
-    mail: &mut Vec<Mail>,
+    packets: &mut Vec<Packet>,
 ) -> Result<(), Fault>
     requires running { AreRunning cluster.old }
     requires spelt { FitsInput input.now }
     ensures { OnOk result (AreRunning cluster.new) }
 {
     let batch = step_of(cluster, k, input, reading)?;
-    post(alloc, k, batch.sends.as_slice(), mail)
+    network(alloc, k, batch.sends.as_slice(), packets)
 }
 
 /// The datagram of these bytes, from this address.
@@ -168,32 +173,32 @@ fn input_of(alloc: Global, from: u64, bytes: &[u8]) -> Result<Input, Fault>
 fn deliver_one(
     alloc: Global,
     cluster: &mut Cluster,
-    item: &Mail,
+    item: &Packet,
     reading: u64,
-    mail: &mut Vec<Mail>,
+    packets: &mut Vec<Packet>,
 ) -> Result<(), Fault>
     requires { AreRunning cluster.old }
     ensures { OnOk result (AreRunning cluster.new) }
 {
     let input = input_of(alloc, u64::from(item.from), item.bytes.as_slice())?;
-    step(alloc, cluster, item.to, &input, reading, mail)
+    step(alloc, cluster, item.to, &input, reading, packets)
 }
 
 /// Delivers datagrams, and answers what their receivers send.
 fn deliver(
     alloc: Global,
     cluster: &mut Cluster,
-    items: &[Mail],
+    items: &[Packet],
     reading: u64,
-) -> Result<Vec<Mail>, Fault>
+) -> Result<Vec<Packet>, Fault>
     requires { AreRunning cluster.old }
     ensures { OnOk result (AreRunning cluster.new) }
 {
-    let mut mail = Vec::new(alloc);
+    let mut packets = Vec::new(alloc);
     for item in items {
-        deliver_one(alloc, cluster, item, reading, &mut mail)?;
+        deliver_one(alloc, cluster, item, reading, &mut packets)?;
     }
-    Ok(mail)
+    Ok(packets)
 }
 
 /// The request of this number.
@@ -206,14 +211,14 @@ fn request(alloc: Global, number: u32) -> Result<Input, Fault>
 }
 
 /// Hands the request of this number to replica 0, and answers what it sends.
-fn submit(alloc: Global, cluster: &mut Cluster, number: u32) -> Result<Vec<Mail>, Fault>
+fn submit(alloc: Global, cluster: &mut Cluster, number: u32) -> Result<Vec<Packet>, Fault>
     requires { AreRunning cluster.old }
     ensures { OnOk result (AreRunning cluster.new) }
 {
     let input = request(alloc, number)?;
-    let mut mail = Vec::new(alloc);
-    step(alloc, cluster, 0, &input, u64::from(number), &mut mail)?;
-    Ok(mail)
+    let mut packets = Vec::new(alloc);
+    step(alloc, cluster, 0, &input, u64::from(number), &mut packets)?;
+    Ok(packets)
 }
 
 /// Hands a request to replica 0, delivers until nothing is under way, and counts the steps.
@@ -222,11 +227,11 @@ fn serve(alloc: Global, cluster: &mut Cluster, number: u32) -> Result<u64, Fault
     ensures { OnOk result (AreRunning cluster.new) }
 {
     let reading = u64::from(number);
-    let mut mail = submit(alloc, cluster, number)?;
+    let mut packets = submit(alloc, cluster, number)?;
     let mut steps = 1u64;
     for _ in 0..MOST_DELIVERIES {
-        steps = steps.wrapping_add(mail.len() as u64);
-        mail = deliver(alloc, cluster, &mail, reading)?;
+        steps = steps.wrapping_add(packets.len() as u64);
+        packets = deliver(alloc, cluster, &packets, reading)?;
     }
     Ok(steps)
 }

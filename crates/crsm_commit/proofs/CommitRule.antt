@@ -24,14 +24,14 @@ right_passes : (a b : Bool) → (a && b) ≡ true → b ≡ true
 right_passes true b e = e
 right_passes false b e = absurd (cc)
 
-pub exactly : (spec members : List ℕ) (heard : List (ℕ × ℕ)) (votes : List (Stamp × ℕ)) (waiting : List Entry) (s : Stamp) →
-    (first_ready spec members heard votes waiting ≡ Some s) ↔ IsTrue (may_commit spec members heard votes s && is_next waiting s)
+pub exactly : (spec members : List ℕ) (received : List (ℕ × ℕ)) (votes : List (Stamp × ℕ)) (waiting : List Entry) (s : Stamp) →
+    (first_ready spec members received votes waiting ≡ Some s) ↔ IsTrue (may_commit spec members received votes s && is_next waiting s)
 unfolding is_next first_of
-exactly spec members heard votes [] s = ((λ e. absurd (cc)), (λ t. absurd (no_pass (may_commit spec members heard votes s) t)))
-exactly spec members heard votes (e ∷ es) s = (forth, back)
+exactly spec members received votes [] s = ((λ e. absurd (cc)), (λ t. absurd (no_pass (may_commit spec members received votes s) t)))
+exactly spec members received votes (e ∷ es) s = (forth, back)
   where
     test : Stamp → Bool
-    test t = may_commit spec members heard votes t
+    test t = may_commit spec members received votes t
 
     chosen : (b : Bool) → test e.stamp ≡ b → (if b then Some e.stamp else None) ≡ Some s → (test s && stamp_eq e.stamp s) ≡ true
     chosen true h k =

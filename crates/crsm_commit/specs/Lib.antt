@@ -1,4 +1,4 @@
-pub mod Heard
+pub mod Received
 pub mod Least
 pub mod Masks
 pub mod Places

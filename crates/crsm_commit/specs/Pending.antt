@@ -21,9 +21,9 @@ pub record StandsFor (pending : Pending) (tracked : Stamp → Bool) (waiting : L
 
 -- a majority of the Spec has logged the stamp, and each member has reached its time
 abbrev pub may_commit : List ℕ → List ℕ → List (ℕ × ℕ) → List (Stamp × ℕ) → Stamp → Bool
-may_commit spec members heard votes s = is_replicated spec votes s && is_stable members heard s
+may_commit spec members received votes s = is_replicated spec votes s && is_stable members received s
 
 -- the first of the entries, where it may be committed
 abbrev pub first_ready : List ℕ → List ℕ → List (ℕ × ℕ) → List (Stamp × ℕ) → List Entry → Option Stamp
-first_ready spec members heard votes [] = None
-first_ready spec members heard votes (e ∷ es) = if may_commit spec members heard votes e.stamp then Some e.stamp else None
+first_ready spec members received votes [] = None
+first_ready spec members received votes (e ∷ es) = if may_commit spec members received votes e.stamp then Some e.stamp else None

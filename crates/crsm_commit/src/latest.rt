@@ -15,19 +15,19 @@ pub struct Latest {
 }
 
 impl Latest {
-    ghost use Rattle.crsm_commit.specs.Heard.{HasHeard};
+    ghost use Rattle.crsm_commit.specs.Received.{HasReceived};
 
     /// Nothing was heard.
     pub fn new() -> Latest
-        ensures { HasHeard result [] }
+        ensures { HasReceived result [] }
     {
         Latest { times: [0; 15] }
     }
 
     /// A time of k was heard. An older one changes nothing.
-    pub fn hear(&mut self, k: u32, time: u64)
+    pub fn receive(&mut self, k: u32, time: u64)
         requires { k < 15 }
-        ensures { (heard : List (ℕ × ℕ)) → HasHeard self.old heard → HasHeard self.new ((k, time) ∷ heard) }
+        ensures { (received : List (ℕ × ℕ)) → HasReceived self.old received → HasReceived self.new ((k, time) ∷ received) }
     {
         let k = k as usize;
         if time > self.times[k] {
@@ -38,15 +38,15 @@ impl Latest {
     /// The latest time of k, 0 where none was heard.
     pub fn of(&self, k: u32) -> u64
         requires { k < 15 }
-        ensures { (heard : List (ℕ × ℕ)) → HasHeard self.now heard → result ≡ latest_from heard k }
+        ensures { (received : List (ℕ × ℕ)) → HasReceived self.now received → result ≡ latest_from received k }
     {
         self.times[k as usize]
     }
 
     /// The least of the latest times of the members: each of them has reached it, and nothing above it.
     pub fn least(&self, members: &Members) -> u64
-        ensures { (heard : List (ℕ × ℕ)) (time : ℕ) → HasHeard self.now heard → 1 ≤ time → time < 2 ^ 64 →
-            nat_le time result ≡ list_all (reached heard time) members.now }
+        ensures { (received : List (ℕ × ℕ)) (time : ℕ) → HasReceived self.now received → 1 ≤ time → time < 2 ^ 64 →
+            nat_le time result ≡ list_all (reached received time) members.now }
     {
         let mut least = u64::MAX;
         for member in members.as_slice() {

@@ -9,9 +9,9 @@ ghost use Rattle.crsm_commit.specs.declared.pending.Pending.{Pending};
 
 /// What `ready` gives is the stamp of which the commit rule holds, and nothing where it holds of none.
 pub fn ready_is_exact()
-    ensures { (spec members : List ℕ) (heard : List (ℕ × ℕ)) (votes : List (Stamp × ℕ)) (waiting : List Entry) (s : Stamp) →
-        (first_ready spec members heard votes waiting ≡ Some s)
-        ↔ IsTrue ((is_replicated spec votes s && is_stable members heard s) && is_next waiting s) }
+    ensures { (spec members : List ℕ) (received : List (ℕ × ℕ)) (votes : List (Stamp × ℕ)) (waiting : List Entry) (s : Stamp) →
+        (first_ready spec members received votes waiting ≡ Some s)
+        ↔ IsTrue ((is_replicated spec votes s && is_stable members received s) && is_next waiting s) }
 {}
 
 /// A vote for a stamp that is not tracked need not be counted.

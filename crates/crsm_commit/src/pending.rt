@@ -7,7 +7,7 @@ ghost use Rattle.crsm_base.specs.declared.Entry.{Entry};
 ghost use Rattle.crsm_base.specs.Order.{stamp_eq};
 ghost use Rattle.crsm_spec.specs.Log.{with_entry};
 ghost use Rattle.crsm_spec.specs.Ready.{votes_for};
-ghost use Rattle.crsm_commit.specs.Heard.{HasHeard};
+ghost use Rattle.crsm_commit.specs.Received.{HasReceived};
 ghost use Rattle.crsm_commit.specs.Least.{lesser_of, IsLeastFirst};
 ghost use Rattle.crsm_commit.specs.Masks.{mask_of};
 ghost use Rattle.crsm_commit.specs.Waiting.{stamp_of, is_at, without_entry};
@@ -93,10 +93,10 @@ impl Pending {
     /// The stamp of the entry that is executed next, where it is ready: a majority of the Spec has logged it, each
     /// member's latest time has reached its time, and no entry that is pending has a lesser stamp.
     pub fn ready(&self, latest: &Latest, members: &Members, spec: &Members) -> Option<Stamp>
-        ensures { (tracked : Stamp → Bool) (waiting : List Entry) (votes : List (Stamp × ℕ)) (heard : List (ℕ × ℕ)) →
-            StandsFor self.now tracked waiting votes → HasHeard latest.now heard → AllByRecursion (λ h. 1 ≤ h.1) heard →
+        ensures { (tracked : Stamp → Bool) (waiting : List Entry) (votes : List (Stamp × ℕ)) (received : List (ℕ × ℕ)) →
+            StandsFor self.now tracked waiting votes → HasReceived latest.now received → AllByRecursion (λ h. 1 ≤ h.1) received →
             AllByRecursion (λ e. tracked e.stamp ≡ true) waiting →
-            result ≡ first_ready spec.now members.now heard votes waiting }
+            result ≡ first_ready spec.now members.now received votes waiting }
     {
         let stamp = self.first?;
         // Mostly this is what is waited for, so it is looked at first.

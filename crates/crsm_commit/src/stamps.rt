@@ -14,7 +14,7 @@ use std::marker::Model;
 #[derive(Drop)]
 pub struct Stamps {
     items: Vec<Stamp>,
-    /// How many items at the prefix are dropped.
+    /// How many items in front are dropped.
     prefix: usize,
 }
 
@@ -74,7 +74,7 @@ impl Stamps {
         Some(place)
     }
 
-    /// Moves the stamps to the prefix, where at least half of the items are dropped ones.
+    /// Moves the stamps to the first place, where at least half of the items are dropped ones.
     fn compact(&mut self)
         ensures { self.new ≡ self.old }
     {

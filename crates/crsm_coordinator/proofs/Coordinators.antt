@@ -11,7 +11,7 @@ use Rattle.crsm_spec.specs.Types.{Ballot, Decision}
 use Rattle.crsm_spec.specs.Choice.{when◌then◌otherwise◌}
 use Rattle.crsm_spec.specs.Lists.{has}
 use Rattle.crsm_spec.specs.Paxos.{Held, Answer, Found, majority, counts_before, better_held, better_answer, best_of, value_of, value_of_best}
-use Rattle.crsm_spec.specs.Proposing.{Proposing, value_proposed, start_proposing, after_answer, after_p1b, after_p2b, is_heard}
+use Rattle.crsm_spec.specs.Proposing.{Proposing, value_proposed, start_proposing, after_answer, after_p1b, after_p2b, is_received}
 use Rattle.crsm_spec.specs.Quorum.{spec_decided, has_majority}
 use Rattle.std.specs.Option.{option_map_or}
 use Rattle.crsm_spec.specs.Replica.{LogPage, Coordinator as CoordinatorOnPaper}
@@ -172,14 +172,14 @@ module _ (me n : ℕ) (known : Option Decision) where
       proposer_cases (λ x. r ≡ stage_of x) p m s (λ b own answers a. not_yet a.waits) (λ b own value acceptors v. done v.proposes)
 
   pub answer_taken : (p : Proposing Decision) (m : CoordinatorOnPaper) (b : Ballot) (k : ℕ) → CoordinatorStands (Coordinator.Proposing p) me n known m →
-      (not p.has_proposed && (ballot_eq b p.ballot && not (has p.heard k))) ≡ takes_answer m b k
+      (not p.has_proposed && (ballot_eq b p.ballot && not (has p.received k))) ≡ takes_answer m b k
   unfolding takes_answer
   answer_taken p m b k s =
-      proposer_cases (λ x. (not p.has_proposed && (ballot_eq b p.ballot && not (has p.heard k))) ≡ takes_answer x b k) p m s
+      proposer_cases (λ x. (not p.has_proposed && (ballot_eq b p.ballot && not (has p.received k))) ≡ takes_answer x b k) p m s
       (λ c own answers a.
-      ap (λ h. not h && (ballot_eq b p.ballot && not (has p.heard k))) a.waits ∙ ap (λ x. ballot_eq b x && not (has p.heard k)) a.ballot
-      ∙ ap (λ ks. ballot_eq b c && not (has ks k)) a.heard)
-      (λ c own value acceptors v. ap (λ h. not h && (ballot_eq b p.ballot && not (has p.heard k))) v.proposes)
+      ap (λ h. not h && (ballot_eq b p.ballot && not (has p.received k))) a.waits ∙ ap (λ x. ballot_eq b x && not (has p.received k)) a.ballot
+      ∙ ap (λ ks. ballot_eq b c && not (has ks k)) a.received)
+      (λ c own value acceptors v. ap (λ h. not h && (ballot_eq b p.ballot && not (has p.received k))) v.proposes)
 
   pub vote_taken : (p : Proposing Decision) (m : CoordinatorOnPaper) (b : Ballot) (k : ℕ) → CoordinatorStands (Coordinator.Proposing p) me n known m →
       (p.has_proposed && (ballot_eq b p.ballot && not (has p.voters k))) ≡ takes_vote m b k
@@ -206,8 +206,8 @@ module _ (me n : ℕ) (known : Option Decision) where
   unfolding counted_of
   counted_is p m k s =
       proposer_cases (λ x. has (counted_by p) k ≡ has (counted_of x) k) p m s
-      (λ c own answers a. ap (λ (h : Bool). has (if h then p.voters else p.heard) k) a.waits ∙ ap (λ ks. has ks k) a.heard)
-      (λ c own value acceptors v. ap (λ (h : Bool). has (if h then p.voters else p.heard) k) v.proposes ∙ v.voted k)
+      (λ c own answers a. ap (λ (h : Bool). has (if h then p.voters else p.received) k) a.waits ∙ ap (λ ks. has ks k) a.received)
+      (λ c own value acceptors v. ap (λ (h : Bool). has (if h then p.voters else p.received) k) v.proposes ∙ v.voted k)
 
   pub proposal_is : (p : Proposing Decision) (m : CoordinatorOnPaper) → CoordinatorStands (Coordinator.Proposing p) me n known m → proposal_by p ≡ proposal_of m
   unfolding proposal_of
@@ -273,20 +273,20 @@ module _ (me n : ℕ) (known : Option Decision) where
   replicas_with : (answers : List (Answer Decision)) (a : Answer Decision) → map (λ f. f.replica) (answers ++ a ∷ []) ≡ map (λ f. f.replica) answers ++ a.replica ∷ []
   replicas_with answers a = map-append (λ (f : Answer Decision). f.replica) answers (a ∷ [])
 
-  heard_with : (p : Proposing Decision) (b : Ballot) (own : Decision) (answers : List (Answer Decision)) (a : Answer Decision) → IsAsking p me n known b own answers →
-      p.heard ++ a.replica ∷ [] ≡ map (λ f. f.replica) (answers ++ a ∷ [])
-  heard_with p b own answers a s = ap (λ ks. ks ++ a.replica ∷ []) s.heard ∙ sym (replicas_with answers a)
+  received_with : (p : Proposing Decision) (b : Ballot) (own : Decision) (answers : List (Answer Decision)) (a : Answer Decision) → IsAsking p me n known b own answers →
+      p.received ++ a.replica ∷ [] ≡ map (λ f. f.replica) (answers ++ a ∷ [])
+  received_with p b own answers a s = ap (λ ks. ks ++ a.replica ∷ []) s.received ∙ sym (replicas_with answers a)
 
   counted_with : (p : Proposing Decision) (b : Ballot) (own : Decision) (answers : List (Answer Decision)) (a : Answer Decision) → IsAsking p me n known b own answers →
-      has (spec_decided n known) a.replica ≡ true → has (map (λ f. f.replica) answers) a.replica ≡ false → IsCounted (spec_decided n known) (p.heard ++ a.replica ∷ [])
-  counted_with p b own answers a s h new = push_counted (spec_decided n known) p.heard a.replica s.counted h (ap (λ ks. has ks a.replica) s.heard ∙ new)
+      has (spec_decided n known) a.replica ≡ true → has (map (λ f. f.replica) answers) a.replica ≡ false → IsCounted (spec_decided n known) (p.received ++ a.replica ∷ [])
+  counted_with p b own answers a s h new = push_counted (spec_decided n known) p.received a.replica s.counted h (ap (λ ks. has ks a.replica) s.received ∙ new)
 
   pub last_answer : (p : Proposing Decision) (b : Ballot) (own : Decision) (answers : List (Answer Decision)) (a : Answer Decision) → IsAsking p me n known b own answers →
       has (spec_decided n known) a.replica ≡ true → has (map (λ f. f.replica) answers) a.replica ≡ false →
-      nat_le (majority p.size) (length p.heard + 1) ≡ has_majority (spec_decided n known) (map (λ f. f.replica) (answers ++ a ∷ []))
+      nat_le (majority p.size) (length p.received + 1) ≡ has_majority (spec_decided n known) (map (λ f. f.replica) (answers ++ a ∷ []))
   last_answer p b own answers a s h new =
-      many_counted (spec_decided n known) (p.heard ++ a.replica ∷ []) (map (λ f. f.replica) (answers ++ a ∷ [])) p.size (length p.heard + 1)
-      (counted_with p b own answers a s h new) (λ j. ap (λ ks. has ks j) (heard_with p b own answers a s)) s.size (omega (arith, length-append p.heard (a.replica ∷ [])))
+      many_counted (spec_decided n known) (p.received ++ a.replica ∷ []) (map (λ f. f.replica) (answers ++ a ∷ [])) p.size (length p.received + 1)
+      (counted_with p b own answers a s h new) (λ j. ap (λ ks. has ks j) (received_with p b own answers a s)) s.size (omega (arith, length-append p.received (a.replica ∷ [])))
 
   -- the two forms of what comes of an answer
   either_stands : (q : Proposing Decision) (b : Ballot) (own : Decision) (all : List (Answer Decision)) (t : Bool) → t ≡ has_majority (spec_decided n known) (map (λ f. f.replica) all) →
@@ -305,7 +305,7 @@ module _ (me n : ℕ) (known : Option Decision) where
       has (spec_decided n known) a.replica ≡ true → has (map (λ f. f.replica) answers) a.replica ≡ false → FitsOption FitsVote a.accepted →
       CoordinatorStands (Coordinator.Proposing (after_answer p a.replica a.accepted)) me n known (answered (spec_decided n known) b own (answers ++ a ∷ []))
   answer_stands p b own answers a s h new f =
-      either_stands (after_answer p a.replica a.accepted) b own (answers ++ a ∷ []) (nat_le (majority p.size) (length p.heard + 1)) (last_answer p b own answers a s h new)
+      either_stands (after_answer p a.replica a.accepted) b own (answers ++ a ∷ []) (nat_le (majority p.size) (length p.received + 1)) (last_answer p b own answers a s h new)
       (λ t. record {
         mine = s.mine;
         ballot = s.ballot;
@@ -324,7 +324,7 @@ module _ (me n : ℕ) (known : Option Decision) where
         round = s.round;
         own_is = s.own_is;
         size = s.size;
-        heard = heard_with p b own answers a s;
+        received = received_with p b own answers a s;
         counted = counted_with p b own answers a s h new;
         best = best_with answers a p.best s.best;
         found = better_fits p.best a.replica a.accepted s.found f;
@@ -337,11 +337,11 @@ module _ (me n : ℕ) (known : Option Decision) where
   eq_self b = grind (arith)
 
   -- an answer that counts is counted
-  answer_counts : (p : Proposing Decision) (k : ℕ) (accepted : Held Decision) → p.has_proposed ≡ false → has p.heard k ≡ false → after_p1b p k p.ballot accepted ≡ after_answer p k accepted
+  answer_counts : (p : Proposing Decision) (k : ℕ) (accepted : Held Decision) → p.has_proposed ≡ false → has p.received k ≡ false → after_p1b p k p.ballot accepted ≡ after_answer p k accepted
   unfolding has
   answer_counts p k accepted w h =
-      ap (λ t. if t && (not p.has_proposed && not (is_heard p.heard k)) then after_answer p k accepted else p) (eq_self p.ballot)
-      ∙ ap (λ t. if not t && not (is_heard p.heard k) then after_answer p k accepted else p) w
+      ap (λ t. if t && (not p.has_proposed && not (is_received p.received k)) then after_answer p k accepted else p) (eq_self p.ballot)
+      ∙ ap (λ t. if not t && not (is_received p.received k) then after_answer p k accepted else p) w
       ∙ ap (λ t. if not t then after_answer p k accepted else p) h
 
   pub p1b_stands : (p q : Proposing Decision) (b : Ballot) (own : Decision) (answers : List (Answer Decision)) (a : Answer Decision) → IsAsking p me n known b own answers →
@@ -349,7 +349,7 @@ module _ (me n : ℕ) (known : Option Decision) where
       CoordinatorStands (Coordinator.Proposing q) me n known (answered (spec_decided n known) b own (answers ++ a ∷ []))
   p1b_stands p q b own answers a s h new f e =
       subst (λ r. CoordinatorStands (Coordinator.Proposing r) me n known (answered (spec_decided n known) b own (answers ++ a ∷ [])))
-      (sym (e ∙ answer_counts p a.replica a.accepted s.waits (ap (λ ks. has ks a.replica) s.heard ∙ new))) (answer_stands p b own answers a s h new f)
+      (sym (e ∙ answer_counts p a.replica a.accepted s.waits (ap (λ ks. has ks a.replica) s.received ∙ new))) (answer_stands p b own answers a s h new f)
 
   -- ---- votes
 
@@ -378,7 +378,7 @@ module _ (me n : ℕ) (known : Option Decision) where
   vote_again : (p : Proposing Decision) (k : ℕ) → has p.voters k ≡ true → after_p2b p k p.ballot ≡ p
   unfolding has
   vote_again p k h =
-      ap (λ t. if t && (p.has_proposed && not (is_heard p.voters k)) then record p { voters = p.voters ++ k ∷ [] } else p) (eq_self p.ballot)
+      ap (λ t. if t && (p.has_proposed && not (is_received p.voters k)) then record p { voters = p.voters ++ k ∷ [] } else p) (eq_self p.ballot)
       ∙ ap (λ t. if p.has_proposed && not t then record p { voters = p.voters ++ k ∷ [] } else p) h ∙ go p.has_proposed
     where
       go : (t : Bool) → (if t && false then record p { voters = p.voters ++ k ∷ [] } else p) ≡ p
@@ -388,8 +388,8 @@ module _ (me n : ℕ) (known : Option Decision) where
   vote_counts : (p : Proposing Decision) (k : ℕ) → p.has_proposed ≡ true → has p.voters k ≡ false → after_p2b p k p.ballot ≡ record p { voters = p.voters ++ k ∷ [] }
   unfolding has
   vote_counts p k w h =
-      ap (λ t. if t && (p.has_proposed && not (is_heard p.voters k)) then record p { voters = p.voters ++ k ∷ [] } else p) (eq_self p.ballot)
-      ∙ ap (λ t. if t && not (is_heard p.voters k) then record p { voters = p.voters ++ k ∷ [] } else p) w
+      ap (λ t. if t && (p.has_proposed && not (is_received p.voters k)) then record p { voters = p.voters ++ k ∷ [] } else p) (eq_self p.ballot)
+      ∙ ap (λ t. if t && not (is_received p.voters k) then record p { voters = p.voters ++ k ∷ [] } else p) w
       ∙ ap (λ t. if not t then record p { voters = p.voters ++ k ∷ [] } else p) h
 
   voted_stands : (p : Proposing Decision) (b : Ballot) (own value : Decision) (acceptors : List ℕ) (k : ℕ) → IsProposing p me n known b own value acceptors →
@@ -468,7 +468,7 @@ module _ (me n : ℕ) (known : Option Decision) where
         round = f;
         own_is = refl;
         size = l ∙ ap length e;
-        heard = refl;
+        received = refl;
         counted = none_counted (spec_decided n known) (subst (λ ks. IsMembers ks) e ms);
         best = refl;
         found = tt;

@@ -61,7 +61,7 @@ pub record IsGathering (c : Collect) (me n : ℕ) (known : Option Decision) (ms 
 
 -- whose promises or votes it counts
 abbrev pub counted_by : Proposing Decision → List ℕ
-counted_by p = if p.has_proposed then p.voters else p.heard
+counted_by p = if p.has_proposed then p.voters else p.received
 
 -- its votes are a majority with this one, which may be counted already
 abbrev pub is_chosen_with : Proposing Decision → ℕ → Bool
@@ -84,8 +84,8 @@ pub record IsAsking (p : Proposing Decision) (me n : ℕ) (known : Option Decisi
   pub round : FitsBallot b
   pub own_is : p.own ≡ own
   pub size : p.size ≡ length (spec_decided n known)
-  pub heard : p.heard ≡ map (λ a. a.replica) answers
-  pub counted : IsCounted (spec_decided n known) p.heard
+  pub received : p.received ≡ map (λ a. a.replica) answers
+  pub counted : IsCounted (spec_decided n known) p.received
   pub best : p.best ≡ best_of answers
   pub found : FitsFound p.best
   pub waits : p.has_proposed ≡ false
@@ -184,3 +184,8 @@ VotedIs (Voted.More coordinator) me n known b own value acceptors =
     (has_majority (spec_decided n known) acceptors ≡ false) × CoordinatorStands coordinator me n known (CoordinatorOnPaper.Proposing b own value acceptors)
 VotedIs (Voted.Chosen d) me n known b own value acceptors =
     (has_majority (spec_decided n known) acceptors ≡ true) × (d ≡ value) × FitsDecision value
+
+-- for each coordinator that the one in memory stands for
+abbrev pub WhereStands : Coordinator → (ℕ → ℕ → Option Decision → CoordinatorOnPaper → Type 0) → Type 0
+WhereStands coordinator P =
+    (me n : ℕ) (known : Option Decision) (m : CoordinatorOnPaper) → CoordinatorStands coordinator me n known m → P me n known m

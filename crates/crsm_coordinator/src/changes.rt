@@ -9,7 +9,7 @@ ghost use Rattle.crsm_spec.specs.Lists.{has};
 ghost use Rattle.crsm_spec.specs.Paxos.{Answer};
 ghost use Rattle.crsm_spec.specs.Quorum.{spec_decided, has_majority};
 ghost use Rattle.crsm_spec.specs.Replica.{Coordinator as CoordinatorOnPaper};
-ghost use Rattle.crsm_coordinator.specs.Coordinator.{CoordinatorStands, IsOwn, VotedIs, answered, preempted_by};
+ghost use Rattle.crsm_coordinator.specs.Coordinator.{CoordinatorStands, IsOwn, VotedIs, answered, preempted_by, WhereStands};
 
 use crate::coordinator::{Coordinator, Voted};
 use crate::readers::is_chosen_with;
@@ -19,14 +19,14 @@ use std::alloc::Global;
 
 impl Coordinator {
     #[tactic(auto, unfolding(crate::specs::Coordinator::CoordinatorStands))]
-    /// The coordinator of one that is at nothing.
+    /// A coordinator that is at nothing.
     pub fn quiet() -> Coordinator
         ensures { (me n : ℕ) (known : Option Decision) → CoordinatorStands result me n known CoordinatorOnPaper.Idle }
     {
         Coordinator::Idle
     }
 
-    /// The coordinator of one that is to propose its own decision above this ballot.
+    /// A coordinator that is to propose its own decision above this ballot.
     pub fn over(own: Decision, seen: Ballot) -> Coordinator
         ensures { (me n : ℕ) (known : Option Decision) → IsOwn me n known own → FitsBallot seen → CoordinatorStands result me n known (CoordinatorOnPaper.Preempted own seen) }
     {
@@ -96,7 +96,7 @@ impl Coordinator {
 
     /// Its ballot is over, since this one was seen.
     pub fn preempted(self, top: Ballot) -> Coordinator
-        ensures { (me n : ℕ) (known : Option Decision) (m : CoordinatorOnPaper) → CoordinatorStands self me n known m → FitsBallot top → CoordinatorStands result me n known (preempted_by m top) }
+        ensures { WhereStands self (λ me n known m. FitsBallot top → CoordinatorStands result me n known (preempted_by m top)) }
     {
         match self {
             Coordinator::Proposing(proposer) => Coordinator::Preempted {

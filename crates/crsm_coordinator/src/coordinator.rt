@@ -1,4 +1,4 @@
-//! The coordinator of a coordinator.
+//! The phases of a replica that ends an epoch.
 
 use crsm_base::{Ballot, Decision};
 use crsm_paxos::Proposer;

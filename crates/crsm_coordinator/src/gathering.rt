@@ -16,7 +16,7 @@ use crsm_base::Stamp;
 use crsm_suspend::Collect;
 
 impl Coordinator {
-    /// The coordinator of one that collects.
+    /// A coordinator that collects.
     pub fn collecting(collect: Collect) -> Coordinator
         ensures { (me n : ℕ) (log : Log) (ms : List ℕ) (pages : List LogPage) → has (spec_decided n (decision log)) me ≡ true → IsCollecting log (spec_decided n (decision log)) (named_in n (decision log) ms) ms pages collect → CoordinatorStands result me n (decision log) (CoordinatorOnPaper.Collecting ms pages) }
     {

@@ -6,7 +6,7 @@ ghost use Rattle.crsm_base.specs.Messages.{FitsVote};
 ghost use Rattle.crsm_base.specs.Spelling.{FitsOption};
 ghost use Rattle.crsm_spec.specs.Lists.{has};
 ghost use Rattle.crsm_spec.specs.Replica.{Coordinator as CoordinatorOnPaper};
-ghost use Rattle.crsm_coordinator.specs.Coordinator.{CoordinatorStands, counted_of, proposal_of, proposal_with, counted_by, proposal_by, proposal_by_with};
+ghost use Rattle.crsm_coordinator.specs.Coordinator.{CoordinatorStands, counted_of, proposal_of, proposal_with, counted_by, proposal_by, proposal_by_with, WhereStands};
 
 use crate::coordinator::Coordinator;
 use crsm_base::{Ballot, Decision, NoMemory};
@@ -16,8 +16,8 @@ use std::alloc::Global;
 impl Coordinator {
     /// The ballot that proposes, and what it proposes.
     pub fn proposal(&self, alloc: Global) -> Result<Option<(Ballot, Decision)>, NoMemory>
-        ensures value { (me n : ℕ) (known : Option Decision) (m : CoordinatorOnPaper) → CoordinatorStands self.now me n known m → IfOk result (λ p. p ≡ proposal_of m) }
-        ensures spelt { (me n : ℕ) (known : Option Decision) (m : CoordinatorOnPaper) → CoordinatorStands self.now me n known m → IfOk result (λ p. FitsOption FitsVote p) }
+        ensures value { WhereStands self.now (λ me n known m. IfOk result (λ p. p ≡ proposal_of m)) }
+        ensures spelt { WhereStands self.now (λ me n known m. IfOk result (λ p. FitsOption FitsVote p)) }
     {
         match self {
             Coordinator::Proposing(proposer) => proposal_in(alloc, proposer),
@@ -32,8 +32,8 @@ impl Coordinator {
         k: u32,
         accepted: &Option<(Ballot, Decision)>,
     ) -> Result<Option<(Ballot, Decision)>, NoMemory>
-        ensures value { (me n : ℕ) (known : Option Decision) (m : CoordinatorOnPaper) → CoordinatorStands self.now me n known m → IfOk result (λ p. p ≡ proposal_with m (record { replica = k; accepted = accepted.now })) }
-        ensures spelt { (me n : ℕ) (known : Option Decision) (m : CoordinatorOnPaper) → CoordinatorStands self.now me n known m → FitsOption FitsVote accepted.now → IfOk result (λ p. FitsOption FitsVote p) }
+        ensures value { WhereStands self.now (λ me n known m. IfOk result (λ p. p ≡ proposal_with m (record { replica = k; accepted = accepted.now }))) }
+        ensures spelt { WhereStands self.now (λ me n known m. FitsOption FitsVote accepted.now → IfOk result (λ p. FitsOption FitsVote p)) }
     {
         match self {
             Coordinator::Proposing(proposer) => proposal_in_with(alloc, proposer, k, accepted),
@@ -44,7 +44,7 @@ impl Coordinator {
     /// Those of the replicas whose promise or vote is not counted.
     pub fn missing(&self, alloc: Global, replicas: &[u32]) -> Result<Vec<u32>, NoMemory>
         requires { All (λ k. k < 15) replicas.now }
-        ensures value { (me n : ℕ) (known : Option Decision) (m : CoordinatorOnPaper) → CoordinatorStands self.now me n known m → IfOk result (λ ks. ks.items ≡ filter (λ k. not (has (counted_of m) k)) replicas.now) }
+        ensures value { WhereStands self.now (λ me n known m. IfOk result (λ ks. ks.items ≡ filter (λ k. not (has (counted_of m) k)) replicas.now)) }
         ensures below { IfOk result (λ ks. All (λ k. k < 15) ks.items) }
     {
         let mut missing = Vec::new(alloc);
@@ -58,7 +58,7 @@ impl Coordinator {
 
     /// Whether the promise or vote of a replica is counted.
     fn counts(&self, k: u32) -> bool
-        ensures { (me n : ℕ) (known : Option Decision) (m : CoordinatorOnPaper) → CoordinatorStands self.now me n known m → result ≡ has (counted_of m) k }
+        ensures { WhereStands self.now (λ me n known m. result ≡ has (counted_of m) k) }
     {
         match self {
             Coordinator::Proposing(proposer) => is_counted(proposer, k),

@@ -8,7 +8,7 @@ ghost use Rattle.crsm_spec.specs.Lists.{has};
 ghost use Rattle.crsm_spec.specs.Paxos.{Answer};
 ghost use Rattle.crsm_spec.specs.Quorum.{spec_decided, has_majority};
 ghost use Rattle.crsm_spec.specs.Replica.{Coordinator as CoordinatorOnPaper};
-ghost use Rattle.crsm_coordinator.specs.Coordinator.{CoordinatorStands, takes_answer, takes_vote, is_ended_by, ballot_of, is_chosen_with, stage_of};
+ghost use Rattle.crsm_coordinator.specs.Coordinator.{CoordinatorStands, takes_answer, takes_vote, is_ended_by, ballot_of, is_chosen_with, stage_of, WhereStands};
 
 use crate::coordinator::{Coordinator, Stage};
 use crsm_base::{Ballot, ballot_precedes, is_same_ballot};
@@ -17,7 +17,7 @@ use crsm_paxos::Proposer;
 impl Coordinator {
     /// Which of the stages it is.
     pub fn stage(&self) -> Stage
-        ensures { (me n : ℕ) (known : Option Decision) (m : CoordinatorOnPaper) → CoordinatorStands self.now me n known m → result ≡ stage_of m }
+        ensures { WhereStands self.now (λ me n known m. result ≡ stage_of m) }
     {
         match self {
             Coordinator::Idle => Stage::Idle,
@@ -29,7 +29,7 @@ impl Coordinator {
 
     /// Whether the promise of this ballot by a replica counts.
     pub fn takes_answer(&self, b: Ballot, k: u32) -> bool
-        ensures { (me n : ℕ) (known : Option Decision) (m : CoordinatorOnPaper) → CoordinatorStands self.now me n known m → result ≡ takes_answer m b k }
+        ensures { WhereStands self.now (λ me n known m. result ≡ takes_answer m b k) }
     {
         match self {
             Coordinator::Proposing(proposer) => is_answer(proposer, b, k),
@@ -39,7 +39,7 @@ impl Coordinator {
 
     /// Whether the vote in this ballot by a replica counts.
     pub fn takes_vote(&self, b: Ballot, k: u32) -> bool
-        ensures { (me n : ℕ) (known : Option Decision) (m : CoordinatorOnPaper) → CoordinatorStands self.now me n known m → result ≡ takes_vote m b k }
+        ensures { WhereStands self.now (λ me n known m. result ≡ takes_vote m b k) }
     {
         match self {
             Coordinator::Proposing(proposer) => is_vote(proposer, b, k),
@@ -49,7 +49,7 @@ impl Coordinator {
 
     /// Whether this ballot is the one at work, and the greater promise ends it.
     pub fn is_ended_by(&self, b: Ballot, top: Ballot) -> bool
-        ensures { (me n : ℕ) (known : Option Decision) (m : CoordinatorOnPaper) → CoordinatorStands self.now me n known m → result ≡ is_ended_by m b top }
+        ensures { WhereStands self.now (λ me n known m. result ≡ is_ended_by m b top) }
     {
         match self {
             Coordinator::Proposing(proposer) => is_end(proposer, b, top),
@@ -59,7 +59,7 @@ impl Coordinator {
 
     /// The ballot that is asked for or proposes.
     pub fn ballot(&self) -> Option<Ballot>
-        ensures { (me n : ℕ) (known : Option Decision) (m : CoordinatorOnPaper) → CoordinatorStands self.now me n known m → result ≡ ballot_of m }
+        ensures { WhereStands self.now (λ me n known m. result ≡ ballot_of m) }
     {
         match self {
             Coordinator::Proposing(proposer) => Some(proposer.ballot()),
@@ -101,7 +101,7 @@ fn stage_in(has_proposed: bool) -> Stage
 
 #[tactic(auto, unfolding(crsm_spec::specs::Lists::has))]
 fn is_answer(proposer: &Proposer, b: Ballot, k: u32) -> bool
-    ensures { result ≡ (not proposer.now.has_proposed && (ballot_eq b proposer.now.ballot && not (has proposer.now.heard k))) }
+    ensures { result ≡ (not proposer.now.has_proposed && (ballot_eq b proposer.now.ballot && not (has proposer.now.received k))) }
 {
     !proposer.has_proposed() && is_same_ballot(b, proposer.ballot()) && !proposer.has_promise_of(k)
 }

@@ -7,11 +7,11 @@ use Rattle.crsm_spec.specs.Choice.{when◌then◌otherwise◌}
 use Rattle.crsm_spec.specs.Log.{Log, active, live, suspended, unexecuted}
 use Rattle.crsm_spec.specs.Fits.{fits}
 use Rattle.crsm_spec.specs.Replica.{Replica, members_of, spec_of}
-use Rattle.crsm_spec.specs.Ready.{is_ready, is_next, is_replicated, is_stable, all_heard}
+use Rattle.crsm_spec.specs.Ready.{is_ready, is_next, is_replicated, is_stable, all_received}
 use Rattle.crsm_spec.specs.Draft.{Draft, keep}
 use Rattle.crsm_spec.specs.Clients.{commit_run, commits}
 use Rattle.crsm_spec.specs.Step.{if_fitting}
-use Rattle.crsm_replica.specs.declared.desk.Desk.{Desk}
+use Rattle.crsm_replica.specs.declared.state.ReplicaState.{ReplicaState}
 use Rattle.crsm_replica.specs.Sound.{IsSound}
 use Rattle.crsm_replica.specs.Replica.{StandsFor}
 use Rattle.crsm_epoch_state.specs.First.{ready_of, ready_first}
@@ -52,7 +52,7 @@ not_ready x (e ∷ es) h = go (is_ready x.replica e.stamp) refl h
 next_is : (r : Replica) (s : Stamp) → is_ready r s ≡ true → is_next (unexecuted r.log) s ≡ true
 unfolding is_ready
 next_is r s h =
-    (and_parts (is_replicated (spec_of r) r.votes s && is_stable (members_of r) (all_heard r) s) (is_next (unexecuted r.log) s) h).1
+    (and_parts (is_replicated (spec_of r) r.votes s && is_stable (members_of r) (all_received r) s) (is_next (unexecuted r.log) s) h).1
 
 commit_fits : (x : Draft) (s : Stamp) → x.fitting ≡ true → active x.replica.log ≡ true → is_ready x.replica s ≡ true → (keep (Rec.Commit s) x).fitting ≡ true
 unfolding keep fits is_next
@@ -72,26 +72,26 @@ run_commits x e es q = rw q refl
 
 -- ---- the loop
 
--- So many are committed: the desk stands for a draft from which the run goes on, and so many are unexecuted less.
-pub record Committed (count : ℕ) (desk : Desk) (x : Draft) : Type 0 where
+-- So many are committed: the state stands for a draft from which the run goes on, and so many are unexecuted less.
+pub record Committed (count : ℕ) (state : ReplicaState) (x : Draft) : Type 0 where
   pub left : Draft
-  pub stands : StandsFor desk left
+  pub stands : StandsFor state left
   pub runs : active left.replica.log ≡ true
   pub goes_on : commit_run (unexecuted left.replica.log) left ≡ commit_run (unexecuted x.replica.log) x
   pub fewer : length (unexecuted left.replica.log) + count ≡ length (unexecuted x.replica.log)
 
-pub begins : (desk : Desk) (x : Draft) → active x.replica.log ≡ true → StandsFor desk x → Committed 0 desk x
-begins desk x a s = record { left = x; stands = s; runs = a; goes_on = refl; fewer = omega arith }
+pub begins : (state : ReplicaState) (x : Draft) → active x.replica.log ≡ true → StandsFor state x → Committed 0 state x
+begins state x a s = record { left = x; stands = s; runs = a; goes_on = refl; fewer = omega arith }
 
 abbrev GoesOn : Type 0
-GoesOn = (desk : Desk) (x : Draft) (e : Entry) (es : List Entry) → StandsFor desk x → unexecuted x.replica.log ≡ e ∷ es →
+GoesOn = (state : ReplicaState) (x : Draft) (e : Entry) (es : List Entry) → StandsFor state x → unexecuted x.replica.log ≡ e ∷ es →
     unexecuted (Rec.Commit e.stamp ∷ x.replica.log) ≡ es
 
 -- one more is committed
-pub commit_one : (count : ℕ) (desk kept : Desk) (x : Draft) (p : Committed count desk x) (s : Stamp) → GoesOn → IsSound p.left →
+pub commit_one : (count : ℕ) (state kept : ReplicaState) (x : Draft) (p : Committed count state x) (s : Stamp) → GoesOn → IsSound p.left →
     Some s ≡ ready_of p.left.replica → StandsFor kept (if_fitting p.left (keep (Rec.Commit s) p.left)) → Committed (count + 1) kept x
 unfolding ready_of
-commit_one count desk kept x p s go_on sound ready stands =
+commit_one count state kept x p s go_on sound ready stands =
     let y : Draft = p.left in
     let first = first_ready y.replica s (unexecuted y.replica.log) ready in
     let z : Draft = keep (Rec.Commit s) y in
@@ -100,7 +100,7 @@ commit_one count desk kept x p s go_on sound ready stands =
     let log : z.replica.log ≡ Rec.Commit s ∷ y.replica.log = log_is (Rec.Commit s) y in
     let same : Rec.Commit first.entry.stamp ≡ Rec.Commit s = ap (λ (t : Stamp). Rec.Commit t) first.stamp in
     let rest : unexecuted z.replica.log ≡ first.rest =
-    ap unexecuted log ∙ ap (λ (rec : Rec). unexecuted (rec ∷ y.replica.log)) (sym same) ∙ go_on desk y first.entry first.rest p.stands first.there in
+    ap unexecuted log ∙ ap (λ (rec : Rec). unexecuted (rec ∷ y.replica.log)) (sym same) ∙ go_on state y first.entry first.rest p.stands first.there in
     let run : commit_run (unexecuted z.replica.log) z ≡ commit_run (unexecuted y.replica.log) y =
     ap (λ es. commit_run es z) rest ∙ ap (λ (rec : Rec). commit_run first.rest (keep rec y)) (sym same)
     ∙ sym (run_commits y first.entry first.rest (ap (λ t. is_ready y.replica t) first.stamp ∙ first.ready))
@@ -111,26 +111,26 @@ commit_one count desk kept x p s go_on sound ready stands =
 
 -- ---- the ends of the loop
 
-pub not_active : (desk : Desk) (x : Draft) → active x.replica.log ≡ false → StandsFor desk x → StandsFor desk (commits x)
+pub not_active : (state : ReplicaState) (x : Draft) → active x.replica.log ≡ false → StandsFor state x → StandsFor state (commits x)
 unfolding commits when◌then◌otherwise◌
-not_active desk x a s = rw a s
+not_active state x a s = rw a s
 
 run_of : (x : Draft) → active x.replica.log ≡ true → commit_run (unexecuted x.replica.log) x ≡ commits x
 unfolding commits when◌then◌otherwise◌
 run_of x a = rw a refl
 
-over : (count : ℕ) (desk : Desk) (x : Draft) (p : Committed count desk x) → active x.replica.log ≡ true →
-    commit_run (unexecuted p.left.replica.log) p.left ≡ p.left → StandsFor desk (commits x)
-over count desk x p a e = stands_as desk p.left (commits x) (sym e ∙ p.goes_on ∙ run_of x a) p.stands
+over : (count : ℕ) (state : ReplicaState) (x : Draft) (p : Committed count state x) → active x.replica.log ≡ true →
+    commit_run (unexecuted p.left.replica.log) p.left ≡ p.left → StandsFor state (commits x)
+over count state x p a e = stands_as state p.left (commits x) (sym e ∙ p.goes_on ∙ run_of x a) p.stands
 
-pub none_ready : (count : ℕ) (desk : Desk) (x : Draft) (p : Committed count desk x) → active x.replica.log ≡ true →
-    None ≡ ready_of p.left.replica → StandsFor desk (commits x)
+pub none_ready : (count : ℕ) (state : ReplicaState) (x : Draft) (p : Committed count state x) → active x.replica.log ≡ true →
+    None ≡ ready_of p.left.replica → StandsFor state (commits x)
 unfolding ready_of
-none_ready count desk x p a h = over count desk x p a (not_ready p.left (unexecuted p.left.replica.log) h)
+none_ready count state x p a h = over count state x p a (not_ready p.left (unexecuted p.left.replica.log) h)
 
 -- nothing is ready before the first
-pub none_at_first : (desk : Desk) (x : Draft) → active x.replica.log ≡ true → StandsFor desk x → None ≡ ready_of x.replica → StandsFor desk (commits x)
-none_at_first desk x a s h = none_ready 0 desk x (record { left = x; stands = s; runs = a; goes_on = refl; fewer = omega arith }) a h
+pub none_at_first : (state : ReplicaState) (x : Draft) → active x.replica.log ≡ true → StandsFor state x → None ≡ ready_of x.replica → StandsFor state (commits x)
+none_at_first state x a s h = none_ready 0 state x (record { left = x; stands = s; runs = a; goes_on = refl; fewer = omega arith }) a h
 
 empty : (es : List Entry) → length es ≡ 0 → es ≡ []
 empty [] h = refl
@@ -140,7 +140,7 @@ run_of_none : (x : Draft) → commit_run [] x ≡ x
 unfolding commit_run
 run_of_none x = refl
 
-pub all_committed : (count : ℕ) (desk : Desk) (x : Draft) (p : Committed count desk x) → active x.replica.log ≡ true →
-    length (unexecuted x.replica.log) ≤ count → StandsFor desk (commits x)
-all_committed count desk x p a l =
-    over count desk x p a (ap (λ es. commit_run es p.left) (empty (unexecuted p.left.replica.log) (omega (arith, p.fewer, l))) ∙ run_of_none p.left)
+pub all_committed : (count : ℕ) (state : ReplicaState) (x : Draft) (p : Committed count state x) → active x.replica.log ≡ true →
+    length (unexecuted x.replica.log) ≤ count → StandsFor state (commits x)
+all_committed count state x p a l =
+    over count state x p a (ap (λ es. commit_run es p.left) (empty (unexecuted p.left.replica.log) (omega (arith, p.fewer, l))) ∙ run_of_none p.left)

@@ -6,10 +6,10 @@ use Rattle.crsm_spec.specs.Choice.{when◌then◌otherwise◌}
 use Rattle.crsm_spec.specs.Lists.{has}
 use Rattle.crsm_spec.specs.Log.{known, decision, active}
 use Rattle.crsm_spec.specs.Replica.{Replica, members_of, latest_from, frames_to, next_from}
-use Rattle.crsm_spec.specs.Draft.{Draft, keep, send, count_vote, tell_decision, tell_retrieve}
-use Rattle.crsm_spec.specs.Frames.{time_of, is_wrong, is_odd_frame, owe, ack, hear, take_frame, on_frame, on_ack}
+use Rattle.crsm_spec.specs.Draft.{Draft, keep, send, count_vote, send_decision, send_retrieve}
+use Rattle.crsm_spec.specs.Frames.{time_of, is_wrong, is_odd_frame, owe, ack, receive, take_frame, on_frame, on_ack}
 use Rattle.crsm_spec.specs.Step.{if_fitting}
-use Rattle.crsm_replica.specs.declared.desk.Desk.{Desk}
+use Rattle.crsm_replica.specs.declared.state.ReplicaState.{ReplicaState}
 use Rattle.crsm_replica.specs.Replica.{StandsFor}
 use Rattle.std.proofs.lemmas.Bool.{leb-false}
 use Rattle.crsm_core.proofs.Fitting.{if_not, stands_as, done, ignored, is_lt, not_lt, is_le, not_le, is_eq, not_eq}
@@ -24,13 +24,13 @@ pub no_part : (a h : Bool) → a ≡ false → false ≡ a && h
 no_part true h e = absurd (cc)
 no_part false h e = refl
 
-pub odd_time : (r : Replica) (k : ℕ) (p : InEpoch) → time_of p ≤ latest_from r.heard k → true ≡ is_odd_frame r k p
+pub odd_time : (r : Replica) (k : ℕ) (p : InEpoch) → time_of p ≤ latest_from r.received k → true ≡ is_odd_frame r k p
 unfolding is_odd_frame
-odd_time r k p l = rw (is_le (time_of p) (latest_from r.heard k) l) refl
+odd_time r k p l = rw (is_le (time_of p) (latest_from r.received k) l) refl
 
-pub odd_payload : (r : Replica) (k : ℕ) (p : InEpoch) → latest_from r.heard k < time_of p → is_wrong r k p ≡ is_odd_frame r k p
+pub odd_payload : (r : Replica) (k : ℕ) (p : InEpoch) → latest_from r.received k < time_of p → is_wrong r k p ≡ is_odd_frame r k p
 unfolding is_odd_frame
-odd_payload r k p l = rw (not_le (time_of p) (latest_from r.heard k) l) refl
+odd_payload r k p l = rw (not_le (time_of p) (latest_from r.received k) l) refl
 
 pub wrong_epoch : (r : Replica) (k : ℕ) (e : Entry) → e.epoch ≢ known r.log → true ≡ is_wrong r k (InEpoch.Prepare e)
 unfolding is_wrong
@@ -49,21 +49,21 @@ unfolding is_wrong
 wrong_time r k at = refl
 
 -- a payload that is not odd has a later time
-pub later : (r : Replica) (k : ℕ) (p : InEpoch) → is_odd_frame r k p ≡ false → latest_from r.heard k < time_of p
+pub later : (r : Replica) (k : ℕ) (p : InEpoch) → is_odd_frame r k p ≡ false → latest_from r.received k < time_of p
 unfolding is_odd_frame
-later r k p h = go (nat_le (time_of p) (latest_from r.heard k)) refl h
+later r k p h = go (nat_le (time_of p) (latest_from r.received k)) refl h
   where
-    go : (b : Bool) → nat_le (time_of p) (latest_from r.heard k) ≡ b → (b || is_wrong r k p) ≡ false → latest_from r.heard k < time_of p
+    go : (b : Bool) → nat_le (time_of p) (latest_from r.received k) ≡ b → (b || is_wrong r k p) ≡ false → latest_from r.received k < time_of p
     go true e h = absurd (cc)
-    go false e h = leb-false (time_of p) (latest_from r.heard k) e
+    go false e h = leb-false (time_of p) (latest_from r.received k) e
 
 -- ---- which rule applies to a frame
 
-pub earlier_epoch : (k e seq : ℕ) (p : InEpoch) (x : Draft) → e < known x.replica.log → tell_decision k x ≡ on_frame k e seq p x
+pub earlier_epoch : (k e seq : ℕ) (p : InEpoch) (x : Draft) → e < known x.replica.log → send_decision k x ≡ on_frame k e seq p x
 unfolding on_frame when◌then◌otherwise◌
 earlier_epoch k e seq p x l = rw (is_lt e (known x.replica.log) l) refl
 
-pub later_epoch : (k e seq : ℕ) (p : InEpoch) (x : Draft) → known x.replica.log < e → tell_retrieve k x ≡ on_frame k e seq p x
+pub later_epoch : (k e seq : ℕ) (p : InEpoch) (x : Draft) → known x.replica.log < e → send_retrieve k x ≡ on_frame k e seq p x
 unfolding on_frame when◌then◌otherwise◌
 later_epoch k e seq p x l = rw (not_lt e (known x.replica.log) (omega (arith, l)), is_lt (known x.replica.log) e l) refl
 
@@ -121,9 +121,9 @@ next_one k e seq p x l a n o =
 
 -- ---- taking a frame
 
--- the link from k moves on, and its time is heard
-abbrev pub heard_at : ℕ → ℕ → Draft → Draft
-heard_at k time x = record x { replica = record x.replica { taken = k ∷ x.replica.taken; heard = (k, time) ∷ x.replica.heard } }
+-- the link from k moves on, and its time is received
+abbrev pub received_at : ℕ → ℕ → Draft → Draft
+received_at k time x = record x { replica = record x.replica { taken = k ∷ x.replica.taken; received = (k, time) ∷ x.replica.received } }
 
 -- the time of a payload that is known
 abbrev pub time_in : InEpoch → ℕ
@@ -137,23 +137,23 @@ time_as (InEpoch.Prepare e) = refl
 time_as (InEpoch.PrepareOk s at) = refl
 time_as (InEpoch.ClockTime at) = refl
 
-pub time_above : (r : Replica) (k : ℕ) (q p : InEpoch) → q ≡ p → latest_from r.heard k < time_of q → latest_from r.heard k < time_in p
+pub time_above : (r : Replica) (k : ℕ) (q p : InEpoch) → q ≡ p → latest_from r.received k < time_of q → latest_from r.received k < time_in p
 time_above r k q p e l = let f : time_of q ≡ time_in p = ap time_of e ∙ time_as p in omega (arith, f, l)
 
-pub ok_taken : (k : ℕ) (s : Stamp) (at : ℕ) (x : Draft) → count_vote s k (ack k (heard_at k at x)) ≡ take_frame k (InEpoch.PrepareOk s at) x
-unfolding take_frame hear time_of
+pub ok_taken : (k : ℕ) (s : Stamp) (at : ℕ) (x : Draft) → count_vote s k (ack k (received_at k at x)) ≡ take_frame k (InEpoch.PrepareOk s at) x
+unfolding take_frame receive time_of
 ok_taken k s at x = refl
 
-pub time_taken : (k at : ℕ) (x : Draft) → ack k (heard_at k at x) ≡ take_frame k (InEpoch.ClockTime at) x
-unfolding take_frame hear time_of
+pub time_taken : (k at : ℕ) (x : Draft) → ack k (received_at k at x) ≡ take_frame k (InEpoch.ClockTime at) x
+unfolding take_frame receive time_of
 time_taken k at x = refl
 
 -- the record is kept before the link moves on
 abbrev pub prepare_taken : ℕ → Entry → Draft → Draft
-prepare_taken k e x = owe e.stamp (count_vote e.stamp x.replica.me (count_vote e.stamp k (ack k (heard_at k e.stamp.time (keep (Rec.Prepare e) x)))))
+prepare_taken k e x = owe e.stamp (count_vote e.stamp x.replica.me (count_vote e.stamp k (ack k (received_at k e.stamp.time (keep (Rec.Prepare e) x)))))
 
 taken_is : (k : ℕ) (e : Entry) (x : Draft) → prepare_taken k e x ≡ take_frame k (InEpoch.Prepare e) x
-unfolding take_frame hear time_of keep ack send count_vote owe known decision next_from
+unfolding take_frame receive time_of keep ack send count_vote owe known decision next_from
 taken_is k e x = refl
 
 fits_as : (k : ℕ) (e : Entry) (x : Draft) → (prepare_taken k e x).fitting ≡ (keep (Rec.Prepare e) x).fitting
@@ -164,19 +164,19 @@ pub me_kept : (rec : Rec) (x : Draft) → (keep rec x).replica.me ≡ x.replica.
 unfolding keep
 me_kept rec x = refl
 
-pub heard_kept : (rec : Rec) (x : Draft) → (keep rec x).replica.heard ≡ x.replica.heard
+pub received_kept : (rec : Rec) (x : Draft) → (keep rec x).replica.received ≡ x.replica.received
 unfolding keep
-heard_kept rec x = refl
+received_kept rec x = refl
 
-pub is_taken : (desk : Desk) (k : ℕ) (e : Entry) (x : Draft) → (keep (Rec.Prepare e) x).fitting ≡ true →
-    StandsFor desk (prepare_taken k e x) → StandsFor desk (if_fitting x (take_frame k (InEpoch.Prepare e) x))
-is_taken desk k e x f s = done desk x (take_frame k (InEpoch.Prepare e) x) (prepare_taken k e x) (taken_is k e x) (fits_as k e x ∙ f) s
+pub is_taken : (state : ReplicaState) (k : ℕ) (e : Entry) (x : Draft) → (keep (Rec.Prepare e) x).fitting ≡ true →
+    StandsFor state (prepare_taken k e x) → StandsFor state (if_fitting x (take_frame k (InEpoch.Prepare e) x))
+is_taken state k e x f s = done state x (take_frame k (InEpoch.Prepare e) x) (prepare_taken k e x) (taken_is k e x) (fits_as k e x ∙ f) s
 
-pub is_not_taken : (desk : Desk) (k : ℕ) (e : Entry) (x : Draft) → (keep (Rec.Prepare e) x).fitting ≡ false →
-    StandsFor desk (if_fitting x (keep (Rec.Prepare e) x)) → StandsFor desk (if_fitting x (take_frame k (InEpoch.Prepare e) x))
-is_not_taken desk k e x f s =
-    ignored desk x (take_frame k (InEpoch.Prepare e) x) (ap (λ (d : Draft). d.fitting) (sym (taken_is k e x)) ∙ fits_as k e x ∙ f)
-    (stands_as desk (if_fitting x (keep (Rec.Prepare e) x)) x (if_not x (keep (Rec.Prepare e) x) f) s)
+pub is_not_taken : (state : ReplicaState) (k : ℕ) (e : Entry) (x : Draft) → (keep (Rec.Prepare e) x).fitting ≡ false →
+    StandsFor state (if_fitting x (keep (Rec.Prepare e) x)) → StandsFor state (if_fitting x (take_frame k (InEpoch.Prepare e) x))
+is_not_taken state k e x f s =
+    ignored state x (take_frame k (InEpoch.Prepare e) x) (ap (λ (d : Draft). d.fitting) (sym (taken_is k e x)) ∙ fits_as k e x ∙ f)
+    (stands_as state (if_fitting x (keep (Rec.Prepare e) x)) x (if_not x (keep (Rec.Prepare e) x) f) s)
 
 -- ---- Acks
 

@@ -11,7 +11,7 @@ use Rattle.crsm_spec.specs.Log.{active}
 use Rattle.crsm_spec.specs.Replica.{members_of, other_members, last_issued, frames_to}
 use Rattle.crsm_spec.specs.Draft.{Draft, would, issued_at, push_to, push_to_members, next_frame}
 use Rattle.crsm_spec.specs.Frames.{pay, owing, pay_run, owed_oks}
-use Rattle.crsm_replica.specs.declared.desk.Desk.{Desk}
+use Rattle.crsm_replica.specs.declared.state.ReplicaState.{ReplicaState}
 use Rattle.crsm_replica.specs.Replica.{StandsFor}
 use Rattle.crsm_core.proofs.Fitting.{stands_as, is_lt, not_lt}
 
@@ -70,15 +70,15 @@ has_first s (r ∷ ss) h = (ss, cc)
 
 -- ---- the loop
 
--- So many are paid: the desk stands for a draft from which the run goes on, and so many are owed less.
-pub record Paid (reading count : ℕ) (desk : Desk) (x : Draft) : Type 0 where
+-- So many are paid: the state stands for a draft from which the run goes on, and so many are owed less.
+pub record Paid (reading count : ℕ) (state : ReplicaState) (x : Draft) : Type 0 where
   pub left : Draft
-  pub stands : StandsFor desk left
+  pub stands : StandsFor state left
   pub goes_on : pay_run reading left.replica.owed left ≡ pay_run reading x.replica.owed x
   pub fewer : length left.replica.owed + count ≡ length x.replica.owed
 
-pub begins : (reading : ℕ) (desk : Desk) (x : Draft) → StandsFor desk x → Paid reading 0 desk x
-begins reading desk x s = record { left = x; stands = s; goes_on = refl; fewer = omega arith }
+pub begins : (reading : ℕ) (state : ReplicaState) (x : Draft) → StandsFor state x → Paid reading 0 state x
+begins reading state x s = record { left = x; stands = s; goes_on = refl; fewer = omega arith }
 
 owed_kept : (s : Stamp) (t : ℕ) (x : Draft) → (pay s t x).replica.owed ≡ x.replica.owed
 unfolding pay push_to_members push_to issued_at
@@ -89,13 +89,13 @@ unfolding owing
 owed_is ss x = refl
 
 -- one more is paid
-pub pays : (reading count : ℕ) (desk pushed paid : Desk) (x : Draft) (p : Paid reading count desk x) (s : Stamp) (t : ℕ) →
+pub pays : (reading count : ℕ) (state pushed paid : ReplicaState) (x : Draft) (p : Paid reading count state x) (s : Stamp) (t : ℕ) →
     Some s ≡ first_of p.left.replica.owed → Some t ≡ would p.left reading → s.time < t →
     StandsFor pushed (push_to_members (InEpoch.PrepareOk s t) (issued_at t p.left)) →
     ((y : Draft) (first : Stamp) (rest : List Stamp) → StandsFor pushed y → y.replica.owed ≡ first ∷ rest → StandsFor paid (owing rest y)) →
     Paid reading (count + 1) paid x
 unfolding pay
-pays reading count desk pushed paid x p s t f w l stands pay_one =
+pays reading count state pushed paid x p s t f w l stands pay_one =
     let first = has_first s p.left.replica.owed f in
     let rest : List Stamp = first.0 in
     let is : p.left.replica.owed ≡ s ∷ rest = first.1 in
@@ -110,45 +110,45 @@ pays reading count desk pushed paid x p s t f w l stands pay_one =
 
 -- ---- the ends of the loop
 
-pub not_active : (reading : ℕ) (desk : Desk) (x : Draft) → active x.replica.log ≡ false → StandsFor desk x → StandsFor desk (owed_oks reading x)
+pub not_active : (reading : ℕ) (state : ReplicaState) (x : Draft) → active x.replica.log ≡ false → StandsFor state x → StandsFor state (owed_oks reading x)
 unfolding owed_oks when◌then◌otherwise◌
-not_active reading desk x a s = rw a s
+not_active reading state x a s = rw a s
 
 run_of : (reading : ℕ) (x : Draft) → active x.replica.log ≡ true → pay_run reading x.replica.owed x ≡ owed_oks reading x
 unfolding owed_oks when◌then◌otherwise◌
 run_of reading x a = rw a refl
 
 -- nothing more is paid
-over : (reading count : ℕ) (desk : Desk) (x : Draft) (p : Paid reading count desk x) → active x.replica.log ≡ true →
-    pay_run reading p.left.replica.owed p.left ≡ p.left → StandsFor desk (owed_oks reading x)
-over reading count desk x p a e = stands_as desk p.left (owed_oks reading x) (sym e ∙ p.goes_on ∙ run_of reading x a) p.stands
+over : (reading count : ℕ) (state : ReplicaState) (x : Draft) (p : Paid reading count state x) → active x.replica.log ≡ true →
+    pay_run reading p.left.replica.owed p.left ≡ p.left → StandsFor state (owed_oks reading x)
+over reading count state x p a e = stands_as state p.left (owed_oks reading x) (sym e ∙ p.goes_on ∙ run_of reading x a) p.stands
 
-pub none_owed : (reading count : ℕ) (desk : Desk) (x : Draft) (p : Paid reading count desk x) → active x.replica.log ≡ true →
-    None ≡ first_of p.left.replica.owed → StandsFor desk (owed_oks reading x)
-none_owed reading count desk x p a h = over reading count desk x p a (ends reading p.left (no_first p.left.replica.owed h))
+pub none_owed : (reading count : ℕ) (state : ReplicaState) (x : Draft) (p : Paid reading count state x) → active x.replica.log ≡ true →
+    None ≡ first_of p.left.replica.owed → StandsFor state (owed_oks reading x)
+none_owed reading count state x p a h = over reading count state x p a (ends reading p.left (no_first p.left.replica.owed h))
 
-pub no_time : (reading count : ℕ) (desk : Desk) (x : Draft) (p : Paid reading count desk x) → active x.replica.log ≡ true →
-    None ≡ would p.left reading → StandsFor desk (owed_oks reading x)
-no_time reading count desk x p a w =
-    over reading count desk x p a (timeless reading p.left.replica.owed p.left (sym w) ∙ owing_same p.left)
+pub no_time : (reading count : ℕ) (state : ReplicaState) (x : Draft) (p : Paid reading count state x) → active x.replica.log ≡ true →
+    None ≡ would p.left reading → StandsFor state (owed_oks reading x)
+no_time reading count state x p a w =
+    over reading count state x p a (timeless reading p.left.replica.owed p.left (sym w) ∙ owing_same p.left)
 
-pub not_due : (reading count t : ℕ) (desk : Desk) (x : Draft) (p : Paid reading count desk x) (s : Stamp) → active x.replica.log ≡ true →
-    Some s ≡ first_of p.left.replica.owed → Some t ≡ would p.left reading → t ≤ s.time → StandsFor desk (owed_oks reading x)
-not_due reading count t desk x p s a f w l =
+pub not_due : (reading count t : ℕ) (state : ReplicaState) (x : Draft) (p : Paid reading count state x) (s : Stamp) → active x.replica.log ≡ true →
+    Some s ≡ first_of p.left.replica.owed → Some t ≡ would p.left reading → t ≤ s.time → StandsFor state (owed_oks reading x)
+not_due reading count t state x p s a f w l =
     let first = has_first s p.left.replica.owed f in
     let rest : List Stamp = first.0 in
     let is : p.left.replica.owed ≡ s ∷ rest = first.1 in
-    over reading count desk x p a
+    over reading count state x p a
     (ap (λ ss. pay_run reading ss p.left) is ∙ early reading t s rest p.left (sym w) l ∙ ap (λ ss. owing ss p.left) (sym is) ∙ owing_same p.left)
 
 empty : (ss : List Stamp) → length ss ≡ 0 → ss ≡ []
 empty [] h = refl
 empty (s ∷ ss) h = absurd (omega arith)
 
-pub all_paid : (reading count : ℕ) (desk : Desk) (x : Draft) (p : Paid reading count desk x) → active x.replica.log ≡ true →
-    length x.replica.owed ≤ count → StandsFor desk (owed_oks reading x)
-all_paid reading count desk x p a l =
-    over reading count desk x p a (ends reading p.left (empty p.left.replica.owed (omega (arith, p.fewer, l))))
+pub all_paid : (reading count : ℕ) (state : ReplicaState) (x : Draft) (p : Paid reading count state x) → active x.replica.log ≡ true →
+    length x.replica.owed ≤ count → StandsFor state (owed_oks reading x)
+all_paid reading count state x p a l =
+    over reading count state x p a (ends reading p.left (empty p.left.replica.owed (omega (arith, p.fewer, l))))
 
 -- the first of stamps that have spellings has one
 pub first_fits : (s : Stamp) (ss : List Stamp) → AllByRecursion FitsStamp ss → Some s ≡ first_of ss → FitsStamp s

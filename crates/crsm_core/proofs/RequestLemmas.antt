@@ -11,7 +11,7 @@ use Rattle.crsm_spec.specs.Replica.{Replica, last_issued, is_congested}
 use Rattle.crsm_spec.specs.Draft.{Draft, keep, count_vote, would, issued_at, push_to, push_to_members}
 use Rattle.crsm_spec.specs.Clients.{own_unexecuted, refusal, refuse, await, submit, submit_at, take_or_refuse, on_request}
 use Rattle.crsm_spec.specs.Step.{if_fitting}
-use Rattle.crsm_replica.specs.declared.desk.Desk.{Desk}
+use Rattle.crsm_replica.specs.declared.state.ReplicaState.{ReplicaState}
 use Rattle.crsm_replica.specs.Replica.{StandsFor}
 use Rattle.crsm_core.proofs.Fitting.{if_not, stands_as, done, ignored, is_le, not_le, is_eq, not_eq}
 
@@ -112,21 +112,21 @@ fits_as : (address : ℕ) (s : Stamp) (e f : Entry) (m t : ℕ) (x : Draft) → 
 unfolding push_to_members push_to issued_at await count_vote
 fits_as address s e f m t x = refl
 
-pub is_submitted : (desk : Desk) (address : ℕ) (c : Command) (t : ℕ) (x : Draft) (s : Stamp) (e f : Entry) (m : ℕ) →
+pub is_submitted : (state : ReplicaState) (address : ℕ) (c : Command) (t : ℕ) (x : Draft) (s : Stamp) (e f : Entry) (m : ℕ) →
     m ≡ x.replica.me → s ≡ stamp_for t x → e ≡ entry_for c t x → f ≡ e → (keep (Rec.Prepare e) x).fitting ≡ true →
-    StandsFor desk (submitted address s e f m t x) → StandsFor desk (if_fitting x (submit address c t x))
-is_submitted desk address c t x s e f m a b d g fit stands =
-    done desk x (submit address c t x) (submitted address s e f m t x) (submitted_as address c t x s e f m a b d g) (fits_as address s e f m t x ∙ fit) stands
+    StandsFor state (submitted address s e f m t x) → StandsFor state (if_fitting x (submit address c t x))
+is_submitted state address c t x s e f m a b d g fit stands =
+    done state x (submit address c t x) (submitted address s e f m t x) (submitted_as address c t x s e f m a b d g) (fits_as address s e f m t x ∙ fit) stands
 
-pub is_not_submitted : (desk : Desk) (address : ℕ) (c : Command) (t : ℕ) (x : Draft) (e : Entry) →
+pub is_not_submitted : (state : ReplicaState) (address : ℕ) (c : Command) (t : ℕ) (x : Draft) (e : Entry) →
     e ≡ entry_for c t x → (keep (Rec.Prepare e) x).fitting ≡ false →
-    StandsFor desk (if_fitting x (keep (Rec.Prepare e) x)) → StandsFor desk (if_fitting x (submit address c t x))
-is_not_submitted desk address c t x e d fit stands =
+    StandsFor state (if_fitting x (keep (Rec.Prepare e) x)) → StandsFor state (if_fitting x (submit address c t x))
+is_not_submitted state address c t x e d fit stands =
     let m = x.replica.me in
     let s = stamp_for t x in
-    ignored desk x (submit address c t x)
+    ignored state x (submit address c t x)
     (ap (λ (y : Draft). y.fitting) (sym (submitted_as address c t x s e e m refl refl d refl)) ∙ fits_as address s e e m t x ∙ fit)
-    (stands_as desk (if_fitting x (keep (Rec.Prepare e) x)) x (if_not x (keep (Rec.Prepare e) x) fit) stands)
+    (stands_as state (if_fitting x (keep (Rec.Prepare e) x)) x (if_not x (keep (Rec.Prepare e) x) fit) stands)
 
 pub would_kept : (address : ℕ) (f : Entry) (s : Stamp) (m : ℕ) (rec : Rec) (x : Draft) (reading : ℕ) →
     would (await address f (count_vote s m (keep rec x))) reading ≡ would x reading

@@ -17,7 +17,7 @@ use Rattle.crsm_spec.specs.Clients.{on_request, commits, replies}
 use Rattle.crsm_spec.specs.Step.{Input as InputOnPaper, if_fitting, on_whole_message, on_part, on_tick, on_datagram, on_input, idle_at, step}
 use Rattle.crsm_output.specs.declared.batch.Batch.{Batch}
 use Rattle.crsm_output.specs.Made.{made_of, IsBatchOf, to_replica, to_address}
-use Rattle.crsm_replica.specs.declared.desk.Desk.{Desk}
+use Rattle.crsm_replica.specs.declared.state.ReplicaState.{ReplicaState}
 use Rattle.crsm_replica.specs.Sound.{IsSound, FitsSend, FitsReply}
 use Rattle.crsm_replica.specs.Replica.{StandsFor}
 use Rattle.crsm_segment.specs.Taking.{piece}
@@ -142,8 +142,8 @@ unfolding idle_at input_of
 nor_then reading ms x = refl
 
 -- another draft that is equal ends in the same way
-pub fitted_as : (desk : Desk) (x y z : Draft) → y ≡ z → StandsFor desk (if_fitting x y) → StandsFor desk (if_fitting x z)
-fitted_as desk x y z e s = stands_as desk (if_fitting x y) (if_fitting x z) (ap (λ d. if_fitting x d) e) s
+pub fitted_as : (state : ReplicaState) (x y z : Draft) → y ≡ z → StandsFor state (if_fitting x y) → StandsFor state (if_fitting x z)
+fitted_as state x y z e s = stands_as state (if_fitting x y) (if_fitting x z) (ap (λ d. if_fitting x d) e) s
 
 pub step_is : (r : Replica) (input : InputOnPaper) (reading : ℕ) →
     replies (commits (idle_at input reading (owed_oks reading (if_fitting (begun r) (on_input input reading (begun r)))))) ≡ step r input reading

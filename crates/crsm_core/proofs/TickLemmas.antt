@@ -8,9 +8,9 @@ use Rattle.crsm_spec.specs.Clock.{u64_max}
 use Rattle.crsm_spec.specs.Log.{active}
 use Rattle.crsm_spec.specs.Replica.{Replica, last_issued, is_congested, other_members}
 use Rattle.crsm_spec.specs.Draft.{Draft, would, issued_at, push_to_members}
-use Rattle.crsm_spec.specs.Frames.{is_idle, idle, tell_time, again_to, send_again}
+use Rattle.crsm_spec.specs.Frames.{is_idle, idle, send_time, again_to, send_again}
 use Rattle.crsm_spec.specs.Step.{on_tick, ask_all, renew}
-use Rattle.crsm_replica.specs.declared.desk.Desk.{Desk}
+use Rattle.crsm_replica.specs.declared.state.ReplicaState.{ReplicaState}
 use Rattle.crsm_replica.specs.Replica.{StandsFor}
 use Rattle.crsm_core.proofs.Fitting.{stands_as, is_lt, not_lt, is_le, not_le}
 
@@ -37,13 +37,13 @@ unfolding idle when◌then◌otherwise◌
 not_idle reading x a h = rw (a, h) refl
 
 pub no_time : (reading : ℕ) (x : Draft) → active x.replica.log ≡ true → is_idle x.replica reading ≡ true → None ≡ would x reading → x ≡ idle reading x
-unfolding idle tell_time when◌then◌otherwise◌
+unfolding idle send_time when◌then◌otherwise◌
 no_time reading x a h w = rw (a, h, ← w) refl
 
-pub tells : (reading t : ℕ) (x : Draft) → active x.replica.log ≡ true → is_idle x.replica reading ≡ true → Some t ≡ would x reading →
+pub sends_control : (reading t : ℕ) (x : Draft) → active x.replica.log ≡ true → is_idle x.replica reading ≡ true → Some t ≡ would x reading →
     push_to_members (InEpoch.ClockTime t) (issued_at t x) ≡ idle reading x
-unfolding idle tell_time when◌then◌otherwise◌
-tells reading t x a h w = rw (a, h, ← w) refl
+unfolding idle send_time when◌then◌otherwise◌
+sends_control reading t x a h w = rw (a, h, ← w) refl
 
 -- ---- ticks
 
@@ -69,14 +69,14 @@ take_whole [] (suc i) l = refl
 take_whole (k ∷ ks) zero l = absurd (omega arith)
 take_whole (k ∷ ks) (suc i) l = ap (λ js. k ∷ js) (take_whole ks i (omega arith))
 
-pub again_more : (desk : Desk) (ks : List ℕ) (i : ℕ) (x : Draft) → i < length ks → StandsFor desk (again_to (fold again_to x (take i ks)) (get_or ks i 0)) →
-    StandsFor desk (fold again_to x (take (i + 1) ks))
-again_more desk ks i x l s =
+pub again_more : (state : ReplicaState) (ks : List ℕ) (i : ℕ) (x : Draft) → i < length ks → StandsFor state (again_to (fold again_to x (take i ks)) (get_or ks i 0)) →
+    StandsFor state (fold again_to x (take (i + 1) ks))
+again_more state ks i x l s =
     let e : suc i ≡ i + 1 = omega arith in
-    stands_as desk (again_to (fold again_to x (take i ks)) (get_or ks i 0)) (fold again_to x (take (i + 1) ks))
+    stands_as state (again_to (fold again_to x (take i ks)) (get_or ks i 0)) (fold again_to x (take (i + 1) ks))
     (sym (fold_more ks i x l) ∙ ap (λ j. fold again_to x (take j ks)) e) s
 
-pub again_all : (desk : Desk) (ks : List ℕ) (i : ℕ) (x : Draft) → length ks ≤ i → ks ≡ other_members x.replica → StandsFor desk (fold again_to x (take i ks)) →
-    StandsFor desk (send_again x)
+pub again_all : (state : ReplicaState) (ks : List ℕ) (i : ℕ) (x : Draft) → length ks ≤ i → ks ≡ other_members x.replica → StandsFor state (fold again_to x (take i ks)) →
+    StandsFor state (send_again x)
 unfolding send_again
-again_all desk ks i x l e s = stands_as desk (fold again_to x (take i ks)) (send_again x) (ap (λ js. fold again_to x js) (take_whole ks i l ∙ e)) s
+again_all state ks i x l e s = stands_as state (fold again_to x (take i ks)) (send_again x) (ap (λ js. fold again_to x js) (take_whole ks i l ∙ e)) s

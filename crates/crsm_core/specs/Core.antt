@@ -21,12 +21,12 @@ IsSpent core = core.is_spent ≡ true
 -- The core is that of the ledger of this log of replica me, and its boot is not on record yet.
 pub record CoreAwaits (core : Core) (me n : ℕ) (log : Log) : Type 0 where
   pub unspent : core.is_spent ≡ false
-  pub waits : AwaitsBoot core.desk me n log
+  pub waits : AwaitsBoot core.state me n log
 
 -- The core stands for the replica: all that it keeps is what the replica's lists say.
 pub record CoreStands (core : Core) (r : Replica) : Type 0 where
   pub unspent : core.is_spent ≡ false
-  pub stands : StandsFor core.desk (begun r)
+  pub stands : StandsFor core.state (begun r)
 
 -- a replica to which a datagram may go
 abbrev pub FitsTo : To → Type 0

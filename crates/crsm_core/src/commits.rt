@@ -5,27 +5,27 @@ ghost use Rattle.crsm_replica.specs.Replica.{Makes};
 
 use crate::records::commit;
 use crsm_base::NoMemory;
-use crsm_replica::{Desk, commits_go_on, desks_are_sound};
+use crsm_replica::{ReplicaState, commits_go_on, states_are_sound};
 
 /// While active: executes what is ready.
-pub(crate) fn commits(desk: &mut Desk) -> Result<(), NoMemory>
-    ensures { Makes clients.commits desk.old result desk.new }
+pub(crate) fn commits(state: &mut ReplicaState) -> Result<(), NoMemory>
+    ensures { Makes clients.commits state.old result state.new }
 {
-    desks_are_sound();
+    states_are_sound();
     commits_go_on();
-    if !desk.is_active() {
+    if !state.is_active() {
         return Ok(());
     }
     // Mostly nothing is ready, and then nothing need be counted.
-    let next = desk.ready()?;
+    let next = state.ready()?;
     if next.is_none() {
         return Ok(());
     }
-    for _done in 0..desk.unexecuted_len() {
-        let Some(stamp) = desk.ready()? else {
+    for _done in 0..state.unexecuted_len() {
+        let Some(stamp) = state.ready()? else {
             return Ok(());
         };
-        commit(desk, stamp)?;
+        commit(state, stamp)?;
     }
     Ok(())
 }

@@ -11,16 +11,16 @@ ghost use Rattle.crsm_spec.specs.Draft.{Draft};
 ghost use Rattle.crsm_spec.specs.Frames as frames;
 ghost use Rattle.crsm_spec.specs.Step.{if_fitting};
 ghost use Rattle.crsm_replica.specs.Replica.{StandsFor};
-ghost use Rattle.crsm_reconfigure.specs.Hearing.{FollowsFrom};
+ghost use Rattle.crsm_reconfigure.specs.Receiving.{FollowsFrom};
 ghost use Rattle.crsm_reconfigure.specs.Rules.{Follows};
 
 use crate::records::log_entry;
 use crsm_base::{Entry, InEpoch, NoMemory};
-use crsm_replica::{Desk, desks_are_sound};
+use crsm_replica::{ReplicaState, states_are_sound};
 
 /// A frame of an epoch from k.
 pub(crate) fn on_frame(
-    desk: &mut Desk,
+    state: &mut ReplicaState,
     k: u32,
     epoch: u64,
     seq: u64,
@@ -28,38 +28,38 @@ pub(crate) fn on_frame(
 ) -> Result<(), NoMemory>
     requires from { k < 15 }
     requires spelt { FitsPayload payload.now }
-    ensures { FollowsFrom k (frames.on_frame k epoch seq payload.now) desk.old result desk.new }
+    ensures { FollowsFrom k (frames.on_frame k epoch seq payload.now) state.old result state.new }
 {
-    desks_are_sound();
-    let known = desk.known();
+    states_are_sound();
+    let known = state.known();
     if epoch < known {
-        desk.tell_decision(k)?;
+        state.send_decision(k)?;
         return Ok(());
     }
     if known < epoch {
-        desk.tell_retrieve(k)?;
+        state.send_retrieve(k)?;
         return Ok(());
     }
-    if !takes_part_with(desk, k) {
+    if !takes_part_with(state, k) {
         return Ok(());
     }
-    if seq != desk.next_from(k) {
-        desk.ack(k)?;
+    if seq != state.next_from(k) {
+        state.ack(k)?;
         return Ok(());
     }
-    if is_odd(desk, k, payload) {
+    if is_odd(state, k, payload) {
         return Ok(());
     }
-    take_frame(desk, k, payload)?;
+    take_frame(state, k, payload)?;
     Ok(())
 }
 
 /// The replica is active, and k is a member of its epoch.
-fn takes_part_with(desk: &Desk, k: u32) -> bool
-    ensures { (x : Draft) → StandsFor desk.now x → result ≡ active x.replica.log && has (members_of x.replica) k }
+fn takes_part_with(state: &ReplicaState, k: u32) -> bool
+    ensures { (x : Draft) → StandsFor state.now x → result ≡ active x.replica.log && has (members_of x.replica) k }
 {
-    if desk.is_active() {
-        desk.is_member(k)
+    if state.is_active() {
+        state.is_member(k)
     } else {
         false
     }
@@ -77,93 +77,98 @@ fn time_of(payload: &InEpoch) -> u64
 }
 
 /// At the next number: its time is not above the latest of k, or it is none that k may send.
-fn is_odd(desk: &Desk, k: u32, payload: &InEpoch) -> bool
+fn is_odd(state: &ReplicaState, k: u32, payload: &InEpoch) -> bool
     requires { k < 15 }
-    ensures { (x : Draft) → StandsFor desk.now x → k ≢ x.replica.me → result ≡ frames.is_odd_frame x.replica k payload.now }
+    ensures { (x : Draft) → StandsFor state.now x → k ≢ x.replica.me → result ≡ frames.is_odd_frame x.replica k payload.now }
 {
-    if time_of(payload) <= desk.latest_from(k) {
+    if time_of(payload) <= state.latest_from(k) {
         return true;
     }
-    is_wrong(desk, k, payload)
+    is_wrong(state, k, payload)
 }
 
 /// A payload that k may not send.
-fn is_wrong(desk: &Desk, k: u32, payload: &InEpoch) -> bool
-    ensures { (x : Draft) → StandsFor desk.now x → result ≡ frames.is_wrong x.replica k payload.now }
+fn is_wrong(state: &ReplicaState, k: u32, payload: &InEpoch) -> bool
+    ensures { (x : Draft) → StandsFor state.now x → result ≡ frames.is_wrong x.replica k payload.now }
 {
     match payload {
         InEpoch::Prepare { entry } => {
-            if entry.epoch != desk.known() {
+            if entry.epoch != state.known() {
                 return true;
             }
             entry.stamp.origin != k
         }
-        InEpoch::PrepareOk { stamp, at: _ } => !desk.is_member(stamp.origin),
+        InEpoch::PrepareOk { stamp, at: _ } => !state.is_member(stamp.origin),
         InEpoch::ClockTime { at: _ } => false,
     }
 }
 
-/// Takes the next frame of k: the link moves on, its time is heard, it is acknowledged, and what it says is done.
-fn take_frame(desk: &mut Desk, k: u32, payload: &InEpoch) -> Result<(), NoMemory>
+/// Takes the next frame of k: the link moves on, its time is received, it is acknowledged, and what it says is done.
+fn take_frame(state: &mut ReplicaState, k: u32, payload: &InEpoch) -> Result<(), NoMemory>
     requires from { k < 15 }
     requires spelt { FitsPayload payload.now }
-    ensures { IfOk result (λ _. (x : Draft) → StandsFor desk.old x → k ≢ x.replica.me → latest_from x.replica.heard k < frames.time_of payload.now →
-        StandsFor desk.new (if_fitting x (frames.take_frame k payload.now x))) }
+    ensures { IfOk result (λ _. (x : Draft) → StandsFor state.old x → k ≢ x.replica.me → latest_from x.replica.received k < frames.time_of payload.now →
+        StandsFor state.new (if_fitting x (frames.take_frame k payload.now x))) }
 {
-    desks_are_sound();
+    states_are_sound();
     match payload {
         InEpoch::Prepare { entry } => {
-            take_prepare(desk, k, entry)?;
+            take_prepare(state, k, entry)?;
             Ok(())
         }
         InEpoch::PrepareOk { stamp, at } => {
-            desk.take_next(k, *at)?;
-            desk.ack(k)?;
-            desk.count_vote(*stamp, k)?;
+            state.take_next(k, *at)?;
+            state.ack(k)?;
+            state.count_vote(*stamp, k)?;
             Ok(())
         }
         InEpoch::ClockTime { at } => {
-            desk.take_next(k, *at)?;
-            desk.ack(k)?;
+            state.take_next(k, *at)?;
+            state.ack(k)?;
             Ok(())
         }
     }
 }
 
 /// Takes a frame that carries an entry. Its record comes first, so that nothing is to be undone where it does not fit.
-fn take_prepare(desk: &mut Desk, k: u32, entry: &Entry) -> Result<(), NoMemory>
+fn take_prepare(state: &mut ReplicaState, k: u32, entry: &Entry) -> Result<(), NoMemory>
     requires from { k < 15 }
     requires spelt { FitsEntry entry.now }
-    ensures { IfOk result (λ _. (x : Draft) → StandsFor desk.old x → k ≢ x.replica.me → latest_from x.replica.heard k < entry.now.stamp.time →
-        StandsFor desk.new (if_fitting x (frames.take_frame k (Payload.Prepare entry.now) x))) }
+    ensures { IfOk result (λ _. (x : Draft) → StandsFor state.old x → k ≢ x.replica.me → latest_from x.replica.received k < entry.now.stamp.time →
+        StandsFor state.new (if_fitting x (frames.take_frame k (Payload.Prepare entry.now) x))) }
 {
-    let me = desk.me();
-    if !log_entry(desk, entry)? {
+    let me = state.me();
+    if !log_entry(state, entry)? {
         return Ok(());
     }
-    desk.take_next(k, entry.stamp.time)?;
-    desk.ack(k)?;
-    desk.count_vote(entry.stamp, k)?;
-    desk.count_vote(entry.stamp, me)?;
-    desk.owe(entry.stamp)?;
+    state.take_next(k, entry.stamp.time)?;
+    state.ack(k)?;
+    state.count_vote(entry.stamp, k)?;
+    state.count_vote(entry.stamp, me)?;
+    state.owe(entry.stamp)?;
     Ok(())
 }
 
 /// An Ack of an epoch from k: the frames below `next` have come.
-pub(crate) fn on_ack(desk: &mut Desk, k: u32, epoch: u64, next: u64) -> Result<(), NoMemory>
+pub(crate) fn on_ack(
+    state: &mut ReplicaState,
+    k: u32,
+    epoch: u64,
+    next: u64,
+) -> Result<(), NoMemory>
     requires { k < 15 }
-    ensures { Follows (frames.on_ack k epoch next) desk.old result desk.new }
+    ensures { Follows (frames.on_ack k epoch next) state.old result state.new }
 {
-    desks_are_sound();
-    if epoch != desk.known() {
+    states_are_sound();
+    if epoch != state.known() {
         return Ok(());
     }
-    if !takes_part_with(desk, k) {
+    if !takes_part_with(state, k) {
         return Ok(());
     }
-    if next > desk.pushed_to(k) {
+    if next > state.pushed_to(k) {
         return Ok(());
     }
-    desk.acked(k, next)?;
+    state.acked(k, next)?;
     Ok(())
 }

@@ -6,30 +6,30 @@ ghost use Rattle.crsm_spec.specs.Frames as frames;
 ghost use Rattle.crsm_replica.specs.Replica.{StandsFor, Makes};
 
 use crsm_base::{IDLE_UNITS, InEpoch, NoMemory};
-use crsm_replica::Desk;
+use crsm_replica::ReplicaState;
 
-/// At a tick a replica that has been idle tells its time.
-pub(crate) fn idle(desk: &mut Desk, reading: u64) -> Result<(), NoMemory>
-    ensures { Makes (frames.idle reading) desk.old result desk.new }
+/// At a tick a replica that has been idle sends its time.
+pub(crate) fn idle(state: &mut ReplicaState, reading: u64) -> Result<(), NoMemory>
+    ensures { Makes (frames.idle reading) state.old result state.new }
 {
-    if !desk.is_active() {
+    if !state.is_active() {
         return Ok(());
     }
-    if !is_idle(desk, reading) {
+    if !is_idle(state, reading) {
         return Ok(());
     }
-    let Some(time) = desk.would(reading) else {
+    let Some(time) = state.would(reading) else {
         return Ok(());
     };
-    desk.push_at(time, InEpoch::ClockTime { at: time })?;
+    state.push_at(time, InEpoch::ClockTime { at: time })?;
     Ok(())
 }
 
-/// Its reading is so far ahead of the last issued time that it tells its time.
-fn is_idle(desk: &Desk, reading: u64) -> bool
-    ensures { (x : Draft) → StandsFor desk.now x → result ≡ frames.is_idle x.replica reading }
+/// Its reading is so far ahead of the last issued time that it sends its time.
+fn is_idle(state: &ReplicaState, reading: u64) -> bool
+    ensures { (x : Draft) → StandsFor state.now x → result ≡ frames.is_idle x.replica reading }
 {
-    let last = desk.last_issued();
+    let last = state.last_issued();
     if reading < IDLE_UNITS {
         return false;
     }
@@ -39,5 +39,5 @@ fn is_idle(desk: &Desk, reading: u64) -> bool
     if last == u64::MAX {
         return false;
     }
-    !desk.is_congested()
+    !state.is_congested()
 }

@@ -4,28 +4,28 @@ ghost use Rattle.crsm_spec.specs.Frames as frames;
 ghost use Rattle.crsm_replica.specs.Replica.{Makes};
 
 use crsm_base::{InEpoch, NoMemory};
-use crsm_replica::{Desk, desks_are_sound};
+use crsm_replica::{ReplicaState, states_are_sound};
 
 /// Sends the acknowledgements that are due: while the least owed stamp's time is below the time that would be issued.
-pub(crate) fn owed_oks(desk: &mut Desk, reading: u64) -> Result<(), NoMemory>
-    ensures { Makes (frames.owed_oks reading) desk.old result desk.new }
+pub(crate) fn owed_oks(state: &mut ReplicaState, reading: u64) -> Result<(), NoMemory>
+    ensures { Makes (frames.owed_oks reading) state.old result state.new }
 {
-    desks_are_sound();
-    if !desk.is_active() {
+    states_are_sound();
+    if !state.is_active() {
         return Ok(());
     }
-    for _paid in 0..desk.owed_len() {
-        let Some(stamp) = desk.first_owed() else {
+    for _paid in 0..state.owed_len() {
+        let Some(stamp) = state.first_owed() else {
             return Ok(());
         };
-        let Some(time) = desk.would(reading) else {
+        let Some(time) = state.would(reading) else {
             return Ok(());
         };
         if stamp.time >= time {
             return Ok(());
         }
-        desk.push_at(time, InEpoch::PrepareOk { stamp, at: time })?;
-        desk.paid()?;
+        state.push_at(time, InEpoch::PrepareOk { stamp, at: time })?;
+        state.paid()?;
     }
     Ok(())
 }

@@ -6,24 +6,24 @@ ghost use Rattle.crsm_spec.specs.Draft.{keep};
 ghost use Rattle.crsm_replica.specs.Replica.{MakesFitting};
 
 use crsm_base::{Entry, NoMemory, Rec, Stamp};
-use crsm_replica::Desk;
+use crsm_replica::ReplicaState;
 
-/// Logs an entry. `false` comes exactly where its record does not fit, and the desk is as before.
-pub(crate) fn log_entry(desk: &mut Desk, entry: &Entry) -> Result<bool, NoMemory>
+/// Logs an entry. `false` if its record does not fit, and the state is as before.
+pub(crate) fn log_entry(state: &mut ReplicaState, entry: &Entry) -> Result<bool, NoMemory>
     requires { FitsEntry entry.now }
-    ensures { MakesFitting (keep (Record.Prepare entry.now)) desk.old result desk.new }
+    ensures { MakesFitting (keep (Record.Prepare entry.now)) state.old result state.new }
 {
     let rec = Rec::Prepare {
-        entry: entry.copy(desk.alloc())?,
+        entry: entry.copy(state.alloc())?,
     };
-    desk.keep(rec)
+    state.keep(rec)
 }
 
-/// Executes the logged entry of this stamp. `false` comes exactly where its record does not fit, and the desk is as before.
-pub(crate) fn commit(desk: &mut Desk, stamp: Stamp) -> Result<bool, NoMemory>
+/// Executes the logged entry of this stamp. `false` if its record does not fit, and the state is as before.
+pub(crate) fn commit(state: &mut ReplicaState, stamp: Stamp) -> Result<bool, NoMemory>
     requires { FitsStamp stamp }
-    ensures { MakesFitting (keep (Record.Commit stamp)) desk.old result desk.new }
+    ensures { MakesFitting (keep (Record.Commit stamp)) state.old result state.new }
 {
     let rec = Rec::Commit { stamp };
-    desk.keep(rec)
+    state.keep(rec)
 }

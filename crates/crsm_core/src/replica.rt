@@ -17,12 +17,12 @@ use crate::step;
 use crsm_base::NoMemory;
 use crsm_ledger::Ledger;
 use crsm_output::Batch;
-use crsm_replica::{Desk, desks_are_sound};
+use crsm_replica::{ReplicaState, states_are_sound};
 
 /// One replica in memory. After an error it is spent, and a new one is made of its log.
 #[derive(Drop)]
 pub struct Core {
-    desk: Desk,
+    state: ReplicaState,
     is_spent: bool,
 }
 
@@ -33,7 +33,7 @@ impl Core {
             me < 15 → 1 ≤ n → CoreAwaits core me n log) }
     {
         Ok(Core {
-            desk: Desk::new(ledger)?,
+            state: ReplicaState::new(ledger)?,
             is_spent: false,
         })
     }
@@ -46,14 +46,14 @@ impl Core {
         ensures spent { OnErr result (IsSpent self.new) }
         ensures stays_spent { IsSpent self.old → IsErr result }
     {
-        desks_are_sound();
+        states_are_sound();
         if self.is_spent {
             return Err(NoMemory);
         }
         // Whoever sees the error below must not go on from half a boot.
         self.is_spent = true;
-        self.desk.begin()?;
-        let batch = self.desk.take_batch()?;
+        self.state.begin()?;
+        let batch = self.state.take_batch()?;
         self.is_spent = false;
         Ok(batch)
     }
@@ -67,14 +67,14 @@ impl Core {
         ensures spent { OnErr result (IsSpent self.new) }
         ensures stays_spent { IsSpent self.old → IsErr result }
     {
-        desks_are_sound();
+        states_are_sound();
         if self.is_spent {
             return Err(NoMemory);
         }
         // Whoever sees the error below must not go on from half a step.
         self.is_spent = true;
-        step::step(&mut self.desk, input, reading)?;
-        let batch = self.desk.take_batch()?;
+        step::step(&mut self.state, input, reading)?;
+        let batch = self.state.take_batch()?;
         self.is_spent = false;
         Ok(batch)
     }
@@ -84,6 +84,6 @@ impl Core {
         ensures awaiting { (me n : ℕ) (log : Log) → CoreAwaits self.now me n log → SaysOfLog me n result.now log }
         ensures standing { (r : Replica) → CoreStands self.now r → SaysOfLog r.me r.n result.now r.log }
     {
-        self.desk.ledger()
+        self.state.ledger()
     }
 }

@@ -20,50 +20,50 @@ use crate::requests::on_request;
 use crate::ticks::on_tick;
 use crsm_base::{Datagram, NoMemory};
 use crsm_reconfigure::on_suspect;
-use crsm_replica::Desk;
+use crsm_replica::ReplicaState;
 use crsm_segment::parts_of_datagrams;
 
 /// One step: the rule of the input, the acknowledgements that are due, at a tick the clock's time, the commits, the replies.
-pub(crate) fn step(desk: &mut Desk, input: &Input, reading: u64) -> Result<(), NoMemory>
+pub(crate) fn step(state: &mut ReplicaState, input: &Input, reading: u64) -> Result<(), NoMemory>
     requires { FitsInput input.now }
-    ensures { IfOk result (λ _. (r : Replica) → StandsFor desk.old (begun r) → StandsFor desk.new (rules.step r (input_of input.now) reading)) }
+    ensures { IfOk result (λ _. (r : Replica) → StandsFor state.old (begun r) → StandsFor state.new (rules.step r (input_of input.now) reading)) }
 {
-    on_input(desk, input, reading)?;
-    owed_oks(desk, reading)?;
-    idle_at(desk, input, reading)?;
-    commits(desk)?;
-    desk.replies()?;
+    on_input(state, input, reading)?;
+    owed_oks(state, reading)?;
+    idle_at(state, input, reading)?;
+    commits(state)?;
+    state.replies()?;
     Ok(())
 }
 
 /// The rule of an input.
-fn on_input(desk: &mut Desk, input: &Input, reading: u64) -> Result<(), NoMemory>
+fn on_input(state: &mut ReplicaState, input: &Input, reading: u64) -> Result<(), NoMemory>
     requires { FitsInput input.now }
-    ensures { Follows (rules.on_input (input_of input.now) reading) desk.old result desk.new }
+    ensures { Follows (rules.on_input (input_of input.now) reading) state.old result state.new }
 {
     match input {
         Input::Datagram { from, datagram } => {
-            on_datagram(desk, *from, datagram, reading)?;
+            on_datagram(state, *from, datagram, reading)?;
             Ok(())
         }
         Input::Tick => {
-            on_tick(desk)?;
+            on_tick(state)?;
             Ok(())
         }
         Input::Suspect { members } => {
-            on_suspect(desk, members)?;
+            on_suspect(state, members)?;
             Ok(())
         }
     }
 }
 
 /// The idle rule, at a tick.
-fn idle_at(desk: &mut Desk, input: &Input, reading: u64) -> Result<(), NoMemory>
-    ensures { Makes (rules.idle_at (input_of input.now) reading) desk.old result desk.new }
+fn idle_at(state: &mut ReplicaState, input: &Input, reading: u64) -> Result<(), NoMemory>
+    ensures { Makes (rules.idle_at (input_of input.now) reading) state.old result state.new }
 {
     match input {
         Input::Tick => {
-            idle(desk, reading)?;
+            idle(state, reading)?;
             Ok(())
         }
         Input::Datagram { .. } => Ok(()),
@@ -72,10 +72,10 @@ fn idle_at(desk: &mut Desk, input: &Input, reading: u64) -> Result<(), NoMemory>
 }
 
 /// A datagram of no other replica, or for another.
-fn is_astray(desk: &Desk, from: u32, to: u32) -> bool
-    ensures { (x : Draft) → StandsFor desk.now x → result ≡ frames.is_astray x.replica from to }
+fn is_astray(state: &ReplicaState, from: u32, to: u32) -> bool
+    ensures { (x : Draft) → StandsFor state.now x → result ≡ frames.is_astray x.replica from to }
 {
-    let me = desk.me();
+    let me = state.me();
     if from > 14 {
         return true;
     }
@@ -87,13 +87,13 @@ fn is_astray(desk: &Desk, from: u32, to: u32) -> bool
 
 /// A datagram from an address.
 fn on_datagram(
-    desk: &mut Desk,
+    state: &mut ReplicaState,
     address: u64,
     datagram: &Datagram,
     reading: u64,
 ) -> Result<(), NoMemory>
     requires { FitsDatagram datagram.now }
-    ensures { Follows (rules.on_datagram address datagram.now reading) desk.old result desk.new }
+    ensures { Follows (rules.on_datagram address datagram.now reading) state.old result state.new }
 {
     parts_of_datagrams();
     match datagram {
@@ -104,10 +104,10 @@ fn on_datagram(
             seq,
             payload,
         } => {
-            if is_astray(desk, *from, *to) {
+            if is_astray(state, *from, *to) {
                 return Ok(());
             }
-            on_frame(desk, *from, *epoch, *seq, payload)?;
+            on_frame(state, *from, *epoch, *seq, payload)?;
             Ok(())
         }
         Datagram::Ack {
@@ -116,10 +116,10 @@ fn on_datagram(
             epoch,
             next,
         } => {
-            if is_astray(desk, *from, *to) {
+            if is_astray(state, *from, *to) {
                 return Ok(());
             }
-            on_ack(desk, *from, *epoch, *next)?;
+            on_ack(state, *from, *epoch, *next)?;
             Ok(())
         }
         Datagram::Part {
@@ -131,7 +131,7 @@ fn on_datagram(
             count,
             bytes,
         } => {
-            if is_astray(desk, *from, *to) {
+            if is_astray(state, *from, *to) {
                 return Ok(());
             }
             let heading = Heading {
@@ -140,16 +140,16 @@ fn on_datagram(
                 index: *index,
                 count: *count,
             };
-            on_part(desk, *from, heading, bytes.as_slice())?;
+            on_part(state, *from, heading, bytes.as_slice())?;
             Ok(())
         }
         Datagram::Request { command } => {
-            on_request(desk, address, command, reading)?;
+            on_request(state, address, command, reading)?;
             Ok(())
         }
         Datagram::Reply { .. } => Ok(()),
         Datagram::Operate { members } => {
-            on_suspect(desk, members)?;
+            on_suspect(state, members)?;
             Ok(())
         }
     }

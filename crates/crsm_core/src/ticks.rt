@@ -7,28 +7,28 @@ ghost use Rattle.crsm_reconfigure.specs.Rules.{Follows};
 
 use crsm_base::NoMemory;
 use crsm_reconfigure::renew_and_ask;
-use crsm_replica::{Desk, desks_are_sound};
+use crsm_replica::{ReplicaState, states_are_sound};
 
 /// A tick: frames again while active, and otherwise the coordinator's messages and a question to all.
-pub(crate) fn on_tick(desk: &mut Desk) -> Result<(), NoMemory>
-    ensures { Follows rules.on_tick desk.old result desk.new }
+pub(crate) fn on_tick(state: &mut ReplicaState) -> Result<(), NoMemory>
+    ensures { Follows rules.on_tick state.old result state.new }
 {
-    desks_are_sound();
-    if desk.is_active() {
-        send_again(desk)?;
+    states_are_sound();
+    if state.is_active() {
+        send_again(state)?;
         return Ok(());
     }
-    renew_and_ask(desk)?;
+    renew_and_ask(state)?;
     Ok(())
 }
 
 /// The first unacknowledged frames of each link again.
-fn send_again(desk: &mut Desk) -> Result<(), NoMemory>
-    ensures { Makes frames.send_again desk.old result desk.new }
+fn send_again(state: &mut ReplicaState) -> Result<(), NoMemory>
+    ensures { Makes frames.send_again state.old result state.new }
 {
-    let members = desk.other_members()?;
+    let members = state.other_members()?;
     for k in &members {
-        desk.again_to(*k)?;
+        state.again_to(*k)?;
     }
     Ok(())
 }

@@ -6,8 +6,8 @@ use Rattle.crsm_spec.specs.Types.{Stamp, Entry}
 use Rattle.crsm_spec.specs.Lists.{first_of}
 use Rattle.crsm_spec.specs.Log.{active, unexecuted, last_stamp, logged}
 use Rattle.crsm_spec.specs.Replica.{Replica, members_of, spec_of}
-use Rattle.crsm_spec.specs.Ready.{all_heard, is_ready, is_next}
-use Rattle.crsm_commit.specs.Heard.{HasHeard}
+use Rattle.crsm_spec.specs.Ready.{all_received, is_ready, is_next}
+use Rattle.crsm_commit.specs.Received.{HasReceived}
 use Rattle.crsm_commit.specs.Pending.{StandsFor, may_commit, first_ready}
 use Rattle.crsm_commit.proofs.Bits.{same_stamp}
 use Rattle.crsm_epoch_state.specs.First.{ready_first, ready_of}
@@ -21,13 +21,13 @@ and_true false = refl
 
 -- of the first entry the commit rule is that of counts
 is_ready_first : (r : Replica) (e : Entry) (es : List Entry) → unexecuted r.log ≡ e ∷ es →
-    may_commit (spec_of r) (members_of r) (all_heard r) r.votes e.stamp ≡ is_ready r e.stamp
+    may_commit (spec_of r) (members_of r) (all_received r) r.votes e.stamp ≡ is_ready r e.stamp
 unfolding is_ready is_next first_of
 is_ready_first r e es is =
     let next : is_next (unexecuted r.log) e.stamp ≡ true = ap (λ fs. is_next fs e.stamp) is ∙ same_stamp e.stamp in
-    sym (ap (λ b. may_commit (spec_of r) (members_of r) (all_heard r) r.votes e.stamp && b) next ∙ and_true _)
+    sym (ap (λ b. may_commit (spec_of r) (members_of r) (all_received r) r.votes e.stamp && b) next ∙ and_true _)
 
-by_first : (r : Replica) (es : List Entry) → unexecuted r.log ≡ es → first_ready (spec_of r) (members_of r) (all_heard r) r.votes es ≡ ready_first r es
+by_first : (r : Replica) (es : List Entry) → unexecuted r.log ≡ es → first_ready (spec_of r) (members_of r) (all_received r) r.votes es ≡ ready_first r es
 unfolding ready_first
 by_first r [] is = refl
 by_first r (e ∷ es) is = ap (λ b. if b then Some e.stamp else None) (is_ready_first r e es is)
@@ -37,10 +37,10 @@ unfolding unexecuted
 above_is r = all_above (last_stamp r.log) (logged r.log)
 
 pub first_is_ready : (running : EpochState) (r : Replica) (result : Option Stamp) (members spec : List ℕ) → Runs running r → members ≡ members_of r → spec ≡ spec_of r → active r.log ≡ true →
-    ((tracked : Stamp → Bool) (waiting : List Entry) (votes : List (Stamp × ℕ)) (heard : List (ℕ × ℕ)) → StandsFor running.pending tracked waiting votes → HasHeard running.latest heard →
-    AllByRecursion (λ h. 1 ≤ h.1) heard → AllByRecursion (λ e. tracked e.stamp ≡ true) waiting → result ≡ first_ready spec members heard votes waiting) → result ≡ ready_of r
+    ((tracked : Stamp → Bool) (waiting : List Entry) (votes : List (Stamp × ℕ)) (received : List (ℕ × ℕ)) → StandsFor running.pending tracked waiting votes → HasReceived running.latest received →
+    AllByRecursion (λ h. 1 ≤ h.1) received → AllByRecursion (λ e. tracked e.stamp ≡ true) waiting → result ≡ first_ready spec members received votes waiting) → result ≡ ready_of r
 unfolding Runs ready_of
 first_is_ready running r result members spec s ms sp a ready =
-    ready (is_above (last_stamp r.log)) (unexecuted r.log) r.votes (all_heard r) (s.waiting a) s.latest s.from_one (above_is r)
-    ∙ ap (λ ks. first_ready ks members (all_heard r) r.votes (unexecuted r.log)) sp ∙ ap (λ ks. first_ready (spec_of r) ks (all_heard r) r.votes (unexecuted r.log)) ms
+    ready (is_above (last_stamp r.log)) (unexecuted r.log) r.votes (all_received r) (s.waiting a) s.latest s.from_one (above_is r)
+    ∙ ap (λ ks. first_ready ks members (all_received r) r.votes (unexecuted r.log)) sp ∙ ap (λ ks. first_ready (spec_of r) ks (all_received r) r.votes (unexecuted r.log)) ms
     ∙ by_first r (unexecuted r.log) refl

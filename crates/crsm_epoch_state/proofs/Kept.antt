@@ -8,8 +8,8 @@ use Rattle.crsm_spec.specs.Clock.{issue}
 use Rattle.crsm_spec.specs.Parts.{Piece}
 use Rattle.crsm_spec.specs.Replica.{Replica, Coordinator, Waiting, members_of, other_members, last_issued, latest_from, frames_to}
 use Rattle.crsm_spec.specs.Lists.{first_of}
-use Rattle.crsm_spec.specs.Ready.{all_heard}
-use Rattle.crsm_commit.specs.Heard.{HasHeard}
+use Rattle.crsm_spec.specs.Ready.{all_received}
+use Rattle.crsm_commit.specs.Received.{HasReceived}
 use Rattle.crsm_commit.specs.Pending.{StandsFor}
 use Rattle.crsm_commit.specs.declared.latest.Latest.{Latest}
 use Rattle.crsm_commit.specs.declared.pending.Pending.{Pending}
@@ -22,12 +22,12 @@ use Rattle.crsm_epoch_state.specs.declared.links.Links.{Links}
 use Rattle.crsm_epoch_state.specs.declared.state.EpochState.{EpochState}
 use Rattle.crsm_epoch_state.proofs.Linking.{links_beside, with_taken, with_acked}
 use Rattle.crsm_epoch_state.proofs.Pushing.{with_pushed}
-use Rattle.crsm_epoch_state.proofs.Times.{heard_more, from_one_more, issued_above, issued_at_it}
+use Rattle.crsm_epoch_state.proofs.Times.{received_more, from_one_more, issued_above, issued_at_it}
 
 -- what it stands for does not depend on these
 pub beside : (running : EpochState) (r : Replica) (parts : List Piece) (coordinator : Coordinator) (made : ℕ) (waiting : List Waiting) → Runs running r →
     Runs running (record r { parts = parts; coordinator = coordinator; made = made; waiting = waiting })
-unfolding Runs last_issued all_heard
+unfolding Runs last_issued all_received
 beside running r parts coordinator made waiting s = record {
   fitting = s.fitting;
   clock = s.clock;
@@ -46,7 +46,7 @@ each_fits running r s = s.fitting
 -- other entries and votes
 pub with_pending : (running : EpochState) (r : Replica) (pending : Pending) (log : Log) (votes : List (Stamp × ℕ)) → Runs running r → EachFits r.me r.n log →
     (active log ≡ true → StandsFor pending (is_above (last_stamp log)) (unexecuted log) votes) → Runs (record running { pending = pending }) (record r { log = log; votes = votes })
-unfolding Runs last_issued all_heard
+unfolding Runs last_issued all_received
 with_pending running r pending log votes s fit w = record {
   fitting = fit;
   clock = s.clock;
@@ -59,7 +59,7 @@ with_pending running r pending log votes s fit w = record {
 
 -- other debts
 pub with_owed : (running : EpochState) (r : Replica) (owed owed' : List Stamp) → Runs running r → owed ≡ owed' → Runs (record running { owed = owed }) (record r { owed = owed' })
-unfolding Runs last_issued all_heard
+unfolding Runs last_issued all_received
 with_owed running r owed owed' s e = record {
   fitting = s.fitting;
   clock = s.clock;
@@ -72,18 +72,18 @@ with_owed running r owed owed' s e = record {
 
 -- other acknowledgements
 pub with_acks : (running : EpochState) (r : Replica) (k next : ℕ) (links : Links) → Runs running r → LinksStand links (with_acked r k next) → Runs (record running { links = links }) (with_acked r k next)
-unfolding Runs last_issued all_heard
+unfolding Runs last_issued all_received
 with_acks running r k next links s l = record { fitting = s.fitting; clock = s.clock; latest = s.latest; from_one = s.from_one; owed = s.owed; links = l; waiting = s.waiting }
 
 -- one more frame and time
-pub with_frame : (running : EpochState) (r : Replica) (k time : ℕ) (links : Links) (latest : Latest) → Runs running r → latest_from r.heard k < time →
-    LinksStand links (with_taken r k time) → ((heard : List (ℕ × ℕ)) → HasHeard running.latest heard → HasHeard latest ((k, time) ∷ heard)) →
+pub with_frame : (running : EpochState) (r : Replica) (k time : ℕ) (links : Links) (latest : Latest) → Runs running r → latest_from r.received k < time →
+    LinksStand links (with_taken r k time) → ((received : List (ℕ × ℕ)) → HasReceived running.latest received → HasReceived latest ((k, time) ∷ received)) →
     Runs (record running { links = links; latest = latest }) (with_taken r k time)
 unfolding Runs last_issued
-with_frame running r k time links latest s above l heard = record {
+with_frame running r k time links latest s above l received = record {
   fitting = s.fitting;
   clock = s.clock;
-  latest = heard_more latest r k time (k ∷ r.taken) (heard (all_heard r) s.latest);
+  latest = received_more latest r k time (k ∷ r.taken) (received (all_received r) s.latest);
   from_one = from_one_more r k time (k ∷ r.taken) (omega arith) s.from_one;
   owed = s.owed;
   links = l;
@@ -92,13 +92,13 @@ with_frame running r k time links latest s above l heard = record {
 
 -- one more time issued, with what is pushed
 pub with_issued : (running : EpochState) (r : Replica) (clock time : ℕ) (payload : InEpoch) (ks : List ℕ) (links : Links) (latest : Latest) → Runs running r → last_issued r < time → clock ≡ time →
-    LinksStand links (with_pushed r time payload ks) → ((heard : List (ℕ × ℕ)) → HasHeard running.latest heard → HasHeard latest ((r.me, time) ∷ heard)) →
+    LinksStand links (with_pushed r time payload ks) → ((received : List (ℕ × ℕ)) → HasReceived running.latest received → HasReceived latest ((r.me, time) ∷ received)) →
     Runs (record running { clock = clock; links = links; latest = latest }) (with_pushed r time payload ks)
-unfolding Runs last_issued all_heard first_of
-with_issued running r clock time payload ks links latest s above is l heard = record {
+unfolding Runs last_issued all_received first_of
+with_issued running r clock time payload ks links latest s above is l received = record {
   fitting = s.fitting;
   clock = is;
-  latest = heard (all_heard r) s.latest;
+  latest = received (all_received r) s.latest;
   from_one = (omega arith, s.from_one);
   owed = s.owed;
   links = l;
@@ -152,17 +152,17 @@ if_some P (Some y) x e p = let same : y ≡ x = cc in subst P same p
 
 pub pushed_at : (running : EpochState) (r : Replica) (clock time reading me : ℕ) (payload : InEpoch) (members : List ℕ) (links : Links) (latest : Latest) (issued : Option ℕ) → Runs running r → me ≡ r.me →
     members ≡ members_of r → issue (last_issued r) reading ≡ Some time → issued ≡ issue running.clock time → IfSome issued (λ t. clock ≡ t) →
-    ((heard : List (ℕ × ℕ)) → HasHeard running.latest heard → HasHeard latest ((me, time) ∷ heard)) →
+    ((received : List (ℕ × ℕ)) → HasReceived running.latest received → HasReceived latest ((me, time) ∷ received)) →
     ((q : Replica) → LinksStand running.links q → last_issued q < time → LinksStand links (with_pushed q time payload (others_of me members))) →
     Runs (record running { clock = clock; links = links; latest = latest }) (with_pushed r time payload (other_members r))
 unfolding other_members
-pushed_at running r clock time reading me payload members links latest issued s mine known would is set hears pushes =
+pushed_at running r clock time reading me payload members links latest issued s mine known would is set receives pushes =
     let above : last_issued r < time = issued_above (last_issued r) reading time would in
     let again : issued ≡ Some time = is ∙ ap (λ l. issue l time) (issued_last running r s) ∙ issued_at_it (last_issued r) reading time would in
     with_issued running r clock time payload (others_of r.me (members_of r)) links latest s above (if_some (λ t. clock ≡ t) issued time again set)
     (subst (λ ks. LinksStand links (with_pushed r time payload (others_of r.me ks))) known
     (subst (λ m. LinksStand links (with_pushed r time payload (others_of m members))) mine (pushes r (the_links running r s) above)))
-    (subst (λ m. (heard : List (ℕ × ℕ)) → HasHeard running.latest heard → HasHeard latest ((m, time) ∷ heard)) mine hears)
+    (subst (λ m. (received : List (ℕ × ℕ)) → HasReceived running.latest received → HasReceived latest ((m, time) ∷ received)) mine receives)
 
 -- ---- frames
 

@@ -71,8 +71,8 @@ one_changed links q k new len within here there j none below =
 
 -- a link stands on where its frames are the same
 moved : (link : Link) (r q : Replica) (k : ℕ) → frames_to r k ≡ frames_to q k → acked_by r k ≡ acked_by q k → next_from r k ≡ next_from q k →
-    last_issued r ≤ last_issued q → latest_from r.heard k ≤ latest_from q.heard k → LinkStands link r k → LinkStands link q k
-moved link r q k frames acked next issued heard l = record {
+    last_issued r ≤ last_issued q → latest_from r.received k ≤ latest_from q.received k → LinkStands link r k → LinkStands link q k
+moved link r q k frames acked next issued received l = record {
   sent = subst (λ a. StandsFor link.sender (frames_to q k) a) acked (subst (λ fs. StandsFor link.sender fs (acked_by r k)) frames l.sent);
   next = l.next ∙ next;
   few_sent = omega (arith, ap length frames, l.few_sent);
@@ -82,7 +82,7 @@ moved link r q k frames acked next issued heard l = record {
 -- ---- a frame is taken
 
 abbrev pub with_taken : Replica → ℕ → ℕ → Replica
-with_taken r k time = record r { taken = k ∷ r.taken; heard = (k, time) ∷ r.heard }
+with_taken r k time = record r { taken = k ∷ r.taken; received = (k, time) ∷ r.received }
 
 count_more : (k j : ℕ) (taken : List ℕ) → count_by (λ i. i == j) (k ∷ taken) ≡ cond (k == j) 1 0 + count_by (λ i. i == j) taken
 count_more k j taken = sum_by-cons (λ i. cond (i == j) 1 0) k taken
@@ -113,19 +113,19 @@ issued_as : (r : Replica) (k time : ℕ) → last_issued r ≡ last_issued (with
 unfolding last_issued
 issued_as r k time = refl
 
-took : (old new : Link) (r : Replica) (k time : ℕ) → latest_from r.heard k < time → LinkStands old r k →
+took : (old new : Link) (r : Replica) (k time : ℕ) → latest_from r.received k < time → LinkStands old r k →
     (old.receiver.next < time → new.receiver.next ≡ old.receiver.next + 1) → new.sender ≡ old.sender → LinkStands new (with_taken r k time) k
 took old new r k time above l next sender =
     let test : (k == k) ≡ true = eq-eqb k k refl in
     let more : next_from (with_taken r k time) k ≡ 1 + next_from r k = next_more r k k time ∙ ap (λ b. cond b 1 0 + next_from r k) test in
-    let heard : latest_from ((k, time) ∷ r.heard) k ≡ max time (latest_from r.heard k) =
-    latest_more k time k r.heard ∙ latest_there (k == k) time (latest_from r.heard k) test in
+    let received : latest_from ((k, time) ∷ r.received) k ≡ max time (latest_from r.received k) =
+    latest_more k time k r.received ∙ latest_there (k == k) time (latest_from r.received k) test in
     record {
       sent = subst (λ a. StandsFor new.sender (frames_to (with_taken r k time) k) a) (acked_as r k k time)
           (subst (λ fs. StandsFor new.sender fs (acked_by r k)) (frames_as r k k time) (subst (λ o. StandsFor o (frames_to r k) (acked_by r k)) (sym sender) l.sent));
       next = next (omega (arith, l.next, l.few_taken)) ∙ omega (arith, more, l.next);
       few_sent = omega (arith, ap length (frames_as r k k time), issued_as r k time, l.few_sent);
-      few_taken = omega (arith, more, heard, l.few_taken);
+      few_taken = omega (arith, more, received, l.few_taken);
     }
 
 took_other : (link : Link) (r : Replica) (k j time : ℕ) → (k == j) ≡ false → LinkStands link r j → LinkStands link (with_taken r k time) j
@@ -133,9 +133,9 @@ took_other link r k j time test l =
     moved link r (with_taken r k time) j (frames_as r k j time) (acked_as r k j time)
     (sym (next_more r k j time ∙ ap (λ b. cond b 1 0 + next_from r j) test ∙ zero-add (next_from r j)))
     (omega (arith, issued_as r k time))
-    (omega (arith, latest_more k time j r.heard ∙ latest_elsewhere (k == j) time (latest_from r.heard j) test)) l
+    (omega (arith, latest_more k time j r.received ∙ latest_elsewhere (k == j) time (latest_from r.received j) test)) l
 
-pub taken_stand : (links : Links) (r : Replica) (k time : ℕ) (none new : Link) → LinksStand links r → k < 15 → latest_from r.heard k < time →
+pub taken_stand : (links : Links) (r : Replica) (k time : ℕ) (none new : Link) → LinksStand links r → k < 15 → latest_from r.received k < time →
     ((get_or links.links k none).receiver.next < time → new.receiver.next ≡ (get_or links.links k none).receiver.next + 1) →
     new.sender ≡ (get_or links.links k none).sender → AllStand (set links.links k new) (with_taken r k time)
 taken_stand links r k time none new s within above next sender =

@@ -5,18 +5,18 @@ use Rattle.crsm_spec.specs.Log.{Log, active, unexecuted, last_stamp, known, deci
 use Rattle.crsm_spec.specs.Fits.{fits}
 use Rattle.crsm_spec.specs.Replica.{Replica, last_issued}
 use Rattle.crsm_spec.specs.Lists.{first_of}
-use Rattle.crsm_spec.specs.Ready.{all_heard}
-use Rattle.crsm_commit.specs.Heard.{HasHeard}
+use Rattle.crsm_spec.specs.Ready.{all_received}
+use Rattle.crsm_commit.specs.Received.{HasReceived}
 use Rattle.crsm_commit.specs.Pending.{StandsFor}
 use Rattle.crsm_epoch_state.specs.Linked.{LinksStand}
 use Rattle.crsm_epoch_state.specs.EpochState.{Runs, EachFits, forgotten, is_above}
 use Rattle.crsm_epoch_state.proofs.Logged.{fresh_at_entry}
 use Rattle.crsm_epoch_state.specs.declared.state.EpochState.{EpochState}
 
-pub opened : (running : EpochState) (r : Replica) (log : Log) → running.clock ≡ 0 → HasHeard running.latest [] → running.owed ≡ [] →
+pub opened : (running : EpochState) (r : Replica) (log : Log) → running.clock ≡ 0 → HasReceived running.latest [] → running.owed ≡ [] →
     ((q : Replica) → q.pushed ≡ [] → q.acked ≡ [] → q.taken ≡ [] → LinksStand running.links q) → ((tracked : Stamp → Bool) → StandsFor running.pending tracked [] []) →
     EachFits r.me r.n log → (active log ≡ true → unexecuted log ≡ []) → Runs running (record (forgotten r) { log = log })
-unfolding Runs last_issued first_of all_heard
+unfolding Runs last_issued first_of all_received
 opened running r log clock latest owed links pending fit none = record {
   fitting = fit;
   clock = clock;
@@ -32,12 +32,12 @@ entered_same : (x : ℕ) (log : Log) → unexecuted (Rec.Enter x ∷ log) ≡ un
 unfolding unexecuted last_stamp logged logged_in executed known decision
 entered_same x log = refl
 
-pub opened_inactive : (running : EpochState) (r : Replica) → running.clock ≡ 0 → HasHeard running.latest [] → running.owed ≡ [] →
+pub opened_inactive : (running : EpochState) (r : Replica) → running.clock ≡ 0 → HasReceived running.latest [] → running.owed ≡ [] →
     ((q : Replica) → q.pushed ≡ [] → q.acked ≡ [] → q.taken ≡ [] → LinksStand running.links q) → ((tracked : Stamp → Bool) → StandsFor running.pending tracked [] []) →
     EachFits r.me r.n r.log → active r.log ≡ false → Runs running (forgotten r)
 opened_inactive running r clock latest owed links pending fit idle = opened running r r.log clock latest owed links pending fit (λ a. absurd (cc (sym idle ∙ a)))
 
-pub opened_entered : (running : EpochState) (r : Replica) → running.clock ≡ 0 → HasHeard running.latest [] → running.owed ≡ [] →
+pub opened_entered : (running : EpochState) (r : Replica) → running.clock ≡ 0 → HasReceived running.latest [] → running.owed ≡ [] →
     ((q : Replica) → q.pushed ≡ [] → q.acked ≡ [] → q.taken ≡ [] → LinksStand running.links q) → ((tracked : Stamp → Bool) → StandsFor running.pending tracked [] []) →
     EachFits r.me r.n r.log → fits r.me r.n r.log (Rec.Enter (known r.log)) ≡ true → Runs running (record (forgotten r) { log = Rec.Enter (known r.log) ∷ r.log })
 opened_entered running r clock latest owed links pending fit enters =

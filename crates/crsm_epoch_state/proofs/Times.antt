@@ -6,20 +6,20 @@ use Rattle.std.proofs.lemmas.Bool.Decides.{nat_tests}
 use Rattle.crsm_spec.specs.Clock.{issue, u64_max}
 use Rattle.crsm_spec.specs.Lists.{greatest}
 use Rattle.crsm_spec.specs.Replica.{Replica, latest_from}
-use Rattle.crsm_spec.specs.Ready.{all_heard}
-use Rattle.crsm_commit.specs.Heard.{HasHeard}
+use Rattle.crsm_spec.specs.Ready.{all_received}
+use Rattle.crsm_commit.specs.Received.{HasReceived}
 use Rattle.crsm_commit.specs.declared.latest.Latest.{Latest}
 
 -- the latest time of k, with one more heard of j
 unfoldable pub latest_if : Bool → ℕ → ℕ → ℕ
 latest_if b t l = if b then max t l else l
 
-pub latest_more : (j t k : ℕ) (heard : List (ℕ × ℕ)) → latest_from ((j, t) ∷ heard) k ≡ latest_if (j == k) t (latest_from heard k)
+pub latest_more : (j t k : ℕ) (received : List (ℕ × ℕ)) → latest_from ((j, t) ∷ received) k ≡ latest_if (j == k) t (latest_from received k)
 unfolding latest_from greatest latest_if
-latest_more j t k heard = go (j == k)
+latest_more j t k received = go (j == k)
   where
-    go : (b : Bool) → greatest (map (λ h. h.1) (if b then (j, t) ∷ filter (λ h. h.0 == k) heard else filter (λ h. h.0 == k) heard))
-        ≡ (if b then max t (greatest (map (λ h. h.1) (filter (λ h. h.0 == k) heard))) else greatest (map (λ h. h.1) (filter (λ h. h.0 == k) heard)))
+    go : (b : Bool) → greatest (map (λ h. h.1) (if b then (j, t) ∷ filter (λ h. h.0 == k) received else filter (λ h. h.0 == k) received))
+        ≡ (if b then max t (greatest (map (λ h. h.1) (filter (λ h. h.0 == k) received))) else greatest (map (λ h. h.1) (filter (λ h. h.0 == k) received)))
     go true = refl
     go false = refl
 
@@ -41,30 +41,30 @@ latest_other : (t l : ℕ) → latest_if false t l ≡ l
 unfolding latest_if
 latest_other t l = refl
 
-latest_past_own : (me k : ℕ) (issued : List ℕ) (heard : List (ℕ × ℕ)) → (k ≡ me → ⊥) → latest_from (map (λ t. (me, t)) issued ++ heard) k ≡ latest_from heard k
-latest_past_own me k [] heard other = refl
-latest_past_own me k (t ∷ issued) heard other =
+latest_past_own : (me k : ℕ) (issued : List ℕ) (received : List (ℕ × ℕ)) → (k ≡ me → ⊥) → latest_from (map (λ t. (me, t)) issued ++ received) k ≡ latest_from received k
+latest_past_own me k [] received other = refl
+latest_past_own me k (t ∷ issued) received other =
     let test : (me == k) ≡ false = grind (arith, nat_tests) in
-    latest_more me t k (map (λ t. (me, t)) issued ++ heard) ∙ ap (λ b. latest_if b t (latest_from (map (λ t. (me, t)) issued ++ heard) k)) test
-    ∙ latest_other t (latest_from (map (λ t. (me, t)) issued ++ heard) k) ∙ latest_past_own me k issued heard other
+    latest_more me t k (map (λ t. (me, t)) issued ++ received) ∙ ap (λ b. latest_if b t (latest_from (map (λ t. (me, t)) issued ++ received) k)) test
+    ∙ latest_other t (latest_from (map (λ t. (me, t)) issued ++ received) k) ∙ latest_past_own me k issued received other
 
 -- of another replica its own times say nothing
-pub latest_of_other : (r : Replica) (k : ℕ) → k ≢ r.me → latest_from (all_heard r) k ≡ latest_from r.heard k
-unfolding all_heard
-latest_of_other r k other = latest_past_own r.me k r.issued r.heard other
+pub latest_of_other : (r : Replica) (k : ℕ) → k ≢ r.me → latest_from (all_received r) k ≡ latest_from r.received k
+unfolding all_received
+latest_of_other r k other = latest_past_own r.me k r.issued r.received other
 
 -- one more time is heard
-pub heard_more : (latest : Latest) (r : Replica) (k time : ℕ) (taken : List ℕ) → HasHeard latest ((k, time) ∷ all_heard r) →
-    HasHeard latest (all_heard (record r { taken = taken; heard = (k, time) ∷ r.heard }))
-unfolding all_heard
-heard_more latest r k time taken h j within = h j within ∙ sym (latest_amid (map (λ t. (r.me, t)) r.issued) r.heard (k, time) j)
+pub received_more : (latest : Latest) (r : Replica) (k time : ℕ) (taken : List ℕ) → HasReceived latest ((k, time) ∷ all_received r) →
+    HasReceived latest (all_received (record r { taken = taken; received = (k, time) ∷ r.received }))
+unfolding all_received
+received_more latest r k time taken h j within = h j within ∙ sym (latest_amid (map (λ t. (r.me, t)) r.issued) r.received (k, time) j)
 
-pub from_one_more : (r : Replica) (k time : ℕ) (taken : List ℕ) → 1 ≤ time → AllByRecursion (λ h. 1 ≤ h.1) (all_heard r) →
-    AllByRecursion (λ h. 1 ≤ h.1) (all_heard (record r { taken = taken; heard = (k, time) ∷ r.heard }))
-unfolding all_heard
+pub from_one_more : (r : Replica) (k time : ℕ) (taken : List ℕ) → 1 ≤ time → AllByRecursion (λ h. 1 ≤ h.1) (all_received r) →
+    AllByRecursion (λ h. 1 ≤ h.1) (all_received (record r { taken = taken; received = (k, time) ∷ r.received }))
+unfolding all_received
 from_one_more r k time taken one all = go (map (λ t. (r.me, t)) r.issued) all
   where
-    go : (xs : List (ℕ × ℕ)) → AllByRecursion (λ h. 1 ≤ h.1) (xs ++ r.heard) → AllByRecursion (λ h. 1 ≤ h.1) (xs ++ (k, time) ∷ r.heard)
+    go : (xs : List (ℕ × ℕ)) → AllByRecursion (λ h. 1 ≤ h.1) (xs ++ r.received) → AllByRecursion (λ h. 1 ≤ h.1) (xs ++ (k, time) ∷ r.received)
     go [] all = (one, all)
     go (x ∷ xs) all = (all.0, go xs all.1)
 

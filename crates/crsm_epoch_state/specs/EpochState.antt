@@ -6,8 +6,8 @@ use Rattle.crsm_spec.specs.Types.{Stamp, Rec}
 use Rattle.crsm_spec.specs.Log.{Log, active, last_stamp, unexecuted}
 use Rattle.crsm_spec.specs.Fits.{fits}
 use Rattle.crsm_spec.specs.Replica.{Replica, last_issued}
-use Rattle.crsm_spec.specs.Ready.{all_heard}
-use Rattle.crsm_commit.specs.Heard.{HasHeard}
+use Rattle.crsm_spec.specs.Ready.{all_received}
+use Rattle.crsm_commit.specs.Received.{HasReceived}
 use Rattle.crsm_commit.specs.Pending.{StandsFor}
 use Rattle.crsm_epoch_state.specs.Linked.{LinksStand}
 use Rattle.crsm_epoch_state.specs.declared.state.EpochState.{EpochState}
@@ -24,7 +24,7 @@ IsNoEnter _ = Unit {0}
 
 -- the replica with nothing of its epoch
 abbrev pub forgotten : Replica → Replica
-forgotten r = record r { issued = []; heard = []; votes = []; owed = []; pushed = []; acked = []; taken = [] }
+forgotten r = record r { issued = []; received = []; votes = []; owed = []; pushed = []; acked = []; taken = [] }
 
 -- whether a stamp is above the last executed one
 abbrev pub is_above : Option Stamp → Stamp → Bool
@@ -34,8 +34,8 @@ is_above (Some last) s = stamp_lt last s
 pub record RunsInside (running : EpochState) (r : Replica) : Type 0 where
   pub fitting : EachFits r.me r.n r.log
   pub clock : running.clock ≡ last_issued r
-  pub latest : HasHeard running.latest (all_heard r)
-  pub from_one : AllByRecursion (λ h. 1 ≤ h.1) (all_heard r)
+  pub latest : HasReceived running.latest (all_received r)
+  pub from_one : AllByRecursion (λ h. 1 ≤ h.1) (all_received r)
   pub owed : running.owed ≡ r.owed
   pub links : LinksStand running.links r
   pub waiting : active r.log ≡ true → StandsFor running.pending (is_above (last_stamp r.log)) (unexecuted r.log) r.votes
@@ -44,3 +44,7 @@ pub record RunsInside (running : EpochState) (r : Replica) : Type 0 where
 -- unexecuted entries. Each record of its log fits.
 unfoldable pub Runs : EpochState → Replica → Type 0
 Runs running r = RunsInside running r
+
+-- for each replica whose epoch this is the state of
+abbrev pub WhereRuns : EpochState → (Replica → Type 0) → Type 0
+WhereRuns running P = (r : Replica) → Runs running r → P r

@@ -11,7 +11,7 @@ pub record LinkStands (link : Link) (r : Replica) (k : ℕ) : Type 0 where
   pub sent : StandsFor link.sender (frames_to r k) (acked_by r k)
   pub next : link.receiver.next ≡ next_from r k
   pub few_sent : length (frames_to r k) ≤ last_issued r
-  pub few_taken : next_from r k ≤ latest_from r.heard k
+  pub few_taken : next_from r k ≤ latest_from r.received k
 
 -- and so do all of them
 pub record LinksStand (links : Links) (r : Replica) : Type 0 where

@@ -6,7 +6,7 @@ ghost use Rattle.crsm_spec.specs.Clock.{issue};
 ghost use Rattle.crsm_spec.specs.Log.{last_stamp};
 ghost use Rattle.crsm_spec.specs.Frames.{with_stamp};
 ghost use Rattle.crsm_spec.specs.Replica.{Replica, members_of, other_members, last_issued, latest_from, frames_to};
-ghost use Rattle.crsm_epoch_state.specs.EpochState.{Runs};
+ghost use Rattle.crsm_epoch_state.specs.EpochState.{Runs, WhereRuns};
 
 use crate::records::is_above;
 use crate::state::EpochState;
@@ -16,8 +16,8 @@ impl EpochState {
     /// Counts a vote, where `last` is the stamp of the last executed entry.
     pub fn count_vote(&mut self, stamp: Stamp, k: u32, last: Option<Stamp>) -> Result<(), NoMemory>
         requires { k < 15 }
-        ensures { IfOk result (λ _. (r : Replica) → Runs self.old r → last ≡ last_stamp r.log →
-            Runs self.new (record r { votes = (stamp, k) ∷ r.votes })) }
+        ensures { IfOk result (λ _. WhereRuns self.old (λ r. last ≡ last_stamp r.log →
+            Runs self.new (record r { votes = (stamp, k) ∷ r.votes }))) }
     {
         if is_above(last, stamp) {
             self.pending.voted(stamp, k)?;
@@ -39,7 +39,7 @@ impl EpochState {
             Runs self.new (record r { issued = time ∷ r.issued; pushed = r.pushed ++ map (λ k. (k, payload.now)) (other_members r) })) }
     {
         self.clock.issue(time);
-        self.latest.hear(me, time);
+        self.latest.receive(me, time);
         self.links.push(me, members, time, payload)?;
         Ok(())
     }
@@ -47,24 +47,24 @@ impl EpochState {
     /// Takes the next frame of another replica k, and with it this time, which is above the latest of k. Needs no memory.
     pub fn take_next(&mut self, k: u32, time: u64)
         requires { k < 15 }
-        ensures { (r : Replica) → Runs self.old r → latest_from r.heard k < time →
-            Runs self.new (record r { taken = k ∷ r.taken; heard = (k, time) ∷ r.heard }) }
+        ensures { WhereRuns self.old (λ r. latest_from r.received k < time →
+            Runs self.new (record r { taken = k ∷ r.taken; received = (k, time) ∷ r.received })) }
     {
         self.links.take_next(k, time);
-        self.latest.hear(k, time);
+        self.latest.receive(k, time);
     }
 
     /// All frames to k below this number, of those that were pushed, have come.
     pub fn acked(&mut self, k: u32, next: u64)
         requires { k < 15 }
-        ensures { (r : Replica) → Runs self.old r → next ≤ length (frames_to r k) → Runs self.new (record r { acked = (k, next) ∷ r.acked }) }
+        ensures { WhereRuns self.old (λ r. next ≤ length (frames_to r k) → Runs self.new (record r { acked = (k, next) ∷ r.acked })) }
     {
         self.links.acked(k, next);
     }
 
     /// Owes an acknowledgement.
     pub fn owe(&mut self, stamp: Stamp) -> Result<(), NoMemory>
-        ensures { IfOk result (λ _. (r : Replica) → Runs self.old r → Runs self.new (record r { owed = with_stamp stamp r.owed })) }
+        ensures { IfOk result (λ _. WhereRuns self.old (λ r. Runs self.new (record r { owed = with_stamp stamp r.owed }))) }
     {
         self.owed.add(stamp)?;
         Ok(())

@@ -111,8 +111,8 @@ impl Links {
     /// Takes the next frame of k, which is of this time, above the latest of k.
     pub(crate) fn take_next(&mut self, k: u32, time: u64)
         requires { k < 15 }
-        ensures { (r : Replica) → LinksStand self.old r → latest_from r.heard k < time →
-            LinksStand self.new (record r { taken = k ∷ r.taken; heard = (k, time) ∷ r.heard }) }
+        ensures { (r : Replica) → LinksStand self.old r → latest_from r.received k < time →
+            LinksStand self.new (record r { taken = k ∷ r.taken; received = (k, time) ∷ r.received }) }
     {
         self.links[k as usize].take_next(time);
     }

@@ -7,7 +7,7 @@ ghost use Rattle.crsm_spec.specs.Lists.{first_of};
 ghost use Rattle.crsm_spec.specs.Log.{active};
 ghost use Rattle.crsm_spec.specs.Replica.{Replica, members_of, spec_of, last_issued, latest_from, next_from, frames_to, unacked, is_congested};
 ghost use Rattle.crsm_spec.specs.Clients.{own_unexecuted};
-ghost use Rattle.crsm_epoch_state.specs.EpochState.{Runs};
+ghost use Rattle.crsm_epoch_state.specs.EpochState.{Runs, WhereRuns};
 ghost use Rattle.crsm_epoch_state.specs.First.{ready_of};
 
 use crate::state::EpochState;
@@ -18,7 +18,7 @@ impl EpochState {
     /// The time that would be issued at this reading.
     #[tactic(auto, unfolding(crate::specs::EpochState::Runs))]
     pub fn would(&self, reading: u64) -> Option<u64>
-        ensures { (r : Replica) → Runs self.now r → result ≡ issue (last_issued r) reading }
+        ensures { WhereRuns self.now (λ r. result ≡ issue (last_issued r) reading) }
     {
         self.clock.would(reading)
     }
@@ -26,7 +26,7 @@ impl EpochState {
     /// The time that was issued last, 0 before the first.
     #[tactic(auto, unfolding(crate::specs::EpochState::Runs))]
     pub fn last_issued(&self) -> u64
-        ensures { (r : Replica) → Runs self.now r → result ≡ last_issued r }
+        ensures { WhereRuns self.now (λ r. result ≡ last_issued r) }
     {
         self.clock.last()
     }
@@ -34,7 +34,7 @@ impl EpochState {
     /// The latest time heard of another replica, 0 before the first.
     pub fn latest_from(&self, k: u32) -> u64
         requires { k < 15 }
-        ensures { (r : Replica) → Runs self.now r → k ≢ r.me → result ≡ latest_from r.heard k }
+        ensures { WhereRuns self.now (λ r. k ≢ r.me → result ≡ latest_from r.received k) }
     {
         self.latest.of(k)
     }
@@ -43,7 +43,7 @@ impl EpochState {
     #[tactic(auto, unfolding(crate::specs::EpochState::Runs))]
     pub fn next_from(&self, k: u32) -> u64
         requires { k < 15 }
-        ensures { (r : Replica) → Runs self.now r → result ≡ next_from r k }
+        ensures { WhereRuns self.now (λ r. result ≡ next_from r k) }
     {
         self.links.next_from(k)
     }
@@ -52,7 +52,7 @@ impl EpochState {
     #[tactic(auto, unfolding(crate::specs::EpochState::Runs))]
     pub fn pushed_to(&self, k: u32) -> u64
         requires { k < 15 }
-        ensures { (r : Replica) → Runs self.now r → result ≡ length (frames_to r k) }
+        ensures { WhereRuns self.now (λ r. result ≡ length (frames_to r k)) }
     {
         self.links.pushed_to(k)
     }
@@ -61,14 +61,14 @@ impl EpochState {
     #[tactic(auto, unfolding(crate::specs::EpochState::Runs))]
     pub fn due(&self, k: u32) -> Result<Frames, NoMemory>
         requires { k < 15 }
-        ensures { IfOk result (λ frames. (r : Replica) → Runs self.now r → frames ≡ take most_again (unacked r k)) }
+        ensures { IfOk result (λ frames. WhereRuns self.now (λ r. frames ≡ take most_again (unacked r k))) }
     {
         self.links.due(k)
     }
 
     /// Some link of me to a member holds as many frames as it may.
     pub fn is_congested(&self, me: u32, members: &Members) -> bool
-        ensures { (r : Replica) → Runs self.now r → me ≡ r.me → members.now ≡ members_of r → result ≡ is_congested r }
+        ensures { WhereRuns self.now (λ r. me ≡ r.me → members.now ≡ members_of r → result ≡ is_congested r) }
     {
         self.links.is_congested(me, members)
     }
@@ -76,7 +76,7 @@ impl EpochState {
     /// How many entries of me are not executed, while it is active.
     pub fn own_unexecuted(&self, me: u32) -> u64
         requires { me < 15 }
-        ensures { (r : Replica) → Runs self.now r → me ≡ r.me → active r.log ≡ true → result ≡ length (own_unexecuted r) }
+        ensures { WhereRuns self.now (λ r. me ≡ r.me → active r.log ≡ true → result ≡ length (own_unexecuted r)) }
     {
         self.pending.queue(me).len() as u64
     }
@@ -84,7 +84,7 @@ impl EpochState {
     /// The least stamp whose acknowledgement is owed.
     #[tactic(auto, unfolding(crate::specs::EpochState::Runs))]
     pub fn first_owed(&self) -> Option<Stamp>
-        ensures { (r : Replica) → Runs self.now r → result ≡ first_of r.owed }
+        ensures { WhereRuns self.now (λ r. result ≡ first_of r.owed) }
     {
         self.owed.first()
     }
@@ -92,14 +92,14 @@ impl EpochState {
     /// How many acknowledgements are owed.
     #[tactic(auto, unfolding(crate::specs::EpochState::Runs))]
     pub fn owed_len(&self) -> u64
-        ensures { (r : Replica) → Runs self.now r → result ≡ length r.owed }
+        ensures { WhereRuns self.now (λ r. result ≡ length r.owed) }
     {
         self.owed.len()
     }
 
     /// The stamp of the entry that is executed next, where it is ready, while the replica is active.
     pub fn ready(&self, members: &Members, spec: &Members) -> Option<Stamp>
-        ensures { (r : Replica) → Runs self.now r → members.now ≡ members_of r → spec.now ≡ spec_of r → active r.log ≡ true → result ≡ ready_of r }
+        ensures { WhereRuns self.now (λ r. members.now ≡ members_of r → spec.now ≡ spec_of r → active r.log ≡ true → result ≡ ready_of r) }
     {
         self.pending.ready(&self.latest, members, spec)
     }

@@ -9,23 +9,23 @@ use Rattle.crsm_spec.specs.Log.{Log, known, decision, start, executed, unexecute
 use Rattle.crsm_spec.specs.Replica.{Replica}
 use Rattle.crsm_spec.specs.Draft.{Draft, keep, noting, send, reply, count_vote, issued_at, push_to_members, push_to}
 use Rattle.crsm_spec.specs.Clients.{refuse, submit, await}
-use Rattle.crsm_spec.specs.Frames.{take_frame, hear, owe, ack, pay, owing, again_frame}
+use Rattle.crsm_spec.specs.Frames.{take_frame, receive, owe, ack, pay, owing, again_frame}
 use Rattle.crsm_spec.specs.Coordinate.{forget_epoch}
 use Rattle.crsm_spec.specs.Controls.{new_entries, may_adopt}
 use Rattle.crsm_spec.specs.Step.{Input}
 use Rattle.crsm_spec.specs.World.{Site, World, log_at}
 use Rattle.crsm_log_facts.specs.Logs.{AllFit, Extends, same, more, Logged}
-use Rattle.crsm_step_facts.specs.Messages.{Hears}
+use Rattle.crsm_step_facts.specs.Messages.{ReceivesControl}
 use Rattle.crsm_step_facts.specs.Changes.{Change, Changes, stay, and_then}
-use Rattle.crsm_step_facts.specs.Changes.Change.{Submits, Refuses, Commits, Replies, Takes, Acks, IsAcked, Pays, Owes, TellsTime, SendsAgain, Tells, Gathers, Suspends, Collects, TakesPage, Completes, Refrains, GivesUp, Asks, CountsAnswer, Proposes, IsPreempted, AcceptsOwn, CountsVote, Promises, Accepts, Chooses, Learns, AdoptsTail, AdoptsPage, Enters}
+use Rattle.crsm_step_facts.specs.Changes.Change.{Submits, Refuses, Commits, Replies, Takes, Acks, IsAcked, Pays, Owes, SendsTime, SendsAgain, SendsControl, Gathers, Suspends, Collects, TakesPage, Completes, Refrains, GivesUp, Asks, CountsAnswer, Proposes, IsPreempted, AcceptsOwn, CountsVote, Promises, Accepts, Chooses, Learns, AdoptsTail, AdoptsPage, Enters}
 use Rattle.crsm_law_steps.specs.Happenings.{Marks, CanCome, IsReached}
-use Rattle.crsm_step_facts.proofs.Logs.{log_change, change_grows, tell_still, replies_still}
+use Rattle.crsm_step_facts.proofs.Logs.{log_change, change_grows, send_still, replies_still}
 use Rattle.crsm_log_facts.proofs.Logged.{extends_trans, decide_above, end_fits}
 use Rattle.crsm_law_epoch.proofs.CommitLogs.{unexecuted_logged}
 use Rattle.crsm_law_messages.specs.Laws.{Says}
 use Rattle.crsm_law_messages.specs.Counted.{AllSpelt}
-use Rattle.crsm_law_messages.proofs.Worlds.{heard_is_told}
-use Rattle.crsm_law_messages.proofs.Truth.{told_is_true}
+use Rattle.crsm_law_messages.proofs.Worlds.{received_is_sent}
+use Rattle.crsm_law_messages.proofs.Truth.{sent_is_true}
 use Rattle.crsm_law_decisions.proofs.Logs.{decision_kept, known_decide}
 use Rattle.crsm_law_decisions.proofs.Coordinators.{extends_among}
 use Rattle.crsm_law_agreement.specs.Openings.{IsOpening}
@@ -66,11 +66,11 @@ module _ (n : ℕ) (w v : World) (reached : IsReached n w) (marks : Marks w v) (
       ]
 
   -- what a page brings stands at its place
-  page_placed : (j e' from : ℕ) (es : List Entry) (log : Log) → Hears r input j (Control.Page e' from es) → IsTrue (may_adopt log e' from) → known log ≡ e → (i : ℕ) (x : Entry) →
+  page_placed : (j e' from : ℕ) (es : List Entry) (log : Log) → ReceivesControl r input j (Control.Page e' from es) → IsTrue (may_adopt log e' from) → known log ≡ e → (i : ℕ) (x : Entry) →
       slice_get (new_entries log from es) i ≡ Some x → StandsWell e opening later (length (executed log) + i) x
-  page_placed j e' from es log hears may kn i x q =
-      let s = heard_is_told n w j k (Control.Page e' from es) (record { reached = reached; marked = v; marks = marks; replica = r; up = up; input = input; can_come = can; hears = hears }) spelt in
-      let t = told_is_true n w s.0 s.4 in
+  page_placed j e' from es log receives may kn i x q =
+      let s = received_is_sent n w j k (Control.Page e' from es) (record { reached = reached; marked = v; marks = marks; replica = r; up = up; input = input; can_come = can; receives = receives }) spelt in
+      let t = sent_is_true n w s.0 s.4 in
       let says : Says t.0 (Control.Page e' from es) = subst (Says t.0) s.3 t.2 in
       let ext : Extends t.0 (log_at w j) = subst (λ z. Extends t.0 (log_at w z)) s.1 t.1 in
       let page = page_epoch e' from es t.0 says.1 in
@@ -116,7 +116,7 @@ module _ (n : ℕ) (w v : World) (reached : IsReached n w) (marks : Marks w v) (
       (λ kn. let l = live_long k n x.replica.log (end_fits k n before fit) (active_live x.replica.log runs) in let b = opens.begin k x.replica.log before kn in omega (arith, l, b)) h
 
   changed : (x y : Draft) → Change r input reading x y → Extends y.replica.log (later k) → EndsPlaced e opening later x.replica.log → EndsPlaced e opening later y.replica.log
-  unfolding submit refuse await push_to_members push_to count_vote issued_at keep noting reply send take_frame hear owe ack pay owing again_frame forget_epoch
+  unfolding submit refuse await push_to_members push_to count_vote issued_at keep noting reply send take_frame receive owe ack pay owing again_frame forget_epoch
   changed x y (Submits a c t i q p) ext h = idle_placed e opening later _ x.replica.log tt h
   changed x y (Refuses a c why i q) ext h = h
   changed x y (Commits y' a q p) ext h = committed x y' ext a q h
@@ -128,9 +128,9 @@ module _ (n : ℕ) (w v : World) (reached : IsReached n w) (marks : Marks w v) (
   changed x y (IsAcked j next_is p q) ext h = h
   changed x y (Pays s t a m p lt) ext h = h
   changed x y (Owes ss a q) ext h = h
-  changed x y (TellsTime t a i p) ext h = h
+  changed x y (SendsTime t a i p) ext h = h
   changed x y (SendsAgain j g a m q) ext h = h
-  changed x y (Tells j c q) ext h = still x y (tell_still c j x).log h
+  changed x y (SendsControl j c q) ext h = still x y (send_still c j x).log h
   changed x y (Gathers a p i o) ext h = h
   changed x y (Suspends q) ext h = idle_placed e opening later _ x.replica.log tt h
   changed x y (Collects ms asked q s) ext h = h

@@ -9,7 +9,7 @@ use Rattle.crsm_spec.specs.Clock.{u64_max}
 use Rattle.crsm_spec.specs.Types.{Stamp, Entry, Rec, Control}
 use Rattle.crsm_spec.specs.Log.{Log, known, decision, logged, logged_in, unexecuted, above, last_stamp, with_entry}
 use Rattle.crsm_spec.specs.Replica.{others}
-use Rattle.crsm_spec.specs.Draft.{Draft, keep, tell, tell_each, tell_all, tell_decision, tell_retrieve, retrieve}
+use Rattle.crsm_spec.specs.Draft.{Draft, keep, send_control, send_to_each, send_to_all, send_decision, send_retrieve, retrieve}
 
 -- ---- counts
 
@@ -165,25 +165,25 @@ same_when false p q = q
 
 -- ---- telling
 
-pub tell_same : (c : Control) (x : Draft) (k : ℕ) → IsSame x (tell c x k)
-unfolding tell
-tell_same c x k = same_when (x.replica.made == u64_max) (record { log = refl; batch = refl }) (record { log = refl; batch = refl })
+pub send_same : (c : Control) (x : Draft) (k : ℕ) → IsSame x (send_control c x k)
+unfolding send_control
+send_same c x k = same_when (x.replica.made == u64_max) (record { log = refl; batch = refl }) (record { log = refl; batch = refl })
 
-pub tells : {most : ℕ} (c : Control) (k : ℕ) (x : Draft) → Grows most x (tell c x k)
-tells c k x = quiet (tell_same c x k)
+pub sends_control : {most : ℕ} (c : Control) (k : ℕ) (x : Draft) → Grows most x (send_control c x k)
+sends_control c k x = quiet (send_same c x k)
 
-pub tells_each : {most : ℕ} (ks : List ℕ) (c : Control) (x : Draft) → Grows most x (tell_each ks c x)
-unfolding tell_each
-tells_each ks c x = quiet (on_each (tell c) ks (λ y k. tell_same c y k) x)
+pub sends_each : {most : ℕ} (ks : List ℕ) (c : Control) (x : Draft) → Grows most x (send_to_each ks c x)
+unfolding send_to_each
+sends_each ks c x = quiet (on_each (send_control c) ks (λ y k. send_same c y k) x)
 
-pub tells_all : {most : ℕ} (c : Control) (x : Draft) → Grows most x (tell_all c x)
-unfolding tell_all
-tells_all c x = tells_each (others x.replica) c x
+pub sends_all : {most : ℕ} (c : Control) (x : Draft) → Grows most x (send_to_all c x)
+unfolding send_to_all
+sends_all c x = sends_each (others x.replica) c x
 
-pub tells_decision : {most : ℕ} (k : ℕ) (x : Draft) → Grows most x (tell_decision k x)
-unfolding tell_decision
-tells_decision k x = on_option _ x (decision x.replica.log) (λ d. tells (Control.Decide d) k x) (stay x)
+pub sends_decision : {most : ℕ} (k : ℕ) (x : Draft) → Grows most x (send_decision k x)
+unfolding send_decision
+sends_decision k x = on_option _ x (decision x.replica.log) (λ d. sends_control (Control.Decide d) k x) (stay x)
 
-pub tells_retrieve : {most : ℕ} (k : ℕ) (x : Draft) → Grows most x (tell_retrieve k x)
-unfolding tell_retrieve
-tells_retrieve k x = tells (retrieve x) k x
+pub sends_retrieve : {most : ℕ} (k : ℕ) (x : Draft) → Grows most x (send_retrieve k x)
+unfolding send_retrieve
+sends_retrieve k x = sends_control (retrieve x) k x

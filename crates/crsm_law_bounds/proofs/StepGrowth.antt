@@ -14,12 +14,12 @@ use Rattle.crsm_spec.specs.Ready.{is_ready}
 use Rattle.crsm_spec.specs.Parts.{Piece, with_part, whole_with}
 use Rattle.crsm_spec.specs.Draft.{Draft, begun, keep, send, reply, count_vote, would, issued_at, push_to_members, push_to, retrieve}
 use Rattle.crsm_spec.specs.Clients.{refusal, refuse, await, submit, submit_at, take_or_refuse, on_request, commit_run, commits, replies, answer_each, answer_found, reply_ok, reply_dropped, find_executed, is_dropped}
-use Rattle.crsm_spec.specs.Frames.{is_astray, is_odd_frame, owe, ack, hear, take_frame, on_frame, on_ack, pay, owing, pay_run, owed_oks, is_idle, tell_time, idle, again_frame, again_to, send_again}
+use Rattle.crsm_spec.specs.Frames.{is_astray, is_odd_frame, owe, ack, receive, take_frame, on_frame, on_ack, pay, owing, pay_run, owed_oks, is_idle, send_time, idle, again_frame, again_to, send_again}
 use Rattle.crsm_spec.specs.Collect.{cursor}
 use Rattle.crsm_spec.specs.Coordinate.{accept_own}
-use Rattle.crsm_spec.specs.Step.{Input, if_fitting, on_whole_message, on_part, ask_page, missing, tell_collect, renew, ask_all, on_tick, on_datagram, on_input, idle_at, step}
-use Rattle.crsm_law_bounds.proofs.Counts.{others_in, commits_in, Grows, IsSame, unexecuted_few, quiet, same_then, stay, and_then, more, on_when, on_option, on_each, one_more, same_when, tell_same, tells_all, tells_decision, tells_retrieve}
-use Rattle.crsm_law_bounds.proofs.Growth.{of_accept_own, of_tell_proposal, of_tell_ask, of_begin, of_suspect, of_control}
+use Rattle.crsm_spec.specs.Step.{Input, if_fitting, on_whole_message, on_part, ask_page, missing, send_collect, renew, ask_all, on_tick, on_datagram, on_input, idle_at, step}
+use Rattle.crsm_law_bounds.proofs.Counts.{others_in, commits_in, Grows, IsSame, unexecuted_few, quiet, same_then, stay, and_then, more, on_when, on_option, on_each, one_more, same_when, send_same, sends_all, sends_decision, sends_retrieve}
+use Rattle.crsm_law_bounds.proofs.Growth.{of_accept_own, of_send_proposal, of_send_ask, of_begin, of_suspect, of_control}
 
 -- ---- clients and links
 
@@ -42,7 +42,7 @@ unfolding on_request
 of_request a c reading x = more 1 6 (omega arith) (of_take_or_refuse a c reading (refusal x.replica) x)
 
 of_take_frame : (k : ℕ) (p : InEpoch) (x : Draft) → Grows 1 x (take_frame k p x)
-unfolding take_frame hear owe ack count_vote keep send
+unfolding take_frame receive owe ack count_vote keep send
 of_take_frame k (InEpoch.Prepare e) x = one_more (Rec.Prepare e) x _ tt refl refl
 of_take_frame k (InEpoch.PrepareOk s at) x = quiet (record { log = refl; batch = refl })
 of_take_frame k (InEpoch.ClockTime at) x = quiet (record { log = refl; batch = refl })
@@ -54,7 +54,7 @@ of_ack_one k x = quiet (record { log = refl; batch = refl })
 of_frame : (k e seq : ℕ) (p : InEpoch) (x : Draft) → Grows 6 x (on_frame k e seq p x)
 unfolding on_frame
 of_frame k e seq p x =
-    on_when (nat_lt e (known x.replica.log)) (tells_decision k x) (on_when (nat_lt (known x.replica.log) e) (tells_retrieve k x)
+    on_when (nat_lt e (known x.replica.log)) (sends_decision k x) (on_when (nat_lt (known x.replica.log) e) (sends_retrieve k x)
     (on_when (not (active x.replica.log) || not (has (members_of x.replica) k)) (stay x) (on_when (not (seq == next_from x.replica k)) (of_ack_one k x)
     (on_when (is_odd_frame x.replica k p) (stay x) (more 1 6 (omega arith) (of_take_frame k p x))))))
 
@@ -93,22 +93,22 @@ of_send_again : {most : ℕ} (x : Draft) → Grows most x (send_again x)
 unfolding send_again
 of_send_again x = quiet (on_each again_to (other_members x.replica) again_all x)
 
-of_tell_collect : {most : ℕ} (pages : List LogPage) (x : Draft) → Grows most x (tell_collect pages x)
-unfolding tell_collect ask_page
-of_tell_collect pages x = quiet (on_each (ask_page pages) (missing x.replica pages) (λ y k. tell_same (Control.Suspend (known y.replica.log) (cursor pages k)) y k) x)
+of_send_collect : {most : ℕ} (pages : List LogPage) (x : Draft) → Grows most x (send_collect pages x)
+unfolding send_collect ask_page
+of_send_collect pages x = quiet (on_each (ask_page pages) (missing x.replica pages) (λ y k. send_same (Control.Suspend (known y.replica.log) (cursor pages k)) y k) x)
 
 of_renew : (coordinator : Coordinator) (x : Draft) → Grows 6 x (renew coordinator x)
 unfolding renew
 of_renew Coordinator.Idle x = stay x
-of_renew (Coordinator.Collecting ms pages) x = of_tell_collect pages x
-of_renew (Coordinator.Preparing b own answers) x = of_tell_ask (Coordinator.Preparing b own answers) x
+of_renew (Coordinator.Collecting ms pages) x = of_send_collect pages x
+of_renew (Coordinator.Preparing b own answers) x = of_send_ask (Coordinator.Preparing b own answers) x
 of_renew (Coordinator.Proposing b own value acceptors) x =
-    let y = accept_own b own value acceptors x in and_then 4 2 (of_accept_own b own value acceptors x) (of_tell_proposal y.replica.coordinator y)
+    let y = accept_own b own value acceptors x in and_then 4 2 (of_accept_own b own value acceptors x) (of_send_proposal y.replica.coordinator y)
 of_renew (Coordinator.Preempted own seen) x = more 5 6 (omega arith) (of_begin own seen x)
 
 of_ask_all : {most : ℕ} (x : Draft) → Grows most x (ask_all x)
 unfolding ask_all
-of_ask_all x = on_when (active x.replica.log) (stay x) (tells_all (retrieve x) x)
+of_ask_all x = on_when (active x.replica.log) (stay x) (sends_all (retrieve x) x)
 
 of_tick : (x : Draft) → Grows 6 x (on_tick x)
 unfolding on_tick
@@ -120,7 +120,7 @@ of_datagram a (Datagram.Frame from to e seq p) reading x = on_when (is_astray x.
 of_datagram a (Datagram.Ack from to e next) reading x = on_when (is_astray x.replica from to) (stay x) (of_on_ack from e next x)
 of_datagram a (Datagram.Part from to boot number index count bytes) reading x = on_when (is_astray x.replica from to) (stay x) (of_part _ x)
 of_datagram a (Datagram.Request c) reading x = of_request a c reading x
-of_datagram a (Datagram.Reply client number told) reading x = stay x
+of_datagram a (Datagram.Reply client number sent) reading x = stay x
 of_datagram a (Datagram.Operate ms) reading x = of_suspect ms x
 
 of_input : (i : Input) (reading : ℕ) (x : Draft) → Grows 6 x (on_input i reading x)
@@ -153,15 +153,15 @@ of_owed : {most : ℕ} (reading : ℕ) (x : Draft) → Grows most x (owed_oks re
 unfolding owed_oks
 of_owed reading x = on_when (active x.replica.log) (quiet (pay_run_same reading x.replica.owed x)) (stay x)
 
-of_tell_time : {most : ℕ} (t : Option ℕ) (x : Draft) → Grows most x (tell_time t x)
-unfolding tell_time push_to_members push_to issued_at
-of_tell_time None x = stay x
-of_tell_time (Some t) x = quiet (record { log = refl; batch = refl })
+of_send_time : {most : ℕ} (t : Option ℕ) (x : Draft) → Grows most x (send_time t x)
+unfolding send_time push_to_members push_to issued_at
+of_send_time None x = stay x
+of_send_time (Some t) x = quiet (record { log = refl; batch = refl })
 
 of_idle : {most : ℕ} (i : Input) (reading : ℕ) (x : Draft) → Grows most x (idle_at i reading x)
 unfolding idle_at idle
 of_idle (Input.Came a d) reading x = stay x
-of_idle Input.Ticked reading x = on_when (active x.replica.log && is_idle x.replica reading) (of_tell_time (would x reading) x) (stay x)
+of_idle Input.Ticked reading x = on_when (active x.replica.log && is_idle x.replica reading) (of_send_time (would x reading) x) (stay x)
 of_idle (Input.Suspected ms) reading x = stay x
 
 -- commits, of which so many follow

@@ -18,21 +18,21 @@ use Rattle.crsm_spec.specs.Paxos.{Answer}
 use Rattle.crsm_spec.specs.Collect.{suspend_ok, own_page, cursor}
 use Rattle.crsm_spec.specs.Fits.{can_be_members}
 use Rattle.crsm_spec.specs.Replica.{Replica, Coordinator, LogPage, spec_of, next_spec, last_issued}
-use Rattle.crsm_spec.specs.Draft.{Draft, keep, noting, send, reply, count_vote, would, issued_at, push_to_members, push_to, tell}
+use Rattle.crsm_spec.specs.Draft.{Draft, keep, noting, send, reply, count_vote, would, issued_at, push_to_members, push_to, send_control}
 use Rattle.crsm_spec.specs.Clients.{refuse, submit, await, replies}
-use Rattle.crsm_spec.specs.Frames.{take_frame, hear, owe, ack, pay, owing, again_frame}
+use Rattle.crsm_spec.specs.Frames.{take_frame, receive, owe, ack, pay, owing, again_frame}
 use Rattle.crsm_spec.specs.Coordinate.{forget_epoch, instance, greater_ballot, may_reconfigure, most_collected}
 use Rattle.crsm_spec.specs.Controls.{is_page_of, are_above, new_entries, page_from}
 use Rattle.crsm_spec.specs.Step.{Input}
 use Rattle.crsm_log_facts.specs.Logs.{AllFit, Extends, same, more, AreSpelt}
-use Rattle.crsm_step_facts.specs.Messages.{Hears, IsAsked, IsTold, Answers}
+use Rattle.crsm_step_facts.specs.Messages.{ReceivesControl, IsAsked, IsSent, Answers}
 use Rattle.crsm_step_facts.specs.Changes.{Change, Changes, stay, and_then, AsksFor, IsAnswer, IsNextRound, IsRefusal}
-use Rattle.crsm_step_facts.specs.Changes.Change.{Submits, Refuses, Commits, Replies, Takes, Acks, IsAcked, Pays, Owes, TellsTime, SendsAgain, Tells, Gathers, Suspends, Collects, TakesPage, Completes, Refrains, GivesUp, Asks, CountsAnswer, Proposes, IsPreempted, AcceptsOwn, CountsVote, Promises, Accepts, Chooses, Learns, AdoptsTail, AdoptsPage, Enters}
+use Rattle.crsm_step_facts.specs.Changes.Change.{Submits, Refuses, Commits, Replies, Takes, Acks, IsAcked, Pays, Owes, SendsTime, SendsAgain, SendsControl, Gathers, Suspends, Collects, TakesPage, Completes, Refrains, GivesUp, Asks, CountsAnswer, Proposes, IsPreempted, AcceptsOwn, CountsVote, Promises, Accepts, Chooses, Learns, AdoptsTail, AdoptsPage, Enters}
 use Rattle.crsm_log_facts.proofs.Logged.{extends_trans, end_fits}
-use Rattle.crsm_step_facts.proofs.Logs.{log_change, change_grows, tell_still, replies_still, numbers_stay}
+use Rattle.crsm_step_facts.proofs.Logs.{log_change, change_grows, send_still, replies_still, numbers_stay}
 use Rattle.crsm_log_facts.proofs.Lists.{list_all_at, all_at, all-append}
 use Rattle.crsm_law_epoch.proofs.CommitLogs.{unexecuted_logged}
-use Rattle.crsm_law_messages.proofs.Coordinators.{tell_coordinator, replies_coordinator}
+use Rattle.crsm_law_messages.proofs.Coordinators.{send_coordinator, replies_coordinator}
 use Rattle.crsm_law_bounds.specs.Bounds.{most_records}
 use Rattle.crsm_log_facts.proofs.EntriesFit.{take_fits, drop_fits}
 use Rattle.crsm_log_facts.proofs.LogsFit.{decision_fits, known_small, accepted_fits, promised_fits, no_fits, logged_fits, executed_short, last_fits, frozen_fits, asked_page, executed_page}
@@ -156,7 +156,7 @@ pub record Comes (n k : ℕ) (last : Log) (r : Replica) (input : Input) (reading
   pub number : r.me ≡ k
   pub small : k < 15
   pub reading_small : reading < 2 ^ 64
-  pub heard : (j : ℕ) (c : Control) → Hears r input j c → FitsControl c
+  pub received : (j : ℕ) (c : Control) → ReceivesControl r input j c → FitsControl c
   pub framed : (a j e i : ℕ) (f : Entry) → input ≡ Input.Came a (Datagram.Frame j r.me e i (InEpoch.Prepare f)) → FitsEntry f
   pub asked : (a : ℕ) (c : Command) → input ≡ Input.Came a (Datagram.Request c) → FitsCommand c
   pub wished : (ms : List ℕ) → AsksFor input ms → IsMembers ms
@@ -174,11 +174,11 @@ module _ (n k : ℕ) (last : Log) (r : Replica) (input : Input) (reading : ℕ) 
 
   answered : (x : Draft) (b : Ballot) (a : Answer Decision) → Fit x → IsAnswer r input x b a → FitsOption FitsVote a.accepted
   answered x b a f (inl own) = subst (FitsOption FitsVote) (sym own.2) (accepted_fits x.replica.log f.log)
-  answered x b a f (inr one) = (comes.heard a.replica (Control.P1b (instance x) b a.accepted) one.1).2
+  answered x b a f (inr one) = (comes.received a.replica (Control.P1b (instance x) b a.accepted) one.1).2
 
   refused : (x : Draft) (b top : Ballot) → Fit x → IsRefusal r input x b top → FitsBallot top
   refused x b top f (inl e) = subst FitsBallot (sym e) (promised_fits x.replica.log f.log)
-  refused x b top f (inr h) = (comes.heard h.0 (Control.P1no (instance x) b top) h.1).2
+  refused x b top f (inr h) = (comes.received h.0 (Control.P1no (instance x) b top) h.1).2
 
   instance_small : (x : Draft) → known x.replica.log ≤ most_collected → instance x < 2 ^ 64
   unfolding instance
@@ -191,7 +191,7 @@ module _ (n k : ℕ) (last : Log) (r : Replica) (input : Input) (reading : ℕ) 
   timed x t f w = (would_small x reading t comes.reading_small f.issued w, f.issued)
 
   pub change_fits : (x y : Draft) → Change r input reading x y → Extends x.replica.log last → x.replica.me ≡ r.me → Fit x → Fit y
-  unfolding submit refuse await push_to_members push_to count_vote issued_at keep noting reply send take_frame hear owe ack pay owing again_frame forget_epoch known start decision
+  unfolding submit refuse await push_to_members push_to count_vote issued_at keep noting reply send take_frame receive owe ack pay owing again_frame forget_epoch known start decision
   change_fits x y (Submits a c t i h w) ext me f = record {
     log = (record { epoch = known_small x.replica.log f.log; stamp = record { time = (timed x t f w).0; origin = (let q = comes.number in let s = comes.small in omega (arith, me, q, s)) }; command = comes.asked a c i }, f.log);
     coordinator = f.coordinator;
@@ -213,13 +213,13 @@ module _ (n k : ℕ) (last : Log) (r : Replica) (input : Input) (reading : ℕ) 
   change_fits x y (IsAcked j next p h) ext me f = record { log = f.log; coordinator = f.coordinator; issued = f.issued }
   change_fits x y (Pays s t a m w lt) ext me f = record { log = f.log; coordinator = f.coordinator; issued = timed x t f w }
   change_fits x y (Owes ss a h) ext me f = record { log = f.log; coordinator = f.coordinator; issued = f.issued }
-  change_fits x y (TellsTime t a i w) ext me f = record { log = f.log; coordinator = f.coordinator; issued = timed x t f w }
+  change_fits x y (SendsTime t a i w) ext me f = record { log = f.log; coordinator = f.coordinator; issued = timed x t f w }
   change_fits x y (SendsAgain j g a m h) ext me f = record { log = f.log; coordinator = f.coordinator; issued = f.issued }
-  change_fits x y (Tells j c h) ext me f =
-      let s = tell_still c j x in
+  change_fits x y (SendsControl j c h) ext me f =
+      let s = send_still c j x in
       record {
         log = subst AreSpelt (sym s.log) f.log;
-        coordinator = subst (λ l. FitsCoordinator (known l) (start l) (tell c x j).replica.coordinator) (sym s.log) (subst (FitsCoordinator (known x.replica.log) (start x.replica.log)) (sym (tell_coordinator c j x)) f.coordinator);
+        coordinator = subst (λ l. FitsCoordinator (known l) (start l) (send_control c x j).replica.coordinator) (sym s.log) (subst (FitsCoordinator (known x.replica.log) (start x.replica.log)) (sym (send_coordinator c j x)) f.coordinator);
         issued = subst (AllByRecursion IsSmall) (sym s.issued) f.issued;
       }
   change_fits x y (Gathers a p i o) ext me f = record { log = f.log; coordinator = f.coordinator; issued = f.issued }
@@ -233,7 +233,7 @@ module _ (n k : ℕ) (last : Log) (r : Replica) (input : Input) (reading : ℕ) 
       }
   change_fits x y (TakesPage ms pages e after p q h m i w) ext me f =
       let was = noted x (Coordinator.Collecting ms pages) f q in
-      let c = comes.heard p.from (Control.SuspendOk e p.executed p.last after p.whole p.entries) h in
+      let c = comes.received p.from (Control.SuspendOk e p.executed p.last after p.whole p.entries) h in
       let parts = page_parts (known x.replica.log) e (cursor pages p.from) after p i in
       record {
         log = f.log;
@@ -268,16 +268,16 @@ module _ (n k : ℕ) (last : Log) (r : Replica) (input : Input) (reading : ℕ) 
       let was = noted x (Coordinator.Proposing b own value acceptors) f q in
       record { log = ((instance_small x was.0, was.1, was.3), f.log); coordinator = f.coordinator; issued = f.issued }
   change_fits x y (CountsVote b own value acceptors j q v) ext me f = record { log = f.log; coordinator = noted x (Coordinator.Proposing b own value acceptors) f q; issued = f.issued }
-  change_fits x y (Promises j b h lt) ext me f = let c = comes.heard j (Control.P1a (instance x) b) h in record { log = ((c.0, c.1), f.log); coordinator = f.coordinator; issued = f.issued }
-  change_fits x y (Accepts j b d h i l m) ext me f = let c = comes.heard j (Control.P2a (instance x) b d) h in record { log = ((c.0, c.1, c.2), f.log); coordinator = f.coordinator; issued = f.issued }
+  change_fits x y (Promises j b h lt) ext me f = let c = comes.received j (Control.P1a (instance x) b) h in record { log = ((c.0, c.1), f.log); coordinator = f.coordinator; issued = f.issued }
+  change_fits x y (Accepts j b d h i l m) ext me f = let c = comes.received j (Control.P2a (instance x) b d) h in record { log = ((c.0, c.1, c.2), f.log); coordinator = f.coordinator; issued = f.issued }
   change_fits x y (Chooses b own d acceptors q h) ext me f = record { log = ((noted x (Coordinator.Proposing b own d acceptors) f q).3, f.log); coordinator = tt; issued = tt }
-  change_fits x y (Learns j d h lt) ext me f = record { log = (comes.heard j (Control.Decide d) h, f.log); coordinator = tt; issued = tt }
+  change_fits x y (Learns j d h lt) ext me f = record { log = (comes.received j (Control.Decide d) h, f.log); coordinator = tt; issued = tt }
   change_fits x y (AdoptsTail d h i j) ext me f =
       let s = done_small x.replica.log ext f.log in
       record { log = ((omega (arith, s), drop_fits (length (executed x.replica.log) - d.base_len) d.tail (tail_fits x d f h).tail), f.log); coordinator = f.coordinator; issued = f.issued }
   change_fits x y (AdoptsPage j e from es h i l) ext me f =
       let s = done_small x.replica.log ext f.log in
-      record { log = ((omega (arith, s), new_fit x.replica.log from es (comes.heard j (Control.Page e from es) h).2), f.log); coordinator = f.coordinator; issued = f.issued }
+      record { log = ((omega (arith, s), new_fit x.replica.log from es (comes.received j (Control.Page e from es) h).2), f.log); coordinator = f.coordinator; issued = f.issued }
   change_fits x y (Enters h) ext me f = record { log = (known_small x.replica.log f.log, f.log); coordinator = f.coordinator; issued = tt }
 
   pub changes_fit : {x y : Draft} → Changes r input reading x y → Extends y.replica.log last → x.replica.me ≡ r.me → Fit x → Fit y × (y.replica.me ≡ r.me)
@@ -303,22 +303,22 @@ module _ (n k : ℕ) (last : Log) (r : Replica) (input : Input) (reading : ℕ) 
   sent_page_fits log from ext h lt =
       let s = done_small log ext h in (known_small log h, omega (arith, s, lt), executed_page k n log from (end_fits k n ext comes.fit) h)
 
-  no_answer : (i : ℕ) (b : Ballot) (h : (j : ℕ) × (Hears r input j (Control.P1a i b) ⊎ ((d : Decision) × Hears r input j (Control.P2a i b d)))) → (i < 2 ^ 64) × FitsBallot b
-  no_answer i b (j, inl h) = let c = comes.heard j (Control.P1a i b) h in (c.0, c.1)
-  no_answer i b (j, inr (d, h)) = let c = comes.heard j (Control.P2a i b d) h in (c.0, c.1)
+  no_answer : (i : ℕ) (b : Ballot) (h : (j : ℕ) × (ReceivesControl r input j (Control.P1a i b) ⊎ ((d : Decision) × ReceivesControl r input j (Control.P2a i b d)))) → (i < 2 ^ 64) × FitsBallot b
+  no_answer i b (j, inl h) = let c = comes.received j (Control.P1a i b) h in (c.0, c.1)
+  no_answer i b (j, inr (d, h)) = let c = comes.received j (Control.P2a i b d) h in (c.0, c.1)
 
-  pub told_fits : (x : Draft) (c : Control) → Extends x.replica.log last → Fit x → IsTold x c → Answers r input c → FitsControl c
-  told_fits x (Control.Suspend e after) ext f h a = (subst IsSmall (sym h.0) (known_small x.replica.log f.log), asked_fits x after f h.1)
-  told_fits x (Control.SuspendOk e done lst after whole es) ext f h a =
-      subst FitsControl (sym h.1) (report_fits x.replica.log after ext f.log (comes.heard a.0 (Control.Suspend e after) a.1).1)
-  told_fits x (Control.P1a i b) ext f h a = let was = noted x (Coordinator.Preparing b h.1 h.2) f h.3 in (subst IsSmall (sym h.0) (instance_small x was.0), was.1)
-  told_fits x (Control.P1b i b v) ext f h a =
-      let c = comes.heard a.0 (Control.P1a i b) a.1 in (c.0, c.1, subst (FitsOption FitsVote) (sym h.2) (accepted_fits x.replica.log f.log))
-  told_fits x (Control.P1no i b top) ext f h a = let c = no_answer i b a in (c.0, c.1, subst FitsBallot (sym h.1) (promised_fits x.replica.log f.log))
-  told_fits x (Control.P2a i b d) ext f h a = let was = noted x (Coordinator.Proposing b h.1 d h.2) f h.3 in (subst IsSmall (sym h.0) (instance_small x was.0), was.1, was.3)
-  told_fits x (Control.P2b i b) ext f h a = let c = comes.heard a.0 (Control.P2a i b a.1) a.2 in (c.0, c.1)
-  told_fits x (Control.Decide d) ext f h a = tail_fits x d f h
-  told_fits x (Control.Retrieve e from) ext f h a =
+  pub sent_fits : (x : Draft) (c : Control) → Extends x.replica.log last → Fit x → IsSent x c → Answers r input c → FitsControl c
+  sent_fits x (Control.Suspend e after) ext f h a = (subst IsSmall (sym h.0) (known_small x.replica.log f.log), asked_fits x after f h.1)
+  sent_fits x (Control.SuspendOk e done lst after whole es) ext f h a =
+      subst FitsControl (sym h.1) (report_fits x.replica.log after ext f.log (comes.received a.0 (Control.Suspend e after) a.1).1)
+  sent_fits x (Control.P1a i b) ext f h a = let was = noted x (Coordinator.Preparing b h.1 h.2) f h.3 in (subst IsSmall (sym h.0) (instance_small x was.0), was.1)
+  sent_fits x (Control.P1b i b v) ext f h a =
+      let c = comes.received a.0 (Control.P1a i b) a.1 in (c.0, c.1, subst (FitsOption FitsVote) (sym h.2) (accepted_fits x.replica.log f.log))
+  sent_fits x (Control.P1no i b top) ext f h a = let c = no_answer i b a in (c.0, c.1, subst FitsBallot (sym h.1) (promised_fits x.replica.log f.log))
+  sent_fits x (Control.P2a i b d) ext f h a = let was = noted x (Coordinator.Proposing b h.1 d h.2) f h.3 in (subst IsSmall (sym h.0) (instance_small x was.0), was.1, was.3)
+  sent_fits x (Control.P2b i b) ext f h a = let c = comes.received a.0 (Control.P2a i b a.1) a.2 in (c.0, c.1)
+  sent_fits x (Control.Decide d) ext f h a = tail_fits x d f h
+  sent_fits x (Control.Retrieve e from) ext f h a =
       let s = done_small x.replica.log ext f.log in
       let is = h.1 in (subst IsSmall (sym h.0) (known_small x.replica.log f.log), omega (arith, s, is))
-  told_fits x (Control.Page e from es) ext f h a = subst FitsControl (sym h.1) (sent_page_fits x.replica.log from ext f.log h.0)
+  sent_fits x (Control.Page e from es) ext f h a = subst FitsControl (sym h.1) (sent_page_fits x.replica.log from ext f.log h.0)

@@ -19,10 +19,10 @@ use Rattle.crsm_spec.specs.World.{Site, World, Moment, begin, log_of, log_at, wi
 use Rattle.crsm_spec.specs.Moments.{silent, begun_at, with_room, start_at}
 use Rattle.crsm_log_facts.specs.Logs.{AllFit, Extends, same, Logged, AreSpelt}
 use Rattle.crsm_law_steps.specs.Laws.{LogsGoOn}
-use Rattle.crsm_step_facts.specs.Messages.{Hears}
+use Rattle.crsm_step_facts.specs.Messages.{ReceivesControl}
 use Rattle.crsm_step_facts.specs.Changes.{Changes, stay, and_then}
 use Rattle.crsm_law_steps.specs.Happenings.{Marks, CanCome, Ends, Happens, IsReached}
-use Rattle.crsm_law_steps.specs.Happenings.CanCome.{IsMail, IsCommand, IsReply, IsTick, IsSuspicion}
+use Rattle.crsm_law_steps.specs.Happenings.CanCome.{IsPacket, IsCommand, IsReply, IsTick, IsSuspicion}
 use Rattle.crsm_law_steps.specs.Happenings.Marks.{none}
 use Rattle.crsm_law_steps.specs.Happenings.Ends.{IsWhole, IsCut, IsLost}
 use Rattle.crsm_law_steps.specs.Happenings.Happens.{Nothing, Steps, Junk, Stops, Joins, Starts}
@@ -37,14 +37,14 @@ use Rattle.crsm_law_epoch.proofs.Worlds.{marked_sites, seat_log_at, room_there}
 use Rattle.crsm_law_epoch.specs.LogWorlds.{HasFewBoots}
 use Rattle.crsm_law_epoch.proofs.LogSteps.{IsBetween}
 use Rattle.crsm_law_epoch.proofs.LogWorlds.{all_held, wished, get_range, from_zero, logs_fit, epochs_hold_always}
-use Rattle.crsm_law_messages.specs.Sayings.{Saying, IsToldBy, WasTold}
-use Rattle.crsm_law_messages.specs.Laws.{HearsIn}
+use Rattle.crsm_law_messages.specs.SentMessages.{SentMessage, IsSentBy, WasSentBefore}
+use Rattle.crsm_law_messages.specs.Laws.{ReceivesIn}
 use Rattle.crsm_law_messages.proofs.Truth.{logs_carried}
-use Rattle.crsm_law_messages.proofs.History.{Sends, TellsIn, TellsAt, WasToldIn}
-use Rattle.crsm_law_messages.proofs.Worlds.{all_known, heard_was_told_in, kept_whole, kept_cut}
+use Rattle.crsm_law_messages.proofs.History.{Sends, SendsIn, SendsAt, WasSentIn}
+use Rattle.crsm_law_messages.proofs.Worlds.{all_known, received_was_sent_in, kept_whole, kept_cut}
 use Rattle.crsm_law_bounds.specs.Bounds.{most_records, HasShortLogs, ShortLogsAreSpelt}
 use Rattle.crsm_log_facts.proofs.Lists.{all_at}
-use Rattle.crsm_law_bounds.proofs.Steps.{Fit, Comes, changes_fit, told_fits, extends_length}
+use Rattle.crsm_law_bounds.proofs.Steps.{Fit, Comes, changes_fit, sent_fits, extends_length}
 
 -- ---- short logs
 
@@ -99,7 +99,7 @@ sites_set ss k t h g j s e = go (set_case ss k t j)
 
 pub record Fine (n : ℕ) (w : World) (history : IsReached n w) : Type 0 where
   pub sites : SitesFit w.sites
-  pub messages : (s : Saying) → WasToldIn history s → FitsControl s.message
+  pub messages : (s : SentMessage) → WasSentIn history s → FitsControl s.message
 
 same_came : (a b : ℕ) (c d : Datagram) → Input.Came a c ≡ Input.Came b d → c ≡ d
 same_came a b c d h = cc
@@ -108,21 +108,21 @@ same_came a b c d h = cc
 
 module _ (n : ℕ) (w : World) (reached : IsReached n w) (few : HasFewBoots w) (f : Fine n w reached) (v : World) (p : Marks w v) (k : ℕ) (r : Replica)
     (up : slice_get v.sites k ≡ Some (Site.Up r)) (input : Input) (can : CanCome w k input) where
-  heard_fits : (j : ℕ) (c : Control) → Hears r input j c → FitsControl c
-  heard_fits j c h =
-      let it : HearsIn n w j k c = record { reached = reached; marked = v; marks = p; replica = r; up = up; input = input; can_come = can; hears = h } in
-      let t = heard_was_told_in n w j k c it in
+  received_fits : (j : ℕ) (c : Control) → ReceivesControl r input j c → FitsControl c
+  received_fits j c h =
+      let it : ReceivesIn n w j k c = record { reached = reached; marked = v; marks = p; replica = r; up = up; input = input; can_come = can; receives = h } in
+      let t = received_was_sent_in n w j k c it in
       let s = t.source in
-      let fits = f.messages s.saying t.was_told in
-      subst FitsControl (same_Some s.saying.message c (sym (control_of-bytes s.saying.message fits) ∙ s.reads)) fits
+      let fits = f.messages s.sent_message t.was_sent in
+      subst FitsControl (same_Some s.sent_message.message c (sym (control_of-bytes s.sent_message.message fits) ∙ s.reads)) fits
 
   frame_fits : (a j me e i : ℕ) (g : Entry) → input ≡ Input.Came a (Datagram.Frame j me e i (InEpoch.Prepare g)) → FitsEntry g
   unfolding sent_in
   frame_fits a j me e i g is = go input can is
     where
       go : (z : Input) → CanCome w k z → z ≡ Input.Came a (Datagram.Frame j me e i (InEpoch.Prepare g)) → FitsEntry g
-      go z (IsMail from d s) q =
-          let was = subst (Among (sent_in w)) (same_came from a d (Datagram.Frame j me e i (InEpoch.Prepare g)) q) (among_map (λ m. m.datagram) w.mail (record { from = from; to = k; datagram = d; used = s.0 }) s.1) in
+      go z (IsPacket from d s) q =
+          let was = subst (Among (sent_in w)) (same_came from a d (Datagram.Frame j me e i (InEpoch.Prepare g)) q) (among_map (λ m. m.datagram) w.packets (record { from = from; to = k; datagram = d; used = s.0 }) s.1) in
           let logged = ((epochs_hold_always n w reached few).says j me e i g was).0 in
           all_at _ (log_at w j) (Rec.Prepare g) (log_spelt w j f.sites) (subst (λ l. Logged l g) (seat_log_at w j) logged)
       go z (IsCommand b c x) q = absurd (cc)
@@ -137,7 +137,7 @@ module _ (n : ℕ) (w : World) (reached : IsReached n w) (few : HasFewBoots w) (
       same_request c d e = cc
 
       go : (z : Input) → CanCome w k z → z ≡ Input.Came a (Datagram.Request c) → FitsCommand c
-      go z (IsMail from d s) q = absurd (subst IsBetween (same_came from a d (Datagram.Request c) q) ((all_held n w reached).mail (record { from = from; to = k; datagram = d; used = s.0 }) s.1))
+      go z (IsPacket from d s) q = absurd (subst IsBetween (same_came from a d (Datagram.Request c) q) ((all_held n w reached).packets (record { from = from; to = k; datagram = d; used = s.0 }) s.1))
       go z (IsReply b e d t) q = absurd (cc)
       go z (IsCommand b d x) q = subst FitsCommand (same_request d c (same_came b a (Datagram.Request d) (Datagram.Request c) q)) x
       go z IsTick q = absurd (cc)
@@ -153,7 +153,7 @@ module _ (n : ℕ) (w : World) (reached : IsReached n w) (few : HasFewBoots w) (
     number = ((all_held n w reached).sites k (Site.Up r) up_there).number;
     small = (f.sites k (Site.Up r) up_there).0;
     reading_small = lt;
-    heard = heard_fits;
+    received = received_fits;
     framed = λ a j e i g q. frame_fits a j r.me e i g q;
     asked = command_fits;
     wished = wished n w (all_held n w reached) k input can;
@@ -170,26 +170,26 @@ module _ (n : ℕ) (w : World) (reached : IsReached n w) (few : HasFewBoots w) (
 module _ (n : ℕ) (w : World) (reached : IsReached n w) (f : Fine n w reached) (u : World) (few : HasFewBoots w)
     (fits : (k : ℕ) → AllFit k n (log_at u k)) (short : HasShortLogs u) where
   -- what a draft tells whose step is kept
-  draft_tells : (v : World) → Marks w v → (k : ℕ) (r : Replica) → slice_get v.sites k ≡ Some (Site.Up r) → (input : Input) → CanCome w k input → (reading : ℕ) → reading < 2 ^ 64 →
+  draft_sends : (v : World) → Marks w v → (k : ℕ) (r : Replica) → slice_get v.sites k ≡ Some (Site.Up r) → (input : Input) → CanCome w k input → (reading : ℕ) → reading < 2 ^ 64 →
       log_at u k ≡ (step r input reading).replica.log → (x : Draft) → Changes r input reading (begun r) x → Extends x.replica.log (step r input reading).replica.log →
-      (s : Saying) → IsToldBy r input x s → FitsControl s.message
-  draft_tells v p k r up input can reading lt kept x path ext s t =
+      (s : SentMessage) → IsSentBy r input x s → FitsControl s.message
+  draft_sends v p k r up input can reading lt kept x path ext s t =
       let last = (step r input reading).replica.log in
       let fit = subst (AllFit k n) kept (fits k) in
       let small = subst (λ l. length l ≤ most_records) kept (short k) in
-      told_fits n k last r input reading (comes n w reached few f v p k r up input can reading lt last fit small) x s.message ext
+      sent_fits n k last r input reading (comes n w reached few f v p k r up input can reading lt last fit small) x s.message ext
       (draft_fits n w reached few f v p k r up input can reading lt last fit small x path ext) t.is t.answers
 
   -- what was told in a step
-  step_tells : (v : World) → Marks w v → (k : ℕ) (r : Replica) → slice_get v.sites k ≡ Some (Site.Up r) → (input : Input) → CanCome w k input → (reading : ℕ) → reading < 2 ^ 64 →
+  step_sends : (v : World) → Marks w v → (k : ℕ) (r : Replica) → slice_get v.sites k ≡ Some (Site.Up r) → (input : Input) → CanCome w k input → (reading : ℕ) → reading < 2 ^ 64 →
       log_at u k ≡ (step r input reading).replica.log → {x : Draft} (path : Changes r input reading (begun r) x) → Extends x.replica.log (step r input reading).replica.log →
-      (s : Saying) → TellsIn path s → FitsControl s.message
-  step_tells v p k r up input can reading lt kept stay ext s t = absurd t
-  step_tells v p k r up input can reading lt kept (and_then {y = y} {z = z} path c fitting) ext s t =
+      (s : SentMessage) → SendsIn path s → FitsControl s.message
+  step_sends v p k r up input can reading lt kept stay ext s t = absurd t
+  step_sends v p k r up input can reading lt kept (and_then {y = y} {z = z} path c fitting) ext s t =
       let e = extends_trans (change_grows y z (log_change r input reading y z c)) ext in
       elim t [
-        | inl here ↦ draft_tells v p k r up input can reading lt kept y path e s here
-        | inr old ↦ step_tells v p k r up input can reading lt kept path e s old
+        | inl here ↦ draft_sends v p k r up input can reading lt kept y path e s here
+        | inr old ↦ step_sends v p k r up input can reading lt kept path e s old
       ]
 
   -- the step of a replica whose records are kept
@@ -290,16 +290,16 @@ kept_by n w v p g k r e x z (IsCut count) sends = kept_cut n w v p g (all_known 
 kept_by n w v p g k r e x z IsLost sends = absurd sends
 
 -- what is told at a moment
-moment_tells : (n : ℕ) (w : World) (m : Moment) (g : IsReached n w) (h : Happens w m) → HasFewBoots m.after → HasShortLogs m.after → HasFewBoots w → Fine n w g →
-    (s : Saying) → TellsAt h s → FitsControl s.message
+moment_sends : (n : ℕ) (w : World) (m : Moment) (g : IsReached n w) (h : Happens w m) → HasFewBoots m.after → HasShortLogs m.after → HasFewBoots w → Fine n w g →
+    (s : SentMessage) → SendsAt h s → FitsControl s.message
 unfolding begun_at
-moment_tells n w m g (Nothing v p) few' short few f s t = absurd t
-moment_tells n w m g (Steps v p k r e input reading lt c z ends) few' short few f s t =
-    step_tells n w g f z.after few (logs_fit n z.after (next g (Steps v p k r e input reading lt c z ends)) few') short v p k r e input c reading lt (kept_by n w v p g k r e (step r input reading) z ends t.0) (step_changes r input reading) same s t.1
-moment_tells n w m g (Junk k r e z ends) few' short few f s t = absurd t
-moment_tells n w m g (Stops k) few' short few f s t = absurd t
-moment_tells n w m g (Joins lt) few' short few f s t = absurd t
-moment_tells n w m g (Starts k d small) few' short few f s t = absurd t
+moment_sends n w m g (Nothing v p) few' short few f s t = absurd t
+moment_sends n w m g (Steps v p k r e input reading lt c z ends) few' short few f s t =
+    step_sends n w g f z.after few (logs_fit n z.after (next g (Steps v p k r e input reading lt c z ends)) few') short v p k r e input c reading lt (kept_by n w v p g k r e (step r input reading) z ends t.0) (step_changes r input reading) same s t.1
+moment_sends n w m g (Junk k r e z ends) few' short few f s t = absurd t
+moment_sends n w m g (Stops k) few' short few f s t = absurd t
+moment_sends n w m g (Joins lt) few' short few f s t = absurd t
+moment_sends n w m g (Starts k d small) few' short few f s t = absurd t
 
 pub fine : (n : ℕ) (w : World) → n ≤ 15 → (g : IsReached n w) → HasShortLogs w → Fine n w g
 fine n w most first short = record { sites = first_sites n most; messages = λ s a. absurd a }
@@ -309,26 +309,26 @@ fine n w most (next {w = u} {m = m} g h) short =
     record {
       sites = moment_sites n u m most g h (short_few m.after short) short (short_few u before) f;
       messages = λ s a. elim a [
-        | inl t ↦ moment_tells n u m g h (short_few m.after short) short (short_few u before) f s t
+        | inl t ↦ moment_sends n u m g h (short_few m.after short) short (short_few u before) f s t
         | inr o ↦ f.messages s o
       ];
     }
 
 -- what was told was told in a step whose records are kept
-told_before : (n : ℕ) (w : World) → n ≤ 15 → HasShortLogs w → (s : Saying) → WasTold n w s → FitsControl s.message
+sent_before : (n : ℕ) (w : World) → n ≤ 15 → HasShortLogs w → (s : SentMessage) → WasSentBefore n w s → FitsControl s.message
 unfolding begun_at
-told_before n w most short s t =
+sent_before n w most short s t =
     let p = t.past in
     let u = p.moment.after in
     let after = short_before u w (logs_carried u w p.since) short in
     let before = short_before p.world u (moment_goes_on p.world (begun_at p.world p.moment) p.happens) after in
-    draft_tells n p.world p.reached (fine n p.world most p.reached before) u (short_few p.world before) (logs_fit n u (next p.reached p.happens) (short_few u after)) after
-    p.marked p.marks s.from p.replica p.up p.input p.can_come p.reading p.small p.kept p.draft p.before (changes_grow p.after) s t.told
+    draft_sends n p.world p.reached (fine n p.world most p.reached before) u (short_few p.world before) (logs_fit n u (next p.reached p.happens) (short_few u after)) after
+    p.marked p.marks s.from p.replica p.up p.input p.can_come p.reading p.small p.kept p.draft p.before (changes_grow p.after) s t.sent
 
 pub short_logs_are_spelt : ShortLogsAreSpelt
 short_logs_are_spelt n w most reached short = record {
   numbers = λ k s e. ((fine n w most reached short).sites k s e).0;
   few = short_few w short;
   records = λ k. log_spelt w k (fine n w most reached short).sites;
-  messages = told_before n w most short;
+  messages = sent_before n w most short;
 }

@@ -11,7 +11,7 @@ use Rattle.crsm_spec.specs.Lists.{Among, first_of}
 use Rattle.crsm_spec.specs.Log.{entry_of, Log, decision, known, logged_in, logged, executed, last_stamp, unexecuted, live, suspended, active}
 use Rattle.crsm_spec.specs.Paxos.{majority}
 use Rattle.crsm_spec.specs.Replica.{Replica, members_of, spec_of}
-use Rattle.crsm_spec.specs.Ready.{is_replicated, is_stable, is_next, is_ready, votes_for, voted, reached, all_heard}
+use Rattle.crsm_spec.specs.Ready.{is_replicated, is_stable, is_next, is_ready, votes_for, voted, reached, all_received}
 use Rattle.crsm_spec.specs.Fits.{fits, booted, goes_on}
 use Rattle.crsm_log_facts.specs.Logs.{Extends, same, more, AllFit}
 use Rattle.crsm_law_collection.specs.Collecting.{CommitOf}
@@ -94,11 +94,11 @@ executed_upto me n (Rec.Enter k ∷ log) h p y e = executed_upto me n log h.1 p 
 
 -- ---- the commit rule
 
-ready_parts : (r : Replica) (s : Stamp) → IsTrue (is_ready r s) → (majority (length (spec_of r)) ≤ count_by (voted r.votes s) (spec_of r)) × IsTrue (list_all (reached (all_heard r) s.time) (members_of r))
+ready_parts : (r : Replica) (s : Stamp) → IsTrue (is_ready r s) → (majority (length (spec_of r)) ≤ count_by (voted r.votes s) (spec_of r)) × IsTrue (list_all (reached (all_received r) s.time) (members_of r))
 unfolding is_ready is_replicated is_stable votes_for
 ready_parts r s h =
     let a = and_parts _ (is_next (unexecuted r.log) s) h in
-    let b = and_parts (nat_le (majority (length (spec_of r))) (count_by (voted r.votes s) (spec_of r))) (list_all (reached (all_heard r) s.time) (members_of r)) a.0 in
+    let b = and_parts (nat_le (majority (length (spec_of r))) (count_by (voted r.votes s) (spec_of r))) (list_all (reached (all_received r) s.time) (members_of r)) a.0 in
     (leb-true _ _ b.0, b.1)
 
 module _ (e n begins : ℕ) (spec member : List ℕ) (logs : ℕ → Log) (h : Premises e n begins spec member logs) where
@@ -125,8 +125,8 @@ module _ (e n begins : ℕ) (spec member : List ℕ) (logs : ℕ → Log) (h : P
       let r = ready_parts w.replica x.stamp w.ready in
       let o = h.origin k y m in
       let j = y.stamp.origin in
-      let t = list_all_at (reached (all_heard w.replica) x.stamp.time) (members_of w.replica) j r.1 (subst (λ ks. Among ks j) (sym w.members_are) (has_from member j o.0)) in
-      elim (w.later x.stamp.time j t y o.1 refl) [ inl i ↦ w.heard x.stamp.time j t y i refl l | inr i ↦ absurd (omega arith) ]
+      let t = list_all_at (reached (all_received w.replica) x.stamp.time) (members_of w.replica) j r.1 (subst (λ ks. Among ks j) (sym w.members_are) (has_from member j o.0)) in
+      elim (w.later x.stamp.time j t y o.1 refl) [ inl i ↦ w.received x.stamp.time j t y i refl l | inr i ↦ absurd (omega arith) ]
 
   -- ---- lists
 

@@ -4,7 +4,7 @@ use Rattle.crsm_spec.specs.Types.{Stamp, Entry, Rec}
 use Rattle.crsm_spec.specs.Lists.{has, Among}
 use Rattle.crsm_spec.specs.Log.{Log, known, start, logged_in, executed}
 use Rattle.crsm_spec.specs.Replica.{Replica, members_of, spec_of}
-use Rattle.crsm_spec.specs.Ready.{is_ready, voted, reached, all_heard}
+use Rattle.crsm_spec.specs.Ready.{is_ready, voted, reached, all_received}
 use Rattle.crsm_log_facts.specs.Logs.{Extends, AllFit}
 use Rattle.crsm_law_collection.specs.Collecting.{CommitOf, EpochFacts}
 
@@ -19,10 +19,10 @@ pub record WasReady (e : ℕ) (spec members : List ℕ) (logs : ℕ → Log) (lo
   -- each vote names a replica whose records hold an entry of that stamp
   pub votes : (t : Stamp) (k : ℕ) → IsTrue (voted replica.votes t k) → (y : Entry) × (y.stamp ≡ t) × Among (logged_in e (logs k)) y
   -- where a time was heard from a member, each entry of that member with a time not above it is logged here
-  pub heard : (time k : ℕ) → IsTrue (reached (all_heard replica) time k) → (y : Entry) → Among (logged_in e (then k)) y →
+  pub received : (time k : ℕ) → IsTrue (reached (all_received replica) time k) → (y : Entry) → Among (logged_in e (then k)) y →
       y.stamp.origin ≡ k → y.stamp.time ≤ time → Among (logged_in e log) y
   -- and each entry of that member that it logs in a later step has a greater time
-  pub later : (time k : ℕ) → IsTrue (reached (all_heard replica) time k) → (y : Entry) → Among (logged_in e (logs k)) y →
+  pub later : (time k : ℕ) → IsTrue (reached (all_received replica) time k) → (y : Entry) → Among (logged_in e (logs k)) y →
       y.stamp.origin ≡ k → Among (logged_in e (then k)) y ⊎ (time < y.stamp.time)
 
 pub record Premises (e n begins : ℕ) (spec members : List ℕ) (logs : ℕ → Log) : Type 0 where

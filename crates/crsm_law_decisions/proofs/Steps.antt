@@ -10,7 +10,7 @@ use Rattle.crsm_spec.specs.Lists.{Among, has}
 use Rattle.crsm_spec.specs.Log.{Log, known, spec, promised, accepted, suspended}
 use Rattle.crsm_spec.specs.Quorum.{has_majority, spec_decided}
 use Rattle.crsm_spec.specs.Paxos.{Answer, value_of}
-use Rattle.crsm_spec.specs.Frames.{take_frame, hear, owe, ack, pay, owing, again_frame}
+use Rattle.crsm_spec.specs.Frames.{take_frame, receive, owe, ack, pay, owing, again_frame}
 use Rattle.crsm_spec.specs.Replica.{Replica, Coordinator, LogPage, spec_of, named_spec, next_spec}
 use Rattle.crsm_spec.specs.Collect.{own_page, whole_ones, collected, is_whole, cursor}
 use Rattle.crsm_spec.specs.Draft.{Draft, begun, keep, noting, send, reply, count_vote, issued_at, push_to_members, push_to}
@@ -20,21 +20,21 @@ use Rattle.crsm_spec.specs.Controls.{is_page_of}
 use Rattle.crsm_spec.specs.Step.{Input}
 use Rattle.crsm_spec.specs.World.{Site, World, log_at}
 use Rattle.crsm_log_facts.specs.Logs.{AllFit, Extends}
-use Rattle.crsm_step_facts.specs.Messages.{Hears, IsTold}
+use Rattle.crsm_step_facts.specs.Messages.{ReceivesControl, IsSent}
 use Rattle.crsm_step_facts.specs.Changes.{Change, Changes, stay, and_then, IsAnswer, IsVote}
-use Rattle.crsm_step_facts.specs.Changes.Change.{Submits, Refuses, Commits, Replies, Takes, Acks, IsAcked, Pays, Owes, TellsTime, SendsAgain, Tells, Gathers, Suspends, Collects, TakesPage, Completes, Refrains, GivesUp, Asks, CountsAnswer, Proposes, IsPreempted, AcceptsOwn, CountsVote, Promises, Accepts, Chooses, Learns, AdoptsTail, AdoptsPage, Enters}
+use Rattle.crsm_step_facts.specs.Changes.Change.{Submits, Refuses, Commits, Replies, Takes, Acks, IsAcked, Pays, Owes, SendsTime, SendsAgain, SendsControl, Gathers, Suspends, Collects, TakesPage, Completes, Refrains, GivesUp, Asks, CountsAnswer, Proposes, IsPreempted, AcceptsOwn, CountsVote, Promises, Accepts, Chooses, Learns, AdoptsTail, AdoptsPage, Enters}
 use Rattle.crsm_law_steps.specs.Happenings.{Marks, CanCome, IsReached}
-use Rattle.crsm_step_facts.proofs.Logs.{log_change, change_grows, tell_still, replies_still}
+use Rattle.crsm_step_facts.proofs.Logs.{log_change, change_grows, send_still, replies_still}
 use Rattle.crsm_log_facts.proofs.Logged.{extends_trans, end_fits}
 use Rattle.crsm_law_collection.specs.Paging.{AreParts}
 use Rattle.crsm_law_collection.proofs.Pages.{pages_begin}
-use Rattle.crsm_law_messages.specs.Sayings.{Saying, IsToldBy}
-use Rattle.crsm_law_messages.specs.Laws.{Says, HearsIn}
+use Rattle.crsm_law_messages.specs.SentMessages.{SentMessage, IsSentBy}
+use Rattle.crsm_law_messages.specs.Laws.{Says, ReceivesIn}
 use Rattle.crsm_law_messages.specs.Counted.{AllSpelt}
-use Rattle.crsm_law_messages.proofs.History.{TellsIn, WasToldIn}
-use Rattle.crsm_law_messages.proofs.Truth.{told_is_true, voted}
-use Rattle.crsm_law_messages.proofs.Worlds.{heard_is_told, heard_is_told_in}
-use Rattle.crsm_law_messages.proofs.Coordinators.{tell_coordinator, replies_coordinator}
+use Rattle.crsm_law_messages.proofs.History.{SendsIn, WasSentIn}
+use Rattle.crsm_law_messages.proofs.Truth.{sent_is_true, voted}
+use Rattle.crsm_law_messages.proofs.Worlds.{received_is_sent, received_is_sent_in}
+use Rattle.crsm_law_messages.proofs.Coordinators.{send_coordinator, replies_coordinator}
 use Rattle.crsm_law_decisions.specs.Ballots.{Offer, IsOffered, IsComplete, HasPromised, NamesOffered, AreSound, IsChosen}
 use Rattle.crsm_law_decisions.proofs.Logs.{IsPlain, plain_of, plain_no_accept, plain_no_decide, same_accept, same_decide, promise_accept, promise_decide, accept_decide, decide_accept, known_promise, known_accept, promise_held, accept_epoch, held_accept, decision_kept}
 use Rattle.crsm_law_decisions.proofs.Choice.{share, one_value}
@@ -63,7 +63,7 @@ pub record Held (n : ℕ) (w : World) (history : IsReached n w) : Type 0 where
   pub coordinators : (k : ℕ) (r : Replica) → slice_get w.sites k ≡ Some (Site.Up r) → CoordinatorHolds n (log_at w) offers k (known r.log) r.log r.coordinator
   pub accepted : (k i : ℕ) (b : Ballot) (d : Decision) → Among (log_at w k) (Rec.Accept i b d) → IsOffered offers i b d
   pub decided : (k : ℕ) (d : Decision) → Among (log_at w k) (Rec.Decide d) → IsChosen n (log_at w) d
-  pub told : (s : Saying) (i : ℕ) (b : Ballot) (d : Decision) → WasToldIn history s → s.message ≡ Control.P2a i b d → IsOffered offers i b d
+  pub told : (s : SentMessage) (i : ℕ) (b : Ballot) (d : Decision) → WasSentIn history s → s.message ≡ Control.P2a i b d → IsOffered offers i b d
 
 module _ (n : ℕ) (w v : World) (reached : IsReached n w) (marks : Marks w v) (k : ℕ) (r : Replica) (up : slice_get v.sites k ≡ Some (Site.Up r)) (input : Input) (reading : ℕ) (can : CanCome w k input)
     (spelt : AllSpelt n w) (held : Held n w reached) (later : ℕ → Log) (grows : (j : ℕ) → Extends (log_at w j) (later j)) (fit : (j : ℕ) → AllFit j n (later j)) where
@@ -74,19 +74,19 @@ module _ (n : ℕ) (w v : World) (reached : IsReached n w) (marks : Marks w v) (
     pub earlier : Extends log (log_at w j)
     pub says : Says log c
 
-  hearing : (j : ℕ) (c : Control) → Hears r input j c → HearsIn n w j k c
-  hearing j c h = record { reached = reached; marked = v; marks = marks; replica = r; up = up; input = input; can_come = can; hears = h }
+  receiving : (j : ℕ) (c : Control) → ReceivesControl r input j c → ReceivesIn n w j k c
+  receiving j c h = record { reached = reached; marked = v; marks = marks; replica = r; up = up; input = input; can_come = can; receives = h }
 
-  heard_true : (j : ℕ) (c : Control) → Hears r input j c → IsTrueOf j c
-  heard_true j c h =
-      let s = heard_is_told n w j k c (hearing j c h) spelt in
-      let t = told_is_true n w s.0 s.4 in
+  received_true : (j : ℕ) (c : Control) → ReceivesControl r input j c → IsTrueOf j c
+  received_true j c h =
+      let s = received_is_sent n w j k c (receiving j c h) spelt in
+      let t = sent_is_true n w s.0 s.4 in
       record { log = t.0; earlier = subst (λ z. Extends t.0 (log_at w z)) s.1 t.1; says = subst (Says t.0) s.3 t.2 }
 
-  heard_offer : (j i : ℕ) (b : Ballot) (d : Decision) → Hears r input j (Control.P2a i b d) → IsOffered held.offers i b d
-  unfolding hearing
-  heard_offer j i b d h =
-      let s = heard_is_told_in n w j k (Control.P2a i b d) (hearing j (Control.P2a i b d) h) spelt in
+  received_offer : (j i : ℕ) (b : Ballot) (d : Decision) → ReceivesControl r input j (Control.P2a i b d) → IsOffered held.offers i b d
+  unfolding receiving
+  received_offer j i b d h =
+      let s = received_is_sent_in n w j k (Control.P2a i b d) (receiving j (Control.P2a i b d) h) spelt in
       held.told s.0 i b d s.2 s.1
 
   fit_now : (j : ℕ) (log : Log) → Extends log (log_at w j) → AllFit j n log
@@ -95,7 +95,7 @@ module _ (n : ℕ) (w v : World) (reached : IsReached n w) (marks : Marks w v) (
   -- ---- a draft
 
   -- What holds of a draft, which may have told these.
-  pub record Mid (x : Draft) (Tells : Saying → Type 0) : Type 0 where
+  pub record Mid (x : Draft) (SendsControl : SentMessage → Type 0) : Type 0 where
     pub me : x.replica.me ≡ k
     pub size : x.replica.n ≡ n
     pub offers : List Offer
@@ -106,20 +106,20 @@ module _ (n : ℕ) (w v : World) (reached : IsReached n w) (marks : Marks w v) (
     pub coordinator : CoordinatorHolds n later offers k (known x.replica.log) x.replica.log x.replica.coordinator
     pub accepted : (i : ℕ) (b : Ballot) (d : Decision) → Among x.replica.log (Rec.Accept i b d) → IsOffered offers i b d
     pub decided : (d : Decision) → Among x.replica.log (Rec.Decide d) → IsChosen n later d
-    pub told : (s : Saying) (i : ℕ) (b : Ballot) (d : Decision) → Tells s → s.message ≡ Control.P2a i b d → IsOffered offers i b d
+    pub told : (s : SentMessage) (i : ℕ) (b : Ballot) (d : Decision) → SendsControl s → s.message ≡ Control.P2a i b d → IsOffered offers i b d
 
   -- what it tells next is offered
-  now_told : (x : Draft) (T : Saying → Type 0) (g : Mid x T) (s : Saying) (i : ℕ) (b : Ballot) (d : Decision) → IsToldBy r input x s ⊎ T s → s.message ≡ Control.P2a i b d → IsOffered g.offers i b d
+  now_sent : (x : Draft) (T : SentMessage → Type 0) (g : Mid x T) (s : SentMessage) (i : ℕ) (b : Ballot) (d : Decision) → IsSentBy r input x s ⊎ T s → s.message ≡ Control.P2a i b d → IsOffered g.offers i b d
   unfolding instance
-  now_told x T g s i b d (inr h) e = g.told s i b d h e
-  now_told x T g s i b d (inl h) e =
-      let is : IsTold x (Control.P2a i b d) = subst (IsTold x) e h.is in
+  now_sent x T g s i b d (inr h) e = g.told s i b d h e
+  now_sent x T g s i b d (inl h) e =
+      let is : IsSent x (Control.P2a i b d) = subst (IsSent x) e h.is in
       let p : IsProposing n later g.offers (known x.replica.log) b is.1 d is.2 = subst (CoordinatorHolds n later g.offers k (known x.replica.log) x.replica.log) is.3 g.coordinator in
       subst (λ z. IsOffered g.offers z b d) (sym is.0) p.offered
 
-  telling : (x : Draft) (T : Saying → Type 0) → Mid x T → Mid x (λ s. IsToldBy r input x s ⊎ T s)
+  sending : (x : Draft) (T : SentMessage → Type 0) → Mid x T → Mid x (λ s. IsSentBy r input x s ⊎ T s)
   unfolding instance
-  telling x T g = record {
+  sending x T g = record {
     me = g.me;
     size = g.size;
     offers = g.offers;
@@ -130,11 +130,11 @@ module _ (n : ℕ) (w v : World) (reached : IsReached n w) (marks : Marks w v) (
     coordinator = g.coordinator;
     accepted = g.accepted;
     decided = g.decided;
-    told = now_told x T g;
+    told = now_sent x T g;
   }
 
   -- a change of the coordinator alone
-  noted : (x y : Draft) (T : Saying → Type 0) (g : Mid x T) → y.replica.me ≡ x.replica.me → y.replica.n ≡ x.replica.n → y.replica.log ≡ x.replica.log →
+  noted : (x y : Draft) (T : SentMessage → Type 0) (g : Mid x T) → y.replica.me ≡ x.replica.me → y.replica.n ≡ x.replica.n → y.replica.log ≡ x.replica.log →
       CoordinatorHolds n later g.offers k (known x.replica.log) x.replica.log y.replica.coordinator → Mid y T
   noted x y T g me size log coordinator = record {
     me = me ∙ g.me;
@@ -150,11 +150,11 @@ module _ (n : ℕ) (w v : World) (reached : IsReached n w) (marks : Marks w v) (
     told = g.told;
   }
 
-  quiet : (x y : Draft) (T : Saying → Type 0) → Mid x T → y.replica.me ≡ x.replica.me → y.replica.n ≡ x.replica.n → y.replica.log ≡ x.replica.log → y.replica.coordinator ≡ x.replica.coordinator → Mid y T
+  quiet : (x y : Draft) (T : SentMessage → Type 0) → Mid x T → y.replica.me ≡ x.replica.me → y.replica.n ≡ x.replica.n → y.replica.log ≡ x.replica.log → y.replica.coordinator ≡ x.replica.coordinator → Mid y T
   quiet x y T g me size log coordinator = noted x y T g me size log (subst (CoordinatorHolds n later g.offers k (known x.replica.log) x.replica.log) (sym coordinator) g.coordinator)
 
   -- one more record of the same epoch
-  kept : (x y : Draft) (T : Saying → Type 0) (g : Mid x T) (rec : Rec) → y.replica.me ≡ x.replica.me → y.replica.n ≡ x.replica.n → y.replica.log ≡ rec ∷ x.replica.log → y.replica.coordinator ≡ x.replica.coordinator →
+  kept : (x y : Draft) (T : SentMessage → Type 0) (g : Mid x T) (rec : Rec) → y.replica.me ≡ x.replica.me → y.replica.n ≡ x.replica.n → y.replica.log ≡ rec ∷ x.replica.log → y.replica.coordinator ≡ x.replica.coordinator →
       known (rec ∷ x.replica.log) ≡ known x.replica.log → ((i : ℕ) (b : Ballot) (d : Decision) → rec ≡ Rec.Accept i b d → IsOffered g.offers i b d) → ((d : Decision) → rec ≡ Rec.Decide d → ⊥) → Mid y T
   kept x y T g rec me size log coordinator known_is accepts decides = record {
     me = me ∙ g.me;
@@ -182,13 +182,13 @@ module _ (n : ℕ) (w v : World) (reached : IsReached n w) (marks : Marks w v) (
       decided_of d (inr h) = g.decided d h
 
   -- a record that says nothing of ballots
-  plain : (x y : Draft) (T : Saying → Type 0) (g : Mid x T) (rec : Rec) → y.replica.me ≡ x.replica.me → y.replica.n ≡ x.replica.n → y.replica.log ≡ rec ∷ x.replica.log → y.replica.coordinator ≡ x.replica.coordinator →
+  plain : (x y : Draft) (T : SentMessage → Type 0) (g : Mid x T) (rec : Rec) → y.replica.me ≡ x.replica.me → y.replica.n ≡ x.replica.n → y.replica.log ≡ rec ∷ x.replica.log → y.replica.coordinator ≡ x.replica.coordinator →
       IsPlain rec x.replica.log → Mid y T
   plain x y T g rec me size log coordinator p =
       kept x y T g rec me size log coordinator p.known_is (λ i b d e. absurd (plain_no_accept rec x.replica.log i b d p e)) (λ d e. plain_no_decide rec x.replica.log d p e)
 
   -- what is learnt was chosen
-  learnt : (x y : Draft) (T : Saying → Type 0) (g : Mid x T) (d : Decision) → y.replica.me ≡ x.replica.me → y.replica.n ≡ x.replica.n → y.replica.log ≡ Rec.Decide d ∷ x.replica.log → y.replica.coordinator ≡ Coordinator.Idle →
+  learnt : (x y : Draft) (T : SentMessage → Type 0) (g : Mid x T) (d : Decision) → y.replica.me ≡ x.replica.me → y.replica.n ≡ x.replica.n → y.replica.log ≡ Rec.Decide d ∷ x.replica.log → y.replica.coordinator ≡ Coordinator.Idle →
       IsChosen n later d → Mid y T
   learnt x y T g d me size log coordinator chosen = record {
     me = me ∙ g.me;
@@ -215,26 +215,26 @@ module _ (n : ℕ) (w v : World) (reached : IsReached n w) (marks : Marks w v) (
   -- ---- a coordinator
 
   -- its coordinator, where it is this one
-  coordinator_is : (x : Draft) (T : Saying → Type 0) (g : Mid x T) (coordinator : Coordinator) → x.replica.coordinator ≡ coordinator → CoordinatorHolds n later g.offers k (known x.replica.log) x.replica.log coordinator
+  coordinator_is : (x : Draft) (T : SentMessage → Type 0) (g : Mid x T) (coordinator : Coordinator) → x.replica.coordinator ≡ coordinator → CoordinatorHolds n later g.offers k (known x.replica.log) x.replica.log coordinator
   coordinator_is x T g coordinator e = subst (CoordinatorHolds n later g.offers k (known x.replica.log) x.replica.log) e g.coordinator
 
-  spec_is : (x : Draft) (T : Saying → Type 0) → Mid x T → spec_of x.replica ≡ spec n x.replica.log
+  spec_is : (x : Draft) (T : SentMessage → Type 0) → Mid x T → spec_of x.replica ≡ spec n x.replica.log
   unfolding spec_of
   spec_is x T g = ap (λ m. spec m x.replica.log) g.size
 
-  collects : (x y : Draft) (T : Saying → Type 0) (g : Mid x T) (ms : List ℕ) → Extends x.replica.log (later k) → IsTrue (suspended x.replica.log) → y ≡ noting (Coordinator.Collecting ms (own_page x.replica.me x.replica.log ∷ [])) x → Mid y T
+  collects : (x y : Draft) (T : SentMessage → Type 0) (g : Mid x T) (ms : List ℕ) → Extends x.replica.log (later k) → IsTrue (suspended x.replica.log) → y ≡ noting (Coordinator.Collecting ms (own_page x.replica.me x.replica.log ∷ [])) x → Mid y T
   unfolding noting
   collects x y T g ms ext frozen is = subst (λ z. Mid z T) (sym is) (noted x _ T g refl refl refl
       (subst (λ j. AreParts (known x.replica.log) later (own_page j x.replica.log ∷ [])) (sym g.me) (pages_begin (known x.replica.log) k later x.replica.log (ext, refl, frozen))))
 
-  page_taken : (x : Draft) (T : Saying → Type 0) (g : Mid x T) (ms : List ℕ) (pages : List LogPage) (e : ℕ) (after : Option Stamp) (p : LogPage) → x.replica.coordinator ≡ Coordinator.Collecting ms pages →
-      Hears r input p.from (Control.SuspendOk e p.executed p.last after p.whole p.entries) → IsTrue (is_page_of (known x.replica.log) e (cursor pages p.from) after p) → is_whole pages p.from ≡ false →
+  page_taken : (x : Draft) (T : SentMessage → Type 0) (g : Mid x T) (ms : List ℕ) (pages : List LogPage) (e : ℕ) (after : Option Stamp) (p : LogPage) → x.replica.coordinator ≡ Coordinator.Collecting ms pages →
+      ReceivesControl r input p.from (Control.SuspendOk e p.executed p.last after p.whole p.entries) → IsTrue (is_page_of (known x.replica.log) e (cursor pages p.from) after p) → is_whole pages p.from ≡ false →
       AreParts (known x.replica.log) later (pages ++ p ∷ [])
-  page_taken x T g ms pages e after p was hears next not_whole =
-      let t = heard_true p.from (Control.SuspendOk e p.executed p.last after p.whole p.entries) hears in
+  page_taken x T g ms pages e after p was receives next not_whole =
+      let t = received_true p.from (Control.SuspendOk e p.executed p.last after p.whole p.entries) receives in
       takes_page n later fit (known x.replica.log) e pages after p t.log (coordinator_is x T g (Coordinator.Collecting ms pages) was) next not_whole (extends_trans t.earlier (grows p.from)) t.says.0 t.says.1
 
-  completes : (x : Draft) (T : Saying → Type 0) (g : Mid x T) (ms : List ℕ) (pages : List LogPage) → Extends x.replica.log (later k) → x.replica.coordinator ≡ Coordinator.Collecting ms pages →
+  completes : (x : Draft) (T : SentMessage → Type 0) (g : Mid x T) (ms : List ℕ) (pages : List LogPage) → Extends x.replica.log (later k) → x.replica.coordinator ≡ Coordinator.Collecting ms pages →
       IsTrue (has_majority (spec_of x.replica) (whole_ones (spec_of x.replica) pages)) →
       IsComplete n later (known x.replica.log + 1) (collected (spec_of x.replica) (named_spec x.replica ms) x.replica.log ms pages)
   completes x T g ms pages ext was many = record {
@@ -252,13 +252,13 @@ module _ (n : ℕ) (w v : World) (reached : IsReached n w) (marks : Marks w v) (
   }
 
   -- a ballot of its own that is promised now was never offered
-  unused : (x : Draft) (T : Saying → Type 0) (g : Mid x T) (b : Ballot) → Extends x.replica.log (later k) → b.by ≡ k → IsTrue (ballot_lt (promised x.replica.log) b) → (o : Offer) → Among g.offers o → o.instance ≡ known x.replica.log + 1 → o.ballot ≡ b → ⊥
+  unused : (x : Draft) (T : SentMessage → Type 0) (g : Mid x T) (b : Ballot) → Extends x.replica.log (later k) → b.by ≡ k → IsTrue (ballot_lt (promised x.replica.log) b) → (o : Offer) → Among g.offers o → o.instance ≡ known x.replica.log + 1 → o.ballot ≡ b → ⊥
   unused x T g b ext by lt o h at is =
       let a = g.asked o h (ap (λ (c : Ballot). c.by) is ∙ by) in
       let low = promise_held k n x.replica.log o.instance o.ballot (end_fits k n ext (fit k)) a at in
       absurd (false≢true (sym low ∙ subst (λ z. ballot_lt (promised x.replica.log) z ≡ true) (sym is) lt))
 
-  asks : (x : Draft) (T : Saying → Type 0) (g : Mid x T) (own : Decision) (seen b : Ballot) → Extends x.replica.log (later k) → x.replica.coordinator ≡ Coordinator.Preempted own seen → b.by ≡ x.replica.me →
+  asks : (x : Draft) (T : SentMessage → Type 0) (g : Mid x T) (own : Decision) (seen b : Ballot) → Extends x.replica.log (later k) → x.replica.coordinator ≡ Coordinator.Preempted own seen → b.by ≡ x.replica.me →
       IsTrue (ballot_lt (promised x.replica.log) b) → Mid (noting (Coordinator.Preparing b own []) (keep (Rec.Promise (instance x) b) x)) T
   unfolding keep noting instance kept
   asks x T g own seen b ext was by lt =
@@ -282,7 +282,7 @@ module _ (n : ℕ) (w v : World) (reached : IsReached n w) (marks : Marks w v) (
     pub promised : HasPromised later (e + 1) b a
     pub named : NamesOffered offers (e + 1) a
 
-  answers : (x : Draft) (T : Saying → Type 0) (g : Mid x T) (b : Ballot) (a : Answer Decision) → Extends x.replica.log (later k) → IsAnswer r input x b a → Answers g.offers (known x.replica.log) b a
+  answers : (x : Draft) (T : SentMessage → Type 0) (g : Mid x T) (b : Ballot) (a : Answer Decision) → Extends x.replica.log (later k) → IsAnswer r input x b a → Answers g.offers (known x.replica.log) b a
   unfolding instance
   answers x T g b a ext (inl own) =
       let at : a.replica ≡ k = own.0 ∙ g.me in
@@ -297,7 +297,7 @@ module _ (n : ℕ) (w v : World) (reached : IsReached n w) (marks : Marks w v) (
         named = λ c d is. g.accepted (known x.replica.log + 1) c d (held_accept k n x.replica.log c d (end_fits k n ext (fit k)) (sym own.2 ∙ is));
       }
   answers x T g b a ext (inr h) =
-      let t = heard_true a.replica (Control.P1b (known x.replica.log + 1) b a.accepted) h.1 in
+      let t = received_true a.replica (Control.P1b (known x.replica.log + 1) b a.accepted) h.1 in
       let says = t.says in
       record {
         promised = record { log = t.log; earlier = extends_trans t.earlier (grows a.replica); next = says.0; has_promised = says.1; had_accepted = says.2 };
@@ -307,7 +307,7 @@ module _ (n : ℕ) (w v : World) (reached : IsReached n w) (marks : Marks w v) (
             subst (λ z. IsOffered g.offers z c d) (sym says.0) (offered_more held.offers g.offers g.before (known t.log + 1) c d there);
       }
 
-  counts : (x : Draft) (T : Saying → Type 0) (g : Mid x T) (b : Ballot) (own : Decision) (given : List (Answer Decision)) (a : Answer Decision) → Extends x.replica.log (later k) → x.replica.coordinator ≡ Coordinator.Preparing b own given → IsAnswer r input x b a →
+  counts : (x : Draft) (T : SentMessage → Type 0) (g : Mid x T) (b : Ballot) (own : Decision) (given : List (Answer Decision)) (a : Answer Decision) → Extends x.replica.log (later k) → x.replica.coordinator ≡ Coordinator.Preparing b own given → IsAnswer r input x b a →
       IsAsking n later g.offers k (known x.replica.log) x.replica.log b own (given ++ a ∷ [])
   counts x T g b own given a ext was is =
       let old : IsAsking n later g.offers k (known x.replica.log) x.replica.log b own given = coordinator_is x T g (Coordinator.Preparing b own given) was in
@@ -322,7 +322,7 @@ module _ (n : ℕ) (w v : World) (reached : IsReached n w) (marks : Marks w v) (
       }
 
   -- one more offer
-  proposes : (x : Draft) (T : Saying → Type 0) (g : Mid x T) (b : Ballot) (own : Decision) (given : List (Answer Decision)) → Extends x.replica.log (later k) → x.replica.coordinator ≡ Coordinator.Preparing b own given →
+  proposes : (x : Draft) (T : SentMessage → Type 0) (g : Mid x T) (b : Ballot) (own : Decision) (given : List (Answer Decision)) → Extends x.replica.log (later k) → x.replica.coordinator ≡ Coordinator.Preparing b own given →
       IsTrue (has_majority (spec_of x.replica) (map (λ f. f.replica) given)) → Mid (noting (Coordinator.Proposing b own (value_of own given) []) x) T
   unfolding noting
   proposes x T g b own given ext was many =
@@ -359,7 +359,7 @@ module _ (n : ℕ) (w v : World) (reached : IsReached n w) (marks : Marks w v) (
         told = λ s i c d h e. offered_more g.offers (o ∷ g.offers) sub i c d (g.told s i c d h e);
       }
 
-  preempted : (x : Draft) (T : Saying → Type 0) (g : Mid x T) (b : Ballot) (own value : Decision) (acceptors : List ℕ) (given : List (Answer Decision)) →
+  preempted : (x : Draft) (T : SentMessage → Type 0) (g : Mid x T) (b : Ballot) (own value : Decision) (acceptors : List ℕ) (given : List (Answer Decision)) →
       (x.replica.coordinator ≡ Coordinator.Preparing b own given) ⊎ (x.replica.coordinator ≡ Coordinator.Proposing b own value acceptors) → IsComplete n later (known x.replica.log + 1) own
   preempted x T g b own value acceptors given (inl was) =
       let p : IsAsking n later g.offers k (known x.replica.log) x.replica.log b own given = coordinator_is x T g (Coordinator.Preparing b own given) was in p.complete
@@ -367,7 +367,7 @@ module _ (n : ℕ) (w v : World) (reached : IsReached n w) (marks : Marks w v) (
       let p : IsProposing n later g.offers (known x.replica.log) b own value acceptors = coordinator_is x T g (Coordinator.Proposing b own value acceptors) was in p.complete
 
   -- a vote that counts is on record, for the value that is proposed
-  vote : (x : Draft) (T : Saying → Type 0) (g : Mid x T) (b : Ballot) (value : Decision) (j : ℕ) → Extends x.replica.log (later k) → IsOffered g.offers (known x.replica.log + 1) b value → IsVote r input x b j →
+  vote : (x : Draft) (T : SentMessage → Type 0) (g : Mid x T) (b : Ballot) (value : Decision) (j : ℕ) → Extends x.replica.log (later k) → IsOffered g.offers (known x.replica.log + 1) b value → IsVote r input x b j →
       Among (later j) (Rec.Accept (known x.replica.log + 1) b value)
   unfolding instance has_accepted
   vote x T g b value j ext offered (inl own) =
@@ -377,7 +377,7 @@ module _ (n : ℕ) (w v : World) (reached : IsReached n w) (marks : Marks w v) (
       subst (λ i. Among (later i) (Rec.Accept (known x.replica.log + 1) b value)) (sym (own.0 ∙ g.me))
       (subst (λ d. Among (later k) (Rec.Accept (known x.replica.log + 1) b d)) same_value (extends_among ext (Rec.Accept (known x.replica.log + 1) b a.0) on_log))
   vote x T g b value j ext offered (inr h) =
-      let t = heard_true j (Control.P2b (known x.replica.log + 1) b) h.1 in
+      let t = received_true j (Control.P2b (known x.replica.log + 1) b) h.1 in
       let d = t.says.1 in
       let there : Among (log_at w j) (Rec.Accept (known t.log + 1) b d) = extends_among t.earlier (Rec.Accept (known t.log + 1) b d) (held_accept j n t.log b d (fit_now j t.log t.earlier) t.says.2) in
       let here : Among (log_at w j) (Rec.Accept (known x.replica.log + 1) b d) = subst (λ z. Among (log_at w j) (Rec.Accept z b d)) (sym t.says.0) there in
@@ -385,7 +385,7 @@ module _ (n : ℕ) (w v : World) (reached : IsReached n w) (marks : Marks w v) (
       (offered_more held.offers g.offers g.before (known x.replica.log + 1) b d (held.accepted j (known x.replica.log + 1) b d here)) offered in
       extends_among (grows j) (Rec.Accept (known x.replica.log + 1) b value) (subst (λ z. Among (log_at w j) (Rec.Accept (known x.replica.log + 1) b z)) same_value here)
 
-  votes : (x : Draft) (T : Saying → Type 0) (g : Mid x T) (b : Ballot) (own value : Decision) (acceptors : List ℕ) (j : ℕ) → Extends x.replica.log (later k) → x.replica.coordinator ≡ Coordinator.Proposing b own value acceptors → IsVote r input x b j →
+  votes : (x : Draft) (T : SentMessage → Type 0) (g : Mid x T) (b : Ballot) (own value : Decision) (acceptors : List ℕ) (j : ℕ) → Extends x.replica.log (later k) → x.replica.coordinator ≡ Coordinator.Proposing b own value acceptors → IsVote r input x b j →
       IsProposing n later g.offers (known x.replica.log) b own value (j ∷ acceptors)
   votes x T g b own value acceptors j ext was is =
       let old : IsProposing n later g.offers (known x.replica.log) b own value acceptors = coordinator_is x T g (Coordinator.Proposing b own value acceptors) was in
@@ -395,7 +395,7 @@ module _ (n : ℕ) (w v : World) (reached : IsReached n w) (marks : Marks w v) (
         voted = λ i h. elim h [ inl e ↦ subst (λ z. Among (later z) (Rec.Accept (known x.replica.log + 1) b value)) e (vote x T g b value j ext old.offered is) | inr q ↦ old.voted i q ];
       }
 
-  chooses : (x : Draft) (T : Saying → Type 0) (g : Mid x T) (b : Ballot) (own d : Decision) (acceptors : List ℕ) → Extends x.replica.log (later k) → x.replica.coordinator ≡ Coordinator.Proposing b own d acceptors →
+  chooses : (x : Draft) (T : SentMessage → Type 0) (g : Mid x T) (b : Ballot) (own d : Decision) (acceptors : List ℕ) → Extends x.replica.log (later k) → x.replica.coordinator ≡ Coordinator.Proposing b own d acceptors →
       IsTrue (has_majority (spec_of x.replica) acceptors) → IsChosen n later d
   chooses x T g b own d acceptors ext was enough =
       let old : IsProposing n later g.offers (known x.replica.log) b own d acceptors = coordinator_is x T g (Coordinator.Proposing b own d acceptors) was in
@@ -414,14 +414,14 @@ module _ (n : ℕ) (w v : World) (reached : IsReached n w) (marks : Marks w v) (
       }
 
   -- what is heard given decided was chosen
-  learns : (j : ℕ) (d : Decision) → Hears r input j (Control.Decide d) → IsChosen n later d
+  learns : (j : ℕ) (d : Decision) → ReceivesControl r input j (Control.Decide d) → IsChosen n later d
   learns j d h =
-      let t = heard_true j (Control.Decide d) h in
+      let t = received_true j (Control.Decide d) h in
       chosen_on n (log_at w) later grows d (held.decided j d (extends_among t.earlier (Rec.Decide d) (decision_kept t.log d t.says)))
 
   -- ---- each change
 
-  accepts_own : (x : Draft) (T : Saying → Type 0) (g : Mid x T) (b : Ballot) (own value : Decision) (acceptors : List ℕ) → x.replica.coordinator ≡ Coordinator.Proposing b own value acceptors → (i : ℕ) (c : Ballot) (d : Decision) →
+  accepts_own : (x : Draft) (T : SentMessage → Type 0) (g : Mid x T) (b : Ballot) (own value : Decision) (acceptors : List ℕ) → x.replica.coordinator ≡ Coordinator.Proposing b own value acceptors → (i : ℕ) (c : Ballot) (d : Decision) →
       Rec.Accept (instance x) b value ≡ Rec.Accept i c d → IsOffered g.offers i c d
   unfolding instance
   accepts_own x T g b own value acceptors was i c d e =
@@ -429,14 +429,14 @@ module _ (n : ℕ) (w v : World) (reached : IsReached n w) (marks : Marks w v) (
       let q = same_accept (known x.replica.log + 1) i b c value d e in
       offered_as g.offers (known x.replica.log + 1) i b c value d q.instance q.ballot q.value p.offered
 
-  accepts : (x : Draft) (T : Saying → Type 0) (g : Mid x T) (j : ℕ) (b : Ballot) (value : Decision) → Hears r input j (Control.P2a (instance x) b value) → (i : ℕ) (c : Ballot) (d : Decision) →
+  accepts : (x : Draft) (T : SentMessage → Type 0) (g : Mid x T) (j : ℕ) (b : Ballot) (value : Decision) → ReceivesControl r input j (Control.P2a (instance x) b value) → (i : ℕ) (c : Ballot) (d : Decision) →
       Rec.Accept (instance x) b value ≡ Rec.Accept i c d → IsOffered g.offers i c d
   accepts x T g j b value h i c d e =
       let q = same_accept (instance x) i b c value d e in
-      offered_as g.offers (instance x) i b c value d q.instance q.ballot q.value (offered_more held.offers g.offers g.before (instance x) b value (heard_offer j (instance x) b value h))
+      offered_as g.offers (instance x) i b c value d q.instance q.ballot q.value (offered_more held.offers g.offers g.before (instance x) b value (received_offer j (instance x) b value h))
 
-  changed : (x y : Draft) (T : Saying → Type 0) → Change r input reading x y → Extends x.replica.log (later k) → Mid x T → Mid y T
-  unfolding submit refuse await push_to_members push_to count_vote issued_at keep noting reply send take_frame hear owe ack pay owing again_frame forget_epoch
+  changed : (x y : Draft) (T : SentMessage → Type 0) → Change r input reading x y → Extends x.replica.log (later k) → Mid x T → Mid y T
+  unfolding submit refuse await push_to_members push_to count_vote issued_at keep noting reply send take_frame receive owe ack pay owing again_frame forget_epoch
   changed x y T (Submits a c t i q p) ext g = plain x y T g _ refl refl refl refl (plain_of _ x.replica.log refl)
   changed x y T (Refuses a c why i q) ext g = quiet x y T g refl refl refl refl
   changed x y T (Commits e a q p) ext g = plain x y T g (Rec.Commit e.stamp) refl refl refl refl (plain_of _ x.replica.log refl)
@@ -448,9 +448,9 @@ module _ (n : ℕ) (w v : World) (reached : IsReached n w) (marks : Marks w v) (
   changed x y T (IsAcked j up_to p q) ext g = quiet x y T g refl refl refl refl
   changed x y T (Pays s t a m p lt) ext g = quiet x y T g refl refl refl refl
   changed x y T (Owes ss a q) ext g = quiet x y T g refl refl refl refl
-  changed x y T (TellsTime t a i p) ext g = quiet x y T g refl refl refl refl
+  changed x y T (SendsTime t a i p) ext g = quiet x y T g refl refl refl refl
   changed x y T (SendsAgain j f a m q) ext g = quiet x y T g refl refl refl refl
-  changed x y T (Tells j c q) ext g = quiet x y T g (tell_still c j x).me (tell_still c j x).n (tell_still c j x).log (tell_coordinator c j x)
+  changed x y T (SendsControl j c q) ext g = quiet x y T g (send_still c j x).me (send_still c j x).n (send_still c j x).log (send_coordinator c j x)
   changed x y T (Gathers a p i o) ext g = quiet x y T g refl refl refl refl
   changed x y T (Suspends q) ext g = plain x y T g (Rec.Suspend (known x.replica.log)) refl refl refl refl (plain_of _ x.replica.log refl)
   changed x y T (Collects ms asked q s) ext g = collects x y T g ms ext s refl
@@ -475,8 +475,8 @@ module _ (n : ℕ) (w v : World) (reached : IsReached n w) (marks : Marks w v) (
   changed x y T (AdoptsPage j e from es q may lt) ext g = plain x y T g _ refl refl refl refl (plain_of _ x.replica.log refl)
   changed x y T (Enters q) ext g = plain x y T g (Rec.Enter (known x.replica.log)) refl refl refl refl (plain_of _ x.replica.log refl)
 
-  pub along : {y : Draft} (p : Changes r input reading (begun r) y) → Extends y.replica.log (later k) → Mid (begun r) (λ s. ⊥) → Mid y (TellsIn p)
+  pub along : {y : Draft} (p : Changes r input reading (begun r) y) → Extends y.replica.log (later k) → Mid (begun r) (λ s. ⊥) → Mid y (SendsIn p)
   along stay ext g = g
   along (and_then {y = y} {z = z} p c f) ext g =
       let before = extends_trans (change_grows y z (log_change r input reading y z c)) ext in
-      changed y z (TellsIn (and_then p c f)) c before (telling y (TellsIn p) (along p before g))
+      changed y z (SendsIn (and_then p c f)) c before (sending y (SendsIn p) (along p before g))

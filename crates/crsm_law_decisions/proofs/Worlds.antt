@@ -26,9 +26,9 @@ use Rattle.crsm_law_epoch.proofs.Worlds.{seat_log_at, log_there, begin_seats, ro
 use Rattle.crsm_law_epoch.specs.LogWorlds.{HasFewBoots}
 use Rattle.crsm_law_epoch.proofs.LogWorlds.{logs_fit, up_numbers}
 use Rattle.crsm_law_epoch.proofs.LogBoots.{boots_grow}
-use Rattle.crsm_law_messages.specs.Sayings.{Saying}
+use Rattle.crsm_law_messages.specs.SentMessages.{SentMessage}
 use Rattle.crsm_law_messages.specs.Counted.{AllSpelt}
-use Rattle.crsm_law_messages.proofs.History.{TellsIn, TellsAt}
+use Rattle.crsm_law_messages.proofs.History.{SendsIn, SendsAt}
 use Rattle.crsm_law_messages.proofs.Worlds.{was_on, set_up, up_same, not_up, marked_sites, room_up, founded_is}
 use Rattle.crsm_law_messages.proofs.Coordinators.{boot_coordinator}
 use Rattle.crsm_law_decisions.specs.Ballots.{Offer, IsOffered, AreSound, IsChosen}
@@ -82,7 +82,7 @@ module _ (n : ℕ) (w : World) (past : IsReached n w) (g : Held n w past) (m : M
       ((j : ℕ) (r : Replica) → slice_get m.after.sites j ≡ Some (Site.Up r) → CoordinatorHolds n (log_at m.after) offers j (known r.log) r.log r.coordinator) →
       ((i : ℕ) (b : Ballot) (d : Decision) → Among (log_at m.after k) (Rec.Accept i b d) → IsOffered offers i b d) →
       ((d : Decision) → Among (log_at m.after k) (Rec.Decide d) → IsChosen n (log_at m.after) d) →
-      ((s : Saying) (i : ℕ) (b : Ballot) (d : Decision) → TellsAt h s → s.message ≡ Control.P2a i b d → IsOffered offers i b d) → Held n m.after (next past h)
+      ((s : SentMessage) (i : ℕ) (b : Ballot) (d : Decision) → SendsAt h s → s.message ≡ Control.P2a i b d → IsOffered offers i b d) → Held n m.after (next past h)
   held_after offers before own sound asked coordinators accepted decided told = record {
     offers = offers;
     sound = sound;
@@ -102,8 +102,8 @@ module _ (n : ℕ) (w : World) (past : IsReached n w) (g : Held n w past) (m : M
   held_quietly : ((i : ℕ) (b : Ballot) (d : Decision) → Among (log_at m.after k) (Rec.Accept i b d) → Among (log_at w k) (Rec.Accept i b d)) →
       ((d : Decision) → Among (log_at m.after k) (Rec.Decide d) → Among (log_at w k) (Rec.Decide d)) →
       ((j : ℕ) (r : Replica) → slice_get m.after.sites j ≡ Some (Site.Up r) → (slice_get w.sites j ≡ Some (Site.Up r)) ⊎ (r.coordinator ≡ Coordinator.Idle)) →
-      ((s : Saying) → TellsAt h s → ⊥) → Held n m.after (next past h)
-  held_quietly accept decide ups tells = held_after g.offers (λ o a. a) (λ o a. inl a) (sounds_on n (log_at w) (log_at m.after) grows g.offers g.sound)
+      ((s : SentMessage) → SendsAt h s → ⊥) → Held n m.after (next past h)
+  held_quietly accept decide ups sends_control = held_after g.offers (λ o a. a) (λ o a. inl a) (sounds_on n (log_at w) (log_at m.after) grows g.offers g.sound)
       (λ o a at. extends_among (grows k) (Rec.Promise o.instance o.ballot) (subst (λ j. Among (log_at w j) (Rec.Promise o.instance o.ballot)) at (g.asked o a)))
       (λ j r e. elim (ups j r e) [
         | inl was ↦ coordinator_on g.offers g.offers (λ o a. a) n (log_at w) (log_at m.after) grows j (λ o a by. a) (known r.log) r.log r.coordinator (g.coordinators j r was)
@@ -111,14 +111,14 @@ module _ (n : ℕ) (w : World) (past : IsReached n w) (g : Held n w past) (m : M
       ])
       (λ i b d a. g.accepted k i b d (accept i b d a))
       (λ d a. chosen_on n (log_at w) (log_at m.after) grows d (g.decided k d (decide d a)))
-      (λ s i b d t e. absurd (tells s t))
+      (λ s i b d t e. absurd (sends_control s t))
 
 -- all logs are as before
 held_still : (n : ℕ) (w : World) (past : IsReached n w) (g : Held n w past) (m : Moment) (h : Happens w m) → ((j : ℕ) → log_at m.after j ≡ log_at w j) →
-    ((j : ℕ) (r : Replica) → slice_get m.after.sites j ≡ Some (Site.Up r) → slice_get w.sites j ≡ Some (Site.Up r)) → ((s : Saying) → TellsAt h s → ⊥) → Held n m.after (next past h)
-held_still n w past g m h logs ups tells =
+    ((j : ℕ) (r : Replica) → slice_get m.after.sites j ≡ Some (Site.Up r) → slice_get w.sites j ≡ Some (Site.Up r)) → ((s : SentMessage) → SendsAt h s → ⊥) → Held n m.after (next past h)
+held_still n w past g m h logs ups sends_control =
     held_quietly n w past g m h 0 (λ j. subst (Extends (log_at w j)) (sym (logs j)) same) (λ j ne. logs j)
-    (λ i b d a. subst (λ l. Among l (Rec.Accept i b d)) (logs 0) a) (λ d a. subst (λ l. Among l (Rec.Decide d)) (logs 0) a) (λ j r e. inl (ups j r e)) tells
+    (λ i b d a. subst (λ l. Among l (Rec.Accept i b d)) (logs 0) a) (λ d a. subst (λ l. Among l (Rec.Decide d)) (logs 0) a) (λ j r e. inl (ups j r e)) sends_control
 
 -- ---- a step
 
@@ -149,9 +149,9 @@ module _ (n : ℕ) (w v : World) (past : IsReached n w) (g : Held n w past) (mar
 
     -- a step whose records are kept
     kept_step : (t : Site) → m.after.sites ≡ slice_set v.sites k t → log_of t ≡ (step r input reading).replica.log → ((q : Replica) → t ≡ Site.Up q → (step r input reading).replica ≡ q) →
-        ((s : Saying) → TellsAt h s → TellsIn (step_changes r input reading) s) → Held n (begun_at w m).after (next past h)
+        ((s : SentMessage) → SendsAt h s → SendsIn (step_changes r input reading) s) → Held n (begun_at w m).after (next past h)
     unfolding begun_at begun
-    kept_step t sites is ups tells =
+    kept_step t sites is ups sends_control =
         let x = step r input reading in
         let kept : log_at m.after k ≡ x.replica.log = at_set v m.after k (Site.Up r) t up sites ∙ is in
         let d = along n w v past marks k r up input reading can spelt g (log_at m.after) grows fit (step_changes r input reading) (subst (Extends x.replica.log) (sym kept) same) begun_mid in
@@ -166,7 +166,7 @@ module _ (n : ℕ) (w v : World) (past : IsReached n w) (g : Held n w past) (mar
         ])
         (λ i b c a. d.accepted i b c (subst (λ l. Among l (Rec.Accept i b c)) kept a))
         (λ c a. d.decided c (subst (λ l. Among l (Rec.Decide c)) kept a))
-        (λ s i b c q e. d.told s i b c (tells s q) e)
+        (λ s i b c q e. d.told s i b c (sends_control s q) e)
 
 -- a site that is down is not up
 down_up : (ss : List Site) (k : ℕ) (log : Log) (j : ℕ) (q : Replica) → slice_get (slice_set ss k (Site.Down log)) j ≡ Some (Site.Up q) → slice_get ss j ≡ Some (Site.Up q)
@@ -253,10 +253,10 @@ boot_decide k n [] d a = go (nat_lt k n) a
     go false (inl e) = absurd (cc)
     go false (inr h) = h
 
-start_held : (n : ℕ) (w : World) (past : IsReached n w) → Held n w past → (k : ℕ) (h : Happens w (start_at w k)) → (k < length w.sites) ⊎ ((k ≡ length w.sites) × (k < 15)) → ((s : Saying) → TellsAt h s → ⊥) →
+start_held : (n : ℕ) (w : World) (past : IsReached n w) → Held n w past → (k : ℕ) (h : Happens w (start_at w k)) → (k < length w.sites) ⊎ ((k ≡ length w.sites) × (k < 15)) → ((s : SentMessage) → SendsAt h s → ⊥) →
     Held n (start_at w k).after (next past h)
 unfolding start_at begun_at whole_step after_step
-start_held n w past g k h f tells =
+start_held n w past g k h f sends_control =
     let v = with_room w k in
     let t = room_there w k f in
     let x = boot k v.n (log_at v k) in
@@ -270,7 +270,7 @@ start_held n w past g k h f tells =
       | inl z ↦ inl (room_up w k j q z.1)
       | inr z ↦ inr (ap (λ (y : Replica). y.coordinator) (sym (up_same x.replica q z.1)) ∙ boot_coordinator k v.n (log_at v k))
     ])
-    tells
+    sends_control
 
 moment_held : (n : ℕ) (w : World) (m : Moment) (past : IsReached n w) (h : Happens w m) → HasFewBoots m.after → AllSpelt n w → Held n w past → Held n m.after (next past h)
 unfolding silent begun_at

@@ -12,12 +12,12 @@ use Rattle.crsm_spec.specs.Ready.{is_ready}
 use Rattle.crsm_spec.specs.Replica.{Replica}
 use Rattle.crsm_spec.specs.Draft.{Draft, keep, noting, send, reply, count_vote, issued_at, push_to_members, push_to, would}
 use Rattle.crsm_spec.specs.Clients.{refusal, refuse, submit, await}
-use Rattle.crsm_spec.specs.Frames.{take_frame, hear, owe, ack, pay, owing, again_frame, is_odd_frame, is_wrong}
+use Rattle.crsm_spec.specs.Frames.{take_frame, receive, owe, ack, pay, owing, again_frame, is_odd_frame, is_wrong}
 use Rattle.crsm_spec.specs.Coordinate.{forget_epoch}
 use Rattle.crsm_spec.specs.Step.{Input}
 use Rattle.crsm_step_facts.specs.Changes.{Change}
-use Rattle.crsm_step_facts.specs.Changes.Change.{Submits, Refuses, Commits, Replies, Takes, Acks, IsAcked, Pays, Owes, TellsTime, SendsAgain, Tells, Gathers, Suspends, Collects, TakesPage, Completes, Refrains, GivesUp, Asks, CountsAnswer, Proposes, IsPreempted, AcceptsOwn, CountsVote, Promises, Accepts, Chooses, Learns, AdoptsTail, AdoptsPage, Enters}
-use Rattle.crsm_step_facts.proofs.Logs.{tell_still, replies_still}
+use Rattle.crsm_step_facts.specs.Changes.Change.{Submits, Refuses, Commits, Replies, Takes, Acks, IsAcked, Pays, Owes, SendsTime, SendsAgain, SendsControl, Gathers, Suspends, Collects, TakesPage, Completes, Refrains, GivesUp, Asks, CountsAnswer, Proposes, IsPreempted, AcceptsOwn, CountsVote, Promises, Accepts, Chooses, Learns, AdoptsTail, AdoptsPage, Enters}
+use Rattle.crsm_step_facts.proofs.Logs.{send_still, replies_still}
 use Rattle.crsm_log_facts.proofs.Tests.{or_parts}
 
 -- the record is no commit, and no entry of k's own
@@ -76,7 +76,7 @@ suspend_off e log = go (live log)
 
 module _ (r : Replica) (input : Input) (reading : ℕ) where
   pub effect : (x y : Draft) → Change r input reading x y → r.me ≡ x.replica.me → Effect reading x y
-  unfolding submit refuse await push_to_members push_to count_vote issued_at keep noting reply send take_frame hear owe ack pay owing again_frame forget_epoch known decision live suspended active
+  unfolding submit refuse await push_to_members push_to count_vote issued_at keep noting reply send take_frame receive owe ack pay owing again_frame forget_epoch known decision live suspended active
   effect x y (Submits a c t i h w) me = Stamped _ refl refl w (refused_active x h) refl
   effect x y (Refuses a c why i h) me = Still refl (λ t m. m)
   effect x y (Commits e a h w) me = Executed e refl a h w refl
@@ -89,9 +89,9 @@ module _ (r : Replica) (input : Input) (reading : ℕ) where
   effect x y (IsAcked k next p h) me = Still refl (λ t m. m)
   effect x y (Pays s t a m w lt) me = Still refl (λ u q. inr q)
   effect x y (Owes ss a h) me = Still refl (λ t m. m)
-  effect x y (TellsTime t a i w) me = Still refl (λ u q. inr q)
+  effect x y (SendsTime t a i w) me = Still refl (λ u q. inr q)
   effect x y (SendsAgain k g a m h) me = Still refl (λ t m. m)
-  effect x y (Tells k c h) me = let s = tell_still c k x in Still s.log (λ t m. subst (λ l. Among l t) (sym s.issued) m)
+  effect x y (SendsControl k c h) me = let s = send_still c k x in Still s.log (λ t m. subst (λ l. Among l t) (sym s.issued) m)
   effect x y (Gathers a p i o) me = Still refl (λ t m. m)
   effect x y (Suspends h) me = Off _ refl (no_entry _ _ (λ f q. absurd (cc)) (λ f q. absurd (cc))) (suspend_off (known x.replica.log) x.replica.log)
   effect x y (Collects ms asked h s) me = Still refl (λ t m. m)

@@ -52,7 +52,7 @@ module _ (n k : ℕ) (v : ℕ → Seat) (u s : Seat) (all : List Datagram) where
       voters = w.voters;
       many = w.many;
       logged = λ j h. stays c.keeps j x (w.logged j h);
-      heard = w.heard;
+      received = w.received;
       older = λ m y mem h e o le. w.older m y mem (back by log x at_one m y mem h e o le) e o le;
       passed = p;
     }

@@ -9,7 +9,7 @@ use Rattle.crsm_spec.specs.Lists.{Among, has, first_of}
 use Rattle.crsm_spec.specs.Log.{Log, known, members, spec, unexecuted, active, live, suspended, has_entered}
 use Rattle.crsm_spec.specs.Frames.{time_of}
 use Rattle.crsm_spec.specs.Paxos.{majority}
-use Rattle.crsm_spec.specs.Ready.{is_ready, is_replicated, is_stable, is_next, votes_for, voted, reached, all_heard}
+use Rattle.crsm_spec.specs.Ready.{is_ready, is_replicated, is_stable, is_next, votes_for, voted, reached, all_received}
 use Rattle.crsm_spec.specs.Replica.{members_of, spec_of}
 use Rattle.crsm_spec.specs.Draft.{Draft, would}
 use Rattle.crsm_log_facts.specs.Logs.{Extends, Logged}
@@ -62,7 +62,7 @@ module _ (n k : ℕ) (v : ℕ → Seat) (sent : List Datagram) where
     unfolding is_ready
     replicated = (and_parts (is_replicated (spec_of x.replica) x.replica.votes f.stamp) _ (and_parts _ (is_next (unexecuted x.replica.log) f.stamp) ready).0).0
 
-    stable : IsTrue (is_stable (members_of x.replica) (all_heard x.replica) f.stamp)
+    stable : IsTrue (is_stable (members_of x.replica) (all_received x.replica) f.stamp)
     unfolding is_ready
     stable = (and_parts (is_replicated (spec_of x.replica) x.replica.votes f.stamp) _ (and_parts _ (is_next (unexecuted x.replica.log) f.stamp) ready).0).1
 
@@ -93,19 +93,19 @@ module _ (n k : ℕ) (v : ℕ → Seat) (sent : List Datagram) where
         subst (λ z. Logged (was j).log z) one h'.1
 
     -- a time that a member has reached
-    member_time : (m : ℕ) → IsTrue (has (members n x.replica.log) m) → (t : ℕ) × (f.stamp.time ≤ t) × (((m ≡ k) × Among x.replica.issued t) ⊎ Among x.replica.heard (m, t))
-    unfolding is_stable members_of reached all_heard
+    member_time : (m : ℕ) → IsTrue (has (members n x.replica.log) m) → (t : ℕ) × (f.stamp.time ≤ t) × (((m ≡ k) × Among x.replica.issued t) ⊎ Among x.replica.received (m, t))
+    unfolding is_stable members_of reached all_received
     member_time m mem =
         let in_ms = has_from (members x.replica.n x.replica.log) m (subst (λ i. IsTrue (has (members i x.replica.log) m)) (sym g.size) mem) in
-        let r = list_all_at (reached (all_heard x.replica) f.stamp.time) (members x.replica.n x.replica.log) m stable in_ms in
-        let t = any_is (λ h. h.0 == m && nat_le f.stamp.time h.1) (map (λ u. (x.replica.me, u)) x.replica.issued ++ x.replica.heard) r in
+        let r = list_all_at (reached (all_received x.replica) f.stamp.time) (members x.replica.n x.replica.log) m stable in_ms in
+        let t = any_is (λ h. h.0 == m && nat_le f.stamp.time h.1) (map (λ u. (x.replica.me, u)) x.replica.issued ++ x.replica.received) r in
         let p = and_parts (t.0.0 == m) (nat_le f.stamp.time t.0.1) t.2 in
         let is_m : t.0.0 ≡ m = eqb-true t.0.0 m p.0 in (
           t.0.1,
           leb-true f.stamp.time t.0.1 p.1,
-          elim (among_either (map (λ u. (x.replica.me, u)) x.replica.issued) x.replica.heard t.0 t.1) [
+          elim (among_either (map (λ u. (x.replica.me, u)) x.replica.issued) x.replica.received t.0 t.1) [
             | inl a ↦ inl (let w = among_unmap (λ u. (x.replica.me, u)) x.replica.issued t.0 a in (sym is_m ∙ sym (ap (λ z. z.0) w.2) ∙ g.me, subst (Among x.replica.issued) (ap (λ z. z.1) w.2) w.1))
-            | inr a ↦ inr (subst (λ i. Among x.replica.heard (i, t.0.1)) is_m a)
+            | inr a ↦ inr (subst (λ i. Among x.replica.received (i, t.0.1)) is_m a)
           ],
         )
 
@@ -143,7 +143,7 @@ module _ (n k : ℕ) (v : ℕ → Seat) (sent : List Datagram) where
       voters = voted x.replica.votes f.stamp;
       many = many;
       logged = λ j h. stays n k v (seat_up x.replica) s sent (λ z q. subst (λ l. Logged l z) (sym log) (inr q)) j f (voter_logged j h);
-      heard = λ m mem ne. let q = frame_of m mem ne in (q.0, q.1, sent_frame m q.0 q.1 ne q.3, q.4);
+      received = λ m mem ne. let q = frame_of m mem ne in (q.0, q.1, sent_frame m q.0 q.1 ne q.3, q.4);
       older = λ m y mem h ep o le. elim (at_case n k v s (λ w. Logged w.log y) m h) [
         | inl w ↦ elim (subst (λ l. Logged l y) log w.1) [ inl q ↦ absurd (no_commit y q) | inr q ↦ q ]
         | inr w ↦ older_logged m y mem w.0 (subst (λ z. Logged z.log y) (sym (at_other n k v (seat_up x.replica) m w.0)) w.1) ep o le
@@ -166,7 +166,7 @@ module _ (n k : ℕ) (v : ℕ → Seat) (sent : List Datagram) where
       elim (cases_eq by k) [
         | inl q ↦ (let t = passed_here x a log f (subst (λ z. Extends (Rec.Commit f.stamp ∷ log) z.log) (at_same n k v (seat_up x.replica)) (subst (λ i. Extends (Rec.Commit f.stamp ∷ log) (at k (seat_up x.replica) v i).log) q c.0)) c.1 run (sym kn ∙ ep) in
             let lt = late t.0 t.1 in absurd (omega (arith, lt, t.2, le)))
-        | inr ne ↦ (let h = (a by log f c).heard k mem (λ z. ne (sym z)) in
+        | inr ne ↦ (let h = (a by log f c).received k mem (λ z. ne (sym z)) in
             let fr = subst (λ z. Among (sent ++ outs x) (Datagram.Frame k by z h.0 h.1)) (sym ep ∙ kn) (among_left sent (outs x) _ h.2) in
             let lt = late (time_of h.1) (s.times by h.0 h.1 (s.only by h.0 h.1 fr)) in absurd (omega (arith, lt, h.3, le)))
       ]

@@ -11,7 +11,7 @@ use Rattle.crsm_spec.specs.Log.{Log, active, live, suspended, members}
 use Rattle.crsm_spec.specs.Replica.{Replica, fresh}
 use Rattle.crsm_spec.specs.Draft.{Draft, begun, keep}
 use Rattle.crsm_spec.specs.Step.{Input, step, boot, boot_again, founding_boot, first_boot}
-use Rattle.crsm_spec.specs.World.{Site, World, Moment, begin, log_at, with_site, mail_of, whole_step, cut_step, lost_step, down, after_step, then_down}
+use Rattle.crsm_spec.specs.World.{Site, World, Moment, begin, log_at, with_site, packet_of, whole_step, cut_step, lost_step, down, after_step, then_down}
 use Rattle.crsm_spec.specs.Moments.{silent, begun_at, with_room, start_at}
 use Rattle.crsm_log_facts.specs.Logs.{Extends, same, more, Logged}
 use Rattle.crsm_law_steps.specs.Laws.{LogsGoOn}
@@ -55,7 +55,7 @@ more_sent n v a b more_is f by log x c =
       voters = w.voters;
       many = w.many;
       logged = w.logged;
-      heard = λ m mem ne. let q = w.heard m mem ne in (q.0, q.1, more_is _ q.2, q.3);
+      received = λ m mem ne. let q = w.received m mem ne in (q.0, q.1, more_is _ q.2, q.3);
       older = w.older;
       passed = w.passed;
     }
@@ -132,17 +132,17 @@ whole_sites : (w : World) (k : ℕ) (x : Draft) → (whole_step w k x).after.sit
 unfolding whole_step after_step
 whole_sites w k x = refl
 
-whole_sent : (w : World) (k : ℕ) (x : Draft) → sent_in (whole_step w k x).after ≡ sent_in w ++ map (λ m. m.datagram) (map (mail_of k) x.sends)
+whole_sent : (w : World) (k : ℕ) (x : Draft) → sent_in (whole_step w k x).after ≡ sent_in w ++ map (λ m. m.datagram) (map (packet_of k) x.sends)
 unfolding whole_step after_step sent_in
-whole_sent w k x = map-append (λ m. m.datagram) w.mail (map (mail_of k) x.sends)
+whole_sent w k x = map-append (λ m. m.datagram) w.packets (map (packet_of k) x.sends)
 
 cut_sites : (count : ℕ) (w : World) (k : ℕ) (x : Draft) → (cut_step count w k x).after.sites ≡ slice_set w.sites k (Site.Down x.replica.log)
 unfolding cut_step then_down after_step
 cut_sites count w k x = refl
 
-cut_sent : (count : ℕ) (w : World) (k : ℕ) (x : Draft) → sent_in (cut_step count w k x).after ≡ sent_in w ++ map (λ m. m.datagram) (map (mail_of k) (take count x.sends))
+cut_sent : (count : ℕ) (w : World) (k : ℕ) (x : Draft) → sent_in (cut_step count w k x).after ≡ sent_in w ++ map (λ m. m.datagram) (map (packet_of k) (take count x.sends))
 unfolding cut_step then_down after_step sent_in
-cut_sent count w k x = map-append (λ m. m.datagram) w.mail (map (mail_of k) (take count x.sends))
+cut_sent count w k x = map-append (λ m. m.datagram) w.packets (map (packet_of k) (take count x.sends))
 
 lost_down : (w : World) (k : ℕ) (x : Draft) → lost_step w k x ≡ down w k
 unfolding lost_step

@@ -13,16 +13,16 @@ use Rattle.crsm_spec.specs.Types.{Stamp, Entry, Rec, InEpoch, Datagram, Control,
 use Rattle.crsm_spec.specs.Lists.{Among, has, first_of}
 use Rattle.crsm_spec.specs.Log.{Log, known, members, boots, active, live, suspended, has_entered, is_enter, decision, executed, start}
 use Rattle.crsm_spec.specs.Fits.{fits}
-use Rattle.crsm_spec.specs.Frames.{time_of, take_frame, hear, owe, ack, pay, owing, with_stamp, again_frame}
+use Rattle.crsm_spec.specs.Frames.{time_of, take_frame, receive, owe, ack, pay, owing, with_stamp, again_frame}
 use Rattle.crsm_spec.specs.Parts.{cut}
 use Rattle.crsm_spec.specs.Replica.{Replica, Waiting, last_issued, members_of, other_members, next_from, frames_to, acked_by, unacked}
-use Rattle.crsm_spec.specs.Draft.{Draft, keep, noting, send, reply, count_vote, issued_at, push_to_members, push_to, next_frame, parts_to, tell, would}
+use Rattle.crsm_spec.specs.Draft.{Draft, keep, noting, send, reply, count_vote, issued_at, push_to_members, push_to, next_frame, parts_to, send_control, would}
 use Rattle.crsm_spec.specs.Clients.{refusal, refuse, submit, await, replies, answer_each, answer_found, reply_ok, reply_dropped, find_executed, is_dropped}
 use Rattle.crsm_spec.specs.Coordinate.{forget_epoch}
 use Rattle.crsm_spec.specs.Step.{Input}
 use Rattle.crsm_log_facts.specs.Logs.{AllFit, Extends, Logged}
 use Rattle.crsm_step_facts.specs.Changes.{Change, Changes, stay, and_then}
-use Rattle.crsm_step_facts.specs.Changes.Change.{Submits, Refuses, Commits, Replies, Takes, Acks, IsAcked, Pays, Owes, TellsTime, SendsAgain, Tells, Gathers, Suspends, Collects, TakesPage, Completes, Refrains, GivesUp, Asks, CountsAnswer, Proposes, IsPreempted, AcceptsOwn, CountsVote, Promises, Accepts, Chooses, Learns, AdoptsTail, AdoptsPage, Enters}
+use Rattle.crsm_step_facts.specs.Changes.Change.{Submits, Refuses, Commits, Replies, Takes, Acks, IsAcked, Pays, Owes, SendsTime, SendsAgain, SendsControl, Gathers, Suspends, Collects, TakesPage, Completes, Refrains, GivesUp, Asks, CountsAnswer, Proposes, IsPreempted, AcceptsOwn, CountsVote, Promises, Accepts, Chooses, Learns, AdoptsTail, AdoptsPage, Enters}
 use Rattle.crsm_step_facts.proofs.Logs.{log_change, change_fits, change_grows, numbers_stay}
 use Rattle.crsm_log_facts.proofs.Logged.{extends_trans}
 use Rattle.crsm_law_epoch.specs.Numbers.{Distinct}
@@ -145,9 +145,9 @@ unfolding would issue last_issued
 would_late x reading t p h = top_later x.replica.issued t p (later (unwrap_or (first_of x.replica.issued) 0) reading t _ h)
 
 -- more was sent, and no new frame
-mailed : (n : ℕ) (v : ℕ → Seat) (all after : List Datagram) → Facts n v all → ((d : Datagram) → Among all d → Among after d) →
+packets : (n : ℕ) (v : ℕ → Seat) (all after : List Datagram) → Facts n v all → ((d : Datagram) → Among all d → Among after d) →
     ((m j e i : ℕ) (p : InEpoch) → Among after (Datagram.Frame m j e i p) → Among all (Datagram.Frame m j e i p)) → Facts n v after
-mailed n v all after i more back = record {
+packets n v all after i more back = record {
   fit = i.fit;
   own = i.own;
   one = i.one;
@@ -328,7 +328,7 @@ module _ (n k : ℕ) (v : ℕ → Seat) (sent : List Datagram) (r : Replica) (in
       record {
         me = me ∙ g.me;
         size = size ∙ g.size;
-        facts = mailed n (at k s v) all (sent ++ outs y) f0 more back;
+        facts = packets n (at k s v) all (sent ++ outs y) f0 more back;
         prefixes = λ c. subst (λ l. IsPrefix k y.replica.log (sent ++ take c l)) (sym eo)
             (prefixes_more n k v sent x y.replica.log (d.1 ∷ []) g own_old (λ m j e i p h. elim h [ inl q ↦ absurd (none m j e i p q) | inr q ↦ absurd q ]) c);
         mine = λ a j e i q h. elim (among_either (outs x) (d.1 ∷ []) _ (subst (λ l. Among l (Datagram.Frame a j e i q)) eo h)) [
@@ -359,10 +359,10 @@ module _ (n k : ℕ) (v : ℕ → Seat) (sent : List Datagram) (r : Replica) (in
         (has_from (members x.replica.n x.replica.log) j (subst (λ z. IsTrue (has (members z x.replica.log) j)) (sym g.size) h.0))
 
     -- a push without a record: the payload is no entry
-    good_tell : (x y : Draft) (p : InEpoch) (t : ℕ) → G x → Extends x.replica.log last → IsTrue (active x.replica.log) → time_of p ≡ t → would x reading ≡ Some t → ((f : Entry) → p ≡ InEpoch.Prepare f → ⊥) →
+    good_send : (x y : Draft) (p : InEpoch) (t : ℕ) → G x → Extends x.replica.log last → IsTrue (active x.replica.log) → time_of p ≡ t → would x reading ≡ Some t → ((f : Entry) → p ≡ InEpoch.Prepare f → ⊥) →
         ((s : Stamp) (u : ℕ) → p ≡ InEpoch.PrepareOk s u → Among x.replica.owed s) → y ≡ push_to_members p (issued_at t x) → G y
     unfolding seat_up push_to_members push_to issued_at next_frame other_members frames_to members_of live active
-    good_tell x y p t g ex a tp w none owes is =
+    good_send x y p t g ex a tp w none owes is =
         let u = seat_up x.replica in
         let z = push_to_members p (issued_at t x) in
         let ks = other_members x.replica in
@@ -382,7 +382,7 @@ module _ (n k : ℕ) (v : ℕ → Seat) (sent : List Datagram) (r : Replica) (in
           grows = λ e h. subst (λ s. IsTrue (has_entered e s.log)) b h;
           here = subst (λ s. IsTrue (has_entered (known s.log) x.replica.log)) (sym b) (live_entered k n x.replica.log (fit_of n k v sent x g) (and_parts (live x.replica.log) (not (suspended x.replica.log)) a).0).0;
           issued = ap (λ c. c ∷ x.replica.issued) (sym tp) ∙ ap (λ s. time_of p ∷ s.issued) (sym b);
-          heard = ap (λ s. s.heard) (sym b);
+          received = ap (λ s. s.received) (sym b);
           pushed = ap (λ s. s.pushed ++ behind p ks) (sym b);
           taken = ap (λ s. s.taken) (sym b);
           votes = λ s j h. inl (subst (λ q. Among q.votes (s, j)) (sym b) h);
@@ -416,7 +416,7 @@ module _ (n k : ℕ) (v : ℕ → Seat) (sent : List Datagram) (r : Replica) (in
           here = subst (λ s. IsTrue (has_entered (known s.log) (Rec.Prepare e ∷ x.replica.log))) (sym b)
               (entered_more (known x.replica.log) (Rec.Prepare e) x.replica.log (live_entered k n x.replica.log (fit_of n k v sent x g) (and_parts (live x.replica.log) (not (suspended x.replica.log)) act).0).0);
           issued = ap (λ s. t ∷ s.issued) (sym b);
-          heard = ap (λ s. s.heard) (sym b);
+          received = ap (λ s. s.received) (sym b);
           pushed = ap (λ s. s.pushed ++ behind p (other_members x.replica)) (sym b);
           taken = ap (λ s. s.taken) (sym b);
           votes = λ s j h. elim h [ inl q ↦ inr (ap (λ z. z.1) (sym q) ∙ g.me, (e, refl, ap (λ z. z.0) q)) | inr q ↦ inl (subst (λ z. Among z.votes (s, j)) (sym b) q) ];
@@ -441,7 +441,7 @@ module _ (n k : ℕ) (v : ℕ → Seat) (sent : List Datagram) (r : Replica) (in
     -- the next frame of a peer is taken
     good_takes : (a m i : ℕ) (p : InEpoch) (x : Draft) → G x → IsTrue (active x.replica.log) → input ≡ Input.Came a (Datagram.Frame m r.me (known x.replica.log) i p) → (m ≡ k → ⊥) → i ≡ next_from x.replica m →
         AllFit k n (take_frame m p x).replica.log → G (take_frame m p x)
-    unfolding seat_up take_frame hear owe ack send keep count_vote next_from taken_of known decision members live suspended active time_of
+    unfolding seat_up take_frame receive owe ack send keep count_vote next_from taken_of known decision members live suspended active time_of
     good_takes a m i (InEpoch.Prepare e) x g act inp other is fit =
         let b = before x in
         let fr = frame_in a m i (InEpoch.Prepare e) x inp is in
@@ -456,7 +456,7 @@ module _ (n k : ℕ) (v : ℕ → Seat) (sent : List Datagram) (r : Replica) (in
           got = λ f q. inl (ap Rec.Prepare (prepare_same e f q));
           grows = λ y h. entered_more y (Rec.Prepare e) x.replica.log (subst (λ s. IsTrue (has_entered y s.log)) b h);
           issued = ap (λ s. s.issued) (sym b);
-          heard = ap (λ s. (m, time_of (InEpoch.Prepare e)) ∷ s.heard) (sym b);
+          received = ap (λ s. (m, time_of (InEpoch.Prepare e)) ∷ s.received) (sym b);
           pushed = ap (λ s. s.pushed) (sym b);
           taken = ap (λ s. m ∷ s.taken) (sym b);
           votes = λ s j h. elim h [
@@ -488,7 +488,7 @@ module _ (n k : ℕ) (v : ℕ → Seat) (sent : List Datagram) (r : Replica) (in
           got = λ f q. absurd (cc);
           grows = λ y h. subst (λ s. IsTrue (has_entered y s.log)) b h;
           issued = ap (λ s. s.issued) (sym b);
-          heard = ap (λ z. (m, at') ∷ z.heard) (sym b);
+          received = ap (λ z. (m, at') ∷ z.received) (sym b);
           pushed = ap (λ s. s.pushed) (sym b);
           taken = ap (λ s. m ∷ s.taken) (sym b);
           votes = λ u j h. elim h [ inl q ↦ inr (inr (ap (λ z. z.1) (sym q), (at', ap (λ z. InEpoch.PrepareOk z at') (ap (λ z. z.0) q)))) | inr q ↦ inl (subst (λ z. Among z.votes (u, j)) (sym b) q) ];
@@ -507,7 +507,7 @@ module _ (n k : ℕ) (v : ℕ → Seat) (sent : List Datagram) (r : Replica) (in
           got = λ f q. absurd (cc);
           grows = λ y h. subst (λ s. IsTrue (has_entered y s.log)) b h;
           issued = ap (λ s. s.issued) (sym b);
-          heard = ap (λ z. (m, at') ∷ z.heard) (sym b);
+          received = ap (λ z. (m, at') ∷ z.received) (sym b);
           pushed = ap (λ s. s.pushed) (sym b);
           taken = ap (λ s. m ∷ s.taken) (sym b);
           votes = λ u j h. inl (subst (λ z. Among z.votes (u, j)) (sym b) h);
@@ -543,9 +543,9 @@ module _ (n k : ℕ) (v : ℕ → Seat) (sent : List Datagram) (r : Replica) (in
     unfolding fits
     new_epoch x h = not-true (has_entered (known x.replica.log) x.replica.log) (and_parts _ (not (has_entered (known x.replica.log) x.replica.log)) h).1
 
-    tells_kept : (m : ℕ) (c : Control) (x : Draft) → G x → G (tell c x m)
-    unfolding tell seat_up when◌then◌otherwise◌
-    tells_kept m c x g = go (x.replica.made == u64_max)
+    sends_kept : (m : ℕ) (c : Control) (x : Draft) → G x → G (send_control c x m)
+    unfolding send_control seat_up when◌then◌otherwise◌
+    sends_kept m c x g = go (x.replica.made == u64_max)
       where
         go : (b : Bool) → G (when b then x otherwise record x { replica = record x.replica { made = x.replica.made + 1 }; sends = x.sends ++ parts_to x.replica m c })
         go true = g
@@ -573,11 +573,11 @@ module _ (n k : ℕ) (v : ℕ → Seat) (sent : List Datagram) (r : Replica) (in
         good_takes a m i p x g peer.0 (subst (λ z. input ≡ Input.Came a (Datagram.Frame m r.me z i p)) ek inp) (λ q. other (q ∙ sym r_me)) is (fit_after x y (Takes a m e i p inp other ek peer is odd) f g (numbers_stay r input reading x y (Takes a m e i p inp other ek peer is odd)).0 (numbers_stay r input reading x y (Takes a m e i p inp other ek peer is odd)).1)
     kept x y (Acks m p) f ex g = good_same n k v sent x y _ g refl refl refl (λ a j e i q h. elim h [ inl w ↦ absurd (cc) | inr w ↦ absurd w ]) refl
     kept x y (IsAcked m next p h) f ex g = good_same n k v sent x y [] g refl refl (no_sends x) (none_old x) refl
-    kept x y (Pays s t a m w lt) f ex g = good_tell x y (InEpoch.PrepareOk s t) t g ex a (time_ok s t) w (λ z q. absurd (cc)) (λ z u q. subst (λ b. Among x.replica.owed b) (ok_same s t z u q) m) refl
+    kept x y (Pays s t a m w lt) f ex g = good_send x y (InEpoch.PrepareOk s t) t g ex a (time_ok s t) w (λ z q. absurd (cc)) (λ z u q. subst (λ b. Among x.replica.owed b) (ok_same s t z u q) m) refl
     kept x y (Owes ss a h) f ex g = good_owed n k v sent x y g refl refl refl refl refl refl refl refl refl h.0
-    kept x y (TellsTime t a i w) f ex g = good_tell x y (InEpoch.ClockTime t) t g ex a (time_clock t) w (λ z q. absurd (cc)) (λ z u q. absurd (cc)) refl
+    kept x y (SendsTime t a i w) f ex g = good_send x y (InEpoch.ClockTime t) t g ex a (time_clock t) w (λ z q. absurd (cc)) (λ z u q. absurd (cc)) refl
     kept x y (SendsAgain m d a h l) f ex g = good_same n k v sent x y _ g refl refl refl (λ b j e i q w. elim w [ inl z ↦ again_old x g a m d l b j e i q z | inr z ↦ absurd z ]) refl
-    kept x y (Tells m c h) f ex g = tells_kept m c x g
+    kept x y (SendsControl m c h) f ex g = sends_kept m c x g
     kept x y (Gathers a p i o) f ex g = good_same n k v sent x y [] g refl refl (no_sends x) (none_old x) refl
     kept x y (Suspends h) f ex g = good_off n k v sent (Rec.Suspend (known x.replica.log)) x y g refl refl refl (λ z q. absurd (cc)) refl (fit_after x y (Suspends h) f g refl refl) (no_and (live x.replica.log))
     kept x y (Collects ms asked h s) f ex g = good_same n k v sent x y [] g refl refl (no_sends x) (none_old x) refl

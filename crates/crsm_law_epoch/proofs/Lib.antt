@@ -7,7 +7,7 @@ pub mod Drafts
 pub mod Seated
 pub mod Kept
 pub mod Worlds
-pub mod LogHeard
+pub mod LogReceived
 pub mod LogSteps
 pub mod LogMembers
 pub mod LogBoots

@@ -11,17 +11,17 @@ use Rattle.crsm_spec.specs.Paxos.{Answer, Found, value_of, value_of_best, best_o
 use Rattle.crsm_spec.specs.Parts.{cut}
 use Rattle.crsm_spec.specs.Collect.{collected}
 use Rattle.crsm_spec.specs.Replica.{Replica, Coordinator, Waiting, other_members}
-use Rattle.crsm_spec.specs.Draft.{Draft, begun, keep, noting, send, reply, count_vote, issued_at, push_to_members, push_to, next_frame, parts_to, tell}
+use Rattle.crsm_spec.specs.Draft.{Draft, begun, keep, noting, send, reply, count_vote, issued_at, push_to_members, push_to, next_frame, parts_to, send_control}
 use Rattle.crsm_spec.specs.Clients.{refuse, submit, await, replies, answer_each, answer_found, reply_ok, reply_dropped, find_executed, is_dropped}
-use Rattle.crsm_spec.specs.Frames.{take_frame, hear, owe, ack, pay, owing, again_frame}
+use Rattle.crsm_spec.specs.Frames.{take_frame, receive, owe, ack, pay, owing, again_frame}
 use Rattle.crsm_spec.specs.Coordinate.{forget_epoch, instance}
 use Rattle.crsm_spec.specs.Step.{Input, step}
-use Rattle.crsm_step_facts.specs.Messages.{Hears}
+use Rattle.crsm_step_facts.specs.Messages.{ReceivesControl}
 use Rattle.crsm_step_facts.specs.Changes.{Change, Changes, stay, and_then, AsksFor, IsAnswer}
-use Rattle.crsm_step_facts.specs.Changes.Change.{Submits, Refuses, Commits, Replies, Takes, Acks, IsAcked, Pays, Owes, TellsTime, SendsAgain, Tells, Gathers, Suspends, Collects, TakesPage, Completes, Refrains, GivesUp, Asks, CountsAnswer, Proposes, IsPreempted, AcceptsOwn, CountsVote, Promises, Accepts, Chooses, Learns, AdoptsTail, AdoptsPage, Enters}
+use Rattle.crsm_step_facts.specs.Changes.Change.{Submits, Refuses, Commits, Replies, Takes, Acks, IsAcked, Pays, Owes, SendsTime, SendsAgain, SendsControl, Gathers, Suspends, Collects, TakesPage, Completes, Refrains, GivesUp, Asks, CountsAnswer, Proposes, IsPreempted, AcceptsOwn, CountsVote, Promises, Accepts, Chooses, Learns, AdoptsTail, AdoptsPage, Enters}
 use Rattle.crsm_step_facts.proofs.Fitted.{step_changes}
 use Rattle.crsm_law_epoch.specs.Ordered.{IsOrdered, AreOrdered}
-use Rattle.crsm_law_epoch.proofs.LogHeard.{IsOrderedHeld, IsOrderedControl, heard_ordered}
+use Rattle.crsm_law_epoch.proofs.LogReceived.{IsOrderedHeld, IsOrderedControl, received_ordered}
 
 -- ---- what is kept in order
 
@@ -153,9 +153,9 @@ alike_replies x = alike_then {y = record x { replica = record x.replica { waitin
 alike_ordered : (x y : Draft) → IsAlike x y → Ordered x → Ordered y
 alike_ordered x y a o = record { log = subst AreOrdered (sym a.log) o.log; coordinator = subst IsOrderedCoordinator (sym a.coordinator) o.coordinator; sends = subst AreBetween (sym a.sends) o.sends }
 
-tell_ordered : (c : Control) (k : ℕ) (x : Draft) → Ordered x → Ordered (tell c x k)
-unfolding tell when◌then◌otherwise◌
-tell_ordered c k x o = go _
+send_ordered : (c : Control) (k : ℕ) (x : Draft) → Ordered x → Ordered (send_control c x k)
+unfolding send_control when◌then◌otherwise◌
+send_ordered c k x o = go _
   where
     go : (b : Bool) → Ordered (when b then x otherwise record x { replica = record x.replica { made = x.replica.made + 1 }; sends = x.sends ++ parts_to x.replica k c })
     go true = o
@@ -164,8 +164,8 @@ tell_ordered c k x o = go _
 -- ---- changes
 
 module _ (r : Replica) (input : Input) (reading : ℕ) (wished : (ms : List ℕ) → AsksFor input ms → IsMembers ms) where
-  heard : (k : ℕ) (c : Control) → Hears r input k c → IsOrderedControl c
-  heard k c h = heard_ordered h.message c h.is
+  received : (k : ℕ) (c : Control) → ReceivesControl r input k c → IsOrderedControl c
+  received k c h = received_ordered h.message c h.is
 
   -- what the coordinator was is in order
   noted : (x : Draft) (coordinator : Coordinator) → Ordered x → x.replica.coordinator ≡ coordinator → IsOrderedCoordinator coordinator
@@ -173,10 +173,10 @@ module _ (r : Replica) (input : Input) (reading : ℕ) (wished : (ms : List ℕ)
 
   answered : (x : Draft) (b : Ballot) (a : Answer Decision) → Ordered x → IsAnswer r input x b a → IsOrderedHeld a.accepted
   answered x b a o (inl own_one) = subst IsOrderedHeld (sym own_one.2) (accepted_ordered x.replica.log o.log)
-  answered x b a o (inr one) = heard a.replica (Control.P1b (instance x) b a.accepted) one.1
+  answered x b a o (inr one) = received a.replica (Control.P1b (instance x) b a.accepted) one.1
 
   pub change_ordered : (x y : Draft) → Change r input reading x y → Ordered x → Ordered y
-  unfolding submit refuse await push_to_members push_to count_vote issued_at keep noting reply send take_frame hear owe ack pay owing again_frame forget_epoch collected
+  unfolding submit refuse await push_to_members push_to count_vote issued_at keep noting reply send take_frame receive owe ack pay owing again_frame forget_epoch collected
   change_ordered x y (Submits a c t i h w) o = record { log = (tt, o.log); coordinator = o.coordinator; sends = between_then x.sends _ o.sends (frames_between _ _ (other_members _)) }
   change_ordered x y (Refuses a c why i h) o = record { log = o.log; coordinator = o.coordinator; sends = o.sends }
   change_ordered x y (Commits e a h w) o = record { log = (tt, o.log); coordinator = o.coordinator; sends = o.sends }
@@ -188,9 +188,9 @@ module _ (r : Replica) (input : Input) (reading : ℕ) (wished : (ms : List ℕ)
   change_ordered x y (IsAcked k next p h) o = record { log = o.log; coordinator = o.coordinator; sends = o.sends }
   change_ordered x y (Pays s t a m w lt) o = record { log = o.log; coordinator = o.coordinator; sends = between_then x.sends _ o.sends (frames_between _ _ (other_members _)) }
   change_ordered x y (Owes ss a h) o = record { log = o.log; coordinator = o.coordinator; sends = o.sends }
-  change_ordered x y (TellsTime t a i w) o = record { log = o.log; coordinator = o.coordinator; sends = between_then x.sends _ o.sends (frames_between _ _ (other_members _)) }
+  change_ordered x y (SendsTime t a i w) o = record { log = o.log; coordinator = o.coordinator; sends = between_then x.sends _ o.sends (frames_between _ _ (other_members _)) }
   change_ordered x y (SendsAgain k g a m h) o = record { log = o.log; coordinator = o.coordinator; sends = between_then x.sends _ o.sends (tt, tt) }
-  change_ordered x y (Tells k c h) o = tell_ordered c k x o
+  change_ordered x y (SendsControl k c h) o = send_ordered c k x o
   change_ordered x y (Gathers a p i w) o = record { log = o.log; coordinator = o.coordinator; sends = o.sends }
   change_ordered x y (Suspends h) o = record { log = (tt, o.log); coordinator = o.coordinator; sends = o.sends }
   change_ordered x y (Collects ms asked h s) o = record { log = o.log; coordinator = wished ms asked; sends = o.sends }
@@ -213,9 +213,9 @@ module _ (r : Replica) (input : Input) (reading : ℕ) (wished : (ms : List ℕ)
   change_ordered x y (AcceptsOwn b own value acceptors n h i j) o = record { log = ((noted x (Coordinator.Proposing b own value acceptors) o n).1, o.log); coordinator = o.coordinator; sends = o.sends }
   change_ordered x y (CountsVote b own value acceptors k n v) o = record { log = o.log; coordinator = noted x (Coordinator.Proposing b own value acceptors) o n; sends = o.sends }
   change_ordered x y (Promises k b h lt) o = record { log = (tt, o.log); coordinator = o.coordinator; sends = o.sends }
-  change_ordered x y (Accepts k b d h i j l) o = record { log = (heard k _ h, o.log); coordinator = o.coordinator; sends = o.sends }
+  change_ordered x y (Accepts k b d h i j l) o = record { log = (received k _ h, o.log); coordinator = o.coordinator; sends = o.sends }
   change_ordered x y (Chooses b own d acceptors n h) o = record { log = ((noted x (Coordinator.Proposing b own d acceptors) o n).1, o.log); coordinator = tt; sends = o.sends }
-  change_ordered x y (Learns k d h lt) o = record { log = (heard k _ h, o.log); coordinator = tt; sends = o.sends }
+  change_ordered x y (Learns k d h lt) o = record { log = (received k _ h, o.log); coordinator = tt; sends = o.sends }
   change_ordered x y (AdoptsTail d h i j) o = record { log = (tt, o.log); coordinator = o.coordinator; sends = o.sends }
   change_ordered x y (AdoptsPage k e from es h i j) o = record { log = (tt, o.log); coordinator = o.coordinator; sends = o.sends }
   change_ordered x y (Enters h) o = record { log = (tt, o.log); coordinator = o.coordinator; sends = o.sends }

@@ -12,12 +12,12 @@ use Rattle.crsm_spec.specs.Log.{Log, boots}
 use Rattle.crsm_spec.specs.Replica.{Replica}
 use Rattle.crsm_spec.specs.Draft.{Draft, begun}
 use Rattle.crsm_spec.specs.Step.{Input, step, boot, founding_boot}
-use Rattle.crsm_spec.specs.World.{Site, Mail, World, Moment, begin, log_of, log_at, with_site, mail_of, whole_step, cut_step, lost_step, down, after_step, then_down}
+use Rattle.crsm_spec.specs.World.{Site, Packet, World, Moment, begin, log_of, log_at, with_site, packet_of, whole_step, cut_step, lost_step, down, after_step, then_down}
 use Rattle.crsm_spec.specs.Moments.{use_up, silent, begun_at, with_room, start_at}
 use Rattle.crsm_log_facts.specs.Logs.{AllFit, Extends}
 use Rattle.crsm_law_steps.specs.Happenings.{Marks, CanCome, Ends, Happens, IsReached}
 use Rattle.crsm_law_steps.specs.Happenings.Marks.{none, mark}
-use Rattle.crsm_law_steps.specs.Happenings.CanCome.{IsMail, IsCommand, IsReply, IsTick, IsSuspicion}
+use Rattle.crsm_law_steps.specs.Happenings.CanCome.{IsPacket, IsCommand, IsReply, IsTick, IsSuspicion}
 use Rattle.crsm_law_steps.specs.Happenings.Ends.{IsWhole, IsCut, IsLost}
 use Rattle.crsm_law_steps.specs.Happenings.Happens.{Nothing, Steps, Junk, Stops, Joins, Starts}
 use Rattle.crsm_law_steps.specs.Happenings.IsReached.{first, next}
@@ -56,13 +56,13 @@ SiteHolds n k (Site.Down log) = LogHolds n k log
 abbrev SitesHold : ℕ → List Site → Type 0
 SitesHold n ss = (k : ℕ) (s : Site) → slice_get ss k ≡ Some s → SiteHolds n k s
 
-abbrev MailHolds : List Mail → Type 0
-MailHolds ms = (m : Mail) → Among ms m → IsBetween m.datagram
+abbrev PacketsHold : List Packet → Type 0
+PacketsHold ms = (m : Packet) → Among ms m → IsBetween m.datagram
 
 pub record Held (n : ℕ) (w : World) : Type 0 where
   pub size : w.n ≡ n
   pub sites : SitesHold n w.sites
-  pub mail : MailHolds w.mail
+  pub packets : PacketsHold w.packets
 
 no_log : (n k : ℕ) → LogHolds n k []
 no_log n k = record { ordered = tt; fit = λ few. tt }
@@ -89,14 +89,14 @@ sites_set n ss k t h g j s e = go (set_case ss k t j)
 
 -- ---- mail
 
-mail_between : (k : ℕ) (sends : List (ℕ × Datagram)) → AreBetween sends → MailHolds (map (mail_of k) sends)
-unfolding mail_of
-mail_between k [] h m a = absurd a
-mail_between k (s ∷ ss) h m (inl e) = subst (λ (q : Mail). IsBetween q.datagram) e h.0
-mail_between k (s ∷ ss) h m (inr a) = mail_between k ss h.1 m a
+packets_between : (k : ℕ) (sends : List (ℕ × Datagram)) → AreBetween sends → PacketsHold (map (packet_of k) sends)
+unfolding packet_of
+packets_between k [] h m a = absurd a
+packets_between k (s ∷ ss) h m (inl e) = subst (λ (q : Packet). IsBetween q.datagram) e h.0
+packets_between k (s ∷ ss) h m (inr a) = packets_between k ss h.1 m a
 
-mail_then : (ms ns : List Mail) → MailHolds ms → MailHolds ns → MailHolds (ms ++ ns)
-mail_then ms ns h g m a = elim (among_either ms ns m a) [ inl b ↦ h m b | inr b ↦ g m b ]
+packets_then : (ms ns : List Packet) → PacketsHold ms → PacketsHold ns → PacketsHold (ms ++ ns)
+packets_then ms ns h g m a = elim (among_either ms ns m a) [ inl b ↦ h m b | inr b ↦ g m b ]
 
 some_between : (c : ℕ) (sends : List (ℕ × Datagram)) → AreBetween sends → AreBetween (take c sends)
 some_between zero sends h = tt
@@ -119,7 +119,7 @@ held_marked : (n : ℕ) (w v : World) → Marks w v → Held n w → Held n v
 held_marked n w v p h = record {
   size = marked_n p ∙ h.size;
   sites = subst (SitesHold n) (sym (marked_sites p)) h.sites;
-  mail = λ m a. let t = sent_before p m.from m.to m.datagram (m.used, a) in h.mail (record { from = m.from; to = m.to; datagram = m.datagram; used = t.0 }) t.1;
+  packets = λ m a. let t = sent_before p m.from m.to m.datagram (m.used, a) in h.packets (record { from = m.from; to = m.to; datagram = m.datagram; used = t.0 }) t.1;
 }
 
 -- ---- moments
@@ -127,26 +127,26 @@ held_marked n w v p h = record {
 module _ (n : ℕ) (w : World) (h : Held n w) (k : ℕ) where
   went_down : Held n (down w k).after
   unfolding down with_site
-  went_down = record { size = h.size; sites = sites_set n w.sites k (Site.Down (log_at w k)) h.sites (log_holds n w k h.sites); mail = h.mail }
+  went_down = record { size = h.size; sites = sites_set n w.sites k (Site.Down (log_at w k)) h.sites (log_holds n w k h.sites); packets = h.packets }
 
   ended : (x : Draft) → UpHolds n k x.replica → AreBetween x.sends → (m : Moment) → Ends w k x m → Held n m.after
   unfolding whole_step cut_step lost_step then_down after_step
   ended x up sends m IsWhole = record {
     size = h.size;
     sites = sites_set n w.sites k (Site.Up x.replica) h.sites up;
-    mail = mail_then w.mail (map (mail_of k) x.sends) h.mail (mail_between k x.sends sends);
+    packets = packets_then w.packets (map (packet_of k) x.sends) h.packets (packets_between k x.sends sends);
   }
   ended x up sends m (IsCut count) = record {
     size = h.size;
     sites = sites_set n w.sites k (Site.Down x.replica.log) h.sites up.log;
-    mail = mail_then w.mail (map (mail_of k) (take count x.sends)) h.mail (mail_between k (take count x.sends) (some_between count x.sends sends));
+    packets = packets_then w.packets (map (packet_of k) (take count x.sends)) h.packets (packets_between k (take count x.sends) (some_between count x.sends sends));
   }
   ended x up sends m IsLost = went_down
 
 -- who an input asks for
 pub wished : (n : ℕ) (w : World) → Held n w → (k : ℕ) (input : Input) → CanCome w k input → (ms : List ℕ) → AsksFor input ms → IsMembers ms
-wished n w h k input (IsMail from d s) ms (inl e) = absurd (cc)
-wished n w h k input (IsMail from d s) ms (inr a) = absurd (subst IsBetween (came_is from a.0 d (Datagram.Operate ms) a.1) (h.mail (record { from = from; to = k; datagram = d; used = s.0 }) s.1))
+wished n w h k input (IsPacket from d s) ms (inl e) = absurd (cc)
+wished n w h k input (IsPacket from d s) ms (inr a) = absurd (subst IsBetween (came_is from a.0 d (Datagram.Operate ms) a.1) (h.packets (record { from = from; to = k; datagram = d; used = s.0 }) s.1))
   where
     came_is : (a b : ℕ) (c d : Datagram) → Input.Came a c ≡ Input.Came b d → c ≡ d
     came_is a b c d h = cc
@@ -208,7 +208,7 @@ held_room n w k h = go (k == length w.sites)
     room j s e = elim (get_either w.sites (Site.Down []) j s e) [ inl q ↦ h.sites j s q | inr q ↦ subst (SiteHolds n j) q.1 (no_log n j) ]
 
     go : (c : Bool) → Held n (cond c (record w { sites = w.sites ++ Site.Down [] ∷ [] }) w)
-    go true = record { size = h.size; sites = room; mail = h.mail }
+    go true = record { size = h.size; sites = room; packets = h.packets }
     go false = h
 
 booted_up : (n k : ℕ) (x : Draft) → HasBooted k n x → UpHolds n k x.replica
@@ -250,7 +250,7 @@ unfolding begin numbers_below
 first_held n = record {
   size = refl;
   sites = λ k s e. let t = get_range (λ k. Site.Up (founding_boot k n).replica) 0 n k s e in subst (SiteHolds n k) (from_zero n k s t.1) (booted_up n k (founding_boot k n) (founding_booted k n t.0));
-  mail = λ m a. absurd a;
+  packets = λ m a. absurd a;
 }
 
 pub all_held : (n : ℕ) (w : World) → IsReached n w → Held n w

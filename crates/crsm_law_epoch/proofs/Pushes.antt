@@ -137,7 +137,7 @@ pub record Pushings (n k : ℕ) (v : ℕ → Seat) (p : InEpoch) (ks : List ℕ)
   pub grows : (x : ℕ) → IsTrue (has_entered x (v k).log) → IsTrue (has_entered x s.log)
   pub here : IsTrue (has_entered (known (v k).log) s.log)
   pub issued : s.issued ≡ time_of p ∷ (v k).issued
-  pub heard : s.heard ≡ (v k).heard
+  pub received : s.received ≡ (v k).received
   pub pushed : s.pushed ≡ (v k).pushed ++ behind p ks
   pub taken : s.taken ≡ (v k).taken
   pub votes : (t : Stamp) (j : ℕ) → Among s.votes (t, j) → Among (v k).votes (t, j) ⊎ ((j ≡ k) × ((f : Entry) × (p ≡ InEpoch.Prepare f) × (f.stamp ≡ t)))
@@ -263,9 +263,9 @@ module _ (n k : ℕ) (v : ℕ → Seat) (all : List Datagram) (i : Facts n v all
       | inr w ↦ absurd ((t.members_in k w.member).1 refl)
     ];
     came = λ m x lt. let c = takes.came m x (subst (λ ks'. x < taken_of m ks') t.taken lt) in (c.0, old _ (subst (λ e. Among all (Datagram.Frame m k e x c.0)) (sym t.known_is) c.1));
-    times = λ m u h. let c = takes.times m u (subst (λ hs. Among hs (m, u)) t.heard h) in
+    times = λ m u h. let c = takes.times m u (subst (λ hs. Among hs (m, u)) t.received h) in
         (c.0, c.1, subst (λ ks'. c.0 < taken_of m ks') (sym t.taken) c.2, old _ (subst (λ e. Among all (Datagram.Frame m k e c.0 c.1)) (sym t.known_is) c.3), c.4);
-    others = λ m u h. takes.others m u (subst (λ hs. Among hs (m, u)) t.heard h);
+    others = λ m u h. takes.others m u (subst (λ hs. Among hs (m, u)) t.received h);
     votes = λ u j h. elim (t.votes u j h) [
       | inl o ↦ (let w = takes.votes u j o in (w.0, vote_there j w.0 w.1, w.2 ∙ sym t.known_is, w.3))
       | inr w ↦ (let a = t.says w.1.0 w.1.1 in (w.1.0, subst (λ b. Logged (at k s v b).log w.1.0) (sym w.0) (here w.1.0 a.0), a.1 ∙ sym t.known_is, w.1.2))

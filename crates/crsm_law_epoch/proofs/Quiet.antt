@@ -116,7 +116,7 @@ module _ (n k : ℕ) (v : ℕ → Seat) (all after : List Datagram) (s : Seat) (
 module _ (n k : ℕ) (s : Seat) (all : List Datagram) (log : Log) (known_is : known log ≡ known s.log) (members_are : members n log ≡ members n s.log)
     (keeps : (f : Entry) → Logged s.log f → Logged log f) (lose : (f : Entry) → Logged log f → Logged s.log f) where
   abbrev pub with_log : Seat
-  with_log = record { log = log; running = s.running; issued = s.issued; heard = s.heard; votes = s.votes; owed = s.owed; pushed = s.pushed; taken = s.taken }
+  with_log = record { log = log; running = s.running; issued = s.issued; received = s.received; votes = s.votes; owed = s.owed; pushed = s.pushed; taken = s.taken }
 
   peer : (j : ℕ) → IsOther n k log j → IsOther n k s.log j
   peer j h = (subst (λ ms. IsTrue (has ms j)) members_are h.0, h.1)

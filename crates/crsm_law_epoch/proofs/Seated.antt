@@ -37,10 +37,10 @@ module _ (n k : ℕ) (v : ℕ → Seat) (sent : List Datagram) where
       (subst (λ s. Receiver k s (logs_of (at k s v)) (sent ++ outs x)) seat (receiver_of n k v sent x g (subst (λ l. IsTrue (active l)) (sym logs) a))))
 
   -- fewer stamps are owed
-  pub good_owed : (x y : Draft) → G x → y.replica.me ≡ x.replica.me → y.replica.n ≡ x.replica.n → y.sends ≡ x.sends → y.replica.log ≡ x.replica.log → y.replica.issued ≡ x.replica.issued → y.replica.heard ≡ x.replica.heard →
+  pub good_owed : (x y : Draft) → G x → y.replica.me ≡ x.replica.me → y.replica.n ≡ x.replica.n → y.sends ≡ x.sends → y.replica.log ≡ x.replica.log → y.replica.issued ≡ x.replica.issued → y.replica.received ≡ x.replica.received →
       y.replica.votes ≡ x.replica.votes → y.replica.pushed ≡ x.replica.pushed → y.replica.taken ≡ x.replica.taken → ((s : Stamp) → Among y.replica.owed s → Among x.replica.owed s) → G y
   unfolding seat_up
-  good_owed x y g me size es log issued heard votes pushed taken owed =
+  good_owed x y g me size es log issued received votes pushed taken owed =
       let u = seat_up x.replica in
       let s = seat_up y.replica in
       let eo : outs y ≡ outs x = ap (map (λ s. s.1)) es in
@@ -50,7 +50,7 @@ module _ (n k : ℕ) (v : ℕ → Seat) (sent : List Datagram) where
       (λ a. subst (λ l. Receiver k s (logs_of (at k s v)) (sent ++ l)) (sym eo) (takes (receiver_of n k v sent x g (subst (λ l. IsTrue (active l)) log a))))
     where
       seat : Seat
-      seat = record { log = x.replica.log; running = active x.replica.log; issued = x.replica.issued; heard = x.replica.heard; votes = x.replica.votes; owed = y.replica.owed; pushed = x.replica.pushed; taken = x.replica.taken }
+      seat = record { log = x.replica.log; running = active x.replica.log; issued = x.replica.issued; received = x.replica.received; votes = x.replica.votes; owed = y.replica.owed; pushed = x.replica.pushed; taken = x.replica.taken }
 
       is : seat ≡ seat_up y.replica
       is = cc
@@ -80,9 +80,9 @@ module _ (n k : ℕ) (v : ℕ → Seat) (sent : List Datagram) where
   -- a record that is no entry, and the replica goes on in the epoch
   pub good_record : (rec : Rec) (x y : Draft) → G x → y.replica.me ≡ x.replica.me → y.replica.n ≡ x.replica.n → y.sends ≡ x.sends → IsNoEntry rec → y.replica.log ≡ rec ∷ x.replica.log → AllFit k n y.replica.log →
       known (rec ∷ x.replica.log) ≡ known x.replica.log → members n (rec ∷ x.replica.log) ≡ members n x.replica.log → active (rec ∷ x.replica.log) ≡ active x.replica.log →
-      y.replica.issued ≡ x.replica.issued → y.replica.heard ≡ x.replica.heard → y.replica.votes ≡ x.replica.votes → y.replica.owed ≡ x.replica.owed → y.replica.pushed ≡ x.replica.pushed → y.replica.taken ≡ x.replica.taken → G y
+      y.replica.issued ≡ x.replica.issued → y.replica.received ≡ x.replica.received → y.replica.votes ≡ x.replica.votes → y.replica.owed ≡ x.replica.owed → y.replica.pushed ≡ x.replica.pushed → y.replica.taken ≡ x.replica.taken → G y
   unfolding seat_up
-  good_record rec x y g me size es no_entry log fit ks ms act issued heard votes owed pushed taken =
+  good_record rec x y g me size es no_entry log fit ks ms act issued received votes owed pushed taken =
       good_quiet n k v sent x y [] g me size (es ∙ sym (append-nil x.sends)) (λ m j e i p h. absurd h) fit (λ f h. subst (λ l. Logged l f) (sym log) (inr h)) (λ f h. strip rec x.replica.log f no_entry (subst (λ l. Logged l f) log h))
       (λ e h. subst (λ l. IsTrue (has_entered e l)) (sym log) (entered_more e rec x.replica.log h))
       (λ a. sends (sender_of n k v sent x g (was a))) (λ a. takes (receiver_of n k v sent x g (was a)))
@@ -94,7 +94,7 @@ module _ (n k : ℕ) (v : ℕ → Seat) (sent : List Datagram) where
       u = seat_up x.replica
 
       seat : Seat
-      seat = record { log = l'; running = active x.replica.log; issued = x.replica.issued; heard = x.replica.heard; votes = x.replica.votes; owed = x.replica.owed; pushed = x.replica.pushed; taken = x.replica.taken }
+      seat = record { log = l'; running = active x.replica.log; issued = x.replica.issued; received = x.replica.received; votes = x.replica.votes; owed = x.replica.owed; pushed = x.replica.pushed; taken = x.replica.taken }
 
       runs_same : active y.replica.log ≡ active x.replica.log
       runs_same = ap active log ∙ act
@@ -144,9 +144,9 @@ module _ (n k : ℕ) (v : ℕ → Seat) (sent : List Datagram) where
 
   -- the known epoch is entered: nothing was stamped or sent in it
   pub good_enter : (x y : Draft) → G x → y.replica.me ≡ x.replica.me → y.replica.n ≡ x.replica.n → y.sends ≡ x.sends → y.replica.log ≡ Rec.Enter (known x.replica.log) ∷ x.replica.log → AllFit k n y.replica.log →
-      has_entered (known x.replica.log) x.replica.log ≡ false → y.replica.issued ≡ [] → y.replica.heard ≡ [] → y.replica.votes ≡ [] → y.replica.owed ≡ [] → y.replica.pushed ≡ [] → y.replica.taken ≡ [] → G y
+      has_entered (known x.replica.log) x.replica.log ≡ false → y.replica.issued ≡ [] → y.replica.received ≡ [] → y.replica.votes ≡ [] → y.replica.owed ≡ [] → y.replica.pushed ≡ [] → y.replica.taken ≡ [] → G y
   unfolding seat_up known decision
-  good_enter x y g me size es log fit new issued heard votes owed pushed taken =
+  good_enter x y g me size es log fit new issued received votes owed pushed taken =
       good_quiet n k v sent x y [] g me size (es ∙ sym (append-nil x.sends)) (λ m j e i p h. absurd h) fit (λ f h. subst (λ l. Logged l f) (sym log) (inr h)) (λ f h. strip rec x.replica.log f (λ f q. absurd (cc)) (subst (λ l. Logged l f) log h))
       (λ e h. subst (λ l. IsTrue (has_entered e l)) (sym log) (entered_more e rec x.replica.log h))
       (λ a. subst (λ s. Sender n k s (sent ++ outs y)) is sends) (λ a. subst (λ s. Receiver k s (logs_of (at k (seat_up y.replica) v)) (sent ++ outs y)) is takes)
@@ -158,7 +158,7 @@ module _ (n k : ℕ) (v : ℕ → Seat) (sent : List Datagram) where
       l' = rec ∷ x.replica.log
 
       seat : Seat
-      seat = record { log = l'; running = active y.replica.log; issued = []; heard = []; votes = []; owed = []; pushed = []; taken = [] }
+      seat = record { log = l'; running = active y.replica.log; issued = []; received = []; votes = []; owed = []; pushed = []; taken = [] }
 
       is : seat ≡ seat_up y.replica
       is = cc

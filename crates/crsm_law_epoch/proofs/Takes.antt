@@ -23,7 +23,7 @@ pub record Takings (n k : ℕ) (v : ℕ → Seat) (all : List Datagram) (m : ℕ
   pub got : (f : Entry) → p ≡ InEpoch.Prepare f → Logged s.log f
   pub grows : (x : ℕ) → IsTrue (has_entered x (v k).log) → IsTrue (has_entered x s.log)
   pub issued : s.issued ≡ (v k).issued
-  pub heard : s.heard ≡ (m, time_of p) ∷ (v k).heard
+  pub received : s.received ≡ (m, time_of p) ∷ (v k).received
   pub pushed : s.pushed ≡ (v k).pushed
   pub taken : s.taken ≡ m ∷ (v k).taken
   pub votes : (t : Stamp) (j : ℕ) → Among s.votes (t, j) → Among (v k).votes (t, j)
@@ -135,7 +135,7 @@ module _ (n k : ℕ) (v : ℕ → Seat) (all : List Datagram) (i : Facts n v all
       | inl l ↦ (let c = takes.came a x l in (c.0, to_now a x c.0 c.1))
       | inr w ↦ (p, to_now a x p (subst (λ b. Among all (Datagram.Frame b k e0 x p)) w.0 (subst (λ y. Among all (Datagram.Frame m k e0 y p)) (sym w.1) t.frame)))
     ];
-    times = λ a u h. elim (subst (λ hs. Among hs (a, u)) t.heard h) [
+    times = λ a u h. elim (subst (λ hs. Among hs (a, u)) t.received h) [
       | inl e ↦ (let ea : m ≡ a = ap (λ y. y.0) e in (
         taken_of m (v k).taken,
         p,
@@ -145,7 +145,7 @@ module _ (n k : ℕ) (v : ℕ → Seat) (all : List Datagram) (i : Facts n v all
       ))
       | inr g ↦ (let c = takes.times a u g in (c.0, c.1, still a c.0 c.2, to_now a c.0 c.1 c.3, c.4))
     ];
-    others = λ a u h. elim (subst (λ hs. Among hs (a, u)) t.heard h) [ inl e ↦ (λ w. t.other (ap (λ y. y.0) e ∙ w)) | inr g ↦ takes.others a u g ];
+    others = λ a u h. elim (subst (λ hs. Among hs (a, u)) t.received h) [ inl e ↦ (λ w. t.other (ap (λ y. y.0) e ∙ w)) | inr g ↦ takes.others a u g ];
     votes = λ u j h. elim (t.votes u j h) [
       | inl o ↦ (let w = takes.votes u j o in (w.0, vote_there j w.0 w.1, w.2 ∙ sym t.known_is, w.3))
       | inr new ↦ vote_new u j new

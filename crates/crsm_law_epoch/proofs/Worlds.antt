@@ -14,13 +14,13 @@ use Rattle.crsm_spec.specs.Log.{Log, known, active, live, suspended, has_entered
 use Rattle.crsm_spec.specs.Replica.{Replica, fresh}
 use Rattle.crsm_spec.specs.Draft.{Draft, begun, keep}
 use Rattle.crsm_spec.specs.Step.{Input, step, boot, boot_again, founding_boot, first_boot}
-use Rattle.crsm_spec.specs.World.{Site, Mail, World, Moment, begin, log_of, log_at, with_site, mail_of, whole_step, cut_step, lost_step, down, after_step, then_down}
+use Rattle.crsm_spec.specs.World.{Site, Packet, World, Moment, begin, log_of, log_at, with_site, packet_of, whole_step, cut_step, lost_step, down, after_step, then_down}
 use Rattle.crsm_spec.specs.Moments.{use_up, silent, begun_at, with_room, start_at}
 use Rattle.crsm_log_facts.specs.Logs.{AllFit, Extends, same, more, Logged}
 use Rattle.crsm_law_steps.specs.Laws.{LogsGoOn}
 use Rattle.crsm_law_steps.specs.Happenings.{Marks, CanCome, Ends, Happens, IsReached}
 use Rattle.crsm_law_steps.specs.Happenings.Marks.{none, mark}
-use Rattle.crsm_law_steps.specs.Happenings.CanCome.{IsMail, IsCommand, IsReply, IsTick, IsSuspicion}
+use Rattle.crsm_law_steps.specs.Happenings.CanCome.{IsPacket, IsCommand, IsReply, IsTick, IsSuspicion}
 use Rattle.crsm_law_steps.specs.Happenings.Ends.{IsWhole, IsCut, IsLost}
 use Rattle.crsm_law_steps.specs.Happenings.Happens.{Nothing, Steps, Junk, Stops, Joins, Starts}
 use Rattle.crsm_law_steps.specs.Happenings.IsReached.{first, next}
@@ -53,18 +53,18 @@ seat_log (Some (Site.Down log)) = refl
 
 -- ---- marks
 
-map_set : (xs : List Mail) (i : ℕ) (m n : Mail) → slice_get xs i ≡ Some m → n.datagram ≡ m.datagram → map (λ m. m.datagram) (slice_set xs i n) ≡ map (λ m. m.datagram) xs
+map_set : (xs : List Packet) (i : ℕ) (m n : Packet) → slice_get xs i ≡ Some m → n.datagram ≡ m.datagram → map (λ m. m.datagram) (slice_set xs i n) ≡ map (λ m. m.datagram) xs
 map_set [] i m n h e = refl
 map_set (x ∷ xs) zero m n h e = ap (λ d. d ∷ map (λ m. m.datagram) xs) (e ∙ ap (λ m. m.datagram) (sym (same_Some x m h)))
 map_set (x ∷ xs) (suc i) m n h e = ap (λ l. x.datagram ∷ l) (map_set xs i m n h e)
 
 mark_sent : (i : ℕ) (w : World) → sent_in (use_up i w) ≡ sent_in w
 unfolding sent_in use_up
-mark_sent i w = go (slice_get w.mail i) refl
+mark_sent i w = go (slice_get w.packets i) refl
   where
-    go : (o : Option Mail) → slice_get w.mail i ≡ o → map (λ m. m.datagram) (option_map_or (λ m. slice_set w.mail i (record m { used = true })) o w.mail) ≡ map (λ m. m.datagram) w.mail
+    go : (o : Option Packet) → slice_get w.packets i ≡ o → map (λ m. m.datagram) (option_map_or (λ m. slice_set w.packets i (record m { used = true })) o w.packets) ≡ map (λ m. m.datagram) w.packets
     go None e = refl
-    go (Some m) e = map_set w.mail i m (record m { used = true }) e refl
+    go (Some m) e = map_set w.packets i m (record m { used = true }) e refl
 
 pub marked_sent : {w v : World} → Marks w v → sent_in v ≡ sent_in w
 marked_sent none = refl
@@ -150,10 +150,10 @@ seated_set n w u k s t e is h new j r q = elim (cases_eq j k) [
   | inr ne ↦ h j r (sym (ap (λ ss. slice_get ss j) is ∙ set_other w.sites k j t ne) ∙ q)
 ]
 
-pub mail_sent : (k : ℕ) (sends : List (ℕ × Datagram)) → map (λ m. m.datagram) (map (mail_of k) sends) ≡ map (λ s. s.1) sends
-unfolding mail_of
-mail_sent k [] = refl
-mail_sent k (s ∷ ss) = ap (λ l. s.1 ∷ l) (mail_sent k ss)
+pub packets_sent : (k : ℕ) (sends : List (ℕ × Datagram)) → map (λ m. m.datagram) (map (packet_of k) sends) ≡ map (λ s. s.1) sends
+unfolding packet_of
+packets_sent k [] = refl
+packets_sent k (s ∷ ss) = ap (λ l. s.1 ∷ l) (packets_sent k ss)
 
 pub map_take : (c : ℕ) (xs : List (ℕ × Datagram)) → map (λ s. s.1) (take c xs) ≡ take c (map (λ s. s.1) xs)
 map_take zero xs = refl
@@ -201,13 +201,13 @@ module _ (n : ℕ) (w : World) (h : Held n w) (k : ℕ) (r : Replica) (e : slice
     size = h.size;
     seated = seated_set n w m.after k (Site.Up r) (Site.Up x.replica) e refl h.seated (λ q z. let s = up_same x.replica q z in (ap (λ y. y.me) (sym s) ∙ g.me, ap (λ y. y.n) (sym s) ∙ g.size));
     facts = facts_same n (at k (seat_up x.replica) (seats w)) (seats m.after) (sent_in w ++ outs x) (sent_in m.after) (seats_set w m.after k (Site.Up r) (Site.Up x.replica) e refl)
-        (sym (map-append (λ m. m.datagram) w.mail (map (mail_of k) x.sends) ∙ ap (λ l. sent_in w ++ l) (mail_sent k x.sends))) g.facts;
+        (sym (map-append (λ m. m.datagram) w.packets (map (packet_of k) x.sends) ∙ ap (λ l. sent_in w ++ l) (packets_sent k x.sends))) g.facts;
   }
   ended m (IsCut count) = record {
     size = h.size;
     seated = seated_set n w m.after k (Site.Up r) (Site.Down x.replica.log) e refl h.seated (λ q z. absurd (cc));
     facts = facts_same n (at k (seat_down x.replica.log) (seats w)) (seats m.after) (sent_in w ++ take count (outs x)) (sent_in m.after) (seats_set w m.after k (Site.Up r) (Site.Down x.replica.log) e refl)
-        (sym (map-append (λ m. m.datagram) w.mail (map (mail_of k) (take count x.sends)) ∙ ap (λ l. sent_in w ++ l) (mail_sent k (take count x.sends) ∙ map_take count x.sends)))
+        (sym (map-append (λ m. m.datagram) w.packets (map (packet_of k) (take count x.sends)) ∙ ap (λ l. sent_in w ++ l) (packets_sent k (take count x.sends) ∙ map_take count x.sends)))
         (cut_off n k (seats w) (sent_in w) h.facts x g (subst (λ l. Extends l x.replica.log) (sym here_log) grows) count);
   }
   ended m IsLost = went_down n w h k (Site.Up r) e
@@ -249,9 +249,9 @@ held_marked n w v p h = record {
 -- what came as a frame was sent
 pub came_sent : (w : World) (k : ℕ) (input : Input) → CanCome w k input → (a m j e i : ℕ) (p : InEpoch) → input ≡ Input.Came a (Datagram.Frame m j e i p) → Among (sent_in w) (Datagram.Frame m j e i p)
 unfolding sent_in
-came_sent w k input (IsMail from d s) a m j e i p q =
+came_sent w k input (IsPacket from d s) a m j e i p q =
     let same : d ≡ Datagram.Frame m j e i p = came_is from a d (Datagram.Frame m j e i p) q in
-    subst (λ z. Among (map (λ m. m.datagram) w.mail) z) same (among_map (λ m. m.datagram) w.mail _ s.1)
+    subst (λ z. Among (map (λ m. m.datagram) w.packets) z) same (among_map (λ m. m.datagram) w.packets _ s.1)
   where
     came_is : (a b : ℕ) (c d : Datagram) → Input.Came a c ≡ Input.Came b d → c ≡ d
     came_is a b c d h = cc
@@ -316,7 +316,7 @@ pub room_sent : (w : World) (k : ℕ) → sent_in w ≡ sent_in (with_room w k)
 unfolding with_room sent_in
 room_sent w k = go (k == length w.sites)
   where
-    go : (c : Bool) → map (λ m. m.datagram) w.mail ≡ map (λ m. m.datagram) (cond c (record w { sites = w.sites ++ Site.Down [] ∷ [] }) w).mail
+    go : (c : Bool) → map (λ m. m.datagram) w.packets ≡ map (λ m. m.datagram) (cond c (record w { sites = w.sites ++ Site.Down [] ∷ [] }) w).packets
     go true = refl
     go false = refl
 
@@ -455,7 +455,7 @@ held_start n w k h f well =
       size = hv.size;
       seated = seated_set n v u k t.0 (Site.Up x.replica) t.1 refl hv.seated (λ q z. let s = up_same x.replica q z in (ap (λ y. y.me) (sym s) ∙ g.me, ap (λ y. y.n) (sym s) ∙ g.size));
       facts = facts_same n (at k (seat_up x.replica) (seats v)) (seats u) (sent_in v ++ outs x) (sent_in u) (seats_up v u k t.0 x.replica t.1)
-          (sym (map-append (λ m. m.datagram) v.mail (map (mail_of k) x.sends) ∙ ap (λ l. sent_in v ++ l) (mail_sent k x.sends))) g.facts;
+          (sym (map-append (λ m. m.datagram) v.packets (map (packet_of k) x.sends) ∙ ap (λ l. sent_in v ++ l) (packets_sent k x.sends))) g.facts;
     }
   where
     log_set' : (v : World) (k : ℕ) (s : Site) (x : Draft) (u : World) → slice_get v.sites k ≡ Some s → log_at (record u { sites = slice_set v.sites k (Site.Up x.replica) }) k ≡ x.replica.log

@@ -14,7 +14,7 @@ pub record Seat : Type 0 where
   pub log : Log
   pub running : Bool  -- up, and active in the known epoch
   pub issued : List ℕ
-  pub heard : List (ℕ × ℕ)
+  pub received : List (ℕ × ℕ)
   pub votes : List (Stamp × ℕ)
   pub owed : List Stamp
   pub pushed : List (ℕ × InEpoch)
@@ -26,7 +26,7 @@ seat_up r =
       log = r.log;
       running = active r.log;
       issued = r.issued;
-      heard = r.heard;
+      received = r.received;
       votes = r.votes;
       owed = r.owed;
       pushed = r.pushed;
@@ -35,7 +35,7 @@ seat_up r =
 
 unfoldable pub seat_down : Log → Seat
 seat_down log =
-    record { log = log; running = false; issued = []; heard = []; votes = []; owed = []; pushed = []; taken = [] }
+    record { log = log; running = false; issued = []; received = []; votes = []; owed = []; pushed = []; taken = [] }
 
 unfoldable pub seat_of : Option Site → Seat
 seat_of None = seat_down []
@@ -80,9 +80,9 @@ HasStamp logs e j s = (f : Entry) × Logged (logs j) f × (f.epoch ≡ e) × (f.
 pub record Receiver (k : ℕ) (s : Seat) (logs : ℕ → Log) (all : List Datagram) : Type 0 where
   pub has_it : (m i : ℕ) (f : Entry) → i < taken_of m s.taken → Among all (Datagram.Frame m k (known s.log) i (InEpoch.Prepare f)) → Logged s.log f
   pub came : (m i : ℕ) → i < taken_of m s.taken → (p : InEpoch) × Among all (Datagram.Frame m k (known s.log) i p)
-  pub times : (m t : ℕ) → Among s.heard (m, t) →
+  pub times : (m t : ℕ) → Among s.received (m, t) →
       (i : ℕ) × (p : InEpoch) × (i < taken_of m s.taken) × Among all (Datagram.Frame m k (known s.log) i p) × (time_of p ≡ t)
-  pub others : (m t : ℕ) → Among s.heard (m, t) → m ≡ k → ⊥
+  pub others : (m t : ℕ) → Among s.received (m, t) → m ≡ k → ⊥
   pub votes : (t : Stamp) (j : ℕ) → Among s.votes (t, j) → HasStamp logs (known s.log) j t
   pub owed : (t : Stamp) → Among s.owed t → (f : Entry) × Logged s.log f × (f.epoch ≡ known s.log) × (f.stamp ≡ t)
 

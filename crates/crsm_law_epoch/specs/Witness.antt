@@ -19,7 +19,7 @@ pub record Witnessed (n : ℕ) (v : ℕ → Seat) (all : List Datagram) (by : �
   pub many : majority (length (spec n log)) ≤ count_by voters (spec n log)
   pub logged : (j : ℕ) → IsTrue (voters j) → Logged (v j).log x
   -- each other member has told a time that is not below the entry's
-  pub heard : (m : ℕ) → IsTrue (has (members n log) m) → (m ≡ by → ⊥) →
+  pub received : (m : ℕ) → IsTrue (has (members n log) m) → (m ≡ by → ⊥) →
       (i : ℕ) × (p : InEpoch) × Among all (Datagram.Frame m by (known log) i p) × (x.stamp.time ≤ time_of p)
   -- what a member has stamped in the epoch up to that time, by now, had been logged at the commit
   pub older : (m : ℕ) (y : Entry) → IsTrue (has (members n log) m) → Logged (v m).log y → y.epoch ≡ known log → y.stamp.origin ≡ m →

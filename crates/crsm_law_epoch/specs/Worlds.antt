@@ -15,7 +15,7 @@ seats w k = seat_of (slice_get w.sites k)
 
 -- all datagrams that were sent
 unfoldable pub sent_in : World → List Datagram
-sent_in w = map (λ m. m.datagram) w.mail
+sent_in w = map (λ m. m.datagram) w.packets
 
 -- Each record of each log fits behind those before it, and the members of each epoch that a log knew are distinct.
 pub record IsWell (n : ℕ) (w : World) : Type 0 where

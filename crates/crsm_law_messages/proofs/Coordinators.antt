@@ -6,15 +6,15 @@ use Rattle.crsm_base.specs.Order.{ballot_lt}
 use Rattle.crsm_spec.specs.Log.{Log, known, decision, executed, promised}
 use Rattle.crsm_spec.specs.Quorum.{has_majority}
 use Rattle.crsm_spec.specs.Paxos.{Answer, value_of}
-use Rattle.crsm_spec.specs.Frames.{take_frame, hear, owe, ack, pay, owing, again_frame}
+use Rattle.crsm_spec.specs.Frames.{take_frame, receive, owe, ack, pay, owing, again_frame}
 use Rattle.crsm_spec.specs.Replica.{Replica, Coordinator, Waiting, fresh, spec_of}
-use Rattle.crsm_spec.specs.Draft.{Draft, begun, keep, noting, send, reply, count_vote, issued_at, push_to_members, push_to, tell}
+use Rattle.crsm_spec.specs.Draft.{Draft, begun, keep, noting, send, reply, count_vote, issued_at, push_to_members, push_to, send_control}
 use Rattle.crsm_spec.specs.Clients.{refuse, submit, await, replies, answer_each, answer_found, reply_ok, reply_dropped, find_executed}
 use Rattle.crsm_spec.specs.Coordinate.{forget_epoch, instance}
 use Rattle.crsm_spec.specs.Step.{Input, step, boot, boot_again, founding_boot, first_boot}
 use Rattle.crsm_spec.specs.World.{Site, World, Moment, begin, log_at, with_site, whole_step, cut_step, lost_step, down, after_step, then_down}
 use Rattle.crsm_spec.specs.Moments.{silent, begun_at, with_room, start_at}
-use Rattle.crsm_step_facts.specs.Messages.{IsTold}
+use Rattle.crsm_step_facts.specs.Messages.{IsSent}
 use Rattle.crsm_step_facts.specs.Changes.{Change, Changes, stay, and_then, IsAnswer, IsVote}
 use Rattle.crsm_law_steps.specs.Happenings.{Marks, CanCome, Ends, Happens, IsReached}
 use Rattle.crsm_law_steps.specs.Happenings.Marks.{none}
@@ -22,12 +22,12 @@ use Rattle.crsm_law_steps.specs.Happenings.Ends.{IsWhole, IsCut, IsLost}
 use Rattle.crsm_law_steps.specs.Happenings.Happens.{Nothing, Steps, Junk, Stops, Joins, Starts}
 use Rattle.crsm_law_steps.specs.Happenings.IsReached.{first, next}
 use Rattle.crsm_step_facts.proofs.Fitted.{step_changes}
-use Rattle.crsm_step_facts.proofs.Logs.{tell_still, replies_still}
+use Rattle.crsm_step_facts.proofs.Logs.{send_still, replies_still}
 use Rattle.crsm_step_facts.proofs.Walk.{same_when}
-use Rattle.crsm_law_messages.specs.Sayings.{GoesOn, here, Past}
+use Rattle.crsm_law_messages.specs.SentMessages.{GoesOn, here, Past}
 use Rattle.crsm_law_messages.specs.Proposals.{Did, Asks, Counts, Proposes, CountsVote, HasAsked, HasProposed, CoordinatorIsTrue, CoordinatorsAreTrue, AskedWasAsked, ProposedWasProposed}
 use Rattle.crsm_law_messages.proofs.Truth.{carried}
-use Rattle.crsm_law_messages.proofs.Telling.{then_on}
+use Rattle.crsm_law_messages.proofs.SendingControls.{then_on}
 use Rattle.crsm_law_messages.proofs.Worlds.{past_on, set_up, up_same, not_up, marked_sites, room_up, kept_whole, founded_is, all_known}
 use Rattle.crsm_log_facts.proofs.Lists.{among_either}
 
@@ -54,9 +54,9 @@ coordinator_carried n k i coordinator v w g = carried (λ u. CoordinatorIsTrue n
 
 -- ---- what leaves the coordinator
 
-pub tell_coordinator : (c : Control) (k : ℕ) (x : Draft) → (tell c x k).replica.coordinator ≡ x.replica.coordinator
-unfolding tell
-tell_coordinator c k x = same_when (λ y. y.replica.coordinator) _ x _ x refl refl
+pub send_coordinator : (c : Control) (k : ℕ) (x : Draft) → (send_control c x k).replica.coordinator ≡ x.replica.coordinator
+unfolding send_control
+send_coordinator c k x = same_when (λ y. y.replica.coordinator) _ x _ x refl refl
 
 found_coordinator : (w : Waiting) (p : Option (ℕ × Entry)) (x : Draft) → (answer_found w p x).replica.coordinator ≡ x.replica.coordinator
 unfolding answer_found reply_ok reply_dropped reply
@@ -156,7 +156,7 @@ module _ (n : ℕ) (w v : World) (reached : IsReached n w) (p : Marks w v) (k : 
       )
 
   noted : (x : Draft) → Changes r input reading (begun r) x → Changes r input reading x (step r input reading) → (y : Draft) → Change r input reading x y → N x → N y
-  unfolding submit refuse await push_to_members push_to count_vote issued_at keep noting reply send take_frame hear owe ack pay owing again_frame forget_epoch instance known decision
+  unfolding submit refuse await push_to_members push_to count_vote issued_at keep noting reply send take_frame receive owe ack pay owing again_frame forget_epoch instance known decision
   noted x before after y (Change.Submits a c t i h w) g = g
   noted x before after y (Change.Refuses a c why i h) g = g
   noted x before after y (Change.Commits e a h w) g = g
@@ -168,9 +168,9 @@ module _ (n : ℕ) (w v : World) (reached : IsReached n w) (p : Marks w v) (k : 
   noted x before after y (Change.IsAcked k up p h) g = g
   noted x before after y (Change.Pays s t a m w lt) g = g
   noted x before after y (Change.Owes ss a h) g = g
-  noted x before after y (Change.TellsTime t a i w) g = g
+  noted x before after y (Change.SendsTime t a i w) g = g
   noted x before after y (Change.SendsAgain k f a m h) g = g
-  noted x before after y (Change.Tells j c h) g = same_coordinator x y (tell_coordinator c j x) (tell_still c j x).log g
+  noted x before after y (Change.SendsControl j c h) g = same_coordinator x y (send_coordinator c j x) (send_still c j x).log g
   noted x before after y (Change.Gathers a p i o) g = g
   noted x before after y (Change.Suspends h) g = g
   noted x before after y (Change.Collects ms asked h s) g = tt
@@ -292,12 +292,12 @@ coordinators_are_true n w k p =
 
 pub asked_was_asked : AskedWasAsked
 asked_was_asked n w s i b t e =
-    let is : IsTold t.past.draft (Control.P1a i b) = subst (IsTold t.past.draft) e t.told.is in
+    let is : IsSent t.past.draft (Control.P1a i b) = subst (IsSent t.past.draft) e t.sent.is in
     let g = subst (CoordinatorIsTrue n w s.from (instance t.past.draft)) is.3 (coordinators_are_true n w s.from t.past) in
     (is.1, is.2, subst (λ z. HasAsked n w s.from z b is.1 is.2) (sym is.0) g)
 
 pub proposed_was_proposed : ProposedWasProposed
 proposed_was_proposed n w s i b d t e =
-    let is : IsTold t.past.draft (Control.P2a i b d) = subst (IsTold t.past.draft) e t.told.is in
+    let is : IsSent t.past.draft (Control.P2a i b d) = subst (IsSent t.past.draft) e t.sent.is in
     let g = subst (CoordinatorIsTrue n w s.from (instance t.past.draft)) is.3 (coordinators_are_true n w s.from t.past) in
     (is.1, subst (λ z. HasProposed n w s.from z b is.1 d) (sym is.0) g.0)

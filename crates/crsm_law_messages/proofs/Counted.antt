@@ -7,14 +7,14 @@ use Rattle.crsm_spec.specs.Draft.{begun}
 use Rattle.crsm_spec.specs.Coordinate.{instance, has_accepted}
 use Rattle.crsm_spec.specs.World.{World, Site, log_at}
 use Rattle.crsm_spec.specs.Moments.{begun_at}
-use Rattle.crsm_step_facts.specs.Messages.{Hears}
+use Rattle.crsm_step_facts.specs.Messages.{ReceivesControl}
 use Rattle.crsm_log_facts.specs.Logs.{Extends}
 use Rattle.crsm_step_facts.proofs.Logs.{changes_numbers}
-use Rattle.crsm_law_messages.specs.Sayings.{Saying, Past, WasTold}
-use Rattle.crsm_law_messages.specs.Laws.{Says, HearsIn}
+use Rattle.crsm_law_messages.specs.SentMessages.{SentMessage, Past, WasSentBefore}
+use Rattle.crsm_law_messages.specs.Laws.{Says, ReceivesIn}
 use Rattle.crsm_law_messages.specs.Counted.{AllSpelt, AnswersAreTrue, VotesAreTrue}
-use Rattle.crsm_law_messages.proofs.Truth.{carried, past_extends, told_is_true, voted}
-use Rattle.crsm_law_messages.proofs.Worlds.{was_on, marked_sites, all_known, heard_is_told}
+use Rattle.crsm_law_messages.proofs.Truth.{carried, past_extends, sent_is_true, voted}
+use Rattle.crsm_law_messages.proofs.Worlds.{was_on, marked_sites, all_known, received_is_sent}
 
 -- each draft of replica k has its number
 pub past_me : (n : ℕ) (w : World) (k : ℕ) (p : Past n w k) → p.draft.replica.me ≡ k
@@ -24,10 +24,10 @@ past_me n w k p =
     ∙ ((all_known n p.world p.reached).up k p.replica (subst (λ ss. slice_get ss k ≡ Some (Site.Up p.replica)) (marked_sites p.marks) p.up)).me
 
 -- what was told before a draft was told before w
-told_since : (n : ℕ) (w : World) (k : ℕ) (p : Past n w k) (s : Saying) → WasTold n p.world s → WasTold n w s
+sent_since : (n : ℕ) (w : World) (k : ℕ) (p : Past n w k) (s : SentMessage) → WasSentBefore n p.world s → WasSentBefore n w s
 unfolding begun_at
-told_since n w k p s t =
-    carried (λ u. WasTold n u s) (λ u m h. was_on n u m h s) p.moment.after w p.since (was_on n p.world (begun_at p.world p.moment) p.happens s t)
+sent_since n w k p s t =
+    carried (λ u. WasSentBefore n u s) (λ u m h. was_on n u m h s) p.moment.after w p.since (was_on n p.world (begun_at p.world p.moment) p.happens s t)
 
 -- what a draft's step hears of j is true of an earlier log of j
 record IsTrueOf (w : World) (j : ℕ) (c : Control) : Type 0 where
@@ -35,12 +35,12 @@ record IsTrueOf (w : World) (j : ℕ) (c : Control) : Type 0 where
   pub earlier : Extends log (log_at w j)
   pub says : Says log c
 
-heard_true : (n : ℕ) (w : World) (k : ℕ) (p : Past n w k) → AllSpelt n w → (j : ℕ) (c : Control) → Hears p.replica p.input j c → IsTrueOf w j c
-heard_true n w k p spelt j c h =
-    let hears : HearsIn n p.world j k c =
-    record { reached = p.reached; marked = p.marked; marks = p.marks; replica = p.replica; up = p.up; input = p.input; can_come = p.can_come; hears = h } in
-    let t = heard_is_told n p.world j k c hears (λ s q. spelt s (told_since n w k p s q)) in
-    let u = told_is_true n w t.0 (told_since n w k p t.0 t.4) in
+received_true : (n : ℕ) (w : World) (k : ℕ) (p : Past n w k) → AllSpelt n w → (j : ℕ) (c : Control) → ReceivesControl p.replica p.input j c → IsTrueOf w j c
+received_true n w k p spelt j c h =
+    let receives : ReceivesIn n p.world j k c =
+    record { reached = p.reached; marked = p.marked; marks = p.marks; replica = p.replica; up = p.up; input = p.input; can_come = p.can_come; receives = h } in
+    let t = received_is_sent n p.world j k c receives (λ s q. spelt s (sent_since n w k p s q)) in
+    let u = sent_is_true n w t.0 (sent_since n w k p t.0 t.4) in
     record { log = u.0; earlier = subst (λ i. Extends u.0 (log_at w i)) t.1 u.1; says = subst (Says u.0) t.3 u.2 }
 
 own_earlier : (n : ℕ) (w : World) (k : ℕ) (p : Past n w k) (j : ℕ) → j ≡ p.draft.replica.me → Extends p.draft.replica.log (log_at w j)
@@ -56,7 +56,7 @@ answers_are_true n w k i b a spelt d = elim d.held.1 [
     has_promised = own.1;
     had_accepted = own.2;
   }
-  | inr h ↦ (let t = heard_true n w k d.past spelt a.replica (Control.P1b (instance d.past.draft) b a.accepted) h.1 in
+  | inr h ↦ (let t = received_true n w k d.past spelt a.replica (Control.P1b (instance d.past.draft) b a.accepted) h.1 in
       record { log = t.log; earlier = t.earlier; next = d.held.0 ∙ t.says.0; has_promised = t.says.1; had_accepted = t.says.2 })
 ]
 
@@ -70,6 +70,6 @@ votes_are_true n w k i b j spelt d = elim d.held.1 [
     decision = v.0;
     had_accepted = v.1;
   })
-  | inr h ↦ (let t = heard_true n w k d.past spelt j (Control.P2b (instance d.past.draft) b) h.1 in
+  | inr h ↦ (let t = received_true n w k d.past spelt j (Control.P2b (instance d.past.draft) b) h.1 in
       record { log = t.log; earlier = t.earlier; next = d.held.0 ∙ t.says.0; decision = t.says.1; had_accepted = t.says.2 })
 ]

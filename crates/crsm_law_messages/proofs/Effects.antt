@@ -6,16 +6,16 @@ use Rattle.crsm_spec.specs.Choice.{when◌then◌otherwise◌}
 use Rattle.crsm_spec.specs.Types.{Entry, Rec, InEpoch, Datagram, Control}
 use Rattle.crsm_spec.specs.Lists.{Among}
 use Rattle.crsm_spec.specs.Log.{Log, known, boots, is_boot, executed}
-use Rattle.crsm_spec.specs.Frames.{take_frame, hear, owe, ack, pay, owing, again_frame}
+use Rattle.crsm_spec.specs.Frames.{take_frame, receive, owe, ack, pay, owing, again_frame}
 use Rattle.crsm_spec.specs.Parts.{Piece, with_part}
 use Rattle.crsm_spec.specs.Replica.{Replica, Waiting}
-use Rattle.crsm_spec.specs.Draft.{Draft, keep, noting, send, reply, count_vote, issued_at, push_to_members, push_to, next_frame, tell}
+use Rattle.crsm_spec.specs.Draft.{Draft, keep, noting, send, reply, count_vote, issued_at, push_to_members, push_to, next_frame, send_control}
 use Rattle.crsm_spec.specs.Clients.{refuse, submit, await, replies, answer_each, answer_found, reply_ok, reply_dropped, find_executed, is_dropped}
 use Rattle.crsm_spec.specs.Coordinate.{forget_epoch}
 use Rattle.crsm_spec.specs.Step.{Input}
-use Rattle.crsm_step_facts.specs.Messages.{IsTold, Answers}
+use Rattle.crsm_step_facts.specs.Messages.{IsSent, Answers}
 use Rattle.crsm_step_facts.specs.Changes.{Change}
-use Rattle.crsm_step_facts.specs.Changes.Change.{Submits, Refuses, Commits, Replies, Takes, Acks, IsAcked, Pays, Owes, TellsTime, SendsAgain, Tells, Gathers, Suspends, Collects, TakesPage, Completes, Refrains, GivesUp, Asks, CountsAnswer, Proposes, IsPreempted, AcceptsOwn, CountsVote, Promises, Accepts, Chooses, Learns, AdoptsTail, AdoptsPage, Enters}
+use Rattle.crsm_step_facts.specs.Changes.Change.{Submits, Refuses, Commits, Replies, Takes, Acks, IsAcked, Pays, Owes, SendsTime, SendsAgain, SendsControl, Gathers, Suspends, Collects, TakesPage, Completes, Refrains, GivesUp, Asks, CountsAnswer, Proposes, IsPreempted, AcceptsOwn, CountsVote, Promises, Accepts, Chooses, Learns, AdoptsTail, AdoptsPage, Enters}
 use Rattle.crsm_law_messages.proofs.Words.{among_unmap}
 use Rattle.crsm_log_facts.proofs.Lists.{among_either}
 
@@ -44,7 +44,7 @@ pub record IsQuiet (x y : Draft) : Type 0 where
 
 pub data PartsChange (r : Replica) (input : Input) (x : Draft) : Draft → Type 0 where
   Quiet : {y : Draft} → IsQuiet x y → PartsChange r input x y
-  TellsOne : (k : ℕ) (c : Control) → IsTold x c → Answers r input c → PartsChange r input x (tell c x k)
+  SendsOne : (k : ℕ) (c : Control) → IsSent x c → Answers r input c → PartsChange r input x (send_control c x k)
   GathersOne : (address : ℕ) (p : Piece) → input ≡ Input.Came address (Datagram.Part p.from r.me p.boot p.number p.index p.count p.bytes) →
       PartsChange r input x (record x { replica = record x.replica { parts = with_part p x.replica.parts } })
 
@@ -121,7 +121,7 @@ module _ (r : Replica) (input : Input) (reading : ℕ) where
   sent x y ds me b made parts sends isnt = Quiet (record { me = me; boots = b; made = made; parts = parts; sends = λ s h. more x ds isnt s (subst (λ l. Among l s) sends h) })
 
   pub parts_change : (x y : Draft) → Change r input reading x y → PartsChange r input x y
-  unfolding submit refuse await push_to_members push_to count_vote issued_at keep noting reply send take_frame hear owe ack pay owing again_frame forget_epoch is_boot
+  unfolding submit refuse await push_to_members push_to count_vote issued_at keep noting reply send take_frame receive owe ack pay owing again_frame forget_epoch is_boot
   parts_change x y (Submits a c t i h w) = sent x y _ refl (boots_skip _ x.replica.log refl) refl refl refl (frames_no _ _ _)
   parts_change x y (Refuses a c why i h) = still x y refl refl refl refl refl
   parts_change x y (Commits e a h w) = kept _ x y refl refl refl refl refl refl
@@ -133,9 +133,9 @@ module _ (r : Replica) (input : Input) (reading : ℕ) where
   parts_change x y (IsAcked k next p h) = still x y refl refl refl refl refl
   parts_change x y (Pays s t a m w lt) = sent x y _ refl refl refl refl refl (frames_no _ _ _)
   parts_change x y (Owes ss a h) = still x y refl refl refl refl refl
-  parts_change x y (TellsTime t a i w) = sent x y _ refl refl refl refl refl (frames_no _ _ _)
+  parts_change x y (SendsTime t a i w) = sent x y _ refl refl refl refl refl (frames_no _ _ _)
   parts_change x y (SendsAgain k g a m h) = sent x y _ refl refl refl refl refl (one_no k _ (frame_no _ _ _ _ _))
-  parts_change x y (Tells k c h) = TellsOne k c h.0 h.1
+  parts_change x y (SendsControl k c h) = SendsOne k c h.0 h.1
   parts_change x y (Gathers a p i o) = GathersOne a p i
   parts_change x y (Suspends h) = kept _ x y refl refl refl refl refl refl
   parts_change x y (Collects ms asked h s) = still x y refl refl refl refl refl

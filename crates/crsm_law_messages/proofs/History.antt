@@ -11,12 +11,12 @@ use Rattle.crsm_law_steps.specs.Happenings.Ends.{IsWhole, IsCut, IsLost}
 use Rattle.crsm_law_steps.specs.Happenings.Happens.{Nothing, Steps, Junk, Stops, Joins, Starts}
 use Rattle.crsm_law_steps.specs.Happenings.IsReached.{first, next}
 use Rattle.crsm_step_facts.proofs.Fitted.{step_changes}
-use Rattle.crsm_law_messages.specs.Sayings.{Saying, IsToldBy}
+use Rattle.crsm_law_messages.specs.SentMessages.{SentMessage, IsSentBy}
 
 -- some draft of these changes, but for the last, may tell it
-abbrev pub TellsIn : {r : Replica} {input : Input} {reading : ℕ} {x y : Draft} → Changes r input reading x y → Saying → Type 0
-TellsIn stay s = ⊥
-TellsIn {r} {input} (and_then {y = y} p c f) s = IsToldBy r input y s ⊎ TellsIn p s
+abbrev pub SendsIn : {r : Replica} {input : Input} {reading : ℕ} {x y : Draft} → Changes r input reading x y → SentMessage → Type 0
+SendsIn stay s = ⊥
+SendsIn {r} {input} (and_then {y = y} p c f) s = IsSentBy r input y s ⊎ SendsIn p s
 
 -- the records of the step are kept, and it sends
 abbrev pub Sends : {w : World} {k : ℕ} {x : Draft} {m : Moment} → Ends w k x m → Type 0
@@ -24,15 +24,15 @@ Sends IsWhole = Unit {0}
 Sends (IsCut count) = Unit {0}
 Sends IsLost = ⊥
 
-abbrev pub TellsAt : {w : World} {m : Moment} → Happens w m → Saying → Type 0
-TellsAt (Nothing v p) s = ⊥
-TellsAt (Steps v p k r e input reading lt c m ends) s = Sends ends × TellsIn (step_changes r input reading) s
-TellsAt (Junk k r e m ends) s = ⊥
-TellsAt (Stops k) s = ⊥
-TellsAt (Joins f) s = ⊥
-TellsAt (Starts k d f) s = ⊥
+abbrev pub SendsAt : {w : World} {m : Moment} → Happens w m → SentMessage → Type 0
+SendsAt (Nothing v p) s = ⊥
+SendsAt (Steps v p k r e input reading lt c m ends) s = Sends ends × SendsIn (step_changes r input reading) s
+SendsAt (Junk k r e m ends) s = ⊥
+SendsAt (Stops k) s = ⊥
+SendsAt (Joins f) s = ⊥
+SendsAt (Starts k d f) s = ⊥
 
 -- some step of the history told it
-abbrev pub WasToldIn : {n : ℕ} {w : World} → IsReached n w → Saying → Type 0
-WasToldIn first s = ⊥
-WasToldIn (next q h) s = TellsAt h s ⊎ WasToldIn q s
+abbrev pub WasSentIn : {n : ℕ} {w : World} → IsReached n w → SentMessage → Type 0
+WasSentIn first s = ⊥
+WasSentIn (next q h) s = SendsAt h s ⊎ WasSentIn q s

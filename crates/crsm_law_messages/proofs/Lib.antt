@@ -2,7 +2,7 @@ pub mod Words
 pub mod Gathered
 pub mod Effects
 pub mod History
-pub mod Telling
+pub mod SendingControls
 pub mod Truth
 pub mod Worlds
 pub mod Coordinators

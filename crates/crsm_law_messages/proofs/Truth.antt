@@ -9,7 +9,7 @@ use Rattle.crsm_spec.specs.Log.{accepted}
 use Rattle.crsm_spec.specs.Draft.{Draft}
 use Rattle.crsm_spec.specs.Coordinate.{instance, has_accepted}
 use Rattle.crsm_spec.specs.World.{World, Moment, log_at}
-use Rattle.crsm_step_facts.specs.Messages.{IsTold}
+use Rattle.crsm_step_facts.specs.Messages.{IsSent}
 use Rattle.crsm_log_facts.specs.Logs.{Extends, same}
 use Rattle.crsm_law_steps.specs.Laws.{LogsGoOn}
 use Rattle.crsm_law_steps.specs.Happenings.{Happens}
@@ -17,8 +17,8 @@ use Rattle.crsm_log_facts.proofs.Logged.{extends_trans}
 use Rattle.crsm_step_facts.proofs.Logs.{changes_grow}
 use Rattle.crsm_law_steps.proofs.Moments.{moment_goes_on}
 use Rattle.crsm_log_facts.proofs.Tests.{same_ballot}
-use Rattle.crsm_law_messages.specs.Sayings.{GoesOn, here, on, Past}
-use Rattle.crsm_law_messages.specs.Laws.{Says, ToldIsTrue}
+use Rattle.crsm_law_messages.specs.SentMessages.{GoesOn, here, on, Past}
+use Rattle.crsm_law_messages.specs.Laws.{Says, SentIsTrue}
 
 -- what holds of a world and is kept by each moment
 pub carried : (P : World → Type 0) → ((u : World) (m : Moment) → Happens u m → P u → P m.after) → (v w : World) → GoesOn v w → P v → P w
@@ -37,7 +37,7 @@ pub voted : (b : Ballot) (o : Option (Ballot × Decision)) → IsTrue (option_ma
 voted b None h = absurd (false≢true h)
 voted b (Some a) h = (a.1, ap (λ c. Some (c, a.1)) (same_ballot a.0 b h))
 
-says_so : (x : Draft) (c : Control) → IsTold x c → Says x.replica.log c
+says_so : (x : Draft) (c : Control) → IsSent x c → Says x.replica.log c
 unfolding instance has_accepted
 says_so x (Control.Suspend e after) h = h.0
 says_so x (Control.SuspendOk e done last after whole es) h = h
@@ -50,5 +50,5 @@ says_so x (Control.Decide d) h = h
 says_so x (Control.Retrieve e from) h = h
 says_so x (Control.Page e from es) h = h
 
-pub told_is_true : ToldIsTrue
-told_is_true n w s t = (t.past.draft.replica.log, past_extends n w s.from t.past, says_so t.past.draft s.message t.told.is)
+pub sent_is_true : SentIsTrue
+sent_is_true n w s t = (t.past.draft.replica.log, past_extends n w s.from t.past, says_so t.past.draft s.message t.sent.is)

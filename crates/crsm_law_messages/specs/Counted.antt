@@ -6,12 +6,12 @@ use Rattle.crsm_spec.specs.Log.{Log, known, promised, accepted}
 use Rattle.crsm_spec.specs.Paxos.{Answer}
 use Rattle.crsm_spec.specs.World.{World, log_at}
 use Rattle.crsm_log_facts.specs.Logs.{Extends}
-use Rattle.crsm_law_messages.specs.Sayings.{Saying, WasTold}
+use Rattle.crsm_law_messages.specs.SentMessages.{SentMessage, WasSentBefore}
 use Rattle.crsm_law_messages.specs.Proposals.{Did, Counts, CountsVote}
 
 -- each message that was told on the way to w has a spelling
 abbrev pub AllSpelt : ℕ → World → Type 0
-AllSpelt n w = (s : Saying) → WasTold n w s → FitsControl s.message
+AllSpelt n w = (s : SentMessage) → WasSentBefore n w s → FitsControl s.message
 
 -- An earlier log of the replica that answered had promised the ballot, and had accepted what the answer says.
 pub record IsPromise (w : World) (i : ℕ) (b : Ballot) (a : Answer Decision) : Type 0 where

@@ -9,23 +9,23 @@ use Rattle.crsm_spec.specs.Collect.{suspend_ok}
 use Rattle.crsm_spec.specs.Controls.{page_from}
 use Rattle.crsm_spec.specs.Step.{Input}
 use Rattle.crsm_spec.specs.World.{Site, World, log_at}
-use Rattle.crsm_step_facts.specs.Messages.{Hears}
+use Rattle.crsm_step_facts.specs.Messages.{ReceivesControl}
 use Rattle.crsm_log_facts.specs.Logs.{Extends}
 use Rattle.crsm_law_steps.specs.Happenings.{Marks, CanCome, IsReached}
-use Rattle.crsm_law_messages.specs.Sayings.{Saying, WasTold}
+use Rattle.crsm_law_messages.specs.SentMessages.{SentMessage, WasSentBefore}
 
 -- ---- what is heard was told
 
 -- k told j a message whose bytes are read as c
 pub record IsSource (n : ℕ) (w : World) (k j : ℕ) (c : Control) : Type 0 where
-  pub saying : Saying
-  pub from : saying.from ≡ k
-  pub to : saying.to ≡ j
-  pub was_told : WasTold n w saying
-  pub reads : control_of (control_bytes saying.message) ≡ Some c
+  pub sent_message : SentMessage
+  pub from : sent_message.from ≡ k
+  pub to : sent_message.to ≡ j
+  pub was_sent : WasSentBefore n w sent_message
+  pub reads : control_of (control_bytes sent_message.message) ≡ Some c
 
 -- A replica j hears c of k: whatever was lost, came twice, or came in another order.
-pub record HearsIn (n : ℕ) (w : World) (k j : ℕ) (c : Control) : Type 0 where
+pub record ReceivesIn (n : ℕ) (w : World) (k j : ℕ) (c : Control) : Type 0 where
   pub reached : IsReached n w
   pub marked : World
   pub marks : Marks w marked
@@ -33,17 +33,17 @@ pub record HearsIn (n : ℕ) (w : World) (k j : ℕ) (c : Control) : Type 0 wher
   pub up : slice_get marked.sites j ≡ Some (Site.Up replica)
   pub input : Input
   pub can_come : CanCome w j input
-  pub hears : Hears replica input k c
+  pub receives : ReceivesControl replica input k c
 
 -- What a replica hears of another was told to it by that one.
-abbrev pub HeardWasTold : Type 0
-HeardWasTold = (n : ℕ) (w : World) (k j : ℕ) (c : Control) → HearsIn n w k j c → IsSource n w k j c
+abbrev pub ReceivedWasSent : Type 0
+ReceivedWasSent = (n : ℕ) (w : World) (k j : ℕ) (c : Control) → ReceivesIn n w k j c → IsSource n w k j c
 
 -- Where each message that was told has a spelling, it is the very message.
-abbrev pub HeardIsTold : Type 0
-HeardIsTold =
-    (n : ℕ) (w : World) (k j : ℕ) (c : Control) → HearsIn n w k j c → ((s : Saying) → WasTold n w s → FitsControl s.message) →
-    (s : Saying) × (s.from ≡ k) × (s.to ≡ j) × (s.message ≡ c) × WasTold n w s
+abbrev pub ReceivedIsSent : Type 0
+ReceivedIsSent =
+    (n : ℕ) (w : World) (k j : ℕ) (c : Control) → ReceivesIn n w k j c → ((s : SentMessage) → WasSentBefore n w s → FitsControl s.message) →
+    (s : SentMessage) × (s.from ≡ k) × (s.to ≡ j) × (s.message ≡ c) × WasSentBefore n w s
 
 -- ---- what was told is true
 
@@ -62,5 +62,5 @@ Says log (Control.Retrieve e from) = (e ≡ known log) × (from ≡ length (exec
 Says log (Control.Page e from es) = (from < length (executed log)) × (Control.Page e from es ≡ page_from log from)
 
 -- What was told is true of an earlier log of its teller, which the teller's log goes on from.
-abbrev pub ToldIsTrue : Type 0
-ToldIsTrue = (n : ℕ) (w : World) (s : Saying) → WasTold n w s → (old : Log) × Extends old (log_at w s.from) × Says old s.message
+abbrev pub SentIsTrue : Type 0
+SentIsTrue = (n : ℕ) (w : World) (s : SentMessage) → WasSentBefore n w s → (old : Log) × Extends old (log_at w s.from) × Says old s.message

@@ -1,4 +1,4 @@
-pub mod Sayings
+pub mod SentMessages
 pub mod Laws
 pub mod Proposals
 pub mod Counted

@@ -1,4 +1,4 @@
--- What a coordinator's coordinator says of its past: the ballot was asked for, its answers were counted, and its decision was proposed.
+-- What a coordinator says of its past: the ballot was asked for, its answers were counted, and its decision was proposed.
 use Rattle.std.specs.Prelude.{◌≡◌, ℕ, IsTrue, List, map}
 use Rattle.crsm_base.specs.Order.{ballot_lt}
 use Rattle.crsm_spec.specs.Types.{Ballot, Decision, Control}
@@ -12,7 +12,7 @@ use Rattle.crsm_spec.specs.Coordinate.{instance}
 use Rattle.crsm_spec.specs.Step.{Input}
 use Rattle.crsm_spec.specs.World.{World}
 use Rattle.crsm_step_facts.specs.Changes.{IsAnswer, IsVote}
-use Rattle.crsm_law_messages.specs.Sayings.{Saying, Past, WasTold}
+use Rattle.crsm_law_messages.specs.SentMessages.{SentMessage, Past, WasSentBefore}
 
 -- replica k once had a draft of which this holds
 pub record Did (n : ℕ) (w : World) (k : ℕ) (G : Replica → Input → Draft → Type 0) : Type 0 where
@@ -68,11 +68,11 @@ CoordinatorsAreTrue = (n : ℕ) (w : World) (k : ℕ) (p : Past n w k) → Coord
 -- Who tells P1A has asked for that ballot.
 abbrev pub AskedWasAsked : Type 0
 AskedWasAsked =
-    (n : ℕ) (w : World) (s : Saying) (i : ℕ) (b : Ballot) → WasTold n w s → s.message ≡ Control.P1a i b →
+    (n : ℕ) (w : World) (s : SentMessage) (i : ℕ) (b : Ballot) → WasSentBefore n w s → s.message ≡ Control.P1a i b →
     (own : Decision) × (answers : List (Answer Decision)) × HasAsked n w s.from i b own answers
 
 -- The decision of a P2A was proposed in that ballot by its teller.
 abbrev pub ProposedWasProposed : Type 0
 ProposedWasProposed =
-    (n : ℕ) (w : World) (s : Saying) (i : ℕ) (b : Ballot) (d : Decision) → WasTold n w s → s.message ≡ Control.P2a i b d →
+    (n : ℕ) (w : World) (s : SentMessage) (i : ℕ) (b : Ballot) (d : Decision) → WasSentBefore n w s → s.message ≡ Control.P2a i b d →
     (own : Decision) × HasProposed n w s.from i b own d

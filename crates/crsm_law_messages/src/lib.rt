@@ -1,27 +1,27 @@
 //! What a replica hears was told to it, and what was told is true of its teller's log.
 #![tactic(auto)]
 
-ghost use Rattle.crsm_law_messages.specs.Laws.{HeardWasTold, HeardIsTold, ToldIsTrue};
+ghost use Rattle.crsm_law_messages.specs.Laws.{ReceivedWasSent, ReceivedIsSent, SentIsTrue};
 ghost use Rattle.crsm_law_messages.specs.Proposals.{CoordinatorsAreTrue, AskedWasAsked, ProposedWasProposed};
 ghost use Rattle.crsm_law_messages.specs.Counted.{AnswersAreTrue, VotesAreTrue};
 
 /// What a replica hears was told to it by the replica of which it hears, in parts that were lost, came twice or came in
 /// another order.
-pub fn heard_was_told()
-    ensures { HeardWasTold }
+pub fn received_was_sent()
+    ensures { ReceivedWasSent }
 {}
 
 /// Where the messages that were told have spellings, a replica hears the very messages that were told.
-pub fn heard_is_told()
-    ensures { HeardIsTold }
+pub fn received_is_sent()
+    ensures { ReceivedIsSent }
 {}
 
 /// What was told is true of an earlier log of its teller, which the teller's log goes on from.
-pub fn told_is_true()
-    ensures { ToldIsTrue }
+pub fn sent_is_true()
+    ensures { SentIsTrue }
 {}
 
-/// What a coordinator's coordinator says is true of its past: it asked for its ballot, and the answers and the votes that it has
+/// What a coordinator says is true of its past: it asked for its ballot, and the answers and the votes that it has
 /// counted came to it.
 pub fn coordinators_are_true()
     ensures { CoordinatorsAreTrue }

@@ -17,7 +17,7 @@ use Rattle.crsm_spec.specs.Collect.{first_page, run_within}
 use Rattle.crsm_spec.specs.Controls.{new_entries, page_from}
 use Rattle.crsm_spec.specs.World.{World}
 use Rattle.crsm_spec.specs.Acts.{Act}
-use Rattle.crsm_spec.specs.Run.{Told, told_by}
+use Rattle.crsm_spec.specs.Run.{TraceLine, traced}
 use Rattle.crsm_spec.specs.Safe.{IsExecOf}
 use Rattle.crsm_log_facts.specs.Logs.{AllFit, Extends, same, more, Logged}
 use Rattle.crsm_log_facts.proofs.Logged.{prepare_known}
@@ -63,13 +63,13 @@ placed [] a h = absurd h
 placed (x ∷ xs) a (inl e) = (0, ap (λ z. Some z) e)
 placed (x ∷ xs) a (inr h) = let t = placed xs a h in (suc t.0, t.1)
 
-pub told_line : (act : Act) (l : Line) → (told_by (Some act) l).line ≡ l
-unfolding told_by
+pub told_line : (act : Act) (l : Line) → (traced (Some act) l).line ≡ l
+unfolding traced
 told_line act l = refl
 
 -- a line of an act, among those of its list
-pub seen_among : (act : Act) (ls : List Line) (t : Told) → Among (seen_by act ls) t → (l : Line) × Among ls l × (t.line ≡ l)
-seen_among act ls t h = let u = among_unmap (told_by (Some act)) ls t h in (u.0, u.1, ap (λ (z : Told). z.line) (sym u.2) ∙ told_line act u.0)
+pub seen_among : (act : Act) (ls : List Line) (t : TraceLine) → Among (seen_by act ls) t → (l : Line) × Among ls l × (t.line ≡ l)
+seen_among act ls t h = let u = among_unmap (traced (Some act)) ls t h in (u.0, u.1, ap (λ (z : TraceLine). z.line) (sym u.2) ∙ told_line act u.0)
 
 -- ---- logs
 

@@ -8,15 +8,15 @@ use Rattle.crsm_spec.specs.Lists.{first_of}
 use Rattle.crsm_spec.specs.Log.{decision, executed, unexecuted}
 use Rattle.crsm_spec.specs.Lines.{lines_of}
 use Rattle.crsm_spec.specs.Replica.{Replica}
-use Rattle.crsm_spec.specs.Draft.{Draft, keep, noting, send, reply, count_vote, issued_at, push_to_members, push_to, tell}
+use Rattle.crsm_spec.specs.Draft.{Draft, keep, noting, send, reply, count_vote, issued_at, push_to_members, push_to, send_control}
 use Rattle.crsm_spec.specs.Clients.{refuse, submit, await, replies}
-use Rattle.crsm_spec.specs.Frames.{take_frame, hear, owe, ack, pay, owing, again_frame}
+use Rattle.crsm_spec.specs.Frames.{take_frame, receive, owe, ack, pay, owing, again_frame}
 use Rattle.crsm_spec.specs.Coordinate.{forget_epoch}
 use Rattle.crsm_spec.specs.Controls.{new_entries}
 use Rattle.crsm_spec.specs.Step.{Input}
-use Rattle.crsm_step_facts.specs.Messages.{Hears}
+use Rattle.crsm_step_facts.specs.Messages.{ReceivesControl}
 use Rattle.crsm_step_facts.specs.Changes.{Change}
-use Rattle.crsm_step_facts.specs.Changes.Change.{Submits, Refuses, Commits, Replies, Takes, Acks, IsAcked, Pays, Owes, TellsTime, SendsAgain, Tells, Gathers, Suspends, Collects, TakesPage, Completes, Refrains, GivesUp, Asks, CountsAnswer, Proposes, IsPreempted, AcceptsOwn, CountsVote, Promises, Accepts, Chooses, Learns, AdoptsTail, AdoptsPage, Enters}
+use Rattle.crsm_step_facts.specs.Changes.Change.{Submits, Refuses, Commits, Replies, Takes, Acks, IsAcked, Pays, Owes, SendsTime, SendsAgain, SendsControl, Gathers, Suspends, Collects, TakesPage, Completes, Refrains, GivesUp, Asks, CountsAnswer, Proposes, IsPreempted, AcceptsOwn, CountsVote, Promises, Accepts, Chooses, Learns, AdoptsTail, AdoptsPage, Enters}
 use Rattle.crsm_law_epoch.proofs.CommitEffects.{taken_origin}
 
 -- a line that tells of no submission, no execution and no answer
@@ -62,7 +62,7 @@ pub data Effect (r : Replica) (input : Input) (reading : ℕ) (x : Draft) : Draf
   Executed : {y : Draft} (e : Entry) → first_of (unexecuted x.replica.log) ≡ Some e → IsKept (Rec.Commit e.stamp) x y → Effect r input reading x y
   AdoptedTail : {y : Draft} (d : Decision) → decision x.replica.log ≡ Some d →
       IsKept (Rec.Adopt (length (executed x.replica.log)) (drop (length (executed x.replica.log) - d.base_len) d.tail)) x y → Effect r input reading x y
-  AdoptedPage : {y : Draft} (j e from : ℕ) (es : List Entry) → Hears r input j (Control.Page e from es) →
+  AdoptedPage : {y : Draft} (j e from : ℕ) (es : List Entry) → ReceivesControl r input j (Control.Page e from es) →
       IsKept (Rec.Adopt (length (executed x.replica.log)) (new_entries x.replica.log from es)) x y → Effect r input reading x y
   Answered : Effect r input reading x (replies x)
 
@@ -84,8 +84,8 @@ unfolding when◌then◌otherwise◌
 before_when true p q = p
 before_when false p q = q
 
-tell_before : (c : Control) (k : ℕ) (x : Draft) → IsAsBefore x (tell c x k)
-unfolding tell
+tell_before : (c : Control) (k : ℕ) (x : Draft) → IsAsBefore x (send_control c x k)
+unfolding send_control
 tell_before c k x =
     before_when (x.replica.made == u64_max) (record { log = refl; lines = refl; replies = refl; waiting = refl; me = refl; excess = refl })
     (record { log = refl; lines = refl; replies = refl; waiting = refl; me = refl; excess = refl })
@@ -102,7 +102,7 @@ module _ (r : Replica) (input : Input) (reading : ℕ) where
   quiet rec x y q l s p w m e = Quiet rec q (record { log = l; lines = s; silent = silent x y p w m e })
 
   pub effect : (x y : Draft) → Change r input reading x y → Effect r input reading x y
-  unfolding refuse await push_to_members push_to count_vote issued_at keep noting reply send take_frame hear owe ack pay owing again_frame forget_epoch
+  unfolding refuse await push_to_members push_to count_vote issued_at keep noting reply send take_frame receive owe ack pay owing again_frame forget_epoch
   effect x y (Submits a c t i h w) = Stamped a c t i
   effect x y (Refuses a c why i h) = Refused a c why
   effect x y (Commits e a h w) = Executed e h (record { log = refl; lines = refl; silent = silent x y refl refl refl refl })
@@ -114,9 +114,9 @@ module _ (r : Replica) (input : Input) (reading : ℕ) where
   effect x y (IsAcked j next p h) = still x y refl refl refl refl refl refl
   effect x y (Pays s t a m w lt) = still x y refl refl refl refl refl refl
   effect x y (Owes ss a h) = still x y refl refl refl refl refl refl
-  effect x y (TellsTime t a i w) = still x y refl refl refl refl refl refl
+  effect x y (SendsTime t a i w) = still x y refl refl refl refl refl refl
   effect x y (SendsAgain j g a m h) = still x y refl refl refl refl refl refl
-  effect x y (Tells j c h) = let t = tell_before c j x in still x y t.log t.lines t.replies t.waiting t.me t.excess
+  effect x y (SendsControl j c h) = let t = tell_before c j x in still x y t.log t.lines t.replies t.waiting t.me t.excess
   effect x y (Gathers a p i o) = still x y refl refl refl refl refl refl
   effect x y (Suspends h) = quiet _ x y tt refl refl refl refl refl refl
   effect x y (Collects ms asked h s) = still x y refl refl refl refl refl refl

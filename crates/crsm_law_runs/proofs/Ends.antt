@@ -10,7 +10,7 @@ use Rattle.crsm_spec.specs.Draft.{Draft, begun}
 use Rattle.crsm_spec.specs.Step.{Input, step}
 use Rattle.crsm_spec.specs.World.{Site, World, log_at}
 use Rattle.crsm_spec.specs.Acts.{Act}
-use Rattle.crsm_spec.specs.Run.{Told}
+use Rattle.crsm_spec.specs.Run.{TraceLine}
 use Rattle.crsm_log_facts.specs.Logs.{Extends, same, Logged}
 use Rattle.crsm_log_facts.proofs.Logged.{extends_trans}
 use Rattle.crsm_law_runs.proofs.Lists.{at_origin, executed_logged}
@@ -31,7 +31,7 @@ begun_grows : {r : Replica} {input : Input} {reading : ℕ} {y : Draft} → Chan
 unfolding begun
 begun_grows p = changes_grow p
 
-module _ {n : ℕ} {end : World} {list : List Entry} {w u : World} {lines : List Told} {k : ℕ} {r : Replica} {input : Input} {reading : ℕ} {act : Act}
+module _ {n : ℕ} {end : World} {list : List Entry} {w u : World} {lines : List TraceLine} {k : ℕ} {r : Replica} {input : Input} {reading : ℕ} {act : Act}
     (s : Stepping n end list w u lines k r input reading act) where
   begun_good : IsGood s [] (begun r)
   unfolding begun

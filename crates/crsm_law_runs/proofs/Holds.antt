@@ -9,7 +9,7 @@ use Rattle.crsm_spec.specs.Draft.{Draft, Reply}
 use Rattle.crsm_spec.specs.Step.{Input, step}
 use Rattle.crsm_spec.specs.World.{Site, World, log_at}
 use Rattle.crsm_spec.specs.Acts.{Act}
-use Rattle.crsm_spec.specs.Run.{Told}
+use Rattle.crsm_spec.specs.Run.{TraceLine}
 use Rattle.crsm_spec.specs.Safe.{IsExecOf, IsSubmitOf}
 use Rattle.crsm_law_steps.specs.Laws.{LogsGoOn}
 use Rattle.crsm_law_steps.specs.Happenings.{Marks, CanCome, Brings, IsReached}
@@ -38,20 +38,20 @@ AreApart [] = Unit {0}
 AreApart (f ∷ fs) = ((g : Waiting) → Among fs g → f.entry.epoch ≡ g.entry.epoch → f.entry.stamp ≡ g.entry.stamp → ⊥) × AreApart fs
 
 -- These clients wait at replica k, each for an own entry that none of these lines replies on.
-pub record Wait (list : List Entry) (lines : List Told) (k : ℕ) (log : Log) (waiting : List Waiting) : Type 0 where
+pub record Wait (list : List Entry) (lines : List TraceLine) (k : ℕ) (log : Log) (waiting : List Waiting) : Type 0 where
   pub logged : (f : Waiting) → Among waiting f → Logged log f.entry × (f.entry.stamp.origin ≡ k)
-  pub new : (f : Waiting) → Among waiting f → (t : Told) → Among lines t → IsReplyOn list f.entry.epoch f.entry.stamp t.line → ⊥
+  pub new : (f : Waiting) → Among waiting f → (t : TraceLine) → Among lines t → IsReplyOn list f.entry.epoch f.entry.stamp t.line → ⊥
   pub apart : AreApart waiting
 
 -- ---- worlds
 
-pub record Holds (end : World) (list : List Entry) (w : World) (lines : List Told) : Type 0 where
-  pub right : (t : Told) → Among lines t → IsRight end list t.line
-  pub within : (t : Told) → Among lines t → IsWithin (log_at w) t.line
+pub record Holds (end : World) (list : List Entry) (w : World) (lines : List TraceLine) : Type 0 where
+  pub right : (t : TraceLine) → Among lines t → IsRight end list t.line
+  pub within : (t : TraceLine) → Among lines t → IsWithin (log_at w) t.line
   pub submitted : (k : ℕ) (e : Entry) → Logged (log_at w k) e → e.stamp.origin ≡ k → IsSubmittedIn lines e
-  pub executes : (t : Told) → Among lines t → (x : ℕ) (s : Stamp) → IsExecOf x s t.line → HasStamp w x s
-  pub submits : (t : Told) → Among lines t → (x : ℕ) (s : Stamp) → IsSubmitOf x s t.line → HasStamp w x s
-  pub replies : (t : Told) → Among lines t → (x : ℕ) (s : Stamp) → IsReplyOn list x s t.line → HasStamp w x s
+  pub executes : (t : TraceLine) → Among lines t → (x : ℕ) (s : Stamp) → IsExecOf x s t.line → HasStamp w x s
+  pub submits : (t : TraceLine) → Among lines t → (x : ℕ) (s : Stamp) → IsSubmitOf x s t.line → HasStamp w x s
+  pub replies : (t : TraceLine) → Among lines t → (x : ℕ) (s : Stamp) → IsReplyOn list x s t.line → HasStamp w x s
   pub late : Each (IsLate list) [] lines
   pub once : Each IsNew [] lines
   pub wait : (k : ℕ) (r : Replica) → slice_get w.sites k ≡ Some (Site.Up r) → Wait list lines k r.log r.waiting
@@ -59,7 +59,7 @@ pub record Holds (end : World) (list : List Entry) (w : World) (lines : List Tol
 -- ---- a step
 
 -- From w to u replica k makes a step, whose records are kept, in a moment that the act leads to.
-pub record Stepping (n : ℕ) (end : World) (list : List Entry) (w u : World) (lines : List Told) (k : ℕ) (r : Replica) (input : Input) (reading : ℕ) (act : Act) : Type 0 where
+pub record Stepping (n : ℕ) (end : World) (list : List Entry) (w u : World) (lines : List TraceLine) (k : ℕ) (r : Replica) (input : Input) (reading : ℕ) (act : Act) : Type 0 where
   pub last : IsLast n end list
   pub reached : IsReached n w
   pub marked : World
@@ -93,11 +93,11 @@ IsHere k log (Line.ReplyDropped j c m x s) = j ≡ k
 IsHere k log _ = Unit {0}
 
 -- the lines of replies
-abbrev pub reply_lines : Act → List Reply → List Told
+abbrev pub reply_lines : Act → List Reply → List TraceLine
 reply_lines act replies = seen_by act (map (λ (a : Reply). a.line) replies)
 
 -- A draft, while these clients are still to be looked at.
-pub record Good (end : World) (list : List Entry) (w : World) (lines : List Told) (k : ℕ) (act : Act) (rest : List Waiting) (x : Draft) : Type 0 where
+pub record Good (end : World) (list : List Entry) (w : World) (lines : List TraceLine) (k : ℕ) (act : Act) (rest : List Waiting) (x : Draft) : Type 0 where
   pub me : x.replica.me ≡ k
   pub right : (l : Line) → Among x.lines l → IsRight end list l
   pub submitted : (e : Entry) → Logged x.replica.log e → e.stamp.origin ≡ k → IsSubmittedIn (lines ++ seen_by act x.lines) e

@@ -7,7 +7,7 @@ use Rattle.crsm_spec.specs.Log.{executed}
 use Rattle.crsm_spec.specs.World.{World, Moment, begin, first_lines, log_at}
 use Rattle.crsm_spec.specs.Acts.{Act}
 use Rattle.crsm_spec.specs.Moments.{world_after, lines_of, act, moments_of}
-use Rattle.crsm_spec.specs.Run.{ArePossible, Told, told_by, moments, moments_of_run, all_worlds, last_world, the_list}
+use Rattle.crsm_spec.specs.Run.{ArePossible, TraceLine, traced, moments, moments_of_run, all_worlds, last_world, the_list}
 use Rattle.crsm_log_facts.specs.Logs.{Extends, same}
 use Rattle.crsm_law_steps.specs.Laws.{LogsGoOn}
 use Rattle.crsm_law_steps.specs.Happenings.{GoOn, GoOnBy}
@@ -34,16 +34,16 @@ use Rattle.crsm_law_runs.proofs.Safe.{moments_seen, last}
 
 -- what was seen by the end of a moment
 record IsMoment (n : ℕ) (m : Moment) : Type 0 where
-  before : List Told
+  before : List TraceLine
   led : Act
   seen : IsSeen n m.after (before ++ seen_by led m.lines)
 
-in_moments : (n : ℕ) (a : Act) (w : World) (ms : List Moment) (lines : List Told) → GoOnBy a w ms → IsSeen n w lines → (i : ℕ) (m : Moment) → slice_get ms i ≡ Some m → IsMoment n m
+in_moments : (n : ℕ) (a : Act) (w : World) (ms : List Moment) (lines : List TraceLine) → GoOnBy a w ms → IsSeen n w lines → (i : ℕ) (m : Moment) → slice_get ms i ≡ Some m → IsMoment n m
 in_moments n a w [] lines g s i m at = absurd (none-some m at)
 in_moments n a w (x ∷ ms) lines g s zero m at = subst (IsMoment n) (same_Some x m at) (record { before = lines; led = a; seen = then_on s a g.1.0 g.1.1 })
 in_moments n a w (x ∷ ms) lines g s (suc i) m at = in_moments n a x.after ms (lines ++ seen_by a x.lines) g.2 (then_on s a g.1.0 g.1.1) i m at
 
-in_acts : (n : ℕ) (w : World) (acts : List Act) (lines : List Told) → ArePossible w acts → IsSeen n w lines → (i : ℕ) (m : Moment) → slice_get (moments w acts) i ≡ Some m → IsMoment n m
+in_acts : (n : ℕ) (w : World) (acts : List Act) (lines : List TraceLine) → ArePossible w acts → IsSeen n w lines → (i : ℕ) (m : Moment) → slice_get (moments w acts) i ≡ Some m → IsMoment n m
 unfolding moments act
 in_acts n w [] lines p s i m at = absurd (none-some m at)
 in_acts n w (a ∷ acts) lines p s i m at =
@@ -75,15 +75,15 @@ answered_are_kept n acts most p i j k c m place a answered later e le at said th
     let end = last_world n acts in
     let list = the_list n acts in
     let one = list_is_one n acts most p in
-    let moment = in_acts n (begin n) acts (map (told_by None) (first_lines n)) p boots i answered at in
+    let moment = in_acts n (begin n) acts (map (traced None) (first_lines n)) p boots i answered at in
     let now = on_the_way n acts most p answered.after (inr (among_map (λ (z : Moment). z.after) (moments (begin n) acts) answered (got_among (moments (begin n) acts) i answered at))) in
     let in_later = inr (among_map (λ (z : Moment). z.after) (moments (begin n) acts) later (got_among (moments (begin n) acts) j later then)) in
     let on = on_the_way n acts most p later.after in_later in
     let holds = seen_holds n end list (last n acts most p) answered.after (moment.before ++ seen_by moment.led answered.lines) moment.seen now.goes_on in
     let line = Line.ReplyOk k c m place a in
-    let told = told_by (Some moment.led) line in
+    let told = traced (Some moment.led) line in
     let within : place < length (executed (log_at answered.after k)) = subst (IsWithin (log_at answered.after)) (told_line moment.led line)
-    (holds.within told (among_right moment.before (seen_by moment.led answered.lines) told (among_map (told_by (Some moment.led)) answered.lines line (among_contains answered.lines line said)))) in
+    (holds.within told (among_right moment.before (seen_by moment.led answered.lines) told (among_map (traced (Some moment.led)) answered.lines line (among_contains answered.lines line said)))) in
     let longer = executed_longer (log_at answered.after k) (log_at later.after k) (goes_between (begin n) (moments (begin n) acts) (run_happens (begin n) acts p) i j answered later le at then k) in
     let x = get_some (executed (log_at later.after k)) place (omega (arith, within, longer)) in
     let is_e : x.0 ≡ e = same_Some x.0 e (sym (prefix_get (executed (log_at later.after k)) list (one.ends k (log_at later.after k) (on.goes_on k)) place x.0 x.1) ∙ there) in

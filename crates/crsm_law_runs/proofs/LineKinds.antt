@@ -3,7 +3,7 @@ use Rattle.std.proofs.Common.{ℕ, List, sym, ◌∙◌, ap, subst}
 use Rattle.std.specs.Prelude.{slice_get}
 use Rattle.crsm_spec.specs.Types.{Stamp, Entry, Line, Answer}
 use Rattle.crsm_spec.specs.World.{World}
-use Rattle.crsm_spec.specs.Run.{Told}
+use Rattle.crsm_spec.specs.Run.{TraceLine}
 use Rattle.crsm_spec.specs.Safe.{IsExecOf, IsSubmitOf, AreOnOneEntry}
 use Rattle.crsm_law_runs.proofs.Effects.{IsPlain}
 use Rattle.crsm_law_runs.proofs.Words.{IsRight, IsReplyOn, IsReplyLine, IsSubmitLine, IsFirst, IsLateLine}
@@ -58,7 +58,7 @@ kind_of_line (Line.Final a b c d) = Plain tt (λ h. h) (λ h. h) (λ x s h. h)
 kind_of_line (Line.Out a b) = Plain tt (λ h. h) (λ h. h) (λ x s h. h)
 kind_of_line (Line.Back a b) = Plain tt (λ h. h) (λ h. h) (λ x s h. h)
 
-pub late_other : (list : List Entry) (before : List Told) (l : Line) → (IsSubmitLine l → ⊥) → IsLateLine list before l
+pub late_other : (list : List Entry) (before : List TraceLine) (l : Line) → (IsSubmitLine l → ⊥) → IsLateLine list before l
 late_other list before (Line.Boot a b) h = tt
 late_other list before (Line.Submit a b c d e) h = absurd (h tt)
 late_other list before (Line.Log a b c) h = tt
@@ -121,7 +121,7 @@ of_submit x t (Line.Out a0 a1) h = absurd h
 of_submit x t (Line.Back a0 a1) h = absurd h
 
 -- what a submission says of the lines before it
-pub first_of_line : (list : List Entry) (before : List Told) (x : ℕ) (s : Stamp) (l : Line) → IsLateLine list before l → IsSubmitOf x s l → IsFirst list before x s
+pub first_of_line : (list : List Entry) (before : List TraceLine) (x : ℕ) (s : Stamp) (l : Line) → IsLateLine list before l → IsSubmitOf x s l → IsFirst list before x s
 first_of_line list before x s l n h = go l (kind_of_line l) n h
   where
     go : (l : Line) → Kind l → IsLateLine list before l → IsSubmitOf x s l → IsFirst list before x s

@@ -17,7 +17,7 @@ use Rattle.crsm_base.specs.Messages.{datagram_bytes}
 use Rattle.crsm_spec.specs.World.{kind_of, Site, World, Moment, begin, first_lines, log_of, log_at, with_site, send_line, send_lines, whole_step, cut_step, lost_step, down, after_step, then_down}
 use Rattle.crsm_spec.specs.Moments.{silent, begun_at, with_room, start_at}
 use Rattle.crsm_spec.specs.Acts.{Act}
-use Rattle.crsm_spec.specs.Run.{Told, told_by}
+use Rattle.crsm_spec.specs.Run.{TraceLine, traced}
 use Rattle.crsm_law_steps.specs.Laws.{LogsGoOn}
 use Rattle.crsm_law_steps.specs.Happenings.{Marks, CanCome, Ends, Happens, Brings, IsLedBy, IsReached}
 use Rattle.crsm_law_steps.specs.Happenings.Marks.{none}
@@ -46,26 +46,26 @@ use Rattle.crsm_law_runs.proofs.Worlds.{kept_holds, stamp_later, executed_longer
 -- ---- plain lines, told by an act or by none
 
 module _ (by : Option Act) where
-  abbrev told_all : List Line → List Told
-  told_all ls = map (told_by by) ls
+  abbrev told_all : List Line → List TraceLine
+  told_all ls = map (traced by) ls
 
-  line_is : (l : Line) → (told_by by l).line ≡ l
-  unfolding told_by
+  line_is : (l : Line) → (traced by l).line ≡ l
+  unfolding traced
   line_is l = refl
 
-  plain_told : (ls : List Line) → ArePlain ls → (t : Told) → Among (told_all ls) t → IsPlain t.line
+  plain_told : (ls : List Line) → ArePlain ls → (t : TraceLine) → Among (told_all ls) t → IsPlain t.line
   plain_told ls h t a =
-      let q = among_unmap (told_by by) ls t a in subst IsPlain (sym (line_is q.0) ∙ ap (λ (z : Told). z.line) q.2) (plain_at ls q.0 h q.1)
+      let q = among_unmap (traced by) ls t a in subst IsPlain (sym (line_is q.0) ∙ ap (λ (z : TraceLine). z.line) q.2) (plain_at ls q.0 h q.1)
 
-  plain_late : (list : List Entry) (before : List Told) (ls : List Line) → ArePlain ls → Each (IsLate list) before (told_all ls)
+  plain_late : (list : List Entry) (before : List TraceLine) (ls : List Line) → ArePlain ls → Each (IsLate list) before (told_all ls)
   plain_late list before ls h = each_all (IsLate list) before (told_all ls) (λ b t a. late_other list b t.line (says_nothing t.line (plain_told ls h t a)).submit)
 
-  plain_new : (before : List Told) (ls : List Line) → ArePlain ls → Each IsNew before (told_all ls)
+  plain_new : (before : List TraceLine) (ls : List Line) → ArePlain ls → Each IsNew before (told_all ls)
   plain_new before ls h = each_all IsNew before (told_all ls) (λ b t a u m q. (says_nothing t.line (plain_told ls h t a)).reply (one_replies u.line t.line q).1)
 
 -- ---- moments in which nothing is kept but boots
 
-module _ (end : World) (list : List Entry) (w u : World) (lines : List Told) (act : Act) (ls : List Line) where
+module _ (end : World) (list : List Entry) (w u : World) (lines : List TraceLine) (act : Act) (ls : List Line) where
   plain_holds : LogsGoOn w u → ((j : ℕ) (e : Entry) → Logged (log_at u j) e → Logged (log_at w j) e) → ArePlain ls →
       ((j : ℕ) (q : Replica) → slice_get u.sites j ≡ Some (Site.Up q) → (slice_get w.sites j ≡ Some (Site.Up q)) ⊎ (q.waiting ≡ [])) → Holds end list w lines → Holds end list u (lines ++ seen_by act ls)
   plain_holds grows logged plain up h = record {
@@ -138,18 +138,18 @@ unfolding log_at log_of
 here_log w v p k r e = ap (λ o. option_map_or log_of o []) (subst (λ ss. slice_get ss k ≡ Some (Site.Up r)) (marked_sites p) e)
 
 -- the lines of a whole step, and of one that is cut, part by part
-whole_lines : (v : World) (k : ℕ) (x : Draft) → (whole_step v k x).lines ≡ (x.lines ++ (x.excess ++ send_lines k (length v.mail) x.sends)) ++ (map (λ (a : Reply). a.line) (take (length x.replies) x.replies) ++ [])
+whole_lines : (v : World) (k : ℕ) (x : Draft) → (whole_step v k x).lines ≡ (x.lines ++ (x.excess ++ send_lines k (length v.packets) x.sends)) ++ (map (λ (a : Reply). a.line) (take (length x.replies) x.replies) ++ [])
 unfolding whole_step after_step
 whole_lines v k x =
-    ap (λ z. z ++ map (λ (a : Reply). a.line) x.replies) (append_assoc x.lines x.excess (send_lines k (length v.mail) x.sends))
-    ∙ ap (λ z. (x.lines ++ (x.excess ++ send_lines k (length v.mail) x.sends)) ++ z) (ap (map (λ (a : Reply). a.line)) (sym (take_all x.replies)) ∙ sym (append-nil (map (λ (a : Reply). a.line) (take (length x.replies) x.replies))))
+    ap (λ z. z ++ map (λ (a : Reply). a.line) x.replies) (append_assoc x.lines x.excess (send_lines k (length v.packets) x.sends))
+    ∙ ap (λ z. (x.lines ++ (x.excess ++ send_lines k (length v.packets) x.sends)) ++ z) (ap (map (λ (a : Reply). a.line)) (sym (take_all x.replies)) ∙ sym (append-nil (map (λ (a : Reply). a.line) (take (length x.replies) x.replies))))
 
 cut_lines : (v : World) (k count : ℕ) (x : Draft) →
-    (cut_step count v k x).lines ≡ (x.lines ++ (x.excess ++ send_lines k (length v.mail) (take count x.sends))) ++ (map (λ (a : Reply). a.line) (take (count - length x.sends) x.replies) ++ Line.Down k ∷ [])
+    (cut_step count v k x).lines ≡ (x.lines ++ (x.excess ++ send_lines k (length v.packets) (take count x.sends))) ++ (map (λ (a : Reply). a.line) (take (count - length x.sends) x.replies) ++ Line.Down k ∷ [])
 unfolding cut_step then_down after_step
 cut_lines v k count x =
-    append_assoc ((x.lines ++ x.excess) ++ send_lines k (length v.mail) (take count x.sends)) (map (λ (a : Reply). a.line) (take (count - length x.sends) x.replies)) (Line.Down k ∷ [])
-    ∙ ap (λ z. z ++ (map (λ (a : Reply). a.line) (take (count - length x.sends) x.replies) ++ Line.Down k ∷ [])) (append_assoc x.lines x.excess (send_lines k (length v.mail) (take count x.sends)))
+    append_assoc ((x.lines ++ x.excess) ++ send_lines k (length v.packets) (take count x.sends)) (map (λ (a : Reply). a.line) (take (count - length x.sends) x.replies)) (Line.Down k ∷ [])
+    ∙ ap (λ z. z ++ (map (λ (a : Reply). a.line) (take (count - length x.sends) x.replies) ++ Line.Down k ∷ [])) (append_assoc x.lines x.excess (send_lines k (length v.packets) (take count x.sends)))
 
 whole_sites : (v : World) (k : ℕ) (x : Draft) → (whole_step v k x).after.sites ≡ slice_set v.sites k (Site.Up x.replica)
 unfolding whole_step after_step
@@ -168,7 +168,7 @@ unfolding lost_step down
 lost_lines v k x = refl
 
 -- a site that goes down with its log
-lost_holds : (end : World) (list : List Entry) (w v u : World) (p : Marks w v) (lines : List Told) (act : Act) (k : ℕ) → u.sites ≡ slice_set v.sites k (Site.Down (log_at v k)) → LogsGoOn w u →
+lost_holds : (end : World) (list : List Entry) (w v u : World) (p : Marks w v) (lines : List TraceLine) (act : Act) (k : ℕ) → u.sites ≡ slice_set v.sites k (Site.Down (log_at v k)) → LogsGoOn w u →
     Holds end list w lines → Holds end list u (lines ++ seen_by act (Line.Down k ∷ []))
 lost_holds end list w v u p lines act k is grows h =
     same_holds end list w u lines act (Line.Down k ∷ []) grows (λ j. kept_logs v u k (Site.Down (log_at v k)) is (down_is (log_at v k)) j ∙ same_logs w v (marked_sites p) j) (tt, tt)
@@ -208,7 +208,7 @@ started_logged v k b e q = elim (log_set v (whole_step v k b).after k (Site.Up b
   | inr is ↦ inr (subst (λ l. Logged l e) (is.1 ∙ up_is b.replica) q)
 ]
 
-module _ (n : ℕ) (end : World) (list : List Entry) (last : IsLast n end list) (w : World) (g : IsReached n w) (lines : List Told) (h : Holds end list w lines) (act : Act) where
+module _ (n : ℕ) (end : World) (list : List Entry) (last : IsLast n end list) (w : World) (g : IsReached n w) (lines : List TraceLine) (h : Holds end list w lines) (act : Act) where
   module _ (v : World) (p : Marks w v) (k : ℕ) (r : Replica) (e : slice_get v.sites k ≡ Some (Site.Up r)) (input : Input) (reading : ℕ) (lt : reading < 2 ^ 64) (c : CanCome w k input) (led : Brings act c) where
     abbrev x : Draft
     x = step r input reading
@@ -236,13 +236,13 @@ module _ (n : ℕ) (end : World) (list : List Entry) (last : IsLast n end list) 
     steps_hold z IsWhole after grows on =
         let s = stepping (whole_step v k x).after (Site.Up x.replica) after (whole_sites v k x) (kept_whole n w v p g (all_known n w g) k r e x) grows on in
         subst (λ ls. Holds end list (whole_step v k x).after (lines ++ seen_by act ls)) (sym (whole_lines v k x))
-        (kept_holds s (x.excess ++ send_lines k (length v.mail) x.sends) [] (plain_then x.excess (send_lines k (length v.mail) x.sends) (step_good s).excess (sends_plain k (length v.mail) x.sends)) tt (length x.replies)
+        (kept_holds s (x.excess ++ send_lines k (length v.packets) x.sends) [] (plain_then x.excess (send_lines k (length v.packets) x.sends) (step_good s).excess (sends_plain k (length v.packets) x.sends)) tt (length x.replies)
         (λ j q f. elim (up_sites w v (whole_step v k x).after p k (Site.Up x.replica) (whole_sites v k x) j q f) [ inl y ↦ inl y | inr y ↦ inr (y.0, sym (up_same x.replica q y.1), take_all x.replies) ]))
     steps_hold z (IsCut count) after grows on =
         let s = stepping (cut_step count v k x).after (Site.Down x.replica.log) after (cut_sites v k count x) (kept_cut n w v p g (all_known n w g) k r e x count) grows on in
         subst (λ ls. Holds end list (cut_step count v k x).after (lines ++ seen_by act ls)) (sym (cut_lines v k count x))
-        (kept_holds s (x.excess ++ send_lines k (length v.mail) (take count x.sends)) (Line.Down k ∷ [])
-        (plain_then x.excess (send_lines k (length v.mail) (take count x.sends)) (step_good s).excess (sends_plain k (length v.mail) (take count x.sends))) (tt, tt) (count - length x.sends)
+        (kept_holds s (x.excess ++ send_lines k (length v.packets) (take count x.sends)) (Line.Down k ∷ [])
+        (plain_then x.excess (send_lines k (length v.packets) (take count x.sends)) (step_good s).excess (sends_plain k (length v.packets) (take count x.sends))) (tt, tt) (count - length x.sends)
         (λ j q f. elim (up_sites w v (cut_step count v k x).after p k (Site.Down x.replica.log) (cut_sites v k count x) j q f) [ inl y ↦ inl y | inr y ↦ absurd (not_up x.replica.log q y.1) ]))
     steps_hold z IsLost after grows on =
         subst (λ ls. Holds end list (lost_step v k x).after (lines ++ seen_by act ls)) (sym (lost_lines v k x)) (lost_holds end list w v (lost_step v k x).after p lines act k (lost_sites v k x) grows h)
@@ -278,7 +278,7 @@ module _ (n : ℕ) (end : World) (list : List Entry) (last : IsLast n end list) 
       let u = (whole_step w k b).after in
       same_holds end list w u lines act (whole_step w k b).lines grows
       (kept_logs w u k (Site.Up b.replica) (whole_sites w k b) (begun_site q ∙ sym (here_log w w none k q e)))
-      (subst ArePlain (sym (whole_lines w k b)) (begun_plain k (length w.mail) (length b.replies) b.sends q [] tt))
+      (subst ArePlain (sym (whole_lines w k b)) (begun_plain k (length w.packets) (length b.replies) b.sends q [] tt))
       (λ j r f. elim (up_sites w w u none k (Site.Up b.replica) (whole_sites w k b) j r f) [
         | inl y ↦ inl y.1
         | inr y ↦ inl (subst (λ i. slice_get w.sites i ≡ Some (Site.Up r)) (sym y.0) (subst (λ t. slice_get w.sites k ≡ Some t) (sym (begun_same q) ∙ y.1) e))
@@ -288,7 +288,7 @@ module _ (n : ℕ) (end : World) (list : List Entry) (last : IsLast n end list) 
       let u = (cut_step count w k b).after in
       same_holds end list w u lines act (cut_step count w k b).lines grows
       (kept_logs w u k (Site.Down b.replica.log) (cut_sites w k count b) (begun_down q ∙ sym (here_log w w none k q e)))
-      (subst ArePlain (sym (cut_lines w k count b)) (begun_plain k (length w.mail) (count - length b.sends) (take count b.sends) q (Line.Down k ∷ []) (tt, tt)))
+      (subst ArePlain (sym (cut_lines w k count b)) (begun_plain k (length w.packets) (count - length b.sends) (take count b.sends) q (Line.Down k ∷ []) (tt, tt)))
       (λ j r f. elim (up_sites w w u none k (Site.Down b.replica.log) (cut_sites w k count b) j r f) [ inl y ↦ inl y.1 | inr y ↦ absurd (not_up b.replica.log r y.1) ]) h
   junk_holds k q e z IsLost grows =
       subst (λ ls. Holds end list (lost_step w k (begun q)).after (lines ++ seen_by act ls)) (sym (lost_lines w k (begun q))) (lost_holds end list w w (lost_step w k (begun q)).after none lines act k (lost_sites w k (begun q)) grows h)
@@ -325,7 +325,7 @@ module _ (n : ℕ) (end : World) (list : List Entry) (last : IsLast n end list) 
             (elim (started_logged v k b e (subst (λ i. Logged (log_at u i) e) is q)) [ inl old ↦ old | inr new ↦ boot_logged k v.n (log_at v k) e new ]))
         | inr ne ↦ subst (λ l. Logged l e) (log_other v u k j (Site.Up b.replica) (whole_sites v k b) ne ∙ room_logs w k j) q
       ])
-      (subst ArePlain (sym (whole_lines v k b)) (quiet_plain k (length v.mail) b ok))
+      (subst ArePlain (sym (whole_lines v k b)) (quiet_plain k (length v.packets) b ok))
       (λ j q f. elim (set_up v.sites k (Site.Up b.replica) j q (subst (λ ss. slice_get ss j ≡ Some (Site.Up q)) (whole_sites v k b) f)) [
         | inl y ↦ inl (room_up w k j q y.1)
         | inr y ↦ inr (ap (λ (z : Replica). z.waiting) (sym (up_same b.replica q y.1)) ∙ ok.waiting)
@@ -377,7 +377,7 @@ first_logged n j e q = go (slice_get (map (λ k. Site.Up (founding_boot k n).rep
         let t = get_range (λ k. Site.Up (founding_boot k n).replica) 0 n j s is in
         founding_logged j n e (subst (λ z. Logged (log_of z) e) (sym (from_zero n j s t.1)) q)
 
-first_holds : (n : ℕ) (end : World) (list : List Entry) → Holds end list (begin n) (map (told_by None) (first_lines n))
+first_holds : (n : ℕ) (end : World) (list : List Entry) → Holds end list (begin n) (map (traced None) (first_lines n))
 first_holds n end list =
     let plain = plain_told None (first_lines n) (first_plain n) in
     record {
@@ -389,16 +389,16 @@ first_holds n end list =
       replies = λ t a y v q. absurd ((says_nothing t.line (plain t a)).reply (on_is_reply list y v t.line q));
       late = plain_late None list [] (first_lines n) (first_plain n);
       once = plain_new None [] (first_lines n) (first_plain n);
-      wait = λ j q e. subst (Wait list (map (told_by None) (first_lines n)) j q.log) (sym (ap (λ (z : Replica). z.waiting) (sym (founded_is n j q e)) ∙ founding_waits j n)) (record { logged = λ f m. absurd m; new = λ f m. absurd m; apart = tt });
+      wait = λ j q e. subst (Wait list (map (traced None) (first_lines n)) j q.log) (sym (ap (λ (z : Replica). z.waiting) (sym (founded_is n j q e)) ∙ founding_waits j n)) (record { logged = λ f m. absurd m; new = λ f m. absurd m; apart = tt });
     }
 
 -- ---- every world
 
-pub seen_reached : (n : ℕ) (w : World) (lines : List Told) → IsSeen n w lines → IsReached n w
+pub seen_reached : (n : ℕ) (w : World) (lines : List TraceLine) → IsSeen n w lines → IsReached n w
 seen_reached n w lines boots = first
 seen_reached n w lines (then_on {w = v} {lines = ls} q a h led) = next (seen_reached n v ls q) h
 
-pub seen_holds : (n : ℕ) (end : World) (list : List Entry) → IsLast n end list → (w : World) (lines : List Told) → IsSeen n w lines → LogsGoOn w end → Holds end list w lines
+pub seen_holds : (n : ℕ) (end : World) (list : List Entry) → IsLast n end list → (w : World) (lines : List TraceLine) → IsSeen n w lines → LogsGoOn w end → Holds end list w lines
 seen_holds n end list last w lines boots on = first_holds n end list
 seen_holds n end list last w lines (then_on {w = v} {m = m} {lines = ls} q a h led) on =
     let before : LogsGoOn v end = λ j. extends_trans (moment_goes_on v m h j) (on j) in

@@ -15,7 +15,7 @@ use Rattle.crsm_spec.specs.Clients.{refuse, replies, answer_each, answer_found, 
 use Rattle.crsm_spec.specs.Step.{Input}
 use Rattle.crsm_spec.specs.World.{World, log_at}
 use Rattle.crsm_spec.specs.Acts.{Act}
-use Rattle.crsm_spec.specs.Run.{Told, told_by}
+use Rattle.crsm_spec.specs.Run.{TraceLine, traced}
 use Rattle.crsm_spec.specs.Safe.{IsExecOf}
 use Rattle.crsm_log_facts.specs.Logs.{Extends, Logged}
 use Rattle.crsm_log_facts.proofs.Lists.{get_inside, get_some}
@@ -33,12 +33,12 @@ use Rattle.crsm_log_facts.proofs.Sorted.{eq_self}
 use Rattle.crsm_law_agreement.proofs.Worlds.{one_entry}
 use Rattle.crsm_law_runs.proofs.Steps.{last, IsGood, spelt_end, at_end}
 
-module _ {n : ℕ} {end : World} {list : List Entry} {w u : World} {lines : List Told} {k : ℕ} {r : Replica} {input : Input} {reading : ℕ} {act : Act}
+module _ {n : ℕ} {end : World} {list : List Entry} {w u : World} {lines : List TraceLine} {k : ℕ} {r : Replica} {input : Input} {reading : ℕ} {act : Act}
     (s : Stepping n end list w u lines k r input reading act) where
   -- ---- one more reply
 
-  reply_more : (rs : List Reply) (a : Reply) → reply_lines act (rs ++ a ∷ []) ≡ reply_lines act rs ++ told_by (Some act) a.line ∷ []
-  reply_more rs a = ap (seen_by act) (map-append (λ (a : Reply). a.line) rs (a ∷ [])) ∙ map-append (told_by (Some act)) (map (λ (a : Reply). a.line) rs) (a.line ∷ [])
+  reply_more : (rs : List Reply) (a : Reply) → reply_lines act (rs ++ a ∷ []) ≡ reply_lines act rs ++ traced (Some act) a.line ∷ []
+  reply_more rs a = ap (seen_by act) (map-append (λ (a : Reply). a.line) rs (a ∷ [])) ∙ map-append (traced (Some act)) (map (λ (a : Reply). a.line) rs) (a.line ∷ [])
 
   -- a line that is no reply on an entry
   pub refused_good : (a : ℕ) (c : Command) (why : Refusal) (x : Draft) → IsGood s [] x → IsGood s [] (refuse a c why x)
@@ -65,13 +65,13 @@ module _ {n : ℕ} {end : World} {list : List Entry} {w u : World} {lines : List
           | inl o ↦ g.replies b o y t z
           | inr o ↦ elim o [ inl q ↦ absurd (subst (λ (v : Reply). IsReplyOn list y t v.line) (sym q) z) | inr q ↦ absurd q ]
         ];
-        once = subst (Each IsNew lines) (sym is) (each_then IsNew lines (reply_lines act x.replies) (told_by (Some act) new.line ∷ []) g.once
-            ((λ v m h. subst IsReplyLine (told_line act new.line) (one_replies v.line (told_by (Some act) new.line).line h).1), tt));
+        once = subst (Each IsNew lines) (sym is) (each_then IsNew lines (reply_lines act x.replies) (traced (Some act) new.line ∷ []) g.once
+            ((λ v m h. subst IsReplyLine (told_line act new.line) (one_replies v.line (traced (Some act) new.line).line h).1), tt));
         wait = record {
           logged = g.wait.logged;
-          new = λ f m t i h. elim (among_either (lines ++ reply_lines act x.replies) (told_by (Some act) new.line ∷ []) t (subst (λ l. Among l t) (ap (λ l. lines ++ l) is ∙ sym (append_assoc lines (reply_lines act x.replies) (told_by (Some act) new.line ∷ []))) i)) [
+          new = λ f m t i h. elim (among_either (lines ++ reply_lines act x.replies) (traced (Some act) new.line ∷ []) t (subst (λ l. Among l t) (ap (λ l. lines ++ l) is ∙ sym (append_assoc lines (reply_lines act x.replies) (traced (Some act) new.line ∷ []))) i)) [
             | inl o ↦ g.wait.new f m t o h
-            | inr o ↦ elim o [ inl q ↦ subst (IsReplyOn list f.entry.epoch f.entry.stamp) (ap (λ (z : Told). z.line) (sym q) ∙ told_line act new.line) h | inr q ↦ q ]
+            | inr o ↦ elim o [ inl q ↦ subst (IsReplyOn list f.entry.epoch f.entry.stamp) (ap (λ (z : TraceLine). z.line) (sym q) ∙ told_line act new.line) h | inr q ↦ q ]
           ];
           apart = g.wait.apart;
         };
@@ -85,7 +85,7 @@ module _ {n : ℕ} {end : World} {list : List Entry} {w u : World} {lines : List
     unfolding reply
     replied_good =
         let is = reply_more x.replies new in
-        let told = told_by (Some act) new.line in
+        let told = traced (Some act) new.line in
         let here_f = among_right x.replica.waiting (f ∷ rest) f (inl refl) in
         let own = g.wait.logged f here_f in
         record {
@@ -117,7 +117,7 @@ module _ {n : ℕ} {end : World} {list : List Entry} {w u : World} {lines : List
             new = λ v m t i h. elim (among_either (lines ++ reply_lines act x.replies) (told ∷ []) t (subst (λ l. Among l t) (ap (λ l. lines ++ l) is ∙ sym (append_assoc lines (reply_lines act x.replies) (told ∷ []))) i)) [
               | inl o ↦ g.wait.new v (without x.replica.waiting f rest v m) t o h
               | inr o ↦ elim o [
-                | inl q ↦ (let e = only v.entry.epoch v.entry.stamp (subst (IsReplyOn list v.entry.epoch v.entry.stamp) (ap (λ (z : Told). z.line) (sym q) ∙ told_line act new.line) h) in
+                | inl q ↦ (let e = only v.entry.epoch v.entry.stamp (subst (IsReplyOn list v.entry.epoch v.entry.stamp) (ap (λ (z : TraceLine). z.line) (sym q) ∙ told_line act new.line) h) in
                     apart_from x.replica.waiting f rest g.wait.apart v m (sym e.0) (sym e.1))
                 | inr q ↦ q
               ]

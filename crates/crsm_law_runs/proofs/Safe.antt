@@ -13,7 +13,7 @@ use Rattle.crsm_spec.specs.Log.{Log}
 use Rattle.crsm_spec.specs.World.{World, Moment, begin, first_lines, log_at}
 use Rattle.crsm_spec.specs.Acts.{Act}
 use Rattle.crsm_spec.specs.Moments.{world_after, lines_of, act, moments_of}
-use Rattle.crsm_spec.specs.Run.{ArePossible, all_worlds, Told, told_by, told, seen, after_acts, last_world, all_lists, the_list}
+use Rattle.crsm_spec.specs.Run.{ArePossible, all_worlds, TraceLine, traced, told, seen, after_acts, last_world, all_lists, the_list}
 use Rattle.crsm_spec.specs.Safe.{Submits, IsExecOf, IsSubmitOf, IsLineAt, WasSubmitted, Agreed, Answered, RealTime, IsSafe}
 use Rattle.crsm_log_facts.specs.Logs.{Extends, same, more, Logged, AreSpelt}
 use Rattle.crsm_law_steps.specs.Happenings.{GoOnBy}
@@ -38,14 +38,14 @@ use Rattle.crsm_law_bounds.proofs.Short.{run_short}
 
 -- ---- what is seen of a run is seen on the way to its last world
 
-pub moments_seen : (n : ℕ) (a : Act) (w : World) (ms : List Moment) (lines : List Told) → GoOnBy a w ms → IsSeen n w lines → IsSeen n (world_after w ms) (lines ++ seen_by a (lines_of ms))
+pub moments_seen : (n : ℕ) (a : Act) (w : World) (ms : List Moment) (lines : List TraceLine) → GoOnBy a w ms → IsSeen n w lines → IsSeen n (world_after w ms) (lines ++ seen_by a (lines_of ms))
 unfolding world_after lines_of
 moments_seen n a w [] lines g s = subst (IsSeen n w) (sym (append-nil lines)) s
 moments_seen n a w (m ∷ ms) lines g s =
-    subst (IsSeen n (world_after m.after ms)) (append_assoc lines (seen_by a m.lines) (seen_by a (flat_map (λ m. m.lines) ms)) ∙ ap (λ z. lines ++ z) (sym (ap (seen_by a) (flat_map-cons (λ (m : Moment). m.lines) m ms) ∙ map-append (told_by (Some a)) m.lines (flat_map (λ m. m.lines) ms))))
+    subst (IsSeen n (world_after m.after ms)) (append_assoc lines (seen_by a m.lines) (seen_by a (flat_map (λ m. m.lines) ms)) ∙ ap (λ z. lines ++ z) (sym (ap (seen_by a) (flat_map-cons (λ (m : Moment). m.lines) m ms) ∙ map-append (traced (Some a)) m.lines (flat_map (λ m. m.lines) ms))))
     (moments_seen n a m.after ms (lines ++ seen_by a m.lines) g.2 (then_on s a g.1.0 g.1.1))
 
-acts_seen : (n : ℕ) (w : World) (acts : List Act) (lines : List Told) → ArePossible w acts → IsSeen n w lines → IsSeen n (after_acts w acts) (lines ++ told w acts)
+acts_seen : (n : ℕ) (w : World) (acts : List Act) (lines : List TraceLine) → ArePossible w acts → IsSeen n w lines → IsSeen n (after_acts w acts) (lines ++ told w acts)
 unfolding after_acts told act
 acts_seen n w [] lines p s = subst (IsSeen n w) (sym (append-nil lines)) s
 acts_seen n w (a ∷ acts) lines p s =
@@ -55,7 +55,7 @@ acts_seen n w (a ∷ acts) lines p s =
 
 run_seen : (n : ℕ) (acts : List Act) → ArePossible (begin n) acts → IsSeen n (last_world n acts) (seen n acts)
 unfolding last_world seen
-run_seen n acts p = acts_seen n (begin n) acts (map (told_by None) (first_lines n)) p boots
+run_seen n acts p = acts_seen n (begin n) acts (map (traced None) (first_lines n)) p boots
 
 spelt_prefix : (a b : Log) → Extends a b → AreSpelt b → AreSpelt a
 spelt_prefix a b same h = h
@@ -96,14 +96,14 @@ module _ (n : ℕ) (acts : List Act) (most : n ≤ 15) (p : ArePossible (begin n
 
   -- ---- submissions
 
-  found_at : (lines before after : List Told) (t : Told) → before ++ t ∷ after ≡ lines → slice_get lines (length before) ≡ Some t
+  found_at : (lines before after : List TraceLine) (t : TraceLine) → before ++ t ∷ after ≡ lines → slice_get lines (length before) ≡ Some t
   found_at lines [] after t e = ap (λ l. slice_get l 0) (sym e)
   found_at lines (b ∷ before) after t e = ap (λ l. slice_get l (suc (length before))) (sym e) ∙ found_at (before ++ t ∷ after) before after t refl
 
-  among_before : (lines before after : List Told) (t u : Told) (j : ℕ) → before ++ t ∷ after ≡ lines → slice_get lines j ≡ Some u → j < length before → Among before u
+  among_before : (lines before after : List TraceLine) (t u : TraceLine) (j : ℕ) → before ++ t ∷ after ≡ lines → slice_get lines j ≡ Some u → j < length before → Among before u
   among_before lines before after t u j e at lt = in_front before j (subst (λ l. slice_get l j ≡ Some u) (sym e) at) lt
     where
-      in_front : (xs : List Told) (i : ℕ) → slice_get (xs ++ t ∷ after) i ≡ Some u → i < length xs → Among xs u
+      in_front : (xs : List TraceLine) (i : ℕ) → slice_get (xs ++ t ∷ after) i ≡ Some u → i < length xs → Among xs u
       in_front [] i at lt = absurd (omega (arith, lt))
       in_front (x ∷ xs) zero at lt = inl (same_Some x u at)
       in_front (x ∷ xs) (suc i) at lt = inr (in_front xs i at (omega (arith, lt)))
@@ -114,17 +114,17 @@ module _ (n : ℕ) (acts : List Act) (most : n ≤ 15) (p : ArePossible (begin n
   submitted : (q : ℕ) (e : Entry) → slice_get list q ≡ Some e → IsSubmittedIn (seen n acts) e
   submitted q e at = holds.submitted e.stamp.origin e (logged_at q e at) refl
 
-  not_exec : (t : Told) (e : Entry) → Submits t e → IsExecOf e.epoch e.stamp t.line → ⊥
+  not_exec : (t : TraceLine) (e : Entry) → Submits t e → IsExecOf e.epoch e.stamp t.line → ⊥
   not_exec t e s h = subst (IsExecOf e.epoch e.stamp) s.0 h
 
-  exec_after : (e : Entry) (s : IsSubmittedIn (seen n acts) e) (j : ℕ) (u : Told) → slice_get (seen n acts) j ≡ Some u → IsExecOf e.epoch e.stamp u.line → length s.before < j
+  exec_after : (e : Entry) (s : IsSubmittedIn (seen n acts) e) (j : ℕ) (u : TraceLine) → slice_get (seen n acts) j ≡ Some u → IsExecOf e.epoch e.stamp u.line → length s.before < j
   exec_after e s j u at h = elim (cases_lt (length s.before) j) [
     | inl lt ↦ lt
     | inr le ↦ elim (cases_lt j (length s.before)) [
       | inl lt ↦ absurd (s.first u (among_before (seen n acts) s.before s.after s.told u j s.is at lt) h)
       | inr ge ↦ (let is : j ≡ length s.before = omega (arith, le, ge) in
           let same_one : s.told ≡ u = same_Some s.told u (sym (found_at (seen n acts) s.before s.after s.told s.is) ∙ ap (slice_get (seen n acts)) (sym is) ∙ at) in
-          absurd (not_exec s.told e s.submits (subst (λ (z : Told). IsExecOf e.epoch e.stamp z.line) (sym same_one) h)))
+          absurd (not_exec s.told e s.submits (subst (λ (z : TraceLine). IsExecOf e.epoch e.stamp z.line) (sym same_one) h)))
     ]
   ]
 
@@ -134,29 +134,29 @@ module _ (n : ℕ) (acts : List Act) (most : n ≤ 15) (p : ArePossible (begin n
       subst (IsLateLine list (take (length s.before) (seen n acts))) s.submits.0
       (each_at (IsLate list) [] (seen n acts) (length s.before) s.told holds.late (found_at (seen n acts) s.before s.after s.told s.is))
 
-  not_reply : (t : Told) (e : Entry) → Submits t e → IsReplyOn list e.epoch e.stamp t.line → ⊥
+  not_reply : (t : TraceLine) (e : Entry) → Submits t e → IsReplyOn list e.epoch e.stamp t.line → ⊥
   not_reply t e s h = subst (IsReplyOn list e.epoch e.stamp) s.0 h
 
-  reply_after : (e : Entry) (s : IsSubmittedIn (seen n acts) e) (j : ℕ) (u : Told) → slice_get (seen n acts) j ≡ Some u → IsReplyOn list e.epoch e.stamp u.line → length s.before < j
+  reply_after : (e : Entry) (s : IsSubmittedIn (seen n acts) e) (j : ℕ) (u : TraceLine) → slice_get (seen n acts) j ≡ Some u → IsReplyOn list e.epoch e.stamp u.line → length s.before < j
   reply_after e s j u at h = elim (cases_lt (length s.before) j) [
     | inl lt ↦ lt
     | inr le ↦ elim (cases_lt j (length s.before)) [
       | inl lt ↦ absurd ((first_there e s).replied u (got_before (seen n acts) j (length s.before) u at lt) h)
       | inr ge ↦ (let is : j ≡ length s.before = omega (arith, le, ge) in
           let same_one : s.told ≡ u = same_Some s.told u (sym (found_at (seen n acts) s.before s.after s.told s.is) ∙ ap (slice_get (seen n acts)) (sym is) ∙ at) in
-          absurd (not_reply s.told e s.submits (subst (λ (z : Told). IsReplyOn list e.epoch e.stamp z.line) (sym same_one) h)))
+          absurd (not_reply s.told e s.submits (subst (λ (z : TraceLine). IsReplyOn list e.epoch e.stamp z.line) (sym same_one) h)))
     ]
   ]
 
   -- no epoch and stamp is submitted again
-  not_again : (x : ℕ) (s : Stamp) (i j : ℕ) (t u : Told) → slice_get (seen n acts) i ≡ Some t → slice_get (seen n acts) j ≡ Some u → IsSubmitOf x s t.line → IsSubmitOf x s u.line → i < j → ⊥
+  not_again : (x : ℕ) (s : Stamp) (i j : ℕ) (t u : TraceLine) → slice_get (seen n acts) i ≡ Some t → slice_get (seen n acts) j ≡ Some u → IsSubmitOf x s t.line → IsSubmitOf x s u.line → i < j → ⊥
   not_again x s i j t u at bt a b lt =
       (first_of_line list (take j (seen n acts)) x s u.line (each_at (IsLate list) [] (seen n acts) j u holds.late bt) b).submitted t (got_before (seen n acts) i j t at lt) a
 
   was_submitted : (e : Entry) (s : IsSubmittedIn (seen n acts) e) (i : ℕ) → length s.before < i → (k x t c m : ℕ) → e.stamp.origin ≡ k → e.epoch ≡ x → e.stamp.time ≡ t → e.command.client ≡ c → e.command.number ≡ m → WasSubmitted (seen n acts) i k x t c m
   was_submitted e s i lt k x t c m ok ox ot oc om = (length s.before, lt, (s.told.by, found_at (seen n acts) s.before s.after s.told s.is ∙ ap (λ l. Some (told_of s.told.by l)) (s.submits.0 ∙ line_is)))
     where
-      told_of : Option Act → Line → Told
+      told_of : Option Act → Line → TraceLine
       told_of by l = record { by = by; line = l }
 
       line_is : Line.Submit e.stamp.origin e.epoch e.stamp.time e.command.client e.command.number ≡ Line.Submit k x t c m

@@ -16,13 +16,13 @@ use Rattle.crsm_spec.specs.Clients.{submit, await}
 use Rattle.crsm_spec.specs.Step.{Input, step}
 use Rattle.crsm_spec.specs.World.{World, log_at}
 use Rattle.crsm_spec.specs.Acts.{Act}
-use Rattle.crsm_spec.specs.Run.{Told, told_by}
+use Rattle.crsm_spec.specs.Run.{TraceLine, traced}
 use Rattle.crsm_spec.specs.Safe.{IsExecOf, IsSubmitOf, command_of}
 use Rattle.crsm_log_facts.specs.Logs.{AllFit, Extends, same, more, Logged}
 use Rattle.crsm_law_steps.specs.Laws.{LogsGoOn}
-use Rattle.crsm_step_facts.specs.Messages.{Hears}
+use Rattle.crsm_step_facts.specs.Messages.{ReceivesControl}
 use Rattle.crsm_law_steps.specs.Happenings.{CanCome, Brings, IsReached}
-use Rattle.crsm_law_steps.specs.Happenings.CanCome.{IsMail, IsCommand, IsReply, IsTick, IsSuspicion}
+use Rattle.crsm_law_steps.specs.Happenings.CanCome.{IsPacket, IsCommand, IsReply, IsTick, IsSuspicion}
 use Rattle.crsm_log_facts.proofs.Logged.{extends_trans, end_fits, prepare_known, newest_all}
 use Rattle.crsm_law_epoch.specs.Worlds.{sent_in}
 use Rattle.crsm_law_epoch.proofs.Words.{among_map}
@@ -32,9 +32,9 @@ use Rattle.crsm_log_facts.proofs.Lists.{all_at, get_some}
 use Rattle.crsm_law_epoch.proofs.CommitEffects.{same_entry}
 use Rattle.crsm_law_epoch.proofs.LogSteps.{IsBetween}
 use Rattle.crsm_law_epoch.proofs.LogWorlds.{all_held, logs_fit, epochs_hold_always}
-use Rattle.crsm_law_messages.specs.Laws.{Says, HearsIn}
-use Rattle.crsm_law_messages.proofs.Worlds.{heard_is_told}
-use Rattle.crsm_law_messages.proofs.Truth.{told_is_true}
+use Rattle.crsm_law_messages.specs.Laws.{Says, ReceivesIn}
+use Rattle.crsm_law_messages.proofs.Worlds.{received_is_sent}
+use Rattle.crsm_law_messages.proofs.Truth.{sent_is_true}
 use Rattle.crsm_law_decisions.proofs.Coordinators.{extends_among}
 use Rattle.crsm_law_agreement.proofs.Logs.{is_logged}
 use Rattle.crsm_law_bounds.specs.Bounds.{IsSpelt}
@@ -48,8 +48,8 @@ use Rattle.crsm_law_runs.proofs.LineKinds.{late_other, of_submit, on_is_reply, K
 use Rattle.crsm_law_runs.proofs.Holds.{HasStamp, AreApart, Wait, Stepping, Has, HasIn, IsHere, IsWithin, reply_lines, Good, here_longer}
 use Rattle.crsm_law_runs.proofs.Drafts.{among_left, among_either, among_unmap, among_dropped, placed, told_line, seen_among, no_more, quiet_logs, quiet_executes, quiet_lines, logged_before, page_among, new_among, apart_then, decision_among, get_prefix}
 
-pub seen_more : (act : Act) (lines : List Told) (ls ms : List Line) → lines ++ seen_by act (ls ++ ms) ≡ (lines ++ seen_by act ls) ++ seen_by act ms
-seen_more act lines ls ms = ap (λ l. lines ++ l) (map-append (told_by (Some act)) ls ms) ∙ sym (append_assoc lines (seen_by act ls) (seen_by act ms))
+pub seen_more : (act : Act) (lines : List TraceLine) (ls ms : List Line) → lines ++ seen_by act (ls ++ ms) ≡ (lines ++ seen_by act ls) ++ seen_by act ms
+seen_more act lines ls ms = ap (λ l. lines ++ l) (map-append (traced (Some act)) ls ms) ∙ sym (append_assoc lines (seen_by act ls) (seen_by act ms))
 
 pub same_came : (a b : ℕ) (c d : Datagram) → Input.Came a c ≡ Input.Came b d → c ≡ d
 same_came a b c d h = cc
@@ -75,11 +75,11 @@ pub is_stamped : (a : ℕ) (c : Command) (t : ℕ) (x : Draft) → IsStamped a (
 unfolding submit await push_to_members push_to count_vote issued_at keep
 is_stamped a c t x = record { log = refl; lines = ap (λ l. x.lines ++ l) (submit_line x.replica.me x.replica.log (the_entry c t x) refl); replies = refl; waiting = refl; me = refl; excess = refl }
 
-told_act : (act : Act) (l : Line) → command_of (told_by (Some act) l).by ≡ command_of (Some act)
-unfolding told_by
+told_act : (act : Act) (l : Line) → command_of (traced (Some act) l).by ≡ command_of (Some act)
+unfolding traced
 told_act act l = refl
 
-module _ {n : ℕ} {end : World} {list : List Entry} {w u : World} {lines : List Told} {k : ℕ} {r : Replica} {input : Input} {reading : ℕ} {act : Act}
+module _ {n : ℕ} {end : World} {list : List Entry} {w u : World} {lines : List TraceLine} {k : ℕ} {r : Replica} {input : Input} {reading : ℕ} {act : Act}
     (s : Stepping n end list w u lines k r input reading act) where
   abbrev pub last : Log
   last = (step r input reading).replica.log
@@ -151,7 +151,7 @@ module _ {n : ℕ} {end : World} {list : List Entry} {w u : World} {lines : List
       known = λ p e h. subst (λ l. Has w k l e) (sym kept.log) (runs p e (subst (λ l. slice_get (executed l) p ≡ Some e) kept.log h));
       executes = λ l a z t h. subst (λ q. HasIn w k q z t) (sym kept.log) (elim (line_of l a) [ inl b ↦ in_more rec x.replica.log z t (g.executes l b z t h) | inr b ↦ (says l b).3 z t h ]);
       submits = λ l a z t h. subst (λ q. HasIn w k q z t) (sym kept.log) (elim (line_of l a) [ inl b ↦ in_more rec x.replica.log z t (g.submits l b z t h) | inr b ↦ absurd ((says l b).1 (of_submit z t l h)) ]);
-      late = subst (λ z. Each (IsLate list) lines (seen_by act z)) (sym kept.lines) (subst (Each (IsLate list) lines) (sym (map-append (told_by (Some act)) x.lines ls))
+      late = subst (λ z. Each (IsLate list) lines (seen_by act z)) (sym kept.lines) (subst (Each (IsLate list) lines) (sym (map-append (traced (Some act)) x.lines ls))
           (each_then (IsLate list) lines (seen_by act x.lines) (seen_by act ls) g.late
           (each_all (IsLate list) (lines ++ seen_by act x.lines) (seen_by act ls) (λ before t a. let q = seen_among act ls t a in subst (IsLateLine list before) (sym q.2) (late_other list before q.0 (says q.0 q.1).1)))));
       quiet = λ l a h. elim (line_of l a) [ inl b ↦ g.quiet l b h | inr b ↦ (says l b).2 h ];
@@ -199,8 +199,8 @@ module _ {n : ℕ} {end : World} {list : List Entry} {w u : World} {lines : List
   frame_logged a j me e i f is o = go input s.can is
     where
       go : (z : Input) → CanCome w k z → z ≡ Input.Came a (Datagram.Frame j me e i (InEpoch.Prepare f)) → Logged (log_at w f.stamp.origin) f
-      go z (IsMail from d m) q =
-          let was = subst (Among (sent_in w)) (same_came from a d (Datagram.Frame j me e i (InEpoch.Prepare f)) q) (among_map (λ m. m.datagram) w.mail (record { from = from; to = k; datagram = d; used = m.0 }) m.1) in
+      go z (IsPacket from d m) q =
+          let was = subst (Among (sent_in w)) (same_came from a d (Datagram.Frame j me e i (InEpoch.Prepare f)) q) (among_map (λ m. m.datagram) w.packets (record { from = from; to = k; datagram = d; used = m.0 }) m.1) in
           subst (λ l. Logged (log_at w l) f) (sym o) (subst (λ l. Logged l f) (seat_log_at w j) ((epochs_hold_always n w s.reached spelt_w.few).says j me e i f was).0)
       go z (IsCommand b c x) q = absurd (cc)
       go z (IsReply b c d t) q = absurd (cc)
@@ -289,16 +289,16 @@ module _ {n : ℕ} {end : World} {list : List Entry} {w u : World} {lines : List
       let kn : known log ≡ d.epoch = ap (λ o. option_map_or (λ d. d.epoch) o 0) is in
       known_there log z t.0 (λ o. logged_before k n log last before fit_last z (subst (λ l. Logged l z) s.kept (subst (λ i. Logged (log_at u i) z) o t.0)) (omega (arith, ep, kn)))) rest g
 
-  pub page_good : (j e from : ℕ) (es : List Entry) (x y : Draft) → Hears r input j (Control.Page e from es) →
+  pub page_good : (j e from : ℕ) (es : List Entry) (x y : Draft) → ReceivesControl r input j (Control.Page e from es) →
       IsKept (Rec.Adopt (length (executed x.replica.log)) (new_entries x.replica.log from es)) x y →
       Extends (Rec.Adopt (length (executed x.replica.log)) (new_entries x.replica.log from es) ∷ x.replica.log) last → (rest : List Waiting) → IsGood rest x → IsGood rest y
   unfolding executed lines_of
   page_good j e from es x y h kept ext rest g =
       let log = x.replica.log in
-      let hears : HearsIn n w j k (Control.Page e from es) =
-      record { reached = s.reached; marked = s.marked; marks = s.marks; replica = r; up = s.up; input = input; can_come = s.can; hears = h } in
-      let told = heard_is_told n w j k (Control.Page e from es) hears spelt_w.messages in
-      let true_of = told_is_true n w told.0 told.4 in
+      let receives : ReceivesIn n w j k (Control.Page e from es) =
+      record { reached = s.reached; marked = s.marked; marks = s.marks; replica = r; up = s.up; input = input; can_come = s.can; receives = h } in
+      let told = received_is_sent n w j k (Control.Page e from es) receives spelt_w.messages in
+      let true_of = sent_is_true n w told.0 told.4 in
       let says = subst (Says true_of.0) told.3 true_of.2 in
       runs_good (Rec.Adopt (length (executed log)) (new_entries log from es)) (new_entries log from es) x y kept (λ f q. absurd (cc)) refl refl ext
       (λ z a.
@@ -327,7 +327,7 @@ module _ {n : ℕ} {end : World} {list : List Entry} {w u : World} {lines : List
       same_request c d e = cc
 
       go : (z : Input) (m : CanCome w k z) → Brings act m → z ≡ Input.Came a (Datagram.Request c) → command_of (Some act) ≡ Some c
-      go z (IsMail from d m) b q = absurd (subst IsBetween (same_came from a d (Datagram.Request c) q) ((all_held n w s.reached).mail (record { from = from; to = k; datagram = d; used = m.0 }) m.1))
+      go z (IsPacket from d m) b q = absurd (subst IsBetween (same_came from a d (Datagram.Request c) q) ((all_held n w s.reached).packets (record { from = from; to = k; datagram = d; used = m.0 }) m.1))
       go z (IsReply x y d t) b q = absurd (cc)
       go z (IsCommand x d m) b q = b ∙ ap (λ z. Some z) (same_request d c (same_came x a (Datagram.Request d) (Datagram.Request c) q))
       go z IsTick b q = absurd (cc)
@@ -341,7 +341,7 @@ module _ {n : ℕ} {end : World} {list : List Entry} {w u : World} {lines : List
   now_is x e o g = ap (λ z. record { time = e.stamp.time; origin = z }) (g.me ∙ sym o)
 
   is_behind : (x : Draft) (e : Entry) → e.stamp.origin ≡ k → IsGood [] x → ((f : Entry) → Has w k x.replica.log f → f.epoch ≡ e.epoch → f.stamp ≡ e.stamp → ⊥) →
-      (t : Told) → Among (lines ++ seen_by act x.lines) t → (j d i place : ℕ) (v : Answer) → t.line ≡ Line.ReplyOk j d i place v →
+      (t : TraceLine) → Among (lines ++ seen_by act x.lines) t → (j d i place : ℕ) (v : Answer) → t.line ≡ Line.ReplyOk j d i place v →
       (q : ℕ) (f : Entry) → slice_get list q ≡ Some f → f.epoch ≡ e.epoch → f.stamp ≡ now x e → place < q
   is_behind x e o g newly t m j d i place v is q f at ep st = elim (among_either lines (seen_by act x.lines) t m) [
     | inr b ↦ (let z = seen_among act x.lines t b in absurd (g.quiet z.0 z.1 (subst IsReplyLine (sym is ∙ z.2) tt)))
@@ -388,7 +388,7 @@ module _ {n : ℕ} {end : World} {list : List Entry} {w u : World} {lines : List
         submitted = λ f h own. subst (λ z. IsSubmittedIn z f) (sym all_is) (elim (subst (λ l. Logged l f) is.log h) [
           | inl q ↦ subst (IsSubmittedIn ((lines ++ seen_by act x.lines) ++ seen_by act (line ∷ []))) (same_entry e f q) (record {
             before = lines ++ seen_by act x.lines;
-            told = told_by (Some act) line;
+            told = traced (Some act) line;
             after = [];
             is = refl;
             submits = (told_line act line ∙ ap (λ i. Line.Submit i e.epoch e.stamp.time e.command.client e.command.number) (g.me ∙ sym o), told_act act line ∙ by);
@@ -409,7 +409,7 @@ module _ {n : ℕ} {end : World} {list : List Entry} {w u : World} {lines : List
           | inl b ↦ in_more rec log z t (g.submits l b z t h)
           | inr q ↦ (let i = subst (IsSubmitOf z t) (sym q) h in record { entry = e; epoch = i.0; stamp = sym (now_is x e o g) ∙ i.1; has = inl (o, inl refl) })
         ]);
-        late = subst (λ z. Each (IsLate list) lines (seen_by act z)) (sym is.lines) (subst (Each (IsLate list) lines) (sym (map-append (told_by (Some act)) x.lines (line ∷ [])))
+        late = subst (λ z. Each (IsLate list) lines (seen_by act z)) (sym is.lines) (subst (Each (IsLate list) lines) (sym (map-append (traced (Some act)) x.lines (line ∷ [])))
             (each_then (IsLate list) lines (seen_by act x.lines) (seen_by act (line ∷ [])) g.late (subst (IsLateLine list (lines ++ seen_by act x.lines)) (sym (told_line act line)) (is_late x e o g newly), tt)));
         quiet = λ l m h. elim (line_of l m) [ inl b ↦ g.quiet l b h | inr q ↦ subst IsReplyLine (sym q) h ];
         excess = subst ArePlain (sym is.excess) g.excess;
@@ -435,7 +435,7 @@ module _ {n : ℕ} {end : World} {list : List Entry} {w u : World} {lines : List
       line_of : (l : Line) → Among y.lines l → Among x.lines l ⊎ (Line.Submit x.replica.me e.epoch e.stamp.time e.command.client e.command.number ≡ l)
       line_of l m = elim (among_either x.lines _ l (subst (λ z. Among z l) is.lines m)) [ inl b ↦ inl b | inr b ↦ elim b [ inl q ↦ inr q | inr q ↦ absurd q ] ]
 
-      not_replied : (x : Draft) → IsGood [] x → ((f : Entry) → Has w k x.replica.log f → f.epoch ≡ e.epoch → f.stamp ≡ e.stamp → ⊥) → (t : Told) → Among (lines ++ reply_lines act x.replies) t → IsReplyOn list e.epoch e.stamp t.line → ⊥
+      not_replied : (x : Draft) → IsGood [] x → ((f : Entry) → Has w k x.replica.log f → f.epoch ≡ e.epoch → f.stamp ≡ e.stamp → ⊥) → (t : TraceLine) → Among (lines ++ reply_lines act x.replies) t → IsReplyOn list e.epoch e.stamp t.line → ⊥
       not_replied x g newly t m h = elim (among_either lines (reply_lines act x.replies) t m) [
         | inl b ↦ (let z = s.holds.replies t b e.epoch e.stamp h in newly z.entry (inr z.logged) z.epoch z.stamp)
         | inr b ↦ (let q = seen_among act (map (λ (a : Reply). a.line) x.replies) t b in

@@ -9,7 +9,7 @@ use Rattle.crsm_spec.specs.Log.{Log, executed}
 use Rattle.crsm_spec.specs.Lines.{exec_line, exec_lines}
 use Rattle.crsm_spec.specs.World.{World, log_at}
 use Rattle.crsm_spec.specs.Acts.{Act}
-use Rattle.crsm_spec.specs.Run.{Told, told_by}
+use Rattle.crsm_spec.specs.Run.{TraceLine, traced}
 use Rattle.crsm_spec.specs.Safe.{Submits, IsExecOf, IsSubmitOf, AnswersAt, AreOnOneEntry}
 use Rattle.crsm_log_facts.specs.Logs.{Extends, Logged}
 use Rattle.crsm_law_steps.specs.Happenings.{IsReached}
@@ -58,33 +58,33 @@ IsSubmitLine _ = ⊥
 
 -- What is submitted now, in this epoch with this stamp, was not submitted or replied to before, and stands behind all that was
 -- answered before.
-pub record IsFirst (list : List Entry) (before : List Told) (x : ℕ) (s : Stamp) : Type 0 where
-  pub submitted : (u : Told) → Among before u → IsSubmitOf x s u.line → ⊥
-  pub replied : (u : Told) → Among before u → IsReplyOn list x s u.line → ⊥
-  pub behind : (u : Told) → Among before u → (j d i place : ℕ) (a : Answer) → u.line ≡ Line.ReplyOk j d i place a →
+pub record IsFirst (list : List Entry) (before : List TraceLine) (x : ℕ) (s : Stamp) : Type 0 where
+  pub submitted : (u : TraceLine) → Among before u → IsSubmitOf x s u.line → ⊥
+  pub replied : (u : TraceLine) → Among before u → IsReplyOn list x s u.line → ⊥
+  pub behind : (u : TraceLine) → Among before u → (j d i place : ℕ) (a : Answer) → u.line ≡ Line.ReplyOk j d i place a →
       (q : ℕ) (e : Entry) → slice_get list q ≡ Some e → e.epoch ≡ x → e.stamp ≡ s → place < q
 
-abbrev pub IsLateLine : List Entry → List Told → Line → Type 0
+abbrev pub IsLateLine : List Entry → List TraceLine → Line → Type 0
 IsLateLine list before (Line.Submit k x time c m) = IsFirst list before x (record { time = time; origin = k })
 IsLateLine list before _ = Unit {0}
 
-abbrev pub IsLate : List Entry → List Told → Told → Type 0
+abbrev pub IsLate : List Entry → List TraceLine → TraceLine → Type 0
 IsLate list before t = IsLateLine list before t.line
 
 -- no entry is replied to again
-abbrev pub IsNew : List Told → Told → Type 0
-IsNew before t = (u : Told) → Among before u → AreOnOneEntry u.line t.line → ⊥
+abbrev pub IsNew : List TraceLine → TraceLine → Type 0
+IsNew before t = (u : TraceLine) → Among before u → AreOnOneEntry u.line t.line → ⊥
 
 -- the entry was submitted in some line, and no execution of it told before that
-pub record IsSubmittedIn (lines : List Told) (e : Entry) : Type 0 where
-  pub before : List Told
-  pub told : Told
-  pub after : List Told
+pub record IsSubmittedIn (lines : List TraceLine) (e : Entry) : Type 0 where
+  pub before : List TraceLine
+  pub told : TraceLine
+  pub after : List TraceLine
   pub is : before ++ told ∷ after ≡ lines
   pub submits : Submits told e
-  pub first : (u : Told) → Among before u → IsExecOf e.epoch e.stamp u.line → ⊥
+  pub first : (u : TraceLine) → Among before u → IsExecOf e.epoch e.stamp u.line → ⊥
 
-pub submitted_more : (lines more : List Told) (e : Entry) → IsSubmittedIn lines e → IsSubmittedIn (lines ++ more) e
+pub submitted_more : (lines more : List TraceLine) (e : Entry) → IsSubmittedIn lines e → IsSubmittedIn (lines ++ more) e
 submitted_more lines more e s = record {
   before = s.before;
   told = s.told;
@@ -95,8 +95,8 @@ submitted_more lines more e s = record {
 }
 
 -- lines of an act
-abbrev pub seen_by : Act → List Line → List Told
-seen_by a lines = map (told_by (Some a)) lines
+abbrev pub seen_by : Act → List Line → List TraceLine
+seen_by a lines = map (traced (Some a)) lines
 
 -- ---- executed entries
 

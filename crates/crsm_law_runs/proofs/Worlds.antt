@@ -12,7 +12,7 @@ use Rattle.crsm_spec.specs.Draft.{Draft, Reply}
 use Rattle.crsm_spec.specs.Step.{Input, step}
 use Rattle.crsm_spec.specs.World.{Site, World, log_at}
 use Rattle.crsm_spec.specs.Acts.{Act}
-use Rattle.crsm_spec.specs.Run.{Told, told_by}
+use Rattle.crsm_spec.specs.Run.{TraceLine, traced}
 use Rattle.crsm_spec.specs.Safe.{IsExecOf, IsSubmitOf}
 use Rattle.crsm_log_facts.specs.Logs.{Extends, same, more, Logged}
 use Rattle.crsm_law_steps.specs.Laws.{LogsGoOn}
@@ -97,11 +97,11 @@ taken_told f (suc n) [] = refl
 taken_told f (suc n) (x ∷ xs) = ap (λ l. f x ∷ l) (taken_told f n xs)
 
 taken_lines : (act : Act) (n : ℕ) (rs : List Reply) → take n (reply_lines act rs) ≡ seen_by act (map (λ (a : Reply). a.line) (take n rs))
-taken_lines act n rs = taken_told (told_by (Some act)) n (map (λ (a : Reply). a.line) rs) ∙ ap (seen_by act) (taken_told (λ (a : Reply). a.line) n rs)
+taken_lines act n rs = taken_told (traced (Some act)) n (map (λ (a : Reply). a.line) rs) ∙ ap (seen_by act) (taken_told (λ (a : Reply). a.line) n rs)
 
 -- ---- a step whose records are kept
 
-module _ {n : ℕ} {end : World} {list : List Entry} {w u : World} {lines : List Told} {k : ℕ} {r : Replica} {input : Input} {reading : ℕ} {act : Act}
+module _ {n : ℕ} {end : World} {list : List Entry} {w u : World} {lines : List TraceLine} {k : ℕ} {r : Replica} {input : Input} {reading : ℕ} {act : Act}
     (s : Stepping n end list w u lines k r input reading act) where
   abbrev x : Draft
   x = step r input reading
@@ -143,7 +143,7 @@ module _ {n : ℕ} {end : World} {list : List Entry} {w u : World} {lines : List
     good : IsGood s [] x
     good = step_good s
 
-    told_of : (t : Told) → Among (lines ++ seen_by act all) t → Among lines t ⊎ Of t.line
+    told_of : (t : TraceLine) → Among (lines ++ seen_by act all) t → Among lines t ⊎ Of t.line
     told_of t a = elim (among_either lines (seen_by act all) t a) [
       | inl b ↦ inl b
       | inr b ↦ (let q = seen_among act all t b in inr (subst Of (sym q.2) (of_line q.0 q.1)))
@@ -155,7 +155,7 @@ module _ {n : ℕ} {end : World} {list : List Entry} {w u : World} {lines : List
 
     late_all : Each (IsLate list) [] (lines ++ seen_by act all)
     late_all =
-        subst (λ z. Each (IsLate list) [] (lines ++ z)) (sym (ap (seen_by act) (append_assoc x.lines plain (answers ++ tail)) ∙ map-append (told_by (Some act)) x.lines (plain ++ (answers ++ tail))))
+        subst (λ z. Each (IsLate list) [] (lines ++ z)) (sym (ap (seen_by act) (append_assoc x.lines plain (answers ++ tail)) ∙ map-append (traced (Some act)) x.lines (plain ++ (answers ++ tail))))
         (each_then (IsLate list) [] lines (seen_by act x.lines ++ seen_by act (plain ++ (answers ++ tail))) s.holds.late
         (each_then (IsLate list) lines (seen_by act x.lines) (seen_by act (plain ++ (answers ++ tail))) good.late
         (each_all (IsLate list) (lines ++ seen_by act x.lines) (seen_by act (plain ++ (answers ++ tail))) (λ before t a.
@@ -171,13 +171,13 @@ module _ {n : ℕ} {end : World} {list : List Entry} {w u : World} {lines : List
         ]
 
     once_all : Each IsNew [] (lines ++ seen_by act all)
-    once_all = each_then IsNew [] lines (seen_by act all) s.holds.once (subst (Each IsNew lines) (sym (map-append (told_by (Some act)) prefix (answers ++ tail)))
+    once_all = each_then IsNew [] lines (seen_by act all) s.holds.once (subst (Each IsNew lines) (sym (map-append (traced (Some act)) prefix (answers ++ tail)))
         (each_then IsNew lines (seen_by act prefix) (seen_by act (answers ++ tail)) (quiet_new lines prefix prefix_quiet)
-        (subst (Each IsNew (lines ++ seen_by act prefix)) (sym (map-append (told_by (Some act)) answers tail))
+        (subst (Each IsNew (lines ++ seen_by act prefix)) (sym (map-append (traced (Some act)) answers tail))
         (each_then IsNew (lines ++ seen_by act prefix) (seen_by act answers) (seen_by act tail) answers_new
         (quiet_new ((lines ++ seen_by act prefix) ++ seen_by act answers) tail (λ l a h. (says_nothing l (plain_at tail l tail_plain a)).reply h))))))
       where
-        quiet_new : (before : List Told) (ls : List Line) → ((l : Line) → Among ls l → IsReplyLine l → ⊥) → Each IsNew before (seen_by act ls)
+        quiet_new : (before : List TraceLine) (ls : List Line) → ((l : Line) → Among ls l → IsReplyLine l → ⊥) → Each IsNew before (seen_by act ls)
         quiet_new before ls none = each_all IsNew before (seen_by act ls) (λ b t a v m h. let q = seen_among act ls t a in none q.0 q.1 (subst IsReplyLine q.2 (one_replies v.line t.line h).1))
 
         first_answers : Each IsNew lines (seen_by act answers)
@@ -256,10 +256,10 @@ module _ {n : ℕ} {end : World} {list : List Entry} {w u : World} {lines : List
             let q = subst (IsReplyOn list y v) (sym e) h in
             let t = good.answers a m in (stamp_here y v (good.replies a m y v q), reply_origin end list k (last s) y v a.line t.0 t.1 q)
 
-        answer_among : (t : Told) → Among (seen_by act all) t → IsReplyLine t.line → Among (reply_lines act x.replies) t
-        answer_among t a h = elim (among_either (seen_by act prefix) (seen_by act (answers ++ tail)) t (subst (λ z. Among z t) (map-append (told_by (Some act)) prefix (answers ++ tail)) a)) [
+        answer_among : (t : TraceLine) → Among (seen_by act all) t → IsReplyLine t.line → Among (reply_lines act x.replies) t
+        answer_among t a h = elim (among_either (seen_by act prefix) (seen_by act (answers ++ tail)) t (subst (λ z. Among z t) (map-append (traced (Some act)) prefix (answers ++ tail)) a)) [
           | inl b ↦ (let q = seen_among act prefix t b in absurd (prefix_quiet q.0 q.1 (subst IsReplyLine q.2 h)))
-          | inr b ↦ elim (among_either (seen_by act answers) (seen_by act tail) t (subst (λ z. Among z t) (map-append (told_by (Some act)) answers tail) b)) [
+          | inr b ↦ elim (among_either (seen_by act answers) (seen_by act tail) t (subst (λ z. Among z t) (map-append (traced (Some act)) answers tail) b)) [
             | inl c ↦ among_prefix count (reply_lines act x.replies) t (subst (λ z. Among z t) (sym (taken_lines act count x.replies)) c)
             | inr c ↦ (let q = seen_among act tail t c in absurd ((says_nothing q.0 (plain_at tail q.0 tail_plain q.1)).reply (subst IsReplyLine q.2 h)))
           ]

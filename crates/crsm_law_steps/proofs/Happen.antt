@@ -9,7 +9,7 @@ use Rattle.crsm_spec.specs.Types.{Command, Datagram}
 use Rattle.crsm_spec.specs.Lists.{Among}
 use Rattle.crsm_spec.specs.Draft.{Draft, begun}
 use Rattle.crsm_spec.specs.Step.{Input, step}
-use Rattle.crsm_spec.specs.World.{Site, Mail, World, Moment, Ending, begin, is_full, whole_step, cut_step, lost_step, down, after_step, then_down}
+use Rattle.crsm_spec.specs.World.{Site, Packet, World, Moment, Ending, begin, is_full, whole_step, cut_step, lost_step, down, after_step, then_down}
 use Rattle.crsm_spec.specs.Acts.{Single, Act, Bad, FitsSingle, FitsAct}
 use Rattle.crsm_spec.specs.Moments.{use_up, silent, begun_at, step_at_site, step_at, come, junk_at, single, deliverable, go_each, go_all, lose_batch, cut_at, is_kept, start_at, moments_of, world_after, act}
 use Rattle.crsm_spec.specs.Possible.{first_bad, possible, causes_of, is_none_of, is_next_new}
@@ -17,7 +17,7 @@ use Rattle.crsm_spec.specs.Run.{ArePossible, moments, moments_of_run, all_worlds
 use Rattle.crsm_spec.specs.Safe.{command_of_single, command_of}
 use Rattle.crsm_law_steps.specs.Happenings.{Marks, WasSent, CanCome, Ends, Happens, IsReached, Brings, IsLedBy, GoOnBy, GoOn}
 use Rattle.crsm_law_steps.specs.Happenings.Marks.{none, mark}
-use Rattle.crsm_law_steps.specs.Happenings.CanCome.{IsMail, IsCommand, IsTick, IsSuspicion}
+use Rattle.crsm_law_steps.specs.Happenings.CanCome.{IsPacket, IsCommand, IsTick, IsSuspicion}
 use Rattle.crsm_law_steps.specs.Happenings.Ends.{IsWhole, IsCut, IsLost}
 use Rattle.crsm_law_steps.specs.Happenings.Happens.{Nothing, Steps, Junk, Stops, Joins, Starts}
 use Rattle.crsm_law_steps.specs.Happenings.IsReached.{first, next}
@@ -40,13 +40,13 @@ among_set (x ∷ xs) (suc i) y z (inr h) = elim (among_set xs i y z h) [ inl e �
 -- what was sent in a marked world was sent
 sent_before_mark : (i : ℕ) (v : World) (from to : ℕ) (d : Datagram) → WasSent (use_up i v) from to d → WasSent v from to d
 unfolding use_up
-sent_before_mark i v from to d (used, h) = go (slice_get v.mail i) refl h
+sent_before_mark i v from to d (used, h) = go (slice_get v.packets i) refl h
   where
-    go : (o : Option Mail) → slice_get v.mail i ≡ o → Among (option_map_or (λ m. slice_set v.mail i (record m { used = true })) o v.mail) (record { from = from; to = to; datagram = d; used = used }) →
+    go : (o : Option Packet) → slice_get v.packets i ≡ o → Among (option_map_or (λ m. slice_set v.packets i (record m { used = true })) o v.packets) (record { from = from; to = to; datagram = d; used = used }) →
         WasSent v from to d
     go None e a = (used, a)
-    go (Some m) e a = elim (among_set v.mail i (record m { used = true }) (record { from = from; to = to; datagram = d; used = used }) a) [
-      | inl w ↦ (m.used, subst (Among v.mail) (ap (λ (q : Mail). record q { used = m.used }) w) (got_among v.mail i m e))
+    go (Some m) e a = elim (among_set v.packets i (record m { used = true }) (record { from = from; to = to; datagram = d; used = used }) a) [
+      | inl w ↦ (m.used, subst (Among v.packets) (ap (λ (q : Packet). record q { used = m.used }) w) (got_among v.packets i m e))
       | inr b ↦ (used, b)
     ]
 
@@ -112,15 +112,15 @@ module _ (led : Act) where
   unfolding step_at
   at ends h w v p k i t lt c b = at_site ends h w v p k i t lt c b (slice_get v.sites k) refl
 
-  comes : (ends : Ending) → IsEnding ends → (w v : World) → Marks w v → (t : ℕ) → t < 2 ^ 64 → (o : Option Mail) → ((m : Mail) → o ≡ Some m → WasSent w m.from m.to m.datagram) →
+  comes : (ends : Ending) → IsEnding ends → (w v : World) → Marks w v → (t : ℕ) → t < 2 ^ 64 → (o : Option Packet) → ((m : Packet) → o ≡ Some m → WasSent w m.from m.to m.datagram) →
       IsAt w (begun_at w (come ends v t o))
   unfolding come
   comes ends h w v p t lt None g = silent_is w v p
-  comes ends h w v p t lt (Some m) g = at ends h w v p m.to (Input.Came m.from m.datagram) t lt (IsMail m.from m.datagram (g m refl)) tt
+  comes ends h w v p t lt (Some m) g = at ends h w v p m.to (Input.Came m.from m.datagram) t lt (IsPacket m.from m.datagram (g m refl)) tt
 
   -- a datagram of the mail was sent
-  got_sent : (w : World) (i : ℕ) (m : Mail) → slice_get w.mail i ≡ Some m → WasSent w m.from m.to m.datagram
-  got_sent w i m e = (m.used, got_among w.mail i m e)
+  got_sent : (w : World) (i : ℕ) (m : Packet) → slice_get w.packets i ≡ Some m → WasSent w m.from m.to m.datagram
+  got_sent w i m e = (m.used, got_among w.packets i m e)
 
   -- where nothing is marked the moment is as it stands
   unmarked : (ends : Ending) → IsEnding ends → (w : World) (k : ℕ) (i : Input) (t : ℕ) (o : Option Site) → step_at_site ends w k i t o ≡ begun_at w (step_at_site ends w k i t o)
@@ -133,10 +133,10 @@ module _ (led : Act) where
   unfolding step_at
   at_once ends h w k i t lt c b = subst (IsAt w) (sym (unmarked ends h w k i t (slice_get w.sites k))) (at_site ends h w w none k i t lt c b (slice_get w.sites k) refl)
 
-  comes_once : (ends : Ending) → IsEnding ends → (w : World) (t : ℕ) → t < 2 ^ 64 → (o : Option Mail) → ((m : Mail) → o ≡ Some m → WasSent w m.from m.to m.datagram) → IsAt w (come ends w t o)
+  comes_once : (ends : Ending) → IsEnding ends → (w : World) (t : ℕ) → t < 2 ^ 64 → (o : Option Packet) → ((m : Packet) → o ≡ Some m → WasSent w m.from m.to m.datagram) → IsAt w (come ends w t o)
   unfolding come silent
   comes_once ends h w t lt None g = (refl, Nothing w none, tt)
-  comes_once ends h w t lt (Some m) g = at_once ends h w m.to (Input.Came m.from m.datagram) t lt (IsMail m.from m.datagram (g m refl)) tt
+  comes_once ends h w t lt (Some m) g = at_once ends h w m.to (Input.Came m.from m.datagram) t lt (IsPacket m.from m.datagram (g m refl)) tt
 
   junks : (ends : Ending) → IsEnding ends → (w : World) (k : ℕ) (o : Option Site) → slice_get w.sites k ≡ o → IsAt w (junk_at ends w k o)
   unfolding junk_at silent
@@ -147,8 +147,8 @@ module _ (led : Act) where
   singles : (ends : Ending) → IsEnding ends → (w : World) (s : Single) → FitsSingle s → ((c : Command) → command_of_single s ≡ Some c → command_of (Some led) ≡ Some c) → IsAt w (single ends w s)
   unfolding single command_of_single
   singles ends h w (Single.Request k t c) f by = at_once ends h w k (Input.Came c.client (Datagram.Request c)) t f.1 (IsCommand c.client c f.2) (by c refl)
-  singles ends h w (Single.Go i t) f by = comes ends h w (use_up i w) (mark i none) t f.1 (slice_get w.mail i) (λ m e. got_sent w i m e)
-  singles ends h w (Single.Again i t) f by = comes_once ends h w t f.1 (slice_get w.mail i) (λ m e. got_sent w i m e)
+  singles ends h w (Single.Go i t) f by = comes ends h w (use_up i w) (mark i none) t f.1 (slice_get w.packets i) (λ m e. got_sent w i m e)
+  singles ends h w (Single.Again i t) f by = comes_once ends h w t f.1 (slice_get w.packets i) (λ m e. got_sent w i m e)
   singles ends h w (Single.Tick k t) f by = at_once ends h w k Input.Ticked t f.1 IsTick tt
   singles ends h w (Single.Suspect k t ms) f by = at_once ends h w k (Input.Suspected ms) t f.1 (IsSuspicion ms f.2) tt
   singles ends h w (Single.Junk k t bytes) f by = junks ends h w k (slice_get w.sites k) refl
@@ -164,7 +164,7 @@ module _ (led : Act) where
 
   delivers : (t i : ℕ) → t < 2 ^ 64 → (w : World) → IsAt w (single whole_step w (Single.Go i t))
   unfolding single
-  delivers t i lt w = comes whole_step whole_is w (use_up i w) (mark i none) t lt (slice_get w.mail i) (λ m e. got_sent w i m e)
+  delivers t i lt w = comes whole_step whole_is w (use_up i w) (mark i none) t lt (slice_get w.packets i) (λ m e. got_sent w i m e)
 
   goes_each : (t : ℕ) → t < 2 ^ 64 → (is : List ℕ) (w : World) → GoOnBy led w (go_each t is w)
   unfolding go_each
@@ -192,8 +192,8 @@ module _ (led : Act) where
   loses t lt (i ∷ is) w =
       let v = fold (λ u j. use_up j u) w is in
       let p : Marks w v = marks_all is w w none in
-      subst (IsAt w) (sym (twice_begun v w (come lost_step (use_up i v) t (slice_get v.mail i))))
-      (comes lost_step lost_is w (use_up i v) (mark i p) t lt (slice_get v.mail i) (λ m e. sent_before p m.from m.to m.datagram (got_sent v i m e)))
+      subst (IsAt w) (sym (twice_begun v w (come lost_step (use_up i v) t (slice_get v.packets i))))
+      (comes lost_step lost_is w (use_up i v) (mark i p) t lt (slice_get v.packets i) (λ m e. sent_before p m.from m.to m.datagram (got_sent v i m e)))
 
 -- what is possible meets no cause
 started_before : (w : World) (k : ℕ) → (start_at w k).before ≡ w

@@ -19,11 +19,11 @@ pub data Marks (w : World) : World → Type 0 where
 
 -- the datagram was sent, whether it is used by now or not
 abbrev pub WasSent : World → ℕ → ℕ → Datagram → Type 0
-WasSent w from to d = (used : Bool) × Among w.mail (record { from = from; to = to; datagram = d; used = used })
+WasSent w from to d = (used : Bool) × Among w.packets (record { from = from; to = to; datagram = d; used = used })
 
 -- An input that can come to replica k: a datagram that was sent to it, a client's command, a tick or a suspicion.
 pub data CanCome (w : World) (k : ℕ) : Input → Type 0 where
-  IsMail : (from : ℕ) (d : Datagram) → WasSent w from k d → CanCome w k (Input.Came from d)
+  IsPacket : (from : ℕ) (d : Datagram) → WasSent w from k d → CanCome w k (Input.Came from d)
   IsCommand : (address : ℕ) (c : Command) → FitsCommand c → CanCome w k (Input.Came address (Datagram.Request c))
   IsReply : (address client number : ℕ) (told : Outcome) → CanCome w k (Input.Came address (Datagram.Reply client number told))
   IsTick : CanCome w k Input.Ticked
@@ -57,7 +57,7 @@ pub data IsReached (n : ℕ) : World → Type 0 where
 
 -- a command comes by the act that is its request
 abbrev pub Brings : Act → {w : World} {k : ℕ} {input : Input} → CanCome w k input → Type 0
-Brings a (CanCome.IsMail from d s) = Unit {0}
+Brings a (CanCome.IsPacket from d s) = Unit {0}
 Brings a (CanCome.IsCommand address c f) = command_of (Some a) ≡ Some c
 Brings a (CanCome.IsReply address client number told) = Unit {0}
 Brings a CanCome.IsTick = Unit {0}

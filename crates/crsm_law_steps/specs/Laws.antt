@@ -33,7 +33,7 @@ LogsGrow =
 abbrev pub KeptBeforeSent : Type 0
 KeptBeforeSent =
     (w : World) (k : ℕ) (r : Replica) (input : Input) (reading : ℕ) (m : Moment) → k < length w.sites → Ends w k (step r input reading) m →
-    (log_at m.after k ≡ (step r input reading).replica.log) ⊎ ((m.after.mail ≡ w.mail) × (m.lines ≡ Line.Down k ∷ []))
+    (log_at m.after k ≡ (step r input reading).replica.log) ⊎ ((m.after.packets ≡ w.packets) × (m.lines ≡ Line.Down k ∷ []))
 
 -- ---- runs
 

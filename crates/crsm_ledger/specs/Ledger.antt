@@ -106,3 +106,11 @@ kind (Rec.Promise i b) = 6
 kind (Rec.Accept i b d) = 7
 kind (Rec.Decide d) = 8
 kind (Rec.Enter x) = 9
+
+-- for each log that the ledger stands for
+abbrev pub WhereStands : Ledger → (ℕ → ℕ → Log → Type 0) → Type 0
+WhereStands ledger P = (me n : ℕ) (log : Log) → StandsFor me n ledger log → P me n log
+
+-- for each log that the ledger says
+abbrev pub WhereSays : Ledger → (ℕ → ℕ → Log → Type 0) → Type 0
+WhereSays ledger P = (me n : ℕ) (log : Log) → Says me n ledger log → P me n log

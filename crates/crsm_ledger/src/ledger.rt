@@ -8,7 +8,7 @@ ghost use Rattle.crsm_base.specs.Spelling.{entry_bytes, FitsEntry};
 ghost use Rattle.crsm_base.specs.Records.{FitsRec};
 ghost use Rattle.crsm_spec.specs.Fits.{fits, goes_on};
 ghost use Rattle.crsm_spec.specs.Lines.{lines_of};
-ghost use Rattle.crsm_ledger.specs.Ledger.{kind};
+ghost use Rattle.crsm_ledger.specs.Ledger.{kind, WhereStands};
 ghost use Rattle.crsm_spec.specs.Log.{boots, start, live, suspended, executed, logged, unexecuted, last_stamp, promised, accepted, spec};
 
 use crate::checks::stands_behind;
@@ -94,70 +94,70 @@ impl Ledger {
 
     /// How many boots are on record.
     pub fn boot(&self) -> u64
-        ensures { (me n : ℕ) (log : List Rec) → StandsFor me n self.now log → result ≡ boots log }
+        ensures { WhereStands self.now (λ me n log. result ≡ boots log) }
     {
         self.boots
     }
 
     /// The decision of the known epoch. Epoch 0 has all replicas that began the cluster, no base and no tail.
     pub fn known(&self) -> &Decision
-        ensures { (me n : ℕ) (log : List Rec) → StandsFor me n self.now log → result.now ≡ known_decision n log }
+        ensures { WhereStands self.now (λ me n log. result.now ≡ known_decision n log) }
     {
         &self.known
     }
 
     /// How many entries are executed where the known epoch begins.
     pub fn start(&self) -> u64
-        ensures { (me n : ℕ) (log : List Rec) → StandsFor me n self.now log → result ≡ start log }
+        ensures { WhereStands self.now (λ me n log. result ≡ start log) }
     {
         self.start
     }
 
     /// Whether this boot has entered the known epoch.
     pub fn live(&self) -> bool
-        ensures { (me n : ℕ) (log : List Rec) → StandsFor me n self.now log → result ≡ live log }
+        ensures { WhereStands self.now (λ me n log. result ≡ live log) }
     {
         self.is_live
     }
 
     /// Whether the replica takes no more part in the known epoch.
     pub fn suspended(&self) -> bool
-        ensures { (me n : ℕ) (log : List Rec) → StandsFor me n self.now log → result ≡ suspended log }
+        ensures { WhereStands self.now (λ me n log. result ≡ suspended log) }
     {
         self.is_suspended
     }
 
     /// How many entries are executed.
     pub fn executed_len(&self) -> u64
-        ensures { (me n : ℕ) (log : List Rec) → StandsFor me n self.now log → result ≡ length (executed log) }
+        ensures { WhereStands self.now (λ me n log. result ≡ length (executed log)) }
     {
         self.history.len()
     }
 
     /// The executed entry at this place: `None` exactly where the place is not below `executed_len`.
     pub fn executed(&self, place: u64) -> Result<Option<Entry>, NoMemory>
-        ensures { (me n : ℕ) (log : List Rec) → StandsFor me n self.now log → IfOk result (λ r. r ≡ slice_get (executed log) place) }
+        ensures { WhereStands self.now (λ me n log. IfOk result (λ r. r ≡ slice_get (executed log) place)) }
     {
         self.history.entry(place)
     }
 
     /// Whether the entry stands behind all that are executed, and so is not one of them.
     pub fn is_ahead(&self, entry: &Entry) -> bool
-        ensures { (me n : ℕ) (log : List Rec) → StandsFor me n self.now log → result ≡ goes_on (executed log) (entry.now ∷ []) }
+        ensures { WhereStands self.now (λ me n log. result ≡ goes_on (executed log) (entry.now ∷ [])) }
     {
         stands_behind(self.history.last(), entry)
     }
 
     /// The bytes of the executed entry at this place: `None` exactly where the place is not below `executed_len`.
     pub fn spelt(&self, place: u64) -> Option<&[u8]>
-        ensures { (me n : ℕ) (log : List Rec) → StandsFor me n self.now log → option_copied result ≡ option_map entry_bytes (slice_get (executed log) place) }
+        ensures { WhereStands self.now (λ me n log. option_copied result ≡ option_map entry_bytes (slice_get (executed log) place)) }
     {
         self.history.spelt(place)
     }
 
     /// The logged entries of the known epoch, by ascending stamp.
     pub fn logged(&self) -> &[Entry]
-        ensures value { (me n : ℕ) (log : List Rec) → StandsFor me n self.now log → result.now ≡ logged log }
+        ensures value { WhereStands self.now (λ me n log. result.now ≡ logged log) }
         ensures fit { AllByRecursion FitsEntry result.now }
     {
         self.logged.as_slice()
@@ -166,7 +166,7 @@ impl Ledger {
     /// The logged entries of the known epoch that are not executed, by ascending stamp.
     #[tactic(auto, unfolding(crsm_spec::specs::Log::unexecuted))]
     pub fn unexecuted(&self) -> &[Entry]
-        ensures value { (me n : ℕ) (log : List Rec) → StandsFor me n self.now log → result.now ≡ unexecuted log }
+        ensures value { WhereStands self.now (λ me n log. result.now ≡ unexecuted log) }
         ensures fit { AllByRecursion FitsEntry result.now }
     {
         self.logged.above(self.history.last_stamp())
@@ -174,21 +174,21 @@ impl Ledger {
 
     /// The stamp of the last executed entry of the known epoch.
     pub fn last_stamp(&self) -> Option<Stamp>
-        ensures { (me n : ℕ) (log : List Rec) → StandsFor me n self.now log → result ≡ last_stamp log }
+        ensures { WhereStands self.now (λ me n log. result ≡ last_stamp log) }
     {
         self.history.last_stamp()
     }
 
     /// The ballot that is promised on the next decision; round 0 of replica 0 where none is.
     pub fn promised(&self) -> Ballot
-        ensures { (me n : ℕ) (log : List Rec) → StandsFor me n self.now log → result ≡ promised log }
+        ensures { WhereStands self.now (λ me n log. result ≡ promised log) }
     {
         self.promised
     }
 
     /// The next decision that was accepted last, with its ballot.
     pub fn accepted(&self) -> Option<(&Ballot, &Decision)>
-        ensures { (me n : ℕ) (log : List Rec) → StandsFor me n self.now log → option_map (λ p. (p.0.now, p.1.now)) result ≡ accepted log }
+        ensures { WhereStands self.now (λ me n log. option_map (λ p. (p.0.now, p.1.now)) result ≡ accepted log) }
     {
         match &self.accepted {
             Some((ballot, decision)) => Some((ballot, decision)),
@@ -198,7 +198,7 @@ impl Ledger {
 
     /// The replicas whose majorities count in the known epoch.
     pub fn counted(&self) -> &Members
-        ensures { (me n : ℕ) (log : List Rec) → StandsFor me n self.now log → result.now ≡ spec n log }
+        ensures { WhereStands self.now (λ me n log. result.now ≡ spec n log) }
     {
         match &self.known.spec {
             Some(members) => members,
@@ -208,7 +208,7 @@ impl Ledger {
 
     /// A copy of the replicas whose majorities count in the known epoch.
     pub fn spec(&self) -> Result<Members, NoMemory>
-        ensures { (me n : ℕ) (log : List Rec) → StandsFor me n self.now log → IfOk result (λ members. members ≡ spec n log) }
+        ensures { WhereStands self.now (λ me n log. IfOk result (λ members. members ≡ spec n log)) }
     {
         let members = self.counted().copy(self.alloc)?;
         Ok(members)
@@ -218,7 +218,7 @@ impl Ledger {
     /// and changes nothing. After `NoMemory` the ledger is spent.
     pub fn apply(&mut self, rec: &Rec) -> Result<Lines, LedgerError>
         requires { FitsRec rec.now }
-        ensures kept { (me n : ℕ) (log : List Rec) → StandsFor me n self.old log → IfOk result (λ lines. (fits me n log rec.now ≡ true) × (lines ≡ lines_of me log rec.now) × StandsFor me n self.new (rec.now ∷ log)) }
+        ensures kept { WhereStands self.old (λ me n log. IfOk result (λ lines. (fits me n log rec.now ≡ true) × (lines ≡ lines_of me log rec.now) × StandsFor me n self.new (rec.now ∷ log))) }
         ensures not_fit { (me n why : ℕ) (log : List Rec) → StandsFor me n self.old log → result ≡ Err (LedgerError.NotFit why) → (fits me n log rec.now ≡ false) × (why ≡ kind rec.now) }
         ensures unchanged { (why : ℕ) → result ≡ Err (LedgerError.NotFit why) → self.new ≡ self.old }
         ensures spent { result ≡ Err LedgerError.NoMemory → IsSpent self.new }

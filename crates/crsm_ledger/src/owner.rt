@@ -2,7 +2,7 @@
 
 ghost use Rattle.std.specs.Prelude.{◌≡◌, ℕ, List};
 ghost use Rattle.crsm_base.specs.declared.Rec.{Rec};
-ghost use Rattle.crsm_ledger.specs.Ledger.{StandsFor};
+ghost use Rattle.crsm_ledger.specs.Ledger.{StandsFor, WhereStands};
 
 use crate::ledger::Ledger;
 use std::alloc::Global;
@@ -15,14 +15,14 @@ impl Ledger {
 
     /// The replica's number.
     pub fn me(&self) -> u32
-        ensures { (me n : ℕ) (log : List Rec) → StandsFor me n self.now log → result ≡ me }
+        ensures { WhereStands self.now (λ me n log. result ≡ me) }
     {
         self.me
     }
 
     /// How many replicas began the cluster.
     pub fn n(&self) -> u32
-        ensures { (me n : ℕ) (log : List Rec) → StandsFor me n self.now log → result ≡ n }
+        ensures { WhereStands self.now (λ me n log. result ≡ n) }
     {
         self.n
     }

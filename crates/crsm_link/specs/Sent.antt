@@ -21,3 +21,7 @@ pub record StandsFor (out : Out) (pushed : List InEpoch) (acked : ℕ) : Type 0 
 -- how many payloads were pushed
 abbrev pub pushed_count : Out → ℕ
 pushed_count out = out.first + length out.frames.items
+
+-- for the payloads that were pushed, and how many are acknowledged
+abbrev pub WhereStands : Out → (List InEpoch → ℕ → Type 0) → Type 0
+WhereStands out P = (pushed : List InEpoch) (acked : ℕ) → StandsFor out pushed acked → P pushed acked

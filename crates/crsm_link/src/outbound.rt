@@ -20,7 +20,7 @@ pub struct Out {
 }
 
 impl Out {
-    ghost use Rattle.crsm_link.specs.Sent.{StandsFor, unacked, pushed_count};
+    ghost use Rattle.crsm_link.specs.Sent.{StandsFor, unacked, pushed_count, WhereStands};
 
     /// The end of a new link.
     pub fn new(alloc: Global) -> Out
@@ -36,10 +36,10 @@ impl Out {
     /// Adds a frame, and answers its number: how many were pushed before. An `Err` changes nothing.
     pub fn push(&mut self, payload: InEpoch) -> Result<u64, NoMemory>
         requires { pushed_count self.old < u64.MAX }
-        ensures ok { OnOk result ((pushed : List InEpoch) (acked : ℕ) → StandsFor self.old pushed acked → StandsFor self.new (pushed ++ payload ∷ []) acked) }
-        ensures number { IfOk result (λ number. (pushed : List InEpoch) (acked : ℕ) → StandsFor self.old pushed acked → number ≡ length pushed) }
+        ensures ok { OnOk result (WhereStands self.old (λ pushed acked. StandsFor self.new (pushed ++ payload ∷ []) acked)) }
+        ensures number { IfOk result (λ number. WhereStands self.old (λ pushed acked. number ≡ length pushed)) }
         ensures count { OnOk result (pushed_count self.new ≡ pushed_count self.old + 1) }
-        ensures err { OnErr result ((pushed : List InEpoch) (acked : ℕ) → StandsFor self.old pushed acked → StandsFor self.new pushed acked) }
+        ensures err { OnErr result (WhereStands self.old (λ pushed acked. StandsFor self.new pushed acked)) }
     {
         let number = self.first + self.frames.len() as u64;
         self.frames.push_back(payload)?;
@@ -48,8 +48,8 @@ impl Out {
 
     /// All frames below this number have come. A number above what was pushed changes nothing.
     pub fn acked(&mut self, next: u64)
-        ensures within { (pushed : List InEpoch) (acked : ℕ) → StandsFor self.old pushed acked → next ≤ length pushed → StandsFor self.new pushed (max next acked) }
-        ensures past { (pushed : List InEpoch) (acked : ℕ) → StandsFor self.old pushed acked → length pushed < next → StandsFor self.new pushed acked }
+        ensures within { WhereStands self.old (λ pushed acked. next ≤ length pushed → StandsFor self.new pushed (max next acked)) }
+        ensures past { WhereStands self.old (λ pushed acked. length pushed < next → StandsFor self.new pushed acked) }
     {
         let count = next.saturating_sub(self.first);
         if count > self.frames.len() as u64 {
@@ -61,7 +61,7 @@ impl Out {
 
     /// The first 64 frames that are not acknowledged, with their numbers.
     pub fn due(&self) -> Result<Frames, NoMemory>
-        ensures { IfOk result (λ frames. (pushed : List InEpoch) (acked : ℕ) → StandsFor self.now pushed acked → frames ≡ take 64 (unacked pushed acked)) }
+        ensures { IfOk result (λ frames. WhereStands self.now (λ pushed acked. frames ≡ take 64 (unacked pushed acked))) }
     {
         let count = self.frames.len().min(MAX_SENT_AGAIN as usize);
         let mut due = Frames::new(self.alloc);
@@ -75,7 +75,7 @@ impl Out {
 
     /// How many frames were pushed.
     pub fn count(&self) -> u64
-        ensures pushed { (pushed : List InEpoch) (acked : ℕ) → StandsFor self.now pushed acked → result ≡ length pushed }
+        ensures pushed { WhereStands self.now (λ pushed acked. result ≡ length pushed) }
         ensures value { result ≡ pushed_count self.now }
     {
         self.first + self.frames.len() as u64
@@ -83,7 +83,7 @@ impl Out {
 
     /// How many frames are not acknowledged.
     pub fn len(&self) -> u64
-        ensures { (pushed : List InEpoch) (acked : ℕ) → StandsFor self.now pushed acked → result ≡ length (unacked pushed acked) }
+        ensures { WhereStands self.now (λ pushed acked. result ≡ length (unacked pushed acked)) }
     {
         self.frames.len() as u64
     }

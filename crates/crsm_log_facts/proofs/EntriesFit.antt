@@ -8,6 +8,7 @@ use Rattle.std.proofs.lemmas.List.Concat.{flat_map-cons, length-flat_map}
 use Rattle.crsm_base.specs.Limits.{page_bytes}
 use Rattle.crsm_base.specs.Spelling.{u64_bytes, stamp_bytes, command_bytes, entry_bytes, op_bytes, FitsEntry, IsBefore, RisesAfter, Rises, FitsEntries}
 use Rattle.crsm_base.specs.Order.{stamp_lt, entry_lt}
+use Rattle.crsm_base.proofs.Sizes.{u64_long}
 use Rattle.crsm_log_facts.specs.Rising as by_stamp
 use Rattle.crsm_log_facts.proofs.Lists.{all-take, all-drop}
 use Rattle.crsm_spec.specs.Types.{Stamp, Entry}
@@ -26,13 +27,6 @@ bytes_more e es = ap (λ (s : List ℕ). length s) (flat_map-cons entry_bytes e 
 pub bytes_size : (es : List Entry) → bytes_of es ≡ size_of es
 unfolding size_of
 bytes_size es = length-flat_map entry_bytes es
-
-u64_long : (n : ℕ) → length (u64_bytes n) ≡ 8
-unfolding u64_bytes
-u64_long n = it
-  where
-    it : length (u64_bytes n) ≡ 8
-    it = omega arith
 
 pub entry_long : (e : Entry) → 16 ≤ length (entry_bytes e)
 unfolding entry_bytes command_bytes

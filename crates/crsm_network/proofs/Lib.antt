@@ -1,5 +1,5 @@
 pub mod Gets
-pub mod Mails
+pub mod PacketLists
 pub mod Numbers
 pub mod Marked
-pub mod Letters
+pub mod PacketViews

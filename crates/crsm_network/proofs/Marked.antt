@@ -3,65 +3,65 @@ use Rattle.std.proofs.Common.{◌≡◌, ◌≤◌, ℕ, true, List, [], ◌∷�
 use Rattle.std.specs.Prelude.{slice_get, filter}
 use Rattle.std.specs.Vec.{with_item}
 use Rattle.std.proofs.lemmas.Option.{slice_get_past}
-use Rattle.crsm_spec.specs.World.{Mail}
-use Rattle.crsm_network.specs.declared.mail.Mail.{Mail as MailInMemory}
-use Rattle.crsm_network.specs.declared.post.Post.{Post}
-use Rattle.crsm_network.specs.Mailed.{IsMail, HasMail, HasFresh, PostStands, is_fresh_for, is_up_among, used_up}
-use Rattle.crsm_network.proofs.Mails.{mail_length, mail_grown, mail_more, mail_used}
+use Rattle.crsm_spec.specs.World.{Packet}
+use Rattle.crsm_network.specs.declared.packets.PacketEntry.{PacketEntry}
+use Rattle.crsm_network.specs.declared.network.Network.{Network}
+use Rattle.crsm_network.specs.Packets.{IsPacket, HoldsPackets, HasFresh, NetworkStands, is_fresh_for, is_up_among, used_up}
+use Rattle.crsm_network.proofs.PacketLists.{packets_length, packets_grown, packets_more, packets_used}
 use Rattle.crsm_network.proofs.Numbers.{has_used, has_sent, has_kept, has_fewer}
 
-pub marks : (old : Post) (mail : List Mail) (bytes i : ℕ) (m : MailInMemory) → PostStands old mail bytes → slice_get old.mail.items i ≡ Some m
-    → PostStands (record old { mail = with_item old.mail i (record m { is_used = true }) }) (used_up i mail) bytes
-marks old mail bytes i m h e = record {
-  held = mail_used old.spelling old.mail.items mail i m h.held e;
-  fresh = has_used (λ k. true) mail i old.fresh.items h.fresh;
-  near = has_used (is_up_among old.ups.items) mail i old.near.items h.near;
+pub marks : (old : Network) (packets : List Packet) (bytes i : ℕ) (m : PacketEntry) → NetworkStands old packets bytes → slice_get old.packets.items i ≡ Some m
+    → NetworkStands (record old { packets = with_item old.packets i (record m { is_used = true }) }) (used_up i packets) bytes
+marks old packets bytes i m h e = record {
+  held = packets_used old.spelling old.packets.items packets i m h.held e;
+  fresh = has_used (λ k. true) packets i old.fresh.items h.fresh;
+  near = has_used (is_up_among old.ups.items) packets i old.near.items h.near;
   counted = h.counted;
 }
 
-pub unmarked : (old : Post) (mail : List Mail) (bytes i : ℕ) → PostStands old mail bytes → length old.mail.items ≤ i → PostStands old (used_up i mail) bytes
+pub unmarked : (old : Network) (packets : List Packet) (bytes i : ℕ) → NetworkStands old packets bytes → length old.packets.items ≤ i → NetworkStands old (used_up i packets) bytes
 unfolding used_up
-unmarked old mail bytes i h l =
-    let none : slice_get mail i ≡ None = slice_get_past mail i (omega (arith, l, mail_length old.spelling old.mail.items mail h.held)) in
+unmarked old packets bytes i h l =
+    let none : slice_get packets i ≡ None = slice_get_past packets i (omega (arith, l, packets_length old.spelling old.packets.items packets h.held)) in
     rw none h
 
 -- all that is fresh is near, whoever is up
-pub turned : (old : Post) (mail : List Mail) (bytes : ℕ) (kept near : Vec ℕ Global) (ups : Vec Bool Global) → PostStands old mail bytes
-    → kept.items ≡ filter (is_fresh_for (λ k. true) mail) old.fresh.items → near.items ≡ kept.items → PostStands (record old { fresh = kept; near = near; ups = ups }) mail bytes
-turned old mail bytes kept near ups h e f =
-    let fresh = has_kept (λ k. true) mail old.fresh.items kept.items h.fresh e in
+pub turned : (old : Network) (packets : List Packet) (bytes : ℕ) (kept near : Vec ℕ Global) (ups : Vec Bool Global) → NetworkStands old packets bytes
+    → kept.items ≡ filter (is_fresh_for (λ k. true) packets) old.fresh.items → near.items ≡ kept.items → NetworkStands (record old { fresh = kept; near = near; ups = ups }) packets bytes
+turned old packets bytes kept near ups h e f =
+    let fresh = has_kept (λ k. true) packets old.fresh.items kept.items h.fresh e in
     record {
       held = h.held;
       fresh = fresh;
-      near = subst (HasFresh (is_up_among ups.items) mail) (sym f) (has_fewer (is_up_among ups.items) mail kept.items fresh);
+      near = subst (HasFresh (is_up_among ups.items) packets) (sym f) (has_fewer (is_up_among ups.items) packets kept.items fresh);
       counted = h.counted;
     }
 
 -- those that are due stay near
-pub nears : (old : Post) (mail : List Mail) (bytes : ℕ) (near : Vec ℕ Global) → PostStands old mail bytes
-    → near.items ≡ filter (is_fresh_for (is_up_among old.ups.items) mail) old.near.items → PostStands (record old { near = near }) mail bytes
-nears old mail bytes near h e = record {
+pub nears : (old : Network) (packets : List Packet) (bytes : ℕ) (near : Vec ℕ Global) → NetworkStands old packets bytes
+    → near.items ≡ filter (is_fresh_for (is_up_among old.ups.items) packets) old.near.items → NetworkStands (record old { near = near }) packets bytes
+nears old packets bytes near h e = record {
   held = h.held;
   fresh = h.fresh;
-  near = has_kept (is_up_among old.ups.items) mail old.near.items near.items h.near e;
+  near = has_kept (is_up_among old.ups.items) packets old.near.items near.items h.near e;
   counted = h.counted;
 }
 
 -- more is spelt than was sent
-pub spelt_more : (old : Post) (mail : List Mail) (bytes : ℕ) (spelling more : List ℕ) → PostStands old mail bytes → spelling ≡ old.spelling ++ more → PostStands (record old { spelling = spelling }) mail bytes
-spelt_more old mail bytes spelling more h e = record {
-  held = subst (λ (bs : List ℕ). HasMail bs old.mail.items mail) (sym e) (mail_grown old.spelling more old.mail.items mail h.held);
+pub spelt_more : (old : Network) (packets : List Packet) (bytes : ℕ) (spelling more : List ℕ) → NetworkStands old packets bytes → spelling ≡ old.spelling ++ more → NetworkStands (record old { spelling = spelling }) packets bytes
+spelt_more old packets bytes spelling more h e = record {
+  held = subst (λ (bs : List ℕ). HoldsPackets bs old.packets.items packets) (sym e) (packets_grown old.spelling more old.packets.items packets h.held);
   fresh = h.fresh;
   near = h.near;
   counted = h.counted;
 }
 
-pub sends : (old : Post) (mail : List Mail) (bytes : ℕ) (items : Vec MailInMemory Global) (fresh near : Vec ℕ Global) (m : MailInMemory) (p : Mail) → PostStands old mail bytes
-    → items.items ≡ old.mail.items ++ m ∷ [] → fresh.items ≡ old.fresh.items ++ length mail ∷ [] → near.items ≡ old.near.items ++ length mail ∷ [] → IsMail old.spelling m p
-    → PostStands (record old { mail = items; fresh = fresh; near = near }) (mail ++ p ∷ []) bytes
-sends old mail bytes items fresh near m p h e f g is = record {
-  held = let P : List MailInMemory → Type 0 = λ ms. HasMail old.spelling ms (mail ++ p ∷ []) in subst P (sym e) (mail_more old.spelling old.mail.items mail m p h.held is);
-  fresh = subst (HasFresh (λ k. true) (mail ++ p ∷ [])) (sym f) (has_sent (λ k. true) mail p old.fresh.items h.fresh);
-  near = subst (HasFresh (is_up_among old.ups.items) (mail ++ p ∷ [])) (sym g) (has_sent (is_up_among old.ups.items) mail p old.near.items h.near);
+pub sends : (old : Network) (packets : List Packet) (bytes : ℕ) (items : Vec PacketEntry Global) (fresh near : Vec ℕ Global) (m : PacketEntry) (p : Packet) → NetworkStands old packets bytes
+    → items.items ≡ old.packets.items ++ m ∷ [] → fresh.items ≡ old.fresh.items ++ length packets ∷ [] → near.items ≡ old.near.items ++ length packets ∷ [] → IsPacket old.spelling m p
+    → NetworkStands (record old { packets = items; fresh = fresh; near = near }) (packets ++ p ∷ []) bytes
+sends old packets bytes items fresh near m p h e f g is = record {
+  held = let P : List PacketEntry → Type 0 = λ ms. HoldsPackets old.spelling ms (packets ++ p ∷ []) in subst P (sym e) (packets_more old.spelling old.packets.items packets m p h.held is);
+  fresh = subst (HasFresh (λ k. true) (packets ++ p ∷ [])) (sym f) (has_sent (λ k. true) packets p old.fresh.items h.fresh);
+  near = subst (HasFresh (is_up_among old.ups.items) (packets ++ p ∷ [])) (sym g) (has_sent (is_up_among old.ups.items) packets p old.near.items h.near);
   counted = h.counted;
 }

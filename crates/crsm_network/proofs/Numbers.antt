@@ -5,8 +5,8 @@ use Rattle.std.specs.List.{AllByRecursion, enumerate_from, range_with_len}
 use Rattle.std.specs.Option.{option_map_or}
 use Rattle.std.proofs.lemmas.List.{length-set}
 use Rattle.std.proofs.lemmas.List.Elements.{filter-append}
-use Rattle.crsm_spec.specs.World.{Mail}
-use Rattle.crsm_network.specs.Mailed.{is_fresh_for, used_up, numbers_of, HasFresh}
+use Rattle.crsm_spec.specs.World.{Packet}
+use Rattle.crsm_network.specs.Packets.{is_fresh_for, used_up, numbers_of, HasFresh}
 
 -- ---- filters
 
@@ -59,8 +59,8 @@ all_above : (a n m : ℕ) → a + n ≤ m → AllByRecursion (λ i. i < m) (rang
 all_above a zero m l = tt
 all_above a (suc n) m l = (omega arith, all_above (a + 1) n m (omega arith))
 
-all_numbers : (mail : List Mail) → AllByRecursion (λ i. i < length mail) (numbers_of mail)
-all_numbers mail = all_above 0 (length mail) (length mail) (omega arith)
+all_numbers : (packets : List Packet) → AllByRecursion (λ i. i < length packets) (numbers_of packets)
+all_numbers packets = all_above 0 (length packets) (length packets) (omega arith)
 
 -- ---- a datagram that is used up
 
@@ -79,118 +79,118 @@ and_false : (b : Bool) → false ≡ b && false
 and_false true = refl
 and_false false = refl
 
-used_later : (m : Mail) (mail : List Mail) (i : ℕ) → used_up (suc i) (m ∷ mail) ≡ m ∷ used_up i mail
+used_later : (m : Packet) (packets : List Packet) (i : ℕ) → used_up (suc i) (m ∷ packets) ≡ m ∷ used_up i packets
 unfolding used_up
-used_later m mail i = elim (slice_get mail i) as (λ o. option_map_or (λ p. m ∷ set mail i (record p { used = true })) o (m ∷ mail) ≡ m ∷ option_map_or (λ p. set mail i (record p { used = true })) o mail) [ Some p ↦ refl | None ↦ refl ]
+used_later m packets i = elim (slice_get packets i) as (λ o. option_map_or (λ p. m ∷ set packets i (record p { used = true })) o (m ∷ packets) ≡ m ∷ option_map_or (λ p. set packets i (record p { used = true })) o packets) [ Some p ↦ refl | None ↦ refl ]
 
-fresh_after : (test : ℕ → Bool) (mail : List Mail) (i j : ℕ) → is_fresh_for test (used_up i mail) j ≡ is_fresh_for test mail j && other i j
+fresh_after : (test : ℕ → Bool) (packets : List Packet) (i j : ℕ) → is_fresh_for test (used_up i packets) j ≡ is_fresh_for test packets j && other i j
 unfolding is_fresh_for used_up other
 fresh_after test [] i j = refl
-fresh_after test (m ∷ mail) zero zero = and_false (not m.used && test m.to)
-fresh_after test (m ∷ mail) zero (suc j) = and_true (is_fresh_for test mail j)
-fresh_after test (m ∷ mail) (suc i) zero = ap (λ ms. is_fresh_for test ms 0) (used_later m mail i) ∙ and_true (not m.used && test m.to)
-fresh_after test (m ∷ mail) (suc i) (suc j) = ap (λ ms. is_fresh_for test ms (suc j)) (used_later m mail i) ∙ fresh_after test mail i j
+fresh_after test (m ∷ packets) zero zero = and_false (not m.used && test m.to)
+fresh_after test (m ∷ packets) zero (suc j) = and_true (is_fresh_for test packets j)
+fresh_after test (m ∷ packets) (suc i) zero = ap (λ ms. is_fresh_for test ms 0) (used_later m packets i) ∙ and_true (not m.used && test m.to)
+fresh_after test (m ∷ packets) (suc i) (suc j) = ap (λ ms. is_fresh_for test ms (suc j)) (used_later m packets i) ∙ fresh_after test packets i j
 
-used_length : (mail : List Mail) (i : ℕ) → length (used_up i mail) ≡ length mail
+used_length : (packets : List Packet) (i : ℕ) → length (used_up i packets) ≡ length packets
 unfolding used_up
-used_length mail i = elim (slice_get mail i) as (λ o. length (option_map_or (λ p. set mail i (record p { used = true })) o mail) ≡ length mail) [ Some p ↦ length-set mail i _ | None ↦ refl ]
+used_length packets i = elim (slice_get packets i) as (λ o. length (option_map_or (λ p. set packets i (record p { used = true })) o packets) ≡ length packets) [ Some p ↦ length-set packets i _ | None ↦ refl ]
 
-others : (test : ℕ → Bool) (mail : List Mail) (i : ℕ) (is : List ℕ) → filter (is_fresh_for test (used_up i mail)) is ≡ filter (other i) (filter (is_fresh_for test mail) is)
-others test mail i is =
-    filter_alike (is_fresh_for test (used_up i mail)) (λ j. is_fresh_for test mail j && other i j) is (fresh_after test mail i) ∙ sym (filter_both (is_fresh_for test mail) (other i) is)
+others : (test : ℕ → Bool) (packets : List Packet) (i : ℕ) (is : List ℕ) → filter (is_fresh_for test (used_up i packets)) is ≡ filter (other i) (filter (is_fresh_for test packets) is)
+others test packets i is =
+    filter_alike (is_fresh_for test (used_up i packets)) (λ j. is_fresh_for test packets j && other i j) is (fresh_after test packets i) ∙ sym (filter_both (is_fresh_for test packets) (other i) is)
 
-pub has_used : (test : ℕ → Bool) (mail : List Mail) (i : ℕ) (is : List ℕ) → HasFresh test mail is → HasFresh test (used_up i mail) is
-has_used test mail i is h = record {
-  sent = subst (λ (n : ℕ). AllByRecursion (λ j. j < n) is) (sym (used_length mail i)) h.sent;
-  all = others test mail i is ∙ ap (filter (other i)) h.all ∙ sym (others test mail i (numbers_of mail))
-      ∙ ap (λ n. filter (is_fresh_for test (used_up i mail)) (range_with_len 0 n)) (sym (used_length mail i));
+pub has_used : (test : ℕ → Bool) (packets : List Packet) (i : ℕ) (is : List ℕ) → HasFresh test packets is → HasFresh test (used_up i packets) is
+has_used test packets i is h = record {
+  sent = subst (λ (n : ℕ). AllByRecursion (λ j. j < n) is) (sym (used_length packets i)) h.sent;
+  all = others test packets i is ∙ ap (filter (other i)) h.all ∙ sym (others test packets i (numbers_of packets))
+      ∙ ap (λ n. filter (is_fresh_for test (used_up i packets)) (range_with_len 0 n)) (sym (used_length packets i));
 }
 
 -- ---- a datagram that is sent
 
-get_before : (mail : List Mail) (m : Mail) (i : ℕ) → i < length mail → slice_get (mail ++ m ∷ []) i ≡ slice_get mail i
+get_before : (packets : List Packet) (m : Packet) (i : ℕ) → i < length packets → slice_get (packets ++ m ∷ []) i ≡ slice_get packets i
 get_before [] m i l = absurd (omega arith)
-get_before (a ∷ mail) m zero l = refl
-get_before (a ∷ mail) m (suc i) l = get_before mail m i (omega arith)
+get_before (a ∷ packets) m zero l = refl
+get_before (a ∷ packets) m (suc i) l = get_before packets m i (omega arith)
 
-fresh_before : (test : ℕ → Bool) (mail : List Mail) (m : Mail) (i : ℕ) → i < length mail → is_fresh_for test (mail ++ m ∷ []) i ≡ is_fresh_for test mail i
+fresh_before : (test : ℕ → Bool) (packets : List Packet) (m : Packet) (i : ℕ) → i < length packets → is_fresh_for test (packets ++ m ∷ []) i ≡ is_fresh_for test packets i
 unfolding is_fresh_for
-fresh_before test mail m i l = ap (λ o. option_map_or (λ p. not p.used && test p.to) o false) (get_before mail m i l)
+fresh_before test packets m i l = ap (λ o. option_map_or (λ p. not p.used && test p.to) o false) (get_before packets m i l)
 
 -- the new one stands behind the others, if at all
-more_filtered : (test : ℕ → Bool) (mail : List Mail) (m : Mail) (is : List ℕ) → AllByRecursion (λ i. i < length mail) is
-    → filter (is_fresh_for test (mail ++ m ∷ [])) (is ++ length mail ∷ []) ≡ filter (is_fresh_for test mail) is ++ filter (is_fresh_for test (mail ++ m ∷ [])) (length mail ∷ [])
-more_filtered test mail m is sent =
-    filter-append _ is (length mail ∷ [])
-    ∙ ap (λ js. js ++ filter (is_fresh_for test (mail ++ m ∷ [])) (length mail ∷ [])) (filter_same (λ i. i < length mail) _ (is_fresh_for test mail) is (fresh_before test mail m) sent)
+more_filtered : (test : ℕ → Bool) (packets : List Packet) (m : Packet) (is : List ℕ) → AllByRecursion (λ i. i < length packets) is
+    → filter (is_fresh_for test (packets ++ m ∷ [])) (is ++ length packets ∷ []) ≡ filter (is_fresh_for test packets) is ++ filter (is_fresh_for test (packets ++ m ∷ [])) (length packets ∷ [])
+more_filtered test packets m is sent =
+    filter-append _ is (length packets ∷ [])
+    ∙ ap (λ js. js ++ filter (is_fresh_for test (packets ++ m ∷ [])) (length packets ∷ [])) (filter_same (λ i. i < length packets) _ (is_fresh_for test packets) is (fresh_before test packets m) sent)
 
-numbers_more : (mail : List Mail) (m : Mail) → numbers_of mail ++ length mail ∷ [] ≡ numbers_of (mail ++ m ∷ [])
-numbers_more mail m =
-    sym (range_more 0 (length mail) ∙ ap (λ i. numbers_of mail ++ i ∷ []) (let z : 0 + length mail ≡ length mail = omega arith in z)) ∙ ap (range_with_len 0) (sym (length-append mail (m ∷ [])))
+numbers_more : (packets : List Packet) (m : Packet) → numbers_of packets ++ length packets ∷ [] ≡ numbers_of (packets ++ m ∷ [])
+numbers_more packets m =
+    sym (range_more 0 (length packets) ∙ ap (λ i. numbers_of packets ++ i ∷ []) (let z : 0 + length packets ≡ length packets = omega arith in z)) ∙ ap (range_with_len 0) (sym (length-append packets (m ∷ [])))
 
 all_wider : (n : ℕ) (is : List ℕ) → AllByRecursion (λ i. i < n) is → AllByRecursion (λ i. i < n + 1) (is ++ n ∷ [])
 all_wider n [] all = (omega arith, tt)
 all_wider n (i ∷ is) all = (let l = all.0 in omega arith, all_wider n is all.1)
 
-pub has_sent : (test : ℕ → Bool) (mail : List Mail) (m : Mail) (is : List ℕ) → HasFresh test mail is → HasFresh test (mail ++ m ∷ []) (is ++ length mail ∷ [])
-has_sent test mail m is h = record {
-  sent = subst (λ (n : ℕ). AllByRecursion (λ i. i < n) (is ++ length mail ∷ [])) (sym (length-append mail (m ∷ []))) (all_wider (length mail) is h.sent);
-  all = more_filtered test mail m is h.sent ∙ ap (λ js. js ++ filter (is_fresh_for test (mail ++ m ∷ [])) (length mail ∷ [])) h.all
-      ∙ sym (more_filtered test mail m (numbers_of mail) (all_numbers mail)) ∙ ap (filter (is_fresh_for test (mail ++ m ∷ []))) (numbers_more mail m);
+pub has_sent : (test : ℕ → Bool) (packets : List Packet) (m : Packet) (is : List ℕ) → HasFresh test packets is → HasFresh test (packets ++ m ∷ []) (is ++ length packets ∷ [])
+has_sent test packets m is h = record {
+  sent = subst (λ (n : ℕ). AllByRecursion (λ i. i < n) (is ++ length packets ∷ [])) (sym (length-append packets (m ∷ []))) (all_wider (length packets) is h.sent);
+  all = more_filtered test packets m is h.sent ∙ ap (λ js. js ++ filter (is_fresh_for test (packets ++ m ∷ [])) (length packets ∷ [])) h.all
+      ∙ sym (more_filtered test packets m (numbers_of packets) (all_numbers packets)) ∙ ap (filter (is_fresh_for test (packets ++ m ∷ []))) (numbers_more packets m);
 }
 
 -- ---- fewer numbers
 
 pub has_none : (test : ℕ → Bool) (is : List ℕ) → is ≡ [] → HasFresh test [] is
-has_none test is e = record { sent = subst (AllByRecursion (λ i. i < length {A = Mail} [])) (sym e) tt; all = ap (filter (is_fresh_for test [])) e }
+has_none test is e = record { sent = subst (AllByRecursion (λ i. i < length {A = Packet} [])) (sym e) tt; all = ap (filter (is_fresh_for test [])) e }
 
-pub has_kept : (test : ℕ → Bool) (mail : List Mail) (is kept : List ℕ) → HasFresh test mail is → kept ≡ filter (is_fresh_for test mail) is → HasFresh test mail kept
-has_kept test mail is kept h e = record {
-  sent = subst (AllByRecursion (λ i. i < length mail)) (sym e) (all_filtered (λ i. i < length mail) (is_fresh_for test mail) is h.sent);
-  all = ap (filter (is_fresh_for test mail)) e ∙ filter_twice (is_fresh_for test mail) is ∙ h.all;
+pub has_kept : (test : ℕ → Bool) (packets : List Packet) (is kept : List ℕ) → HasFresh test packets is → kept ≡ filter (is_fresh_for test packets) is → HasFresh test packets kept
+has_kept test packets is kept h e = record {
+  sent = subst (AllByRecursion (λ i. i < length packets)) (sym e) (all_filtered (λ i. i < length packets) (is_fresh_for test packets) is h.sent);
+  all = ap (filter (is_fresh_for test packets)) e ∙ filter_twice (is_fresh_for test packets) is ∙ h.all;
 }
 
-narrower : (test : ℕ → Bool) (mail : List Mail) (i : ℕ) → is_fresh_for test mail i ≡ is_fresh_for (λ k. true) mail i && is_fresh_for test mail i
+narrower : (test : ℕ → Bool) (packets : List Packet) (i : ℕ) → is_fresh_for test packets i ≡ is_fresh_for (λ k. true) packets i && is_fresh_for test packets i
 unfolding is_fresh_for
-narrower test mail i =
-    elim (slice_get mail i) as (λ o. option_map_or (λ m. not m.used && test m.to) o false ≡ option_map_or (λ m. not m.used && true) o false && option_map_or (λ m. not m.used && test m.to) o false) [ Some m ↦ at (not m.used) (test m.to) | None ↦ refl ]
+narrower test packets i =
+    elim (slice_get packets i) as (λ o. option_map_or (λ m. not m.used && test m.to) o false ≡ option_map_or (λ m. not m.used && true) o false && option_map_or (λ m. not m.used && test m.to) o false) [ Some m ↦ at (not m.used) (test m.to) | None ↦ refl ]
   where
     at : (a b : Bool) → (a && b) ≡ ((a && true) && (a && b))
     at true b = refl
     at false b = refl
 
-fewer : (test : ℕ → Bool) (mail : List Mail) (is : List ℕ) → filter (is_fresh_for test mail) is ≡ filter (is_fresh_for test mail) (filter (is_fresh_for (λ k. true) mail) is)
-fewer test mail is =
-    filter_alike (is_fresh_for test mail) (λ i. is_fresh_for (λ k. true) mail i && is_fresh_for test mail i) is (narrower test mail) ∙ sym (filter_both (is_fresh_for (λ k. true) mail) (is_fresh_for test mail) is)
+fewer : (test : ℕ → Bool) (packets : List Packet) (is : List ℕ) → filter (is_fresh_for test packets) is ≡ filter (is_fresh_for test packets) (filter (is_fresh_for (λ k. true) packets) is)
+fewer test packets is =
+    filter_alike (is_fresh_for test packets) (λ i. is_fresh_for (λ k. true) packets i && is_fresh_for test packets i) is (narrower test packets) ∙ sym (filter_both (is_fresh_for (λ k. true) packets) (is_fresh_for test packets) is)
 
 -- where all fresh ones are among them, so are those that pass a test
-pub has_fewer : (test : ℕ → Bool) (mail : List Mail) (is : List ℕ) → HasFresh (λ k. true) mail is → HasFresh test mail is
-has_fewer test mail is h = record {
+pub has_fewer : (test : ℕ → Bool) (packets : List Packet) (is : List ℕ) → HasFresh (λ k. true) packets is → HasFresh test packets is
+has_fewer test packets is h = record {
   sent = h.sent;
-  all = fewer test mail is ∙ ap (filter (is_fresh_for test mail)) h.all ∙ sym (fewer test mail (numbers_of mail));
+  all = fewer test packets is ∙ ap (filter (is_fresh_for test packets)) h.all ∙ sym (fewer test packets (numbers_of packets));
 }
 
 -- ---- by place
 
-get_here : (mail : List Mail) (m : Mail) (ms : List Mail) → slice_get (mail ++ m ∷ ms) (length mail) ≡ Some m
+get_here : (packets : List Packet) (m : Packet) (ms : List Packet) → slice_get (packets ++ m ∷ ms) (length packets) ≡ Some m
 get_here [] m ms = refl
-get_here (a ∷ mail) m ms = get_here mail m ms
+get_here (a ∷ packets) m ms = get_here packets m ms
 
 -- a test by place of a list, over numbers that begin behind `before`
-numbered : (q : Mail → Bool) (before mail : List Mail) (n : ℕ) → length before ≡ n
-    → map (λ p. p.0) (filter (λ p. q p.1) (enumerate_from n mail)) ≡ filter (λ i. option_map_or q (slice_get (before ++ mail) i) false) (range_with_len n (length mail))
+numbered : (q : Packet → Bool) (before packets : List Packet) (n : ℕ) → length before ≡ n
+    → map (λ p. p.0) (filter (λ p. q p.1) (enumerate_from n packets)) ≡ filter (λ i. option_map_or q (slice_get (before ++ packets) i) false) (range_with_len n (length packets))
 numbered q before [] n e = refl
-numbered q before (m ∷ mail) n e =
-    let here : option_map_or q (slice_get (before ++ m ∷ mail) n) false ≡ q m = ap (λ o. option_map_or q o false) (ap (slice_get (before ++ m ∷ mail)) (sym e) ∙ get_here before m mail) in
+numbered q before (m ∷ packets) n e =
+    let here : option_map_or q (slice_get (before ++ m ∷ packets) n) false ≡ q m = ap (λ o. option_map_or q o false) (ap (slice_get (before ++ m ∷ packets)) (sym e) ∙ get_here before m packets) in
     let step : length (before ++ m ∷ []) ≡ n + 1 = omega (arith, length-append before (m ∷ []), e) in
-    let rest = numbered q (before ++ m ∷ []) mail (n + 1) step ∙ ap (λ ms. filter (λ i. option_map_or q (slice_get ms i) false) (range_with_len (n + 1) (length mail))) (append_assoc before (m ∷ []) mail) in
-    elim (q m) as (λ b. option_map_or q (slice_get (before ++ m ∷ mail) n) false ≡ b
-    → map (λ p. p.0) (cond b ((n, m) ∷ filter (λ p. q p.1) (enumerate_from (n + 1) mail)) (filter (λ p. q p.1) (enumerate_from (n + 1) mail)))
-    ≡ filter (λ i. option_map_or q (slice_get (before ++ m ∷ mail) i) false) (n ∷ range_with_len (n + 1) (length mail))) [
+    let rest = numbered q (before ++ m ∷ []) packets (n + 1) step ∙ ap (λ ms. filter (λ i. option_map_or q (slice_get ms i) false) (range_with_len (n + 1) (length packets))) (append_assoc before (m ∷ []) packets) in
+    elim (q m) as (λ b. option_map_or q (slice_get (before ++ m ∷ packets) n) false ≡ b
+    → map (λ p. p.0) (cond b ((n, m) ∷ filter (λ p. q p.1) (enumerate_from (n + 1) packets)) (filter (λ p. q p.1) (enumerate_from (n + 1) packets)))
+    ≡ filter (λ i. option_map_or q (slice_get (before ++ m ∷ packets) i) false) (n ∷ range_with_len (n + 1) (length packets))) [
       | true ↦ λ f. rw f (ap (λ is. n ∷ is) rest)
       | false ↦ λ f. rw f rest
     ] here
 
-pub numbers_fresh : (test : ℕ → Bool) (mail : List Mail) → filter (is_fresh_for test mail) (numbers_of mail) ≡ map (λ p. p.0) (filter (λ p. not p.1.used && test p.1.to) (enumerate_from 0 mail))
+pub numbers_fresh : (test : ℕ → Bool) (packets : List Packet) → filter (is_fresh_for test packets) (numbers_of packets) ≡ map (λ p. p.0) (filter (λ p. not p.1.used && test p.1.to) (enumerate_from 0 packets))
 unfolding is_fresh_for
-numbers_fresh test mail = sym (numbered (λ m. not m.used && test m.to) [] mail 0 refl)
+numbers_fresh test packets = sym (numbered (λ m. not m.used && test m.to) [] packets 0 refl)

@@ -1,1 +1,1 @@
-pub mod Mailed
+pub mod Packets

@@ -3,25 +3,25 @@
 
 ghost use Rattle.std.specs.Prelude.{◌≡◌, ◌++◌, ◌∷◌, [], ℕ, List, true, filter, IfOk, OnOk};
 ghost use Rattle.crsm_spec.specs.World as on_paper;
-ghost use Rattle.crsm_network.specs.Mailed.{PostStands, is_fresh_for, is_up_among, numbers_of};
+ghost use Rattle.crsm_network.specs.Packets.{NetworkStands, is_fresh_for, is_up_among, numbers_of, WhereStands};
 
-use crate::post::Post;
+use crate::network::Network;
 use crsm_base::NoMemory;
 
-impl Post {
+impl Network {
     /// The datagram with this number is fresh.
-    #[tactic(auto, unfolding(crate::specs::Mailed::is_fresh_for))]
+    #[tactic(auto, unfolding(crate::specs::Packets::is_fresh_for))]
     fn is_fresh(&self, number: u64) -> bool
-        ensures { (mail : List on_paper.Mail) (bytes : ℕ) → PostStands self.now mail bytes → result ≡ is_fresh_for (λ k. true) mail number }
+        ensures { WhereStands self.now (λ packets bytes. result ≡ is_fresh_for (λ k. true) packets number) }
     {
         match self.find(number) {
-            Some(mail) => !mail.is_used,
+            Some(packet) => !packet.is_used,
             None => false,
         }
     }
 
     fn add_fresh(&self, number: u64, kept: &mut Vec<u64>) -> Result<(), NoMemory>
-        ensures { OnOk result ((mail : List on_paper.Mail) (bytes : ℕ) → PostStands self.now mail bytes → kept.new.items ≡ kept.old.items ++ filter (is_fresh_for (λ k. true) mail) (number ∷ [])) }
+        ensures { OnOk result (WhereStands self.now (λ packets bytes. kept.new.items ≡ kept.old.items ++ filter (is_fresh_for (λ k. true) packets) (number ∷ []))) }
     {
         if self.is_fresh(number) {
             kept.push(number)?;
@@ -31,7 +31,7 @@ impl Post {
 
     /// The numbers of those that are still fresh.
     fn still_fresh(&self) -> Result<Vec<u64>, NoMemory>
-        ensures { IfOk result (λ kept. (mail : List on_paper.Mail) (bytes : ℕ) → PostStands self.now mail bytes → kept.items ≡ filter (is_fresh_for (λ k. true) mail) self.now.fresh.items) }
+        ensures { IfOk result (λ kept. WhereStands self.now (λ packets bytes. kept.items ≡ filter (is_fresh_for (λ k. true) packets) self.now.fresh.items)) }
     {
         let mut kept = Vec::new(self.alloc);
         for number in &self.fresh {
@@ -42,7 +42,7 @@ impl Post {
 
     /// From now on these are the replicas that are up. All that is fresh is near again.
     fn turn_to(&mut self, ups: &[bool]) -> Result<(), NoMemory>
-        ensures stands { OnOk result ((mail : List on_paper.Mail) (bytes : ℕ) → PostStands self.old mail bytes → PostStands self.new mail bytes) }
+        ensures stands { OnOk result (WhereStands self.old (λ packets bytes. NetworkStands self.new packets bytes)) }
         ensures ups { OnOk result (self.new.ups.items ≡ ups.now) }
     {
         let fresh = self.still_fresh()?;
@@ -54,7 +54,7 @@ impl Post {
 
     /// The same where others were up so far.
     fn see(&mut self, ups: &[bool]) -> Result<(), NoMemory>
-        ensures stands { OnOk result ((mail : List on_paper.Mail) (bytes : ℕ) → PostStands self.old mail bytes → PostStands self.new mail bytes) }
+        ensures stands { OnOk result (WhereStands self.old (λ packets bytes. NetworkStands self.new packets bytes)) }
         ensures ups { OnOk result (self.new.ups.items ≡ ups.now) }
     {
         if self.ups.as_slice() == ups {
@@ -65,18 +65,18 @@ impl Post {
     }
 
     /// The datagram with this number is fresh, and its receiver was up when that was last asked.
-    #[tactic(auto, unfolding(crate::specs::Mailed::is_fresh_for))]
+    #[tactic(auto, unfolding(crate::specs::Packets::is_fresh_for))]
     fn is_due(&self, number: u64) -> bool
-        ensures { (mail : List on_paper.Mail) (bytes : ℕ) → PostStands self.now mail bytes → result ≡ is_fresh_for (is_up_among self.now.ups.items) mail number }
+        ensures { WhereStands self.now (λ packets bytes. result ≡ is_fresh_for (is_up_among self.now.ups.items) packets number) }
     {
         match self.find(number) {
-            Some(mail) => !mail.is_used & is_up(self.ups.as_slice(), mail.to),
+            Some(packet) => !packet.is_used & is_up(self.ups.as_slice(), packet.to),
             None => false,
         }
     }
 
     fn add_due(&self, number: u64, due: &mut Vec<u64>) -> Result<(), NoMemory>
-        ensures { OnOk result ((mail : List on_paper.Mail) (bytes : ℕ) → PostStands self.now mail bytes → due.new.items ≡ due.old.items ++ filter (is_fresh_for (is_up_among self.now.ups.items) mail) (number ∷ [])) }
+        ensures { OnOk result (WhereStands self.now (λ packets bytes. due.new.items ≡ due.old.items ++ filter (is_fresh_for (is_up_among self.now.ups.items) packets) (number ∷ []))) }
     {
         if self.is_due(number) {
             due.push(number)?;
@@ -86,7 +86,7 @@ impl Post {
 
     /// Of those that are near the ones that can be delivered.
     fn still_due(&self) -> Result<Vec<u64>, NoMemory>
-        ensures { IfOk result (λ due. (mail : List on_paper.Mail) (bytes : ℕ) → PostStands self.now mail bytes → due.items ≡ filter (is_fresh_for (is_up_among self.now.ups.items) mail) self.now.near.items) }
+        ensures { IfOk result (λ due. WhereStands self.now (λ packets bytes. due.items ≡ filter (is_fresh_for (is_up_among self.now.ups.items) packets) self.now.near.items)) }
     {
         let mut due = Vec::new(self.alloc);
         for number in &self.near {
@@ -97,8 +97,8 @@ impl Post {
 
     /// The numbers of the fresh ones whose receivers are up, ascending. `ups` says of each replica whether it is up.
     pub fn due(&mut self, ups: &[bool]) -> Result<Vec<u64>, NoMemory>
-        ensures stands { OnOk result ((mail : List on_paper.Mail) (bytes : ℕ) → PostStands self.old mail bytes → PostStands self.new mail bytes) }
-        ensures due { IfOk result (λ due. (mail : List on_paper.Mail) (bytes : ℕ) → PostStands self.old mail bytes → due.items ≡ filter (is_fresh_for (is_up_among ups.now) mail) (numbers_of mail)) }
+        ensures stands { OnOk result (WhereStands self.old (λ packets bytes. NetworkStands self.new packets bytes)) }
+        ensures due { IfOk result (λ due. WhereStands self.old (λ packets bytes. due.items ≡ filter (is_fresh_for (is_up_among ups.now) packets) (numbers_of packets))) }
     {
         self.see(ups)?;
         let due = self.still_due()?;
@@ -108,7 +108,7 @@ impl Post {
 }
 
 /// Whether replica `k` is up, where `ups` says it of each.
-#[tactic(auto, unfolding(crate::specs::Mailed::is_up_among))]
+#[tactic(auto, unfolding(crate::specs::Packets::is_up_among))]
 fn is_up(ups: &[bool], k: u32) -> bool
     ensures { result ≡ is_up_among ups.now k }
 {

@@ -2,10 +2,10 @@
 #![tactic(auto)]
 
 mod fresh;
-mod mail;
-mod post;
+mod network;
+mod packets;
 mod sending;
 
-pub use mail::Letter;
-pub use post::Post;
-pub use sending::letters_in;
+pub use network::Network;
+pub use packets::PacketView;
+pub use sending::packets_in;

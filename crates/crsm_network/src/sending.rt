@@ -4,16 +4,16 @@ ghost use Rattle.std.specs.Prelude.{◌≡◌, ◌≤◌, ◌+◌, ◌++◌, ◌
 ghost use Rattle.std.specs.List.{AllByRecursion};
 ghost use Rattle.crsm_base.specs.Messages.{FitsDatagram, datagram_bytes};
 ghost use Rattle.crsm_spec.specs.World as on_paper;
-ghost use Rattle.crsm_network.specs.Mailed.{PostStands, FitsMail, sent_to, sent_of};
+ghost use Rattle.crsm_network.specs.Packets.{NetworkStands, FitsPacket, sent_to, sent_of, WhereStands};
 
-use crate::mail::Mail;
-use crate::post::Post;
+use crate::network::Network;
+use crate::packets::PacketEntry;
 use crsm_base::{Bytes, Datagram, Line, Lines, NoMemory, Send, SendKind, To};
 use crsm_wire::put_datagram;
 use std::alloc::Global;
 
-impl Post {
-    /// A datagram leaves replica `k`, and its line is told.
+impl Network {
+    /// A datagram leaves replica `k`, and its line is printed.
     fn send(
         &mut self,
         k: u32,
@@ -22,10 +22,10 @@ impl Post {
         lines: &mut Lines,
     ) -> Result<(), NoMemory>
         requires { FitsDatagram datagram.now }
-        ensures post { OnOk result ((mail : List on_paper.Mail) (bytes : ℕ) → PostStands self.old mail bytes →
-            PostStands self.new (mail ++ on_paper.mail_of k (to, datagram.now) ∷ []) (bytes + length (datagram_bytes datagram.now))) }
-        ensures lines { OnOk result ((mail : List on_paper.Mail) (bytes : ℕ) → PostStands self.old mail bytes →
-            lines.new ≡ lines.old ++ on_paper.send_line k (length mail) (to, datagram.now) ∷ []) }
+        ensures network { OnOk result (WhereStands self.old (λ packets bytes.
+            NetworkStands self.new (packets ++ on_paper.packet_of k (to, datagram.now) ∷ []) (bytes + length (datagram_bytes datagram.now)))) }
+        ensures lines { OnOk result (WhereStands self.old (λ packets bytes.
+            lines.new ≡ lines.old ++ on_paper.send_line k (length packets) (to, datagram.now) ∷ [])) }
     {
         let index = self.count();
         let start = self.spelling.as_slice().len();
@@ -40,7 +40,7 @@ impl Post {
         })?;
         self.fresh.push(index)?;
         self.near.push(index)?;
-        self.mail.push(Mail {
+        self.packets.push(PacketEntry {
             from: k,
             to,
             start,
@@ -51,13 +51,13 @@ impl Post {
         Ok(())
     }
 
-    /// Something that a step sends leaves replica `k`. A reply is no mail.
+    /// Something that a step sends leaves replica `k`. A reply is no packet.
     fn send_one(&mut self, k: u32, send: &Send, lines: &mut Lines) -> Result<(), NoMemory>
-        requires { FitsMail send.now }
-        ensures post { OnOk result ((mail : List on_paper.Mail) (bytes : ℕ) → PostStands self.old mail bytes →
-            PostStands self.new (mail ++ map (on_paper.mail_of k) (sent_to send.now)) (bytes + on_paper.mail_size (sent_to send.now))) }
-        ensures lines { OnOk result ((mail : List on_paper.Mail) (bytes : ℕ) → PostStands self.old mail bytes →
-            lines.new ≡ lines.old ++ on_paper.send_lines k (length mail) (sent_to send.now)) }
+        requires { FitsPacket send.now }
+        ensures network { OnOk result (WhereStands self.old (λ packets bytes.
+            NetworkStands self.new (packets ++ map (on_paper.packet_of k) (sent_to send.now)) (bytes + on_paper.packets_size (sent_to send.now)))) }
+        ensures lines { OnOk result (WhereStands self.old (λ packets bytes.
+            lines.new ≡ lines.old ++ on_paper.send_lines k (length packets) (sent_to send.now))) }
     {
         match send.to {
             To::Replica(to) => {
@@ -68,13 +68,13 @@ impl Post {
         }
     }
 
-    /// What a step sends leaves replica `k` in its order, and the lines of the datagrams are told.
+    /// What a step sends leaves replica `k` in its order, and the lines of the packets are printed.
     pub fn send_all(&mut self, k: u32, sends: &[Send], lines: &mut Lines) -> Result<(), NoMemory>
-        requires { AllByRecursion FitsMail sends.now }
-        ensures post { OnOk result ((mail : List on_paper.Mail) (bytes : ℕ) → PostStands self.old mail bytes →
-            PostStands self.new (mail ++ map (on_paper.mail_of k) (sent_of sends.now)) (bytes + on_paper.mail_size (sent_of sends.now))) }
-        ensures lines { OnOk result ((mail : List on_paper.Mail) (bytes : ℕ) → PostStands self.old mail bytes →
-            lines.new ≡ lines.old ++ on_paper.send_lines k (length mail) (sent_of sends.now)) }
+        requires { AllByRecursion FitsPacket sends.now }
+        ensures network { OnOk result (WhereStands self.old (λ packets bytes.
+            NetworkStands self.new (packets ++ map (on_paper.packet_of k) (sent_of sends.now)) (bytes + on_paper.packets_size (sent_of sends.now)))) }
+        ensures lines { OnOk result (WhereStands self.old (λ packets bytes.
+            lines.new ≡ lines.old ++ on_paper.send_lines k (length packets) (sent_of sends.now))) }
     {
         for send in sends {
             self.send_one(k, send, lines)?;
@@ -108,8 +108,8 @@ fn kind_of(datagram: &Datagram) -> SendKind
 }
 
 /// How many datagrams to replicas this is: one or none.
-#[tactic(auto, unfolding(crate::specs::Mailed::sent_to, crate::specs::Mailed::to_mail))]
-fn letters_of(send: &Send) -> usize
+#[tactic(auto, unfolding(crate::specs::Packets::sent_to, crate::specs::Packets::to_packets))]
+fn packets_of(send: &Send) -> usize
     ensures count { result ≡ length (sent_to send.now) }
     ensures most { result ≤ 1 }
 {
@@ -120,13 +120,13 @@ fn letters_of(send: &Send) -> usize
 }
 
 /// How many of these are datagrams to replicas.
-pub fn letters_in(sends: &[Send]) -> usize
+pub fn packets_in(sends: &[Send]) -> usize
     ensures count { result ≡ length (sent_of sends.now) }
     ensures most { result ≤ length sends.now }
 {
     let mut count = 0;
     for send in sends {
-        count += letters_of(send);
+        count += packets_of(send);
     }
     count
 }

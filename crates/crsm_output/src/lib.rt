@@ -4,9 +4,9 @@
 mod batch;
 mod laws;
 mod output;
-mod telling;
+mod sending;
 
 pub use batch::Batch;
 pub use laws::parts_are_spelt;
 pub use output::{Output, Reply};
-pub use telling::{spell, spell_decision, tell};
+pub use sending::{send_parts, spell, spell_decision};

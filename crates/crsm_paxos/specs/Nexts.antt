@@ -11,7 +11,7 @@ use Rattle.crsm_paxos.specs.declared.proposer.Next.TheVariants.{Wait, Propose, C
 -- an answer that makes the majority proposes the value that then counts
 abbrev pub next_of_p1b : Proposing Decision → ℕ → Ballot → Held Decision → Next
 next_of_p1b p from b accepted =
-    if counts_answer p from b && nat_le (majority p.size) (length p.heard + 1)
+    if counts_answer p from b && nat_le (majority p.size) (length p.received + 1)
     then Propose p.ballot (value_proposed (after_answer p from accepted))
     else Wait
 

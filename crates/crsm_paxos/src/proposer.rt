@@ -48,7 +48,7 @@ pub struct Proposer {
     pub(crate) ballot: Ballot,
     pub(crate) own: Decision,
     pub(crate) size: u32,
-    pub(crate) heard: Vec<u32>,
+    pub(crate) received: Vec<u32>,
     pub(crate) best: Option<Best>,
     pub(crate) has_proposed: bool,
     pub(crate) voters: Vec<u32>,
@@ -63,7 +63,7 @@ impl Model for Proposer {
 
     ghost use Rattle.crsm_paxos.specs.Best.{found_of};
 
-    ghost view = { λ p. record { ballot = p.ballot; own = p.own; size = p.size; heard = p.heard.items; best = found_of p.best; has_proposed = p.has_proposed; voters = p.voters.items } };
+    ghost view = { λ p. record { ballot = p.ballot; own = p.own; size = p.size; received = p.received.items; best = found_of p.best; has_proposed = p.has_proposed; voters = p.voters.items } };
 }
 
 impl Proposer {
@@ -94,7 +94,7 @@ impl Proposer {
             ballot,
             own,
             size: n,
-            heard: Vec::new(alloc),
+            received: Vec::new(alloc),
             best: None,
             has_proposed: false,
             voters: Vec::new(alloc),
@@ -115,16 +115,16 @@ impl Proposer {
         ensures next { IfOk result (λ next. next ≡ next_of_p1b self.old from b accepted) }
         ensures err { OnErr result (self.new ≡ self.old) }
     {
-        if b != self.ballot || self.has_proposed || self.heard.contains(&from) {
+        if b != self.ballot || self.has_proposed || self.received.contains(&from) {
             return Ok(Next::Wait);
         }
-        if self.heard.len() < (self.size / 2) as usize {
-            self.heard.push(from)?;
+        if self.received.len() < (self.size / 2) as usize {
+            self.received.push(from)?;
             self.best = better(self.best.take(), from, accepted);
             return Ok(Next::Wait);
         }
         let value = value_with(&self.own, &self.best, from, &accepted).copy(self.alloc)?;
-        self.heard.push(from)?;
+        self.received.push(from)?;
         self.best = better(self.best.take(), from, accepted);
         self.has_proposed = true;
         Ok(Next::Propose(self.ballot, value))

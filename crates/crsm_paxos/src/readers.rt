@@ -2,7 +2,7 @@
 
 ghost use Rattle.std.specs.Prelude.{◌≡◌, ◌+◌, nat_le, length};
 ghost use Rattle.crsm_spec.specs.Paxos.{majority};
-ghost use Rattle.crsm_spec.specs.Proposing.{after_answer, is_heard, value_proposed};
+ghost use Rattle.crsm_spec.specs.Proposing.{after_answer, is_received, value_proposed};
 
 use crate::proposer::{Proposer, value_of, value_with};
 use crsm_base::{Ballot, Decision};
@@ -31,23 +31,23 @@ impl Proposer {
 
     /// Whether the promise of a replica is counted.
     pub fn has_promise_of(&self, replica: u32) -> bool
-        ensures { result ≡ is_heard self.now.heard replica }
+        ensures { result ≡ is_received self.now.received replica }
     {
-        self.heard.contains(&replica)
+        self.received.contains(&replica)
     }
 
     /// Whether the vote of a replica is counted.
     pub fn has_vote_of(&self, replica: u32) -> bool
-        ensures { result ≡ is_heard self.now.voters replica }
+        ensures { result ≡ is_received self.now.voters replica }
     {
         self.voters.contains(&replica)
     }
 
     /// Whether one more promise makes a majority.
     pub fn is_last_promise(&self) -> bool
-        ensures { result ≡ nat_le (majority self.now.size) (length self.now.heard + 1) }
+        ensures { result ≡ nat_le (majority self.now.size) (length self.now.received + 1) }
     {
-        self.heard.len() >= (self.size / 2) as usize
+        self.received.len() >= (self.size / 2) as usize
     }
 
     /// Whether one more vote makes a majority.

@@ -1,19 +1,19 @@
 -- The fields of a port in memory.
 use Rattle.std.specs.Prelude.{◌+◌, ◌≤◌, map, length, vec_len, vec_capacity}
 use Rattle.crsm_port.specs.declared.memory.MemPort.TheInside.{Inside}
-use Rattle.crsm_port.specs.declared.memory.Letter.{Letter}
-use Rattle.crsm_port.specs.Meaning.{Post}
+use Rattle.crsm_port.specs.declared.memory.Arrival.{Arrival}
+use Rattle.crsm_port.specs.Meaning.{Packet}
 use Rattle.crsm_port.specs.Memory.{Memory}
-use Rattle.crsm_port.specs.Sent.{posts_of}
+use Rattle.crsm_port.specs.Sent.{packets_of}
 
-abbrev pub letter_of : Letter → Post
-letter_of l = record { address = l.from; bytes = l.bytes.items }
+abbrev pub arrival_of : Arrival → Packet
+arrival_of l = record { address = l.from; bytes = l.bytes.items }
 
 abbrev pub memory_of : Inside → Memory
 memory_of p = record {
-  letters = map letter_of p.letters.items;
+  arrivals = map arrival_of p.arrivals.items;
   next = p.next;
-  sent = posts_of p.sent;
+  sent = packets_of p.sent;
   failing = p.failures;
   faults = p.faults;
   losses = p.losses;
@@ -24,6 +24,6 @@ memory_of p = record {
 
 -- as many were taken as there are at most, and there is room for what is reserved
 pub record IsKept (p : Inside) : Type 0 where
-  pub next : p.next ≤ length p.letters.items
+  pub next : p.next ≤ length p.arrivals.items
   pub place_labels : vec_len p.sent.labels + p.room_sends ≤ vec_capacity p.sent.labels
   pub place_bytes : vec_len p.sent.bytes + p.room_bytes ≤ vec_capacity p.sent.bytes

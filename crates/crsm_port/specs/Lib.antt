@@ -3,6 +3,6 @@ pub mod Cluster
 pub mod Inside
 pub mod Meaning
 pub mod Memory
-pub mod Posts
+pub mod Packets
 pub mod Sent
 pub mod Unknown

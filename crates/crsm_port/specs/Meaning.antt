@@ -8,14 +8,14 @@ use Rattle.crsm_port.specs.declared.port.Got.{Got}
 use Rattle.crsm_port.specs.declared.port.Got.TheVariants.{Nothing, Datagram}
 
 -- a datagram, with the address that it came from or goes to
-pub record Post : Type 0 where
+pub record Packet : Type 0 where
   pub address : ℕ
   pub bytes : List ℕ
 
 -- how a datagram stands on the wire, and what is read of one that comes
 pub record Coat : Type 0 where
-  pub wrap : Post → Post
-  pub unwrap : Post → Post
+  pub wrap : Packet → Packet
+  pub unwrap : Packet → Packet
 
 -- each as it is
 abbrev pub plain : Coat
@@ -23,9 +23,9 @@ plain = record { wrap = λ d. d; unwrap = λ d. d }
 
 -- the datagrams that wait, those taken and those sent, each with the oldest first
 pub record Traffic : Type 0 where
-  pub waiting : List Post
-  pub taken : List Post
-  pub sent : List Post
+  pub waiting : List Packet
+  pub taken : List Packet
+  pub sent : List Packet
 
 pub record Meaning : Type 0 where
   -- where it is told
@@ -44,7 +44,7 @@ pub record Meaning : Type 0 where
 -- a receive from what waits
 abbrev pub Takes : Coat → Traffic → Traffic → List ℕ → List ℕ → Got → Type 0
 Takes coat old new before after Nothing = (old.waiting ≡ []) × (new ≡ old) × (after ≡ before)
-Takes coat old new before after (Datagram from len) = (d : Post) × (rest : List Post) × (old.waiting ≡ d ∷ rest) × (from ≡ (coat.unwrap d).address)
+Takes coat old new before after (Datagram from len) = (d : Packet) × (rest : List Packet) × (old.waiting ≡ d ∷ rest) × (from ≡ (coat.unwrap d).address)
     × (len ≡ min (length before) (length (coat.unwrap d).bytes)) × (after ≡ take len (coat.unwrap d).bytes ++ drop len before)
     × (new ≡ record old { waiting = rest; taken = old.taken ++ d ∷ [] })
 
@@ -74,7 +74,7 @@ pub record Receives (old new : Meaning) (before after : List ℕ) (result : Resu
   pub plan : Spends 0 0 old.plan new.plan result
 
 -- a send is told behind those before it
-abbrev pub with_sent : Post → Traffic → Traffic
+abbrev pub with_sent : Packet → Traffic → Traffic
 with_sent d t = record t { sent = t.sent ++ d ∷ [] }
 
 -- what a send owes

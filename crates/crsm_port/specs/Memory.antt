@@ -1,14 +1,14 @@
 -- A port in memory.
 use Rattle.std.specs.Prelude.{ℕ, List, take, drop, Some, None}
 use Rattle.crsm_faults.specs.Failing.{Failing, good_of}
-use Rattle.crsm_port.specs.Meaning.{Meaning, Post, Traffic, plain}
+use Rattle.crsm_port.specs.Meaning.{Meaning, Packet, Traffic, plain}
 
 pub record Memory : Type 0 where
   -- what was put in, the oldest first, and how many of these were taken
-  pub letters : List Post
+  pub arrivals : List Packet
   pub next : ℕ
   -- what was sent, the oldest first
-  pub sent : List Post
+  pub sent : List Packet
   -- the calls so far, and those that fail
   pub failing : Failing
   pub faults : ℕ
@@ -18,7 +18,7 @@ pub record Memory : Type 0 where
   pub room_bytes : ℕ
 
 abbrev pub traffic_of : Memory → Traffic
-traffic_of m = record { waiting = drop m.next m.letters; taken = take m.next m.letters; sent = m.sent }
+traffic_of m = record { waiting = drop m.next m.arrivals; taken = take m.next m.arrivals; sent = m.sent }
 
 abbrev pub meaning_of : Memory → Meaning
 meaning_of m = record {

@@ -1,8 +1,8 @@
 -- The datagrams that were sent, as clauses name them.
 use Rattle.std.specs.Prelude.{List}
-use Rattle.crsm_port.specs.Meaning.{Post}
-use Rattle.crsm_port.specs.Posts.{posts}
-use Rattle.crsm_port.specs.declared.posted.Posted.{Posted}
+use Rattle.crsm_port.specs.Meaning.{Packet}
+use Rattle.crsm_port.specs.Packets.{packets}
+use Rattle.crsm_port.specs.declared.sent_packets.SentPackets.{SentPackets}
 
-abbrev pub posts_of : Posted → List Post
-posts_of p = posts p.labels.items p.bytes.items
+abbrev pub packets_of : SentPackets → List Packet
+packets_of p = packets p.labels.items p.bytes.items

@@ -5,12 +5,12 @@ mod address;
 mod cluster;
 mod memory;
 mod port;
-mod posted;
+mod sent_packets;
 mod udp;
 
 pub use address::{from_number, number};
 pub use cluster::ClusterPort;
 pub use memory::MemPort;
 pub use port::{Got, Port};
-pub use posted::Posted;
+pub use sent_packets::SentPackets;
 pub use udp::UdpPort;

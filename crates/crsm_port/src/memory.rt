@@ -5,9 +5,9 @@ ghost use Rattle.crsm_faults.specs.Counts.{raised, Rose};
 ghost use Rattle.crsm_faults.specs.Failing.{IsNotEnd, good_of, one_less};
 ghost use Rattle.crsm_port.specs.Meaning.{CountsEmpty, Takes, plain};
 ghost use Rattle.crsm_port.specs.Memory.{meaning_of, traffic_of};
-ghost use Rattle.crsm_port.specs.Sent.{posts_of};
+ghost use Rattle.crsm_port.specs.Sent.{packets_of};
 
-use crate::{Got, Port, Posted};
+use crate::{Got, Port, SentPackets};
 use crsm_base::{Failed, NoMemory};
 use crsm_faults::{Failures, raise};
 use std::alloc::Global;
@@ -15,7 +15,7 @@ use std::marker::Model;
 
 // What was put in.
 #[derive(Drop)]
-struct Letter {
+struct Arrival {
     from: u64,
     bytes: Vec<u8>,
 }
@@ -24,9 +24,9 @@ struct Letter {
 #[derive(Drop)]
 pub struct MemPort {
     alloc: Global,
-    letters: Vec<Letter>,
+    arrivals: Vec<Arrival>,
     next: usize,
-    sent: Posted,
+    sent: SentPackets,
     failures: Failures,
     faults: u64,
     losses: u64,
@@ -50,13 +50,13 @@ impl Model for MemPort {
 impl MemPort {
     /// An empty port that fails at these calls, counted from 1.
     pub fn new(alloc: Global, fails: &[u64]) -> Result<MemPort, NoMemory>
-        ensures { IfOk result (λ p. p ≡ record { letters = []; next = 0; sent = []; failing = record { calls = 0; listed = fails.now }; faults = 0; losses = 0; empties = 0; room_sends = 0; room_bytes = 0 }) }
+        ensures { IfOk result (λ p. p ≡ record { arrivals = []; next = 0; sent = []; failing = record { calls = 0; listed = fails.now }; faults = 0; losses = 0; empties = 0; room_sends = 0; room_bytes = 0 }) }
     {
         Ok(MemPort {
             alloc,
-            letters: Vec::new(alloc),
+            arrivals: Vec::new(alloc),
             next: 0,
-            sent: Posted::new(alloc),
+            sent: SentPackets::new(alloc),
             failures: Failures::new(alloc, fails)?,
             faults: 0,
             losses: 0,
@@ -68,17 +68,17 @@ impl MemPort {
 
     /// Puts a datagram behind those that wait.
     pub fn put(&mut self, from: u64, bytes: &[u8]) -> Result<(), NoMemory>
-        ensures ok { OnOk result (self.new ≡ record self.old { letters = self.old.letters ++ (record { address = from; bytes = bytes.now }) ∷ [] }) }
+        ensures ok { OnOk result (self.new ≡ record self.old { arrivals = self.old.arrivals ++ (record { address = from; bytes = bytes.now }) ∷ [] }) }
         ensures err { OnErr result (self.new ≡ self.old) }
     {
         let bytes = Vec::from_slice(self.alloc, bytes)?;
-        self.letters.push(Letter { from, bytes })?;
+        self.arrivals.push(Arrival { from, bytes })?;
         Ok(())
     }
 
     /// What was sent.
-    pub fn sent(&self) -> &Posted
-        ensures { posts_of result.now ≡ self.now.sent }
+    pub fn sent(&self) -> &SentPackets
+        ensures { packets_of result.now ≡ self.now.sent }
     {
         &self.sent
     }
@@ -87,18 +87,18 @@ impl MemPort {
 impl MemPort {
     // The next datagram that waits, cut to the buffer. Nothing, where none waits, is counted.
     fn take(&mut self, buf: &mut [u8]) -> Got
-        ensures letters { self.new ≡ record self.old { next = self.new.next; empties = self.new.empties } }
+        ensures arrivals { self.new ≡ record self.old { next = self.new.next; empties = self.new.empties } }
         ensures got { Takes plain (traffic_of self.old) (traffic_of self.new) buf.old buf.new result }
         ensures empties { CountsEmpty self.old.empties self.new.empties result }
     {
-        match self.letters.get(self.next) {
+        match self.arrivals.get(self.next) {
             None => {
                 raise(&mut self.empties);
                 Got::Nothing
             }
-            Some(letter) => {
-                let len = copy(&letter.bytes, buf);
-                let from = letter.from;
+            Some(arrival) => {
+                let len = copy(&arrival.bytes, buf);
+                let from = arrival.from;
                 self.next += 1;
                 Got::Datagram { from, len }
             }

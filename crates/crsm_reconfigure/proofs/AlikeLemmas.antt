@@ -7,7 +7,7 @@ use Rattle.crsm_spec.specs.Choice.{when◌then◌otherwise◌}
 use Rattle.crsm_spec.specs.Log.{known, decision, executed, promised, accepted, suspended}
 use Rattle.crsm_spec.specs.Fits.{fits, booted}
 use Rattle.crsm_spec.specs.Replica.{Coordinator}
-use Rattle.crsm_spec.specs.Draft.{Draft, keep, noting, parts_to, tell, tell_each, tell_all}
+use Rattle.crsm_spec.specs.Draft.{Draft, keep, noting, parts_to, send_control, send_to_each, send_to_all}
 use Rattle.crsm_spec.specs.Clock.{u64_max}
 use Rattle.crsm_spec.specs.Coordinate.{suspend_once}
 use Rattle.crsm_replica.specs.Sound.{IsSound}
@@ -24,22 +24,22 @@ unfolding noting
 alike_noted m x y a = record { me = a.me; n = a.n; knows = a.knows; promises = a.promises; accepts = a.accepts; executes = a.executes; on_record = a.on_record; fitting = a.fitting }
 
 -- whatever was told
-alike_tell : (c : Control) (x y : Draft) (k : ℕ) → BeginsAlike x y → BeginsAlike x (tell c y k)
-unfolding tell when◌then◌otherwise◌
-alike_tell c x y k a = go (y.replica.made == u64_max)
+alike_send : (c : Control) (x y : Draft) (k : ℕ) → BeginsAlike x y → BeginsAlike x (send_control c y k)
+unfolding send_control when◌then◌otherwise◌
+alike_send c x y k a = go (y.replica.made == u64_max)
   where
     go : (t : Bool) → BeginsAlike x (when t then y otherwise record y { replica = record y.replica { made = y.replica.made + 1 }; sends = y.sends ++ parts_to y.replica k c })
     go true = a
     go false = record { me = a.me; n = a.n; knows = a.knows; promises = a.promises; accepts = a.accepts; executes = a.executes; on_record = a.on_record; fitting = a.fitting }
 
-pub alike_each : (ks : List ℕ) (c : Control) (x y : Draft) → BeginsAlike x y → BeginsAlike x (tell_each ks c y)
-unfolding tell_each
+pub alike_each : (ks : List ℕ) (c : Control) (x y : Draft) → BeginsAlike x y → BeginsAlike x (send_to_each ks c y)
+unfolding send_to_each
 alike_each [] c x y a = a
-alike_each (k ∷ ks) c x y a = alike_each ks c x (tell c y k) (alike_tell c x y k a)
+alike_each (k ∷ ks) c x y a = alike_each ks c x (send_control c y k) (alike_send c x y k a)
 
-pub alike_told : (c : Control) (x y : Draft) → BeginsAlike x y → BeginsAlike x (tell_all c y)
-unfolding tell_all
-alike_told c x y a = alike_each _ c x y a
+pub alike_sent : (c : Control) (x y : Draft) → BeginsAlike x y → BeginsAlike x (send_to_all c y)
+unfolding send_to_all
+alike_sent c x y a = alike_each _ c x y a
 
 -- ---- once the known epoch is suspended
 

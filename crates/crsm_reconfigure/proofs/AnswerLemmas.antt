@@ -14,7 +14,7 @@ use Rattle.crsm_spec.specs.Draft.{Draft, keep, noting}
 use Rattle.crsm_spec.specs.Coordinate.{instance, has_accepted, count_acceptor, accept_own, count_answer}
 use Rattle.crsm_spec.specs.Controls.{if_spec, on_p1b}
 use Rattle.crsm_coordinator.specs.Coordinator.{takes_answer, proposal_with}
-use Rattle.crsm_reconfigure.specs.Rules.{hears_answer}
+use Rattle.crsm_reconfigure.specs.Rules.{receives_answer}
 use Rattle.crsm_reconfigure.proofs.DraftLemmas.{when_yes}
 use Rattle.crsm_reconfigure.proofs.BeginLemmas.{count_last}
 use Rattle.crsm_reconfigure.proofs.OwnLemmas.{renewed_fitting}
@@ -53,7 +53,7 @@ pub record IsAnswerFor (k i : ℕ) (b : Ballot) (held : Held Decision) (x : Draf
   pub is : x.replica.coordinator ≡ Coordinator.Preparing c own answers
   pub counted : has (spec_of x.replica) k ≡ true
   pub first : has (map (λ f. f.replica) answers) k ≡ false
-  pub rule : hears_answer k i b held x ≡ count_answer c own answers (record { replica = k; accepted = held }) x
+  pub rule : receives_answer k i b held x ≡ count_answer c own answers (record { replica = k; accepted = held }) x
 
 not_is : (p : Bool) → not p ≡ true → p ≡ false
 not_is true h = sym h
@@ -72,7 +72,7 @@ joined true q r h i = i
 joined false q r h i = absurd (false≢true h)
 
 answer_in : (k i : ℕ) (b : Ballot) (held : Held Decision) (x : Draft) (m : Coordinator) → x.replica.coordinator ≡ m → has (spec_of x.replica) k ≡ true → (i == known x.replica.log + 1) ≡ true → takes_answer m b k ≡ true → IsAnswerFor k i b held x
-unfolding takes_answer hears_answer if_spec on_p1b
+unfolding takes_answer receives_answer if_spec on_p1b
 answer_in k i b held x Coordinator.Idle e h n t = absurd (false≢true t)
 answer_in k i b held x (Coordinator.Collecting ms pages) e h n t = absurd (false≢true t)
 answer_in k i b held x (Coordinator.Proposing c own value acceptors) e h n t = absurd (false≢true t)
@@ -113,6 +113,6 @@ no_answer_in k i b held x (Coordinator.Preempted own seen) h = no_rule _ x
 no_answer_in k i b held x (Coordinator.Preparing c own answers) h =
     no_count (has (spec_of x.replica) k) (i == known x.replica.log + 1) (ballot_eq b c) (not (has (map (λ f. f.replica) answers) k)) x (count_answer c own answers (record { replica = k; accepted = held }) x) h
 
-pub answer_ignored : (k i : ℕ) (b : Ballot) (held : Held Decision) (x : Draft) → ((has (spec_of x.replica) k && (i == known x.replica.log + 1)) && takes_answer x.replica.coordinator b k) ≡ false → hears_answer k i b held x ≡ x
-unfolding hears_answer
+pub answer_ignored : (k i : ℕ) (b : Ballot) (held : Held Decision) (x : Draft) → ((has (spec_of x.replica) k && (i == known x.replica.log + 1)) && takes_answer x.replica.coordinator b k) ≡ false → receives_answer k i b held x ≡ x
+unfolding receives_answer
 answer_ignored k i b held x h = no_answer_in k i b held x x.replica.coordinator h

@@ -15,7 +15,7 @@ use Rattle.crsm_spec.specs.Paxos.{Held, Answer, value_of}
 use Rattle.crsm_spec.specs.Quorum.{spec_decided, has_majority}
 use Rattle.crsm_spec.specs.Replica.{Coordinator, spec_of}
 use Rattle.crsm_spec.specs.Draft.{Draft, keep, noting}
-use Rattle.crsm_spec.specs.Coordinate.{instance, accept_own, tell_ask, propose, count_answer, ask, greater_ballot, begin_proposing}
+use Rattle.crsm_spec.specs.Coordinate.{instance, accept_own, send_ask, propose, count_answer, ask, greater_ballot, begin_proposing}
 use Rattle.crsm_spec.specs.Step.{renew}
 use Rattle.crsm_log_facts.proofs.Tests.{above_top}
 use Rattle.crsm_log_facts.proofs.LogsFit.{accepted_fits, promised_fits}
@@ -69,17 +69,17 @@ unfolding noting keep spec_of spec decision
 promised_spec i b m x = refl
 
 pub ask_more : (b : Ballot) (own : Decision) (x : Draft) → has_majority (spec_of x.replica) (x.replica.me ∷ []) ≡ false →
-    ask b own x ≡ tell_ask (Coordinator.Preparing b own (mine x ∷ [])) (noting (Coordinator.Preparing b own (mine x ∷ [])) (keep (Rec.Promise (instance x) b) x))
+    ask b own x ≡ send_ask (Coordinator.Preparing b own (mine x ∷ [])) (noting (Coordinator.Preparing b own (mine x ∷ [])) (keep (Rec.Promise (instance x) b) x))
 unfolding ask noting
 ask_more b own x h =
-    ap (λ y. tell_ask y.replica.coordinator y) (count_more b own [] (mine x) (noting (Coordinator.Preparing b own []) (keep (Rec.Promise (instance x) b) x))
+    ap (λ y. send_ask y.replica.coordinator y) (count_more b own [] (mine x) (noting (Coordinator.Preparing b own []) (keep (Rec.Promise (instance x) b) x))
     (ap (λ ks. has_majority ks (x.replica.me ∷ [])) (promised_spec (instance x) b (Coordinator.Preparing b own []) x) ∙ h))
 
 pub ask_last : (b : Ballot) (own : Decision) (x : Draft) → has_majority (spec_of x.replica) (x.replica.me ∷ []) ≡ true →
     ask b own x ≡ renew (Coordinator.Proposing b own (value_of own (mine x ∷ [])) []) (noting (Coordinator.Proposing b own (value_of own (mine x ∷ [])) []) (keep (Rec.Promise (instance x) b) x))
 unfolding ask noting
 ask_last b own x h =
-    ap (λ y. tell_ask y.replica.coordinator y) (count_last b own [] (mine x) (noting (Coordinator.Preparing b own []) (keep (Rec.Promise (instance x) b) x))
+    ap (λ y. send_ask y.replica.coordinator y) (count_last b own [] (mine x) (noting (Coordinator.Preparing b own []) (keep (Rec.Promise (instance x) b) x))
     (ap (λ ks. has_majority ks (x.replica.me ∷ [])) (promised_spec (instance x) b (Coordinator.Preparing b own []) x) ∙ h))
     ∙ renewed_asks b own (value_of own (mine x ∷ [])) [] (noting (Coordinator.Proposing b own (value_of own (mine x ∷ [])) []) (keep (Rec.Promise (instance x) b) x)) refl
 
@@ -206,7 +206,7 @@ begins_shared own seen x s c few = go ((greater_ballot (promised x.replica.log) 
     go true h = sym (fits_spent own seen _ x x s c (alike_self x s) refl h)
     go false h = sym (fits_asking own seen _ x x s c (alike_self x s) refl h few)
 
--- ---- on a desk
+-- ---- on a state
 
 -- the ballot in the next round has a spelling
 pub top_fits : (x : Draft) (seen : Ballot) → IsSound x → FitsBallot seen → (top : Ballot) → top ≡ greater_ballot (promised x.replica.log) seen → (top.round ≡ u64_max → ⊥) →

@@ -10,13 +10,13 @@ use Rattle.crsm_spec.specs.Lists.{has, numbers_below}
 use Rattle.crsm_spec.specs.Log.{known, decision, spec}
 use Rattle.crsm_spec.specs.Quorum.{spec_decided, has_majority}
 use Rattle.crsm_spec.specs.Replica.{Replica, Coordinator, spec_of}
-use Rattle.crsm_spec.specs.Draft.{Draft, keep, noting, tell_each}
+use Rattle.crsm_spec.specs.Draft.{Draft, keep, noting, send_to_each}
 use Rattle.crsm_spec.specs.Coordinate.{learn, both_specs, on_chosen, count_acceptor}
 use Rattle.crsm_spec.specs.Controls.{if_spec, on_p1no, on_p2b}
 use Rattle.crsm_coordinator.specs.Coordinator.{CoordinatorStands, VotedIs, takes_vote, is_ended_by, preempted_by}
 use Rattle.crsm_coordinator.specs.declared.coordinator.Coordinator.{Coordinator as InMemory}
 use Rattle.crsm_coordinator.specs.declared.coordinator.Voted.{Voted}
-use Rattle.crsm_reconfigure.specs.Rules.{hears_no, hears_vote}
+use Rattle.crsm_reconfigure.specs.Rules.{receives_no, receives_vote}
 use Rattle.crsm_reconfigure.proofs.DraftLemmas.{when_yes, when_no, each_fitting}
 
 -- ---- a decision is chosen
@@ -26,12 +26,12 @@ unfolding on_chosen
 chosen_fitting d x = each_fitting _ _ (learn d x)
 
 pub chosen_as : (d : Decision) (x : Draft) (old new : List ℕ) (me : ℕ) → old ≡ spec_of x.replica → me ≡ x.replica.me → new ≡ spec_of ((learn d x).replica) →
-    tell_each (filter (λ k. (has old k || has new k) && not (k == me)) (numbers_below 15)) (Control.Decide d) (learn d x) ≡ on_chosen d x
+    send_to_each (filter (λ k. (has old k || has new k) && not (k == me)) (numbers_below 15)) (Control.Decide d) (learn d x) ≡ on_chosen d x
 unfolding on_chosen both_specs
 chosen_as d x old new me o m n =
-    ap (λ s. tell_each (filter (λ k. (has s k || has new k) && not (k == me)) (numbers_below 15)) (Control.Decide d) (learn d x)) o
-    ∙ ap (λ s. tell_each (filter (λ k. (has (spec_of x.replica) k || has s k) && not (k == me)) (numbers_below 15)) (Control.Decide d) (learn d x)) n
-    ∙ ap (λ i. tell_each (filter (λ k. (has (spec_of x.replica) k || has (spec_of ((learn d x).replica)) k) && not (k == i)) (numbers_below 15)) (Control.Decide d) (learn d x)) m
+    ap (λ s. send_to_each (filter (λ k. (has s k || has new k) && not (k == me)) (numbers_below 15)) (Control.Decide d) (learn d x)) o
+    ∙ ap (λ s. send_to_each (filter (λ k. (has (spec_of x.replica) k || has s k) && not (k == me)) (numbers_below 15)) (Control.Decide d) (learn d x)) n
+    ∙ ap (λ i. send_to_each (filter (λ k. (has (spec_of x.replica) k || has (spec_of ((learn d x).replica)) k) && not (k == i)) (numbers_below 15)) (Control.Decide d) (learn d x)) m
 
 -- whatever the coordinator was
 pub chosen_coordinator : (d : Decision) (m : Coordinator) (x : Draft) → on_chosen d (noting m x) ≡ on_chosen d x
@@ -88,10 +88,10 @@ pub record IsVoteFor (k i : ℕ) (b : Ballot) (x : Draft) : Type 0 where
   pub acceptors : List ℕ
   pub is : x.replica.coordinator ≡ Coordinator.Proposing c own value acceptors
   pub counted : has (spec_of x.replica) k ≡ true
-  pub rule : hears_vote k i b x ≡ count_acceptor c own value acceptors k x
+  pub rule : receives_vote k i b x ≡ count_acceptor c own value acceptors k x
 
 vote_in : (k i : ℕ) (b : Ballot) (x : Draft) (m : Coordinator) → x.replica.coordinator ≡ m → has (spec_of x.replica) k ≡ true → (i == known x.replica.log + 1) ≡ true → takes_vote m b k ≡ true → IsVoteFor k i b x
-unfolding takes_vote hears_vote if_spec on_p2b
+unfolding takes_vote receives_vote if_spec on_p2b
 vote_in k i b x Coordinator.Idle e h n t = absurd (false≢true t)
 vote_in k i b x (Coordinator.Collecting ms pages) e h n t = absurd (false≢true t)
 vote_in k i b x (Coordinator.Preparing c own answers) e h n t = absurd (false≢true t)
@@ -152,8 +152,8 @@ no_vote_in k i b x (Coordinator.Proposing c own value acceptors) h = go (has (sp
     go true true true false h = refl
     go true true true true h = absurd (false≢true (sym h))
 
-pub vote_ignored : (k i : ℕ) (b : Ballot) (x : Draft) → ((has (spec_of x.replica) k && (i == known x.replica.log + 1)) && takes_vote x.replica.coordinator b k) ≡ false → hears_vote k i b x ≡ x
-unfolding hears_vote
+pub vote_ignored : (k i : ℕ) (b : Ballot) (x : Draft) → ((has (spec_of x.replica) k && (i == known x.replica.log + 1)) && takes_vote x.replica.coordinator b k) ≡ false → receives_vote k i b x ≡ x
+unfolding receives_vote
 vote_ignored k i b x h = no_vote_in k i b x x.replica.coordinator h
 
 -- ---- refusals
@@ -212,10 +212,10 @@ refused_in k i b top x (Coordinator.Proposing c own value acceptors) t h = go (h
     go false q r s true h = absurd (false≢true h)
     go false q r s false h = refl
 
-pub no_ends : (k i : ℕ) (b top : Ballot) (x : Draft) → ((has (spec_of x.replica) k && (i == known x.replica.log + 1)) && is_ended_by x.replica.coordinator b top) ≡ true → hears_no k i b top x ≡ noting (preempted_by x.replica.coordinator top) x
-unfolding hears_no
+pub no_ends : (k i : ℕ) (b top : Ballot) (x : Draft) → ((has (spec_of x.replica) k && (i == known x.replica.log + 1)) && is_ended_by x.replica.coordinator b top) ≡ true → receives_no k i b top x ≡ noting (preempted_by x.replica.coordinator top) x
+unfolding receives_no
 no_ends k i b top x h = refused_in k i b top x x.replica.coordinator true h ∙ when_yes true _ x refl
 
-pub no_ignored : (k i : ℕ) (b top : Ballot) (x : Draft) → ((has (spec_of x.replica) k && (i == known x.replica.log + 1)) && is_ended_by x.replica.coordinator b top) ≡ false → hears_no k i b top x ≡ x
-unfolding hears_no
+pub no_ignored : (k i : ℕ) (b top : Ballot) (x : Draft) → ((has (spec_of x.replica) k && (i == known x.replica.log + 1)) && is_ended_by x.replica.coordinator b top) ≡ false → receives_no k i b top x ≡ x
+unfolding receives_no
 no_ignored k i b top x h = refused_in k i b top x x.replica.coordinator false h ∙ when_no false _ x refl

@@ -11,11 +11,11 @@ use Rattle.crsm_spec.specs.Types.{Entry, Decision, Rec, Control}
 use Rattle.crsm_spec.specs.Choice.{when◌then◌otherwise◌}
 use Rattle.crsm_spec.specs.Log.{Log, known, start, decision, executed, boots, is_boot, live, suspended, active}
 use Rattle.crsm_spec.specs.Fits.{fits, booted, goes_on}
-use Rattle.crsm_spec.specs.Draft.{Draft, keep, noting, tell, tell_each, tell_all, tell_decision, tell_retrieve}
+use Rattle.crsm_spec.specs.Draft.{Draft, keep, noting, send_control, send_to_each, send_to_all, send_decision, send_retrieve}
 use Rattle.crsm_spec.specs.Coordinate.{forget_epoch, adopt_tail, enter, advance, learn}
 use Rattle.crsm_spec.specs.Controls.{on_decide, retrieve_base}
 use Rattle.crsm_spec.specs.Step.{if_fitting}
-use Rattle.crsm_replica.specs.declared.desk.Desk.{Desk}
+use Rattle.crsm_replica.specs.declared.state.ReplicaState.{ReplicaState}
 use Rattle.crsm_replica.specs.Replica.{StandsFor, learnt}
 use Rattle.crsm_reconfigure.specs.Rules.{tail_goes_on, rest_goes_on}
 
@@ -55,61 +55,61 @@ and_none false b h = refl
 
 -- ---- an input whose records would not fit
 
-pub is_whole : (desk : Desk) (x y : Draft) → y.fitting ≡ true → StandsFor desk y → StandsFor desk (if_fitting x y)
+pub is_whole : (state : ReplicaState) (x y : Draft) → y.fitting ≡ true → StandsFor state y → StandsFor state (if_fitting x y)
 unfolding if_fitting
-is_whole desk x y f s = subst (λ z. StandsFor desk z) (sym (when_yes y.fitting y x f)) s
+is_whole state x y f s = subst (λ z. StandsFor state z) (sym (when_yes y.fitting y x f)) s
 
-pub is_ignored : (desk : Desk) (x y : Draft) → y.fitting ≡ false → StandsFor desk x → StandsFor desk (if_fitting x y)
+pub is_ignored : (state : ReplicaState) (x y : Draft) → y.fitting ≡ false → StandsFor state x → StandsFor state (if_fitting x y)
 unfolding if_fitting
-is_ignored desk x y f s = subst (λ z. StandsFor desk z) (sym (when_no y.fitting y x f)) s
+is_ignored state x y f s = subst (λ z. StandsFor state z) (sym (when_no y.fitting y x f)) s
 
-pub was_whole : (desk : Desk) (x y : Draft) → y.fitting ≡ true → StandsFor desk (if_fitting x y) → StandsFor desk y
+pub was_whole : (state : ReplicaState) (x y : Draft) → y.fitting ≡ true → StandsFor state (if_fitting x y) → StandsFor state y
 unfolding if_fitting
-was_whole desk x y f s = subst (λ z. StandsFor desk z) (when_yes y.fitting y x f) s
+was_whole state x y f s = subst (λ z. StandsFor state z) (when_yes y.fitting y x f) s
 
-pub was_ignored : (desk : Desk) (x y : Draft) → y.fitting ≡ false → StandsFor desk (if_fitting x y) → StandsFor desk x
+pub was_ignored : (state : ReplicaState) (x y : Draft) → y.fitting ≡ false → StandsFor state (if_fitting x y) → StandsFor state x
 unfolding if_fitting
-was_ignored desk x y f s = subst (λ z. StandsFor desk z) (when_no y.fitting y x f) s
+was_ignored state x y f s = subst (λ z. StandsFor state z) (when_no y.fitting y x f) s
 
 -- one that does nothing
-pub does_nothing : (desk : Desk) (x y : Draft) → y ≡ x → StandsFor desk x → StandsFor desk (if_fitting x y)
+pub does_nothing : (state : ReplicaState) (x y : Draft) → y ≡ x → StandsFor state x → StandsFor state (if_fitting x y)
 unfolding if_fitting
-does_nothing desk x y e s = subst (λ z. StandsFor desk (when z.fitting then z otherwise x)) (sym e) (go x.fitting)
+does_nothing state x y e s = subst (λ z. StandsFor state (when z.fitting then z otherwise x)) (sym e) (go x.fitting)
   where
-    go : (b : Bool) → StandsFor desk (when b then x otherwise x)
-    go true = subst (λ z. StandsFor desk z) (sym (when_yes true x x refl)) s
-    go false = subst (λ z. StandsFor desk z) (sym (when_no false x x refl)) s
+    go : (b : Bool) → StandsFor state (when b then x otherwise x)
+    go true = subst (λ z. StandsFor state z) (sym (when_yes true x x refl)) s
+    go false = subst (λ z. StandsFor state z) (sym (when_no false x x refl)) s
 
 -- one that is equal to another
-pub instead : (desk : Desk) (x y z : Draft) → y ≡ z → StandsFor desk (if_fitting x y) → StandsFor desk (if_fitting x z)
-instead desk x y z e s = subst (λ w. StandsFor desk (if_fitting x w)) e s
+pub instead : (state : ReplicaState) (x y z : Draft) → y ≡ z → StandsFor state (if_fitting x y) → StandsFor state (if_fitting x z)
+instead state x y z e s = subst (λ w. StandsFor state (if_fitting x w)) e s
 
 -- ---- telling
 
-pub tell_fitting : (c : Control) (x : Draft) (k : ℕ) → (tell c x k).fitting ≡ x.fitting
-unfolding tell
-tell_fitting c x k = when_same (λ y. y.fitting) _ _ _ x.fitting refl refl
+pub send_fitting : (c : Control) (x : Draft) (k : ℕ) → (send_control c x k).fitting ≡ x.fitting
+unfolding send_control
+send_fitting c x k = when_same (λ y. y.fitting) _ _ _ x.fitting refl refl
 
-pub each_fitting : (ks : List ℕ) (c : Control) (x : Draft) → (tell_each ks c x).fitting ≡ x.fitting
-unfolding tell_each
+pub each_fitting : (ks : List ℕ) (c : Control) (x : Draft) → (send_to_each ks c x).fitting ≡ x.fitting
+unfolding send_to_each
 each_fitting [] c x = refl
-each_fitting (k ∷ ks) c x = each_fitting ks c (tell c x k) ∙ tell_fitting c x k
+each_fitting (k ∷ ks) c x = each_fitting ks c (send_control c x k) ∙ send_fitting c x k
 
-pub all_fitting : (c : Control) (x : Draft) → (tell_all c x).fitting ≡ x.fitting
-unfolding tell_all
+pub all_fitting : (c : Control) (x : Draft) → (send_to_all c x).fitting ≡ x.fitting
+unfolding send_to_all
 all_fitting c x = each_fitting _ c x
 
-pub decision_fitting : (k : ℕ) (x : Draft) → (tell_decision k x).fitting ≡ x.fitting
-unfolding tell_decision
+pub decision_fitting : (k : ℕ) (x : Draft) → (send_decision k x).fitting ≡ x.fitting
+unfolding send_decision
 decision_fitting k x = go (decision x.replica.log)
   where
-    go : (o : Option Decision) → (option_map_or (λ d. tell (Control.Decide d) x k) o x).fitting ≡ x.fitting
+    go : (o : Option Decision) → (option_map_or (λ d. send_control (Control.Decide d) x k) o x).fitting ≡ x.fitting
     go None = refl
-    go (Some d) = tell_fitting (Control.Decide d) x k
+    go (Some d) = send_fitting (Control.Decide d) x k
 
-pub retrieve_fitting : (k : ℕ) (x : Draft) → (tell_retrieve k x).fitting ≡ x.fitting
-unfolding tell_retrieve
-retrieve_fitting k x = tell_fitting _ x k
+pub retrieve_fitting : (k : ℕ) (x : Draft) → (send_retrieve k x).fitting ≡ x.fitting
+unfolding send_retrieve
+retrieve_fitting k x = send_fitting _ x k
 
 -- ---- entering
 
@@ -285,7 +285,7 @@ below_base : (done : ℕ) (o : Option Decision) → option_map_or (λ d. nat_lt 
 below_base done None = grind (arith, nat_tests)
 below_base done (Some d) = refl
 
-pub base_is : (k : ℕ) (x : Draft) (done base : ℕ) → done ≡ length (executed x.replica.log) → base ≡ option_map_or (λ d. d.base_len) (decision x.replica.log) 0 → done < base → retrieve_base k x ≡ tell_retrieve k x
+pub base_is : (k : ℕ) (x : Draft) (done base : ℕ) → done ≡ length (executed x.replica.log) → base ≡ option_map_or (λ d. d.base_len) (decision x.replica.log) 0 → done < base → retrieve_base k x ≡ send_retrieve k x
 unfolding retrieve_base
 base_is k x done base e b h =
     when_yes _ _ x (below_base (length (executed x.replica.log)) (decision x.replica.log) ∙ (let t : nat_lt done base ≡ true = grind (arith, nat_tests) in

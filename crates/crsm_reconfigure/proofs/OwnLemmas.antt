@@ -11,8 +11,8 @@ use Rattle.crsm_spec.specs.Fits.{fits, booted, can_be_members}
 use Rattle.crsm_spec.specs.Paxos.{Held}
 use Rattle.crsm_spec.specs.Quorum.{spec_decided, has_majority}
 use Rattle.crsm_spec.specs.Replica.{Coordinator, spec_of}
-use Rattle.crsm_spec.specs.Draft.{Draft, keep, noting, tell, tell_each}
-use Rattle.crsm_spec.specs.Coordinate.{forget_epoch, adopt_tail, enter, advance, instance, learn, on_chosen, has_accepted, count_acceptor, accept_own, tell_proposal, tell_ask}
+use Rattle.crsm_spec.specs.Draft.{Draft, keep, noting, send_control, send_to_each}
+use Rattle.crsm_spec.specs.Coordinate.{forget_epoch, adopt_tail, enter, advance, instance, learn, on_chosen, has_accepted, count_acceptor, accept_own, send_proposal, send_ask}
 use Rattle.crsm_spec.specs.Step.{renew}
 use Rattle.crsm_coordinator.specs.Coordinator.{epoch_of}
 use Rattle.crsm_reconfigure.specs.Rules.{tail_goes_on}
@@ -81,33 +81,33 @@ module _ (b : Ballot) (own value : Decision) (acceptors : List ℕ) (x : Draft) 
 
 -- ---- what is told changes neither the coordinator nor what fits
 
-tell_coordinator : (c : Control) (x : Draft) (k : ℕ) → (tell c x k).replica.coordinator ≡ x.replica.coordinator
-unfolding tell
-tell_coordinator c x k = when_same (λ y. y.replica.coordinator) _ _ _ x.replica.coordinator refl refl
+send_coordinator : (c : Control) (x : Draft) (k : ℕ) → (send_control c x k).replica.coordinator ≡ x.replica.coordinator
+unfolding send_control
+send_coordinator c x k = when_same (λ y. y.replica.coordinator) _ _ _ x.replica.coordinator refl refl
 
-each_coordinator : (ks : List ℕ) (c : Control) (x : Draft) → (tell_each ks c x).replica.coordinator ≡ x.replica.coordinator
-unfolding tell_each
+each_coordinator : (ks : List ℕ) (c : Control) (x : Draft) → (send_to_each ks c x).replica.coordinator ≡ x.replica.coordinator
+unfolding send_to_each
 each_coordinator [] c x = refl
-each_coordinator (k ∷ ks) c x = each_coordinator ks c (tell c x k) ∙ tell_coordinator c x k
+each_coordinator (k ∷ ks) c x = each_coordinator ks c (send_control c x k) ∙ send_coordinator c x k
 
-pub proposal_fitting : (m : Coordinator) (x : Draft) → (tell_proposal m x).fitting ≡ x.fitting
-unfolding tell_proposal
+pub proposal_fitting : (m : Coordinator) (x : Draft) → (send_proposal m x).fitting ≡ x.fitting
+unfolding send_proposal
 proposal_fitting Coordinator.Idle x = refl
 proposal_fitting (Coordinator.Collecting ms pages) x = refl
 proposal_fitting (Coordinator.Preparing b own answers) x = refl
 proposal_fitting (Coordinator.Proposing b own value acceptors) x = each_fitting _ _ x
 proposal_fitting (Coordinator.Preempted own seen) x = refl
 
-proposal_coordinator : (m : Coordinator) (x : Draft) → (tell_proposal m x).replica.coordinator ≡ x.replica.coordinator
-unfolding tell_proposal
+proposal_coordinator : (m : Coordinator) (x : Draft) → (send_proposal m x).replica.coordinator ≡ x.replica.coordinator
+unfolding send_proposal
 proposal_coordinator Coordinator.Idle x = refl
 proposal_coordinator (Coordinator.Collecting ms pages) x = refl
 proposal_coordinator (Coordinator.Preparing b own answers) x = refl
 proposal_coordinator (Coordinator.Proposing b own value acceptors) x = each_coordinator _ _ x
 proposal_coordinator (Coordinator.Preempted own seen) x = refl
 
-pub ask_fitting : (m : Coordinator) (x : Draft) → (tell_ask m x).fitting ≡ x.fitting
-unfolding tell_ask
+pub ask_fitting : (m : Coordinator) (x : Draft) → (send_ask m x).fitting ≡ x.fitting
+unfolding send_ask
 ask_fitting Coordinator.Idle x = refl
 ask_fitting (Coordinator.Collecting ms pages) x = refl
 ask_fitting (Coordinator.Preparing b own answers) x = each_fitting _ _ x
@@ -118,18 +118,18 @@ ask_fitting (Coordinator.Preempted own seen) x = refl
 
 -- nothing is asked where this is the coordinator
 abbrev AsksNothing : Coordinator → Type 0
-AsksNothing m = (y : Draft) → tell_ask m y ≡ y
+AsksNothing m = (y : Draft) → send_ask m y ≡ y
 
 over_asks : (own : Decision) (seen : Ballot) → AsksNothing (Coordinator.Preempted own seen)
-unfolding tell_ask
+unfolding send_ask
 over_asks own seen y = refl
 
 proposing_asks : (b : Ballot) (own value : Decision) (acceptors : List ℕ) → AsksNothing (Coordinator.Proposing b own value acceptors)
-unfolding tell_ask
+unfolding send_ask
 proposing_asks b own value acceptors y = refl
 
 quiet_asks : AsksNothing Coordinator.Idle
-unfolding tell_ask
+unfolding send_ask
 quiet_asks y = refl
 
 enter_coordinator : (x : Draft) → (enter x).replica.coordinator ≡ x.replica.coordinator
@@ -176,7 +176,7 @@ own_asks b own value acceptors x e = go (ballot_lt b (promised x.replica.log)) (
         (count_asks b own value acceptors x.replica.me (keep (Rec.Accept (instance x) b value) x))
 
 pub renewed_asks : (b : Ballot) (own value : Decision) (acceptors : List ℕ) (x : Draft) → x.replica.coordinator ≡ Coordinator.Proposing b own value acceptors →
-    tell_ask (renew (Coordinator.Proposing b own value acceptors) x).replica.coordinator (renew (Coordinator.Proposing b own value acceptors) x) ≡ renew (Coordinator.Proposing b own value acceptors) x
+    send_ask (renew (Coordinator.Proposing b own value acceptors) x).replica.coordinator (renew (Coordinator.Proposing b own value acceptors) x) ≡ renew (Coordinator.Proposing b own value acceptors) x
 unfolding renew
 renewed_asks b own value acceptors x e = subst (λ m. AsksNothing m) (sym (proposal_coordinator _ _)) (own_asks b own value acceptors x e) _
 

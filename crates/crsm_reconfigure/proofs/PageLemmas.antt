@@ -11,7 +11,7 @@ use Rattle.crsm_spec.specs.Types.{Entry, Decision, Rec, Control}
 use Rattle.crsm_spec.specs.Choice.{when◌then◌otherwise◌}
 use Rattle.crsm_spec.specs.Log.{Log, known, decision, executed, live, suspended, active}
 use Rattle.crsm_spec.specs.Fits.{booted}
-use Rattle.crsm_spec.specs.Draft.{Draft, keep, tell, tell_decision, tell_retrieve}
+use Rattle.crsm_spec.specs.Draft.{Draft, keep, send_control, send_decision, send_retrieve}
 use Rattle.crsm_spec.specs.Coordinate.{advance, adopt_tail}
 use Rattle.crsm_spec.specs.Controls.{page_from, on_retrieve, new_entries, may_adopt, on_page}
 use Rattle.crsm_replica.specs.Sound.{IsSound}
@@ -21,26 +21,26 @@ use Rattle.crsm_transfer.specs.Fitting.{IsPage, fit_of, fit_in}
 use Rattle.crsm_transfer.specs.Paging.{page_at}
 use Rattle.crsm_log_facts.proofs.EntriesFit.{take_fits, drop_fits}
 use Rattle.crsm_log_facts.proofs.LogsFit.{decision_fits, known_small, executed_page}
-use Rattle.crsm_reconfigure.specs.Rules.{CanAdopt, on_page_in, tell_executed, take_executed, rest_goes_on}
+use Rattle.crsm_reconfigure.specs.Rules.{CanAdopt, on_page_in, send_executed, take_executed, rest_goes_on}
 use Rattle.crsm_reconfigure.proofs.DraftLemmas.{when_yes, when_no, booted_more, rest_fits, enter_fitting, retrieve_fitting}
 
 -- ---- telling
 
-pub page_gone : (k from : ℕ) (x : Draft) → None ≡ page_at x.replica.log from → tell_executed k from x ≡ x
-unfolding page_at tell_executed
+pub page_gone : (k from : ℕ) (x : Draft) → None ≡ page_at x.replica.log from → send_executed k from x ≡ x
+unfolding page_at send_executed
 page_gone k from x h = go (nat_lt from (length (executed x.replica.log))) refl h
   where
     go : (b : Bool) → nat_lt from (length (executed x.replica.log)) ≡ b → None ≡ (if b then Some (page_from x.replica.log from) else None) →
-        (when nat_lt from (length (executed x.replica.log)) then tell (page_from x.replica.log from) x k otherwise x) ≡ x
+        (when nat_lt from (length (executed x.replica.log)) then send_control (page_from x.replica.log from) x k otherwise x) ≡ x
     go true e h = absurd (none-some _ h)
     go false e h = when_no _ _ x e
 
-pub page_there : (k from : ℕ) (x : Draft) (c : Control) → Some c ≡ page_at x.replica.log from → (c ≡ page_from x.replica.log from) × (tell_executed k from x ≡ tell (page_from x.replica.log from) x k)
-unfolding page_at tell_executed
+pub page_there : (k from : ℕ) (x : Draft) (c : Control) → Some c ≡ page_at x.replica.log from → (c ≡ page_from x.replica.log from) × (send_executed k from x ≡ send_control (page_from x.replica.log from) x k)
+unfolding page_at send_executed
 page_there k from x c h = go (nat_lt from (length (executed x.replica.log))) refl h
   where
     go : (b : Bool) → nat_lt from (length (executed x.replica.log)) ≡ b → Some c ≡ (if b then Some (page_from x.replica.log from) else None) →
-        (c ≡ page_from x.replica.log from) × ((when nat_lt from (length (executed x.replica.log)) then tell (page_from x.replica.log from) x k otherwise x) ≡ tell (page_from x.replica.log from) x k)
+        (c ≡ page_from x.replica.log from) × ((when nat_lt from (length (executed x.replica.log)) then send_control (page_from x.replica.log from) x k otherwise x) ≡ send_control (page_from x.replica.log from) x k)
     go true e h = (same_Some c _ h, when_yes _ _ x e)
     go false e h = absurd (none-some c (sym h))
 
@@ -48,16 +48,16 @@ pub page_spelt : (x : Draft) (from : ℕ) → IsSound x → from < 2 ^ 64 → Fi
 unfolding page_from
 page_spelt x from s l = (known_small x.replica.log s.spelt, l, executed_page x.replica.me x.replica.n x.replica.log from s.kept s.spelt)
 
-pub retrieve_old : (k e from : ℕ) (x : Draft) → e < known x.replica.log → on_retrieve k e from x ≡ tell_decision k x
+pub retrieve_old : (k e from : ℕ) (x : Draft) → e < known x.replica.log → on_retrieve k e from x ≡ send_decision k x
 unfolding on_retrieve
 retrieve_old k e from x h = when_yes _ _ _ (grind (arith, nat_tests))
 
-pub retrieve_more : (k e from : ℕ) (x : Draft) → known x.replica.log < e → on_retrieve k e from x ≡ tell_retrieve k (tell_executed k from x)
-unfolding on_retrieve tell_executed
+pub retrieve_more : (k e from : ℕ) (x : Draft) → known x.replica.log < e → on_retrieve k e from x ≡ send_retrieve k (send_executed k from x)
+unfolding on_retrieve send_executed
 retrieve_more k e from x h = when_no _ _ _ (grind (arith, nat_tests)) ∙ when_yes _ _ _ (grind (arith, nat_tests))
 
-pub retrieve_same : (k e from : ℕ) (x : Draft) → known x.replica.log ≡ e → on_retrieve k e from x ≡ tell_executed k from x
-unfolding on_retrieve tell_executed
+pub retrieve_same : (k e from : ℕ) (x : Draft) → known x.replica.log ≡ e → on_retrieve k e from x ≡ send_executed k from x
+unfolding on_retrieve send_executed
 retrieve_same k e from x h = when_no _ _ _ (grind (arith, nat_tests)) ∙ when_no _ _ _ (grind (arith, nat_tests))
 
 -- ---- taking

@@ -9,8 +9,8 @@ use Rattle.crsm_spec.specs.Log.{known, decision, spec, executed, promised, activ
 use Rattle.crsm_spec.specs.Paxos.{Answer}
 use Rattle.crsm_spec.specs.Quorum.{has_majority}
 use Rattle.crsm_spec.specs.Replica.{Coordinator, spec_of, others}
-use Rattle.crsm_spec.specs.Draft.{Draft, keep, noting, tell_each, tell_all, retrieve}
-use Rattle.crsm_spec.specs.Coordinate.{instance, learn, has_accepted, count_acceptor, accept_own, tell_ask, tell_proposal}
+use Rattle.crsm_spec.specs.Draft.{Draft, keep, noting, send_to_each, send_to_all, retrieve}
+use Rattle.crsm_spec.specs.Coordinate.{instance, learn, has_accepted, count_acceptor, accept_own, send_ask, send_proposal}
 use Rattle.crsm_spec.specs.Step.{ask_all}
 use Rattle.crsm_coordinator.specs.Coordinator.{IsOwn, epoch_of, counted_of, proposal_of}
 use Rattle.crsm_reconfigure.proofs.DraftLemmas.{when_yes, when_no, kept_monotone}
@@ -68,21 +68,21 @@ none_proposed o a h i = none-some a (sym i ∙ h)
 -- ---- what is told
 
 pub ask_as : (b : Ballot) (own : Decision) (answers : List (Answer Decision)) (x : Draft) (c : Ballot) (i : ℕ) (ks ms : List ℕ) → c ≡ b → i ≡ instance x → ks ≡ others x.replica →
-    ms ≡ filter (λ k. not (has (counted_of (Coordinator.Preparing b own answers)) k)) ks → tell_each ms (Control.P1a i c) x ≡ tell_ask (Coordinator.Preparing b own answers) x
-unfolding tell_ask counted_of
+    ms ≡ filter (λ k. not (has (counted_of (Coordinator.Preparing b own answers)) k)) ks → send_to_each ms (Control.P1a i c) x ≡ send_ask (Coordinator.Preparing b own answers) x
+unfolding send_ask counted_of
 ask_as b own answers x c i ks ms hb hi hk hm =
-    ap (λ zs. tell_each zs (Control.P1a i c) x) hm ∙ ap (λ zs. tell_each (filter (λ k. not (has (map (λ a. a.replica) answers) k)) zs) (Control.P1a i c) x) hk
-    ∙ ap (λ j. tell_each (filter (λ k. not (has (map (λ a. a.replica) answers) k)) (others x.replica)) (Control.P1a j c) x) hi
-    ∙ ap (λ p. tell_each (filter (λ k. not (has (map (λ a. a.replica) answers) k)) (others x.replica)) (Control.P1a (instance x) p) x) hb
+    ap (λ zs. send_to_each zs (Control.P1a i c) x) hm ∙ ap (λ zs. send_to_each (filter (λ k. not (has (map (λ a. a.replica) answers) k)) zs) (Control.P1a i c) x) hk
+    ∙ ap (λ j. send_to_each (filter (λ k. not (has (map (λ a. a.replica) answers) k)) (others x.replica)) (Control.P1a j c) x) hi
+    ∙ ap (λ p. send_to_each (filter (λ k. not (has (map (λ a. a.replica) answers) k)) (others x.replica)) (Control.P1a (instance x) p) x) hb
 
 pub proposal_as : (b : Ballot) (own value : Decision) (acceptors : List ℕ) (x : Draft) (c : Ballot) (d : Decision) (i : ℕ) (ks ms : List ℕ) → c ≡ b → d ≡ value → i ≡ instance x → ks ≡ others x.replica →
-    ms ≡ filter (λ k. not (has (counted_of (Coordinator.Proposing b own value acceptors)) k)) ks → tell_each ms (Control.P2a i c d) x ≡ tell_proposal (Coordinator.Proposing b own value acceptors) x
-unfolding tell_proposal counted_of
+    ms ≡ filter (λ k. not (has (counted_of (Coordinator.Proposing b own value acceptors)) k)) ks → send_to_each ms (Control.P2a i c d) x ≡ send_proposal (Coordinator.Proposing b own value acceptors) x
+unfolding send_proposal counted_of
 proposal_as b own value acceptors x c d i ks ms hb hd hi hk hm =
-    ap (λ zs. tell_each zs (Control.P2a i c d) x) hm ∙ ap (λ zs. tell_each (filter (λ k. not (has acceptors k)) zs) (Control.P2a i c d) x) hk
-    ∙ ap (λ j. tell_each (filter (λ k. not (has acceptors k)) (others x.replica)) (Control.P2a j c d) x) hi
-    ∙ ap (λ p. tell_each (filter (λ k. not (has acceptors k)) (others x.replica)) (Control.P2a (instance x) p d) x) hb
-    ∙ ap (λ e. tell_each (filter (λ k. not (has acceptors k)) (others x.replica)) (Control.P2a (instance x) b e) x) hd
+    ap (λ zs. send_to_each zs (Control.P2a i c d) x) hm ∙ ap (λ zs. send_to_each (filter (λ k. not (has acceptors k)) zs) (Control.P2a i c d) x) hk
+    ∙ ap (λ j. send_to_each (filter (λ k. not (has acceptors k)) (others x.replica)) (Control.P2a j c d) x) hi
+    ∙ ap (λ p. send_to_each (filter (λ k. not (has acceptors k)) (others x.replica)) (Control.P2a (instance x) p d) x) hb
+    ∙ ap (λ e. send_to_each (filter (λ k. not (has acceptors k)) (others x.replica)) (Control.P2a (instance x) b e) x) hd
 
 -- a coordinator that proposes this
 pub record IsProposal (m : Coordinator) (p : Ballot × Decision) : Type 0 where
@@ -98,8 +98,8 @@ is_proposal (Coordinator.Preparing b own answers) p h = absurd (none-some p h)
 is_proposal (Coordinator.Proposing b own value acceptors) p h = record { own = own; acceptors = acceptors; is = ap (λ q. Coordinator.Proposing q.0 own q.1 acceptors) (same_Some (b, value) p h) }
 is_proposal (Coordinator.Preempted own seen) p h = absurd (none-some p h)
 
-pub none_told : (m : Coordinator) (x : Draft) → proposal_of m ≡ None → tell_proposal m x ≡ x
-unfolding proposal_of tell_proposal
+pub none_told : (m : Coordinator) (x : Draft) → proposal_of m ≡ None → send_proposal m x ≡ x
+unfolding proposal_of send_proposal
 none_told Coordinator.Idle x h = refl
 none_told (Coordinator.Collecting ms pages) x h = refl
 none_told (Coordinator.Preparing b own answers) x h = refl
@@ -110,9 +110,9 @@ pub active_asks : (x : Draft) → active x.replica.log ≡ true → ask_all x �
 unfolding ask_all
 active_asks x h = when_yes _ _ _ h
 
-pub all_asked : (x : Draft) (e done : ℕ) → active x.replica.log ≡ false → e ≡ known x.replica.log → done ≡ length (executed x.replica.log) → tell_all (Control.Retrieve e done) x ≡ ask_all x
+pub all_asked : (x : Draft) (e done : ℕ) → active x.replica.log ≡ false → e ≡ known x.replica.log → done ≡ length (executed x.replica.log) → send_to_all (Control.Retrieve e done) x ≡ ask_all x
 unfolding ask_all retrieve
-all_asked x e done h k l = ap (λ m. tell_all (Control.Retrieve m done) x) k ∙ ap (λ m. tell_all (Control.Retrieve (known x.replica.log) m) x) l ∙ sym (when_no _ _ _ h)
+all_asked x e done h k l = ap (λ m. send_to_all (Control.Retrieve m done) x) k ∙ ap (λ m. send_to_all (Control.Retrieve (known x.replica.log) m) x) l ∙ sym (when_no _ _ _ h)
 
 pub instance_is : (x : Draft) (e : ℕ) → e ≡ known x.replica.log → e + 1 ≡ instance x
 unfolding instance

@@ -13,7 +13,7 @@ use Rattle.crsm_spec.specs.Quorum.{spec_decided, has_majority}
 use Rattle.crsm_spec.specs.Replica.{Replica, LogPage, Coordinator, spec_of, next_spec, named_spec, others}
 use Rattle.crsm_spec.specs.Collect.{own_page, frozen, whole_ones, first_pages, all_entries, base_of, floor_of, union, collected}
 use Rattle.crsm_spec.specs.Log.{above}
-use Rattle.crsm_spec.specs.Draft.{Draft, keep, noting, parts_to, tell, tell_each, tell_all}
+use Rattle.crsm_spec.specs.Draft.{Draft, keep, noting, parts_to, send_control, send_to_each, send_to_all}
 use Rattle.crsm_spec.specs.Coordinate.{most_collected, may_reconfigure, suspend_once, collect, on_suspect, on_whole}
 use Rattle.crsm_suspend.specs.Collecting.{IsCollecting, FitsGot, got_decided, got_whole}
 use Rattle.crsm_suspend.specs.Coordinating.{on_got, ReportsAreCounted}
@@ -24,7 +24,7 @@ use Rattle.crsm_coordinator.proofs.Coordinators.{gathers}
 use Rattle.crsm_replica.specs.Sound.{IsSound}
 use Rattle.crsm_reconfigure.specs.Rules.{BeginsAlike}
 use Rattle.crsm_reconfigure.specs.Reports.{CanBegin, CanGoOn, begins_fitting}
-use Rattle.crsm_reconfigure.proofs.AlikeLemmas.{alike_noted, alike_told, alike_suspended}
+use Rattle.crsm_reconfigure.proofs.AlikeLemmas.{alike_noted, alike_sent, alike_suspended}
 use Rattle.crsm_reconfigure.proofs.ReportLemmas.{whole_is_got, can_begin, asks_on, got_fitting, fitting_anyhow}
 use Rattle.crsm_reconfigure.proofs.DraftLemmas.{when_yes, when_no, and_first, and_no, and_none}
 use Rattle.crsm_reconfigure.proofs.SuspendLemmas.{once_done, once_now}
@@ -124,21 +124,21 @@ got_same : (x y : Draft) (ms : List ℕ) (pages : List LogPage) → BeginsAlike 
 got_same x y ms pages a =
     got_known y.replica ms pages ∙ ap (λ n. got_knowing n (decision y.replica.log) ms pages) a.n ∙ ap (λ d. got_knowing x.replica.n d ms pages) a.knows ∙ sym (got_known x.replica ms pages)
 
-tell_noted : (c : Control) (m : Coordinator) (x : Draft) (k : ℕ) → tell c (noting m x) k ≡ noting m (tell c x k)
-unfolding tell noting parts_to when◌then◌otherwise◌
-tell_noted c m x k = go (x.replica.made == u64_max) refl
+send_noted : (c : Control) (m : Coordinator) (x : Draft) (k : ℕ) → send_control c (noting m x) k ≡ noting m (send_control c x k)
+unfolding send_control noting parts_to when◌then◌otherwise◌
+send_noted c m x k = go (x.replica.made == u64_max) refl
   where
-    go : (b : Bool) → (x.replica.made == u64_max) ≡ b → tell c (noting m x) k ≡ noting m (tell c x k)
+    go : (b : Bool) → (x.replica.made == u64_max) ≡ b → send_control c (noting m x) k ≡ noting m (send_control c x k)
     go true e = rw e refl
     go false e = rw e refl
 
-each_noted : (ks : List ℕ) (c : Control) (m : Coordinator) (x : Draft) → tell_each ks c (noting m x) ≡ noting m (tell_each ks c x)
-unfolding tell_each
+each_noted : (ks : List ℕ) (c : Control) (m : Coordinator) (x : Draft) → send_to_each ks c (noting m x) ≡ noting m (send_to_each ks c x)
+unfolding send_to_each
 each_noted [] c m x = refl
-each_noted (k ∷ ks) c m x = ap (λ y. fold (tell c) y ks) (tell_noted c m x k) ∙ each_noted ks c m (tell c x k)
+each_noted (k ∷ ks) c m x = ap (λ y. fold (send_control c) y ks) (send_noted c m x k) ∙ each_noted ks c m (send_control c x k)
 
-all_noted : (c : Control) (m : Coordinator) (x : Draft) → tell_all c (noting m x) ≡ noting m (tell_all c x)
-unfolding tell_all noting others spec_of
+all_noted : (c : Control) (m : Coordinator) (x : Draft) → send_to_all c (noting m x) ≡ noting m (send_to_all c x)
+unfolding send_to_all noting others spec_of
 all_noted c m x = each_noted (others x.replica) c m x
 
 gathering_alike : (x y : Draft) (c : Collect) (ms : List ℕ) (pages : List LogPage) → BeginsAlike x y → IsGathering c x.replica.me x.replica.n (decision x.replica.log) ms pages →
@@ -172,20 +172,20 @@ module _ (ms : List ℕ) (x : Draft) where
 
   -- the epoch is suspended, and the others are asked for their frozen logs
   abbrev pub all_told : Draft
-  all_told = tell_all (Control.Suspend (known (suspend_once x).replica.log) None) (suspend_once x)
+  all_told = send_to_all (Control.Suspend (known (suspend_once x).replica.log) None) (suspend_once x)
 
 module _ (law : ReportsAreCounted) (ms : List ℕ) (x : Draft) (s : IsSound x) (may : may_reconfigure x.replica ms ≡ true) where
-  pub told_alike : BeginsAlike x (all_told ms x)
-  told_alike = alike_told _ x (suspend_once x) (alike_suspended x s)
+  pub sent_alike : BeginsAlike x (all_told ms x)
+  sent_alike = alike_sent _ x (suspend_once x) (alike_suspended x s)
 
   begins : (pages : List LogPage) → pages ≡ own_pages ms x →
-      on_whole ms pages (tell_all (Control.Suspend (known (suspend_once x).replica.log) None) (noting (Coordinator.Collecting ms pages) (suspend_once x))) ≡ on_got ms (own_pages ms x) (own_got ms x) (noting (Coordinator.Collecting ms (own_pages ms x)) (all_told ms x))
+      on_whole ms pages (send_to_all (Control.Suspend (known (suspend_once x).replica.log) None) (noting (Coordinator.Collecting ms pages) (suspend_once x))) ≡ on_got ms (own_pages ms x) (own_got ms x) (noting (Coordinator.Collecting ms (own_pages ms x)) (all_told ms x))
   begins pages same =
-      ap (λ ps. on_whole ms ps (tell_all (Control.Suspend (known (suspend_once x).replica.log) None) (noting (Coordinator.Collecting ms ps) (suspend_once x)))) same
+      ap (λ ps. on_whole ms ps (send_to_all (Control.Suspend (known (suspend_once x).replica.log) None) (noting (Coordinator.Collecting ms ps) (suspend_once x)))) same
       ∙ ap (λ y. on_whole ms (own_pages ms x) y) (all_noted _ (Coordinator.Collecting ms (own_pages ms x)) (suspend_once x))
       ∙ law ms (own_pages ms x) (noting (Coordinator.Collecting ms (own_pages ms x)) (all_told ms x))
       ∙ ap (λ g. on_got ms (own_pages ms x) g (noting (Coordinator.Collecting ms (own_pages ms x)) (all_told ms x)))
-      (got_same x (noting (Coordinator.Collecting ms (own_pages ms x)) (all_told ms x)) ms (own_pages ms x) (alike_noted (Coordinator.Collecting ms (own_pages ms x)) x (all_told ms x) told_alike))
+      (got_same x (noting (Coordinator.Collecting ms (own_pages ms x)) (all_told ms x)) ms (own_pages ms x) (alike_noted (Coordinator.Collecting ms (own_pages ms x)) x (all_told ms x) sent_alike))
 
   collects : collect ms (suspend_once x) ≡ on_got ms (own_pages ms x) (own_got ms x) (noting (Coordinator.Collecting ms (own_pages ms x)) (all_told ms x))
   unfolding collect noting
@@ -198,7 +198,7 @@ module _ (law : ReportsAreCounted) (ms : List ℕ) (x : Draft) (s : IsSound x) (
   pub suspect_fitting : (on_suspect ms x).fitting ≡ begins_fitting (own_got ms x) (all_told ms x)
   unfolding noting
   suspect_fitting =
-      ap (λ y. y.fitting) suspect_is ∙ got_fitting ms (own_pages ms x) (own_got ms x) (noting (Coordinator.Collecting ms (own_pages ms x)) (all_told ms x)) told_alike.fitting
+      ap (λ y. y.fitting) suspect_is ∙ got_fitting ms (own_pages ms x) (own_got ms x) (noting (Coordinator.Collecting ms (own_pages ms x)) (all_told ms x)) sent_alike.fitting
       ∙ fitting_anyhow (own_got ms x) (Coordinator.Collecting ms (own_pages ms x)) (all_told ms x)
 
   pub suspect_can : FitsGot (own_got ms x) → CanBegin (own_got ms x) x
@@ -206,11 +206,11 @@ module _ (law : ReportsAreCounted) (ms : List ℕ) (x : Draft) (s : IsSound x) (
 
   pub suspect_goes_on : FitsGot (own_got ms x) → begins_fitting (own_got ms x) (all_told ms x) ≡ true → CanGoOn x.replica.me (own_pages ms x) (own_got ms x) (all_told ms x)
   suspect_goes_on f fit = record {
-    begins = begin_alike (own_got ms x) x (all_told ms x) told_alike (suspect_can f);
+    begins = begin_alike (own_got ms x) x (all_told ms x) sent_alike (suspect_can f);
     fits = fit;
     next = asks_on x.replica.me (known x.replica.log) [] (own_pages ms x) (own_got ms x) (whole_is_got x.replica.me [] x.replica.log (spec_of x.replica) (named_spec x.replica ms) ms (own_pages ms x));
   }
 
   pub suspect_gathers : (c : Collect) → IsCollecting x.replica.log (spec_of x.replica) (named_spec x.replica ms) ms (own_pages ms x) c →
       IsGathering c (all_told ms x).replica.me (all_told ms x).replica.n (decision ((all_told ms x).replica.log)) ms (own_pages ms x)
-  suspect_gathers c h = gathering_alike x (all_told ms x) c ms (own_pages ms x) told_alike (begun_gathers x ms (own_pages ms x) c may h)
+  suspect_gathers c h = gathering_alike x (all_told ms x) c ms (own_pages ms x) sent_alike (begun_gathers x ms (own_pages ms x) c may h)

@@ -5,13 +5,13 @@ use Rattle.crsm_spec.specs.Types.{Ballot, Decision}
 use Rattle.crsm_spec.specs.Paxos.{Answer}
 use Rattle.crsm_spec.specs.Replica.{Coordinator, LogPage}
 use Rattle.crsm_spec.specs.Draft.{Draft}
-use Rattle.crsm_spec.specs.Coordinate.{tell_ask}
-use Rattle.crsm_spec.specs.Step.{ask_page, missing, tell_collect, ask_all, renew, if_fitting}
-use Rattle.crsm_replica.specs.declared.desk.Desk.{Desk}
+use Rattle.crsm_spec.specs.Coordinate.{send_ask}
+use Rattle.crsm_spec.specs.Step.{ask_page, missing, send_collect, ask_all, renew, if_fitting}
+use Rattle.crsm_replica.specs.declared.state.ReplicaState.{ReplicaState}
 use Rattle.crsm_replica.specs.Replica.{StandsFor}
 use Rattle.crsm_coordinator.specs.declared.coordinator.Stage.{Stage}
 use Rattle.crsm_coordinator.specs.Coordinator.{stage_of}
-use Rattle.crsm_reconfigure.proofs.DraftLemmas.{when_same, instead, is_whole, tell_fitting, each_fitting, all_fitting}
+use Rattle.crsm_reconfigure.proofs.DraftLemmas.{when_same, instead, is_whole, send_fitting, each_fitting, all_fitting}
 
 -- ---- the coordinator of a stage
 
@@ -69,12 +69,12 @@ pub renews_nothing : (x : Draft) → renew Coordinator.Idle x ≡ x
 unfolding renew
 renews_nothing x = refl
 
-pub renews_collection : (ms : List ℕ) (pages : List LogPage) (x : Draft) → tell_collect pages x ≡ renew (Coordinator.Collecting ms pages) x
+pub renews_collection : (ms : List ℕ) (pages : List LogPage) (x : Draft) → send_collect pages x ≡ renew (Coordinator.Collecting ms pages) x
 unfolding renew
 renews_collection ms pages x = refl
 
 pub renews_question : (b : Ballot) (own : Decision) (answers : List (Answer Decision)) (x : Draft) →
-    tell_ask (Coordinator.Preparing b own answers) x ≡ renew (Coordinator.Preparing b own answers) x
+    send_ask (Coordinator.Preparing b own answers) x ≡ renew (Coordinator.Preparing b own answers) x
 unfolding renew
 renews_question b own answers x = refl
 
@@ -83,27 +83,27 @@ renews_question b own answers x = refl
 pages_fitting : (ks : List ℕ) (pages : List LogPage) (x : Draft) → (fold (ask_page pages) x ks).fitting ≡ x.fitting
 unfolding ask_page
 pages_fitting [] pages x = refl
-pages_fitting (k ∷ ks) pages x = pages_fitting ks pages (ask_page pages x k) ∙ tell_fitting _ x k
+pages_fitting (k ∷ ks) pages x = pages_fitting ks pages (ask_page pages x k) ∙ send_fitting _ x k
 
-pub collect_fitting : (pages : List LogPage) (x : Draft) → (tell_collect pages x).fitting ≡ x.fitting
-unfolding tell_collect
+pub collect_fitting : (pages : List LogPage) (x : Draft) → (send_collect pages x).fitting ≡ x.fitting
+unfolding send_collect
 collect_fitting pages x = pages_fitting (missing x.replica pages) pages x
 
-pub question_fitting : (b : Ballot) (own : Decision) (answers : List (Answer Decision)) (x : Draft) → (tell_ask (Coordinator.Preparing b own answers) x).fitting ≡ x.fitting
-unfolding tell_ask
+pub question_fitting : (b : Ballot) (own : Decision) (answers : List (Answer Decision)) (x : Draft) → (send_ask (Coordinator.Preparing b own answers) x).fitting ≡ x.fitting
+unfolding send_ask
 question_fitting b own answers x = each_fitting _ _ x
 
 pub asked_all_fitting : (x : Draft) → (ask_all x).fitting ≡ x.fitting
 unfolding ask_all
 asked_all_fitting x = when_same (λ y. y.fitting) _ _ _ x.fitting refl (all_fitting _ x)
 
--- ---- the answer, and the desk
+-- ---- the answer, and the state
 
--- a rule that fits makes this of the desk, and the answer is that it does
-pub all_fits : (desk : Desk) (x y z : Draft) → y ≡ z → y.fitting ≡ true → StandsFor desk y → (true ≡ z.fitting) × StandsFor desk (if_fitting x z)
-all_fits desk x y z e f s = (sym (ap (λ w. w.fitting) (sym e) ∙ f), instead desk x y z e (is_whole desk x y f s))
+-- a rule that fits makes this of the state, and the answer is that it does
+pub all_fits : (state : ReplicaState) (x y z : Draft) → y ≡ z → y.fitting ≡ true → StandsFor state y → (true ≡ z.fitting) × StandsFor state (if_fitting x z)
+all_fits state x y z e f s = (sym (ap (λ w. w.fitting) (sym e) ∙ f), instead state x y z e (is_whole state x y f s))
 
 -- what holds of a coordinator's renewal holds of that of a coordinator that is the same
-pub renewed_as : (desk : Desk) (x : Draft) (fit : Bool) (m k : Coordinator) → m ≡ k → (fit ≡ (renew k x).fitting) × StandsFor desk (if_fitting x (renew k x)) →
-    (fit ≡ (renew m x).fitting) × StandsFor desk (if_fitting x (renew m x))
-renewed_as desk x fit m k e h = subst (λ n. (fit ≡ (renew n x).fitting) × StandsFor desk (if_fitting x (renew n x))) (sym e) h
+pub renewed_as : (state : ReplicaState) (x : Draft) (fit : Bool) (m k : Coordinator) → m ≡ k → (fit ≡ (renew k x).fitting) × StandsFor state (if_fitting x (renew k x)) →
+    (fit ≡ (renew m x).fitting) × StandsFor state (if_fitting x (renew m x))
+renewed_as state x fit m k e h = subst (λ n. (fit ≡ (renew n x).fitting) × StandsFor state (if_fitting x (renew n x))) (sym e) h

@@ -17,11 +17,11 @@ use Rattle.crsm_spec.specs.Paxos.{majority}
 use Rattle.crsm_spec.specs.Quorum.{spec_decided, has_majority}
 use Rattle.crsm_spec.specs.Replica.{LogPage, Coordinator, spec_of, next_spec, named_spec, others}
 use Rattle.crsm_spec.specs.Collect.{cursor, is_whole, whole_ones, collected, is_within, size_of}
-use Rattle.crsm_spec.specs.Draft.{Draft, keep, noting, tell}
+use Rattle.crsm_spec.specs.Draft.{Draft, keep, noting, send_control}
 use Rattle.crsm_spec.specs.Coordinate.{instance, begin_proposing, ask}
 use Rattle.crsm_spec.specs.Controls.{on_control, on_suspend_ok, if_spec}
-use Rattle.crsm_spec.specs.Step.{ask_page, missing, tell_collect}
-use Rattle.crsm_suspend.specs.Collecting.{CanTell, FitsGot, is_asked, got_decided, got_whole, got_more, got_page, page_in, got_of, pages_after}
+use Rattle.crsm_spec.specs.Step.{ask_page, missing, send_collect}
+use Rattle.crsm_suspend.specs.Collecting.{CanSend, FitsGot, is_asked, got_decided, got_whole, got_more, got_page, page_in, got_of, pages_after}
 use Rattle.crsm_suspend.specs.Coordinating.{on_got, PagesAreTaken}
 use Rattle.crsm_suspend.specs.declared.collect.Collect.{Collect}
 use Rattle.crsm_suspend.specs.declared.got.Got.{Got}
@@ -37,7 +37,7 @@ use Rattle.crsm_replica.specs.Sound.{IsSound}
 use Rattle.crsm_reconfigure.specs.Rules.{CanPropose}
 use Rattle.crsm_reconfigure.specs.Reports.{IsReport, CanBegin, AsksOn, CanGoOn, ask_missing, begins_fitting, is_collecting}
 use Rattle.crsm_reconfigure.proofs.BeginLemmas.{begins_shared}
-use Rattle.crsm_reconfigure.proofs.DraftLemmas.{when_yes, when_no, when_same, and_none, tell_fitting}
+use Rattle.crsm_reconfigure.proofs.DraftLemmas.{when_yes, when_no, when_same, and_none, send_fitting}
 
 -- ---- a coordinator that collects
 
@@ -57,11 +57,11 @@ gathering_in (InMemory.Collecting c) me n known ms pages s = (c, s)
 gathering_in (InMemory.Proposing p) me n known ms pages s = absurd s
 gathering_in (InMemory.Preempted own seen) me n known ms pages s = absurd s
 
-page_fit : (x : ℕ) (p : LogPage) → CanTell x p → FitsPage x p
+page_fit : (x : ℕ) (p : LogPage) → CanSend x p → FitsPage x p
 page_fit x p h = record { executed = h.low; entries = λ z a. (all_at FitsEntry p.entries z h.fit a, all_at (λ e. e.epoch ≡ x) p.entries z h.of_epoch a) }
 
-pages_fit : (x : ℕ) (pages : List LogPage) → AllByRecursion (CanTell x) pages → FitPages x pages
-pages_fit x pages h p a = page_fit x p (all_at (CanTell x) pages p h a)
+pages_fit : (x : ℕ) (pages : List LogPage) → AllByRecursion (CanSend x) pages → FitPages x pages
+pages_fit x pages h p a = page_fit x p (all_at (CanSend x) pages p h a)
 
 -- what is asked for next has a spelling
 pub asked_fits : (x : Draft) (me n : ℕ) (c : Collect) (ms : List ℕ) (pages : List LogPage) (k : ℕ) → IsGathering c me n (decision x.replica.log) ms pages → FitsOption FitsStamp (cursor pages k)
@@ -69,9 +69,9 @@ asked_fits x me n c ms pages k g = cursor_fits (known x.replica.log) pages k (pa
 
 -- ---- a page is asked for
 
-pub ask_as : (pages : List LogPage) (x : Draft) (k epoch : ℕ) (after : Option Stamp) → epoch ≡ known x.replica.log → after ≡ cursor pages k → tell (Control.Suspend epoch after) x k ≡ ask_page pages x k
+pub ask_as : (pages : List LogPage) (x : Draft) (k epoch : ℕ) (after : Option Stamp) → epoch ≡ known x.replica.log → after ≡ cursor pages k → send_control (Control.Suspend epoch after) x k ≡ ask_page pages x k
 unfolding ask_page
-ask_as pages x k epoch after e a = ap (λ i. tell (Control.Suspend i after) x k) e ∙ ap (λ o. tell (Control.Suspend (known x.replica.log) o) x k) a
+ask_as pages x k epoch after e a = ap (λ i. send_control (Control.Suspend i after) x k) e ∙ ap (λ o. send_control (Control.Suspend (known x.replica.log) o) x k) a
 
 pub missing_whole : (pages : List LogPage) (x : Draft) (k : ℕ) → is_whole pages k ≡ true → x ≡ ask_missing pages x k
 unfolding ask_missing
@@ -82,7 +82,7 @@ unfolding ask_missing
 missing_asked pages x k h = sym (when_no _ x _ h)
 
 ask_coordinator : (pages : List LogPage) (x : Draft) (k : ℕ) → (ask_page pages x k).replica.coordinator ≡ x.replica.coordinator
-unfolding ask_page tell
+unfolding ask_page send_control
 ask_coordinator pages x k = when_same (λ y. y.replica.coordinator) _ _ _ x.replica.coordinator refl refl
 
 missing_coordinator : (pages : List LogPage) (x : Draft) (k : ℕ) → (ask_missing pages x k).replica.coordinator ≡ x.replica.coordinator
@@ -106,8 +106,8 @@ asks_those pages (k ∷ ks) x = go (is_whole pages k) refl (λ y. asks_those pag
     go true e more = rw e (more x)
     go false e more = rw e (more (ask_page pages x k))
 
-pub asks_all : (pages : List LogPage) (x : Draft) (ks : List ℕ) (i : ℕ) → length ks ≤ i → ks ≡ others x.replica → fold (ask_missing pages) x (take i ks) ≡ tell_collect pages x
-unfolding tell_collect missing
+pub asks_all : (pages : List LogPage) (x : Draft) (ks : List ℕ) (i : ℕ) → length ks ≤ i → ks ≡ others x.replica → fold (ask_missing pages) x (take i ks) ≡ send_collect pages x
+unfolding send_collect missing
 asks_all pages x ks i many is = ap (λ js. fold (ask_missing pages) x js) (take_all i ks many ∙ is) ∙ asks_those pages (others x.replica) x
 
 -- ---- what is done
@@ -122,8 +122,8 @@ module _ (ms : List ℕ) (pages : List LogPage) (x : Draft) where
       ask_page pages (noting (Coordinator.Collecting ms pages) x) k ≡ on_got ms pages (Got.More j after) (noting (Coordinator.Collecting ms pages) x)
   unfolding on_got ask_page noting
   does_more k j after same at =
-      ap (λ o. tell (Control.Suspend (known x.replica.log) o) (noting (Coordinator.Collecting ms pages) x) k) at
-      ∙ ap (λ i. tell (Control.Suspend (known x.replica.log) (Some after)) (noting (Coordinator.Collecting ms pages) x) i) (sym same)
+      ap (λ o. send_control (Control.Suspend (known x.replica.log) o) (noting (Coordinator.Collecting ms pages) x) k) at
+      ∙ ap (λ i. send_control (Control.Suspend (known x.replica.log) (Some after)) (noting (Coordinator.Collecting ms pages) x) i) (sym same)
 
   pub does_nothing_more : noting (Coordinator.Collecting ms pages) x ≡ on_got ms pages Got.Stranger (noting (Coordinator.Collecting ms pages) x)
   unfolding on_got
@@ -145,7 +145,7 @@ module _ (ms : List ℕ) (pages : List LogPage) (x : Draft) where
 pub got_fitting : (ms : List ℕ) (pages : List LogPage) (got : Got) (x : Draft) → x.fitting ≡ true → (on_got ms pages got x).fitting ≡ begins_fitting got x
 unfolding on_got begins_fitting noting
 got_fitting ms pages Got.Stranger x h = h
-got_fitting ms pages (Got.More k after) x h = tell_fitting _ _ k ∙ h
+got_fitting ms pages (Got.More k after) x h = send_fitting _ _ k ∙ h
 got_fitting ms pages Got.Kept x h = h
 got_fitting ms pages (Got.Complete d) x h = ap (λ y. y.fitting) (sym (begins_anyhow d (Coordinator.Preempted d no_ballot) (noting (Coordinator.Collecting ms pages) x)) ∙ sym (begins_anyhow d (Coordinator.Collecting ms pages) x))
 got_fitting ms pages (Got.TooMany count bytes) x h = h

@@ -6,7 +6,7 @@ use Rattle.crsm_base.specs.Messages.{FitsControl}
 use Rattle.crsm_base.specs.Spelling.{FitsOption, FitsStamp}
 use Rattle.crsm_spec.specs.Types.{Stamp, Rec}
 use Rattle.crsm_spec.specs.Log.{known, suspended, executed}
-use Rattle.crsm_spec.specs.Draft.{Draft, keep, tell, tell_decision, tell_retrieve}
+use Rattle.crsm_spec.specs.Draft.{Draft, keep, send_control, send_decision, send_retrieve}
 use Rattle.crsm_spec.specs.Collect.{suspend_ok}
 use Rattle.crsm_spec.specs.Coordinate.{suspend_once}
 use Rattle.crsm_spec.specs.Controls.{on_suspend}
@@ -14,15 +14,15 @@ use Rattle.crsm_replica.specs.Sound.{IsSound}
 use Rattle.crsm_log_facts.proofs.LogsFit.{known_small, last_fits, asked_page}
 use Rattle.crsm_reconfigure.proofs.DraftLemmas.{when_yes, when_no}
 
-pub suspend_old : (k e : ℕ) (after : Option Stamp) (x : Draft) → e < known x.replica.log → on_suspend k e after x ≡ tell_decision k x
+pub suspend_old : (k e : ℕ) (after : Option Stamp) (x : Draft) → e < known x.replica.log → on_suspend k e after x ≡ send_decision k x
 unfolding on_suspend
 suspend_old k e after x h = when_yes _ _ _ (grind (arith, nat_tests))
 
-pub suspend_later : (k e : ℕ) (after : Option Stamp) (x : Draft) → known x.replica.log < e → on_suspend k e after x ≡ tell_retrieve k x
+pub suspend_later : (k e : ℕ) (after : Option Stamp) (x : Draft) → known x.replica.log < e → on_suspend k e after x ≡ send_retrieve k x
 unfolding on_suspend
 suspend_later k e after x h = when_no _ _ _ (grind (arith, nat_tests)) ∙ when_yes _ _ _ (grind (arith, nat_tests))
 
-pub suspend_now : (k e : ℕ) (after : Option Stamp) (x : Draft) → known x.replica.log ≡ e → on_suspend k e after x ≡ tell (suspend_ok ((suspend_once x).replica.log) after) (suspend_once x) k
+pub suspend_now : (k e : ℕ) (after : Option Stamp) (x : Draft) → known x.replica.log ≡ e → on_suspend k e after x ≡ send_control (suspend_ok ((suspend_once x).replica.log) after) (suspend_once x) k
 unfolding on_suspend
 suspend_now k e after x h = when_no _ _ _ (grind (arith, nat_tests)) ∙ when_no _ _ _ (grind (arith, nat_tests))
 

@@ -1,3 +1,3 @@
-pub mod Hearing
+pub mod Receiving
 pub mod Reports
 pub mod Rules

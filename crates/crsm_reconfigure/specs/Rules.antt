@@ -1,4 +1,4 @@
--- What the rules that end an epoch make of a desk, and which records they would keep.
+-- What the rules that end an epoch make of a replica's state, and which records they would keep.
 use Rattle.std.specs.Prelude.{◌≡◌, ◌≢◌, ℕ, ◌+◌, ◌-◌, Bool, true, false, ◌&&◌, nat_lt, nat_le, List, [], length, drop, slice_get, if◌then◌else◌, Option, None, Result, IfOk}
 use Rattle.std.specs.Option.{option_map_or}
 use Rattle.crsm_base.specs.Spelling.{FitsBallot}
@@ -6,32 +6,32 @@ use Rattle.crsm_base.specs.declared.NoMemory.{NoMemory}
 use Rattle.crsm_spec.specs.Types.{Ballot, Entry, Decision, Rec, Control}
 use Rattle.crsm_spec.specs.Choice.{when◌then◌otherwise◌}
 use Rattle.crsm_spec.specs.Fits.{booted, goes_on}
-use Rattle.crsm_spec.specs.Draft.{Draft, keep, tell, tell_retrieve}
+use Rattle.crsm_spec.specs.Draft.{Draft, keep, send_control, send_retrieve}
 use Rattle.crsm_spec.specs.Log.{known, decision, active, executed, promised, accepted}
 use Rattle.crsm_spec.specs.Paxos.{Held}
 use Rattle.crsm_spec.specs.Controls.{if_next, if_spec, on_page, page_from, on_p1b, on_p1no, on_p2b}
 use Rattle.crsm_spec.specs.Coordinate.{advance}
 use Rattle.crsm_spec.specs.Step.{if_fitting}
-use Rattle.crsm_replica.specs.declared.desk.Desk.{Desk}
+use Rattle.crsm_replica.specs.declared.state.ReplicaState.{ReplicaState}
 use Rattle.crsm_replica.specs.Replica.{StandsFor}
 use Rattle.crsm_coordinator.specs.Coordinator.{IsOwn}
 
--- Whatever the old desk stood for, the new one stands for what the rule makes of it, and for the same where its records
+-- Whatever the old state stood for, the new one stands for what the rule makes of it, and for the same where its records
 -- would not fit; or memory ran out.
-abbrev pub Follows : (Draft → Draft) → Desk → Result (Unit {0}) NoMemory → Desk → Type 0
+abbrev pub Follows : (Draft → Draft) → ReplicaState → Result (Unit {0}) NoMemory → ReplicaState → Type 0
 Follows rule old result new = IfOk result (λ _. (x : Draft) → StandsFor old x → StandsFor new (if_fitting x (rule x)))
 
 -- the same under a premise on the draft
-abbrev pub FollowsWhere : (Draft → Type 0) → (Draft → Draft) → Desk → Result (Unit {0}) NoMemory → Desk → Type 0
+abbrev pub FollowsWhere : (Draft → Type 0) → (Draft → Draft) → ReplicaState → Result (Unit {0}) NoMemory → ReplicaState → Type 0
 FollowsWhere P rule old result new = IfOk result (λ _. (x : Draft) → StandsFor old x → P x → StandsFor new (if_fitting x (rule x)))
 
 -- and where the answer says whether its records fit
-abbrev pub TriesWhere : (Draft → Type 0) → (Draft → Draft) → Desk → Result Bool NoMemory → Desk → Type 0
+abbrev pub TriesWhere : (Draft → Type 0) → (Draft → Draft) → ReplicaState → Result Bool NoMemory → ReplicaState → Type 0
 TriesWhere P rule old result new =
     IfOk result (λ fit. (x : Draft) → StandsFor old x → P x → (fit ≡ (rule x).fitting) × StandsFor new (if_fitting x (rule x)))
 
 -- a rule that fits wherever the draft so far does
-abbrev pub MakesWhere : (Draft → Type 0) → (Draft → Draft) → Desk → Result (Unit {0}) NoMemory → Desk → Type 0
+abbrev pub MakesWhere : (Draft → Type 0) → (Draft → Draft) → ReplicaState → Result (Unit {0}) NoMemory → ReplicaState → Type 0
 MakesWhere P rule old result new = IfOk result (λ _. (x : Draft) → StandsFor old x → P x → StandsFor new (rule x))
 
 -- Behind these executed entries the rest of a decision's tail goes on, where its base is executed and the tail is not.
@@ -59,28 +59,28 @@ pub record CanAdopt (x : Draft) (es : List Entry) : Type 0 where
   pub some : es ≢ []
 
 -- An instance of k that is not the next one is answered; for the next one nothing is done yet.
-pub record IsNextOr (k i : ℕ) (x : Draft) (next : Bool) (new : Desk) : Type 0 where
+pub record IsNextOr (k i : ℕ) (x : Draft) (next : Bool) (new : ReplicaState) : Type 0 where
   pub here : next ≡ true → (i ≡ known x.replica.log + 1) × StandsFor new x
   pub other : next ≡ false → (i ≢ known x.replica.log + 1) × ((y : Draft) → StandsFor new (if_next k i x y))
 
--- tells k the first page of the executed entries from a place on, if there is one
-unfoldable pub tell_executed : ℕ → ℕ → Draft → Draft
-tell_executed k from x = when nat_lt from (length (executed x.replica.log)) then tell (page_from x.replica.log from) x k otherwise x
+-- sends k the first page of the executed entries from a place on, if there is one
+unfoldable pub send_executed : ℕ → ℕ → Draft → Draft
+send_executed k from x = when nat_lt from (length (executed x.replica.log)) then send_control (page_from x.replica.log from) x k otherwise x
 
 -- executes entries that follow the executed ones, and asks k for more
 unfoldable pub take_executed : ℕ → List Entry → Draft → Draft
-take_executed k es x = tell_retrieve k (advance (keep (Rec.Adopt (length (executed x.replica.log)) es) x))
+take_executed k es x = send_retrieve k (advance (keep (Rec.Adopt (length (executed x.replica.log)) es) x))
 
--- a refusal of k is heard, and a vote, where k is counted
-unfoldable pub hears_no : ℕ → ℕ → Ballot → Ballot → Draft → Draft
-hears_no k i b top x = if_spec k x (on_p1no i b top x.replica.coordinator x)
+-- a refusal of k is received, and a vote, where k is counted
+unfoldable pub receives_no : ℕ → ℕ → Ballot → Ballot → Draft → Draft
+receives_no k i b top x = if_spec k x (on_p1no i b top x.replica.coordinator x)
 
-unfoldable pub hears_vote : ℕ → ℕ → Ballot → Draft → Draft
-hears_vote k i b x = if_spec k x (on_p2b k i b x.replica.coordinator x)
+unfoldable pub receives_vote : ℕ → ℕ → Ballot → Draft → Draft
+receives_vote k i b x = if_spec k x (on_p2b k i b x.replica.coordinator x)
 
--- a promise of k is heard, with what it had accepted, where k is counted
-unfoldable pub hears_answer : ℕ → ℕ → Ballot → Held Decision → Draft → Draft
-hears_answer k i b accepted x =
+-- a promise of k is received, with what it had accepted, where k is counted
+unfoldable pub receives_answer : ℕ → ℕ → Ballot → Held Decision → Draft → Draft
+receives_answer k i b accepted x =
     if_spec k x (on_p1b i b (record { replica = k; accepted = accepted }) x.replica.coordinator x)
 
 -- the decision is one of the replica's own for the next epoch, and the ballot that was seen has a spelling

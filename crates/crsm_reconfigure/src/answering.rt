@@ -14,98 +14,100 @@ ghost use Rattle.crsm_spec.specs.Coordinate.{count_answer};
 ghost use Rattle.crsm_spec.specs.Step.{if_fitting};
 ghost use Rattle.crsm_coordinator.specs.Coordinator.{answered};
 ghost use Rattle.crsm_replica.specs.Replica.{StandsFor};
-ghost use Rattle.crsm_reconfigure.specs.Rules.{FollowsWhere, hears_answer};
+ghost use Rattle.crsm_reconfigure.specs.Rules.{FollowsWhere, receives_answer};
 
 use crate::beginning::is_alone;
 use crate::counting::is_counted;
 use crate::fitting::fits_own;
-use crate::renewing::accept_and_tell;
+use crate::renewing::accept_and_send;
 use crsm_base::{Ballot, Decision, NoMemory};
-use crsm_replica::{Desk, desks_are_sound};
+use crsm_replica::{ReplicaState, states_are_sound};
 use std::alloc::Global;
 
 /// A promise of k counts while its ballot is asked for, the first of each replica. At a majority the value that the
 /// promises leave is proposed.
 pub fn on_p1b(
-    desk: &mut Desk,
+    state: &mut ReplicaState,
     k: u32,
     instance: u64,
     ballot: Ballot,
     accepted: &Option<(Ballot, Decision)>,
 ) -> Result<(), NoMemory>
     requires { k < 15 }
-    ensures { FollowsWhere (λ x. FitsBallot ballot × FitsOption FitsVote accepted.now) (hears_answer k instance ballot accepted.now) desk.old result desk.new }
+    ensures { FollowsWhere (λ x. FitsBallot ballot × FitsOption FitsVote accepted.now) (receives_answer k instance ballot accepted.now) state.old result state.new }
 {
-    let counts = is_counted(desk, k, instance);
+    let counts = is_counted(state, k, instance);
     if !counts {
         return Ok(());
     }
-    let takes = desk.coordinator().takes_answer(ballot, k);
+    let takes = state.coordinator().takes_answer(ballot, k);
     if !takes {
         return Ok(());
     }
-    count_answer(desk, k, accepted)?;
+    count_answer(state, k, accepted)?;
     Ok(())
 }
 
 /// Counts the promise of a replica. Where it makes a majority the value that the promises leave is proposed; where the
 /// records of that would not fit nothing changes.
 fn count_answer(
-    desk: &mut Desk,
+    state: &mut ReplicaState,
     k: u32,
     accepted: &Option<(Ballot, Decision)>,
 ) -> Result<(), NoMemory>
     requires { k < 15 }
-    ensures { IfOk result (λ _. (x : Draft) (b : BallotOnPaper) (own : DecisionOnPaper) (answers : List (Answer DecisionOnPaper)) → StandsFor desk.old x → x.replica.coordinator ≡ CoordinatorOnPaper.Preparing b own answers → has (spec_of x.replica) k ≡ true → has (map (λ f. f.replica) answers) k ≡ false → FitsOption FitsVote accepted.now →
-        StandsFor desk.new (if_fitting x (count_answer b own answers (record { replica = k; accepted = accepted.now }) x))) }
+    ensures { IfOk result (λ _. (x : Draft) (b : BallotOnPaper) (own : DecisionOnPaper) (answers : List (Answer DecisionOnPaper)) → StandsFor state.old x → x.replica.coordinator ≡ CoordinatorOnPaper.Preparing b own answers → has (spec_of x.replica) k ≡ true → has (map (λ f. f.replica) answers) k ≡ false → FitsOption FitsVote accepted.now →
+        StandsFor state.new (if_fitting x (count_answer b own answers (record { replica = k; accepted = accepted.now }) x))) }
 {
-    desks_are_sound();
-    let is_last = desk.coordinator().is_last_answer();
+    states_are_sound();
+    let is_last = state.coordinator().is_last_answer();
     if is_last {
-        let fits = may_propose_with(desk, k, accepted)?;
+        let fits = may_propose_with(state, k, accepted)?;
         if !fits {
             return Ok(());
         }
-        put_answer(desk, k, accepted)?;
-        accept_and_tell(desk)?;
+        put_answer(state, k, accepted)?;
+        accept_and_send(state)?;
         return Ok(());
     }
-    put_answer(desk, k, accepted)?;
+    put_answer(state, k, accepted)?;
     Ok(())
 }
 
 /// Whether the records would fit of the own acceptance of what is proposed once this promise makes the majority.
 fn may_propose_with(
-    desk: &Desk,
+    state: &ReplicaState,
     k: u32,
     accepted: &Option<(Ballot, Decision)>,
 ) -> Result<bool, NoMemory>
-    ensures { IfOk result (λ fit. (x : Draft) (b : BallotOnPaper) (own : DecisionOnPaper) (answers : List (Answer DecisionOnPaper)) → StandsFor desk.now x → x.replica.coordinator ≡ CoordinatorOnPaper.Preparing b own answers → FitsOption FitsVote accepted.now → has_majority (spec_of x.replica) (map (λ f. f.replica) (answers ++ record { replica = k; accepted = accepted.now } ∷ [])) ≡ true →
+    ensures { IfOk result (λ fit. (x : Draft) (b : BallotOnPaper) (own : DecisionOnPaper) (answers : List (Answer DecisionOnPaper)) → StandsFor state.now x → x.replica.coordinator ≡ CoordinatorOnPaper.Preparing b own answers → FitsOption FitsVote accepted.now → has_majority (spec_of x.replica) (map (λ f. f.replica) (answers ++ record { replica = k; accepted = accepted.now } ∷ [])) ≡ true →
         fit ≡ (count_answer b own answers (record { replica = k; accepted = accepted.now }) x).fitting) }
 {
-    let found = desk.coordinator().proposal_with(desk.alloc(), k, accepted)?;
+    let found = state
+        .coordinator()
+        .proposal_with(state.alloc(), k, accepted)?;
     let Some((ballot, value)) = found else {
         return Ok(false);
     };
-    let is_alone = is_alone(desk)?;
-    let fits = fits_own(desk, ballot, &value, is_alone)?;
+    let is_alone = is_alone(state)?;
+    let fits = fits_own(state, ballot, &value, is_alone)?;
     Ok(fits)
 }
 
 /// The coordinator counts the promise of a replica.
 fn put_answer(
-    desk: &mut Desk,
+    state: &mut ReplicaState,
     k: u32,
     accepted: &Option<(Ballot, Decision)>,
 ) -> Result<(), NoMemory>
     requires { k < 15 }
-    ensures { IfOk result (λ _. (x : Draft) (b : BallotOnPaper) (own : DecisionOnPaper) (answers : List (Answer DecisionOnPaper)) → StandsFor desk.old x → x.replica.coordinator ≡ CoordinatorOnPaper.Preparing b own answers → has (spec_of x.replica) k ≡ true → has (map (λ f. f.replica) answers) k ≡ false → FitsOption FitsVote accepted.now →
-        StandsFor desk.new (noting (answered (spec_of x.replica) b own (answers ++ record { replica = k; accepted = accepted.now } ∷ [])) x)) }
+    ensures { IfOk result (λ _. (x : Draft) (b : BallotOnPaper) (own : DecisionOnPaper) (answers : List (Answer DecisionOnPaper)) → StandsFor state.old x → x.replica.coordinator ≡ CoordinatorOnPaper.Preparing b own answers → has (spec_of x.replica) k ≡ true → has (map (λ f. f.replica) answers) k ≡ false → FitsOption FitsVote accepted.now →
+        StandsFor state.new (noting (answered (spec_of x.replica) b own (answers ++ record { replica = k; accepted = accepted.now } ∷ [])) x)) }
 {
-    let accepted = copied(desk.alloc(), accepted)?;
-    let coordinator = desk.take_coordinator();
+    let accepted = copied(state.alloc(), accepted)?;
+    let coordinator = state.take_coordinator();
     let coordinator = coordinator.with_answer(k, accepted)?;
-    desk.set_coordinator(coordinator);
+    state.set_coordinator(coordinator);
     Ok(())
 }
 

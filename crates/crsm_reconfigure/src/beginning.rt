@@ -15,77 +15,81 @@ ghost use Rattle.crsm_reconfigure.specs.Rules.{CanPropose, BeginsAlike, MakesWhe
 
 use crate::fitting::fits_own;
 use crate::promising::promise;
-use crate::renewing::accept_and_tell;
-use crate::telling::{next_instance, tell_ask};
+use crate::renewing::accept_and_send;
+use crate::sending::{next_instance, send_ask};
 use crsm_base::{Ballot, Decision, NoMemory, ballot_precedes};
 use crsm_coordinator::Coordinator;
-use crsm_replica::{Desk, desks_are_sound};
+use crsm_replica::{ReplicaState, states_are_sound};
 
 /// Whether the records would fit that come of beginning to propose this decision of one's own, one round above what was
 /// promised and seen. They fit alike in whatever the coordinator is and whether the epoch is suspended.
-pub fn may_begin(desk: &Desk, own: &Decision, seen: Ballot) -> Result<bool, NoMemory>
-    ensures { IfOk result (λ fit. (x y : Draft) → StandsFor desk.now x → CanPropose own.now seen x → BeginsAlike x y → fit ≡ (begin_proposing own.now seen y).fitting) }
+pub fn may_begin(state: &ReplicaState, own: &Decision, seen: Ballot) -> Result<bool, NoMemory>
+    ensures { IfOk result (λ fit. (x y : Draft) → StandsFor state.now x → CanPropose own.now seen x → BeginsAlike x y → fit ≡ (begin_proposing own.now seen y).fitting) }
 {
-    desks_are_sound();
-    let top = greater(desk.promised(), seen);
+    states_are_sound();
+    let top = greater(state.promised(), seen);
     if top.round == u64::MAX {
         return Ok(true);
     }
-    let is_alone = is_alone(desk)?;
+    let is_alone = is_alone(state)?;
     if !is_alone {
         return Ok(true);
     }
-    let ballot = above(top, desk.me());
-    let accepted = desk.accepted()?;
+    let ballot = above(top, state.me());
+    let accepted = state.accepted()?;
     let value = value_alone(own, &accepted);
-    let fits = fits_own(desk, ballot, value, true)?;
+    let fits = fits_own(state, ballot, value, true)?;
     Ok(fits)
 }
 
 /// Begins proposing a decision of one's own, one round above what was promised and seen. Where there is no such round the
 /// coordinator is at nothing.
-pub fn begin_proposing(desk: &mut Desk, own: Decision, seen: Ballot) -> Result<(), NoMemory>
-    ensures { MakesWhere (λ x. CanPropose own seen x × ((begin_proposing own seen x).fitting ≡ true)) (begin_proposing own seen) desk.old result desk.new }
+pub fn begin_proposing(
+    state: &mut ReplicaState,
+    own: Decision,
+    seen: Ballot,
+) -> Result<(), NoMemory>
+    ensures { MakesWhere (λ x. CanPropose own seen x × ((begin_proposing own seen x).fitting ≡ true)) (begin_proposing own seen) state.old result state.new }
 {
-    desks_are_sound();
-    let top = greater(desk.promised(), seen);
+    states_are_sound();
+    let top = greater(state.promised(), seen);
     if top.round == u64::MAX {
-        desk.set_coordinator(Coordinator::quiet());
+        state.set_coordinator(Coordinator::quiet());
         return Ok(());
     }
-    let is_alone = is_alone(desk)?;
-    let coordinator = asking(desk, own, top)?;
-    let ballot = above(top, desk.me());
-    let instance = next_instance(desk)?;
-    promise(desk, instance, ballot)?;
-    desk.set_coordinator(coordinator);
+    let is_alone = is_alone(state)?;
+    let coordinator = asking(state, own, top)?;
+    let ballot = above(top, state.me());
+    let instance = next_instance(state)?;
+    promise(state, instance, ballot)?;
+    state.set_coordinator(coordinator);
     if is_alone {
-        accept_and_tell(desk)?;
+        accept_and_send(state)?;
         return Ok(());
     }
-    tell_ask(desk)?;
+    send_ask(state)?;
     Ok(())
 }
 
-/// The coordinator of one that asks for a ballot in the round after this one, with its own promise counted.
-fn asking(desk: &Desk, own: Decision, top: Ballot) -> Result<Coordinator, NoMemory>
-    ensures { IfOk result (λ coordinator. (x : Draft) (round : ℕ) → StandsFor desk.now x → IsOwn x.replica.me x.replica.n (decision x.replica.log) own → round ≡ top.round + 1 → FitsBallot (record { round = round; by = x.replica.me }) →
+/// A coordinator that asks for a ballot in the round after this one, with its own promise counted.
+fn asking(state: &ReplicaState, own: Decision, top: Ballot) -> Result<Coordinator, NoMemory>
+    ensures { IfOk result (λ coordinator. (x : Draft) (round : ℕ) → StandsFor state.now x → IsOwn x.replica.me x.replica.n (decision x.replica.log) own → round ≡ top.round + 1 → FitsBallot (record { round = round; by = x.replica.me }) →
         CoordinatorStands coordinator x.replica.me x.replica.n (decision x.replica.log) (answered (spec_of x.replica) (record { round = round; by = x.replica.me }) own (record { replica = x.replica.me; accepted = accepted x.replica.log } ∷ []))) }
 {
-    desks_are_sound();
-    let me = desk.me();
-    let spec = desk.spec()?;
-    let accepted = desk.accepted()?;
-    let coordinator = Coordinator::asking(desk.alloc(), own, top, me, &spec, accepted)?;
+    states_are_sound();
+    let me = state.me();
+    let spec = state.spec()?;
+    let accepted = state.accepted()?;
+    let coordinator = Coordinator::asking(state.alloc(), own, top, me, &spec, accepted)?;
     Ok(coordinator)
 }
 
 /// Whether this replica alone is a majority.
-pub(crate) fn is_alone(desk: &Desk) -> Result<bool, NoMemory>
-    ensures { IfOk result (λ alone. (x : Draft) → StandsFor desk.now x → alone ≡ has_majority (spec_of x.replica) (x.replica.me ∷ [])) }
+pub(crate) fn is_alone(state: &ReplicaState) -> Result<bool, NoMemory>
+    ensures { IfOk result (λ alone. (x : Draft) → StandsFor state.now x → alone ≡ has_majority (spec_of x.replica) (x.replica.me ∷ [])) }
 {
-    let spec = desk.spec()?;
-    Ok(is_majority_of(spec.as_slice(), desk.me()))
+    let spec = state.spec()?;
+    Ok(is_majority_of(spec.as_slice(), state.me()))
 }
 
 /// Whether one replica is a majority of these.

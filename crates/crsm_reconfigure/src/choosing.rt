@@ -3,7 +3,7 @@
 ghost use Rattle.std.specs.Prelude.{◌≡◌, ◌<◌, ◌==◌, ◌&&◌, ◌||◌, not, filter, All, IfOk};
 ghost use Rattle.crsm_base.specs.Spelling.{FitsDecision};
 ghost use Rattle.crsm_base.specs.declared.Control.{Control as ControlOnPaper};
-ghost use Rattle.crsm_spec.specs.Draft.{Draft, tell_each};
+ghost use Rattle.crsm_spec.specs.Draft.{Draft, send_to_each};
 ghost use Rattle.crsm_spec.specs.Lists.{has, numbers_below};
 ghost use Rattle.crsm_spec.specs.Coordinate.{on_chosen};
 ghost use Rattle.crsm_replica.specs.Replica.{StandsFor};
@@ -11,39 +11,39 @@ ghost use Rattle.crsm_reconfigure.specs.Rules.{TriesWhere, MakesWhere};
 
 use crate::learning::learn;
 use crsm_base::{Control, Decision, MAX_REPLICAS, Members, NoMemory, first_replicas, is_among};
-use crsm_replica::Desk;
+use crsm_replica::ReplicaState;
 use std::alloc::Global;
 
-/// A decision that is chosen is learnt and told to all, of the old Spec and of the new one. `false` comes exactly where its
-/// records do not fit, and the desk is as before.
-pub fn choose(desk: &mut Desk, decision: &Decision) -> Result<bool, NoMemory>
-    ensures { TriesWhere (λ x. FitsDecision decision.now) (on_chosen decision.now) desk.old result desk.new }
+/// A decision that is chosen is learnt and sent to all, of the old Spec and of the new one. `false` if its
+/// records do not fit, and the state is as before.
+pub fn choose(state: &mut ReplicaState, decision: &Decision) -> Result<bool, NoMemory>
+    ensures { TriesWhere (λ x. FitsDecision decision.now) (on_chosen decision.now) state.old result state.new }
 {
-    let old = desk.spec()?;
-    let me = desk.me();
-    let fits = learn(desk, decision)?;
+    let old = state.spec()?;
+    let me = state.me();
+    let fits = learn(state, decision)?;
     if !fits {
         return Ok(false);
     }
-    let new = desk.spec()?;
-    tell_both(desk, &old, &new, me, decision)?;
+    let new = state.spec()?;
+    send_both(state, &old, &new, me, decision)?;
     Ok(true)
 }
 
-/// Tells the decision to all replicas of two Specs but this one.
-fn tell_both(
-    desk: &mut Desk,
+/// Sends the decision to all replicas of two Specs but this one.
+fn send_both(
+    state: &mut ReplicaState,
     old: &Members,
     new: &Members,
     me: u32,
     decision: &Decision,
 ) -> Result<(), NoMemory>
-    ensures { MakesWhere (λ x. FitsDecision decision.now) (tell_each (filter (λ k. (has old.now k || has new.now k) && not (k == me)) (numbers_below 15)) (ControlOnPaper.Decide decision.now)) desk.old result desk.new }
+    ensures { MakesWhere (λ x. FitsDecision decision.now) (send_to_each (filter (λ k. (has old.now k || has new.now k) && not (k == me)) (numbers_below 15)) (ControlOnPaper.Decide decision.now)) state.old result state.new }
 {
-    let replicas = both_specs(desk.alloc(), old, new, me)?;
-    let decision = decision.copy(desk.alloc())?;
+    let replicas = both_specs(state.alloc(), old, new, me)?;
+    let decision = decision.copy(state.alloc())?;
     let control = Control::Decide { decision };
-    desk.tell_each(&replicas, &control)?;
+    state.send_to_each(&replicas, &control)?;
     Ok(())
 }
 

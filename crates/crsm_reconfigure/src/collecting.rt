@@ -16,109 +16,114 @@ ghost use Rattle.crsm_reconfigure.specs.Rules.{FollowsWhere};
 use crate::beginning::begin_proposing;
 use crsm_base::{Ballot, Control, NoMemory};
 use crsm_coordinator::{Coordinator, Stage};
-use crsm_replica::{Desk, desks_are_sound};
+use crsm_replica::{ReplicaState, states_are_sound};
 use crsm_suspend::{Collect, Got, got_is_by_the_rules};
 
 /// The ballot at the beginning of an instance, which is below all that are asked for.
 pub(crate) const NO_BALLOT: Ballot = Ballot { round: 0, by: 0 };
 
 /// A page of the frozen log of another replica k, of which it counts the one that was asked for.
-pub fn on_suspend_ok(desk: &mut Desk, k: u32, answer: &Control) -> Result<(), NoMemory>
+pub fn on_suspend_ok(state: &mut ReplicaState, k: u32, answer: &Control) -> Result<(), NoMemory>
     requires from { k < 15 }
     requires is { IsReport answer.now }
     requires spelt { FitsControl answer.now }
-    ensures { FollowsWhere (λ x. k ≢ x.replica.me) (controls.on_control k answer.now) desk.old result desk.new }
+    ensures { FollowsWhere (λ x. k ≢ x.replica.me) (controls.on_control k answer.now) state.old result state.new }
 {
-    desks_are_sound();
+    states_are_sound();
     got_is_by_the_rules();
-    let is_collecting = is_collecting(desk);
+    let is_collecting = is_collecting(state);
     if !is_collecting {
         return Ok(());
     }
-    let answer = answer.copy(desk.alloc())?;
-    let coordinator = desk.take_coordinator();
+    let answer = answer.copy(state.alloc())?;
+    let coordinator = state.take_coordinator();
     let Some(mut collect) = coordinator.into_collect() else {
         return Ok(());
     };
     let got = collect.take(k, answer)?;
-    go_on(desk, k, collect, got)?;
+    go_on(state, k, collect, got)?;
     Ok(())
 }
 
 /// Does what the pages of a collection have brought, the last of them replica k's: the next page is asked for, more is
 /// waited for, the decision is proposed, or the collection is given up.
-pub(crate) fn go_on(desk: &mut Desk, k: u32, collect: Collect, got: Got) -> Result<(), NoMemory>
+pub(crate) fn go_on(
+    state: &mut ReplicaState,
+    k: u32,
+    collect: Collect,
+    got: Got,
+) -> Result<(), NoMemory>
     requires { k < 15 }
-    ensures { IfOk result (λ _. (x : Draft) (ms : List ℕ) (pages : List LogPage) → StandsFor desk.old x → IsGathering collect x.replica.me x.replica.n (decision x.replica.log) ms pages → CanGoOn k pages got x →
-        StandsFor desk.new (on_got ms pages got (noting (CoordinatorOnPaper.Collecting ms pages) x))) }
+    ensures { IfOk result (λ _. (x : Draft) (ms : List ℕ) (pages : List LogPage) → StandsFor state.old x → IsGathering collect x.replica.me x.replica.n (decision x.replica.log) ms pages → CanGoOn k pages got x →
+        StandsFor state.new (on_got ms pages got (noting (CoordinatorOnPaper.Collecting ms pages) x))) }
 {
     match got {
         Got::Stranger => {
-            desk.set_coordinator(Coordinator::collecting(collect));
+            state.set_coordinator(Coordinator::collecting(collect));
             Ok(())
         }
         Got::More { .. } => {
-            desk.set_coordinator(Coordinator::collecting(collect));
-            ask_page(desk, k)?;
+            state.set_coordinator(Coordinator::collecting(collect));
+            ask_page(state, k)?;
             Ok(())
         }
         Got::Kept => {
-            desk.set_coordinator(Coordinator::collecting(collect));
+            state.set_coordinator(Coordinator::collecting(collect));
             Ok(())
         }
         Got::Complete(decision) => {
-            begin_proposing(desk, decision, NO_BALLOT)?;
+            begin_proposing(state, decision, NO_BALLOT)?;
             Ok(())
         }
         Got::TooMany { count, bytes } => {
-            desk.refuse_collection(count, bytes)?;
-            desk.set_coordinator(Coordinator::quiet());
+            state.refuse_collection(count, bytes)?;
+            state.set_coordinator(Coordinator::quiet());
             Ok(())
         }
     }
 }
 
 /// Asks each other replica of the Spec for its next page, while collecting, whose last page has not come.
-pub fn tell_collect(desk: &mut Desk) -> Result<(), NoMemory>
-    ensures { IfOk result (λ _. (x : Draft) (ms : List ℕ) (pages : List LogPage) → StandsFor desk.old x → x.replica.coordinator ≡ CoordinatorOnPaper.Collecting ms pages → StandsFor desk.new (rules.tell_collect pages x)) }
+pub fn send_collect(state: &mut ReplicaState) -> Result<(), NoMemory>
+    ensures { IfOk result (λ _. (x : Draft) (ms : List ℕ) (pages : List LogPage) → StandsFor state.old x → x.replica.coordinator ≡ CoordinatorOnPaper.Collecting ms pages → StandsFor state.new (rules.send_collect pages x)) }
 {
-    let others = desk.others()?;
+    let others = state.others()?;
     for k in &others {
-        ask_missing(desk, *k)?;
+        ask_missing(state, *k)?;
     }
     Ok(())
 }
 
 /// Asks replica k for its next page, while collecting, unless its last page has come.
-fn ask_missing(desk: &mut Desk, k: u32) -> Result<(), NoMemory>
+fn ask_missing(state: &mut ReplicaState, k: u32) -> Result<(), NoMemory>
     requires { k < 15 }
-    ensures { IfOk result (λ _. (x : Draft) (ms : List ℕ) (pages : List LogPage) → StandsFor desk.old x → x.replica.coordinator ≡ CoordinatorOnPaper.Collecting ms pages → StandsFor desk.new (ask_missing pages x k)) }
+    ensures { IfOk result (λ _. (x : Draft) (ms : List ℕ) (pages : List LogPage) → StandsFor state.old x → x.replica.coordinator ≡ CoordinatorOnPaper.Collecting ms pages → StandsFor state.new (ask_missing pages x k)) }
 {
-    let is_whole = desk.coordinator().is_whole(k);
+    let is_whole = state.coordinator().is_whole(k);
     if is_whole {
         return Ok(());
     }
-    ask_page(desk, k)?;
+    ask_page(state, k)?;
     Ok(())
 }
 
 /// Asks replica k for its next page, while collecting.
-fn ask_page(desk: &mut Desk, k: u32) -> Result<(), NoMemory>
+fn ask_page(state: &mut ReplicaState, k: u32) -> Result<(), NoMemory>
     requires { k < 15 }
-    ensures { IfOk result (λ _. (x : Draft) (ms : List ℕ) (pages : List LogPage) → StandsFor desk.old x → x.replica.coordinator ≡ CoordinatorOnPaper.Collecting ms pages → StandsFor desk.new (rules.ask_page pages x k)) }
+    ensures { IfOk result (λ _. (x : Draft) (ms : List ℕ) (pages : List LogPage) → StandsFor state.old x → x.replica.coordinator ≡ CoordinatorOnPaper.Collecting ms pages → StandsFor state.new (rules.ask_page pages x k)) }
 {
-    let epoch = desk.known();
-    let after = desk.coordinator().cursor(k);
+    let epoch = state.known();
+    let after = state.coordinator().cursor(k);
     let control = Control::Suspend { epoch, after };
-    desk.tell(k, &control)?;
+    state.send_control(k, &control)?;
     Ok(())
 }
 
 /// Whether frozen logs are collected.
-fn is_collecting(desk: &Desk) -> bool
-    ensures { (x : Draft) → StandsFor desk.now x → result ≡ is_collecting x.replica.coordinator }
+fn is_collecting(state: &ReplicaState) -> bool
+    ensures { (x : Draft) → StandsFor state.now x → result ≡ is_collecting x.replica.coordinator }
 {
-    match desk.coordinator().stage() {
+    match state.coordinator().stage() {
         Stage::Collecting => true,
         _ => false,
     }

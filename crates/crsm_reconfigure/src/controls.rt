@@ -1,9 +1,9 @@
-//! A control message is heard.
+//! A control message is received.
 
 ghost use Rattle.std.specs.Prelude.{◌<◌};
 ghost use Rattle.crsm_base.specs.Messages.{FitsControl};
 ghost use Rattle.crsm_spec.specs.Controls as controls;
-ghost use Rattle.crsm_reconfigure.specs.Hearing.{FollowsFrom};
+ghost use Rattle.crsm_reconfigure.specs.Receiving.{FollowsFrom};
 
 use crate::answering::on_p1b;
 use crate::collecting::on_suspend_ok;
@@ -13,26 +13,26 @@ use crate::paging::{on_page, on_retrieve};
 use crate::promising::{on_p1a, on_p2a};
 use crate::suspending::on_suspend;
 use crsm_base::{Control, NoMemory};
-use crsm_replica::{Desk, desks_are_sound};
+use crsm_replica::{ReplicaState, states_are_sound};
 
 /// A control message of replica k. One whose records would not fit changes nothing.
-pub fn on_control(desk: &mut Desk, k: u32, control: &Control) -> Result<(), NoMemory>
+pub fn on_control(state: &mut ReplicaState, k: u32, control: &Control) -> Result<(), NoMemory>
     requires from { k < 15 }
     requires spelt { FitsControl control.now }
-    ensures { FollowsFrom k (controls.on_control k control.now) desk.old result desk.new }
+    ensures { FollowsFrom k (controls.on_control k control.now) state.old result state.new }
 {
-    desks_are_sound();
+    states_are_sound();
     match control {
         Control::Suspend { epoch, after } => {
-            on_suspend(desk, k, *epoch, *after)?;
+            on_suspend(state, k, *epoch, *after)?;
             Ok(())
         }
         Control::SuspendOk { .. } => {
-            on_suspend_ok(desk, k, control)?;
+            on_suspend_ok(state, k, control)?;
             Ok(())
         }
         Control::P1a { instance, ballot } => {
-            on_p1a(desk, k, *instance, *ballot)?;
+            on_p1a(state, k, *instance, *ballot)?;
             Ok(())
         }
         Control::P1b {
@@ -40,7 +40,7 @@ pub fn on_control(desk: &mut Desk, k: u32, control: &Control) -> Result<(), NoMe
             ballot,
             accepted,
         } => {
-            on_p1b(desk, k, *instance, *ballot, accepted)?;
+            on_p1b(state, k, *instance, *ballot, accepted)?;
             Ok(())
         }
         Control::P1no {
@@ -48,7 +48,7 @@ pub fn on_control(desk: &mut Desk, k: u32, control: &Control) -> Result<(), NoMe
             ballot,
             promised,
         } => {
-            on_p1no(desk, k, *instance, *ballot, *promised)?;
+            on_p1no(state, k, *instance, *ballot, *promised)?;
             Ok(())
         }
         Control::P2a {
@@ -56,23 +56,23 @@ pub fn on_control(desk: &mut Desk, k: u32, control: &Control) -> Result<(), NoMe
             ballot,
             decision,
         } => {
-            on_p2a(desk, k, *instance, *ballot, decision)?;
+            on_p2a(state, k, *instance, *ballot, decision)?;
             Ok(())
         }
         Control::P2b { instance, ballot } => {
-            on_p2b(desk, k, *instance, *ballot)?;
+            on_p2b(state, k, *instance, *ballot)?;
             Ok(())
         }
         Control::Decide { decision } => {
-            on_decide(desk, k, decision)?;
+            on_decide(state, k, decision)?;
             Ok(())
         }
         Control::Retrieve { known, from } => {
-            on_retrieve(desk, k, *known, *from)?;
+            on_retrieve(state, k, *known, *from)?;
             Ok(())
         }
         Control::Page { .. } => {
-            on_page(desk, k, control)?;
+            on_page(state, k, control)?;
             Ok(())
         }
     }

@@ -11,86 +11,91 @@ ghost use Rattle.crsm_spec.specs.Draft.{Draft};
 ghost use Rattle.crsm_spec.specs.Coordinate.{count_acceptor};
 ghost use Rattle.crsm_spec.specs.Step.{if_fitting};
 ghost use Rattle.crsm_replica.specs.Replica.{StandsFor};
-ghost use Rattle.crsm_reconfigure.specs.Rules.{FollowsWhere, MakesWhere, hears_no, hears_vote};
+ghost use Rattle.crsm_reconfigure.specs.Rules.{FollowsWhere, MakesWhere, receives_no, receives_vote};
 
 use crate::choosing::choose;
 use crsm_base::{Ballot, NoMemory};
 use crsm_coordinator::Voted;
-use crsm_replica::{Desk, desks_are_sound};
+use crsm_replica::{ReplicaState, states_are_sound};
 
 /// A refusal of k ends the ballot where more was promised.
 pub fn on_p1no(
-    desk: &mut Desk,
+    state: &mut ReplicaState,
     k: u32,
     instance: u64,
     ballot: Ballot,
     top: Ballot,
 ) -> Result<(), NoMemory>
-    ensures { FollowsWhere (λ x. FitsBallot top) (hears_no k instance ballot top) desk.old result desk.new }
+    ensures { FollowsWhere (λ x. FitsBallot top) (receives_no k instance ballot top) state.old result state.new }
 {
-    desks_are_sound();
-    let counts = is_counted(desk, k, instance);
+    states_are_sound();
+    let counts = is_counted(state, k, instance);
     if !counts {
         return Ok(());
     }
-    let is_ended = desk.coordinator().is_ended_by(ballot, top);
+    let is_ended = state.coordinator().is_ended_by(ballot, top);
     if !is_ended {
         return Ok(());
     }
-    let coordinator = desk.take_coordinator();
-    desk.set_coordinator(coordinator.preempted(top));
+    let coordinator = state.take_coordinator();
+    state.set_coordinator(coordinator.preempted(top));
     Ok(())
 }
 
 /// A vote of k counts while its ballot proposes.
-pub fn on_p2b(desk: &mut Desk, k: u32, instance: u64, ballot: Ballot) -> Result<(), NoMemory>
+pub fn on_p2b(
+    state: &mut ReplicaState,
+    k: u32,
+    instance: u64,
+    ballot: Ballot,
+) -> Result<(), NoMemory>
     requires { k < 15 }
-    ensures { FollowsWhere (λ x. FitsBallot ballot) (hears_vote k instance ballot) desk.old result desk.new }
+    ensures { FollowsWhere (λ x. FitsBallot ballot) (receives_vote k instance ballot) state.old result state.new }
 {
-    let counts = is_counted(desk, k, instance);
+    let counts = is_counted(state, k, instance);
     if !counts {
         return Ok(());
     }
-    let takes = desk.coordinator().takes_vote(ballot, k);
+    let takes = state.coordinator().takes_vote(ballot, k);
     if !takes {
         return Ok(());
     }
-    count_vote(desk, k)?;
+    count_vote(state, k)?;
     Ok(())
 }
 
-/// Counts the vote of a replica for the proposal: at a majority it is chosen. `false` comes exactly where the records of that
-/// do not fit, and the desk is as before.
-pub fn count_vote(desk: &mut Desk, k: u32) -> Result<bool, NoMemory>
+/// Counts the vote of a replica for the proposal: at a majority it is chosen. `false` if the records of that
+/// do not fit, and the state is as before.
+pub fn count_vote(state: &mut ReplicaState, k: u32) -> Result<bool, NoMemory>
     requires { k < 15 }
-    ensures { IfOk result (λ fit. (x : Draft) (b : BallotOnPaper) (own value : Decision) (acceptors : List ℕ) → StandsFor desk.old x → x.replica.coordinator ≡ CoordinatorOnPaper.Proposing b own value acceptors → has (spec_of x.replica) k ≡ true →
-        (fit ≡ (count_acceptor b own value acceptors k x).fitting) × StandsFor desk.new (if_fitting x (count_acceptor b own value acceptors k x))) }
+    ensures { IfOk result (λ fit. (x : Draft) (b : BallotOnPaper) (own value : Decision) (acceptors : List ℕ) → StandsFor state.old x → x.replica.coordinator ≡ CoordinatorOnPaper.Proposing b own value acceptors → has (spec_of x.replica) k ≡ true →
+        (fit ≡ (count_acceptor b own value acceptors k x).fitting) × StandsFor state.new (if_fitting x (count_acceptor b own value acceptors k x))) }
 {
-    desks_are_sound();
-    let is_last = desk.coordinator().is_last_vote(k);
+    states_are_sound();
+    let is_last = state.coordinator().is_last_vote(k);
     if is_last {
-        let found = desk.coordinator().proposal(desk.alloc())?;
+        let found = state.coordinator().proposal(state.alloc())?;
         let Some((_, value)) = found else {
             return Ok(false);
         };
-        let fits = choose(desk, &value)?;
+        let fits = choose(state, &value)?;
         return Ok(fits);
     }
-    let coordinator = desk.take_coordinator();
+    let coordinator = state.take_coordinator();
     let voted = coordinator.with_vote(k)?;
     let Voted::More(coordinator) = voted else {
         return Ok(false);
     };
-    desk.set_coordinator(coordinator);
+    state.set_coordinator(coordinator);
     Ok(true)
 }
 
 /// Whether replica k is counted, and the instance is the next one.
-pub(crate) fn is_counted(desk: &Desk, k: u32, instance: u64) -> bool
-    ensures { (x : Draft) → StandsFor desk.now x → result ≡ (has (spec_of x.replica) k && (instance == known x.replica.log + 1)) }
+pub(crate) fn is_counted(state: &ReplicaState, k: u32, instance: u64) -> bool
+    ensures { (x : Draft) → StandsFor state.now x → result ≡ (has (spec_of x.replica) k && (instance == known x.replica.log + 1)) }
 {
-    let is_of_spec = desk.is_of_spec(k);
-    let known = desk.known();
+    let is_of_spec = state.is_of_spec(k);
+    let known = state.known();
     is_of_spec & is_behind(instance, known)
 }
 

@@ -12,65 +12,65 @@ ghost use Rattle.crsm_spec.specs.Coordinate.{accept_own};
 ghost use Rattle.crsm_replica.specs.Replica.{StandsFor};
 
 use crate::proposing::is_due;
+use crate::sending::next_instance;
 use crate::tails::tail_goes_on;
-use crate::telling::next_instance;
 use crsm_base::{Ballot, Decision, NoMemory, Rec, ballot_precedes};
-use crsm_replica::{Desk, desks_are_sound};
+use crsm_replica::{ReplicaState, states_are_sound};
 
 /// Whether the records of the own acceptance of this proposal would fit, which is chosen by it or not.
 pub fn fits_own(
-    desk: &Desk,
+    state: &ReplicaState,
     ballot: Ballot,
     value: &Decision,
     is_chosen: bool,
 ) -> Result<bool, NoMemory>
-    ensures { IfOk result (λ fit. (x : Draft) (own : DecisionOnPaper) (acceptors : List ℕ) → StandsFor desk.now x → FitsDecision value.now → is_chosen ≡ has_majority (spec_of x.replica) (x.replica.me ∷ acceptors) → fit ≡ (accept_own ballot own value.now acceptors x).fitting) }
+    ensures { IfOk result (λ fit. (x : Draft) (own : DecisionOnPaper) (acceptors : List ℕ) → StandsFor state.now x → FitsDecision value.now → is_chosen ≡ has_majority (spec_of x.replica) (x.replica.me ∷ acceptors) → fit ≡ (accept_own ballot own value.now acceptors x).fitting) }
 {
-    desks_are_sound();
-    let top = desk.promised();
+    states_are_sound();
+    let top = state.promised();
     if ballot_precedes(ballot, top) {
         return Ok(true);
     }
-    let is_due = is_due(desk, ballot, value);
+    let is_due = is_due(state, ballot, value);
     if !is_due {
         return Ok(true);
     }
-    let instance = next_instance(desk)?;
-    let accepts = would_accept(desk, instance, ballot, value)?;
+    let instance = next_instance(state)?;
+    let accepts = would_accept(state, instance, ballot, value)?;
     if !accepts {
         return Ok(false);
     }
     if !is_chosen {
         return Ok(true);
     }
-    let goes_on = tail_goes_on(desk, value)?;
-    let decides = would_decide(desk, value)?;
+    let goes_on = tail_goes_on(state, value)?;
+    let decides = would_decide(state, value)?;
     Ok(decides & goes_on)
 }
 
 fn would_accept(
-    desk: &Desk,
+    state: &ReplicaState,
     instance: u64,
     ballot: Ballot,
     value: &Decision,
 ) -> Result<bool, NoMemory>
-    ensures { IfOk result (λ fit. (x : Draft) → StandsFor desk.now x → fit ≡ fits x.replica.me x.replica.n x.replica.log (RecOnPaper.Accept instance ballot value.now)) }
+    ensures { IfOk result (λ fit. (x : Draft) → StandsFor state.now x → fit ≡ fits x.replica.me x.replica.n x.replica.log (RecOnPaper.Accept instance ballot value.now)) }
 {
-    let decision = value.copy(desk.alloc())?;
+    let decision = value.copy(state.alloc())?;
     let rec = Rec::Accept {
         instance,
         ballot,
         decision,
     };
-    let fits = desk.ledger().fits(&rec);
+    let fits = state.ledger().fits(&rec);
     Ok(fits)
 }
 
-fn would_decide(desk: &Desk, value: &Decision) -> Result<bool, NoMemory>
-    ensures { IfOk result (λ fit. (x : Draft) → StandsFor desk.now x → fit ≡ fits x.replica.me x.replica.n x.replica.log (RecOnPaper.Decide value.now)) }
+fn would_decide(state: &ReplicaState, value: &Decision) -> Result<bool, NoMemory>
+    ensures { IfOk result (λ fit. (x : Draft) → StandsFor state.now x → fit ≡ fits x.replica.me x.replica.n x.replica.log (RecOnPaper.Decide value.now)) }
 {
-    let decision = value.copy(desk.alloc())?;
+    let decision = value.copy(state.alloc())?;
     let rec = Rec::Decide { decision };
-    let fits = desk.ledger().fits(&rec);
+    let fits = state.ledger().fits(&rec);
     Ok(fits)
 }

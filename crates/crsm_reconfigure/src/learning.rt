@@ -11,67 +11,67 @@ ghost use Rattle.crsm_reconfigure.specs.Rules.{FollowsWhere, TriesWhere, MakesWh
 
 use crate::tails::tail_goes_on;
 use crsm_base::{Decision, Entries, Entry, NoMemory, Rec};
-use crsm_replica::{Desk, desks_are_sound};
+use crsm_replica::{ReplicaState, states_are_sound};
 use std::alloc::Global;
 
 /// A decision of replica k is learnt where it is of a later epoch.
-pub fn on_decide(desk: &mut Desk, k: u32, decision: &Decision) -> Result<(), NoMemory>
+pub fn on_decide(state: &mut ReplicaState, k: u32, decision: &Decision) -> Result<(), NoMemory>
     requires { k < 15 }
-    ensures { FollowsWhere (λ x. FitsDecision decision.now) (on_decide k decision.now) desk.old result desk.new }
+    ensures { FollowsWhere (λ x. FitsDecision decision.now) (on_decide k decision.now) state.old result state.new }
 {
-    desks_are_sound();
-    let known = desk.known();
+    states_are_sound();
+    let known = state.known();
     if decision.epoch <= known {
         return Ok(());
     }
-    let fits = learn(desk, decision)?;
+    let fits = learn(state, decision)?;
     if !fits {
         return Ok(());
     }
-    retrieve_base(desk, k)?;
+    retrieve_base(state, k)?;
     Ok(())
 }
 
-/// Learns a decision. `false` comes exactly where its records do not fit, and the desk is as before.
-pub fn learn(desk: &mut Desk, decision: &Decision) -> Result<bool, NoMemory>
-    ensures { TriesWhere (λ x. FitsDecision decision.now) (learn decision.now) desk.old result desk.new }
+/// Learns a decision. `false` if its records do not fit, and the state is as before.
+pub fn learn(state: &mut ReplicaState, decision: &Decision) -> Result<bool, NoMemory>
+    ensures { TriesWhere (λ x. FitsDecision decision.now) (learn decision.now) state.old result state.new }
 {
-    desks_are_sound();
-    let goes_on = tail_goes_on(desk, decision)?;
+    states_are_sound();
+    let goes_on = tail_goes_on(state, decision)?;
     if !goes_on {
         return Ok(false);
     }
-    let fits = desk.learn_decision(decision)?;
+    let fits = state.learn_decision(decision)?;
     if !fits {
         return Ok(false);
     }
-    advance(desk)?;
+    advance(state)?;
     Ok(true)
 }
 
 /// Executes the rest of the known decision's tail once its base is executed, where that fits, and enters the epoch
 /// where that fits.
-pub fn advance(desk: &mut Desk) -> Result<(), NoMemory>
-    ensures { MakesWhere (λ x. (adopt_tail x).fitting ≡ true) advance desk.old result desk.new }
+pub fn advance(state: &mut ReplicaState) -> Result<(), NoMemory>
+    ensures { MakesWhere (λ x. (adopt_tail x).fitting ≡ true) advance state.old result state.new }
 {
-    adopt_tail(desk)?;
-    desk.enter()?;
+    adopt_tail(state)?;
+    state.enter()?;
     Ok(())
 }
 
-fn adopt_tail(desk: &mut Desk) -> Result<(), NoMemory>
-    ensures { MakesWhere (λ x. (adopt_tail x).fitting ≡ true) adopt_tail desk.old result desk.new }
+fn adopt_tail(state: &mut ReplicaState) -> Result<(), NoMemory>
+    ensures { MakesWhere (λ x. (adopt_tail x).fitting ≡ true) adopt_tail state.old result state.new }
 {
-    desks_are_sound();
-    let Some(decision) = desk.decision()? else {
+    states_are_sound();
+    let Some(decision) = state.decision()? else {
         return Ok(());
     };
-    let place = desk.executed_len();
-    if !is_left(decision.base_len, place, desk.start()) {
+    let place = state.executed_len();
+    if !is_left(decision.base_len, place, state.start()) {
         return Ok(());
     }
     let rest = behind(decision.tail.as_slice(), place - decision.base_len);
-    adopt(desk, place, rest)?;
+    adopt(state, place, rest)?;
     Ok(())
 }
 
@@ -82,13 +82,13 @@ fn is_left(base_len: u64, place: u64, end: u64) -> bool
     base_len <= place && place < end
 }
 
-/// Executes these entries from a place on. `false` comes exactly where that does not fit, and the desk is as before.
-pub fn adopt(desk: &mut Desk, place: u64, entries: &[Entry]) -> Result<bool, NoMemory>
-    ensures { TriesWhere (λ x. FitsEntries entries.now) (keep (RecOnPaper.Adopt place entries.now)) desk.old result desk.new }
+/// Executes these entries from a place on. `false` if that does not fit, and the state is as before.
+pub fn adopt(state: &mut ReplicaState, place: u64, entries: &[Entry]) -> Result<bool, NoMemory>
+    ensures { TriesWhere (λ x. FitsEntries entries.now) (keep (RecOnPaper.Adopt place entries.now)) state.old result state.new }
 {
-    let entries = copied(desk.alloc(), entries)?;
+    let entries = copied(state.alloc(), entries)?;
     let rec = Rec::Adopt { place, entries };
-    let fits = desk.keep_known(rec)?;
+    let fits = state.keep_known(rec)?;
     Ok(fits)
 }
 
@@ -116,14 +116,14 @@ fn copied(alloc: Global, entries: &[Entry]) -> Result<Entries, NoMemory>
 }
 
 /// Asks k for what is missing below the base.
-fn retrieve_base(desk: &mut Desk, k: u32) -> Result<(), NoMemory>
+fn retrieve_base(state: &mut ReplicaState, k: u32) -> Result<(), NoMemory>
     requires { k < 15 }
-    ensures { Makes (retrieve_base k) desk.old result desk.new }
+    ensures { Makes (retrieve_base k) state.old result state.new }
 {
-    let done = desk.executed_len();
-    let base_len = desk.base_len();
+    let done = state.executed_len();
+    let base_len = state.base_len();
     if done < base_len {
-        desk.tell_retrieve(k)?;
+        state.send_retrieve(k)?;
         return Ok(());
     }
     Ok(())

@@ -11,42 +11,42 @@ ghost use Rattle.crsm_replica.specs.Replica.{StandsFor};
 
 use crate::counting::count_vote;
 use crate::promising::accept;
-use crate::telling::next_instance;
+use crate::sending::next_instance;
 use crsm_base::{Ballot, Decision, NoMemory, ballot_precedes};
-use crsm_replica::{Desk, desks_are_sound};
+use crsm_replica::{ReplicaState, states_are_sound};
 
 /// The proposer's own acceptance, where its records fit: over where more was promised, otherwise accepted where the base is
 /// executed.
-pub fn accept_own(desk: &mut Desk) -> Result<(), NoMemory>
-    ensures { IfOk result (λ _. (x : Draft) (b : BallotOnPaper) (own value : DecisionOnPaper) (acceptors : List ℕ) → StandsFor desk.old x → x.replica.coordinator ≡ CoordinatorOnPaper.Proposing b own value acceptors → (accept_own b own value acceptors x).fitting ≡ true → StandsFor desk.new (accept_own b own value acceptors x)) }
+pub fn accept_own(state: &mut ReplicaState) -> Result<(), NoMemory>
+    ensures { IfOk result (λ _. (x : Draft) (b : BallotOnPaper) (own value : DecisionOnPaper) (acceptors : List ℕ) → StandsFor state.old x → x.replica.coordinator ≡ CoordinatorOnPaper.Proposing b own value acceptors → (accept_own b own value acceptors x).fitting ≡ true → StandsFor state.new (accept_own b own value acceptors x)) }
 {
-    desks_are_sound();
-    let found = desk.coordinator().proposal(desk.alloc())?;
+    states_are_sound();
+    let found = state.coordinator().proposal(state.alloc())?;
     let Some((ballot, value)) = found else {
         return Ok(());
     };
-    let top = desk.promised();
+    let top = state.promised();
     if ballot_precedes(ballot, top) {
-        let coordinator = desk.take_coordinator();
-        desk.set_coordinator(coordinator.preempted(top));
+        let coordinator = state.take_coordinator();
+        state.set_coordinator(coordinator.preempted(top));
         return Ok(());
     }
-    let is_due = is_due(desk, ballot, &value);
+    let is_due = is_due(state, ballot, &value);
     if !is_due {
         return Ok(());
     }
-    let instance = next_instance(desk)?;
-    accept(desk, instance, ballot, &value)?;
-    let me = desk.me();
-    count_vote(desk, me)?;
+    let instance = next_instance(state)?;
+    accept(state, instance, ballot, &value)?;
+    let me = state.me();
+    count_vote(state, me)?;
     Ok(())
 }
 
 /// Whether the base is executed, and nothing is accepted in this ballot.
-pub fn is_due(desk: &Desk, ballot: Ballot, value: &Decision) -> bool
-    ensures { (x : Draft) → StandsFor desk.now x → result ≡ (nat_le value.now.base_len (length (executed x.replica.log)) && not (has_accepted ballot x)) }
+pub fn is_due(state: &ReplicaState, ballot: Ballot, value: &Decision) -> bool
+    ensures { (x : Draft) → StandsFor state.now x → result ≡ (nat_le value.now.base_len (length (executed x.replica.log)) && not (has_accepted ballot x)) }
 {
-    let done = desk.executed_len();
-    let has_accepted = desk.has_accepted(ballot);
+    let done = state.executed_len();
+    let has_accepted = state.has_accepted(ballot);
     (value.base_len <= done) & !has_accepted
 }

@@ -7,7 +7,7 @@ ghost use Rattle.crsm_spec.specs.Lists.{has, numbers_below};
 ghost use Rattle.crsm_spec.specs.Fits.{can_be_members};
 ghost use Rattle.crsm_spec.specs.Log.{known};
 ghost use Rattle.crsm_spec.specs.Replica.{spec_of, next_spec, named_spec};
-ghost use Rattle.crsm_spec.specs.Draft.{Draft, tell_all};
+ghost use Rattle.crsm_spec.specs.Draft.{Draft, send_to_all};
 ghost use Rattle.crsm_spec.specs.Coordinate as coordinate;
 ghost use Rattle.crsm_replica.specs.Replica.{StandsFor, Makes};
 ghost use Rattle.crsm_reconfigure.specs.Reports.{CanBegin, begins_fitting, Begun};
@@ -17,77 +17,77 @@ use crate::beginning::may_begin;
 use crate::collecting::{NO_BALLOT, go_on};
 use crate::suspending::suspend_once;
 use crsm_base::{Control, Members, NoMemory, are_among, can_be_members, first_replicas};
-use crsm_replica::{Desk, desks_are_sound};
+use crsm_replica::{ReplicaState, states_are_sound};
 use crsm_suspend::{Collect, Got, got_is_by_the_rules};
 
 /// How large a known epoch and its start may be where a collection begins: the numbers behind them stay below the greatest one.
 const MOST_COLLECTED: u64 = u64::MAX - 4_096;
 
 /// A suspicion, or an operator's wish: these are to be the members of the next epoch.
-pub fn on_suspect(desk: &mut Desk, members: &Members) -> Result<(), NoMemory>
-    ensures { Follows (coordinate.on_suspect members.now) desk.old result desk.new }
+pub fn on_suspect(state: &mut ReplicaState, members: &Members) -> Result<(), NoMemory>
+    ensures { Follows (coordinate.on_suspect members.now) state.old result state.new }
 {
-    desks_are_sound();
+    states_are_sound();
     got_is_by_the_rules();
-    let Some(mut collect) = begin(desk, members)? else {
+    let Some(mut collect) = begin(state, members)? else {
         return Ok(());
     };
-    let me = desk.me();
-    let got = collect.take_own(me, desk.ledger())?;
-    let fits = may_go_on(desk, &got)?;
+    let me = state.me();
+    let got = collect.take_own(me, state.ledger())?;
+    let fits = may_go_on(state, &got)?;
     if !fits {
         return Ok(());
     }
-    suspend_once(desk)?;
-    tell_suspend(desk)?;
-    go_on(desk, me, collect, got)?;
+    suspend_once(state)?;
+    send_suspend(state)?;
+    go_on(state, me, collect, got)?;
     Ok(())
 }
 
 /// A collection for the next epoch without pages, where these may be its members.
-fn begin(desk: &Desk, members: &Members) -> Result<Option<Collect>, NoMemory>
-    ensures { IfOk result (λ found. (x : Draft) → StandsFor desk.now x → Begun found members.now x) }
+fn begin(state: &ReplicaState, members: &Members) -> Result<Option<Collect>, NoMemory>
+    ensures { IfOk result (λ found. (x : Draft) → StandsFor state.now x → Begun found members.now x) }
 {
-    let epoch = desk.known();
-    let start = desk.start();
+    let epoch = state.known();
+    let start = state.start();
     if epoch > MOST_COLLECTED {
         return Ok(None);
     }
     if start > MOST_COLLECTED {
         return Ok(None);
     }
-    let spec = desk.spec()?;
-    let next = next_spec(desk, &spec, members)?;
-    let can = can_be_next(desk, &next, members);
+    let spec = state.spec()?;
+    let next = next_spec(state, &spec, members)?;
+    let can = can_be_next(state, &next, members);
     if !can {
         return Ok(None);
     }
-    let named = named_spec(desk, next);
-    let members = members.copy(desk.alloc())?;
-    let collect = Collect::start(desk.alloc(), epoch, start, spec, named, members);
+    let named = named_spec(state, next);
+    let members = members.copy(state.alloc())?;
+    let collect = Collect::start(state.alloc(), epoch, start, spec, named, members);
     Ok(Some(collect))
 }
 
 /// The Spec after this one, where these are to be the members: this one where they are all of it, and otherwise they.
 #[tactic(auto, unfolding(crsm_spec::specs::Replica::next_spec))]
-fn next_spec(desk: &Desk, spec: &Members, members: &Members) -> Result<Members, NoMemory>
+fn next_spec(state: &ReplicaState, spec: &Members, members: &Members) -> Result<Members, NoMemory>
     ensures { IfOk result (λ next. (x : Draft) → spec.now ≡ spec_of x.replica → next ≡ next_spec x.replica members.now) }
 {
     let are_of_spec = are_among(members.as_slice(), spec.as_slice());
     if are_of_spec {
-        let next = spec.copy(desk.alloc())?;
+        let next = spec.copy(state.alloc())?;
         return Ok(next);
     }
-    let next = members.copy(desk.alloc())?;
+    let next = members.copy(state.alloc())?;
     Ok(next)
 }
 
 /// How a decision names the next Spec: not at all where it is the first one.
-fn named_spec(desk: &Desk, next: Members) -> Option<Members>
-    ensures { (x : Draft) (ms : List ℕ) → StandsFor desk.now x → next ≡ next_spec x.replica ms → result ≡ named_spec x.replica ms }
+fn named_spec(state: &ReplicaState, next: Members) -> Option<Members>
+    ensures { (x : Draft) (ms : List ℕ) → StandsFor state.now x → next ≡ next_spec x.replica ms → result ≡ named_spec x.replica ms }
 {
-    desks_are_sound();
-    let first = first_replicas(desk.ledger().n());
+    states_are_sound();
+    let first = first_replicas(state.ledger().n());
     let is_first = next.as_slice() == first;
     if is_first {
         return None;
@@ -96,22 +96,22 @@ fn named_spec(desk: &Desk, next: Members) -> Option<Members>
 }
 
 /// Whether this replica is counted, and these may be the members of an epoch of the next Spec.
-fn can_be_next(desk: &Desk, next: &Members, members: &Members) -> bool
-    ensures { (x : Draft) → StandsFor desk.now x → result ≡ (has (spec_of x.replica) x.replica.me && can_be_members next.now members.now) }
+fn can_be_next(state: &ReplicaState, next: &Members, members: &Members) -> bool
+    ensures { (x : Draft) → StandsFor state.now x → result ≡ (has (spec_of x.replica) x.replica.me && can_be_members next.now members.now) }
 {
-    let me = desk.me();
-    let is_of_spec = desk.is_of_spec(me);
+    let me = state.me();
+    let is_of_spec = state.is_of_spec(me);
     is_of_spec & can_be_members(next.as_slice(), members.as_slice())
 }
 
 /// Whether the records would fit of what is done by this once the epoch is suspended.
 #[tactic(auto, unfolding(crate::specs::Reports::begins_fitting))]
-fn may_go_on(desk: &Desk, got: &Got) -> Result<bool, NoMemory>
-    ensures { IfOk result (λ fit. (x y : Draft) → StandsFor desk.now x → CanBegin got.now x → BeginsAlike x y → fit ≡ begins_fitting got.now y) }
+fn may_go_on(state: &ReplicaState, got: &Got) -> Result<bool, NoMemory>
+    ensures { IfOk result (λ fit. (x y : Draft) → StandsFor state.now x → CanBegin got.now x → BeginsAlike x y → fit ≡ begins_fitting got.now y) }
 {
     match got {
         Got::Complete(decision) => {
-            let fits = may_begin(desk, decision, NO_BALLOT)?;
+            let fits = may_begin(state, decision, NO_BALLOT)?;
             Ok(fits)
         }
         Got::Stranger => Ok(true),
@@ -122,11 +122,11 @@ fn may_go_on(desk: &Desk, got: &Got) -> Result<bool, NoMemory>
 }
 
 /// Asks each other replica of the Spec for its frozen log.
-fn tell_suspend(desk: &mut Desk) -> Result<(), NoMemory>
-    ensures { Makes (λ x. tell_all (ControlOnPaper.Suspend (known x.replica.log) None) x) desk.old result desk.new }
+fn send_suspend(state: &mut ReplicaState) -> Result<(), NoMemory>
+    ensures { Makes (λ x. send_to_all (ControlOnPaper.Suspend (known x.replica.log) None) x) state.old result state.new }
 {
-    let epoch = desk.known();
+    let epoch = state.known();
     let control = Control::Suspend { epoch, after: None };
-    desk.tell_all(&control)?;
+    state.send_to_all(&control)?;
     Ok(())
 }

@@ -13,67 +13,67 @@ ghost use Rattle.crsm_reconfigure.specs.Rules.{CanPropose};
 use crate::beginning::{begin_proposing, may_begin};
 use crate::fitting::fits_own;
 use crate::proposing::accept_own;
-use crate::telling::tell_proposal;
+use crate::sending::send_proposal;
 use crsm_base::{Ballot, Decision, NoMemory};
 use crsm_coordinator::Coordinator;
-use crsm_replica::{Desk, desks_are_sound};
+use crsm_replica::{ReplicaState, states_are_sound};
 
-/// A proposal is renewed: the proposer's own acceptance is made up where it is due, and all are told that have not accepted.
-/// `false` comes exactly where the records of that do not fit, and the desk is as before.
-pub fn renew_proposal(desk: &mut Desk) -> Result<bool, NoMemory>
-    ensures { IfOk result (λ fit. (x : Draft) (b : BallotOnPaper) (own value : DecisionOnPaper) (acceptors : List ℕ) → StandsFor desk.old x → x.replica.coordinator ≡ CoordinatorOnPaper.Proposing b own value acceptors →
-        (fit ≡ (renew (CoordinatorOnPaper.Proposing b own value acceptors) x).fitting) × StandsFor desk.new (if_fitting x (renew (CoordinatorOnPaper.Proposing b own value acceptors) x))) }
+/// A proposal is renewed: the proposer's own acceptance is made up where it is due, and it is sent to all that have not accepted.
+/// `false` if the records of that do not fit, and the state is as before.
+pub fn renew_proposal(state: &mut ReplicaState) -> Result<bool, NoMemory>
+    ensures { IfOk result (λ fit. (x : Draft) (b : BallotOnPaper) (own value : DecisionOnPaper) (acceptors : List ℕ) → StandsFor state.old x → x.replica.coordinator ≡ CoordinatorOnPaper.Proposing b own value acceptors →
+        (fit ≡ (renew (CoordinatorOnPaper.Proposing b own value acceptors) x).fitting) × StandsFor state.new (if_fitting x (renew (CoordinatorOnPaper.Proposing b own value acceptors) x))) }
 {
-    desks_are_sound();
-    let found = desk.coordinator().proposal(desk.alloc())?;
+    states_are_sound();
+    let found = state.coordinator().proposal(state.alloc())?;
     let Some((ballot, value)) = found else {
         return Ok(false);
     };
-    let me = desk.me();
-    let is_chosen = desk.coordinator().is_last_vote(me);
-    let fits = fits_own(desk, ballot, &value, is_chosen)?;
+    let me = state.me();
+    let is_chosen = state.coordinator().is_last_vote(me);
+    let fits = fits_own(state, ballot, &value, is_chosen)?;
     if !fits {
         return Ok(false);
     }
-    accept_and_tell(desk)?;
+    accept_and_send(state)?;
     Ok(true)
 }
 
-/// A decision of one's own whose ballot is over is proposed again, above the ballot that was seen. `false` comes exactly
-/// where the records of that do not fit, and the desk is as before.
-pub fn renew_over(desk: &mut Desk) -> Result<bool, NoMemory>
-    ensures { IfOk result (λ fit. (x : Draft) (own : DecisionOnPaper) (seen : BallotOnPaper) → StandsFor desk.old x → x.replica.coordinator ≡ CoordinatorOnPaper.Preempted own seen →
-        (fit ≡ (renew (CoordinatorOnPaper.Preempted own seen) x).fitting) × StandsFor desk.new (if_fitting x (renew (CoordinatorOnPaper.Preempted own seen) x))) }
+/// A decision of one's own whose ballot is over is proposed again, above the ballot that was seen. `false` if
+/// where the records of that do not fit, and the state is as before.
+pub fn renew_over(state: &mut ReplicaState) -> Result<bool, NoMemory>
+    ensures { IfOk result (λ fit. (x : Draft) (own : DecisionOnPaper) (seen : BallotOnPaper) → StandsFor state.old x → x.replica.coordinator ≡ CoordinatorOnPaper.Preempted own seen →
+        (fit ≡ (renew (CoordinatorOnPaper.Preempted own seen) x).fitting) × StandsFor state.new (if_fitting x (renew (CoordinatorOnPaper.Preempted own seen) x))) }
 {
-    desks_are_sound();
-    let found = own_again(desk)?;
+    states_are_sound();
+    let found = own_again(state)?;
     let Some((own, seen)) = found else {
         return Ok(false);
     };
-    let fits = may_begin(desk, &own, seen)?;
+    let fits = may_begin(state, &own, seen)?;
     if !fits {
         return Ok(false);
     }
-    begin_proposing(desk, own, seen)?;
+    begin_proposing(state, own, seen)?;
     Ok(true)
 }
 
 /// The decision of one's own that is to be proposed again, and the ballot that was seen.
-fn own_again(desk: &Desk) -> Result<Option<(Decision, Ballot)>, NoMemory>
-    ensures { IfOk result (λ found. (x : Draft) (own : DecisionOnPaper) (seen : BallotOnPaper) → StandsFor desk.now x → x.replica.coordinator ≡ CoordinatorOnPaper.Preempted own seen → (found ≡ Some (own, seen)) × CanPropose own seen x) }
+fn own_again(state: &ReplicaState) -> Result<Option<(Decision, Ballot)>, NoMemory>
+    ensures { IfOk result (λ found. (x : Draft) (own : DecisionOnPaper) (seen : BallotOnPaper) → StandsFor state.now x → x.replica.coordinator ≡ CoordinatorOnPaper.Preempted own seen → (found ≡ Some (own, seen)) × CanPropose own seen x) }
 {
-    match desk.coordinator() {
-        Coordinator::Preempted { own, seen } => Ok(Some((own.copy(desk.alloc())?, *seen))),
+    match state.coordinator() {
+        Coordinator::Preempted { own, seen } => Ok(Some((own.copy(state.alloc())?, *seen))),
         _ => Ok(None),
     }
 }
 
-/// The proposer's own acceptance, where its records fit. Then the proposal is told to all that have not accepted it, where
+/// The proposer's own acceptance, where its records fit. Then the proposal is sent to all that have not accepted it, where
 /// there still is one.
-pub fn accept_and_tell(desk: &mut Desk) -> Result<(), NoMemory>
-    ensures { IfOk result (λ _. (x : Draft) (b : BallotOnPaper) (own value : DecisionOnPaper) (acceptors : List ℕ) → StandsFor desk.old x → x.replica.coordinator ≡ CoordinatorOnPaper.Proposing b own value acceptors → (accept_own b own value acceptors x).fitting ≡ true → StandsFor desk.new (renew (CoordinatorOnPaper.Proposing b own value acceptors) x)) }
+pub fn accept_and_send(state: &mut ReplicaState) -> Result<(), NoMemory>
+    ensures { IfOk result (λ _. (x : Draft) (b : BallotOnPaper) (own value : DecisionOnPaper) (acceptors : List ℕ) → StandsFor state.old x → x.replica.coordinator ≡ CoordinatorOnPaper.Proposing b own value acceptors → (accept_own b own value acceptors x).fitting ≡ true → StandsFor state.new (renew (CoordinatorOnPaper.Proposing b own value acceptors) x)) }
 {
-    accept_own(desk)?;
-    tell_proposal(desk)?;
+    accept_own(state)?;
+    send_proposal(state)?;
     Ok(())
 }

@@ -12,30 +12,30 @@ ghost use Rattle.crsm_reconfigure.specs.Rules.{tail_goes_on, rest_goes_on, first
 
 use crsm_base::{Decision, Entries, Entry, NoMemory, entry_precedes, never};
 use crsm_ledger::Ledger;
-use crsm_replica::Desk;
+use crsm_replica::ReplicaState;
 
 /// Whether the rest of the decision's tail goes on behind the executed entries, where its base is executed.
-pub fn tail_goes_on(desk: &Desk, decision: &Decision) -> Result<bool, NoMemory>
-    ensures { IfOk result (λ b. (x : Draft) → StandsFor desk.now x → b ≡ tail_goes_on decision.now (executed x.replica.log)) }
+pub fn tail_goes_on(state: &ReplicaState, decision: &Decision) -> Result<bool, NoMemory>
+    ensures { IfOk result (λ b. (x : Draft) → StandsFor state.now x → b ≡ tail_goes_on decision.now (executed x.replica.log)) }
 {
-    let Some(entry) = first_left(decision, desk.executed_len()) else {
+    let Some(entry) = first_left(decision, state.executed_len()) else {
         return Ok(true);
     };
-    let is_behind = stands_behind(desk.ledger(), entry)?;
+    let is_behind = stands_behind(state.ledger(), entry)?;
     Ok(is_behind)
 }
 
 /// Whether the rest of the known decision's tail goes on behind the executed entries and these, of which there is one.
-pub fn rest_goes_on(desk: &Desk, entries: &Entries) -> Result<bool, NoMemory>
+pub fn rest_goes_on(state: &ReplicaState, entries: &Entries) -> Result<bool, NoMemory>
     requires { entries.now ≢ [] }
-    ensures { IfOk result (λ b. (x : Draft) → StandsFor desk.now x → b ≡ rest_goes_on (decision x.replica.log) (executed x.replica.log ++ entries.now)) }
+    ensures { IfOk result (λ b. (x : Draft) → StandsFor state.now x → b ≡ rest_goes_on (decision x.replica.log) (executed x.replica.log ++ entries.now)) }
 {
-    let Some(decision) = desk.decision()? else {
+    let Some(decision) = state.decision()? else {
         return Ok(true);
     };
     let entries = entries.as_slice();
     let more = entries.len() as u64;
-    let before = desk.executed_len();
+    let before = state.executed_len();
     // No memory holds so many.
     if before > u64::MAX - more {
         return Err(never());

@@ -4,47 +4,47 @@ ghost use Rattle.crsm_spec.specs.Step as rules;
 ghost use Rattle.crsm_replica.specs.Replica.{MakesFitting};
 ghost use Rattle.crsm_reconfigure.specs.Rules.{Follows};
 
-use crate::collecting::tell_collect;
+use crate::collecting::send_collect;
 use crate::renewing::{renew_over, renew_proposal};
-use crate::telling::{ask_all, tell_ask};
+use crate::sending::{ask_all, send_ask};
 use crsm_base::NoMemory;
 use crsm_coordinator::Stage;
-use crsm_replica::{Desk, desks_are_sound};
+use crsm_replica::{ReplicaState, states_are_sound};
 
 /// What the coordinator says is done again, and all are asked for what is known and executed beyond here. Where the records of that
 /// would not fit, nothing is done.
-pub fn renew_and_ask(desk: &mut Desk) -> Result<(), NoMemory>
-    ensures { Follows (λ x. rules.ask_all (rules.renew x.replica.coordinator x)) desk.old result desk.new }
+pub fn renew_and_ask(state: &mut ReplicaState) -> Result<(), NoMemory>
+    ensures { Follows (λ x. rules.ask_all (rules.renew x.replica.coordinator x)) state.old result state.new }
 {
-    let fits = renew(desk)?;
+    let fits = renew(state)?;
     if !fits {
         return Ok(());
     }
-    ask_all(desk)?;
+    ask_all(state)?;
     Ok(())
 }
 
-/// What the coordinator says is done again. `false` comes exactly where its records do not fit, and the desk is as before.
-fn renew(desk: &mut Desk) -> Result<bool, NoMemory>
-    ensures { MakesFitting (λ x. rules.renew x.replica.coordinator x) desk.old result desk.new }
+/// What the coordinator says is done again. `false` if its records do not fit, and the state is as before.
+fn renew(state: &mut ReplicaState) -> Result<bool, NoMemory>
+    ensures { MakesFitting (λ x. rules.renew x.replica.coordinator x) state.old result state.new }
 {
-    desks_are_sound();
-    match desk.coordinator().stage() {
+    states_are_sound();
+    match state.coordinator().stage() {
         Stage::Idle => Ok(true),
         Stage::Collecting => {
-            tell_collect(desk)?;
+            send_collect(state)?;
             Ok(true)
         }
         Stage::Preparing => {
-            tell_ask(desk)?;
+            send_ask(state)?;
             Ok(true)
         }
         Stage::Proposing => {
-            let fits = renew_proposal(desk)?;
+            let fits = renew_proposal(state)?;
             Ok(fits)
         }
         Stage::Preempted => {
-            let fits = renew_over(desk)?;
+            let fits = renew_over(state)?;
             Ok(fits)
         }
     }

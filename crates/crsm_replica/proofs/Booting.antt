@@ -14,13 +14,13 @@ use Rattle.crsm_spec.specs.Draft.{begun, keep}
 use Rattle.crsm_spec.specs.Step.{boot_again}
 use Rattle.crsm_results.specs.Rising.{RisesStrictly}
 use Rattle.crsm_results.proofs.Kept.{rises_kept, Executes, The, executes, next_is}
-use Rattle.crsm_results.proofs.Kept.{told_kept}
+use Rattle.crsm_results.proofs.Kept.{sent_kept}
 use Rattle.crsm_ledger.specs.declared.ledger.Ledger.{Ledger}
 use Rattle.crsm_output.specs.declared.output.Output.{Output}
 use Rattle.crsm_output.specs.Made.{nothing}
 use Rattle.crsm_epoch_state.specs.declared.state.EpochState.{EpochState}
 use Rattle.crsm_epoch_state.specs.EpochState.{EachFits, Runs, forgotten}
-use Rattle.crsm_replica.specs.declared.desk.Desk.{Desk}
+use Rattle.crsm_replica.specs.declared.state.ReplicaState.{ReplicaState}
 use Rattle.crsm_replica.specs.Recorded.{InBoth}
 use Rattle.crsm_replica.specs.Replica.{StandsInside, AwaitsInside, on_paper}
 
@@ -115,13 +115,13 @@ first_on_record me n log =
 boot_spelt : (me n : ℕ) → me < 15 → n ≤ 15 → FitsRec (Rec.Boot me n)
 boot_spelt me n a b = (a, omega (arith, b))
 
--- once the boot is on record, the desk stands
-pub stands_booted : (desk : Desk) (me n : ℕ) (log : Log) (ledger : Ledger) (output : Output) (running : EpochState) → AwaitsInside desk me n log → boots log < u64_max →
+-- once the boot is on record, the state stands
+pub stands_booted : (state : ReplicaState) (me n : ℕ) (log : Log) (ledger : Ledger) (output : Output) (running : EpochState) → AwaitsInside state me n log → boots log < u64_max →
     InBoth me n log (Rec.Boot me n) nothing ledger output →
     ((r : Replica) → EachFits r.me r.n r.log → active r.log ≡ false → Runs running (forgotten r)) →
-    StandsInside (record desk { ledger = ledger; output = output; running = running }) (boot_again me n log)
+    StandsInside (record state { ledger = ledger; output = output; running = running }) (boot_again me n log)
 unfolding boot_again keep begun fresh
-stands_booted desk me n log ledger output running s l both_kept inactive =
+stands_booted state me n log ledger output running s l both_kept inactive =
     let rec : Rec = Rec.Boot me n in
     let fit : fits me n log rec ≡ true = boot_fits me n log l in
     let few : n ≤ 15 = s.ledger.says.few in
@@ -135,7 +135,7 @@ stands_booted desk me n log ledger output running s l both_kept inactive =
       made = s.made;
       waiting = ap (λ ws. map on_paper ws) s.waiting;
       output = both_kept.holds;
-      told = told_kept me log rec [] tt;
+      told = sent_kept me log rec [] tt;
       sound = record {
         number = s.number;
         some = s.some;

@@ -1,4 +1,4 @@
--- A desk that has pushed a payload, or sent frames again.
+-- A state that has pushed a payload, or sent frames again.
 use Rattle.std.proofs.Common.{◌≡◌, ℕ, ◌+◌, ◌<◌, ◌^◌, Bool, true, false, List, [], ◌∷◌, ◌++◌, refl, sym, ◌∙◌, ap, subst, arith, length, drop, take, map, All, suc, zero}
 use Rattle.std.specs.Prelude.{◌==◌, filter, fold, if◌then◌else◌, Some}
 use Rattle.std.specs.List.{AllByRecursion, enumerate_from}
@@ -19,7 +19,7 @@ use Rattle.crsm_spec.specs.Log.{Log, known, decision}
 use Rattle.crsm_spec.specs.Replica.{Replica, members_of, other_members, last_issued, frames_to, acked_by, unacked}
 use Rattle.crsm_spec.specs.Draft.{Draft, would, send, next_frame, push_to, push_to_members, issued_at}
 use Rattle.crsm_spec.specs.Frames.{again_frame, again_to}
-use Rattle.crsm_replica.specs.declared.desk.Desk.{Desk}
+use Rattle.crsm_replica.specs.declared.state.ReplicaState.{ReplicaState}
 use Rattle.crsm_replica.specs.Again.{frame_again}
 use Rattle.crsm_replica.specs.Sound.{FitsSend, FitsPushed}
 use Rattle.crsm_replica.specs.Replica.{StandsInside}
@@ -59,19 +59,19 @@ would-is : (x : Draft) (reading time : ℕ) → would x reading ≡ Some time �
 unfolding would
 would-is x reading time is = issued_above (last_issued x.replica) reading time is
 
-pub pushed : (desk : Desk) (x : Draft) (reading time : ℕ) (payload : InEpoch) (output : Output) (running : EpochState) (ks : List ℕ) → StandsInside desk x → FitsPayload payload →
+pub pushed : (state : ReplicaState) (x : Draft) (reading time : ℕ) (payload : InEpoch) (output : Output) (running : EpochState) (ks : List ℕ) → StandsInside state x → FitsPayload payload →
     would x reading ≡ Some time → time < 2 ^ 64 → ks ≡ other_members x.replica → All (λ k. k < 15) ks →
     Holds output (record (made_of x) { sends = x.sends ++ map (next_frame x.replica payload) ks }) →
     Runs running (record x.replica { issued = time ∷ x.replica.issued; pushed = x.replica.pushed ++ map (λ k. (k, payload)) (other_members x.replica) }) →
-    StandsInside (record desk { running = running; output = output }) (push_to_members payload (issued_at time x))
+    StandsInside (record state { running = running; output = output }) (push_to_members payload (issued_at time x))
 unfolding push_to_members push_to issued_at other_members members_of next_frame frames_to
-pushed desk x reading time payload output running ks s fit is small same below holds runs =
+pushed state x reading time payload output running ks s fit is small same below holds runs =
     let r = x.replica in
     let all : AllByRecursion (λ k. k < 15) (other_members r) = subst (AllByRecursion (λ k. k < 15)) same (recursion_from_All (λ k. k < 15) ks below) in
-    let few : (k : ℕ) → k < 15 → length (frames_to r k) < 2 ^ 64 = λ k within. omega (arith, few_sent desk.running r k s.running within, would-is x reading time is) in
-    let first = ran desk x running (time ∷ r.issued) r.heard r.votes r.owed (r.pushed ++ map (λ k. (k, payload)) (other_members r)) r.acked r.taken s runs s.sound.owed
+    let few : (k : ℕ) → k < 15 → length (frames_to r k) < 2 ^ 64 = λ k within. omega (arith, few_sent state.running r k s.running within, would-is x reading time is) in
+    let first = ran state x running (time ∷ r.issued) r.received r.votes r.owed (r.pushed ++ map (λ k. (k, payload)) (other_members r)) r.acked r.taken s runs s.sound.owed
     (all-append FitsPushed r.pushed (map (λ k. (k, payload)) (other_members r)) s.sound.pushed (pushed-fit payload fit (other_members r) all)) in
-    sent (record desk { running = running })
+    sent (record state { running = running })
     (record x { replica = record r { issued = time ∷ r.issued; pushed = r.pushed ++ map (λ k. (k, payload)) (other_members r) } })
     output x.excess (x.sends ++ map (next_frame r payload) (other_members r)) x.replies first
     (subst (λ js. Holds output (record (made_of x) { sends = x.sends ++ map (next_frame r payload) js })) same holds)
@@ -114,15 +114,15 @@ unfolding frame_again
 again-fit me epoch k small now below [] all = tt
 again-fit me epoch k small now below (f ∷ fs) all = ((below, (small, below, now, all.0.0, all.0.1)), again-fit me epoch k small now below fs all.1)
 
-pub again : (desk : Desk) (x : Draft) (k : ℕ) (output : Output) (fs : List (ℕ × InEpoch)) → StandsInside desk x → k < 15 → length (frames_to x.replica k) < 2 ^ 64 →
+pub again : (state : ReplicaState) (x : Draft) (k : ℕ) (output : Output) (fs : List (ℕ × InEpoch)) → StandsInside state x → k < 15 → length (frames_to x.replica k) < 2 ^ 64 →
     fs ≡ take most_again (unacked x.replica k) → Holds output (record (made_of x) { sends = x.sends ++ map (frame_again x.replica.me (known x.replica.log) k) fs }) →
-    StandsInside (record desk { output = output }) (again_to x k)
+    StandsInside (record state { output = output }) (again_to x k)
 unfolding again_to
-again desk x k output fs s below small same holds =
+again state x k output fs s below small same holds =
     let r = x.replica in
     let fit : AllByRecursion FitsNumbered fs = subst (AllByRecursion FitsNumbered) (sym same) (unacked-fit r k s.sound.pushed small) in
-    subst (StandsInside (record desk { output = output })) (sym (again-all k x fs) ∙ ap (fold (again_frame k) x) same)
-    (sent desk x output x.excess (x.sends ++ map (frame_again r.me (known r.log) k) fs) x.replies s holds
+    subst (StandsInside (record state { output = output })) (sym (again-all k x fs) ∙ ap (fold (again_frame k) x) same)
+    (sent state x output x.excess (x.sends ++ map (frame_again r.me (known r.log) k) fs) x.replies s holds
     (all-append FitsSend x.sends (map (frame_again r.me (known r.log) k) fs) s.sound.sends
     (again-fit r.me (known r.log) k s.sound.number (known-fits r.log s.sound.spelt) below fs fit)) s.sound.replies)
 
@@ -135,9 +135,9 @@ no-frames [] e = refl
 no-frames (f ∷ fs) e = absurd (omega (arith, e))
 
 -- where nothing was pushed, nothing goes again
-pub again-none : (desk : Desk) (x : Draft) (k : ℕ) → StandsInside desk x → length (frames_to x.replica k) ≡ 0 → StandsInside desk (again_to x k)
+pub again-none : (state : ReplicaState) (x : Draft) (k : ℕ) → StandsInside state x → length (frames_to x.replica k) ≡ 0 → StandsInside state (again_to x k)
 unfolding again_to unacked
-again-none desk x k s none =
+again-none state x k s none =
     let nothing : take most_again (unacked x.replica k) ≡ [] =
     ap (λ fs. take most_again (drop (acked_by x.replica k) (enumerate_from 0 fs))) (no-frames (frames_to x.replica k) none) ∙ ap (take most_again) (none-kept (acked_by x.replica k)) in
-    subst (StandsInside desk) (sym (ap (fold (again_frame k) x) nothing)) s
+    subst (StandsInside state) (sym (ap (fold (again_frame k) x) nothing)) s

@@ -5,6 +5,6 @@ mod Known
 mod Rebuilt
 mod Sending
 mod Booting
-mod Telling
+mod SendingControls
 mod Founding
 mod Replying

@@ -1,4 +1,4 @@
--- What a desk stands for once one thing of it is changed.
+-- What a state stands for once one thing of it is changed.
 use Rattle.std.proofs.Common.{◌≡◌, ◌<◌, ◌≤◌, ℕ, ◌+◌, Bool, true, false, List, [], ◌∷◌, ◌++◌, map, refl, sym, ◌∙◌, subst, arith, cond, count_by}
 use Rattle.std.specs.Prelude.{◌&&◌, ◌==◌, nat_eq, Option, None, Some}
 use Rattle.std.specs.Global.{Vec}
@@ -28,20 +28,20 @@ use Rattle.crsm_spec.specs.Clock.{u64_max}
 use Rattle.crsm_epoch_state.specs.declared.state.EpochState.{EpochState}
 use Rattle.crsm_epoch_state.specs.EpochState.{Runs, IsNoEnter}
 use Rattle.crsm_epoch_state.proofs.Kept.{beside}
-use Rattle.crsm_results.proofs.Kept.{rises_kept, told_kept}
-use Rattle.crsm_replica.specs.declared.desk.Desk.{Desk}
+use Rattle.crsm_results.proofs.Kept.{rises_kept, sent_kept}
+use Rattle.crsm_replica.specs.declared.state.ReplicaState.{ReplicaState}
 use Rattle.crsm_replica.specs.declared.gathered.Gathered.{Gathered}
-use Rattle.crsm_replica.specs.declared.desk.Waiting.{Waiting as WaitingInMemory}
+use Rattle.crsm_replica.specs.declared.state.Waiting.{Waiting as WaitingInMemory}
 use Rattle.crsm_replica.specs.Recorded.{Applied, InBoth, Recorded}
 use Rattle.crsm_replica.specs.Sound.{FitsSend, FitsReply, FitsWaiting, FitsPushed}
 use Rattle.crsm_replica.specs.Replica.{StandsInside, IsPlain, learnt, on_paper}
 
 -- ---- what the step has made
 
-pub sent : (desk : Desk) (x : Draft) (output : Output) (excess : List Line) (sends : List (ℕ × Datagram)) (replies : List Reply) → StandsInside desk x →
+pub sent : (state : ReplicaState) (x : Draft) (output : Output) (excess : List Line) (sends : List (ℕ × Datagram)) (replies : List Reply) → StandsInside state x →
     Holds output (record (made_of x) { excess = excess; sends = sends; replies = replies }) → AllByRecursion FitsSend sends → AllByRecursion FitsReply replies →
-    StandsInside (record desk { output = output }) (record x { excess = excess; sends = sends; replies = replies })
-sent desk x output excess sends replies s holds fit fits_too = record {
+    StandsInside (record state { output = output }) (record x { excess = excess; sends = sends; replies = replies })
+sent state x output excess sends replies s holds fit fits_too = record {
   me = s.me;
   ledger = s.ledger;
   running = s.running;
@@ -56,13 +56,13 @@ sent desk x output excess sends replies s holds fit fits_too = record {
 
 -- ---- what is kept of the epoch
 
-pub ran : (desk : Desk) (x : Draft) (running : EpochState) (issued : List ℕ) (heard : List (ℕ × ℕ)) (votes : List (Stamp × ℕ)) (owed : List Stamp)
-    (pushed : List (ℕ × InEpoch)) (acked : List (ℕ × ℕ)) (taken : List ℕ) → StandsInside desk x →
-    Runs running (record x.replica { issued = issued; heard = heard; votes = votes; owed = owed; pushed = pushed; acked = acked; taken = taken }) →
+pub ran : (state : ReplicaState) (x : Draft) (running : EpochState) (issued : List ℕ) (received : List (ℕ × ℕ)) (votes : List (Stamp × ℕ)) (owed : List Stamp)
+    (pushed : List (ℕ × InEpoch)) (acked : List (ℕ × ℕ)) (taken : List ℕ) → StandsInside state x →
+    Runs running (record x.replica { issued = issued; received = received; votes = votes; owed = owed; pushed = pushed; acked = acked; taken = taken }) →
     AllByRecursion FitsStamp owed → AllByRecursion FitsPushed pushed →
-    StandsInside (record desk { running = running })
-    (record x { replica = record x.replica { issued = issued; heard = heard; votes = votes; owed = owed; pushed = pushed; acked = acked; taken = taken } })
-ran desk x running issued heard votes owed pushed acked taken s runs fit fits_too = record {
+    StandsInside (record state { running = running })
+    (record x { replica = record x.replica { issued = issued; received = received; votes = votes; owed = owed; pushed = pushed; acked = acked; taken = taken } })
+ran state x running issued received votes owed pushed acked taken s runs fit fits_too = record {
   me = s.me;
   ledger = s.ledger;
   running = runs;
@@ -77,12 +77,12 @@ ran desk x running issued heard votes owed pushed acked taken s runs fit fits_to
 
 -- ---- the coordinator, the parts and the waiting clients
 
-pub noted : (desk : Desk) (x : Draft) (coordinator : CoordinatorInMemory) (m : Coordinator) → StandsInside desk x → CoordinatorStands coordinator x.replica.me x.replica.n (decision x.replica.log) m →
-    StandsInside (record desk { coordinator = coordinator }) (record x { replica = record x.replica { coordinator = m } })
-noted desk x coordinator m s is = record {
+pub noted : (state : ReplicaState) (x : Draft) (coordinator : CoordinatorInMemory) (m : Coordinator) → StandsInside state x → CoordinatorStands coordinator x.replica.me x.replica.n (decision x.replica.log) m →
+    StandsInside (record state { coordinator = coordinator }) (record x { replica = record x.replica { coordinator = m } })
+noted state x coordinator m s is = record {
   me = s.me;
   ledger = s.ledger;
-  running = beside desk.running x.replica x.replica.parts m x.replica.made x.replica.waiting s.running;
+  running = beside state.running x.replica x.replica.parts m x.replica.made x.replica.waiting s.running;
   gathered = s.gathered;
   coordinator = is;
   made = s.made;
@@ -92,12 +92,12 @@ noted desk x coordinator m s is = record {
   sound = record { number = s.sound.number; some = s.sound.some; few = s.sound.few; spelt = s.sound.spelt; batch = s.sound.batch; sends = s.sound.sends; replies = s.sound.replies; waiting = s.sound.waiting; owed = s.sound.owed; pushed = s.sound.pushed; made = s.sound.made; rises = s.sound.rises; later = s.sound.later; kept = s.sound.kept; on_record = s.sound.on_record; fitting = s.sound.fitting };
 }
 
-pub awaits : (desk : Desk) (x : Draft) (now : Vec WaitingInMemory) (waiting : List Waiting) → StandsInside desk x → map on_paper now.items ≡ waiting → AllByRecursion FitsWaiting waiting →
-    StandsInside (record desk { waiting = now }) (record x { replica = record x.replica { waiting = waiting } })
-awaits desk x now waiting s is fit = record {
+pub awaits : (state : ReplicaState) (x : Draft) (now : Vec WaitingInMemory) (waiting : List Waiting) → StandsInside state x → map on_paper now.items ≡ waiting → AllByRecursion FitsWaiting waiting →
+    StandsInside (record state { waiting = now }) (record x { replica = record x.replica { waiting = waiting } })
+awaits state x now waiting s is fit = record {
   me = s.me;
   ledger = s.ledger;
-  running = beside desk.running x.replica x.replica.parts x.replica.coordinator x.replica.made waiting s.running;
+  running = beside state.running x.replica x.replica.parts x.replica.coordinator x.replica.made waiting s.running;
   gathered = s.gathered;
   coordinator = s.coordinator;
   made = s.made;
@@ -107,12 +107,12 @@ awaits desk x now waiting s is fit = record {
   sound = record { number = s.sound.number; some = s.sound.some; few = s.sound.few; spelt = s.sound.spelt; batch = s.sound.batch; sends = s.sound.sends; replies = s.sound.replies; waiting = fit; owed = s.sound.owed; pushed = s.sound.pushed; made = s.sound.made; rises = s.sound.rises; later = s.sound.later; kept = s.sound.kept; on_record = s.sound.on_record; fitting = s.sound.fitting };
 }
 
-pub gathered_one : (desk : Desk) (x : Draft) (gathered : Gathered) (parts : List Piece) → StandsInside desk x → HasGathered gathered parts →
-    StandsInside (record desk { gathered = gathered }) (record x { replica = record x.replica { parts = parts } })
-gathered_one desk x gathered parts s has = record {
+pub gathered_one : (state : ReplicaState) (x : Draft) (gathered : Gathered) (parts : List Piece) → StandsInside state x → HasGathered gathered parts →
+    StandsInside (record state { gathered = gathered }) (record x { replica = record x.replica { parts = parts } })
+gathered_one state x gathered parts s has = record {
   me = s.me;
   ledger = s.ledger;
-  running = beside desk.running x.replica parts x.replica.coordinator x.replica.made x.replica.waiting s.running;
+  running = beside state.running x.replica parts x.replica.coordinator x.replica.made x.replica.waiting s.running;
   gathered = has;
   coordinator = s.coordinator;
   made = s.made;
@@ -122,13 +122,13 @@ gathered_one desk x gathered parts s has = record {
   sound = record { number = s.sound.number; some = s.sound.some; few = s.sound.few; spelt = s.sound.spelt; batch = s.sound.batch; sends = s.sound.sends; replies = s.sound.replies; waiting = s.sound.waiting; owed = s.sound.owed; pushed = s.sound.pushed; made = s.sound.made; rises = s.sound.rises; later = s.sound.later; kept = s.sound.kept; on_record = s.sound.on_record; fitting = s.sound.fitting };
 }
 
-pub told_one : (desk : Desk) (x : Draft) (output : Output) (more : List (ℕ × Datagram)) (made : ℕ) → StandsInside desk x →
+pub sent_one : (state : ReplicaState) (x : Draft) (output : Output) (more : List (ℕ × Datagram)) (made : ℕ) → StandsInside state x →
     Holds output (record (made_of x) { sends = x.sends ++ more }) → AllByRecursion FitsSend more → made ≡ x.replica.made + 1 → made < 18446744073709551616 →
-    StandsInside (record desk { output = output; made = made }) (record x { replica = record x.replica { made = x.replica.made + 1 }; sends = x.sends ++ more })
-told_one desk x output more made s holds fit next small = record {
+    StandsInside (record state { output = output; made = made }) (record x { replica = record x.replica { made = x.replica.made + 1 }; sends = x.sends ++ more })
+sent_one state x output more made s holds fit next small = record {
   me = s.me;
   ledger = s.ledger;
-  running = beside desk.running x.replica x.replica.parts x.replica.coordinator (x.replica.made + 1) x.replica.waiting s.running;
+  running = beside state.running x.replica x.replica.parts x.replica.coordinator (x.replica.made + 1) x.replica.waiting s.running;
   gathered = s.gathered;
   coordinator = s.coordinator;
   made = next;
@@ -191,21 +191,21 @@ fitting_both true true p q = refl
 fitting_both true false p q = q
 fitting_both false b p q = p
 
-pub recorded : (desk : Desk) (x : Draft) (rec : Rec) (ledger : Ledger) (output : Output) (running : EpochState) (coordinator : CoordinatorInMemory) (m : Coordinator)
-    (issued : List ℕ) (heard : List (ℕ × ℕ)) (votes : List (Stamp × ℕ)) (owed : List Stamp) (pushed : List (ℕ × InEpoch)) (acked : List (ℕ × ℕ)) (taken : List ℕ) →
-    StandsInside desk x → fits x.replica.me x.replica.n x.replica.log rec ≡ true → FitsRec rec →
+pub recorded : (state : ReplicaState) (x : Draft) (rec : Rec) (ledger : Ledger) (output : Output) (running : EpochState) (coordinator : CoordinatorInMemory) (m : Coordinator)
+    (issued : List ℕ) (received : List (ℕ × ℕ)) (votes : List (Stamp × ℕ)) (owed : List Stamp) (pushed : List (ℕ × InEpoch)) (acked : List (ℕ × ℕ)) (taken : List ℕ) →
+    StandsInside state x → fits x.replica.me x.replica.n x.replica.log rec ≡ true → FitsRec rec →
     InBoth x.replica.me x.replica.n x.replica.log rec (made_of x) ledger output →
-    Runs running (record x.replica { log = rec ∷ x.replica.log; coordinator = m; issued = issued; heard = heard; votes = votes; owed = owed; pushed = pushed; acked = acked; taken = taken }) →
+    Runs running (record x.replica { log = rec ∷ x.replica.log; coordinator = m; issued = issued; received = received; votes = votes; owed = owed; pushed = pushed; acked = acked; taken = taken }) →
     CoordinatorStands coordinator x.replica.me x.replica.n (decision (rec ∷ x.replica.log)) m →
     AllByRecursion FitsStamp owed → AllByRecursion FitsPushed pushed →
-    StandsInside (record desk { ledger = ledger; output = output; running = running; coordinator = coordinator })
+    StandsInside (record state { ledger = ledger; output = output; running = running; coordinator = coordinator })
     (record x {
-      replica = record x.replica { log = rec ∷ x.replica.log; coordinator = m; issued = issued; heard = heard; votes = votes; owed = owed; pushed = pushed; acked = acked; taken = taken };
+      replica = record x.replica { log = rec ∷ x.replica.log; coordinator = m; issued = issued; received = received; votes = votes; owed = owed; pushed = pushed; acked = acked; taken = taken };
       batch = x.batch ++ rec ∷ [];
       lines = x.lines ++ lines_of x.replica.me x.replica.log rec;
       fitting = x.fitting && fits x.replica.me x.replica.n x.replica.log rec;
     })
-recorded desk x rec ledger output running coordinator m issued heard votes owed pushed acked taken s fit spelt both runs noted_too fit_owed fit_pushed = record {
+recorded state x rec ledger output running coordinator m issued received votes owed pushed acked taken s fit spelt both runs noted_too fit_owed fit_pushed = record {
   me = s.me;
   ledger = both.says;
   running = runs;
@@ -214,7 +214,7 @@ recorded desk x rec ledger output running coordinator m issued heard votes owed 
   made = s.made;
   waiting = s.waiting;
   output = both.holds;
-  told = told_kept x.replica.me x.replica.log rec x.lines s.told;
+  told = sent_kept x.replica.me x.replica.log rec x.lines s.told;
   sound = record { number = s.sound.number; some = s.sound.some; few = s.sound.few; spelt = (spelt, s.sound.spelt); batch = all-push FitsRec x.batch rec s.sound.batch spelt; sends = s.sound.sends; replies = s.sound.replies; waiting = s.sound.waiting; owed = fit_owed; pushed = fit_pushed; made = s.sound.made; rises = rises_kept x.replica.me x.replica.n x.replica.log rec fit spelt s.sound.spelt s.ledger.says.none_above.executed s.sound.rises; later = spelt_later x.replica.log s.sound.later rec spelt; kept = (fit, s.sound.kept); on_record = still_booted x.replica.log rec s.sound.on_record; fitting = fitting_both x.fitting _ s.sound.fitting fit };
 }
 
@@ -253,9 +253,9 @@ in_both me n log rec m ledger output new lines says same holds keeps = record {
   holds = subst (λ ls. Holds new (record m { batch = m.batch ++ rec ∷ []; lines = m.lines ++ ls })) same (keeps m holds);
 }
 
-pub unrecorded : (desk : Desk) (x : Draft) (ledger : Ledger) (output : Output) → StandsInside desk x → SaysOfLog x.replica.me x.replica.n ledger x.replica.log → Holds output (made_of x) →
-    StandsInside (record desk { ledger = ledger; output = output }) x
-unrecorded desk x ledger output s says holds = record {
+pub unrecorded : (state : ReplicaState) (x : Draft) (ledger : Ledger) (output : Output) → StandsInside state x → SaysOfLog x.replica.me x.replica.n ledger x.replica.log → Holds output (made_of x) →
+    StandsInside (record state { ledger = ledger; output = output }) x
+unrecorded state x ledger output s says holds = record {
   me = s.me;
   ledger = says;
   running = s.running;
@@ -281,9 +281,9 @@ no_enter (Rec.Enter y) plain = plain
 
 -- ---- the next step
 
-pub begun_again : (desk : Desk) (x : Draft) (output : Output) → StandsInside desk x → Holds output nothing → StandsInside (record desk { output = output }) (begun x.replica)
+pub begun_again : (state : ReplicaState) (x : Draft) (output : Output) → StandsInside state x → Holds output nothing → StandsInside (record state { output = output }) (begun x.replica)
 unfolding begun
-begun_again desk x output s holds = record {
+begun_again state x output s holds = record {
   me = s.me;
   ledger = s.ledger;
   running = s.running;
@@ -324,9 +324,9 @@ other_x b x y e = kept_old b y x e
 
 -- ---- the same draft in other words
 
-pub moved : {desk : Desk} {y z : Draft} → z ≡ y → StandsInside desk y → StandsInside desk z
-moved {desk} e s = subst (λ (w : Draft). StandsInside desk w) (sym e) s
+pub moved : {state : ReplicaState} {y z : Draft} → z ≡ y → StandsInside state y → StandsInside state z
+moved {state} e s = subst (λ (w : Draft). StandsInside state w) (sym e) s
 
-pub learnt_same : {desk : Desk} {d e : Decision} (b : Bool) (x : Draft) → d ≡ e → (b ≡ (learnt d x).fitting) × StandsInside desk (if_fitting x (learnt d x)) →
-    (b ≡ (learnt e x).fitting) × StandsInside desk (if_fitting x (learnt e x))
-learnt_same {desk} b x same p = subst (λ (f : Decision). (b ≡ (learnt f x).fitting) × StandsInside desk (if_fitting x (learnt f x))) same p
+pub learnt_same : {state : ReplicaState} {d e : Decision} (b : Bool) (x : Draft) → d ≡ e → (b ≡ (learnt d x).fitting) × StandsInside state (if_fitting x (learnt d x)) →
+    (b ≡ (learnt e x).fitting) × StandsInside state (if_fitting x (learnt e x))
+learnt_same {state} b x same p = subst (λ (f : Decision). (b ≡ (learnt f x).fitting) × StandsInside state (if_fitting x (learnt f x))) same p

@@ -1,4 +1,4 @@
--- What a desk stands for.
+-- What the state of a replica stands for.
 use Rattle.std.specs.Prelude.{◌≡◌, ℕ, ◌<◌, ◌≤◌, Bool, [], map, Option, Result, IfOk}
 use Rattle.std.specs.List.{AllByRecursion}
 use Rattle.crsm_base.specs.declared.NoMemory.{NoMemory}
@@ -15,8 +15,8 @@ use Rattle.crsm_spec.specs.Coordinate.{forget_epoch}
 use Rattle.crsm_spec.specs.Step.{if_fitting}
 use Rattle.crsm_results.specs.Answering.{IsTrueOf}
 use Rattle.crsm_epoch_state.specs.EpochState.{Runs, EachFits}
-use Rattle.crsm_replica.specs.declared.desk.Desk.{Desk}
-use Rattle.crsm_replica.specs.declared.desk.Waiting.{Waiting as WaitingInMemory}
+use Rattle.crsm_replica.specs.declared.state.ReplicaState.{ReplicaState}
+use Rattle.crsm_replica.specs.declared.state.Waiting.{Waiting as WaitingInMemory}
 use Rattle.crsm_replica.specs.Sound.{IsSound}
 pub use Rattle.crsm_epoch_state.specs.First.{ready_first, ready_of}
 
@@ -24,51 +24,51 @@ pub use Rattle.crsm_epoch_state.specs.First.{ready_first, ready_of}
 unfoldable pub on_paper : WaitingInMemory → Waiting
 on_paper w = record { address = w.address; entry = w.entry }
 
--- what the desk keeps, part by part
-pub record StandsInside (desk : Desk) (x : Draft) : Type 0 where
-  pub me : desk.me ≡ x.replica.me
-  pub ledger : SaysOfLog x.replica.me x.replica.n desk.ledger x.replica.log
-  pub running : Runs desk.running x.replica
-  pub gathered : HasGathered desk.gathered x.replica.parts
-  pub coordinator : CoordinatorStands desk.coordinator x.replica.me x.replica.n (decision x.replica.log) x.replica.coordinator
-  pub made : desk.made ≡ x.replica.made
-  pub waiting : map on_paper desk.waiting.items ≡ x.replica.waiting
-  pub output : Holds desk.output (made_of x)
+-- what the state keeps, part by part
+pub record StandsInside (state : ReplicaState) (x : Draft) : Type 0 where
+  pub me : state.me ≡ x.replica.me
+  pub ledger : SaysOfLog x.replica.me x.replica.n state.ledger x.replica.log
+  pub running : Runs state.running x.replica
+  pub gathered : HasGathered state.gathered x.replica.parts
+  pub coordinator : CoordinatorStands state.coordinator x.replica.me x.replica.n (decision x.replica.log) x.replica.coordinator
+  pub made : state.made ≡ x.replica.made
+  pub waiting : map on_paper state.waiting.items ≡ x.replica.waiting
+  pub output : Holds state.output (made_of x)
   pub told : AllByRecursion (IsTrueOf (executed x.replica.log)) x.lines
   pub sound : IsSound x
 
--- The desk stands for the draft of a step: what it keeps is what the draft's lists say, and all of that is sound.
-unfoldable pub StandsFor : Desk → Draft → Type 0
-StandsFor desk x = StandsInside desk x
+-- The state stands for the draft of a step: what it keeps is what the draft's lists say, and all of that is sound.
+unfoldable pub StandsFor : ReplicaState → Draft → Type 0
+StandsFor state x = StandsInside state x
 
--- a desk whose boot is not on record yet
-pub record AwaitsInside (desk : Desk) (me n : ℕ) (log : Log) : Type 0 where
+-- a state whose boot is not on record yet
+pub record AwaitsInside (state : ReplicaState) (me n : ℕ) (log : Log) : Type 0 where
   pub number : me < 15
   pub some : 1 ≤ n
-  pub mine : desk.me ≡ me
-  pub ledger : SaysOfLog me n desk.ledger log
+  pub mine : state.me ≡ me
+  pub ledger : SaysOfLog me n state.ledger log
   pub each : EachFits me n log
   pub spelt : AllByRecursion FitsRec log
-  pub gathered : HasGathered desk.gathered []
-  pub coordinator : (d : Option Decision) → CoordinatorStands desk.coordinator me n d Coordinator.Idle
-  pub made : desk.made ≡ 0
-  pub waiting : desk.waiting.items ≡ []
-  pub output : Holds desk.output nothing
+  pub gathered : HasGathered state.gathered []
+  pub coordinator : (d : Option Decision) → CoordinatorStands state.coordinator me n d Coordinator.Idle
+  pub made : state.made ≡ 0
+  pub waiting : state.waiting.items ≡ []
+  pub output : Holds state.output nothing
 
--- The desk is that of the ledger of this log, and the boot is not on record yet.
-unfoldable pub AwaitsBoot : Desk → ℕ → ℕ → Log → Type 0
-AwaitsBoot desk me n log = AwaitsInside desk me n log
+-- The state is that of the ledger of this log, and the boot is not on record yet.
+unfoldable pub AwaitsBoot : ReplicaState → ℕ → ℕ → Log → Type 0
+AwaitsBoot state me n log = AwaitsInside state me n log
 
--- memory ran out in a step, and the desk says nothing any more
-unfoldable pub IsSpent : Desk → Type 0
-IsSpent desk = Unit {0}
+-- memory ran out in a step, and the state says nothing any more
+unfoldable pub IsSpent : ReplicaState → Type 0
+IsSpent state = Unit {0}
 
--- Whatever the old desk stood for, the new one stands for what this makes of it; or memory ran out.
-abbrev pub Makes : (Draft → Draft) → Desk → Result (Unit {0}) NoMemory → Desk → Type 0
+-- Whatever the old state stood for, the new one stands for what this makes of it; or memory ran out.
+abbrev pub Makes : (Draft → Draft) → ReplicaState → Result (Unit {0}) NoMemory → ReplicaState → Type 0
 Makes change old result new = IfOk result (λ _. (x : Draft) → StandsFor old x → StandsFor new (change x))
 
--- The same where the change may not fit: then the answer is false, and the desk is as before.
-abbrev pub MakesFitting : (Draft → Draft) → Desk → Result Bool NoMemory → Desk → Type 0
+-- The same where the change may not fit: then the answer is false, and the state is as before.
+abbrev pub MakesFitting : (Draft → Draft) → ReplicaState → Result Bool NoMemory → ReplicaState → Type 0
 MakesFitting change old result new =
     IfOk result (λ fit. (x : Draft) → StandsFor old x → (fit ≡ (change x).fitting) × StandsFor new (if_fitting x (change x)))
 
@@ -81,3 +81,7 @@ IsPlain _ = Unit {0}
 -- the decision is known, and the epoch before is forgotten
 unfoldable pub learnt : Decision → Draft → Draft
 learnt d x = forget_epoch (noting Coordinator.Idle (keep (Rec.Decide d) x))
+
+-- for each draft that the state stands for
+abbrev pub WhereStands : ReplicaState → (Draft → Type 0) → Type 0
+WhereStands state P = (x : Draft) → StandsFor state x → P x

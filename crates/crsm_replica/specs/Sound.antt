@@ -1,4 +1,4 @@
--- What holds of every draft that a desk stands for.
+-- What holds of every draft that a state stands for.
 use Rattle.std.specs.Prelude.{◌≡◌, ℕ, ◌<◌, ◌≤◌, ◌^◌, true, Some}
 use Rattle.std.specs.List.{AllByRecursion}
 use Rattle.crsm_base.specs.Spelling.{FitsEntry, FitsStamp}

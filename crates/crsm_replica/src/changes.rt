@@ -9,11 +9,11 @@ ghost use Rattle.crsm_spec.specs.Draft.{send, count_vote};
 ghost use Rattle.crsm_spec.specs.Clients.{refuse, await};
 ghost use Rattle.crsm_replica.specs.Replica.{StandsFor, Makes};
 
-use crate::desk::{Desk, Waiting};
+use crate::state::{ReplicaState, Waiting};
 use crsm_base::{Command, Datagram, Entry, Line, NoMemory, Outcome, Refusal, Stamp};
 use crsm_output::Reply;
 
-impl Desk {
+impl ReplicaState {
     #[tactic(auto, unfolding(crate::specs::Replica::StandsFor))]
     /// Counts a vote.
     pub fn count_vote(&mut self, stamp: Stamp, k: u32) -> Result<(), NoMemory>

@@ -1,4 +1,4 @@
-//! The changes of epochs, and the coordinator's coordinator.
+//! The changes of epochs, and the coordinator of the next one.
 
 ghost use Rattle.std.specs.Prelude.{◌≡◌, ℕ, IfOk};
 ghost use Rattle.crsm_base.specs.Spelling.{FitsDecision};
@@ -10,21 +10,21 @@ ghost use Rattle.crsm_spec.specs.Replica.{Coordinator};
 ghost use Rattle.crsm_spec.specs.Draft.{Draft, noting};
 ghost use Rattle.crsm_spec.specs.Coordinate.{enter};
 ghost use Rattle.crsm_spec.specs.Step.{if_fitting};
-ghost use Rattle.crsm_replica.specs.Replica.{StandsFor, AwaitsBoot, Makes, learnt};
+ghost use Rattle.crsm_replica.specs.Replica.{StandsFor, AwaitsBoot, Makes, learnt, WhereStands};
 
-use crate::desk::Desk;
 use crate::records::put;
+use crate::state::ReplicaState;
 use crsm_base::{Decision, NoMemory, Rec, never};
 use crsm_coordinator::Coordinator as CoordinatorInMemory;
 use crsm_epoch_state::EpochState;
 use crsm_ledger::Ledger;
 use crsm_wire::is_rec_spelt;
 
-impl Desk {
+impl ReplicaState {
     #[tactic(auto, unfolding(crate::specs::Replica::StandsFor))]
-    /// Learns a decision: the old epoch is over, and with it any coordinator. `false` comes exactly where it does not fit, and the desk is as before.
+    /// Learns a decision: the old epoch is over, and with it any coordinator. `false` if it does not fit, and the state is as before.
     pub fn learn_decision(&mut self, decision: &Decision) -> Result<bool, NoMemory>
-        ensures { IfOk result (λ fit. (x : Draft) → StandsFor self.old x → FitsDecision decision.now → (fit ≡ (learnt decision.now x).fitting) × StandsFor self.new (if_fitting x (learnt decision.now x))) }
+        ensures { IfOk result (λ fit. WhereStands self.old (λ x. FitsDecision decision.now → (fit ≡ (learnt decision.now x).fitting) × StandsFor self.new (if_fitting x (learnt decision.now x)))) }
     {
         let rec = Rec::Decide {
             decision: decision.copy(self.alloc)?,
@@ -59,7 +59,7 @@ impl Desk {
     #[tactic(auto, unfolding(crate::specs::Replica::StandsFor))]
     /// What the coordinator is at.
     pub fn coordinator(&self) -> &CoordinatorInMemory
-        ensures { (x : Draft) → StandsFor self.now x → CoordinatorStands result.now x.replica.me x.replica.n (decision x.replica.log) x.replica.coordinator }
+        ensures { WhereStands self.now (λ x. CoordinatorStands result.now x.replica.me x.replica.n (decision x.replica.log) x.replica.coordinator) }
     {
         &self.coordinator
     }
@@ -75,8 +75,8 @@ impl Desk {
     #[tactic(auto, unfolding(crate::specs::Replica::StandsFor))]
     /// Takes the coordinator out: the coordinator is at nothing then.
     pub fn take_coordinator(&mut self) -> CoordinatorInMemory
-        ensures coordinator { (x : Draft) → StandsFor self.old x → CoordinatorStands result x.replica.me x.replica.n (decision x.replica.log) x.replica.coordinator }
-        ensures quiet { (x : Draft) → StandsFor self.old x → StandsFor self.new (noting Coordinator.Idle x) }
+        ensures coordinator { WhereStands self.old (λ x. CoordinatorStands result x.replica.me x.replica.n (decision x.replica.log) x.replica.coordinator) }
+        ensures quiet { WhereStands self.old (λ x. StandsFor self.new (noting Coordinator.Idle x)) }
     {
         std::mem::replace(&mut self.coordinator, CoordinatorInMemory::quiet())
     }
@@ -85,7 +85,7 @@ impl Desk {
     /// The ledger.
     pub fn ledger(&self) -> &Ledger
         ensures before { (me n : ℕ) (log : Log) → AwaitsBoot self.now me n log → SaysOfLog me n result.now log }
-        ensures stands { (x : Draft) → StandsFor self.now x → SaysOfLog x.replica.me x.replica.n result.now x.replica.log }
+        ensures stands { WhereStands self.now (λ x. SaysOfLog x.replica.me x.replica.n result.now x.replica.log) }
     {
         &self.ledger
     }

@@ -2,7 +2,6 @@
 #![tactic(auto)]
 
 mod changes;
-mod desk;
 mod epochs;
 mod frames;
 mod gathered;
@@ -14,7 +13,8 @@ mod parts;
 mod readers;
 mod records;
 mod replies;
+mod state;
 mod steps;
 
-pub use desk::Desk;
-pub use laws::{commits_go_on, desks_are_sound};
+pub use laws::{commits_go_on, states_are_sound};
+pub use state::ReplicaState;

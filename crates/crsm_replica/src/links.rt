@@ -7,13 +7,13 @@ ghost use Rattle.crsm_base.specs.declared.Stamp.{Stamp};
 ghost use Rattle.crsm_spec.specs.Replica.{latest_from, frames_to};
 ghost use Rattle.crsm_spec.specs.Draft.{Draft, would, push_to_members, issued_at};
 ghost use Rattle.crsm_spec.specs.Frames.{ack, owe, owing, again_to};
-ghost use Rattle.crsm_replica.specs.Replica.{StandsFor, Makes};
+ghost use Rattle.crsm_replica.specs.Replica.{StandsFor, Makes, WhereStands};
 
-use crate::desk::Desk;
 use crate::frames::{send_again, send_next};
+use crate::state::ReplicaState;
 use crsm_base::{Datagram, InEpoch, NoMemory, Stamp};
 
-impl Desk {
+impl ReplicaState {
     #[tactic(auto, unfolding(crate::specs::Replica::StandsFor))]
     /// Issues this time, which it would issue at some reading, and pushes a payload to the other members.
     pub fn push_at(&mut self, time: u64, payload: InEpoch) -> Result<(), NoMemory>
@@ -38,14 +38,14 @@ impl Desk {
     /// Takes the next frame of another replica k, and with it this time, which is above the latest of k.
     pub fn take_next(&mut self, k: u32, time: u64) -> Result<(), NoMemory>
         requires { k < 15 }
-        ensures { IfOk result (λ _. (x : Draft) → StandsFor self.old x → k ≢ x.replica.me → latest_from x.replica.heard k < time → StandsFor self.new (record x { replica = record x.replica { taken = k ∷ x.replica.taken; heard = (k, time) ∷ x.replica.heard } })) }
+        ensures { IfOk result (λ _. WhereStands self.old (λ x. k ≢ x.replica.me → latest_from x.replica.received k < time → StandsFor self.new (record x { replica = record x.replica { taken = k ∷ x.replica.taken; received = (k, time) ∷ x.replica.received } }))) }
     {
         self.running.take_next(k, time);
         Ok(())
     }
 
     #[tactic(auto, unfolding(crate::specs::Replica::StandsFor))]
-    /// Tells k which frame is expected next.
+    /// Tells k by an acknowledgement which frame is expected next.
     pub fn ack(&mut self, k: u32) -> Result<(), NoMemory>
         requires { k < 15 }
         ensures { Makes (ack k) self.old result self.new }
@@ -68,7 +68,7 @@ impl Desk {
     /// All frames to k below this number, of those that were pushed, have come.
     pub fn acked(&mut self, k: u32, next: u64) -> Result<(), NoMemory>
         requires { k < 15 }
-        ensures { IfOk result (λ _. (x : Draft) → StandsFor self.old x → next ≤ length (frames_to x.replica k) → StandsFor self.new (record x { replica = record x.replica { acked = (k, next) ∷ x.replica.acked } })) }
+        ensures { IfOk result (λ _. WhereStands self.old (λ x. next ≤ length (frames_to x.replica k) → StandsFor self.new (record x { replica = record x.replica { acked = (k, next) ∷ x.replica.acked } }))) }
     {
         self.running.acked(k, next);
         Ok(())

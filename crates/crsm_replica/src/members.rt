@@ -4,17 +4,17 @@ ghost use Rattle.std.specs.Prelude.{◌≡◌, ◌==◌, ◌<◌, ◌≤◌, not
 ghost use Rattle.crsm_spec.specs.Lists.{has};
 ghost use Rattle.crsm_spec.specs.Replica.{members_of, spec_of, others, other_members};
 ghost use Rattle.crsm_spec.specs.Draft.{Draft};
-ghost use Rattle.crsm_replica.specs.Replica.{StandsFor};
+ghost use Rattle.crsm_replica.specs.Replica.{StandsFor, WhereStands};
 
-use crate::desk::Desk;
+use crate::state::ReplicaState;
 use crsm_base::{Members, NoMemory, is_among};
 use std::alloc::Global;
 
-impl Desk {
+impl ReplicaState {
     #[tactic(auto, unfolding(crate::specs::Replica::StandsFor))]
     /// Whether k is a member of the known epoch.
     pub fn is_member(&self, k: u32) -> bool
-        ensures { (x : Draft) → StandsFor self.now x → result ≡ has (members_of x.replica) k }
+        ensures { WhereStands self.now (λ x. result ≡ has (members_of x.replica) k) }
     {
         is_among(self.ledger.known().members.as_slice(), k)
     }
@@ -22,7 +22,7 @@ impl Desk {
     #[tactic(auto, unfolding(crate::specs::Replica::StandsFor))]
     /// Whether k is counted in the known epoch.
     pub fn is_of_spec(&self, k: u32) -> bool
-        ensures { (x : Draft) → StandsFor self.now x → result ≡ has (spec_of x.replica) k }
+        ensures { WhereStands self.now (λ x. result ≡ has (spec_of x.replica) k) }
     {
         match &self.ledger.known().spec {
             Some(spec) => is_among(spec.as_slice(), k),
@@ -33,7 +33,7 @@ impl Desk {
     #[tactic(auto, unfolding(crate::specs::Replica::StandsFor))]
     /// The other replicas that are counted, ascending.
     pub fn others(&self) -> Result<Vec<u32>, NoMemory>
-        ensures value { (x : Draft) → StandsFor self.now x → IfOk result (λ ks. ks.items ≡ others x.replica) }
+        ensures value { WhereStands self.now (λ x. IfOk result (λ ks. ks.items ≡ others x.replica)) }
         ensures below { IfOk result (λ ks. All (λ k. k < 15) ks.items) }
     {
         let others = except(self.alloc, self.ledger.counted().as_slice(), self.me)?;
@@ -43,7 +43,7 @@ impl Desk {
     #[tactic(auto, unfolding(crate::specs::Replica::StandsFor))]
     /// The other members, ascending.
     pub fn other_members(&self) -> Result<Vec<u32>, NoMemory>
-        ensures value { (x : Draft) → StandsFor self.now x → IfOk result (λ ks. ks.items ≡ other_members x.replica) }
+        ensures value { WhereStands self.now (λ x. IfOk result (λ ks. ks.items ≡ other_members x.replica)) }
         ensures below { IfOk result (λ ks. All (λ k. k < 15) ks.items) }
     {
         let others = except(self.alloc, self.ledger.known().members.as_slice(), self.me)?;
@@ -53,7 +53,7 @@ impl Desk {
     #[tactic(auto, unfolding(crate::specs::Replica::StandsFor))]
     /// The replicas that are counted, ascending.
     pub fn spec(&self) -> Result<Members, NoMemory>
-        ensures { (x : Draft) → StandsFor self.now x → IfOk result (λ ks. ks ≡ spec_of x.replica) }
+        ensures { WhereStands self.now (λ x. IfOk result (λ ks. ks ≡ spec_of x.replica)) }
     {
         let spec = self.ledger.spec()?;
         Ok(spec)
@@ -62,7 +62,7 @@ impl Desk {
     #[tactic(auto, unfolding(crate::specs::Replica::StandsFor))]
     /// The members, ascending.
     pub fn members(&self) -> Result<Members, NoMemory>
-        ensures { (x : Draft) → StandsFor self.now x → IfOk result (λ ks. ks ≡ members_of x.replica) }
+        ensures { WhereStands self.now (λ x. IfOk result (λ ks. ks ≡ members_of x.replica)) }
     {
         let members = self.ledger.known().members.copy(self.alloc)?;
         Ok(members)

@@ -1,30 +1,30 @@
-//! Control messages that are told.
+//! Control messages that are sent.
 
 ghost use Rattle.std.specs.Prelude.{◌<◌, IfOk, All};
 ghost use Rattle.crsm_base.specs.declared.Control.{Control as ControlOnPaper};
 ghost use Rattle.crsm_base.specs.Messages.{FitsControl};
 ghost use Rattle.crsm_output.specs.Spellings.{IsSpelling, IsSpellingOf};
-ghost use Rattle.crsm_spec.specs.Draft.{Draft, tell, tell_each, tell_all, tell_decision, tell_retrieve};
-ghost use Rattle.crsm_replica.specs.Replica.{StandsFor, Makes};
+ghost use Rattle.crsm_spec.specs.Draft.{Draft, send_control, send_to_each, send_to_all, send_decision, send_retrieve};
+ghost use Rattle.crsm_replica.specs.Replica.{StandsFor, Makes, WhereStands};
 
-use crate::desk::Desk;
+use crate::state::ReplicaState;
 use crsm_base::{Control, NoMemory};
-use crsm_output::{parts_are_spelt, spell, spell_decision, tell as send_control};
+use crsm_output::{parts_are_spelt, send_parts, spell, spell_decision};
 
-impl Desk {
+impl ReplicaState {
     #[tactic(auto, unfolding(crate::specs::Replica::StandsFor))]
     /// Makes a control message for k, of this spelling, unless this boot has made as many as can be numbered.
-    fn tell_spelt(&mut self, k: u32, spelling: &[u8]) -> Result<(), NoMemory>
+    fn send_spelt(&mut self, k: u32, spelling: &[u8]) -> Result<(), NoMemory>
         requires below { k < 15 }
         requires spelling { IsSpelling spelling.now }
-        ensures { IfOk result (λ _. (x : Draft) (c : ControlOnPaper) → StandsFor self.old x → IsSpellingOf spelling.now c → StandsFor self.new (tell c x k)) }
+        ensures { IfOk result (λ _. (x : Draft) (c : ControlOnPaper) → StandsFor self.old x → IsSpellingOf spelling.now c → StandsFor self.new (send_control c x k)) }
     {
         if self.made == u64::MAX {
             return Ok(());
         }
         parts_are_spelt();
         let boot = self.ledger.boot();
-        send_control(
+        send_parts(
             self.alloc,
             &mut self.output,
             self.me,
@@ -38,64 +38,64 @@ impl Desk {
     }
 
     /// Makes a control message for k, unless this boot has made as many as can be numbered.
-    pub fn tell(&mut self, k: u32, control: &Control) -> Result<(), NoMemory>
+    pub fn send_control(&mut self, k: u32, control: &Control) -> Result<(), NoMemory>
         requires { k < 15 }
-        ensures { IfOk result (λ _. (x : Draft) → StandsFor self.old x → FitsControl control.now → StandsFor self.new (tell control.now x k)) }
+        ensures { IfOk result (λ _. WhereStands self.old (λ x. FitsControl control.now → StandsFor self.new (send_control control.now x k))) }
     {
         let spelling = spell(self.alloc, control)?;
-        self.tell_spelt(k, spelling.as_slice())?;
+        self.send_spelt(k, spelling.as_slice())?;
         Ok(())
     }
 
     /// Makes one for each of these. It is spelt once.
-    pub fn tell_each(&mut self, replicas: &[u32], control: &Control) -> Result<(), NoMemory>
+    pub fn send_to_each(&mut self, replicas: &[u32], control: &Control) -> Result<(), NoMemory>
         requires { All (λ k. k < 15) replicas.now }
-        ensures { IfOk result (λ _. (x : Draft) → StandsFor self.old x → FitsControl control.now → StandsFor self.new (tell_each replicas.now control.now x)) }
+        ensures { IfOk result (λ _. WhereStands self.old (λ x. FitsControl control.now → StandsFor self.new (send_to_each replicas.now control.now x))) }
     {
         if replicas.is_empty() {
             return Ok(());
         }
         let spelling = spell(self.alloc, control)?;
         for k in replicas {
-            self.tell_spelt(*k, spelling.as_slice())?;
+            self.send_spelt(*k, spelling.as_slice())?;
         }
         Ok(())
     }
 
     #[tactic(auto, unfolding(crate::specs::Replica::StandsFor))]
     /// Makes one for each other replica that is counted.
-    pub fn tell_all(&mut self, control: &Control) -> Result<(), NoMemory>
-        ensures { IfOk result (λ _. (x : Draft) → StandsFor self.old x → FitsControl control.now → StandsFor self.new (tell_all control.now x)) }
+    pub fn send_to_all(&mut self, control: &Control) -> Result<(), NoMemory>
+        ensures { IfOk result (λ _. WhereStands self.old (λ x. FitsControl control.now → StandsFor self.new (send_to_all control.now x))) }
     {
         let others = self.others()?;
-        self.tell_each(&others, control)?;
+        self.send_to_each(&others, control)?;
         Ok(())
     }
 
     #[tactic(auto, unfolding(crate::specs::Replica::StandsFor))]
-    /// Tells k the known decision, if there is one.
-    pub fn tell_decision(&mut self, k: u32) -> Result<(), NoMemory>
+    /// Sends k the known decision, if there is one.
+    pub fn send_decision(&mut self, k: u32) -> Result<(), NoMemory>
         requires { k < 15 }
-        ensures { Makes (tell_decision k) self.old result self.new }
+        ensures { Makes (send_decision k) self.old result self.new }
     {
         let known = self.ledger.known();
         if known.epoch == 0 {
             return Ok(());
         }
         let spelling = spell_decision(self.alloc, known)?;
-        self.tell_spelt(k, spelling.as_slice())?;
+        self.send_spelt(k, spelling.as_slice())?;
         Ok(())
     }
 
     #[tactic(auto, unfolding(crate::specs::Replica::StandsFor))]
     /// Asks k for what is known and executed beyond here.
-    pub fn tell_retrieve(&mut self, k: u32) -> Result<(), NoMemory>
+    pub fn send_retrieve(&mut self, k: u32) -> Result<(), NoMemory>
         requires { k < 15 }
-        ensures { Makes (tell_retrieve k) self.old result self.new }
+        ensures { Makes (send_retrieve k) self.old result self.new }
     {
         let known = self.ledger.known().epoch;
         let from = self.ledger.executed_len();
-        self.tell(k, &Control::Retrieve { known, from })?;
+        self.send_control(k, &Control::Retrieve { known, from })?;
         Ok(())
     }
 }

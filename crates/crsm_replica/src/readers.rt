@@ -1,4 +1,4 @@
-//! What a desk says of the replica.
+//! What the state says of the replica.
 
 ghost use Rattle.std.specs.Prelude.{◌≡◌, ◌≢◌, ◌<◌, true, length, All, IfOk, Some};
 ghost use Rattle.crsm_base.specs.Order.{ballot_eq};
@@ -10,13 +10,13 @@ ghost use Rattle.crsm_spec.specs.Replica.{members_of, spec_of, others, other_mem
 ghost use Rattle.crsm_spec.specs.Draft.{Draft, would};
 ghost use Rattle.crsm_spec.specs.Clients.{own_unexecuted};
 ghost use Rattle.crsm_spec.specs.Coordinate.{has_accepted};
-ghost use Rattle.crsm_replica.specs.Replica.{StandsFor, ready_of};
+ghost use Rattle.crsm_replica.specs.Replica.{StandsFor, ready_of, WhereStands};
 
-use crate::desk::Desk;
+use crate::state::ReplicaState;
 use crsm_base::{Ballot, Decision, MAX_REPLICAS, NoMemory, Stamp, is_same_ballot};
 use std::alloc::Global;
 
-impl Desk {
+impl ReplicaState {
     /// Where memory is taken from.
     pub fn alloc(&self) -> Global {
         self.alloc
@@ -25,7 +25,7 @@ impl Desk {
     #[tactic(auto, unfolding(crate::specs::Replica::StandsFor))]
     /// Its number.
     pub fn me(&self) -> u32
-        ensures value { (x : Draft) → StandsFor self.now x → result ≡ x.replica.me }
+        ensures value { WhereStands self.now (λ x. result ≡ x.replica.me) }
         ensures below { result < 15 }
     {
         self.me.min(MAX_REPLICAS - 1)
@@ -34,7 +34,7 @@ impl Desk {
     #[tactic(auto, unfolding(crate::specs::Replica::StandsFor))]
     /// The known epoch.
     pub fn known(&self) -> u64
-        ensures { (x : Draft) → StandsFor self.now x → result ≡ known x.replica.log }
+        ensures { WhereStands self.now (λ x. result ≡ known x.replica.log) }
     {
         self.ledger.known().epoch
     }
@@ -42,7 +42,7 @@ impl Desk {
     #[tactic(auto, unfolding(crate::specs::Replica::StandsFor))]
     /// How many entries are executed where the known epoch begins.
     pub fn start(&self) -> u64
-        ensures { (x : Draft) → StandsFor self.now x → result ≡ start x.replica.log }
+        ensures { WhereStands self.now (λ x. result ≡ start x.replica.log) }
     {
         self.ledger.start()
     }
@@ -50,7 +50,7 @@ impl Desk {
     #[tactic(auto, unfolding(crate::specs::Replica::StandsFor))]
     /// How many entries are executed.
     pub fn executed_len(&self) -> u64
-        ensures { (x : Draft) → StandsFor self.now x → result ≡ length (executed x.replica.log) }
+        ensures { WhereStands self.now (λ x. result ≡ length (executed x.replica.log)) }
     {
         self.ledger.executed_len()
     }
@@ -58,7 +58,7 @@ impl Desk {
     #[tactic(auto, unfolding(crate::specs::Replica::StandsFor))]
     /// How many executed entries the known epoch's decision takes for granted; 0 in the first epoch.
     pub fn base_len(&self) -> u64
-        ensures { (x : Draft) → StandsFor self.now x → result ≡ option_map_or (λ d. d.base_len) (decision x.replica.log) 0 }
+        ensures { WhereStands self.now (λ x. result ≡ option_map_or (λ d. d.base_len) (decision x.replica.log) 0) }
     {
         self.ledger.known().base_len
     }
@@ -66,7 +66,7 @@ impl Desk {
     #[tactic(auto, unfolding(crate::specs::Replica::StandsFor))]
     /// This boot has entered the known epoch.
     pub fn is_live(&self) -> bool
-        ensures { (x : Draft) → StandsFor self.now x → result ≡ live x.replica.log }
+        ensures { WhereStands self.now (λ x. result ≡ live x.replica.log) }
     {
         self.ledger.live()
     }
@@ -74,7 +74,7 @@ impl Desk {
     #[tactic(auto, unfolding(crate::specs::Replica::StandsFor))]
     /// The replica takes no more part in the known epoch.
     pub fn is_suspended(&self) -> bool
-        ensures { (x : Draft) → StandsFor self.now x → result ≡ suspended x.replica.log }
+        ensures { WhereStands self.now (λ x. result ≡ suspended x.replica.log) }
     {
         self.ledger.suspended()
     }
@@ -82,7 +82,7 @@ impl Desk {
     #[tactic(auto, unfolding(crate::specs::Replica::StandsFor))]
     /// The replica is live and not suspended.
     pub fn is_active(&self) -> bool
-        ensures { (x : Draft) → StandsFor self.now x → result ≡ active x.replica.log }
+        ensures { WhereStands self.now (λ x. result ≡ active x.replica.log) }
     {
         if self.ledger.suspended() {
             return false;
@@ -93,7 +93,7 @@ impl Desk {
     #[tactic(auto, unfolding(crate::specs::Replica::StandsFor))]
     /// The ballot that was promised on the next decision.
     pub fn promised(&self) -> Ballot
-        ensures { (x : Draft) → StandsFor self.now x → result ≡ promised x.replica.log }
+        ensures { WhereStands self.now (λ x. result ≡ promised x.replica.log) }
     {
         self.ledger.promised()
     }
@@ -101,7 +101,7 @@ impl Desk {
     #[tactic(auto, unfolding(crate::specs::Replica::StandsFor))]
     /// This ballot's decision was accepted here.
     pub fn has_accepted(&self, b: Ballot) -> bool
-        ensures { (x : Draft) → StandsFor self.now x → result ≡ has_accepted b x }
+        ensures { WhereStands self.now (λ x. result ≡ has_accepted b x) }
     {
         match self.ledger.accepted() {
             Some((ballot, _)) => is_same_ballot(*ballot, b),
@@ -112,7 +112,7 @@ impl Desk {
     #[tactic(auto, unfolding(crate::specs::Replica::StandsFor))]
     /// The accepted decision with its ballot.
     pub fn accepted(&self) -> Result<Option<(Ballot, Decision)>, NoMemory>
-        ensures { (x : Draft) → StandsFor self.now x → IfOk result (λ r. r ≡ accepted x.replica.log) }
+        ensures { WhereStands self.now (λ x. IfOk result (λ r. r ≡ accepted x.replica.log)) }
     {
         match self.ledger.accepted() {
             Some((ballot, decision)) => Ok(Some((*ballot, decision.copy(self.alloc)?))),
@@ -123,7 +123,7 @@ impl Desk {
     #[tactic(auto, unfolding(crate::specs::Replica::StandsFor))]
     /// The decision of the known epoch, of which the first has none.
     pub fn decision(&self) -> Result<Option<Decision>, NoMemory>
-        ensures { (x : Draft) → StandsFor self.now x → IfOk result (λ r. r ≡ decision x.replica.log) }
+        ensures { WhereStands self.now (λ x. IfOk result (λ r. r ≡ decision x.replica.log)) }
     {
         let known = self.ledger.known();
         if known.epoch == 0 {
@@ -135,7 +135,7 @@ impl Desk {
     #[tactic(auto, unfolding(crate::specs::Replica::StandsFor))]
     /// The time that would be issued at this reading.
     pub fn would(&self, reading: u64) -> Option<u64>
-        ensures { (x : Draft) → StandsFor self.now x → result ≡ would x reading }
+        ensures { WhereStands self.now (λ x. result ≡ would x reading) }
     {
         self.running.would(reading)
     }
@@ -143,16 +143,16 @@ impl Desk {
     #[tactic(auto, unfolding(crate::specs::Replica::StandsFor))]
     /// The time that was issued last, 0 before the first.
     pub fn last_issued(&self) -> u64
-        ensures { (x : Draft) → StandsFor self.now x → result ≡ last_issued x.replica }
+        ensures { WhereStands self.now (λ x. result ≡ last_issued x.replica) }
     {
         self.running.last_issued()
     }
 
     #[tactic(auto, unfolding(crate::specs::Replica::StandsFor))]
-    /// The latest time heard of another replica, 0 before the first.
+    /// The latest time received from another replica, 0 before the first.
     pub fn latest_from(&self, k: u32) -> u64
         requires { k < 15 }
-        ensures { (x : Draft) → StandsFor self.now x → (k ≢ x.replica.me) → result ≡ latest_from x.replica.heard k }
+        ensures { WhereStands self.now (λ x. (k ≢ x.replica.me) → result ≡ latest_from x.replica.received k) }
     {
         self.running.latest_from(k)
     }
@@ -161,7 +161,7 @@ impl Desk {
     /// The number of the next frame from k.
     pub fn next_from(&self, k: u32) -> u64
         requires { k < 15 }
-        ensures { (x : Draft) → StandsFor self.now x → result ≡ next_from x.replica k }
+        ensures { WhereStands self.now (λ x. result ≡ next_from x.replica k) }
     {
         self.running.next_from(k)
     }
@@ -170,7 +170,7 @@ impl Desk {
     /// How many frames were pushed to k.
     pub fn pushed_to(&self, k: u32) -> u64
         requires { k < 15 }
-        ensures { (x : Draft) → StandsFor self.now x → result ≡ length (frames_to x.replica k) }
+        ensures { WhereStands self.now (λ x. result ≡ length (frames_to x.replica k)) }
     {
         self.running.pushed_to(k)
     }
@@ -178,7 +178,7 @@ impl Desk {
     #[tactic(auto, unfolding(crate::specs::Replica::StandsFor))]
     /// Some link to a member holds as many frames as it may.
     pub fn is_congested(&self) -> bool
-        ensures { (x : Draft) → StandsFor self.now x → result ≡ is_congested x.replica }
+        ensures { WhereStands self.now (λ x. result ≡ is_congested x.replica) }
     {
         self.running
             .is_congested(self.me, &self.ledger.known().members)
@@ -187,7 +187,7 @@ impl Desk {
     #[tactic(auto, unfolding(crate::specs::Replica::StandsFor))]
     /// How many of its own entries are not executed, while it is active.
     pub fn own_unexecuted(&self) -> u64
-        ensures { (x : Draft) → StandsFor self.now x → active x.replica.log ≡ true → result ≡ length (own_unexecuted x.replica) }
+        ensures { WhereStands self.now (λ x. active x.replica.log ≡ true → result ≡ length (own_unexecuted x.replica)) }
     {
         self.running.own_unexecuted(self.me())
     }
@@ -195,7 +195,7 @@ impl Desk {
     #[tactic(auto, unfolding(crate::specs::Replica::StandsFor))]
     /// How many entries are not executed, while it is active.
     pub fn unexecuted_len(&self) -> u64
-        ensures { (x : Draft) → StandsFor self.now x → active x.replica.log ≡ true → result ≡ length (unexecuted x.replica.log) }
+        ensures { WhereStands self.now (λ x. active x.replica.log ≡ true → result ≡ length (unexecuted x.replica.log)) }
     {
         self.ledger.unexecuted().len() as u64
     }
@@ -203,7 +203,7 @@ impl Desk {
     #[tactic(auto, unfolding(crate::specs::Replica::StandsFor))]
     /// How many acknowledgements are owed.
     pub fn owed_len(&self) -> u64
-        ensures { (x : Draft) → StandsFor self.now x → result ≡ length x.replica.owed }
+        ensures { WhereStands self.now (λ x. result ≡ length x.replica.owed) }
     {
         self.running.owed_len()
     }
@@ -211,7 +211,7 @@ impl Desk {
     #[tactic(auto, unfolding(crate::specs::Replica::StandsFor))]
     /// The least stamp whose acknowledgement is owed.
     pub fn first_owed(&self) -> Option<Stamp>
-        ensures { (x : Draft) → StandsFor self.now x → result ≡ first_of x.replica.owed }
+        ensures { WhereStands self.now (λ x. result ≡ first_of x.replica.owed) }
     {
         self.running.first_owed()
     }
@@ -219,7 +219,7 @@ impl Desk {
     #[tactic(auto, unfolding(crate::specs::Replica::StandsFor))]
     /// The stamp of the entry that is executed next, where it is ready, while the replica is active.
     pub fn ready(&self) -> Result<Option<Stamp>, NoMemory>
-        ensures value { (x : Draft) → StandsFor self.now x → active x.replica.log ≡ true → IfOk result (λ r. r ≡ ready_of x.replica) }
+        ensures value { WhereStands self.now (λ x. active x.replica.log ≡ true → IfOk result (λ r. r ≡ ready_of x.replica)) }
         ensures fits { IfOk result (λ r. FitsOption FitsStamp r) }
     {
         let ready = self

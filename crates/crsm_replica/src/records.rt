@@ -9,17 +9,17 @@ ghost use Rattle.crsm_spec.specs.Fits.{fits};
 ghost use Rattle.crsm_spec.specs.Step.{if_fitting};
 ghost use Rattle.crsm_spec.specs.Types.{Rec};
 ghost use Rattle.crsm_replica.specs.Recorded.{Applied, Recorded};
-ghost use Rattle.crsm_replica.specs.Replica.{StandsFor, MakesFitting, IsPlain};
+ghost use Rattle.crsm_replica.specs.Replica.{StandsFor, MakesFitting, IsPlain, WhereStands};
 
-use crate::desk::Desk;
+use crate::state::ReplicaState;
 use crsm_base::{Lines, NoMemory, Rec, never};
 use crsm_ledger::{Ledger, LedgerError};
 use crsm_output::Output;
 use crsm_wire::is_rec_spelt;
 
-impl Desk {
+impl ReplicaState {
     #[tactic(auto, unfolding(crate::specs::Replica::StandsFor))]
-    /// Keeps a record, which gives its lines. `false` comes exactly where it does not fit, and the desk is as before.
+    /// Keeps a record, which gives its lines. `false` if it does not fit, and the state is as before.
     pub fn keep(&mut self, rec: Rec) -> Result<bool, NoMemory>
         requires plain { IsPlain rec }
         requires spelt { FitsRec rec }
@@ -34,11 +34,11 @@ impl Desk {
         Ok(true)
     }
 
-    /// Keeps a record that has a spelling by what the desk stands for. `false` comes exactly where it does not fit, and
-    /// the desk is as before.
+    /// Keeps a record that has a spelling by what the state stands for. `false` if it does not fit, and
+    /// the state is as before.
     pub fn keep_known(&mut self, rec: Rec) -> Result<bool, NoMemory>
         requires { IsPlain rec }
-        ensures { IfOk result (λ fit. (x : Draft) → StandsFor self.old x → FitsRec rec → (fit ≡ (keep rec x).fitting) × StandsFor self.new (if_fitting x (keep rec x))) }
+        ensures { IfOk result (λ fit. WhereStands self.old (λ x. FitsRec rec → (fit ≡ (keep rec x).fitting) × StandsFor self.new (if_fitting x (keep rec x)))) }
     {
         if !is_rec_spelt(&rec) {
             return Err(never());
@@ -48,7 +48,7 @@ impl Desk {
     }
 }
 
-/// Puts a record into the ledger, and answers its lines. None comes exactly where it does not fit, and changes nothing.
+/// Puts a record into the ledger, and answers its lines. `None` if it does not fit, and changes nothing.
 fn apply(ledger: &mut Ledger, rec: &Rec) -> Result<Option<Lines>, NoMemory>
     requires { FitsRec rec.now }
     ensures kept { (me n : ℕ) (log : List Rec) → SaysOfLog me n ledger.old log → IfOk result (λ lines. Applied lines me n log rec.now ledger.new) }
@@ -62,7 +62,7 @@ fn apply(ledger: &mut Ledger, rec: &Rec) -> Result<Option<Lines>, NoMemory>
     }
 }
 
-/// Puts a record into the ledger and into the output. `false` comes exactly where it does not fit, and changes nothing.
+/// Puts a record into the ledger and into the output. `false` if it does not fit, and changes nothing.
 pub fn put(ledger: &mut Ledger, output: &mut Output, rec: Rec) -> Result<bool, NoMemory>
     requires { FitsRec rec }
     ensures kept { (me n : ℕ) (log : List Rec) (m : Made) → SaysOfLog me n ledger.old log → Holds output.old m →

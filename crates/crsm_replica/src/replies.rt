@@ -7,15 +7,15 @@ ghost use Rattle.crsm_spec.specs.Log.{executed};
 ghost use Rattle.crsm_spec.specs.Draft.{Draft};
 ghost use Rattle.crsm_spec.specs.Clients.{find_executed, answer_found, is_dropped, reply_ok, reply_dropped, replies};
 ghost use Rattle.crsm_replica.specs.Sound.{FitsWaiting};
-ghost use Rattle.crsm_replica.specs.Replica.{StandsFor, Makes, on_paper};
+ghost use Rattle.crsm_replica.specs.Replica.{StandsFor, Makes, on_paper, WhereStands};
 
-use crate::desk::{Desk, Waiting};
+use crate::state::{ReplicaState, Waiting};
 use crsm_base::{Answer, Entry, Line, MAX_VAL_BYTES, NoMemory, Outcome, Refusal, Val, never};
 use crsm_output::Reply;
 use crsm_results::{answer_to, executions, has_no_answer};
 use std::mem;
 
-impl Desk {
+impl ReplicaState {
     /// Answers each waiting client whose entry is executed or dropped. The others wait on.
     pub fn replies(&mut self) -> Result<(), NoMemory>
         ensures { Makes (replies) self.old result self.new }
@@ -29,7 +29,7 @@ impl Desk {
 
     /// No waiting client's entry is executed or dropped.
     fn all_wait(&self) -> bool
-        ensures { IsTrue result → (x : Draft) → StandsFor self.now x → replies x ≡ x }
+        ensures { IsTrue result → WhereStands self.now (λ x. replies x ≡ x) }
     {
         for client in self.waiting.as_slice() {
             if !self.waits_on(&client.entry) {
@@ -41,7 +41,7 @@ impl Desk {
 
     /// The entry is neither executed nor dropped.
     fn waits_on(&self, entry: &Entry) -> bool
-        ensures { IsTrue result → (x : Draft) → StandsFor self.now x → (None ≡ answered (executed x.replica.log) entry.now) × (is_dropped x.replica entry.now ≡ false) }
+        ensures { IsTrue result → WhereStands self.now (λ x. (None ≡ answered (executed x.replica.log) entry.now) × (is_dropped x.replica entry.now ≡ false)) }
     {
         if self.is_dropped(entry) {
             return false;
@@ -63,8 +63,8 @@ impl Desk {
 
     /// Answers a client whose entry is executed or dropped, or lets it wait on. `executions` are those of the step's lines.
     fn answer_client(&mut self, client: Waiting, executions: &[usize]) -> Result<(), NoMemory>
-        ensures { IfOk result (λ _. (x : Draft) → StandsFor self.old x → FitsWaiting (on_paper client) →
-            StandsFor self.new (answer_found (on_paper client) (find_executed (executed x.replica.log) client.entry) x)) }
+        ensures { IfOk result (λ _. WhereStands self.old (λ x. FitsWaiting (on_paper client) →
+            StandsFor self.new (answer_found (on_paper client) (find_executed (executed x.replica.log) client.entry) x))) }
     {
         let found = answer_to(
             self.alloc,
@@ -82,7 +82,7 @@ impl Desk {
 
     /// Answers a client whose entry is dropped, and lets any other wait on.
     fn drop_or_wait(&mut self, client: Waiting) -> Result<(), NoMemory>
-        ensures { IfOk result (λ _. (x : Draft) → StandsFor self.old x → FitsWaiting (on_paper client) → StandsFor self.new (answer_found (on_paper client) None x)) }
+        ensures { IfOk result (λ _. WhereStands self.old (λ x. FitsWaiting (on_paper client) → StandsFor self.new (answer_found (on_paper client) None x))) }
     {
         if self.is_dropped(&client.entry) {
             self.reply_dropped(&client)?;
@@ -94,7 +94,7 @@ impl Desk {
 
     /// A later epoch has begun here without the entry.
     fn is_dropped(&self, entry: &Entry) -> bool
-        ensures { (x : Draft) → StandsFor self.now x → result ≡ is_dropped x.replica entry.now }
+        ensures { WhereStands self.now (λ x. result ≡ is_dropped x.replica entry.now) }
     {
         let is_later = entry.epoch < self.ledger.known().epoch;
         self.ledger.start() <= self.ledger.executed_len() && is_later
@@ -102,7 +102,7 @@ impl Desk {
 
     /// Tells a client the answer at this place.
     fn reply_ok(&mut self, client: &Waiting, place: u64, answer: Answer) -> Result<(), NoMemory>
-        ensures { IfOk result (λ _. (x : Draft) → StandsFor self.old x → FitsWaiting (on_paper client.now) → StandsFor self.new (reply_ok (on_paper client.now) place answer x)) }
+        ensures { IfOk result (λ _. WhereStands self.old (λ x. FitsWaiting (on_paper client.now) → StandsFor self.new (reply_ok (on_paper client.now) place answer x))) }
     {
         if !is_answer_spelt(&answer) {
             return Err(never());
@@ -126,7 +126,7 @@ impl Desk {
 
     /// Tells a client that its entry will never be executed.
     fn reply_dropped(&mut self, client: &Waiting) -> Result<(), NoMemory>
-        ensures { IfOk result (λ _. (x : Draft) → StandsFor self.old x → FitsWaiting (on_paper client.now) → StandsFor self.new (reply_dropped (on_paper client.now) x)) }
+        ensures { IfOk result (λ _. WhereStands self.old (λ x. FitsWaiting (on_paper client.now) → StandsFor self.new (reply_dropped (on_paper client.now) x))) }
     {
         self.output.reply(Reply {
             address: client.address,

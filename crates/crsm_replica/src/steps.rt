@@ -11,27 +11,27 @@ ghost use Rattle.crsm_spec.specs.Types.{Rec};
 ghost use Rattle.crsm_spec.specs.Log.{boots};
 ghost use Rattle.crsm_spec.specs.Draft.{Draft, begun};
 ghost use Rattle.crsm_spec.specs.Step.{boot, boot_again};
-ghost use Rattle.crsm_replica.specs.Replica.{StandsFor, AwaitsBoot};
+ghost use Rattle.crsm_replica.specs.Replica.{StandsFor, AwaitsBoot, WhereStands};
 
-use crate::desk::Desk;
 use crate::gathered::Gathered;
 use crate::records::put;
+use crate::state::ReplicaState;
 use crsm_base::{MAX_REPLICAS, NoMemory, Rec, never};
 use crsm_coordinator::Coordinator;
 use crsm_epoch_state::EpochState;
 use crsm_ledger::Ledger;
 use crsm_output::{Batch, Output};
 
-impl Desk {
+impl ReplicaState {
     #[tactic(auto, unfolding(crate::specs::Replica::AwaitsBoot))]
-    /// The desk of a ledger, before its boot is on record.
-    pub fn new(ledger: Ledger) -> Result<Desk, NoMemory>
-        ensures { IfOk result (λ desk. (me n : ℕ) (log : List Rec) → SaysOfLog me n ledger log → EachFits me n log → AllByRecursion FitsRec log →
-            me < 15 → 1 ≤ n → AwaitsBoot desk me n log) }
+    /// The state of a ledger, before its boot is on record.
+    pub fn new(ledger: Ledger) -> Result<ReplicaState, NoMemory>
+        ensures { IfOk result (λ state. (me n : ℕ) (log : List Rec) → SaysOfLog me n ledger log → EachFits me n log → AllByRecursion FitsRec log →
+            me < 15 → 1 ≤ n → AwaitsBoot state me n log) }
     {
         let alloc = ledger.alloc();
         let me = ledger.me();
-        Ok(Desk {
+        Ok(ReplicaState {
             alloc,
             me,
             ledger,
@@ -60,7 +60,7 @@ impl Desk {
     #[tactic(auto, unfolding(crate::specs::Replica::StandsFor))]
     /// Hands out what the step has made; the next one begins.
     pub fn take_batch(&mut self) -> Result<Batch, NoMemory>
-        ensures { IfOk result (λ batch. (x : Draft) → StandsFor self.old x → IsBatchOf batch (made_of x) × StandsFor self.new (begun x.replica)) }
+        ensures { IfOk result (λ batch. WhereStands self.old (λ x. IsBatchOf batch (made_of x) × StandsFor self.new (begun x.replica))) }
     {
         let batch = self.output.take()?;
         Ok(batch)

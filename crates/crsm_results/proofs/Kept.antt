@@ -274,15 +274,15 @@ submit_line me done true e = (tt, tt)
 submit_line me done false e = (tt, tt)
 
 -- lines stay true, and those of one more record are true
-pub told_kept : (me : ℕ) (log : Log) (rec : Rec) (lines : List Line) → AllByRecursion (IsTrueOf (executed log)) lines →
+pub sent_kept : (me : ℕ) (log : Log) (rec : Rec) (lines : List Line) → AllByRecursion (IsTrueOf (executed log)) lines →
     AllByRecursion (IsTrueOf (executed (rec ∷ log))) (lines ++ lines_of me log rec)
 unfolding executed lines_of
-told_kept me log (Rec.Boot m k) lines all = all-append _ lines _ all (tt, tt)
-told_kept me log (Rec.Prepare e) lines all = all-append _ lines _ all (submit_line me (executed log) (nat_eq e.stamp.origin me) e)
-told_kept me log (Rec.Commit s) lines all = grown me (executed log) (option_to_list (entry_of log s)) lines all
-told_kept me log (Rec.Adopt place es) lines all = grown me (executed log) es lines all
-told_kept me log (Rec.Suspend x) lines all = all-append _ lines _ all (tt, tt)
-told_kept me log (Rec.Promise i b) lines all = all-append _ lines _ all (tt, tt)
-told_kept me log (Rec.Accept i b d) lines all = all-append _ lines _ all (tt, tt)
-told_kept me log (Rec.Decide d) lines all = all-append _ lines _ all (tt, tt)
-told_kept me log (Rec.Enter x) lines all = all-append _ lines _ all (tt, tt)
+sent_kept me log (Rec.Boot m k) lines all = all-append _ lines _ all (tt, tt)
+sent_kept me log (Rec.Prepare e) lines all = all-append _ lines _ all (submit_line me (executed log) (nat_eq e.stamp.origin me) e)
+sent_kept me log (Rec.Commit s) lines all = grown me (executed log) (option_to_list (entry_of log s)) lines all
+sent_kept me log (Rec.Adopt place es) lines all = grown me (executed log) es lines all
+sent_kept me log (Rec.Suspend x) lines all = all-append _ lines _ all (tt, tt)
+sent_kept me log (Rec.Promise i b) lines all = all-append _ lines _ all (tt, tt)
+sent_kept me log (Rec.Accept i b d) lines all = all-append _ lines _ all (tt, tt)
+sent_kept me log (Rec.Decide d) lines all = all-append _ lines _ all (tt, tt)
+sent_kept me log (Rec.Enter x) lines all = all-append _ lines _ all (tt, tt)

@@ -6,7 +6,7 @@ ghost use Rattle.crsm_spec.specs.Epochs.Message.{Decide};
 
 use crate::one_instance::{choice, held_vote, one_more_step, proposer, repeated_answer};
 
-/// Over any network, and whichever replicas lose their coordinators, no two decisions of an epoch differ.
+/// Over any network, and whichever replicas lose what they had in memory, no two decisions of an epoch differ.
 pub fn instances_agree<D>()
     ensures { (spec_of : ℕ → List ℕ) (events : List (Event D)) (i : ℕ) (d e : D) → Contains (world_after spec_of start_world events).sent (Decide i d) → Contains (world_after spec_of start_world events).sent (Decide i e) → d ≡ e }
 {

@@ -62,7 +62,7 @@ pub fn proposer<D>()
     // One that makes the majority is a step that proposes.
     ensures proposes { (spec : List ℕ) (s : Instance D) (p : Proposing D) (from : ℕ) (b : Ballot) (accepted : Held D) →
         Follows spec s p → Contains spec from → Contains s.promises (record { ballot = b; answer = record { replica = from; accepted = accepted } }) →
-        counts_answer p from b ≡ true → majority p.size ≤ length p.heard + 1 →
+        counts_answer p from b ≡ true → majority p.size ≤ length p.received + 1 →
         (answers : List (Answer D)) × MayPropose spec s p.ballot answers × (value_of p.own answers ≡ value_proposed (after_answer p from accepted)) ×
         Follows spec (after_step s (Proposes p.ballot p.own answers)) (after_answer p from accepted) }
 

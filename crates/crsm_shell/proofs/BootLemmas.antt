@@ -19,7 +19,7 @@ use Rattle.crsm_log.specs.declared.errors.MountError.TheVariants as mount
 use Rattle.crsm_log.specs.Format.{Reading, bodies_in, bodies_of, found, gate_in, reading, reading_in}
 use Rattle.crsm_log.specs.Log.{IsAsBefore, MeetsIn, Mounts, Refuses, Serves, Used, mount_calls, mount_count, put_calls, recorded}
 use Rattle.crsm_epoch_state.specs.EpochState.{EachFits}
-use Rattle.crsm_turns.specs.Outgoing.{posts_for}
+use Rattle.crsm_turns.specs.Outgoing.{packets_for}
 use Rattle.crsm_shell.specs.declared.begin.Begun.{Begun}
 use Rattle.crsm_shell.specs.declared.boot.Booted.{Booted}
 use Rattle.crsm_shell.specs.declared.errors.BootError.{BootError}
@@ -146,7 +146,7 @@ module _ (one : (a b : List Rec) (s : List ℕ) → SpeltBody a s → SpeltBody 
         added me n mid.seen log records (boot me n log).replica.log (there at_old) group new.seen (subst (λ (bs : List ℕ). Adds bs mid.seen new.seen) begins.body (well.added at_mid))
 
     pub boots_shell : Boots b new me n log
-    unfolding ShellStands records_of sends_of posts_for body_bytes body_size
+    unfolding ShellStands records_of sends_of packets_for body_bytes body_size
     boots_shell = record {
       stands = record {
         core = subst (λ (c : Core). CoreStands c (boot me n log).replica) (sym booted.core) begins.core;

@@ -11,12 +11,12 @@ use Rattle.crsm_spec.specs.World.{body_size}
 use Rattle.crsm_disk.specs.Meaning.{Meaning}
 use Rattle.crsm_ledger.specs.Recovered.{with_records}
 use Rattle.crsm_output.specs.declared.batch.Batch.{Batch}
-use Rattle.crsm_turns.specs.Outgoing.{FitsSend, posts_for}
+use Rattle.crsm_turns.specs.Outgoing.{FitsSend, packets_for}
 use Rattle.crsm_core.specs.Core.{Answers, CoreStands, FitsSent}
 use Rattle.crsm_shell.specs.declared.shell.Shell.{Shell}
 use Rattle.crsm_shell.specs.Shell.{HasLog, ShellStands, StandsInside, records_of, sends_in, sends_of}
 use Rattle.crsm_shell.specs.Taking.{MakesStep}
-use Rattle.crsm_shell.proofs.Records.{all_more, body_more, posts_more, records_push, sends_push, with_more}
+use Rattle.crsm_shell.proofs.Records.{all_more, body_more, packets_more, records_push, sends_push, with_more}
 use Rattle.crsm_step_facts.specs.Steps.{Grown}
 
 -- what is sent has a spelling
@@ -30,7 +30,7 @@ sends_are batch x a = a.made.sends
 
 module _ {D : Type 0} {g : _} (old new : Shell D g) (m : Meaning) (kept : Log) (r : Replica) (steps : List Draft) (x : Draft) (batch : Batch) (bytes : ℕ) where
   pub one_more : ShellStands old m kept r steps → Answers batch x → CoreStands new.core.value x.replica → Grown r x → new.failed ≡ false →
-      new.body ≡ old.body ++ body_bytes batch.records → new.outbox ≡ old.outbox ++ posts_for old.peers.items batch.sends →
+      new.body ≡ old.body ++ body_bytes batch.records → new.outbox ≡ old.outbox ++ packets_for old.peers.items batch.sends →
       new.peers.items ≡ old.peers.items → new.pending ≡ old.pending + 1 → bytes ≡ length (body_bytes batch.records) → MakesStep new m kept r steps x batch bytes
   unfolding ShellStands body_size
   one_more s a core grown well body outbox peers pending size =
@@ -43,10 +43,10 @@ module _ {D : Type 0} {g : _} (old new : Shell D g) (m : Meaning) (kept : Log) (
           body = body ∙ ap (λ (b : List ℕ). b ++ body_bytes batch.records) s.body ∙ ap (λ (rs : List Rec). body_bytes (records_of steps) ++ body_bytes rs) recs
               ∙ sym (body_more (records_of steps) x.batch) ∙ ap body_bytes (sym (records_push steps x));
           spelt = subst (AllByRecursion FitsRec) (sym (records_push steps x)) (all_more FitsRec (records_of steps) x.batch s.spelt (subst (AllByRecursion FitsRec) recs a.records));
-          outbox = outbox ∙ ap (λ os. os ++ posts_for old.peers.items batch.sends) s.outbox
-              ∙ ap (λ (ss : List Send). posts_for old.peers.items (sends_of steps) ++ posts_for old.peers.items ss) (sends_are batch x a)
-              ∙ sym (posts_more old.peers.items (sends_of steps) (sends_in x)) ∙ ap (posts_for old.peers.items) (sym (sends_push steps x))
-              ∙ ap (λ (ps : List ℕ). posts_for ps (sends_of (steps ++ x ∷ []))) (sym peers);
+          outbox = outbox ∙ ap (λ os. os ++ packets_for old.peers.items batch.sends) s.outbox
+              ∙ ap (λ (ss : List Send). packets_for old.peers.items (sends_of steps) ++ packets_for old.peers.items ss) (sends_are batch x a)
+              ∙ sym (packets_more old.peers.items (sends_of steps) (sends_in x)) ∙ ap (packets_for old.peers.items) (sym (sends_push steps x))
+              ∙ ap (λ (ps : List ℕ). packets_for ps (sends_of (steps ++ x ∷ []))) (sym peers);
           pending = pending ∙ ap (λ (k : ℕ). k + 1) s.pending ∙ sym (length-append steps (x ∷ []));
           log = grown.log ∙ ap (λ (l : Log). with_records l x.batch) s.log ∙ sym (with_more kept (records_of steps) x.batch) ∙ ap (with_records kept) (sym (records_push steps x));
           file = λ honest. subst (λ (k : ℕ). HasLog k x.replica.n m.seen kept) (sym grown.me) (subst (λ (k : ℕ). HasLog r.me k m.seen kept) (sym grown.n) (s.file honest));

@@ -4,9 +4,9 @@ use Rattle.std.specs.Prelude.{Option, Some, None, option_map}
 use Rattle.std.proofs.lemmas.Option.{none-some}
 use Rattle.crsm_faults.specs.Failing.{one_less}
 use Rattle.crsm_faults.specs.Plan.{HasRoom, Plan, spent}
-use Rattle.crsm_port.specs.Meaning.{Meaning, Post, Traffic}
+use Rattle.crsm_port.specs.Meaning.{Meaning, Packet, Traffic}
 use Rattle.crsm_turns.specs.Outgoing.{GoesOut, SendsAll, bytes_in, raised_by, with_all_sent}
-use Rattle.crsm_shell.specs.Flushing.{GoesWell, SendsNone, SendsPosts}
+use Rattle.crsm_shell.specs.Flushing.{GoesWell, SendsNone, SendsPackets}
 
 -- room is made, and the calls go as well as before
 abbrev pub HasMade : ℕ → ℕ → Meaning → Meaning → Type 0
@@ -16,8 +16,8 @@ well_some : (plan : Option Plan) → GoesWell plan → (p : Plan) × (plan ≡ S
 well_some None h = absurd h
 well_some (Some p) h = (p, refl, h)
 
-module _ (posts : List Post) (old mid new : Meaning) (same : mid ≡ record old { plan = mid.plan }) (room : HasMade (length posts) (bytes_in posts) old mid) where
-  out_of : GoesOut posts mid new → GoesOut posts old new
+module _ (packets : List Packet) (old mid new : Meaning) (same : mid ≡ record old { plan = mid.plan }) (room : HasMade (length packets) (bytes_in packets) old mid) where
+  out_of : GoesOut packets mid new → GoesOut packets old new
   out_of o = record {
     out = o.out;
     missing = o.missing;
@@ -26,19 +26,19 @@ module _ (posts : List Post) (old mid new : Meaning) (same : mid ≡ record old 
     traffic = o.traffic ∙ ap (λ (m : Meaning). option_map (with_all_sent (map m.coat.wrap o.out)) m.traffic) same;
   }
 
-  whole_of : SendsAll posts mid new → GoesWell old.plan → (new.traffic ≡ option_map (with_all_sent (map old.coat.wrap posts)) old.traffic) × (new.losses ≡ old.losses) × GoesWell new.plan
+  whole_of : SendsAll packets mid new → GoesWell old.plan → (new.traffic ≡ option_map (with_all_sent (map old.coat.wrap packets)) old.traffic) × (new.losses ≡ old.losses) × GoesWell new.plan
   whole_of s well =
       let p = well_some old.plan well in
       let q = room p.0 p.1 in
       let none : q.0.good ≡ None = q.2.good ∙ p.2 in
       let w = s.whole q.0 q.1 none q.2.calls q.2.bytes in (
-        w.traffic ∙ ap (λ (m : Meaning). option_map (with_all_sent (map m.coat.wrap posts)) m.traffic) same,
+        w.traffic ∙ ap (λ (m : Meaning). option_map (with_all_sent (map m.coat.wrap packets)) m.traffic) same,
         w.losses ∙ ap (λ (m : Meaning). m.losses) same,
         subst GoesWell (sym w.plan) (ap one_less none),
       )
 
-  pub sends_posts : SendsAll posts mid new → SendsPosts posts old new
-  sends_posts s = record {
+  pub sends_packets : SendsAll packets mid new → SendsPackets packets old new
+  sends_packets s = record {
     faults = s.faults ∙ ap (λ (m : Meaning). m.faults) same;
     empties = s.empties ∙ ap (λ (m : Meaning). m.empties) same;
     later = subst (λ (k : ℕ). k ≤ new.losses) (ap (λ (m : Meaning). m.losses) same) s.later;

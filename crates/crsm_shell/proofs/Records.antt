@@ -10,7 +10,7 @@ use Rattle.crsm_spec.specs.Fits.{fits}
 use Rattle.crsm_spec.specs.Draft.{Draft}
 use Rattle.crsm_epoch_state.specs.EpochState.{EachFits}
 use Rattle.crsm_ledger.specs.Recovered.{AreKept, FitInTurn, with_records}
-use Rattle.crsm_turns.specs.Outgoing.{posts_for, post_for}
+use Rattle.crsm_turns.specs.Outgoing.{packets_for, packet_for}
 use Rattle.crsm_shell.specs.Shell.{records_of, sends_in, sends_of}
 
 -- ---- one step more
@@ -23,9 +23,9 @@ pub sends_push : (steps : List Draft) (x : Draft) → sends_of (steps ++ x ∷ [
 unfolding sends_of
 sends_push steps x = flat_map-append sends_in steps (x ∷ []) ∙ ap (λ ss. sends_of steps ++ ss) (append-nil (sends_in x))
 
-pub posts_more : (peers : List ℕ) (a b : List Send) → posts_for peers (a ++ b) ≡ posts_for peers a ++ posts_for peers b
-unfolding posts_for
-posts_more peers a b = flat_map-append (post_for peers) a b
+pub packets_more : (peers : List ℕ) (a b : List Send) → packets_for peers (a ++ b) ≡ packets_for peers a ++ packets_for peers b
+unfolding packets_for
+packets_more peers a b = flat_map-append (packet_for peers) a b
 
 pub body_more : (a b : List Rec) → body_bytes (a ++ b) ≡ body_bytes a ++ body_bytes b
 unfolding body_bytes

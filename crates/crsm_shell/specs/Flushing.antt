@@ -12,7 +12,7 @@ use Rattle.crsm_disk.specs.Meaning.{LeavesOnly, Meaning, Same}
 use Rattle.crsm_log.specs.Log.{Goes, Used, put_calls, recorded}
 use Rattle.crsm_log.specs.Log as logs
 use Rattle.crsm_log.specs.Format.{bodies_of, found, gate_in, reading}
-use Rattle.crsm_port.specs.Meaning.{Meaning as PortMeaning, Post}
+use Rattle.crsm_port.specs.Meaning.{Meaning as PortMeaning, Packet}
 use Rattle.crsm_turns.specs.Outgoing.{GoesOut, with_all_sent}
 use Rattle.crsm_shell.specs.declared.errors.TurnError.{TurnError}
 use Rattle.crsm_shell.specs.declared.errors.TurnError.TheVariants as errors
@@ -29,14 +29,14 @@ GoesWell (Some p) = p.good ≡ None
 
 -- All of these are sent, in order; at most as many are missing as the count of losses rose by, and none where all calls
 -- of the port go well.
-pub record SendsPosts (posts : List Post) (old new : PortMeaning) : Type 0 where
+pub record SendsPackets (packets : List Packet) (old new : PortMeaning) : Type 0 where
   pub faults : new.faults ≡ old.faults
   pub empties : new.empties ≡ old.empties
   pub later : old.losses ≤ new.losses
   pub coat : new.coat ≡ old.coat
   pub lent : new.lent ≡ old.lent
-  pub out : GoesOut posts old new
-  pub whole : GoesWell old.plan → (new.traffic ≡ option_map (with_all_sent (map old.coat.wrap posts)) old.traffic) × (new.losses ≡ old.losses) × GoesWell new.plan
+  pub out : GoesOut packets old new
+  pub whole : GoesWell old.plan → (new.traffic ≡ option_map (with_all_sent (map old.coat.wrap packets)) old.traffic) × (new.losses ≡ old.losses) × GoesWell new.plan
 
 -- nothing is sent; there may be more room than before
 pub record SendsNone (old new : PortMeaning) : Type 0 where

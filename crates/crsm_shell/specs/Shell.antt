@@ -11,7 +11,7 @@ use Rattle.crsm_output.specs.Made.{to_replica, to_address}
 use Rattle.crsm_ledger.specs.Recovered.{AreKept, with_records}
 use Rattle.crsm_log.specs.Format.{reading, found, bodies_of}
 use Rattle.crsm_disk.specs.Meaning.{Meaning}
-use Rattle.crsm_turns.specs.Outgoing.{posts_for}
+use Rattle.crsm_turns.specs.Outgoing.{packets_for}
 use Rattle.crsm_core.specs.Core.{CoreStands}
 use Rattle.crsm_shell.specs.declared.shell.Shell.{Shell}
 use Rattle.crsm_shell.specs.Words.{disk_of}
@@ -51,7 +51,7 @@ pub record StandsInside {D : Type 0} {g : _} (shell : Shell D g) (m : Meaning) (
   pub well : shell.failed ≡ false
   pub body : shell.body ≡ body_bytes (records_of steps)
   pub spelt : AllByRecursion FitsRec (records_of steps)
-  pub outbox : shell.outbox ≡ posts_for shell.peers.items (sends_of steps)
+  pub outbox : shell.outbox ≡ packets_for shell.peers.items (sends_of steps)
   pub pending : shell.pending ≡ length steps
   pub log : r.log ≡ with_records kept (records_of steps)
   pub file : IsTrue m.honest → HasLog r.me r.n m.seen kept

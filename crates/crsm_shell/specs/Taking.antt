@@ -53,7 +53,7 @@ TakesStep new m kept r steps t = MakesStep new m kept r steps (step_of (buffer_o
 abbrev pub most_received : ℕ
 most_received = 8192
 
--- ---- who is heard
+-- ---- who is received
 
 -- the replica that a datagram comes from: the sender of a frame, of an acknowledgement or of a part
 unfoldable pub sender_of : Datagram → Option ℕ
@@ -64,7 +64,7 @@ sender_of (datagram.Request command) = None
 sender_of (datagram.Reply client number outcome) = None
 sender_of (datagram.Operate members) = None
 
--- the replica that a turn hears
+-- the replica that a turn receives from
 unfoldable pub heard_in : Turn → Option ℕ
 heard_in (Turn.In address bytes) = option_and_then sender_of (datagram_of bytes)
 heard_in Turn.Tick = None

@@ -10,7 +10,7 @@ use Rattle.crsm_core.specs.Core.{Answers}
 use Rattle.crsm_disk.specs.Meaning.{LeavesOnly, Meaning, Same}
 use Rattle.crsm_port.specs.Meaning.{Meaning as PortMeaning}
 use Rattle.crsm_turns.specs.Input.{TakesInput}
-use Rattle.crsm_turns.specs.Outgoing.{posts_for}
+use Rattle.crsm_turns.specs.Outgoing.{packets_for}
 use Rattle.crsm_turns.specs.declared.input.What.{What}
 use Rattle.crsm_turns.specs.declared.input.Taken.{Taken}
 use Rattle.crsm_turns.specs.declared.input.TakeError.TheVariants as take_error
@@ -18,7 +18,7 @@ use Rattle.crsm_shell.specs.declared.errors.TurnError.{TurnError}
 use Rattle.crsm_shell.specs.declared.errors.TurnError.TheVariants as errors
 use Rattle.crsm_shell.specs.declared.shell.Shell.{Shell}
 use Rattle.crsm_shell.specs.declared.turned.Turned.{Turned}
-use Rattle.crsm_shell.specs.Flushing.{AddsGroup, CallsForGroup, IsFullFor, IsOfPut, LeavesGroup, LeavesLogs, SendsNone, SendsPosts, SpendsForGroup, StopsGroup}
+use Rattle.crsm_shell.specs.Flushing.{AddsGroup, CallsForGroup, IsFullFor, IsOfPut, LeavesGroup, LeavesLogs, SendsNone, SendsPackets, SpendsForGroup, StopsGroup}
 use Rattle.crsm_shell.specs.Shell.{HasLog, ShellStands, WhereStands, records_of, sends_of}
 use Rattle.crsm_shell.specs.Taking.{most_received, step_of, turn_of}
 use Rattle.crsm_shell.specs.Words.{buffer_of, disk_of, peers_of}
@@ -37,7 +37,7 @@ steps_with new r steps t = steps ++ step_of (buffer_of new) r t ∷ []
 pub record TakesAndSends {D : Type 0} {g : _} (before after : Shell D g) (what : What) (old new : PortMeaning) (r : Replica) (steps : List Draft) (t : Turned) : Type 0 where
   pub between : PortMeaning
   pub taken : TakesInput what most_received (buffer_of after) old between (Ok t.taken)
-  pub sent : SendsPosts (posts_for (peers_of before) (sends_of (steps_with after r steps t))) between new
+  pub sent : SendsPackets (packets_for (peers_of before) (sends_of (steps_with after r steps t))) between new
 
 -- The records of these steps and of its own are kept as one body, or the disk is not called where there is none.
 pub record KeepsGroup {D : Type 0} {g : _} (meaning : D → Meaning) (before after : Shell D g) (kept : Log) (r : Replica) (steps : List Draft) (t : Turned) : Type 0 where

@@ -4,8 +4,8 @@ ghost use Rattle.std.specs.Prelude.{◌≡◌, ◌↔◌, [], true, is_err, IsEr
 ghost use Rattle.crsm_faults.specs.Counts.{Rose};
 ghost use Rattle.crsm_disk.specs.Meaning.{Same};
 ghost use Rattle.crsm_log.specs.Log.{Goes};
-ghost use Rattle.crsm_turns.specs.Outgoing.{posts_for};
-ghost use Rattle.crsm_shell.specs.Flushing.{AddsGroup, CallsForGroup, IsFullFor, LeavesGroup, LeavesLogs, SendsNone, SendsPosts, SpendsForGroup, StopsGroup};
+ghost use Rattle.crsm_turns.specs.Outgoing.{packets_for};
+ghost use Rattle.crsm_shell.specs.Flushing.{AddsGroup, CallsForGroup, IsFullFor, LeavesGroup, LeavesLogs, SendsNone, SendsPackets, SpendsForGroup, StopsGroup};
 ghost use Rattle.crsm_shell.specs.Shell.{ShellStands, WhereHonest, WhereStands, records_of, sends_of};
 ghost use Rattle.crsm_shell.specs.Words.{buffer_of, disk_of, peers_of, has_failed};
 
@@ -28,7 +28,7 @@ impl<D: Disk> Shell<D> {
 
         // What is sent, once all is kept; and nothing else is.
         ensures sent { WhereStands D.meaning self.old (λ kept r steps.
-            OnOk result (SendsPosts (posts_for (peers_of self.old) (sends_of steps)) (P.meaning port.old) (P.meaning port.new))) }
+            OnOk result (SendsPackets (packets_for (peers_of self.old) (sends_of steps)) (P.meaning port.old) (P.meaning port.new))) }
         ensures unsent { OnErr result (SendsNone (P.meaning port.old) (P.meaning port.new)) }
 
         // One body for all records, by the four calls of a put; no call where there is none.

@@ -18,11 +18,11 @@ use crsm_turns::Taken;
 use crsm_wire::{WireError, read_datagram};
 use std::alloc::Global;
 
-/// A step that was made, and the replica that was heard in it.
+/// A step that was made, and the replica that was received from in it.
 #[derive(Drop)]
 pub(crate) struct Made {
     pub(crate) batch: Batch,
-    pub(crate) heard: Option<u32>,
+    pub(crate) received: Option<u32>,
 }
 
 /// One step of the core on what was taken into this buffer.
@@ -37,7 +37,7 @@ pub(crate) fn make(
     requires { IsWithin (length buffer.now) taken.now }
     ensures step { IfOk result (λ made. (r : Replica) → CoreStands core.old r →
         Answers made.batch (turn r (turn_of buffer.now taken.now, reading)) × CoreStands core.new (turn r (turn_of buffer.now taken.now, reading)).replica) }
-    ensures heard { IfOk result (λ made. made.heard ≡ heard_in (turn_of buffer.now taken.now)) }
+    ensures received { IfOk result (λ made. made.received ≡ heard_in (turn_of buffer.now taken.now)) }
 {
     match taken {
         Taken::Datagram { from, len } => come(alloc, core, *from, &buffer[..*len], reading),
@@ -50,14 +50,19 @@ pub(crate) fn make(
 }
 
 /// One step of the core on an input, in which this replica was heard.
-fn step(core: &mut Core, input: &Input, reading: u64, heard: Option<u32>) -> Result<Made, NoMemory>
+fn step(
+    core: &mut Core,
+    input: &Input,
+    reading: u64,
+    received: Option<u32>,
+) -> Result<Made, NoMemory>
     requires { FitsInput input.now }
     ensures step { IfOk result (λ made. (r : Replica) → CoreStands core.old r →
         Answers made.batch (rules.step r (input_of input.now) reading) × CoreStands core.new (rules.step r (input_of input.now) reading).replica) }
-    ensures heard { IfOk result (λ made. made.heard ≡ heard) }
+    ensures received { IfOk result (λ made. made.received ≡ received) }
 {
     let batch = core.step(input, reading)?;
-    Ok(Made { batch, heard })
+    Ok(Made { batch, received })
 }
 
 /// One step of the core on bytes from an address. Bytes that are no datagram change nothing.
@@ -71,13 +76,13 @@ fn come(
 ) -> Result<Made, NoMemory>
     ensures step { IfOk result (λ made. (r : Replica) → CoreStands core.old r →
         Answers made.batch (turn r (Turn.In from bytes.now, reading)) × CoreStands core.new (turn r (Turn.In from bytes.now, reading)).replica) }
-    ensures heard { IfOk result (λ made. made.heard ≡ heard_in (Turn.In from bytes.now)) }
+    ensures received { IfOk result (λ made. made.received ≡ heard_in (Turn.In from bytes.now)) }
 {
     match read_datagram(alloc, bytes) {
         Ok(datagram) => {
-            let heard = sender_of(&datagram);
+            let received = sender_of(&datagram);
             // The datagram is large: it is moved once, into the input.
-            step(core, &Input::Datagram { from, datagram }, reading, heard)
+            step(core, &Input::Datagram { from, datagram }, reading, received)
         }
         Err(WireError::NotOne) => Ok(nothing(alloc)),
         Err(WireError::NoMemory) => Err(NoMemory),
@@ -103,7 +108,7 @@ fn sender_of(datagram: &Datagram) -> Option<u32>
 #[tactic(auto, unfolding(crsm_spec::specs::Draft::begun))]
 fn nothing(alloc: Global) -> Made
     ensures step { (r : Replica) → Answers result.batch (begun r) }
-    ensures heard { result.heard ≡ None }
+    ensures received { result.received ≡ None }
 {
     Made {
         batch: Batch {
@@ -111,6 +116,6 @@ fn nothing(alloc: Global) -> Made
             sends: Sends::new(alloc),
             lines: Lines::new(alloc),
         },
-        heard: None,
+        received: None,
     }
 }

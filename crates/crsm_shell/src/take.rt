@@ -37,7 +37,7 @@ impl<D: Disk> Shell<D> {
         ensures spelt { IfOk result (λ t. AllByRecursion FitsSent t.batch.sends) }
         ensures counted { OnOk result (pending_of self.new ≡ pending_of self.old + 1) }
         ensures within { IfOk result (λ t. IsWithin most_received t.taken) }
-        ensures heard { IfOk result (λ t. t.heard ≡ heard_in (turn_of (buffer_of self.new) t.taken)) }
+        ensures received { IfOk result (λ t. t.received ≡ heard_in (turn_of (buffer_of self.new) t.taken)) }
 
         // One reading; the input off the port, if any; the disk is not touched.
         ensures clock { Reads (C.readings clock.old) (C.readings clock.new) result }
@@ -67,7 +67,7 @@ impl<D: Disk> Shell<D> {
         Ok(Turned {
             reading,
             taken,
-            heard: made.heard,
+            received: made.received,
             batch: made.batch,
             size,
         })
@@ -81,7 +81,7 @@ impl<D: Disk> Shell<D> {
         ensures stands { WhereStands D.meaning self.old (λ kept r steps.
             IfOk result (λ b. MakesStep self.new (D.meaning (disk_of self.new)) kept r steps (turn r (turn_of (buffer_of self.new) taken.now, reading)) b.0.batch b.1)) }
         ensures spelt { IfOk result (λ b. AllByRecursion FitsSent b.0.batch.sends) }
-        ensures heard { IfOk result (λ b. b.0.heard ≡ heard_in (turn_of (buffer_of self.new) taken.now)) }
+        ensures received { IfOk result (λ b. b.0.received ≡ heard_in (turn_of (buffer_of self.new) taken.now)) }
         ensures counted { OnOk result (self.new.pending ≡ self.old.pending + 1) }
         ensures log { self.new.log ≡ self.old.log }
         ensures peers { self.new.peers ≡ self.old.peers }

@@ -38,7 +38,7 @@ impl<D: Disk> Shell<D> {
         ensures kept { WhereStands D.meaning self.old (λ kept r steps. IfOk result (KeepsGroup D.meaning self.old self.new kept r steps)) }
         ensures spelt { IfOk result (λ t. AllByRecursion FitsSent t.batch.sends) }
         ensures within { IfOk result (λ t. IsWithin most_received t.taken) }
-        ensures heard { IfOk result (λ t. t.heard ≡ heard_in (turn_of (buffer_of self.new) t.taken)) }
+        ensures received { IfOk result (λ t. t.received ≡ heard_in (turn_of (buffer_of self.new) t.taken)) }
         ensures peers { peers_of self.new ≡ peers_of self.old }
 
         // One reading, one input, and then the sends: none at an error.

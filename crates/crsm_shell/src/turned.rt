@@ -10,7 +10,7 @@ pub struct Turned {
     pub reading: u64,
     pub taken: Taken,
     /// The replica that sent the frame, the acknowledgement or the part that was taken.
-    pub heard: Option<u32>,
+    pub received: Option<u32>,
     pub batch: Batch,
     /// How many bytes its records take in the log.
     pub size: u64,

@@ -5,7 +5,7 @@ use Rattle.crsm_spec.specs.Types.{Entry, Answer, Rec, Datagram, Line}
 use Rattle.crsm_spec.specs.Clock.{u64_max}
 use Rattle.crsm_spec.specs.Log.{known, executed, active}
 use Rattle.crsm_spec.specs.Replica.{Replica, Waiting, members_of, unacked}
-use Rattle.crsm_spec.specs.World.{Site, Mail, World, begin, log_at, is_full}
+use Rattle.crsm_spec.specs.World.{Site, Packet, World, begin, log_at, is_full}
 use Rattle.crsm_spec.specs.Acts.{Single, Act}
 use Rattle.crsm_spec.specs.Run.{ArePossible, after_acts, last_world, told}
 use Rattle.crsm_spec.specs.Safe.{AnswersAt}
@@ -53,7 +53,7 @@ pub record IsOpen (e : ℕ) (members : List ℕ) (w : World) (f : Entry) : Type 
 pub record IsCalm (e : ℕ) (members : List ℕ) (w : World) : Type 0 where
   pub up : AllByRecursion (IsCalmAt e members w) members
   pub latest : (k : ℕ) (rec : Rec) → Contains (log_at w k) rec → IsLaterDecide e rec → ⊥
-  pub quiet : (m : Mail) → Contains w.mail m → m.used ≡ false → IsPart m.datagram → ⊥
+  pub quiet : (m : Packet) → Contains w.packets m → m.used ≡ false → IsPart m.datagram → ⊥
   pub entries : List Entry
   pub all_open : (f : Entry) → IsOpen e members w f → Contains entries f
   pub few_open : length entries ≤ 16

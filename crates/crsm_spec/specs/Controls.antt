@@ -8,7 +8,7 @@ use Rattle.crsm_spec.specs.Lists.{has}
 use Rattle.crsm_spec.specs.Log.{Log, known, decision, executed, live, suspended, promised, accepted}
 use Rattle.crsm_spec.specs.Replica.{spec_of, Coordinator, LogPage}
 use Rattle.crsm_spec.specs.Paxos.{Answer}
-use Rattle.crsm_spec.specs.Draft.{Draft, keep, noting, tell, tell_decision, tell_retrieve}
+use Rattle.crsm_spec.specs.Draft.{Draft, keep, noting, send_control, send_decision, send_retrieve}
 use Rattle.crsm_spec.specs.Collect.{suspend_ok, first_page, cursor, is_whole}
 use Rattle.crsm_spec.specs.Coordinate.{advance, learn, suspend_once, on_whole, count_answer, count_acceptor, has_accepted, most_collected}
 use Rattle.crsm_spec.specs.Choice.{when◌then◌otherwise◌}
@@ -19,9 +19,9 @@ use Rattle.crsm_spec.specs.Choice.{when◌then◌otherwise◌}
 unfoldable pub on_suspend : ℕ → ℕ → Option Stamp → Draft → Draft
 on_suspend k e after x =
     let log = x.replica.log in
-    when nat_lt e (known log) then tell_decision k x
-    otherwise when nat_lt (known log) e then tell_retrieve k x
-    otherwise let y = suspend_once x in tell (suspend_ok y.replica.log after) y k
+    when nat_lt e (known log) then send_decision k x
+    otherwise when nat_lt (known log) e then send_retrieve k x
+    otherwise let y = suspend_once x in send_control (suspend_ok y.replica.log after) y k
 
 -- the entries are of epoch e and above the stamp
 unfoldable pub are_above : ℕ → Option Stamp → List Entry → Bool
@@ -38,7 +38,7 @@ unfoldable pub take_page : List ℕ → List LogPage → LogPage → Draft → D
 take_page ms pages p x =
     let all = pages ++ p ∷ [] in
     when p.whole then on_whole ms all x
-    otherwise tell (Control.Suspend (known x.replica.log) (cursor all p.from)) (noting (Coordinator.Collecting ms all) x) p.from
+    otherwise send_control (Control.Suspend (known x.replica.log) (cursor all p.from)) (noting (Coordinator.Collecting ms all) x) p.from
 
 -- A page counts while collecting, where it is the one that was asked for.
 unfoldable pub on_suspend_ok : ℕ → Option Stamp → LogPage → Coordinator → Draft → Draft
@@ -53,22 +53,22 @@ on_suspend_ok e after p _ x = x
 unfoldable pub if_next : ℕ → ℕ → Draft → Draft → Draft
 if_next k i x y =
     let e = known x.replica.log in
-    when nat_le i e then tell_decision k x
-    otherwise when nat_lt (e + 1) i then tell_retrieve k x
+    when nat_le i e then send_decision k x
+    otherwise when nat_lt (e + 1) i then send_retrieve k x
     otherwise y
 
 -- promises k the ballot, with what was accepted
-unfoldable pub tell_promise : ℕ → ℕ → Ballot → Draft → Draft
-tell_promise k i b x = tell (Control.P1b i b (accepted x.replica.log)) x k
+unfoldable pub send_promise : ℕ → ℕ → Ballot → Draft → Draft
+send_promise k i b x = send_control (Control.P1b i b (accepted x.replica.log)) x k
 
 -- A ballot asks for a promise.
 unfoldable pub on_p1a : ℕ → ℕ → Ballot → Draft → Draft
 on_p1a k i b x =
     let top = promised x.replica.log in
     if_next k i x (
-    when ballot_lt top b then tell_promise k i b (keep (Rec.Promise i b) x)
-    otherwise when ballot_eq top b then tell_promise k i b x
-    otherwise tell (Control.P1no i b top) x k)
+    when ballot_lt top b then send_promise k i b (keep (Rec.Promise i b) x)
+    otherwise when ballot_eq top b then send_promise k i b x
+    otherwise send_control (Control.P1no i b top) x k)
 
 -- A promise counts while its ballot is asked for, the first of each replica.
 unfoldable pub on_p1b : ℕ → Ballot → Answer Decision → Coordinator → Draft → Draft
@@ -90,10 +90,10 @@ unfoldable pub on_p2a : ℕ → ℕ → Ballot → Decision → Draft → Draft
 on_p2a k i b d x =
     let log = x.replica.log in
     if_next k i x (
-    when ballot_lt b (promised log) then tell (Control.P1no i b (promised log)) x k
-    otherwise when has_accepted b x then tell (Control.P2b i b) x k
-    otherwise when nat_lt (length (executed log)) d.base_len then tell_retrieve k x
-    otherwise tell (Control.P2b i b) (keep (Rec.Accept i b d) x) k)
+    when ballot_lt b (promised log) then send_control (Control.P1no i b (promised log)) x k
+    otherwise when has_accepted b x then send_control (Control.P2b i b) x k
+    otherwise when nat_lt (length (executed log)) d.base_len then send_retrieve k x
+    otherwise send_control (Control.P2b i b) (keep (Rec.Accept i b d) x) k)
 
 -- A vote counts while its ballot proposes.
 unfoldable pub on_p2b : ℕ → ℕ → Ballot → Coordinator → Draft → Draft
@@ -108,7 +108,7 @@ on_p2b k i b _ x = x
 unfoldable pub retrieve_base : ℕ → Draft → Draft
 retrieve_base k x =
     when option_map_or (λ d. nat_lt (length (executed x.replica.log)) d.base_len) (decision x.replica.log) false
-    then tell_retrieve k x otherwise x
+    then send_retrieve k x otherwise x
 
 -- A decision is learnt where it is of a later epoch.
 unfoldable pub on_decide : ℕ → Decision → Draft → Draft
@@ -122,9 +122,9 @@ page_from log from = Control.Page (known log) from (first_page (drop from (execu
 unfoldable pub on_retrieve : ℕ → ℕ → ℕ → Draft → Draft
 on_retrieve k e from x =
     let log = x.replica.log in
-    when nat_lt e (known log) then tell_decision k x
-    otherwise let y = when nat_lt from (length (executed log)) then tell (page_from log from) x k otherwise x in
-    when nat_lt (known log) e then tell_retrieve k y otherwise y
+    when nat_lt e (known log) then send_decision k x
+    otherwise let y = when nat_lt from (length (executed log)) then send_control (page_from log from) x k otherwise x in
+    when nat_lt (known log) e then send_retrieve k y otherwise y
 
 -- The entries of a page that a replica takes: those behind its executed ones, and below the base while it is there.
 unfoldable pub new_entries : Log → ℕ → List Entry → List Entry
@@ -144,7 +144,7 @@ on_page k e from es x =
     let log = x.replica.log in
     let new = new_entries log from es in
     when may_adopt log e from && nat_lt 0 (length new)
-    then tell_retrieve k (advance (keep (Rec.Adopt (length (executed log)) new) x))
+    then send_retrieve k (advance (keep (Rec.Adopt (length (executed log)) new) x))
     otherwise x
 
 -- ---- all of them

@@ -8,7 +8,7 @@ use Rattle.crsm_spec.specs.Lists.{numbers_below, has}
 use Rattle.crsm_spec.specs.Log.{known, start, decision, executed, suspended, promised, accepted, no_ballot}
 use Rattle.crsm_spec.specs.Fits.{fits, can_be_members}
 use Rattle.crsm_spec.specs.Replica.{named_spec, next_spec, Replica, Coordinator, LogPage, spec_of, others}
-use Rattle.crsm_spec.specs.Draft.{Draft, keep, noting, tell_all, tell_each}
+use Rattle.crsm_spec.specs.Draft.{Draft, keep, noting, send_to_all, send_to_each}
 use Rattle.crsm_spec.specs.Collect.{own_page, whole_ones, collected, size_of, is_within}
 use Rattle.crsm_spec.specs.Quorum.{has_majority}
 use Rattle.crsm_spec.specs.Paxos.{Answer, value_of}
@@ -19,7 +19,7 @@ use Rattle.crsm_spec.specs.Choice.{when◌then◌otherwise◌}
 -- forgets the epoch that is over: its times, votes, debts and links
 unfoldable pub forget_epoch : Draft → Draft
 forget_epoch x =
-    record x { replica = record x.replica { issued = []; heard = []; votes = []; owed = []; pushed = []; acked = []; taken = [] } }
+    record x { replica = record x.replica { issued = []; received = []; votes = []; owed = []; pushed = []; acked = []; taken = [] } }
 
 -- executes the rest of the tail once the base is executed
 unfoldable pub adopt_tail : Draft → Draft
@@ -50,7 +50,7 @@ both_specs old new = filter (λ k. (has (spec_of old) k || has (spec_of new) k) 
 
 -- A decision that is chosen is learnt and told to all, of the old Spec and of the new one.
 unfoldable pub on_chosen : Decision → Draft → Draft
-on_chosen d x = let y = learn d x in tell_each (both_specs x.replica y.replica) (Control.Decide d) y
+on_chosen d x = let y = learn d x in send_to_each (both_specs x.replica y.replica) (Control.Decide d) y
 
 -- ---- proposing
 
@@ -79,17 +79,17 @@ accept_own b own value acceptors x =
     otherwise x
 
 -- tells all that have not accepted the proposal, where there still is one
-unfoldable pub tell_proposal : Coordinator → Draft → Draft
-tell_proposal (Coordinator.Proposing b own value acceptors) x =
-    tell_each (filter (λ k. not (has acceptors k)) (others x.replica)) (Control.P2a (instance x) b value) x
-tell_proposal _ x = x
+unfoldable pub send_proposal : Coordinator → Draft → Draft
+send_proposal (Coordinator.Proposing b own value acceptors) x =
+    send_to_each (filter (λ k. not (has acceptors k)) (others x.replica)) (Control.P2a (instance x) b value) x
+send_proposal _ x = x
 
 -- Proposes, in a ballot that a majority has promised, the value that their answers leave.
 unfoldable pub propose : Ballot → Decision → List (Answer Decision) → Draft → Draft
 propose b own answers x =
     let value = value_of own answers in
     let y = accept_own b own value [] (noting (Coordinator.Proposing b own value []) x) in
-    tell_proposal y.replica.coordinator y
+    send_proposal y.replica.coordinator y
 
 -- k has promised: at a majority propose
 unfoldable pub count_answer : Ballot → Decision → List (Answer Decision) → Answer Decision → Draft → Draft
@@ -99,17 +99,17 @@ count_answer b own answers a x =
     when has_majority (spec_of x.replica) (map (λ f. f.replica) all) then propose b own all y otherwise y
 
 -- asks all for a promise, where that is still asked
-unfoldable pub tell_ask : Coordinator → Draft → Draft
-tell_ask (Coordinator.Preparing b own answers) x =
-    tell_each (filter (λ k. not (has (map (λ f. f.replica) answers) k)) (others x.replica)) (Control.P1a (instance x) b) x
-tell_ask _ x = x
+unfoldable pub send_ask : Coordinator → Draft → Draft
+send_ask (Coordinator.Preparing b own answers) x =
+    send_to_each (filter (λ k. not (has (map (λ f. f.replica) answers) k)) (others x.replica)) (Control.P1a (instance x) b) x
+send_ask _ x = x
 
 -- promises a ballot of its own, and asks for it
 unfoldable pub ask : Ballot → Decision → Draft → Draft
 ask b own x =
     let a : Answer Decision = record { replica = x.replica.me; accepted = accepted x.replica.log } in
     let y = count_answer b own [] a (noting (Coordinator.Preparing b own []) (keep (Rec.Promise (instance x) b) x)) in
-    tell_ask y.replica.coordinator y
+    send_ask y.replica.coordinator y
 
 -- of two ballots the greater one
 unfoldable pub greater_ballot : Ballot → Ballot → Ballot
@@ -157,7 +157,7 @@ may_reconfigure r ms =
 unfoldable pub collect : List ℕ → Draft → Draft
 collect ms x =
     let pages = own_page x.replica.me x.replica.log ∷ [] in
-    on_whole ms pages (tell_all (Control.Suspend (known x.replica.log) None) (noting (Coordinator.Collecting ms pages) x))
+    on_whole ms pages (send_to_all (Control.Suspend (known x.replica.log) None) (noting (Coordinator.Collecting ms pages) x))
 
 -- A suspicion, or an operator's wish: these are to be the members of the next epoch.
 unfoldable pub on_suspect : List ℕ → Draft → Draft

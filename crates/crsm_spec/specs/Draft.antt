@@ -98,28 +98,28 @@ parts_to r k c =
     map (λ p. (k, Datagram.Part r.me k (boots r.log) r.made p.0 (length pieces) p.1)) (enumerate_from 0 pieces)
 
 -- makes a control message for k, unless this boot has made as many as can be numbered
-unfoldable pub tell : Control → Draft → ℕ → Draft
-tell c x k =
+unfoldable pub send_control : Control → Draft → ℕ → Draft
+send_control c x k =
     let r = x.replica in
     when r.made == u64_max then x
     otherwise record x { replica = record r { made = r.made + 1 }; sends = x.sends ++ parts_to r k c }
 
 -- makes one for each of these
-unfoldable pub tell_each : List ℕ → Control → Draft → Draft
-tell_each ks c x = fold (tell c) x ks
+unfoldable pub send_to_each : List ℕ → Control → Draft → Draft
+send_to_each ks c x = fold (send_control c) x ks
 
 -- makes one for each other replica of the Spec
-unfoldable pub tell_all : Control → Draft → Draft
-tell_all c x = tell_each (others x.replica) c x
+unfoldable pub send_to_all : Control → Draft → Draft
+send_to_all c x = send_to_each (others x.replica) c x
 
 -- tells k the known decision, if there is one
-unfoldable pub tell_decision : ℕ → Draft → Draft
-tell_decision k x = option_map_or (λ d. tell (Control.Decide d) x k) (decision x.replica.log) x
+unfoldable pub send_decision : ℕ → Draft → Draft
+send_decision k x = option_map_or (λ d. send_control (Control.Decide d) x k) (decision x.replica.log) x
 
 -- asks for what is known and executed beyond here
 unfoldable pub retrieve : Draft → Control
 retrieve x = Control.Retrieve (known x.replica.log) (length (executed x.replica.log))
 
 -- asks k for it
-unfoldable pub tell_retrieve : ℕ → Draft → Draft
-tell_retrieve k x = tell (retrieve x) x k
+unfoldable pub send_retrieve : ℕ → Draft → Draft
+send_retrieve k x = send_control (retrieve x) x k

@@ -3,7 +3,7 @@ use Rattle.std.specs.Prelude.{ℕ, ◌+◌, Bool, true, false, ◌==◌, ◌||�
 use Rattle.crsm_base.specs.declared.stamp.Ballot.{Ballot}
 use Rattle.crsm_base.specs.Order.{ballot_lt, ballot_eq}
 use Rattle.crsm_spec.specs.Paxos.{Held, Acceptance, fresh_acceptance, after_promise, after_accept, majority}
-use Rattle.crsm_spec.specs.Proposing.{Proposing, start_proposing, value_proposed, is_heard, counts_answer, counts_vote, after_answer, after_p1b, after_p2b, makes_majority}
+use Rattle.crsm_spec.specs.Proposing.{Proposing, start_proposing, value_proposed, is_received, counts_answer, counts_vote, after_answer, after_p1b, after_p2b, makes_majority}
 
 -- a replica knows the decisions up to an epoch, and takes part in the instance after it
 pub record Replica (D : Type 0) : Type 0 where
@@ -13,7 +13,7 @@ pub record Replica (D : Type 0) : Type 0 where
 
 pub data Message (D : Type 0) : Type 0 where
   Ask : (i : ℕ) (b : Ballot) → Message D
-  Told : (i : ℕ) (b : Ballot) (from : ℕ) (h : Held D) → Message D
+  Promise : (i : ℕ) (b : Ballot) (from : ℕ) (h : Held D) → Message D
   Offer : (i : ℕ) (b : Ballot) (d : D) → Message D
   Voted : (i : ℕ) (b : Ballot) (from : ℕ) → Message D
   Decide : (i : ℕ) (d : D) → Message D
@@ -23,7 +23,7 @@ pub record World (D : Type 0) : Type 0 where
   pub replica : ℕ → Replica D
   pub sent : List (Message D)
 
--- a replica begins a proposal, a message comes to it (again, late or in any order), or it loses its coordinator
+-- a replica begins a proposal, a message comes to it (again, late or in any order), or it loses what it had in memory
 pub data Event (D : Type 0) : Type 0 where
   Begin : (r : ℕ) (own : D) → Event D
   Comes : (r which : ℕ) → Event D
@@ -43,7 +43,7 @@ begins {D} spec w r own =
     let x : Replica D = w.replica r in
     let b : Ballot = next_ballot r x in
     with_replica w r (record { known = x.known; held = after_promise x.held b; coordinator = Some (start_proposing b own (length spec)) })
-    (Ask (x.known + 1) b ∷ Told (x.known + 1) b r x.held.accepted ∷ [])
+    (Ask (x.known + 1) b ∷ Promise (x.known + 1) b r x.held.accepted ∷ [])
 
 abbrev pub with_coordinator : {D : Type 0} → World D → ℕ → Option (Proposing D) → List (Message D) → World D
 with_coordinator w r coordinator ms = with_replica w r (record { known = (w.replica r).known; held = (w.replica r).held; coordinator = coordinator }) ms
@@ -52,8 +52,8 @@ abbrev pub asked : {D : Type 0} → World D → ℕ → ℕ → Ballot → World
 asked w r i b =
     if not (i == (w.replica r).known + 1) || ballot_lt b (w.replica r).held.promised then w
     else (if ballot_lt (w.replica r).held.promised b
-    then with_replica w r (record { known = (w.replica r).known; held = after_promise (w.replica r).held b; coordinator = (w.replica r).coordinator }) (Told i b r (w.replica r).held.accepted ∷ [])
-    else with_coordinator w r (w.replica r).coordinator (Told i b r (w.replica r).held.accepted ∷ []))
+    then with_replica w r (record { known = (w.replica r).known; held = after_promise (w.replica r).held b; coordinator = (w.replica r).coordinator }) (Promise i b r (w.replica r).held.accepted ∷ [])
+    else with_coordinator w r (w.replica r).coordinator (Promise i b r (w.replica r).held.accepted ∷ []))
 
 abbrev pub is_held_below : {D : Type 0} → Held D → Ballot → Bool
 is_held_below None b = true
@@ -70,11 +70,11 @@ offered w r i b d =
     then with_replica w r (record { known = (w.replica r).known; held = after_accept (w.replica r).held b d; coordinator = (w.replica r).coordinator }) (Voted i b r ∷ [])
     else (if is_held_in (w.replica r).held.accepted b then with_coordinator w r (w.replica r).coordinator (Voted i b r ∷ []) else w))
 
-abbrev pub told_coordinator : {D : Type 0} → World D → ℕ → Option (Proposing D) → ℕ → Ballot → ℕ → Held D → World D
-told_coordinator w r None i b from h = w
-told_coordinator w r (Some p) i b from h =
+abbrev pub sent_coordinator : {D : Type 0} → World D → ℕ → Option (Proposing D) → ℕ → Ballot → ℕ → Held D → World D
+sent_coordinator w r None i b from h = w
+sent_coordinator w r (Some p) i b from h =
     with_coordinator w r (Some (after_p1b p from b h))
-    (if counts_answer p from b && nat_le (majority p.size) (length p.heard + 1) then Offer i p.ballot (value_proposed (after_answer p from h)) ∷ [] else [])
+    (if counts_answer p from b && nat_le (majority p.size) (length p.received + 1) then Offer i p.ballot (value_proposed (after_answer p from h)) ∷ [] else [])
 
 abbrev pub voted_coordinator : {D : Type 0} → World D → ℕ → Option (Proposing D) → ℕ → Ballot → ℕ → World D
 voted_coordinator w r None i b from = w
@@ -86,12 +86,12 @@ decided w r i = if nat_lt (w.replica r).known i then with_replica w r (record { 
 
 -- the message is of the instance that the replica takes part in, and from a replica of its Spec
 abbrev pub is_counted : {D : Type 0} → (ℕ → List ℕ) → World D → ℕ → ℕ → ℕ → Bool
-is_counted spec_of w r i from = i == (w.replica r).known + 1 && is_heard (spec_of i) from
+is_counted spec_of w r i from = i == (w.replica r).known + 1 && is_received (spec_of i) from
 
 abbrev pub comes : {D : Type 0} → (ℕ → List ℕ) → World D → ℕ → Option (Message D) → World D
 comes spec_of w r None = w
 comes spec_of w r (Some (Ask i b)) = asked w r i b
-comes spec_of w r (Some (Told i b from h)) = if is_counted spec_of w r i from then told_coordinator w r (w.replica r).coordinator i b from h else w
+comes spec_of w r (Some (Promise i b from h)) = if is_counted spec_of w r i from then sent_coordinator w r (w.replica r).coordinator i b from h else w
 comes spec_of w r (Some (Offer i b d)) = offered w r i b d
 comes spec_of w r (Some (Voted i b from)) = if is_counted spec_of w r i from then voted_coordinator w r (w.replica r).coordinator i b from else w
 comes spec_of w r (Some (Decide i d)) = decided w r i

@@ -34,11 +34,11 @@ IsOther (Proposes c own answers) b = c ≢ b
 pub record Follows {D : Type 0} (spec : List ℕ) (s : Instance D) (p : Proposing D) : Type 0 where
   pub size : p.size ≡ length spec
   pub answers : List (Answer D)
-  pub heard : p.heard ≡ map (λ x. x.replica) answers
+  pub received : p.received ≡ map (λ x. x.replica) answers
   pub best : p.best ≡ best_of answers
   pub promised : (x : Answer D) → Contains answers x → Contains s.promises (record { ballot = p.ballot; answer = x })
-  pub distinct : IsDistinct nat_eq p.heard
-  pub of_spec : (r : ℕ) → Contains p.heard r → Contains spec r
+  pub distinct : IsDistinct nat_eq p.received
+  pub of_spec : (r : ℕ) → Contains p.received r → Contains spec r
   pub unused : p.has_proposed ≡ false → IsUnused s p.ballot
   pub proposed : p.has_proposed ≡ true → Contains s.proposals (record { ballot = p.ballot; value = value_proposed p })
   pub none_yet : p.has_proposed ≡ false → p.voters ≡ []

@@ -8,7 +8,7 @@ use Rattle.crsm_spec.specs.Clock.{u64_max}
 use Rattle.crsm_spec.specs.Lists.{has}
 use Rattle.crsm_spec.specs.Log.{known, active}
 use Rattle.crsm_spec.specs.Replica.{Replica, members_of, other_members, last_issued, latest_from, frames_to, next_from, unacked, is_congested}
-use Rattle.crsm_spec.specs.Draft.{Draft, keep, send, count_vote, would, issued_at, push_to_members, tell_decision, tell_retrieve}
+use Rattle.crsm_spec.specs.Draft.{Draft, keep, send, count_vote, would, issued_at, push_to_members, send_decision, send_retrieve}
 use Rattle.crsm_spec.specs.Choice.{when◌then◌otherwise◌}
 
 -- a datagram of no other replica, or for another
@@ -31,7 +31,7 @@ is_wrong r k (InEpoch.ClockTime at) = false
 
 -- odd at the next number: its time is not above the latest heard from k, or it is wrong
 unfoldable pub is_odd_frame : Replica → ℕ → InEpoch → Bool
-is_odd_frame r k payload = nat_le (time_of payload) (latest_from r.heard k) || is_wrong r k payload
+is_odd_frame r k payload = nat_le (time_of payload) (latest_from r.received k) || is_wrong r k payload
 
 -- the stamps with this one among them, ascending
 unfoldable pub with_stamp : Stamp → List Stamp → List Stamp
@@ -47,24 +47,24 @@ unfoldable pub ack : ℕ → Draft → Draft
 ack k x = send k (Datagram.Ack x.replica.me k (known x.replica.log) (next_from x.replica k)) x
 
 -- what a payload says
-unfoldable pub hear : ℕ → InEpoch → Draft → Draft
-hear k (InEpoch.Prepare e) x =
+unfoldable pub receive : ℕ → InEpoch → Draft → Draft
+receive k (InEpoch.Prepare e) x =
     owe e.stamp (count_vote e.stamp x.replica.me (count_vote e.stamp k (keep (Rec.Prepare e) x)))
-hear k (InEpoch.PrepareOk s at) x = count_vote s k x
-hear k (InEpoch.ClockTime at) x = x
+receive k (InEpoch.PrepareOk s at) x = count_vote s k x
+receive k (InEpoch.ClockTime at) x = x
 
 -- takes the next frame of k: the link moves on, its time is heard, and it is acknowledged
 unfoldable pub take_frame : ℕ → InEpoch → Draft → Draft
 take_frame k payload x =
     let r = x.replica in
-    hear k payload (ack k (record x { replica = record r { taken = k ∷ r.taken; heard = (k, time_of payload) ∷ r.heard } }))
+    receive k payload (ack k (record x { replica = record r { taken = k ∷ r.taken; received = (k, time_of payload) ∷ r.received } }))
 
 -- A frame of epoch e from k.
 unfoldable pub on_frame : ℕ → ℕ → ℕ → InEpoch → Draft → Draft
 on_frame k e seq payload x =
     let r = x.replica in
-    when nat_lt e (known r.log) then tell_decision k x
-    otherwise when nat_lt (known r.log) e then tell_retrieve k x
+    when nat_lt e (known r.log) then send_decision k x
+    otherwise when nat_lt (known r.log) e then send_retrieve k x
     otherwise when not (active r.log) || not (has (members_of r) k) then x
     otherwise when not (seq == next_from r k) then ack k x
     otherwise when is_odd_frame r k payload then x
@@ -110,14 +110,14 @@ is_idle r reading =
     (nat_le (last_issued r + idle_after) reading && nat_lt (last_issued r) u64_max) && not (is_congested r)
 
 -- pushes a time of its own, where there is one to issue
-unfoldable pub tell_time : Option ℕ → Draft → Draft
-tell_time None x = x
-tell_time (Some t) x = push_to_members (InEpoch.ClockTime t) (issued_at t x)
+unfoldable pub send_time : Option ℕ → Draft → Draft
+send_time None x = x
+send_time (Some t) x = push_to_members (InEpoch.ClockTime t) (issued_at t x)
 
 -- At a tick a replica that has been idle tells its time.
 unfoldable pub idle : ℕ → Draft → Draft
 idle reading x =
-    when active x.replica.log && is_idle x.replica reading then tell_time (would x reading) x otherwise x
+    when active x.replica.log && is_idle x.replica reading then send_time (would x reading) x otherwise x
 
 -- ---- sending again
 

@@ -5,7 +5,7 @@ use Rattle.std.specs.Option.{option_map_or}
 use Rattle.crsm_spec.specs.Types.{Datagram, Line}
 use Rattle.crsm_spec.specs.Draft.{begun}
 use Rattle.crsm_spec.specs.Step.{Input, step, boot}
-use Rattle.crsm_spec.specs.World.{Site, Mail, World, Moment, Ending, log_at, is_up_at, is_full, whole_step, cut_step, lost_step, down}
+use Rattle.crsm_spec.specs.World.{Site, Packet, World, Moment, Ending, log_at, is_up_at, is_full, whole_step, cut_step, lost_step, down}
 use Rattle.crsm_spec.specs.Acts.{Single, Act}
 
 -- ---- one step
@@ -13,7 +13,7 @@ use Rattle.crsm_spec.specs.Acts.{Single, Act}
 -- datagram i is used from now on
 unfoldable pub use_up : ℕ → World → World
 use_up i w =
-    record w { mail = option_map_or (λ m. slice_set w.mail i (record m { used = true })) (slice_get w.mail i) w.mail }
+    record w { packets = option_map_or (λ m. slice_set w.packets i (record m { used = true })) (slice_get w.packets i) w.packets }
 
 -- a change without a line
 unfoldable pub silent : World → World → Moment
@@ -33,7 +33,7 @@ unfoldable pub step_at : Ending → World → ℕ → Input → ℕ → Moment
 step_at ends w k input reading = step_at_site ends w k input reading (slice_get w.sites k)
 
 -- a datagram comes to its receiver
-unfoldable pub come : Ending → World → ℕ → Option Mail → Moment
+unfoldable pub come : Ending → World → ℕ → Option Packet → Moment
 come ends w reading None = silent w w
 come ends w reading (Some m) = step_at ends w m.to (Input.Came m.from m.datagram) reading
 
@@ -46,8 +46,8 @@ junk_at ends w k _ = silent w w
 -- replica's is its own.
 unfoldable pub single : Ending → World → Single → Moment
 single ends w (Single.Request k t c) = step_at ends w k (Input.Came c.client (Datagram.Request c)) t
-single ends w (Single.Go i t) = begun_at w (come ends (use_up i w) t (slice_get w.mail i))
-single ends w (Single.Again i t) = come ends w t (slice_get w.mail i)
+single ends w (Single.Go i t) = begun_at w (come ends (use_up i w) t (slice_get w.packets i))
+single ends w (Single.Again i t) = come ends w t (slice_get w.packets i)
 single ends w (Single.Tick k t) = step_at ends w k Input.Ticked t
 single ends w (Single.Suspect k t ms) = step_at ends w k (Input.Suspected ms) t
 single ends w (Single.Junk k t bytes) = junk_at ends w k (slice_get w.sites k)
@@ -57,7 +57,7 @@ single ends w (Single.Junk k t bytes) = junk_at ends w k (slice_get w.sites k)
 -- the datagrams that are fresh and whose receiver is up
 unfoldable pub deliverable : World → List ℕ
 deliverable w =
-    map (λ p. p.0) (filter (λ p. not p.1.used && is_up_at w p.1.to) (enumerate_from 0 w.mail))
+    map (λ p. p.0) (filter (λ p. not p.1.used && is_up_at w p.1.to) (enumerate_from 0 w.packets))
 
 -- Delivers these, each as one moment, up to where the world is full.
 unfoldable pub go_each : ℕ → List ℕ → World → List Moment

@@ -30,15 +30,15 @@ is_down_at w k = not (is_up_at w k)
 
 -- datagram i was not sent
 unfoldable pub is_not_sent : World → ℕ → Bool
-is_not_sent w i = nat_le (length w.mail) i
+is_not_sent w i = nat_le (length w.packets) i
 
 -- the receiver of datagram i is down
 unfoldable pub is_receiver_down : World → ℕ → Bool
-is_receiver_down w i = option_map_or (λ m. is_down_at w m.to) (slice_get w.mail i) false
+is_receiver_down w i = option_map_or (λ m. is_down_at w m.to) (slice_get w.packets i) false
 
 -- datagram i was delivered or lost
 unfoldable pub is_used : World → ℕ → Bool
-is_used w i = option_map_or (λ m. m.used) (slice_get w.mail i) false
+is_used w i = option_map_or (λ m. m.used) (slice_get w.packets i) false
 
 -- they are of this Spec, and fewer than a majority of it
 unfoldable pub are_too_few : List ℕ → List ℕ → Bool
@@ -46,7 +46,7 @@ are_too_few spec ms = list_all (has spec) ms && nat_lt (length ms) (majority (le
 
 -- the receivers of these datagrams
 unfoldable pub receivers : World → List ℕ → List ℕ
-receivers w is = flat_map (λ i. option_map_or (λ m. m.to ∷ []) (slice_get w.mail i) []) is
+receivers w is = flat_map (λ i. option_map_or (λ m. m.to ∷ []) (slice_get w.packets i) []) is
 
 -- the numbers are not all the same
 unfoldable pub are_mixed : List ℕ → Bool

@@ -13,7 +13,7 @@ pub record Proposing (D : Type 0) : Type 0 where
   -- how many replicas the Spec has
   pub size : ℕ
   -- whose promises are counted, and the accepted decision that counts among their answers
-  pub heard : List ℕ
+  pub received : List ℕ
   pub best : Option (Found D)
   -- a majority promised, and the value is proposed
   pub has_proposed : Bool
@@ -25,16 +25,16 @@ abbrev pub value_proposed : {D : Type 0} → Proposing D → D
 value_proposed p = value_of_best p.own p.best
 
 -- the replica is among these
-abbrev pub is_heard : List ℕ → ℕ → Bool
-is_heard replicas r = list_any (λ q. q == r) replicas
+abbrev pub is_received : List ℕ → ℕ → Bool
+is_received replicas r = list_any (λ q. q == r) replicas
 
 -- a ballot in which nothing was answered yet
 abbrev pub start_proposing : {D : Type 0} → Ballot → D → ℕ → Proposing D
-start_proposing ballot own size = record { ballot = ballot; own = own; size = size; heard = []; best = None; has_proposed = false; voters = [] }
+start_proposing ballot own size = record { ballot = ballot; own = own; size = size; received = []; best = None; has_proposed = false; voters = [] }
 
 -- whether an answer with a promise counts: it is for this ballot, before the proposal, and the first of its replica
 abbrev pub counts_answer : {D : Type 0} → Proposing D → ℕ → Ballot → Bool
-counts_answer p from b = ballot_eq b p.ballot && (not p.has_proposed && not (is_heard p.heard from))
+counts_answer p from b = ballot_eq b p.ballot && (not p.has_proposed && not (is_received p.received from))
 
 -- with an answer counted
 abbrev pub after_answer : {D : Type 0} → Proposing D → ℕ → Held D → Proposing D
@@ -43,9 +43,9 @@ after_answer p from accepted =
       ballot = p.ballot;
       own = p.own;
       size = p.size;
-      heard = p.heard ++ from ∷ [];
+      received = p.received ++ from ∷ [];
       best = better_held p.best from accepted;
-      has_proposed = nat_le (majority p.size) (length p.heard + 1);
+      has_proposed = nat_le (majority p.size) (length p.received + 1);
       voters = p.voters;
     }
 
@@ -55,7 +55,7 @@ after_p1b p from b accepted = if counts_answer p from b then after_answer p from
 
 -- whether a vote counts: it is for this ballot, after the proposal, and the first of its replica
 abbrev pub counts_vote : {D : Type 0} → Proposing D → ℕ → Ballot → Bool
-counts_vote p from b = ballot_eq b p.ballot && (p.has_proposed && not (is_heard p.voters from))
+counts_vote p from b = ballot_eq b p.ballot && (p.has_proposed && not (is_received p.voters from))
 
 -- after a vote in this ballot came
 abbrev pub after_p2b : {D : Type 0} → Proposing D → ℕ → Ballot → Proposing D

@@ -13,7 +13,7 @@ use Rattle.crsm_spec.specs.Replica.{Replica, members_of, spec_of}
 
 -- some time heard from k is at least this one
 unfoldable pub reached : List (ℕ × ℕ) → ℕ → ℕ → Bool
-reached heard time k = list_any (λ h. h.0 == k && nat_le time h.1) heard
+reached received time k = list_any (λ h. h.0 == k && nat_le time h.1) received
 
 -- k is known to have logged the stamp
 unfoldable pub voted : List (Stamp × ℕ) → Stamp → ℕ → Bool
@@ -29,7 +29,7 @@ is_replicated spec votes s = nat_le (majority (length spec)) (votes_for spec vot
 
 -- stable order: no member issues a time any more that is not above it
 unfoldable pub is_stable : List ℕ → List (ℕ × ℕ) → Stamp → Bool
-is_stable members heard s = list_all (reached heard s.time) members
+is_stable members received s = list_all (reached received s.time) members
 
 -- prefix replication: it is the first of the unexecuted entries
 unfoldable pub is_next : List Entry → Stamp → Bool
@@ -38,10 +38,10 @@ is_next unexecuted s = option_map_or (λ e. stamp_eq e.stamp s) (first_of unexec
 -- ---- of a replica
 
 -- the times heard in this epoch, behind their senders, with those that the replica issued itself
-unfoldable pub all_heard : Replica → List (ℕ × ℕ)
-all_heard r = map (λ t. (r.me, t)) r.issued ++ r.heard
+unfoldable pub all_received : Replica → List (ℕ × ℕ)
+all_received r = map (λ t. (r.me, t)) r.issued ++ r.received
 
 -- The entry of this stamp is executed now.
 unfoldable pub is_ready : Replica → Stamp → Bool
 is_ready r s =
-    (is_replicated (spec_of r) r.votes s && is_stable (members_of r) (all_heard r) s) && is_next (unexecuted r.log) s
+    (is_replicated (spec_of r) r.votes s && is_stable (members_of r) (all_received r) s) && is_next (unexecuted r.log) s

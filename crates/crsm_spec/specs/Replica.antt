@@ -37,7 +37,7 @@ pub record Replica : Type 0 where
   pub n : ℕ  -- how many replicas the cluster began with
   pub log : Log  -- the records kept, the newest first
   pub issued : List ℕ  -- the times issued in this epoch, the newest first
-  pub heard : List (ℕ × ℕ)  -- each time heard in this epoch, behind its sender
+  pub received : List (ℕ × ℕ)  -- each time received in this epoch, behind its sender
   pub votes : List (Stamp × ℕ)  -- each stamp with a replica that logged it, in this epoch
   pub owed : List Stamp  -- the stamps whose PREPAREOK is owed, ascending
   pub pushed : List (ℕ × InEpoch)  -- each frame pushed in this epoch, behind its receiver, in order
@@ -56,7 +56,7 @@ fresh me n log =
       n = n;
       log = log;
       issued = [];
-      heard = [];
+      received = [];
       votes = [];
       owed = [];
       pushed = [];
@@ -102,7 +102,7 @@ last_issued r = unwrap_or (first_of r.issued) 0
 
 -- the latest time heard of k, 0 before the first
 unfoldable pub latest_from : List (ℕ × ℕ) → ℕ → ℕ
-latest_from heard k = greatest (map (λ h. h.1) (filter (λ h. h.0 == k) heard))
+latest_from received k = greatest (map (λ h. h.1) (filter (λ h. h.0 == k) received))
 
 -- ---- links
 

@@ -34,22 +34,22 @@ last_world n acts = after_acts (begin n) acts
 -- ---- lines
 
 -- A line, and the act that led to it. The first boots are no act.
-pub record Told : Type 0 where
+pub record TraceLine : Type 0 where
   pub by : Option Act
   pub line : Line
 
 -- the line, by this act
-unfoldable pub told_by : Option Act → Line → Told
-told_by a line = record { by = a; line = line }
+unfoldable pub traced : Option Act → Line → TraceLine
+traced a line = record { by = a; line = line }
 
 -- the lines of acts, in order
-unfoldable pub told : World → List Act → List Told
+unfoldable pub told : World → List Act → List TraceLine
 told w [] = []
-told w (a ∷ acts) = let m = act w a in map (told_by (Some a)) m.lines ++ told m.after acts
+told w (a ∷ acts) = let m = act w a in map (traced (Some a)) m.lines ++ told m.after acts
 
 -- all lines of a run, those of the first boots in front
-unfoldable pub seen : ℕ → List Act → List Told
-seen n acts = map (told_by None) (first_lines n) ++ told (begin n) acts
+unfoldable pub seen : ℕ → List Act → List TraceLine
+seen n acts = map (traced None) (first_lines n) ++ told (begin n) acts
 
 -- ---- executed lists
 

@@ -8,7 +8,7 @@ use Rattle.crsm_base.specs.Store.{answer_after}
 use Rattle.crsm_base.specs.Spelling.{Rises}
 use Rattle.crsm_spec.specs.World.{begin}
 use Rattle.crsm_spec.specs.Acts.{Act, Single}
-use Rattle.crsm_spec.specs.Run.{Told, ArePossible, seen, all_lists, the_list}
+use Rattle.crsm_spec.specs.Run.{TraceLine, ArePossible, seen, all_lists, the_list}
 
 -- ---- words
 
@@ -26,7 +26,7 @@ command_of (Some (Act.CutAt calls fill s)) = command_of_single s
 command_of _ = None
 
 -- the line says that this entry was submitted at its origin, by a request of its command
-abbrev pub Submits : Told → Entry → Type 0
+abbrev pub Submits : TraceLine → Entry → Type 0
 Submits t e =
     (t.line ≡ Line.Submit e.stamp.origin e.epoch e.stamp.time e.command.client e.command.number)
     × (command_of t.by ≡ Some e.command)
@@ -42,7 +42,7 @@ IsSubmitOf epoch stamp (Line.Submit k x time client number) = (x ≡ epoch) × (
 IsSubmitOf epoch stamp _ = ⊥
 
 -- the i-th line of a run is this one
-abbrev pub IsLineAt : List Told → ℕ → Line → Type 0
+abbrev pub IsLineAt : List TraceLine → ℕ → Line → Type 0
 IsLineAt lines i line = (by : Option Act) × (slice_get lines i ≡ Some (record { by = by; line = line }))
 
 -- the entry at this place, and the store's answer to it
@@ -57,16 +57,16 @@ pub record Agreed (n : ℕ) (acts : List Act) : Type 0 where
   pub prefixes : AllByRecursion (λ es. IsPrefixOf es (the_list n acts)) (all_lists n acts)
   pub ascending : Rises (the_list n acts)
   pub submitted : (p : ℕ) (e : Entry) → slice_get (the_list n acts) p ≡ Some e →
-      (i : ℕ) × (t : Told) × (slice_get (seen n acts) i ≡ Some t) × Submits t e
-      × ((j : ℕ) (u : Told) → slice_get (seen n acts) j ≡ Some u → IsExecOf e.epoch e.stamp u.line → i < j)
-  pub submitted_once : (epoch : ℕ) (stamp : Stamp) (i j : ℕ) (t u : Told) →
+      (i : ℕ) × (t : TraceLine) × (slice_get (seen n acts) i ≡ Some t) × Submits t e
+      × ((j : ℕ) (u : TraceLine) → slice_get (seen n acts) j ≡ Some u → IsExecOf e.epoch e.stamp u.line → i < j)
+  pub submitted_once : (epoch : ℕ) (stamp : Stamp) (i j : ℕ) (t u : TraceLine) →
       slice_get (seen n acts) i ≡ Some t → slice_get (seen n acts) j ≡ Some u →
       IsSubmitOf epoch stamp t.line → IsSubmitOf epoch stamp u.line → i ≡ j
 
 -- ---- answers
 
 -- before the i-th line an entry of this epoch and time was submitted at k, by this client with this number
-abbrev pub WasSubmitted : List Told → ℕ → ℕ → ℕ → ℕ → ℕ → ℕ → Type 0
+abbrev pub WasSubmitted : List TraceLine → ℕ → ℕ → ℕ → ℕ → ℕ → ℕ → Type 0
 WasSubmitted lines i k epoch time client number =
     (j : ℕ) × (j < i) × IsLineAt lines j (Line.Submit k epoch time client number)
 
@@ -92,7 +92,7 @@ pub record Answered (n : ℕ) (acts : List Act) : Type 0 where
       IsLineAt (seen n acts) i (Line.ReplyDropped k client number epoch s) →
       (s.origin ≡ k) × WasSubmitted (seen n acts) i k epoch s.time client number
       × AllByRecursion (AllByRecursion (λ e. ((e.epoch ≡ epoch) × (e.stamp ≡ s)) → ⊥)) (all_lists n acts)
-  pub once : (i j : ℕ) (t u : Told) → slice_get (seen n acts) i ≡ Some t → slice_get (seen n acts) j ≡ Some u →
+  pub once : (i j : ℕ) (t u : TraceLine) → slice_get (seen n acts) i ≡ Some t → slice_get (seen n acts) j ≡ Some u →
       AreOnOneEntry t.line u.line → i ≡ j
 
 -- ---- real time

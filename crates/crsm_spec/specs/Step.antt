@@ -7,11 +7,11 @@ use Rattle.crsm_base.specs.MessageReading.{control_of}
 use Rattle.crsm_spec.specs.Replica.{Replica, Coordinator, LogPage, fresh, others}
 use Rattle.crsm_spec.specs.Parts.{Piece}
 use Rattle.crsm_spec.specs.Parts.{with_part, whole_with}
-use Rattle.crsm_spec.specs.Draft.{Draft, begun, keep, tell, tell_all, retrieve}
+use Rattle.crsm_spec.specs.Draft.{Draft, begun, keep, send_control, send_to_all, retrieve}
 use Rattle.crsm_spec.specs.Collect.{is_whole, cursor}
 use Rattle.crsm_spec.specs.Clients.{on_request, commits, replies}
 use Rattle.crsm_spec.specs.Frames.{is_astray, on_frame, on_ack, owed_oks, idle, send_again}
-use Rattle.crsm_spec.specs.Coordinate.{accept_own, tell_proposal, tell_ask, begin_proposing, on_suspect}
+use Rattle.crsm_spec.specs.Coordinate.{accept_own, send_proposal, send_ask, begin_proposing, on_suspect}
 use Rattle.crsm_spec.specs.Controls.{on_control}
 use Rattle.crsm_spec.specs.Choice.{when◌then◌otherwise◌}
 
@@ -43,28 +43,28 @@ on_part p x =
 
 -- asks k for its next page
 unfoldable pub ask_page : List LogPage → Draft → ℕ → Draft
-ask_page pages x k = tell (Control.Suspend (known x.replica.log) (cursor pages k)) x k
+ask_page pages x k = send_control (Control.Suspend (known x.replica.log) (cursor pages k)) x k
 
 -- the other replicas whose report is not whole
 unfoldable pub missing : Replica → List LogPage → List ℕ
 missing r pages = filter (λ k. not (is_whole pages k)) (others r)
 
 -- asks each of them for its next page
-unfoldable pub tell_collect : List LogPage → Draft → Draft
-tell_collect pages x = fold (ask_page pages) x (missing x.replica pages)
+unfoldable pub send_collect : List LogPage → Draft → Draft
+send_collect pages x = fold (ask_page pages) x (missing x.replica pages)
 
 -- what the coordinator says to do again
 unfoldable pub renew : Coordinator → Draft → Draft
 renew Coordinator.Idle x = x
-renew (Coordinator.Collecting ms pages) x = tell_collect pages x
-renew (Coordinator.Preparing b own answers) x = tell_ask (Coordinator.Preparing b own answers) x
+renew (Coordinator.Collecting ms pages) x = send_collect pages x
+renew (Coordinator.Preparing b own answers) x = send_ask (Coordinator.Preparing b own answers) x
 renew (Coordinator.Proposing b own value acceptors) x =
-    let y = accept_own b own value acceptors x in tell_proposal y.replica.coordinator y
+    let y = accept_own b own value acceptors x in send_proposal y.replica.coordinator y
 renew (Coordinator.Preempted own seen) x = begin_proposing own seen x
 
 -- asks all for what is known and executed beyond here, while not active
 unfoldable pub ask_all : Draft → Draft
-ask_all x = when active x.replica.log then x otherwise tell_all (retrieve x) x
+ask_all x = when active x.replica.log then x otherwise send_to_all (retrieve x) x
 
 -- A tick: frames again while active, and otherwise the coordinator's messages and a question to all.
 unfoldable pub on_tick : Draft → Draft

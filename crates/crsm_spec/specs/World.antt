@@ -18,7 +18,7 @@ pub data Site : Type 0 where
   Down : Log → Site
 
 -- A datagram that was sent between replicas. It is used once it was delivered or lost.
-pub record Mail : Type 0 where
+pub record Packet : Type 0 where
   pub from : ℕ
   pub to : ℕ
   pub datagram : Datagram
@@ -28,7 +28,7 @@ pub record Mail : Type 0 where
 pub record World : Type 0 where
   pub n : ℕ
   pub sites : List Site  -- by replica number
-  pub mail : List Mail  -- all datagrams ever sent, by number
+  pub packets : List Packet  -- all datagrams ever sent, by number
   pub bytes : ℕ  -- of all datagrams sent and all log bodies kept
 
 -- A change of the world, and the lines that tell it.
@@ -68,8 +68,8 @@ unfoldable pub body_size : List Rec → ℕ
 body_size batch = length (body_bytes batch)
 
 -- how many bytes the datagrams take
-unfoldable pub mail_size : List (ℕ × Datagram) → ℕ
-mail_size sends = sum_by (λ s. length (datagram_bytes s.1)) sends
+unfoldable pub packets_size : List (ℕ × Datagram) → ℕ
+packets_size sends = sum_by (λ s. length (datagram_bytes s.1)) sends
 
 -- the world has as many bytes as it may
 unfoldable pub is_full : World → Bool
@@ -92,8 +92,8 @@ unfoldable pub send_lines : ℕ → ℕ → List (ℕ × Datagram) → List Line
 send_lines k i sends = map (λ s. send_line k s.0 s.1) (enumerate_from i sends)
 
 -- a new datagram from k
-unfoldable pub mail_of : ℕ → ℕ × Datagram → Mail
-mail_of k s = record { from = k; to = s.0; datagram = s.1; used = false }
+unfoldable pub packet_of : ℕ → ℕ × Datagram → Packet
+packet_of k s = record { from = k; to = s.0; datagram = s.1; used = false }
 
 -- A step of replica k, of which these datagrams and replies went out.
 unfoldable pub after_step : World → ℕ → Draft → Site → List (ℕ × Datagram) → List Reply → Moment
@@ -103,10 +103,10 @@ after_step w k x site sends replies =
       after = record {
         n = w.n;
         sites = slice_set w.sites k site;
-        mail = w.mail ++ map (mail_of k) sends;
-        bytes = w.bytes + body_size x.batch + mail_size sends;
+        packets = w.packets ++ map (packet_of k) sends;
+        bytes = w.bytes + body_size x.batch + packets_size sends;
       };
-      lines = ((x.lines ++ x.excess) ++ send_lines k (length w.mail) sends) ++ map (λ a. a.line) replies;
+      lines = ((x.lines ++ x.excess) ++ send_lines k (length w.packets) sends) ++ map (λ a. a.line) replies;
     }
 
 -- How the step of a replica ends in the world.
@@ -142,7 +142,7 @@ begin n =
     record {
       n = n;
       sites = map (λ k. Site.Up (founding_boot k n).replica) (numbers_below n);
-      mail = [];
+      packets = [];
       bytes = sum_by (λ k. body_size (founding_boot k n).batch) (numbers_below n);
     }
 

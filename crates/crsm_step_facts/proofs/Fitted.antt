@@ -10,22 +10,22 @@ use Rattle.crsm_spec.specs.Log.{unexecuted, active, executed}
 use Rattle.crsm_base.specs.Order.{stamp_eq}
 use Rattle.crsm_spec.specs.Fits.{fits}
 use Rattle.crsm_spec.specs.Replica.{Replica, Waiting, spec_of, members_of}
-use Rattle.crsm_spec.specs.Ready.{is_ready, is_replicated, is_stable, is_next, all_heard}
-use Rattle.crsm_spec.specs.Draft.{Draft, begun, keep, noting, send, reply, count_vote, issued_at, push_to_members, push_to, tell, would}
+use Rattle.crsm_spec.specs.Ready.{is_ready, is_replicated, is_stable, is_next, all_received}
+use Rattle.crsm_spec.specs.Draft.{Draft, begun, keep, noting, send, reply, count_vote, issued_at, push_to_members, push_to, send_control, would}
 use Rattle.crsm_spec.specs.Clients.{refuse, submit, await, commit_run, commits, replies, answer_each, answer_found, reply_ok, reply_dropped, find_executed}
-use Rattle.crsm_spec.specs.Frames.{take_frame, hear, owe, ack, pay, owing, pay_run, owed_oks, tell_time, idle, again_frame}
+use Rattle.crsm_spec.specs.Frames.{take_frame, receive, owe, ack, pay, owing, pay_run, owed_oks, send_time, idle, again_frame}
 use Rattle.crsm_spec.specs.Coordinate.{forget_epoch}
 use Rattle.crsm_spec.specs.Step.{Input, if_fitting, on_input, idle_at, step}
 use Rattle.crsm_step_facts.specs.Changes.{Change, Changes, stay, and_then}
-use Rattle.crsm_step_facts.specs.Changes.Change.{Submits, Refuses, Commits, Replies, Takes, Acks, IsAcked, Pays, Owes, TellsTime, SendsAgain, Tells, Gathers, Suspends, Collects, TakesPage, Completes, Refrains, GivesUp, Asks, CountsAnswer, Proposes, IsPreempted, AcceptsOwn, CountsVote, Promises, Accepts, Chooses, Learns, AdoptsTail, AdoptsPage, Enters}
+use Rattle.crsm_step_facts.specs.Changes.Change.{Submits, Refuses, Commits, Replies, Takes, Acks, IsAcked, Pays, Owes, SendsTime, SendsAgain, SendsControl, Gathers, Suspends, Collects, TakesPage, Completes, Refrains, GivesUp, Asks, CountsAnswer, Proposes, IsPreempted, AcceptsOwn, CountsVote, Promises, Accepts, Chooses, Learns, AdoptsTail, AdoptsPage, Enters}
 use Rattle.crsm_step_facts.proofs.Going.{Goes, here, on, both}
 use Rattle.crsm_step_facts.proofs.Walk.{same_when, same_option, of_input, of_owed_oks, of_idle_at, of_commits, commit_active}
 
 -- ---- what keeps no record
 
-tell_fitting : (c : Control) (k : ℕ) (x : Draft) → (tell c x k).fitting ≡ x.fitting
-unfolding tell
-tell_fitting c k x = same_when (λ y. y.fitting) _ _ _ x refl refl
+send_fitting : (c : Control) (k : ℕ) (x : Draft) → (send_control c x k).fitting ≡ x.fitting
+unfolding send_control
+send_fitting c k x = same_when (λ y. y.fitting) _ _ _ x refl refl
 
 found_fitting : (w : Waiting) (p : Option (ℕ × Entry)) (x : Draft) → (answer_found w p x).fitting ≡ x.fitting
 unfolding answer_found reply_ok reply_dropped reply
@@ -55,8 +55,8 @@ owed_fitting : (t : ℕ) (x : Draft) → (owed_oks t x).fitting ≡ x.fitting
 unfolding owed_oks
 owed_fitting t x = same_when (λ y. y.fitting) _ _ _ x (pay_run_fitting t x.replica.owed x) refl
 
-time_fitting : (u : Option ℕ) (x : Draft) → (tell_time u x).fitting ≡ x.fitting
-unfolding tell_time push_to_members push_to issued_at
+time_fitting : (u : Option ℕ) (x : Draft) → (send_time u x).fitting ≡ x.fitting
+unfolding send_time push_to_members push_to issued_at
 time_fitting None x = refl
 time_fitting (Some u) x = refl
 
@@ -71,7 +71,7 @@ idle_fitting (Input.Suspected ms) t x = refl
 commit_fits : (e : Entry) (x : Draft) → IsTrue (active x.replica.log) → IsTrue (is_ready x.replica e.stamp) → IsTrue x.fitting → IsTrue (keep (Rec.Commit e.stamp) x).fitting
 unfolding keep fits is_ready is_next
 commit_fits e x a h f =
-    let n = (and_parts (is_replicated (spec_of x.replica) x.replica.votes e.stamp && is_stable (members_of x.replica) (all_heard x.replica) e.stamp) _ h).1 in
+    let n = (and_parts (is_replicated (spec_of x.replica) x.replica.votes e.stamp && is_stable (members_of x.replica) (all_received x.replica) e.stamp) _ h).1 in
     join x.fitting (active x.replica.log) (option_map_or (λ f. stamp_eq f.stamp e.stamp) (first_of (unexecuted x.replica.log)) false) f a n
   where
     join : (p q s : Bool) → p ≡ true → q ≡ true → s ≡ true → (p && (q && s)) ≡ true
@@ -98,7 +98,7 @@ commits_fit x f = run_when (active x.replica.log) _ x (λ a. run_fits (unexecute
 
 module _ (r : Replica) (input : Input) (reading : ℕ) where
   fitted_before : (x y : Draft) → Change r input reading x y → IsTrue y.fitting → IsTrue x.fitting
-  unfolding submit refuse await push_to_members push_to count_vote issued_at keep noting reply send take_frame hear owe ack owing again_frame forget_epoch
+  unfolding submit refuse await push_to_members push_to count_vote issued_at keep noting reply send take_frame receive owe ack owing again_frame forget_epoch
   fitted_before x y (Submits a c t i h w) f = (and_parts x.fitting _ f).0
   fitted_before x y (Refuses a c why i h) f = f
   fitted_before x y (Commits e a h w) f = (and_parts x.fitting _ f).0
@@ -110,9 +110,9 @@ module _ (r : Replica) (input : Input) (reading : ℕ) where
   fitted_before x y (IsAcked k next p h) f = f
   fitted_before x y (Pays s t a m w lt) f = sym (pay_fitting s t x) ∙ f
   fitted_before x y (Owes ss a h) f = f
-  fitted_before x y (TellsTime t a i w) f = f
+  fitted_before x y (SendsTime t a i w) f = f
   fitted_before x y (SendsAgain k g a m h) f = f
-  fitted_before x y (Tells k c h) f = sym (tell_fitting c k x) ∙ f
+  fitted_before x y (SendsControl k c h) f = sym (send_fitting c k x) ∙ f
   fitted_before x y (Gathers a p i o) f = f
   fitted_before x y (Suspends h) f = (and_parts x.fitting _ f).0
   fitted_before x y (Collects ms asked h s) f = f

@@ -10,13 +10,13 @@ use Rattle.crsm_spec.specs.Lists.{first_of}
 use Rattle.crsm_spec.specs.Log.{executed}
 use Rattle.crsm_spec.specs.Fits.{fits}
 use Rattle.crsm_spec.specs.Replica.{Replica, Waiting, last_issued}
-use Rattle.crsm_spec.specs.Draft.{Draft, begun, keep, noting, send, reply, count_vote, issued_at, push_to_members, push_to, tell, would}
+use Rattle.crsm_spec.specs.Draft.{Draft, begun, keep, noting, send, reply, count_vote, issued_at, push_to_members, push_to, send_control, would}
 use Rattle.crsm_spec.specs.Clients.{refuse, submit, await, replies, answer_each, answer_found, reply_ok, reply_dropped, find_executed}
-use Rattle.crsm_spec.specs.Frames.{take_frame, hear, owe, ack, pay, owing, again_frame}
+use Rattle.crsm_spec.specs.Frames.{take_frame, receive, owe, ack, pay, owing, again_frame}
 use Rattle.crsm_spec.specs.Coordinate.{forget_epoch}
 use Rattle.crsm_spec.specs.Step.{Input, step}
 use Rattle.crsm_step_facts.specs.Changes.{Change, Changes, stay, and_then}
-use Rattle.crsm_step_facts.specs.Changes.Change.{Submits, Refuses, Commits, Replies, Takes, Acks, IsAcked, Pays, Owes, TellsTime, SendsAgain, Tells, Gathers, Suspends, Collects, TakesPage, Completes, Refrains, GivesUp, Asks, CountsAnswer, Proposes, IsPreempted, AcceptsOwn, CountsVote, Promises, Accepts, Chooses, Learns, AdoptsTail, AdoptsPage, Enters}
+use Rattle.crsm_step_facts.specs.Changes.Change.{Submits, Refuses, Commits, Replies, Takes, Acks, IsAcked, Pays, Owes, SendsTime, SendsAgain, SendsControl, Gathers, Suspends, Collects, TakesPage, Completes, Refrains, GivesUp, Asks, CountsAnswer, Proposes, IsPreempted, AcceptsOwn, CountsVote, Promises, Accepts, Chooses, Learns, AdoptsTail, AdoptsPage, Enters}
 use Rattle.crsm_log_facts.specs.Logs.{Extends, same, more, AllFit}
 use Rattle.crsm_step_facts.specs.Steps.{RisesTo}
 use Rattle.crsm_step_facts.proofs.Fitted.{step_changes}
@@ -57,9 +57,9 @@ still_then p q = record { me = q.me ∙ p.me; n = q.n ∙ p.n; log = q.log ∙ p
 still_change : {x y : Draft} → IsStill x y → RecordChange x y
 still_change s = NothingKept s.me s.n s.log s.batch
 
-pub tell_still : (c : Control) (k : ℕ) (x : Draft) → IsStill x (tell c x k)
-unfolding tell
-tell_still c k x = still_when _ _ _ x (still x) (record { me = refl; n = refl; log = refl; issued = refl; batch = refl })
+pub send_still : (c : Control) (k : ℕ) (x : Draft) → IsStill x (send_control c x k)
+unfolding send_control
+send_still c k x = still_when _ _ _ x (still x) (record { me = refl; n = refl; log = refl; issued = refl; batch = refl })
 
 found_still : (w : Waiting) (p : Option (ℕ × Entry)) (x : Draft) → IsStill x (answer_found w p x)
 unfolding answer_found reply_ok reply_dropped reply
@@ -80,7 +80,7 @@ replies_still x =
 
 module _ (r : Replica) (input : Input) (reading : ℕ) where
   pub record_change : (x y : Draft) → Change r input reading x y → RecordChange x y
-  unfolding submit refuse await push_to_members push_to count_vote issued_at keep noting reply send take_frame hear owe ack pay owing again_frame forget_epoch
+  unfolding submit refuse await push_to_members push_to count_vote issued_at keep noting reply send take_frame receive owe ack pay owing again_frame forget_epoch
   record_change x y (Submits a c t i h w) = OneKept _ refl refl refl refl refl
   record_change x y (Refuses a c why i h) = NothingKept refl refl refl refl
   record_change x y (Commits e a h w) = OneKept _ refl refl refl refl refl
@@ -92,9 +92,9 @@ module _ (r : Replica) (input : Input) (reading : ℕ) where
   record_change x y (IsAcked k next p h) = NothingKept refl refl refl refl
   record_change x y (Pays s t a m w lt) = NothingKept refl refl refl refl
   record_change x y (Owes ss a h) = NothingKept refl refl refl refl
-  record_change x y (TellsTime t a i w) = NothingKept refl refl refl refl
+  record_change x y (SendsTime t a i w) = NothingKept refl refl refl refl
   record_change x y (SendsAgain k g a m h) = NothingKept refl refl refl refl
-  record_change x y (Tells k c h) = still_change (tell_still c k x)
+  record_change x y (SendsControl k c h) = still_change (send_still c k x)
   record_change x y (Gathers a p i o) = NothingKept refl refl refl refl
   record_change x y (Suspends h) = OneKept _ refl refl refl refl refl
   record_change x y (Collects ms asked h s) = NothingKept refl refl refl refl
@@ -136,11 +136,11 @@ module _ (r : Replica) (input : Input) (reading : ℕ) where
   -- the times after a change: the same, none, or one more that was issued at the reading
   pub times_change : (x y : Draft) → Change r input reading x y →
       (y.replica.issued ≡ x.replica.issued) ⊎ ((y.replica.issued ≡ []) ⊎ ((t : ℕ) × (y.replica.issued ≡ t ∷ x.replica.issued) × (would x reading ≡ Some t)))
-  unfolding submit refuse await push_to_members push_to count_vote issued_at keep noting reply send take_frame hear owe ack pay owing again_frame forget_epoch
+  unfolding submit refuse await push_to_members push_to count_vote issued_at keep noting reply send take_frame receive owe ack pay owing again_frame forget_epoch
   times_change x y (Submits a c t i h w) = inr (inr (t, refl, w))
   times_change x y (Pays s t a m w lt) = inr (inr (t, refl, w))
-  times_change x y (TellsTime t a i w) = inr (inr (t, refl, w))
-  times_change x y (Tells k c h) = inl (tell_still c k x).issued
+  times_change x y (SendsTime t a i w) = inr (inr (t, refl, w))
+  times_change x y (SendsControl k c h) = inl (send_still c k x).issued
   times_change x y Replies = inl (replies_still x).issued
   times_change x y (Takes a k e seq (InEpoch.Prepare g) i o h p n d) = inl refl
   times_change x y (Takes a k e seq (InEpoch.PrepareOk s at) i o h p n d) = inl refl

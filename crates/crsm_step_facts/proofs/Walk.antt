@@ -13,20 +13,20 @@ use Rattle.crsm_spec.specs.Fits.{fits}
 use Rattle.crsm_spec.specs.Quorum.{has_majority}
 use Rattle.crsm_spec.specs.Paxos.{Answer, value_of}
 use Rattle.crsm_spec.specs.Replica.{Replica, Coordinator, LogPage, members_of, spec_of, others, named_spec, other_members, frames_to, next_from, unacked, next_spec}
-use Rattle.crsm_spec.specs.Ready.{is_ready, is_replicated, is_stable, is_next, all_heard}
+use Rattle.crsm_spec.specs.Ready.{is_ready, is_replicated, is_stable, is_next, all_received}
 use Rattle.crsm_base.specs.Limits.{most_again}
 use Rattle.crsm_spec.specs.Clock.{u64_max}
 use Rattle.crsm_spec.specs.Parts.{Piece, whole_with}
-use Rattle.crsm_spec.specs.Draft.{Draft, keep, noting, send, would, issued_at, push_to_members, push_to, tell, tell_each, tell_all, tell_decision, tell_retrieve, retrieve}
+use Rattle.crsm_spec.specs.Draft.{Draft, keep, noting, send, would, issued_at, push_to_members, push_to, send_control, send_to_each, send_to_all, send_decision, send_retrieve, retrieve}
 use Rattle.crsm_spec.specs.Clients.{refusal, submit_at, take_or_refuse, on_request, commit_run, commits}
-use Rattle.crsm_spec.specs.Frames.{is_astray, is_odd_frame, on_frame, on_ack, pay, pay_run, owed_oks, is_idle, idle, tell_time, again_frame, again_to, send_again}
+use Rattle.crsm_spec.specs.Frames.{is_astray, is_odd_frame, on_frame, on_ack, pay, pay_run, owed_oks, is_idle, idle, send_time, again_frame, again_to, send_again}
 use Rattle.crsm_spec.specs.Collect.{own_page, whole_ones, collected, is_within, is_whole, cursor, suspend_ok}
-use Rattle.crsm_spec.specs.Coordinate.{forget_epoch, adopt_tail, enter, advance, learn, on_chosen, instance, count_acceptor, has_accepted, accept_own, tell_proposal, propose, count_answer, tell_ask, ask, greater_ballot, begin_proposing, on_complete, on_whole, suspend_once, may_reconfigure, collect, on_suspect}
-use Rattle.crsm_spec.specs.Controls.{on_suspend, is_page_of, take_page, on_suspend_ok, if_next, tell_promise, on_p1a, on_p1b, on_p1no, on_p2a, on_p2b, retrieve_base, on_decide, page_from, on_retrieve, new_entries, may_adopt, on_page, if_spec, on_control}
-use Rattle.crsm_spec.specs.Step.{Input, if_fitting, on_whole_message, on_part, ask_page, missing, tell_collect, renew, ask_all, on_tick, on_datagram, on_input, idle_at}
-use Rattle.crsm_step_facts.specs.Messages.{Hears, IsAsked, IsTold, Answers}
+use Rattle.crsm_spec.specs.Coordinate.{forget_epoch, adopt_tail, enter, advance, learn, on_chosen, instance, count_acceptor, has_accepted, accept_own, send_proposal, propose, count_answer, send_ask, ask, greater_ballot, begin_proposing, on_complete, on_whole, suspend_once, may_reconfigure, collect, on_suspect}
+use Rattle.crsm_spec.specs.Controls.{on_suspend, is_page_of, take_page, on_suspend_ok, if_next, send_promise, on_p1a, on_p1b, on_p1no, on_p2a, on_p2b, retrieve_base, on_decide, page_from, on_retrieve, new_entries, may_adopt, on_page, if_spec, on_control}
+use Rattle.crsm_spec.specs.Step.{Input, if_fitting, on_whole_message, on_part, ask_page, missing, send_collect, renew, ask_all, on_tick, on_datagram, on_input, idle_at}
+use Rattle.crsm_step_facts.specs.Messages.{ReceivesControl, IsAsked, IsSent, Answers}
 use Rattle.crsm_step_facts.specs.Changes.{Change, IsPaid, IsPeer, IsAnswer, IsVote, IsNextRound, AsksFor}
-use Rattle.crsm_step_facts.specs.Changes.Change.{Submits, Refuses, Commits, Takes, Acks, IsAcked, Pays, Owes, TellsTime, SendsAgain, Tells, Gathers, Suspends, Collects, TakesPage, Completes, Refrains, GivesUp, Asks, CountsAnswer, Proposes, IsPreempted, AcceptsOwn, CountsVote, Promises, Accepts, Chooses, Learns, AdoptsTail, AdoptsPage, Enters}
+use Rattle.crsm_step_facts.specs.Changes.Change.{Submits, Refuses, Commits, Takes, Acks, IsAcked, Pays, Owes, SendsTime, SendsAgain, SendsControl, Gathers, Suspends, Collects, TakesPage, Completes, Refrains, GivesUp, Asks, CountsAnswer, Proposes, IsPreempted, AcceptsOwn, CountsVote, Promises, Accepts, Chooses, Learns, AdoptsTail, AdoptsPage, Enters}
 use Rattle.crsm_log_facts.proofs.Tests.{or_parts, not_not, same_number, next_number, same_ballot, same_stamp, ballot_is, above_top, not_astray}
 use Rattle.crsm_log_facts.proofs.Lists.{among_take}
 use Rattle.crsm_step_facts.proofs.Going.{Goes, here, both, once, either, of_option, each}
@@ -43,25 +43,25 @@ unfolding when◌then◌otherwise◌
 alike_when x a b true p q = p
 alike_when x a b false p q = q
 
-alike_tell : (c : Control) (k : ℕ) (x : Draft) → Alike x (tell c x k)
-unfolding tell
-alike_tell c k x = alike_when x _ _ _ (record { log = refl; coordinator = refl }) (record { log = refl; coordinator = refl })
+alike_send : (c : Control) (k : ℕ) (x : Draft) → Alike x (send_control c x k)
+unfolding send_control
+alike_send c k x = alike_when x _ _ _ (record { log = refl; coordinator = refl }) (record { log = refl; coordinator = refl })
 
 alike_then : {x y z : Draft} → Alike x y → Alike y z → Alike x z
 alike_then p q = record { log = p.log ∙ q.log; coordinator = p.coordinator ∙ q.coordinator }
 
-told_alike : (c : Control) {x y : Draft} → Alike x y → IsTold x c → IsTold y c
+sent_alike : (c : Control) {x y : Draft} → Alike x y → IsSent x c → IsSent y c
 unfolding instance has_accepted
-told_alike (Control.Suspend e after) a h = (h.0 ∙ ap known a.log, subst (λ o. IsAsked o after) a.coordinator h.1)
-told_alike (Control.SuspendOk e done last after whole es) a h = (subst (λ l. IsTrue (suspended l)) a.log h.0, h.1 ∙ ap (λ l. suspend_ok l after) a.log)
-told_alike (Control.P1a i b) a h = (h.0 ∙ ap (λ l. known l + 1) a.log, h.1, h.2, sym a.coordinator ∙ h.3)
-told_alike (Control.P1b i b v) a h = (h.0 ∙ ap (λ l. known l + 1) a.log, ap promised (sym a.log) ∙ h.1, h.2 ∙ ap accepted a.log)
-told_alike (Control.P1no i b top) a h = (h.0 ∙ ap (λ l. known l + 1) a.log, h.1 ∙ ap promised a.log)
-told_alike (Control.P2a i b d) a h = (h.0 ∙ ap (λ l. known l + 1) a.log, h.1, h.2, sym a.coordinator ∙ h.3)
-told_alike (Control.P2b i b) a h = (h.0 ∙ ap (λ l. known l + 1) a.log, subst (λ l. IsTrue (option_map_or (λ v. ballot_eq v.0 b) (accepted l) false)) a.log h.1)
-told_alike (Control.Decide d) a h = ap decision (sym a.log) ∙ h
-told_alike (Control.Retrieve e from) a h = (h.0 ∙ ap known a.log, h.1 ∙ ap (λ l. length (executed l)) a.log)
-told_alike (Control.Page e from es) a h = (subst (λ l. from < length (executed l)) a.log h.0, h.1 ∙ ap (λ l. page_from l from) a.log)
+sent_alike (Control.Suspend e after) a h = (h.0 ∙ ap known a.log, subst (λ o. IsAsked o after) a.coordinator h.1)
+sent_alike (Control.SuspendOk e done last after whole es) a h = (subst (λ l. IsTrue (suspended l)) a.log h.0, h.1 ∙ ap (λ l. suspend_ok l after) a.log)
+sent_alike (Control.P1a i b) a h = (h.0 ∙ ap (λ l. known l + 1) a.log, h.1, h.2, sym a.coordinator ∙ h.3)
+sent_alike (Control.P1b i b v) a h = (h.0 ∙ ap (λ l. known l + 1) a.log, ap promised (sym a.log) ∙ h.1, h.2 ∙ ap accepted a.log)
+sent_alike (Control.P1no i b top) a h = (h.0 ∙ ap (λ l. known l + 1) a.log, h.1 ∙ ap promised a.log)
+sent_alike (Control.P2a i b d) a h = (h.0 ∙ ap (λ l. known l + 1) a.log, h.1, h.2, sym a.coordinator ∙ h.3)
+sent_alike (Control.P2b i b) a h = (h.0 ∙ ap (λ l. known l + 1) a.log, subst (λ l. IsTrue (option_map_or (λ v. ballot_eq v.0 b) (accepted l) false)) a.log h.1)
+sent_alike (Control.Decide d) a h = ap decision (sym a.log) ∙ h
+sent_alike (Control.Retrieve e from) a h = (h.0 ∙ ap known a.log, h.1 ∙ ap (λ l. length (executed l)) a.log)
+sent_alike (Control.Page e from es) a h = (subst (λ l. from < length (executed l)) a.log h.0, h.1 ∙ ap (λ l. page_from l from) a.log)
 
 -- ---- what single changes leave
 
@@ -141,7 +141,7 @@ first_with s (Some f) h = (f, refl, same_stamp f.stamp s h)
 
 ready_first : (x : Replica) (s : Stamp) → IsTrue (is_ready x s) → (f : Entry) × (first_of (unexecuted x.log) ≡ Some f) × (f.stamp ≡ s)
 unfolding is_ready is_next
-ready_first x s h = first_with s (first_of (unexecuted x.log)) (and_parts (is_replicated (spec_of x) x.votes s && is_stable (members_of x) (all_heard x) s) (is_next (unexecuted x.log) s) h).1
+ready_first x s h = first_with s (first_of (unexecuted x.log)) (and_parts (is_replicated (spec_of x) x.votes s && is_stable (members_of x) (all_received x) s) (is_next (unexecuted x.log) s) h).1
 
 keep_coordinator : (rec : Rec) (x : Draft) {coordinator : Coordinator} → x.replica.coordinator ≡ coordinator → (keep rec x).replica.coordinator ≡ coordinator
 unfolding keep
@@ -167,12 +167,12 @@ noted_already : (coordinator : Coordinator) (x : Draft) → x.replica.coordinato
 unfolding noting
 noted_already coordinator x e = ap (λ m. record x { replica = record x.replica { coordinator = m } }) e
 
-alike_each : (c : Control) (ks : List ℕ) (x : Draft) → Alike x (fold (tell c) x ks)
+alike_each : (c : Control) (ks : List ℕ) (x : Draft) → Alike x (fold (send_control c) x ks)
 alike_each c [] x = record { log = refl; coordinator = refl }
-alike_each c (k ∷ ks) x = alike_then (alike_tell c k x) (alike_each c ks (tell c x k))
+alike_each c (k ∷ ks) x = alike_then (alike_send c k x) (alike_each c ks (send_control c x k))
 
-alike_all : (c : Control) (x : Draft) → Alike x (tell_all c x)
-unfolding tell_all tell_each
+alike_all : (c : Control) (x : Draft) → Alike x (send_to_all c x)
+unfolding send_to_all send_to_each
 alike_all c x = alike_each c (others x.replica) x
 
 -- the decision of the known epoch stays while it is entered
@@ -242,25 +242,25 @@ module _ (r : Replica) (input : Input) (reading : ℕ) where
   abbrev G : Draft → Draft → Type 0
   G x y = Goes r input reading x y
 
-  tells : (c : Control) (k : ℕ) (x : Draft) → IsTold x c → Answers r input c → G x (tell c x k)
-  tells c k x h a = once (Tells k c (h, a))
+  sends_control : (c : Control) (k : ℕ) (x : Draft) → IsSent x c → Answers r input c → G x (send_control c x k)
+  sends_control c k x h a = once (SendsControl k c (h, a))
 
-  tells_each : (ks : List ℕ) (c : Control) (x : Draft) → IsTold x c → Answers r input c → G x (tell_each ks c x)
-  unfolding tell_each
-  tells_each ks c x h a =
-      each (λ y. IsTold y c) (tell c) ks (λ y k m p. tells c k y p a) (λ y k p. told_alike c (alike_tell c k y) p) x h
+  sends_each : (ks : List ℕ) (c : Control) (x : Draft) → IsSent x c → Answers r input c → G x (send_to_each ks c x)
+  unfolding send_to_each
+  sends_each ks c x h a =
+      each (λ y. IsSent y c) (send_control c) ks (λ y k m p. sends_control c k y p a) (λ y k p. sent_alike c (alike_send c k y) p) x h
 
-  tells_all : (c : Control) (x : Draft) → IsTold x c → Answers r input c → G x (tell_all c x)
-  unfolding tell_all
-  tells_all c x h a = tells_each _ c x h a
+  sends_all : (c : Control) (x : Draft) → IsSent x c → Answers r input c → G x (send_to_all c x)
+  unfolding send_to_all
+  sends_all c x h a = sends_each _ c x h a
 
-  tells_decision : (k : ℕ) (x : Draft) → G x (tell_decision k x)
-  unfolding tell_decision
-  tells_decision k x = of_option _ _ (decision x.replica.log) (λ d e. tells (Control.Decide d) k x e tt) (λ e. here)
+  sends_decision : (k : ℕ) (x : Draft) → G x (send_decision k x)
+  unfolding send_decision
+  sends_decision k x = of_option _ _ (decision x.replica.log) (λ d e. sends_control (Control.Decide d) k x e tt) (λ e. here)
 
-  tells_retrieve : (k : ℕ) (x : Draft) → G x (tell_retrieve k x)
-  unfolding tell_retrieve retrieve
-  tells_retrieve k x = tells _ k x (refl, refl) tt
+  sends_retrieve : (k : ℕ) (x : Draft) → G x (send_retrieve k x)
+  unfolding send_retrieve retrieve
+  sends_retrieve k x = sends_control _ k x (refl, refl) tt
 
   -- ---- clients
 
@@ -285,8 +285,8 @@ module _ (r : Replica) (input : Input) (reading : ℕ) where
   of_frame : (a k e seq : ℕ) (p : InEpoch) (x : Draft) → input ≡ Input.Came a (Datagram.Frame k r.me e seq p) → k ≢ r.me → G x (on_frame k e seq p x)
   unfolding on_frame
   of_frame a k e seq p x i other =
-      either (nat_lt e (known x.replica.log)) (λ h. tells_decision k x) (λ older.
-      either (nat_lt (known x.replica.log) e) (λ h. tells_retrieve k x) (λ newer.
+      either (nat_lt e (known x.replica.log)) (λ h. sends_decision k x) (λ older.
+      either (nat_lt (known x.replica.log) e) (λ h. sends_retrieve k x) (λ newer.
       either (not (active x.replica.log) || not (has (members_of x.replica) k)) (λ h. here) (λ talks.
       let t = or_parts (not (active x.replica.log)) (not (has (members_of x.replica) k)) talks in
       let peer : IsPeer x.replica k = (not_not (active x.replica.log) t.0, not_not (has (members_of x.replica) k) t.1) in
@@ -333,14 +333,14 @@ module _ (r : Replica) (input : Input) (reading : ℕ) where
   unfolding owed_oks
   of_owed_oks x = either (active x.replica.log) (λ a. of_pay_run x.replica.owed x a (λ s m. m) (λ s m. inl m)) (λ a. here)
 
-  of_tell_time : (t : Option ℕ) (x : Draft) → IsTrue (active x.replica.log) → IsTrue (is_idle x.replica reading) → would x reading ≡ t → G x (tell_time t x)
-  unfolding tell_time
-  of_tell_time None x a i w = here
-  of_tell_time (Some t) x a i w = once (TellsTime t a i w)
+  of_send_time : (t : Option ℕ) (x : Draft) → IsTrue (active x.replica.log) → IsTrue (is_idle x.replica reading) → would x reading ≡ t → G x (send_time t x)
+  unfolding send_time
+  of_send_time None x a i w = here
+  of_send_time (Some t) x a i w = once (SendsTime t a i w)
 
   of_idle : (x : Draft) → G x (idle reading x)
   unfolding idle
-  of_idle x = either (active x.replica.log && is_idle x.replica reading) (λ h. let p = and_parts (active x.replica.log) (is_idle x.replica reading) h in of_tell_time (would x reading) x p.0 p.1 refl) (λ h. here)
+  of_idle x = either (active x.replica.log && is_idle x.replica reading) (λ h. let p = and_parts (active x.replica.log) (is_idle x.replica reading) h in of_send_time (would x reading) x p.0 p.1 refl) (λ h. here)
 
   of_commit_run : (es : List Entry) (x : Draft) → IsTrue (active x.replica.log) → G x (commit_run es x)
   unfolding commit_run
@@ -379,7 +379,7 @@ module _ (r : Replica) (input : Input) (reading : ℕ) where
 
   of_chosen : (d : Decision) (x : Draft) → Change r input reading x (forget_epoch (noting Coordinator.Idle (keep (Rec.Decide d) x))) → G x (on_chosen d x)
   unfolding on_chosen
-  of_chosen d x c = both (of_learn d x c) (tells_each _ (Control.Decide d) (learn d x) (learnt d x) tt)
+  of_chosen d x c = both (of_learn d x c) (sends_each _ (Control.Decide d) (learn d x) (learnt d x) tt)
 
   -- ---- proposing
 
@@ -398,18 +398,18 @@ module _ (r : Replica) (input : Input) (reading : ℕ) where
       both (once (AcceptsOwn b own value acceptors n below (leb-true value.base_len (length (executed x.replica.log)) p.0) (not-true (has_accepted b x) p.1)))
       (of_count_acceptor b own value acceptors x.replica.me (keep (Rec.Accept (instance x) b value) x) (keep_coordinator _ x n) (inl (keep_me _ x, accepts_it b value x)))) (λ h. here))
 
-  of_tell_proposal : (coordinator : Coordinator) (x : Draft) → x.replica.coordinator ≡ coordinator → G x (tell_proposal coordinator x)
-  unfolding tell_proposal
-  of_tell_proposal Coordinator.Idle x n = here
-  of_tell_proposal (Coordinator.Collecting ms pages) x n = here
-  of_tell_proposal (Coordinator.Preparing b own answers) x n = here
-  of_tell_proposal (Coordinator.Proposing b own value acceptors) x n = tells_each _ (Control.P2a (instance x) b value) x (refl, own, acceptors, n) tt
-  of_tell_proposal (Coordinator.Preempted own seen) x n = here
+  of_send_proposal : (coordinator : Coordinator) (x : Draft) → x.replica.coordinator ≡ coordinator → G x (send_proposal coordinator x)
+  unfolding send_proposal
+  of_send_proposal Coordinator.Idle x n = here
+  of_send_proposal (Coordinator.Collecting ms pages) x n = here
+  of_send_proposal (Coordinator.Preparing b own answers) x n = here
+  of_send_proposal (Coordinator.Proposing b own value acceptors) x n = sends_each _ (Control.P2a (instance x) b value) x (refl, own, acceptors, n) tt
+  of_send_proposal (Coordinator.Preempted own seen) x n = here
 
   of_propose : (b : Ballot) (own : Decision) (answers : List (Answer Decision)) (x : Draft) → x.replica.coordinator ≡ Coordinator.Preparing b own answers →
       IsTrue (has_majority (spec_of x.replica) (map (λ f. f.replica) answers)) → G x (propose b own answers x)
   unfolding propose noting
-  of_propose b own answers x n h = both (once (Proposes b own answers n h)) (both (of_accept_own b own (value_of own answers) [] _ refl) (of_tell_proposal _ _ refl))
+  of_propose b own answers x n h = both (once (Proposes b own answers n h)) (both (of_accept_own b own (value_of own answers) [] _ refl) (of_send_proposal _ _ refl))
 
   of_count_answer : (b : Ballot) (own : Decision) (answers : List (Answer Decision)) (a : Answer Decision) (x : Draft) → x.replica.coordinator ≡ Coordinator.Preparing b own answers →
       IsAnswer r input x b a → has (map (λ f. f.replica) answers) a.replica ≡ false → G x (count_answer b own answers a x)
@@ -417,17 +417,17 @@ module _ (r : Replica) (input : Input) (reading : ℕ) where
   of_count_answer b own answers a x n i new =
       both (once (CountsAnswer b own answers a n i new)) (either (has_majority (spec_of x.replica) (map (λ f. f.replica) (answers ++ a ∷ []))) (λ h. of_propose b own (answers ++ a ∷ []) _ refl h) (λ h. here))
 
-  of_tell_ask : (coordinator : Coordinator) (x : Draft) → x.replica.coordinator ≡ coordinator → G x (tell_ask coordinator x)
-  unfolding tell_ask
-  of_tell_ask Coordinator.Idle x n = here
-  of_tell_ask (Coordinator.Collecting ms pages) x n = here
-  of_tell_ask (Coordinator.Preparing b own answers) x n = tells_each _ (Control.P1a (instance x) b) x (refl, own, answers, n) tt
-  of_tell_ask (Coordinator.Proposing b own value acceptors) x n = here
-  of_tell_ask (Coordinator.Preempted own seen) x n = here
+  of_send_ask : (coordinator : Coordinator) (x : Draft) → x.replica.coordinator ≡ coordinator → G x (send_ask coordinator x)
+  unfolding send_ask
+  of_send_ask Coordinator.Idle x n = here
+  of_send_ask (Coordinator.Collecting ms pages) x n = here
+  of_send_ask (Coordinator.Preparing b own answers) x n = sends_each _ (Control.P1a (instance x) b) x (refl, own, answers, n) tt
+  of_send_ask (Coordinator.Proposing b own value acceptors) x n = here
+  of_send_ask (Coordinator.Preempted own seen) x n = here
 
   of_ask : (b : Ballot) (own : Decision) (seen : Ballot) (x : Draft) → x.replica.coordinator ≡ Coordinator.Preempted own seen → (b.by ≡ x.replica.me) × IsNextRound (promised x.replica.log) seen b → IsTrue (ballot_lt (promised x.replica.log) b) → G x (ask b own x)
   unfolding ask noting keep promised accepted has
-  of_ask b own seen x n by lt = both (once (Asks own seen b n by lt)) (both (of_count_answer b own [] _ _ refl (inl (refl, refl, refl)) refl) (of_tell_ask _ _ refl))
+  of_ask b own seen x n by lt = both (once (Asks own seen b n by lt)) (both (of_count_answer b own [] _ _ refl (inl (refl, refl, refl)) refl) (of_send_ask _ _ refl))
 
   of_begin : (own : Decision) (seen : Ballot) (x : Draft) → x.replica.coordinator ≡ Coordinator.Preempted own seen → G x (begin_proposing own seen x)
   unfolding begin_proposing
@@ -457,8 +457,8 @@ module _ (r : Replica) (input : Input) (reading : ℕ) where
   of_collect ms x asked may h =
       let pages = own_page x.replica.me x.replica.log ∷ [] in
       let y = noting (Coordinator.Collecting ms pages) x in
-      let z = tell_all (Control.Suspend (known x.replica.log) None) y in
-      both (once (Collects ms asked may h)) (both (tells_all (Control.Suspend (known x.replica.log) None) y (noting_known _ x, inl refl) tt)
+      let z = send_to_all (Control.Suspend (known x.replica.log) None) y in
+      both (once (Collects ms asked may h)) (both (sends_all (Control.Suspend (known x.replica.log) None) y (noting_known _ x, inl refl) tt)
       (of_whole ms pages z (subst (G z) (noted_already (Coordinator.Collecting ms pages) z (sym (alike_all _ y).coordinator ∙ noting_coordinator _ x)) here)))
 
   of_suspect : (ms : List ℕ) (x : Draft) → AsksFor input ms → G x (on_suspect ms x)
@@ -470,28 +470,28 @@ module _ (r : Replica) (input : Input) (reading : ℕ) where
   if_next' : (k i : ℕ) (x y : Draft) → (i ≡ instance x → G x y) → G x (if_next k i x y)
   unfolding if_next instance
   if_next' k i x y f =
-      either (nat_le i (known x.replica.log)) (λ h. tells_decision k x) (λ a.
-      either (nat_lt (known x.replica.log + 1) i) (λ h. tells_retrieve k x) (λ b. f (next_number i (known x.replica.log) a b)))
+      either (nat_le i (known x.replica.log)) (λ h. sends_decision k x) (λ a.
+      either (nat_lt (known x.replica.log + 1) i) (λ h. sends_retrieve k x) (λ b. f (next_number i (known x.replica.log) a b)))
 
   if_spec' : (k : ℕ) (x y : Draft) → (IsTrue (has (spec_of x.replica) k) → G x y) → G x (if_spec k x y)
   unfolding if_spec
   if_spec' k x y f = either (has (spec_of x.replica) k) f (λ h. here)
 
-  of_on_suspend : (k e : ℕ) (after : Option Stamp) (x : Draft) → Hears r input k (Control.Suspend e after) → G x (on_suspend k e after x)
+  of_on_suspend : (k e : ℕ) (after : Option Stamp) (x : Draft) → ReceivesControl r input k (Control.Suspend e after) → G x (on_suspend k e after x)
   unfolding on_suspend suspend_ok
-  of_on_suspend k e after x heard =
-      either (nat_lt e (known x.replica.log)) (λ h. tells_decision k x) (λ a.
-      either (nat_lt (known x.replica.log) e) (λ h. tells_retrieve k x) (λ b.
-      both (of_suspend_once x) (tells (suspend_ok (suspend_once x).replica.log after) k (suspend_once x) (once_suspended x, refl)
-      (k, subst (λ i. Hears r input k (Control.Suspend i after)) (same_number e (known x.replica.log) a b ∙ sym (once_known x)) heard))))
+  of_on_suspend k e after x received =
+      either (nat_lt e (known x.replica.log)) (λ h. sends_decision k x) (λ a.
+      either (nat_lt (known x.replica.log) e) (λ h. sends_retrieve k x) (λ b.
+      both (of_suspend_once x) (sends_control (suspend_ok (suspend_once x).replica.log after) k (suspend_once x) (once_suspended x, refl)
+      (k, subst (λ i. ReceivesControl r input k (Control.Suspend i after)) (same_number e (known x.replica.log) a b ∙ sym (once_known x)) received))))
 
   of_take_page : (ms : List ℕ) (pages : List LogPage) (p : LogPage) (x : Draft) → Change r input reading x (noting (Coordinator.Collecting ms (pages ++ p ∷ [])) x) → G x (take_page ms pages p x)
   unfolding take_page
   of_take_page ms pages p x c =
-      either p.whole (λ h. of_whole ms (pages ++ p ∷ []) x (once c)) (λ h. both (once c) (tells _ p.from _ (noting_known _ x, inr (ms, pages ++ p ∷ [], p.from, noting_coordinator _ x, refl)) tt))
+      either p.whole (λ h. of_whole ms (pages ++ p ∷ []) x (once c)) (λ h. both (once c) (sends_control _ p.from _ (noting_known _ x, inr (ms, pages ++ p ∷ [], p.from, noting_coordinator _ x, refl)) tt))
 
   of_on_suspend_ok : (e : ℕ) (after : Option Stamp) (p : LogPage) (coordinator : Coordinator) (x : Draft) → x.replica.coordinator ≡ coordinator →
-      Hears r input p.from (Control.SuspendOk e p.executed p.last after p.whole p.entries) → IsTrue (has (spec_of x.replica) p.from) → G x (on_suspend_ok e after p coordinator x)
+      ReceivesControl r input p.from (Control.SuspendOk e p.executed p.last after p.whole p.entries) → IsTrue (has (spec_of x.replica) p.from) → G x (on_suspend_ok e after p coordinator x)
   unfolding on_suspend_ok
   of_on_suspend_ok e after p Coordinator.Idle x n h m = here
   of_on_suspend_ok e after p (Coordinator.Preparing b own answers) x n h m = here
@@ -503,20 +503,20 @@ module _ (r : Replica) (input : Input) (reading : ℕ) where
       let q = and_parts page (not (is_whole pages p.from)) t in
       of_take_page ms pages p x (TakesPage ms pages e after p n h m q.0 (not-true (is_whole pages p.from) q.1))) (λ t. here)
 
-  of_tell_promise : (k i : ℕ) (b : Ballot) (x : Draft) → i ≡ instance x → promised x.replica.log ≡ b → Hears r input k (Control.P1a i b) → G x (tell_promise k i b x)
-  unfolding tell_promise
-  of_tell_promise k i b x i' p h = tells (Control.P1b i b (accepted x.replica.log)) k x (i', p, refl) (k, h)
+  of_send_promise : (k i : ℕ) (b : Ballot) (x : Draft) → i ≡ instance x → promised x.replica.log ≡ b → ReceivesControl r input k (Control.P1a i b) → G x (send_promise k i b x)
+  unfolding send_promise
+  of_send_promise k i b x i' p h = sends_control (Control.P1b i b (accepted x.replica.log)) k x (i', p, refl) (k, h)
 
-  of_p1a : (k i : ℕ) (b : Ballot) (x : Draft) → Hears r input k (Control.P1a i b) → G x (on_p1a k i b x)
+  of_p1a : (k i : ℕ) (b : Ballot) (x : Draft) → ReceivesControl r input k (Control.P1a i b) → G x (on_p1a k i b x)
   unfolding on_p1a
   of_p1a k i b x h = if_next' k i x _ (λ next.
       either (ballot_lt (promised x.replica.log) b) (λ lt.
-      both (once (subst (λ j. Change r input reading x (keep (Rec.Promise j b) x)) (sym next) (Promises k b (subst (λ j. Hears r input k (Control.P1a j b)) next h) lt)))
-      (of_tell_promise k i b (keep (Rec.Promise i b) x) (next ∙ keeps_known_promise i b x) (promises_it i b x) h)) (λ ge.
-      either (ballot_eq (promised x.replica.log) b) (λ eq. of_tell_promise k i b x next (same_ballot (promised x.replica.log) b eq) h) (λ gt.
-      tells (Control.P1no i b (promised x.replica.log)) k x (next, refl) (k, inl h))))
+      both (once (subst (λ j. Change r input reading x (keep (Rec.Promise j b) x)) (sym next) (Promises k b (subst (λ j. ReceivesControl r input k (Control.P1a j b)) next h) lt)))
+      (of_send_promise k i b (keep (Rec.Promise i b) x) (next ∙ keeps_known_promise i b x) (promises_it i b x) h)) (λ ge.
+      either (ballot_eq (promised x.replica.log) b) (λ eq. of_send_promise k i b x next (same_ballot (promised x.replica.log) b eq) h) (λ gt.
+      sends_control (Control.P1no i b (promised x.replica.log)) k x (next, refl) (k, inl h))))
 
-  of_p1b : (i : ℕ) (b : Ballot) (a : Answer Decision) (coordinator : Coordinator) (x : Draft) → x.replica.coordinator ≡ coordinator → Hears r input a.replica (Control.P1b i b a.accepted) →
+  of_p1b : (i : ℕ) (b : Ballot) (a : Answer Decision) (coordinator : Coordinator) (x : Draft) → x.replica.coordinator ≡ coordinator → ReceivesControl r input a.replica (Control.P1b i b a.accepted) →
       IsTrue (has (spec_of x.replica) a.replica) → G x (on_p1b i b a coordinator x)
   unfolding on_p1b instance
   of_p1b i b a Coordinator.Idle x n h m = here
@@ -528,19 +528,19 @@ module _ (r : Replica) (input : Input) (reading : ℕ) where
       either ((i == known x.replica.log + 1 && ballot_eq b c) && new) (λ t.
       let p = and_parts (i == known x.replica.log + 1 && ballot_eq b c) new t in
       let q = and_parts (i == known x.replica.log + 1) (ballot_eq b c) p.0 in
-      let heard : Hears r input a.replica (Control.P1b (known x.replica.log + 1) c a.accepted) =
-      subst (λ j. Hears r input a.replica (Control.P1b j c a.accepted)) (eqb-true i (known x.replica.log + 1) q.0)
-      (subst (λ d. Hears r input a.replica (Control.P1b i d a.accepted)) (same_ballot b c q.1) h) in
-      of_count_answer c own answers a x n (inr (m, heard)) (not-true (has (map (λ f. f.replica) answers) a.replica) p.1)) (λ t. here)
+      let received : ReceivesControl r input a.replica (Control.P1b (known x.replica.log + 1) c a.accepted) =
+      subst (λ j. ReceivesControl r input a.replica (Control.P1b j c a.accepted)) (eqb-true i (known x.replica.log + 1) q.0)
+      (subst (λ d. ReceivesControl r input a.replica (Control.P1b i d a.accepted)) (same_ballot b c q.1) h) in
+      of_count_answer c own answers a x n (inr (m, received)) (not-true (has (map (λ f. f.replica) answers) a.replica) p.1)) (λ t. here)
 
   -- a refusal of ours
-  refused : (k i : ℕ) (b c top : Ballot) (x : Draft) → Hears r input k (Control.P1no i b top) → IsTrue (i == known x.replica.log + 1) → b ≡ c →
-      Hears r input k (Control.P1no (instance x) c top)
+  refused : (k i : ℕ) (b c top : Ballot) (x : Draft) → ReceivesControl r input k (Control.P1no i b top) → IsTrue (i == known x.replica.log + 1) → b ≡ c →
+      ReceivesControl r input k (Control.P1no (instance x) c top)
   unfolding instance
   refused k i b c top x h q same =
-      subst (λ j. Hears r input k (Control.P1no j c top)) (eqb-true i (known x.replica.log + 1) q) (subst (λ d. Hears r input k (Control.P1no i d top)) same h)
+      subst (λ j. ReceivesControl r input k (Control.P1no j c top)) (eqb-true i (known x.replica.log + 1) q) (subst (λ d. ReceivesControl r input k (Control.P1no i d top)) same h)
 
-  of_p1no : (k i : ℕ) (b top : Ballot) (coordinator : Coordinator) (x : Draft) → x.replica.coordinator ≡ coordinator → Hears r input k (Control.P1no i b top) → G x (on_p1no i b top coordinator x)
+  of_p1no : (k i : ℕ) (b top : Ballot) (coordinator : Coordinator) (x : Draft) → x.replica.coordinator ≡ coordinator → ReceivesControl r input k (Control.P1no i b top) → G x (on_p1no i b top coordinator x)
   unfolding on_p1no
   of_p1no k i b top Coordinator.Idle x n h = here
   of_p1no k i b top (Coordinator.Collecting ms pages) x n h = here
@@ -560,17 +560,17 @@ module _ (r : Replica) (input : Input) (reading : ℕ) where
       once (IsPreempted c own value acceptors top [] (inr n)
       (subst (λ d. IsTrue (ballot_lt d top)) (same_ballot b c q.1) p.1, inr (k, refused k i b c top x h q.0 (same_ballot b c q.1))))) (λ t. here)
 
-  of_p2a : (k i : ℕ) (b : Ballot) (d : Decision) (x : Draft) → Hears r input k (Control.P2a i b d) → G x (on_p2a k i b d x)
+  of_p2a : (k i : ℕ) (b : Ballot) (d : Decision) (x : Draft) → ReceivesControl r input k (Control.P2a i b d) → G x (on_p2a k i b d x)
   unfolding on_p2a
   of_p2a k i b d x h = if_next' k i x _ (λ next.
-      either (ballot_lt b (promised x.replica.log)) (λ lt. tells (Control.P1no i b (promised x.replica.log)) k x (next, refl) (k, inr (d, h))) (λ ge.
-      either (has_accepted b x) (λ old. tells (Control.P2b i b) k x (next, old) (k, d, h)) (λ new.
-      either (nat_lt (length (executed x.replica.log)) d.base_len) (λ lt. tells_retrieve k x) (λ base.
+      either (ballot_lt b (promised x.replica.log)) (λ lt. sends_control (Control.P1no i b (promised x.replica.log)) k x (next, refl) (k, inr (d, h))) (λ ge.
+      either (has_accepted b x) (λ old. sends_control (Control.P2b i b) k x (next, old) (k, d, h)) (λ new.
+      either (nat_lt (length (executed x.replica.log)) d.base_len) (λ lt. sends_retrieve k x) (λ base.
       both (once (subst (λ j. Change r input reading x (keep (Rec.Accept j b d) x)) (sym next)
-      (Accepts k b d (subst (λ j. Hears r input k (Control.P2a j b d)) next h) ge new (ltb-false (length (executed x.replica.log)) d.base_len base))))
-      (tells (Control.P2b i b) k (keep (Rec.Accept i b d) x) (next ∙ keeps_known_accept i b d x, accepted_it i b d x) (k, d, h))))))
+      (Accepts k b d (subst (λ j. ReceivesControl r input k (Control.P2a j b d)) next h) ge new (ltb-false (length (executed x.replica.log)) d.base_len base))))
+      (sends_control (Control.P2b i b) k (keep (Rec.Accept i b d) x) (next ∙ keeps_known_accept i b d x, accepted_it i b d x) (k, d, h))))))
 
-  of_p2b : (k i : ℕ) (b : Ballot) (coordinator : Coordinator) (x : Draft) → x.replica.coordinator ≡ coordinator → Hears r input k (Control.P2b i b) → IsTrue (has (spec_of x.replica) k) → G x (on_p2b k i b coordinator x)
+  of_p2b : (k i : ℕ) (b : Ballot) (coordinator : Coordinator) (x : Draft) → x.replica.coordinator ≡ coordinator → ReceivesControl r input k (Control.P2b i b) → IsTrue (has (spec_of x.replica) k) → G x (on_p2b k i b coordinator x)
   unfolding on_p2b instance
   of_p2b k i b Coordinator.Idle x n h m = here
   of_p2b k i b (Coordinator.Collecting ms pages) x n h m = here
@@ -581,15 +581,15 @@ module _ (r : Replica) (input : Input) (reading : ℕ) where
       either (ours && not (has acceptors k)) (λ t.
       let p = and_parts ours (not (has acceptors k)) t in
       let q = and_parts (i == known x.replica.log + 1) (ballot_eq b c) p.0 in
-      let heard : Hears r input k (Control.P2b (known x.replica.log + 1) c) =
-      subst (λ j. Hears r input k (Control.P2b j c)) (eqb-true i (known x.replica.log + 1) q.0) (subst (λ d. Hears r input k (Control.P2b i d)) (same_ballot b c q.1) h) in
-      of_count_acceptor c own value acceptors k x n (inr (m, heard))) (λ t. here)
+      let received : ReceivesControl r input k (Control.P2b (known x.replica.log + 1) c) =
+      subst (λ j. ReceivesControl r input k (Control.P2b j c)) (eqb-true i (known x.replica.log + 1) q.0) (subst (λ d. ReceivesControl r input k (Control.P2b i d)) (same_ballot b c q.1) h) in
+      of_count_acceptor c own value acceptors k x n (inr (m, received))) (λ t. here)
 
   of_retrieve_base : (k : ℕ) (x : Draft) → G x (retrieve_base k x)
   unfolding retrieve_base
-  of_retrieve_base k x = either _ (λ h. tells_retrieve k x) (λ h. here)
+  of_retrieve_base k x = either _ (λ h. sends_retrieve k x) (λ h. here)
 
-  of_decide : (k : ℕ) (d : Decision) (x : Draft) → Hears r input k (Control.Decide d) → G x (on_decide k d x)
+  of_decide : (k : ℕ) (d : Decision) (x : Draft) → ReceivesControl r input k (Control.Decide d) → G x (on_decide k d x)
   unfolding on_decide
   of_decide k d x h = either (nat_lt (known x.replica.log) d.epoch) (λ lt. both (of_learn d x (Learns k d h (ltb-true (known x.replica.log) d.epoch lt))) (of_retrieve_base k (learn d x))) (λ ge. here)
 
@@ -597,19 +597,19 @@ module _ (r : Replica) (input : Input) (reading : ℕ) where
   unfolding on_retrieve page_from
   of_retrieve k e from x =
       let log = x.replica.log in
-      either (nat_lt e (known log)) (λ h. tells_decision k x) (λ a.
-      let g = either (nat_lt from (length (executed log))) (λ lt. tells (page_from log from) k x (ltb-true from (length (executed log)) lt, refl) tt) (λ b. here) in
-      both g (either (nat_lt (known log) e) (λ lt. tells_retrieve k _) (λ b. here)))
+      either (nat_lt e (known log)) (λ h. sends_decision k x) (λ a.
+      let g = either (nat_lt from (length (executed log))) (λ lt. sends_control (page_from log from) k x (ltb-true from (length (executed log)) lt, refl) tt) (λ b. here) in
+      both g (either (nat_lt (known log) e) (λ lt. sends_retrieve k _) (λ b. here)))
 
-  of_page : (k e from : ℕ) (es : List Entry) (x : Draft) → Hears r input k (Control.Page e from es) → G x (on_page k e from es x)
+  of_page : (k e from : ℕ) (es : List Entry) (x : Draft) → ReceivesControl r input k (Control.Page e from es) → G x (on_page k e from es x)
   unfolding on_page
   of_page k e from es x h =
       let new = new_entries x.replica.log from es in
       either (may_adopt x.replica.log e from && nat_lt 0 (length new)) (λ t.
       let p = and_parts (may_adopt x.replica.log e from) (nat_lt 0 (length new)) t in
-      both (once (AdoptsPage k e from es h p.0 (ltb-true 0 (length new) p.1))) (both (of_advance _) (tells_retrieve k _))) (λ t. here)
+      both (once (AdoptsPage k e from es h p.0 (ltb-true 0 (length new) p.1))) (both (of_advance _) (sends_retrieve k _))) (λ t. here)
 
-  of_control : (k : ℕ) (c : Control) (x : Draft) → Hears r input k c → G x (on_control k c x)
+  of_control : (k : ℕ) (c : Control) (x : Draft) → ReceivesControl r input k c → G x (on_control k c x)
   unfolding on_control
   of_control k (Control.Suspend e after) x h = of_on_suspend k e after x h
   of_control k (Control.SuspendOk e done last after whole es) x h = if_spec' k x _ (λ m. of_on_suspend_ok e after (record { from = k; executed = done; last = last; whole = whole; entries = es }) x.replica.coordinator x refl h m)
@@ -628,7 +628,7 @@ module _ (r : Replica) (input : Input) (reading : ℕ) where
   unfolding if_fitting
   if_fitting' x y g = either y.fitting (λ h. g) (λ h. here)
 
-  of_whole_message : (k : ℕ) (c : Option Control) (x : Draft) → ((d : Control) → c ≡ Some d → Hears r input k d) → G x (on_whole_message k c x)
+  of_whole_message : (k : ℕ) (c : Option Control) (x : Draft) → ((d : Control) → c ≡ Some d → ReceivesControl r input k d) → G x (on_whole_message k c x)
   unfolding on_whole_message
   of_whole_message k None x h = here
   of_whole_message k (Some c) x h = of_control k c x (h c refl)
@@ -647,24 +647,24 @@ module _ (r : Replica) (input : Input) (reading : ℕ) where
         is = is;
       }))) (λ e. here))
 
-  of_tell_collect : (ms : List ℕ) (pages : List LogPage) (x : Draft) → x.replica.coordinator ≡ Coordinator.Collecting ms pages → G x (tell_collect pages x)
-  unfolding tell_collect ask_page
-  of_tell_collect ms pages x n =
+  of_send_collect : (ms : List ℕ) (pages : List LogPage) (x : Draft) → x.replica.coordinator ≡ Coordinator.Collecting ms pages → G x (send_collect pages x)
+  unfolding send_collect ask_page
+  of_send_collect ms pages x n =
       each (λ y. y.replica.coordinator ≡ Coordinator.Collecting ms pages) (ask_page pages) (missing x.replica pages)
-      (λ y k m u. tells (Control.Suspend (known y.replica.log) (cursor pages k)) k y (refl, inr (ms, pages, k, u, refl)) tt)
-      (λ y k u. sym (alike_tell (Control.Suspend (known y.replica.log) (cursor pages k)) k y).coordinator ∙ u) x n
+      (λ y k m u. sends_control (Control.Suspend (known y.replica.log) (cursor pages k)) k y (refl, inr (ms, pages, k, u, refl)) tt)
+      (λ y k u. sym (alike_send (Control.Suspend (known y.replica.log) (cursor pages k)) k y).coordinator ∙ u) x n
 
   of_renew : (coordinator : Coordinator) (x : Draft) → x.replica.coordinator ≡ coordinator → G x (renew coordinator x)
   unfolding renew
   of_renew Coordinator.Idle x n = here
-  of_renew (Coordinator.Collecting ms pages) x n = of_tell_collect ms pages x n
-  of_renew (Coordinator.Preparing b own answers) x n = of_tell_ask _ x n
-  of_renew (Coordinator.Proposing b own value acceptors) x n = both (of_accept_own b own value acceptors x n) (of_tell_proposal _ _ refl)
+  of_renew (Coordinator.Collecting ms pages) x n = of_send_collect ms pages x n
+  of_renew (Coordinator.Preparing b own answers) x n = of_send_ask _ x n
+  of_renew (Coordinator.Proposing b own value acceptors) x n = both (of_accept_own b own value acceptors x n) (of_send_proposal _ _ refl)
   of_renew (Coordinator.Preempted own seen) x n = of_begin own seen x n
 
   of_ask_all : (x : Draft) → G x (ask_all x)
   unfolding ask_all retrieve
-  of_ask_all x = either (active x.replica.log) (λ h. here) (λ h. tells_all (retrieve x) x (refl, refl) tt)
+  of_ask_all x = either (active x.replica.log) (λ h. here) (λ h. sends_all (retrieve x) x (refl, refl) tt)
 
   of_tick : (x : Draft) → G x (on_tick x)
   unfolding on_tick
@@ -687,7 +687,7 @@ module _ (r : Replica) (input : Input) (reading : ℕ) where
       let t = not_astray r from to (subst (λ w. is_astray w from to ≡ false) same h) in
       of_part a _ x (subst (λ k. input ≡ Input.Came a (Datagram.Part from k boot number index count bytes)) t.1 i) t.0 (ap (λ w. w.parts) same))
   of_datagram a (Datagram.Request c) x same i = of_request a c x i
-  of_datagram a (Datagram.Reply client number told) x same i = here
+  of_datagram a (Datagram.Reply client number sent) x same i = here
   of_datagram a (Datagram.Operate ms) x same i = of_suspect ms x (inr (a, i))
 
   pub of_input : (i : Input) (x : Draft) → x.replica ≡ r → input ≡ i → G x (on_input i reading x)

@@ -11,7 +11,7 @@ use Rattle.crsm_spec.specs.Paxos.{Answer, value_of}
 use Rattle.crsm_spec.specs.Replica.{Replica, Coordinator, LogPage, members_of, spec_of, named_spec, other_members, frames_to, next_from, unacked}
 use Rattle.crsm_spec.specs.Ready.{is_ready}
 use Rattle.crsm_spec.specs.Parts.{Piece, with_part}
-use Rattle.crsm_spec.specs.Draft.{Draft, keep, noting, would, issued_at, push_to_members, tell, begun}
+use Rattle.crsm_spec.specs.Draft.{Draft, keep, noting, would, issued_at, push_to_members, send_control, begun}
 use Rattle.crsm_spec.specs.Clients.{refusal, refuse, submit, replies}
 use Rattle.crsm_spec.specs.Frames.{is_odd_frame, take_frame, ack, pay, owing, is_idle, again_frame}
 use Rattle.crsm_spec.specs.Collect.{own_page, whole_ones, collected, size_of, is_within, is_whole, cursor}
@@ -19,7 +19,7 @@ use Rattle.crsm_spec.specs.Clock.{u64_max}
 use Rattle.crsm_spec.specs.Coordinate.{forget_epoch, instance, has_accepted, greater_ballot, may_reconfigure}
 use Rattle.crsm_spec.specs.Controls.{is_page_of, new_entries, may_adopt}
 use Rattle.crsm_spec.specs.Step.{Input, step}
-use Rattle.crsm_step_facts.specs.Messages.{Hears, IsTold, Answers}
+use Rattle.crsm_step_facts.specs.Messages.{ReceivesControl, IsSent, Answers}
 
 -- whether two replicas talk within the known epoch
 abbrev pub IsPeer : Replica → ℕ → Type 0
@@ -29,13 +29,13 @@ IsPeer r k = IsTrue (active r.log) × IsTrue (has (members_of r) k)
 abbrev pub IsAnswer : Replica → Input → Draft → Ballot → Answer Decision → Type 0
 IsAnswer r input x b a =
     ((a.replica ≡ x.replica.me) × (promised x.replica.log ≡ b) × (a.accepted ≡ accepted x.replica.log))
-    ⊎ (IsTrue (has (spec_of x.replica) a.replica) × Hears r input a.replica (Control.P1b (instance x) b a.accepted))
+    ⊎ (IsTrue (has (spec_of x.replica) a.replica) × ReceivesControl r input a.replica (Control.P1b (instance x) b a.accepted))
 
 -- a vote that a proposer counts: its own, by its record, or the one that it hears
 abbrev pub IsVote : Replica → Input → Draft → Ballot → ℕ → Type 0
 IsVote r input x b k =
     ((k ≡ x.replica.me) × IsTrue (has_accepted b x))
-    ⊎ (IsTrue (has (spec_of x.replica) k) × Hears r input k (Control.P2b (instance x) b))
+    ⊎ (IsTrue (has (spec_of x.replica) k) × ReceivesControl r input k (Control.P2b (instance x) b))
 
 -- the ballot is of the round after the greater one of what was promised and what was seen
 abbrev pub IsNextRound : Ballot → Ballot → Ballot → Type 0
@@ -43,7 +43,7 @@ IsNextRound promised seen b = ((greater_ballot promised seen).round ≢ u64_max)
 
 -- the replica has promised this ballot, or hears that another has which refuses b
 abbrev pub IsRefusal : Replica → Input → Draft → Ballot → Ballot → Type 0
-IsRefusal r input x b top = (top ≡ promised x.replica.log) ⊎ ((k : ℕ) × Hears r input k (Control.P1no (instance x) b top))
+IsRefusal r input x b top = (top ≡ promised x.replica.log) ⊎ ((k : ℕ) × ReceivesControl r input k (Control.P1no (instance x) b top))
 
 -- the input asks for these members of the next epoch
 abbrev pub AsksFor : Input → List ℕ → Type 0
@@ -84,13 +84,13 @@ pub data Change (r : Replica) (input : Input) (reading : ℕ) (x : Draft) : Draf
       ((s : Stamp) → Among ss s → Among x.replica.owed s) × ((s : Stamp) → Among x.replica.owed s → Among ss s ⊎ IsPaid x s) →
       Change r input reading x (owing ss x)
   -- an idle replica tells its time
-  TellsTime : (t : ℕ) → IsTrue (active x.replica.log) → IsTrue (is_idle x.replica reading) → would x reading ≡ Some t →
+  SendsTime : (t : ℕ) → IsTrue (active x.replica.log) → IsTrue (is_idle x.replica reading) → would x reading ≡ Some t →
       Change r input reading x (push_to_members (InEpoch.ClockTime t) (issued_at t x))
   -- an unacknowledged frame is sent again
   SendsAgain : (k : ℕ) (f : ℕ × InEpoch) → IsTrue (active x.replica.log) → Among (other_members x.replica) k → Among (unacked x.replica k) f →
       Change r input reading x (again_frame k x f)
   -- ---- control messages
-  Tells : (k : ℕ) (c : Control) → IsTold x c × Answers r input c → Change r input reading x (tell c x k)
+  SendsControl : (k : ℕ) (c : Control) → IsSent x c × Answers r input c → Change r input reading x (send_control c x k)
   Gathers : (address : ℕ) (p : Piece) → input ≡ Input.Came address (Datagram.Part p.from r.me p.boot p.number p.index p.count p.bytes) →
       p.from ≢ r.me → Change r input reading x (record x { replica = record x.replica { parts = with_part p x.replica.parts } })
   -- ---- collecting a frozen epoch
@@ -98,7 +98,7 @@ pub data Change (r : Replica) (input : Input) (reading : ℕ) (x : Draft) : Draf
   Collects : (ms : List ℕ) → AsksFor input ms → IsTrue (may_reconfigure x.replica ms) → IsTrue (suspended x.replica.log) →
       Change r input reading x (noting (Coordinator.Collecting ms (own_page x.replica.me x.replica.log ∷ [])) x)
   TakesPage : (ms : List ℕ) (pages : List LogPage) (e : ℕ) (after : Option Stamp) (p : LogPage) → x.replica.coordinator ≡ Coordinator.Collecting ms pages →
-      Hears r input p.from (Control.SuspendOk e p.executed p.last after p.whole p.entries) → IsTrue (has (spec_of x.replica) p.from) →
+      ReceivesControl r input p.from (Control.SuspendOk e p.executed p.last after p.whole p.entries) → IsTrue (has (spec_of x.replica) p.from) →
       IsTrue (is_page_of (known x.replica.log) e (cursor pages p.from) after p) → is_whole pages p.from ≡ false →
       Change r input reading x (noting (Coordinator.Collecting ms (pages ++ p ∷ [])) x)
   -- the collection is complete, and its decision is to be proposed
@@ -132,9 +132,9 @@ pub data Change (r : Replica) (input : Input) (reading : ℕ) (x : Draft) : Draf
   CountsVote : (b : Ballot) (own value : Decision) (acceptors : List ℕ) (k : ℕ) → x.replica.coordinator ≡ Coordinator.Proposing b own value acceptors →
       IsVote r input x b k → Change r input reading x (noting (Coordinator.Proposing b own value (k ∷ acceptors)) x)
   -- ---- promising and accepting for others
-  Promises : (k : ℕ) (b : Ballot) → Hears r input k (Control.P1a (instance x) b) → IsTrue (ballot_lt (promised x.replica.log) b) →
+  Promises : (k : ℕ) (b : Ballot) → ReceivesControl r input k (Control.P1a (instance x) b) → IsTrue (ballot_lt (promised x.replica.log) b) →
       Change r input reading x (keep (Rec.Promise (instance x) b) x)
-  Accepts : (k : ℕ) (b : Ballot) (d : Decision) → Hears r input k (Control.P2a (instance x) b d) → ballot_lt b (promised x.replica.log) ≡ false →
+  Accepts : (k : ℕ) (b : Ballot) (d : Decision) → ReceivesControl r input k (Control.P2a (instance x) b d) → ballot_lt b (promised x.replica.log) ≡ false →
       has_accepted b x ≡ false → d.base_len ≤ length (executed x.replica.log) →
       Change r input reading x (keep (Rec.Accept (instance x) b d) x)
   -- ---- the next epoch
@@ -143,13 +143,13 @@ pub data Change (r : Replica) (input : Input) (reading : ℕ) (x : Draft) : Draf
       IsTrue (has_majority (spec_of x.replica) acceptors) →
       Change r input reading x (forget_epoch (noting Coordinator.Idle (keep (Rec.Decide d) x)))
   -- and so is what was heard
-  Learns : (k : ℕ) (d : Decision) → Hears r input k (Control.Decide d) → known x.replica.log < d.epoch →
+  Learns : (k : ℕ) (d : Decision) → ReceivesControl r input k (Control.Decide d) → known x.replica.log < d.epoch →
       Change r input reading x (forget_epoch (noting Coordinator.Idle (keep (Rec.Decide d) x)))
   -- the rest of the tail, behind the base
   AdoptsTail : (d : Decision) → decision x.replica.log ≡ Some d → d.base_len ≤ length (executed x.replica.log) →
       length (executed x.replica.log) < start x.replica.log →
       Change r input reading x (keep (Rec.Adopt (length (executed x.replica.log)) (drop (length (executed x.replica.log) - d.base_len) d.tail)) x)
-  AdoptsPage : (k e from : ℕ) (es : List Entry) → Hears r input k (Control.Page e from es) → IsTrue (may_adopt x.replica.log e from) →
+  AdoptsPage : (k e from : ℕ) (es : List Entry) → ReceivesControl r input k (Control.Page e from es) → IsTrue (may_adopt x.replica.log e from) →
       0 < length (new_entries x.replica.log from es) →
       Change r input reading x (keep (Rec.Adopt (length (executed x.replica.log)) (new_entries x.replica.log from es)) x)
   Enters : IsTrue (fits x.replica.me x.replica.n x.replica.log (Rec.Enter (known x.replica.log))) →

@@ -13,7 +13,7 @@ use Rattle.crsm_spec.specs.Controls.{page_from}
 use Rattle.crsm_spec.specs.Step.{Input}
 
 -- The input is a part of replica k's, and with it this control message of k is whole at r.
-pub record Hears (r : Replica) (input : Input) (k : ℕ) (c : Control) : Type 0 where
+pub record ReceivesControl (r : Replica) (input : Input) (k : ℕ) (c : Control) : Type 0 where
   pub address : ℕ
   pub piece : Piece
   pub message : List ℕ
@@ -28,27 +28,27 @@ IsAsked coordinator after =
     (after ≡ None) ⊎ ((ms : List ℕ) × (pages : List LogPage) × (k : ℕ) × (coordinator ≡ Coordinator.Collecting ms pages) × (after ≡ cursor pages k))
 
 -- A control message that is told in this step says what the replica's log and coordinator say now.
-abbrev pub IsTold : Draft → Control → Type 0
-IsTold x (Control.Suspend e after) = (e ≡ known x.replica.log) × IsAsked x.replica.coordinator after
-IsTold x (Control.SuspendOk e done last after whole es) =
+abbrev pub IsSent : Draft → Control → Type 0
+IsSent x (Control.Suspend e after) = (e ≡ known x.replica.log) × IsAsked x.replica.coordinator after
+IsSent x (Control.SuspendOk e done last after whole es) =
     IsTrue (suspended x.replica.log) × (Control.SuspendOk e done last after whole es ≡ suspend_ok x.replica.log after)
-IsTold x (Control.P1a i b) =
+IsSent x (Control.P1a i b) =
     (i ≡ instance x) × (own : Decision) × (answers : List (Answer Decision)) × (x.replica.coordinator ≡ Coordinator.Preparing b own answers)
-IsTold x (Control.P1b i b v) = (i ≡ instance x) × (promised x.replica.log ≡ b) × (v ≡ accepted x.replica.log)
-IsTold x (Control.P1no i b top) = (i ≡ instance x) × (top ≡ promised x.replica.log)
-IsTold x (Control.P2a i b d) =
+IsSent x (Control.P1b i b v) = (i ≡ instance x) × (promised x.replica.log ≡ b) × (v ≡ accepted x.replica.log)
+IsSent x (Control.P1no i b top) = (i ≡ instance x) × (top ≡ promised x.replica.log)
+IsSent x (Control.P2a i b d) =
     (i ≡ instance x) × (own : Decision) × (acceptors : List ℕ) × (x.replica.coordinator ≡ Coordinator.Proposing b own d acceptors)
-IsTold x (Control.P2b i b) = (i ≡ instance x) × IsTrue (has_accepted b x)
-IsTold x (Control.Decide d) = decision x.replica.log ≡ Some d
-IsTold x (Control.Retrieve e from) = (e ≡ known x.replica.log) × (from ≡ length (executed x.replica.log))
-IsTold x (Control.Page e from es) =
+IsSent x (Control.P2b i b) = (i ≡ instance x) × IsTrue (has_accepted b x)
+IsSent x (Control.Decide d) = decision x.replica.log ≡ Some d
+IsSent x (Control.Retrieve e from) = (e ≡ known x.replica.log) × (from ≡ length (executed x.replica.log))
+IsSent x (Control.Page e from es) =
     (from < length (executed x.replica.log)) × (Control.Page e from es ≡ page_from x.replica.log from)
 
 -- An answer is told to what is heard in this step; other messages answer nothing.
 abbrev pub Answers : Replica → Input → Control → Type 0
-Answers r input (Control.SuspendOk e done last after whole es) = (k : ℕ) × Hears r input k (Control.Suspend e after)
-Answers r input (Control.P1b i b v) = (k : ℕ) × Hears r input k (Control.P1a i b)
+Answers r input (Control.SuspendOk e done last after whole es) = (k : ℕ) × ReceivesControl r input k (Control.Suspend e after)
+Answers r input (Control.P1b i b v) = (k : ℕ) × ReceivesControl r input k (Control.P1a i b)
 Answers r input (Control.P1no i b top) =
-    (k : ℕ) × (Hears r input k (Control.P1a i b) ⊎ ((d : Decision) × Hears r input k (Control.P2a i b d)))
-Answers r input (Control.P2b i b) = (k : ℕ) × (d : Decision) × Hears r input k (Control.P2a i b d)
+    (k : ℕ) × (ReceivesControl r input k (Control.P1a i b) ⊎ ((d : Decision) × ReceivesControl r input k (Control.P2a i b d)))
+Answers r input (Control.P2b i b) = (k : ℕ) × (d : Decision) × ReceivesControl r input k (Control.P2a i b d)
 Answers r input _ = Unit {0}

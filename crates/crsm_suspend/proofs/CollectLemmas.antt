@@ -24,7 +24,7 @@ use Rattle.crsm_suspend.specs.declared.report.Page.{Page}
 use Rattle.crsm_suspend.specs.declared.report.Report.{Report}
 use Rattle.crsm_base.specs.Spelling.{FitsEntry}
 use Rattle.crsm_base.specs.declared.control.Control.TheVariants.{SuspendOk}
-use Rattle.crsm_suspend.specs.Collecting.{IsCollecting, CanTell, FitsGot, is_asked, got_decided, got_whole, got_more, got_page, got_from, page_in, got_of, pages_after}
+use Rattle.crsm_suspend.specs.Collecting.{IsCollecting, CanSend, FitsGot, is_asked, got_decided, got_whole, got_more, got_page, got_from, page_in, got_of, pages_after}
 use Rattle.crsm_suspend.specs.declared.collect.Collect.{Collect}
 use Rattle.crsm_suspend.specs.declared.got.Got.TheVariants as Got
 use Rattle.crsm_suspend.proofs.WholeLemmas.{report_at}
@@ -140,7 +140,7 @@ unfolding own_page frozen
 own_is log me n last es a b c = λ i. record { from = me; executed = a i; last = b i; whole = true; entries = c i }
 
 pub own_told : (log : Log) (me n : ℕ) (last : Option Stamp) (es fits : List Entry) → n ≤ 18446744073709547519 → es ≡ above (last_stamp log) (logged log) → fits ≡ logged log → AllByRecursion FitsEntry fits →
-    CanTell (known log) (page_from me (record { executed = n; last = last; is_whole = true; entries = es }))
+    CanSend (known log) (page_from me (record { executed = n; last = last; is_whole = true; entries = es }))
 own_told log me n last es fits low e f all = record {
   low = low;
   fit = subst (AllByRecursion FitsEntry) (sym e) (own_fit (last_stamp log) (logged log) (subst (AllByRecursion FitsEntry) f all));
@@ -214,7 +214,7 @@ all_of_epoch e s (z ∷ es) h =
     let a = and_parts (z.epoch == e && option_map_or (λ t. stamp_lt t z.stamp) s true) (list_all (λ f. f.epoch == e && option_map_or (λ t. stamp_lt t f.stamp) s true) es) h in
     (eqb-true z.epoch e (and_parts (z.epoch == e) (option_map_or (λ t. stamp_lt t z.stamp) s true) a.0).0, all_of_epoch e s es a.1)
 
-pub asked_told : (log : Log) (spec : List ℕ) (pages : List LogPage) (e : ℕ) (after : Option Stamp) (p : LogPage) → is_asked log spec pages e after p ≡ true → AllByRecursion FitsEntry p.entries → CanTell (known log) p
+pub asked_told : (log : Log) (spec : List ℕ) (pages : List LogPage) (e : ℕ) (after : Option Stamp) (p : LogPage) → is_asked log spec pages e after p ≡ true → AllByRecursion FitsEntry p.entries → CanSend (known log) p
 unfolding is_asked is_page_of
 asked_told log spec pages e after p h fit =
     let behind : Option Stamp = when is_some after then after otherwise p.last in
@@ -260,7 +260,7 @@ own_whole me log = refl
 -- ---- a page more
 
 pub goes_on : (log : Log) (spec : List ℕ) (named : Option (List ℕ)) (members : List ℕ) (pages : List LogPage) (c : Collect) (reports : List Report) (p : LogPage) → IsCollecting log spec named members pages c →
-    CanTell (known log) p → HasReports reports (pages ++ p ∷ []) → IsCollecting log spec named members (pages ++ p ∷ []) (record c { reports = reports })
+    CanSend (known log) p → HasReports reports (pages ++ p ∷ []) → IsCollecting log spec named members (pages ++ p ∷ []) (record c { reports = reports })
 goes_on log spec named members pages c reports p s t h = record {
   epoch = s.epoch;
   next = s.next;
@@ -271,7 +271,7 @@ goes_on log spec named members pages c reports p s t h = record {
   reports = h;
   low_epoch = s.low_epoch;
   low_start = s.low_start;
-  told = all-push (CanTell (known log)) pages p s.told t;
+  told = all-push (CanSend (known log)) pages p s.told t;
 }
 
 -- ---- for the crates above
@@ -289,7 +289,7 @@ same_collecting a b spec named members pages c k l s = record {
   reports = s.reports;
   low_epoch = subst (λ n. n ≤ most_collected) k s.low_epoch;
   low_start = subst (λ n. n ≤ most_collected) l s.low_start;
-  told = subst (λ n. AllByRecursion (CanTell n) pages) k s.told;
+  told = subst (λ n. AllByRecursion (CanSend n) pages) k s.told;
 }
 
 -- where a page that was asked for is not the last, there is a stamp to go on from

@@ -15,17 +15,17 @@ use Rattle.crsm_log_facts.proofs.Lists.{all_at, all_from}
 use Rattle.crsm_log_facts.proofs.Sorted.{above_from}
 use Rattle.crsm_log_facts.proofs.Logged.{logged_epoch}
 use Rattle.crsm_log_facts.proofs.DecisionsFit.{collected_fits}
-use Rattle.crsm_suspend.specs.Collecting.{CanTell, FitsGot, got_decided}
+use Rattle.crsm_suspend.specs.Collecting.{CanSend, FitsGot, got_decided}
 use Rattle.crsm_suspend.specs.declared.got.Got.TheVariants as Got
 
 -- ---- the decision
 
-pages_fit : (epoch : ℕ) (pages : List LogPage) → AllByRecursion (CanTell epoch) pages → FitPages epoch pages
+pages_fit : (epoch : ℕ) (pages : List LogPage) → AllByRecursion (CanSend epoch) pages → FitPages epoch pages
 pages_fit epoch pages told p m =
-    let t = all_at (CanTell epoch) pages p told m in
+    let t = all_at (CanSend epoch) pages p told m in
     record { executed = t.low; entries = λ z n. (all_at FitsEntry p.entries z t.fit n, all_at (λ e. e.epoch ≡ epoch) p.entries z t.of_epoch n) }
 
-module _ (log : Log) (spec : List ℕ) (named : Option (List ℕ)) (members : List ℕ) (pages : List LogPage) (told : AllByRecursion (CanTell (known log)) pages) (d : Decision) (is : d ≡ collected spec named log members pages) where
+module _ (log : Log) (spec : List ℕ) (named : Option (List ℕ)) (members : List ℕ) (pages : List LogPage) (told : AllByRecursion (CanSend (known log)) pages) (d : Decision) (is : d ≡ collected spec named log members pages) where
   pub fits_collected : known log ≤ most_collected → start log ≤ most_collected → IsMembers d.members → FitsOption IsMembers d.spec → is_within d.tail ≡ true → FitsDecision d
   unfolding collected
   fits_collected low begins ms naming within =

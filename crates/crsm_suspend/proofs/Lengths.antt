@@ -5,18 +5,10 @@ use Rattle.std.proofs.lemmas.List.{length-append, take_more}
 use Rattle.std.proofs.lemmas.List.Sums.{sum_by-append, sum_by-cons}
 use Rattle.crsm_base.specs.declared.command.Op.{Op}
 use Rattle.crsm_base.specs.declared.command.Op.TheVariants.{Get, Put, Delete, Cas}
-use Rattle.crsm_base.specs.declared.stamp.Stamp.{Stamp}
 use Rattle.crsm_base.specs.declared.command.Entry.{Entry}
 use Rattle.crsm_spec.specs.Collect.{size_of}
 use Rattle.crsm_base.specs.Spelling.{u8_bytes, u16_bytes, u64_bytes, stamp_bytes, key_bytes, val_bytes, option_bytes, op_bytes, command_bytes, entry_bytes}
-
-u64_long : (n : ℕ) → length (u64_bytes n) ≡ 8
-unfolding u64_bytes
-u64_long n = omega arith
-
-stamp_long : (s : Stamp) → length (stamp_bytes s) ≡ 9
-unfolding stamp_bytes
-stamp_long s = let h = u64_long s.time in omega (arith, h, length-append (u64_bytes s.time) (u8_bytes s.origin))
+use Rattle.crsm_base.proofs.Sizes.{u64_long, stamp_long}
 
 pub key_long : (k : List ℕ) → 1 + length k ≡ length (key_bytes k)
 unfolding key_bytes

@@ -6,7 +6,7 @@ use Rattle.crsm_spec.specs.Choice.{when◌then◌otherwise◌}
 use Rattle.crsm_spec.specs.Lists.{has}
 use Rattle.crsm_spec.specs.Log.{known}
 use Rattle.crsm_spec.specs.Replica.{Coordinator, LogPage, spec_of, named_spec}
-use Rattle.crsm_spec.specs.Draft.{Draft, noting, tell}
+use Rattle.crsm_spec.specs.Draft.{Draft, noting, send_control}
 use Rattle.crsm_spec.specs.Quorum.{has_majority}
 use Rattle.crsm_spec.specs.Collect.{whole_ones, collected, cursor, is_whole, is_within}
 use Rattle.crsm_spec.specs.Coordinate.{on_complete, on_whole}
@@ -36,7 +36,7 @@ reports_are_counted ms pages x = go (has_majority (spec_of x.replica) (whole_one
 -- ---- a page
 
 asked_on : (ms : List ℕ) (all : List LogPage) (k : ℕ) (s : Stamp) (x : Draft) → cursor all k ≡ Some s →
-    tell (Control.Suspend (known x.replica.log) (cursor all k)) (noting (Coordinator.Collecting ms all) x) k ≡ on_got ms all (got_more k (cursor all k)) x
+    send_control (Control.Suspend (known x.replica.log) (cursor all k)) (noting (Coordinator.Collecting ms all) x) k ≡ on_got ms all (got_more k (cursor all k)) x
 unfolding on_got
 asked_on ms all k s x e = rw e refl
 
@@ -49,7 +49,7 @@ page_taken ms pages e after p x h = go p.whole refl
     all = pages ++ p ∷ []
 
     go : (b : Bool) → p.whole ≡ b →
-        (when b then on_whole ms all x otherwise tell (Control.Suspend (known x.replica.log) (cursor all p.from)) (noting (Coordinator.Collecting ms all) x) p.from)
+        (when b then on_whole ms all x otherwise send_control (Control.Suspend (known x.replica.log) (cursor all p.from)) (noting (Coordinator.Collecting ms all) x) p.from)
         ≡ on_got ms all (when b then got_whole x.replica.log (spec_of x.replica) (named_spec x.replica ms) ms all otherwise got_more p.from (cursor all p.from)) x
     go true w = reports_are_counted ms all x
     go false w = let s = more_from x.replica.log (spec_of x.replica) pages e after p h w in asked_on ms all p.from s.0 x s.1

@@ -18,7 +18,7 @@ use Rattle.crsm_suspend.specs.declared.got.Got.{Got}
 use Rattle.crsm_suspend.specs.declared.got.Got.TheVariants.{Stranger, More, Kept, Complete, TooMany}
 
 -- a page is of this epoch, and its entries can be told
-pub record CanTell (epoch : ℕ) (p : LogPage) : Type 0 where
+pub record CanSend (epoch : ℕ) (p : LogPage) : Type 0 where
   pub low : p.executed ≤ most_collected
   pub fit : AllByRecursion FitsEntry p.entries
   pub of_epoch : AllByRecursion (λ e. e.epoch ≡ epoch) p.entries
@@ -35,7 +35,7 @@ pub record IsCollecting (log : Log) (spec : List ℕ) (named : Option (List ℕ)
   pub reports : HasReports c.reports pages
   pub low_epoch : known log ≤ most_collected
   pub low_start : start log ≤ most_collected
-  pub told : AllByRecursion (CanTell (known log)) pages
+  pub told : AllByRecursion (CanSend (known log)) pages
 
 -- ---- what a page brings
 

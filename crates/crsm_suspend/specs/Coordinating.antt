@@ -3,7 +3,7 @@ use Rattle.std.specs.Prelude.{◌≡◌, ℕ, Bool, List, [], ◌∷◌, ◌++�
 use Rattle.crsm_spec.specs.Types.{Stamp, Entry, Control, Line}
 use Rattle.crsm_spec.specs.Log.{known, no_ballot}
 use Rattle.crsm_spec.specs.Replica.{Coordinator, LogPage, spec_of, named_spec}
-use Rattle.crsm_spec.specs.Draft.{Draft, noting, tell}
+use Rattle.crsm_spec.specs.Draft.{Draft, noting, send_control}
 use Rattle.crsm_spec.specs.Coordinate.{begin_proposing, on_whole}
 use Rattle.crsm_spec.specs.Controls.{on_control}
 use Rattle.crsm_suspend.specs.Collecting.{got_of, got_whole, pages_after}
@@ -14,7 +14,7 @@ use Rattle.crsm_suspend.specs.declared.got.Got.TheVariants.{Stranger, More, Kept
 -- with a line that tells why.
 unfoldable pub on_got : List ℕ → List LogPage → Got → Draft → Draft
 on_got ms pages Stranger x = x
-on_got ms pages (More k after) x = tell (Control.Suspend (known x.replica.log) (Some after)) (noting (Coordinator.Collecting ms pages) x) k
+on_got ms pages (More k after) x = send_control (Control.Suspend (known x.replica.log) (Some after)) (noting (Coordinator.Collecting ms pages) x) k
 on_got ms pages Kept x = noting (Coordinator.Collecting ms pages) x
 on_got ms pages (Complete d) x = begin_proposing d no_ballot (noting (Coordinator.Preempted d no_ballot) (noting (Coordinator.Collecting ms pages) x))
 on_got ms pages (TooMany count bytes) x =

@@ -8,7 +8,7 @@ ghost use Rattle.crsm_ledger.specs.Ledger.{StandsFor};
 ghost use Rattle.crsm_spec.specs.Collect.{own_page};
 ghost use Rattle.crsm_spec.specs.Controls.{are_above, is_page_of};
 ghost use Rattle.crsm_spec.specs.Log.{above, known};
-ghost use Rattle.crsm_suspend.specs.Collecting.{CanTell};
+ghost use Rattle.crsm_suspend.specs.Collecting.{CanSend};
 ghost use Rattle.crsm_suspend.specs.Reports.{page_from};
 
 use crate::checks::is_above;
@@ -24,7 +24,7 @@ const MOST_EXECUTED: u64 = u64::MAX - 4_096;
 /// The replica's own frozen log in one page. No memory holds more executed entries than a page may name.
 pub fn own_page(alloc: Global, ledger: &Ledger) -> Result<Page, NoMemory>
     ensures page { (me n : ℕ) (log : List Rec) → StandsFor me n ledger.now log → IfOk result (λ p. page_from me p ≡ own_page me log) }
-    ensures told { (me n : ℕ) (log : List Rec) → StandsFor me n ledger.now log → IfOk result (λ p. CanTell (known log) (page_from me p)) }
+    ensures told { (me n : ℕ) (log : List Rec) → StandsFor me n ledger.now log → IfOk result (λ p. CanSend (known log) (page_from me p)) }
 {
     let executed = ledger.executed_len();
     if executed > MOST_EXECUTED {

@@ -40,7 +40,7 @@ pub struct Collect {
 }
 
 impl Collect {
-    ghost use Rattle.crsm_suspend.specs.Collecting.{IsCollecting, CanTell, is_asked, got_whole, got_from, got_of, pages_after, FitsGot};
+    ghost use Rattle.crsm_suspend.specs.Collecting.{IsCollecting, CanSend, is_asked, got_whole, got_from, got_of, pages_after, FitsGot};
     ghost use Rattle.crsm_suspend.specs.Reports.{head_of, page_from};
     ghost use Rattle.crsm_spec.specs.Collect.{pages_of, cursor, is_whole, whole_ones};
     ghost use Rattle.crsm_spec.specs.Quorum.{has_majority};
@@ -186,13 +186,13 @@ impl Collect {
     fn add(&mut self, from: u32, page: Page) -> Result<Got, NoMemory>
         requires { from < 15 }
         ensures got { (log : List Rec) (spec : List ℕ) (named : Option (List ℕ)) (members : List ℕ) (pages : List LogPage) →
-            IsCollecting log spec named members pages self.old → CanTell (known log) (page_from from page) →
+            IsCollecting log spec named members pages self.old → CanSend (known log) (page_from from page) →
             IfOk result (λ got. got ≡ got_from log spec named members (pages ++ page_from from page ∷ []) from) }
         ensures state { (log : List Rec) (spec : List ℕ) (named : Option (List ℕ)) (members : List ℕ) (pages : List LogPage) →
-            IsCollecting log spec named members pages self.old → CanTell (known log) (page_from from page) →
+            IsCollecting log spec named members pages self.old → CanSend (known log) (page_from from page) →
             OnOk result (IsCollecting log spec named members (pages ++ page_from from page ∷ []) self.new) }
         ensures fits { (log : List Rec) (spec : List ℕ) (named : Option (List ℕ)) (members : List ℕ) (pages : List LogPage) →
-            IsCollecting log spec named members pages self.old → CanTell (known log) (page_from from page) → IfOk result FitsGot }
+            IsCollecting log spec named members pages self.old → CanSend (known log) (page_from from page) → IfOk result FitsGot }
         ensures err { OnErr result (self.new ≡ self.old) }
     {
         let index = from as usize;

@@ -36,9 +36,9 @@ fn add(alloc: Global, pending: &mut Pending, time: u64, origin: u32) -> Result<(
 /// What members of whom the first two told 5 and the last one told 6 have told.
 fn told() -> Latest {
     let mut latest = Latest::new();
-    latest.hear(0, 5);
-    latest.hear(1, 5);
-    latest.hear(2, 6);
+    latest.receive(0, 5);
+    latest.receive(1, 5);
+    latest.receive(2, 6);
     latest
 }
 

@@ -1,7 +1,7 @@
 //! A step that makes one of each, and a short control message.
 
 use crsm_base::{Control, Datagram, Line, Lines, Outcome, Rec, Refusal, To};
-use crsm_output::{Output, Reply, spell, tell};
+use crsm_output::{Output, Reply, send_parts, spell};
 use std::test::Fail;
 
 #[test]
@@ -66,7 +66,7 @@ fn sends_one_part(rt: HostRuntime) -> Result<(), Fail> {
     let mut output = Output::new(alloc);
     let control = Control::Retrieve { known: 1, from: 2 };
     let spelling = spell(alloc, &control)?;
-    tell(alloc, &mut output, 0, 2, 1, 7, spelling.as_slice())?;
+    send_parts(alloc, &mut output, 0, 2, 1, 7, spelling.as_slice())?;
     let batch = output.take()?;
     let is_one = matches!(batch.sends.as_slice(), [send] if send.to == To::Replica(2));
     assert!(rt; is_one);

@@ -1,3 +1,3 @@
-mod Letters
+mod Headers
 mod Receiving
 mod Sending

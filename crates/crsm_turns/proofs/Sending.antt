@@ -5,33 +5,33 @@ use Rattle.crsm_base.specs.declared.memory.Failed.{Failed}
 use Rattle.crsm_faults.specs.Counts.{Rose}
 use Rattle.crsm_faults.specs.Plan.{Plan, spent}
 use Rattle.crsm_faults.specs.Failing.{one_less}
-use Rattle.crsm_port.specs.Meaning.{Coat, Meaning, Post, Traffic, Sends, with_sent}
-use Rattle.crsm_turns.proofs.Letters.{one_letter}
-use Rattle.crsm_turns.specs.Letters.{posts_of, size_of}
-use Rattle.crsm_turns.specs.declared.outbox.Letter.{Letter}
+use Rattle.crsm_port.specs.Meaning.{Coat, Meaning, Packet, Traffic, Sends, with_sent}
+use Rattle.crsm_turns.proofs.Headers.{one_header}
+use Rattle.crsm_turns.specs.Headers.{packets_of, size_of}
+use Rattle.crsm_turns.specs.declared.outbox.Header.{Header}
 use Rattle.crsm_turns.specs.Outgoing.{Lacks, GoesOut, GoesWhole, SendsAll, bytes_in, with_all_sent}
 
 -- ---- lists
 
-bytes_behind : (posts : List Post) (d : Post) → bytes_in (posts ++ d ∷ []) ≡ bytes_in posts + length d.bytes
+bytes_behind : (packets : List Packet) (d : Packet) → bytes_in (packets ++ d ∷ []) ≡ bytes_in packets + length d.bytes
 bytes_behind [] d = omega arith
-bytes_behind (p ∷ posts) d = let on = bytes_behind posts d in omega arith
+bytes_behind (p ∷ packets) d = let on = bytes_behind packets d in omega arith
 
-length_behind : (posts : List Post) (d : Post) → length (posts ++ d ∷ []) ≡ length posts + 1
+length_behind : (packets : List Packet) (d : Packet) → length (packets ++ d ∷ []) ≡ length packets + 1
 length_behind [] d = refl
-length_behind (p ∷ posts) d = let on = length_behind posts d in omega arith
+length_behind (p ∷ packets) d = let on = length_behind packets d in omega arith
 
 -- one more goes out
-goes : (missing : ℕ) (posts out : List Post) (d : Post) → Lacks missing posts out → Lacks missing (posts ++ d ∷ []) (out ++ d ∷ [])
+goes : (missing : ℕ) (packets out : List Packet) (d : Packet) → Lacks missing packets out → Lacks missing (packets ++ d ∷ []) (out ++ d ∷ [])
 goes missing [] out d (none, empty) = inl ([], ap (λ ps. ps ++ d ∷ []) empty, (none, refl))
-goes missing (p ∷ posts) out d (inl (rest, is, l)) = inl (rest ++ d ∷ [], ap (λ ps. ps ++ d ∷ []) is, goes missing posts rest d l)
-goes missing (p ∷ posts) out d (inr (fewer, is, l)) = inr (fewer, is, goes fewer posts out d l)
+goes missing (p ∷ packets) out d (inl (rest, is, l)) = inl (rest ++ d ∷ [], ap (λ ps. ps ++ d ∷ []) is, goes missing packets rest d l)
+goes missing (p ∷ packets) out d (inr (fewer, is, l)) = inr (fewer, is, goes fewer packets out d l)
 
 -- one more is lost
-lost : (missing : ℕ) (posts out : List Post) (d : Post) → Lacks missing posts out → Lacks (suc missing) (posts ++ d ∷ []) out
+lost : (missing : ℕ) (packets out : List Packet) (d : Packet) → Lacks missing packets out → Lacks (suc missing) (packets ++ d ∷ []) out
 lost missing [] out d (none, empty) = inr (missing, refl, (none, empty))
-lost missing (p ∷ posts) out d (inl (rest, is, l)) = inl (rest, is, lost missing posts rest d l)
-lost missing (p ∷ posts) out d (inr (fewer, is, l)) = inr (suc fewer, ap suc is, lost fewer posts out d l)
+lost missing (p ∷ packets) out d (inl (rest, is, l)) = inl (rest, is, lost missing packets rest d l)
+lost missing (p ∷ packets) out d (inr (fewer, is, l)) = inr (suc fewer, ap suc is, lost fewer packets out d l)
 
 -- ---- what is told
 
@@ -40,14 +40,14 @@ none_more None = refl
 none_more (Some t) = ap (λ ps. Some (record t { sent = ps })) (sym (append-nil t.sent))
 
 -- one more, behind those that went out, each with the coat on
-one_told : (c : Coat) (t : Option Traffic) (out : List Post) (d : Post)
+one_told : (c : Coat) (t : Option Traffic) (out : List Packet) (d : Packet)
     → option_map (with_sent (c.wrap d)) (option_map (with_all_sent (map c.wrap out)) t) ≡ option_map (with_all_sent (map c.wrap (out ++ d ∷ []))) t
 one_told c None out d = refl
 one_told c (Some t) out d =
     ap (λ ps. Some (record t { sent = ps })) (append_assoc t.sent (map c.wrap out) (c.wrap d ∷ []) ∙ ap (λ ps. t.sent ++ ps) (sym (map-append c.wrap out (d ∷ []))))
 
 -- the coat of the second port is that of the first
-told_on : (a c : Coat) (t u v : Option Traffic) (out : List Post) (d : Post) → c ≡ a → u ≡ option_map (with_all_sent (map a.wrap out)) t → v ≡ option_map (with_sent (c.wrap d)) u
+told_on : (a c : Coat) (t u v : Option Traffic) (out : List Packet) (d : Packet) → c ≡ a → u ≡ option_map (with_all_sent (map a.wrap out)) t → v ≡ option_map (with_sent (c.wrap d)) u
     → v ≡ option_map (with_all_sent (map a.wrap (out ++ d ∷ []))) t
 told_on a c t u v out d same before more =
     more ∙ ap (λ (k : Coat). option_map (with_sent (k.wrap d)) u) same ∙ ap (option_map (with_sent (a.wrap d))) before ∙ one_told a t out d
@@ -79,26 +79,26 @@ nothing_sent m = record {
   whole = λ p told good room bytes. record { losses = refl; traffic = none_more m.traffic; plan = told ∙ ap Some (sym (spent_none p good)) };
 }
 
-module _ {T : Type 0} (posts : List Post) (d : Post) (a b c : Meaning) (s : SendsAll posts a b) where
-  sent_out : (x : T) → Sends d.address d.bytes b c (Ok x) → GoesOut (posts ++ d ∷ []) a c
+module _ {T : Type 0} (packets : List Packet) (d : Packet) (a b c : Meaning) (s : SendsAll packets a b) where
+  sent_out : (x : T) → Sends d.address d.bytes b c (Ok x) → GoesOut (packets ++ d ∷ []) a c
   sent_out x r = record {
     out = s.out.out ++ d ∷ [];
     missing = s.out.missing;
-    lacks = goes _ posts _ d s.out.lacks;
+    lacks = goes _ packets _ d s.out.lacks;
     counted = let on = s.out.counted in let same = r.no_loss in omega arith;
     traffic = told_on a.coat b.coat a.traffic b.traffic c.traffic s.out.out d s.coat s.out.traffic r.sent;
   }
 
-  lost_out : (e : Failed) → Sends {T = T} d.address d.bytes b c (Err e) → GoesOut (posts ++ d ∷ []) a c
+  lost_out : (e : Failed) → Sends {T = T} d.address d.bytes b c (Err e) → GoesOut (packets ++ d ∷ []) a c
   lost_out e r = record {
     out = s.out.out;
     missing = suc s.out.missing;
-    lacks = lost _ posts _ d s.out.lacks;
+    lacks = lost _ packets _ d s.out.lacks;
     counted = let on = s.out.counted in let rose : Rose b.losses c.losses = r.failed in omega arith;
     traffic = r.unsent ∙ s.out.traffic;
   }
 
-  pub one_more : (result : Result T Failed) → Sends d.address d.bytes b c result → SendsAll (posts ++ d ∷ []) a c
+  pub one_more : (result : Result T Failed) → Sends d.address d.bytes b c result → SendsAll (packets ++ d ∷ []) a c
   one_more result r = record {
     faults = r.faults ∙ s.faults;
     empties = r.empties ∙ s.empties;
@@ -107,27 +107,27 @@ module _ {T : Type 0} (posts : List Post) (d : Post) (a b c : Meaning) (s : Send
     lent = r.lent ∙ s.lent;
     out = by_result result r;
     whole = λ p told good room size.
-        let more = length_behind posts d in
-        let larger = bytes_behind posts d in
+        let more = length_behind packets d in
+        let larger = bytes_behind packets d in
         all_well p good (omega arith) (omega arith) (s.whole p told good (omega arith) (omega arith)) result r;
   }
     where
-      all_well : (p : Plan) → p.good ≡ None → length posts + 1 ≤ p.calls → bytes_in posts + length d.bytes ≤ p.bytes → GoesWhole posts p a b → (result : Result T Failed) → Sends d.address d.bytes b c result → GoesWhole (posts ++ d ∷ []) p a c
+      all_well : (p : Plan) → p.good ≡ None → length packets + 1 ≤ p.calls → bytes_in packets + length d.bytes ≤ p.bytes → GoesWhole packets p a b → (result : Result T Failed) → Sends d.address d.bytes b c result → GoesWhole (packets ++ d ∷ []) p a c
       all_well p good room size before (Ok x) r = record {
         losses = r.no_loss ∙ before.losses;
-        traffic = told_on a.coat b.coat a.traffic b.traffic c.traffic posts d s.coat before.traffic r.sent;
-        plan = rw (length_behind posts d, bytes_behind posts d) (r.plan.spends _ before.plan ∙ ap Some (spent_more p (length posts) (bytes_in posts) (length d.bytes) good));
+        traffic = told_on a.coat b.coat a.traffic b.traffic c.traffic packets d s.coat before.traffic r.sent;
+        plan = rw (length_behind packets d, bytes_behind packets d) (r.plan.spends _ before.plan ∙ ap Some (spent_more p (length packets) (bytes_in packets) (length d.bytes) good));
       }
       all_well p good room size before (Err e) r =
           absurd (no_end p.good good ((r.plan.exact _ before.plan (omega arith) (omega arith)).0 refl))
 
-      by_result : (result : Result T Failed) → Sends d.address d.bytes b c result → GoesOut (posts ++ d ∷ []) a c
+      by_result : (result : Result T Failed) → Sends d.address d.bytes b c result → GoesOut (packets ++ d ∷ []) a c
       by_result (Ok x) r = sent_out x r
       by_result (Err e) r = lost_out e r
 
-pub one_letter_more : {T : Type 0} (letters : List Letter) (i : ℕ) (k : Letter) (text rest bytes : List ℕ) (a b c : Meaning) (result : Result T Failed) → i < length letters
-    → rest ≡ drop (size_of (take i letters)) text → bytes ≡ take (get_or letters i k).len rest → SendsAll (posts_of (take i letters) text) a b → Sends (get_or letters i k).to bytes b c result
-    → SendsAll (posts_of (take (i + 1) letters) text) a c
-one_letter_more letters i k text rest bytes a b c result within behind piece before r =
-    subst (λ posts. SendsAll posts a c) (sym (one_letter letters i k text rest bytes within behind piece))
-    (one_more (posts_of (take i letters) text) (record { address = (get_or letters i k).to; bytes = bytes }) a b c before result r)
+pub one_header_more : {T : Type 0} (headers : List Header) (i : ℕ) (k : Header) (text rest bytes : List ℕ) (a b c : Meaning) (result : Result T Failed) → i < length headers
+    → rest ≡ drop (size_of (take i headers)) text → bytes ≡ take (get_or headers i k).len rest → SendsAll (packets_of (take i headers) text) a b → Sends (get_or headers i k).to bytes b c result
+    → SendsAll (packets_of (take (i + 1) headers) text) a c
+one_header_more headers i k text rest bytes a b c result within behind piece before r =
+    subst (λ packets. SendsAll packets a c) (sym (one_header headers i k text rest bytes within behind piece))
+    (one_more (packets_of (take i headers) text) (record { address = (get_or headers i k).to; bytes = bytes }) a b c before result r)

@@ -3,7 +3,7 @@ use Rattle.std.specs.Prelude.{◌≡◌, ◌↔◌, ◌≤◌, ℕ, List, [], �
 use Rattle.crsm_base.specs.declared.memory.Failed.{Failed}
 use Rattle.crsm_faults.specs.Counts.{Rose}
 use Rattle.crsm_faults.specs.Plan.{Plan, Spends}
-use Rattle.crsm_port.specs.Meaning.{Coat, Meaning, Post, Traffic}
+use Rattle.crsm_port.specs.Meaning.{Coat, Meaning, Packet, Traffic}
 use Rattle.crsm_turns.specs.declared.input.What.{What}
 use Rattle.crsm_turns.specs.declared.input.What.TheVariants as what
 use Rattle.crsm_turns.specs.declared.input.Taken.{Taken}
@@ -26,7 +26,7 @@ IsWithin size (taken.Suspect members) = Unit {0}
 -- the first datagram that waits, cut to a length, is the prefix of the buffer; a tick where none waits
 abbrev pub IsFirst : ℕ → List ℕ → Coat → Traffic → Traffic → Taken → Type 0
 IsFirst size buffer coat old new taken.Tick = (old.waiting ≡ []) × (new ≡ old)
-IsFirst size buffer coat old new (taken.Datagram from len) = (d : Post) × (rest : List Post) × (old.waiting ≡ d ∷ rest) × (from ≡ (coat.unwrap d).address)
+IsFirst size buffer coat old new (taken.Datagram from len) = (d : Packet) × (rest : List Packet) × (old.waiting ≡ d ∷ rest) × (from ≡ (coat.unwrap d).address)
     × (take len buffer ≡ take size (coat.unwrap d).bytes) × (new ≡ record old { waiting = rest; taken = old.taken ++ d ∷ [] })
 IsFirst size buffer coat old new (taken.Suspect members) = ⊥
 

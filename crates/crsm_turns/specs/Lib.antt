@@ -1,3 +1,3 @@
 pub mod Input
-pub mod Letters
+pub mod Headers
 pub mod Outgoing

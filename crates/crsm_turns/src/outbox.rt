@@ -4,8 +4,8 @@ ghost use Rattle.std.specs.Prelude.{◌≡◌, ◌++◌, [], ◌∷◌, length, 
 ghost use Rattle.std.specs.List.{AllByRecursion};
 ghost use Rattle.crsm_base.specs.Messages.{FitsDatagram, datagram_bytes};
 ghost use Rattle.crsm_port.specs.Meaning.{Reserves};
-ghost use Rattle.crsm_turns.specs.Outgoing.{FitsSend, SendsAll, address_of, bytes_in, posted, posts_for};
-ghost use Rattle.crsm_turns.specs.Letters.{posts_of, size_of};
+ghost use Rattle.crsm_turns.specs.Outgoing.{FitsSend, SendsAll, address_of, bytes_in, sent_packets, packets_for};
+ghost use Rattle.crsm_turns.specs.Headers.{packets_of, size_of};
 
 use crsm_base::{Bytes, Datagram, NoMemory, Send, To};
 use crsm_port::Port;
@@ -15,7 +15,7 @@ use std::marker::Model;
 
 // The address that a datagram goes to, and how many bytes it has.
 #[derive(Clone, Copy)]
-pub(crate) struct Letter {
+pub(crate) struct Header {
     pub(crate) to: u64,
     pub(crate) len: usize,
 }
@@ -24,22 +24,22 @@ pub(crate) struct Letter {
 /// takes no memory.
 #[derive(Drop)]
 pub struct Outbox {
-    letters: Vec<Letter>,
-    // The bytes of the letters, one behind another.
+    headers: Vec<Header>,
+    // The bytes of the datagrams, one behind another.
     text: Bytes,
 }
 
 impl Model for Outbox {
     ghost use Rattle.std.specs.Prelude.{◌≡◌, List, length};
-    ghost use Rattle.crsm_port.specs.Meaning.{Post};
+    ghost use Rattle.crsm_port.specs.Meaning.{Packet};
 
-    ghost Value = { List Post };
+    ghost Value = { List Packet };
 
-    ghost use Rattle.crsm_turns.specs.Letters.{posts_of, size_of};
+    ghost use Rattle.crsm_turns.specs.Headers.{packets_of, size_of};
 
-    ghost view = { λ o. posts_of o.letters.items o.text };
+    ghost view = { λ o. packets_of o.headers.items o.text };
 
-    ghost invariant = { λ o. size_of o.letters.items ≡ length o.text };
+    ghost invariant = { λ o. size_of o.headers.items ≡ length o.text };
 }
 
 impl Outbox {
@@ -48,7 +48,7 @@ impl Outbox {
         ensures { result ≡ [] }
     {
         Outbox {
-            letters: Vec::new(alloc),
+            headers: Vec::new(alloc),
             text: Bytes::new(alloc),
         }
     }
@@ -56,10 +56,10 @@ impl Outbox {
     /// Adds the datagrams of a step, each for the address of its receiver; replica `k` has the address `peers[k]`.
     /// One to a replica without an address is left out. After `NoMemory` some of them may have been added, or all may be
     /// gone.
-    #[tactic(auto, unfolding(crate::specs::Outgoing::posts_for, crate::specs::Outgoing::post_for))]
+    #[tactic(auto, unfolding(crate::specs::Outgoing::packets_for, crate::specs::Outgoing::packet_for))]
     pub fn add(&mut self, sends: &[Send], peers: &[u64]) -> Result<(), NoMemory>
         requires { AllByRecursion FitsSend sends.now }
-        ensures { OnOk result (self.new ≡ self.old ++ posts_for peers.now sends.now) }
+        ensures { OnOk result (self.new ≡ self.old ++ packets_for peers.now sends.now) }
     {
         for send in sends {
             self.add_one(address(peers, send.to), &send.datagram)?;
@@ -69,7 +69,7 @@ impl Outbox {
 
     fn add_one(&mut self, to: Option<u64>, datagram: &Datagram) -> Result<(), NoMemory>
         requires { FitsDatagram datagram.now }
-        ensures { OnOk result (self.new ≡ self.old ++ posted to (datagram_bytes datagram.now)) }
+        ensures { OnOk result (self.new ≡ self.old ++ sent_packets to (datagram_bytes datagram.now)) }
     {
         match to {
             Some(to) => self.push(to, datagram),
@@ -81,15 +81,15 @@ impl Outbox {
         requires { FitsDatagram datagram.now }
         ensures { OnOk result (self.new ≡ self.old ++ (record { address = to; bytes = datagram_bytes datagram.now }) ∷ []) }
     {
-        self.letters.reserve(1)?;
+        self.headers.reserve(1)?;
         match write(datagram, &mut self.text) {
             Ok(len) => {
-                self.letters.push_reserved(Letter { to, len });
+                self.headers.push_reserved(Header { to, len });
                 Ok(())
             }
             Err(NoMemory) => {
                 // A prefix of the datagram may stand there.
-                self.letters.clear();
+                self.headers.clear();
                 self.text.clear();
                 Err(NoMemory)
             }
@@ -100,7 +100,7 @@ impl Outbox {
     pub fn clear(&mut self)
         ensures { self.new ≡ [] }
     {
-        self.letters.clear();
+        self.headers.clear();
         self.text.clear();
     }
 
@@ -109,14 +109,14 @@ impl Outbox {
         ensures { Reserves (length self.now) (bytes_in self.now) (P.meaning port.old) (P.meaning port.new) result }
     {
         let bytes = self.text.as_slice().len() as u64;
-        port.reserve(self.letters.len() as u64, bytes)
+        port.reserve(self.headers.len() as u64, bytes)
     }
 
     /// Sends them all. One that the port fails to send is lost, as others are on their way.
     pub fn send_all<P: Port>(&self, port: &mut P)
         ensures { SendsAll self.now (P.meaning port.old) (P.meaning port.new) }
     {
-        send_letters(&self.letters, self.text.as_slice(), port);
+        send_headers(&self.headers, self.text.as_slice(), port);
     }
 }
 
@@ -139,14 +139,14 @@ fn write(datagram: &Datagram, text: &mut Bytes) -> Result<usize, NoMemory>
     Ok(text.as_slice().len() - before)
 }
 
-fn send_letters<P: Port>(letters: &[Letter], text: &[u8], port: &mut P)
-    requires { size_of letters.now ≡ length text.now }
-    ensures { SendsAll (posts_of letters.now text.now) (P.meaning port.old) (P.meaning port.new) }
+fn send_headers<P: Port>(headers: &[Header], text: &[u8], port: &mut P)
+    requires { size_of headers.now ≡ length text.now }
+    ensures { SendsAll (packets_of headers.now text.now) (P.meaning port.old) (P.meaning port.new) }
 {
     let mut rest = text;
-    for letter in letters {
-        let (bytes, behind) = rest.split_at(letter.len);
-        let _ = port.send(letter.to, bytes);
+    for header in headers {
+        let (bytes, behind) = rest.split_at(header.len);
+        let _ = port.send(header.to, bytes);
         rest = behind;
     }
 }

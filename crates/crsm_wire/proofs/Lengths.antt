@@ -4,18 +4,10 @@ use Rattle.std.specs.Prelude.{Option}
 use Rattle.std.proofs.lemmas.List.{length-append}
 use Rattle.crsm_base.specs.declared.command.Op.{Op}
 use Rattle.crsm_base.specs.declared.command.Op.TheVariants.{Get, Put, Delete, Cas}
-use Rattle.crsm_base.specs.declared.stamp.Stamp.{Stamp}
 use Rattle.crsm_base.specs.declared.command.Entry.{Entry}
 use Rattle.crsm_base.specs.Spelling.{u8_bytes, u16_bytes, u64_bytes, stamp_bytes, FitsStamp, key_bytes, FitsKey, val_bytes, FitsVal, option_bytes, FitsOption, op_bytes, FitsOp, command_bytes, entry_bytes, FitsEntry}
+use Rattle.crsm_base.proofs.Sizes.{u64_long, stamp_long}
 use Rattle.crsm_wire.specs.Sized.{IsSized}
-
-u64_long : (n : ℕ) → length (u64_bytes n) ≡ 8
-unfolding u64_bytes
-u64_long n = omega arith
-
-stamp_long : (s : Stamp) → length (stamp_bytes s) ≡ 9
-unfolding stamp_bytes
-stamp_long s = let h = u64_long s.time in omega (arith, h, length-append (u64_bytes s.time) (u8_bytes s.origin))
 
 pub key_sized : (k : List ℕ) → 1 ≤ length k → length k ≤ 64 → IsSized key_bytes FitsKey 65 k (length k + 1)
 unfolding key_bytes

@@ -9,11 +9,11 @@ use Rattle.crsm_schedule.specs.declared.Single.{Single}
 use Rattle.crsm_spec.specs.Log.{Log}
 use Rattle.crsm_spec.specs.Replica.{Replica}
 use Rattle.crsm_spec.specs.Acts.{Act, Bad as Cause}
-use Rattle.crsm_spec.specs.World.{Site, Mail, World, is_up, is_up_at, is_full}
+use Rattle.crsm_spec.specs.World.{Site, Packet, World, is_up, is_up_at, is_full}
 use Rattle.crsm_spec.specs.Possible.{first_bad, possible, causes_of, causes_of_single, causes_of_batch, causes_at, is_none_of, is_next_new, is_down_at, is_not_sent, is_receiver_down, is_used, receivers, are_mixed}
 use Rattle.crsm_world.specs.Doing.{single_of}
-use Rattle.crsm_network.specs.Mailed.{receiver_or}
-use Rattle.crsm_world.specs.Placed.{roomed}
+use Rattle.crsm_network.specs.Packets.{receiver_or}
+use Rattle.crsm_world.specs.Machines.{roomed}
 use Rattle.crsm_world.specs.Turning.{IsGenuine}
 use Rattle.crsm_world.specs.Several.{IsFor, AreFor}
 use Rattle.crsm_world.specs.Starting.{CanStart}
@@ -116,30 +116,30 @@ or_none : (a b : Bool) → (a || b) ≡ false → (a ≡ false) × (b ≡ false)
 or_none true b e = cc
 or_none false b e = (refl, e)
 
-some_there : (xs : List Mail) (i : ℕ) → i < length xs → (x : Mail) × (slice_get xs i ≡ Some x)
+some_there : (xs : List Packet) (i : ℕ) → i < length xs → (x : Packet) × (slice_get xs i ≡ Some x)
 some_there [] i l = absurd (omega arith)
 some_there (x ∷ xs) zero l = (x, refl)
 some_there (x ∷ xs) (suc i) l = some_there xs i (omega arith)
 
-for_it : (v : World) (k i : ℕ) → is_not_sent v i ≡ false → receiver_or v.mail i ≡ k → IsFor k v.mail i
+for_it : (v : World) (k i : ℕ) → is_not_sent v i ≡ false → receiver_or v.packets i ≡ k → IsFor k v.packets i
 unfolding is_not_sent receiver_or
 for_it v k i e f =
-    let m = some_there v.mail i (leb-false (length v.mail) i e) in
+    let m = some_there v.packets i (leb-false (length v.packets) i e) in
     record { found = m.0; is = m.1; receiver = sym (ap (λ o. option_map_or (λ p. p.to) o 0) m.1) ∙ f }
 
-all_for : (v : World) (k : ℕ) (is : List ℕ) → list_any (is_not_sent v) is ≡ false → list_any (λ j. not (receiver_or v.mail j == k)) is ≡ false → AreFor k v.mail is
+all_for : (v : World) (k : ℕ) (is : List ℕ) → list_any (is_not_sent v) is ≡ false → list_any (λ j. not (receiver_or v.packets j == k)) is ≡ false → AreFor k v.packets is
 all_for v k [] e f = tt
 all_for v k (i ∷ is) e f =
     let a = or_none (is_not_sent v i) _ e in
-    let b = or_none (not (receiver_or v.mail i == k)) _ f in
-    (for_it v k i a.0 (eqb-true (receiver_or v.mail i) k (not_false _ b.0)), all_for v k is a.1 b.1)
+    let b = or_none (not (receiver_or v.packets i == k)) _ f in
+    (for_it v k i a.0 (eqb-true (receiver_or v.packets i) k (not_false _ b.0)), all_for v k is a.1 b.1)
 
 -- the receiver of them all, which is up
 pub record ForOne (v : World) (is : List ℕ) : Type 0 where
   pub receiver : ℕ
   pub replica : Replica
   pub up : slice_get v.sites receiver ≡ Some (Site.Up replica)
-  pub all : AreFor receiver v.mail is
+  pub all : AreFor receiver v.packets is
 
 up_there : (v : World) (k : ℕ) → is_down_at v k ≡ false → (r : Replica) × (slice_get v.sites k ≡ Some (Site.Up r))
 unfolding is_down_at is_up_at is_up
@@ -150,7 +150,7 @@ up_there v k e = go (slice_get v.sites k) (not_false _ e)
     go (Some (Site.Down log)) f = cc
     go None f = cc
 
-receiver_up : (v : World) (k i : ℕ) → IsFor k v.mail i → is_receiver_down v i ≡ false → is_down_at v k ≡ false
+receiver_up : (v : World) (k i : ℕ) → IsFor k v.packets i → is_receiver_down v i ≡ false → is_down_at v k ≡ false
 unfolding is_receiver_down
 receiver_up v k i f e = ap (is_down_at v) (sym f.receiver) ∙ sym (ap (λ o. option_map_or (λ m. is_down_at v m.to) o false) f.is) ∙ e
 
@@ -162,7 +162,7 @@ for_one v (i ∷ is) l e =
     let b = first_none (list_any (is_used v) (i ∷ is)) _ _ a.1 in
     let c = first_none (are_mixed (receivers v (i ∷ is))) _ _ b.1 in
     let d = first_none (list_any (is_receiver_down v) (i ∷ is)) _ _ c.1 in
-    let k = receiver_or v.mail i in
+    let k = receiver_or v.packets i in
     let one = for_it v k i (or_none (is_not_sent v i) _ a.0).0 refl in
     let others = all_for v k is (or_none (is_not_sent v i) _ a.0).1 (sym (mixed v i is a.0) ∙ c.0) in
     let up = up_there v k (receiver_up v k i one (or_none (is_receiver_down v i) _ d.0).0) in

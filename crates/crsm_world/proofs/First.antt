@@ -13,11 +13,11 @@ use Rattle.crsm_spec.specs.Choice.{when◌then◌otherwise◌}
 use Rattle.crsm_spec.specs.Lists.{numbers_below}
 use Rattle.crsm_spec.specs.Draft.{begun, keep}
 use Rattle.crsm_spec.specs.Step.{boot, first_boot, founding_boot, boot_again}
-use Rattle.crsm_spec.specs.World.{Site, World as Cluster, Moment, begin, first_lines, body_size, mail_size, send_lines, whole_step, after_step, log_at}
+use Rattle.crsm_spec.specs.World.{Site, World as Cluster, Moment, begin, first_lines, body_size, packets_size, send_lines, whole_step, after_step, log_at}
 use Rattle.crsm_spec.specs.Moments.{begun_at, with_room, start_at}
 use Rattle.crsm_world.specs.declared.world.World.{World}
-use Rattle.crsm_world.specs.Placed.{SitesStand, roomed}
-use Rattle.crsm_network.specs.Mailed.{PostStands}
+use Rattle.crsm_world.specs.Machines.{MachinesStand, roomed}
+use Rattle.crsm_network.specs.Packets.{NetworkStands}
 use Rattle.crsm_world.specs.World.{Holds, Leads}
 use Rattle.crsm_world.specs.Starting.{CanStart}
 use Rattle.crsm_network.proofs.Numbers.{range_more}
@@ -36,14 +36,14 @@ told_of n k = (founding_boot k n).lines
 
 -- the first i replicas of n have booted
 pub part : ℕ → ℕ → Cluster
-part n i = record { n = n; sites = map (site_of n) (range_with_len 0 i); mail = []; bytes = sum_by (size_of n) (range_with_len 0 i) }
+part n i = record { n = n; sites = map (site_of n) (range_with_len 0 i); packets = []; bytes = sum_by (size_of n) (range_with_len 0 i) }
 
 pub part_lines : ℕ → ℕ → List Line
 part_lines n i = flat_map (told_of n) (range_with_len 0 i)
 
-pub no_part : (n : ℕ) (w : World) → SitesStand w.sites n [] → PostStands w.post [] 0 → Holds w (part n 0)
+pub no_part : (n : ℕ) (w : World) → MachinesStand w.sites n [] → NetworkStands w.network [] 0 → Holds w (part n 0)
 unfolding part
-no_part n w s p = record { sites = s; post = p }
+no_part n w s p = record { sites = s; network = p }
 
 pub no_lines : (n : ℕ) → part_lines n 0 ≡ []
 unfolding part_lines
@@ -90,11 +90,11 @@ unfolding boot first_boot when◌then◌otherwise◌
 founding n i l = ap (λ b. when b then founding_boot i n otherwise boot_again i n []) (lt-ltb i n l)
 
 room : ℕ → ℕ → Cluster
-room n i = record { n = n; sites = map (site_of n) (range_with_len 0 i) ++ Site.Down [] ∷ []; mail = []; bytes = sum_by (size_of n) (range_with_len 0 i) }
+room n i = record { n = n; sites = map (site_of n) (range_with_len 0 i) ++ Site.Down [] ∷ []; packets = []; bytes = sum_by (size_of n) (range_with_len 0 i) }
 
 room_part : (n i : ℕ) → with_room (part n i) i ≡ room n i
 unfolding part room
-room_part n i = room_is (part n i) i ∙ ap (λ (ps : List Site). record { n = n; sites = ps; mail = []; bytes = sum_by (size_of n) (range_with_len 0 i) }) (room_of n i)
+room_part n i = room_is (part n i) i ∙ ap (λ (ps : List Site). record { n = n; sites = ps; packets = []; bytes = sum_by (size_of n) (range_with_len 0 i) }) (room_of n i)
 
 start_is : (n i : ℕ) → i < n → start_at (part n i) i ≡ begun_at (part n i) (whole_step (room n i) i (founding_boot i n))
 unfolding start_at room
@@ -120,12 +120,12 @@ lines_next n i =
 
 -- what a boot leaves
 pub part_next : (n i : ℕ) (w : World) (lines : List Line) → i < n → Leads (start_at (part n i) i) w lines → Holds w (part n (i + 1)) × (lines ≡ told_of n i)
-unfolding begun_at whole_step after_step room part site_of size_of told_of founding_boot boot_again keep begun mail_size send_lines
+unfolding begun_at whole_step after_step room part site_of size_of told_of founding_boot boot_again keep begun packets_size send_lines
 part_next n i w lines l h =
     let g = subst (λ (m : Moment). Leads m w lines) (start_is n i l) h in (
       record {
-        sites = subst (λ (ps : List Site). SitesStand w.sites n ps) (sites_next n i) g.after.sites;
-        post = subst (λ (b : ℕ). PostStands w.post [] b) (bytes_next n i) g.after.post;
+        sites = subst (λ (ps : List Site). MachinesStand w.sites n ps) (sites_next n i) g.after.sites;
+        network = subst (λ (b : ℕ). NetworkStands w.network [] b) (bytes_next n i) g.after.network;
       },
       g.told ∙ (append-nil _ ∙ append-nil _ ∙ append-nil _),
     )

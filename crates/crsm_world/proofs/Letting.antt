@@ -7,25 +7,25 @@ use Rattle.crsm_base.specs.declared.send.Send.{Send}
 use Rattle.crsm_output.specs.Made.{to_replica, to_address, line_of}
 use Rattle.crsm_spec.specs.Types.{Datagram, Line}
 use Rattle.crsm_spec.specs.Draft.{Draft, Reply}
-use Rattle.crsm_spec.specs.World.{Mail, body_size, mail_of, mail_size, send_lines}
-use Rattle.crsm_network.specs.declared.Post.{Post}
-use Rattle.crsm_world.specs.Leaving.{LetsOut}
-use Rattle.crsm_network.specs.Mailed.{PostStands, sent_to, to_mail, sent_of}
+use Rattle.crsm_spec.specs.World.{Packet, body_size, packet_of, packets_size, send_lines}
+use Rattle.crsm_network.specs.declared.Network.{Network}
+use Rattle.crsm_world.specs.Effects.{LetsOut}
+use Rattle.crsm_network.specs.Packets.{NetworkStands, sent_to, to_packets, sent_of}
 
 -- ---- what is among what is sent
 
 none_of : (ys : List Reply) → sent_of (map to_address ys) ≡ []
-unfolding sent_of sent_to to_mail to_address
+unfolding sent_of sent_to to_packets to_address
 none_of [] = refl
 none_of (y ∷ ys) = none_of ys
 
 pub sent_made : (xs : List (ℕ × Datagram)) (ys : List Reply) → sent_of (map to_replica xs ++ map to_address ys) ≡ xs
-unfolding sent_of sent_to to_mail to_replica
+unfolding sent_of sent_to to_packets to_replica
 sent_made [] ys = none_of ys
 sent_made (x ∷ xs) ys = ap (λ zs. x ∷ zs) (sent_made xs ys)
 
 sent_taken : (n : ℕ) (xs : List (ℕ × Datagram)) (ys : List Reply) → sent_of (take n (map to_replica xs ++ map to_address ys)) ≡ take n xs
-unfolding sent_of sent_to to_mail to_replica
+unfolding sent_of sent_to to_packets to_replica
 sent_taken zero xs ys = refl
 sent_taken (suc n) [] ys = ap sent_of (take-map to_address (suc n) ys) ∙ none_of (take (suc n) ys)
 sent_taken (suc n) (x ∷ xs) ys = ap (λ zs. x ∷ zs) (sent_taken n xs ys)
@@ -53,16 +53,16 @@ all_taken P (x ∷ xs) (suc n) all = (all.0, all_taken P xs n all.1)
 
 -- ---- the whole
 
-pub lets_out : (before : List Line) (mail : List Mail) (bytes k count : ℕ) (x : Draft) (sends : List Send) (told : List Line) (letters own out shown size : ℕ) (post : Post) (answers first second third : List Line)
+pub lets_out : (before : List Line) (packets : List Packet) (bytes k count : ℕ) (x : Draft) (sends : List Send) (told : List Line) (going own out shown size : ℕ) (network : Network) (answers first second third : List Line)
     → sends ≡ map to_replica x.sends ++ map to_address x.replies → told ≡ (x.lines ++ x.excess) ++ map line_of x.replies
-    → letters ≡ length (sent_of sends) → own ≡ length told - (length sends - letters) → out ≡ min count (length sends) → answers ≡ drop own told → shown ≡ out - letters
-    → size ≡ body_size x.batch → PostStands post (mail ++ map (mail_of k) (sent_of (take out sends))) (bytes + size + mail_size (sent_of (take out sends)))
-    → first ≡ before ++ take own told → second ≡ first ++ send_lines k (length mail) (sent_of (take out sends)) → third ≡ second ++ take shown answers
-    → LetsOut before mail bytes k x (take count x.sends) (take (count - length x.sends) x.replies) post third
+    → going ≡ length (sent_of sends) → own ≡ length told - (length sends - going) → out ≡ min count (length sends) → answers ≡ drop own told → shown ≡ out - going
+    → size ≡ body_size x.batch → NetworkStands network (packets ++ map (packet_of k) (sent_of (take out sends))) (bytes + size + packets_size (sent_of (take out sends)))
+    → first ≡ before ++ take own told → second ≡ first ++ send_lines k (length packets) (sent_of (take out sends)) → third ≡ second ++ take shown answers
+    → LetsOut before packets bytes k x (take count x.sends) (take (count - length x.sends) x.replies) network third
 unfolding line_of
-lets_out before mail bytes k count x sends told letters own out shown size post answers first second third s t l o u g w z h a b d =
+lets_out before packets bytes k count x sends told going own out shown size network answers first second third s t l o u g w z h a b d =
     let own_lines = x.lines ++ x.excess in
-    let ls : letters ≡ length x.sends = l ∙ ap length (ap sent_of s ∙ sent_made x.sends x.replies) in
+    let ls : going ≡ length x.sends = l ∙ ap length (ap sent_of s ∙ sent_made x.sends x.replies) in
     let total : length sends ≡ length x.sends + length x.replies =
     ap length s ∙ length-append (map to_replica x.sends) (map to_address x.replies) ∙ ap (λ n. n + length (map to_address x.replies)) (length-map x.sends to_replica) ∙ ap (λ n. length x.sends + n) (length-map x.replies to_address) in
     let told_long : length told ≡ length own_lines + length x.replies = ap length t ∙ length-append own_lines (map line_of x.replies) ∙ ap (λ n. length own_lines + n) (length-map x.replies line_of) in
@@ -75,22 +75,22 @@ lets_out before mail bytes k count x sends told letters own out shown size post 
     let shown_is : take shown answers ≡ map (λ r. r.line) (take (count - length x.sends) x.replies) =
     ap (take shown) rest ∙ take-map line_of shown x.replies ∙ ap (map line_of) (take_same x.replies shown (count - length x.sends) (omega arith)) in
     record {
-      stands = subst (λ (xs : List (ℕ × Datagram)). PostStands post (mail ++ map (mail_of k) xs) (bytes + body_size x.batch + mail_size xs)) sent_is
-          (subst (λ (n : ℕ). PostStands post (mail ++ map (mail_of k) (sent_of (take out sends))) (bytes + n + mail_size (sent_of (take out sends)))) z h);
-      told = d ∙ ap (λ ls. ls ++ take shown answers) (b ∙ ap (λ ls. ls ++ send_lines k (length mail) (sent_of (take out sends))) (a ∙ ap (λ ls. before ++ ls) prefix))
-          ∙ ap (λ ls. ls ++ take shown answers) (append_assoc before own_lines (send_lines k (length mail) (sent_of (take out sends))))
-          ∙ append_assoc before (own_lines ++ send_lines k (length mail) (sent_of (take out sends))) (take shown answers)
-          ∙ ap (λ xs. before ++ ((own_lines ++ send_lines k (length mail) xs) ++ take shown answers)) sent_is
-          ∙ ap (λ ls. before ++ ((own_lines ++ send_lines k (length mail) (take count x.sends)) ++ ls)) shown_is;
+      stands = subst (λ (xs : List (ℕ × Datagram)). NetworkStands network (packets ++ map (packet_of k) xs) (bytes + body_size x.batch + packets_size xs)) sent_is
+          (subst (λ (n : ℕ). NetworkStands network (packets ++ map (packet_of k) (sent_of (take out sends))) (bytes + n + packets_size (sent_of (take out sends)))) z h);
+      told = d ∙ ap (λ ls. ls ++ take shown answers) (b ∙ ap (λ ls. ls ++ send_lines k (length packets) (sent_of (take out sends))) (a ∙ ap (λ ls. before ++ ls) prefix))
+          ∙ ap (λ ls. ls ++ take shown answers) (append_assoc before own_lines (send_lines k (length packets) (sent_of (take out sends))))
+          ∙ append_assoc before (own_lines ++ send_lines k (length packets) (sent_of (take out sends))) (take shown answers)
+          ∙ ap (λ xs. before ++ ((own_lines ++ send_lines k (length packets) xs) ++ take shown answers)) sent_is
+          ∙ ap (λ ls. before ++ ((own_lines ++ send_lines k (length packets) (take count x.sends)) ++ ls)) shown_is;
     }
 
-pub lets_all_out : (before : List Line) (mail : List Mail) (bytes k count : ℕ) (x : Draft) (sends : List Send) (post : Post) (lines : List Line)
+pub lets_all_out : (before : List Line) (packets : List Packet) (bytes k count : ℕ) (x : Draft) (sends : List Send) (network : Network) (lines : List Line)
     → sends ≡ map to_replica x.sends ++ map to_address x.replies → count ≡ length sends
-    → LetsOut before mail bytes k x (take count x.sends) (take (count - length x.sends) x.replies) post lines → LetsOut before mail bytes k x x.sends x.replies post lines
-lets_all_out before mail bytes k count x sends post lines s n h =
+    → LetsOut before packets bytes k x (take count x.sends) (take (count - length x.sends) x.replies) network lines → LetsOut before packets bytes k x x.sends x.replies network lines
+lets_all_out before packets bytes k count x sends network lines s n h =
     let total : length sends ≡ length x.sends + length x.replies =
     ap length s ∙ length-append (map to_replica x.sends) (map to_address x.replies) ∙ ap (λ n. n + length (map to_address x.replies)) (length-map x.sends to_replica) ∙ ap (λ n. length x.sends + n) (length-map x.replies to_address) in
     let a : take count x.sends ≡ x.sends = take_all count x.sends (omega arith) in
     let b : take (count - length x.sends) x.replies ≡ x.replies = take_all (count - length x.sends) x.replies (omega arith) in
-    subst (λ (ys : List Reply). LetsOut before mail bytes k x x.sends ys post lines) b
-    (subst (λ (xs : List (ℕ × Datagram)). LetsOut before mail bytes k x xs (take (count - length x.sends) x.replies) post lines) a h)
+    subst (λ (ys : List Reply). LetsOut before packets bytes k x x.sends ys network lines) b
+    (subst (λ (xs : List (ℕ × Datagram)). LetsOut before packets bytes k x xs (take (count - length x.sends) x.replies) network lines) a h)

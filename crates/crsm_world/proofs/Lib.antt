@@ -1,5 +1,5 @@
 pub mod Letting
-pub mod Places
+pub mod Sites
 pub mod Reasons
 pub mod Turns
 pub mod Leading

@@ -7,12 +7,12 @@ use Rattle.std.proofs.lemmas.Bool.{le-leb, lt-leb, leb-false}
 use Rattle.std.proofs.lemmas.List.{take_all}
 use Rattle.std.proofs.lemmas.List.Folds.{list_any_more, list_any_at}
 use Rattle.crsm_spec.specs.Acts.{Bad as Cause}
-use Rattle.crsm_spec.specs.World.{Site, Mail, World, is_up, is_up_at, log_at, log_of}
+use Rattle.crsm_spec.specs.World.{Site, Packet, World, is_up, is_up_at, log_at, log_of}
 use Rattle.crsm_spec.specs.Log.{spec}
 use Rattle.crsm_machine.specs.Outcomes.{spec_at}
 use Rattle.crsm_spec.specs.Possible.{first_bad, is_none_of, is_next_new, is_down_at, is_not_sent, is_receiver_down, is_used, receivers, are_mixed, are_too_few}
-use Rattle.crsm_world.specs.Placed.{is_up_in, spec_in}
-use Rattle.crsm_network.specs.Mailed.{is_used_at, receiver_of, receiver_or}
+use Rattle.crsm_world.specs.Machines.{is_up_in, spec_in}
+use Rattle.crsm_network.specs.Packets.{is_used_at, receiver_of, receiver_or}
 
 -- the first cause holds
 pub hit : (b : Bool) (c : Cause) (cs : List (Bool × Cause)) → b ≡ true → first_bad ((b, c) ∷ cs) ≡ Some c
@@ -79,34 +79,34 @@ spec_up v k e = at (slice_get v.sites k) e
 
 -- ---- datagrams
 
-pub unsent : (v : World) (i n : ℕ) → n ≡ length v.mail → n ≤ i → is_not_sent v i ≡ true
+pub unsent : (v : World) (i n : ℕ) → n ≡ length v.packets → n ≤ i → is_not_sent v i ≡ true
 unfolding is_not_sent
-unsent v i n e l = le_true (length v.mail) i (let f = e in omega arith)
+unsent v i n e l = le_true (length v.packets) i (let f = e in omega arith)
 
-pub sent : (v : World) (i n : ℕ) → n ≡ length v.mail → i < n → is_not_sent v i ≡ false
+pub sent : (v : World) (i n : ℕ) → n ≡ length v.packets → i < n → is_not_sent v i ≡ false
 unfolding is_not_sent
-sent v i n e l = le_false (length v.mail) i (let f = e in omega arith)
+sent v i n e l = le_false (length v.packets) i (let f = e in omega arith)
 
-pub used_is : (v : World) (i : ℕ) → is_used v i ≡ is_used_at v.mail i
+pub used_is : (v : World) (i : ℕ) → is_used v i ≡ is_used_at v.packets i
 unfolding is_used is_used_at
 used_is v i = refl
 
-pub used_as : (v : World) (i : ℕ) (b x : Bool) → b ≡ is_used_at v.mail i → b ≡ x → is_used v i ≡ x
+pub used_as : (v : World) (i : ℕ) (b x : Bool) → b ≡ is_used_at v.packets i → b ≡ x → is_used v i ≡ x
 used_as v i b x e f = used_is v i ∙ sym e ∙ f
 
-pub receiver_down : (v : World) (i to : ℕ) → Some to ≡ receiver_of v.mail i → is_receiver_down v i ≡ is_down_at v to
+pub receiver_down : (v : World) (i to : ℕ) → Some to ≡ receiver_of v.packets i → is_receiver_down v i ≡ is_down_at v to
 unfolding is_receiver_down receiver_of
-receiver_down v i to e = at (slice_get v.mail i) e
+receiver_down v i to e = at (slice_get v.packets i) e
   where
-    at : (o : Option Mail) → Some to ≡ option_map (λ m. m.to) o → option_map_or (λ m. is_down_at v m.to) o false ≡ is_down_at v to
+    at : (o : Option Packet) → Some to ≡ option_map (λ m. m.to) o → option_map_or (λ m. is_down_at v m.to) o false ≡ is_down_at v to
     at (Some m) f = let g : m.to ≡ to = cc in ap (is_down_at v) g
     at None f = cc
 
-pub no_receiver : (v : World) (i : ℕ) → None ≡ receiver_of v.mail i → is_receiver_down v i ≡ false
+pub no_receiver : (v : World) (i : ℕ) → None ≡ receiver_of v.packets i → is_receiver_down v i ≡ false
 unfolding is_receiver_down receiver_of
-no_receiver v i e = at (slice_get v.mail i) e
+no_receiver v i e = at (slice_get v.packets i) e
   where
-    at : (o : Option Mail) → None ≡ option_map (λ m. m.to) o → option_map_or (λ m. is_down_at v m.to) o false ≡ false
+    at : (o : Option Packet) → None ≡ option_map (λ m. m.to) o → option_map_or (λ m. is_down_at v m.to) o false ≡ false
     at (Some m) f = cc
     at None f = refl
 
@@ -129,27 +129,27 @@ or_right : (a b : Bool) → (a || b) ≡ false → b ≡ false
 or_right true b f = cc
 or_right false b f = f
 
-some_there : (xs : List Mail) (i : ℕ) → i < length xs → (x : Mail) × (slice_get xs i ≡ Some x)
+some_there : (xs : List Packet) (i : ℕ) → i < length xs → (x : Packet) × (slice_get xs i ≡ Some x)
 some_there [] i l = absurd (omega arith)
 some_there (x ∷ xs) zero l = (x, refl)
 some_there (x ∷ xs) (suc i) l = some_there xs i (omega arith)
 
 -- the receivers of datagrams that were all sent
-pub all_receivers : (v : World) (is : List ℕ) → list_any (is_not_sent v) is ≡ false → receivers v is ≡ map (receiver_or v.mail) is
+pub all_receivers : (v : World) (is : List ℕ) → list_any (is_not_sent v) is ≡ false → receivers v is ≡ map (receiver_or v.packets) is
 unfolding receivers receiver_or is_not_sent
 all_receivers v [] e = refl
 all_receivers v (i ∷ is) e =
-    let m = some_there v.mail i (leb-false (length v.mail) i (or_left (nat_le (length v.mail) i) _ e)) in
-    let rest = all_receivers v is (or_right (nat_le (length v.mail) i) _ e) in
+    let m = some_there v.packets i (leb-false (length v.packets) i (or_left (nat_le (length v.packets) i) _ e)) in
+    let rest = all_receivers v is (or_right (nat_le (length v.packets) i) _ e) in
     rw m.1 (ap (λ ks. m.0.to ∷ ks) rest)
 
 any_mapped : (f : ℕ → ℕ) (p : ℕ → Bool) (xs : List ℕ) → list_any p (map f xs) ≡ list_any (λ x. p (f x)) xs
 any_mapped f p [] = refl
 any_mapped f p (x ∷ xs) = ap (λ b. p (f x) || b) (any_mapped f p xs)
 
-pub mixed : (v : World) (i : ℕ) (is : List ℕ) → list_any (is_not_sent v) (i ∷ is) ≡ false → are_mixed (receivers v (i ∷ is)) ≡ list_any (λ j. not (receiver_or v.mail j == receiver_or v.mail i)) is
+pub mixed : (v : World) (i : ℕ) (is : List ℕ) → list_any (is_not_sent v) (i ∷ is) ≡ false → are_mixed (receivers v (i ∷ is)) ≡ list_any (λ j. not (receiver_or v.packets j == receiver_or v.packets i)) is
 unfolding are_mixed
-mixed v i is e = ap are_mixed (all_receivers v (i ∷ is) e) ∙ any_mapped (receiver_or v.mail) (λ j. not (j == receiver_or v.mail i)) is
+mixed v i is e = ap are_mixed (all_receivers v (i ∷ is) e) ∙ any_mapped (receiver_or v.packets) (λ j. not (j == receiver_or v.packets i)) is
 
 pub not_mixed : (v : World) → are_mixed (receivers v []) ≡ false
 unfolding are_mixed receivers

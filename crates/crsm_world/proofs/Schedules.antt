@@ -12,7 +12,7 @@ use Rattle.crsm_schedule.specs.Transcript.{line_text, lines_text}
 use Rattle.crsm_spec.specs.World.{World, begin, first_lines}
 use Rattle.crsm_spec.specs.Acts.{Act, IsBatch, FitsAct, FitsSingle as FitsStep}
 use Rattle.crsm_spec.specs.Moments.{act}
-use Rattle.crsm_spec.specs.Run.{told_by, ArePossible, after_acts, told, seen, last_world as world_at_end}
+use Rattle.crsm_spec.specs.Run.{traced, ArePossible, after_acts, told, seen, last_world as world_at_end}
 use Rattle.crsm_world.specs.Doing.{single_of, act_of}
 use Rattle.crsm_world.specs.Schedule.{Schedule, no_events, with_event, line_count, ended, schedule_text, acts_of, IsNext, IsSchedule, last_world, Shown, shown_by, shown_from, shown, text_of, transcript, act_on, ShowsAll}
 
@@ -64,7 +64,7 @@ schedule_text-none n = append-nil (ended (first_text n))
 
 -- the lines of one event, as they are shown
 shown_lines : (at : ℕ) (by : Option Act) (lines : List Line) → flat_map text_of (map (shown_by at by) lines) ≡ lines_text at lines
-unfolding text_of shown_by told_by
+unfolding text_of shown_by traced
 shown_lines at by [] = refl
 shown_lines at by (l ∷ ls) = ap (λ xs. line_text at l ++ xs) (shown_lines at by ls)
 
@@ -145,10 +145,10 @@ schedule-push s e good next = record {
 
 -- ---- what a schedule shows
 
-told_lines : (at : ℕ) (by : Option Act) (lines : List Line) → map (λ (x : Shown). x.told) (map (shown_by at by) lines) ≡ map (told_by by) lines
+told_lines : (at : ℕ) (by : Option Act) (lines : List Line) → map (λ (x : Shown). x.told) (map (shown_by at by) lines) ≡ map (traced by) lines
 unfolding shown_by
 told_lines at by [] = refl
-told_lines at by (l ∷ ls) = ap (λ xs. told_by by l ∷ xs) (told_lines at by ls)
+told_lines at by (l ∷ ls) = ap (λ xs. traced by l ∷ xs) (told_lines at by ls)
 
 told_from : (w : World) (at : ℕ) (es : List Event) → map (λ (x : Shown). x.told) (shown_from w at es) ≡ told w (map act_of es)
 unfolding shown_from told
@@ -157,14 +157,14 @@ told_from w at (e ∷ es) =
     let here : List Shown = map (shown_by at (Some (act_of e))) (act w (act_of e)).lines in
     map-append (λ (x : Shown). x.told) here (shown_from (act w (act_of e)).after (at + 1) es)
     ∙ ap (λ xs. xs ++ map (λ (x : Shown). x.told) (shown_from (act w (act_of e)).after (at + 1) es)) (told_lines at (Some (act_of e)) (act w (act_of e)).lines)
-    ∙ ap (λ xs. map (told_by (Some (act_of e))) (act w (act_of e)).lines ++ xs) (told_from (act w (act_of e)).after (at + 1) es)
+    ∙ ap (λ xs. map (traced (Some (act_of e))) (act w (act_of e)).lines ++ xs) (told_from (act w (act_of e)).after (at + 1) es)
 
 -- the act of a line of the schedule
 abbrev IsNumbered : Schedule → Shown → Type 0
 IsNumbered s x = x.told.by ≡ act_on s x.at
 
 numbered_lines : (s : Schedule) (at : ℕ) (by : Option Act) (lines : List Line) → by ≡ act_on s at → AllByRecursion (IsNumbered s) (map (shown_by at by) lines)
-unfolding shown_by told_by
+unfolding shown_by traced
 numbered_lines s at by [] is = tt
 numbered_lines s at by (l ∷ ls) is = (is, numbered_lines s at by ls is)
 
@@ -205,7 +205,7 @@ unfolding shown seen act_on acts_of
 shows_all s = record {
   all = map-append (λ (x : Shown). x.told) (map (shown_by 1 None) (first_lines s.replicas)) (shown_from (begin s.replicas) 2 s.events)
       ∙ ap (λ xs. xs ++ map (λ (x : Shown). x.told) (shown_from (begin s.replicas) 2 s.events)) (told_lines 1 None (first_lines s.replicas))
-      ∙ ap (λ xs. map (told_by None) (first_lines s.replicas) ++ xs) (told_from (begin s.replicas) 2 s.events);
+      ∙ ap (λ xs. map (traced None) (first_lines s.replicas) ++ xs) (told_from (begin s.replicas) 2 s.events);
   numbered = all_append (IsNumbered s) (map (shown_by 1 None) (first_lines s.replicas)) (shown_from (begin s.replicas) 2 s.events)
       (numbered_lines s 1 None (first_lines s.replicas) refl) (numbered_from s (begin s.replicas) [] s.events 2 refl refl);
 }

@@ -11,15 +11,15 @@ use Rattle.crsm_spec.specs.Node.{Turn, turn, input_of}
 use Rattle.crsm_base.proofs.DatagramLaws.{datagram_of-bytes}
 use Rattle.crsm_machine.specs.declared.Step.{Step}
 use Rattle.crsm_machine.specs.Outcomes.{Makes}
-use Rattle.crsm_network.specs.declared.Letter.{Letter}
-use Rattle.crsm_world.specs.Leaving.{LetsOut}
+use Rattle.crsm_network.specs.declared.PacketView.{PacketView}
+use Rattle.crsm_world.specs.Effects.{LetsOut}
 use Rattle.crsm_spec.specs.Step.{Input, step}
 use Rattle.crsm_spec.specs.Acts.{Single}
-use Rattle.crsm_spec.specs.World.{Site, Mail, World as Cluster, Moment, is_full, whole_step, after_step, mail_of}
+use Rattle.crsm_spec.specs.World.{Site, Packet, World as Cluster, Moment, is_full, whole_step, after_step, packet_of}
 use Rattle.crsm_spec.specs.Moments.{single, begun_at, come, step_at, step_at_site, use_up, go_each, go_all, world_after, lines_of}
 use Rattle.crsm_world.specs.declared.world.World.{World}
-use Rattle.crsm_world.specs.Placed.{SitesPend}
-use Rattle.crsm_network.specs.Mailed.{IsLetter, PostStands, used_up, receiver_of}
+use Rattle.crsm_world.specs.Machines.{MachinesPend}
+use Rattle.crsm_network.specs.Packets.{IsPacketView, NetworkStands, used_up, receiver_of}
 use Rattle.crsm_world.specs.Several.{IsFor, AreFor, together, each_gone, all_gone}
 use Rattle.crsm_world.specs.World.{Holds, HoldsBeside, Leads, LeadsOn, LeadsBeside}
 use Rattle.crsm_world.proofs.Turns.{get_set}
@@ -52,9 +52,9 @@ pub record Going (v : Cluster) (t : ℕ) (is : List ℕ) (i : ℕ) (w : World) (
 pub each_begins : (v : Cluster) (t : ℕ) (is : List ℕ) (w : World) (lines : List Line) → Holds w v → lines ≡ [] → Going v t is 0 w lines
 each_begins v t is w lines h e = record { now = v; held = h; after = refl; told = ap (λ ls. ls ++ lines_of (go_each t is v)) e }
 
-full_as : (w : World) (now : Cluster) (b x : Bool) → Holds w now → ((mail : List Mail) (bytes : ℕ) → PostStands w.post mail bytes → b ≡ nat_le most_world bytes) → b ≡ x → is_full now ≡ x
+full_as : (w : World) (now : Cluster) (b x : Bool) → Holds w now → ((packets : List Packet) (bytes : ℕ) → NetworkStands w.network packets bytes → b ≡ nat_le most_world bytes) → b ≡ x → is_full now ≡ x
 unfolding is_full
-full_as w now b x h f e = sym (f now.mail now.bytes h.post) ∙ e
+full_as w now b x h f e = sym (f now.packets now.bytes h.network) ∙ e
 
 going_on : (t i : ℕ) (is : List ℕ) (now : Cluster) → is_full now ≡ false → go_each t (i ∷ is) now ≡ gone t i now ∷ go_each t is (gone t i now).after
 unfolding go_each
@@ -73,8 +73,8 @@ unfolding lines_of
 lines_first m ms = refl
 
 pub each_next : (v : Cluster) (t : ℕ) (is : List ℕ) (i : ℕ) (w new : World) (lines all : List Line) (b : Bool) → Going v t is i w lines → i < length is
-    → ((mail : List Mail) (bytes : ℕ) → PostStands w.post mail bytes → b ≡ nat_le most_world bytes) → b ≡ false
-    → ((u : Cluster) → Holds w u → LeadsOn (gone t (get_or is i 0) u) new.sites new.post lines all) → Going v t is (i + 1) new all
+    → ((packets : List Packet) (bytes : ℕ) → NetworkStands w.network packets bytes → b ≡ nat_le most_world bytes) → b ≡ false
+    → ((u : Cluster) → Holds w u → LeadsOn (gone t (get_or is i 0) u) new.sites new.network lines all) → Going v t is (i + 1) new all
 each_next v t is i w new lines all b g l f e step =
     let x = get_or is i 0 in
     let m = gone t x g.now in
@@ -82,7 +82,7 @@ each_next v t is i w new lines all b g l f e step =
     let rest : go_each t (drop i is) g.now ≡ m ∷ go_each t (drop (i + 1) is) m.after = ap (λ js. go_each t js g.now) (next is i l) ∙ going_on t x (drop (i + 1) is) g.now (full_as w g.now b false g.held f e) in
     record {
       now = m.after;
-      held = record { sites = went.places; post = went.mail };
+      held = record { sites = went.places; network = went.packets };
       after = g.after ∙ ap (world_after g.now) rest ∙ after_first g.now m _;
       told = ap (λ ls. ls ++ lines_of (go_each t (drop (i + 1) is) m.after)) went.told ∙ append_assoc lines m.lines _
           ∙ ap (λ ls. lines ++ ls) (sym (lines_first m _)) ∙ ap (λ ms. lines ++ lines_of ms) (sym rest) ∙ g.told;
@@ -96,7 +96,7 @@ stopped v t is i w lines g e = record {
 }
 
 pub each_full : (v : Cluster) (t : ℕ) (is : List ℕ) (i : ℕ) (w : World) (lines : List Line) (b : Bool) → Going v t is i w lines → i < length is
-    → ((mail : List Mail) (bytes : ℕ) → PostStands w.post mail bytes → b ≡ nat_le most_world bytes) → b ≡ true → Leads (each_gone t is v) w lines
+    → ((packets : List Packet) (bytes : ℕ) → NetworkStands w.network packets bytes → b ≡ nat_le most_world bytes) → b ≡ true → Leads (each_gone t is v) w lines
 each_full v t is i w lines b g l f e =
     stopped v t is i w lines g (ap (λ js. go_each t js g.now) (next is i l) ∙ going_no_more t (get_or is i 0) (drop (i + 1) is) g.now (full_as w g.now b true g.held f e))
 
@@ -106,41 +106,41 @@ each_ends v t is i w lines g l = stopped v t is i w lines g (ap (λ js. go_each 
 
 -- ---- kept together
 
-still_for : (k : ℕ) (mail : List Mail) (j i : ℕ) → IsFor k mail i → IsFor k (used_up j mail) i
+still_for : (k : ℕ) (packets : List Packet) (j i : ℕ) → IsFor k packets i → IsFor k (used_up j packets) i
 unfolding used_up
-still_for k mail j i f = at (slice_get mail j)
+still_for k packets j i f = at (slice_get packets j)
   where
-    marked : (ms : List Mail) (j i : ℕ) (p : Mail) → slice_get ms j ≡ Some p → IsFor k ms i → IsFor k (set ms j (record p { used = true })) i
+    marked : (ms : List Packet) (j i : ℕ) (p : Packet) → slice_get ms j ≡ Some p → IsFor k ms i → IsFor k (set ms j (record p { used = true })) i
     marked [] j i p e f = f
-    marked (m ∷ ms) zero zero p e f = record { found = record p { used = true }; is = refl; receiver = let g = f.is in let h : f.found ≡ p = cc in ap (λ (q : Mail). q.to) (sym h) ∙ f.receiver }
+    marked (m ∷ ms) zero zero p e f = record { found = record p { used = true }; is = refl; receiver = let g = f.is in let h : f.found ≡ p = cc in ap (λ (q : Packet). q.to) (sym h) ∙ f.receiver }
     marked (m ∷ ms) zero (suc i) p e f = record { found = f.found; is = f.is; receiver = f.receiver }
     marked (m ∷ ms) (suc j) zero p e f = record { found = f.found; is = f.is; receiver = f.receiver }
     marked (m ∷ ms) (suc j) (suc i) p e f = let r = marked ms j i p e (record { found = f.found; is = f.is; receiver = f.receiver }) in record { found = r.found; is = r.is; receiver = r.receiver }
 
-    go : (o : Option Mail) → slice_get mail j ≡ o → IsFor k (option_map_or (λ p. set mail j (record p { used = true })) o mail) i
-    go (Some p) e = marked mail j i p e f
+    go : (o : Option Packet) → slice_get packets j ≡ o → IsFor k (option_map_or (λ p. set packets j (record p { used = true })) o packets) i
+    go (Some p) e = marked packets j i p e f
     go None e = f
 
-    at : (o : Option Mail) → IsFor k (option_map_or (λ p. set mail j (record p { used = true })) (slice_get mail j) mail) i
-    at o = go (slice_get mail j) refl
+    at : (o : Option Packet) → IsFor k (option_map_or (λ p. set packets j (record p { used = true })) (slice_get packets j) packets) i
+    at o = go (slice_get packets j) refl
 
-longer_for : (k : ℕ) (mail more : List Mail) (i : ℕ) → IsFor k mail i → IsFor k (mail ++ more) i
-longer_for k mail more i f = record { found = f.found; is = go mail i f.is; receiver = f.receiver }
+longer_for : (k : ℕ) (packets more : List Packet) (i : ℕ) → IsFor k packets i → IsFor k (packets ++ more) i
+longer_for k packets more i f = record { found = f.found; is = go packets i f.is; receiver = f.receiver }
   where
-    go : (ms : List Mail) (i : ℕ) → slice_get ms i ≡ Some f.found → slice_get (ms ++ more) i ≡ Some f.found
+    go : (ms : List Packet) (i : ℕ) → slice_get ms i ≡ Some f.found → slice_get (ms ++ more) i ≡ Some f.found
     go [] i e = cc
     go (m ∷ ms) zero e = e
     go (m ∷ ms) (suc i) e = go ms i e
 
-all_still : (k : ℕ) (mail more : List Mail) (j : ℕ) (is : List ℕ) → AreFor k mail is → AreFor k (used_up j mail ++ more) is
-all_still k mail more j [] all = tt
-all_still k mail more j (i ∷ is) all = (longer_for k (used_up j mail) more i (still_for k mail j i all.0), all_still k mail more j is all.1)
+all_still : (k : ℕ) (packets more : List Packet) (j : ℕ) (is : List ℕ) → AreFor k packets is → AreFor k (used_up j packets ++ more) is
+all_still k packets more j [] all = tt
+all_still k packets more j (i ∷ is) all = (longer_for k (used_up j packets) more i (still_for k packets j i all.0), all_still k packets more j is all.1)
 
 -- the step of a datagram that comes to r
-abbrev pub step_of : Replica → Mail → ℕ → Draft
+abbrev pub step_of : Replica → Packet → ℕ → Draft
 step_of r p t = step r (Input.Came p.from p.datagram) t
 
-pub gone_is : (k t i : ℕ) (v : Cluster) (r : Replica) (f : IsFor k v.mail i) → slice_get v.sites k ≡ Some (Site.Up r) → gone t i v ≡ begun_at v (whole_step (use_up i v) k (step_of r f.found t))
+pub gone_is : (k t i : ℕ) (v : Cluster) (r : Replica) (f : IsFor k v.packets i) → slice_get v.sites k ≡ Some (Site.Up r) → gone t i v ≡ begun_at v (whole_step (use_up i v) k (step_of r f.found t))
 unfolding single come step_at step_at_site use_up
 gone_is k t i v r f e =
     ap (λ o. begun_at v (come whole_step (use_up i v) t o)) f.is
@@ -153,29 +153,29 @@ pub record Together (v : Cluster) (t : ℕ) (is : List ℕ) (i k : ℕ) (w : Wor
   pub held : HoldsBeside k w now
   pub replica : Replica
   pub up : slice_get now.sites k ≡ Some (Site.Up replica)
-  pub others : AreFor k now.mail (drop i is)
+  pub others : AreFor k now.packets (drop i is)
   pub after : world_after v (go_all t is v) ≡ world_after now (go_all t (drop i is) now)
   pub told : lines ++ lines_of (go_all t (drop i is) now) ≡ lines_of (go_all t is v)
 
-pub all_begin : (v : Cluster) (t : ℕ) (is : List ℕ) (k : ℕ) (r : Replica) (w : World) (lines : List Line) → HoldsBeside k w v → slice_get v.sites k ≡ Some (Site.Up r) → AreFor k v.mail is → lines ≡ [] → Together v t is 0 k w lines
+pub all_begin : (v : Cluster) (t : ℕ) (is : List ℕ) (k : ℕ) (r : Replica) (w : World) (lines : List Line) → HoldsBeside k w v → slice_get v.sites k ≡ Some (Site.Up r) → AreFor k v.packets is → lines ≡ [] → Together v t is 0 k w lines
 all_begin v t is k r w lines h e f l = record { now = v; held = h; replica = r; up = e; others = f; after = refl; told = ap (λ ls. ls ++ lines_of (go_all t is v)) l }
 
-moved : (k t i : ℕ) (v : Cluster) (r : Replica) (f : IsFor k v.mail i) → slice_get v.sites k ≡ Some (Site.Up r) → (slice_get (gone t i v).after.sites k ≡ Some (Site.Up (step_of r f.found t).replica)) × ((gone t i v).after.mail ≡ used_up i v.mail ++ map (mail_of k) (step_of r f.found t).sends)
+moved : (k t i : ℕ) (v : Cluster) (r : Replica) (f : IsFor k v.packets i) → slice_get v.sites k ≡ Some (Site.Up r) → (slice_get (gone t i v).after.sites k ≡ Some (Site.Up (step_of r f.found t).replica)) × ((gone t i v).after.packets ≡ used_up i v.packets ++ map (packet_of k) (step_of r f.found t).sends)
 unfolding begun_at whole_step after_step use_up used_up
 moved k t i v r f e =
-    (ap (λ (m : Moment). slice_get m.after.sites k) (gone_is k t i v r f e) ∙ get_set v.sites k _ (Site.Up r) e, ap (λ (m : Moment). m.after.mail) (gone_is k t i v r f e))
+    (ap (λ (m : Moment). slice_get m.after.sites k) (gone_is k t i v r f e) ∙ get_set v.sites k _ (Site.Up r) e, ap (λ (m : Moment). m.after.packets) (gone_is k t i v r f e))
 
 all_on : (t i : ℕ) (is : List ℕ) (now : Cluster) → go_all t (i ∷ is) now ≡ gone t i now ∷ go_all t is (gone t i now).after
 unfolding go_all
 all_on t i is now = refl
 
 pub all_next : (v : Cluster) (t : ℕ) (is : List ℕ) (i k : ℕ) (w new : World) (lines more all : List Line) → Together v t is i k w lines → i < length is
-    → ((u : Cluster) (r : Replica) → HoldsBeside k w u → slice_get u.sites k ≡ Some (Site.Up r) → IsFor k u.mail (get_or is i 0) → LeadsBeside k (gone t (get_or is i 0) u) new more)
+    → ((u : Cluster) (r : Replica) → HoldsBeside k w u → slice_get u.sites k ≡ Some (Site.Up r) → IsFor k u.packets (get_or is i 0) → LeadsBeside k (gone t (get_or is i 0) u) new more)
     → all ≡ lines ++ more → Together v t is (i + 1) k new all
 all_next v t is i k w new lines more all g l step a =
     let x = get_or is i 0 in
     let m = gone t x g.now in
-    let due = subst (AreFor k g.now.mail) (next is i l) g.others in
+    let due = subst (AreFor k g.now.packets) (next is i l) g.others in
     let went = step g.now g.replica g.held g.up due.0 in
     let place = moved k t x g.now g.replica due.0 g.up in
     let rest : go_all t (drop i is) g.now ≡ m ∷ go_all t (drop (i + 1) is) m.after = ap (λ js. go_all t js g.now) (next is i l) ∙ all_on t x (drop (i + 1) is) g.now in
@@ -184,7 +184,7 @@ all_next v t is i k w new lines more all g l step a =
       held = went.after;
       replica = (step_of g.replica due.0.found t).replica;
       up = place.0;
-      others = subst (λ (ms : List Mail). AreFor k ms (drop (i + 1) is)) (sym place.1) (all_still k g.now.mail _ x (drop (i + 1) is) due.1);
+      others = subst (λ (ms : List Packet). AreFor k ms (drop (i + 1) is)) (sym place.1) (all_still k g.now.packets _ x (drop (i + 1) is) due.1);
       after = g.after ∙ ap (world_after g.now) rest ∙ after_first g.now m _;
       told = ap (λ ls. ls ++ lines_of (go_all t (drop (i + 1) is) m.after)) (a ∙ ap (λ ls. lines ++ ls) went.told) ∙ append_assoc lines m.lines _
           ∙ ap (λ ls. lines ++ ls) (sym (lines_first m _)) ∙ ap (λ ms. lines ++ lines_of ms) (sym rest) ∙ g.told;
@@ -202,36 +202,36 @@ all_end v t is i k w new lines g l kept =
 
 -- ---- a step that is taken
 
-beside_whole : (k : ℕ) (v u : Cluster) (x : Draft) (w : World) (lines : List Line) → SitesPend k w.sites u.n (slice_set u.sites k (Site.Up x.replica)) → LetsOut [] u.mail u.bytes k x x.sends x.replies w.post lines
+beside_whole : (k : ℕ) (v u : Cluster) (x : Draft) (w : World) (lines : List Line) → MachinesPend k w.sites u.n (slice_set u.sites k (Site.Up x.replica)) → LetsOut [] u.packets u.bytes k x x.sends x.replies w.network lines
     → LeadsBeside k (begun_at v (whole_step u k x)) w lines
 unfolding begun_at whole_step after_step
-beside_whole k v u x w lines s o = record { after = record { sites = s; post = o.stands }; told = o.told }
+beside_whole k v u x w lines s o = record { after = record { sites = s; network = o.stands }; told = o.told }
 
-turn_is : (r : Replica) (m : Letter) (p : Mail) (from t : ℕ) (bytes : List ℕ) → IsLetter m p → from ≡ m.from → bytes ≡ m.bytes.now → turn r (Turn.In from bytes, t) ≡ step_of r p t
+turn_is : (r : Replica) (m : PacketView) (p : Packet) (from t : ℕ) (bytes : List ℕ) → IsPacketView m p → from ≡ m.from → bytes ≡ m.bytes.now → turn r (Turn.In from bytes, t) ≡ step_of r p t
 unfolding turn input_of
 turn_is r m p from t bytes is e f =
     ap (λ a. turn r (Turn.In a bytes, t)) (e ∙ is.from) ∙ ap (λ b. turn r (Turn.In p.from b, t)) (f ∙ is.bytes)
     ∙ ap (λ i. option_map_or (λ j. step r j t) (option_map (Input.Came p.from) i) (begun r)) (datagram_of-bytes p.datagram is.fits)
 
-pub not_found : (k i : ℕ) (mail : List Mail) → IsFor k mail i → slice_get mail i ≡ None → ⊥
-not_found k i mail f e = let g = f.is in cc
+pub not_found : (k i : ℕ) (packets : List Packet) → IsFor k packets i → slice_get packets i ≡ None → ⊥
+not_found k i packets f e = let g = f.is in cc
 
-pub taken : (k t i : ℕ) (v : Cluster) (r : Replica) (f : IsFor k v.mail i) (m : Letter) (p : Mail) (from : ℕ) (bytes : List ℕ) (w : World) (made : Step) (lines : List Line)
-    → slice_get v.sites k ≡ Some (Site.Up r) → slice_get v.mail i ≡ Some p → IsLetter m p → from ≡ m.from → bytes ≡ m.bytes.now
-    → Makes made (turn r (Turn.In from bytes, t)) × SitesPend k w.sites v.n (slice_set v.sites k (Site.Up (turn r (Turn.In from bytes, t)).replica))
-    → ((x : Draft) → Makes made x → LetsOut [] (used_up i v.mail) v.bytes k x x.sends x.replies w.post lines) → LeadsBeside k (gone t i v) w lines
+pub taken : (k t i : ℕ) (v : Cluster) (r : Replica) (f : IsFor k v.packets i) (m : PacketView) (p : Packet) (from : ℕ) (bytes : List ℕ) (w : World) (made : Step) (lines : List Line)
+    → slice_get v.sites k ≡ Some (Site.Up r) → slice_get v.packets i ≡ Some p → IsPacketView m p → from ≡ m.from → bytes ≡ m.bytes.now
+    → Makes made (turn r (Turn.In from bytes, t)) × MachinesPend k w.sites v.n (slice_set v.sites k (Site.Up (turn r (Turn.In from bytes, t)).replica))
+    → ((x : Draft) → Makes made x → LetsOut [] (used_up i v.packets) v.bytes k x x.sends x.replies w.network lines) → LeadsBeside k (gone t i v) w lines
 unfolding use_up used_up
 taken k t i v r f m p from bytes w made lines up found is e g stands out =
     let same : p ≡ f.found = let h = f.is in cc in
     let y = turn r (Turn.In from bytes, t) in
     let whole = beside_whole k v (use_up i v) y w lines stands.1 (out y stands.0) in
     subst (λ (n : Moment). LeadsBeside k n w lines) (sym (gone_is k t i v r f up))
-    (subst (λ (x : Draft). LeadsBeside k (begun_at v (whole_step (use_up i v) k x)) w lines) (turn_is r m f.found from t bytes (subst (λ (q : Mail). IsLetter m q) same is) e g) whole)
+    (subst (λ (x : Draft). LeadsBeside k (begun_at v (whole_step (use_up i v) k x)) w lines) (turn_is r m f.found from t bytes (subst (λ (q : Packet). IsPacketView m q) same is) e g) whole)
 
 pub nothing_gone : (v : Cluster) (t : ℕ) (w : World) (lines : List Line) → Holds w v → lines ≡ [] → Leads (all_gone t [] v) w lines
 unfolding all_gone together world_after lines_of go_all
 nothing_gone v t w lines h e = record { after = h; told = e }
 
-pub receiver_for : (k : ℕ) (mail : List Mail) (i : ℕ) → IsFor k mail i → receiver_of mail i ≡ Some k
+pub receiver_for : (k : ℕ) (packets : List Packet) (i : ℕ) → IsFor k packets i → receiver_of packets i ≡ Some k
 unfolding receiver_of
-receiver_for k mail i f = ap (option_map {T = Mail} (λ m. m.to)) f.is ∙ ap Some f.receiver
+receiver_for k packets i f = ap (option_map {T = Packet} (λ m. m.to)) f.is ∙ ap Some f.receiver

@@ -1,6 +1,6 @@
 pub mod Doing
-pub mod Placed
-pub mod Leaving
+pub mod Machines
+pub mod Effects
 pub mod Turning
 pub mod Several
 pub mod Starting

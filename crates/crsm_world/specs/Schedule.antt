@@ -6,7 +6,7 @@ use Rattle.crsm_spec.specs.World.{World, begin, first_lines, finals}
 use Rattle.crsm_spec.specs.Acts.{Act}
 use Rattle.crsm_spec.specs.Moments.{act}
 use Rattle.crsm_spec.specs.Possible.{possible}
-use Rattle.crsm_spec.specs.Run.{Told, told_by, ArePossible, seen, last_world as world_at_end}
+use Rattle.crsm_spec.specs.Run.{TraceLine, traced, ArePossible, seen, last_world as world_at_end}
 use Rattle.crsm_schedule.specs.declared.Event.{Event}
 use Rattle.crsm_schedule.specs.Grammar.{IsSize, FitsEvent, first_text, event_text}
 use Rattle.crsm_schedule.specs.Transcript.{line_text, lines_text}
@@ -61,11 +61,11 @@ last_world s = world_at_end s.replicas (acts_of s)
 -- A line that is seen, and the number of the schedule's line that led to it.
 pub record Shown : Type 0 where
   pub at : ℕ
-  pub told : Told
+  pub told : TraceLine
 
 -- the line, by this act on this line of the schedule
 unfoldable pub shown_by : ℕ → Option Act → Line → Shown
-shown_by at by line = record { at = at; told = told_by by line }
+shown_by at by line = record { at = at; told = traced by line }
 
 -- the lines of events, the first of which stands on this line of the schedule
 unfoldable pub shown_from : World → ℕ → List Event → List Shown

@@ -1,17 +1,17 @@
 -- Several deliveries as one change.
 use Rattle.std.specs.Prelude.{◌≡◌, ℕ, List, Some, slice_get}
 use Rattle.std.specs.List.{AllByRecursion}
-use Rattle.crsm_spec.specs.World.{Mail, World, Moment}
+use Rattle.crsm_spec.specs.World.{Packet, World, Moment}
 use Rattle.crsm_spec.specs.Moments.{go_each, go_all, world_after, lines_of}
 
 -- datagram i was sent to k
-pub record IsFor (k : ℕ) (mail : List Mail) (i : ℕ) : Type 0 where
-  pub found : Mail
-  pub is : slice_get mail i ≡ Some found
+pub record IsFor (k : ℕ) (packets : List Packet) (i : ℕ) : Type 0 where
+  pub found : Packet
+  pub is : slice_get packets i ≡ Some found
   pub receiver : found.to ≡ k
 
-abbrev pub AreFor : ℕ → List Mail → List ℕ → Type 0
-AreFor k mail is = AllByRecursion (IsFor k mail) is
+abbrev pub AreFor : ℕ → List Packet → List ℕ → Type 0
+AreFor k packets is = AllByRecursion (IsFor k packets) is
 
 -- these moments as one
 unfoldable pub together : World → List Moment → Moment

@@ -20,14 +20,14 @@ abbrev pub FitsEnding : EndingInMemory → Type 0
 FitsEnding (endings.At stop) = stop.calls ≤ 4
 FitsEnding _ = Unit {0}
 
--- a turn at a site. Only a replica that is up steps.
-unfoldable pub turn_at_site : Ending → World → ℕ → Turn → ℕ → Option Site → Moment
-turn_at_site ends w k t reading (Some (Site.Up r)) = ends w k (turn r (t, reading))
-turn_at_site ends w k t reading _ = silent w w
+-- a turn at a machine. Only a replica that is up steps.
+unfoldable pub turn_at_machine : Ending → World → ℕ → Turn → ℕ → Option Site → Moment
+turn_at_machine ends w k t reading (Some (Site.Up r)) = ends w k (turn r (t, reading))
+turn_at_machine ends w k t reading _ = silent w w
 
 -- a turn of replica k
 unfoldable pub turn_at : Ending → World → ℕ → Turn → ℕ → Moment
-turn_at ends w k t reading = turn_at_site ends w k t reading (slice_get w.sites k)
+turn_at ends w k t reading = turn_at_machine ends w k t reading (slice_get w.sites k)
 
 -- bytes from nowhere are no datagram
 abbrev pub IsGenuine : Single → Type 0

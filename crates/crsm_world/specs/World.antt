@@ -1,32 +1,33 @@
 -- What a world stands for.
-use Rattle.std.specs.Prelude.{◌≡◌, ℕ, true, false, List, ◌++◌}
+use Rattle.std.specs.Prelude.{◌≡◌, ℕ, true, false, List, ◌++◌, Some, slice_get}
 use Rattle.crsm_spec.specs.Types.{Line}
-use Rattle.crsm_spec.specs.World.{World as Cluster, Moment}
+use Rattle.crsm_spec.specs.Replica.{Replica}
+use Rattle.crsm_spec.specs.World.{Site, World as Cluster, Moment}
 use Rattle.crsm_world.specs.declared.world.World.{World}
-use Rattle.crsm_world.specs.declared.sites.Sites.{Sites}
-use Rattle.crsm_network.specs.declared.Post.{Post}
-use Rattle.crsm_world.specs.Placed.{SitesStand, SitesPend}
-use Rattle.crsm_network.specs.Mailed.{PostStands}
+use Rattle.crsm_world.specs.declared.machines.Machines.{Machines}
+use Rattle.crsm_network.specs.declared.Network.{Network}
+use Rattle.crsm_world.specs.Machines.{MachinesStand, MachinesPend}
+use Rattle.crsm_network.specs.Packets.{NetworkStands}
 
--- The world has the sites, the datagrams and the bytes of this one on paper.
+-- The world has the machines, the datagrams and the bytes of this one on paper.
 pub record Holds (w : World) (v : Cluster) : Type 0 where
-  pub sites : SitesStand w.sites v.n v.sites
-  pub post : PostStands w.post v.mail v.bytes
+  pub sites : MachinesStand w.sites v.n v.sites
+  pub network : NetworkStands w.network v.packets v.bytes
 
 -- The same where the last steps of replica k are not kept yet.
 pub record HoldsBeside (k : ℕ) (w : World) (v : Cluster) : Type 0 where
-  pub sites : SitesPend k w.sites v.n v.sites
-  pub post : PostStands w.post v.mail v.bytes
+  pub sites : MachinesPend k w.sites v.n v.sites
+  pub network : NetworkStands w.network v.packets v.bytes
 
 -- the world is what the moment leads to, and the lines are its lines
 pub record Leads (m : Moment) (w : World) (lines : List Line) : Type 0 where
   pub after : Holds w m.after
   pub told : lines ≡ m.lines
 
--- the sites and the post are what the moment leads to, and its lines stand behind those before
-pub record LeadsOn (m : Moment) (sites : Sites) (post : Post) (before lines : List Line) : Type 0 where
-  pub places : SitesStand sites m.after.n m.after.sites
-  pub mail : PostStands post m.after.mail m.after.bytes
+-- the machines and the network are what the moment leads to, and its lines stand behind those before
+pub record LeadsOn (m : Moment) (sites : Machines) (network : Network) (before lines : List Line) : Type 0 where
+  pub places : MachinesStand sites m.after.n m.after.sites
+  pub packets : NetworkStands network m.after.packets m.after.bytes
   pub told : lines ≡ before ++ m.lines
 
 -- the same where the last steps of replica k are not kept yet
@@ -45,3 +46,23 @@ StandsFor w v = Stands w v
 -- memory ran out in it: nothing is promised any more
 unfoldable pub IsSpent : World → Type 0
 IsSpent w = w.is_spent ≡ true
+
+-- for each cluster whose parts the world holds
+abbrev pub WhereHolds : World → (Cluster → Type 0) → Type 0
+WhereHolds w P = (v : Cluster) → Holds w v → P v
+
+-- for each cluster that the world stands for
+abbrev pub WhereStands : World → (Cluster → Type 0) → Type 0
+WhereStands w P = (v : Cluster) → StandsFor w v → P v
+
+-- for each cluster that the world holds, where replica k is up
+abbrev pub WhereHeldUp : World → ℕ → (Cluster → Replica → Type 0) → Type 0
+WhereHeldUp w k P = (v : Cluster) (r : Replica) → Holds w v → slice_get v.sites k ≡ Some (Site.Up r) → P v r
+
+-- the same where its last steps are not kept yet
+abbrev pub WhereHeldBeside : World → ℕ → (Cluster → Replica → Type 0) → Type 0
+WhereHeldBeside w k P = (v : Cluster) (r : Replica) → HoldsBeside k w v → slice_get v.sites k ≡ Some (Site.Up r) → P v r
+
+-- the same of whichever replica is up
+abbrev pub WhereSomeUp : World → (Cluster → ℕ → Replica → Type 0) → Type 0
+WhereSomeUp w P = (v : Cluster) (k : ℕ) (r : Replica) → Holds w v → slice_get v.sites k ≡ Some (Site.Up r) → P v k r

@@ -2,7 +2,7 @@
 
 ghost use Rattle.std.specs.Prelude.{◌≡◌, [], ◌∷◌, ◌==◌, not, true, false, is_some, ℕ};
 ghost use Rattle.std.specs.List.{list_any};
-ghost use Rattle.crsm_network.specs.Mailed.{receiver_or};
+ghost use Rattle.crsm_network.specs.Packets.{receiver_or};
 ghost use Rattle.crsm_spec.specs.Possible as possible;
 ghost use Rattle.crsm_spec.specs.World as on_paper;
 ghost use Rattle.crsm_spec.specs.Log.{spec};
@@ -10,7 +10,7 @@ ghost use Rattle.crsm_base.specs.MessageReading.{datagram_of};
 ghost use Rattle.crsm_spec.specs.Acts.{Act, Single as OneStep, Bad as Cause};
 ghost use Rattle.crsm_world.specs.Doing.{act_of, single_of};
 ghost use Rattle.crsm_world.specs.Refusing.{Answers};
-ghost use Rattle.crsm_world.specs.World.{Holds};
+ghost use Rattle.crsm_world.specs.World.{Holds, WhereHolds};
 
 use crate::bad::Bad;
 use crate::replicas::{are_too_few, is_none, one_is_past};
@@ -22,7 +22,7 @@ use crsm_wire::{WireError, read_datagram};
 impl World {
     /// Replica `k` is there and up.
     fn check_up(&self, k: u64) -> Result<(), Bad>
-        ensures { (v : on_paper.World) → Holds self.now v → Answers result (possible.first_bad (possible.causes_at v k)) }
+        ensures { WhereHolds self.now (λ v. Answers result (possible.first_bad (possible.causes_at v k))) }
     {
         if self.sites.count() <= k {
             return Err(Bad::NoSuchReplica);
@@ -35,9 +35,9 @@ impl World {
 
     /// The receiver of a datagram is down.
     fn is_receiver_down(&self, number: u64) -> bool
-        ensures { (v : on_paper.World) → Holds self.now v → result ≡ possible.is_receiver_down v number }
+        ensures { WhereHolds self.now (λ v. result ≡ possible.is_receiver_down v number) }
     {
-        match self.post.receiver(number) {
+        match self.network.receiver(number) {
             Some(to) => !self.sites.is_up(u64::from(to)),
             None => false,
         }
@@ -47,10 +47,10 @@ impl World {
     fn check_go(&self, number: u64) -> Result<(), Bad>
         ensures { (v : on_paper.World) (t : ℕ) → Holds self.now v → Answers result (possible.first_bad (possible.causes_of_single v (OneStep.Go number t))) }
     {
-        if self.post.count() <= number {
+        if self.network.count() <= number {
             return Err(Bad::NoSuchDatagram);
         }
-        if self.post.is_used(number) {
+        if self.network.is_used(number) {
             return Err(Bad::Used);
         }
         if self.is_receiver_down(number) {
@@ -63,10 +63,10 @@ impl World {
     fn check_again(&self, number: u64) -> Result<(), Bad>
         ensures { (v : on_paper.World) (t : ℕ) → Holds self.now v → Answers result (possible.first_bad (possible.causes_of_single v (OneStep.Again number t))) }
     {
-        if self.post.count() <= number {
+        if self.network.count() <= number {
             return Err(Bad::NoSuchDatagram);
         }
-        if !self.post.is_used(number) {
+        if !self.network.is_used(number) {
             return Err(Bad::Fresh);
         }
         if self.is_receiver_down(number) {
@@ -77,12 +77,12 @@ impl World {
 
     /// A datagram is fresh.
     fn check_lose(&self, number: u64) -> Result<(), Bad>
-        ensures { (v : on_paper.World) → Holds self.now v → Answers result (possible.first_bad (possible.causes_of v (Act.Lose number))) }
+        ensures { WhereHolds self.now (λ v. Answers result (possible.first_bad (possible.causes_of v (Act.Lose number)))) }
     {
-        if self.post.count() <= number {
+        if self.network.count() <= number {
             return Err(Bad::NoSuchDatagram);
         }
-        if self.post.is_used(number) {
+        if self.network.is_used(number) {
             return Err(Bad::Used);
         }
         Ok(())
@@ -90,7 +90,7 @@ impl World {
 
     /// A replica can boot.
     fn check_start(&self, k: u64) -> Result<(), Bad>
-        ensures { (v : on_paper.World) → Holds self.now v → Answers result (possible.first_bad (possible.causes_of v (Act.Start k))) }
+        ensures { WhereHolds self.now (λ v. Answers result (possible.first_bad (possible.causes_of v (Act.Start k)))) }
     {
         let count = self.sites.count();
         if is_none(count, k) {
@@ -104,7 +104,7 @@ impl World {
 
     /// One of these is no replica.
     fn lacks_one(&self, members: &[u32]) -> bool
-        ensures { (v : on_paper.World) → Holds self.now v → result ≡ list_any (possible.is_none_of v) members.now }
+        ensures { WhereHolds self.now (λ v. result ≡ list_any (possible.is_none_of v) members.now) }
     {
         let count = self.sites.count();
         one_is_past(count, members)
@@ -112,8 +112,8 @@ impl World {
 
     /// The members are of the Spec of a replica, and fewer than a majority of it.
     fn check_members(&self, k: u64, members: &Members) -> Result<(), Bad>
-        ensures { (v : on_paper.World) → Holds self.now v → on_paper.is_up_at v k ≡ true →
-            Answers result (possible.first_bad ((possible.are_too_few (spec v.n (on_paper.log_at v k)) members.now, Cause.TooFew) ∷ [])) }
+        ensures { WhereHolds self.now (λ v. on_paper.is_up_at v k ≡ true →
+            Answers result (possible.first_bad ((possible.are_too_few (spec v.n (on_paper.log_at v k)) members.now, Cause.TooFew) ∷ []))) }
     {
         let Some(spec) = self.sites.spec(k)? else {
             return Ok(());
@@ -169,7 +169,7 @@ impl World {
 
     /// A step of one replica is possible.
     fn check_single(&self, single: &Single) -> Result<(), Bad>
-        ensures { (v : on_paper.World) → Holds self.now v → Answers result (possible.first_bad (possible.causes_of_single v (single_of single.now))) }
+        ensures { WhereHolds self.now (λ v. Answers result (possible.first_bad (possible.causes_of_single v (single_of single.now)))) }
     {
         match single {
             Single::Request { replica, .. } => self.check_up(*replica),
@@ -186,11 +186,11 @@ impl World {
     }
 
     /// One of these was not sent.
-    fn lacks_mail(&self, numbers: &[u64]) -> bool
-        ensures { (v : on_paper.World) → Holds self.now v → result ≡ list_any (possible.is_not_sent v) numbers.now }
+    fn lacks_packets(&self, numbers: &[u64]) -> bool
+        ensures { WhereHolds self.now (λ v. result ≡ list_any (possible.is_not_sent v) numbers.now) }
     {
         for number in numbers {
-            if self.post.count() <= *number {
+            if self.network.count() <= *number {
                 return true;
             }
         }
@@ -199,10 +199,10 @@ impl World {
 
     /// One of these is used.
     fn has_used(&self, numbers: &[u64]) -> bool
-        ensures { (v : on_paper.World) → Holds self.now v → result ≡ list_any (possible.is_used v) numbers.now }
+        ensures { WhereHolds self.now (λ v. result ≡ list_any (possible.is_used v) numbers.now) }
     {
         for number in numbers {
-            if self.post.is_used(*number) {
+            if self.network.is_used(*number) {
                 return true;
             }
         }
@@ -211,7 +211,7 @@ impl World {
 
     /// The receiver of one of these is down.
     fn has_receiver_down(&self, numbers: &[u64]) -> bool
-        ensures { (v : on_paper.World) → Holds self.now v → result ≡ list_any (possible.is_receiver_down v) numbers.now }
+        ensures { WhereHolds self.now (λ v. result ≡ list_any (possible.is_receiver_down v) numbers.now) }
     {
         for number in numbers {
             if self.is_receiver_down(*number) {
@@ -223,20 +223,23 @@ impl World {
 
     /// The receivers of these are not all the same.
     fn are_mixed(&self, numbers: &[u64]) -> bool
-        ensures { (v : on_paper.World) → Holds self.now v → list_any (possible.is_not_sent v) numbers.now ≡ false → result ≡ possible.are_mixed (possible.receivers v numbers.now) }
+        ensures { WhereHolds self.now (λ v. list_any (possible.is_not_sent v) numbers.now ≡ false → result ≡ possible.are_mixed (possible.receivers v numbers.now)) }
     {
         match numbers.split_first() {
-            Some((first, others)) => self.one_is_for_another(self.post.receiver_or(*first), others),
+            Some((first, others)) => self.one_is_for_another(
+                self.network.receiver_or(*first),
+                others,
+            ),
             None => false,
         }
     }
 
     /// One of these has another receiver.
     fn one_is_for_another(&self, to: u32, numbers: &[u64]) -> bool
-        ensures { (v : on_paper.World) → Holds self.now v → result ≡ list_any (λ i. not (receiver_or v.mail i == to)) numbers.now }
+        ensures { WhereHolds self.now (λ v. result ≡ list_any (λ i. not (receiver_or v.packets i == to)) numbers.now) }
     {
         for number in numbers {
-            if self.post.receiver_or(*number) != to {
+            if self.network.receiver_or(*number) != to {
                 return true;
             }
         }
@@ -245,9 +248,9 @@ impl World {
 
     /// Deliveries together are possible.
     fn check_batch(&self, numbers: &[u64]) -> Result<(), Bad>
-        ensures { (v : on_paper.World) → Holds self.now v → Answers result (possible.first_bad (possible.causes_of_batch v numbers.now)) }
+        ensures { WhereHolds self.now (λ v. Answers result (possible.first_bad (possible.causes_of_batch v numbers.now))) }
     {
-        if self.lacks_mail(numbers) {
+        if self.lacks_packets(numbers) {
             return Err(Bad::NoSuchDatagram);
         }
         if self.has_used(numbers) {
@@ -264,7 +267,7 @@ impl World {
 
     /// An event is possible in a world that is not full.
     fn check_event(&self, event: &Event) -> Result<(), Bad>
-        ensures { (v : on_paper.World) → Holds self.now v → Answers result (possible.first_bad (possible.causes_of v (act_of event.now))) }
+        ensures { WhereHolds self.now (λ v. Answers result (possible.first_bad (possible.causes_of v (act_of event.now)))) }
     {
         match event {
             Event::One { single } => self.check_single(single),
@@ -282,11 +285,11 @@ impl World {
 
     /// An event is possible; else the first cause why not.
     pub(crate) fn check(&self, event: &Event) -> Result<(), Bad>
-        ensures { (v : on_paper.World) → Holds self.now v → Answers result (possible.possible v (act_of event.now)) }
+        ensures { WhereHolds self.now (λ v. Answers result (possible.possible v (act_of event.now))) }
     {
-        if self.post.is_full() {
+        if self.network.is_full() {
             return Err(Bad::Full {
-                bytes: self.post.bytes(),
+                bytes: self.network.bytes(),
             });
         }
         self.check_event(event)

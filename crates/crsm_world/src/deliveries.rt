@@ -12,14 +12,14 @@ ghost use Rattle.crsm_spec.specs.World as on_paper;
 ghost use Rattle.crsm_base.specs.declared.Datagram.{Datagram as Message};
 ghost use Rattle.crsm_base.specs.Messages.{datagram_bytes};
 ghost use Rattle.crsm_world.specs.Doing.{single_of};
-ghost use Rattle.crsm_world.specs.World.{Holds, Leads, LeadsOn};
+ghost use Rattle.crsm_world.specs.World.{Holds, Leads, LeadsOn, WhereHolds};
 ghost use Rattle.crsm_world.specs.Turning.{ending_of, FitsEnding, IsGenuine, turn_at};
 
 use crate::ending::Ending;
 use crate::outgoing::leave;
 use crate::world::World;
 use crsm_base::{Bytes, Command, Datagram, Lines, MAX_DATAGRAM_BYTES, NoMemory, never};
-use crsm_machine::Coming;
+use crsm_machine::Arrival;
 use crsm_schedule::Single;
 use crsm_wire::write_datagram;
 
@@ -29,17 +29,17 @@ impl World {
         &mut self,
         k: u64,
         ending: Ending,
-        coming: Coming<'_>,
+        arrival: Arrival<'_>,
         reading: u64,
         lines: &mut Lines,
     ) -> Result<(), NoMemory>
         requires ends { FitsEnding ending }
-        requires short { IsShort coming }
-        ensures { OnOk result ((v : on_paper.World) → Holds self.old v →
-            LeadsOn (turn_at (ending_of ending) v k (turn_of coming.entry) reading) self.new.sites self.new.post lines.old lines.new) }
+        requires short { IsShort arrival }
+        ensures { OnOk result (WhereHolds self.old (λ v.
+            LeadsOn (turn_at (ending_of ending) v k (turn_of arrival.entry) reading) self.new.sites self.new.network lines.old lines.new)) }
     {
-        let leaving = self.sites.arrive(k, ending, coming, reading)?;
-        leave(self.alloc, &mut self.post, leaving, lines)?;
+        let effects = self.sites.arrive(k, ending, arrival, reading)?;
+        leave(self.alloc, &mut self.network, effects, lines)?;
         Ok(())
     }
 
@@ -54,15 +54,15 @@ impl World {
         lines: &mut Lines,
     ) -> Result<(), NoMemory>
         requires { FitsEnding ending }
-        ensures { OnOk result ((v : on_paper.World) → Holds self.old v →
-            LeadsOn (turn_at (ending_of ending) v k (Turn.In from bytes.now) reading) self.new.sites self.new.post lines.old lines.new) }
+        ensures { OnOk result (WhereHolds self.old (λ v.
+            LeadsOn (turn_at (ending_of ending) v k (Turn.In from bytes.now) reading) self.new.sites self.new.network lines.old lines.new)) }
     {
         // No datagram is longer.
         if bytes.len() > MAX_DATAGRAM_BYTES as usize {
             return Err(never());
         }
-        let coming = Coming::Bytes { from, bytes };
-        self.arrive(k, ending, coming, reading, lines)?;
+        let arrival = Arrival::Bytes { from, bytes };
+        self.arrive(k, ending, arrival, reading, lines)?;
         Ok(())
     }
 
@@ -75,24 +75,24 @@ impl World {
         lines: &mut Lines,
     ) -> Result<(), NoMemory>
         requires { FitsEnding ending }
-        ensures { OnOk result ((v : on_paper.World) → Holds self.old v →
-            LeadsOn (moments.come (ending_of ending) v reading (slice_get v.mail number)) self.new.sites self.new.post lines.old lines.new) }
+        ensures { OnOk result (WhereHolds self.old (λ v.
+            LeadsOn (moments.come (ending_of ending) v reading (slice_get v.packets number)) self.new.sites self.new.network lines.old lines.new)) }
     {
-        let Some(letter) = self.post.letter(number) else {
+        let Some(packet) = self.network.packet(number) else {
             return Ok(());
         };
         // No datagram is longer.
-        if letter.bytes.len() > MAX_DATAGRAM_BYTES as usize {
+        if packet.bytes.len() > MAX_DATAGRAM_BYTES as usize {
             return Err(never());
         }
-        let coming = Coming::Bytes {
-            from: u64::from(letter.from),
-            bytes: letter.bytes,
+        let arrival = Arrival::Bytes {
+            from: u64::from(packet.from),
+            bytes: packet.bytes,
         };
-        let leaving = self
+        let effects = self
             .sites
-            .arrive(u64::from(letter.to), ending, coming, reading)?;
-        leave(self.alloc, &mut self.post, leaving, lines)?;
+            .arrive(u64::from(packet.to), ending, arrival, reading)?;
+        leave(self.alloc, &mut self.network, effects, lines)?;
         Ok(())
     }
 
@@ -105,10 +105,10 @@ impl World {
         lines: &mut Lines,
     ) -> Result<(), NoMemory>
         requires { FitsEnding ending }
-        ensures { OnOk result ((v : on_paper.World) → Holds self.old v →
-            LeadsOn (moments.single (ending_of ending) v (OneStep.Go number reading)) self.new.sites self.new.post lines.old lines.new) }
+        ensures { OnOk result (WhereHolds self.old (λ v.
+            LeadsOn (moments.single (ending_of ending) v (OneStep.Go number reading)) self.new.sites self.new.network lines.old lines.new)) }
     {
-        self.post.use_up(number);
+        self.network.use_up(number);
         self.come(ending, number, reading, lines)?;
         Ok(())
     }
@@ -124,8 +124,8 @@ impl World {
     ) -> Result<(), NoMemory>
         requires ends { FitsEnding ending }
         requires fits { FitsCommand command.now }
-        ensures { OnOk result ((v : on_paper.World) → Holds self.old v →
-            LeadsOn (turn_at (ending_of ending) v k (Turn.In command.now.client (datagram_bytes (Message.Request command.now))) reading) self.new.sites self.new.post lines.old lines.new) }
+        ensures { OnOk result (WhereHolds self.old (λ v.
+            LeadsOn (turn_at (ending_of ending) v k (Turn.In command.now.client (datagram_bytes (Message.Request command.now))) reading) self.new.sites self.new.network lines.old lines.new)) }
     {
         let datagram = Datagram::Request {
             command: command.copy(self.alloc)?,
@@ -145,8 +145,8 @@ impl World {
     ) -> Result<(), NoMemory>
         requires ends { FitsEnding ending }
         requires fits { FitsSingle single.now }
-        ensures { OnOk result ((v : on_paper.World) → Holds self.old v → IsGenuine single.now →
-            LeadsOn (moments.single (ending_of ending) v (single_of single.now)) self.new.sites self.new.post lines.old lines.new) }
+        ensures { OnOk result (WhereHolds self.old (λ v. IsGenuine single.now →
+            LeadsOn (moments.single (ending_of ending) v (single_of single.now)) self.new.sites self.new.network lines.old lines.new)) }
     {
         match single {
             Single::Request {
@@ -157,15 +157,15 @@ impl World {
             Single::Go { number, reading } => Ok(self.go(ending, *number, *reading, lines)?),
             Single::Again { number, reading } => Ok(self.come(ending, *number, *reading, lines)?),
             Single::Tick { replica, reading } => {
-                Ok(self.arrive(*replica, ending, Coming::Tick, *reading, lines)?)
+                Ok(self.arrive(*replica, ending, Arrival::Tick, *reading, lines)?)
             }
             Single::Suspect {
                 replica,
                 reading,
                 members,
             } => {
-                let coming = Coming::Suspect(members.copy(self.alloc)?);
-                Ok(self.arrive(*replica, ending, coming, *reading, lines)?)
+                let arrival = Arrival::Suspect(members.copy(self.alloc)?);
+                Ok(self.arrive(*replica, ending, arrival, *reading, lines)?)
             }
             Single::Junk {
                 replica,
@@ -179,8 +179,8 @@ impl World {
     pub(crate) fn do_single(&mut self, ending: Ending, single: &Single) -> Result<Lines, NoMemory>
         requires ends { FitsEnding ending }
         requires fits { FitsSingle single.now }
-        ensures { IfOk result (λ lines. (v : on_paper.World) → Holds self.old v → IsGenuine single.now →
-            Leads (moments.single (ending_of ending) v (single_of single.now)) self.new lines) }
+        ensures { IfOk result (λ lines. WhereHolds self.old (λ v. IsGenuine single.now →
+            Leads (moments.single (ending_of ending) v (single_of single.now)) self.new lines)) }
     {
         let mut lines = self.no_lines();
         self.add_single(ending, single, &mut lines)?;

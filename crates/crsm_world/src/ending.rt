@@ -24,7 +24,7 @@ pub(crate) enum Ending {
 
 /// What came of a replica where something came to it, before its datagrams and lines are out.
 #[derive(Drop)]
-pub(crate) enum Leaving {
+pub(crate) enum Effects {
     /// It was not up.
     Nothing,
     /// All of its step goes out.

@@ -6,26 +6,31 @@ ghost use Rattle.crsm_spec.specs.Moments as moments;
 ghost use Rattle.crsm_spec.specs.Node.{turn};
 ghost use Rattle.crsm_spec.specs.Replica.{Replica};
 ghost use Rattle.crsm_spec.specs.World as on_paper;
-ghost use Rattle.crsm_world.specs.Leaving.{Leaves, FitsLeaving};
+ghost use Rattle.crsm_world.specs.Effects.{Leaves, FitsEffects, WhereUpIn};
 ghost use Rattle.crsm_world.specs.Turning.{ending_of, FitsEnding, turn_at};
-ghost use Rattle.crsm_world.specs.Placed.{SitesStand};
+ghost use Rattle.crsm_world.specs.Machines.{MachinesStand};
 
-use crate::ending::{Ending, Leaving, Stop};
-use crate::sites::Sites;
+use crate::ending::{Effects, Ending, Stop};
+use crate::machines::Machines;
 use crsm_base::NoMemory;
-use crsm_machine::Coming;
+use crsm_machine::Arrival;
 
-impl Sites {
+impl Machines {
     /// A whole step of a replica that is up.
-    fn step_whole(&mut self, k: u32, coming: Coming<'_>, reading: u64) -> Result<Leaving, NoMemory>
+    fn step_whole(
+        &mut self,
+        k: u32,
+        arrival: Arrival<'_>,
+        reading: u64,
+    ) -> Result<Effects, NoMemory>
         requires within { k < length self.old.items.items }
-        requires short { IsShort coming }
-        ensures leaves { IfOk result (λ leaving. (v : on_paper.World) (r : Replica) → SitesStand self.old v.n v.sites → slice_get v.sites k ≡ Some (on_paper.Site.Up r) →
-            Leaves (on_paper.whole_step v k (turn r (turn_of coming.entry, reading))) v leaving self.new) }
-        ensures spelt { IfOk result (λ leaving. FitsLeaving leaving) }
+        requires short { IsShort arrival }
+        ensures leaves { IfOk result (λ effects. WhereUpIn self.old k (λ v r.
+            Leaves (on_paper.whole_step v k (turn r (turn_of arrival.entry, reading))) v effects self.new)) }
+        ensures spelt { IfOk result (λ effects. FitsEffects effects) }
     {
-        let step = self.step(k, coming, reading)?;
-        Ok(Leaving::Whole { k, step })
+        let step = self.step(k, arrival, reading)?;
+        Ok(Effects::Whole { k, step })
     }
 
     /// A step of a replica that is up, which stops when its records are kept and so many of its sends are out.
@@ -33,29 +38,29 @@ impl Sites {
         &mut self,
         k: u32,
         sends: u64,
-        coming: Coming<'_>,
+        arrival: Arrival<'_>,
         reading: u64,
-    ) -> Result<Leaving, NoMemory>
+    ) -> Result<Effects, NoMemory>
         requires within { k < length self.old.items.items }
-        requires short { IsShort coming }
-        ensures leaves { IfOk result (λ leaving. (v : on_paper.World) (r : Replica) → SitesStand self.old v.n v.sites → slice_get v.sites k ≡ Some (on_paper.Site.Up r) →
-            Leaves (on_paper.cut_step sends v k (turn r (turn_of coming.entry, reading))) v leaving self.new) }
-        ensures spelt { IfOk result (λ leaving. FitsLeaving leaving) }
+        requires short { IsShort arrival }
+        ensures leaves { IfOk result (λ effects. WhereUpIn self.old k (λ v r.
+            Leaves (on_paper.cut_step sends v k (turn r (turn_of arrival.entry, reading))) v effects self.new)) }
+        ensures spelt { IfOk result (λ effects. FitsEffects effects) }
     {
-        let step = self.step(k, coming, reading)?;
+        let step = self.step(k, arrival, reading)?;
         self.crash(k)?;
-        Ok(Leaving::Cut { k, step, sends })
+        Ok(Effects::Cut { k, step, sends })
     }
 
     /// A replica goes down with what is on its disk.
-    pub fn go_down(&mut self, k: u32) -> Result<Leaving, NoMemory>
+    pub fn go_down(&mut self, k: u32) -> Result<Effects, NoMemory>
         requires { k < length self.old.items.items }
-        ensures leaves { IfOk result (λ leaving. (v : on_paper.World) (p : on_paper.Site) → SitesStand self.old v.n v.sites → slice_get v.sites k ≡ Some p →
-            Leaves (on_paper.down v k) v leaving self.new) }
-        ensures spelt { IfOk result (λ leaving. FitsLeaving leaving) }
+        ensures leaves { IfOk result (λ effects. (v : on_paper.World) (p : on_paper.Site) → MachinesStand self.old v.n v.sites → slice_get v.sites k ≡ Some p →
+            Leaves (on_paper.down v k) v effects self.new) }
+        ensures spelt { IfOk result (λ effects. FitsEffects effects) }
     {
         self.crash(k)?;
-        Ok(Leaving::Down { k })
+        Ok(Effects::Down { k })
     }
 
     /// A step of a replica that is up, which stops within its put.
@@ -63,19 +68,19 @@ impl Sites {
         &mut self,
         k: u32,
         stop: Stop,
-        coming: Coming<'_>,
+        arrival: Arrival<'_>,
         reading: u64,
-    ) -> Result<Leaving, NoMemory>
+    ) -> Result<Effects, NoMemory>
         requires within { k < length self.old.items.items }
         requires calls { stop.calls ≤ 4 }
-        requires short { IsShort coming }
-        ensures leaves { IfOk result (λ leaving. (v : on_paper.World) (r : Replica) → SitesStand self.old v.n v.sites → slice_get v.sites k ≡ Some (on_paper.Site.Up r) →
-            Leaves (moments.cut_at stop.calls stop.fill v k (turn r (turn_of coming.entry, reading))) v leaving self.new) }
-        ensures spelt { IfOk result (λ leaving. FitsLeaving leaving) }
+        requires short { IsShort arrival }
+        ensures leaves { IfOk result (λ effects. WhereUpIn self.old k (λ v r.
+            Leaves (moments.cut_at stop.calls stop.fill v k (turn r (turn_of arrival.entry, reading))) v effects self.new)) }
+        ensures spelt { IfOk result (λ effects. FitsEffects effects) }
     {
-        match self.cut_at(k, stop, coming, reading)? {
-            Some(step) => Ok(Leaving::Cut { k, step, sends: 0 }),
-            None => Ok(Leaving::Down { k }),
+        match self.cut_at(k, stop, arrival, reading)? {
+            Some(step) => Ok(Effects::Cut { k, step, sends: 0 }),
+            None => Ok(Effects::Down { k }),
         }
     }
 
@@ -84,27 +89,27 @@ impl Sites {
         &mut self,
         k: u64,
         ending: Ending,
-        coming: Coming<'_>,
+        arrival: Arrival<'_>,
         reading: u64,
-    ) -> Result<Leaving, NoMemory>
+    ) -> Result<Effects, NoMemory>
         requires ends { FitsEnding ending }
-        requires short { IsShort coming }
-        ensures leaves { IfOk result (λ leaving. (v : on_paper.World) → SitesStand self.old v.n v.sites →
-            Leaves (turn_at (ending_of ending) v k (turn_of coming.entry) reading) v leaving self.new) }
-        ensures spelt { IfOk result (λ leaving. FitsLeaving leaving) }
+        requires short { IsShort arrival }
+        ensures leaves { IfOk result (λ effects. (v : on_paper.World) → MachinesStand self.old v.n v.sites →
+            Leaves (turn_at (ending_of ending) v k (turn_of arrival.entry) reading) v effects self.new) }
+        ensures spelt { IfOk result (λ effects. FitsEffects effects) }
     {
         let Some(k) = self.up(k) else {
-            return Ok(Leaving::Nothing);
+            return Ok(Effects::Nothing);
         };
         match ending {
-            Ending::Whole => Ok(self.step_whole(k, coming, reading)?),
-            Ending::Kept { sends } => Ok(self.step_kept(k, sends, coming, reading)?),
+            Ending::Whole => Ok(self.step_whole(k, arrival, reading)?),
+            Ending::Kept { sends } => Ok(self.step_kept(k, sends, arrival, reading)?),
             Ending::Lost => {
                 // What is not synced then reads as an open gate, and its records are lost all the same.
                 let stop = Stop { calls: 1, fill: 1 };
-                Ok(self.step_stopped(k, stop, coming, reading)?)
+                Ok(self.step_stopped(k, stop, arrival, reading)?)
             }
-            Ending::At { stop } => Ok(self.step_stopped(k, stop, coming, reading)?),
+            Ending::At { stop } => Ok(self.step_stopped(k, stop, arrival, reading)?),
         }
     }
 }

@@ -7,7 +7,7 @@ ghost use Rattle.crsm_spec.specs.Acts.{Act};
 ghost use Rattle.crsm_spec.specs.Possible.{possible};
 ghost use Rattle.crsm_spec.specs.World as on_paper;
 ghost use Rattle.crsm_world.specs.Doing.{act_of};
-ghost use Rattle.crsm_world.specs.World.{Holds, Leads};
+ghost use Rattle.crsm_world.specs.World.{Holds, Leads, WhereHolds};
 ghost use Rattle.crsm_world.specs.Starting.{CanStart};
 
 use crate::ending::{Ending, Stop};
@@ -19,40 +19,40 @@ use crsm_schedule::Event;
 impl World {
     /// A datagram is lost.
     fn lose(&mut self, number: u64) -> Lines
-        ensures { (v : on_paper.World) → Holds self.old v → Leads (act v (Act.Lose number)) self.new result }
+        ensures { WhereHolds self.old (λ v. Leads (act v (Act.Lose number)) self.new result) }
     {
-        self.post.use_up(number);
+        self.network.use_up(number);
         Lines::new(self.alloc)
     }
 
     /// A replica that is up goes down.
     fn crash(&mut self, replica: u64) -> Result<Lines, NoMemory>
-        ensures { IfOk result (λ lines. (v : on_paper.World) → Holds self.old v → on_paper.is_up_at v replica ≡ true → Leads (on_paper.down v replica) self.new lines) }
+        ensures { IfOk result (λ lines. WhereHolds self.old (λ v. on_paper.is_up_at v replica ≡ true → Leads (on_paper.down v replica) self.new lines)) }
     {
         let Some(k) = self.sites.up(replica) else {
             return Ok(Lines::new(self.alloc));
         };
-        let leaving = self.sites.go_down(k)?;
+        let effects = self.sites.go_down(k)?;
         let mut lines = Lines::new(self.alloc);
-        leave(self.alloc, &mut self.post, leaving, &mut lines)?;
+        leave(self.alloc, &mut self.network, effects, &mut lines)?;
         Ok(lines)
     }
 
     /// A replica that is down, or the next new one, boots.
     pub(crate) fn start(&mut self, replica: u64) -> Result<Lines, NoMemory>
-        ensures { IfOk result (λ lines. (v : on_paper.World) → Holds self.old v → CanStart v replica → Leads (start_at v replica) self.new lines) }
+        ensures { IfOk result (λ lines. WhereHolds self.old (λ v. CanStart v replica → Leads (start_at v replica) self.new lines)) }
     {
         let Some(boot) = self.sites.start(replica)? else {
             return Ok(Lines::new(self.alloc));
         };
-        self.post.keep(boot.size)?;
+        self.network.keep(boot.size)?;
         Ok(boot.lines)
     }
 
     /// Does an event that is possible.
     pub(crate) fn happen(&mut self, event: &Event) -> Result<Lines, NoMemory>
         requires { FitsEvent event.now }
-        ensures { IfOk result (λ lines. (v : on_paper.World) → Holds self.old v → possible v (act_of event.now) ≡ None → Leads (act v (act_of event.now)) self.new lines) }
+        ensures { IfOk result (λ lines. WhereHolds self.old (λ v. possible v (act_of event.now) ≡ None → Leads (act v (act_of event.now)) self.new lines)) }
     {
         match event {
             Event::One { single } => Ok(self.do_single(Ending::Whole, single)?),

@@ -6,23 +6,23 @@ ghost use Rattle.crsm_spec.specs.Acts.{Single as OneStep};
 ghost use Rattle.crsm_spec.specs.Moments as moments;
 ghost use Rattle.crsm_spec.specs.Replica.{Replica};
 ghost use Rattle.crsm_spec.specs.World as on_paper;
-ghost use Rattle.crsm_world.specs.World.{Holds, HoldsBeside, Leads, LeadsBeside};
+ghost use Rattle.crsm_world.specs.World.{Holds, HoldsBeside, Leads, LeadsBeside, WhereHolds, WhereHeldBeside, WhereHeldUp, WhereSomeUp};
 ghost use Rattle.crsm_world.specs.Several.{AreFor, IsFor, each_gone, all_gone};
 
 use crate::ending::Ending;
 use crate::outgoing::let_all_out;
 use crate::world::World;
 use crsm_base::{Lines, MAX_DATAGRAM_BYTES, NoMemory, never};
-use crsm_machine::{Coming, sites_pend_nothing};
+use crsm_machine::{Arrival, machines_pend_nothing};
 
 impl World {
     /// Delivers these in their order, each as a moment of its own, up to where the world is full.
     fn deliver_each(&mut self, reading: u64, due: &[u64]) -> Result<Lines, NoMemory>
-        ensures { IfOk result (λ lines. (v : on_paper.World) → Holds self.old v → Leads (each_gone reading due.now v) self.new lines) }
+        ensures { IfOk result (λ lines. WhereHolds self.old (λ v. Leads (each_gone reading due.now v) self.new lines)) }
     {
         let mut lines = self.no_lines();
         for number in due {
-            if self.post.is_full() {
+            if self.network.is_full() {
                 return Ok(lines);
             }
             self.go(Ending::Whole, *number, reading, &mut lines)?;
@@ -32,10 +32,10 @@ impl World {
 
     /// Delivers all that is fresh now and whose receiver is up.
     pub(crate) fn settle(&mut self, reading: u64) -> Result<Lines, NoMemory>
-        ensures { IfOk result (λ lines. (v : on_paper.World) → Holds self.old v → Leads (each_gone reading (moments.deliverable v) v) self.new lines) }
+        ensures { IfOk result (λ lines. WhereHolds self.old (λ v. Leads (each_gone reading (moments.deliverable v) v) self.new lines)) }
     {
         let ups = self.sites.ups()?;
-        let due = self.post.due(&ups)?;
+        let due = self.network.due(&ups)?;
         let lines = self.deliver_each(reading, &due)?;
         Ok(lines)
     }
@@ -43,35 +43,35 @@ impl World {
     /// Delivers a datagram to replica `k`, which is up, as one of the steps that are kept together.
     fn take(&mut self, k: u32, number: u64, reading: u64) -> Result<Lines, NoMemory>
         requires { k < length self.old.sites.items.items }
-        ensures leads { IfOk result (λ lines. (v : on_paper.World) (r : Replica) → HoldsBeside k self.old v → slice_get v.sites k ≡ Some (on_paper.Site.Up r) → IsFor k v.mail number →
-            LeadsBeside k (moments.single on_paper.whole_step v (OneStep.Go number reading)) self.new lines) }
+        ensures leads { IfOk result (λ lines. WhereHeldBeside self.old k (λ v r. IsFor k v.packets number →
+            LeadsBeside k (moments.single on_paper.whole_step v (OneStep.Go number reading)) self.new lines)) }
         ensures count { OnOk result (length self.new.sites.items.items ≡ length self.old.sites.items.items) }
     {
         let mut lines = Lines::new(self.alloc);
-        let Some(letter) = self.post.letter(number) else {
+        let Some(packet) = self.network.packet(number) else {
             return Ok(lines);
         };
         // No datagram is longer.
-        if letter.bytes.len() > MAX_DATAGRAM_BYTES as usize {
+        if packet.bytes.len() > MAX_DATAGRAM_BYTES as usize {
             return Err(never());
         }
-        let coming = Coming::Bytes {
-            from: u64::from(letter.from),
-            bytes: letter.bytes,
+        let arrival = Arrival::Bytes {
+            from: u64::from(packet.from),
+            bytes: packet.bytes,
         };
-        let step = self.sites.take(k, coming, reading)?;
-        self.post.use_up(number);
-        let_all_out(self.alloc, &mut self.post, k, step, &mut lines)?;
+        let step = self.sites.take(k, arrival, reading)?;
+        self.network.use_up(number);
+        let_all_out(self.alloc, &mut self.network, k, step, &mut lines)?;
         Ok(lines)
     }
 
     /// Delivers these to replica `k`, which is up: their steps are kept together.
     fn deliver_to(&mut self, k: u32, reading: u64, numbers: &[u64]) -> Result<Lines, NoMemory>
         requires { k < length self.old.sites.items.items }
-        ensures { IfOk result (λ lines. (v : on_paper.World) (r : Replica) → Holds self.old v → slice_get v.sites k ≡ Some (on_paper.Site.Up r) → AreFor k v.mail numbers.now →
-            Leads (all_gone reading numbers.now v) self.new lines) }
+        ensures { IfOk result (λ lines. WhereHeldUp self.old k (λ v r. AreFor k v.packets numbers.now →
+            Leads (all_gone reading numbers.now v) self.new lines)) }
     {
-        sites_pend_nothing();
+        machines_pend_nothing();
         let mut lines = Lines::new(self.alloc);
         for number in numbers {
             let mut more = self.take(k, *number, reading)?;
@@ -87,13 +87,13 @@ impl World {
         reading: u64,
         numbers: &[u64],
     ) -> Result<Lines, NoMemory>
-        ensures { IfOk result (λ lines. (v : on_paper.World) (k : ℕ) (r : Replica) → Holds self.old v → slice_get v.sites k ≡ Some (on_paper.Site.Up r) → AreFor k v.mail numbers.now →
-            Leads (all_gone reading numbers.now v) self.new lines) }
+        ensures { IfOk result (λ lines. WhereSomeUp self.old (λ v k r. AreFor k v.packets numbers.now →
+            Leads (all_gone reading numbers.now v) self.new lines)) }
     {
         let Some((first, _)) = numbers.split_first() else {
             return Ok(Lines::new(self.alloc));
         };
-        let Some(to) = self.post.receiver(*first) else {
+        let Some(to) = self.network.receiver(*first) else {
             return Ok(Lines::new(self.alloc));
         };
         let Some(k) = self.sites.up(u64::from(to)) else {
@@ -105,16 +105,16 @@ impl World {
 
     /// These datagrams are used.
     fn use_up_all(&mut self, numbers: &[u64])
-        ensures { (v : on_paper.World) → Holds self.old v → Holds self.new (fold (λ u j. moments.use_up j u) v numbers.now) }
+        ensures { WhereHolds self.old (λ v. Holds self.new (fold (λ u j. moments.use_up j u) v numbers.now)) }
     {
         for number in numbers {
-            self.post.use_up(*number);
+            self.network.use_up(*number);
         }
     }
 
     /// The first of these is delivered, and its step is lost; the others are used.
     pub(crate) fn lose_together(&mut self, reading: u64, numbers: &[u64]) -> Result<Lines, NoMemory>
-        ensures { IfOk result (λ lines. (v : on_paper.World) → Holds self.old v → Leads (moments.lose_batch reading numbers.now v) self.new lines) }
+        ensures { IfOk result (λ lines. WhereHolds self.old (λ v. Leads (moments.lose_batch reading numbers.now v) self.new lines)) }
     {
         let Some((first, others)) = numbers.split_first() else {
             return Ok(Lines::new(self.alloc));

@@ -10,9 +10,9 @@ mod events;
 mod founders;
 mod groups;
 mod lines;
+mod machines;
 mod outgoing;
 mod replicas;
-mod sites;
 mod world;
 
 pub use bad::Bad;

@@ -6,42 +6,42 @@ ghost use Rattle.crsm_core.specs.Core.{FitsSent};
 ghost use Rattle.crsm_machine.specs.Outcomes.{Makes};
 ghost use Rattle.crsm_spec.specs.Draft.{Draft};
 ghost use Rattle.crsm_spec.specs.World as on_paper;
-ghost use Rattle.crsm_world.specs.Leaving.{LetsOut, Leaves, FitsLeaving};
+ghost use Rattle.crsm_world.specs.Effects.{LetsOut, Leaves, FitsEffects, WhereMade};
 ghost use Rattle.crsm_world.specs.World.{LeadsOn};
-ghost use Rattle.crsm_world.specs.declared.sites.Sites.{Sites};
-ghost use Rattle.crsm_network.specs.Mailed.{PostStands};
+ghost use Rattle.crsm_world.specs.declared.machines.Machines.{Machines};
+ghost use Rattle.crsm_network.specs.Packets.{NetworkStands};
 
-use crate::ending::Leaving;
+use crate::ending::Effects;
 use crate::lines::{add, add_first};
 use crsm_base::{Line, Lines, NoMemory};
 use crsm_machine::Step;
-use crsm_network::{Post, letters_in};
+use crsm_network::{Network, packets_in};
 use std::alloc::Global;
 
 /// A step of replica `k` is kept, and so many of its sends and replies go out. Its own lines come first, then those
 /// of the sends, then those of the replies, all behind the lines so far.
 pub(crate) fn let_out(
     alloc: Global,
-    post: &mut Post,
+    network: &mut Network,
     k: u32,
     step: Step,
     count: u64,
     lines: &mut Lines,
 ) -> Result<(), NoMemory>
     requires { AllByRecursion FitsSent step.batch.sends }
-    ensures { OnOk result ((mail : List on_paper.Mail) (bytes : ℕ) (x : Draft) → PostStands post.old mail bytes → Makes step x →
-        LetsOut lines.old mail bytes k x (take count x.sends) (take (count - length x.sends) x.replies) post.new lines.new) }
+    ensures { OnOk result (WhereMade network.old step (λ packets bytes x.
+        LetsOut lines.old packets bytes k x (take count x.sends) (take (count - length x.sends) x.replies) network.new lines.new)) }
 {
     let mut step = step;
     let sent = step.batch.sends.as_slice().len();
-    let letters = letters_in(step.batch.sends.as_slice());
+    let packets = packets_in(step.batch.sends.as_slice());
     let told = step.batch.lines.as_slice().len();
-    let own = told.saturating_sub(sent - letters);
+    let own = told.saturating_sub(sent - packets);
     let out = count.min(sent as u64) as usize;
     add_first(alloc, &mut step.batch.lines, own, lines)?;
-    post.keep(step.size)?;
-    post.send_all(k, &step.batch.sends.as_slice()[..out], lines)?;
-    let shown = out.saturating_sub(letters);
+    network.keep(step.size)?;
+    network.send_all(k, &step.batch.sends.as_slice()[..out], lines)?;
+    let shown = out.saturating_sub(packets);
     add_replies(alloc, &step.batch.lines, own, shown, lines)?;
     Ok(())
 }
@@ -65,40 +65,40 @@ fn add_replies(
 /// The same where all of it goes out.
 pub(crate) fn let_all_out(
     alloc: Global,
-    post: &mut Post,
+    network: &mut Network,
     k: u32,
     step: Step,
     lines: &mut Lines,
 ) -> Result<(), NoMemory>
     requires { AllByRecursion FitsSent step.batch.sends }
-    ensures { OnOk result ((mail : List on_paper.Mail) (bytes : ℕ) (x : Draft) → PostStands post.old mail bytes → Makes step x →
-        LetsOut lines.old mail bytes k x x.sends x.replies post.new lines.new) }
+    ensures { OnOk result (WhereMade network.old step (λ packets bytes x.
+        LetsOut lines.old packets bytes k x x.sends x.replies network.new lines.new)) }
 {
     let all = step.batch.sends.as_slice().len() as u64;
-    let_out(alloc, post, k, step, all, lines)?;
+    let_out(alloc, network, k, step, all, lines)?;
     Ok(())
 }
 
 /// What a replica left goes out, behind the lines so far.
 pub(crate) fn leave(
     alloc: Global,
-    post: &mut Post,
-    leaving: Leaving,
+    network: &mut Network,
+    effects: Effects,
     lines: &mut Lines,
 ) -> Result<(), NoMemory>
-    requires { FitsLeaving leaving }
-    ensures { OnOk result ((m : on_paper.Moment) (v : on_paper.World) (sites : Sites) → PostStands post.old v.mail v.bytes → Leaves m v leaving sites →
-        LeadsOn m sites post.new lines.old lines.new) }
+    requires { FitsEffects effects }
+    ensures { OnOk result ((m : on_paper.Moment) (v : on_paper.World) (sites : Machines) → NetworkStands network.old v.packets v.bytes → Leaves m v effects sites →
+        LeadsOn m sites network.new lines.old lines.new) }
 {
-    match leaving {
-        Leaving::Nothing => Ok(()),
-        Leaving::Whole { k, step } => Ok(let_all_out(alloc, post, k, step, lines)?),
-        Leaving::Cut { k, step, sends } => {
-            let_out(alloc, post, k, step, sends, lines)?;
+    match effects {
+        Effects::Nothing => Ok(()),
+        Effects::Whole { k, step } => Ok(let_all_out(alloc, network, k, step, lines)?),
+        Effects::Cut { k, step, sends } => {
+            let_out(alloc, network, k, step, sends, lines)?;
             lines.push(Line::Down { replica: k })?;
             Ok(())
         }
-        Leaving::Down { k } => {
+        Effects::Down { k } => {
             lines.push(Line::Down { replica: k })?;
             Ok(())
         }

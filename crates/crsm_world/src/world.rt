@@ -12,14 +12,14 @@ ghost use Rattle.crsm_spec.specs.Replica.{Replica};
 ghost use Rattle.crsm_spec.specs.World as on_paper;
 ghost use Rattle.crsm_world.specs.Doing.{act_of, bad_of};
 ghost use Rattle.crsm_world.specs.Laws.{HasDone, IsLawful};
-ghost use Rattle.crsm_world.specs.World.{Holds, StandsFor, IsSpent};
+ghost use Rattle.crsm_world.specs.World.{Holds, StandsFor, IsSpent, WhereHolds, WhereStands};
 
 use crate::bad::Bad;
-use crate::sites::Sites;
+use crate::machines::Machines;
 use crsm_base::{Lines, NoMemory};
 use crsm_disk::MemDisk;
 use crsm_law_runs::{answered_are_kept, decisions_always_agree, runs_are_safe};
-use crsm_network::Post;
+use crsm_network::Network;
 use crsm_schedule::Event;
 use crsm_shell::Shell;
 use std::alloc::Global;
@@ -29,8 +29,8 @@ use std::mem;
 #[derive(Drop)]
 pub struct World {
     pub(crate) alloc: Global,
-    pub(crate) sites: Sites,
-    pub(crate) post: Post,
+    pub(crate) sites: Machines,
+    pub(crate) network: Network,
     pub(crate) is_spent: bool,
     /// Lines that were taken back: only their room is of use.
     spare: Lines,
@@ -47,8 +47,8 @@ impl World {
     {
         let mut world = World {
             alloc,
-            sites: Sites::new(alloc, n),
-            post: Post::new(alloc),
+            sites: Machines::new(alloc, n),
+            network: Network::new(alloc),
             // It is none before all have booted.
             is_spent: true,
             spare: Lines::new(alloc),
@@ -67,11 +67,11 @@ impl World {
     #[tactic(auto, unfolding(crate::specs::World::StandsFor, crate::specs::World::IsSpent))]
     pub fn step(&mut self, event: &Event) -> Result<Lines, Bad>
         requires { FitsEvent event.now }
-        ensures possible { (v : on_paper.World) → StandsFor self.old v → IfOk result (λ lines. possible v (act_of event.now) ≡ None) }
-        ensures world { (v : on_paper.World) → StandsFor self.old v → IfOk result (λ lines. StandsFor self.new (act v (act_of event.now)).after) }
-        ensures lines { (v : on_paper.World) → StandsFor self.old v → IfOk result (λ lines. lines ≡ (act v (act_of event.now)).lines) }
-        ensures bad { (v : on_paper.World) → StandsFor self.old v → IfErr result (λ bad. bad ≢ Bad.NoMemory → possible v (act_of event.now) ≡ bad_of bad) }
-        ensures unchanged { (v : on_paper.World) → StandsFor self.old v → IfErr result (λ bad. bad ≢ Bad.NoMemory → StandsFor self.new v) }
+        ensures possible { WhereStands self.old (λ v. IfOk result (λ lines. possible v (act_of event.now) ≡ None)) }
+        ensures world { WhereStands self.old (λ v. IfOk result (λ lines. StandsFor self.new (act v (act_of event.now)).after)) }
+        ensures lines { WhereStands self.old (λ v. IfOk result (λ lines. lines ≡ (act v (act_of event.now)).lines)) }
+        ensures bad { WhereStands self.old (λ v. IfErr result (λ bad. bad ≢ Bad.NoMemory → possible v (act_of event.now) ≡ bad_of bad)) }
+        ensures unchanged { WhereStands self.old (λ v. IfErr result (λ bad. bad ≢ Bad.NoMemory → StandsFor self.new v)) }
         ensures spent { IsErrOf result Bad.NoMemory → IsSpent self.new }
         ensures stays_spent { IsSpent self.old → IsErrOf result Bad.NoMemory }
         ensures done { (n : ℕ) (acts : List Act) → HasDone self.old n acts → IfOk result (λ lines. HasDone self.new n (acts ++ act_of event.now ∷ [])) }
@@ -99,7 +99,7 @@ impl World {
     /// Takes back the lines of a step, so that the next step uses their room.
     #[tactic(auto, unfolding(crate::specs::World::StandsFor, crate::specs::World::IsSpent))]
     pub fn take_back(&mut self, lines: Lines)
-        ensures stands { (v : on_paper.World) → StandsFor self.old v → StandsFor self.new v }
+        ensures stands { WhereStands self.old (λ v. StandsFor self.new v) }
         ensures stays_spent { IsSpent self.old → IsSpent self.new }
     {
         self.spare = lines;
@@ -108,7 +108,7 @@ impl World {
     /// No lines yet, with the room of those that were taken back.
     pub(crate) fn no_lines(&mut self) -> Lines
         ensures none { result ≡ [] }
-        ensures holds { (v : on_paper.World) → Holds self.old v → Holds self.new v }
+        ensures holds { WhereHolds self.old (λ v. Holds self.new v) }
     {
         let mut lines = mem::replace(&mut self.spare, Lines::new(self.alloc));
         lines.clear();
@@ -119,12 +119,12 @@ impl World {
     /// the replica, and its disk has the replica's log.
     #[tactic(auto, unfolding(crate::specs::World::StandsFor))]
     pub fn shell(&self, replica: u32) -> Option<&Shell<MemDisk>>
-        ensures up { (v : on_paper.World) → StandsFor self.now v → is_some result ≡ on_paper.is_up_at v replica }
+        ensures up { WhereStands self.now (λ v. is_some result ≡ on_paper.is_up_at v replica) }
         ensures stands { IfSome result (λ shell. (v : on_paper.World) (r : Replica) → StandsFor self.now v → slice_get v.sites replica ≡ Some (on_paper.Site.Up r) →
             ShellStands shell.now (meaning_of (disk_of shell.now)) r.log r []) }
     {
         match self.sites.get(u64::from(replica)) {
-            Some(site) => site.shell(),
+            Some(machine) => machine.shell(),
             None => None,
         }
     }
@@ -132,7 +132,7 @@ impl World {
     /// The last lines, of a world whose acts so far keep the laws of a run.
     #[tactic(auto, unfolding(crate::specs::World::StandsFor, crate::specs::World::IsSpent, crsm_spec::specs::World::finals))]
     pub fn finals(&self) -> Result<Lines, NoMemory>
-        ensures lines { (v : on_paper.World) → StandsFor self.now v → IfOk result (λ lines. lines ≡ on_paper.finals v) }
+        ensures lines { WhereStands self.now (λ v. IfOk result (λ lines. lines ≡ on_paper.finals v)) }
         ensures laws { (n : ℕ) (acts : List Act) → HasDone self.now n acts → IfOk result (λ lines. IsLawful n acts) }
         ensures spent { IsSpent self.now → IsErr result }
     {

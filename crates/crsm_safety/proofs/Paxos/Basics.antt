@@ -8,7 +8,7 @@ use Rattle.crsm_base.specs.Order.{ballot_lt}
 use Rattle.crsm_base.proofs.Orders.{ballot_eq_is}
 use Rattle.crsm_spec.specs.Paxos.{Held, Promise, Vote, Proposal, Instance, PaxosStep, after_step}
 use Rattle.crsm_spec.specs.Paxos.PaxosStep.{Promises, Accepts, Proposes}
-use Rattle.crsm_spec.specs.Proposing.{Proposing, is_heard}
+use Rattle.crsm_spec.specs.Proposing.{Proposing, is_received}
 use Rattle.crsm_spec.specs.Following.{IsUsed, lowest}
 use Rattle.crsm_safety.proofs.Paxos.Majority.{nat_eq_is, nat_eq_itself}
 use Rattle.crsm_spec.specs.Epochs.{Replica, Message, next_ballot, is_held_below, is_held_in}
@@ -71,14 +71,14 @@ held_in (Some h) b e = (h, refl, ballot_eq_is h.0 b e)
 pub no_coordinator : {D : Type 0} (p : Proposing D) → None ≡ Some p → ⊥
 no_coordinator p e = cc
 
-pub heard_contains : (xs : List ℕ) (r : ℕ) → is_heard xs r ≡ true → Contains xs r
-heard_contains [] r h = absurd (no h)
+pub received_contains : (xs : List ℕ) (r : ℕ) → is_received xs r ≡ true → Contains xs r
+received_contains [] r h = absurd (no h)
   where
     no : false ≡ true → ⊥
     no e = cc
-heard_contains (x ∷ xs) r h = go (nat_eq x r) refl h (heard_contains xs r)
+received_contains (x ∷ xs) r h = go (nat_eq x r) refl h (received_contains xs r)
   where
-    go : (b : Bool) → nat_eq x r ≡ b → (b || is_heard xs r) ≡ true → (is_heard xs r ≡ true → Contains xs r) → Contains (x ∷ xs) r
+    go : (b : Bool) → nat_eq x r ≡ b → (b || is_received xs r) ≡ true → (is_received xs r ≡ true → Contains xs r) → Contains (x ∷ xs) r
     go true e k rest = subst (λ z. Contains (x ∷ xs) z) (nat_eq_is x r e) (0, omega arith, refl)
     go false e k rest = Contains-append_right (x ∷ []) xs r (rest k)
 

@@ -53,7 +53,7 @@ module _ (D : Type 0) (spec : List ℕ) where
   Safe s b d = Contains s.proposals (record { ballot = b; value = d }) ⊎ Blocked s b
 
   -- what is held tells of a vote in b: it has a ballot that is not below b
-  pub record Tells (h : Held D) (b : Ballot) : Type 0 where
+  pub record SendsControl (h : Held D) (b : Ballot) : Type 0 where
     pub held : Ballot × D
     pub is : h ≡ Some held
     pub not_below : ballot_lt held.0 b ≡ false
@@ -63,12 +63,12 @@ module _ (D : Type 0) (spec : List ℕ) where
 
   pub record Invariant (s : Instance D) : Type 0 where
     pub promise_kept : (p : Promise D) → Contains s.promises p → ballot_lt (s.acceptor p.answer.replica).promised p.ballot ≡ false
-    pub vote_held : (v : Vote D) → Contains s.votes v → Tells (s.acceptor v.acceptor).accepted v.ballot
+    pub vote_held : (v : Vote D) → Contains s.votes v → SendsControl (s.acceptor v.acceptor).accepted v.ballot
     pub held_proposed : (r : ℕ) → WasProposed s (s.acceptor r).accepted
     pub vote_proposed : (v : Vote D) → Contains s.votes v → Contains s.proposals (record { ballot = v.ballot; value = v.value })
     pub one_each : (p q : Proposal D) → Contains s.proposals p → Contains s.proposals q → p.ballot ≡ q.ballot → p.value ≡ q.value
-    pub answer_tells : (p : Promise D) → Contains s.promises p → (v : Vote D) → Contains s.votes v →
-        v.acceptor ≡ p.answer.replica → ballot_lt v.ballot p.ballot ≡ true → Tells p.answer.accepted v.ballot
+    pub answer_sends : (p : Promise D) → Contains s.promises p → (v : Vote D) → Contains s.votes v →
+        v.acceptor ≡ p.answer.replica → ballot_lt v.ballot p.ballot ≡ true → SendsControl p.answer.accepted v.ballot
     pub answer_proposed : (p : Promise D) → Contains s.promises p → WasProposed s p.answer.accepted
     pub safe : (p : Proposal D) → Contains s.proposals p → (b : Ballot) → ballot_lt b p.ballot ≡ true → Safe s b p.value
 
@@ -108,7 +108,7 @@ module _ (D : Type 0) (spec : List ℕ) where
     held_proposed = λ r held e. cc;
     vote_proposed = λ v c. absurd (none_in v c);
     one_each = λ p q c k e. absurd (none_in p c);
-    answer_tells = λ p c v k e l. absurd (none_in p c);
+    answer_sends = λ p c v k e l. absurd (none_in p c);
     answer_proposed = λ p c. absurd (none_in p c);
     safe = λ p c b l. absurd (none_in p c);
   }
@@ -148,18 +148,18 @@ module _ (D : Type 0) (spec : List ℕ) where
     unfolding by_promise made
     kept-promise = record {
       promise_kept = promise_kept-promise;
-      vote_held = λ v c. with_cases D (λ a. Tells a.accepted v.ballot) s.acceptor r (after_promise (s.acceptor r) b) v.acceptor
-          (λ same. subst (λ q. Tells (s.acceptor q).accepted v.ballot) same (i.vote_held v c))
+      vote_held = λ v c. with_cases D (λ a. SendsControl a.accepted v.ballot) s.acceptor r (after_promise (s.acceptor r) b) v.acceptor
+          (λ same. subst (λ q. SendsControl (s.acceptor q).accepted v.ballot) same (i.vote_held v c))
           (i.vote_held v c);
       held_proposed = λ q. with_cases D (λ a. WasProposed s a.accepted) s.acceptor r (after_promise (s.acceptor r) b) q
           (λ same. i.held_proposed r)
           (i.held_proposed q);
       vote_proposed = i.vote_proposed;
       one_each = i.one_each;
-      answer_tells = λ p c v k same lower. elim (Contains-push_cases s.promises made p c) [
-        | inl old ↦ i.answer_tells p old v k same lower
-        | inr new ↦ subst (λ z. v.acceptor ≡ z.answer.replica → Tells z.answer.accepted v.ballot) new
-            (λ by. subst (λ q. Tells (s.acceptor q).accepted v.ballot) by (i.vote_held v k)) same
+      answer_sends = λ p c v k same lower. elim (Contains-push_cases s.promises made p c) [
+        | inl old ↦ i.answer_sends p old v k same lower
+        | inr new ↦ subst (λ z. v.acceptor ≡ z.answer.replica → SendsControl z.answer.accepted v.ballot) new
+            (λ by. subst (λ q. SendsControl (s.acceptor q).accepted v.ballot) by (i.vote_held v k)) same
       ];
       answer_proposed = λ p c. elim (Contains-push_cases s.promises made p c) [
         | inl old ↦ i.answer_proposed p old
@@ -187,21 +187,21 @@ module _ (D : Type 0) (spec : List ℕ) where
         (subst (λ q. ballot_lt (s.acceptor q).promised p.ballot ≡ false) same (i.promise_kept p c))
         may.takes.not_below
 
-    vote_held-accept : (v : Vote D) → Contains by_accept.votes v → Tells (by_accept.acceptor v.acceptor).accepted v.ballot
+    vote_held-accept : (v : Vote D) → Contains by_accept.votes v → SendsControl (by_accept.acceptor v.acceptor).accepted v.ballot
     unfolding by_accept cast
     vote_held-accept v c =
         elim (Contains-push_cases s.votes cast v c) [
-          | inl old ↦ with_cases D (λ a. Tells a.accepted v.ballot) s.acceptor r (after_accept (s.acceptor r) b d) v.acceptor
+          | inl old ↦ with_cases D (λ a. SendsControl a.accepted v.ballot) s.acceptor r (after_accept (s.acceptor r) b d) v.acceptor
               (λ same.
-              let t : Tells (s.acceptor r).accepted v.ballot = subst (λ q. Tells (s.acceptor q).accepted v.ballot) same (i.vote_held v old) in
+              let t : SendsControl (s.acceptor r).accepted v.ballot = subst (λ q. SendsControl (s.acceptor q).accepted v.ballot) same (i.vote_held v old) in
               record {
                 held = (b, d);
                 is = refl;
                 not_below = below_not_back v.ballot b (le_below v.ballot t.held.0 b t.not_below (may.takes.above t.held t.is));
               })
               (i.vote_held v old)
-          | inr new ↦ subst (λ z. Tells (by_accept.acceptor z.acceptor).accepted z.ballot) new
-              (with_same D (λ a. Tells a.accepted b) s.acceptor r (after_accept (s.acceptor r) b d)
+          | inr new ↦ subst (λ z. SendsControl (by_accept.acceptor z.acceptor).accepted z.ballot) new
+              (with_same D (λ a. SendsControl a.accepted b) s.acceptor r (after_accept (s.acceptor r) b d)
               (record { held = (b, d); is = refl; not_below = below-irrefl b }))
         ]
 
@@ -239,8 +239,8 @@ module _ (D : Type 0) (spec : List ℕ) where
         | inr new ↦ subst (λ z. Contains s.proposals (record { ballot = z.ballot; value = z.value })) new may.proposed
       ];
       one_each = i.one_each;
-      answer_tells = λ p c v k same lower. elim (Contains-push_cases s.votes cast v k) [
-        | inl old ↦ i.answer_tells p c v old same lower
+      answer_sends = λ p c v k same lower. elim (Contains-push_cases s.votes cast v k) [
+        | inl old ↦ i.answer_sends p c v old same lower
         | inr new ↦
             let by_r : r ≡ v.acceptor = ap (λ z. z.acceptor) new in
             let in_b : b ≡ v.ballot = ap (λ z. z.ballot) new in
@@ -266,7 +266,7 @@ module _ (D : Type 0) (spec : List ℕ) where
 
     -- those who answered block each lower ballot of which no answer tells
     blocked_by_answers : (a : Ballot) → ballot_lt a b ≡ true →
-        ((x : Answer D) → Contains answers x → Tells x.accepted a → ⊥) → Blocked s a
+        ((x : Answer D) → Contains answers x → SendsControl x.accepted a → ⊥) → Blocked s a
     blocked_by_answers a lower untold = record {
       replicas = map (λ x. x.replica) answers;
       majority = may.majority;
@@ -278,8 +278,8 @@ module _ (D : Type 0) (spec : List ℕ) where
                 (below_le a b (s.acceptor x.replica).promised lower (i.promise_kept p (may.promised x here)));
             no_vote = λ v c of_r in_a.
                 let early : ballot_lt v.ballot b ≡ true = subst (λ z. ballot_lt z b ≡ true) (sym in_a) lower in
-                let t : Tells x.accepted v.ballot = i.answer_tells p (may.promised x here) v c (of_r ∙ sym is) early in
-                untold x here (subst (λ z. Tells x.accepted z) in_a t);
+                let t : SendsControl x.accepted v.ballot = i.answer_sends p (may.promised x here) v c (of_r ∙ sym is) early in
+                untold x here (subst (λ z. SendsControl x.accepted z) in_a t);
           };
     }
 
@@ -327,7 +327,7 @@ module _ (D : Type 0) (spec : List ℕ) where
           | inr new_q ↦ sym (ap (λ z. z.value) new_p) ∙ ap (λ z. z.value) new_q
         ]
       ];
-      answer_tells = i.answer_tells;
+      answer_sends = i.answer_sends;
       answer_proposed = λ p c held e. Contains-append_left s.proposals _ _ (i.answer_proposed p c held e);
       safe = λ p c a lower. elim (Contains-push_cases s.proposals offered p c) [
         | inl old ↦ grow a p.value (i.safe p old a lower)

@@ -10,7 +10,7 @@ use Rattle.crsm_spec.specs.Paxos.{Held, Answer, Instance, best_of, better_answer
 use Rattle.crsm_spec.specs.Paxos.PaxosStep.{Promises, Accepts, Proposes}
 use Rattle.crsm_base.specs.Order.{ballot_eq}
 use Rattle.crsm_base.proofs.Orders.{ballot_eq_is}
-use Rattle.crsm_spec.specs.Proposing.{Proposing, start_proposing, value_proposed, is_heard, counts_answer, counts_vote, after_answer, after_p1b, after_p2b, makes_majority}
+use Rattle.crsm_spec.specs.Proposing.{Proposing, start_proposing, value_proposed, is_received, counts_answer, counts_vote, after_answer, after_p1b, after_p2b, makes_majority}
 use Rattle.crsm_spec.specs.Following.{IsReached, IsUnused, IsOther, Follows}
 use Rattle.crsm_safety.proofs.Paxos.Basics.{both, not_true}
 use Rattle.crsm_safety.proofs.Paxos.Instances.{Invariant, start, along}
@@ -28,12 +28,12 @@ map_push : {A B : Type 0} (f : A → B) (xs : List A) (x : A) → map f (xs ++ x
 map_push f [] x = refl
 map_push f (y ∷ ys) x = ap (λ zs. f y ∷ zs) (map_push f ys x)
 
-heard_is : (xs : List ℕ) (r : ℕ) → is_heard xs r ≡ list_any (nat_eq r) xs
-heard_is [] r = refl
-heard_is (x ∷ xs) r = let e = heard_is xs r in let f : nat_eq x r ≡ nat_eq r x = grind (arith, nat_tests) in cc
+received_is : (xs : List ℕ) (r : ℕ) → is_received xs r ≡ list_any (nat_eq r) xs
+received_is [] r = refl
+received_is (x ∷ xs) r = let e = received_is xs r in let f : nat_eq x r ≡ nat_eq r x = grind (arith, nat_tests) in cc
 
-distinct_push : (xs : List ℕ) (r : ℕ) → IsDistinct nat_eq xs → is_heard xs r ≡ false → IsDistinct nat_eq (xs ++ r ∷ [])
-distinct_push xs r d h = IsDistinct-push nat_eq_equiv xs r d (sym (heard_is xs r) ∙ h)
+distinct_push : (xs : List ℕ) (r : ℕ) → IsDistinct nat_eq xs → is_received xs r ≡ false → IsDistinct nat_eq (xs ++ r ∷ [])
+distinct_push xs r d h = IsDistinct-push nat_eq_equiv xs r d (sym (received_is xs r) ∙ h)
 
 push_of_spec : (spec xs : List ℕ) (from : ℕ) → ((r : ℕ) → Contains xs r → Contains spec r) → Contains spec from → (r : ℕ) → Contains (xs ++ from ∷ []) r → Contains spec r
 push_of_spec spec xs from sub here r c = elim (Contains-push_cases xs from r c) [ inl old ↦ sub r old | inr new ↦ subst (λ q. Contains spec q) new here ]
@@ -51,7 +51,7 @@ module _ (D : Type 0) (spec : List ℕ) where
   starts s b own unused = record {
     size = refl;
     answers = [];
-    heard = refl;
+    received = refl;
     best = refl;
     promised = λ x c. absurd (none x c);
     distinct = tt;
@@ -74,7 +74,7 @@ module _ (D : Type 0) (spec : List ℕ) where
   others s p (Promises r b) other f = record {
     size = f.size;
     answers = f.answers;
-    heard = f.heard;
+    received = f.received;
     best = f.best;
     promised = λ x c. Contains-append_left s.promises _ _ (f.promised x c);
     distinct = f.distinct;
@@ -89,7 +89,7 @@ module _ (D : Type 0) (spec : List ℕ) where
   others s p (Accepts r b d) other f = record {
     size = f.size;
     answers = f.answers;
-    heard = f.heard;
+    received = f.received;
     best = f.best;
     promised = f.promised;
     distinct = f.distinct;
@@ -104,7 +104,7 @@ module _ (D : Type 0) (spec : List ℕ) where
   others s p (Proposes b own answers) other f = record {
     size = f.size;
     answers = f.answers;
-    heard = f.heard;
+    received = f.received;
     best = f.best;
     promised = f.promised;
     distinct = f.distinct;
@@ -130,18 +130,18 @@ module _ (D : Type 0) (spec : List ℕ) where
     this_ballot : b ≡ p.ballot
     this_ballot = ballot_eq_is b p.ballot (both (ballot_eq b p.ballot) _ counts).0
 
-    open_and_new : (not p.has_proposed && not (is_heard p.heard from)) ≡ true
+    open_and_new : (not p.has_proposed && not (is_received p.received from)) ≡ true
     open_and_new = (both (ballot_eq b p.ballot) _ counts).1
 
     is_open : p.has_proposed ≡ false
     is_open = not_true p.has_proposed (both (not p.has_proposed) _ open_and_new).0
 
-    is_new : is_heard p.heard from ≡ false
+    is_new : is_received p.received from ≡ false
     is_new = not_true _ (both (not p.has_proposed) _ open_and_new).1
 
-    heard-more : p.heard ++ from ∷ [] ≡ map (λ x. x.replica) more
+    received-more : p.received ++ from ∷ [] ≡ map (λ x. x.replica) more
     unfolding more
-    heard-more = ap (λ z. z ++ from ∷ []) f.heard ∙ sym (map_push (λ x. x.replica) f.answers _)
+    received-more = ap (λ z. z ++ from ∷ []) f.received ∙ sym (map_push (λ x. x.replica) f.answers _)
 
     best-more : better_held p.best from accepted ≡ best_of more
     unfolding more
@@ -155,21 +155,21 @@ module _ (D : Type 0) (spec : List ℕ) where
           (subst (λ z. Contains s.promises (record { ballot = z; answer = record { replica = from; accepted = accepted } })) this_ballot told)
     ]
 
-    distinct-more : IsDistinct nat_eq (p.heard ++ from ∷ [])
-    distinct-more = distinct_push p.heard from f.distinct is_new
+    distinct-more : IsDistinct nat_eq (p.received ++ from ∷ [])
+    distinct-more = distinct_push p.received from f.distinct is_new
 
-    of_spec-more : (r : ℕ) → Contains (p.heard ++ from ∷ []) r → Contains spec r
-    of_spec-more = push_of_spec spec p.heard from f.of_spec here
+    of_spec-more : (r : ℕ) → Contains (p.received ++ from ∷ []) r → Contains spec r
+    of_spec-more = push_of_spec spec p.received from f.of_spec here
 
     -- nothing voted before the proposal
     no_voter : (r : ℕ) → Contains p.voters r → ⊥
     no_voter r c = let d : Contains [] r = subst (λ z. Contains z r) (f.none_yet is_open) c in let h = d.1 in omega arith
 
-    waits_counted : nat_le (majority p.size) (length p.heard + 1) ≡ false → Follows spec s (after_answer p from accepted)
+    waits_counted : nat_le (majority p.size) (length p.received + 1) ≡ false → Follows spec s (after_answer p from accepted)
     waits_counted few = record {
       size = f.size;
       answers = more;
-      heard = heard-more;
+      received = received-more;
       best = best-more;
       promised = promised-more;
       distinct = distinct-more;
@@ -185,27 +185,27 @@ module _ (D : Type 0) (spec : List ℕ) where
     value-more : value_of p.own more ≡ value_proposed (after_answer p from accepted)
     value-more = ap (λ z. value_of_best p.own z) (sym best-more)
 
-    may_propose : majority p.size ≤ length p.heard + 1 → MayPropose spec s p.ballot more
+    may_propose : majority p.size ≤ length p.received + 1 → MayPropose spec s p.ballot more
     may_propose enough = record {
       first = f.unused is_open;
       promised = promised-more;
-      majority = subst (λ z. IsMajority spec z) heard-more (record {
+      majority = subst (λ z. IsMajority spec z) received-more (record {
         distinct = distinct-more;
         of_spec = of_spec-more;
-        enough = subst (λ n. majority n ≤ length (p.heard ++ from ∷ [])) f.size (omega (arith, length-append p.heard (from ∷ [])));
+        enough = subst (λ n. majority n ≤ length (p.received ++ from ∷ [])) f.size (omega (arith, length-append p.received (from ∷ [])));
       });
     }
 
-    proposes_counted : majority p.size ≤ length p.heard + 1 → Follows spec (after_step s (Proposes p.ballot p.own more)) (after_answer p from accepted)
+    proposes_counted : majority p.size ≤ length p.received + 1 → Follows spec (after_step s (Proposes p.ballot p.own more)) (after_answer p from accepted)
     proposes_counted enough = record {
       size = f.size;
       answers = more;
-      heard = heard-more;
+      received = received-more;
       best = best-more;
       promised = promised-more;
       distinct = distinct-more;
       of_spec = of_spec-more;
-      unused = λ e. absurd (not_both (nat_le (majority p.size) (length p.heard + 1)) (grind (arith, nat_tests)) e);
+      unused = λ e. absurd (not_both (nat_le (majority p.size) (length p.received + 1)) (grind (arith, nat_tests)) e);
       proposed = λ e. subst (λ d. Contains (s.proposals ++ record { ballot = p.ballot; value = value_of p.own more } ∷ []) (record { ballot = p.ballot; value = d }))
           value-more (Contains-push s.proposals (record { ballot = p.ballot; value = value_of p.own more }));
       none_yet = λ e. f.none_yet is_open;
@@ -225,7 +225,7 @@ module _ (D : Type 0) (spec : List ℕ) where
 
   pub proposes : (s : Instance D) (p : Proposing D) (from : ℕ) (b : Ballot) (accepted : Held D) →
       Follows spec s p → Contains spec from → Contains s.promises (record { ballot = b; answer = record { replica = from; accepted = accepted } }) →
-      counts_answer p from b ≡ true → majority p.size ≤ length p.heard + 1 →
+      counts_answer p from b ≡ true → majority p.size ≤ length p.received + 1 →
       (answers : List (Answer D)) × MayPropose spec s p.ballot answers × (value_of p.own answers ≡ value_proposed (after_answer p from accepted)) ×
       Follows spec (after_step s (Proposes p.ballot p.own answers)) (after_answer p from accepted)
   proposes s p from b accepted f here told counts enough = (
@@ -242,13 +242,13 @@ module _ (D : Type 0) (spec : List ℕ) where
     voted_ballot : b ≡ p.ballot
     voted_ballot = ballot_eq_is b p.ballot (both (ballot_eq b p.ballot) _ counts).0
 
-    has_and_new : (p.has_proposed && not (is_heard p.voters from)) ≡ true
+    has_and_new : (p.has_proposed && not (is_received p.voters from)) ≡ true
     has_and_new = (both (ballot_eq b p.ballot) _ counts).1
 
     has : p.has_proposed ≡ true
     has = (both p.has_proposed _ has_and_new).0
 
-    new_voter : is_heard p.voters from ≡ false
+    new_voter : is_received p.voters from ≡ false
     new_voter = not_true _ (both p.has_proposed _ has_and_new).1
 
     -- a ballot proposes once, so the vote is for the proposer's value
@@ -279,7 +279,7 @@ module _ (D : Type 0) (spec : List ℕ) where
     vote_counted = record {
       size = f.size;
       answers = f.answers;
-      heard = f.heard;
+      received = f.received;
       best = f.best;
       promised = f.promised;
       distinct = f.distinct;

@@ -11,21 +11,21 @@ use Rattle.crsm_safety.proofs.Paxos.Instances.{with_cases}
 
 module _ (D : Type 0) (spec : List ℕ) where
   -- the acceptor's last promise was answered with what it holds now, unless its ballot is used
-  abbrev IsTold : Instance D → ℕ → Acceptance D → Type 0
-  IsTold s r a = ballot_lt lowest a.promised ≡ true → Contains s.promises (record { ballot = a.promised; answer = record { replica = r; accepted = a.accepted } }) ⊎ IsUsed s a.promised
+  abbrev IsSent : Instance D → ℕ → Acceptance D → Type 0
+  IsSent s r a = ballot_lt lowest a.promised ≡ true → Contains s.promises (record { ballot = a.promised; answer = record { replica = r; accepted = a.accepted } }) ⊎ IsUsed s a.promised
 
   Repeats : Instance D → Type 0
-  Repeats s = (r : ℕ) → IsTold s r (s.acceptor r)
+  Repeats s = (r : ℕ) → IsSent s r (s.acceptor r)
 
   kept-repeats : (s : Instance D) (e : PaxosStep D) → MayTake spec s e → Repeats s → Repeats (after_step s e)
   unfolding Repeats
   kept-repeats s (Promises r b) may told q =
-      with_cases D (λ a. IsTold (after_step s (Promises r b)) q a) s.acceptor r (after_promise (s.acceptor r) b) q
+      with_cases D (λ a. IsSent (after_step s (Promises r b)) q a) s.acceptor r (after_promise (s.acceptor r) b) q
       (λ at high. inl (subst (λ z. Contains (s.promises ++ record { ballot = b; answer = record { replica = r; accepted = (s.acceptor r).accepted } } ∷ [])
       (record { ballot = b; answer = record { replica = z; accepted = (s.acceptor r).accepted } })) (sym at) (Contains-push s.promises _)))
       (λ high. elim (told q high) [ inl is ↦ inl (Contains-append_left s.promises _ _ is) | inr used ↦ inr used ])
   kept-repeats s (Accepts r b d) may told q =
-      with_cases D (λ a. IsTold (after_step s (Accepts r b d)) q a) s.acceptor r (after_accept (s.acceptor r) b d) q
+      with_cases D (λ a. IsSent (after_step s (Accepts r b d)) q a) s.acceptor r (after_accept (s.acceptor r) b d) q
       (λ at high. inr (record { ballot = b; value = d }, may.proposed, refl))
       (told q)
   kept-repeats s (Proposes b own answers) may told q =
@@ -42,7 +42,7 @@ module _ (D : Type 0) (spec : List ℕ) where
   unfolding Repeats ballot_lt
   start-repeats r high = cc
 
-  pub repeated : (s : Instance D) (r : ℕ) → IsReached spec s → IsTold s r (s.acceptor r)
+  pub repeated : (s : Instance D) (r : ℕ) → IsReached spec s → IsSent s r (s.acceptor r)
   unfolding Repeats
   repeated s r reached =
       let all : Repeats s = subst Repeats (sym reached.is) (along-repeats fresh reached.steps reached.run start-repeats) in

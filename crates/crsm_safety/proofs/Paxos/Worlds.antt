@@ -8,21 +8,21 @@ use Rattle.crsm_base.specs.Order.{ballot_lt}
 use Rattle.crsm_base.proofs.Orders.{ballot_eq_is, below-irrefl, le_trans, below_not_back, same_from_both}
 use Rattle.crsm_spec.specs.Paxos.{Held, Acceptance, Proposal, Instance, fresh_acceptance, after_promise, after_accept, PaxosStep, MayTake, MayAccept, after_step, fresh, IsChosen, majority}
 use Rattle.crsm_spec.specs.Paxos.PaxosStep.{Promises, Accepts, Proposes}
-use Rattle.crsm_spec.specs.Proposing.{Proposing, start_proposing, value_proposed, is_heard, counts_answer, counts_vote, after_answer, makes_majority}
+use Rattle.crsm_spec.specs.Proposing.{Proposing, start_proposing, value_proposed, is_received, counts_answer, counts_vote, after_answer, makes_majority}
 use Rattle.crsm_spec.specs.Following.{IsReached, IsUnused, IsUsed, IsOther, Follows, lowest}
 use Rattle.crsm_safety.proofs.Paxos.Instances.{with_cases, with_same}
-use Rattle.crsm_spec.specs.Epochs.{Replica, World, Message, Event, start_world, with_replica, next_ballot, begins, asked, offered, told_coordinator, voted_coordinator, with_coordinator, decided, is_counted, is_held_below, is_held_in, comes, happens, world_after}
-use Rattle.crsm_spec.specs.Epochs.Message.{Ask, Told, Offer, Voted, Decide}
+use Rattle.crsm_spec.specs.Epochs.{Replica, World, Message, Event, start_world, with_replica, next_ballot, begins, asked, offered, sent_coordinator, voted_coordinator, with_coordinator, decided, is_counted, is_held_below, is_held_in, comes, happens, world_after}
+use Rattle.crsm_spec.specs.Epochs.Message.{Ask, Promise, Offer, Voted, Decide}
 use Rattle.crsm_spec.specs.Epochs.Event.{Begin, Comes, Crash}
 use Rattle.crsm_safety.proofs.Paxos.Laws.{Laws}
 use Rattle.crsm_safety.proofs.Paxos.Majority.{nat_eq_is}
-use Rattle.crsm_safety.proofs.Paxos.Basics.{changed, changed_at, changed_cases, either_false, not_false, clash, both, not_true, le_from, held_in, no_coordinator, heard_contains, got, next_above, next_high, held_below, more_promises, more_votes, more_proposals, more_used, in_one, in_two, in_none}
+use Rattle.crsm_safety.proofs.Paxos.Basics.{changed, changed_at, changed_cases, either_false, not_false, clash, both, not_true, le_from, held_in, no_coordinator, received_contains, got, next_above, next_high, held_below, more_promises, more_votes, more_proposals, more_used, in_one, in_two, in_none}
 
 module _ (D : Type 0) (spec_of : ℕ → List ℕ) (laws : Laws D) where
   -- what a message says holds of its instance
   abbrev IsSound : (ℕ → Instance D) → Message D → Type 0
   IsSound s (Ask i b) = ballot_lt lowest b ≡ true
-  IsSound s (Told i b from h) = Contains (s i).promises (record { ballot = b; answer = record { replica = from; accepted = h } }) ⊎ IsUsed (s i) b
+  IsSound s (Promise i b from h) = Contains (s i).promises (record { ballot = b; answer = record { replica = from; accepted = h } }) ⊎ IsUsed (s i) b
   IsSound s (Offer i b d) = Contains (s i).proposals (record { ballot = b; value = d })
   IsSound s (Voted i b from) = (d : D) × Contains (s i).votes (record { ballot = b; acceptor = from; value = d })
   IsSound s (Decide i d) = IsChosen (spec_of i) (s i) d
@@ -95,7 +95,7 @@ module _ (D : Type 0) (spec_of : ℕ → List ℕ) (laws : Laws D) where
     grown : (m : Message D) → IsSound s m → IsSound s' m
     unfolding s' stepped at
     grown (Ask i b) h = h
-    grown (Told i b from a) h =
+    grown (Promise i b from a) h =
         changed_cases s at stepped i (λ z. Contains z.promises (record { ballot = b; answer = record { replica = from; accepted = a } }) ⊎ IsUsed z b)
         (λ same. subst (λ j. Contains (s j).promises (record { ballot = b; answer = record { replica = from; accepted = a } }) ⊎ IsUsed (s j) b →
         Contains stepped.promises (record { ballot = b; answer = record { replica = from; accepted = a } }) ⊎ IsUsed stepped b) (sym same)
@@ -191,8 +191,8 @@ module _ (D : Type 0) (spec_of : ℕ → List ℕ) (laws : Laws D) where
                 (λ q c. inl c) noted (λ p apart. tt) new,
           )
 
-    told_now : (b : Ballot) → IsSound (changed s ((w.replica r).known + 1) (after_step (s ((w.replica r).known + 1)) (Promises r b))) (Told ((w.replica r).known + 1) b r (w.replica r).held.accepted)
-    told_now b =
+    sent_now : (b : Ballot) → IsSound (changed s ((w.replica r).known + 1) (after_step (s ((w.replica r).known + 1)) (Promises r b))) (Promise ((w.replica r).known + 1) b r (w.replica r).held.accepted)
+    sent_now b =
         let z : Instance D = s ((w.replica r).known + 1) in
         inl (changed_at s ((w.replica r).known + 1) (after_step z (Promises r b)) (λ y. Contains y.promises (record { ballot = b; answer = record { replica = r; accepted = (w.replica r).held.accepted } }))
         (subst (λ a. Contains (z.promises ++ record { ballot = b; answer = record { replica = r; accepted = (z.acceptor r).accepted } } ∷ []) (record { ballot = b; answer = record { replica = r; accepted = a.accepted } }))
@@ -211,7 +211,7 @@ module _ (D : Type 0) (spec_of : ℕ → List ℕ) (laws : Laws D) where
     good_begin : (own : D) → Good (begins (spec_of ((w.replica r).known + 1)) w r own)
     good_begin own =
         promise_good (next_ballot r (w.replica r)) (Some (start_proposing (next_ballot r (w.replica r)) own (length (spec_of ((w.replica r).known + 1)))))
-        (Ask ((w.replica r).known + 1) (next_ballot r (w.replica r)) ∷ Told ((w.replica r).known + 1) (next_ballot r (w.replica r)) r (w.replica r).held.accepted ∷ [])
+        (Ask ((w.replica r).known + 1) (next_ballot r (w.replica r)) ∷ Promise ((w.replica r).known + 1) (next_ballot r (w.replica r)) r (w.replica r).held.accepted ∷ [])
         (next_above r (w.replica r))
         (λ p e.
         let b : Ballot = next_ballot r (w.replica r) in
@@ -220,7 +220,7 @@ module _ (D : Type 0) (spec_of : ℕ → List ℕ) (laws : Laws D) where
         (record { follows = laws.starts (spec_of ((w.replica r).known + 1)) (after_step (s ((w.replica r).known + 1)) (Promises r b)) b own unused_next; by = refl; behind = below-irrefl b }))
         (λ m c. elim (in_two _ _ m c) [
           | inl is ↦ subst (λ z. IsSound (changed s ((w.replica r).known + 1) (after_step (s ((w.replica r).known + 1)) (Promises r (next_ballot r (w.replica r))))) z) is (next_high r (w.replica r))
-          | inr is ↦ subst (λ z. IsSound (changed s ((w.replica r).known + 1) (after_step (s ((w.replica r).known + 1)) (Promises r (next_ballot r (w.replica r))))) z) is (told_now (next_ballot r (w.replica r)))
+          | inr is ↦ subst (λ z. IsSound (changed s ((w.replica r).known + 1) (after_step (s ((w.replica r).known + 1)) (Promises r (next_ballot r (w.replica r))))) z) is (sent_now (next_ballot r (w.replica r)))
         ])
 
     -- the coordinator of r after a step that does not propose
@@ -243,8 +243,8 @@ module _ (D : Type 0) (spec_of : ℕ → List ℕ) (laws : Laws D) where
 
         go : (t : Bool) → (not (i == x.known + 1) || ballot_lt b x.held.promised) ≡ t →
             Good (cond t w (cond (ballot_lt x.held.promised b)
-            (with_replica w r (record { known = x.known; held = after_promise x.held b; coordinator = x.coordinator }) (Told i b r x.held.accepted ∷ []))
-            (with_coordinator w r x.coordinator (Told i b r x.held.accepted ∷ []))))
+            (with_replica w r (record { known = x.known; held = after_promise x.held b; coordinator = x.coordinator }) (Promise i b r x.held.accepted ∷ []))
+            (with_coordinator w r x.coordinator (Promise i b r x.held.accepted ∷ []))))
         go true e = (s, inv)
         go false e = elim_below (ballot_lt x.held.promised b) refl
           where
@@ -253,23 +253,23 @@ module _ (D : Type 0) (spec_of : ℕ → List ℕ) (laws : Laws D) where
 
             elim_below : (t : Bool) → ballot_lt x.held.promised b ≡ t →
                 Good (cond t
-                (with_replica w r (record { known = x.known; held = after_promise x.held b; coordinator = x.coordinator }) (Told i b r x.held.accepted ∷ []))
-                (with_coordinator w r x.coordinator (Told i b r x.held.accepted ∷ [])))
+                (with_replica w r (record { known = x.known; held = after_promise x.held b; coordinator = x.coordinator }) (Promise i b r x.held.accepted ∷ []))
+                (with_coordinator w r x.coordinator (Promise i b r x.held.accepted ∷ [])))
             elim_below true up =
-                subst (λ j. Good (with_replica w r (record { known = x.known; held = after_promise x.held b; coordinator = x.coordinator }) (Told j b r x.held.accepted ∷ []))) (sym now)
-                (promise_good b x.coordinator (Told (x.known + 1) b r x.held.accepted ∷ []) up
+                subst (λ j. Good (with_replica w r (record { known = x.known; held = after_promise x.held b; coordinator = x.coordinator }) (Promise j b r x.held.accepted ∷ []))) (sym now)
+                (promise_good b x.coordinator (Promise (x.known + 1) b r x.held.accepted ∷ []) up
                 (old_coordinator (Promises r b) (after_promise x.held b) (λ p. tt) (below_not_back x.held.promised b up))
-                (λ m c. subst (λ z. IsSound (changed s (x.known + 1) (after_step (s (x.known + 1)) (Promises r b))) z) (in_one _ m c) (told_now b)))
+                (λ m c. subst (λ z. IsSound (changed s (x.known + 1) (after_step (s (x.known + 1)) (Promises r b))) z) (in_one _ m c) (sent_now b)))
             elim_below false level =
                 let same : x.held.promised ≡ b = same_from_both x.held.promised b level (either_false _ _ e).1 in
                 let again = laws.repeated (spec_of (x.known + 1)) (s (x.known + 1)) r (inv.reached (x.known + 1))
                 (subst (λ a. ballot_lt lowest a.promised ≡ true) (sym held_is) (subst (λ z. ballot_lt lowest z ≡ true) (sym same) high)) in
-                let told : IsSound s (Told (x.known + 1) b r x.held.accepted) =
+                let told : IsSound s (Promise (x.known + 1) b r x.held.accepted) =
                 subst (λ z. Contains (s (x.known + 1)).promises (record { ballot = z; answer = record { replica = r; accepted = x.held.accepted } }) ⊎ IsUsed (s (x.known + 1)) z) same
                 (subst (λ a. Contains (s (x.known + 1)).promises (record { ballot = a.promised; answer = record { replica = r; accepted = a.accepted } }) ⊎ IsUsed (s (x.known + 1)) a.promised) held_is again) in (
                   s,
-                  still w s inv r x.coordinator (Told i b r x.held.accepted ∷ []) (inv.coordinators r)
-                      (λ m c. subst (λ z. IsSound s z) (in_one _ m c) (subst (λ j. IsSound s (Told j b r x.held.accepted)) (sym now) told)),
+                  still w s inv r x.coordinator (Promise i b r x.held.accepted ∷ []) (inv.coordinators r)
+                      (λ m c. subst (λ z. IsSound s z) (in_one _ m c) (subst (λ j. IsSound s (Promise j b r x.held.accepted)) (sym now) told)),
                 )
 
     -- ---- a proposal comes
@@ -333,36 +333,36 @@ module _ (D : Type 0) (spec_of : ℕ → List ℕ) (laws : Laws D) where
     same_coordinator : (p q : Proposing D) (z : Instance D) → Some p ≡ Some q → HasCoordinator z ((w.replica r).known + 1) r (w.replica r).held.promised p → HasCoordinator z ((w.replica r).known + 1) r (w.replica r).held.promised q
     same_coordinator p q z e n = let is : p ≡ q = cc in subst (λ y. HasCoordinator z ((w.replica r).known + 1) r (w.replica r).held.promised y) is n
 
-    module _ (b : Ballot) (from : ℕ) (h : Held D) (sound : IsSound s (Told ((w.replica r).known + 1) b from h)) (member : Contains (spec_of ((w.replica r).known + 1)) from)
+    module _ (b : Ballot) (from : ℕ) (h : Held D) (sound : IsSound s (Promise ((w.replica r).known + 1) b from h)) (member : Contains (spec_of ((w.replica r).known + 1)) from)
         (p : Proposing D) (n : HasCoordinator (s ((w.replica r).known + 1)) ((w.replica r).known + 1) r (w.replica r).held.promised p) (counts : counts_answer p from b ≡ true) where
-      told_open : p.has_proposed ≡ false
-      told_open = not_true _ (both _ _ (both _ _ counts).1).0
+      sent_open : p.has_proposed ≡ false
+      sent_open = not_true _ (both _ _ (both _ _ counts).1).0
 
-      told_in : Contains (s ((w.replica r).known + 1)).promises (record { ballot = b; answer = record { replica = from; accepted = h } })
-      told_in = elim sound [
+      sent_in : Contains (s ((w.replica r).known + 1)).promises (record { ballot = b; answer = record { replica = from; accepted = h } })
+      sent_in = elim sound [
         | inl is ↦ is
-        | inr used ↦ absurd (n.follows.unused told_open used.0 used.1 (used.2 ∙ ballot_eq_is b p.ballot (both _ _ counts).0))
+        | inr used ↦ absurd (n.follows.unused sent_open used.0 used.1 (used.2 ∙ ballot_eq_is b p.ballot (both _ _ counts).0))
       ]
 
-      told_waits : nat_le (majority p.size) (length p.heard + 1) ≡ false → Good (with_coordinator w r (Some (after_answer p from h)) [])
+      sent_waits : nat_le (majority p.size) (length p.received + 1) ≡ false → Good (with_coordinator w r (Some (after_answer p from h)) [])
       unfolding Good
-      told_waits few =
+      sent_waits few =
           let kept : Follows (spec_of ((w.replica r).known + 1)) (s ((w.replica r).known + 1)) (after_answer p from h) =
           subst (λ c. Follows (spec_of ((w.replica r).known + 1)) (s ((w.replica r).known + 1)) (cond c (after_answer p from h) p)) counts
-          (laws.waits (spec_of ((w.replica r).known + 1)) (s ((w.replica r).known + 1)) p from b h n.follows member told_in
-          (subst (λ c. (cond c (after_answer p from h) p).has_proposed ≡ p.has_proposed) (sym counts) (few ∙ sym told_open))) in (
+          (laws.waits (spec_of ((w.replica r).known + 1)) (s ((w.replica r).known + 1)) p from b h n.follows member sent_in
+          (subst (λ c. (cond c (after_answer p from h) p).has_proposed ≡ p.has_proposed) (sym counts) (few ∙ sym sent_open))) in (
             s,
             still w s inv r (Some (after_answer p from h)) []
                 (λ q e. same_coordinator (after_answer p from h) q _ e (record { follows = kept; by = n.by; behind = n.behind }))
                 (λ m c. absurd (in_none m c)),
           )
 
-      told_proposes : nat_le (majority p.size) (length p.heard + 1) ≡ true →
+      sent_proposes : nat_le (majority p.size) (length p.received + 1) ≡ true →
           Good (with_coordinator w r (Some (after_answer p from h)) (Offer ((w.replica r).known + 1) p.ballot (value_proposed (after_answer p from h)) ∷ []))
       unfolding Good
-      told_proposes enough =
+      sent_proposes enough =
           let z : Instance D = s ((w.replica r).known + 1) in
-          let made = laws.proposes (spec_of ((w.replica r).known + 1)) z p from b h n.follows member told_in counts (le_from _ _ enough) in (
+          let made = laws.proposes (spec_of ((w.replica r).known + 1)) z p from b h n.follows member sent_in counts (le_from _ _ enough) in (
             changed s ((w.replica r).known + 1) (after_step z (Proposes p.ballot p.own made.0)),
             turn w s inv r (w.replica r).held (Some (after_answer p from h)) (Offer ((w.replica r).known + 1) p.ballot (value_proposed (after_answer p from h)) ∷ []) (Proposes p.ballot p.own made.0)
                 made.1
@@ -382,27 +382,27 @@ module _ (D : Type 0) (spec_of : ℕ → List ℕ) (laws : Laws D) where
     unfolding Good
     unchanged_coordinator p n = (s, still w s inv r (Some p) [] (λ q e. same_coordinator p q _ e n) (λ m c. absurd (in_none m c)))
 
-    good_told : (i : ℕ) (b : Ballot) (from : ℕ) (h : Held D) → IsSound s (Told i b from h) → i ≡ (w.replica r).known + 1 → Contains (spec_of i) from →
-        (coordinator : Option (Proposing D)) → (w.replica r).coordinator ≡ coordinator → Good (told_coordinator w r coordinator i b from h)
+    good_sent : (i : ℕ) (b : Ballot) (from : ℕ) (h : Held D) → IsSound s (Promise i b from h) → i ≡ (w.replica r).known + 1 → Contains (spec_of i) from →
+        (coordinator : Option (Proposing D)) → (w.replica r).coordinator ≡ coordinator → Good (sent_coordinator w r coordinator i b from h)
     unfolding Good
-    good_told i b from h sound now member None is = (s, inv)
-    good_told i b from h sound now member (Some p) is =
-        subst (λ j. Good (told_coordinator w r (Some p) j b from h)) (sym now) (go (counts_answer p from b) refl (nat_le (majority p.size) (length p.heard + 1)) refl)
+    good_sent i b from h sound now member None is = (s, inv)
+    good_sent i b from h sound now member (Some p) is =
+        subst (λ j. Good (sent_coordinator w r (Some p) j b from h)) (sym now) (go (counts_answer p from b) refl (nat_le (majority p.size) (length p.received + 1)) refl)
       where
         n : HasCoordinator (s ((w.replica r).known + 1)) ((w.replica r).known + 1) r (w.replica r).held.promised p
         n = inv.coordinators r p is
 
-        sound' : IsSound s (Told ((w.replica r).known + 1) b from h)
-        sound' = subst (λ j. IsSound s (Told j b from h)) now sound
+        sound' : IsSound s (Promise ((w.replica r).known + 1) b from h)
+        sound' = subst (λ j. IsSound s (Promise j b from h)) now sound
 
         member' : Contains (spec_of ((w.replica r).known + 1)) from
         member' = subst (λ j. Contains (spec_of j) from) now member
 
-        go : (c : Bool) → counts_answer p from b ≡ c → (m : Bool) → nat_le (majority p.size) (length p.heard + 1) ≡ m →
+        go : (c : Bool) → counts_answer p from b ≡ c → (m : Bool) → nat_le (majority p.size) (length p.received + 1) ≡ m →
             Good (with_coordinator w r (Some (cond c (after_answer p from h) p)) (cond (c && m) (Offer ((w.replica r).known + 1) p.ballot (value_proposed (after_answer p from h)) ∷ []) []))
         go false e m k = unchanged_coordinator p n
-        go true e true k = told_proposes b from h sound' member' p n e k
-        go true e false k = told_waits b from h sound' member' p n e k
+        go true e true k = sent_proposes b from h sound' member' p n e k
+        go true e false k = sent_waits b from h sound' member' p n e k
 
     -- ---- a vote comes
 
@@ -479,18 +479,18 @@ module _ (D : Type 0) (spec_of : ℕ → List ℕ) (laws : Laws D) where
 
     -- ---- any event
 
-    good_counted : (t : Bool) (i from : ℕ) → (i == (w.replica r).known + 1 && is_heard (spec_of i) from) ≡ t → (w' : World D) →
+    good_counted : (t : Bool) (i from : ℕ) → (i == (w.replica r).known + 1 && is_received (spec_of i) from) ≡ t → (w' : World D) →
         (i ≡ (w.replica r).known + 1 → Contains (spec_of i) from → Good w') → Good (cond t w' w)
     unfolding Good
     good_counted false i from e w' good = (s, inv)
-    good_counted true i from e w' good = good (nat_eq_is _ _ (both _ _ e).0) (heard_contains (spec_of i) from (both _ _ e).1)
+    good_counted true i from e w' good = good (nat_eq_is _ _ (both _ _ e).0) (received_contains (spec_of i) from (both _ _ e).1)
 
     good_comes : (m : Option (Message D)) → ((x : Message D) → m ≡ Some x → Contains w.sent x) → Good (comes spec_of w r m)
     unfolding Good
     good_comes None there = (s, inv)
     good_comes (Some (Ask i b)) there = good_asked i b (inv.sound (Ask i b) (there _ refl))
-    good_comes (Some (Told i b from h)) there =
-        good_counted (is_counted spec_of w r i from) i from refl _ (λ now member. good_told i b from h (inv.sound (Told i b from h) (there _ refl)) now member (w.replica r).coordinator refl)
+    good_comes (Some (Promise i b from h)) there =
+        good_counted (is_counted spec_of w r i from) i from refl _ (λ now member. good_sent i b from h (inv.sound (Promise i b from h) (there _ refl)) now member (w.replica r).coordinator refl)
     good_comes (Some (Offer i b d)) there = good_offered i b d (inv.sound (Offer i b d) (there _ refl))
     good_comes (Some (Voted i b from)) there =
         good_counted (is_counted spec_of w r i from) i from refl _ (λ now member. good_voted i b from (inv.sound (Voted i b from) (there _ refl)) now member (w.replica r).coordinator refl)

@@ -4,4 +4,4 @@ use Rattle.crsm_core.proofs.CommitLemmas.{Committed}
 use Rattle.crsm_core.proofs.commits.commits.Given as goal
 
 abbrev pub invariant-loop-done : goal.invariant-loop-done
-invariant-loop-done l = (x : Draft) → StandsFor l.fn.desk x → Committed l._done l.desk x
+invariant-loop-done l = (x : Draft) → StandsFor l.fn.state x → Committed l._done l.state x

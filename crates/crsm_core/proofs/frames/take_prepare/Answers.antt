@@ -6,14 +6,14 @@ use Rattle.crsm_spec.specs.Draft.{Draft, keep, count_vote}
 use Rattle.crsm_spec.specs.Frames.{ack, owe}
 use Rattle.crsm_replica.specs.Replica.{StandsFor}
 use Rattle.crsm_core.proofs.Fitting.{if_fits, stands_as}
-use Rattle.crsm_core.proofs.FrameLemmas.{heard_at, me_kept, heard_kept, is_taken, is_not_taken}
+use Rattle.crsm_core.proofs.FrameLemmas.{received_at, me_kept, received_kept, is_taken, is_not_taken}
 use Rattle.crsm_core.proofs.frames.take_prepare.Goals as goal
 
 pub returns-then-not-branch : goal.returns-then-not-branch
 returns-then-not-branch c = λ x s n l.
     let e : Entry = c.args.entry.now in
     let both = c.in_ok-log_entry.ensures x s in
-    is_not_taken c.log_entry.new.desk c.args.k e x (sym both.0 ∙ c.if-not-branch.true) both.1
+    is_not_taken c.log_entry.new.state c.args.k e x (sym both.0 ∙ c.if-not-branch.true) both.1
 
 pub returns : goal.returns
 returns c = λ x s n l.
@@ -23,13 +23,13 @@ returns c = λ x s n l.
     let both = c.in_ok-log_entry.ensures x s in
     let y : Draft = keep (Rec.Prepare e) x in
     let fit : y.fitting ≡ true = sym both.0 ∙ c.if-not-branch.false in
-    let kept : StandsFor c.log_entry.new.desk y = stands_as c.log_entry.new.desk _ y (if_fits x y fit) both.1 in
+    let kept : StandsFor c.log_entry.new.state y = stands_as c.log_entry.new.state _ y (if_fits x y fit) both.1 in
     let other : k ≢ y.replica.me = λ h. n (h ∙ me_kept (Rec.Prepare e) x) in
-    let above : latest_from y.replica.heard k < t = subst (λ hs. latest_from hs k < t) (sym (heard_kept (Rec.Prepare e) x)) l in
+    let above : latest_from y.replica.received k < t = subst (λ hs. latest_from hs k < t) (sym (received_kept (Rec.Prepare e) x)) l in
     let a = c.in_ok-take_next.ensures y kept other above in
-    let b = c.in_ok-ack.ensures (heard_at k t y) a in
-    let d = c.in_ok-count_vote.ensures (ack k (heard_at k t y)) b in
-    let f = c.in_ok-count_vote-2.ensures (count_vote e.stamp k (ack k (heard_at k t y))) d in
-    let g = c.in_ok-owe.ensures (count_vote e.stamp c.me-me.result (count_vote e.stamp k (ack k (heard_at k t y)))) f in
+    let b = c.in_ok-ack.ensures (received_at k t y) a in
+    let d = c.in_ok-count_vote.ensures (ack k (received_at k t y)) b in
+    let f = c.in_ok-count_vote-2.ensures (count_vote e.stamp k (ack k (received_at k t y))) d in
+    let g = c.in_ok-owe.ensures (count_vote e.stamp c.me-me.result (count_vote e.stamp k (ack k (received_at k t y)))) f in
     is_taken c.owe.new.self k e x fit
-    (subst (λ m. StandsFor c.owe.new.self (owe e.stamp (count_vote e.stamp m (count_vote e.stamp k (ack k (heard_at k t y)))))) (c.me-me.ensures.value x s) g)
+    (subst (λ m. StandsFor c.owe.new.self (owe e.stamp (count_vote e.stamp m (count_vote e.stamp k (ack k (received_at k t y)))))) (c.me-me.ensures.value x s) g)

@@ -11,10 +11,10 @@ use Rattle.crsm_core.proofs.owed.owed_oks.Goals as goal
 pub returns-then-not-is_active : goal.returns-then-not-is_active
 returns-then-not-is_active c = λ x s.
     let a : active x.replica.log ≡ false = cc (c.is_active.ensures x s) in
-    not_active c.args.reading c.args.desk.now x a s
+    not_active c.args.reading c.args.state.now x a s
 
 pub loop-paid-init : goal.loop-paid-init
-loop-paid-init c = λ x s. begins c.args.reading c.args.desk.now x s
+loop-paid-init c = λ x s. begins c.args.reading c.args.state.now x s
 
 pub loop-paid-preserved : goal.loop-paid-preserved
 loop-paid-preserved c = λ x s.
@@ -23,28 +23,28 @@ loop-paid-preserved c = λ x s.
     let time = c.in-Some-would.time in
     let first : Some stamp ≡ first_of p.left.replica.owed = sym c.in-Some.is ∙ c.first_owed.ensures p.left p.stands in
     let next : Some time ≡ would p.left c.args.reading = sym c.in-Some-would.is ∙ c.would.ensures p.left p.stands in
-    let spelt : FitsStamp stamp = first_fits stamp p.left.replica.owed (c.desks_are_sound.ensures c.loop-paid.desk p.left p.stands).owed first in
+    let spelt : FitsStamp stamp = first_fits stamp p.left.replica.owed (c.states_are_sound.ensures c.loop-paid.state p.left p.stands).owed first in
     let below : time < 2 ^ 64 = omega arith in
-    pays c.args.reading c.loop-paid._paid c.loop-paid.desk c.push_at.new.self c.paid.new.self x p stamp time first next (omega arith)
+    pays c.args.reading c.loop-paid._paid c.loop-paid.state c.push_at.new.self c.paid.new.self x p stamp time first next (omega arith)
     (c.in_ok-push_at.ensures p.left c.args.reading p.stands (spelt, below) (sym next)) c.in_ok-paid.ensures
 
 pub returns-in_default : goal.returns-in_default
 returns-in_default c = λ x s.
     let a : active x.replica.log ≡ true = cc (c.is_active.ensures x s) in
     let p = c.loop-paid.invariant x s in
-    none_owed c.args.reading c.loop-paid._paid c.loop-paid.desk x p a (sym c.in_default.is ∙ c.first_owed.ensures p.left p.stands)
+    none_owed c.args.reading c.loop-paid._paid c.loop-paid.state x p a (sym c.in_default.is ∙ c.first_owed.ensures p.left p.stands)
 
 pub returns-in_default-would : goal.returns-in_default-would
 returns-in_default-would c = λ x s.
     let a : active x.replica.log ≡ true = cc (c.is_active.ensures x s) in
     let p = c.loop-paid.invariant x s in
-    no_time c.args.reading c.loop-paid._paid c.loop-paid.desk x p a (sym c.in_default-would.is ∙ c.would.ensures p.left p.stands)
+    no_time c.args.reading c.loop-paid._paid c.loop-paid.state x p a (sym c.in_default-would.is ∙ c.would.ensures p.left p.stands)
 
 pub returns-then-stamp-time : goal.returns-then-stamp-time
 returns-then-stamp-time c = λ x s.
     let a : active x.replica.log ≡ true = cc (c.is_active.ensures x s) in
     let p = c.loop-paid.invariant x s in
-    not_due c.args.reading c.loop-paid._paid c.in-Some-would.time c.loop-paid.desk x p c.in-Some.stamp a (sym c.in-Some.is ∙ c.first_owed.ensures p.left p.stands)
+    not_due c.args.reading c.loop-paid._paid c.in-Some-would.time c.loop-paid.state x p c.in-Some.stamp a (sym c.in-Some.is ∙ c.first_owed.ensures p.left p.stands)
     (sym c.in-Some-would.is ∙ c.would.ensures p.left p.stands) (omega arith)
 
 pub returns : goal.returns
@@ -52,4 +52,4 @@ returns c = λ x s.
     let a : active x.replica.log ≡ true = cc (c.is_active.ensures x s) in
     let p = c.loop-paid.invariant x s in
     let all = c.owed_len-paid-end.ensures x s in
-    all_paid c.args.reading c.loop-paid._paid c.loop-paid.desk x p a (omega (arith, all))
+    all_paid c.args.reading c.loop-paid._paid c.loop-paid.state x p a (omega (arith, all))

@@ -4,4 +4,4 @@ use Rattle.crsm_core.proofs.OwedLemmas.{Paid}
 use Rattle.crsm_core.proofs.owed.owed_oks.Given as goal
 
 abbrev pub invariant-loop-paid : goal.invariant-loop-paid
-invariant-loop-paid l = (x : Draft) → StandsFor l.fn.desk x → Paid l.reading l._paid l.desk x
+invariant-loop-paid l = (x : Draft) → StandsFor l.fn.state x → Paid l.reading l._paid l.state x

@@ -13,10 +13,10 @@ on_control-requires c = record { from = c.requires; spelt = c.in-Ok.ensures.foun
 
 pub returns-in_ok-on_control-in-Ok : goal.returns-in_ok-on_control-in-Ok
 returns-in_ok-on_control-in-Ok c = λ x s n.
-    fitted_as c.on_control.new.desk x (on_control c.args.from c.in-Ok.control x) (on_whole_message c.args.from (control_of c.args.bytes.now) x)
+    fitted_as c.on_control.new.state x (on_control c.args.from c.in-Ok.control x) (on_whole_message c.args.from (control_of c.args.bytes.now) x)
     (a_message c.args.from c.args.bytes.now c.in-Ok.control x c.in-Ok.ensures.value) (c.in_ok-on_control-in-Ok.ensures x s n)
 
 pub returns-in-Err-NotOne : goal.returns-in-Err-NotOne
 returns-in-Err-NotOne c = λ x s n.
     let none : control_of c.args.bytes.now ≡ None = c.in-Err-NotOne.ensures.none (ap (λ (e : WireError). Err e) c.in-Err-NotOne.field-0-is) in
-    left c.args.desk.now x (on_whole_message c.args.from (control_of c.args.bytes.now) x) (no_message c.args.from c.args.bytes.now x none) s
+    left c.args.state.now x (on_whole_message c.args.from (control_of c.args.bytes.now) x) (no_message c.args.from c.args.bytes.now x none) s

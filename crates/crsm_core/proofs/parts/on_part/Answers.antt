@@ -13,7 +13,7 @@ pub returns-in_default : goal.returns-in_default
 returns-in_default c = λ x s n.
     let p : Piece = piece c.args.from c.args.heading.boot c.args.heading.number c.args.heading.index c.args.heading.count c.args.bytes.now in
     let whole = c.in_ok-whole.ensures.whole x s in
-    kept c.take_part.new.self x (on_part p x) (parted p x) c.desks_are_sound.ensures (part_alone p x (sym c.in_default.is ∙ whole)) (c.in_ok-whole.ensures.part x s)
+    kept c.take_part.new.self x (on_part p x) (parted p x) c.states_are_sound.ensures (part_alone p x (sym c.in_default.is ∙ whole)) (c.in_ok-whole.ensures.part x s)
 
 pub returns : goal.returns
 returns c = λ x s n.
@@ -22,5 +22,5 @@ returns c = λ x s n.
     let y : Draft = parted p x in
     let bytes : List ℕ = c.as_slice.result.now in
     let there : Some bytes ≡ whole_with p x.replica.parts = ap (λ (b : List ℕ). Some b) c.as_slice.ensures ∙ sym c.in-Some.is ∙ whole in
-    kept c.on_message.new.desk x (on_part p x) (if_fitting y (on_whole_message c.args.from (control_of bytes) y)) c.desks_are_sound.ensures (part_whole p x bytes there)
+    kept c.on_message.new.state x (on_part p x) (if_fitting y (on_whole_message c.args.from (control_of bytes) y)) c.states_are_sound.ensures (part_whole p x bytes there)
     (c.in_ok-on_message.ensures y (c.in_ok-whole.ensures.part x s) n)

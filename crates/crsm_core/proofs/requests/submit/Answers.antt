@@ -23,7 +23,7 @@ pub returns-then-not-branch : goal.returns-then-not-branch
 returns-then-not-branch c = λ x reading s w.
     let both = c.in_ok-log_entry.ensures x s in
     let e : Entry = record { epoch = c.known.result; stamp = record { time = c.args.time; origin = c.me-me.result }; command = c.in_ok-copy.field-0 } in
-    is_not_submitted c.log_entry.new.desk c.args.address c.args.command.now c.args.time x e
+    is_not_submitted c.log_entry.new.state c.args.address c.args.command.now c.args.time x e
     (entry_is c.args.command.now c.in_ok-copy.field-0 c.args.time c.me-me.result c.known.result x (c.me-me.ensures.value x s) (c.known.ensures x s) c.in_ok-copy.ensures)
     (sym both.0 ∙ c.if-not-branch.true) both.1
 
@@ -37,7 +37,7 @@ returns c = λ x reading s w.
     let rec : Rec = Rec.Prepare e in
     let y : Draft = keep rec x in
     let fit : y.fitting ≡ true = sym both.0 ∙ c.if-not-branch.false in
-    let a : StandsFor c.log_entry.new.desk y = stands_as c.log_entry.new.desk _ y (if_fits x y fit) both.1 in
+    let a : StandsFor c.log_entry.new.state y = stands_as c.log_entry.new.state _ y (if_fits x y fit) both.1 in
     let b = c.in_ok-count_vote.ensures y a in
     let d = c.in_ok-await_entry.ensures (count_vote stamp me y) b in
     let fits : FitsEntry e =

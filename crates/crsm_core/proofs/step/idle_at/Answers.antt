@@ -9,15 +9,15 @@ use Rattle.crsm_core.proofs.step.idle_at.Goals as goal
 
 pub returns-in_ok-idle-in-Tick : goal.returns-in_ok-idle-in-Tick
 returns-in_ok-idle-in-Tick c = λ x s.
-    stands_as c.idle.new.desk (idle c.args.reading x) (idle_at (input_of c.args.input.now) c.args.reading x)
+    stands_as c.idle.new.state (idle c.args.reading x) (idle_at (input_of c.args.input.now) c.args.reading x)
     (idle_then c.args.reading x ∙ ap (λ (i : Input). idle_at (input_of i) c.args.reading x) (sym c.in-Tick.is)) (c.in_ok-idle-in-Tick.ensures x s)
 
 pub returns-in-Datagram : goal.returns-in-Datagram
 returns-in-Datagram c = λ x s.
-    stands_as c.args.desk.now x (idle_at (input_of c.args.input.now) c.args.reading x)
+    stands_as c.args.state.now x (idle_at (input_of c.args.input.now) c.args.reading x)
     (not_then c.in-Datagram.from c.args.reading c.in-Datagram.datagram x ∙ ap (λ (i : Input). idle_at (input_of i) c.args.reading x) (sym c.in-Datagram.is)) s
 
 pub returns-in-Suspect : goal.returns-in-Suspect
 returns-in-Suspect c = λ x s.
-    stands_as c.args.desk.now x (idle_at (input_of c.args.input.now) c.args.reading x)
+    stands_as c.args.state.now x (idle_at (input_of c.args.input.now) c.args.reading x)
     (nor_then c.args.reading c.in-Suspect.members x ∙ ap (λ (i : Input). idle_at (input_of i) c.args.reading x) (sym c.in-Suspect.is)) s

@@ -10,9 +10,9 @@ use Rattle.crsm_core.proofs.ticks.on_tick.Goals as goal
 pub returns-then-is_active : goal.returns-then-is_active
 returns-then-is_active c = λ x s.
     let a : active x.replica.log ≡ true = cc (c.is_active.ensures x s) in
-    kept c.send_again.new.desk x (on_tick x) (send_again x) c.desks_are_sound.ensures (active_tick x a) (c.in_ok-send_again.ensures x s)
+    kept c.send_again.new.state x (on_tick x) (send_again x) c.states_are_sound.ensures (active_tick x a) (c.in_ok-send_again.ensures x s)
 
 pub returns : goal.returns
 returns c = λ x s.
     let a : active x.replica.log ≡ false = cc (c.is_active.ensures x s) in
-    fitted_as c.renew_and_ask.new.desk x (ask_all (renew x.replica.coordinator x)) (on_tick x) (quiet_tick x a) (c.in_ok-renew_and_ask.ensures x s)
+    fitted_as c.renew_and_ask.new.state x (ask_all (renew x.replica.coordinator x)) (on_tick x) (quiet_tick x a) (c.in_ok-renew_and_ask.ensures x s)

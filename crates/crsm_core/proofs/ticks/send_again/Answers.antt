@@ -19,5 +19,5 @@ loop-k-preserved c = λ x s.
 
 pub returns : goal.returns
 returns c = λ x s.
-    again_all c.loop-k.desk c.deref-k-items.result.now c.loop-k.k-index x c.loop-k-test.false
+    again_all c.loop-k.state c.deref-k-items.result.now c.loop-k.k-index x c.loop-k-test.false
     (c.deref-k-items.ensures.value ∙ c.in_ok-members.ensures.value x s) (c.loop-k.invariant x s)

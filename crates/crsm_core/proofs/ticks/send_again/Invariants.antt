@@ -6,4 +6,4 @@ use Rattle.crsm_replica.specs.Replica.{StandsFor}
 use Rattle.crsm_core.proofs.ticks.send_again.Given as goal
 
 abbrev pub invariant-loop-k : goal.invariant-loop-k
-invariant-loop-k l = (x : Draft) → StandsFor l.fn.desk x → StandsFor l.desk (fold again_to x (take l.k-index l.k-items))
+invariant-loop-k l = (x : Draft) → StandsFor l.fn.state x → StandsFor l.state (fold again_to x (take l.k-index l.k-items))

@@ -23,8 +23,8 @@ returns-in_ok-ask_page-in-More c = λ x ms pages s g can.
     let set = c.set_coordinator-in-More.ensures x (Coordinator.Collecting ms pages) s stands in
     let next = subst (λ r. AsksOn c.args.k pages r) c.in-More.is can.next in
     let asked = c.in_ok-ask_page-in-More.ensures (noting (Coordinator.Collecting ms pages) x) ms pages set refl in
-    subst (λ r. StandsFor c.ask_page.new.desk (on_got ms pages r (noting (Coordinator.Collecting ms pages) x))) (sym c.in-More.is)
-    (subst (λ y. StandsFor c.ask_page.new.desk y) (does_more ms pages x c.args.k c.in-More.from c.in-More.after next.0 next.1) asked)
+    subst (λ r. StandsFor c.ask_page.new.state (on_got ms pages r (noting (Coordinator.Collecting ms pages) x))) (sym c.in-More.is)
+    (subst (λ y. StandsFor c.ask_page.new.state y) (does_more ms pages x c.args.k c.in-More.from c.in-More.after next.0 next.1) asked)
 
 pub returns-in-Kept : goal.returns-in-Kept
 returns-in-Kept c = λ x ms pages s g can.
@@ -38,8 +38,8 @@ unfolding no_ballot
 returns-in_ok-begin_proposing-in-Complete c = λ x ms pages s g can.
     let d = c.in-Complete.decision in
     let begun = c.in_ok-begin_proposing-in-Complete.ensures x s (completes d c.args.got x c.in-Complete.is can.begins can.fits) in
-    subst (λ r. StandsFor c.begin_proposing.new.desk (on_got ms pages r (noting (Coordinator.Collecting ms pages) x))) (sym c.in-Complete.is)
-    (subst (λ y. StandsFor c.begin_proposing.new.desk y) (does_begin ms pages x d) begun)
+    subst (λ r. StandsFor c.begin_proposing.new.state (on_got ms pages r (noting (Coordinator.Collecting ms pages) x))) (sym c.in-Complete.is)
+    (subst (λ y. StandsFor c.begin_proposing.new.state y) (does_begin ms pages x d) begun)
 
 pub returns-in_ok-refuse_collection-in-TooMany : goal.returns-in_ok-refuse_collection-in-TooMany
 returns-in_ok-refuse_collection-in-TooMany c = λ x ms pages s g can.

@@ -17,7 +17,7 @@ use Rattle.crsm_reconfigure.proofs.collecting.on_suspend_ok.Goals as goal
 
 pub returns-then-not-is_collecting : goal.returns-then-not-is_collecting
 returns-then-not-is_collecting c = λ x s apart.
-    does_nothing c.args.desk.now x _ (report_ignored c.args.k c.args.answer.now x c.requires.is (sym (c.is_collecting-is_collecting.ensures x s) ∙ c.if-not-is_collecting.true)) s
+    does_nothing c.args.state.now x _ (report_ignored c.args.k c.args.answer.now x c.requires.is (sym (c.is_collecting-is_collecting.ensures x s) ∙ c.if-not-is_collecting.true)) s
 
 pub returns-in_default : goal.returns-in_default
 returns-in_default c = λ x s apart.
@@ -46,11 +46,11 @@ returns c = λ x s apart.
     let fits = subst FitsGot got (c.in_ok-got.ensures.fits x.replica.log spec named ms pages held) in
     let after = after_report k a ms pages x in
     let gathering = gathers x.replica.me x.replica.n x.replica.log ms after c.take.new.self g.counted (c.in_ok-got.ensures.state x.replica.log spec named ms pages held) in
-    let can = report_goes_on k a ms pages x (c.desks_are_sound.ensures c.args.desk.now x s) report apart g.counted fits in
+    let can = report_goes_on k a ms pages x (c.states_are_sound.ensures c.args.state.now x s) report apart g.counted fits in
     let gone = c.in_ok-go_on.ensures (noting Coordinator.Idle x) ms after (c.take_coordinator-coordinator.ensures.quiet x s) gathering (subst (λ r. CanGoOn k after r (noting Coordinator.Idle x)) (sym got) can) in
     let is = taken_is_got x.replica.log spec named ms pages k a report in
     let rule : on_got ms after (report_got k a ms pages x) (noting (Coordinator.Collecting ms after) (noting Coordinator.Idle x)) ≡ on_control k c.args.answer.now x =
     done_in ms pages after k _ (report_got k a ms pages x) x is m.2 ∙ by_the_rules c.got_is_by_the_rules.ensures.taken k a ms pages x report m.2 ∙ ap (λ b. on_control k b x) c.in_ok-answer.ensures in
-    is_whole c.go_on.new.desk x _
-    (ap (λ y. y.fitting) (sym rule) ∙ report_fitting ms after (report_got k a ms pages x) (Coordinator.Collecting ms after) x (c.desks_are_sound.ensures c.args.desk.now x s).fitting can.fits)
-    (subst (λ y. StandsFor c.go_on.new.desk y) rule (subst (λ r. StandsFor c.go_on.new.desk (on_got ms after r (noting (Coordinator.Collecting ms after) (noting Coordinator.Idle x)))) got gone))
+    is_whole c.go_on.new.state x _
+    (ap (λ y. y.fitting) (sym rule) ∙ report_fitting ms after (report_got k a ms pages x) (Coordinator.Collecting ms after) x (c.states_are_sound.ensures c.args.state.now x s).fitting can.fits)
+    (subst (λ y. StandsFor c.go_on.new.state y) rule (subst (λ r. StandsFor c.go_on.new.state (on_got ms after r (noting (Coordinator.Collecting ms after) (noting Coordinator.Idle x)))) got gone))

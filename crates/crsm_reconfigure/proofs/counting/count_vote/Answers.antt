@@ -30,7 +30,7 @@ returns-then-is_last c = λ x b own value acceptors s e h.
     let spelt = subst (λ o. FitsOption FitsVote o) c.in-Some.is (c.in_ok-found.ensures.spelt x.replica.me x.replica.n (decision x.replica.log) m again) in
     let k = c.in_ok-fits.ensures x s spelt.1 in
     let rule : on_chosen c.in-Some.value x ≡ count_acceptor b own value acceptors c.args.k x = ap (λ d. on_chosen d x) same ∙ sym (vote_last b own value acceptors c.args.k x many) in
-    (k.0 ∙ ap (λ y. y.fitting) rule, instead c.choose.new.desk x _ _ rule k.1)
+    (k.0 ∙ ap (λ y. y.fitting) rule, instead c.choose.new.state x _ _ rule k.1)
 
 pub returns : goal.returns
 unfolding noting
@@ -44,7 +44,7 @@ returns c = λ x b own value acceptors s e h.
     let stands = voted_more c.in_ok-voted.voted c.in-More.coordinator x.replica.me x.replica.n (decision x.replica.log) b own value (c.args.k ∷ acceptors) c.in-More.is voted in
     let set = c.set_coordinator.ensures (noting Coordinator.Idle x) m (c.take_coordinator-coordinator.ensures.quiet x s) stands in
     let rule = vote_more b own value acceptors c.args.k x few in
-    let fit : (count_acceptor b own value acceptors c.args.k x).fitting ≡ true = ap (λ y. y.fitting) rule ∙ noted_fitting m x ∙ (c.desks_are_sound.ensures c.args.desk.now x s).fitting in
+    let fit : (count_acceptor b own value acceptors c.args.k x).fitting ≡ true = ap (λ y. y.fitting) rule ∙ noted_fitting m x ∙ (c.states_are_sound.ensures c.args.state.now x s).fitting in
     (sym fit, is_whole c.set_coordinator.new.self x _ fit (subst (λ y. StandsFor c.set_coordinator.new.self y) (noted_twice m x ∙ sym rule) set))
 
 pub returns-in_default : goal.returns-in_default

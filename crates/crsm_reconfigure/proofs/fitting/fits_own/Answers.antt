@@ -7,19 +7,19 @@ use Rattle.crsm_reconfigure.proofs.fitting.fits_own.Goals as goal
 
 pub returns-then-ballot_precedes : goal.returns-then-ballot_precedes
 returns-then-ballot_precedes c = λ x own acceptors s f m.
-    let sound = c.desks_are_sound.ensures c.args.desk.now x s in
+    let sound = c.states_are_sound.ensures c.args.state.now x s in
     let top = c.promised-top.ensures x s in
     fits_preempted c.args.ballot c.promised-top.result own c.args.value.now acceptors x sound top (sym c.ballot_precedes.ensures ∙ c.if-ballot_precedes.true)
 
 pub returns-then-not-is_due : goal.returns-then-not-is_due
 returns-then-not-is_due c = λ x own acceptors s f m.
-    let sound = c.desks_are_sound.ensures c.args.desk.now x s in
+    let sound = c.states_are_sound.ensures c.args.state.now x s in
     let top = c.promised-top.ensures x s in
     fits_waiting c.args.ballot c.promised-top.result own c.args.value.now acceptors x sound top (sym c.ballot_precedes.ensures ∙ c.if-ballot_precedes.false) (sym (c.is_due-is_due.ensures x s) ∙ c.if-not-is_due.true)
 
 pub returns-then-not-accepts : goal.returns-then-not-accepts
 returns-then-not-accepts c = λ x own acceptors s f m.
-    let sound = c.desks_are_sound.ensures c.args.desk.now x s in
+    let sound = c.states_are_sound.ensures c.args.state.now x s in
     let top = c.promised-top.ensures x s in
     let below = sym c.ballot_precedes.ensures ∙ c.if-ballot_precedes.false in
     let due = sym (c.is_due-is_due.ensures x s) ∙ c.if-not-is_due.false in
@@ -27,7 +27,7 @@ returns-then-not-accepts c = λ x own acceptors s f m.
 
 pub returns-then-not-is_chosen : goal.returns-then-not-is_chosen
 returns-then-not-is_chosen c = λ x own acceptors s f m.
-    let sound = c.desks_are_sound.ensures c.args.desk.now x s in
+    let sound = c.states_are_sound.ensures c.args.state.now x s in
     let top = c.promised-top.ensures x s in
     let below = sym c.ballot_precedes.ensures ∙ c.if-ballot_precedes.false in
     let due = sym (c.is_due-is_due.ensures x s) ∙ c.if-not-is_due.false in
@@ -35,7 +35,7 @@ returns-then-not-is_chosen c = λ x own acceptors s f m.
 
 pub returns : goal.returns
 returns c = λ x own acceptors s f m.
-    let sound = c.desks_are_sound.ensures c.args.desk.now x s in
+    let sound = c.states_are_sound.ensures c.args.state.now x s in
     let top = c.promised-top.ensures x s in
     let below = sym c.ballot_precedes.ensures ∙ c.if-ballot_precedes.false in
     let due = sym (c.is_due-is_due.ensures x s) ∙ c.if-not-is_due.false in

@@ -18,10 +18,10 @@ unfolding renew
 returns-then-not-fits c = λ x own seen s e.
     let found = c.in_ok-found.ensures x own seen s e in
     let same = same_Some _ _ (sym c.in-Some.is ∙ found.0) in
-    let fit = c.in_ok-fits.ensures x x s (subst (λ (q : Decision × Ballot). CanPropose q.0 q.1 x) (sym same) found.1) (alike_self x (c.desks_are_sound.ensures c.args.desk.now x s)) in
+    let fit = c.in_ok-fits.ensures x x s (subst (λ (q : Decision × Ballot). CanPropose q.0 q.1 x) (sym same) found.1) (alike_self x (c.states_are_sound.ensures c.args.state.now x s)) in
     let rule = ap (λ (q : Decision × Ballot). (begin_proposing q.0 q.1 x).fitting) same in
     let u = sym (sym c.if-not-fits.true ∙ fit ∙ rule) in
-    (sym u, is_ignored c.args.desk.now x _ u s)
+    (sym u, is_ignored c.args.state.now x _ u s)
 
 pub returns : goal.returns
 unfolding renew
@@ -29,8 +29,8 @@ returns c = λ x own seen s e.
     let found = c.in_ok-found.ensures x own seen s e in
     let same = same_Some _ _ (sym c.in-Some.is ∙ found.0) in
     let can = subst (λ (q : Decision × Ballot). CanPropose q.0 q.1 x) (sym same) found.1 in
-    let fit = c.in_ok-fits.ensures x x s can (alike_self x (c.desks_are_sound.ensures c.args.desk.now x s)) in
+    let fit = c.in_ok-fits.ensures x x s can (alike_self x (c.states_are_sound.ensures c.args.state.now x s)) in
     let u = sym fit ∙ c.if-not-fits.false in
-    let made = subst (λ (q : Decision × Ballot). StandsFor c.begin_proposing.new.desk (begin_proposing q.0 q.1 x)) same (c.in_ok-begin_proposing.ensures x s (can, u)) in
+    let made = subst (λ (q : Decision × Ballot). StandsFor c.begin_proposing.new.state (begin_proposing q.0 q.1 x)) same (c.in_ok-begin_proposing.ensures x s (can, u)) in
     let whole = ap (λ (q : Decision × Ballot). (begin_proposing q.0 q.1 x).fitting) (sym same) ∙ u in
-    (sym whole, is_whole c.begin_proposing.new.desk x _ whole made)
+    (sym whole, is_whole c.begin_proposing.new.state x _ whole made)

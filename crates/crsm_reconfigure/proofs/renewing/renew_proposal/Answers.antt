@@ -37,7 +37,7 @@ returns-then-not-fits c = λ x b own value acceptors s e.
     let fit = c.in_ok-fits.ensures x own acceptors s (subst (λ d. FitsDecision d) (sym decided) mine.2) chosen in
     let rule = ap (λ q. (accept_own q own c.in-Some.value acceptors x).fitting) ballot ∙ ap (λ d. (accept_own b own d acceptors x).fitting) decided ∙ sym (renewed_fitting b own value acceptors x) in
     let u = sym (sym c.if-not-fits.true ∙ fit ∙ rule) in
-    (sym u, is_ignored c.args.desk.now x _ u s)
+    (sym u, is_ignored c.args.state.now x _ u s)
 
 pub returns : goal.returns
 unfolding proposal_of
@@ -57,4 +57,4 @@ returns c = λ x b own value acceptors s e.
     let rule = ap (λ q. (accept_own q own c.in-Some.value acceptors x).fitting) ballot ∙ ap (λ d. (accept_own b own d acceptors x).fitting) decided in
     let u : (accept_own b own value acceptors x).fitting ≡ true = sym (sym c.if-not-fits.false ∙ fit ∙ rule) in
     let whole = renewed_fitting b own value acceptors x ∙ u in
-    (sym whole, is_whole c.accept_and_tell.new.desk x _ whole (c.in_ok-accept_and_tell.ensures x b own value acceptors s e u))
+    (sym whole, is_whole c.accept_and_send.new.state x _ whole (c.in_ok-accept_and_send.ensures x b own value acceptors s e u))

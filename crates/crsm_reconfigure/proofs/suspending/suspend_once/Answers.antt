@@ -11,8 +11,8 @@ use Rattle.crsm_reconfigure.proofs.suspending.suspend_once.Goals as goal
 pub returns-then-is_suspended : goal.returns-then-is_suspended
 returns-then-is_suspended c = λ x s.
     let is = once_done x (sym (c.is_suspended-is_suspended.ensures x s) ∙ c.if-is_suspended.true) in
-    let fit : (suspend_once x).fitting ≡ true = ap (λ y. y.fitting) is ∙ (c.desks_are_sound.ensures c.args.desk.now x s).fitting in
-    (sym fit, is_whole c.args.desk.now x _ fit (subst (λ y. StandsFor c.args.desk.now y) (sym is) s))
+    let fit : (suspend_once x).fitting ≡ true = ap (λ y. y.fitting) is ∙ (c.states_are_sound.ensures c.args.state.now x s).fitting in
+    (sym fit, is_whole c.args.state.now x _ fit (subst (λ y. StandsFor c.args.state.now y) (sym is) s))
 
 pub returns : goal.returns
 returns c = λ x s.

@@ -10,11 +10,11 @@ returns-then-not-fits c = λ x s.
     let both = c.in_ok-fits.ensures x s in
     let y : Draft = renew x.replica.coordinator x in
     let u : y.fitting ≡ false = sym both.0 ∙ c.if-not-fits.true in
-    is_ignored c.renew.new.desk x (ask_all y) (asked_all_fitting y ∙ u) (was_ignored c.renew.new.desk x y u both.1)
+    is_ignored c.renew.new.state x (ask_all y) (asked_all_fitting y ∙ u) (was_ignored c.renew.new.state x y u both.1)
 
 pub returns : goal.returns
 returns c = λ x s.
     let both = c.in_ok-fits.ensures x s in
     let y : Draft = renew x.replica.coordinator x in
     let u : y.fitting ≡ true = sym both.0 ∙ c.if-not-fits.false in
-    is_whole c.ask_all.new.desk x (ask_all y) (asked_all_fitting y ∙ u) (c.in_ok-ask_all.ensures y (was_whole c.renew.new.desk x y u both.1))
+    is_whole c.ask_all.new.state x (ask_all y) (asked_all_fitting y ∙ u) (c.in_ok-ask_all.ensures y (was_whole c.renew.new.state x y u both.1))

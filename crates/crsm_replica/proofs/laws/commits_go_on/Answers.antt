@@ -7,7 +7,7 @@ use Rattle.crsm_replica.proofs.laws.commits_go_on.Goals as goal
 
 pub returns : goal.returns
 unfolding StandsFor
-returns c desk x e es s is =
+returns c state x e es s is =
     unexecuted_committed x.replica.me x.replica.n x.replica.log e.stamp s.sound.kept (record { entry = e; rest = es; first = is; stamp = refl })
     ∙ ap (without_entry e.stamp) is
     ∙ without_first e es

@@ -15,11 +15,11 @@ returns-in-Err-NotOne-clause-step c r stands =
     subst (Steps c.args.core.now c.nothing.result.batch) (sym (turn_nothing r c.args.from c.args.reading c.args.bytes.now (rw (c.in-Err-NotOne.is, c.in-Err-NotOne.field-0-is) at c.read_datagram.ensures.none refl)))
     (c.nothing.ensures.step r, stands)
 
-pub returns-in-Ok-clause-heard : goal.returns-in-Ok-clause-heard
-returns-in-Ok-clause-heard c =
+pub returns-in-Ok-clause-received : goal.returns-in-Ok-clause-received
+returns-in-Ok-clause-received c =
     let came = heard_came c.args.from c.args.bytes.now c.in-Ok.datagram (rw c.in-Ok.is at c.read_datagram.ensures.value) in
-    IfOk-weaker c.step.result _ _ (λ made is. is ∙ c.sender_of-heard.ensures ∙ sym came) c.step.ensures.heard
+    IfOk-weaker c.step.result _ _ (λ made is. is ∙ c.sender_of-received.ensures ∙ sym came) c.step.ensures.received
 
-pub returns-in-Err-NotOne-clause-heard : goal.returns-in-Err-NotOne-clause-heard
-returns-in-Err-NotOne-clause-heard c =
-    c.nothing.ensures.heard ∙ sym (heard_nothing c.args.from c.args.bytes.now (rw (c.in-Err-NotOne.is, c.in-Err-NotOne.field-0-is) at c.read_datagram.ensures.none refl))
+pub returns-in-Err-NotOne-clause-received : goal.returns-in-Err-NotOne-clause-received
+returns-in-Err-NotOne-clause-received c =
+    c.nothing.ensures.received ∙ sym (heard_nothing c.args.from c.args.bytes.now (rw (c.in-Err-NotOne.is, c.in-Err-NotOne.field-0-is) at c.read_datagram.ensures.none refl))

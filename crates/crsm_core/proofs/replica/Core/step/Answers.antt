@@ -10,4 +10,4 @@ returns-clause-ruled c = λ r s.
     let x : Draft = step r (input_of c.args.input.now) c.args.reading in
     let stands = c.in_ok-step.ensures r s.stands in
     let both = c.in_ok-batch.ensures x stands in
-    (answered c.in_ok-batch.batch x (c.desks_are_sound.ensures c.step.new.desk x stands) both.0, record { unspent = refl; stands = both.1 })
+    (answered c.in_ok-batch.batch x (c.states_are_sound.ensures c.step.new.state x stands) both.0, record { unspent = refl; stands = both.1 })

@@ -6,16 +6,16 @@ use Rattle.crsm_disk.specs.Meaning.{LeavesOnly}
 use Rattle.crsm_log.specs.Format.{bodies_of}
 use Rattle.crsm_log.specs.Log.{Used, recorded}
 use Rattle.crsm_log.specs.Words as logs
-use Rattle.crsm_port.specs.Meaning.{Post}
-use Rattle.crsm_turns.specs.Outgoing.{posts_for}
+use Rattle.crsm_port.specs.Meaning.{Packet}
+use Rattle.crsm_turns.specs.Outgoing.{packets_for}
 use Rattle.crsm_shell.specs.declared.errors.TurnError.{TurnError}
 use Rattle.crsm_shell.specs.declared.errors.TurnError.TheVariants as errors
-use Rattle.crsm_shell.specs.Flushing.{Adds, IsLeft, SendsPosts, keep_calls, keep_count}
+use Rattle.crsm_shell.specs.Flushing.{Adds, IsLeft, SendsPackets, keep_calls, keep_count}
 use Rattle.crsm_shell.specs.Shell.{ShellStands, records_of, sends_of}
 use Rattle.crsm_shell.specs.Words.{disk_of, gate_of}
 use Rattle.crsm_shell.proofs.Files.{no_body}
 use Rattle.crsm_shell.proofs.Groups.{full_at, inside, kept_all, left_alone, left_bodies, left_one, past_at, stops_flush}
-use Rattle.crsm_shell.proofs.Ports.{sends_posts}
+use Rattle.crsm_shell.proofs.Ports.{sends_packets}
 use Rattle.crsm_shell.proofs.shell.Shell.flush.Goals as goal
 
 -- what cannot be
@@ -85,7 +85,7 @@ returns-in_err-keep-clause-not_full g c kept r steps s honest full =
     )
 
 pub returns-clause-stands : goal.returns-clause-stands
-unfolding ShellStands records_of sends_of posts_for body_bytes
+unfolding ShellStands records_of sends_of packets_for body_bytes
 returns-clause-stands g c kept r steps s =
     let old = c.args.self.now in
     let m = g.D.Disk.meaning (disk_of old) in
@@ -109,8 +109,8 @@ returns-clause-sent g c kept r steps s =
     let before = g.P.Port.meaning c.args.port.now in
     let ready = g.P.Port.meaning c.make_room.new.port in
     let after = g.P.Port.meaning c.send_all.new.port in
-    subst (λ (posts : List Post). SendsPosts posts before after) (inside old (g.D.Disk.meaning (disk_of old)) kept r steps s).outbox
-    (sends_posts old.outbox before ready after c.make_room.ensures.same (λ p told. c.in_ok-make_room.ensures.plan.room p told) c.send_all.ensures)
+    subst (λ (packets : List Packet). SendsPackets packets before after) (inside old (g.D.Disk.meaning (disk_of old)) kept r steps s).outbox
+    (sends_packets old.outbox before ready after c.make_room.ensures.same (λ p told. c.in_ok-make_room.ensures.plan.room p told) c.send_all.ensures)
 
 pub returns-clause-calls : goal.returns-clause-calls
 returns-clause-calls g c kept r steps s =

@@ -7,7 +7,7 @@ use Rattle.crsm_base.specs.Records.{FitsRec, body_bytes}
 use Rattle.crsm_core.specs.Core.{Answers, CoreStands, FitsSent}
 use Rattle.crsm_core.specs.declared.replica.Core.{Core}
 use Rattle.crsm_spec.specs.Node.{turn}
-use Rattle.crsm_turns.specs.Outgoing.{FitsSend, posts_for}
+use Rattle.crsm_turns.specs.Outgoing.{FitsSend, packets_for}
 use Rattle.crsm_shell.specs.Shell.{ShellStands}
 use Rattle.crsm_shell.specs.Taking.{turn_of}
 use Rattle.crsm_shell.specs.Words.{disk_of}
@@ -43,9 +43,9 @@ returns-clause-stands g c kept r steps s =
     c.deref.ensures.value (c.in_ok-made.ensures.step r (subst (λ (core : Core). CoreStands core r) (sym c.deref_mut.ensures.value) (inside old m kept r steps s).core)) in
     let batch = c.in_ok-made.made.batch in
     let body = c.in_ok-write_records.ensures.behind ∙ ap (λ (b : List Rec). old.body ++ body_bytes b) c.as_slice-2.ensures in
-    let posts = c.in_ok-add.ensures ∙ ap (λ (ps : List ℕ). old.outbox ++ posts_for ps c.as_slice-3.result.now) c.deref-2.ensures.value
-    ∙ ap (λ (ss : List Send). old.outbox ++ posts_for old.peers.items ss) c.as_slice-3.ensures in
+    let packets = c.in_ok-add.ensures ∙ ap (λ (ps : List ℕ). old.outbox ++ packets_for ps c.as_slice-3.result.now) c.deref-2.ensures.value
+    ∙ ap (λ (ss : List Send). old.outbox ++ packets_for old.peers.items ss) c.as_slice-3.ensures in
     let after = ap length c.as_slice-4.ensures in
     let before = ap length c.as_slice.ensures in
     let long = ap length body ∙ length-append old.body (body_bytes batch.records) in
-    one_more old _ m kept r steps _ batch _ s a.0 a.1 (turn_grown r (turn_of old.buffer.items c.args.taken.now, c.args.reading)) refl body posts refl refl (omega (arith, after, before, long))
+    one_more old _ m kept r steps _ batch _ s a.0 a.1 (turn_grown r (turn_of old.buffer.items c.args.taken.now, c.args.reading)) refl body packets refl refl (omega (arith, after, before, long))

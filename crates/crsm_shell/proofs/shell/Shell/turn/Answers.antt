@@ -5,11 +5,11 @@ use Rattle.crsm_spec.specs.World.{body_size}
 use Rattle.crsm_core.specs.Core.{Answers}
 use Rattle.crsm_disk.specs.Meaning.{Same}
 use Rattle.crsm_turns.specs.Input.{TakesInput}
-use Rattle.crsm_turns.specs.Outgoing.{posts_for}
+use Rattle.crsm_turns.specs.Outgoing.{packets_for}
 use Rattle.crsm_shell.specs.declared.errors.TurnError.{TurnError}
 use Rattle.crsm_shell.specs.declared.errors.TurnError.TheVariants as errors
 use Rattle.crsm_shell.specs.declared.turned.Turned.{Turned}
-use Rattle.crsm_shell.specs.Flushing.{SendsPosts}
+use Rattle.crsm_shell.specs.Flushing.{SendsPackets}
 use Rattle.crsm_shell.specs.Shell.{ShellStands, sends_of}
 use Rattle.crsm_shell.specs.Taking.{heard_in, most_received, step_of, turn_of}
 use Rattle.crsm_shell.specs.Turning.{Loses}
@@ -68,10 +68,10 @@ returns-clause-kept g c kept r steps s =
       any_moment = e.any_moment kept x.replica all made.stands;
     })
 
-pub returns-clause-heard : goal.returns-clause-heard
-returns-clause-heard g c =
+pub returns-clause-received : goal.returns-clause-received
+returns-clause-received g c =
     let t = c.in_ok-turned.turned in
-    subst (λ (b : List ℕ). t.heard ≡ heard_in (turn_of b t.taken)) (sym c.flush.ensures.buffer) c.in_ok-turned.ensures.heard
+    subst (λ (b : List ℕ). t.received ≡ heard_in (turn_of b t.taken)) (sym c.flush.ensures.buffer) c.in_ok-turned.ensures.received
 
 pub returns-clause-port : goal.returns-clause-port
 returns-clause-port g c kept r steps s =
@@ -82,12 +82,12 @@ returns-clause-port g c kept r steps s =
     let made = c.in_ok-turned.ensures.stands kept r steps s in
     let x = step_of (buffer_of mid) r t in
     let same = sym c.flush.ensures.buffer in
-    let sent = subst (λ (ps : List ℕ). SendsPosts (posts_for ps (sends_of (steps ++ x ∷ []))) between after) c.take.ensures.peers
+    let sent = subst (λ (ps : List ℕ). SendsPackets (packets_for ps (sends_of (steps ++ x ∷ []))) between after) c.take.ensures.peers
     (c.in_ok-flush.ensures.sent kept x.replica (steps ++ x ∷ []) made.stands) in
     record {
       between = between;
       taken = subst (λ (b : List ℕ). TakesInput c.args.what most_received b (g.P.Port.meaning c.args.port.now) between (Ok t.taken)) same c.in_ok-turned.ensures.port;
-      sent = subst (λ (b : List ℕ). SendsPosts (posts_for (peers_of c.args.self.now) (sends_of (steps ++ step_of b r t ∷ []))) between after) same sent;
+      sent = subst (λ (b : List ℕ). SendsPackets (packets_for (peers_of c.args.self.now) (sends_of (steps ++ step_of b r t ∷ []))) between after) same sent;
     }
 
 -- ---- the take failed

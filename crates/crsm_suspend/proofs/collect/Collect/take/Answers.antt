@@ -2,7 +2,7 @@ use Rattle.std.proofs.Common.{◌≡◌, ◌∙◌, ◌++◌, ◌∷◌, [], ap,
 use Rattle.std.proofs.lemmas.Result.{IfOk-weaker}
 use Rattle.crsm_base.specs.Messages.{FitsControl}
 use Rattle.crsm_spec.specs.Log.{known}
-use Rattle.crsm_suspend.specs.Collecting.{IsCollecting, CanTell, is_asked, page_in, got_from, got_of, pages_after}
+use Rattle.crsm_suspend.specs.Collecting.{IsCollecting, CanSend, is_asked, page_in, got_from, got_of, pages_after}
 use Rattle.crsm_suspend.specs.declared.report.Page.{Page}
 use Rattle.crsm_suspend.proofs.CollectLemmas.{stranger_is, taken_is, none_after, one_after, page_got, asked_told, asked_not_whole}
 use Rattle.crsm_suspend.proofs.collect.Collect.take.Goals as goal
@@ -28,7 +28,7 @@ returns-clause-got c = λ log spec named members pages s.
     let page : Page = record { executed = m.executed; last = m.last; is_whole = m.whole; entries = m.entries } in
     let yes : is_asked log spec pages m.epoch m.after (page_in c.args.from m.executed m.last m.whole m.entries) ≡ true =
     sym (c.is_asked.ensures log spec named members pages s) ∙ c.if-not-is_asked.false in
-    let told : CanTell (known log) (page_in c.args.from m.executed m.last m.whole m.entries) =
+    let told : CanSend (known log) (page_in c.args.from m.executed m.last m.whole m.entries) =
     asked_told log spec pages m.epoch m.after (page_in c.args.from m.executed m.last m.whole m.entries) yes (subst FitsControl m.is c.requires.fits).4.fit in
     let not_whole = asked_not_whole log spec pages m.epoch m.after (page_in c.args.from m.executed m.last m.whole m.entries) yes in
     let is = page_got log spec named members pages c.args.from page not_whole
@@ -41,7 +41,7 @@ returns-clause-state c = λ log spec named members pages s.
     let m = c.in-SuspendOk in
     let yes : is_asked log spec pages m.epoch m.after (page_in c.args.from m.executed m.last m.whole m.entries) ≡ true =
     sym (c.is_asked.ensures log spec named members pages s) ∙ c.if-not-is_asked.false in
-    let told : CanTell (known log) (page_in c.args.from m.executed m.last m.whole m.entries) =
+    let told : CanSend (known log) (page_in c.args.from m.executed m.last m.whole m.entries) =
     asked_told log spec pages m.epoch m.after (page_in c.args.from m.executed m.last m.whole m.entries) yes (subst FitsControl m.is c.requires.fits).4.fit in
     let is = one_after log spec pages c.args.from m.epoch m.executed m.last m.after m.whole m.entries yes ∙ ap (pages_after log spec pages c.args.from) (sym m.is) in
     IfOk-weaker c.add.result (λ _. IsCollecting log spec named members (pages ++ page_in c.args.from m.executed m.last m.whole m.entries ∷ []) c.add.new.self) (λ _. IsCollecting log spec named members (pages_after log spec pages c.args.from c.args.answer) c.add.new.self)
@@ -52,6 +52,6 @@ returns-clause-fits c = λ log spec named members pages s.
     let m = c.in-SuspendOk in
     let yes : is_asked log spec pages m.epoch m.after (page_in c.args.from m.executed m.last m.whole m.entries) ≡ true =
     sym (c.is_asked.ensures log spec named members pages s) ∙ c.if-not-is_asked.false in
-    let told : CanTell (known log) (page_in c.args.from m.executed m.last m.whole m.entries) =
+    let told : CanSend (known log) (page_in c.args.from m.executed m.last m.whole m.entries) =
     asked_told log spec pages m.epoch m.after (page_in c.args.from m.executed m.last m.whole m.entries) yes (subst FitsControl m.is c.requires.fits).4.fit in
     c.add.ensures.fits log spec named members pages s told

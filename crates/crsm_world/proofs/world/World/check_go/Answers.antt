@@ -6,16 +6,16 @@ use Rattle.crsm_world.proofs.world.World.check_go.Goals as goal
 
 pub returns-then-count-number : goal.returns-then-count-number
 unfolding causes_of_single bad_of
-returns-then-count-number c v t h ne = hit _ _ _ (unsent v c.args.number c.count.result (c.count.ensures v.mail v.bytes h.post) c.if-count-number.true)
+returns-then-count-number c v t h ne = hit _ _ _ (unsent v c.args.number c.count.result (c.count.ensures v.packets v.bytes h.network) c.if-count-number.true)
 
 pub returns-then-is_used : goal.returns-then-is_used
 unfolding causes_of_single bad_of
-returns-then-is_used c v t h ne = pass _ _ _ (sent v c.args.number c.count.result (c.count.ensures v.mail v.bytes h.post) c.if-count-number.false) ∙ hit _ _ _ (used_as v c.args.number c.is_used.result true (c.is_used.ensures v.mail v.bytes h.post) c.if-is_used.true)
+returns-then-is_used c v t h ne = pass _ _ _ (sent v c.args.number c.count.result (c.count.ensures v.packets v.bytes h.network) c.if-count-number.false) ∙ hit _ _ _ (used_as v c.args.number c.is_used.result true (c.is_used.ensures v.packets v.bytes h.network) c.if-is_used.true)
 
 pub returns-then-is_receiver_down : goal.returns-then-is_receiver_down
 unfolding causes_of_single bad_of
-returns-then-is_receiver_down c v t h ne = pass _ _ _ (sent v c.args.number c.count.result (c.count.ensures v.mail v.bytes h.post) c.if-count-number.false) ∙ pass _ _ _ (used_as v c.args.number c.is_used.result false (c.is_used.ensures v.mail v.bytes h.post) c.if-is_used.false) ∙ hit _ _ _ (sym (c.is_receiver_down.ensures v h) ∙ c.if-is_receiver_down.true)
+returns-then-is_receiver_down c v t h ne = pass _ _ _ (sent v c.args.number c.count.result (c.count.ensures v.packets v.bytes h.network) c.if-count-number.false) ∙ pass _ _ _ (used_as v c.args.number c.is_used.result false (c.is_used.ensures v.packets v.bytes h.network) c.if-is_used.false) ∙ hit _ _ _ (sym (c.is_receiver_down.ensures v h) ∙ c.if-is_receiver_down.true)
 
 pub returns : goal.returns
 unfolding causes_of_single bad_of
-returns c v t h = pass _ _ _ (sent v c.args.number c.count.result (c.count.ensures v.mail v.bytes h.post) c.if-count-number.false) ∙ pass _ _ _ (used_as v c.args.number c.is_used.result false (c.is_used.ensures v.mail v.bytes h.post) c.if-is_used.false) ∙ pass _ _ _ (sym (c.is_receiver_down.ensures v h) ∙ c.if-is_receiver_down.false) ∙ no_more
+returns c v t h = pass _ _ _ (sent v c.args.number c.count.result (c.count.ensures v.packets v.bytes h.network) c.if-count-number.false) ∙ pass _ _ _ (used_as v c.args.number c.is_used.result false (c.is_used.ensures v.packets v.bytes h.network) c.if-is_used.false) ∙ pass _ _ _ (sym (c.is_receiver_down.ensures v h) ∙ c.if-is_receiver_down.false) ∙ no_more

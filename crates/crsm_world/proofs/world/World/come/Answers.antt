@@ -10,15 +10,15 @@ use Rattle.crsm_world.proofs.world.World.come.Goals as goal
 pub returns-in_default : goal.returns-in_default
 returns-in_default c v h =
     let ends = ending_of c.args.ending in
-    on_as _ _ _ _ _ _ (ap (come ends v c.args.reading) (c.in_default.ensures v.mail v.bytes h.post) ∙ come_missed ends v c.args.reading) (on_still v _ _ _ h.sites h.post)
+    on_as _ _ _ _ _ _ (ap (come ends v c.args.reading) (c.in_default.ensures v.packets v.bytes h.network) ∙ come_missed ends v c.args.reading) (on_still v _ _ _ h.sites h.network)
 
 pub returns : goal.returns
 unfolding turn_of
 returns c v h =
     let ends = ending_of c.args.ending in
-    let m = c.in-Some.letter in
-    let found = c.in-Some.ensures v.mail v.bytes h.post in
+    let m = c.in-Some.packet in
+    let found = c.in-Some.ensures v.packets v.bytes h.network in
     let e = come_found ends v c.args.reading m found.0 found.2 ∙ ap (come ends v c.args.reading) (sym found.1) in
     let f = ap (λ k. turn_at ends v k (Turn.In c.from.result m.bytes.now) c.args.reading) c.from-2.ensures
     ∙ ap (λ a. turn_at ends v m.to (Turn.In a m.bytes.now) c.args.reading) c.from.ensures in
-    on_as _ _ _ _ _ _ (sym (f ∙ e)) (c.in_ok-leave.ensures _ v _ h.post (c.in_ok-leaving.ensures.leaves v h.sites))
+    on_as _ _ _ _ _ _ (sym (f ∙ e)) (c.in_ok-leave.ensures _ v _ h.network (c.in_ok-effects.ensures.leaves v h.sites))

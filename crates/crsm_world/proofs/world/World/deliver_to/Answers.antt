@@ -1,5 +1,5 @@
 use Rattle.std.proofs.Common.{◌∙◌, refl}
-use Rattle.crsm_world.proofs.Places.{pend_begin, pending_from}
+use Rattle.crsm_world.proofs.Sites.{pend_begin, pending_from}
 use Rattle.crsm_world.proofs.Series.{all_begin, all_next, all_end}
 use Rattle.crsm_world.proofs.world.World.deliver_to.Goals as goal
 
@@ -7,7 +7,7 @@ pub loop-number-init : goal.loop-number-init
 loop-number-init c = record {
   count = refl;
   going = λ v r h e f. all_begin v c.args.reading c.args.numbers.now c.args.k r c.args.self.now _
-      (record { sites = pend_begin c.args.self.now.sites v.n v.sites c.args.k h.sites (pending_from v.n c.args.k v.sites r e c.sites_pend_nothing.ensures); post = h.post }) e f c.new-lines.ensures;
+      (record { sites = pend_begin c.args.self.now.sites v.n v.sites c.args.k h.sites (pending_from v.n c.args.k v.sites r e c.machines_pend_nothing.ensures); network = h.network }) e f c.new-lines.ensures;
 }
 
 pub loop-number-preserved : goal.loop-number-preserved
@@ -20,4 +20,4 @@ loop-number-preserved c = record {
 pub returns : goal.returns
 returns c v r h e f =
     all_end v c.args.reading c.args.numbers.now c.loop-number.number-index c.args.k c.loop-number.self _ c.loop-number.lines (c.loop-number.invariant.going v r h e f) c.loop-number-test.false
-    (λ u b. record { sites = c.in_ok-flush.ensures u.n u.sites b.sites; post = b.post })
+    (λ u b. record { sites = c.in_ok-flush.ensures u.n u.sites b.sites; network = b.network })

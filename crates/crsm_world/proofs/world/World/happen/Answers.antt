@@ -75,7 +75,7 @@ returns-in_ok-deliver_together-in-Batch c v h p =
     let fits = subst (λ (a : Event). FitsEvent a) c.in-Batch.is c.requires in
     let one = for_one v c.in-Batch.numbers fits.1.some f in
     rw c.in-Batch.is (subst (λ (is : List ℕ). Leads (all_gone c.in-Batch.reading is v) c.deliver_together.new.self c.in_ok-deliver_together-in-Batch.field-0) c.as_slice.ensures
-    (c.in_ok-deliver_together-in-Batch.ensures v one.receiver one.replica h one.up (subst (AreFor one.receiver v.mail) (sym c.as_slice.ensures) one.all)))
+    (c.in_ok-deliver_together-in-Batch.ensures v one.receiver one.replica h one.up (subst (AreFor one.receiver v.packets) (sym c.as_slice.ensures) one.all)))
 
 pub returns-in_ok-lose_together-in-CutLostBatch : goal.returns-in_ok-lose_together-in-CutLostBatch
 unfolding act_of act moments_of causes_of ending_of together

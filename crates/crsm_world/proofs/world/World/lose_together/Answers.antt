@@ -8,7 +8,7 @@ use Rattle.crsm_world.proofs.world.World.lose_together.Goals as goal
 pub returns-in_default : goal.returns-in_default
 unfolding lose_batch
 returns-in_default c v h =
-    leads_as _ _ _ _ (ap (λ is. lose_batch c.args.reading is v) (empty_is c.args.numbers.now c.in_default.ensures.cases)) (leads_still v _ _ h.sites h.post c.new.ensures)
+    leads_as _ _ _ _ (ap (λ is. lose_batch c.args.reading is v) (empty_is c.args.numbers.now c.in_default.ensures.cases)) (leads_still v _ _ h.sites h.network c.new.ensures)
 
 pub returns : goal.returns
 unfolding lose_batch ending_of

@@ -28,7 +28,7 @@ unfolding StandsFor
 returns-clause-world c =
     let e : c.loop-k.k ≡ c.args.n = let a = c.loop-k-test.false in let b = c.loop-k.auto.k-end in omega arith in
     let h = subst (λ (u : World). Holds c.loop-k.world u) (ap (part c.args.n) e ∙ all_parts c.args.n) c.loop-k.invariant.holds in
-    record { unspent = refl; holds = record { sites = h.sites; post = h.post } }
+    record { unspent = refl; holds = record { sites = h.sites; network = h.network } }
 
 pub returns-clause-lines : goal.returns-clause-lines
 returns-clause-lines c =
@@ -40,4 +40,4 @@ unfolding StandsFor last_world after_acts
 returns-clause-done c =
     let e : c.loop-k.k ≡ c.args.n = let a = c.loop-k-test.false in let b = c.loop-k.auto.k-end in omega arith in
     let h = subst (λ (u : World). Holds c.loop-k.world u) (ap (part c.args.n) e ∙ all_parts c.args.n) c.loop-k.invariant.holds in
-    record { some = c.requires.some; most = c.requires.most; possible = tt; stands = record { unspent = refl; holds = record { sites = h.sites; post = h.post } } }
+    record { some = c.requires.some; most = c.requires.most; possible = tt; stands = record { unspent = refl; holds = record { sites = h.sites; network = h.network } } }

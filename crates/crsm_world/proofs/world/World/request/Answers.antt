@@ -9,4 +9,4 @@ use Rattle.crsm_world.proofs.world.World.request.Goals as goal
 pub returns : goal.returns
 returns c v h =
     let spelling = c.as_slice.ensures ∙ (c.in_ok-write_datagram.ensures.ok ∙ ap (λ xs. xs ++ datagram_bytes (Datagram.Request c.in_ok-copy.field-0)) c.new-bytes.ensures) ∙ ap (λ a. datagram_bytes (Datagram.Request a)) c.in_ok-copy.ensures in
-    subst (λ (bs : List ℕ). LeadsOn (turn_at (ending_of c.args.ending) v c.args.k (Turn.In c.args.command.now.client bs) c.args.reading) c.bytes_arrive.new.self.sites c.bytes_arrive.new.self.post c.args.lines.now c.bytes_arrive.new.lines) spelling (c.in_ok-bytes_arrive.ensures v h)
+    subst (λ (bs : List ℕ). LeadsOn (turn_at (ending_of c.args.ending) v c.args.k (Turn.In c.args.command.now.client bs) c.args.reading) c.bytes_arrive.new.self.sites c.bytes_arrive.new.self.network c.args.lines.now c.bytes_arrive.new.lines) spelling (c.in_ok-bytes_arrive.ensures v h)

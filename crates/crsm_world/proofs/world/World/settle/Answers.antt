@@ -1,6 +1,6 @@
 use Rattle.std.proofs.Common.{◌∙◌, subst, ap, List, ℕ}
 use Rattle.std.specs.Prelude.{filter}
-use Rattle.crsm_network.specs.Mailed.{is_fresh_for, is_up_among, numbers_of}
+use Rattle.crsm_network.specs.Packets.{is_fresh_for, is_up_among, numbers_of}
 use Rattle.crsm_world.specs.Several.{each_gone}
 use Rattle.crsm_world.specs.World.{Leads}
 use Rattle.crsm_world.proofs.Due.{those_due}
@@ -8,7 +8,7 @@ use Rattle.crsm_world.proofs.world.World.settle.Goals as goal
 
 pub returns : goal.returns
 returns c v h =
-    let post = c.in_ok-due.ensures.stands v.mail v.bytes h.post in
+    let network = c.in_ok-due.ensures.stands v.packets v.bytes h.network in
     let ups = c.deref.ensures.value ∙ c.in_ok-ups.ensures v.n v.sites h.sites in
-    let e = c.deref-2.ensures.value ∙ c.in_ok-due.ensures.due v.mail v.bytes h.post ∙ ap (λ us. filter (is_fresh_for (is_up_among us) v.mail) (numbers_of v.mail)) ups ∙ those_due v in
-    subst (λ (is : List ℕ). Leads (each_gone c.args.reading is v) c.deliver_each.new.self c.in_ok-lines.lines) e (c.in_ok-lines.ensures v (record { sites = h.sites; post = post }))
+    let e = c.deref-2.ensures.value ∙ c.in_ok-due.ensures.due v.packets v.bytes h.network ∙ ap (λ us. filter (is_fresh_for (is_up_among us) v.packets) (numbers_of v.packets)) ups ∙ those_due v in
+    subst (λ (is : List ℕ). Leads (each_gone c.args.reading is v) c.deliver_each.new.self c.in_ok-lines.lines) e (c.in_ok-lines.ensures v (record { sites = h.sites; network = network }))

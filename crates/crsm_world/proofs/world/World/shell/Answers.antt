@@ -2,11 +2,11 @@ use Rattle.std.proofs.Common.{◌≡◌, ◌∙◌, ap, sym, subst, Some}
 use Rattle.std.specs.Prelude.{slice_get}
 use Rattle.std.proofs.lemmas.Option.{IfSome_then}
 use Rattle.crsm_spec.specs.World.{Site}
-use Rattle.crsm_machine.specs.Machine.{SiteStands}
-use Rattle.crsm_world.specs.Placed.{is_up_in}
+use Rattle.crsm_machine.specs.Machine.{MachineStands}
+use Rattle.crsm_world.specs.Machines.{is_up_in}
 use Rattle.crsm_world.specs.World.{StandsFor}
 use Rattle.crsm_world.proofs.Reasons.{up_is}
-use Rattle.crsm_world.proofs.Places.{up_got, up_missed}
+use Rattle.crsm_world.proofs.Sites.{up_got, up_missed}
 use Rattle.crsm_world.proofs.world.World.shell.Goals as goal
 
 pub returns-in-Some-clause-up : goal.returns-in-Some-clause-up
@@ -22,7 +22,7 @@ returns-in-Some-clause-stands c =
     let r = c.in-Some.ensures v.n v.sites h.holds.sites in
     let here : Some (Site.Up q) ≡ Some r.0 = sym e ∙ (ap (slice_get v.sites) (sym c.from.ensures) ∙ r.1) in
     let same : r.0 ≡ Site.Up q = cc in
-    f c.from.result v.n q (subst (λ (p : Site). SiteStands c.in-Some.site.now c.from.result v.n p) same r.2))
+    f c.from.result v.n q (subst (λ (p : Site). MachineStands c.in-Some.machine.now c.from.result v.n p) same r.2))
 
 pub returns-in-None-clause-up : goal.returns-in-None-clause-up
 unfolding StandsFor

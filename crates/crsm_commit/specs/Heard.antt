@@ -1,8 +1,0 @@
--- What the kept times stand for.
-use Rattle.std.specs.Prelude.{◌≡◌, ℕ, ◌<◌, List, slice_index}
-use Rattle.crsm_spec.specs.Replica.{latest_from}
-use Rattle.crsm_commit.specs.declared.latest.Latest.{Latest}
-
--- These are all times that were heard, each behind its sender.
-abbrev pub HasHeard : Latest → List (ℕ × ℕ) → Type 0
-HasHeard latest heard = (k : ℕ) → k < 15 → slice_index latest.times k ≡ latest_from heard k

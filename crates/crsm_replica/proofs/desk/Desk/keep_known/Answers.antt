@@ -1,6 +1,0 @@
-use Rattle.crsm_replica.specs.Replica.{StandsFor}
-use Rattle.crsm_replica.proofs.desk.Desk.keep_known.Goals as goal
-
-pub returns : goal.returns
-unfolding StandsFor
-returns c x s spelt = c.in_ok-fit.ensures x s

@@ -1,8 +1,0 @@
-use Rattle.std.proofs.Common.{ap, ◌∙◌}
-use Rattle.crsm_replica.specs.Replica.{StandsFor}
-use Rattle.crsm_log_facts.proofs.Known.{known-epoch}
-use Rattle.crsm_replica.proofs.desk.Desk.known.Goals as goal
-
-pub returns : goal.returns
-unfolding StandsFor
-returns c x s = ap (λ d. d.epoch) (c.known.ensures x.replica.me x.replica.n x.replica.log s.ledger) ∙ known-epoch x.replica.n x.replica.log

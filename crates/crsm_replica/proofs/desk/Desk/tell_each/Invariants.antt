@@ -1,8 +1,0 @@
-use Rattle.std.proofs.Common.{take}
-use Rattle.crsm_base.specs.Messages.{FitsControl}
-use Rattle.crsm_spec.specs.Draft.{Draft, tell_each}
-use Rattle.crsm_replica.specs.Replica.{StandsFor}
-use Rattle.crsm_replica.proofs.desk.Desk.tell_each.Given as goal
-
-abbrev pub invariant-loop-k : goal.invariant-loop-k
-invariant-loop-k l = (x : Draft) → StandsFor l.initial.self x → FitsControl l.control → StandsFor l.self (tell_each (take l.k-index l.replicas) l.control x)

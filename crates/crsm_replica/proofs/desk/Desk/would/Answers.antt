@@ -1,7 +1,0 @@
-use Rattle.crsm_replica.specs.Replica.{StandsFor}
-use Rattle.crsm_spec.specs.Draft.{would}
-use Rattle.crsm_replica.proofs.desk.Desk.would.Goals as goal
-
-pub returns : goal.returns
-unfolding StandsFor would
-returns c x s = c.would.ensures x.replica s.running

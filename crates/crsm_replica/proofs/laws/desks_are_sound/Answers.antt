@@ -1,6 +1,0 @@
-use Rattle.crsm_replica.specs.Replica.{StandsFor}
-use Rattle.crsm_replica.proofs.laws.desks_are_sound.Goals as goal
-
-pub returns : goal.returns
-unfolding StandsFor
-returns c = λ desk x s. s.sound

@@ -1,0 +1,26 @@
+use Rattle.std.proofs.Common.{◌≡◌, ◌≤◌, subst, arith}
+use Rattle.crsm_spec.specs.Types.{Rec}
+use Rattle.crsm_output.specs.Made.{nothing}
+use Rattle.crsm_replica.specs.Recorded.{InBoth}
+use Rattle.crsm_replica.specs.Replica.{StandsFor, AwaitsBoot}
+use Rattle.crsm_replica.proofs.Booting.{stands_booted, same_boot}
+use Rattle.crsm_replica.proofs.Rebuilt.{it_fits}
+use Rattle.crsm_replica.proofs.state.ReplicaState.boot_again.Goals as goal
+
+pub put-requires : goal.put-requires
+put-requires c =
+    let a = c.min-me.ensures in
+    let b = c.min-n.ensures in
+    (omega (arith, a), omega (arith, b))
+
+pub returns : goal.returns
+unfolding StandsFor AwaitsBoot
+returns c me n log s l =
+    let few : n ≤ 15 = s.ledger.says.few in
+    let number : c.min-me.result ≡ me = (let a = c.min-me.ensures in let b = s.mine in let d = s.number in omega (arith, a, b, d)) in
+    let count : c.min-n.result ≡ n = (let a = c.min-n.ensures in let b = c.n.ensures me n log s.ledger in omega (arith, a, b, few)) in
+    let same : Rec.Boot c.min-me.result c.min-n.result ≡ Rec.Boot me n = same_boot c.min-me.result c.min-n.result me n number count in
+    let f = it_fits c.in_ok-fit.fit me n log (Rec.Boot c.min-me.result c.min-n.result) nothing c.put.new.ledger c.put.new.output c.if-not-fit.false
+    (c.in_ok-fit.ensures.kept me n log nothing s.ledger s.output) in
+    stands_booted c.args.self.now me n log c.put.new.ledger c.put.new.output c.new.result s l
+    (subst (λ (rec : Rec). InBoth me n log rec nothing c.put.new.ledger c.put.new.output) same f.1) c.new.ensures.inactive

@@ -1,0 +1,12 @@
+use Rattle.std.proofs.Common.{◌∷◌}
+use Rattle.crsm_replica.specs.Replica.{StandsFor}
+use Rattle.crsm_spec.specs.Draft.{count_vote}
+use Rattle.crsm_replica.proofs.Rebuilt.{ran}
+use Rattle.crsm_replica.proofs.state.ReplicaState.count_vote.Goals as goal
+
+pub returns : goal.returns
+unfolding StandsFor count_vote
+returns c x s =
+    let r = x.replica in
+    ran c.args.self.now x c.count_vote.new.self r.issued r.received ((c.args.stamp, c.args.k) ∷ r.votes) r.owed r.pushed r.acked r.taken s
+    (c.in_ok-count_vote.ensures x.replica s.running (c.last_stamp-last.ensures x.replica.me x.replica.n x.replica.log s.ledger)) s.sound.owed s.sound.pushed

@@ -1,7 +1,0 @@
-use Rattle.crsm_world.proofs.Places.{site_at, site_set}
-use Rattle.crsm_world.proofs.sites.Sites.crash.Goals as goal
-
-pub returns : goal.returns
-returns c n places p h e =
-    let s = site_at c.args.self.now n places c.args.k c.index_mut.result.now p h c.requires c.index_mut.ensures.value e in
-    site_set c.args.self.now n places c.args.k _ _ h (c.in_ok-crash.ensures c.args.k n p s)

@@ -1,8 +1,0 @@
-use Rattle.std.proofs.Common.{◌≡◌, ℕ, List, map, take}
-use Rattle.std.specs.List.{enumerate_from}
-use Rattle.crsm_spec.specs.World as on_paper
-use Rattle.crsm_world.specs.Placed.{SitesStand}
-use Rattle.crsm_world.proofs.sites.Sites.finals.Given as goal
-
-abbrev pub invariant-loop-k : goal.invariant-loop-k
-invariant-loop-k l = (n : ℕ) (places : List on_paper.Site) → SitesStand l.self n places → l.lines ≡ map on_paper.final_line (take l.k (enumerate_from 0 places))

@@ -1,9 +1,0 @@
-use Rattle.crsm_spec.specs.World.{Site}
-use Rattle.crsm_world.proofs.Places.{site_at, site_set}
-use Rattle.crsm_world.proofs.sites.Sites.step.Goals as goal
-
-pub returns-clause-stands : goal.returns-clause-stands
-returns-clause-stands c n places r h e =
-    let s = site_at c.args.self.now n places c.args.k c.index_mut.result.now (Site.Up r) h c.requires.within c.index_mut.ensures.value e in
-    let made = c.in_ok-step.ensures.stands c.args.k n r s in
-    (made.0, site_set c.args.self.now n places c.args.k _ _ h made.1)

@@ -1,0 +1,218 @@
+//! The places of the replicas.
+
+ghost use Rattle.std.specs.Prelude.{◌≡◌, ◌≤◌, ◌<◌, [], ℕ, List, length, map, Some, None, slice_get, slice_set, IfOk, IfSome, IsTrue, MatchOption, OnOk};
+ghost use Rattle.std.specs.List.{AllByRecursion, enumerate_from};
+ghost use Rattle.crsm_core.specs.Core.{FitsSent};
+ghost use Rattle.crsm_spec.specs.Log.{Log};
+ghost use Rattle.crsm_spec.specs.Node.{turn};
+ghost use Rattle.crsm_spec.specs.Replica.{Replica};
+ghost use Rattle.crsm_spec.specs.World as on_paper;
+ghost use Rattle.crsm_machine.specs.Arriving.{turn_of, IsShort};
+ghost use Rattle.crsm_machine.specs.Outcomes.{Makes};
+ghost use Rattle.crsm_machine.specs.Machine.{MachineStands};
+ghost use Rattle.crsm_world.specs.Machines.{MachinesStand, MachinesPend, MachinesCut, MachinesBoot, is_up_in, up_in, roomed, spec_in, WhereMachinesStand, WhereUp, WherePending, StepsTo, PendsTo};
+
+use crate::ending::Stop;
+use crate::founders::Founders;
+use crsm_base::{Line, Lines, MAX_REPLICAS, Members, NoMemory, never};
+use crsm_machine::{Arrival, Boot, Machine, Step};
+use std::alloc::Global;
+
+/// The place of each replica, by number.
+#[derive(Drop)]
+pub(crate) struct Machines {
+    alloc: Global,
+    founders: Founders,
+    items: Vec<Machine>,
+}
+
+impl Machines {
+    /// A cluster that is to begin with so many replicas.
+    pub fn new(alloc: Global, n: u32) -> Machines
+        requires some { 1 ≤ n }
+        requires most { n ≤ 15 }
+        ensures { MachinesStand result n [] }
+    {
+        Machines {
+            alloc,
+            founders: Founders::new(n),
+            items: Vec::new(alloc),
+        }
+    }
+
+    /// How many replicas there are so far.
+    pub fn count(&self) -> u64
+        ensures { WhereMachinesStand self.now (λ n places. result ≡ length places) }
+    {
+        self.items.len() as u64
+    }
+
+    /// The place of a replica.
+    pub fn get(&self, k: u64) -> Option<&Machine>
+        ensures { WhereMachinesStand self.now (λ n places.
+            MatchOption result (slice_get places k ≡ None) (λ machine. (p : on_paper.Site) × (slice_get places k ≡ Some p) × MachineStands machine.now k n p)) }
+    {
+        self.items.get(k as usize)
+    }
+
+    /// A replica is up.
+    #[tactic(auto, unfolding(crate::specs::Machines::is_up_in))]
+    pub fn is_up(&self, k: u64) -> bool
+        ensures up { WhereMachinesStand self.now (λ n places. result ≡ is_up_in places k) }
+        ensures within { IsTrue result → k < length self.now.items.items }
+    {
+        match self.items.get(k as usize) {
+            Some(machine) => machine.is_up(),
+            None => false,
+        }
+    }
+
+    /// The number of a replica that is up.
+    pub fn up(&self, k: u64) -> Option<u32>
+        ensures up { WhereMachinesStand self.now (λ n places. result ≡ up_in places k) }
+        ensures within { IfSome result (λ j. j < length self.now.items.items) }
+    {
+        if !self.is_up(k) {
+            return None;
+        }
+        // There are no more than 15.
+        u32::try_from(k).ok()
+    }
+
+    /// Which replicas are up, by number.
+    pub fn ups(&self) -> Result<Vec<bool>, NoMemory>
+        ensures { IfOk result (λ ups. WhereMachinesStand self.now (λ n places. ups.items ≡ map on_paper.is_up places)) }
+    {
+        let mut ups = Vec::new(self.alloc);
+        for machine in &self.items {
+            ups.push(machine.is_up())?;
+        }
+        Ok(ups)
+    }
+
+    /// One step of a replica that is up.
+    pub fn step(&mut self, k: u32, arrival: Arrival<'_>, reading: u64) -> Result<Step, NoMemory>
+        requires within { k < length self.old.items.items }
+        requires short { IsShort arrival }
+        ensures stands { IfOk result (λ step. WhereUp self.old k (λ n places r.
+            StepsTo step (turn r (turn_of arrival.entry, reading)) self.new n places k)) }
+        ensures spelt { IfOk result (λ step. AllByRecursion FitsSent step.batch.sends) }
+        ensures count { length self.new.items.items ≡ length self.old.items.items }
+    {
+        let step = self.items[k as usize].step(arrival, reading)?;
+        Ok(step)
+    }
+
+    /// One step of a replica that is up, stopped after so many device calls. What it made is answered where it is kept.
+    pub fn cut_at(
+        &mut self,
+        k: u32,
+        stop: Stop,
+        arrival: Arrival<'_>,
+        reading: u64,
+    ) -> Result<Option<Step>, NoMemory>
+        requires within { k < length self.old.items.items }
+        requires calls { stop.calls ≤ 4 }
+        requires short { IsShort arrival }
+        ensures stands { IfOk result (λ step. WhereUp self.old k (λ n places r.
+            MachinesCut stop.calls stop.fill n places k r (turn r (turn_of arrival.entry, reading)) step self.new)) }
+        ensures spelt { IfOk result (λ step. IfSome step (λ s. AllByRecursion FitsSent s.batch.sends)) }
+    {
+        let step = self.items[k as usize].cut_at(stop.calls, stop.fill, arrival, reading)?;
+        Ok(step)
+    }
+
+    /// A replica goes down.
+    pub fn crash(&mut self, k: u32) -> Result<(), NoMemory>
+        requires { k < length self.old.items.items }
+        ensures { OnOk result ((n : ℕ) (places : List on_paper.Site) (p : on_paper.Site) → MachinesStand self.old n places → slice_get places k ≡ Some p →
+            MachinesStand self.new n (slice_set places k (on_paper.Site.Down (on_paper.log_of p)))) }
+    {
+        self.items[k as usize].crash()?;
+        Ok(())
+    }
+
+    /// Makes room for the next new replica, where it is this one.
+    fn make_room(&mut self, k: u64) -> Result<(), NoMemory>
+        ensures { OnOk result (WhereMachinesStand self.old (λ n places. k < 15 → MachinesStand self.new n (roomed places k))) }
+    {
+        let count = self.items.len() as u64;
+        if k == count && k < u64::from(MAX_REPLICAS) {
+            let machine = Machine::new(self.alloc, k as u32, self.founders.count())?;
+            self.items.push(machine)?;
+        }
+        Ok(())
+    }
+
+    /// A replica that is down boots on its disk; the next new one has an empty disk.
+    pub fn start(&mut self, k: u64) -> Result<Option<Boot>, NoMemory>
+        ensures { IfOk result (λ boot. WhereMachinesStand self.old (λ n places. k < 15 → (log : Log) → slice_get (roomed places k) k ≡ Some (on_paper.Site.Down log) →
+            MachinesBoot n (roomed places k) k log boot self.new)) }
+    {
+        self.make_room(k)?;
+        if k >= self.items.len() as u64 {
+            return Ok(None);
+        }
+        let boot = self.items[k as usize].start()?;
+        Ok(Some(boot))
+    }
+
+    /// One more step of a replica that is up, kept with others.
+    pub fn take(&mut self, k: u32, arrival: Arrival<'_>, reading: u64) -> Result<Step, NoMemory>
+        requires within { k < length self.old.items.items }
+        requires short { IsShort arrival }
+        ensures stands { IfOk result (λ step. WherePending self.old k (λ n places r.
+            PendsTo step (turn r (turn_of arrival.entry, reading)) self.new n places k)) }
+        ensures spelt { IfOk result (λ step. AllByRecursion FitsSent step.batch.sends) }
+        ensures count { length self.new.items.items ≡ length self.old.items.items }
+    {
+        let step = self.items[k as usize].take(arrival, reading)?;
+        Ok(step)
+    }
+
+    /// Keeps the records of the steps that a replica took.
+    pub fn flush(&mut self, k: u32) -> Result<(), NoMemory>
+        requires { k < length self.old.items.items }
+        ensures { OnOk result ((n : ℕ) (places : List on_paper.Site) → MachinesPend k self.old n places → MachinesStand self.new n places) }
+    {
+        self.items[k as usize].flush()?;
+        Ok(())
+    }
+
+    /// The replicas whose majorities count in the known epoch of a replica that is up.
+    pub fn spec(&self, k: u64) -> Result<Option<Members>, NoMemory>
+        ensures { IfOk result (λ members. WhereMachinesStand self.now (λ n places. members ≡ spec_in n places k)) }
+    {
+        match self.items.get(k as usize) {
+            Some(machine) => Ok(machine.spec()?),
+            None => Ok(None),
+        }
+    }
+
+    /// The last line of a replica.
+    fn final_line(&self, replica: u32, machine: &Machine) -> Line
+        ensures { (n : ℕ) (p : on_paper.Site) → MachineStands machine.now replica n p → result ≡ on_paper.final_line (replica, p) }
+    {
+        Line::Final {
+            replica,
+            state: machine.state(),
+            known: machine.known(),
+            executed: machine.executed_len(),
+        }
+    }
+
+    /// The last line of each replica.
+    pub fn finals(&self) -> Result<Lines, NoMemory>
+        ensures { IfOk result (λ lines. WhereMachinesStand self.now (λ n places. lines ≡ map on_paper.final_line (enumerate_from 0 places))) }
+    {
+        let mut lines = Lines::new(self.alloc);
+        for (k, machine) in self.items.iter().enumerate() {
+            // There are no more than 15.
+            let Ok(replica) = u32::try_from(k) else {
+                return Err(never());
+            };
+            lines.push(self.final_line(replica, machine))?;
+        }
+        Ok(lines)
+    }
+}
