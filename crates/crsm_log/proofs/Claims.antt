@@ -1,5 +1,5 @@
 -- What a claim makes of a log.
-use Rattle.std.proofs.Common.{◌≡◌, IsTrue, inl, inr, ⊎_elim, ℕ, ◌+◌, ◌-◌, List, [], ◌∷◌, ◌++◌, Ok, Err, refl, sym, ◌∙◌, ap, subst, arith, Bool, true, false, not, if◌then◌else◌, ◌==◌}
+use Rattle.std.proofs.Common.{◌≡◌, IsTrue, inl, inr, ⊎_elim, ℕ, ◌+◌, ◌-◌, List, [], ◌∷◌, ◌++◌, length, nat_lt, Ok, Err, refl, sym, ◌∙◌, ap, subst, arith, ◌≤◌, Bool, true, false, not, if◌then◌else◌, ◌==◌}
 use Rattle.std.specs.Prelude.{Option, Some, None}
 use Rattle.std.proofs.lemmas.Bool.Decides.{nat_tests}
 use Rattle.crsm_base.specs.declared.memory.Failed.{Failed}
@@ -56,6 +56,15 @@ serves_both : (n m : ℕ) (good : Option ℕ) → Serves n good → Serves m (le
 serves_both n m None one two = tt
 serves_both n m (Some g) one two = omega (arith, one, two)
 
+-- a mount makes three calls at least
+serves_three : (file : List ℕ) (good : Option ℕ) → Serves (mount_count file) good → Serves 3 good
+serves_three file None serves = tt
+serves_three file (Some g) serves = go (nat_lt (length file) 6) serves
+  where
+    go : (t : Bool) → (if t then 5 else 3) ≤ g → 3 ≤ g
+    go true most = omega (arith, most)
+    go false most = most
+
 less_both : (n m : ℕ) (good : Option ℕ) → less m (less n good) ≡ less (n + m) good
 less_both n m None = refl
 less_both n m (Some g) = ap Some (omega arith)
@@ -105,6 +114,7 @@ module _ (m0 m1 : Meaning) (held : Held) (cluster : ℕ) (mount : Mounts m0 m1 h
     unwritten = λ _. ⊎_elim (λ seen. seen) (λ short. absurd (let e : None ≡ Some n = sym short.1 ∙ because.0 in cc)) (holds honest).unwritten;
     as_before = λ _. mount.any_moment honest;
     good = λ is. absurd (cc);
+    served = λ _ p is. serves_three m0.seen p.good (mount.good honest p is).served;
   }
   forbidden (claims.Full n) because honest = record {
     bad_gate = λ entry is. absurd (cc);
@@ -113,6 +123,7 @@ module _ (m0 m1 : Meaning) (held : Held) (cluster : ℕ) (mount : Mounts m0 m1 h
     unwritten = λ _. ⊎_elim (λ seen. seen) (λ short. absurd (omega (arith, short.0, because.2, because.3))) (holds honest).unwritten;
     as_before = λ _. mount.any_moment honest;
     good = λ is. absurd (cc);
+    served = λ _ p is. serves_three m0.seen p.good (mount.good honest p is).served;
   }
   forbidden claims.NoMemory no_way honest = absurd no_way
 
@@ -171,6 +182,7 @@ module _ (m0 m1 : Meaning) (held : Held) (cluster : ℕ) (mount : Mounts m0 m1 h
               let used = mount.good honest p is in
               let met = ran.stops.good used.left.0 used.left.1 (serves honest p is used.left.0 used.left.1) in
               (mount_count m0.seen + ran.stops.made, omega (arith, ran.stops.short), later (mount_count m0.seen) ran.stops.made p.good used.served (sym used.left.2 ∙ met)));
+          served = λ no_way. absurd no_way;
         }
 
     pub entry_leaves : (IsTrue m1.honest → LeavesOnly m1 m2 (IsClaimed m1.seen cluster)) → IsTrue m0.honest → LeavesOnly m0 m2 (IsClaimedOrBefore m0 cluster)
@@ -188,6 +200,7 @@ not_claimed m0 m1 cluster mounts.DiskFault r honest = record {
   unwritten = λ not_fault. absurd (not_fault refl);
   as_before = λ _. r.any_moment honest;
   good = λ _ p is. let met = r.good honest refl p is in (met.0, omega (arith, met.1), met.2);
+  served = λ no_way. absurd no_way;
 }
 not_claimed m0 m1 cluster (mounts.BadGate n) r honest = record {
   bad_gate = λ entry is. let same : n ≡ entry = cc in r.bad_gate honest entry (ap mounts.BadGate same);
@@ -196,6 +209,7 @@ not_claimed m0 m1 cluster (mounts.BadGate n) r honest = record {
   unwritten = λ _. r.unwritten honest (λ is. cc);
   as_before = λ _. r.any_moment honest;
   good = λ is. absurd (cc);
+  served = λ _. r.served n refl;
 }
 not_claimed m0 m1 cluster mounts.NoMemory r honest = record {
   bad_gate = λ entry is. absurd (cc);
@@ -204,6 +218,7 @@ not_claimed m0 m1 cluster mounts.NoMemory r honest = record {
   unwritten = λ _. r.unwritten honest (λ is. cc);
   as_before = λ _. r.any_moment honest;
   good = λ is. absurd (cc);
+  served = λ no_way. absurd no_way;
 }
 
 pub refused_leaves : (m0 m1 : Meaning) (cluster : ℕ) (why : MountError) → Refuses m0 m1 why → IsTrue m0.honest → LeavesOnly m0 m1 (IsClaimedOrBefore m0 cluster)

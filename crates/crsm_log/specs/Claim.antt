@@ -5,7 +5,7 @@ use Rattle.crsm_faults.specs.Plan.{Plan}
 use Rattle.crsm_image.specs.Calls.{Call}
 use Rattle.crsm_disk.specs.Meaning.{LeavesOnly, Meaning, Only}
 use Rattle.crsm_log.specs.Format.{bad, bodies_of, cluster_entry, cluster_of, found, gate_in, reading}
-use Rattle.crsm_log.specs.Log.{IsAsBefore, MeetsIn, Used, entry_calls, mount_calls, mount_count, recorded}
+use Rattle.crsm_log.specs.Log.{IsAsBefore, MeetsIn, Serves, Used, entry_calls, mount_calls, mount_count, recorded}
 use Rattle.crsm_log.specs.declared.entry.Held.{Held}
 use Rattle.crsm_log.specs.declared.errors.ClaimError.{ClaimError}
 use Rattle.crsm_log.specs.declared.errors.ClaimError.TheVariants.{DiskFault, BadGate, OtherCluster, Full, NoMemory}
@@ -69,6 +69,14 @@ pub record Claims (old new : Meaning) (cluster : ℕ) : Type 0 where
   pub history : new.history ≡ recorded (claim_calls old.seen cluster) old.history
   pub good : (p : Plan) → old.plan ≡ Some p → Used (claim_count old.seen cluster) p new.plan
 
+-- it is refused for what it holds, and not for a failure
+abbrev pub IsOfContent : ClaimError → Type 0
+IsOfContent DiskFault = ⊥
+IsOfContent (BadGate entry) = Unit {0}
+IsOfContent (OtherCluster named) = Unit {0}
+IsOfContent (Full end) = Unit {0}
+IsOfContent NoMemory = ⊥
+
 -- it is not, and why
 pub record RefusesClaim (old new : Meaning) (cluster : ℕ) (why : ClaimError) : Type 0 where
   pub bad_gate : (entry : ℕ) → why ≡ BadGate entry → reading old.seen ≡ bad entry
@@ -77,3 +85,4 @@ pub record RefusesClaim (old new : Meaning) (cluster : ℕ) (why : ClaimError) :
   pub unwritten : (why ≡ DiskFault → ⊥) → new.seen ≡ old.seen
   pub as_before : (why ≡ DiskFault → ⊥) → LeavesOnly old new (IsAsBefore old)
   pub good : why ≡ DiskFault → MeetsIn (claim_count old.seen cluster) old.plan
+  pub served : IsOfContent why → (p : Plan) → old.plan ≡ Some p → Serves 3 p.good

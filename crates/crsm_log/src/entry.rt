@@ -47,10 +47,7 @@ pub(crate) fn entry_of(alloc: Global, body: &[u8]) -> Result<Vec<u8>, NoMemory>
 {
     let n = body.len();
     let mut entry = Vec::with_capacity(alloc, n + 5)?;
-    entry.push((n / 256 / 256 / 256) as u8)?;
-    entry.push((n / 256 / 256 % 256) as u8)?;
-    entry.push((n / 256 % 256) as u8)?;
-    entry.push((n % 256) as u8)?;
+    entry.extend_from_slice(&four_bytes(n as u64))?;
     entry.extend_from_slice(body)?;
     entry.push(0)?;
     Ok(entry)
