@@ -6,3 +6,4 @@ pub mod Ends
 pub mod BadLines
 pub mod Exact
 pub mod Pieces
+pub mod UpToDate

@@ -3,3 +3,4 @@ pub mod Causes
 pub mod Refused
 pub mod Handled
 pub mod Run
+pub mod Laws

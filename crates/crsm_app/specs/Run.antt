@@ -27,6 +27,21 @@ pub record SoFar (before after had has : Option (List ℕ)) (state : State) (ahe
   pub puts : Puts had has written
   pub shown : shown_text read ≡ written ++ state.pending
 
+-- ---- between two pieces
+
+-- These bytes were taken. Each whole line of them is handled, the transcript of all of these is written to its end, and
+-- nothing is pending; behind them there is a part of a line.
+pub record IsUpToDate (had has : Option (List ℕ)) (state : State) (taken : List ℕ) : Type 0 where
+  pub read : Option Schedule
+  pub good : IsGood read
+  pub stands : StandsAt state.world read
+  pub number : state.number ≡ count_of read
+  pub part : Lacks 10 state.part
+  pub short : length state.part ≤ 16777216
+  pub taken_is : taken ≡ read_text read ++ state.part
+  pub puts : Puts had has (shown_text read)
+  pub none_pending : state.pending ≡ []
+
 -- ---- by the status
 
 -- all of a schedule was read, and its transcript and final lines were written

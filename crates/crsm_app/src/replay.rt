@@ -7,7 +7,7 @@ ghost use Rattle.crsm_io.specs.Streams.{Puts, PutsPrefix};
 ghost use Rattle.crsm_text.specs.Words.{Lacks};
 ghost use Rattle.crsm_app.specs.Causes.{status_of};
 ghost use Rattle.crsm_app.specs.Handled.{Advances, Handles, StopsAt};
-ghost use Rattle.crsm_app.specs.Run.{CarriesOn, Halts, Ends, Finishes, FinishesWell};
+ghost use Rattle.crsm_app.specs.Run.{CarriesOn, Halts, Ends, Finishes, FinishesWell, IsUpToDate};
 
 use crate::handling::{push_lines, take_line};
 use crate::status::{Cause, Halt, Stop};
@@ -26,7 +26,7 @@ const LINE_ROOM: usize = 96;
 
 /// A replay in mid-stream.
 #[derive(Drop)]
-pub(crate) struct Replay {
+pub struct Replay {
     alloc: Global,
     world: Option<World>,
     number: u64,
@@ -45,7 +45,8 @@ impl Model for Replay {
 impl Replay {
     /// Nothing has come yet.
     pub fn new(alloc: Global) -> Replay
-        ensures { result ≡ record { world = None; number = 0; part = []; pending = [] } }
+        ensures value { result ≡ record { world = None; number = 0; part = []; pending = [] } }
+        ensures up_to_date { (had : Option (List ℕ)) → IsUpToDate had had result [] }
     {
         Replay {
             alloc,
@@ -196,13 +197,16 @@ impl Replay {
         self.keep(rest)
     }
 
-    /// Takes the bytes of a piece, and writes the texts of all lines that were handled.
+    /// Takes the bytes of a piece, and writes the texts of all lines that were handled. So whoever feeds a replay with what a
+    /// read gave has, before the next read, handled every whole line that came, and written its text.
     pub fn feed<O: Sink>(&mut self, piece: &[u8], output: &mut O) -> Result<(), Halt>
         requires { self.old.number + length piece.now < 2 ^ 64 }
         ensures ok { OnOk result (CarriesOn (O.written output.old) (O.written output.new) self.old self.new piece.now []) }
         ensures err { IfErr result (λ halt. Ends (status_of halt) (O.written output.old) (O.written output.new) self.old piece.now) }
         ensures number { OnOk result (self.new.number ≤ self.old.number + length piece.now) }
         ensures pending { self.new.pending ≡ [] }
+        ensures up_to_date { (had : Option (List ℕ)) (taken : List ℕ) → IsUpToDate had (O.written output.old) self.old taken
+            → OnOk result (IsUpToDate had (O.written output.new) self.new (taken ++ piece.now)) }
         ensures later { O.faults output.old ≤ O.faults output.new }
         ensures rose { IsErrOf result Halt.WriteFault → Rose (O.faults output.old) (O.faults output.new) }
     {

@@ -3,6 +3,7 @@
 
 mod batch;
 mod event;
+mod laws;
 mod numbers;
 mod print;
 mod read;
@@ -10,6 +11,9 @@ mod single;
 
 pub use crsm_text::LineError;
 pub use event::{Event, Single};
+pub use laws::{
+    events_have_one_text, first_lines_have_one_text, spelt_are_lines, transcripts_are_one,
+};
 pub use numbers::Numbers;
 pub use print::{print_outcome, push_line};
 pub use read::{read_event, read_first};

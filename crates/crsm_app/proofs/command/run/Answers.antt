@@ -6,17 +6,32 @@ use Rattle.crsm_app.proofs.command.run.Goals as goal
 
 pub returns-then-is_replay-clause-complete : goal.returns-then-is_replay-clause-complete
 returns-then-is_replay-clause-complete g c = λ s good is short words no_read no_write.
-    completed c.replay.result _ _ _ _ s c.replay.ensures.ran c.replay.ensures.usage
+    completed (record {
+      events = c.events_have_one_text.ensures;
+      first = c.first_lines_have_one_text.ensures;
+      event_lines = c.spelt_are_lines.ensures.events;
+      first_lines = c.spelt_are_lines.ensures.first;
+    }) c.replay.result _ _ _ _ s c.replay.ensures.ran c.replay.ensures.usage
     (λ e. no_read (c.replay.ensures.read e)) (λ e. no_write (c.replay.ensures.write e)) good is short
 
 pub returns-then-is_replay-clause-refused : goal.returns-then-is_replay-clause-refused
 returns-then-is_replay-clause-refused g c = λ read text more cause good is bad short words no_read no_write.
-    refused c.replay.result _ _ _ _ read text more cause c.replay.ensures.ran c.replay.ensures.usage
+    refused (record {
+      events = c.events_have_one_text.ensures;
+      first = c.first_lines_have_one_text.ensures;
+      event_lines = c.spelt_are_lines.ensures.events;
+      first_lines = c.spelt_are_lines.ensures.first;
+    }) c.replay.result _ _ _ _ read text more cause c.replay.ensures.ran c.replay.ensures.usage
     (λ e. no_read (c.replay.ensures.read e)) (λ e. no_write (c.replay.ensures.write e)) good is bad short
 
 pub returns-then-is_replay-clause-too_long : goal.returns-then-is_replay-clause-too_long
 returns-then-is_replay-clause-too_long g c = λ read rest more good lacks short long some is words no_read no_write.
-    too_long c.replay.result _ _ _ _ read rest more c.replay.ensures.ran c.replay.ensures.usage
+    too_long (record {
+      events = c.events_have_one_text.ensures;
+      first = c.first_lines_have_one_text.ensures;
+      event_lines = c.spelt_are_lines.ensures.events;
+      first_lines = c.spelt_are_lines.ensures.first;
+    }) c.replay.result _ _ _ _ read rest more c.replay.ensures.ran c.replay.ensures.usage
     (λ e. no_read (c.replay.ensures.read e)) (λ e. no_write (c.replay.ensures.write e)) good lacks short long some is
 
 pub returns-then-is_replay-clause-limit : goal.returns-then-is_replay-clause-limit

@@ -1,4 +1,7 @@
+use Rattle.std.proofs.Common.{ap}
+use Rattle.crsm_app.specs.State.{State}
 use Rattle.crsm_app.proofs.Pieces.{piece_carries, piece_ends, piece_faults}
+use Rattle.crsm_app.proofs.UpToDate.{feeds}
 use Rattle.crsm_app.proofs.replay.Replay.feed.Goals as goal
 
 pub returns-in-Ok-clause-ok : goal.returns-in-Ok-clause-ok
@@ -13,3 +16,9 @@ pub returns-in-Err-clause-err : goal.returns-in-Err-clause-err
 returns-in-Err-clause-err g c =
     rw c.in-Err.ensures.fault (piece_faults c.take_lines-taken.result _ _ _ c.args.self.now c.take_lines-taken.new.self c.args.piece.now c.take_lines-taken.ensures.ok c.take_lines-taken.ensures.err
     c.in-Err.ensures.prefix)
+
+pub returns-in-Ok-clause-up_to_date : goal.returns-in-Ok-clause-up_to_date
+returns-in-Ok-clause-up_to_date g c =
+    feeds c.take_lines-taken.result _ _ c.args.self.now c.flush.new.self c.args.piece.now
+    (piece_carries c.take_lines-taken.result _ _ _ c.args.self.now c.take_lines-taken.new.self c.flush.new.self c.args.piece.now c.take_lines-taken.ensures.ok c.in-Ok.ensures.put c.in-Ok.ensures.state)
+    (ap (λ (st : State). st.pending) c.in-Ok.ensures.state)
