@@ -7,8 +7,8 @@ use Rattle.crsm_disk.specs.Contract.{Arms}
 use Rattle.crsm_disk.specs.Memory.{Memory, meaning_of, good_left}
 use Rattle.crsm_log.specs.Log.{Used, less}
 use Rattle.crsm_spec.specs.Log.{Log, decision, known, executed}
-use Rattle.crsm_machine.specs.declared.left.Left.{Left}
-use Rattle.crsm_machine.specs.Machine.{IsDisk, IsLeft, IsToldOf}
+use Rattle.crsm_machine.specs.declared.stopped.Stopped.{Stopped}
+use Rattle.crsm_machine.specs.States.{IsDisk, IsStopped, SumsUp}
 
 -- what a disk in memory tells ahead of its calls
 abbrev pub plan_of : Memory → Plan
@@ -32,13 +32,13 @@ pub armed_fill : (calls : Option ℕ) (fill : ℕ) (old new : Memory) → Arms c
 armed_fill calls fill old new arms = ap (λ (o : Option ℕ). unwrap_or o fill) arms.fill
 
 -- an empty log says nothing
-pub nothing_told : IsToldOf (record { known = 0; executed = 0 }) []
+pub nothing_told : SumsUp (record { known = 0; executed = 0 }) []
 unfolding known executed decision
 nothing_told = record { known = refl; executed = refl }
 
 -- the same place, under other names of its numbers
-pub renamed : (left : Left) (log : Log) (a b c d : ℕ) → a ≡ b → c ≡ d → IsLeft a c left log → IsLeft b d left log
-renamed left log a b c d p q h = subst (λ x. IsLeft b x left log) q (subst (λ x. IsLeft x c left log) p h)
+pub renamed : (left : Stopped) (log : Log) (a b c d : ℕ) → a ≡ b → c ≡ d → IsStopped a c left log → IsStopped b d left log
+renamed left log a b c d p q h = subst (λ x. IsStopped b x left log) q (subst (λ x. IsStopped x c left log) p h)
 
 pub renamed_disk : (disk : Memory) (log : Log) (a b c d : ℕ) → a ≡ b → c ≡ d → IsDisk a c disk log → IsDisk b d disk log
 renamed_disk disk log a b c d p q h = subst (λ x. IsDisk b x disk log) q (subst (λ x. IsDisk x c disk log) p h)

@@ -14,15 +14,8 @@ use Rattle.crsm_base.specs.declared.datagram.Datagram.TheVariants as datagram
 use Rattle.crsm_base.specs.Limits.{part_bytes, most_parts, most_last_bytes}
 use Rattle.crsm_base.specs.Spelling.{u8_bytes, u16_bytes, u32_bytes, u64_bytes, stamp_bytes, val_bytes, FitsVal, command_bytes, FitsCommand, entry_bytes, answer_bytes, FitsAnswer, outcome_bytes, FitsOutcome, members_bytes}
 use Rattle.crsm_base.specs.Messages.{payload_bytes, FitsPayload, datagram_bytes, FitsDatagram, part_most}
-use Rattle.crsm_base.proofs.Sizes.{entry_short}
+use Rattle.crsm_base.proofs.Sizes.{u64_long, entry_short}
 use Rattle.crsm_base.proofs.MembersLemmas.{members_le}
-
-u64_long : (n : ℕ) → length (u64_bytes n) ≡ 8
-unfolding u64_bytes
-u64_long n = refl'
-  where
-    refl' : length (u64_bytes n) ≡ 8
-    refl' = omega arith
 
 u32_long : (n : ℕ) → length (u32_bytes n) ≡ 4
 unfolding u32_bytes

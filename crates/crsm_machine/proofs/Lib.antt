@@ -1,7 +1,8 @@
 mod Boots
 mod Cuts
 mod Disks
-mod Inlets
+mod PacketPorts
 mod Lengths
 mod Stops
 mod Turns
+mod Ups

@@ -1,4 +1,5 @@
 pub mod Arriving
-pub mod Inlets
+pub mod PacketPorts
 pub mod Outcomes
+pub mod States
 pub mod Machine

@@ -1,16 +1,17 @@
--- What a site answers.
+-- What a machine answers.
 use Rattle.std.specs.Prelude.{◌≡◌, ℕ, Bool, true, false, ◌&&◌, nat_lt, List, [], length, Option, Some, None, if◌then◌else◌}
 use Rattle.crsm_spec.specs.Log.{Log, spec}
 use Rattle.crsm_spec.specs.Replica.{Replica}
 use Rattle.crsm_spec.specs.Draft.{Draft}
-use Rattle.crsm_spec.specs.World.{Site as Place, body_size}
+use Rattle.crsm_spec.specs.World.{Site, body_size}
 use Rattle.crsm_spec.specs.Moments.{is_kept}
 use Rattle.crsm_core.specs.Core.{Answers}
-use Rattle.crsm_machine.specs.declared.left.Left.{Left}
-use Rattle.crsm_machine.specs.declared.site.Site.{Site}
+use Rattle.crsm_machine.specs.declared.stopped.Stopped.{Stopped}
+use Rattle.crsm_machine.specs.declared.machine.Machine.{Machine}
 use Rattle.crsm_machine.specs.declared.step.Step.{Step}
 use Rattle.crsm_machine.specs.declared.step.Boot.{Boot}
-use Rattle.crsm_machine.specs.Machine.{SiteStands, IsLeft}
+use Rattle.crsm_machine.specs.Machine.{MachineStands}
+use Rattle.crsm_machine.specs.States.{IsStopped}
 
 -- the step is what the draft has made, and takes as many bytes
 pub record Makes (step : Step) (x : Draft) : Type 0 where
@@ -40,19 +41,19 @@ abbrev pub log_after : (calls fill : ℕ) → Log → Draft → Log
 log_after calls fill log x = if is_cut_kept calls fill x then x.replica.log else log
 
 -- The step of r was stopped: the replica is down with its records, or without them.
-abbrev pub IsCut : (calls fill me n : ℕ) → Replica → Draft → Option Step → Site → Type 0
-IsCut calls fill me n r x (Some step) site =
-    (is_cut_kept calls fill x ≡ true) × Makes step x × SiteStands site me n (Place.Down x.replica.log)
-IsCut calls fill me n r x None site = (is_cut_kept calls fill x ≡ false) × SiteStands site me n (Place.Down r.log)
+abbrev pub IsCut : (calls fill me n : ℕ) → Replica → Draft → Option Step → Machine → Type 0
+IsCut calls fill me n r x (Some step) machine =
+    (is_cut_kept calls fill x ≡ true) × Makes step x × MachineStands machine me n (Site.Down x.replica.log)
+IsCut calls fill me n r x None machine = (is_cut_kept calls fill x ≡ false) × MachineStands machine me n (Site.Down r.log)
 
 -- the same of what is left
-abbrev pub LeavesCut : (calls fill me n : ℕ) → Replica → Draft → Option Step → Left → Type 0
-LeavesCut calls fill me n r x (Some step) left = (is_cut_kept calls fill x ≡ true) × Makes step x × IsLeft me n left x.replica.log
-LeavesCut calls fill me n r x None left = (is_cut_kept calls fill x ≡ false) × IsLeft me n left r.log
+abbrev pub LeavesCut : (calls fill me n : ℕ) → Replica → Draft → Option Step → Stopped → Type 0
+LeavesCut calls fill me n r x (Some step) left = (is_cut_kept calls fill x ≡ true) × Makes step x × IsStopped me n left x.replica.log
+LeavesCut calls fill me n r x None left = (is_cut_kept calls fill x ≡ false) × IsStopped me n left r.log
 
 -- ---- readers
 
 -- the replicas whose majorities count in the known epoch, where the replica is up
-unfoldable pub spec_at : ℕ → Place → Option (List ℕ)
-spec_at n (Place.Up r) = Some (spec n r.log)
-spec_at n (Place.Down log) = None
+unfoldable pub spec_at : ℕ → Site → Option (List ℕ)
+spec_at n (Site.Up r) = Some (spec n r.log)
+spec_at n (Site.Down log) = None

@@ -11,14 +11,14 @@ ghost use Rattle.crsm_spec.specs.Draft.{Draft};
 ghost use Rattle.crsm_spec.specs.Node.{turn};
 ghost use Rattle.crsm_machine.specs.Arriving.{turn_of, IsShort};
 ghost use Rattle.crsm_machine.specs.Outcomes.{LeavesCut, is_cut_kept, log_after};
-ghost use Rattle.crsm_machine.specs.Machine.{IsUpAs, IsDisk};
+ghost use Rattle.crsm_machine.specs.States.{HasSomeLog, IsDisk, IsSomeUp, IsUp, IsUpAs};
 
-use crate::coming::Coming;
-use crate::left::{Left, image_of_disk, told_by};
-use crate::outlet::Outlet;
+use crate::arrival::Arrival;
+use crate::sink_port::SinkPort;
 use crate::step::Step;
+use crate::stopped::{Stopped, image_of_disk, summary_of};
 use crate::turn::take;
-use crsm_base::NoMemory;
+use crsm_base::{NoMemory, never};
 use crsm_disk::MemDisk;
 use crsm_shell::{Shell, TurnError};
 
@@ -59,17 +59,23 @@ fn is_kept_at(stop: Stop, step: &Step) -> bool
 
 /// The disk of a shell whose put stops there.
 fn stopped_disk(shell: Shell<MemDisk>, stop: Stop) -> Result<MemDisk, NoMemory>
-    requires { stop.calls ≤ 4 }
-    ensures { IfOk result (λ disk. (me n : ℕ) (kept : Log) (x : Draft) → IsUpAs me n shell kept x.replica (x ∷ []) → x.replica.log ≡ with_records kept x.batch →
+    requires calls { stop.calls ≤ 4 }
+    requires up { ∥ IsSomeUp shell ∥₁ }
+    ensures stands { IfOk result (λ disk. (me n : ℕ) (kept : Log) (x : Draft) → IsUpAs me n shell kept x.replica (x ∷ []) → x.replica.log ≡ with_records kept x.batch →
         IsDisk me n disk (log_after stop.calls stop.fill kept x)) }
+    ensures log { IfOk result (λ disk. (me n : ℕ) → IsUp me n shell → HasSomeLog me n disk) }
 {
     let mut shell = shell;
-    let mut port = Outlet { empties: 0 };
+    let mut port = SinkPort { empties: 0 };
     shell.arm(Some(stop.calls), stop.fill);
     match shell.flush(&mut port) {
         Ok(()) => Ok(image_of_disk(shell.into_disk())?),
         Err(TurnError::DiskFault) => Ok(image_of_disk(shell.into_disk())?),
-        Err(_) => Err(NoMemory),
+        Err(TurnError::Failed) => unreachable!(),
+        Err(TurnError::PortFault) => unreachable!(),
+        // A world is full long before a log is.
+        Err(TurnError::LogFull) => Err(never()),
+        Err(TurnError::NoMemory) => Err(NoMemory),
     }
 }
 
@@ -77,21 +83,35 @@ fn stopped_disk(shell: Shell<MemDisk>, stop: Stop) -> Result<MemDisk, NoMemory>
 pub(crate) fn cut(
     shell: Shell<MemDisk>,
     stop: Stop,
-    coming: Coming<'_>,
+    arrival: Arrival<'_>,
     reading: u64,
-) -> Result<(Option<Step>, Left), NoMemory>
+) -> Result<(Option<Step>, Stopped), NoMemory>
     requires calls { stop.calls ≤ 4 }
-    requires short { IsShort coming }
-    ensures stands { IfOk result (λ cut. (me n : ℕ) (r : Replica) → IsUpAs me n shell r.log r [] → LeavesCut stop.calls stop.fill me n r (turn r (turn_of coming.entry, reading)) cut.0 cut.1) }
+    requires short { IsShort arrival }
+    requires up { ∥ IsSomeUp shell ∥₁ }
+    ensures stands { IfOk result (λ cut. (me n : ℕ) (r : Replica) → IsUpAs me n shell r.log r [] → LeavesCut stop.calls stop.fill me n r (turn r (turn_of arrival.entry, reading)) cut.0 cut.1) }
     ensures spelt { IfOk result (λ cut. IfSome cut.0 (λ step. AllByRecursion FitsSent step.batch.sends)) }
+    ensures log { IfOk result (λ cut. (me n : ℕ) → IsUp me n shell → HasSomeLog me n cut.1.disk) }
 {
     let mut shell = shell;
-    let before = told_by(shell.state());
-    let step = take(&mut shell, coming, reading)?;
-    let after = told_by(shell.state());
+    let before = summary_of(shell.state());
+    let step = take(&mut shell, arrival, reading)?;
+    let after = summary_of(shell.state());
     let disk = stopped_disk(shell, stop)?;
     if is_kept_at(stop, &step) {
-        return Ok((Some(step), Left { disk, told: after }));
+        return Ok((
+            Some(step),
+            Stopped {
+                disk,
+                summary: after,
+            },
+        ));
     }
-    Ok((None, Left { disk, told: before }))
+    Ok((
+        None,
+        Stopped {
+            disk,
+            summary: before,
+        },
+    ))
 }

@@ -1,4 +1,4 @@
-//! What the crates above need to know of sites, of boots and of datagrams.
+//! What the crates above need to know of machines, of boots and of datagrams.
 
 ghost use Rattle.std.specs.Prelude.{ℕ, ◌≤◌, [], length};
 ghost use Rattle.crsm_base.specs.Messages.{FitsDatagram, datagram_bytes};
@@ -6,15 +6,15 @@ ghost use Rattle.crsm_spec.specs.Types.{Datagram};
 ghost use Rattle.crsm_spec.specs.Log.{Log};
 ghost use Rattle.crsm_spec.specs.Replica.{Replica};
 ghost use Rattle.crsm_spec.specs.Step.{boot};
-ghost use Rattle.crsm_spec.specs.World.{Site as Place};
-ghost use Rattle.crsm_machine.specs.declared.site.Site.{Site};
+ghost use Rattle.crsm_spec.specs.World.{Site};
+ghost use Rattle.crsm_machine.specs.declared.machine.Machine.{Machine};
 ghost use Rattle.crsm_machine.specs.Outcomes.{IsQuiet};
-ghost use Rattle.crsm_machine.specs.Machine.{SiteStands, SitePends};
+ghost use Rattle.crsm_machine.specs.Machine.{MachineStands, MachinePends};
 
-/// A site that is up has no step pending.
-#[tactic(auto, unfolding(crate::specs::Machine::SiteStands, crate::specs::Machine::SitePends))]
-pub fn sites_pend_nothing()
-    ensures { (site : Site) (me n : ℕ) (r : Replica) → SiteStands site me n (Place.Up r) → SitePends site me n r [] }
+/// A machine that is up has no step pending.
+#[tactic(auto, unfolding(crate::specs::Machine::MachineStands, crate::specs::Machine::MachinePends))]
+pub fn machines_pend_nothing()
+    ensures { (machine : Machine) (me n : ℕ) (r : Replica) → MachineStands machine me n (Site.Up r) → MachinePends machine me n r [] }
 {}
 
 /// A boot gives lines of its records alone, and sends nothing.

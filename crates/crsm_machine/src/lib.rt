@@ -1,23 +1,23 @@
 //! One replica's place in a world: it is up, or down with what is on its disk.
 #![tactic(auto)]
 
-mod coming;
+mod arrival;
 mod cut;
-mod inlet;
+mod fixed_clock;
 mod laws;
-mod left;
-mod outlet;
-mod place;
+mod machine;
+mod packet_port;
 mod readers;
-mod site;
+mod sink_port;
 mod start;
+mod state;
 mod step;
-mod still;
 mod stop;
+mod stopped;
 mod take;
 mod turn;
 
-pub use coming::Coming;
-pub use laws::{boots_are_quiet, datagrams_are_short, sites_pend_nothing};
-pub use site::Site;
+pub use arrival::Arrival;
+pub use laws::{boots_are_quiet, datagrams_are_short, machines_pend_nothing};
+pub use machine::Machine;
 pub use step::{Boot, Step};

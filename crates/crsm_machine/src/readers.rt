@@ -1,4 +1,4 @@
-//! What a site tells.
+//! What a machine says of itself.
 
 ghost use Rattle.std.specs.Prelude.{◌≡◌, ◌∷◌, [], ℕ, length, is_some, IfOk, IfSome, if◌then◌else◌};
 ghost use Rattle.crsm_spec.specs.Log as logs;
@@ -9,85 +9,86 @@ ghost use Rattle.crsm_disk.specs.Memory.{meaning_of};
 ghost use Rattle.crsm_shell.specs.Shell.{ShellStands};
 ghost use Rattle.crsm_shell.specs.Words.{disk_of};
 ghost use Rattle.crsm_machine.specs.Outcomes.{spec_at};
-ghost use Rattle.crsm_machine.specs.Machine.{SiteStands, IsToldOf};
+ghost use Rattle.crsm_machine.specs.Machine.{MachineStands, WhereStands, WhereUp};
+ghost use Rattle.crsm_machine.specs.States.{SumsUp};
 
-use crate::left::{NOTHING, Told, told_by};
-use crate::place::Place;
-use crate::site::Site;
+use crate::machine::Machine;
+use crate::state::MachineState;
+use crate::stopped::{LogSummary, NOTHING, summary_of};
 use crsm_base::{Members, NoMemory, State};
 use crsm_disk::MemDisk;
 use crsm_ledger::Ledger;
 use crsm_shell::Shell;
 
-impl Site {
+impl Machine {
     /// Whether the replica is up.
-    #[tactic(auto, unfolding(crate::specs::Machine::SiteStands, crsm_spec::specs::World::is_up))]
+    #[tactic(auto, unfolding(crate::specs::Machine::MachineStands, crsm_spec::specs::World::is_up))]
     pub fn is_up(&self) -> bool
-        ensures { (me n : ℕ) (s : world.Site) → SiteStands self.now me n s → result ≡ world.is_up s }
+        ensures { WhereStands self.now (λ me n s. result ≡ world.is_up s) }
     {
-        matches!(&self.place, Place::Up(_))
+        matches!(&self.place, MachineState::Up(_))
     }
 
     /// The shell of a replica that is up.
-    #[tactic(auto, unfolding(crate::specs::Machine::SiteStands, crsm_spec::specs::World::is_up))]
+    #[tactic(auto, unfolding(crate::specs::Machine::MachineStands, crsm_spec::specs::World::is_up))]
     pub fn shell(&self) -> Option<&Shell<MemDisk>>
-        ensures up { (me n : ℕ) (s : world.Site) → SiteStands self.now me n s → is_some result ≡ world.is_up s }
-        ensures stands { IfSome result (λ shell. (me n : ℕ) (r : Replica) → SiteStands self.now me n (world.Site.Up r) → ShellStands shell.now (meaning_of (disk_of shell.now)) r.log r []) }
+        ensures up { WhereStands self.now (λ me n s. is_some result ≡ world.is_up s) }
+        ensures stands { IfSome result (λ shell. WhereUp self.now (λ me n r. ShellStands shell.now (meaning_of (disk_of shell.now)) r.log r [])) }
     {
         match &self.place {
-            Place::Up(shell) => Some(shell),
-            Place::Down(_) => None,
-            Place::Spent => None,
+            MachineState::Up(shell) => Some(shell),
+            MachineState::Down(_) => None,
+            MachineState::Spent => None,
         }
     }
 
     /// What the records of its log say.
-    #[tactic(auto, unfolding(crate::specs::Machine::SiteStands, crsm_spec::specs::World::log_of))]
-    fn told(&self) -> Told
-        ensures { (me n : ℕ) (s : world.Site) → SiteStands self.now me n s → IsToldOf result (world.log_of s) }
+    #[tactic(auto, unfolding(crate::specs::Machine::MachineStands, crsm_spec::specs::World::log_of))]
+    fn summary(&self) -> LogSummary
+        ensures { WhereStands self.now (λ me n s. SumsUp result (world.log_of s)) }
     {
         match &self.place {
-            Place::Up(shell) => told_by(shell.state()),
-            Place::Down(left) => left.told,
-            Place::Spent => NOTHING,
+            MachineState::Up(shell) => summary_of(shell.state()),
+            MachineState::Down(left) => left.summary,
+            MachineState::Spent => NOTHING,
         }
     }
 
     /// The known epoch.
     pub fn known(&self) -> u64
-        ensures { (me n : ℕ) (s : world.Site) → SiteStands self.now me n s → result ≡ logs.known (world.log_of s) }
+        ensures { WhereStands self.now (λ me n s. result ≡ logs.known (world.log_of s)) }
     {
-        self.told().known
+        self.summary().known
     }
 
     /// How many entries are executed.
     pub fn executed_len(&self) -> u64
-        ensures { (me n : ℕ) (s : world.Site) → SiteStands self.now me n s → result ≡ length (logs.executed (world.log_of s)) }
+        ensures { WhereStands self.now (λ me n s. result ≡ length (logs.executed (world.log_of s))) }
     {
-        self.told().executed
+        self.summary().executed
     }
 
     /// How the replica stands.
-    #[tactic(auto, unfolding(crate::specs::Machine::SiteStands, crsm_spec::specs::World::state_of))]
+    #[tactic(auto, unfolding(crate::specs::Machine::MachineStands, crsm_spec::specs::World::state_of))]
     pub fn state(&self) -> State
-        ensures { (me n : ℕ) (s : world.Site) → SiteStands self.now me n s → result ≡ world.state_of s }
+        ensures { WhereStands self.now (λ me n s. result ≡ world.state_of s) }
     {
         match &self.place {
-            Place::Up(shell) => state_of(shell.state()),
-            Place::Down(_) => State::Down,
-            Place::Spent => State::Down,
+            MachineState::Up(shell) => state_of(shell.state()),
+            MachineState::Down(_) => State::Down,
+            MachineState::Spent => State::Down,
         }
     }
 
     /// The replicas whose majorities count in the known epoch of a replica that is up.
-    #[tactic(auto, unfolding(crate::specs::Machine::SiteStands, crate::specs::Outcomes::spec_at))]
+    #[tactic(auto, unfolding(crate::specs::Machine::MachineStands, crate::specs::Outcomes::spec_at))]
     pub fn spec(&self) -> Result<Option<Members>, NoMemory>
-        ensures { IfOk result (λ members. (me n : ℕ) (s : world.Site) → SiteStands self.now me n s → members ≡ spec_at n s) }
+        ensures { IfOk result (λ members. WhereStands self.now (λ me n s. members ≡ spec_at n s)) }
     {
         match &self.place {
-            Place::Up(shell) => Ok(Some(shell.state().spec()?)),
-            Place::Down(_) => Ok(None),
-            Place::Spent => Ok(None),
+            MachineState::Up(shell) => Ok(Some(shell.state().spec()?)),
+            MachineState::Down(_) => Ok(None),
+            MachineState::Spent => Ok(None),
         }
     }
 }

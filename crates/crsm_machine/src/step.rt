@@ -1,4 +1,4 @@
-//! What a step and a boot of a site made.
+//! What a step and a boot of a machine made.
 
 use crsm_base::Lines;
 use crsm_output::Batch;

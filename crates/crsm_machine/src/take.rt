@@ -1,4 +1,4 @@
-//! Steps of a site.
+//! Steps of a machine.
 
 ghost use Rattle.std.specs.Prelude.{◌≡◌, ◌++◌, ◌∷◌, [], ℕ, List, IfOk, OnOk};
 ghost use Rattle.std.specs.List.{AllByRecursion};
@@ -9,61 +9,71 @@ ghost use Rattle.crsm_spec.specs.Node.{turn};
 ghost use Rattle.crsm_spec.specs.World as world;
 ghost use Rattle.crsm_machine.specs.Arriving.{turn_of, IsShort};
 ghost use Rattle.crsm_machine.specs.Outcomes.{Makes};
-ghost use Rattle.crsm_machine.specs.Machine.{SiteStands, SitePends};
+ghost use Rattle.crsm_machine.specs.Machine.{MachineStands, MachinePends, WhereUp};
 
-use crate::coming::Coming;
-use crate::laws::sites_pend_nothing;
-use crate::place::Place;
-use crate::site::Site;
+use crate::arrival::Arrival;
+use crate::laws::machines_pend_nothing;
+use crate::machine::Machine;
+use crate::state::MachineState;
 use crate::step::Step;
 use crate::turn;
-use crsm_base::NoMemory;
+use crsm_base::{NoMemory, never};
 
-impl Site {
+impl Machine {
     /// One step, whose records are kept. The replica is up; one that is down answers `NoMemory`.
-    pub fn step(&mut self, coming: Coming<'_>, reading: u64) -> Result<Step, NoMemory>
-        requires { IsShort coming }
-        ensures stands { IfOk result (λ step. (me n : ℕ) (r : Replica) → SiteStands self.old me n (world.Site.Up r) →
-            Makes step (turn r (turn_of coming.entry, reading)) × SiteStands self.new me n (world.Site.Up (turn r (turn_of coming.entry, reading)).replica)) }
+    pub fn step(&mut self, arrival: Arrival<'_>, reading: u64) -> Result<Step, NoMemory>
+        requires { IsShort arrival }
+        ensures stands { IfOk result (λ step. WhereUp self.old (λ me n r.
+            Makes step (turn r (turn_of arrival.entry, reading)) × MachineStands self.new me n (world.Site.Up (turn r (turn_of arrival.entry, reading)).replica))) }
         ensures spelt { IfOk result (λ step. AllByRecursion FitsSent step.batch.sends) }
     {
-        sites_pend_nothing();
-        let step = self.take(coming, reading)?;
+        machines_pend_nothing();
+        let step = self.take(arrival, reading)?;
         self.flush()?;
         Ok(step)
     }
 
     /// One more step of some that `flush` keeps together, 32 at most. The replica is up; one that is down answers
     /// `NoMemory`.
-    #[tactic(auto, unfolding(crate::specs::Machine::SitePends))]
-    pub fn take(&mut self, coming: Coming<'_>, reading: u64) -> Result<Step, NoMemory>
-        requires { IsShort coming }
-        ensures stands { IfOk result (λ step. (me n : ℕ) (r : Replica) (steps : List Draft) → SitePends self.old me n r steps →
-            Makes step (turn r (turn_of coming.entry, reading)) × SitePends self.new me n (turn r (turn_of coming.entry, reading)).replica (steps ++ turn r (turn_of coming.entry, reading) ∷ [])) }
+    #[tactic(auto, unfolding(crate::specs::Machine::MachinePends))]
+    pub fn take(&mut self, arrival: Arrival<'_>, reading: u64) -> Result<Step, NoMemory>
+        requires { IsShort arrival }
+        ensures stands { IfOk result (λ step. (me n : ℕ) (r : Replica) (steps : List Draft) → MachinePends self.old me n r steps →
+            Makes step (turn r (turn_of arrival.entry, reading)) × MachinePends self.new me n (turn r (turn_of arrival.entry, reading)).replica (steps ++ turn r (turn_of arrival.entry, reading) ∷ [])) }
         ensures spelt { IfOk result (λ step. AllByRecursion FitsSent step.batch.sends) }
     {
         match &mut self.place {
-            Place::Up(shell) => {
-                let step = turn::take(shell, coming, reading)?;
-                Ok(step)
-            }
-            Place::Down(_) => Err(NoMemory),
-            Place::Spent => Err(NoMemory),
+            MachineState::Up(shell) => match turn::take(shell, arrival, reading) {
+                Ok(step) => Ok(step),
+                Err(why) => {
+                    // Half a step was made.
+                    self.place = MachineState::Spent;
+                    Err(why)
+                }
+            },
+            // A world delivers to what is up.
+            MachineState::Down(_) => Err(never()),
+            MachineState::Spent => Err(NoMemory),
         }
     }
 
     /// Keeps the records of the steps since the last `flush`.
-    #[tactic(auto, unfolding(crate::specs::Machine::SitePends, crate::specs::Machine::SiteStands))]
+    #[tactic(auto, unfolding(crate::specs::Machine::MachinePends, crate::specs::Machine::MachineStands))]
     pub fn flush(&mut self) -> Result<(), NoMemory>
-        ensures { OnOk result ((me n : ℕ) (r : Replica) (steps : List Draft) → SitePends self.old me n r steps → SiteStands self.new me n (world.Site.Up r)) }
+        ensures { OnOk result ((me n : ℕ) (r : Replica) (steps : List Draft) → MachinePends self.old me n r steps → MachineStands self.new me n (world.Site.Up r)) }
     {
         match &mut self.place {
-            Place::Up(shell) => {
-                turn::flush(shell)?;
-                Ok(())
-            }
-            Place::Down(_) => Err(NoMemory),
-            Place::Spent => Err(NoMemory),
+            MachineState::Up(shell) => match turn::flush(shell) {
+                Ok(()) => Ok(()),
+                Err(why) => {
+                    // Half a flush was made.
+                    self.place = MachineState::Spent;
+                    Err(why)
+                }
+            },
+            // A world flushes what is up.
+            MachineState::Down(_) => Err(never()),
+            MachineState::Spent => Err(NoMemory),
         }
     }
 }

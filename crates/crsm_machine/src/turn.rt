@@ -9,78 +9,88 @@ ghost use Rattle.crsm_spec.specs.Replica.{Replica};
 ghost use Rattle.crsm_spec.specs.Draft.{Draft};
 ghost use Rattle.crsm_spec.specs.Node.{turn};
 ghost use Rattle.crsm_machine.specs.Arriving.{turn_of, IsShort, Asks};
-ghost use Rattle.crsm_machine.specs.Inlets.{traffic_of};
+ghost use Rattle.crsm_machine.specs.PacketPorts.{traffic_of};
 ghost use Rattle.crsm_machine.specs.Outcomes.{Makes};
-ghost use Rattle.crsm_machine.specs.Machine.{IsUpAs};
+ghost use Rattle.crsm_machine.specs.States.{IsSomeUp, IsUpAs};
 
-use crate::coming::Coming;
-use crate::inlet::{Inlet, Letter};
-use crate::outlet::Outlet;
+use crate::arrival::Arrival;
+use crate::fixed_clock::FixedClock;
+use crate::packet_port::{PacketPort, Slot};
+use crate::sink_port::SinkPort;
 use crate::step::Step;
-use crate::still::Still;
-use crsm_base::NoMemory;
+use crsm_base::{NoMemory, never};
 use crsm_disk::MemDisk;
-use crsm_shell::{Shell, What};
+use crsm_shell::{Shell, TurnError, What};
 
 /// So many steps are kept together at most.
 const MOST_PENDING: u32 = 32;
 
 /// What is wanted of the shell where this comes, and the port that it takes it off.
-fn wanted(coming: Coming<'_>) -> (What, Inlet<'_>)
-    ensures { Asks coming.entry result.0 result.1 }
+fn wanted(arrival: Arrival<'_>) -> (What, PacketPort<'_>)
+    ensures { Asks arrival.entry result.0 result.1 }
 {
-    match coming {
-        Coming::Bytes { from, bytes } => (What::Receive, inlet(Letter::Waits { from, bytes })),
-        Coming::Tick => (What::Tick, inlet(Letter::Missing)),
-        Coming::Suspect(members) => (What::Suspect(members), inlet(Letter::Missing)),
+    match arrival {
+        Arrival::Bytes { from, bytes } => (What::Receive, packet_port(Slot::Waits { from, bytes })),
+        Arrival::Tick => (What::Tick, packet_port(Slot::Missing)),
+        Arrival::Suspect(members) => (What::Suspect(members), packet_port(Slot::Missing)),
     }
 }
 
-fn inlet(letter: Letter<'_>) -> Inlet<'_>
-    ensures { traffic_of result.letter ≡ traffic_of letter.entry }
+fn packet_port(slot: Slot<'_>) -> PacketPort<'_>
+    ensures { traffic_of result.slot ≡ traffic_of slot.entry }
 {
-    Inlet {
-        letter,
+    PacketPort {
+        slot,
         empties: 0,
         losses: 0,
     }
 }
 
-/// One more step, whose records are pending. A shell that has as many steps pending as it can, or whose port failed,
-/// does not come: a world delivers no more together, and the port is new.
+/// One more step, whose records are pending. The shell has not failed before, and its port does not fail.
 pub(crate) fn take(
     shell: &mut Shell<MemDisk>,
-    coming: Coming<'_>,
+    arrival: Arrival<'_>,
     reading: u64,
 ) -> Result<Step, NoMemory>
-    requires { IsShort coming }
+    requires short { IsShort arrival }
+    requires up { ∥ IsSomeUp shell.old ∥₁ }
     ensures stands { IfOk result (λ step. (me n : ℕ) (kept : Log) (r : Replica) (steps : List Draft) → IsUpAs me n shell.old kept r steps →
-        Makes step (turn r (turn_of coming.entry, reading)) × ((turn r (turn_of coming.entry, reading)).replica.log ≡ with_records r.log (turn r (turn_of coming.entry, reading)).batch)
-        × IsUpAs me n shell.new kept (turn r (turn_of coming.entry, reading)).replica (steps ++ turn r (turn_of coming.entry, reading) ∷ [])) }
+        Makes step (turn r (turn_of arrival.entry, reading)) × ((turn r (turn_of arrival.entry, reading)).replica.log ≡ with_records r.log (turn r (turn_of arrival.entry, reading)).batch)
+        × IsUpAs me n shell.new kept (turn r (turn_of arrival.entry, reading)).replica (steps ++ turn r (turn_of arrival.entry, reading) ∷ [])) }
     ensures spelt { IfOk result (λ step. AllByRecursion FitsSent step.batch.sends) }
 {
     if shell.pending() >= MOST_PENDING {
-        return Err(NoMemory);
+        // A world delivers no more together.
+        return Err(never());
     }
-    let (what, mut port) = wanted(coming);
-    let mut clock = Still { reading };
+    let (what, mut port) = wanted(arrival);
+    let mut clock = FixedClock { reading };
     match shell.take(what, &mut clock, &mut port) {
         Ok(turned) => Ok(Step {
             batch: turned.batch,
             size: turned.size,
         }),
-        Err(_) => Err(NoMemory),
+        Err(TurnError::Failed) => unreachable!(),
+        Err(TurnError::PortFault) => unreachable!(),
+        Err(TurnError::DiskFault) => unreachable!(),
+        Err(TurnError::LogFull) => unreachable!(),
+        Err(TurnError::NoMemory) => Err(NoMemory),
     }
 }
 
-/// Keeps the records of the pending steps. The disk does not fail and is not full: it is one in memory that no call
-/// fails of, and a world is full long before.
+/// Keeps the records of the pending steps. The shell has not failed before, and no call of its disk fails.
 pub(crate) fn flush(shell: &mut Shell<MemDisk>) -> Result<(), NoMemory>
+    requires { ∥ IsSomeUp shell.old ∥₁ }
     ensures { OnOk result ((me n : ℕ) (kept : Log) (r : Replica) (steps : List Draft) → IsUpAs me n shell.old kept r steps → IsUpAs me n shell.new r.log r []) }
 {
-    let mut port = Outlet { empties: 0 };
+    let mut port = SinkPort { empties: 0 };
     match shell.flush(&mut port) {
         Ok(()) => Ok(()),
-        Err(_) => Err(NoMemory),
+        Err(TurnError::Failed) => unreachable!(),
+        Err(TurnError::PortFault) => unreachable!(),
+        Err(TurnError::DiskFault) => unreachable!(),
+        // A world is full long before a log is.
+        Err(TurnError::LogFull) => Err(never()),
+        Err(TurnError::NoMemory) => Err(NoMemory),
     }
 }
