@@ -1,8 +1,8 @@
 """What a run of the merge gate costs: processor minutes for each crate by kind, and the longest chain of crates.
 
-    python3 bench/gate.py run LOG     runs `rt ci` at the top of the repository and writes what it says to LOG,
+    python3 bench/gate.py run LOG ..  runs `rt ci ..` at the top of the repository and writes what it says to LOG,
                                       with the processor time of each check behind it, also where it is stopped;
-                                      with --anew behind LOG it proves all, whatever was kept
+                                      --anew proves all, whatever was kept, and names of crates prove these alone
     python3 bench/gate.py LOG..       prints the table of such logs; of several, as where a run went on from what an
                                       earlier one had proved, the longest time of each kind of check counts
 
@@ -31,16 +31,28 @@ def kind_of(words, folder):
     return "program" if "src/main.rt" in words else "library"
 
 
-def checks():
-    """Each running check of the prover: its process, crate, kind and processor seconds so far."""
+def fields_of(pid):
+    """What the system says of a process behind its name: its parent is field 1, its times are fields 11 and 12."""
+    with open(f"/proc/{pid}/stat", encoding="utf-8", errors="replace") as file:
+        return file.read().rpartition(")")[2].split()
+
+
+def is_below(pid, gate):
+    """Whether a process was started by the gate, or by one that the gate started."""
+    while pid not in (0, gate):
+        pid = int(fields_of(pid)[1])
+    return pid == gate
+
+
+def checks(gate):
+    """Each running check of this gate: its process, crate, kind and processor seconds so far."""
     for pid in filter(str.isdigit, os.listdir("/proc")):
         try:
             with open(f"/proc/{pid}/cmdline", "rb") as file:
                 words = file.read().decode(errors="replace").split("\0")
-            if not words[0].endswith("/rattle") or "--crate-name" not in words:
+            if not words[0].endswith("/rattle") or "--crate-name" not in words or not is_below(int(pid), gate):
                 continue
-            with open(f"/proc/{pid}/stat", encoding="utf-8", errors="replace") as file:
-                fields = file.read().rpartition(")")[2].split()
+            fields = fields_of(pid)
             crate = words[words.index("--crate-name") + 1]
             seconds = (int(fields[11]) + int(fields[12])) / TICKS
             yield (pid, fields[19]), crate, kind_of(words, os.readlink(f"/proc/{pid}/cwd")), seconds
@@ -55,14 +67,14 @@ def run(log, words):
 
     def sample():
         while not ended.wait(0.25):
-            for process, crate, kind, seconds in checks():
+            for process, crate, kind, seconds in checks(gate.pid):
                 seen[process] = (crate, kind, seconds)
 
     sampler = threading.Thread(target=sample)
     began = time.monotonic()
     with open(log, "w", encoding="utf-8") as file:
-        sampler.start()
         gate = subprocess.Popen(["rt", "ci", *words], stdout=file, stderr=subprocess.STDOUT)
+        sampler.start()
         signal.signal(signal.SIGTERM, lambda *_: gate.terminate())
         status = gate.wait()
         ended.set()
@@ -148,7 +160,7 @@ def table(logs):
 def main():
     os.chdir(os.path.join(os.path.dirname(os.path.abspath(__file__)), ".."))
     words = sys.argv[1:]
-    if words[:1] == ["run"] and words[2:] in ([], ["--anew"]):
+    if words[:1] == ["run"] and len(words) > 1:
         return run(words[1], words[2:])
     if words and words[0] != "run":
         table(words)
