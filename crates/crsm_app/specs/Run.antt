@@ -1,5 +1,5 @@
 -- What a run does: how it stands in mid-stream, and what it did by its status.
-use Rattle.std.specs.Prelude.{◌≡◌, ℕ, ◌+◌, ◌≤◌, ◌⊎◌, List, [], ◌∷◌, ◌++◌, Option, length}
+use Rattle.std.specs.Prelude.{◌≡◌, ℕ, ◌+◌, ◌≤◌, ◌⊎◌, List, [], ◌∷◌, ◌++◌, Option, length, ◌<◌, Some, String, codes, map, string_bytes}
 use Rattle.crsm_io.specs.Streams.{Takes, Puts, PutsPrefix, AtEnd}
 use Rattle.crsm_text.specs.Words.{Lacks}
 use Rattle.crsm_world.specs.Schedule.{Schedule, IsSchedule, schedule_text, transcript, finals_text}
@@ -7,6 +7,7 @@ use Rattle.crsm_app.specs.State.{State, read_text, shown_text, whole_text, IsGoo
 use Rattle.crsm_app.specs.Refused.{BeginsBad}
 use Rattle.crsm_app.specs.declared.status.Cause.{Cause}
 use Rattle.crsm_app.specs.declared.status.Status.{Status}
+use Rattle.crsm_faults.specs.Counts.{Rose}
 
 -- In each of these the source had `before` and has `after` left, and the sink had `had` and has `has` written.
 
@@ -154,3 +155,27 @@ IsRefused line cause result = (result ≡ Status.BadInput line cause) ⊎ (resul
 -- too long, unless memory ran out
 abbrev pub IsTooLong : Status → Type 0
 IsTooLong result = (result ≡ Status.InputTooLong) ⊎ (result ≡ Status.NoMemory)
+
+-- the words are the single word `replay`
+abbrev pub IsReplay : {Z : Type 0} → List (String Z) → Type 0
+IsReplay words = map string_bytes words ≡ codes "replay" ∷ []
+
+-- they are, and no fault of the input or of the output was counted
+abbrev pub WhereReplayed : {Z : Type 0} → List (String Z) → (in_old in_new out_old out_new : ℕ) → Type 0 → Type 0
+WhereReplayed words in_old in_new out_old out_new P = IsReplay words → ¬ (Rose in_old in_new) → ¬ (Rose out_old out_new) → P
+
+-- for a schedule within the limit, where its text is what is left
+abbrev pub WhereSchedule : Option (List ℕ) → (Schedule → Type 0) → Type 0
+WhereSchedule left P = (s : Schedule) → IsSchedule s → left ≡ Some (schedule_text s) → length (schedule_text s) ≤ 1073741824 → P s
+
+-- for good lines and a bad one behind them, within the limit
+abbrev pub WhereBad : Option (List ℕ) → (Option Schedule → Cause → Type 0) → Type 0
+WhereBad left P =
+    (read : Option Schedule) (text more : List ℕ) (cause : Cause) → IsGood read → left ≡ Some (read_text read ++ (text ++ more)) →
+    BeginsBad read (Some more) cause text → length (read_text read ++ text) ≤ 1073741824 → P read cause
+
+-- for good lines up to the limit, with a part of a line, and more bytes behind it
+abbrev pub WhereTooLong : Option (List ℕ) → Type 0 → Type 0
+WhereTooLong left P =
+    (read : Option Schedule) (rest more : List ℕ) → IsGood read → Lacks 10 rest → length rest ≤ 16777216 →
+    length (read_text read ++ rest) ≡ 1073741824 → 0 < length more → left ≡ Some (read_text read ++ (rest ++ more)) → P

@@ -1,17 +1,14 @@
 //! The commands, by their words.
 
-ghost use Rattle.std.specs.Prelude.{◌≡◌, ◌≢◌, ◌<◌, ◌≤◌, ◌+◌, ◌↔◌, ◌++◌, ℕ, IsTrue, List, Option, Some, length, [], ◌∷◌, map, codes, string_bytes};
+ghost use Rattle.std.specs.Prelude.{◌≡◌, ◌≢◌, ◌<◌, ◌≤◌, ◌+◌, ◌↔◌, ℕ, IsTrue, List, Some, length};
 ghost use Rattle.crsm_faults.specs.Counts.{Rose};
-ghost use Rattle.crsm_text.specs.Words.{Lacks};
 ghost use Rattle.crsm_spec.specs.Safe.{Agreed, Answered, RealTime};
 ghost use Rattle.crsm_spec.specs.Decided.{DecisionsAgree};
 ghost use Rattle.crsm_spec.specs.Durable.{KeepsAnswered};
-ghost use Rattle.crsm_world.specs.Schedule.{Schedule, IsSchedule, ShowsAll, schedule_text, acts_of};
+ghost use Rattle.crsm_world.specs.Schedule.{Schedule, IsSchedule, ShowsAll, acts_of};
 ghost use Rattle.crsm_app.specs.Causes.{status_of};
-ghost use Rattle.crsm_app.specs.State.{IsGood, read_text, count_of};
-ghost use Rattle.crsm_app.specs.Refused.{BeginsBad};
-ghost use Rattle.crsm_app.specs.Run.{Ran, IsDone, IsRefused, IsTooLong};
-ghost use Rattle.crsm_app.specs.declared.status.Cause.{Cause};
+ghost use Rattle.crsm_app.specs.State.{count_of};
+ghost use Rattle.crsm_app.specs.Run.{Ran, IsDone, IsRefused, IsTooLong, IsReplay, WhereBad, WhereReplayed, WhereSchedule, WhereTooLong};
 
 use crate::replay::Replay;
 use crate::status::{Halt, Status};
@@ -105,7 +102,7 @@ fn replay<I: Source, O: Sink>(alloc: Global, input: &mut I, output: &mut O) -> S
 
 /// Whether the words are the single word `replay`.
 fn is_replay(words: &[String]) -> bool
-    ensures { IsTrue result ↔ (map string_bytes words.now ≡ codes "replay" ∷ []) }
+    ensures { IsTrue result ↔ IsReplay words.now }
 {
     match words {
         [word] => word.as_str() == "replay",
@@ -128,24 +125,16 @@ pub fn run<I: Source, O: Sink>(
     ensures write_fault { result ≡ Status.WriteFault → Rose (O.faults output.old) (O.faults output.new) }
 
     // The words are refused exactly where they are not that one word.
-    ensures usage { result ≡ Status.Usage ↔ ¬ (map string_bytes words.now ≡ codes "replay" ∷ []) }
+    ensures usage { result ≡ Status.Usage ↔ ¬ (IsReplay words.now) }
 
     // A schedule within the limit is done, where no fault was counted.
-    ensures complete { (s : Schedule) → IsSchedule s → I.left input.old ≡ Some (schedule_text s) → length (schedule_text s) ≤ MAX_INPUT_BYTES
-        → map string_bytes words.now ≡ codes "replay" ∷ []
-        → ¬ (Rose (I.faults input.old) (I.faults input.new)) → ¬ (Rose (O.faults output.old) (O.faults output.new)) → IsDone result }
+    ensures complete { WhereSchedule (I.left input.old) (λ s. WhereReplayed words.now (I.faults input.old) (I.faults input.new) (O.faults output.old) (O.faults output.new) (IsDone result)) }
 
     // An input that has a bad line within the limit is refused for the first one, where no fault was counted.
-    ensures refused { (read : Option Schedule) (text more : List ℕ) (cause : Cause) → IsGood read → I.left input.old ≡ Some (read_text read ++ (text ++ more))
-        → BeginsBad read (Some more) cause text → length (read_text read ++ text) ≤ MAX_INPUT_BYTES
-        → map string_bytes words.now ≡ codes "replay" ∷ []
-        → ¬ (Rose (I.faults input.old) (I.faults input.new)) → ¬ (Rose (O.faults output.old) (O.faults output.new)) → IsRefused (count_of read + 1) cause result }
+    ensures refused { WhereBad (I.left input.old) (λ read cause. WhereReplayed words.now (I.faults input.old) (I.faults input.new) (O.faults output.old) (O.faults output.new) (IsRefused (count_of read + 1) cause result)) }
 
     // An input whose lines are good up to the limit and that has more bytes is too long, where no fault was counted.
-    ensures too_long { (read : Option Schedule) (rest more : List ℕ) → IsGood read → Lacks 10 rest → length rest ≤ 16777216
-        → length (read_text read ++ rest) ≡ MAX_INPUT_BYTES → 0 < length more → I.left input.old ≡ Some (read_text read ++ (rest ++ more))
-        → map string_bytes words.now ≡ codes "replay" ∷ []
-        → ¬ (Rose (I.faults input.old) (I.faults input.new)) → ¬ (Rose (O.faults output.old) (O.faults output.new)) → IsTooLong result }
+    ensures too_long { WhereTooLong (I.left input.old) (WhereReplayed words.now (I.faults input.old) (I.faults input.new) (O.faults output.old) (O.faults output.new) (IsTooLong result)) }
 
     // An input beyond the limit is never done, and one within it is never too long.
     ensures limit { (bytes : List ℕ) → I.left input.old ≡ Some bytes → MAX_INPUT_BYTES < length bytes → result ≢ Status.Ok }

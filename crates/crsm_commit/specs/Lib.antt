@@ -4,3 +4,4 @@ pub mod Masks
 pub mod Places
 pub mod Pending
 pub mod Waiting
+pub mod Laws

@@ -1,5 +1,5 @@
 -- What the pending entries stand for, and which of them is ready.
-use Rattle.std.specs.Prelude.{◌≡◌, ℕ, ◌<◌, Bool, true, ◌&&◌, List, [], ◌∷◌, length, map, filter, slice_index_or, Option, None, Some, if◌then◌else◌}
+use Rattle.std.specs.Prelude.{◌≡◌, ℕ, ◌<◌, Bool, true, ◌&&◌, List, [], ◌∷◌, length, map, filter, slice_index_or, Option, None, Some, if◌then◌else◌, ◌≤◌}
 use Rattle.std.specs.Option.{option_map}
 use Rattle.crsm_base.specs.declared.Stamp.{Stamp}
 use Rattle.crsm_base.specs.declared.Entry.{Entry}
@@ -9,6 +9,9 @@ use Rattle.crsm_phase.specs.Owed.{IsAscending}
 use Rattle.crsm_commit.specs.Masks.{mask_at, mask_of}
 use Rattle.crsm_commit.specs.Waiting.{stamp_of, is_in}
 use Rattle.crsm_commit.specs.declared.pending.Pending.{Pending}
+use Rattle.std.specs.List.{AllByRecursion}
+use Rattle.crsm_commit.specs.Received.{HasReceived}
+use Rattle.crsm_commit.specs.declared.latest.Latest.{Latest}
 
 -- The value stands for the entries that were added and not taken, by ascending stamp, and for all votes, as far as
 -- they are for a stamp that is tracked.
@@ -27,3 +30,15 @@ may_commit spec members received votes s = is_replicated spec votes s && is_stab
 abbrev pub first_ready : List ℕ → List ℕ → List (ℕ × ℕ) → List (Stamp × ℕ) → List Entry → Option Stamp
 first_ready spec members received votes [] = None
 first_ready spec members received votes (e ∷ es) = if may_commit spec members received votes e.stamp then Some e.stamp else None
+
+-- for each tracking, entries and votes that the value stands for
+abbrev pub WhereStands : Pending → ((Stamp → Bool) → List Entry → List (Stamp × ℕ) → Type 0) → Type 0
+WhereStands pending P =
+    (tracked : Stamp → Bool) (waiting : List Entry) (votes : List (Stamp × ℕ)) →
+    StandsFor pending tracked waiting votes → P tracked waiting votes
+
+-- the same where these times were heard, of which each is 1 or more
+abbrev pub WhereHeard : Pending → Latest → ((Stamp → Bool) → List Entry → List (Stamp × ℕ) → List (ℕ × ℕ) → Type 0) → Type 0
+WhereHeard pending latest P =
+    (tracked : Stamp → Bool) (waiting : List Entry) (votes : List (Stamp × ℕ)) (received : List (ℕ × ℕ)) →
+    StandsFor pending tracked waiting votes → HasReceived latest received → AllByRecursion (λ h. 1 ≤ h.1) received → P tracked waiting votes received

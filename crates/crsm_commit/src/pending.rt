@@ -1,13 +1,12 @@
 //! Entries that are not executed yet, and when the least of them is ready.
 
-ghost use Rattle.std.specs.Prelude.{◌≡◌, ℕ, ◌<◌, ◌≤◌, Bool, true, false, ◌==◌, ◌&&◌, not, [], ◌∷◌, List, map, filter, find, is_some, IfOk, OnOk, OnErr, bit_or, ◌^◌, min};
+ghost use Rattle.std.specs.Prelude.{◌≡◌, ℕ, ◌<◌, Bool, true, ◌==◌, ◌&&◌, not, [], ◌∷◌, List, map, filter, find, is_some, OnOk, OnErr, bit_or, ◌^◌, min};
 ghost use Rattle.std.specs.List.{AllByRecursion};
 ghost use Rattle.crsm_base.specs.declared.Stamp.{Stamp};
 ghost use Rattle.crsm_base.specs.declared.Entry.{Entry};
 ghost use Rattle.crsm_base.specs.Order.{stamp_eq};
 ghost use Rattle.crsm_spec.specs.Log.{with_entry};
 ghost use Rattle.crsm_spec.specs.Ready.{votes_for};
-ghost use Rattle.crsm_commit.specs.Received.{HasReceived};
 ghost use Rattle.crsm_commit.specs.Least.{lesser_of, IsLeastFirst};
 ghost use Rattle.crsm_commit.specs.Masks.{mask_of};
 ghost use Rattle.crsm_commit.specs.Waiting.{stamp_of, is_at, without_entry};
@@ -34,7 +33,7 @@ pub struct Pending {
 }
 
 impl Pending {
-    ghost use Rattle.crsm_commit.specs.Pending.{StandsFor, first_ready};
+    ghost use Rattle.crsm_commit.specs.Pending.{StandsFor, WhereHeard, WhereStands, first_ready};
 
     /// Nothing is pending.
     pub fn new(alloc: Global) -> Pending
@@ -66,10 +65,8 @@ impl Pending {
 
     /// Adds an entry that was logged. An `Err` changes nothing.
     pub fn add(&mut self, entry: &Entry) -> Result<(), NoMemory>
-        ensures ok { OnOk result ((tracked : Stamp → Bool) (waiting : List Entry) (votes : List (Stamp × ℕ)) →
-            StandsFor self.old tracked waiting votes → StandsFor self.new tracked (with_entry entry.now waiting) votes) }
-        ensures err { OnErr result ((tracked : Stamp → Bool) (waiting : List Entry) (votes : List (Stamp × ℕ)) →
-            StandsFor self.old tracked waiting votes → StandsFor self.new tracked waiting votes) }
+        ensures ok { OnOk result (WhereStands self.old (λ tracked waiting votes. StandsFor self.new tracked (with_entry entry.now waiting) votes)) }
+        ensures err { OnErr result ((tracked : Stamp → Bool) (waiting : List Entry) (votes : List (Stamp × ℕ)) → StandsFor self.old tracked waiting votes → StandsFor self.new tracked waiting votes) }
     {
         let place = queue_of(entry.stamp.origin);
         self.queues[place].add(entry.stamp)?;
@@ -80,10 +77,8 @@ impl Pending {
     /// Replica k has logged the stamp, whether its entry was added or not. An `Err` changes nothing.
     pub fn voted(&mut self, stamp: Stamp, k: u32) -> Result<(), NoMemory>
         requires { k < 15 }
-        ensures ok { OnOk result ((tracked : Stamp → Bool) (waiting : List Entry) (votes : List (Stamp × ℕ)) →
-            StandsFor self.old tracked waiting votes → StandsFor self.new tracked waiting ((stamp, k) ∷ votes)) }
-        ensures err { OnErr result ((tracked : Stamp → Bool) (waiting : List Entry) (votes : List (Stamp × ℕ)) →
-            StandsFor self.old tracked waiting votes → StandsFor self.new tracked waiting votes) }
+        ensures ok { OnOk result (WhereStands self.old (λ tracked waiting votes. StandsFor self.new tracked waiting ((stamp, k) ∷ votes))) }
+        ensures err { OnErr result ((tracked : Stamp → Bool) (waiting : List Entry) (votes : List (Stamp × ℕ)) → StandsFor self.old tracked waiting votes → StandsFor self.new tracked waiting votes) }
     {
         let mask = with_vote(self.votes.of(stamp), k);
         self.votes.set(stamp, mask)?;
@@ -93,10 +88,7 @@ impl Pending {
     /// The stamp of the entry that is executed next, where it is ready: a majority of the Spec has logged it, each
     /// member's latest time has reached its time, and no entry that is pending has a lesser stamp.
     pub fn ready(&self, latest: &Latest, members: &Members, spec: &Members) -> Option<Stamp>
-        ensures { (tracked : Stamp → Bool) (waiting : List Entry) (votes : List (Stamp × ℕ)) (received : List (ℕ × ℕ)) →
-            StandsFor self.now tracked waiting votes → HasReceived latest.now received → AllByRecursion (λ h. 1 ≤ h.1) received →
-            AllByRecursion (λ e. tracked e.stamp ≡ true) waiting →
-            result ≡ first_ready spec.now members.now received votes waiting }
+        ensures { WhereHeard self.now latest.now (λ tracked waiting votes received. AllByRecursion (λ e. tracked e.stamp ≡ true) waiting → result ≡ first_ready spec.now members.now received votes waiting) }
     {
         let stamp = self.first?;
         // Mostly this is what is waited for, so it is looked at first.
@@ -113,11 +105,8 @@ impl Pending {
 
     /// Takes the entry of this stamp, which is tracked no more from then on, and answers whether one was pending.
     pub fn take(&mut self, stamp: Stamp) -> bool
-        ensures entry { (tracked : Stamp → Bool) (waiting : List Entry) (votes : List (Stamp × ℕ)) →
-            StandsFor self.old tracked waiting votes → result ≡ is_some (find (is_at stamp) waiting) }
-        ensures rest { (tracked : Stamp → Bool) (waiting : List Entry) (votes : List (Stamp × ℕ)) →
-            StandsFor self.old tracked waiting votes →
-            StandsFor self.new (λ s. tracked s && not (stamp_eq stamp s)) (without_entry stamp waiting) votes }
+        ensures entry { WhereStands self.old (λ tracked waiting votes. result ≡ is_some (find (is_at stamp) waiting)) }
+        ensures rest { WhereStands self.old (λ tracked waiting votes. StandsFor self.new (λ s. tracked s && not (stamp_eq stamp s)) (without_entry stamp waiting) votes) }
     {
         let place = queue_of(stamp.origin);
         let taken = self.queues[place].remove(stamp).is_some();
@@ -129,9 +118,7 @@ impl Pending {
     /// The stamps of the pending entries of an origin, in rising time.
     pub fn queue(&self, origin: u32) -> &[Stamp]
         requires { origin < 15 }
-        ensures { (tracked : Stamp → Bool) (waiting : List Entry) (votes : List (Stamp × ℕ)) →
-            StandsFor self.now tracked waiting votes →
-            result.now ≡ map stamp_of (filter (λ e. e.stamp.origin == origin) waiting) }
+        ensures { WhereStands self.now (λ tracked waiting votes. result.now ≡ map stamp_of (filter (λ e. e.stamp.origin == origin) waiting)) }
     {
         self.queues[origin as usize].as_slice()
     }

@@ -1,1 +1,2 @@
 pub mod Coordinator
+pub mod Stages

@@ -1,15 +1,15 @@
 //! How a coordinator changes.
 
-ghost use Rattle.std.specs.Prelude.{◌≡◌, ◌<◌, ◌+◌, ℕ, Option, Some, List, [], ◌∷◌, ◌++◌, true, false, map, length, IfOk};
+ghost use Rattle.std.specs.Prelude.{◌≡◌, ◌<◌, ◌+◌, ℕ, Option, Some, [], ◌∷◌, ◌++◌, true, IfOk};
 ghost use Rattle.crsm_base.specs.declared.Decision.{Decision};
 ghost use Rattle.crsm_base.specs.declared.Ballot.{Ballot};
 ghost use Rattle.crsm_base.specs.Messages.{FitsVote};
 ghost use Rattle.crsm_base.specs.Spelling.{FitsBallot, FitsOption};
 ghost use Rattle.crsm_spec.specs.Lists.{has};
-ghost use Rattle.crsm_spec.specs.Paxos.{Answer};
-ghost use Rattle.crsm_spec.specs.Quorum.{spec_decided, has_majority};
+ghost use Rattle.crsm_spec.specs.Quorum.{spec_decided};
 ghost use Rattle.crsm_spec.specs.Replica.{Coordinator as CoordinatorOnPaper};
-ghost use Rattle.crsm_coordinator.specs.Coordinator.{CoordinatorStands, IsOwn, VotedIs, answered, preempted_by, WhereStands};
+ghost use Rattle.crsm_coordinator.specs.Coordinator.{CoordinatorStands, IsOwn, VotedIs, preempted_by, WhereStands};
+ghost use Rattle.crsm_coordinator.specs.Stages.{AnsweredIs, WhereNextRound, WherePreempted, WhereProposing, WhereUnanswered, answer_of};
 
 use crate::coordinator::{Coordinator, Voted};
 use crate::readers::is_chosen_with;
@@ -44,7 +44,7 @@ impl Coordinator {
         accepted: Option<(Ballot, Decision)>,
     ) -> Result<Coordinator, NoMemory>
         requires { me < 15 }
-        ensures { (n round : ℕ) (known : Option Decision) → IsOwn me n known own → spec.now ≡ spec_decided n known → FitsOption FitsVote accepted → round ≡ above.round + 1 → FitsBallot (record { round = round; by = me }) → IfOk result (λ coordinator. CoordinatorStands coordinator me n known (answered (spec_decided n known) (record { round = round; by = me }) own (record { replica = me; accepted = accepted } ∷ []))) }
+        ensures { WhereNextRound me own spec.now above accepted (λ n known b. IfOk result (λ coordinator. AnsweredIs coordinator me n known b own (answer_of me accepted ∷ []))) }
     {
         let size = spec.count();
         let mut proposer = match Proposer::start(alloc, own, above, me, size) {
@@ -64,7 +64,7 @@ impl Coordinator {
         accepted: Option<(Ballot, Decision)>,
     ) -> Result<Coordinator, NoMemory>
         requires { k < 15 }
-        ensures { (me n : ℕ) (known : Option Decision) (b : Ballot) (own : Decision) (answers : List (Answer Decision)) → CoordinatorStands self me n known (CoordinatorOnPaper.Preparing b own answers) → has (spec_decided n known) k ≡ true → has (map (λ f. f.replica) answers) k ≡ false → FitsOption FitsVote accepted → IfOk result (λ coordinator. CoordinatorStands coordinator me n known (answered (spec_decided n known) b own (answers ++ record { replica = k; accepted = accepted } ∷ []))) }
+        ensures { WhereUnanswered self k (λ me n known b own answers. FitsOption FitsVote accepted → IfOk result (λ coordinator. AnsweredIs coordinator me n known b own (answers ++ answer_of k accepted ∷ []))) }
     {
         match self {
             Coordinator::Proposing(mut proposer) => {
@@ -79,7 +79,7 @@ impl Coordinator {
     /// Counts the vote of a replica, once.
     pub fn with_vote(self, k: u32) -> Result<Voted, NoMemory>
         requires { k < 15 }
-        ensures { (me n : ℕ) (known : Option Decision) (b : Ballot) (own value : Decision) (acceptors : List ℕ) → CoordinatorStands self me n known (CoordinatorOnPaper.Proposing b own value acceptors) → has (spec_decided n known) k ≡ true → IfOk result (λ voted. VotedIs voted me n known b own value (k ∷ acceptors)) }
+        ensures { WhereProposing self (λ me n known b own value acceptors. has (spec_decided n known) k ≡ true → IfOk result (λ voted. VotedIs voted me n known b own value (k ∷ acceptors))) }
     {
         match self {
             Coordinator::Proposing(mut proposer) => {
@@ -109,7 +109,7 @@ impl Coordinator {
 
     /// The decision of one's own that is to be proposed again, and the ballot that was seen.
     pub fn into_own(self) -> Option<(Decision, Ballot)>
-        ensures { (me n : ℕ) (known : Option Decision) (own : Decision) (seen : Ballot) → CoordinatorStands self me n known (CoordinatorOnPaper.Preempted own seen) → (result ≡ Some (own, seen)) × IsOwn me n known own × FitsBallot seen }
+        ensures { WherePreempted self (λ me n known own seen. (result ≡ Some (own, seen)) × IsOwn me n known own × FitsBallot seen) }
     {
         match self {
             Coordinator::Preempted { own, seen } => Some((own, seen)),

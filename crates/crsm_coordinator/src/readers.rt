@@ -1,14 +1,12 @@
 //! What a coordinator says.
 
-ghost use Rattle.std.specs.Prelude.{◌≡◌, ◌&&◌, ℕ, Option, List, [], ◌∷◌, ◌++◌, true, false, not, map};
-ghost use Rattle.crsm_base.specs.declared.Decision.{Decision};
+ghost use Rattle.std.specs.Prelude.{◌≡◌, ◌&&◌, Option, [], ◌∷◌, ◌++◌, true, false, not, map};
 ghost use Rattle.crsm_base.specs.declared.Ballot.{Ballot};
 ghost use Rattle.crsm_base.specs.Order.{ballot_eq, ballot_lt};
 ghost use Rattle.crsm_spec.specs.Lists.{has};
-ghost use Rattle.crsm_spec.specs.Paxos.{Answer};
 ghost use Rattle.crsm_spec.specs.Quorum.{spec_decided, has_majority};
-ghost use Rattle.crsm_spec.specs.Replica.{Coordinator as CoordinatorOnPaper};
-ghost use Rattle.crsm_coordinator.specs.Coordinator.{CoordinatorStands, takes_answer, takes_vote, is_ended_by, ballot_of, is_chosen_with, stage_of, WhereStands};
+ghost use Rattle.crsm_coordinator.specs.Coordinator.{takes_answer, takes_vote, is_ended_by, ballot_of, is_chosen_with, stage_of, WhereStands};
+ghost use Rattle.crsm_coordinator.specs.Stages.{WhereAnswerCounts, WhereProposing};
 
 use crate::coordinator::{Coordinator, Stage};
 use crsm_base::{Ballot, ballot_precedes, is_same_ballot};
@@ -69,7 +67,7 @@ impl Coordinator {
 
     /// Whether one more promise, of a replica that is counted, makes a majority.
     pub fn is_last_answer(&self) -> bool
-        ensures { (me n : ℕ) (known : Option Decision) (b : Ballot) (own : Decision) (answers : List (Answer Decision)) (a : Answer Decision) → CoordinatorStands self.now me n known (CoordinatorOnPaper.Preparing b own answers) → has (spec_decided n known) a.replica ≡ true → has (map (λ f. f.replica) answers) a.replica ≡ false → result ≡ has_majority (spec_decided n known) (map (λ f. f.replica) (answers ++ a ∷ [])) }
+        ensures { WhereAnswerCounts self.now (λ me n known answers a. result ≡ has_majority (spec_decided n known) (map (λ f. f.replica) (answers ++ a ∷ []))) }
     {
         match self {
             Coordinator::Proposing(proposer) => proposer.is_last_promise(),
@@ -79,7 +77,7 @@ impl Coordinator {
 
     /// Whether the vote of a replica that is counted makes a majority, with those before.
     pub fn is_last_vote(&self, k: u32) -> bool
-        ensures { (me n : ℕ) (known : Option Decision) (b : Ballot) (own value : Decision) (acceptors : List ℕ) → CoordinatorStands self.now me n known (CoordinatorOnPaper.Proposing b own value acceptors) → has (spec_decided n known) k ≡ true → result ≡ has_majority (spec_decided n known) (k ∷ acceptors) }
+        ensures { WhereProposing self.now (λ me n known b own value acceptors. has (spec_decided n known) k ≡ true → result ≡ has_majority (spec_decided n known) (k ∷ acceptors)) }
     {
         match self {
             Coordinator::Proposing(proposer) => is_chosen_with(proposer, k),

@@ -10,7 +10,7 @@ ghost use Rattle.crsm_spec.specs.Replica.{members_of, latest_from};
 ghost use Rattle.crsm_spec.specs.Draft.{Draft};
 ghost use Rattle.crsm_spec.specs.Frames as frames;
 ghost use Rattle.crsm_spec.specs.Step.{if_fitting};
-ghost use Rattle.crsm_replica.specs.Replica.{StandsFor};
+ghost use Rattle.crsm_replica.specs.Replica.{StandsFor, WhereLater};
 ghost use Rattle.crsm_reconfigure.specs.Receiving.{FollowsFrom};
 ghost use Rattle.crsm_reconfigure.specs.Rules.{Follows};
 
@@ -107,8 +107,7 @@ fn is_wrong(state: &ReplicaState, k: u32, payload: &InEpoch) -> bool
 fn take_frame(state: &mut ReplicaState, k: u32, payload: &InEpoch) -> Result<(), NoMemory>
     requires from { k < 15 }
     requires spelt { FitsPayload payload.now }
-    ensures { IfOk result (λ _. (x : Draft) → StandsFor state.old x → k ≢ x.replica.me → latest_from x.replica.received k < frames.time_of payload.now →
-        StandsFor state.new (if_fitting x (frames.take_frame k payload.now x))) }
+    ensures { IfOk result (λ _. WhereLater state.old k (frames.time_of payload.now) (λ x. StandsFor state.new (if_fitting x (frames.take_frame k payload.now x)))) }
 {
     states_are_sound();
     match payload {
@@ -134,8 +133,7 @@ fn take_frame(state: &mut ReplicaState, k: u32, payload: &InEpoch) -> Result<(),
 fn take_prepare(state: &mut ReplicaState, k: u32, entry: &Entry) -> Result<(), NoMemory>
     requires from { k < 15 }
     requires spelt { FitsEntry entry.now }
-    ensures { IfOk result (λ _. (x : Draft) → StandsFor state.old x → k ≢ x.replica.me → latest_from x.replica.received k < entry.now.stamp.time →
-        StandsFor state.new (if_fitting x (frames.take_frame k (Payload.Prepare entry.now) x))) }
+    ensures { IfOk result (λ _. WhereLater state.old k entry.now.stamp.time (λ x. StandsFor state.new (if_fitting x (frames.take_frame k (Payload.Prepare entry.now) x)))) }
 {
     let me = state.me();
     if !log_entry(state, entry)? {

@@ -11,6 +11,7 @@ use Rattle.crsm_commit.specs.Received.{HasReceived}
 use Rattle.crsm_commit.specs.Pending.{StandsFor}
 use Rattle.crsm_epoch_state.specs.Linked.{LinksStand}
 use Rattle.crsm_epoch_state.specs.declared.state.EpochState.{EpochState}
+use Rattle.crsm_spec.specs.Clock.{issue}
 
 -- each record fits behind those before it
 abbrev pub EachFits : ℕ → ℕ → Log → Type 0
@@ -48,3 +49,7 @@ Runs running r = RunsInside running r
 -- for each replica whose epoch this is the state of
 abbrev pub WhereRuns : EpochState → (Replica → Type 0) → Type 0
 WhereRuns running P = (r : Replica) → Runs running r → P r
+
+-- at this reading of its clock the replica issues this time
+abbrev pub IssuesAt : ℕ → ℕ → Replica → Type 0
+IssuesAt reading time r = issue (last_issued r) reading ≡ Some time

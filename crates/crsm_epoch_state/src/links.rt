@@ -1,10 +1,10 @@
 //! The links with all other replicas.
 
-ghost use Rattle.std.specs.Prelude.{◌≡◌, ◌<◌, ◌≤◌, nat_le, ◌∷◌, ◌++◌, [], length, map, take, IfOk};
+ghost use Rattle.std.specs.Prelude.{◌≡◌, ◌<◌, ◌≤◌, nat_le, ◌∷◌, [], length, take, IfOk};
 ghost use Rattle.std.specs.List.{list_any};
 ghost use Rattle.crsm_base.specs.Limits.{most_again, most_frames};
-ghost use Rattle.crsm_spec.specs.Replica.{Replica, members_of, last_issued, latest_from, frames_to, next_from, unacked, is_congested};
-ghost use Rattle.crsm_epoch_state.specs.Linked.{LinksStand, others_of};
+ghost use Rattle.crsm_spec.specs.Replica.{Replica, last_issued, latest_from, frames_to, next_from, unacked, is_congested};
+ghost use Rattle.crsm_epoch_state.specs.Linked.{LinksStand, others_of, pushed_at};
 
 use crate::link::Link;
 use crsm_base::{InEpoch, MAX_LINK_FRAMES, Members, NoMemory};
@@ -97,8 +97,7 @@ impl Links {
         time: u64,
         payload: &InEpoch,
     ) -> Result<(), NoMemory>
-        ensures { IfOk result (λ _. (r : Replica) → LinksStand self.old r → last_issued r < time →
-            LinksStand self.new (record r { issued = time ∷ r.issued; pushed = r.pushed ++ map (λ k. (k, payload.now)) (others_of me members.now) })) }
+        ensures { IfOk result (λ _. (r : Replica) → LinksStand self.old r → last_issued r < time → LinksStand self.new (pushed_at time payload.now (others_of me members.now) r)) }
     {
         for member in members.as_slice() {
             if *member != me {

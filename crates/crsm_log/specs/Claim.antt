@@ -1,11 +1,11 @@
 -- How a log is claimed for a cluster.
-use Rattle.std.specs.Prelude.{◌≡◌, ◌≢◌, ◌⊎◌, ℕ, ◌+◌, ◌<◌, List, [], ◌++◌, Bool, false, not, Option, Some, None, if◌then◌else◌, ◌==◌}
+use Rattle.std.specs.Prelude.{◌≡◌, ◌≢◌, ◌⊎◌, ℕ, ◌+◌, ◌<◌, List, [], ◌++◌, Bool, false, not, Option, Some, None, if◌then◌else◌, ◌==◌, IsTrue}
 use Rattle.crsm_base.specs.declared.limits.TheConstants.{MAX_LOG_BYTES}
 use Rattle.crsm_faults.specs.Plan.{Plan}
 use Rattle.crsm_image.specs.Calls.{Call}
 use Rattle.crsm_disk.specs.Meaning.{LeavesOnly, Meaning, Only}
 use Rattle.crsm_log.specs.Format.{bad, bodies_of, cluster_entry, cluster_of, found, gate_in, reading}
-use Rattle.crsm_log.specs.Log.{IsAsBefore, MeetsIn, Serves, Used, entry_calls, mount_calls, mount_count, recorded}
+use Rattle.crsm_log.specs.Log.{IsAsBefore, MeetsIn, Serves, Used, entry_calls, mount_calls, mount_count, recorded, IsSettled}
 use Rattle.crsm_log.specs.declared.entry.Held.{Held}
 use Rattle.crsm_log.specs.declared.errors.ClaimError.{ClaimError}
 use Rattle.crsm_log.specs.declared.errors.ClaimError.TheVariants.{DiskFault, BadGate, OtherCluster, Full, NoMemory}
@@ -86,3 +86,11 @@ pub record RefusesClaim (old new : Meaning) (cluster : ℕ) (why : ClaimError) :
   pub as_before : (why ≡ DiskFault → ⊥) → LeavesOnly old new (IsAsBefore old)
   pub good : why ≡ DiskFault → MeetsIn (claim_count old.seen cluster) old.plan
   pub served : IsOfContent why → (p : Plan) → old.plan ≡ Some p → Serves 3 p.good
+
+-- where an honest disk names no cluster, its closed gate is at this place, and it is to be claimed for a number but 0
+abbrev pub WhereUnclaimed : ℕ → Meaning → ℕ → Type 0 → Type 0
+WhereUnclaimed cluster old gate P = cluster ≢ 0 → cluster_of old.seen ≡ None → IsTrue old.honest → IsSettled old gate → P
+
+-- it names the cluster, has the bodies of before, and the closed gate is behind the entry
+abbrev pub AddsCluster : Meaning → Meaning → ℕ → ℕ → Type 0
+AddsCluster old new gate cluster = IsSettled new (gate + 13) × (reading new.seen ≡ reading old.seen) × (cluster_of new.seen ≡ Some cluster)

@@ -6,7 +6,7 @@ use Rattle.crsm_faults.specs.Counts.{Rose}
 use Rattle.crsm_faults.specs.Plan.{Plan}
 use Rattle.crsm_image.specs.Calls.{Call, wrote, cut, synced, History, noted}
 use Rattle.crsm_disk.specs.Meaning.{LeavesOnly, Meaning, Only}
-use Rattle.crsm_log.specs.Format.{found, bad, reading, bodies_of, body_entry, cluster_of, gate_in, items_of, four_bytes, has_after, length_of, may_stand, whole, Entry}
+use Rattle.crsm_log.specs.Format.{found, bad, reading, bodies_of, body_entry, cluster_of, gate_in, items_of, four_bytes, has_after, length_of, may_stand, whole, Entry, entries_of}
 use Rattle.crsm_log.specs.declared.errors.MountError.{MountError}
 use Rattle.crsm_log.specs.declared.errors.MountError.TheVariants.{DiskFault, BadGate}
 
@@ -164,3 +164,25 @@ pub record ServesPut (gate bytes : ℕ) (m : Meaning) (p : Plan) : Type 0 where
   pub inside : gate < length m.seen
   pub calls : 4 ≤ p.calls
   pub written : bytes ≤ p.bytes
+
+-- a crash leaves what is seen
+abbrev pub IsDurable : Meaning → Type 0
+IsDurable m = Only m.seen m.may_leave
+
+-- for an entry of these bytes that may stand behind those of an honest disk, whose closed gate is at this place
+abbrev pub WhereEntryMayStand : List ℕ → Meaning → ℕ → (Entry → Type 0) → Type 0
+WhereEntryMayStand bytes old gate P =
+    (e : Entry) → bytes ≡ entry_bytes e → IsTrue old.honest → IsSettled old gate → Follows (entries_of old.seen) e → P e
+
+-- it stands there, and the closed gate is behind it
+abbrev pub AddsEntry : Meaning → Meaning → ℕ → Entry → Type 0
+AddsEntry old new gate e = IsSettled new (gate + 5 + length e.bytes) × (items_of new.seen ≡ whole (entries_of old.seen ++ e ∷ []))
+
+-- for a body whose entry has these bytes, where its length has a field
+abbrev pub WhereBodyMayStand : List ℕ → Meaning → ℕ → (List ℕ → Type 0) → Type 0
+WhereBodyMayStand bytes old gate P =
+    (body : List ℕ) → bytes ≡ entry_bytes (body_entry body) → length body < 2147483648 → IsTrue old.honest → IsSettled old gate → P body
+
+-- it stands there, and the closed gate is behind it
+abbrev pub AddsBody : Meaning → Meaning → ℕ → List ℕ → Type 0
+AddsBody old new gate body = IsSettled new (gate + 5 + length body) × (reading new.seen ≡ found (bodies_of old.seen ++ body ∷ []))

@@ -1,14 +1,14 @@
 //! The calls of a disk that a log makes.
 
-ghost use Rattle.std.specs.Prelude.{◌≡◌, ◌≢◌, ◌+◌, ◌-◌, ◌^◌, ◌<◌, ◌≤◌, ℕ, List, [], ◌∷◌, ◌++◌, length, false, true, IsTrue, IfOk, IfErr, OnOk, OnErr, IsErrOf, MatchResult, Some, None};
+ghost use Rattle.std.specs.Prelude.{◌≡◌, ◌+◌, ◌-◌, ◌^◌, ◌<◌, ◌≤◌, ℕ, List, [], ◌∷◌, length, IsTrue, IfOk, IfErr, OnOk, IsErrOf, Some, None};
 ghost use Rattle.crsm_image.specs.Bytes.{overwritten, Torn};
 ghost use Rattle.crsm_faults.specs.Counts.{Rose};
 ghost use Rattle.crsm_faults.specs.Plan.{Plan, spent};
 ghost use Rattle.crsm_image.specs.Calls.{wrote, synced};
-ghost use Rattle.crsm_disk.specs.Meaning.{LeavesOnly, Meaning, Only};
-ghost use Rattle.crsm_log.specs.Format.{Entry, body_entry, bodies_of, cluster_entry, cluster_of, entries_of, found, items_of, reading, whole};
-ghost use Rattle.crsm_log.specs.Claim.{Holds, IsClaimed};
-ghost use Rattle.crsm_log.specs.Log.{Follows, HasCluster, IsSettled, IsBeforeOrAfter, IsAsBefore, IsWithOrWithout, entry_bytes, entry_calls, Goes, StopsAt, Ran, HasPlace, Serves, ServesPut, put_calls, recorded, mount_calls, mount_count, Mounts, Refuses, Fetches, MeetsIn, less};
+ghost use Rattle.crsm_disk.specs.Meaning.{LeavesOnly};
+ghost use Rattle.crsm_log.specs.Format.{Entry, body_entry, bodies_of, cluster_entry, cluster_of, entries_of};
+ghost use Rattle.crsm_log.specs.Claim.{Holds, IsClaimed, AddsCluster, WhereUnclaimed};
+ghost use Rattle.crsm_log.specs.Log.{HasCluster, IsBeforeOrAfter, IsAsBefore, IsWithOrWithout, entry_bytes, entry_calls, Goes, Ran, HasPlace, ServesPut, put_calls, Mounts, Refuses, Fetches, MeetsIn, less, AddsBody, AddsEntry, IsDurable, WhereBodyMayStand, WhereEntryMayStand};
 ghost use Rattle.crsm_log.specs.declared.errors.MountError.TheVariants.{DiskFault, BadGate};
 
 use crate::entry::{Held, cluster_entry_of, read_entries};
@@ -23,9 +23,8 @@ pub(crate) fn write_and_sync<D: Disk>(disk: &mut D, at: u64, bytes: &[u8]) -> Re
     ensures plan { (p : Plan) → (D.meaning disk.old).plan ≡ Some p
         → OnOk result ((D.meaning disk.new).plan ≡ Some (spent 1 0 (spent 1 ((at - length (D.meaning disk.old).seen) + length bytes.now) p))) }
     ensures written { IsTrue (D.meaning disk.old).honest → OnOk result ((D.meaning disk.new).seen ≡ overwritten (D.meaning disk.old).seen at bytes.now) }
-    ensures durable { IsTrue (D.meaning disk.old).honest → OnOk result (Only (D.meaning disk.new).seen (D.meaning disk.new).may_leave) }
-    ensures any_moment { IsTrue (D.meaning disk.old).honest → Only (D.meaning disk.old).seen (D.meaning disk.old).may_leave
-        → LeavesOnly (D.meaning disk.old) (D.meaning disk.new) (Torn at (length bytes.now) (D.meaning disk.old).seen) }
+    ensures durable { IsTrue (D.meaning disk.old).honest → OnOk result (IsDurable (D.meaning disk.new)) }
+    ensures any_moment { IsTrue (D.meaning disk.old).honest → IsDurable (D.meaning disk.old) → LeavesOnly (D.meaning disk.old) (D.meaning disk.new) (Torn at (length bytes.now) (D.meaning disk.old).seen) }
 {
     disk.write_at(at, bytes)?;
     disk.sync()?;
@@ -38,10 +37,8 @@ pub(crate) fn write_entry<D: Disk>(disk: &mut D, gate: u64, bytes: &[u8]) -> Res
     ensures ran { (e : Entry) → bytes.now ≡ entry_bytes e
         → Ran (entry_calls gate e) (ServesPut gate (length bytes.now + 1) (D.meaning disk.old)) (D.meaning disk.old) (D.meaning disk.new) result }
     ensures left { (p : Plan) → (D.meaning disk.old).plan ≡ Some p → OnOk result ((q : Plan) × ((D.meaning disk.new).plan ≡ Some q) × (q.good ≡ less 4 p.good)) }
-    ensures settled { (e : Entry) → bytes.now ≡ entry_bytes e → IsTrue (D.meaning disk.old).honest → IsSettled (D.meaning disk.old) gate → Follows (entries_of (D.meaning disk.old).seen) e
-        → OnOk result (IsSettled (D.meaning disk.new) (gate + 5 + length e.bytes) × (items_of (D.meaning disk.new).seen ≡ whole (entries_of (D.meaning disk.old).seen ++ e ∷ []))) }
-    ensures any_moment { (e : Entry) → bytes.now ≡ entry_bytes e → IsTrue (D.meaning disk.old).honest → IsSettled (D.meaning disk.old) gate → Follows (entries_of (D.meaning disk.old).seen) e
-        → LeavesOnly (D.meaning disk.old) (D.meaning disk.new) (IsWithOrWithout (entries_of (D.meaning disk.old).seen) e) }
+    ensures settled { WhereEntryMayStand bytes.now (D.meaning disk.old) gate (λ e. OnOk result (AddsEntry (D.meaning disk.old) (D.meaning disk.new) gate e)) }
+    ensures any_moment { WhereEntryMayStand bytes.now (D.meaning disk.old) gate (λ e. LeavesOnly (D.meaning disk.old) (D.meaning disk.new) (IsWithOrWithout (entries_of (D.meaning disk.old).seen) e)) }
 {
     write_and_sync(disk, gate + 1, bytes)?;
     write_and_sync(disk, gate, &[1])?;
@@ -54,12 +51,9 @@ pub(crate) fn write_body<D: Disk>(disk: &mut D, gate: u64, bytes: &[u8]) -> Resu
     ensures ran { (body : List ℕ) → bytes.now ≡ entry_bytes (body_entry body)
         → Ran (put_calls gate body) (ServesPut gate (length bytes.now + 1) (D.meaning disk.old)) (D.meaning disk.old) (D.meaning disk.new) result }
     ensures left { (p : Plan) → (D.meaning disk.old).plan ≡ Some p → OnOk result ((q : Plan) × ((D.meaning disk.new).plan ≡ Some q) × (q.good ≡ less 4 p.good)) }
-    ensures settled { (body : List ℕ) → bytes.now ≡ entry_bytes (body_entry body) → length body < 2147483648 → IsTrue (D.meaning disk.old).honest → IsSettled (D.meaning disk.old) gate
-        → OnOk result (IsSettled (D.meaning disk.new) (gate + 5 + length body) × (reading (D.meaning disk.new).seen ≡ found (bodies_of (D.meaning disk.old).seen ++ body ∷ []))) }
-    ensures any_moment { (body : List ℕ) → bytes.now ≡ entry_bytes (body_entry body) → length body < 2147483648 → IsTrue (D.meaning disk.old).honest → IsSettled (D.meaning disk.old) gate
-        → LeavesOnly (D.meaning disk.old) (D.meaning disk.new) (IsBeforeOrAfter (bodies_of (D.meaning disk.old).seen) body) }
-    ensures cluster { (body : List ℕ) → bytes.now ≡ entry_bytes (body_entry body) → length body < 2147483648 → IsTrue (D.meaning disk.old).honest → IsSettled (D.meaning disk.old) gate
-        → LeavesOnly (D.meaning disk.old) (D.meaning disk.new) (HasCluster (cluster_of (D.meaning disk.old).seen)) }
+    ensures settled { WhereBodyMayStand bytes.now (D.meaning disk.old) gate (λ body. OnOk result (AddsBody (D.meaning disk.old) (D.meaning disk.new) gate body)) }
+    ensures any_moment { WhereBodyMayStand bytes.now (D.meaning disk.old) gate (λ body. LeavesOnly (D.meaning disk.old) (D.meaning disk.new) (IsBeforeOrAfter (bodies_of (D.meaning disk.old).seen) body)) }
+    ensures cluster { WhereBodyMayStand bytes.now (D.meaning disk.old) gate (λ body. LeavesOnly (D.meaning disk.old) (D.meaning disk.new) (HasCluster (cluster_of (D.meaning disk.old).seen))) }
 {
     write_entry(disk, gate, bytes)
 }
@@ -69,10 +63,8 @@ pub(crate) fn write_cluster<D: Disk>(disk: &mut D, gate: u64, cluster: u64) -> R
     requires { gate < 2 ^ 33 }
     ensures ran { Ran (entry_calls gate (cluster_entry cluster)) (ServesPut gate 14 (D.meaning disk.old)) (D.meaning disk.old) (D.meaning disk.new) result }
     ensures left { (p : Plan) → (D.meaning disk.old).plan ≡ Some p → OnOk result ((q : Plan) × ((D.meaning disk.new).plan ≡ Some q) × (q.good ≡ less 4 p.good)) }
-    ensures settled { cluster ≢ 0 → cluster_of (D.meaning disk.old).seen ≡ None → IsTrue (D.meaning disk.old).honest → IsSettled (D.meaning disk.old) gate
-        → OnOk result (IsSettled (D.meaning disk.new) (gate + 13) × (reading (D.meaning disk.new).seen ≡ reading (D.meaning disk.old).seen) × (cluster_of (D.meaning disk.new).seen ≡ Some cluster)) }
-    ensures any_moment { cluster ≢ 0 → cluster_of (D.meaning disk.old).seen ≡ None → IsTrue (D.meaning disk.old).honest → IsSettled (D.meaning disk.old) gate
-        → LeavesOnly (D.meaning disk.old) (D.meaning disk.new) (IsClaimed (D.meaning disk.old).seen cluster) }
+    ensures settled { WhereUnclaimed cluster (D.meaning disk.old) gate (OnOk result (AddsCluster (D.meaning disk.old) (D.meaning disk.new) gate cluster)) }
+    ensures any_moment { WhereUnclaimed cluster (D.meaning disk.old) gate (LeavesOnly (D.meaning disk.old) (D.meaning disk.new) (IsClaimed (D.meaning disk.old).seen cluster)) }
 {
     write_entry(disk, gate, &cluster_entry_of(cluster))
 }

@@ -1,3 +1,4 @@
 pub mod Receiving
 pub mod Reports
 pub mod Rules
+pub mod Stages

@@ -1,20 +1,17 @@
 //! Promises to the ballot at work are counted.
 
-ghost use Rattle.std.specs.Prelude.{◌≡◌, ◌<◌, ◌++◌, ◌∷◌, [], ℕ, List, true, false, map, IfOk};
+ghost use Rattle.std.specs.Prelude.{◌≡◌, ◌<◌, ◌++◌, ◌∷◌, [], false, IfOk};
 ghost use Rattle.crsm_base.specs.Messages.{FitsVote};
 ghost use Rattle.crsm_base.specs.Spelling.{FitsBallot, FitsOption};
-ghost use Rattle.crsm_base.specs.declared.Ballot.{Ballot as BallotOnPaper};
-ghost use Rattle.crsm_base.specs.declared.Decision.{Decision as DecisionOnPaper};
-ghost use Rattle.crsm_spec.specs.Lists.{has};
-ghost use Rattle.crsm_spec.specs.Paxos.{Answer};
-ghost use Rattle.crsm_spec.specs.Quorum.{has_majority};
-ghost use Rattle.crsm_spec.specs.Replica.{Coordinator as CoordinatorOnPaper, spec_of};
-ghost use Rattle.crsm_spec.specs.Draft.{Draft, noting};
+ghost use Rattle.crsm_spec.specs.Replica.{spec_of};
+ghost use Rattle.crsm_spec.specs.Draft.{noting};
 ghost use Rattle.crsm_spec.specs.Coordinate.{count_answer};
 ghost use Rattle.crsm_spec.specs.Step.{if_fitting};
 ghost use Rattle.crsm_coordinator.specs.Coordinator.{answered};
 ghost use Rattle.crsm_replica.specs.Replica.{StandsFor};
 ghost use Rattle.crsm_reconfigure.specs.Rules.{FollowsWhere, receives_answer};
+ghost use Rattle.crsm_coordinator.specs.Stages.{answer_of};
+ghost use Rattle.crsm_reconfigure.specs.Stages.{WhereAnswerCounts, WhereAnswerIsLast};
 
 use crate::beginning::is_alone;
 use crate::counting::is_counted;
@@ -56,8 +53,7 @@ fn count_answer(
     accepted: &Option<(Ballot, Decision)>,
 ) -> Result<(), NoMemory>
     requires { k < 15 }
-    ensures { IfOk result (λ _. (x : Draft) (b : BallotOnPaper) (own : DecisionOnPaper) (answers : List (Answer DecisionOnPaper)) → StandsFor state.old x → x.replica.coordinator ≡ CoordinatorOnPaper.Preparing b own answers → has (spec_of x.replica) k ≡ true → has (map (λ f. f.replica) answers) k ≡ false → FitsOption FitsVote accepted.now →
-        StandsFor state.new (if_fitting x (count_answer b own answers (record { replica = k; accepted = accepted.now }) x))) }
+    ensures { IfOk result (λ _. WhereAnswerCounts state.old k accepted.now (λ x b own answers. StandsFor state.new (if_fitting x (count_answer b own answers (answer_of k accepted.now) x)))) }
 {
     states_are_sound();
     let is_last = state.coordinator().is_last_answer();
@@ -80,8 +76,7 @@ fn may_propose_with(
     k: u32,
     accepted: &Option<(Ballot, Decision)>,
 ) -> Result<bool, NoMemory>
-    ensures { IfOk result (λ fit. (x : Draft) (b : BallotOnPaper) (own : DecisionOnPaper) (answers : List (Answer DecisionOnPaper)) → StandsFor state.now x → x.replica.coordinator ≡ CoordinatorOnPaper.Preparing b own answers → FitsOption FitsVote accepted.now → has_majority (spec_of x.replica) (map (λ f. f.replica) (answers ++ record { replica = k; accepted = accepted.now } ∷ [])) ≡ true →
-        fit ≡ (count_answer b own answers (record { replica = k; accepted = accepted.now }) x).fitting) }
+    ensures { IfOk result (λ fit. WhereAnswerIsLast state.now k accepted.now (λ x b own answers. fit ≡ (count_answer b own answers (answer_of k accepted.now) x).fitting)) }
 {
     let found = state
         .coordinator()
@@ -101,8 +96,7 @@ fn put_answer(
     accepted: &Option<(Ballot, Decision)>,
 ) -> Result<(), NoMemory>
     requires { k < 15 }
-    ensures { IfOk result (λ _. (x : Draft) (b : BallotOnPaper) (own : DecisionOnPaper) (answers : List (Answer DecisionOnPaper)) → StandsFor state.old x → x.replica.coordinator ≡ CoordinatorOnPaper.Preparing b own answers → has (spec_of x.replica) k ≡ true → has (map (λ f. f.replica) answers) k ≡ false → FitsOption FitsVote accepted.now →
-        StandsFor state.new (noting (answered (spec_of x.replica) b own (answers ++ record { replica = k; accepted = accepted.now } ∷ [])) x)) }
+    ensures { IfOk result (λ _. WhereAnswerCounts state.old k accepted.now (λ x b own answers. StandsFor state.new (noting (answered (spec_of x.replica) b own (answers ++ answer_of k accepted.now ∷ [])) x))) }
 {
     let accepted = copied(state.alloc(), accepted)?;
     let coordinator = state.take_coordinator();

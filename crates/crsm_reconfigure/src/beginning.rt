@@ -1,17 +1,16 @@
 //! A decision of one's own begins to be proposed.
 
-ghost use Rattle.std.specs.Prelude.{◌≡◌, ◌+◌, ◌<◌, ◌^◌, ℕ, List, [], ◌∷◌, true, IfOk};
-ghost use Rattle.crsm_base.specs.Spelling.{FitsBallot};
-ghost use Rattle.crsm_base.specs.declared.Ballot.{Ballot as BallotOnPaper};
-ghost use Rattle.crsm_spec.specs.Log.{decision, accepted};
+ghost use Rattle.std.specs.Prelude.{◌≡◌, ◌+◌, ◌<◌, ◌^◌, ℕ, [], ◌∷◌, true, IfOk};
+ghost use Rattle.crsm_spec.specs.Log.{accepted};
 ghost use Rattle.crsm_spec.specs.Paxos.{value_of};
 ghost use Rattle.crsm_spec.specs.Quorum.{has_majority};
 ghost use Rattle.crsm_spec.specs.Replica.{spec_of};
 ghost use Rattle.crsm_spec.specs.Draft.{Draft};
 ghost use Rattle.crsm_spec.specs.Coordinate.{greater_ballot, begin_proposing};
-ghost use Rattle.crsm_coordinator.specs.Coordinator.{CoordinatorStands, IsOwn, answered};
+ghost use Rattle.crsm_coordinator.specs.Coordinator.{answered};
 ghost use Rattle.crsm_replica.specs.Replica.{StandsFor};
 ghost use Rattle.crsm_reconfigure.specs.Rules.{CanPropose, BeginsAlike, MakesWhere};
+ghost use Rattle.crsm_reconfigure.specs.Stages.{CoordinatesAs, WhereNextRound, own_answer};
 
 use crate::fitting::fits_own;
 use crate::promising::promise;
@@ -73,8 +72,7 @@ pub fn begin_proposing(
 
 /// A coordinator that asks for a ballot in the round after this one, with its own promise counted.
 fn asking(state: &ReplicaState, own: Decision, top: Ballot) -> Result<Coordinator, NoMemory>
-    ensures { IfOk result (λ coordinator. (x : Draft) (round : ℕ) → StandsFor state.now x → IsOwn x.replica.me x.replica.n (decision x.replica.log) own → round ≡ top.round + 1 → FitsBallot (record { round = round; by = x.replica.me }) →
-        CoordinatorStands coordinator x.replica.me x.replica.n (decision x.replica.log) (answered (spec_of x.replica) (record { round = round; by = x.replica.me }) own (record { replica = x.replica.me; accepted = accepted x.replica.log } ∷ []))) }
+    ensures { IfOk result (λ coordinator. WhereNextRound state.now own top (λ x b. CoordinatesAs coordinator x (answered (spec_of x.replica) b own (own_answer x ∷ [])))) }
 {
     states_are_sound();
     let me = state.me();

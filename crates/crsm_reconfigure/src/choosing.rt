@@ -1,13 +1,13 @@
 //! A decision is chosen.
 
-ghost use Rattle.std.specs.Prelude.{◌≡◌, ◌<◌, ◌==◌, ◌&&◌, ◌||◌, not, filter, All, IfOk};
+ghost use Rattle.std.specs.Prelude.{◌≡◌, ◌<◌, ◌==◌, ◌&&◌, ◌||◌, not, All, IfOk};
 ghost use Rattle.crsm_base.specs.Spelling.{FitsDecision};
 ghost use Rattle.crsm_base.specs.declared.Control.{Control as ControlOnPaper};
-ghost use Rattle.crsm_spec.specs.Draft.{Draft, send_to_each};
+ghost use Rattle.crsm_spec.specs.Draft.{send_to_each};
 ghost use Rattle.crsm_spec.specs.Lists.{has, numbers_below};
 ghost use Rattle.crsm_spec.specs.Coordinate.{on_chosen};
-ghost use Rattle.crsm_replica.specs.Replica.{StandsFor};
 ghost use Rattle.crsm_reconfigure.specs.Rules.{TriesWhere, MakesWhere};
+ghost use Rattle.crsm_reconfigure.specs.Stages.{others_of_both};
 
 use crate::learning::learn;
 use crsm_base::{Control, Decision, MAX_REPLICAS, Members, NoMemory, first_replicas, is_among};
@@ -38,7 +38,7 @@ fn send_both(
     me: u32,
     decision: &Decision,
 ) -> Result<(), NoMemory>
-    ensures { MakesWhere (λ x. FitsDecision decision.now) (send_to_each (filter (λ k. (has old.now k || has new.now k) && not (k == me)) (numbers_below 15)) (ControlOnPaper.Decide decision.now)) state.old result state.new }
+    ensures { MakesWhere (λ x. FitsDecision decision.now) (send_to_each (others_of_both old.now new.now me) (ControlOnPaper.Decide decision.now)) state.old result state.new }
 {
     let replicas = both_specs(state.alloc(), old, new, me)?;
     let decision = decision.copy(state.alloc())?;
@@ -49,7 +49,7 @@ fn send_both(
 
 /// The replicas of two Specs but this one, ascending.
 fn both_specs(alloc: Global, old: &Members, new: &Members, me: u32) -> Result<Vec<u32>, NoMemory>
-    ensures value { IfOk result (λ ks. ks.items ≡ filter (λ k. (has old.now k || has new.now k) && not (k == me)) (numbers_below 15)) }
+    ensures value { IfOk result (λ ks. ks.items ≡ others_of_both old.now new.now me) }
     ensures below { IfOk result (λ ks. All (λ k. k < 15) ks.items) }
 {
     let mut both = Vec::new(alloc);

@@ -1,17 +1,17 @@
 //! The frozen logs of a Spec are collected, page by page, until those of a majority are whole.
 
-ghost use Rattle.std.specs.Prelude.{◌≡◌, ◌≢◌, ◌<◌, ℕ, List, IfOk};
+ghost use Rattle.std.specs.Prelude.{◌≡◌, ◌≢◌, ◌<◌, IfOk};
 ghost use Rattle.crsm_base.specs.Messages.{FitsControl};
 ghost use Rattle.crsm_spec.specs.Log.{decision};
-ghost use Rattle.crsm_spec.specs.Replica.{LogPage, Coordinator as CoordinatorOnPaper};
+ghost use Rattle.crsm_spec.specs.Replica.{Coordinator as CoordinatorOnPaper};
 ghost use Rattle.crsm_spec.specs.Draft.{Draft, noting};
 ghost use Rattle.crsm_spec.specs.Controls as controls;
 ghost use Rattle.crsm_spec.specs.Step as rules;
 ghost use Rattle.crsm_suspend.specs.Coordinating.{on_got};
-ghost use Rattle.crsm_coordinator.specs.Coordinator.{IsGathering};
 ghost use Rattle.crsm_replica.specs.Replica.{StandsFor};
 ghost use Rattle.crsm_reconfigure.specs.Reports.{IsReport, CanGoOn, ask_missing, is_collecting};
 ghost use Rattle.crsm_reconfigure.specs.Rules.{FollowsWhere};
+ghost use Rattle.crsm_reconfigure.specs.Stages.{WhereCollecting, WhereGathering};
 
 use crate::beginning::begin_proposing;
 use crsm_base::{Ballot, Control, NoMemory};
@@ -54,8 +54,7 @@ pub(crate) fn go_on(
     got: Got,
 ) -> Result<(), NoMemory>
     requires { k < 15 }
-    ensures { IfOk result (λ _. (x : Draft) (ms : List ℕ) (pages : List LogPage) → StandsFor state.old x → IsGathering collect x.replica.me x.replica.n (decision x.replica.log) ms pages → CanGoOn k pages got x →
-        StandsFor state.new (on_got ms pages got (noting (CoordinatorOnPaper.Collecting ms pages) x))) }
+    ensures { IfOk result (λ _. WhereGathering state.old collect (λ x ms pages. CanGoOn k pages got x → StandsFor state.new (on_got ms pages got (noting (CoordinatorOnPaper.Collecting ms pages) x)))) }
 {
     match got {
         Got::Stranger => {
@@ -85,7 +84,7 @@ pub(crate) fn go_on(
 
 /// Asks each other replica of the Spec for its next page, while collecting, whose last page has not come.
 pub fn send_collect(state: &mut ReplicaState) -> Result<(), NoMemory>
-    ensures { IfOk result (λ _. (x : Draft) (ms : List ℕ) (pages : List LogPage) → StandsFor state.old x → x.replica.coordinator ≡ CoordinatorOnPaper.Collecting ms pages → StandsFor state.new (rules.send_collect pages x)) }
+    ensures { IfOk result (λ _. WhereCollecting state.old (λ x ms pages. StandsFor state.new (rules.send_collect pages x))) }
 {
     let others = state.others()?;
     for k in &others {
@@ -97,7 +96,7 @@ pub fn send_collect(state: &mut ReplicaState) -> Result<(), NoMemory>
 /// Asks replica k for its next page, while collecting, unless its last page has come.
 fn ask_missing(state: &mut ReplicaState, k: u32) -> Result<(), NoMemory>
     requires { k < 15 }
-    ensures { IfOk result (λ _. (x : Draft) (ms : List ℕ) (pages : List LogPage) → StandsFor state.old x → x.replica.coordinator ≡ CoordinatorOnPaper.Collecting ms pages → StandsFor state.new (ask_missing pages x k)) }
+    ensures { IfOk result (λ _. WhereCollecting state.old (λ x ms pages. StandsFor state.new (ask_missing pages x k))) }
 {
     let is_whole = state.coordinator().is_whole(k);
     if is_whole {
@@ -110,7 +109,7 @@ fn ask_missing(state: &mut ReplicaState, k: u32) -> Result<(), NoMemory>
 /// Asks replica k for its next page, while collecting.
 fn ask_page(state: &mut ReplicaState, k: u32) -> Result<(), NoMemory>
     requires { k < 15 }
-    ensures { IfOk result (λ _. (x : Draft) (ms : List ℕ) (pages : List LogPage) → StandsFor state.old x → x.replica.coordinator ≡ CoordinatorOnPaper.Collecting ms pages → StandsFor state.new (rules.ask_page pages x k)) }
+    ensures { IfOk result (λ _. WhereCollecting state.old (λ x ms pages. StandsFor state.new (rules.ask_page pages x k))) }
 {
     let epoch = state.known();
     let after = state.coordinator().cursor(k);

@@ -1,17 +1,15 @@
 //! Answers to the ballot at work are counted.
 
-ghost use Rattle.std.specs.Prelude.{◌≡◌, ◌<◌, ◌+◌, ◌==◌, ◌&&◌, ◌∷◌, ℕ, List, true, false, IfOk};
+ghost use Rattle.std.specs.Prelude.{◌≡◌, ◌<◌, ◌+◌, ◌==◌, ◌&&◌, true, false, IfOk};
 ghost use Rattle.crsm_base.specs.Spelling.{FitsBallot};
-ghost use Rattle.crsm_base.specs.declared.Ballot.{Ballot as BallotOnPaper};
-ghost use Rattle.crsm_base.specs.declared.Decision.{Decision};
 ghost use Rattle.crsm_spec.specs.Lists.{has};
 ghost use Rattle.crsm_spec.specs.Log.{known};
-ghost use Rattle.crsm_spec.specs.Replica.{Coordinator as CoordinatorOnPaper, spec_of};
+ghost use Rattle.crsm_spec.specs.Replica.{spec_of};
 ghost use Rattle.crsm_spec.specs.Draft.{Draft};
 ghost use Rattle.crsm_spec.specs.Coordinate.{count_acceptor};
-ghost use Rattle.crsm_spec.specs.Step.{if_fitting};
 ghost use Rattle.crsm_replica.specs.Replica.{StandsFor};
-ghost use Rattle.crsm_reconfigure.specs.Rules.{FollowsWhere, MakesWhere, receives_no, receives_vote};
+ghost use Rattle.crsm_reconfigure.specs.Rules.{FollowsWhere, receives_no, receives_vote};
+ghost use Rattle.crsm_reconfigure.specs.Stages.{TriesTo, WhereProposing};
 
 use crate::choosing::choose;
 use crsm_base::{Ballot, NoMemory};
@@ -68,8 +66,7 @@ pub fn on_p2b(
 /// do not fit, and the state is as before.
 pub fn count_vote(state: &mut ReplicaState, k: u32) -> Result<bool, NoMemory>
     requires { k < 15 }
-    ensures { IfOk result (λ fit. (x : Draft) (b : BallotOnPaper) (own value : Decision) (acceptors : List ℕ) → StandsFor state.old x → x.replica.coordinator ≡ CoordinatorOnPaper.Proposing b own value acceptors → has (spec_of x.replica) k ≡ true →
-        (fit ≡ (count_acceptor b own value acceptors k x).fitting) × StandsFor state.new (if_fitting x (count_acceptor b own value acceptors k x))) }
+    ensures { IfOk result (λ fit. WhereProposing state.old (λ x b own value acceptors. has (spec_of x.replica) k ≡ true → TriesTo fit state.new x (count_acceptor b own value acceptors k x))) }
 {
     states_are_sound();
     let is_last = state.coordinator().is_last_vote(k);

@@ -1,15 +1,12 @@
 //! Whether the records of a proposer's own acceptance fit.
 
-ghost use Rattle.std.specs.Prelude.{◌≡◌, ◌∷◌, ℕ, List, [], IfOk};
-ghost use Rattle.crsm_base.specs.Spelling.{FitsDecision};
-ghost use Rattle.crsm_base.specs.declared.Decision.{Decision as DecisionOnPaper};
+ghost use Rattle.std.specs.Prelude.{◌≡◌, IfOk};
 ghost use Rattle.crsm_base.specs.declared.Rec.{Rec as RecOnPaper};
 ghost use Rattle.crsm_spec.specs.Fits.{fits};
-ghost use Rattle.crsm_spec.specs.Quorum.{has_majority};
-ghost use Rattle.crsm_spec.specs.Replica.{spec_of};
 ghost use Rattle.crsm_spec.specs.Draft.{Draft};
 ghost use Rattle.crsm_spec.specs.Coordinate.{accept_own};
 ghost use Rattle.crsm_replica.specs.Replica.{StandsFor};
+ghost use Rattle.crsm_reconfigure.specs.Stages.{WhereOwnVote};
 
 use crate::proposing::is_due;
 use crate::sending::next_instance;
@@ -24,7 +21,7 @@ pub fn fits_own(
     value: &Decision,
     is_chosen: bool,
 ) -> Result<bool, NoMemory>
-    ensures { IfOk result (λ fit. (x : Draft) (own : DecisionOnPaper) (acceptors : List ℕ) → StandsFor state.now x → FitsDecision value.now → is_chosen ≡ has_majority (spec_of x.replica) (x.replica.me ∷ acceptors) → fit ≡ (accept_own ballot own value.now acceptors x).fitting) }
+    ensures { IfOk result (λ fit. WhereOwnVote state.now value.now is_chosen (λ x own acceptors. fit ≡ (accept_own ballot own value.now acceptors x).fitting)) }
 {
     states_are_sound();
     let top = state.promised();

@@ -1,13 +1,11 @@
 //! A proposer's own acceptance.
 
-ghost use Rattle.std.specs.Prelude.{◌≡◌, ◌&&◌, ℕ, List, true, not, nat_le, length, IfOk};
-ghost use Rattle.crsm_base.specs.declared.Ballot.{Ballot as BallotOnPaper};
-ghost use Rattle.crsm_base.specs.declared.Decision.{Decision as DecisionOnPaper};
+ghost use Rattle.std.specs.Prelude.{◌≡◌, ◌&&◌, not, nat_le, length, IfOk};
 ghost use Rattle.crsm_spec.specs.Log.{executed};
-ghost use Rattle.crsm_spec.specs.Replica.{Coordinator as CoordinatorOnPaper};
 ghost use Rattle.crsm_spec.specs.Draft.{Draft};
 ghost use Rattle.crsm_spec.specs.Coordinate.{accept_own, has_accepted};
 ghost use Rattle.crsm_replica.specs.Replica.{StandsFor};
+ghost use Rattle.crsm_reconfigure.specs.Stages.{WhereProposing, CanAcceptOwn};
 
 use crate::counting::count_vote;
 use crate::promising::accept;
@@ -18,7 +16,7 @@ use crsm_replica::{ReplicaState, states_are_sound};
 /// The proposer's own acceptance, where its records fit: over where more was promised, otherwise accepted where the base is
 /// executed.
 pub fn accept_own(state: &mut ReplicaState) -> Result<(), NoMemory>
-    ensures { IfOk result (λ _. (x : Draft) (b : BallotOnPaper) (own value : DecisionOnPaper) (acceptors : List ℕ) → StandsFor state.old x → x.replica.coordinator ≡ CoordinatorOnPaper.Proposing b own value acceptors → (accept_own b own value acceptors x).fitting ≡ true → StandsFor state.new (accept_own b own value acceptors x)) }
+    ensures { IfOk result (λ _. WhereProposing state.old (λ x b own value acceptors. CanAcceptOwn b own value acceptors x → StandsFor state.new (accept_own b own value acceptors x))) }
 {
     states_are_sound();
     let found = state.coordinator().proposal(state.alloc())?;

@@ -1,14 +1,12 @@
 //! What a coordinator does again that proposes, or whose ballot is over.
 
-ghost use Rattle.std.specs.Prelude.{◌≡◌, ℕ, List, true, IfOk, Some};
-ghost use Rattle.crsm_base.specs.declared.Ballot.{Ballot as BallotOnPaper};
-ghost use Rattle.crsm_base.specs.declared.Decision.{Decision as DecisionOnPaper};
+ghost use Rattle.std.specs.Prelude.{◌≡◌, true, IfOk, Some};
 ghost use Rattle.crsm_spec.specs.Replica.{Coordinator as CoordinatorOnPaper};
-ghost use Rattle.crsm_spec.specs.Draft.{Draft};
 ghost use Rattle.crsm_spec.specs.Coordinate.{accept_own};
-ghost use Rattle.crsm_spec.specs.Step.{if_fitting, renew};
+ghost use Rattle.crsm_spec.specs.Step.{renew};
 ghost use Rattle.crsm_replica.specs.Replica.{StandsFor};
 ghost use Rattle.crsm_reconfigure.specs.Rules.{CanPropose};
+ghost use Rattle.crsm_reconfigure.specs.Stages.{TriesTo, WherePreempted, WhereProposing, CanAcceptOwn};
 
 use crate::beginning::{begin_proposing, may_begin};
 use crate::fitting::fits_own;
@@ -21,8 +19,7 @@ use crsm_replica::{ReplicaState, states_are_sound};
 /// A proposal is renewed: the proposer's own acceptance is made up where it is due, and it is sent to all that have not accepted.
 /// `false` if the records of that do not fit, and the state is as before.
 pub fn renew_proposal(state: &mut ReplicaState) -> Result<bool, NoMemory>
-    ensures { IfOk result (λ fit. (x : Draft) (b : BallotOnPaper) (own value : DecisionOnPaper) (acceptors : List ℕ) → StandsFor state.old x → x.replica.coordinator ≡ CoordinatorOnPaper.Proposing b own value acceptors →
-        (fit ≡ (renew (CoordinatorOnPaper.Proposing b own value acceptors) x).fitting) × StandsFor state.new (if_fitting x (renew (CoordinatorOnPaper.Proposing b own value acceptors) x))) }
+    ensures { IfOk result (λ fit. WhereProposing state.old (λ x b own value acceptors. TriesTo fit state.new x (renew (CoordinatorOnPaper.Proposing b own value acceptors) x))) }
 {
     states_are_sound();
     let found = state.coordinator().proposal(state.alloc())?;
@@ -42,8 +39,7 @@ pub fn renew_proposal(state: &mut ReplicaState) -> Result<bool, NoMemory>
 /// A decision of one's own whose ballot is over is proposed again, above the ballot that was seen. `false` if
 /// where the records of that do not fit, and the state is as before.
 pub fn renew_over(state: &mut ReplicaState) -> Result<bool, NoMemory>
-    ensures { IfOk result (λ fit. (x : Draft) (own : DecisionOnPaper) (seen : BallotOnPaper) → StandsFor state.old x → x.replica.coordinator ≡ CoordinatorOnPaper.Preempted own seen →
-        (fit ≡ (renew (CoordinatorOnPaper.Preempted own seen) x).fitting) × StandsFor state.new (if_fitting x (renew (CoordinatorOnPaper.Preempted own seen) x))) }
+    ensures { IfOk result (λ fit. WherePreempted state.old (λ x own seen. TriesTo fit state.new x (renew (CoordinatorOnPaper.Preempted own seen) x))) }
 {
     states_are_sound();
     let found = own_again(state)?;
@@ -60,7 +56,7 @@ pub fn renew_over(state: &mut ReplicaState) -> Result<bool, NoMemory>
 
 /// The decision of one's own that is to be proposed again, and the ballot that was seen.
 fn own_again(state: &ReplicaState) -> Result<Option<(Decision, Ballot)>, NoMemory>
-    ensures { IfOk result (λ found. (x : Draft) (own : DecisionOnPaper) (seen : BallotOnPaper) → StandsFor state.now x → x.replica.coordinator ≡ CoordinatorOnPaper.Preempted own seen → (found ≡ Some (own, seen)) × CanPropose own seen x) }
+    ensures { IfOk result (λ found. WherePreempted state.now (λ x own seen. (found ≡ Some (own, seen)) × CanPropose own seen x)) }
 {
     match state.coordinator() {
         Coordinator::Preempted { own, seen } => Ok(Some((own.copy(state.alloc())?, *seen))),
@@ -71,7 +67,7 @@ fn own_again(state: &ReplicaState) -> Result<Option<(Decision, Ballot)>, NoMemor
 /// The proposer's own acceptance, where its records fit. Then the proposal is sent to all that have not accepted it, where
 /// there still is one.
 pub fn accept_and_send(state: &mut ReplicaState) -> Result<(), NoMemory>
-    ensures { IfOk result (λ _. (x : Draft) (b : BallotOnPaper) (own value : DecisionOnPaper) (acceptors : List ℕ) → StandsFor state.old x → x.replica.coordinator ≡ CoordinatorOnPaper.Proposing b own value acceptors → (accept_own b own value acceptors x).fitting ≡ true → StandsFor state.new (renew (CoordinatorOnPaper.Proposing b own value acceptors) x)) }
+    ensures { IfOk result (λ _. WhereProposing state.old (λ x b own value acceptors. CanAcceptOwn b own value acceptors x → StandsFor state.new (renew (CoordinatorOnPaper.Proposing b own value acceptors) x))) }
 {
     accept_own(state)?;
     send_proposal(state)?;

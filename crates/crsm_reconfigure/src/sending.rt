@@ -1,21 +1,19 @@
 //! What a ballot at work sends to those that it still needs.
 
-ghost use Rattle.std.specs.Prelude.{◌≡◌, ℕ, List, IfOk};
-ghost use Rattle.crsm_base.specs.declared.Ballot.{Ballot as BallotOnPaper};
-ghost use Rattle.crsm_base.specs.declared.Decision.{Decision};
-ghost use Rattle.crsm_spec.specs.Paxos.{Answer};
+ghost use Rattle.std.specs.Prelude.{◌≡◌, IfOk};
 ghost use Rattle.crsm_spec.specs.Replica.{Coordinator as CoordinatorOnPaper};
 ghost use Rattle.crsm_spec.specs.Draft.{Draft};
 ghost use Rattle.crsm_spec.specs.Coordinate.{instance, send_ask, send_proposal};
 ghost use Rattle.crsm_spec.specs.Step.{ask_all};
 ghost use Rattle.crsm_replica.specs.Replica.{StandsFor, Makes};
+ghost use Rattle.crsm_reconfigure.specs.Stages.{WherePreparing};
 
 use crsm_base::{Control, NoMemory, never};
 use crsm_replica::{ReplicaState, states_are_sound};
 
 /// Asks all for a promise that have not given it.
 pub fn send_ask(state: &mut ReplicaState) -> Result<(), NoMemory>
-    ensures { IfOk result (λ _. (x : Draft) (b : BallotOnPaper) (own : Decision) (answers : List (Answer Decision)) → StandsFor state.old x → x.replica.coordinator ≡ CoordinatorOnPaper.Preparing b own answers → StandsFor state.new (send_ask (CoordinatorOnPaper.Preparing b own answers) x)) }
+    ensures { IfOk result (λ _. WherePreparing state.old (λ x b own answers. StandsFor state.new (send_ask (CoordinatorOnPaper.Preparing b own answers) x))) }
 {
     let found = state.coordinator().ballot();
     let Some(ballot) = found else {

@@ -1,4 +1,5 @@
 pub mod Again
+pub mod Parts
 pub mod Recorded
 pub mod Sound
 pub mod Replica

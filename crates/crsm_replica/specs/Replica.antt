@@ -1,5 +1,5 @@
 -- What the state of a replica stands for.
-use Rattle.std.specs.Prelude.{◌≡◌, ℕ, ◌<◌, ◌≤◌, Bool, [], map, Option, Result, IfOk}
+use Rattle.std.specs.Prelude.{◌≡◌, ℕ, ◌<◌, ◌≤◌, Bool, [], map, Option, Result, IfOk, ◌≢◌}
 use Rattle.std.specs.List.{AllByRecursion}
 use Rattle.crsm_base.specs.declared.NoMemory.{NoMemory}
 use Rattle.crsm_base.specs.Records.{FitsRec}
@@ -9,7 +9,7 @@ use Rattle.crsm_output.specs.Made.{Holds, made_of, nothing}
 use Rattle.crsm_segment.specs.Gather.{StandsFor as HasGathered}
 use Rattle.crsm_spec.specs.Types.{Decision, Rec}
 use Rattle.crsm_spec.specs.Log.{Log, decision, executed}
-use Rattle.crsm_spec.specs.Replica.{Coordinator, Waiting}
+use Rattle.crsm_spec.specs.Replica.{Coordinator, Waiting, latest_from}
 use Rattle.crsm_spec.specs.Draft.{Draft, keep, noting}
 use Rattle.crsm_spec.specs.Coordinate.{forget_epoch}
 use Rattle.crsm_spec.specs.Step.{if_fitting}
@@ -85,3 +85,7 @@ learnt d x = forget_epoch (noting Coordinator.Idle (keep (Rec.Decide d) x))
 -- for each draft that the state stands for
 abbrev pub WhereStands : ReplicaState → (Draft → Type 0) → Type 0
 WhereStands state P = (x : Draft) → StandsFor state x → P x
+
+-- the same where the replica is not k, and this time is above the latest one that it heard of k
+abbrev pub WhereLater : ReplicaState → ℕ → ℕ → (Draft → Type 0) → Type 0
+WhereLater state k time P = (x : Draft) → StandsFor state x → k ≢ x.replica.me → latest_from x.replica.received k < time → P x

@@ -1,13 +1,10 @@
 //! The frames of a step: new ones, and those that go again.
 
-ghost use Rattle.std.specs.Prelude.{◌≡◌, ◌<◌, [], ◌∷◌, ◌++◌, map, All, OnOk};
+ghost use Rattle.std.specs.Prelude.{◌<◌, [], ◌∷◌, map, All, OnOk};
 ghost use Rattle.crsm_output.specs.Made.{Made, Holds};
 ghost use Rattle.crsm_epoch_state.specs.Linked.{others_of};
-ghost use Rattle.crsm_epoch_state.specs.EpochState.{Runs};
-ghost use Rattle.crsm_spec.specs.Log.{known};
-ghost use Rattle.crsm_spec.specs.Replica.{Replica};
 ghost use Rattle.crsm_spec.specs.Draft.{next_frame};
-ghost use Rattle.crsm_replica.specs.Again.{frame_again};
+ghost use Rattle.crsm_replica.specs.Again.{frame_again, WhereSending, sending};
 
 use crsm_base::{Datagram, InEpoch, NoMemory};
 use crsm_epoch_state::EpochState;
@@ -25,8 +22,7 @@ pub fn send_next(
     payload: &InEpoch,
 ) -> Result<(), NoMemory>
     requires { All (λ k. k < 15) members.now }
-    ensures { OnOk result ((r : Replica) (m : Made) → Runs running.now r → Holds output.old m → me ≡ r.me → epoch ≡ known r.log →
-        Holds output.new (record m { sends = m.sends ++ map (next_frame r payload.now) (others_of me members.now) })) }
+    ensures { OnOk result (WhereSending running.now output.old me epoch (λ r m. Holds output.new (sending (map (next_frame r payload.now) (others_of me members.now)) m))) }
 {
     for k in members {
         if *k != me {
@@ -46,8 +42,7 @@ fn send_frame(
     payload: InEpoch,
 ) -> Result<(), NoMemory>
     requires { k < 15 }
-    ensures { OnOk result ((r : Replica) (m : Made) → Runs running.now r → Holds output.old m → me ≡ r.me → epoch ≡ known r.log →
-        Holds output.new (record m { sends = m.sends ++ next_frame r payload k ∷ [] })) }
+    ensures { OnOk result (WhereSending running.now output.old me epoch (λ r m. Holds output.new (sending (next_frame r payload k ∷ []) m))) }
 {
     let seq = running.pushed_to(k);
     let datagram = Datagram::Frame {
@@ -70,7 +65,7 @@ pub fn send_again(
     to: u32,
     frames: &[(u64, InEpoch)],
 ) -> Result<(), NoMemory>
-    ensures { OnOk result ((m : Made) → Holds output.old m → Holds output.new (record m { sends = m.sends ++ map (frame_again me epoch to) frames.now })) }
+    ensures { OnOk result ((m : Made) → Holds output.old m → Holds output.new (sending (map (frame_again me epoch to) frames.now) m)) }
 {
     for frame in frames {
         let datagram = Datagram::Frame {

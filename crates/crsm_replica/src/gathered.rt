@@ -3,7 +3,7 @@
 ghost use Rattle.std.specs.Prelude.{◌≡◌, ◌<◌, true, List, [], IfOk};
 ghost use Rattle.crsm_segment.specs.Gather.{StandsFor as HasGathered};
 ghost use Rattle.crsm_segment.specs.Taking.{is_sized, piece, whole_of};
-ghost use Rattle.crsm_spec.specs.Parts.{Piece, with_part, whole_with};
+ghost use Rattle.crsm_replica.specs.Parts.{TakesPart};
 
 use crsm_base::{Bytes, MAX_REPLICAS, NoMemory};
 use crsm_segment::{Gather, Taken, parts_of_datagrams};
@@ -49,8 +49,7 @@ impl Gathered {
     ) -> Result<Option<Bytes>, NoMemory>
         requires from { from < 15 }
         requires sized { is_sized (piece from boot number index count bytes.now) ≡ true }
-        ensures { IfOk result (λ whole. (parts : List Piece) → HasGathered self.old parts →
-            HasGathered self.new (with_part (piece from boot number index count bytes.now) parts) × (whole ≡ whole_with (piece from boot number index count bytes.now) parts)) }
+        ensures { IfOk result (λ whole. TakesPart self.old self.new (piece from boot number index count bytes.now) whole) }
     {
         parts_of_datagrams();
         let taken = self.inside.take(from, boot, number, index, count, bytes)?;

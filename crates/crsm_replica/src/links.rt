@@ -1,13 +1,13 @@
 //! The changes that concern the numbered links and the clock.
 
-ghost use Rattle.std.specs.Prelude.{◌≡◌, ◌≢◌, ℕ, ◌<◌, ◌≤◌, List, ◌∷◌, length, Some, IfOk};
+ghost use Rattle.std.specs.Prelude.{◌≡◌, ℕ, ◌<◌, ◌≤◌, List, ◌∷◌, length, Some, IfOk};
 ghost use Rattle.crsm_base.specs.Messages.{FitsPayload};
 ghost use Rattle.crsm_base.specs.Spelling.{FitsStamp};
 ghost use Rattle.crsm_base.specs.declared.Stamp.{Stamp};
-ghost use Rattle.crsm_spec.specs.Replica.{latest_from, frames_to};
+ghost use Rattle.crsm_spec.specs.Replica.{frames_to};
 ghost use Rattle.crsm_spec.specs.Draft.{Draft, would, push_to_members, issued_at};
 ghost use Rattle.crsm_spec.specs.Frames.{ack, owe, owing, again_to};
-ghost use Rattle.crsm_replica.specs.Replica.{StandsFor, Makes, WhereStands};
+ghost use Rattle.crsm_replica.specs.Replica.{StandsFor, Makes, WhereStands, WhereLater};
 
 use crate::frames::{send_again, send_next};
 use crate::state::ReplicaState;
@@ -38,7 +38,7 @@ impl ReplicaState {
     /// Takes the next frame of another replica k, and with it this time, which is above the latest of k.
     pub fn take_next(&mut self, k: u32, time: u64) -> Result<(), NoMemory>
         requires { k < 15 }
-        ensures { IfOk result (λ _. WhereStands self.old (λ x. k ≢ x.replica.me → latest_from x.replica.received k < time → StandsFor self.new (record x { replica = record x.replica { taken = k ∷ x.replica.taken; received = (k, time) ∷ x.replica.received } }))) }
+        ensures { IfOk result (λ _. WhereLater self.old k time (λ x. StandsFor self.new (record x { replica = record x.replica { taken = k ∷ x.replica.taken; received = (k, time) ∷ x.replica.received } }))) }
     {
         self.running.take_next(k, time);
         Ok(())

@@ -1,14 +1,14 @@
 //! One instance of the consensus.
 
-ghost use Rattle.std.specs.Prelude.{◌≡◌, ◌≢◌, ℕ, ◌+◌, ◌≤◌, List, Contains, ◌⊎◌, IsTrue, IsSome, MatchOption, Some, None, true, false, length, nat_le, [], ◌∷◌};
+ghost use Rattle.std.specs.Prelude.{◌≡◌, ℕ, ◌+◌, ◌≤◌, List, Contains, ◌⊎◌, IsTrue, MatchOption, None, true, length, [], ◌∷◌};
 ghost use Rattle.std.specs.Option.{ForSome};
 ghost use Rattle.crsm_base.specs.declared.stamp.Ballot.{Ballot};
 ghost use Rattle.crsm_base.specs.Order.{ballot_lt};
-ghost use Rattle.crsm_spec.specs.Paxos.{PaxosStep, Instance, Answer, Promise, Vote, Held, IsRun, IsChosen, IsGreatest, MayTake, MayPropose, after_step, after_steps, fresh, best_of, value_of, majority};
-ghost use Rattle.crsm_spec.specs.Paxos.PaxosStep.{Proposes};
+ghost use Rattle.crsm_spec.specs.Paxos.{PaxosStep, Instance, Answer, IsRun, IsChosen, IsGreatest, MayTake, after_step, after_steps, fresh, best_of, majority};
 ghost use Rattle.crsm_spec.specs.Proposing.{Proposing, start_proposing, counts_answer, counts_vote, after_answer, after_p1b, after_p2b, value_proposed, makes_majority};
 ghost use Rattle.crsm_spec.specs.InstanceLaws.{OneIsChosen};
 ghost use Rattle.crsm_spec.specs.Following.{lowest, IsReached, IsUnused, IsUsed, IsOther, Follows};
+ghost use Rattle.crsm_safety.specs.Laws.{HasPromisedLast, HasVoted, MayBecome, ProposesOwn, WherePromised, WhereVoted};
 
 /// In one instance no two different decisions are chosen, whatever the acts of its replicas are.
 pub fn choice<D>()
@@ -22,7 +22,7 @@ pub fn possible_choice<D>()
 
 /// What is chosen was some proposer's own.
 pub fn own_value<D>()
-    ensures { (spec : List ℕ) (steps : List (PaxosStep D)) (d : D) → IsRun spec fresh steps → IsChosen spec (after_steps fresh steps) d → (b : Ballot) × (answers : List (Answer D)) × Contains steps (Proposes b d answers) }
+    ensures { (spec : List ℕ) (steps : List (PaxosStep D)) (d : D) → IsRun spec fresh steps → IsChosen spec (after_steps fresh steps) d → ProposesOwn steps d }
 {}
 
 /// What counts among answers: it was named, in the greatest ballot that was, by the least replica.
@@ -32,12 +32,12 @@ pub fn best_answer<D>()
 
 /// An acceptor that is asked again in the ballot that it promised last answers what it answered, unless something is proposed there.
 pub fn repeated_answer<D>()
-    ensures { (spec : List ℕ) (s : Instance D) (r : ℕ) → IsReached spec s → IsTrue (ballot_lt lowest (s.acceptor r).promised) → Contains s.promises (record { ballot = (s.acceptor r).promised; answer = record { replica = r; accepted = (s.acceptor r).accepted } }) ⊎ IsUsed s (s.acceptor r).promised }
+    ensures { (spec : List ℕ) (s : Instance D) (r : ℕ) → IsReached spec s → IsTrue (ballot_lt lowest (s.acceptor r).promised) → HasPromisedLast s r ⊎ IsUsed s (s.acceptor r).promised }
 {}
 
 /// What an acceptor holds is its vote.
 pub fn held_vote<D>()
-    ensures { (spec : List ℕ) (s : Instance D) (r : ℕ) → IsReached spec s → ForSome (s.acceptor r).accepted (λ held. Contains s.votes (record { ballot = held.0; acceptor = r; value = held.1 })) }
+    ensures { (spec : List ℕ) (s : Instance D) (r : ℕ) → IsReached spec s → ForSome (s.acceptor r).accepted (λ held. HasVoted s r held.0 held.1) }
 {}
 
 /// A step that may be taken leads on, and what is chosen stays so.
@@ -55,24 +55,14 @@ pub fn proposer<D>()
     ensures others { (spec : List ℕ) (s : Instance D) (p : Proposing D) (e : PaxosStep D) → IsOther e p.ballot → Follows spec s p → Follows spec (after_step s e) p }
 
     // An answer that makes no majority is counted.
-    ensures waits { (spec : List ℕ) (s : Instance D) (p : Proposing D) (from : ℕ) (b : Ballot) (accepted : Held D) →
-        Follows spec s p → Contains spec from → Contains s.promises (record { ballot = b; answer = record { replica = from; accepted = accepted } }) →
-        (after_p1b p from b accepted).has_proposed ≡ p.has_proposed → Follows spec s (after_p1b p from b accepted) }
+    ensures waits { WherePromised D (λ spec s p from b accepted. (after_p1b p from b accepted).has_proposed ≡ p.has_proposed → Follows spec s (after_p1b p from b accepted)) }
 
     // One that makes the majority is a step that proposes.
-    ensures proposes { (spec : List ℕ) (s : Instance D) (p : Proposing D) (from : ℕ) (b : Ballot) (accepted : Held D) →
-        Follows spec s p → Contains spec from → Contains s.promises (record { ballot = b; answer = record { replica = from; accepted = accepted } }) →
-        counts_answer p from b ≡ true → majority p.size ≤ length p.received + 1 →
-        (answers : List (Answer D)) × MayPropose spec s p.ballot answers × (value_of p.own answers ≡ value_proposed (after_answer p from accepted)) ×
-        Follows spec (after_step s (Proposes p.ballot p.own answers)) (after_answer p from accepted) }
+    ensures proposes { WherePromised D (λ spec s p from b accepted. counts_answer p from b ≡ true → majority p.size ≤ length p.received + 1 → MayBecome spec s p (after_answer p from accepted)) }
 
     // A vote is counted.
-    ensures votes { (spec : List ℕ) (s : Instance D) (p : Proposing D) (from : ℕ) (b : Ballot) (d : D) →
-        IsReached spec s → Follows spec s p → Contains spec from → Contains s.votes (record { ballot = b; acceptor = from; value = d }) →
-        Follows spec s (after_p2b p from b) }
+    ensures votes { WhereVoted D (λ spec s p from b d. Follows spec s (after_p2b p from b)) }
 
     // The vote that makes the majority has the proposed value chosen.
-    ensures chooses { (spec : List ℕ) (s : Instance D) (p : Proposing D) (from : ℕ) (b : Ballot) (d : D) →
-        IsReached spec s → Follows spec s p → Contains spec from → Contains s.votes (record { ballot = b; acceptor = from; value = d }) →
-        counts_vote p from b ≡ true → makes_majority p ≡ true → IsChosen spec s (value_proposed p) }
+    ensures chooses { WhereVoted D (λ spec s p from b d. counts_vote p from b ≡ true → makes_majority p ≡ true → IsChosen spec s (value_proposed p)) }
 {}

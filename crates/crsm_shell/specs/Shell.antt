@@ -15,6 +15,7 @@ use Rattle.crsm_turns.specs.Outgoing.{packets_for}
 use Rattle.crsm_core.specs.Core.{CoreStands}
 use Rattle.crsm_shell.specs.declared.shell.Shell.{Shell}
 use Rattle.crsm_shell.specs.Words.{disk_of}
+use Rattle.crsm_image.specs.Calls.{History}
 
 -- ---- steps that are pending
 
@@ -68,3 +69,13 @@ WhereStands meaning shell P = (kept : Log) (r : Replica) (steps : List Draft) �
 -- the same where the disk is honest
 abbrev pub WhereHonest : {D : Type 0} {g : _} → (D → Meaning) → Shell D g → (Log → Replica → List Draft → Type 0) → Type 0
 WhereHonest meaning shell P = (kept : Log) (r : Replica) (steps : List Draft) → ShellStands shell (meaning (disk_of shell)) kept r steps → IsTrue (meaning (disk_of shell)).honest → P kept r steps
+
+-- the same for any history of calls, and any byte that fills what a crash tears
+abbrev pub WhereHistory : {D : Type 0} {g : _} → (D → Meaning) → Shell D g → (Log → Replica → List Draft → History → ℕ → Type 0) → Type 0
+WhereHistory meaning shell P =
+    (kept : Log) (r : Replica) (steps : List Draft) (h : History) (fill : ℕ) →
+    ShellStands shell (meaning (disk_of shell)) kept r steps → IsTrue (meaning (disk_of shell)).honest → P kept r steps h fill
+
+-- for the log that an honest disk has
+abbrev pub WhereHasLog : (me n : ℕ) → Meaning → (Log → Type 0) → Type 0
+WhereHasLog me n m P = (log : Log) → IsTrue m.honest → HasLog me n m.seen log → P log

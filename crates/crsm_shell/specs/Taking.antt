@@ -36,6 +36,10 @@ turn_of buffer (taken.Suspect members) = Turn.Suspect members
 abbrev pub step_of : List ℕ → Replica → Turned → Draft
 step_of buffer r t = turn r (turn_of buffer t.taken, t.reading)
 
+-- the same by its parts
+abbrev pub step_at : List ℕ → Taken → ℕ → Replica → Draft
+step_at buffer what reading r = turn r (turn_of buffer what, reading)
+
 -- The step is made, with its batch and the bytes of its records, and is pending behind those before it.
 pub record MakesStep {D : Type 0} {g : _} (new : Shell D g) (m : Meaning) (kept : Log) (r : Replica) (steps : List Draft) (x : Draft) (batch : Batch) (bytes : ℕ) : Type 0 where
   pub answers : Answers batch x

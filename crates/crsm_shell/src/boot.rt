@@ -1,6 +1,6 @@
 //! The boot of a replica on the log of its disk.
 
-ghost use Rattle.std.specs.Prelude.{◌≡◌, ◌≤◌, ◌<◌, ◌+◌, ◌∷◌, [], List, length, false, IsTrue, IfOk, IfErr, Some};
+ghost use Rattle.std.specs.Prelude.{◌≡◌, ◌≤◌, ◌<◌, [], length, false, IsTrue, IfOk, IfErr};
 ghost use Rattle.crsm_disk.specs.Meaning.{LeavesOnly};
 ghost use Rattle.crsm_ledger.specs.Recovered.{AreKept};
 ghost use Rattle.crsm_log.specs.Format.{found, reading};
@@ -10,7 +10,7 @@ ghost use Rattle.crsm_log.specs.Words as logs;
 ghost use Rattle.crsm_shell.specs.Booting.{AddsBoot, Boots, BootsOn, FailsToKeep, IsBooted, IsBootedOrBefore, IsLeftByBoot, RefusesBoot};
 ghost use Rattle.crsm_shell.specs.Flushing.{KeptWell};
 ghost use Rattle.crsm_shell.specs.Running.{IsOfOne};
-ghost use Rattle.crsm_shell.specs.Shell.{HasLog};
+ghost use Rattle.crsm_shell.specs.Shell.{WhereHasLog};
 ghost use Rattle.crsm_shell.specs.Words.{disk_of, peers_of};
 
 use crate::begin::{Begun, begin};
@@ -58,8 +58,7 @@ impl<D: Disk> Shell<D> {
         ensures found { IfOk result (λ b. (log : LogOnPaper) × AreKept me n [] b.bodies log) }
         ensures boots { IfOk result (λ b. (log : LogOnPaper) → AreKept me n [] b.bodies log → Boots b (D.meaning (disk_of b.shell)) me n log) }
         ensures bodies { IsTrue (D.meaning disk).honest → IfOk result (λ b. reading (D.meaning disk).seen ≡ found b.bodies) }
-        ensures stands { (log : LogOnPaper) → IsTrue (D.meaning disk).honest → HasLog me n (D.meaning disk).seen log →
-            IfOk result (λ b. Boots b (D.meaning (disk_of b.shell)) me n log × BootsOn me n log (D.meaning disk) (D.meaning (disk_of b.shell))) }
+        ensures stands { WhereHasLog me n (D.meaning disk) (λ log. IfOk result (λ b. Boots b (D.meaning (disk_of b.shell)) me n log × BootsOn me n log (D.meaning disk) (D.meaning (disk_of b.shell)))) }
         ensures peers { IfOk result (λ b. peers_of b.shell ≡ peers.now) }
         ensures goes { IfOk result (λ b. Goes (D.meaning disk) (D.meaning (disk_of b.shell))) }
         ensures added { IsTrue (D.meaning disk).honest → IfOk result (λ b. AddsBoot me n b (D.meaning (disk_of b.shell))) }
@@ -68,10 +67,8 @@ impl<D: Disk> Shell<D> {
         ensures refused { IfErr result (λ e. RefusesBoot me n (D.meaning disk) (D.meaning e.1) e.0) }
 
         // A crash at any moment leaves the log as it was, or with the boot behind it.
-        ensures any_moment { (log : LogOnPaper) → IsTrue (D.meaning disk).honest → HasLog me n (D.meaning disk).seen log →
-            IfOk result (λ b. LeavesOnly (D.meaning disk) (D.meaning (disk_of b.shell)) (IsBootedOrBefore me n log (D.meaning disk))) }
-        ensures any_moment_refused { (log : LogOnPaper) → IsTrue (D.meaning disk).honest → HasLog me n (D.meaning disk).seen log →
-            IfErr result (λ e. LeavesOnly (D.meaning disk) (D.meaning e.1) (IsBootedOrBefore me n log (D.meaning disk))) }
+        ensures any_moment { WhereHasLog me n (D.meaning disk) (λ log. IfOk result (λ b. LeavesOnly (D.meaning disk) (D.meaning (disk_of b.shell)) (IsBootedOrBefore me n log (D.meaning disk)))) }
+        ensures any_moment_refused { WhereHasLog me n (D.meaning disk) (λ log. IfErr result (λ e. LeavesOnly (D.meaning disk) (D.meaning e.1) (IsBootedOrBefore me n log (D.meaning disk)))) }
         ensures left { IsTrue (D.meaning disk).honest → IfOk result (λ b. LeavesOnly (D.meaning disk) (D.meaning (disk_of b.shell)) (IsLeftByBoot me n (D.meaning disk))) }
         ensures left_refused { IsTrue (D.meaning disk).honest → IfErr result (λ e. LeavesOnly (D.meaning disk) (D.meaning e.1) (IsLeftByBoot me n (D.meaning disk))) }
     {

@@ -8,7 +8,7 @@ ghost use Rattle.crsm_core.specs.Core.{Answers, CoreStands};
 ghost use Rattle.crsm_core.specs.Inputs.{FitsInput, input_of};
 ghost use Rattle.crsm_spec.specs.Step as rules;
 ghost use Rattle.crsm_turns.specs.Input.{IsWithin};
-ghost use Rattle.crsm_shell.specs.Taking.{heard_in, turn_of};
+ghost use Rattle.crsm_shell.specs.Taking.{heard_in, turn_of, step_at};
 ghost use Rattle.crsm_shell.specs.Taking as shells;
 
 use crsm_base::{Datagram, Lines, NoMemory, Recs, Sends};
@@ -35,8 +35,7 @@ pub(crate) fn make(
     reading: u64,
 ) -> Result<Made, NoMemory>
     requires { IsWithin (length buffer.now) taken.now }
-    ensures step { IfOk result (λ made. (r : Replica) → CoreStands core.old r →
-        Answers made.batch (turn r (turn_of buffer.now taken.now, reading)) × CoreStands core.new (turn r (turn_of buffer.now taken.now, reading)).replica) }
+    ensures step { IfOk result (λ made. (r : Replica) → CoreStands core.old r → Answers made.batch (step_at buffer.now taken.now reading r) × CoreStands core.new (step_at buffer.now taken.now reading r).replica) }
     ensures received { IfOk result (λ made. made.received ≡ heard_in (turn_of buffer.now taken.now)) }
 {
     match taken {

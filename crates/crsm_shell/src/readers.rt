@@ -1,15 +1,11 @@
 //! What is read of a shell, and its disk.
 
-ghost use Rattle.std.specs.Prelude.{◌≡◌, ℕ, [], List, length, false, IsTrue, Some};
+ghost use Rattle.std.specs.Prelude.{◌≡◌, length, false, Some};
 ghost use Rattle.crsm_disk.specs.Contract.{Arms};
 ghost use Rattle.crsm_disk.specs.Meaning.{Only};
-ghost use Rattle.crsm_image.specs.Calls.{History};
 ghost use Rattle.crsm_image.specs.Image.{image_of};
 ghost use Rattle.crsm_ledger.specs.Ledger.{StandsFor as SaysOfLog};
-ghost use Rattle.crsm_spec.specs.Draft.{Draft};
-ghost use Rattle.crsm_spec.specs.Log.{Log};
-ghost use Rattle.crsm_spec.specs.Replica.{Replica};
-ghost use Rattle.crsm_shell.specs.Shell.{HasLog, ShellStands};
+ghost use Rattle.crsm_shell.specs.Shell.{HasLog, ShellStands, WhereHistory, WhereHonest, WhereStands};
 ghost use Rattle.crsm_shell.specs.Taking.{most_received};
 ghost use Rattle.crsm_shell.specs.Words.{buffer_of, disk_of, gate_of, peers_of, pending_of, has_failed};
 
@@ -23,7 +19,7 @@ impl<D: Disk> Shell<D> {
     #[tactic(auto, unfolding(crate::specs::Shell::ShellStands))]
     pub fn pending(&self) -> u32
         ensures value { result ≡ pending_of self.now }
-        ensures steps { (kept : Log) (r : Replica) (steps : List Draft) → ShellStands self.now (D.meaning (disk_of self.now)) kept r steps → result ≡ length steps }
+        ensures steps { WhereStands D.meaning self.now (λ kept r steps. result ≡ length steps) }
     {
         self.pending
     }
@@ -32,7 +28,7 @@ impl<D: Disk> Shell<D> {
     #[tactic(auto, unfolding(crate::specs::Shell::ShellStands))]
     pub fn failed(&self) -> bool
         ensures value { result ≡ has_failed self.now }
-        ensures well { (kept : Log) (r : Replica) (steps : List Draft) → ShellStands self.now (D.meaning (disk_of self.now)) kept r steps → result ≡ false }
+        ensures well { WhereStands D.meaning self.now (λ kept r steps. result ≡ false) }
     {
         self.failed
     }
@@ -48,7 +44,7 @@ impl<D: Disk> Shell<D> {
     /// What the records say, those of the pending steps among them.
     #[tactic(auto, unfolding(crate::specs::Shell::ShellStands))]
     pub fn state(&self) -> &Ledger
-        ensures { (kept : Log) (r : Replica) (steps : List Draft) → ShellStands self.now (D.meaning (disk_of self.now)) kept r steps → SaysOfLog r.me r.n result.now r.log }
+        ensures { WhereStands D.meaning self.now (λ kept r steps. SaysOfLog r.me r.n result.now r.log) }
     {
         self.core.ledger()
     }
@@ -57,8 +53,7 @@ impl<D: Disk> Shell<D> {
     #[tactic(auto, unfolding(crate::specs::Shell::ShellStands))]
     pub fn arm(&mut self, stop: Option<u64>, fill: u8)
         ensures armed { Arms stop fill (D.meaning (disk_of self.old)) (D.meaning (disk_of self.new)) }
-        ensures stands { (kept : Log) (r : Replica) (steps : List Draft) → ShellStands self.old (D.meaning (disk_of self.old)) kept r steps →
-            ShellStands self.new (D.meaning (disk_of self.new)) kept r steps }
+        ensures stands { WhereStands D.meaning self.old (λ kept r steps. ShellStands self.new (D.meaning (disk_of self.new)) kept r steps) }
         ensures gate { gate_of self.new ≡ gate_of self.old }
         ensures peers { peers_of self.new ≡ peers_of self.old }
         ensures pending { pending_of self.new ≡ pending_of self.old }
@@ -73,12 +68,9 @@ impl<D: Disk> Shell<D> {
         ensures disk { result ≡ disk_of self }
 
         // The log that is kept is on it, whatever a crash leaves.
-        ensures file { (kept : Log) (r : Replica) (steps : List Draft) → ShellStands self (D.meaning (disk_of self)) kept r steps → IsTrue (D.meaning (disk_of self)).honest →
-            HasLog r.me r.n (D.meaning result).seen kept }
-        ensures durable { (kept : Log) (r : Replica) (steps : List Draft) → ShellStands self (D.meaning (disk_of self)) kept r steps → IsTrue (D.meaning (disk_of self)).honest →
-            Only (D.meaning result).seen (D.meaning result).may_leave }
-        ensures image { (kept : Log) (r : Replica) (steps : List Draft) (h : History) (fill : ℕ) → ShellStands self (D.meaning (disk_of self)) kept r steps → IsTrue (D.meaning (disk_of self)).honest →
-            (D.meaning result).history ≡ Some h → HasLog r.me r.n (image_of h.first h.calls fill) kept }
+        ensures file { WhereHonest D.meaning self (λ kept r steps. HasLog r.me r.n (D.meaning result).seen kept) }
+        ensures durable { WhereHonest D.meaning self (λ kept r steps. Only (D.meaning result).seen (D.meaning result).may_leave) }
+        ensures image { WhereHistory D.meaning self (λ kept r steps h fill. (D.meaning result).history ≡ Some h → HasLog r.me r.n (image_of h.first h.calls fill) kept) }
     {
         stop_keeps();
         self.log.into_disk()

@@ -1,12 +1,11 @@
 //! A step that is taken.
 
-ghost use Rattle.std.specs.Prelude.{◌≡◌, ◌<◌, ◌≤◌, ◌+◌, ◌∷◌, [], ◌++◌, ◌↔◌, List, true, false, length, is_err, IfOk, OnOk, OnErr, IsErrOf, MatchResult};
+ghost use Rattle.std.specs.Prelude.{◌≡◌, ◌<◌, ◌+◌, ◌↔◌, true, false, length, is_err, IfOk, OnOk, IsErrOf, MatchResult};
 ghost use Rattle.std.specs.List.{AllByRecursion};
 ghost use Rattle.crsm_core.specs.Core.{FitsSent};
 ghost use Rattle.crsm_shell.specs.Shell.{ShellStands, WhereStands};
-ghost use Rattle.crsm_spec.specs.Node.{turn};
 ghost use Rattle.crsm_shell.specs.Errors.{is_lasting};
-ghost use Rattle.crsm_shell.specs.Taking.{MakesStep, Reads, Receives, Takes, TakesStep, heard_in, most_received, turn_of};
+ghost use Rattle.crsm_shell.specs.Taking.{MakesStep, Reads, Receives, Takes, TakesStep, heard_in, most_received, turn_of, step_at};
 ghost use Rattle.crsm_turns.specs.Input.{IsWithin};
 ghost use Rattle.crsm_shell.specs.Words.{buffer_of, disk_of, gate_of, peers_of, pending_of, has_failed};
 
@@ -78,8 +77,7 @@ impl<D: Disk> Shell<D> {
         requires well { self.old.failed ≡ false }
         requires few { self.old.pending < 32 }
         requires within { IsWithin most_received taken.now }
-        ensures stands { WhereStands D.meaning self.old (λ kept r steps.
-            IfOk result (λ b. MakesStep self.new (D.meaning (disk_of self.new)) kept r steps (turn r (turn_of (buffer_of self.new) taken.now, reading)) b.0.batch b.1)) }
+        ensures stands { WhereStands D.meaning self.old (λ kept r steps. IfOk result (λ b. MakesStep self.new (D.meaning (disk_of self.new)) kept r steps (step_at (buffer_of self.new) taken.now reading r) b.0.batch b.1)) }
         ensures spelt { IfOk result (λ b. AllByRecursion FitsSent b.0.batch.sends) }
         ensures received { IfOk result (λ b. b.0.received ≡ heard_in (turn_of (buffer_of self.new) taken.now)) }
         ensures counted { OnOk result (self.new.pending ≡ self.old.pending + 1) }

@@ -16,6 +16,8 @@ use Rattle.crsm_suspend.specs.Reports.{HasReports}
 use Rattle.crsm_suspend.specs.declared.collect.Collect.{Collect}
 use Rattle.crsm_suspend.specs.declared.got.Got.{Got}
 use Rattle.crsm_suspend.specs.declared.got.Got.TheVariants.{Stranger, More, Kept, Complete, TooMany}
+use Rattle.crsm_ledger.specs.declared.ledger.Ledger.{Ledger}
+use Rattle.crsm_ledger.specs.Ledger.{StandsFor}
 
 -- a page is of this epoch, and its entries can be told
 pub record CanSend (epoch : ℕ) (p : LogPage) : Type 0 where
@@ -90,3 +92,21 @@ got_from log spec named members pages k =
 abbrev pub FitsGot : Got → Type 0
 FitsGot (Complete d) = FitsDecision d
 FitsGot _ = Unit {0}
+
+-- for each log, Spec and pages that the collection stands for
+abbrev pub WhereCollecting : Collect → (Log → List ℕ → Option (List ℕ) → List ℕ → List LogPage → Type 0) → Type 0
+WhereCollecting c P =
+    (log : Log) (spec : List ℕ) (named : Option (List ℕ)) (members : List ℕ) (pages : List LogPage) →
+    IsCollecting log spec named members pages c → P log spec named members pages
+
+-- the same where a ledger stands for the log
+abbrev pub WhereCollectingOver : ℕ → Ledger → Collect → (Log → List ℕ → Option (List ℕ) → List ℕ → List LogPage → Type 0) → Type 0
+WhereCollectingOver me ledger c P =
+    (n : ℕ) (log : Log) (spec : List ℕ) (named : Option (List ℕ)) (members : List ℕ) (pages : List LogPage) →
+    StandsFor me n ledger log → IsCollecting log spec named members pages c → P log spec named members pages
+
+-- the same where a replica of that epoch can send this page
+abbrev pub WhereCanSend : Collect → LogPage → (Log → List ℕ → Option (List ℕ) → List ℕ → List LogPage → Type 0) → Type 0
+WhereCanSend c p P =
+    (log : Log) (spec : List ℕ) (named : Option (List ℕ)) (members : List ℕ) (pages : List LogPage) →
+    IsCollecting log spec named members pages c → CanSend (known log) p → P log spec named members pages

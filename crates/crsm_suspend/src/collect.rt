@@ -1,16 +1,14 @@
 //! The collection of the reports of a majority.
 
-ghost use Rattle.std.specs.Prelude.{◌≡◌, ◌<◌, ◌≤◌, ℕ, [], ◌∷◌, ◌++◌, List, Option, IfOk, OnOk, OnErr};
+ghost use Rattle.std.specs.Prelude.{◌≡◌, ◌<◌, ◌≤◌, [], ◌∷◌, ◌++◌, List, Option, IfOk, OnOk, OnErr};
 ghost use Rattle.crsm_base.specs.Members.{IsMembers};
 ghost use Rattle.crsm_base.specs.Messages.{FitsControl};
 ghost use Rattle.crsm_base.specs.Spelling.{FitsOption};
 ghost use Rattle.crsm_base.specs.declared.Rec.{Rec};
 ghost use Rattle.crsm_base.specs.declared.Stamp.{Stamp};
-ghost use Rattle.crsm_ledger.specs.Ledger.{StandsFor};
 ghost use Rattle.crsm_spec.specs.Collect.{own_page, collected};
 ghost use Rattle.crsm_spec.specs.Coordinate.{most_collected};
 ghost use Rattle.crsm_spec.specs.Log.{known, start as start_of};
-ghost use Rattle.crsm_spec.specs.Replica.{LogPage};
 
 use crate::asked::{is_page, own_page};
 use crate::got::{Got, decided, more};
@@ -40,7 +38,7 @@ pub struct Collect {
 }
 
 impl Collect {
-    ghost use Rattle.crsm_suspend.specs.Collecting.{IsCollecting, CanSend, is_asked, got_whole, got_from, got_of, pages_after, FitsGot};
+    ghost use Rattle.crsm_suspend.specs.Collecting.{IsCollecting, is_asked, got_whole, got_from, got_of, pages_after, FitsGot, WhereCanSend, WhereCollecting, WhereCollectingOver};
     ghost use Rattle.crsm_suspend.specs.Reports.{head_of, page_from};
     ghost use Rattle.crsm_spec.specs.Collect.{pages_of, cursor, is_whole, whole_ones};
     ghost use Rattle.crsm_spec.specs.Quorum.{has_majority};
@@ -91,14 +89,9 @@ impl Collect {
     /// `TooMany`. An `Err` changes nothing.
     pub fn take_own(&mut self, me: u32, ledger: &Ledger) -> Result<Got, NoMemory>
         requires { me < 15 }
-        ensures got { (n : ℕ) (log : List Rec) (spec : List ℕ) (named : Option (List ℕ)) (members : List ℕ) (pages : List LogPage) →
-            StandsFor me n ledger.now log → IsCollecting log spec named members pages self.old →
-            IfOk result (λ got. got ≡ got_whole log spec named members (pages ++ own_page me log ∷ [])) }
-        ensures state { (n : ℕ) (log : List Rec) (spec : List ℕ) (named : Option (List ℕ)) (members : List ℕ) (pages : List LogPage) →
-            StandsFor me n ledger.now log → IsCollecting log spec named members pages self.old →
-            OnOk result (IsCollecting log spec named members (pages ++ own_page me log ∷ []) self.new) }
-        ensures fits { (n : ℕ) (log : List Rec) (spec : List ℕ) (named : Option (List ℕ)) (members : List ℕ) (pages : List LogPage) →
-            StandsFor me n ledger.now log → IsCollecting log spec named members pages self.old → IfOk result FitsGot }
+        ensures got { WhereCollectingOver me ledger.now self.old (λ log spec named members pages. IfOk result (λ got. got ≡ got_whole log spec named members (pages ++ own_page me log ∷ []))) }
+        ensures state { WhereCollectingOver me ledger.now self.old (λ log spec named members pages. OnOk result (IsCollecting log spec named members (pages ++ own_page me log ∷ []) self.new)) }
+        ensures fits { WhereCollectingOver me ledger.now self.old (λ log spec named members pages. IfOk result FitsGot) }
         ensures err { OnErr result (self.new ≡ self.old) }
     {
         let page = own_page(self.alloc, ledger)?;
@@ -110,14 +103,9 @@ impl Collect {
     pub fn take(&mut self, from: u32, answer: Control) -> Result<Got, NoMemory>
         requires from { from < 15 }
         requires fits { FitsControl answer }
-        ensures got { (log : List Rec) (spec : List ℕ) (named : Option (List ℕ)) (members : List ℕ) (pages : List LogPage) →
-            IsCollecting log spec named members pages self.old →
-            IfOk result (λ got. got ≡ got_of log spec named members pages from answer) }
-        ensures state { (log : List Rec) (spec : List ℕ) (named : Option (List ℕ)) (members : List ℕ) (pages : List LogPage) →
-            IsCollecting log spec named members pages self.old →
-            OnOk result (IsCollecting log spec named members (pages_after log spec pages from answer) self.new) }
-        ensures fits { (log : List Rec) (spec : List ℕ) (named : Option (List ℕ)) (members : List ℕ) (pages : List LogPage) →
-            IsCollecting log spec named members pages self.old → IfOk result FitsGot }
+        ensures got { WhereCollecting self.old (λ log spec named members pages. IfOk result (λ got. got ≡ got_of log spec named members pages from answer)) }
+        ensures state { WhereCollecting self.old (λ log spec named members pages. OnOk result (IsCollecting log spec named members (pages_after log spec pages from answer) self.new)) }
+        ensures fits { WhereCollecting self.old (λ log spec named members pages. IfOk result FitsGot) }
         ensures err { OnErr result (self.new ≡ self.old) }
     {
         let Control::SuspendOk {
@@ -146,8 +134,7 @@ impl Collect {
     /// The stamp of the last entry that came of replica k: its next page is asked for from there.
     pub fn cursor(&self, k: u32) -> Option<Stamp>
         requires { k < 15 }
-        ensures { (log : List Rec) (spec : List ℕ) (named : Option (List ℕ)) (members : List ℕ) (pages : List LogPage) →
-            IsCollecting log spec named members pages self.now → result ≡ cursor pages k }
+        ensures { WhereCollecting self.now (λ log spec named members pages. result ≡ cursor pages k) }
     {
         self.head(k).cursor
     }
@@ -155,16 +142,14 @@ impl Collect {
     /// Whether the last page of replica k has come.
     pub fn is_whole(&self, k: u32) -> bool
         requires { k < 15 }
-        ensures { (log : List Rec) (spec : List ℕ) (named : Option (List ℕ)) (members : List ℕ) (pages : List LogPage) →
-            IsCollecting log spec named members pages self.now → result ≡ is_whole pages k }
+        ensures { WhereCollecting self.now (λ log spec named members pages. result ≡ is_whole pages k) }
     {
         self.head(k).is_whole
     }
 
     fn head(&self, k: u32) -> Head
         requires { k < 15 }
-        ensures { (log : List Rec) (spec : List ℕ) (named : Option (List ℕ)) (members : List ℕ) (pages : List LogPage) →
-            IsCollecting log spec named members pages self.now → result ≡ head_of (pages_of pages k) }
+        ensures { WhereCollecting self.now (λ log spec named members pages. result ≡ head_of (pages_of pages k)) }
     {
         self.reports[k as usize].head
     }
@@ -172,9 +157,7 @@ impl Collect {
     /// Whether this page of a message was asked for.
     fn is_asked(&self, from: u32, epoch: u64, after: Option<Stamp>, page: &Page) -> bool
         requires { from < 15 }
-        ensures { (log : List Rec) (spec : List ℕ) (named : Option (List ℕ)) (members : List ℕ) (pages : List LogPage) →
-            IsCollecting log spec named members pages self.now →
-            result ≡ is_asked log spec pages epoch after (page_from from page.now) }
+        ensures { WhereCollecting self.now (λ log spec named members pages. result ≡ is_asked log spec pages epoch after (page_from from page.now)) }
     {
         let is_of_spec = self.spec.has(from);
         let head = self.head(from);
@@ -185,14 +168,9 @@ impl Collect {
     /// Adds a page, and tells what it brings. An `Err` changes nothing.
     fn add(&mut self, from: u32, page: Page) -> Result<Got, NoMemory>
         requires { from < 15 }
-        ensures got { (log : List Rec) (spec : List ℕ) (named : Option (List ℕ)) (members : List ℕ) (pages : List LogPage) →
-            IsCollecting log spec named members pages self.old → CanSend (known log) (page_from from page) →
-            IfOk result (λ got. got ≡ got_from log spec named members (pages ++ page_from from page ∷ []) from) }
-        ensures state { (log : List Rec) (spec : List ℕ) (named : Option (List ℕ)) (members : List ℕ) (pages : List LogPage) →
-            IsCollecting log spec named members pages self.old → CanSend (known log) (page_from from page) →
-            OnOk result (IsCollecting log spec named members (pages ++ page_from from page ∷ []) self.new) }
-        ensures fits { (log : List Rec) (spec : List ℕ) (named : Option (List ℕ)) (members : List ℕ) (pages : List LogPage) →
-            IsCollecting log spec named members pages self.old → CanSend (known log) (page_from from page) → IfOk result FitsGot }
+        ensures got { WhereCanSend self.old (page_from from page) (λ log spec named members pages. IfOk result (λ got. got ≡ got_from log spec named members (pages ++ page_from from page ∷ []) from)) }
+        ensures state { WhereCanSend self.old (page_from from page) (λ log spec named members pages. OnOk result (IsCollecting log spec named members (pages ++ page_from from page ∷ []) self.new)) }
+        ensures fits { WhereCanSend self.old (page_from from page) (λ log spec named members pages. IfOk result FitsGot) }
         ensures err { OnErr result (self.new ≡ self.old) }
     {
         let index = from as usize;
@@ -208,10 +186,8 @@ impl Collect {
     /// What the pages bring of which the last is this replica's.
     fn got(&self, from: u32) -> Result<Got, NoMemory>
         requires { from < 15 }
-        ensures got { (log : List Rec) (spec : List ℕ) (named : Option (List ℕ)) (members : List ℕ) (pages : List LogPage) →
-            IsCollecting log spec named members pages self.now → IfOk result (λ got. got ≡ got_from log spec named members pages from) }
-        ensures fits { (log : List Rec) (spec : List ℕ) (named : Option (List ℕ)) (members : List ℕ) (pages : List LogPage) →
-            IsCollecting log spec named members pages self.now → IfOk result FitsGot }
+        ensures got { WhereCollecting self.now (λ log spec named members pages. IfOk result (λ got. got ≡ got_from log spec named members pages from)) }
+        ensures fits { WhereCollecting self.now (λ log spec named members pages. IfOk result FitsGot) }
     {
         let head = self.head(from);
         if !head.is_whole {
@@ -225,8 +201,7 @@ impl Collect {
 
     /// Whether the replicas that are whole are a majority of the Spec.
     fn has_majority(&self) -> bool
-        ensures { (log : List Rec) (spec : List ℕ) (named : Option (List ℕ)) (members : List ℕ) (pages : List LogPage) →
-            IsCollecting log spec named members pages self.now → result ≡ has_majority spec (whole_ones spec pages) }
+        ensures { WhereCollecting self.now (λ log spec named members pages. result ≡ has_majority spec (whole_ones spec pages)) }
     {
         let least = majority(self.spec.count()) as usize;
         least <= whole_count(&self.reports, self.spec.as_slice())
@@ -234,8 +209,7 @@ impl Collect {
 
     /// The decision that the whole replicas make.
     fn decision(&self) -> Result<Decision, NoMemory>
-        ensures value { (log : List Rec) (spec : List ℕ) (named : Option (List ℕ)) (members : List ℕ) (pages : List LogPage) →
-            IsCollecting log spec named members pages self.now → IfOk result (λ d. d ≡ collected spec named log members pages) }
+        ensures value { WhereCollecting self.now (λ log spec named members pages. IfOk result (λ d. d ≡ collected spec named log members pages)) }
         ensures members { IfOk result (λ d. IsMembers d.members × FitsOption IsMembers d.spec) }
     {
         let spec = self.spec.as_slice();
