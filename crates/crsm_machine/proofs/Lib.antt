@@ -2,6 +2,7 @@ mod Boots
 mod Cuts
 mod Disks
 mod PacketPorts
+mod Sendings
 mod Lengths
 mod Stops
 mod Turns

@@ -1,11 +1,15 @@
 -- What a machine answers.
-use Rattle.std.specs.Prelude.{◌≡◌, ℕ, Bool, true, false, ◌&&◌, nat_lt, List, [], length, Option, Some, None, if◌then◌else◌}
+use Rattle.std.specs.Prelude.{◌≡◌, ℕ, Bool, true, false, ◌&&◌, nat_lt, List, [], length, map, drop, Option, Some, None, if◌then◌else◌}
 use Rattle.crsm_spec.specs.Log.{Log, spec}
 use Rattle.crsm_spec.specs.Replica.{Replica}
 use Rattle.crsm_spec.specs.Draft.{Draft}
 use Rattle.crsm_spec.specs.World.{Site, body_size}
 use Rattle.crsm_spec.specs.Moments.{is_kept}
+use Rattle.crsm_base.specs.Messages.{datagram_bytes}
 use Rattle.crsm_core.specs.Core.{Answers}
+use Rattle.crsm_faults.specs.Failing.{good_of}
+use Rattle.crsm_port.specs.Memory.{Memory}
+use Rattle.crsm_shell.specs.Shell.{sends_of}
 use Rattle.crsm_machine.specs.declared.stopped.Stopped.{Stopped}
 use Rattle.crsm_machine.specs.declared.machine.Machine.{Machine}
 use Rattle.crsm_machine.specs.declared.step.Step.{Step}
@@ -17,6 +21,15 @@ use Rattle.crsm_machine.specs.States.{IsStopped}
 pub record Makes (step : Step) (x : Draft) : Type 0 where
   pub batch : Answers step.batch x
   pub size : step.size ≡ body_size x.batch
+
+-- no call of the port fails
+abbrev pub IsWell : Memory → Type 0
+IsWell port = good_of port.failing ≡ None
+
+-- from this place on the port has sent what these steps send, in order, and nothing else; and no further call of it fails
+pub record Sends (port : Memory) (first : ℕ) (steps : List Draft) : Type 0 where
+  pub texts : drop first (map (λ d. d.bytes) port.sent) ≡ map (λ s. datagram_bytes s.datagram) (sends_of steps)
+  pub well : IsWell port
 
 -- a draft that sends nothing, and whose lines are those of its records alone
 pub record IsQuiet (x : Draft) : Type 0 where

@@ -1,5 +1,7 @@
 -- What the state of a machine stands for.
 use Rattle.std.specs.Prelude.{◌≡◌, ℕ, List, [], length, None}
+use Rattle.std.specs.List.{AllByRecursion}
+use Rattle.crsm_core.specs.Core.{FitsSent}
 use Rattle.crsm_image.specs.Calls.{contents}
 use Rattle.crsm_disk.specs.Memory.{Memory, meaning_of, good_left}
 use Rattle.crsm_spec.specs.Log.{Log, known, executed}
@@ -7,8 +9,8 @@ use Rattle.crsm_spec.specs.Replica.{Replica}
 use Rattle.crsm_spec.specs.Draft.{Draft}
 use Rattle.crsm_spec.specs.World.{Site}
 use Rattle.crsm_shell.specs.declared.shell.Shell.{Shell}
-use Rattle.crsm_shell.specs.Shell.{HasLog, ShellStands}
-use Rattle.crsm_shell.specs.Words.{disk_of}
+use Rattle.crsm_shell.specs.Shell.{HasLog, ShellStands, sends_of}
+use Rattle.crsm_shell.specs.Words.{disk_of, peers_of}
 use Rattle.crsm_machine.specs.declared.stopped.LogSummary.{LogSummary}
 use Rattle.crsm_machine.specs.declared.stopped.Stopped.{Stopped}
 use Rattle.crsm_machine.specs.declared.state.MachineState.{MachineState}
@@ -33,11 +35,13 @@ pub record IsStopped (me n : ℕ) (left : Stopped) (log : Log) : Type 0 where
 
 -- ---- up
 
--- Replica me is up with r. On its disk, all of whose calls go well, is the log `kept`; these steps came since.
+-- Replica me is up with r, and whatever it sends has an address. On its disk, all of whose calls go well, is the log `kept`; these steps came since.
 pub record IsUpAs (me n : ℕ) {g : _} (shell : Shell Memory g) (kept : Log) (r : Replica) (steps : List Draft) : Type 0 where
   pub is_me : r.me ≡ me
   pub began : r.n ≡ n
   pub stands : ShellStands shell (meaning_of (disk_of shell)) kept r steps
+  pub peers : length (peers_of shell) ≡ 15
+  pub fits : AllByRecursion FitsSent (sends_of steps)
   pub well : good_left (disk_of shell) ≡ None
 
 -- ---- either

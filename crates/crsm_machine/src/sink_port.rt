@@ -1,4 +1,4 @@
-//! The port that a flush sends over.
+//! The port that a step sends over which is stopped.
 
 ghost use Rattle.crsm_port.specs.Unknown.{unknown};
 
@@ -6,7 +6,8 @@ use crsm_base::{Failed, NoMemory};
 use crsm_faults::raise;
 use crsm_port::{Got, Port};
 
-/// A port that takes each datagram and lets it go: the world has what goes out from the batches. Nothing comes over it.
+/// A port that takes each datagram and lets it go: of a step that is stopped within its put nothing goes out. Nothing comes
+/// over it.
 #[derive(Drop)]
 pub(crate) struct SinkPort {
     pub(crate) empties: u64,

@@ -8,7 +8,7 @@ ghost use Rattle.crsm_spec.specs.Draft.{Draft};
 ghost use Rattle.crsm_spec.specs.Node.{turn};
 ghost use Rattle.crsm_spec.specs.World as world;
 ghost use Rattle.crsm_machine.specs.Arriving.{turn_of, IsShort};
-ghost use Rattle.crsm_machine.specs.Outcomes.{Makes};
+ghost use Rattle.crsm_machine.specs.Outcomes.{IsWell, Makes, Sends};
 ghost use Rattle.crsm_machine.specs.Machine.{MachineStands, MachinePends, WhereUp};
 
 use crate::arrival::Arrival;
@@ -18,19 +18,27 @@ use crate::state::MachineState;
 use crate::step::Step;
 use crate::turn;
 use crsm_base::{NoMemory, never};
+use crsm_port::MemPort;
 
 impl Machine {
-    /// One step, whose records are kept. The replica is up; one that is down answers `NoMemory`.
-    pub fn step(&mut self, arrival: Arrival<'_>, reading: u64) -> Result<Step, NoMemory>
+    /// One step, whose records are kept, and the place on the port of the first datagram that it sent. The replica is up; one
+    /// that is down answers `NoMemory`.
+    pub fn step(
+        &mut self,
+        arrival: Arrival<'_>,
+        reading: u64,
+        port: &mut MemPort,
+    ) -> Result<(Step, usize), NoMemory>
         requires { IsShort arrival }
-        ensures stands { IfOk result (λ step. WhereUp self.old (λ me n r.
-            Makes step (turn r (turn_of arrival.entry, reading)) × MachineStands self.new me n (world.Site.Up (turn r (turn_of arrival.entry, reading)).replica))) }
-        ensures spelt { IfOk result (λ step. AllByRecursion FitsSent step.batch.sends) }
+        ensures sent { IfOk result (λ made. IsWell port.old → WhereUp self.old (λ me n r. Sends port.new made.1 (turn r (turn_of arrival.entry, reading) ∷ []))) }
+        ensures stands { IfOk result (λ made. WhereUp self.old (λ me n r.
+            Makes made.0 (turn r (turn_of arrival.entry, reading)) × MachineStands self.new me n (world.Site.Up (turn r (turn_of arrival.entry, reading)).replica))) }
+        ensures spelt { IfOk result (λ made. AllByRecursion FitsSent made.0.batch.sends) }
     {
         machines_pend_nothing();
         let step = self.take(arrival, reading)?;
-        self.flush()?;
-        Ok(step)
+        let first = self.flush(port)?;
+        Ok((step, first))
     }
 
     /// One more step of some that `flush` keeps together, 32 at most. The replica is up; one that is down answers
@@ -57,14 +65,16 @@ impl Machine {
         }
     }
 
-    /// Keeps the records of the steps since the last `flush`.
+    /// Keeps the records of the steps since the last `flush`, and sends over the port; answers the place on it of the first
+    /// datagram.
     #[tactic(auto, unfolding(crate::specs::Machine::MachinePends, crate::specs::Machine::MachineStands))]
-    pub fn flush(&mut self) -> Result<(), NoMemory>
-        ensures { OnOk result ((me n : ℕ) (r : Replica) (steps : List Draft) → MachinePends self.old me n r steps → MachineStands self.new me n (world.Site.Up r)) }
+    pub fn flush(&mut self, port: &mut MemPort) -> Result<usize, NoMemory>
+        ensures stands { OnOk result ((me n : ℕ) (r : Replica) (steps : List Draft) → MachinePends self.old me n r steps → MachineStands self.new me n (world.Site.Up r)) }
+        ensures sent { IfOk result (λ first. (me n : ℕ) (r : Replica) (steps : List Draft) → MachinePends self.old me n r steps → IsWell port.old → Sends port.new first steps) }
     {
         match &mut self.place {
-            MachineState::Up(shell) => match turn::flush(shell) {
-                Ok(()) => Ok(()),
+            MachineState::Up(shell) => match turn::flush(self.alloc, shell, port) {
+                Ok(first) => Ok(first),
                 Err(why) => {
                     // Half a flush was made.
                     self.place = MachineState::Spent;

@@ -10,17 +10,18 @@ ghost use Rattle.crsm_spec.specs.Draft.{Draft};
 ghost use Rattle.crsm_spec.specs.Node.{turn};
 ghost use Rattle.crsm_machine.specs.Arriving.{turn_of, IsShort, Asks};
 ghost use Rattle.crsm_machine.specs.PacketPorts.{traffic_of};
-ghost use Rattle.crsm_machine.specs.Outcomes.{Makes};
+ghost use Rattle.crsm_machine.specs.Outcomes.{IsWell, Makes, Sends};
 ghost use Rattle.crsm_machine.specs.States.{IsSomeUp, IsUpAs};
 
 use crate::arrival::Arrival;
 use crate::fixed_clock::FixedClock;
 use crate::packet_port::{PacketPort, Slot};
-use crate::sink_port::SinkPort;
 use crate::step::Step;
 use crsm_base::{NoMemory, never};
 use crsm_disk::MemDisk;
+use crsm_port::{MemPort, Port};
 use crsm_shell::{Shell, TurnError, What};
+use std::alloc::Global;
 
 /// So many steps are kept together at most.
 const MOST_PENDING: u32 = 32;
@@ -78,14 +79,49 @@ pub(crate) fn take(
     }
 }
 
-/// Keeps the records of the pending steps. The shell has not failed before, and no call of its disk fails.
-pub(crate) fn flush(shell: &mut Shell<MemDisk>) -> Result<(), NoMemory>
-    requires { ∥ IsSomeUp shell.old ∥₁ }
-    ensures { OnOk result ((me n : ℕ) (kept : Log) (r : Replica) (steps : List Draft) → IsUpAs me n shell.old kept r steps → IsUpAs me n shell.new r.log r []) }
+/// A port that has sent as many datagrams gives its place to a new one.
+const MOST_SENT: usize = 64;
+
+/// The room of a port that begins, which mostly serves for all that it sends.
+const ROOM_SENDS: u64 = 128;
+
+/// The same of their bytes.
+const ROOM_BYTES: u64 = 8192;
+
+/// A port that has sent nothing.
+fn new_port(alloc: Global) -> Result<MemPort, NoMemory>
+    ensures { IfOk result (λ port. IsWell port) }
 {
-    let mut port = SinkPort { empties: 0 };
-    match shell.flush(&mut port) {
-        Ok(()) => Ok(()),
+    let mut port = MemPort::new(alloc, &[])?;
+    port.reserve(ROOM_SENDS, ROOM_BYTES)?;
+    Ok(port)
+}
+
+/// Room for more: of what a port has sent nobody asks any more once the next steps are flushed.
+fn renew(alloc: Global, port: &mut MemPort) -> Result<(), NoMemory>
+    ensures { OnOk result (IsWell port.old → IsWell port.new) }
+{
+    if port.sent().len() >= MOST_SENT {
+        *port = new_port(alloc)?;
+    }
+    Ok(())
+}
+
+/// Keeps the records of the pending steps, and sends over the port; answers the place on it of the first datagram. The shell
+/// has not failed before, and no call of its disk fails.
+pub(crate) fn flush(
+    alloc: Global,
+    shell: &mut Shell<MemDisk>,
+    port: &mut MemPort,
+) -> Result<usize, NoMemory>
+    requires { ∥ IsSomeUp shell.old ∥₁ }
+    ensures stands { OnOk result ((me n : ℕ) (kept : Log) (r : Replica) (steps : List Draft) → IsUpAs me n shell.old kept r steps → IsUpAs me n shell.new r.log r []) }
+    ensures sent { IfOk result (λ first. (me n : ℕ) (kept : Log) (r : Replica) (steps : List Draft) → IsUpAs me n shell.old kept r steps → IsWell port.old → Sends port.new first steps) }
+{
+    renew(alloc, port)?;
+    let first = port.sent().len();
+    match shell.flush(port) {
+        Ok(()) => Ok(first),
         Err(TurnError::Failed) => unreachable!(),
         Err(TurnError::PortFault) => unreachable!(),
         Err(TurnError::DiskFault) => unreachable!(),

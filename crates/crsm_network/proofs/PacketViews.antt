@@ -1,11 +1,13 @@
 -- What leaves, one by one.
-use Rattle.std.proofs.Common.{◌≡◌, ◌<◌, ◌+◌, ℕ, suc, List, [], ◌∷◌, ◌++◌, length, map, get_or, take, refl, ap, sym, ◌∙◌, subst, arith, append_assoc, append-nil, length-append}
+use Rattle.std.proofs.Common.{◌≡◌, ◌<◌, ◌+◌, ℕ, suc, List, [], ◌∷◌, ◌++◌, length, map, get_or, take, Some, refl, ap, sym, ◌∙◌, subst, arith, append_assoc, append-nil, length-append}
+use Rattle.std.specs.Prelude.{slice_get, option_map, unwrap_or}
 use Rattle.std.specs.List.{enumerate_from, flat_map}
 use Rattle.std.proofs.lemmas.List.{take_more, map-append, length-map}
 use Rattle.std.proofs.lemmas.List.Sums.{sum_by-append}
 use Rattle.crsm_base.specs.Messages.{datagram_bytes}
 use Rattle.crsm_base.specs.declared.send.Send.{Send}
 use Rattle.crsm_base.specs.declared.send.To.TheVariants as to_whom
+use Rattle.crsm_port.specs.Meaning.{Packet as Sent}
 use Rattle.crsm_spec.specs.Types.{Datagram, Line}
 use Rattle.crsm_spec.specs.World.{Packet, packet_of, packets_size, send_line, send_lines}
 use Rattle.crsm_network.specs.declared.network.Network.{Network}
@@ -35,6 +37,11 @@ none_sent network packets bytes k s a e h = rw (to_address s a e) (rw (append-ni
 pub none_told : (lines : List Line) (k n : ℕ) (s : Send) (a : ℕ) → s.to ≡ to_whom.Address a → lines ≡ lines ++ send_lines k n (sent_to s)
 unfolding send_lines
 none_told lines k n s a e = rw (to_address s a e) (sym (append-nil lines))
+
+-- the bytes that a port has at this place
+pub text_is : (sent : List Sent) (place n : ℕ) (d : Sent) (text : List ℕ) → place ≡ n → slice_get sent place ≡ Some d → option_map {T = Sent} (λ d. d.bytes) (slice_get sent n) ≡ Some text → d.bytes ≡ text
+text_is sent place n d text e f g =
+    ap (λ o. unwrap_or o text) (sym (ap (option_map {T = Sent} (λ d. d.bytes)) (ap (slice_get sent) (sym e) ∙ f)) ∙ g)
 
 -- ---- several
 

@@ -1,11 +1,12 @@
 -- The datagrams of a world, and how they are held in memory.
-use Rattle.std.specs.Prelude.{◌≡◌, ◌<◌, ◌≤◌, ℕ, Bool, true, false, ◌&&◌, not, List, [], ◌∷◌, length, filter, Option, option_map, slice_get, slice_set, slice_range}
+use Rattle.std.specs.Prelude.{◌≡◌, ◌<◌, ◌≤◌, ◌+◌, ℕ, Bool, true, false, ◌&&◌, not, List, [], ◌∷◌, length, filter, Option, Some, option_map, slice_get, slice_set, slice_range}
 use Rattle.std.specs.List.{AllByRecursion, flat_map, range_with_len}
 use Rattle.std.specs.Option.{option_map_or}
 use Rattle.crsm_base.specs.Messages.{datagram_bytes, FitsDatagram}
 use Rattle.crsm_base.specs.declared.send.Send.{Send}
 use Rattle.crsm_base.specs.declared.send.To.{To}
 use Rattle.crsm_base.specs.declared.send.To.TheVariants as to_whom
+use Rattle.crsm_port.specs.Meaning.{Packet as Sent}
 use Rattle.crsm_spec.specs.Types.{Datagram}
 use Rattle.crsm_spec.specs.World.{Packet}
 use Rattle.crsm_network.specs.declared.packets.PacketEntry.{PacketEntry}
@@ -84,6 +85,11 @@ sent_to s = to_packets s.to s.datagram
 unfoldable pub sent_of : List Send → List (ℕ × Datagram)
 sent_of sends = flat_map sent_to sends
 
+-- Each of these was sent over a port, as the bytes of its datagram: the first of them as datagram `first` of the port.
+abbrev pub AreSpelt : List Send → List Sent → ℕ → Type 0
+AreSpelt sends sent first =
+    (i : ℕ) (s : Send) → slice_get sends i ≡ Some s → option_map {T = Sent} (λ d. d.bytes) (slice_get sent (first + i)) ≡ Some (datagram_bytes s.datagram)
+
 -- ---- all of them
 
 -- The numbers are those of datagrams, with all fresh ones whose receivers pass the test, ascending.
@@ -101,3 +107,7 @@ pub record NetworkStands (network : Network) (packets : List Packet) (bytes : �
 -- for the packets and the count of bytes that the network has
 abbrev pub WhereStands : Network → (List Packet → ℕ → Type 0) → Type 0
 WhereStands network P = (packets : List Packet) (bytes : ℕ) → NetworkStands network packets bytes → P packets bytes
+
+-- the same where these are the bytes of the datagram
+abbrev pub WhereSpelt : Network → Datagram → List ℕ → (List Packet → ℕ → Type 0) → Type 0
+WhereSpelt network d text P = (packets : List Packet) (bytes : ℕ) → NetworkStands network packets bytes → text ≡ datagram_bytes d → P packets bytes

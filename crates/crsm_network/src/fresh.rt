@@ -88,7 +88,7 @@ impl Network {
     fn still_due(&self) -> Result<Vec<u64>, NoMemory>
         ensures { IfOk result (λ due. WhereStands self.now (λ packets bytes. due.items ≡ filter (is_fresh_for (is_up_among self.now.ups.items) packets) self.now.near.items)) }
     {
-        let mut due = Vec::new(self.alloc);
+        let mut due = Vec::with_capacity(self.alloc, self.near.len())?;
         for number in &self.near {
             self.add_due(*number, &mut due)?;
         }

@@ -1,42 +1,44 @@
 //! What leaves a replica.
 
-ghost use Rattle.std.specs.Prelude.{◌≡◌, ◌≤◌, ◌+◌, ◌++◌, ◌∷◌, [], ℕ, List, drop, length, map, IfOk, OnOk};
+ghost use Rattle.std.specs.Prelude.{◌≡◌, ◌≤◌, ◌+◌, ◌++◌, ◌∷◌, [], ℕ, List, length, map, IfOk, OnOk};
 ghost use Rattle.std.specs.List.{AllByRecursion};
 ghost use Rattle.crsm_base.specs.Messages.{FitsDatagram, datagram_bytes};
 ghost use Rattle.crsm_spec.specs.World as on_paper;
-ghost use Rattle.crsm_network.specs.Packets.{NetworkStands, FitsPacket, sent_to, sent_of, WhereStands};
+ghost use Rattle.crsm_network.specs.Packets.{NetworkStands, FitsPacket, sent_to, sent_of, AreSpelt, WhereSpelt, WhereStands};
+ghost use Rattle.crsm_port.specs.Sent.{packets_of};
 
 use crate::network::Network;
 use crate::packets::PacketEntry;
-use crsm_base::{Bytes, Datagram, Line, Lines, NoMemory, Send, SendKind, To};
-use crsm_wire::put_datagram;
+use crsm_base::{Bytes, Datagram, Line, Lines, NoMemory, Send, SendKind, To, never};
+use crsm_port::SentPackets;
 use std::alloc::Global;
 
 impl Network {
-    /// A datagram leaves replica `k`, and its line is printed.
+    /// A datagram, of these bytes, leaves replica `k`, and its line is printed.
     fn send(
         &mut self,
         k: u32,
         to: u32,
         datagram: &Datagram,
+        text: &[u8],
         lines: &mut Lines,
     ) -> Result<(), NoMemory>
         requires { FitsDatagram datagram.now }
-        ensures network { OnOk result (WhereStands self.old (λ packets bytes.
+        ensures network { OnOk result (WhereSpelt self.old datagram.now text.now (λ packets bytes.
             NetworkStands self.new (packets ++ on_paper.packet_of k (to, datagram.now) ∷ []) (bytes + length (datagram_bytes datagram.now)))) }
-        ensures lines { OnOk result (WhereStands self.old (λ packets bytes.
+        ensures lines { OnOk result (WhereSpelt self.old datagram.now text.now (λ packets bytes.
             lines.new ≡ lines.old ++ on_paper.send_line k (length packets) (to, datagram.now) ∷ [])) }
     {
         let index = self.count();
         let start = self.spelling.as_slice().len();
-        put_datagram(datagram, &mut self.spelling)?;
+        self.spelling.append(text)?;
         let end = self.spelling.as_slice().len();
         lines.push(Line::Send {
             index,
             from: k,
             to,
             kind: kind_of(datagram),
-            bytes: behind(self.alloc, &self.spelling, start)?,
+            bytes: copy(self.alloc, text)?,
         })?;
         self.fresh.push(index)?;
         self.near.push(index)?;
@@ -47,51 +49,78 @@ impl Network {
             end,
             is_used: false,
         })?;
-        self.keep((end - start) as u64)?;
+        self.keep(text.len() as u64)?;
         Ok(())
     }
 
-    /// Something that a step sends leaves replica `k`. A reply is no packet.
-    fn send_one(&mut self, k: u32, send: &Send, lines: &mut Lines) -> Result<(), NoMemory>
+    /// Something that a step sends, of these bytes, leaves replica `k`. A reply is no packet.
+    fn send_one(
+        &mut self,
+        k: u32,
+        send: &Send,
+        text: &[u8],
+        lines: &mut Lines,
+    ) -> Result<(), NoMemory>
         requires { FitsPacket send.now }
-        ensures network { OnOk result (WhereStands self.old (λ packets bytes.
+        ensures network { OnOk result (WhereSpelt self.old send.now.datagram text.now (λ packets bytes.
             NetworkStands self.new (packets ++ map (on_paper.packet_of k) (sent_to send.now)) (bytes + on_paper.packets_size (sent_to send.now)))) }
-        ensures lines { OnOk result (WhereStands self.old (λ packets bytes.
+        ensures lines { OnOk result (WhereSpelt self.old send.now.datagram text.now (λ packets bytes.
             lines.new ≡ lines.old ++ on_paper.send_lines k (length packets) (sent_to send.now))) }
     {
         match send.to {
             To::Replica(to) => {
-                self.send(k, to, &send.datagram, lines)?;
+                self.send(k, to, &send.datagram, text, lines)?;
                 Ok(())
             }
             To::Address(_) => Ok(()),
         }
     }
 
-    /// What a step sends leaves replica `k` in its order, and the lines of the packets are printed.
-    pub fn send_all(&mut self, k: u32, sends: &[Send], lines: &mut Lines) -> Result<(), NoMemory>
+    /// What a step sends leaves replica `k` in its order, and the lines of the packets are printed. A port has sent it: from
+    /// `first` on, the bytes are those of the port.
+    pub fn send_all(
+        &mut self,
+        k: u32,
+        sends: &[Send],
+        sent: &SentPackets,
+        first: usize,
+        lines: &mut Lines,
+    ) -> Result<(), NoMemory>
         requires { AllByRecursion FitsPacket sends.now }
-        ensures network { OnOk result (WhereStands self.old (λ packets bytes.
+        ensures network { OnOk result (WhereStands self.old (λ packets bytes. AreSpelt sends.now (packets_of sent.now) first →
             NetworkStands self.new (packets ++ map (on_paper.packet_of k) (sent_of sends.now)) (bytes + on_paper.packets_size (sent_of sends.now)))) }
-        ensures lines { OnOk result (WhereStands self.old (λ packets bytes.
+        ensures lines { OnOk result (WhereStands self.old (λ packets bytes. AreSpelt sends.now (packets_of sent.now) first →
             lines.new ≡ lines.old ++ on_paper.send_lines k (length packets) (sent_of sends.now))) }
     {
+        let mut place = first;
         for send in sends {
-            self.send_one(k, send, lines)?;
+            // The port has each of them.
+            let Some((_, text)) = sent.get(place) else {
+                return Err(never());
+            };
+            self.send_one(k, send, text, lines)?;
+            let next = behind(place)?;
+            place = next;
         }
         Ok(())
     }
 }
 
-/// The bytes from here on, in a list of their own that has room for no more.
-fn behind(alloc: Global, bytes: &Bytes, start: usize) -> Result<Bytes, NoMemory>
-    requires { start ≤ length bytes.now }
-    ensures { IfOk result (λ copy. copy ≡ drop start bytes.now) }
+/// The place behind this one.
+fn behind(place: usize) -> Result<usize, NoMemory>
+    ensures { IfOk result (λ next. next ≡ place + 1) }
 {
-    let last = &bytes.as_slice()[start..];
+    // Whatever has a place is in memory.
+    place.checked_add(1).ok_or(never())
+}
+
+/// These bytes, in a list that has room for no more.
+fn copy(alloc: Global, text: &[u8]) -> Result<Bytes, NoMemory>
+    ensures { IfOk result (λ copy. copy ≡ text.now) }
+{
     let mut copy = Bytes::new(alloc);
-    copy.reserve(last.len())?;
-    copy.append(last)?;
+    copy.reserve(text.len())?;
+    copy.append(text)?;
     Ok(copy)
 }
 

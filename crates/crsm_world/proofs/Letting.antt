@@ -1,16 +1,23 @@
 -- What a step lets out, from the batch that it made.
-use Rattle.std.proofs.Common.{◌≡◌, ◌+◌, ◌-◌, ℕ, zero, suc, min, List, [], ◌∷◌, ◌++◌, length, map, take, drop, refl, ap, ◌∙◌, subst, arith, append_assoc, length-append}
+use Rattle.std.proofs.Common.{◌≡◌, ◌+◌, ◌-◌, ℕ, zero, suc, min, List, [], ◌∷◌, ◌++◌, length, map, take, drop, Some, refl, sym, ap, ◌∙◌, subst, arith, append_assoc, append-nil, length-append}
+use Rattle.std.specs.Prelude.{slice_get, option_map}
 use Rattle.std.specs.List.{AllByRecursion}
 use Rattle.std.proofs.Math.Seq.{take-append_seam}
 use Rattle.std.proofs.lemmas.List.{take-map, length-map, take_all}
+use Rattle.crsm_base.specs.Messages.{datagram_bytes}
 use Rattle.crsm_base.specs.declared.send.Send.{Send}
+use Rattle.crsm_machine.specs.declared.Step.{Step}
+use Rattle.crsm_machine.specs.Outcomes.{Makes, Sends}
+use Rattle.crsm_port.specs.Meaning.{Packet as Sent}
+use Rattle.crsm_port.specs.Memory.{Memory}
+use Rattle.crsm_shell.specs.Shell.{sends_in, sends_of}
 use Rattle.crsm_output.specs.Made.{to_replica, to_address, line_of}
 use Rattle.crsm_spec.specs.Types.{Datagram, Line}
 use Rattle.crsm_spec.specs.Draft.{Draft, Reply}
 use Rattle.crsm_spec.specs.World.{Packet, body_size, packet_of, packets_size, send_lines}
 use Rattle.crsm_network.specs.declared.Network.{Network}
 use Rattle.crsm_world.specs.Effects.{LetsOut}
-use Rattle.crsm_network.specs.Packets.{NetworkStands, sent_to, to_packets, sent_of}
+use Rattle.crsm_network.specs.Packets.{AreSpelt, NetworkStands, sent_to, to_packets, sent_of}
 
 -- ---- what is among what is sent
 
@@ -42,7 +49,7 @@ take_same (x ∷ xs) zero (suc b) e = absurd (omega arith)
 take_same (x ∷ xs) (suc a) zero e = absurd (omega arith)
 take_same (x ∷ xs) (suc a) (suc b) e = ap (λ ys. x ∷ ys) (take_same xs a b (omega arith))
 
-drop_seam : {X : Type 0} (xs ys : List X) → drop (length xs) (xs ++ ys) ≡ ys
+pub drop_seam : {X : Type 0} (xs ys : List X) → drop (length xs) (xs ++ ys) ≡ ys
 drop_seam [] ys = refl
 drop_seam (x ∷ xs) ys = drop_seam xs ys
 
@@ -50,6 +57,58 @@ pub all_taken : (P : Send → Type 0) (xs : List Send) (n : ℕ) → AllByRecurs
 all_taken P xs zero all = tt
 all_taken P [] (suc n) all = tt
 all_taken P (x ∷ xs) (suc n) all = (all.0, all_taken P xs n all.1)
+
+-- ---- the bytes of what is sent
+
+got_map : {X Y : Type 0} (f : X → Y) (xs : List X) (i : ℕ) → option_map f (slice_get xs i) ≡ slice_get (map f xs) i
+got_map f [] i = refl
+got_map f (x ∷ xs) zero = refl
+got_map f (x ∷ xs) (suc i) = got_map f xs i
+
+got_behind : {X : Type 0} (xs : List X) (n i : ℕ) → slice_get xs (n + i) ≡ slice_get (drop n xs) i
+got_behind xs zero i = let z : 0 + i ≡ i = omega arith in ap (slice_get xs) z
+got_behind [] (suc n) i = refl
+got_behind (x ∷ xs) (suc n) i = let z : suc n + i ≡ suc (n + i) = omega arith in ap (slice_get (x ∷ xs)) z ∙ got_behind xs n i
+
+got_front : {X : Type 0} (xs ys : List X) (i : ℕ) (x : X) → slice_get xs i ≡ Some x → slice_get (xs ++ ys) i ≡ Some x
+got_front [] ys i x e = cc
+got_front (a ∷ xs) ys zero x e = e
+got_front (a ∷ xs) ys (suc i) x e = got_front xs ys i x e
+
+abbrev bytes_of : Sent → List ℕ
+bytes_of d = d.bytes
+
+abbrev text_of : Send → List ℕ
+text_of s = datagram_bytes s.datagram
+
+pub spelt_here : (sends : List Send) (more : List (List ℕ)) (sent : List Sent) (first : ℕ) → drop first (map bytes_of sent) ≡ map text_of sends ++ more → AreSpelt sends sent first
+spelt_here sends more sent first e i s here =
+    got_map bytes_of sent (first + i) ∙ got_behind (map bytes_of sent) first i ∙ ap (λ ts. slice_get ts i) e
+    ∙ got_front (map text_of sends) more i (text_of s) (sym (got_map text_of sends i) ∙ ap (option_map text_of) here)
+
+-- those of one step alone
+pub spelt_one : (step : Step) (x : Draft) (port : Memory) (first : ℕ) → Makes step x → Sends port first (x ∷ []) → AreSpelt step.batch.sends port.sent first
+unfolding sends_of sends_in
+spelt_one step x port first made sent =
+    let one : sends_of (x ∷ []) ≡ step.batch.sends = append-nil (map to_replica x.sends ++ map to_address x.replies) ∙ sym made.batch.made.sends in
+    spelt_here step.batch.sends [] port.sent first (sent.texts ∙ ap (map text_of) one ∙ sym (append-nil (map text_of step.batch.sends)))
+
+got_first : {X : Type 0} (n : ℕ) (xs : List X) (i : ℕ) (x : X) → slice_get (take n xs) i ≡ Some x → slice_get xs i ≡ Some x
+got_first zero xs i x e = cc
+got_first (suc n) [] i x e = e
+got_first (suc n) (a ∷ xs) zero x e = e
+got_first (suc n) (a ∷ xs) (suc i) x e = got_first n xs i x e
+
+pub spelt_first : (n : ℕ) (sends : List Send) (sent : List Sent) (first : ℕ) → AreSpelt sends sent first → AreSpelt (take n sends) sent first
+spelt_first n sends sent first spelt i s here = spelt i s (got_first n sends i s here)
+
+pub none_spelt : (sent : List Sent) (first : ℕ) → AreSpelt [] sent first
+none_spelt sent first i s here = cc
+
+-- so many of them, with no more than there are
+pub spelt_taken : (count out : ℕ) (sends all : List Send) (sent : List Sent) (first : ℕ) → sends ≡ all → out ≡ min count (length all) → AreSpelt (take count all) sent first → AreSpelt (take out sends) sent first
+spelt_taken count out sends all sent first e o spelt =
+    subst (λ (ss : List Send). AreSpelt ss sent first) (take_same all count out (omega (arith, o)) ∙ ap (take out) (sym e)) spelt
 
 -- ---- the whole
 

@@ -23,8 +23,9 @@ use Rattle.crsm_spec.specs.Step.{boot}
 use Rattle.crsm_spec.specs.World.{is_up, final_line}
 use Rattle.crsm_machine.specs.declared.Step.{Step}
 use Rattle.crsm_machine.specs.declared.Boot.{Boot}
-use Rattle.crsm_machine.specs.Outcomes.{Makes, Boots, IsCut}
+use Rattle.crsm_machine.specs.Outcomes.{IsWell, Makes, Boots, IsCut}
 use Rattle.crsm_machine.specs.Machine.{MachineStands, MachinePends}
+use Rattle.crsm_port.specs.Memory.{Memory}
 use Rattle.crsm_world.specs.declared.machines.Machines.{Machines}
 use Rattle.crsm_world.specs.Machines.{EachIs, IsSite, MachinesStand, IsPending, IsSiteBeside, MachinesPend, MachinesCut, MachinesBoot, is_up_in, up_in, roomed}
 use Rattle.crsm_network.proofs.Gets.{got}
@@ -118,6 +119,7 @@ machine_set sites n places k s p h is = record {
   founders = h.founders;
   few = let l = length-set places k p in let f = h.few in omega arith;
   each = each_set (IsSite n) (IsSite n) 0 sites.items.items places k s p (λ j a b ne x. x) (plus_zero (λ j. MachineStands s j n p) k is) h.each;
+  well = h.well;
 }
 
 pub up_got : (places : List Site) (k : ℕ) (p : Site) → slice_get places k ≡ Some p → is_up_in places k ≡ is_up p
@@ -141,35 +143,45 @@ machines_length sites n places h = each_length (IsSite n) 0 sites.items.items pl
 
 -- ---- steps that are not kept yet
 
-pub pend_at : (sites : Machines) (n : ℕ) (places : List Site) (k : ℕ) (s : Machine) (p : Site) → MachinesPend k sites n places → k < length sites.items.items
-    → s ≡ get_or sites.items.items k s → slice_get places k ≡ Some p → IsPending n k s p
-pend_at sites n places k s p h l is e =
-    zero_plus (λ j. IsPending n j s p) k ((each_at (IsSiteBeside k n) 0 sites.items.items places k s p h.each (slice_get-get_or sites.items.items k s l ∙ ap Some (sym is)) e).here (let z : 0 + k ≡ k = omega arith in z))
+pub pend_at : (sites : Machines) (n : ℕ) (places : List Site) (k : ℕ) (steps : List Draft) (s : Machine) (p : Site) → MachinesPend k steps sites n places → k < length sites.items.items
+    → s ≡ get_or sites.items.items k s → slice_get places k ≡ Some p → IsPending n k steps s p
+pend_at sites n places k steps s p h l is e =
+    zero_plus (λ j. IsPending n j steps s p) k ((each_at (IsSiteBeside k n steps) 0 sites.items.items places k s p h.each (slice_get-get_or sites.items.items k s l ∙ ap Some (sym is)) e).here (let z : 0 + k ≡ k = omega arith in z))
 
-pub pend_set : (sites : Machines) (n : ℕ) (places : List Site) (k : ℕ) (s : Machine) (p : Site) → MachinesPend k sites n places → IsPending n k s p
-    → MachinesPend k (record sites { items = with_item sites.items k s }) n (slice_set places k p)
-pend_set sites n places k s p h is = record {
+-- the same of whatever site it is
+pub pend_found : (sites : Machines) (n : ℕ) (places : List Site) (k : ℕ) (steps : List Draft) (s : Machine) → MachinesPend k steps sites n places → k < length sites.items.items
+    → s ≡ get_or sites.items.items k s → (p : Site) × (slice_get places k ≡ Some p) × IsPending n k steps s p
+pend_found sites n places k steps s h l is =
+    let here = each_here (IsSiteBeside k n steps) 0 sites.items.items places k s h.each (slice_get-get_or sites.items.items k s l ∙ ap Some (sym is)) in
+    (here.0, here.1, pend_at sites n places k steps s here.0 h l is here.1)
+
+pub pend_set : (sites : Machines) (n : ℕ) (places : List Site) (k : ℕ) (steps more : List Draft) (s : Machine) (p : Site) → MachinesPend k steps sites n places → IsPending n k more s p
+    → MachinesPend k more (record sites { items = with_item sites.items k s }) n (slice_set places k p)
+pend_set sites n places k steps more s p h is = record {
   founders = h.founders;
   few = let l = length-set places k p in let f = h.few in omega arith;
-  each = each_set (IsSiteBeside k n) (IsSiteBeside k n) 0 sites.items.items places k s p (λ j a b ne x. x)
-      (record { here = λ e. plus_zero (λ j. IsPending n j s p) k is; others = λ ne. absurd (ne (let z : 0 + k ≡ k = omega arith in z)) }) h.each;
+  each = each_set (IsSiteBeside k n steps) (IsSiteBeside k n more) 0 sites.items.items places k s p
+      (λ j a b ne x. record { here = λ e. absurd (ne (let z : k ≡ 0 + k = omega arith in e ∙ z)); others = x.others })
+      (record { here = λ e. plus_zero (λ j. IsPending n j more s p) k is; others = λ ne. absurd (ne (let z : 0 + k ≡ k = omega arith in z)) }) h.each;
+  well = h.well;
 }
 
 -- the steps of replica k begin
 pub pend_begin : (sites : Machines) (n : ℕ) (places : List Site) (k : ℕ) → MachinesStand sites n places
-    → ((s : Machine) (p : Site) → slice_get places k ≡ Some p → MachineStands s k n p → IsPending n k s p) → MachinesPend k sites n places
+    → ((s : Machine) (p : Site) → slice_get places k ≡ Some p → MachineStands s k n p → IsPending n k [] s p) → MachinesPend k [] sites n places
 pend_begin sites n places k h f = record {
   founders = h.founders;
   few = h.few;
   each = walk 0 sites.items.items places (λ i p e. let z : i ≡ 0 + i = omega arith in subst (λ (j : ℕ). slice_get places j ≡ Some p) z e) h.each;
+  well = h.well;
 }
   where
-    walk : (b : ℕ) (ss : List Machine) (ps : List Site) → ((i : ℕ) (p : Site) → slice_get ps i ≡ Some p → slice_get places (b + i) ≡ Some p) → EachIs (IsSite n) b ss ps → EachIs (IsSiteBeside k n) b ss ps
+    walk : (b : ℕ) (ss : List Machine) (ps : List Site) → ((i : ℕ) (p : Site) → slice_get ps i ≡ Some p → slice_get places (b + i) ≡ Some p) → EachIs (IsSite n) b ss ps → EachIs (IsSiteBeside k n []) b ss ps
     walk b [] [] g h = tt
     walk b (s ∷ ss) (p ∷ ps) g h = (
       record {
         here = λ e. let at : slice_get places b ≡ Some p = let z : b + 0 ≡ b = omega arith in subst (λ (j : ℕ). slice_get places j ≡ Some p) z (g 0 p refl) in
-            subst (λ (j : ℕ). IsPending n j s p) (sym e) (f s p (subst (λ (j : ℕ). slice_get places j ≡ Some p) e at) (subst (λ (j : ℕ). MachineStands s j n p) e h.0));
+            subst (λ (j : ℕ). IsPending n j [] s p) (sym e) (f s p (subst (λ (j : ℕ). slice_get places j ≡ Some p) e at) (subst (λ (j : ℕ). MachineStands s j n p) e h.0));
         others = λ ne. h.0;
       },
       walk (b + 1) ss ps (λ i q e. let z : b + suc i ≡ b + 1 + i = omega arith in subst (λ (j : ℕ). slice_get places j ≡ Some q) z (g (suc i) q e)) h.1,
@@ -183,14 +195,20 @@ set_same (a ∷ ps) zero p e = let x : a ≡ p = cc in ap (λ q. q ∷ ps) (sym 
 set_same (a ∷ ps) (suc k) p e = ap (λ qs. a ∷ qs) (set_same ps k p e)
 
 -- they are kept
-pub pend_end : (sites : Machines) (n : ℕ) (places : List Site) (k : ℕ) (s : Machine) (p : Site) → MachinesPend k sites n places → slice_get places k ≡ Some p → MachineStands s k n p
+pub pend_end : (sites : Machines) (n : ℕ) (places : List Site) (k : ℕ) (steps : List Draft) (s : Machine) (p : Site) → MachinesPend k steps sites n places → slice_get places k ≡ Some p → MachineStands s k n p
     → MachinesStand (record sites { items = with_item sites.items k s }) n places
-pend_end sites n places k s p h e is = record {
+pend_end sites n places k steps s p h e is = record {
   founders = h.founders;
   few = h.few;
   each = subst (λ (ps : List Site). EachIs (IsSite n) 0 (set sites.items.items k s) ps) (set_same places k p e)
-      (each_set (IsSiteBeside k n) (IsSite n) 0 sites.items.items places k s p (λ j a b ne x. x.others (λ e. ne (let z : k ≡ 0 + k = omega arith in e ∙ z))) (plus_zero (λ j. MachineStands s j n p) k is) h.each);
+      (each_set (IsSiteBeside k n steps) (IsSite n) 0 sites.items.items places k s p (λ j a b ne x. x.others (λ e. ne (let z : k ≡ 0 + k = omega arith in e ∙ z))) (plus_zero (λ j. MachineStands s j n p) k is) h.each);
+  well = h.well;
 }
+
+-- ---- the port
+
+pub with_port : (sites : Machines) (n : ℕ) (places : List Site) (port : Memory) → MachinesStand sites n places → IsWell port → MachinesStand (record sites { port = port }) n places
+with_port sites n places port h well = record { founders = h.founders; few = h.few; each = h.each; well = well }
 
 -- ---- room for one more
 
@@ -205,6 +223,7 @@ roomed_new sites n places k items s h l e f is =
       few = let a = length-append places (Site.Down [] ∷ []) in omega arith;
       each = let P : List Machine → Type 0 = λ ss. EachIs (IsSite n) 0 ss (places ++ Site.Down [] ∷ []) in
           subst P (sym f) (each_more (IsSite n) 0 sites.items.items places s (Site.Down []) h.each (let z : k ≡ 0 + length sites.items.items = omega arith in subst (λ (j : ℕ). MachineStands s j n (Site.Down [])) z is));
+      well = h.well;
     })
 
 pub roomed_old : (sites : Machines) (n : ℕ) (places : List Site) (k : ℕ) → MachinesStand sites n places → (k ≡ length sites.items.items → ⊥) → MachinesStand sites n (roomed places k)
@@ -215,10 +234,10 @@ roomed_old sites n places k h ne =
     rw b h
 
 pub pending_from : (n k : ℕ) (places : List Site) (r : Replica) → slice_get places k ≡ Some (Site.Up r) → ((machine : Machine) (me n : ℕ) (q : Replica) → MachineStands machine me n (Site.Up q) → MachinePends machine me n q [])
-    → (s : Machine) (p : Site) → slice_get places k ≡ Some p → MachineStands s k n p → IsPending n k s p
+    → (s : Machine) (p : Site) → slice_get places k ≡ Some p → MachineStands s k n p → IsPending n k [] s p
 pending_from n k places r e law s p f h =
     let g : p ≡ Site.Up r = cc in
-    record { replica = r; steps = []; up = g; pends = law s k n r (subst (λ (q : Site). MachineStands s k n q) g h) }
+    record { replica = r; up = g; pends = law s k n r (subst (λ (q : Site). MachineStands s k n q) g h) }
 
 -- ---- a stop, a boot
 
@@ -235,23 +254,23 @@ boot_set sites n places k log s t made h l is e f =
     let b = f k n log (site_at sites n places k s (Site.Down log) h l is e) in
     (b.0, machine_set sites n places k t _ h b.1)
 
-pub take_set : (sites : Machines) (n : ℕ) (places : List Site) (k : ℕ) (r : Replica) (s t : Machine) (step : Step) (x : Draft) → MachinesPend k sites n places → k < length sites.items.items
+pub take_set : (sites : Machines) (n : ℕ) (places : List Site) (k : ℕ) (r : Replica) (steps : List Draft) (s t : Machine) (step : Step) (x : Draft) → MachinesPend k steps sites n places → k < length sites.items.items
     → s ≡ get_or sites.items.items k s → slice_get places k ≡ Some (Site.Up r)
-    → ((me n : ℕ) (q : Replica) (steps : List Draft) → q ≡ r → MachinePends s me n q steps → Makes step x × MachinePends t me n x.replica (steps ++ x ∷ []))
-    → Makes step x × MachinesPend k (record sites { items = with_item sites.items k t }) n (slice_set places k (Site.Up x.replica))
-take_set sites n places k r s t step x h l is e f =
-    let p = pend_at sites n places k s (Site.Up r) h l is e in
+    → ((me n : ℕ) (q : Replica) → q ≡ r → MachinePends s me n q steps → Makes step x × MachinePends t me n x.replica (steps ++ x ∷ []))
+    → Makes step x × MachinesPend k (steps ++ x ∷ []) (record sites { items = with_item sites.items k t }) n (slice_set places k (Site.Up x.replica))
+take_set sites n places k r steps s t step x h l is e f =
+    let p = pend_at sites n places k steps s (Site.Up r) h l is e in
     let q : p.replica ≡ r = let u = p.up in cc in
-    let b = f k n p.replica p.steps q p.pends in
-    (b.0, pend_set sites n places k t (Site.Up x.replica) h (record { replica = x.replica; steps = p.steps ++ x ∷ []; up = refl; pends = b.1 }))
+    let b = f k n p.replica q p.pends in
+    (b.0, pend_set sites n places k steps (steps ++ x ∷ []) t (Site.Up x.replica) h (record { replica = x.replica; up = refl; pends = b.1 }))
 
-pub flush_set : (sites : Machines) (n : ℕ) (places : List Site) (k : ℕ) (s t : Machine) → MachinesPend k sites n places → k < length sites.items.items → s ≡ get_or sites.items.items k s
-    → ((me n : ℕ) (r : Replica) (steps : List Draft) → MachinePends s me n r steps → MachineStands t me n (Site.Up r))
+pub flush_set : (sites : Machines) (n : ℕ) (places : List Site) (k : ℕ) (steps : List Draft) (s t : Machine) → MachinesPend k steps sites n places → k < length sites.items.items → s ≡ get_or sites.items.items k s
+    → ((me n : ℕ) (r : Replica) → MachinePends s me n r steps → MachineStands t me n (Site.Up r))
     → MachinesStand (record sites { items = with_item sites.items k t }) n places
-flush_set sites n places k s t h l is f =
-    let here = each_here (IsSiteBeside k n) 0 sites.items.items places k s h.each (slice_get-get_or sites.items.items k s l ∙ ap Some (sym is)) in
-    let p = pend_at sites n places k s here.0 h l is here.1 in
-    pend_end sites n places k t here.0 h here.1 (subst (λ (q : Site). MachineStands t k n q) (sym p.up) (f k n p.replica p.steps p.pends))
+flush_set sites n places k steps s t h l is f =
+    let here = pend_found sites n places k steps s h l is in
+    let p = here.2 in
+    pend_end sites n places k steps t here.0 h here.1 (subst (λ (q : Site). MachineStands t k n q) (sym p.up) (f k n p.replica p.pends))
 
 -- ---- the last lines
 

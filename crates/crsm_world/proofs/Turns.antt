@@ -10,7 +10,7 @@ use Rattle.crsm_spec.specs.Replica.{Replica}
 use Rattle.crsm_spec.specs.Draft.{Draft, begun}
 use Rattle.crsm_spec.specs.Step.{Input, step}
 use Rattle.crsm_spec.specs.Node.{Turn, turn, input_of}
-use Rattle.crsm_spec.specs.World.{Site, Packet, World, Moment, Ending, is_up, log_of, log_at, lost_step}
+use Rattle.crsm_spec.specs.World.{Site, Packet, World, Ending, is_up, log_of, log_at, lost_step}
 use Rattle.crsm_spec.specs.Moments.{cut_at, is_kept, silent, step_at, step_at_site, junk_at, come, use_up}
 use Rattle.crsm_network.specs.declared.PacketView.{PacketView}
 use Rattle.crsm_world.specs.Machines.{is_up_in, up_in}

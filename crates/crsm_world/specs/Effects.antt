@@ -1,5 +1,5 @@
 -- What comes of a replica where something comes to it, and what of that is let out.
-use Rattle.std.specs.Prelude.{◌≡◌, ◌+◌, ℕ, List, ◌++◌, length, map, Some, slice_get, slice_set}
+use Rattle.std.specs.Prelude.{◌≡◌, ◌+◌, ℕ, List, ◌++◌, length, map, take, Some, slice_get, slice_set}
 use Rattle.std.specs.List.{AllByRecursion}
 use Rattle.crsm_core.specs.Core.{FitsSent}
 use Rattle.crsm_spec.specs.Types.{Datagram, Line}
@@ -8,7 +8,7 @@ use Rattle.crsm_spec.specs.Replica.{Replica}
 use Rattle.crsm_spec.specs.World.{Packet, Site, World as Cluster, Moment, body_size, packet_of, packets_size, send_lines, whole_step, cut_step, down, log_of}
 use Rattle.crsm_spec.specs.Moments.{silent}
 use Rattle.crsm_network.specs.declared.Network.{Network}
-use Rattle.crsm_network.specs.Packets.{NetworkStands}
+use Rattle.crsm_network.specs.Packets.{AreSpelt, NetworkStands}
 use Rattle.crsm_machine.specs.declared.Step.{Step}
 use Rattle.crsm_machine.specs.Outcomes.{Makes}
 use Rattle.crsm_world.specs.declared.ending.Effects.{Effects}
@@ -21,20 +21,23 @@ pub record LetsOut (before : List Line) (packets : List Packet) (bytes k : ℕ) 
   pub stands : NetworkStands network (packets ++ map (packet_of k) sends) (bytes + body_size x.batch + packets_size sends)
   pub told : lines ≡ before ++ (((x.lines ++ x.excess) ++ send_lines k (length packets) sends) ++ map (λ a. a.line) replies)
 
--- What was left leads to the moment where it goes out, and the machines are already as they are then.
+-- What was left leads to the moment where it goes out, and the machines are already as they are then. What goes out was
+-- sent over their port.
 abbrev pub Leaves : Moment → Cluster → Effects → Machines → Type 0
 Leaves m v effects.Nothing sites = (m ≡ silent v v) × MachinesStand sites v.n v.sites
-Leaves m v (effects.Whole k step) sites =
+Leaves m v (effects.Whole k step first) sites =
     (x : Draft) × (m ≡ whole_step v k x) × Makes step x × MachinesStand sites v.n (slice_set v.sites k (Site.Up x.replica))
-Leaves m v (effects.Cut k step count) sites =
+    × AreSpelt step.batch.sends sites.port.sent first
+Leaves m v (effects.Cut k step first count) sites =
     (x : Draft) × (m ≡ cut_step count v k x) × Makes step x × MachinesStand sites v.n (slice_set v.sites k (Site.Down x.replica.log))
+    × AreSpelt (take count step.batch.sends) sites.port.sent first
 Leaves m v (effects.Down k) sites =
     (p : Site) × (m ≡ down v k) × (slice_get v.sites k ≡ Some p) × MachinesStand sites v.n (slice_set v.sites k (Site.Down (log_of p)))
 
 -- each datagram of the step has a spelling
 abbrev pub FitsEffects : Effects → Type 0
-FitsEffects (effects.Whole k step) = AllByRecursion FitsSent step.batch.sends
-FitsEffects (effects.Cut k step count) = AllByRecursion FitsSent step.batch.sends
+FitsEffects (effects.Whole k step first) = AllByRecursion FitsSent step.batch.sends
+FitsEffects (effects.Cut k step first count) = AllByRecursion FitsSent step.batch.sends
 FitsEffects _ = Unit {0}
 
 -- for a cluster whose sites the machines are, and in which replica k is up

@@ -9,7 +9,7 @@ use Rattle.crsm_spec.specs.Step.{boot}
 use Rattle.crsm_machine.specs.declared.Machine.{Machine}
 use Rattle.crsm_machine.specs.declared.Step.{Step}
 use Rattle.crsm_machine.specs.declared.Boot.{Boot}
-use Rattle.crsm_machine.specs.Outcomes.{Makes, Boots, is_cut_kept, spec_at}
+use Rattle.crsm_machine.specs.Outcomes.{IsWell, Makes, Sends, Boots, is_cut_kept, spec_at}
 use Rattle.crsm_machine.specs.Machine.{MachineStands, MachinePends}
 use Rattle.crsm_world.specs.declared.machines.Machines.{Machines}
 
@@ -24,29 +24,30 @@ EachIs P k (s ∷ sites) [] = ⊥
 abbrev pub IsSite : ℕ → ℕ → Machine → Site → Type 0
 IsSite n k machine place = MachineStands machine k n place
 
--- the machines are these sites in a cluster that began with n.
+-- the machines are these sites in a cluster that began with n, and no call of their port fails
 pub record MachinesStand (sites : Machines) (n : ℕ) (places : List Site) : Type 0 where
   pub founders : sites.founders.count ≡ n
   pub few : length places ≤ 15
   pub each : EachIs (IsSite n) 0 sites.items.items places
+  pub well : IsWell sites.port
 
--- the machine is up with steps that are not kept yet
-pub record IsPending (n k : ℕ) (machine : Machine) (place : Site) : Type 0 where
+-- the machine is up with these steps, which are not kept yet
+pub record IsPending (n k : ℕ) (steps : List Draft) (machine : Machine) (place : Site) : Type 0 where
   pub replica : Replica
-  pub steps : List Draft
   pub up : place ≡ Site.Up replica
   pub pends : MachinePends machine k n replica steps
 
--- the machine is this site of replica j, where the steps of k are not kept yet
-pub record IsSiteBeside (k n j : ℕ) (machine : Machine) (place : Site) : Type 0 where
-  pub here : j ≡ k → IsPending n j machine place
+-- the machine is this site of replica j, where these steps of k are not kept yet
+pub record IsSiteBeside (k n : ℕ) (steps : List Draft) (j : ℕ) (machine : Machine) (place : Site) : Type 0 where
+  pub here : j ≡ k → IsPending n j steps machine place
   pub others : j ≢ k → MachineStands machine j n place
 
--- The same where the last steps of replica k are not kept yet.
-pub record MachinesPend (k : ℕ) (sites : Machines) (n : ℕ) (places : List Site) : Type 0 where
+-- The same where the last steps of replica k, these, are not kept yet.
+pub record MachinesPend (k : ℕ) (steps : List Draft) (sites : Machines) (n : ℕ) (places : List Site) : Type 0 where
   pub founders : sites.founders.count ≡ n
   pub few : length places ≤ 15
-  pub each : EachIs (IsSiteBeside k n) 0 sites.items.items places
+  pub each : EachIs (IsSiteBeside k n steps) 0 sites.items.items places
+  pub well : IsWell sites.port
 
 -- replica k was stopped in a step: it is down with the step's records, or without them
 abbrev pub MachinesCut : (calls fill n : ℕ) → List Site → (k : ℕ) → Replica → Draft → Option Step → Machines → Type 0
@@ -86,14 +87,16 @@ WhereUp machines k P =
     (n : ℕ) (sites : List Site) (r : Replica) → MachinesStand machines n sites → slice_get sites k ≡ Some (Site.Up r) → P n sites r
 
 -- the same where its last steps are not kept yet
-abbrev pub WherePending : Machines → ℕ → (ℕ → List Site → Replica → Type 0) → Type 0
+abbrev pub WherePending : Machines → ℕ → (ℕ → List Site → Replica → List Draft → Type 0) → Type 0
 WherePending machines k P =
-    (n : ℕ) (sites : List Site) (r : Replica) → MachinesPend k machines n sites → slice_get sites k ≡ Some (Site.Up r) → P n sites r
+    (n : ℕ) (sites : List Site) (r : Replica) (steps : List Draft) → MachinesPend k steps machines n sites → slice_get sites k ≡ Some (Site.Up r) → P n sites r steps
 
--- the step is what the draft made, and the machines are these sites with the draft's replica at k
-abbrev pub StepsTo : Step → Draft → Machines → ℕ → List Site → ℕ → Type 0
-StepsTo step x machines n sites k = Makes step x × MachinesStand machines n (slice_set sites k (Site.Up x.replica))
+-- The step is what the draft made, and the machines are these sites with the draft's replica at k. The port has sent, from
+-- this place on, what the draft sends.
+abbrev pub StepsTo : Step → (first : ℕ) → Draft → Machines → ℕ → List Site → ℕ → Type 0
+StepsTo step first x machines n sites k =
+    Makes step x × MachinesStand machines n (slice_set sites k (Site.Up x.replica)) × Sends machines.port first (x ∷ [])
 
--- the same where the step is not kept yet
-abbrev pub PendsTo : Step → Draft → Machines → ℕ → List Site → ℕ → Type 0
-PendsTo step x machines n sites k = Makes step x × MachinesPend k machines n (slice_set sites k (Site.Up x.replica))
+-- the step is not kept yet, behind others
+abbrev pub PendsTo : Step → List Draft → Draft → Machines → ℕ → List Site → ℕ → Type 0
+PendsTo step steps x machines n sites k = Makes step x × MachinesPend k (steps ++ x ∷ []) machines n (slice_set sites k (Site.Up x.replica))

@@ -1,6 +1,7 @@
 -- What a world stands for.
 use Rattle.std.specs.Prelude.{◌≡◌, ℕ, true, false, List, ◌++◌, Some, slice_get}
 use Rattle.crsm_spec.specs.Types.{Line}
+use Rattle.crsm_spec.specs.Draft.{Draft}
 use Rattle.crsm_spec.specs.Replica.{Replica}
 use Rattle.crsm_spec.specs.World.{Site, World as Cluster, Moment}
 use Rattle.crsm_world.specs.declared.world.World.{World}
@@ -14,9 +15,10 @@ pub record Holds (w : World) (v : Cluster) : Type 0 where
   pub sites : MachinesStand w.sites v.n v.sites
   pub network : NetworkStands w.network v.packets v.bytes
 
--- The same where the last steps of replica k are not kept yet.
-pub record HoldsBeside (k : ℕ) (w : World) (v : Cluster) : Type 0 where
-  pub sites : MachinesPend k w.sites v.n v.sites
+-- The world has the datagrams and the bytes of this one on paper. Its machines are these sites, where the last steps of
+-- replica k, these, are neither kept nor out.
+pub record HoldsBeside (k : ℕ) (steps : List Draft) (w : World) (v : Cluster) (n : ℕ) (places : List Site) : Type 0 where
+  pub sites : MachinesPend k steps w.sites n places
   pub network : NetworkStands w.network v.packets v.bytes
 
 -- the world is what the moment leads to, and the lines are its lines
@@ -29,11 +31,6 @@ pub record LeadsOn (m : Moment) (sites : Machines) (network : Network) (before l
   pub places : MachinesStand sites m.after.n m.after.sites
   pub packets : NetworkStands network m.after.packets m.after.bytes
   pub told : lines ≡ before ++ m.lines
-
--- the same where the last steps of replica k are not kept yet
-pub record LeadsBeside (k : ℕ) (m : Moment) (w : World) (lines : List Line) : Type 0 where
-  pub after : HoldsBeside k w m.after
-  pub told : lines ≡ m.lines
 
 -- The world in memory stands for this one on paper.
 pub record Stands (w : World) (v : Cluster) : Type 0 where
@@ -59,9 +56,10 @@ WhereStands w P = (v : Cluster) → StandsFor w v → P v
 abbrev pub WhereHeldUp : World → ℕ → (Cluster → Replica → Type 0) → Type 0
 WhereHeldUp w k P = (v : Cluster) (r : Replica) → Holds w v → slice_get v.sites k ≡ Some (Site.Up r) → P v r
 
--- the same where its last steps are not kept yet
-abbrev pub WhereHeldBeside : World → ℕ → (Cluster → Replica → Type 0) → Type 0
-WhereHeldBeside w k P = (v : Cluster) (r : Replica) → HoldsBeside k w v → slice_get v.sites k ≡ Some (Site.Up r) → P v r
+-- the same of some sites, where its last steps are neither kept nor out
+abbrev pub WhereHeldBeside : World → ℕ → (Cluster → ℕ → List Site → Replica → List Draft → Type 0) → Type 0
+WhereHeldBeside w k P =
+    (v : Cluster) (n : ℕ) (places : List Site) (r : Replica) (steps : List Draft) → HoldsBeside k steps w v n places → slice_get places k ≡ Some (Site.Up r) → P v n places r steps
 
 -- the same of whichever replica is up
 abbrev pub WhereSomeUp : World → (Cluster → ℕ → Replica → Type 0) → Type 0

@@ -39,7 +39,13 @@ impl World {
             LeadsOn (turn_at (ending_of ending) v k (turn_of arrival.entry) reading) self.new.sites self.new.network lines.old lines.new)) }
     {
         let effects = self.sites.arrive(k, ending, arrival, reading)?;
-        leave(self.alloc, &mut self.network, effects, lines)?;
+        leave(
+            self.alloc,
+            &mut self.network,
+            self.sites.sent(),
+            effects,
+            lines,
+        )?;
         Ok(())
     }
 
@@ -92,7 +98,13 @@ impl World {
         let effects = self
             .sites
             .arrive(u64::from(packet.to), ending, arrival, reading)?;
-        leave(self.alloc, &mut self.network, effects, lines)?;
+        leave(
+            self.alloc,
+            &mut self.network,
+            self.sites.sent(),
+            effects,
+            lines,
+        )?;
         Ok(())
     }
 

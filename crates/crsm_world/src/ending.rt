@@ -27,10 +27,21 @@ pub(crate) enum Ending {
 pub(crate) enum Effects {
     /// It was not up.
     Nothing,
-    /// All of its step goes out.
-    Whole { k: u32, step: Step },
+    /// All of its step goes out, which the port has sent from `first` on.
+    Whole {
+        k: u32,
+        step: Step,
+        first: usize,
+    },
     /// So many of the sends and replies of its step go out. It is down.
-    Cut { k: u32, step: Step, sends: u64 },
+    Cut {
+        k: u32,
+        step: Step,
+        first: usize,
+        sends: u64,
+    },
     /// It is down, and nothing goes out.
-    Down { k: u32 },
+    Down {
+        k: u32,
+    },
 }

@@ -29,8 +29,8 @@ impl Machines {
             Leaves (on_paper.whole_step v k (turn r (turn_of arrival.entry, reading))) v effects self.new)) }
         ensures spelt { IfOk result (λ effects. FitsEffects effects) }
     {
-        let step = self.step(k, arrival, reading)?;
-        Ok(Effects::Whole { k, step })
+        let (step, first) = self.step(k, arrival, reading)?;
+        Ok(Effects::Whole { k, step, first })
     }
 
     /// A step of a replica that is up, which stops when its records are kept and so many of its sends are out.
@@ -47,9 +47,14 @@ impl Machines {
             Leaves (on_paper.cut_step sends v k (turn r (turn_of arrival.entry, reading))) v effects self.new)) }
         ensures spelt { IfOk result (λ effects. FitsEffects effects) }
     {
-        let step = self.step(k, arrival, reading)?;
+        let (step, first) = self.step(k, arrival, reading)?;
         self.crash(k)?;
-        Ok(Effects::Cut { k, step, sends })
+        Ok(Effects::Cut {
+            k,
+            step,
+            first,
+            sends,
+        })
     }
 
     /// A replica goes down with what is on its disk.
@@ -79,7 +84,12 @@ impl Machines {
         ensures spelt { IfOk result (λ effects. FitsEffects effects) }
     {
         match self.cut_at(k, stop, arrival, reading)? {
-            Some(step) => Ok(Effects::Cut { k, step, sends: 0 }),
+            Some(step) => Ok(Effects::Cut {
+                k,
+                step,
+                first: 0,
+                sends: 0,
+            }),
             None => Ok(Effects::Down { k }),
         }
     }

@@ -34,7 +34,13 @@ impl World {
         };
         let effects = self.sites.go_down(k)?;
         let mut lines = Lines::new(self.alloc);
-        leave(self.alloc, &mut self.network, effects, &mut lines)?;
+        leave(
+            self.alloc,
+            &mut self.network,
+            self.sites.sent(),
+            effects,
+            &mut lines,
+        )?;
         Ok(lines)
     }
 

@@ -1,19 +1,25 @@
 //! Several deliveries.
 
-ghost use Rattle.std.specs.Prelude.{◌≡◌, ◌<◌, None, Some, ℕ, List, fold, length, slice_get, IfOk, OnOk};
+ghost use Rattle.std.specs.Prelude.{◌≡◌, ◌<◌, ◌+◌, None, Some, ℕ, List, fold, length, map, slice_get, IfOk, OnOk};
 ghost use Rattle.std.specs.List.{AllByRecursion};
-ghost use Rattle.crsm_spec.specs.Acts.{Single as OneStep};
 ghost use Rattle.crsm_spec.specs.Moments as moments;
 ghost use Rattle.crsm_spec.specs.Replica.{Replica};
 ghost use Rattle.crsm_spec.specs.World as on_paper;
-ghost use Rattle.crsm_world.specs.World.{Holds, HoldsBeside, Leads, LeadsBeside, WhereHolds, WhereHeldBeside, WhereHeldUp, WhereSomeUp};
-ghost use Rattle.crsm_world.specs.Several.{AreFor, IsFor, each_gone, all_gone};
+ghost use Rattle.crsm_world.specs.World.{Holds, Leads, WhereHolds, WhereHeldBeside, WhereHeldUp, WhereSomeUp};
+ghost use Rattle.crsm_world.specs.Several.{AreFor, FitsTaken, TakesOne, TookAll, WhereTaken, all_gone, each_gone, number_of};
 
 use crate::ending::Ending;
 use crate::outgoing::let_all_out;
 use crate::world::World;
 use crsm_base::{Lines, MAX_DATAGRAM_BYTES, NoMemory, never};
-use crsm_machine::{Arrival, machines_pend_nothing};
+use crsm_machine::{Arrival, Step, machines_pend_nothing};
+
+/// A datagram that was delivered, and the step that it made.
+#[derive(Drop)]
+pub(crate) struct Taken {
+    number: u64,
+    step: Step,
+}
 
 impl World {
     /// Delivers these in their order, each as a moment of its own, up to where the world is full.
@@ -41,15 +47,16 @@ impl World {
     }
 
     /// Delivers a datagram to replica `k`, which is up, as one of the steps that are kept together.
-    fn take(&mut self, k: u32, number: u64, reading: u64) -> Result<Lines, NoMemory>
+    fn take(&mut self, k: u32, number: u64, reading: u64) -> Result<Taken, NoMemory>
         requires { k < length self.old.sites.items.items }
-        ensures leads { IfOk result (λ lines. WhereHeldBeside self.old k (λ v r. IsFor k v.packets number →
-            LeadsBeside k (moments.single on_paper.whole_step v (OneStep.Go number reading)) self.new lines)) }
+        ensures number { IfOk result (λ taken. taken.number ≡ number) }
+        ensures stands { IfOk result (λ taken. WhereHeldBeside self.old k (TakesOne k reading number self.new taken)) }
+        ensures spelt { IfOk result (λ taken. FitsTaken taken) }
         ensures count { OnOk result (length self.new.sites.items.items ≡ length self.old.sites.items.items) }
     {
-        let mut lines = Lines::new(self.alloc);
+        // A group is of datagrams that were sent.
         let Some(packet) = self.network.packet(number) else {
-            return Ok(lines);
+            return Err(never());
         };
         // No datagram is longer.
         if packet.bytes.len() > MAX_DATAGRAM_BYTES as usize {
@@ -60,8 +67,47 @@ impl World {
             bytes: packet.bytes,
         };
         let step = self.sites.take(k, arrival, reading)?;
-        self.network.use_up(number);
-        let_all_out(self.alloc, &mut self.network, k, step, &mut lines)?;
+        Ok(Taken { number, step })
+    }
+
+    /// Delivers these to replica `k`, which is up. Their steps are not kept yet.
+    fn take_all(&mut self, k: u32, reading: u64, numbers: &[u64]) -> Result<Vec<Taken>, NoMemory>
+        requires { k < length self.old.sites.items.items }
+        ensures takes { IfOk result (λ taken. WhereHeldUp self.old k (λ v r. AreFor k v.packets numbers.now → TookAll k reading v numbers.now self.new taken.items)) }
+        ensures spelt { IfOk result (λ taken. AllByRecursion FitsTaken taken.items) }
+        ensures count { OnOk result (length self.new.sites.items.items ≡ length self.old.sites.items.items) }
+    {
+        machines_pend_nothing();
+        let mut taken = Vec::new(self.alloc);
+        for number in numbers {
+            let one = self.take(k, *number, reading)?;
+            taken.push(one)?;
+        }
+        Ok(taken)
+    }
+
+    /// Lets out what replica `k` has taken and kept, each step in turn. The port has sent all of it, from `first` on.
+    fn let_each_out(&mut self, k: u32, taken: Vec<Taken>, first: usize) -> Result<Lines, NoMemory>
+        requires { AllByRecursion FitsTaken taken.items }
+        ensures { IfOk result (λ lines. WhereTaken self.old k taken.items first (λ t v. Leads (all_gone t (map number_of taken.items) v) self.new lines)) }
+    {
+        let mut lines = Lines::new(self.alloc);
+        let mut place = first;
+        for one in taken {
+            let Taken { number, step } = one;
+            let next = behind(place, &step)?;
+            self.network.use_up(number);
+            let_all_out(
+                self.alloc,
+                &mut self.network,
+                k,
+                step,
+                self.sites.sent(),
+                place,
+                &mut lines,
+            )?;
+            place = next;
+        }
         Ok(lines)
     }
 
@@ -71,13 +117,9 @@ impl World {
         ensures { IfOk result (λ lines. WhereHeldUp self.old k (λ v r. AreFor k v.packets numbers.now →
             Leads (all_gone reading numbers.now v) self.new lines)) }
     {
-        machines_pend_nothing();
-        let mut lines = Lines::new(self.alloc);
-        for number in numbers {
-            let mut more = self.take(k, *number, reading)?;
-            lines.append(&mut more)?;
-        }
-        self.sites.flush(k)?;
+        let taken = self.take_all(k, reading, numbers)?;
+        let first = self.sites.flush(k)?;
+        let lines = self.let_each_out(k, taken, first)?;
         Ok(lines)
     }
 
@@ -124,4 +166,13 @@ impl World {
         self.go(Ending::Lost, *first, reading, &mut lines)?;
         Ok(lines)
     }
+}
+
+/// The place on a port behind what a step has sent from `place` on.
+fn behind(place: usize, step: &Step) -> Result<usize, NoMemory>
+    ensures { IfOk result (λ next. next ≡ place + length step.now.batch.sends) }
+{
+    let count = step.batch.sends.as_slice().len();
+    // Whatever has a place is in memory.
+    place.checked_add(count).ok_or(never())
 }

@@ -3,19 +3,22 @@
 ghost use Rattle.std.specs.Prelude.{◌≡◌, ◌≤◌, ◌<◌, [], ℕ, List, length, map, Some, None, slice_get, slice_set, IfOk, IfSome, IsTrue, MatchOption, OnOk};
 ghost use Rattle.std.specs.List.{AllByRecursion, enumerate_from};
 ghost use Rattle.crsm_core.specs.Core.{FitsSent};
+ghost use Rattle.crsm_spec.specs.Draft.{Draft};
 ghost use Rattle.crsm_spec.specs.Log.{Log};
 ghost use Rattle.crsm_spec.specs.Node.{turn};
 ghost use Rattle.crsm_spec.specs.Replica.{Replica};
 ghost use Rattle.crsm_spec.specs.World as on_paper;
 ghost use Rattle.crsm_machine.specs.Arriving.{turn_of, IsShort};
-ghost use Rattle.crsm_machine.specs.Outcomes.{Makes};
+ghost use Rattle.crsm_machine.specs.Outcomes.{Makes, Sends};
 ghost use Rattle.crsm_machine.specs.Machine.{MachineStands};
+ghost use Rattle.crsm_port.specs.Sent.{packets_of};
 ghost use Rattle.crsm_world.specs.Machines.{MachinesStand, MachinesPend, MachinesCut, MachinesBoot, is_up_in, up_in, roomed, spec_in, WhereMachinesStand, WhereUp, WherePending, StepsTo, PendsTo};
 
 use crate::ending::Stop;
 use crate::founders::Founders;
 use crsm_base::{Line, Lines, MAX_REPLICAS, Members, NoMemory, never};
 use crsm_machine::{Arrival, Boot, Machine, Step};
+use crsm_port::{MemPort, SentPackets};
 use std::alloc::Global;
 
 /// The place of each replica, by number.
@@ -24,20 +27,31 @@ pub(crate) struct Machines {
     alloc: Global,
     founders: Founders,
     items: Vec<Machine>,
+    /// Over which all of them send.
+    port: MemPort,
 }
 
 impl Machines {
     /// A cluster that is to begin with so many replicas.
-    pub fn new(alloc: Global, n: u32) -> Machines
+    pub fn new(alloc: Global, n: u32) -> Result<Machines, NoMemory>
         requires some { 1 ≤ n }
         requires most { n ≤ 15 }
-        ensures { MachinesStand result n [] }
+        ensures { IfOk result (λ machines. MachinesStand machines n []) }
     {
-        Machines {
+        let port = MemPort::new(alloc, &[])?;
+        Ok(Machines {
             alloc,
             founders: Founders::new(n),
             items: Vec::new(alloc),
-        }
+            port,
+        })
+    }
+
+    /// What they have sent.
+    pub fn sent(&self) -> &SentPackets
+        ensures { packets_of result.now ≡ self.now.port.sent }
+    {
+        self.port.sent()
     }
 
     /// How many replicas there are so far.
@@ -90,17 +104,22 @@ impl Machines {
         Ok(ups)
     }
 
-    /// One step of a replica that is up.
-    pub fn step(&mut self, k: u32, arrival: Arrival<'_>, reading: u64) -> Result<Step, NoMemory>
+    /// One step of a replica that is up, and the place on the port of the first datagram that it sent.
+    pub fn step(
+        &mut self,
+        k: u32,
+        arrival: Arrival<'_>,
+        reading: u64,
+    ) -> Result<(Step, usize), NoMemory>
         requires within { k < length self.old.items.items }
         requires short { IsShort arrival }
-        ensures stands { IfOk result (λ step. WhereUp self.old k (λ n places r.
-            StepsTo step (turn r (turn_of arrival.entry, reading)) self.new n places k)) }
-        ensures spelt { IfOk result (λ step. AllByRecursion FitsSent step.batch.sends) }
+        ensures stands { IfOk result (λ made. WhereUp self.old k (λ n places r.
+            StepsTo made.0 made.1 (turn r (turn_of arrival.entry, reading)) self.new n places k)) }
+        ensures spelt { IfOk result (λ made. AllByRecursion FitsSent made.0.batch.sends) }
         ensures count { length self.new.items.items ≡ length self.old.items.items }
     {
-        let step = self.items[k as usize].step(arrival, reading)?;
-        Ok(step)
+        let made = self.items[k as usize].step(arrival, reading, &mut self.port)?;
+        Ok(made)
     }
 
     /// One step of a replica that is up, stopped after so many device calls. What it made is answered where it is kept.
@@ -125,8 +144,9 @@ impl Machines {
     /// A replica goes down.
     pub fn crash(&mut self, k: u32) -> Result<(), NoMemory>
         requires { k < length self.old.items.items }
-        ensures { OnOk result ((n : ℕ) (places : List on_paper.Site) (p : on_paper.Site) → MachinesStand self.old n places → slice_get places k ≡ Some p →
+        ensures stands { OnOk result ((n : ℕ) (places : List on_paper.Site) (p : on_paper.Site) → MachinesStand self.old n places → slice_get places k ≡ Some p →
             MachinesStand self.new n (slice_set places k (on_paper.Site.Down (on_paper.log_of p)))) }
+        ensures port { self.new.port ≡ self.old.port }
     {
         self.items[k as usize].crash()?;
         Ok(())
@@ -161,8 +181,8 @@ impl Machines {
     pub fn take(&mut self, k: u32, arrival: Arrival<'_>, reading: u64) -> Result<Step, NoMemory>
         requires within { k < length self.old.items.items }
         requires short { IsShort arrival }
-        ensures stands { IfOk result (λ step. WherePending self.old k (λ n places r.
-            PendsTo step (turn r (turn_of arrival.entry, reading)) self.new n places k)) }
+        ensures stands { IfOk result (λ step. WherePending self.old k (λ n places r steps.
+            PendsTo step steps (turn r (turn_of arrival.entry, reading)) self.new n places k)) }
         ensures spelt { IfOk result (λ step. AllByRecursion FitsSent step.batch.sends) }
         ensures count { length self.new.items.items ≡ length self.old.items.items }
     {
@@ -170,13 +190,14 @@ impl Machines {
         Ok(step)
     }
 
-    /// Keeps the records of the steps that a replica took.
-    pub fn flush(&mut self, k: u32) -> Result<(), NoMemory>
+    /// Keeps the records of the steps that a replica took, and gives the place on the port of the first datagram that they
+    /// sent.
+    pub fn flush(&mut self, k: u32) -> Result<usize, NoMemory>
         requires { k < length self.old.items.items }
-        ensures { OnOk result ((n : ℕ) (places : List on_paper.Site) → MachinesPend k self.old n places → MachinesStand self.new n places) }
+        ensures { IfOk result (λ first. (n : ℕ) (places : List on_paper.Site) (steps : List Draft) → MachinesPend k steps self.old n places → Sends self.new.port first steps × MachinesStand self.new n places) }
     {
-        self.items[k as usize].flush()?;
-        Ok(())
+        let first = self.items[k as usize].flush(&mut self.port)?;
+        Ok(first)
     }
 
     /// The replicas whose majorities count in the known epoch of a replica that is up.

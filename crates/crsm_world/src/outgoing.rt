@@ -9,38 +9,42 @@ ghost use Rattle.crsm_spec.specs.World as on_paper;
 ghost use Rattle.crsm_world.specs.Effects.{LetsOut, Leaves, FitsEffects, WhereMade};
 ghost use Rattle.crsm_world.specs.World.{LeadsOn};
 ghost use Rattle.crsm_world.specs.declared.machines.Machines.{Machines};
-ghost use Rattle.crsm_network.specs.Packets.{NetworkStands};
+ghost use Rattle.crsm_network.specs.Packets.{AreSpelt, NetworkStands};
+ghost use Rattle.crsm_port.specs.Sent.{packets_of};
 
 use crate::ending::Effects;
 use crate::lines::{add, add_first};
 use crsm_base::{Line, Lines, NoMemory};
 use crsm_machine::Step;
 use crsm_network::{Network, packets_in};
+use crsm_port::SentPackets;
 use std::alloc::Global;
 
-/// A step of replica `k` is kept, and so many of its sends and replies go out. Its own lines come first, then those
-/// of the sends, then those of the replies, all behind the lines so far.
+/// A step of replica `k` is kept, and so many of its sends and replies go out, which a port has sent from `first` on. Its
+/// own lines come first, then those of the sends, then those of the replies, all behind the lines so far.
 pub(crate) fn let_out(
     alloc: Global,
     network: &mut Network,
     k: u32,
     step: Step,
     count: u64,
+    sent: &SentPackets,
+    first: usize,
     lines: &mut Lines,
 ) -> Result<(), NoMemory>
     requires { AllByRecursion FitsSent step.batch.sends }
-    ensures { OnOk result (WhereMade network.old step (λ packets bytes x.
+    ensures { OnOk result (WhereMade network.old step (λ packets bytes x. AreSpelt (take count step.batch.sends) (packets_of sent.now) first →
         LetsOut lines.old packets bytes k x (take count x.sends) (take (count - length x.sends) x.replies) network.new lines.new)) }
 {
     let mut step = step;
-    let sent = step.batch.sends.as_slice().len();
+    let made = step.batch.sends.as_slice().len();
     let packets = packets_in(step.batch.sends.as_slice());
     let told = step.batch.lines.as_slice().len();
-    let own = told.saturating_sub(sent - packets);
-    let out = count.min(sent as u64) as usize;
+    let own = told.saturating_sub(made - packets);
+    let out = count.min(made as u64) as usize;
     add_first(alloc, &mut step.batch.lines, own, lines)?;
     network.keep(step.size)?;
-    network.send_all(k, &step.batch.sends.as_slice()[..out], lines)?;
+    network.send_all(k, &step.batch.sends.as_slice()[..out], sent, first, lines)?;
     let shown = out.saturating_sub(packets);
     add_replies(alloc, &step.batch.lines, own, shown, lines)?;
     Ok(())
@@ -68,33 +72,44 @@ pub(crate) fn let_all_out(
     network: &mut Network,
     k: u32,
     step: Step,
+    sent: &SentPackets,
+    first: usize,
     lines: &mut Lines,
 ) -> Result<(), NoMemory>
     requires { AllByRecursion FitsSent step.batch.sends }
-    ensures { OnOk result (WhereMade network.old step (λ packets bytes x.
+    ensures { OnOk result (WhereMade network.old step (λ packets bytes x. AreSpelt step.batch.sends (packets_of sent.now) first →
         LetsOut lines.old packets bytes k x x.sends x.replies network.new lines.new)) }
 {
     let all = step.batch.sends.as_slice().len() as u64;
-    let_out(alloc, network, k, step, all, lines)?;
+    let_out(alloc, network, k, step, all, sent, first, lines)?;
     Ok(())
 }
 
-/// What a replica left goes out, behind the lines so far.
+/// What a replica left goes out, behind the lines so far. The port of all replicas has sent it.
 pub(crate) fn leave(
     alloc: Global,
     network: &mut Network,
+    sent: &SentPackets,
     effects: Effects,
     lines: &mut Lines,
 ) -> Result<(), NoMemory>
     requires { FitsEffects effects }
-    ensures { OnOk result ((m : on_paper.Moment) (v : on_paper.World) (sites : Machines) → NetworkStands network.old v.packets v.bytes → Leaves m v effects sites →
+    ensures { OnOk result ((m : on_paper.Moment) (v : on_paper.World) (sites : Machines) → NetworkStands network.old v.packets v.bytes → packets_of sent.now ≡ sites.port.sent → Leaves m v effects sites →
         LeadsOn m sites network.new lines.old lines.new) }
 {
     match effects {
         Effects::Nothing => Ok(()),
-        Effects::Whole { k, step } => Ok(let_all_out(alloc, network, k, step, lines)?),
-        Effects::Cut { k, step, sends } => {
-            let_out(alloc, network, k, step, sends, lines)?;
+        Effects::Whole { k, step, first } => {
+            let_all_out(alloc, network, k, step, sent, first, lines)?;
+            Ok(())
+        }
+        Effects::Cut {
+            k,
+            step,
+            first,
+            sends,
+        } => {
+            let_out(alloc, network, k, step, sends, sent, first, lines)?;
             lines.push(Line::Down { replica: k })?;
             Ok(())
         }

@@ -45,9 +45,10 @@ impl World {
         ensures lines { IfOk result (λ made. made.1 ≡ on_paper.first_lines n) }
         ensures done { IfOk result (λ made. HasDone made.0 n []) }
     {
+        let sites = Machines::new(alloc, n)?;
         let mut world = World {
             alloc,
-            sites: Machines::new(alloc, n),
+            sites,
             network: Network::new(alloc),
             // It is none before all have booted.
             is_spent: true,

@@ -1,9 +1,10 @@
-use Rattle.std.proofs.Common.{refl, sym, ◌∙◌}
+use Rattle.std.proofs.Common.{ap, length, refl, sym, ◌∙◌}
 use Rattle.std.proofs.lemmas.Grind.{not_there}
 use Rattle.std.proofs.lemmas.Option.{none-some}
 use Rattle.crsm_shell.specs.Words.{disk_of}
 use Rattle.crsm_machine.proofs.Boots.{boot_of}
 use Rattle.crsm_machine.proofs.Disks.{plan_of, well_after}
+use Rattle.crsm_machine.proofs.Sendings.{no_sends}
 use Rattle.crsm_machine.proofs.start.boot_on.Goals as goal
 
 pub returns-in-Ok : goal.returns-in-Ok
@@ -18,6 +19,8 @@ returns-in-Ok c log left =
         is_me = own.number;
         began = own.began;
         stands = both.0.stands;
+        peers = ap length c.in-Ok.ensures.peers;
+        fits = no_sends;
         well = well_after _ p (disk_of c.in-Ok.booted.shell) left.well (both.1.plan p refl);
       },
     )

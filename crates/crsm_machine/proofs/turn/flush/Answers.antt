@@ -1,19 +1,27 @@
-use Rattle.std.proofs.Common.{ap, refl, Err}
+use Rattle.std.proofs.Common.{◌∙◌, ap, length, refl, Err}
 use Rattle.std.proofs.lemmas.Grind.{not_there}
-use Rattle.crsm_shell.specs.Words.{disk_of}
+use Rattle.crsm_shell.specs.Words.{disk_of, peers_of}
 use Rattle.crsm_machine.proofs.Disks.{plan_of, well_after}
+use Rattle.crsm_machine.proofs.Sendings.{no_sends, sends_all}
 use Rattle.crsm_machine.proofs.Ups.{no_stop, not_failed}
 use Rattle.crsm_machine.proofs.turn.flush.Goals as goal
 
-pub returns-in-Ok : goal.returns-in-Ok
-returns-in-Ok c me n kept r steps up =
+pub returns-in-Ok-clause-stands : goal.returns-in-Ok-clause-stands
+returns-in-Ok-clause-stands c me n kept r steps up =
     let p = plan_of (disk_of c.args.shell.now) in
     record {
       is_me = up.is_me;
       began = up.began;
       stands = c.in-Ok.ensures.stands kept r steps up.stands;
+      peers = ap length c.in-Ok.ensures.peers ∙ up.peers;
+      fits = no_sends;
       well = well_after _ p (disk_of c.flush.new.self) up.well (c.in-Ok.ensures.plan kept r steps up.stands refl p refl);
     }
+
+pub returns-in-Ok-clause-sent : goal.returns-in-Ok-clause-sent
+returns-in-Ok-clause-sent c me n kept r steps up well =
+    sends_all c.renew.new.port c.flush.new.port c.len-first.result (peers_of c.args.shell.now) steps up.peers up.fits (c.in_ok-renew.ensures well)
+    (c.len-first.ensures ∙ ap length c.sent.ensures) (c.in-Ok.ensures.sent kept r steps up.stands)
 
 -- ---- what it does not answer
 

@@ -1,4 +1,4 @@
-use Rattle.std.proofs.Common.{◌≡◌, ℕ, ◌++◌, [], ◌∷◌, ◌∙◌, ap, subst, Err}
+use Rattle.std.proofs.Common.{◌≡◌, ℕ, ◌++◌, [], ◌∷◌, ◌∙◌, ap, length, subst, Err}
 use Rattle.std.proofs.lemmas.Grind.{not_there}
 use Rattle.crsm_disk.specs.Memory.{good_left}
 use Rattle.crsm_ledger.specs.Recovered.{with_records}
@@ -8,6 +8,7 @@ use Rattle.crsm_shell.specs.Words.{buffer_of}
 use Rattle.crsm_machine.specs.Arriving.{turn_of}
 use Rattle.crsm_machine.specs.Outcomes.{Makes}
 use Rattle.crsm_machine.specs.States.{IsUpAs}
+use Rattle.crsm_machine.proofs.Sendings.{fits_taken}
 use Rattle.crsm_machine.proofs.Turns.{turn_arrives}
 use Rattle.crsm_machine.proofs.Ups.{not_disk_fault, not_failed, not_full, not_port_fault}
 use Rattle.crsm_machine.proofs.turn.take.Goals as goal
@@ -31,6 +32,8 @@ returns-in-Ok-clause-stands c me n kept r steps up =
         is_me = made.me ∙ up.is_me;
         began = made.n ∙ up.began;
         stands = made.stands;
+        peers = ap length c.take.ensures.peers ∙ up.peers;
+        fits = fits_taken steps (turn r (turn_taken (buffer_of c.take.new.self) t.taken, t.reading)) t.batch up.fits made.answers;
         well = ap good_left c.take.ensures.disk ∙ up.well;
       },
     )

@@ -4,11 +4,17 @@ use Rattle.crsm_machine.specs.Machine.{MachinePends, MachineStands}
 use Rattle.crsm_machine.specs.States.{IsStateOf, IsUpIn}
 use Rattle.crsm_machine.proofs.machine.Machine.flush.Goals as goal
 
-pub returns-in-Ok : goal.returns-in-Ok
+pub returns-in-Ok-clause-stands : goal.returns-in-Ok-clause-stands
 unfolding MachinePends MachineStands
-returns-in-Ok c me n r steps h =
+returns-in-Ok-clause-stands c me n r steps h =
     let up = subst (λ p. IsUpIn me n p r steps) c.in-Up.is h.2 in
-    (h.0, h.1, c.in-Ok.ensures me n up.0 r steps up.1)
+    (h.0, h.1, c.in-Ok.ensures.stands me n up.0 r steps up.1)
+
+pub returns-in-Ok-clause-sent : goal.returns-in-Ok-clause-sent
+unfolding MachinePends
+returns-in-Ok-clause-sent c me n r steps h well =
+    let up = subst (λ p. IsUpIn me n p r steps) c.in-Up.is h.2 in
+    c.in-Ok.ensures.sent me n up.0 r steps up.1 well
 
 -- ---- the state is one of the replica
 
@@ -25,5 +31,5 @@ invariant_of-self c =
       some = old.some;
       most = old.most;
       stands = ∥∥₁_map (subst (λ p. ∥ IsStateOf old.me old.n p ∥₁) c.in-Up.is old.stands)
-          (λ h. record { kept = h.replica.log; replica = h.replica; steps = []; is = c.in-Ok.ensures old.me old.n h.kept h.replica h.steps h.is });
+          (λ h. record { kept = h.replica.log; replica = h.replica; steps = []; is = c.in-Ok.ensures.stands old.me old.n h.kept h.replica h.steps h.is });
     }

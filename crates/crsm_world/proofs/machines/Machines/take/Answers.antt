@@ -1,5 +1,4 @@
-use Rattle.std.proofs.Common.{subst}
-use Rattle.std.proofs.Common.{◌++◌, ◌∷◌, []}
+use Rattle.std.proofs.Common.{◌++◌, ◌∷◌, [], subst}
 use Rattle.crsm_spec.specs.Replica.{Replica}
 use Rattle.crsm_spec.specs.Node.{turn}
 use Rattle.crsm_machine.specs.Arriving.{turn_of}
@@ -9,7 +8,7 @@ use Rattle.crsm_world.proofs.Sites.{take_set}
 use Rattle.crsm_world.proofs.machines.Machines.take.Goals as goal
 
 pub returns-clause-stands : goal.returns-clause-stands
-returns-clause-stands c n places r h e =
-    take_set c.args.self.now n places c.args.k r c.index_mut.result.now c.take.new.self c.in_ok-step.step (turn r (turn_of c.args.arrival, c.args.reading)) h c.requires.within c.index_mut.ensures.value e
-    (λ me m q steps same p. subst (λ (a : Replica). Makes c.in_ok-step.step (turn a (turn_of c.args.arrival, c.args.reading)) × MachinePends c.take.new.self me m (turn a (turn_of c.args.arrival, c.args.reading)).replica (steps ++ turn a (turn_of c.args.arrival, c.args.reading) ∷ [])) same
+returns-clause-stands c n places r steps h e =
+    take_set c.args.self.now n places c.args.k r steps c.index_mut.result.now c.take.new.self c.in_ok-step.step (turn r (turn_of c.args.arrival, c.args.reading)) h c.requires.within c.index_mut.ensures.value e
+    (λ me m q same p. subst (λ (a : Replica). Makes c.in_ok-step.step (turn a (turn_of c.args.arrival, c.args.reading)) × MachinePends c.take.new.self me m (turn a (turn_of c.args.arrival, c.args.reading)).replica (steps ++ turn a (turn_of c.args.arrival, c.args.reading) ∷ [])) same
     (c.in_ok-step.ensures.stands me m q steps p))

@@ -21,4 +21,4 @@ returns c v h =
     let e = come_found ends v c.args.reading m found.0 found.2 ∙ ap (come ends v c.args.reading) (sym found.1) in
     let f = ap (λ k. turn_at ends v k (Turn.In c.from.result m.bytes.now) c.args.reading) c.from-2.ensures
     ∙ ap (λ a. turn_at ends v m.to (Turn.In a m.bytes.now) c.args.reading) c.from.ensures in
-    on_as _ _ _ _ _ _ (sym (f ∙ e)) (c.in_ok-leave.ensures _ v _ h.network (c.in_ok-effects.ensures.leaves v h.sites))
+    on_as _ _ _ _ _ _ (sym (f ∙ e)) (c.in_ok-leave.ensures _ v _ h.network c.sent.ensures (c.in_ok-effects.ensures.leaves v h.sites))

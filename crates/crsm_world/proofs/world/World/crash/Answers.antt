@@ -14,4 +14,4 @@ returns-in_default c v h up =
 pub returns : goal.returns
 returns c v h up =
     let u = up_found v.sites c.args.replica c.in-Some.k (sym c.in-Some.is ∙ c.up.ensures.up v.n v.sites h.sites) in
-    leads_as _ _ _ _ (ap (down v) (sym u.number)) (leads_on _ _ _ _ c.new-lines.ensures (c.in_ok-leave.ensures _ v _ h.network (c.in_ok-effects.ensures.leaves v (Site.Up u.replica) h.sites (ap (slice_get v.sites) u.number ∙ u.up))))
+    leads_as _ _ _ _ (ap (down v) (sym u.number)) (leads_on _ _ _ _ c.new-lines.ensures (c.in_ok-leave.ensures _ v _ h.network c.sent.ensures (c.in_ok-effects.ensures.leaves v (Site.Up u.replica) h.sites (ap (slice_get v.sites) u.number ∙ u.up))))

@@ -1,23 +1,11 @@
-use Rattle.std.proofs.Common.{◌∙◌, refl}
-use Rattle.crsm_world.proofs.Sites.{pend_begin, pending_from}
-use Rattle.crsm_world.proofs.Series.{all_begin, all_next, all_end}
+use Rattle.std.proofs.Common.{subst}
+use Rattle.crsm_world.specs.Several.{all_gone}
+use Rattle.crsm_world.specs.World.{Leads}
 use Rattle.crsm_world.proofs.world.World.deliver_to.Goals as goal
-
-pub loop-number-init : goal.loop-number-init
-loop-number-init c = record {
-  count = refl;
-  going = λ v r h e f. all_begin v c.args.reading c.args.numbers.now c.args.k r c.args.self.now _
-      (record { sites = pend_begin c.args.self.now.sites v.n v.sites c.args.k h.sites (pending_from v.n c.args.k v.sites r e c.machines_pend_nothing.ensures); network = h.network }) e f c.new-lines.ensures;
-}
-
-pub loop-number-preserved : goal.loop-number-preserved
-loop-number-preserved c = record {
-  count = c.in_ok-more.ensures.count ∙ c.loop-number.invariant.count;
-  going = λ v r h e f. all_next v c.args.reading c.args.numbers.now c.loop-number.number-index c.args.k c.loop-number.self c.take.new.self c.loop-number.lines c.in_ok-more.more c.append.new.self
-      (c.loop-number.invariant.going v r h e f) c.loop-number-test.true c.in_ok-more.ensures.leads c.in_ok-append.ensures.ok;
-}
 
 pub returns : goal.returns
 returns c v r h e f =
-    all_end v c.args.reading c.args.numbers.now c.loop-number.number-index c.args.k c.loop-number.self _ c.loop-number.lines (c.loop-number.invariant.going v r h e f) c.loop-number-test.false
-    (λ u b. record { sites = c.in_ok-flush.ensures u.n u.sites b.sites; network = b.network })
+    let took = c.in_ok-taken.ensures.takes v r h e f in
+    let kept = c.in_ok-first.ensures took.now.n took.now.sites took.steps took.held.sites in
+    let led = c.in_ok-lines.ensures c.args.reading v took.now took.steps took.held.network took.runs kept.1 kept.0 in
+    subst (λ is. Leads (all_gone c.args.reading is v) c.let_each_out.new.self c.in_ok-lines.lines) took.numbers led

@@ -8,7 +8,7 @@ use Rattle.crsm_world.proofs.First.{part, part_lines, no_part, no_lines, all_par
 use Rattle.crsm_world.proofs.world.World.new.Goals as goal
 
 pub loop-k-init : goal.loop-k-init
-loop-k-init c = record { holds = no_part c.args.n _ c.new.ensures c.new-2.ensures; told = c.new-lines.ensures ∙ sym (no_lines c.args.n) }
+loop-k-init c = record { holds = no_part c.args.n _ c.in_ok-sites.ensures c.new-2.ensures; told = c.new-lines.ensures ∙ sym (no_lines c.args.n) }
 
 pub loop-k-preserved : goal.loop-k-preserved
 loop-k-preserved c =

@@ -1,8 +1,6 @@
-use Rattle.std.proofs.Common.{List, [], ◌∷◌, ◌++◌, ℕ, refl}
-use Rattle.crsm_spec.specs.Acts.{Act}
+use Rattle.std.proofs.Common.{[], ◌∷◌, ◌++◌, refl}
 use Rattle.crsm_spec.specs.Run.{last_world}
 use Rattle.crsm_world.specs.Doing.{act_of}
-use Rattle.crsm_world.specs.Laws.{HasDone}
 use Rattle.crsm_world.specs.World.{StandsFor}
 use Rattle.crsm_world.proofs.SoFar.{does_more, is_lawful}
 use Rattle.crsm_world.proofs.world.World.step.Goals as goal
