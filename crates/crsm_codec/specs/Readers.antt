@@ -1,5 +1,6 @@
 -- What readers answer, and that no spelling begins another.
-use Rattle.std.specs.Prelude.{◌≡◌, ℕ, ◌≤◌, List, ◌++◌, length, take}
+use Rattle.std.specs.Prelude.{◌≡◌, ℕ, ◌≤◌, List, ◌++◌, length, take, Option, Some, Result, IfOk}
+use Rattle.crsm_base.specs.declared.memory.NoMemory.{NoMemory}
 
 -- the value is spelt by so many first bytes
 abbrev pub IsPrefix : {X : Type 0} → (X → List ℕ → Type 0) → List ℕ → X × ℕ → Type 0
@@ -8,6 +9,11 @@ IsPrefix Spelt bytes prefix = (prefix.1 ≤ length bytes) × Spelt prefix.0 (tak
 -- no first bytes spell a value
 abbrev pub HasNoPrefix : {X : Type 0} → (X → List ℕ → Type 0) → List ℕ → Type 0
 HasNoPrefix {X = X} Spelt bytes = (x : X) (len : ℕ) → Spelt x (take len bytes) → ⊥
+
+-- where the bytes begin with the spelling of a value that fits, this value is read, with the length of its spelling
+abbrev pub ReadsAgain : {X : Type 0} → (X → List ℕ) → (X → Type 0) → List ℕ → Result (Option (X × ℕ)) NoMemory → Type 0
+ReadsAgain {X = X} spell Fits bytes result =
+    (x : X) (rest : List ℕ) → Fits x → bytes ≡ spell x ++ rest → IfOk result (λ r. r ≡ Some (x, length (spell x)))
 
 -- each value has one spelling, each spelling one value, and none begins another
 abbrev pub OneSpelling : {X : Type 0} → (X → List ℕ → Type 0) → Type 0

@@ -1,10 +1,8 @@
 //! Keys, values, operations and commands.
 
-ghost use Rattle.std.specs.Prelude.{◌≡◌, ◌++◌, List, ℕ, length, IfOk, IfSome, IfNone, OnOk, OnErr, Option};
-ghost use Rattle.crsm_base.specs.declared.Op.{Op};
-ghost use Rattle.crsm_base.specs.declared.Command.{Command};
+ghost use Rattle.std.specs.Prelude.{◌≡◌, ◌++◌, IfOk, IfSome, IfNone, OnOk, OnErr};
 ghost use Rattle.crsm_base.specs.Spelling.{FitsCommand, FitsKey, FitsOp, FitsOption, FitsVal, Spelt, SpeltCommand, SpeltKey, SpeltOp, SpeltVal, command_bytes, key_bytes, op_bytes, option_bytes, val_bytes};
-ghost use Rattle.crsm_codec.specs.Readers.{IsPrefix, HasNoPrefix};
+ghost use Rattle.crsm_codec.specs.Readers.{IsPrefix, HasNoPrefix, ReadsAgain};
 
 use crsm_base::{Bytes, Command, Key, NoMemory, Op, Val};
 use std::alloc::Global;
@@ -14,8 +12,7 @@ use std::alloc::Global;
 pub fn read_key(alloc: Global, bytes: &[u8]) -> Result<Option<(Key, usize)>, NoMemory>
     ensures found { IfOk result (λ r. IfSome r (IsPrefix SpeltKey bytes.now)) }
     ensures none { IfOk result (λ r. IfNone r (HasNoPrefix SpeltKey bytes.now)) }
-    ensures again { (key : List ℕ) (rest : List ℕ) → FitsKey key → bytes.now ≡ key_bytes key ++ rest →
-        IfOk result (λ r. r ≡ Some (key, length (key_bytes key))) }
+    ensures again { ReadsAgain key_bytes FitsKey bytes.now result }
 {
     match crsm_fields::take_key(alloc, bytes)? {
         Some((key, rest)) => Ok(Some((key, bytes.len() - rest.len()))),
@@ -39,8 +36,7 @@ pub fn write_key(alloc: Global, key: &Key, out: &mut Bytes) -> Result<(), NoMemo
 pub fn read_val(alloc: Global, bytes: &[u8]) -> Result<Option<(Val, usize)>, NoMemory>
     ensures found { IfOk result (λ r. IfSome r (IsPrefix SpeltVal bytes.now)) }
     ensures none { IfOk result (λ r. IfNone r (HasNoPrefix SpeltVal bytes.now)) }
-    ensures again { (val : List ℕ) (rest : List ℕ) → FitsVal val → bytes.now ≡ val_bytes val ++ rest →
-        IfOk result (λ r. r ≡ Some (val, length (val_bytes val))) }
+    ensures again { ReadsAgain val_bytes FitsVal bytes.now result }
 {
     match crsm_fields::take_val(alloc, bytes)? {
         Some((val, rest)) => Ok(Some((val, bytes.len() - rest.len()))),
@@ -67,8 +63,7 @@ pub fn read_option_val(
 ) -> Result<Option<(Option<Val>, usize)>, NoMemory>
     ensures found { IfOk result (λ r. IfSome r (IsPrefix (Spelt (option_bytes val_bytes) (FitsOption FitsVal)) bytes.now)) }
     ensures none { IfOk result (λ r. IfNone r (HasNoPrefix (Spelt (option_bytes val_bytes) (FitsOption FitsVal)) bytes.now)) }
-    ensures again { (val : Option (List ℕ)) (rest : List ℕ) → FitsOption FitsVal val → bytes.now ≡ option_bytes val_bytes val ++ rest →
-        IfOk result (λ r. r ≡ Some (val, length (option_bytes val_bytes val))) }
+    ensures again { ReadsAgain (option_bytes val_bytes) (FitsOption FitsVal) bytes.now result }
 {
     match crsm_fields::take_option_val(alloc, bytes)? {
         Some((val, rest)) => Ok(Some((val, bytes.len() - rest.len()))),
@@ -92,8 +87,7 @@ pub fn write_option_val(alloc: Global, val: &Option<Val>, out: &mut Bytes) -> Re
 pub fn read_op(alloc: Global, bytes: &[u8]) -> Result<Option<(Op, usize)>, NoMemory>
     ensures found { IfOk result (λ r. IfSome r (IsPrefix SpeltOp bytes.now)) }
     ensures none { IfOk result (λ r. IfNone r (HasNoPrefix SpeltOp bytes.now)) }
-    ensures again { (op : Op) (rest : List ℕ) → FitsOp op → bytes.now ≡ op_bytes op ++ rest →
-        IfOk result (λ r. r ≡ Some (op, length (op_bytes op))) }
+    ensures again { ReadsAgain op_bytes FitsOp bytes.now result }
 {
     match crsm_fields::take_op(alloc, bytes)? {
         Some((op, rest)) => Ok(Some((op, bytes.len() - rest.len()))),
@@ -117,8 +111,7 @@ pub fn write_op(alloc: Global, op: &Op, out: &mut Bytes) -> Result<(), NoMemory>
 pub fn read_command(alloc: Global, bytes: &[u8]) -> Result<Option<(Command, usize)>, NoMemory>
     ensures found { IfOk result (λ r. IfSome r (IsPrefix SpeltCommand bytes.now)) }
     ensures none { IfOk result (λ r. IfNone r (HasNoPrefix SpeltCommand bytes.now)) }
-    ensures again { (command : Command) (rest : List ℕ) → FitsCommand command → bytes.now ≡ command_bytes command ++ rest →
-        IfOk result (λ r. r ≡ Some (command, length (command_bytes command))) }
+    ensures again { ReadsAgain command_bytes FitsCommand bytes.now result }
 {
     match crsm_fields::take_command(alloc, bytes)? {
         Some((command, rest)) => Ok(Some((command, bytes.len() - rest.len()))),

@@ -1,12 +1,10 @@
 //! Members, decisions, and what an acceptor has accepted.
 
-ghost use Rattle.std.specs.Prelude.{◌≡◌, ◌++◌, List, ℕ, length, IfOk, IfSome, IfNone, OnOk, OnErr, Option};
-ghost use Rattle.crsm_base.specs.declared.Ballot.{Ballot};
-ghost use Rattle.crsm_base.specs.declared.Decision.{Decision};
+ghost use Rattle.std.specs.Prelude.{◌≡◌, ◌++◌, IfOk, IfSome, IfNone, OnOk, OnErr};
 ghost use Rattle.crsm_base.specs.Members.{IsMembers};
 ghost use Rattle.crsm_base.specs.Spelling.{FitsDecision, FitsOption, Spelt, SpeltDecision, SpeltMembers, decision_bytes, members_bytes, option_bytes};
 ghost use Rattle.crsm_base.specs.Messages.{FitsVote, vote_bytes};
-ghost use Rattle.crsm_codec.specs.Readers.{IsPrefix, HasNoPrefix};
+ghost use Rattle.crsm_codec.specs.Readers.{IsPrefix, HasNoPrefix, ReadsAgain};
 
 use crsm_base::{Ballot, Bytes, Decision, Members, NoMemory};
 use std::alloc::Global;
@@ -16,8 +14,7 @@ use std::alloc::Global;
 pub fn read_members(alloc: Global, bytes: &[u8]) -> Result<Option<(Members, usize)>, NoMemory>
     ensures found { IfOk result (λ r. IfSome r (IsPrefix SpeltMembers bytes.now)) }
     ensures none { IfOk result (λ r. IfNone r (HasNoPrefix SpeltMembers bytes.now)) }
-    ensures again { (members : List ℕ) (rest : List ℕ) → IsMembers members → bytes.now ≡ members_bytes members ++ rest →
-        IfOk result (λ r. r ≡ Some (members, length (members_bytes members))) }
+    ensures again { ReadsAgain members_bytes IsMembers bytes.now result }
 {
     match crsm_fields::take_members(alloc, bytes)? {
         Some((members, rest)) => Ok(Some((members, bytes.len() - rest.len()))),
@@ -40,8 +37,7 @@ pub fn write_members(alloc: Global, members: &Members, out: &mut Bytes) -> Resul
 pub fn read_decision(alloc: Global, bytes: &[u8]) -> Result<Option<(Decision, usize)>, NoMemory>
     ensures found { IfOk result (λ r. IfSome r (IsPrefix SpeltDecision bytes.now)) }
     ensures none { IfOk result (λ r. IfNone r (HasNoPrefix SpeltDecision bytes.now)) }
-    ensures again { (decision : Decision) (rest : List ℕ) → FitsDecision decision → bytes.now ≡ decision_bytes decision ++ rest →
-        IfOk result (λ r. r ≡ Some (decision, length (decision_bytes decision))) }
+    ensures again { ReadsAgain decision_bytes FitsDecision bytes.now result }
 {
     match crsm_fields::take_decision(alloc, bytes)? {
         Some((decision, rest)) => Ok(Some((decision, bytes.len() - rest.len()))),
@@ -68,8 +64,7 @@ pub fn read_option_vote(
 ) -> Result<Option<(Option<(Ballot, Decision)>, usize)>, NoMemory>
     ensures found { IfOk result (λ r. IfSome r (IsPrefix (Spelt (option_bytes vote_bytes) (FitsOption FitsVote)) bytes.now)) }
     ensures none { IfOk result (λ r. IfNone r (HasNoPrefix (Spelt (option_bytes vote_bytes) (FitsOption FitsVote)) bytes.now)) }
-    ensures again { (vote : Option (Ballot × Decision)) (rest : List ℕ) → FitsOption FitsVote vote → bytes.now ≡ option_bytes vote_bytes vote ++ rest →
-        IfOk result (λ r. r ≡ Some (vote, length (option_bytes vote_bytes vote))) }
+    ensures again { ReadsAgain (option_bytes vote_bytes) (FitsOption FitsVote) bytes.now result }
 {
     match crsm_fields::take_option_vote(alloc, bytes)? {
         Some((vote, rest)) => Ok(Some((vote, bytes.len() - rest.len()))),

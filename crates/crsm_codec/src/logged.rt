@@ -1,9 +1,8 @@
 //! Entries and lists of entries.
 
-ghost use Rattle.std.specs.Prelude.{◌≡◌, ◌++◌, List, ℕ, length, IfOk, IfSome, IfNone, OnOk, OnErr};
-ghost use Rattle.crsm_base.specs.declared.Entry.{Entry};
+ghost use Rattle.std.specs.Prelude.{◌≡◌, ◌++◌, IfOk, IfSome, IfNone, OnOk, OnErr};
 ghost use Rattle.crsm_base.specs.Spelling.{FitsEntries, FitsEntry, SpeltEntries, SpeltEntry, entries_bytes, entry_bytes};
-ghost use Rattle.crsm_codec.specs.Readers.{IsPrefix, HasNoPrefix};
+ghost use Rattle.crsm_codec.specs.Readers.{IsPrefix, HasNoPrefix, ReadsAgain};
 
 use crsm_base::{Bytes, Entries, Entry, NoMemory};
 use std::alloc::Global;
@@ -13,8 +12,7 @@ use std::alloc::Global;
 pub fn read_entry(alloc: Global, bytes: &[u8]) -> Result<Option<(Entry, usize)>, NoMemory>
     ensures found { IfOk result (λ r. IfSome r (IsPrefix SpeltEntry bytes.now)) }
     ensures none { IfOk result (λ r. IfNone r (HasNoPrefix SpeltEntry bytes.now)) }
-    ensures again { (entry : Entry) (rest : List ℕ) → FitsEntry entry → bytes.now ≡ entry_bytes entry ++ rest →
-        IfOk result (λ r. r ≡ Some (entry, length (entry_bytes entry))) }
+    ensures again { ReadsAgain entry_bytes FitsEntry bytes.now result }
 {
     match crsm_fields::take_entry(alloc, bytes)? {
         Some((entry, rest)) => Ok(Some((entry, bytes.len() - rest.len()))),
@@ -38,8 +36,7 @@ pub fn write_entry(alloc: Global, entry: &Entry, out: &mut Bytes) -> Result<(), 
 pub fn read_entries(alloc: Global, bytes: &[u8]) -> Result<Option<(Entries, usize)>, NoMemory>
     ensures found { IfOk result (λ r. IfSome r (IsPrefix SpeltEntries bytes.now)) }
     ensures none { IfOk result (λ r. IfNone r (HasNoPrefix SpeltEntries bytes.now)) }
-    ensures again { (entries : List Entry) (rest : List ℕ) → FitsEntries entries → bytes.now ≡ entries_bytes entries ++ rest →
-        IfOk result (λ r. r ≡ Some (entries, length (entries_bytes entries))) }
+    ensures again { ReadsAgain entries_bytes FitsEntries bytes.now result }
 {
     match crsm_fields::take_entries(alloc, bytes)? {
         Some((entries, rest)) => Ok(Some((entries, bytes.len() - rest.len()))),

@@ -1,8 +1,8 @@
 //! Numbers and the numbers of replicas.
 
-ghost use Rattle.std.specs.Prelude.{◌≡◌, ◌++◌, List, ℕ, length, IfOk, IfSome, IfNone, OnOk, OnErr, ◌<◌, ◌^◌};
+ghost use Rattle.std.specs.Prelude.{◌≡◌, ◌++◌, IfOk, IfSome, IfNone, OnOk, OnErr, ◌<◌, ◌^◌};
 ghost use Rattle.crsm_base.specs.Spelling.{SpeltReplica, SpeltU16, SpeltU32, SpeltU64, SpeltU8, u16_bytes, u32_bytes, u64_bytes, u8_bytes};
-ghost use Rattle.crsm_codec.specs.Readers.{IsPrefix, HasNoPrefix};
+ghost use Rattle.crsm_codec.specs.Readers.{IsPrefix, HasNoPrefix, ReadsAgain};
 
 use crsm_base::{Bytes, NoMemory};
 use std::alloc::Global;
@@ -12,8 +12,7 @@ use std::alloc::Global;
 pub fn read_u8(_alloc: Global, bytes: &[u8]) -> Result<Option<(u8, usize)>, NoMemory>
     ensures found { IfOk result (λ r. IfSome r (IsPrefix SpeltU8 bytes.now)) }
     ensures none { IfOk result (λ r. IfNone r (HasNoPrefix SpeltU8 bytes.now)) }
-    ensures again { (number : ℕ) (rest : List ℕ) → number < 256 → bytes.now ≡ u8_bytes number ++ rest →
-        IfOk result (λ r. r ≡ Some (number, length (u8_bytes number))) }
+    ensures again { ReadsAgain u8_bytes (λ number. number < 256) bytes.now result }
 {
     match crsm_fields::take_u8(bytes) {
         Some((number, rest)) => Ok(Some((number, bytes.len() - rest.len()))),
@@ -34,8 +33,7 @@ pub fn write_u8(_alloc: Global, number: &u8, out: &mut Bytes) -> Result<(), NoMe
 pub fn read_u16(_alloc: Global, bytes: &[u8]) -> Result<Option<(u16, usize)>, NoMemory>
     ensures found { IfOk result (λ r. IfSome r (IsPrefix SpeltU16 bytes.now)) }
     ensures none { IfOk result (λ r. IfNone r (HasNoPrefix SpeltU16 bytes.now)) }
-    ensures again { (number : ℕ) (rest : List ℕ) → number < 2 ^ 16 → bytes.now ≡ u16_bytes number ++ rest →
-        IfOk result (λ r. r ≡ Some (number, length (u16_bytes number))) }
+    ensures again { ReadsAgain u16_bytes (λ number. number < 2 ^ 16) bytes.now result }
 {
     match crsm_fields::take_u16(bytes) {
         Some((number, rest)) => Ok(Some((number, bytes.len() - rest.len()))),
@@ -56,8 +54,7 @@ pub fn write_u16(_alloc: Global, number: &u16, out: &mut Bytes) -> Result<(), No
 pub fn read_u32(_alloc: Global, bytes: &[u8]) -> Result<Option<(u32, usize)>, NoMemory>
     ensures found { IfOk result (λ r. IfSome r (IsPrefix SpeltU32 bytes.now)) }
     ensures none { IfOk result (λ r. IfNone r (HasNoPrefix SpeltU32 bytes.now)) }
-    ensures again { (number : ℕ) (rest : List ℕ) → number < 2 ^ 32 → bytes.now ≡ u32_bytes number ++ rest →
-        IfOk result (λ r. r ≡ Some (number, length (u32_bytes number))) }
+    ensures again { ReadsAgain u32_bytes (λ number. number < 2 ^ 32) bytes.now result }
 {
     match crsm_fields::take_u32(bytes) {
         Some((number, rest)) => Ok(Some((number, bytes.len() - rest.len()))),
@@ -78,8 +75,7 @@ pub fn write_u32(_alloc: Global, number: &u32, out: &mut Bytes) -> Result<(), No
 pub fn read_u64(_alloc: Global, bytes: &[u8]) -> Result<Option<(u64, usize)>, NoMemory>
     ensures found { IfOk result (λ r. IfSome r (IsPrefix SpeltU64 bytes.now)) }
     ensures none { IfOk result (λ r. IfNone r (HasNoPrefix SpeltU64 bytes.now)) }
-    ensures again { (number : ℕ) (rest : List ℕ) → number < 2 ^ 64 → bytes.now ≡ u64_bytes number ++ rest →
-        IfOk result (λ r. r ≡ Some (number, length (u64_bytes number))) }
+    ensures again { ReadsAgain u64_bytes (λ number. number < 2 ^ 64) bytes.now result }
 {
     match crsm_fields::take_u64(bytes) {
         Some((number, rest)) => Ok(Some((number, bytes.len() - rest.len()))),
@@ -100,8 +96,7 @@ pub fn write_u64(_alloc: Global, number: &u64, out: &mut Bytes) -> Result<(), No
 pub fn read_replica(_alloc: Global, bytes: &[u8]) -> Result<Option<(u32, usize)>, NoMemory>
     ensures found { IfOk result (λ r. IfSome r (IsPrefix SpeltReplica bytes.now)) }
     ensures none { IfOk result (λ r. IfNone r (HasNoPrefix SpeltReplica bytes.now)) }
-    ensures again { (replica : ℕ) (rest : List ℕ) → replica < 15 → bytes.now ≡ u8_bytes replica ++ rest →
-        IfOk result (λ r. r ≡ Some (replica, length (u8_bytes replica))) }
+    ensures again { ReadsAgain u8_bytes (λ replica. replica < 15) bytes.now result }
 {
     match crsm_fields::take_replica(bytes) {
         Some((replica, rest)) => Ok(Some((replica, bytes.len() - rest.len()))),

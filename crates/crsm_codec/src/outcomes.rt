@@ -1,10 +1,8 @@
 //! Answers and outcomes.
 
-ghost use Rattle.std.specs.Prelude.{◌≡◌, ◌++◌, List, ℕ, length, IfOk, IfSome, IfNone, OnOk, OnErr};
-ghost use Rattle.crsm_base.specs.declared.Answer.{Answer};
-ghost use Rattle.crsm_base.specs.declared.Outcome.{Outcome};
+ghost use Rattle.std.specs.Prelude.{◌≡◌, ◌++◌, IfOk, IfSome, IfNone, OnOk, OnErr};
 ghost use Rattle.crsm_base.specs.Spelling.{FitsAnswer, FitsOutcome, SpeltAnswer, SpeltOutcome, answer_bytes, outcome_bytes};
-ghost use Rattle.crsm_codec.specs.Readers.{IsPrefix, HasNoPrefix};
+ghost use Rattle.crsm_codec.specs.Readers.{IsPrefix, HasNoPrefix, ReadsAgain};
 
 use crsm_base::{Answer, Bytes, NoMemory, Outcome};
 use std::alloc::Global;
@@ -14,8 +12,7 @@ use std::alloc::Global;
 pub fn read_answer(alloc: Global, bytes: &[u8]) -> Result<Option<(Answer, usize)>, NoMemory>
     ensures found { IfOk result (λ r. IfSome r (IsPrefix SpeltAnswer bytes.now)) }
     ensures none { IfOk result (λ r. IfNone r (HasNoPrefix SpeltAnswer bytes.now)) }
-    ensures again { (answer : Answer) (rest : List ℕ) → FitsAnswer answer → bytes.now ≡ answer_bytes answer ++ rest →
-        IfOk result (λ r. r ≡ Some (answer, length (answer_bytes answer))) }
+    ensures again { ReadsAgain answer_bytes FitsAnswer bytes.now result }
 {
     match crsm_fields::take_answer(alloc, bytes)? {
         Some((answer, rest)) => Ok(Some((answer, bytes.len() - rest.len()))),
@@ -39,8 +36,7 @@ pub fn write_answer(alloc: Global, answer: &Answer, out: &mut Bytes) -> Result<(
 pub fn read_outcome(alloc: Global, bytes: &[u8]) -> Result<Option<(Outcome, usize)>, NoMemory>
     ensures found { IfOk result (λ r. IfSome r (IsPrefix SpeltOutcome bytes.now)) }
     ensures none { IfOk result (λ r. IfNone r (HasNoPrefix SpeltOutcome bytes.now)) }
-    ensures again { (outcome : Outcome) (rest : List ℕ) → FitsOutcome outcome → bytes.now ≡ outcome_bytes outcome ++ rest →
-        IfOk result (λ r. r ≡ Some (outcome, length (outcome_bytes outcome))) }
+    ensures again { ReadsAgain outcome_bytes FitsOutcome bytes.now result }
 {
     match crsm_fields::take_outcome(alloc, bytes)? {
         Some((outcome, rest)) => Ok(Some((outcome, bytes.len() - rest.len()))),

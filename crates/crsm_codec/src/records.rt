@@ -1,9 +1,9 @@
 //! Records and whole log bodies.
 
-ghost use Rattle.std.specs.Prelude.{◌≡◌, ◌++◌, List, ℕ, length, IfOk, IfSome, IfNone, OnOk, OnErr};
+ghost use Rattle.std.specs.Prelude.{◌≡◌, ◌++◌, List, IfOk, IfSome, IfNone, OnOk, OnErr};
 ghost use Rattle.crsm_base.specs.declared.Rec.{Rec};
 ghost use Rattle.crsm_base.specs.Records.{FitsRec, SpeltRec, rec_bytes, SpeltBody};
-ghost use Rattle.crsm_codec.specs.Readers.{IsPrefix, HasNoPrefix};
+ghost use Rattle.crsm_codec.specs.Readers.{IsPrefix, HasNoPrefix, ReadsAgain};
 
 use crsm_base::{Bytes, NoMemory, Rec, Recs};
 use std::alloc::Global;
@@ -13,8 +13,7 @@ use std::alloc::Global;
 pub fn read_rec(alloc: Global, bytes: &[u8]) -> Result<Option<(Rec, usize)>, NoMemory>
     ensures found { IfOk result (λ r. IfSome r (IsPrefix SpeltRec bytes.now)) }
     ensures none { IfOk result (λ r. IfNone r (HasNoPrefix SpeltRec bytes.now)) }
-    ensures again { (rec : Rec) (rest : List ℕ) → FitsRec rec → bytes.now ≡ rec_bytes rec ++ rest →
-        IfOk result (λ r. r ≡ Some (rec, length (rec_bytes rec))) }
+    ensures again { ReadsAgain rec_bytes FitsRec bytes.now result }
 {
     match crsm_fields::take_rec(alloc, bytes)? {
         Some((rec, rest)) => Ok(Some((rec, bytes.len() - rest.len()))),

@@ -1,10 +1,8 @@
 //! Stamps and ballots.
 
-ghost use Rattle.std.specs.Prelude.{◌≡◌, ◌++◌, List, ℕ, length, IfOk, IfSome, IfNone, OnOk, OnErr, Option};
-ghost use Rattle.crsm_base.specs.declared.Ballot.{Ballot};
-ghost use Rattle.crsm_base.specs.declared.Stamp.{Stamp};
+ghost use Rattle.std.specs.Prelude.{◌≡◌, ◌++◌, IfOk, IfSome, IfNone, OnOk, OnErr};
 ghost use Rattle.crsm_base.specs.Spelling.{FitsBallot, FitsOption, FitsStamp, Spelt, SpeltBallot, SpeltStamp, ballot_bytes, option_bytes, stamp_bytes};
-ghost use Rattle.crsm_codec.specs.Readers.{IsPrefix, HasNoPrefix};
+ghost use Rattle.crsm_codec.specs.Readers.{IsPrefix, HasNoPrefix, ReadsAgain};
 
 use crsm_base::{Ballot, Bytes, NoMemory, Stamp};
 use std::alloc::Global;
@@ -14,8 +12,7 @@ use std::alloc::Global;
 pub fn read_stamp(_alloc: Global, bytes: &[u8]) -> Result<Option<(Stamp, usize)>, NoMemory>
     ensures found { IfOk result (λ r. IfSome r (IsPrefix SpeltStamp bytes.now)) }
     ensures none { IfOk result (λ r. IfNone r (HasNoPrefix SpeltStamp bytes.now)) }
-    ensures again { (stamp : Stamp) (rest : List ℕ) → FitsStamp stamp → bytes.now ≡ stamp_bytes stamp ++ rest →
-        IfOk result (λ r. r ≡ Some (stamp, length (stamp_bytes stamp))) }
+    ensures again { ReadsAgain stamp_bytes FitsStamp bytes.now result }
 {
     match crsm_fields::take_stamp(bytes) {
         Some((stamp, rest)) => Ok(Some((stamp, bytes.len() - rest.len()))),
@@ -42,8 +39,7 @@ pub fn read_option_stamp(
 ) -> Result<Option<(Option<Stamp>, usize)>, NoMemory>
     ensures found { IfOk result (λ r. IfSome r (IsPrefix (Spelt (option_bytes stamp_bytes) (FitsOption FitsStamp)) bytes.now)) }
     ensures none { IfOk result (λ r. IfNone r (HasNoPrefix (Spelt (option_bytes stamp_bytes) (FitsOption FitsStamp)) bytes.now)) }
-    ensures again { (stamp : Option Stamp) (rest : List ℕ) → FitsOption FitsStamp stamp → bytes.now ≡ option_bytes stamp_bytes stamp ++ rest →
-        IfOk result (λ r. r ≡ Some (stamp, length (option_bytes stamp_bytes stamp))) }
+    ensures again { ReadsAgain (option_bytes stamp_bytes) (FitsOption FitsStamp) bytes.now result }
 {
     match crsm_fields::take_option_stamp(bytes) {
         Some((stamp, rest)) => Ok(Some((stamp, bytes.len() - rest.len()))),
@@ -71,8 +67,7 @@ pub fn write_option_stamp(
 pub fn read_ballot(_alloc: Global, bytes: &[u8]) -> Result<Option<(Ballot, usize)>, NoMemory>
     ensures found { IfOk result (λ r. IfSome r (IsPrefix SpeltBallot bytes.now)) }
     ensures none { IfOk result (λ r. IfNone r (HasNoPrefix SpeltBallot bytes.now)) }
-    ensures again { (ballot : Ballot) (rest : List ℕ) → FitsBallot ballot → bytes.now ≡ ballot_bytes ballot ++ rest →
-        IfOk result (λ r. r ≡ Some (ballot, length (ballot_bytes ballot))) }
+    ensures again { ReadsAgain ballot_bytes FitsBallot bytes.now result }
 {
     match crsm_fields::take_ballot(bytes) {
         Some((ballot, rest)) => Ok(Some((ballot, bytes.len() - rest.len()))),

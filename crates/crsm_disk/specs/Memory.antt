@@ -1,8 +1,8 @@
 -- A disk in memory.
-use Rattle.std.specs.Prelude.{ℕ, List, length, Option, Some, None, true}
+use Rattle.std.specs.Prelude.{ℕ, ◌+◌, ◌-◌, List, [], ◌∷◌, length, Option, Some, None, true}
 use Rattle.crsm_faults.specs.Failing.{Failing, good_of, least}
 use Rattle.crsm_image.specs.Calls.{Call, contents}
-use Rattle.crsm_image.specs.Image.{IsImage, IsLeftSince}
+use Rattle.crsm_image.specs.Image.{IsImage, IsLeftSince, image_of}
 use Rattle.crsm_disk.specs.Meaning.{Meaning}
 use Rattle.crsm_image.proofs.Images.{reads_image, counts_now_lem, only_now_lem, told_makes}
 
@@ -17,6 +17,31 @@ pub record Memory : Type 0 where
   pub faults : ℕ
   pub room_calls : ℕ
   pub room_bytes : ℕ
+
+-- before any call, with these bytes: it fails at the listed calls, and stops after so many
+abbrev pub holding : List ℕ → List ℕ → Option ℕ → ℕ → Memory
+holding first listed stop fill = record {
+  first = first;
+  calls = [];
+  failing = record { calls = 0; listed = listed };
+  stop = stop;
+  fill = fill;
+  faults = 0;
+  room_calls = 0;
+  room_bytes = 0;
+}
+
+-- a disk without failing calls or a stop, with the bytes that a crash leaves where the fill takes all that was not synced
+abbrev pub left_by_crash : Memory → Memory
+left_by_crash m = holding (image_of m.first m.calls m.fill) [] None m.fill
+
+-- the room that a write of so many bytes takes: the hole in front of it, and its bytes
+abbrev pub room_for_write : ℕ → ℕ → Memory → ℕ
+room_for_write at count m = (at - length (contents m.first m.calls)) + count
+
+-- one more call went well, and took so many bytes of the room
+abbrev pub with_call : Call → ℕ → Memory → Memory
+with_call call bytes m = record m { calls = call ∷ m.calls; room_calls = m.room_calls - 1; room_bytes = m.room_bytes - bytes }
 
 -- how many further calls go well: all where that is none
 abbrev pub good_left : Memory → Option ℕ

@@ -1,12 +1,12 @@
 //! A disk in memory, which tells all that it was asked.
 
-ghost use Rattle.std.specs.Prelude.{◌≡◌, ◌+◌, ◌-◌, ◌≤◌, [], ◌∷◌, length, IfOk, OnOk, OnErr, Some, None};
+ghost use Rattle.std.specs.Prelude.{◌≡◌, ◌≤◌, [], length, IfOk, OnOk, OnErr, Some};
 ghost use Rattle.std.specs.Bool.{OnTrue, OnFalse};
 ghost use Rattle.crsm_faults.specs.Counts.{raised, Rose};
 ghost use Rattle.crsm_faults.specs.Failing.{IsNotEnd, good_of, least, one_less};
 ghost use Rattle.crsm_image.specs.Calls.{contents, wrote, cut, synced};
-ghost use Rattle.crsm_image.specs.Image.{IsImage, image_of};
-ghost use Rattle.crsm_disk.specs.Memory.{good_left, meaning_of};
+ghost use Rattle.crsm_image.specs.Image.{IsImage};
+ghost use Rattle.crsm_disk.specs.Memory.{good_left, holding, left_by_crash, meaning_of, room_for_write, with_call};
 
 use crate::Disk;
 use crate::content::{copy, overwrite, paint_unsynced};
@@ -53,7 +53,7 @@ impl MemDisk {
         stop: Option<u64>,
         fill: u8,
     ) -> Result<MemDisk, NoMemory>
-        ensures { IfOk result (λ d. d ≡ record { first = []; calls = []; failing = record { calls = 0; listed = fails.now }; stop = stop; fill = fill; faults = 0; room_calls = 0; room_bytes = 0 }) }
+        ensures { IfOk result (λ d. d ≡ holding [] fails.now stop fill) }
     {
         Ok(MemDisk {
             alloc,
@@ -88,7 +88,7 @@ impl MemDisk {
     /// failing calls and no stop.
     pub fn image(&self) -> Result<MemDisk, NoMemory>
         ensures one { IfOk result (λ d. IsImage self.now.first self.now.calls d.first) }
-        ensures exact { IfOk result (λ d. d ≡ record { first = image_of self.now.first self.now.calls self.now.fill; calls = []; failing = record { calls = 0; listed = [] }; stop = None; fill = self.now.fill; faults = 0; room_calls = 0; room_bytes = 0 }) }
+        ensures exact { IfOk result (λ d. d ≡ left_by_crash self.now) }
     {
         let alloc = self.alloc;
         let mut bytes = Vec::from_slice(alloc, &self.bytes)?;
@@ -111,7 +111,7 @@ impl MemDisk {
     /// The disk as a crash leaves it: what `image` makes, of this disk's own memory.
     pub fn into_image(self) -> Result<MemDisk, NoMemory>
         ensures one { IfOk result (λ d. IsImage self.first self.calls d.first) }
-        ensures exact { IfOk result (λ d. d ≡ record { first = image_of self.first self.calls self.fill; calls = []; failing = record { calls = 0; listed = [] }; stop = None; fill = self.fill; faults = 0; room_calls = 0; room_bytes = 0 }) }
+        ensures exact { IfOk result (λ d. d ≡ left_by_crash self) }
     {
         let mut disk = self;
         paint_unsynced(&mut disk.bytes, &disk.records, disk.fill);
@@ -143,9 +143,9 @@ impl MemDisk {
 
     // A call beyond the room is a fault.
     fn take_room(&mut self, at: u64, count: usize) -> Result<(), Failed>
-        ensures ok { OnOk result ((self.new ≡ self.old) × (1 ≤ self.old.room_calls) × ((at - length (contents self.old.first self.old.calls)) + count ≤ self.old.room_bytes)) }
+        ensures ok { OnOk result ((self.new ≡ self.old) × (1 ≤ self.old.room_calls) × (room_for_write at count self.old ≤ self.old.room_bytes)) }
         ensures err { OnErr result ((self.new ≡ record self.old { faults = self.new.faults }) × (self.old.faults ≤ self.new.faults) × Rose self.old.faults self.new.faults) }
-        ensures beyond { OnErr result (1 ≤ self.old.room_calls → (at - length (contents self.old.first self.old.calls)) + count ≤ self.old.room_bytes → ⊥) }
+        ensures beyond { OnErr result (1 ≤ self.old.room_calls → room_for_write at count self.old ≤ self.old.room_bytes → ⊥) }
     {
         let hole = at.saturating_sub(self.bytes.len() as u64);
         if self.room_calls == 0 || hole > self.room_bytes || count as u64 > self.room_bytes - hole {
@@ -158,8 +158,8 @@ impl MemDisk {
     // Writes, and records it.
     fn put(&mut self, at: u64, bytes: &[u8])
         requires calls { 1 ≤ self.old.room_calls }
-        requires bytes { (at - length (contents self.old.first self.old.calls)) + length bytes.now ≤ self.old.room_bytes }
-        ensures { self.new ≡ record self.old { calls = wrote at bytes.now ∷ self.old.calls; room_calls = self.old.room_calls - 1; room_bytes = self.old.room_bytes - ((at - length (contents self.old.first self.old.calls)) + length bytes.now) } }
+        requires bytes { room_for_write at (length bytes.now) self.old ≤ self.old.room_bytes }
+        ensures { self.new ≡ with_call (wrote at bytes.now) (room_for_write at (length bytes.now) self.old) self.old }
     {
         let hole = at.saturating_sub(self.bytes.len() as u64);
         overwrite(&mut self.bytes, at as usize, bytes);
@@ -171,7 +171,7 @@ impl MemDisk {
     // Cuts, and records it.
     fn shorten(&mut self, len: u64)
         requires { 1 ≤ self.old.room_calls }
-        ensures { self.new ≡ record self.old { calls = cut len ∷ self.old.calls; room_calls = self.old.room_calls - 1; room_bytes = self.old.room_bytes - 0 } }
+        ensures { self.new ≡ with_call (cut len) 0 self.old }
     {
         self.bytes.truncate(len as usize);
         self.records.push_reserved(Record::Cut { len });
@@ -181,7 +181,7 @@ impl MemDisk {
     // Records a sync.
     fn settle(&mut self)
         requires { 1 ≤ self.old.room_calls }
-        ensures { self.new ≡ record self.old { calls = synced ∷ self.old.calls; room_calls = self.old.room_calls - 1; room_bytes = self.old.room_bytes - 0 } }
+        ensures { self.new ≡ with_call synced 0 self.old }
     {
         self.records.push_reserved(Record::Sync);
         self.room_calls -= 1;

@@ -1,11 +1,11 @@
 -- What is kept of an epoch, and what it stands for.
-use Rattle.std.specs.Prelude.{◌≡◌, ℕ, ◌≤◌, Bool, true, [], ◌∷◌, Option, None, Some}
+use Rattle.std.specs.Prelude.{◌≡◌, ℕ, ◌≤◌, Bool, true, List, [], ◌∷◌, Option, None, Some}
 use Rattle.std.specs.List.{AllByRecursion}
 use Rattle.crsm_base.specs.Order.{stamp_lt}
 use Rattle.crsm_spec.specs.Types.{Stamp, Rec}
 use Rattle.crsm_spec.specs.Log.{Log, active, last_stamp, unexecuted}
 use Rattle.crsm_spec.specs.Fits.{fits}
-use Rattle.crsm_spec.specs.Replica.{Replica, last_issued}
+use Rattle.crsm_spec.specs.Replica.{Replica, last_issued, members_of}
 use Rattle.crsm_spec.specs.Ready.{all_received}
 use Rattle.crsm_commit.specs.Received.{HasReceived}
 use Rattle.crsm_commit.specs.Pending.{StandsFor}
@@ -53,3 +53,8 @@ WhereRuns running P = (r : Replica) → Runs running r → P r
 -- at this reading of its clock the replica issues this time
 abbrev pub IssuesAt : ℕ → ℕ → Replica → Type 0
 IssuesAt reading time r = issue (last_issued r) reading ≡ Some time
+
+-- for each replica whose epoch this is the state of, with these members, at a reading at which it issues this time
+abbrev pub WhereIssuing : EpochState → (time me : ℕ) → List ℕ → (Replica → Type 0) → Type 0
+WhereIssuing running time me members P =
+    (r : Replica) (reading : ℕ) → Runs running r → me ≡ r.me → members ≡ members_of r → IssuesAt reading time r → P r

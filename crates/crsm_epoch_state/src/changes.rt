@@ -1,12 +1,11 @@
 //! What else changes, one thing at a time.
 
-ghost use Rattle.std.specs.Prelude.{◌≡◌, ℕ, ◌<◌, ◌≤◌, List, ◌∷◌, length, Some, IfOk};
+ghost use Rattle.std.specs.Prelude.{◌≡◌, ◌<◌, ◌≤◌, List, ◌∷◌, length, IfOk};
 ghost use Rattle.crsm_base.specs.declared.Stamp.{Stamp};
-ghost use Rattle.crsm_spec.specs.Clock.{issue};
 ghost use Rattle.crsm_spec.specs.Log.{last_stamp};
 ghost use Rattle.crsm_spec.specs.Frames.{with_stamp};
-ghost use Rattle.crsm_spec.specs.Replica.{Replica, members_of, other_members, latest_from, frames_to};
-ghost use Rattle.crsm_epoch_state.specs.EpochState.{Runs, WhereRuns, IssuesAt};
+ghost use Rattle.crsm_spec.specs.Replica.{Replica, other_members, latest_from, frames_to};
+ghost use Rattle.crsm_epoch_state.specs.EpochState.{Runs, WhereIssuing, WhereRuns};
 ghost use Rattle.crsm_epoch_state.specs.Linked.{pushed_at};
 
 use crate::records::is_above;
@@ -35,7 +34,7 @@ impl EpochState {
         payload: &InEpoch,
     ) -> Result<(), NoMemory>
         requires { me < 15 }
-        ensures { IfOk result (λ _. (r : Replica) (reading : ℕ) → Runs self.old r → me ≡ r.me → members.now ≡ members_of r → IssuesAt reading time r → Runs self.new (pushed_at time payload.now (other_members r) r)) }
+        ensures { IfOk result (λ _. WhereIssuing self.old time me members.now (λ r. Runs self.new (pushed_at time payload.now (other_members r) r))) }
     {
         self.clock.issue(time);
         self.latest.receive(me, time);

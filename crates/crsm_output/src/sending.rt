@@ -1,13 +1,11 @@
 //! A control message on its way.
 
-ghost use Rattle.std.specs.Prelude.{◌≡◌, ◌<◌, [], ◌∷◌, ◌++◌, IfOk, OnOk};
+ghost use Rattle.std.specs.Prelude.{[], ◌∷◌, ◌++◌, IfOk, OnOk};
 ghost use Rattle.crsm_base.specs.declared.Control.{Control};
 ghost use Rattle.crsm_base.specs.declared.Datagram.{Datagram};
-ghost use Rattle.crsm_spec.specs.Log.{boots};
-ghost use Rattle.crsm_spec.specs.Replica.{Replica};
 ghost use Rattle.crsm_spec.specs.Draft.{parts_to};
 ghost use Rattle.crsm_output.specs.Made.{Made, Holds};
-ghost use Rattle.crsm_output.specs.Spellings.{IsSpelling, IsSpellingOf};
+ghost use Rattle.crsm_output.specs.Spellings.{IsSpelling, IsSpellingOf, WhereNext};
 
 use crate::output::Output;
 use crsm_base::{
@@ -81,8 +79,7 @@ pub fn send_parts(
     spelling: &[u8],
 ) -> Result<(), NoMemory>
     requires { IsSpelling spelling.now }
-    ensures { OnOk result ((r : Replica) (m : Made) (c : Control) → Holds output.old m → from ≡ r.me → boot ≡ boots r.log → number ≡ r.made →
-        IsSpellingOf spelling.now c → Holds output.new (record m { sends = m.sends ++ parts_to r to c })) }
+    ensures { OnOk result (WhereNext output.old from boot number spelling.now (λ r m c. Holds output.new (record m { sends = m.sends ++ parts_to r to c }))) }
 {
     if spelling.len() <= PART_BYTES as usize {
         send_at_once(alloc, output, from, to, boot, number, spelling)?;

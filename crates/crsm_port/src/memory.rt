@@ -123,8 +123,9 @@ impl MemPort {
     // A send that fails or finds no room is a loss.
     fn admits(&mut self, len: usize) -> Result<(), Failed>
         ensures same { self.new ≡ record self.old { failing = self.new.failing; losses = self.new.losses } }
-        ensures ok { OnOk result ((self.new.losses ≡ self.old.losses) × (1 ≤ self.old.room_sends) × (len ≤ self.old.room_bytes)
-            × (good_of self.new.failing ≡ one_less (good_of self.old.failing)) × IsNotEnd (good_of self.old.failing)) }
+        ensures room { OnOk result ((1 ≤ self.old.room_sends) × (len ≤ self.old.room_bytes)) }
+        ensures good { OnOk result ((good_of self.new.failing ≡ one_less (good_of self.old.failing)) × IsNotEnd (good_of self.old.failing)) }
+        ensures ok { OnOk result (self.new.losses ≡ self.old.losses) }
         ensures err { OnErr result ((self.old.losses ≤ self.new.losses) × Rose self.old.losses self.new.losses
             × (1 ≤ self.old.room_sends → len ≤ self.old.room_bytes → good_of self.old.failing ≡ Some 0)) }
     {

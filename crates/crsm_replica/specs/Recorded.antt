@@ -23,3 +23,7 @@ Recorded false me n log rec m ledger output = SaysOfLog me n ledger log × Holds
 abbrev pub Applied : Option (List Line) → ℕ → ℕ → Log → Rec → Ledger → Type 0
 Applied (Some lines) me n log rec ledger = (fits me n log rec ≡ true) × (lines ≡ lines_of me log rec) × SaysOfLog me n ledger (rec ∷ log)
 Applied None me n log rec ledger = (fits me n log rec ≡ false) × SaysOfLog me n ledger log
+
+-- for each log that the ledger stands for, and what the output has
+abbrev pub WhereBothStand : Ledger → Output → (ℕ → ℕ → Log → Made → Type 0) → Type 0
+WhereBothStand ledger output P = (me n : ℕ) (log : Log) (m : Made) → SaysOfLog me n ledger log → Holds output m → P me n log m

@@ -3,12 +3,11 @@
 ghost use Rattle.std.specs.Prelude.{◌≡◌, ℕ, false, List, IfOk, None};
 ghost use Rattle.crsm_base.specs.Records.{FitsRec};
 ghost use Rattle.crsm_ledger.specs.Ledger.{StandsFor as SaysOfLog};
-ghost use Rattle.crsm_output.specs.Made.{Made, Holds};
-ghost use Rattle.crsm_spec.specs.Draft.{Draft, keep};
+ghost use Rattle.crsm_spec.specs.Draft.{keep};
 ghost use Rattle.crsm_spec.specs.Fits.{fits};
 ghost use Rattle.crsm_spec.specs.Step.{if_fitting};
 ghost use Rattle.crsm_spec.specs.Types.{Rec};
-ghost use Rattle.crsm_replica.specs.Recorded.{Applied, Recorded};
+ghost use Rattle.crsm_replica.specs.Recorded.{Applied, Recorded, WhereBothStand};
 ghost use Rattle.crsm_replica.specs.Replica.{StandsFor, MakesFitting, IsPlain, WhereStands};
 
 use crate::state::ReplicaState;
@@ -65,8 +64,7 @@ fn apply(ledger: &mut Ledger, rec: &Rec) -> Result<Option<Lines>, NoMemory>
 /// Puts a record into the ledger and into the output. `false` if it does not fit, and changes nothing.
 pub fn put(ledger: &mut Ledger, output: &mut Output, rec: Rec) -> Result<bool, NoMemory>
     requires { FitsRec rec }
-    ensures kept { (me n : ℕ) (log : List Rec) (m : Made) → SaysOfLog me n ledger.old log → Holds output.old m →
-        IfOk result (λ fit. (fit ≡ fits me n log rec) × Recorded fit me n log rec m ledger.new output.new) }
+    ensures kept { WhereBothStand ledger.old output.old (λ me n log m. IfOk result (λ fit. (fit ≡ fits me n log rec) × Recorded fit me n log rec m ledger.new output.new)) }
     ensures unchanged { IfOk result (λ fit. fit ≡ false → (ledger.new ≡ ledger.old) × (output.new ≡ output.old)) }
 {
     let Some(lines) = apply(ledger, &rec)? else {

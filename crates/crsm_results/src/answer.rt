@@ -6,7 +6,7 @@ ghost use Rattle.crsm_ledger.specs.Ledger.{StandsFor};
 ghost use Rattle.crsm_spec.specs.Types.{Rec};
 ghost use Rattle.crsm_spec.specs.Log.{executed};
 ghost use Rattle.crsm_results.specs.Answering.{IsTrueOf, IsAnswerAt, answered};
-ghost use Rattle.crsm_results.specs.Rising.{RisesStrictly};
+ghost use Rattle.crsm_results.specs.Rising.{WhereRising};
 
 use crate::place::place_of;
 use crate::replay::replay;
@@ -25,8 +25,7 @@ pub fn answer_to(
     executions: &[usize],
     entry: &Entry,
 ) -> Result<Option<(u64, Answer)>, NoMemory>
-    ensures { (me n : ℕ) (log : List Rec) → StandsFor me n ledger.now log → RisesStrictly (executed log) → AllByRecursion (IsTrueOf (executed log)) lines.now →
-        IfOk result (λ r. r ≡ answered (executed log) entry.now) }
+    ensures { WhereRising ledger.now (λ log. AllByRecursion (IsTrueOf (executed log)) lines.now → IfOk result (λ r. r ≡ answered (executed log) entry.now)) }
 {
     match place_of(ledger, entry)? {
         Some(place) => {
@@ -39,7 +38,7 @@ pub fn answer_to(
 
 /// Whether the entry stands behind all that are executed. Then it has no answer yet.
 pub fn has_no_answer(ledger: &Ledger, entry: &Entry) -> bool
-    ensures { (me n : ℕ) (log : List Rec) → StandsFor me n ledger.now log → RisesStrictly (executed log) → IsTrue result → None ≡ answered (executed log) entry.now }
+    ensures { WhereRising ledger.now (λ log. IsTrue result → None ≡ answered (executed log) entry.now) }
 {
     ledger.is_ahead(entry)
 }

@@ -6,15 +6,14 @@ ghost use Rattle.crsm_ledger.specs.Ledger.{StandsFor};
 ghost use Rattle.crsm_spec.specs.Types.{Rec};
 ghost use Rattle.crsm_spec.specs.Clients.{find_executed};
 ghost use Rattle.crsm_spec.specs.Log.{executed};
-ghost use Rattle.crsm_results.specs.Rising.{RisesStrictly, IsBeforeAt, is_same};
+ghost use Rattle.crsm_results.specs.Rising.{WhereRising, IsBeforeAt, is_same};
 
 use crsm_base::{Entry, NoMemory, entry_precedes, is_same_stamp, never};
 use crsm_ledger::Ledger;
 
 /// The place of the entry, where it is executed.
 pub fn place_of(ledger: &Ledger, entry: &Entry) -> Result<Option<u64>, NoMemory>
-    ensures { (me n : ℕ) (log : List Rec) → StandsFor me n ledger.now log → RisesStrictly (executed log) →
-        IfOk result (λ r. r ≡ option_map (λ p. p.0) (find_executed (executed log) entry.now)) }
+    ensures { WhereRising ledger.now (λ log. IfOk result (λ r. r ≡ option_map (λ p. p.0) (find_executed (executed log) entry.now))) }
 {
     if ledger.is_ahead(entry) {
         return Ok(None);
@@ -25,8 +24,7 @@ pub fn place_of(ledger: &Ledger, entry: &Entry) -> Result<Option<u64>, NoMemory>
 /// The place of the entry, where it is executed. Executed entries rise, and one that is asked for is mostly among the
 /// last: so it is sought from the end, at first by doubled steps, then by halves.
 fn seek(ledger: &Ledger, entry: &Entry) -> Result<Option<u64>, NoMemory>
-    ensures { (me n : ℕ) (log : List Rec) → StandsFor me n ledger.now log → RisesStrictly (executed log) →
-        IfOk result (λ r. r ≡ option_map (λ p. p.0) (find_executed (executed log) entry.now)) }
+    ensures { WhereRising ledger.now (λ log. IfOk result (λ r. r ≡ option_map (λ p. p.0) (find_executed (executed log) entry.now))) }
 {
     let mut low = 0;
     let mut high = ledger.executed_len();

@@ -1,21 +1,18 @@
 //! What is gathered is what was cut.
 
-ghost use Rattle.std.specs.Prelude.{◌≡◌, ◌<◌, ◌≤◌, ℕ, List, [], ◌∷◌, ◌++◌, length, true, Contains};
+ghost use Rattle.std.specs.Prelude.{◌≡◌, ◌<◌, ◌≤◌, ℕ, List, [], ◌∷◌, ◌++◌, length, true};
 ghost use Rattle.crsm_base.specs.Limits.{most_parts};
 ghost use Rattle.crsm_base.specs.Messages.{part_least, part_most};
 ghost use Rattle.crsm_spec.specs.Parts.{Piece, with_part, whole_with};
 ghost use Rattle.crsm_segment.specs.Taking.{is_sized, after_part, taken_of, whole_of};
-ghost use Rattle.crsm_segment.specs.Arriving.{Cut, AreApart, IsOf, IsWholeOf, taken_from};
-ghost use Rattle.crsm_segment.specs.declared.message.Taken.TheVariants.{Whole};
+ghost use Rattle.crsm_segment.specs.Arriving.{Cut, AreApart, AreOf, IsOneOf, IsWholeOf, MakeWhole};
 
 /// A whole message is the concatenation of all parts of one sender, boot and number; and where the
 /// parts are of messages that were cut, it is one of those.
 pub fn whole_messages()
-    ensures parts { (before : List Piece) (last : Piece) (message : List ℕ) →
-        taken_of last (taken_from [] before) ≡ Whole message → IsWholeOf (before ++ last ∷ []) last message }
+    ensures parts { (before : List Piece) (last : Piece) (message : List ℕ) → MakeWhole before last message → IsWholeOf (before ++ last ∷ []) last message }
     ensures cut { (cuts : List Cut) (before : List Piece) (last : Piece) (message : List ℕ) →
-        AreApart cuts → ((p : Piece) → Contains (before ++ last ∷ []) p → IsOf cuts p) →
-        taken_of last (taken_from [] before) ≡ Whole message → (c : Cut) × Contains cuts c × (message ≡ c.message) }
+        AreApart cuts → AreOf cuts (before ++ last ∷ []) → MakeWhole before last message → IsOneOf cuts message }
 {}
 
 /// The parts of datagrams are as long as they have to be, and over such parts a `Gather` stands for
