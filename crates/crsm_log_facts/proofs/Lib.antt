@@ -10,3 +10,4 @@ pub mod EntriesFit
 pub mod LogsFit
 pub mod DecisionsFit
 pub mod Known
+pub mod Parts

@@ -1,4 +1,5 @@
-//! Facts about lists of entries, about one log, and about what of them has a spelling, over the definitions alone.
+//! Facts about lists of entries, about one log, about what of them has a spelling, and about messages that are cut into
+//! parts, over the definitions alone.
 //!
 //! The proofs of running code and those of the laws cite these lemmas, in `proofs/`. None of them speaks of a step, of a
 //! world or of a run. A fact that says most is also the contract of a function that does nothing.

@@ -13,7 +13,7 @@ use Rattle.crsm_spec.specs.Draft.{parts_to}
 use Rattle.crsm_spec.specs.Parts.{part_count, cut_into, cut}
 use Rattle.crsm_segment.specs.Pieces.{send_of, piece_of, sends_of}
 use Rattle.crsm_output.specs.Made.{to_replica}
-use Rattle.crsm_segment.proofs.Pieces.{cut_length}
+use Rattle.crsm_log_facts.proofs.Parts.{cut_length}
 use Rattle.crsm_output.proofs.Sizes.{few}
 
 same_each : (from to boot number : ℕ) (message : List ℕ) (ps : List (ℕ × List ℕ)) →

@@ -1,7 +1,6 @@
 -- A message is cut part by part.
 use Rattle.std.proofs.Common.{◌≡◌, ℕ, zero, suc, ◌+◌, ◌-◌, ◌*◌, ◌/◌, ◌≤◌, min, List, [], ◌∷◌, ◌++◌, map, length, take, drop, arith, inl, inr, refl, sym, ap, ◌∙◌}
-use Rattle.std.specs.List.{concat, range_with_len, enumerate_from}
-use Rattle.std.proofs.Math.Seq.{take-add}
+use Rattle.std.specs.List.{range_with_len, enumerate_from}
 use Rattle.std.proofs.lemmas.Bool.{cases_lt}
 use Rattle.std.proofs.lemmas.List.{take_all, length-drop}
 use Rattle.std.proofs.lemmas.List.FromFn.{map-range_with_len_more}
@@ -9,6 +8,7 @@ use Rattle.crsm_base.specs.declared.send.Send.{Send}
 use Rattle.crsm_base.specs.declared.send.To.TheVariants as to_whom
 use Rattle.crsm_base.specs.declared.datagram.Datagram.TheVariants as datagram
 use Rattle.crsm_spec.specs.Parts.{part_count, cut_into, cut}
+use Rattle.crsm_log_facts.proofs.Parts.{cut_length}
 use Rattle.crsm_segment.specs.Pieces.{send_of, piece_of, sends_of}
 
 no_bytes : (k : ℕ) (xs : List ℕ) → xs ≡ [] → drop k xs ≡ []
@@ -23,11 +23,6 @@ drop_drop m (suc n) (x ∷ xs) = let e : suc n + m ≡ suc (n + m) = omega arith
 -- the part at an index
 abbrev pub part_at : List ℕ → ℕ → List ℕ
 part_at m i = take 8000 (drop (8000 * i) m)
-
-pub cut_length : (k : ℕ) (m : List ℕ) → length (cut_into k m) ≡ k
-unfolding cut_into
-cut_length zero m = refl
-cut_length (suc k) m = let e = cut_length k (drop 8000 m) in omega arith
 
 -- the parts from an index on, each with something made of it
 parts_from : {X : Type 0} (f : ℕ × List ℕ → X) (m : List ℕ) (i k : ℕ) →
@@ -50,18 +45,6 @@ piece_is m a = elim (cases_lt (length m) (a + 8000)) [
       take_all (min (a + 8000) (length m) - a) (drop a m) l ∙ sym (take_all 8000 (drop a m) (omega (arith, length-drop a m)))
   | inr long ↦ let e : min (a + 8000) (length m) - a ≡ 8000 = omega arith in ap (λ n. take n (drop a m)) e
 ]
-
--- the parts joined are the message
-prefix : (k : ℕ) (m : List ℕ) → concat (cut_into k m) ≡ take (8000 * k) m
-unfolding cut_into
-prefix zero m = let none : 8000 * 0 ≡ 0 = omega arith in ap (λ n. take n m) (sym none)
-prefix (suc k) m =
-    let more : 8000 + 8000 * k ≡ 8000 * suc k = omega arith in
-    ap (λ z. take 8000 m ++ z) (prefix k (drop 8000 m)) ∙ sym (take-add 8000 (8000 * k) m) ∙ ap (λ n. take n m) more
-
-pub joined_again : (m : List ℕ) → concat (cut m) ≡ m
-unfolding cut part_count
-joined_again m = prefix (part_count (length m)) m ∙ take_all (8000 * part_count (length m)) m (omega arith)
 
 -- ---- the loop that cuts
 
