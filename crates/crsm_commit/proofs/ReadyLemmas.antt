@@ -37,7 +37,7 @@ unfolding first_of
 of_first P Q [] s each e all = absurd (cc)
 of_first P Q (f ∷ es) s each e all = (let same : f.stamp ≡ s = cc in subst Q same (each f all.0))
 
--- ---- where each heard time is at least 1, a time of 0 is reached with the first time heard
+-- ---- where each received time is at least 1, a time of 0 is reached with the first time received
 
 reached_from_one : (received : List (ℕ × ℕ)) (time k : ℕ) → AllByRecursion (λ h. 1 ≤ h.1) received → reached received (max time 1) k ≡ reached received time k
 unfolding reached

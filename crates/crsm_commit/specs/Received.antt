@@ -3,6 +3,6 @@ use Rattle.std.specs.Prelude.{◌≡◌, ℕ, ◌<◌, List, slice_index}
 use Rattle.crsm_spec.specs.Replica.{latest_from}
 use Rattle.crsm_commit.specs.declared.latest.Latest.{Latest}
 
--- These are all times that were heard, each behind its sender.
+-- These are all times that were received, each behind its sender.
 abbrev pub HasReceived : Latest → List (ℕ × ℕ) → Type 0
 HasReceived latest received = (k : ℕ) → k < 15 → slice_index latest.times k ≡ latest_from received k

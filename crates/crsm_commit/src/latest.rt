@@ -1,4 +1,4 @@
-//! The latest time heard of each replica.
+//! The latest time received from each replica.
 
 ghost use Rattle.std.specs.Prelude.{◌≡◌, ℕ, ◌^◌, ◌<◌, ◌≤◌, [], ◌∷◌, List, nat_le};
 ghost use Rattle.std.specs.List.{list_all};
@@ -7,7 +7,7 @@ ghost use Rattle.crsm_spec.specs.Ready.{reached};
 
 use crsm_base::Members;
 
-/// The latest time that was heard of each replica, or issued by this one.
+/// The latest time that was received from each replica, or issued by this one.
 #[derive(Debug, Drop)]
 pub struct Latest {
     /// By the number of the replica; 0 before the first.
@@ -17,14 +17,14 @@ pub struct Latest {
 impl Latest {
     ghost use Rattle.crsm_commit.specs.Received.{HasReceived};
 
-    /// Nothing was heard.
+    /// Nothing was received.
     pub fn new() -> Latest
         ensures { HasReceived result [] }
     {
         Latest { times: [0; 15] }
     }
 
-    /// A time of k was heard. An older one changes nothing.
+    /// A time of k was received. An older one changes nothing.
     pub fn receive(&mut self, k: u32, time: u64)
         requires { k < 15 }
         ensures { (received : List (ℕ × ℕ)) → HasReceived self.old received → HasReceived self.new ((k, time) ∷ received) }
@@ -35,7 +35,7 @@ impl Latest {
         }
     }
 
-    /// The latest time of k, 0 where none was heard.
+    /// The latest time of k, 0 where none was received.
     pub fn of(&self, k: u32) -> u64
         requires { k < 15 }
         ensures { (received : List (ℕ × ℕ)) → HasReceived self.now received → result ≡ latest_from received k }

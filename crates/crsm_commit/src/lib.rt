@@ -1,8 +1,8 @@
 //! The commit rule: which logged entry is executed next, and when.
 //!
-//! `Latest` keeps the latest time that was heard of each replica, `Pending` the entries that are not executed and who
-//! has logged them. An entry is ready when a majority has logged it, no member issues a lesser time any more, and no
-//! entry with a lesser stamp is pending.
+//! `Latest` keeps the latest time that was received from each replica, `Pending` the entries that are not executed and
+//! who has logged them. An entry is ready when a majority has logged it, no member issues a lesser time any more, and
+//! no entry with a lesser stamp is pending.
 #![tactic(auto)]
 
 mod latest;

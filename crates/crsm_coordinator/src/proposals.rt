@@ -1,4 +1,4 @@
-//! What a coordinator proposes, and to whom it is told.
+//! What a coordinator proposes, and to whom it is sent.
 
 ghost use Rattle.std.specs.Prelude.{◌≡◌, ◌<◌, ℕ, Option, List, not, filter, All, IfOk};
 ghost use Rattle.crsm_base.specs.declared.Decision.{Decision};

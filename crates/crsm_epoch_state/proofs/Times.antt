@@ -1,4 +1,4 @@
--- Times that were issued and heard.
+-- Times that were issued and received.
 use Rattle.std.proofs.Common.{◌≡◌, ◌≢◌, ℕ, ◌+◌, ◌<◌, ◌≤◌, Bool, true, false, refl, sym, ◌∙◌, ap, arith, List, [], ◌∷◌, ◌++◌, Some, None}
 use Rattle.std.specs.Prelude.{◌==◌, max, map, filter, if◌then◌else◌}
 use Rattle.std.specs.List.{AllByRecursion}
@@ -10,7 +10,7 @@ use Rattle.crsm_spec.specs.Ready.{all_received}
 use Rattle.crsm_commit.specs.Received.{HasReceived}
 use Rattle.crsm_commit.specs.declared.latest.Latest.{Latest}
 
--- the latest time of k, with one more heard of j
+-- the latest time of k, with one more received from j
 unfoldable pub latest_if : Bool → ℕ → ℕ → ℕ
 latest_if b t l = if b then max t l else l
 
@@ -53,7 +53,7 @@ pub latest_of_other : (r : Replica) (k : ℕ) → k ≢ r.me → latest_from (al
 unfolding all_received
 latest_of_other r k other = latest_past_own r.me k r.issued r.received other
 
--- one more time is heard
+-- one more time is received
 pub received_more : (latest : Latest) (r : Replica) (k time : ℕ) (taken : List ℕ) → HasReceived latest ((k, time) ∷ all_received r) →
     HasReceived latest (all_received (record r { taken = taken; received = (k, time) ∷ r.received }))
 unfolding all_received

@@ -1,4 +1,4 @@
-//! What a replica keeps of its epoch while it runs: its clock, the times that it heard, the entries that are not
+//! What a replica keeps of its epoch while it runs: its clock, the times that it received, the entries that are not
 //! executed, the acknowledgements that it owes, and its links.
 #![tactic(auto)]
 

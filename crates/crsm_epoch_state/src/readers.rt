@@ -31,7 +31,7 @@ impl EpochState {
         self.clock.last()
     }
 
-    /// The latest time heard of another replica, 0 before the first.
+    /// The latest time received from another replica, 0 before the first.
     pub fn latest_from(&self, k: u32) -> u64
         requires { k < 15 }
         ensures { WhereRuns self.now (λ r. k ≢ r.me → result ≡ latest_from r.received k) }

@@ -163,7 +163,7 @@ unfolding when◌then◌otherwise◌
 same_when true p q = p
 same_when false p q = q
 
--- ---- telling
+-- ---- sending
 
 pub send_same : (c : Control) (x : Draft) (k : ℕ) → IsSame x (send_control c x k)
 unfolding send_control

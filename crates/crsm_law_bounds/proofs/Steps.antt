@@ -1,4 +1,4 @@
--- A step leaves everything with a spelling, on record and in its coordinator, and tells only what has one.
+-- A step leaves everything with a spelling, on record and in its coordinator, and sends only what has one.
 use Rattle.std.proofs.Common.{◌≡◌, ℕ, ◌+◌, ◌-◌, ◌<◌, ◌≤◌, List, [], ◌∷◌, ◌++◌, length, drop, take, refl, sym, ◌∙◌, subst, inl, inr, Bool, true, false, cond, arith, max}
 use Rattle.std.specs.Prelude.{◌⊎◌, ◌≢◌, ◌^◌, IsTrue, Option, Some, None, nat_le, nat_lt, ◌==◌, ◌&&◌, unwrap_or}
 use Rattle.std.specs.List.{AllByRecursion}
@@ -287,7 +287,7 @@ module _ (n k : ℕ) (last : Log) (r : Replica) (input : Input) (reading : ℕ) 
       let t = changes_fit p e me f in
       (change_fits y z c e t.1 t.0, (numbers_stay r input reading y z c).0 ∙ t.1)
 
-  -- ---- what is told
+  -- ---- what is sent
 
   asked_fits : (x : Draft) (after : Option Stamp) → Fit x → IsAsked x.replica.coordinator after → FitsOption FitsStamp after
   asked_fits x after f (inl e) = subst (FitsOption FitsStamp) (sym e) tt

@@ -1,4 +1,4 @@
--- In every world with short logs, all that is on record and all that was told has a spelling.
+-- In every world with short logs, all that is on record and all that was sent has a spelling.
 use Rattle.std.proofs.Common.{◌≡◌, ℕ, suc, ◌+◌, ◌<◌, ◌≤◌, List, [], ◌∷◌, ◌++◌, length, refl, sym, ◌∙◌, subst, inl, inr, Bool, true, false, cond, arith}
 use Rattle.std.specs.Prelude.{◌⊎◌, ◌^◌, Option, Some, None, slice_get, slice_set, nat_lt, ◌==◌, count_by}
 use Rattle.std.specs.Option.{option_map_or}
@@ -169,7 +169,7 @@ module _ (n : ℕ) (w : World) (reached : IsReached n w) (few : HasFewBoots w) (
 
 module _ (n : ℕ) (w : World) (reached : IsReached n w) (f : Fine n w reached) (u : World) (few : HasFewBoots w)
     (fits : (k : ℕ) → AllFit k n (log_at u k)) (short : HasShortLogs u) where
-  -- what a draft tells whose step is kept
+  -- what a draft sends whose step is kept
   draft_sends : (v : World) → Marks w v → (k : ℕ) (r : Replica) → slice_get v.sites k ≡ Some (Site.Up r) → (input : Input) → CanCome w k input → (reading : ℕ) → reading < 2 ^ 64 →
       log_at u k ≡ (step r input reading).replica.log → (x : Draft) → Changes r input reading (begun r) x → Extends x.replica.log (step r input reading).replica.log →
       (s : SentMessage) → IsSentBy r input x s → FitsControl s.message
@@ -180,7 +180,7 @@ module _ (n : ℕ) (w : World) (reached : IsReached n w) (f : Fine n w reached) 
       sent_fits n k last r input reading (comes n w reached few f v p k r up input can reading lt last fit small) x s.message ext
       (draft_fits n w reached few f v p k r up input can reading lt last fit small x path ext) t.is t.answers
 
-  -- what was told in a step
+  -- what was sent in a step
   step_sends : (v : World) → Marks w v → (k : ℕ) (r : Replica) → slice_get v.sites k ≡ Some (Site.Up r) → (input : Input) → CanCome w k input → (reading : ℕ) → reading < 2 ^ 64 →
       log_at u k ≡ (step r input reading).replica.log → {x : Draft} (path : Changes r input reading (begun r) x) → Extends x.replica.log (step r input reading).replica.log →
       (s : SentMessage) → SendsIn path s → FitsControl s.message
@@ -289,7 +289,7 @@ kept_by n w v p g k r e x z IsWhole sends = kept_whole n w v p g (all_known n w 
 kept_by n w v p g k r e x z (IsCut count) sends = kept_cut n w v p g (all_known n w g) k r e x count
 kept_by n w v p g k r e x z IsLost sends = absurd sends
 
--- what is told at a moment
+-- what is sent at a moment
 moment_sends : (n : ℕ) (w : World) (m : Moment) (g : IsReached n w) (h : Happens w m) → HasFewBoots m.after → HasShortLogs m.after → HasFewBoots w → Fine n w g →
     (s : SentMessage) → SendsAt h s → FitsControl s.message
 unfolding begun_at
@@ -314,7 +314,7 @@ fine n w most (next {w = u} {m = m} g h) short =
       ];
     }
 
--- what was told was told in a step whose records are kept
+-- what was sent was sent in a step whose records are kept
 sent_before : (n : ℕ) (w : World) → n ≤ 15 → HasShortLogs w → (s : SentMessage) → WasSentBefore n w s → FitsControl s.message
 unfolding begun_at
 sent_before n w most short s t =

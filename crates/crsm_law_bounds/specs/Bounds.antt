@@ -17,7 +17,7 @@ most_records = 1125899906842624
 abbrev pub HasShortLogs : World → Type 0
 HasShortLogs w = (k : ℕ) → length (log_at w k) ≤ most_records
 
--- Each number of each log and of each message that was told is in its range, and so is that of each replica.
+-- Each number of each log and of each message that was sent is in its range, and so is that of each replica.
 pub record IsSpelt (n : ℕ) (w : World) : Type 0 where
   pub numbers : (k : ℕ) (s : Site) → slice_get w.sites k ≡ Some s → k < 15
   pub few : HasFewBoots w

@@ -51,7 +51,7 @@ abbrev pub Origins : ℕ → List ℕ → (ℕ → Log) → Type 0
 Origins e members logs = (k : ℕ) (y : Entry) → Among (logged_in e (logs k)) y → IsTrue (has members y.stamp.origin) × Among (logged_in e (logs y.stamp.origin)) y
 
 -- What a record owes, as a replica's state can tell: a received entry is its origin's, an own one has a greater time
--- than all that was committed, and what was heard of members is logged where an entry is committed.
+-- than all that was committed, and what was received from members is logged where an entry is committed.
 abbrev pub OwesOfState : ℕ → ℕ → List ℕ → List ℕ → (ℕ → Log) → ℕ → Rec → Type 0
 OwesOfState e begins spec members logs k (Rec.Prepare y) =
     known (logs k) ≡ e →

@@ -1,4 +1,4 @@
--- The premises as replicas' states have them: votes, times heard, and the logs of all at the moment of a commit.
+-- The premises as replicas' states have them: votes, times received, and the logs of all at the moment of a commit.
 use Rattle.std.specs.Prelude.{◌≡◌, ◌⊎◌, ℕ, ◌+◌, ◌<◌, ◌≤◌, IsTrue, List, ◌∷◌, Some, slice_get}
 use Rattle.crsm_spec.specs.Types.{Stamp, Entry, Rec}
 use Rattle.crsm_spec.specs.Lists.{has, Among}
@@ -18,7 +18,7 @@ pub record WasReady (e : ℕ) (spec members : List ℕ) (logs : ℕ → Log) (lo
   pub ready : IsTrue (is_ready replica s)
   -- each vote names a replica whose records hold an entry of that stamp
   pub votes : (t : Stamp) (k : ℕ) → IsTrue (voted replica.votes t k) → (y : Entry) × (y.stamp ≡ t) × Among (logged_in e (logs k)) y
-  -- where a time was heard from a member, each entry of that member with a time not above it is logged here
+  -- where a time was received from a member, each entry of that member with a time not above it is logged here
   pub received : (time k : ℕ) → IsTrue (reached (all_received replica) time k) → (y : Entry) → Among (logged_in e (then k)) y →
       y.stamp.origin ≡ k → y.stamp.time ≤ time → Among (logged_in e log) y
   -- and each entry of that member that it logs in a later step has a greater time

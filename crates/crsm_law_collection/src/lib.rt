@@ -51,7 +51,7 @@ pub fn collections_are_well_made()
     ensures { CollectionsAreWellMade }
 {}
 
-/// What holds of votes and heard times in one epoch gives what the law of collection needs.
+/// What holds of votes and received times in one epoch gives what the law of collection needs.
 pub fn premises_suffice()
     ensures { PremisesSuffice }
 {}
@@ -101,7 +101,7 @@ pub fn facts_go_on()
     ensures { FactsGoOn }
 {}
 
-/// The facts go on where a received entry is its origin's, an own one is new, and what was heard is logged.
+/// The facts go on where a received entry is its origin's, an own one is new, and what was received is logged.
 pub fn facts_of_state_go_on()
     ensures { FactsOfStateGoOn }
 {}

@@ -67,7 +67,7 @@ pub record Held (n : ℕ) (w : World) (history : IsReached n w) : Type 0 where
 
 module _ (n : ℕ) (w v : World) (reached : IsReached n w) (marks : Marks w v) (k : ℕ) (r : Replica) (up : slice_get v.sites k ≡ Some (Site.Up r)) (input : Input) (reading : ℕ) (can : CanCome w k input)
     (spelt : AllSpelt n w) (held : Held n w reached) (later : ℕ → Log) (grows : (j : ℕ) → Extends (log_at w j) (later j)) (fit : (j : ℕ) → AllFit j n (later j)) where
-  -- ---- what is heard
+  -- ---- what is received
 
   record IsTrueOf (j : ℕ) (c : Control) : Type 0 where
     pub log : Log
@@ -94,7 +94,7 @@ module _ (n : ℕ) (w v : World) (reached : IsReached n w) (marks : Marks w v) (
 
   -- ---- a draft
 
-  -- What holds of a draft, which may have told these.
+  -- What holds of a draft, which may have sent these.
   pub record Mid (x : Draft) (SendsControl : SentMessage → Type 0) : Type 0 where
     pub me : x.replica.me ≡ k
     pub size : x.replica.n ≡ n
@@ -108,7 +108,7 @@ module _ (n : ℕ) (w v : World) (reached : IsReached n w) (marks : Marks w v) (
     pub decided : (d : Decision) → Among x.replica.log (Rec.Decide d) → IsChosen n later d
     pub told : (s : SentMessage) (i : ℕ) (b : Ballot) (d : Decision) → SendsControl s → s.message ≡ Control.P2a i b d → IsOffered offers i b d
 
-  -- what it tells next is offered
+  -- what it sends next is offered
   now_sent : (x : Draft) (T : SentMessage → Type 0) (g : Mid x T) (s : SentMessage) (i : ℕ) (b : Ballot) (d : Decision) → IsSentBy r input x s ⊎ T s → s.message ≡ Control.P2a i b d → IsOffered g.offers i b d
   unfolding instance
   now_sent x T g s i b d (inr h) e = g.told s i b d h e
@@ -413,7 +413,7 @@ module _ (n : ℕ) (w v : World) (reached : IsReached n w) (marks : Marks w v) (
         accepted = λ j h. subst (λ z. Among (later j) (Rec.Accept z b d)) (sym epoch) (old.voted j h);
       }
 
-  -- what is heard given decided was chosen
+  -- a decision that is received was chosen
   learns : (j : ℕ) (d : Decision) → ReceivesControl r input j (Control.Decide d) → IsChosen n later d
   learns j d h =
       let t = received_true j (Control.Decide d) h in

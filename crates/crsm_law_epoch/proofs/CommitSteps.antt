@@ -109,7 +109,7 @@ module _ (n k : ℕ) (v : ℕ → Seat) (sent : List Datagram) where
           ],
         )
 
-    -- the frame that told it
+    -- the frame that it was received in
     frame_of : (m : ℕ) → IsTrue (has (members n x.replica.log) m) → (m ≡ k → ⊥) →
         (i : ℕ) × (p : InEpoch) × (i < taken_of m x.replica.taken) × Among (sent ++ outs x) (Datagram.Frame m k e i p) × (f.stamp.time ≤ time_of p)
     unfolding seat_up

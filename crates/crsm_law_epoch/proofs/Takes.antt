@@ -11,7 +11,7 @@ use Rattle.crsm_law_epoch.specs.Seats.{Seat, Sender, Receiver, HasStamp, IsTop, 
 use Rattle.crsm_law_epoch.proofs.Words.{count_same, count_other}
 use Rattle.crsm_law_epoch.proofs.Moved.{at, at_same, at_other, moved}
 
--- What a taken frame does to the seat: what it says is logged, heard, counted and owed.
+-- What a taken frame does to the seat: what it says is logged, counted and owed, and its time is received.
 pub record Takings (n k : ℕ) (v : ℕ → Seat) (all : List Datagram) (m : ℕ) (p : InEpoch) (s : Seat) : Type 0 where
   pub other : m ≡ k → ⊥
   pub frame : Among all (Datagram.Frame m k (known (v k).log) (taken_of m (v k).taken) p)

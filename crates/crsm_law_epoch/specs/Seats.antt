@@ -76,7 +76,7 @@ pub record Sender (n k : ℕ) (s : Seat) (all : List Datagram) : Type 0 where
 abbrev pub HasStamp : (ℕ → Log) → ℕ → ℕ → Stamp → Type 0
 HasStamp logs e j s = (f : Entry) × Logged (logs j) f × (f.epoch ≡ e) × (f.stamp ≡ s)
 
--- What a running replica has taken, heard and counted.
+-- What a running replica has taken, received and counted.
 pub record Receiver (k : ℕ) (s : Seat) (logs : ℕ → Log) (all : List Datagram) : Type 0 where
   pub has_it : (m i : ℕ) (f : Entry) → i < taken_of m s.taken → Among all (Datagram.Frame m k (known s.log) i (InEpoch.Prepare f)) → Logged s.log f
   pub came : (m i : ℕ) → i < taken_of m s.taken → (p : InEpoch) × Among all (Datagram.Frame m k (known s.log) i p)

@@ -18,7 +18,7 @@ pub record Witnessed (n : ℕ) (v : ℕ → Seat) (all : List Datagram) (by : �
   pub voters : ℕ → Bool
   pub many : majority (length (spec n log)) ≤ count_by voters (spec n log)
   pub logged : (j : ℕ) → IsTrue (voters j) → Logged (v j).log x
-  -- each other member has told a time that is not below the entry's
+  -- each other member has sent a time that is not below the entry's
   pub received : (m : ℕ) → IsTrue (has (members n log) m) → (m ≡ by → ⊥) →
       (i : ℕ) × (p : InEpoch) × Among all (Datagram.Frame m by (known log) i p) × (x.stamp.time ≤ time_of p)
   -- what a member has stamped in the epoch up to that time, by now, had been logged at the commit

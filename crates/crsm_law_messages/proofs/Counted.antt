@@ -23,13 +23,13 @@ past_me n w k p =
     (changes_numbers p.before).0
     ∙ ((all_known n p.world p.reached).up k p.replica (subst (λ ss. slice_get ss k ≡ Some (Site.Up p.replica)) (marked_sites p.marks) p.up)).me
 
--- what was told before a draft was told before w
+-- what was sent before a draft was sent before w
 sent_since : (n : ℕ) (w : World) (k : ℕ) (p : Past n w k) (s : SentMessage) → WasSentBefore n p.world s → WasSentBefore n w s
 unfolding begun_at
 sent_since n w k p s t =
     carried (λ u. WasSentBefore n u s) (λ u m h. was_on n u m h s) p.moment.after w p.since (was_on n p.world (begun_at p.world p.moment) p.happens s t)
 
--- what a draft's step hears of j is true of an earlier log of j
+-- what a draft's step receives from j is true of an earlier log of j
 record IsTrueOf (w : World) (j : ℕ) (c : Control) : Type 0 where
   pub log : Log
   pub earlier : Extends log (log_at w j)

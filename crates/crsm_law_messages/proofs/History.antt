@@ -1,4 +1,4 @@
--- What was told on the way to a world, in the steps of one history that leads there.
+-- What was sent on the way to a world, in the steps of one history that leads there.
 use Rattle.std.proofs.Common.{ℕ}
 use Rattle.std.specs.Prelude.{◌⊎◌}
 use Rattle.crsm_spec.specs.Replica.{Replica}
@@ -13,7 +13,7 @@ use Rattle.crsm_law_steps.specs.Happenings.IsReached.{first, next}
 use Rattle.crsm_step_facts.proofs.Fitted.{step_changes}
 use Rattle.crsm_law_messages.specs.SentMessages.{SentMessage, IsSentBy}
 
--- some draft of these changes, but for the last, may tell it
+-- some draft of these changes, but for the last, may send it
 abbrev pub SendsIn : {r : Replica} {input : Input} {reading : ℕ} {x y : Draft} → Changes r input reading x y → SentMessage → Type 0
 SendsIn stay s = ⊥
 SendsIn {r} {input} (and_then {y = y} p c f) s = IsSentBy r input y s ⊎ SendsIn p s
@@ -32,7 +32,7 @@ SendsAt (Stops k) s = ⊥
 SendsAt (Joins f) s = ⊥
 SendsAt (Starts k d f) s = ⊥
 
--- some step of the history told it
+-- some step of the history sent it
 abbrev pub WasSentIn : {n : ℕ} {w : World} → IsReached n w → SentMessage → Type 0
 WasSentIn first s = ⊥
 WasSentIn (next q h) s = SendsAt h s ⊎ WasSentIn q s

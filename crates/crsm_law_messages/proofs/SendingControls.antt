@@ -1,4 +1,4 @@
--- What was told, while a replica makes a step: all that was told before it and in it, and where its parts are.
+-- What was sent, while a replica makes a step: all that was sent before it and in it, and where its parts are.
 use Rattle.std.proofs.Common.{◌≡◌, ℕ, suc, ◌+◌, ◌<◌, List, [], ◌∷◌, ◌++◌, length, refl, sym, ◌∙◌, ap, subst, inl, inr, Bool, true, false, arith, get_or}
 use Rattle.std.specs.Prelude.{◌⊎◌, ◌==◌}
 use Rattle.std.specs.List.{enumerate_from}
@@ -21,7 +21,7 @@ use Rattle.crsm_law_messages.proofs.Gathered.{IsOnce, once_with, with_among}
 use Rattle.crsm_law_messages.proofs.Effects.{PartsChange, Quiet, SendsOne, GathersOne, IsQuiet, parts_change}
 use Rattle.crsm_log_facts.proofs.Lists.{among_either}
 
--- ---- parts of what was told
+-- ---- parts of what was sent
 
 -- the part is one of the message
 pub record IsPiece (s : SentMessage) (p : Piece) : Type 0 where
@@ -31,7 +31,7 @@ pub record IsPiece (s : SentMessage) (p : Piece) : Type 0 where
   pub count : p.count ≡ length (cut (control_bytes s.message))
   pub bytes : p.bytes ≡ get_or (cut (control_bytes s.message)) p.index []
 
--- it is one of a message for k that was told
+-- it is one of a message for k that was sent
 pub record IsFor (sent : List SentMessage) (k : ℕ) (p : Piece) : Type 0 where
   pub sent_message : SentMessage
   pub was : Among sent sent_message
@@ -41,19 +41,19 @@ pub record IsFor (sent : List SentMessage) (k : ℕ) (p : Piece) : Type 0 where
 abbrev pub piece : ℕ → ℕ → ℕ → ℕ → ℕ → List ℕ → Piece
 piece a b i y c bytes = record { from = a; boot = b; number = i; index = y; count = c; bytes = bytes }
 
--- the datagram, if it is a part, is one of a message for its receiver that was told
+-- the datagram, if it is a part, is one of a message for its receiver that was sent
 abbrev pub IsSaid : List SentMessage → Datagram → Type 0
 IsSaid sent d = (a j b i y c : ℕ) (bytes : List ℕ) → d ≡ Datagram.Part a j b i y c bytes → IsFor sent j (piece a b i y c bytes)
 
--- no two have the same teller, boot and number
+-- no two have the same sender, boot and number
 abbrev pub AreApart : List SentMessage → Type 0
 AreApart sent = (s t : SentMessage) → Among sent s → Among sent t → s.from ≡ t.from → s.boot ≡ t.boot → s.number ≡ t.number → s ≡ t
 
--- it was told in an earlier boot, or earlier in this one
+-- it was sent in an earlier boot, or earlier in this one
 abbrev pub IsBelow : SentMessage → ℕ → ℕ → Type 0
 IsBelow s b made = (s.boot < b) ⊎ ((s.boot ≡ b) × (s.number < made))
 
--- What a replica at k that is up has told and has gathered.
+-- What a replica at k that is up has sent and has gathered.
 pub record Here (sent : List SentMessage) (k : ℕ) (r : Replica) : Type 0 where
   pub me : r.me ≡ k
   pub below : (s : SentMessage) → Among sent s → s.from ≡ k → IsBelow s (boots r.log) r.made
@@ -65,7 +65,7 @@ pub record Mid (sent : List SentMessage) (k : ℕ) (x : Draft) : Type 0 where
   pub here : Here sent k x.replica
   pub sends : (s : ℕ × Datagram) → Among x.sends s → IsSaid sent s.1
 
--- ---- one more is told
+-- ---- one more is sent
 
 for_more : (sent more : List SentMessage) → ((s : SentMessage) → Among sent s → Among more s) → (k : ℕ) (p : Piece) → IsFor sent k p → IsFor more k p
 for_more sent more h k p f = record { sent_message = f.sent_message; was = h f.sent_message f.was; to = f.to; piece = f.piece }
@@ -73,7 +73,7 @@ for_more sent more h k p f = record { sent_message = f.sent_message; was = h f.s
 pub said_more : (sent more : List SentMessage) → ((s : SentMessage) → Among sent s → Among more s) → (d : Datagram) → IsSaid sent d → IsSaid more d
 said_more sent more h d f a j b i y c bytes e = for_more sent more h j _ (f a j b i y c bytes e)
 
--- who tells nothing keeps what it has
+-- who sends nothing keeps what it has
 pub here_more : (sent more : List SentMessage) → ((s : SentMessage) → Among sent s → Among more s) → (k : ℕ) → ((s : SentMessage) → Among more s → s.from ≡ k → Among sent s) → (r : Replica) → Here sent k r → Here more k r
 here_more sent more h k back r g = record {
   me = g.me;
@@ -99,7 +99,7 @@ pub record SameParts (a j b i y c : ℕ) (bytes : List ℕ) (a' j' b' i' y' c' :
 pub same_parts : (a j b i y c : ℕ) (bytes : List ℕ) (a' j' b' i' y' c' : ℕ) (bytes' : List ℕ) → Datagram.Part a j b i y c bytes ≡ Datagram.Part a' j' b' i' y' c' bytes' → SameParts a j b i y c bytes a' j' b' i' y' c' bytes'
 same_parts a j b i y c bytes a' j' b' i' y' c' bytes' e = record { from = cc; to = cc; boot = cc; number = cc; index = cc; count = cc; content = cc }
 
--- the message that the replica tells next
+-- the message that the replica sends next
 abbrev pub next_message : Replica → ℕ → Control → SentMessage
 next_message r j c = record { from = r.me; to = j; boot = boots r.log; number = r.made; message = c }
 
@@ -151,7 +151,7 @@ then_on p (and_then q c f) = and_then (then_on p q) c f
 
 module _ (k : ℕ) (old : List SentMessage) (r : Replica) (input : Input) (reading : ℕ) (last : Draft) (r_me : r.me ≡ k)
     (came : (address : ℕ) (p : Piece) → input ≡ Input.Came address (Datagram.Part p.from r.me p.boot p.number p.index p.count p.bytes) → IsFor old k p) where
-  -- it is told in this step
+  -- it is sent in this step
   pub record IsNew (s : SentMessage) : Type 0 where
     pub from : s.from ≡ k
     pub draft : Draft
@@ -159,7 +159,7 @@ module _ (k : ℕ) (old : List SentMessage) (r : Replica) (input : Input) (readi
     pub sent : IsSentBy r input draft s
     pub after : Changes r input reading draft last
 
-  -- and where it was told
+  -- and where it was sent
   pub record Told (x : Draft) (SendsControl : SentMessage → Type 0) : Type 0 where
     pub sent : List SentMessage
     pub mid : Mid sent k x

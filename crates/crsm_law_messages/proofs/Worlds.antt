@@ -1,4 +1,4 @@
--- In every world that is reached each part was told, and what is heard was told.
+-- In every world that is reached each part was sent, and what is received was sent.
 use Rattle.std.proofs.Common.{◌≡◌, ℕ, zero, suc, ◌+◌, ◌<◌, ◌≤◌, List, [], ◌∷◌, ◌++◌, length, refl, sym, ◌∙◌, ap, subst, inl, inr, Bool, true, false, cond, arith, take, map, get_or}
 use Rattle.std.specs.Prelude.{◌⊎◌, IsTrue, Some, slice_get, slice_set, ◌==◌, ◌^◌, nat_lt}
 use Rattle.std.specs.Option.{option_map_or}
@@ -68,7 +68,7 @@ pub record Known (n : ℕ) (w : World) (history : IsReached n w) : Type 0 where
   pub up : (k : ℕ) (r : Replica) → slice_get w.sites k ≡ Some (Site.Up r) → Here sent k r
   pub packets : (from to : ℕ) (d : Datagram) → WasSent w from to d → IsSaid sent d
 
--- what was told is of no later boot than the newest
+-- what was sent is of no later boot than the newest
 sent_boot : (n : ℕ) (w : World) (s : SentMessage) → WasSentBefore n w s → s.boot ≤ boots (log_at w s.from)
 sent_boot n w s t =
     let e = boots_rise t.past.draft.replica.log (log_at w s.from) (past_extends n w s.from t.past) in
@@ -157,7 +157,7 @@ module _ (n : ℕ) (w : World) (q : IsReached n w) (g : Known n w q) (m : Moment
     packets = λ from to d s. elim (packets from to d s) [ inl o ↦ said_more g.sent sent more_told d (g.packets from to d o) | inr z ↦ z ];
   }
 
--- nothing was told at it
+-- nothing was sent at it
 module _ (n : ℕ) (w : World) (q : IsReached n w) (g : Known n w q) (m : Moment) (h : Happens w m) (k : ℕ) where
   known_quietly : ((j : ℕ) (r : Replica) → slice_get m.after.sites j ≡ Some (Site.Up r) → ((j ≡ k → ⊥) × (slice_get w.sites j ≡ Some (Site.Up r))) ⊎ Here g.sent j r) →
       ((from to : ℕ) (d : Datagram) → WasSent m.after from to d → WasSent w from to d ⊎ IsSaid g.sent d) → Known n m.after (next q h)
@@ -215,7 +215,7 @@ module _ (n : ℕ) (w v : World) (p : Marks w v) (past : IsReached n w) (g : Kno
 same_input : (a b : ℕ) (c d : Datagram) → Input.Came a c ≡ Input.Came b d → c ≡ d
 same_input a b c d h = cc
 
--- a part that can come was told
+-- a part that can come was sent
 part_sent : (n : ℕ) (w : World) (q : IsReached n w) (g : Known n w q) (k : ℕ) (input : Input) → CanCome w k input → (me address : ℕ) (p : Piece) →
     input ≡ Input.Came address (Datagram.Part p.from me p.boot p.number p.index p.count p.bytes) → IsFor g.sent me p
 part_sent n w q g k input (IsPacket from d s) me address p e = g.packets from k d s p.from me p.boot p.number p.index p.count p.bytes (same_input from address d _ e)
@@ -311,7 +311,7 @@ room_packets w k = go (k == length w.sites)
     go true = refl
     go false = refl
 
--- what a boot leaves: it has told nothing, and its boot is later than all before
+-- what a boot leaves: it has sent nothing, and its boot is later than all before
 record IsFresh (k : ℕ) (log : Log) (x : Draft) : Type 0 where
   pub me : x.replica.me ≡ k
   pub later : boots log < boots x.replica.log
@@ -404,9 +404,9 @@ pub all_known : (n : ℕ) (w : World) (q : IsReached n w) → Known n w q
 all_known n w first = known_first n
 all_known n w (next {w = u} {m = m} r h) = known_moment n u m r h (all_known n u r)
 
--- ---- what is heard
+-- ---- what is received
 
--- k told j a message whose bytes are read as c, on the way of this history
+-- k sent j a message whose bytes are read as c, on the way of this history
 pub record IsSourceIn (n : ℕ) (w : World) (history : IsReached n w) (k j : ℕ) (c : Control) : Type 0 where
   pub source : IsSource n w k j c
   pub was_sent : WasSentIn history source.sent_message

@@ -9,7 +9,7 @@ use Rattle.crsm_log_facts.specs.Logs.{Extends}
 use Rattle.crsm_law_messages.specs.SentMessages.{SentMessage, WasSentBefore}
 use Rattle.crsm_law_messages.specs.Proposals.{Did, Counts, CountsVote}
 
--- each message that was told on the way to w has a spelling
+-- each message that was sent on the way to w has a spelling
 abbrev pub AllSpelt : ℕ → World → Type 0
 AllSpelt n w = (s : SentMessage) → WasSentBefore n w s → FitsControl s.message
 

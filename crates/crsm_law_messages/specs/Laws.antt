@@ -1,4 +1,4 @@
--- The laws of what is heard and of what was told.
+-- The laws of what is received and of what was sent.
 use Rattle.std.specs.Prelude.{◌≡◌, ℕ, ◌+◌, ◌<◌, IsTrue, length, Some, slice_get}
 use Rattle.crsm_base.specs.Messages.{control_bytes, FitsControl}
 use Rattle.crsm_base.specs.MessageReading.{control_of}
@@ -14,9 +14,9 @@ use Rattle.crsm_log_facts.specs.Logs.{Extends}
 use Rattle.crsm_law_steps.specs.Happenings.{Marks, CanCome, IsReached}
 use Rattle.crsm_law_messages.specs.SentMessages.{SentMessage, WasSentBefore}
 
--- ---- what is heard was told
+-- ---- what is received was sent
 
--- k told j a message whose bytes are read as c
+-- k sent j a message whose bytes are read as c
 pub record IsSource (n : ℕ) (w : World) (k j : ℕ) (c : Control) : Type 0 where
   pub sent_message : SentMessage
   pub from : sent_message.from ≡ k
@@ -24,7 +24,7 @@ pub record IsSource (n : ℕ) (w : World) (k j : ℕ) (c : Control) : Type 0 whe
   pub was_sent : WasSentBefore n w sent_message
   pub reads : control_of (control_bytes sent_message.message) ≡ Some c
 
--- A replica j hears c of k: whatever was lost, came twice, or came in another order.
+-- A replica j receives c from k: whatever was lost, came twice, or came in another order.
 pub record ReceivesIn (n : ℕ) (w : World) (k j : ℕ) (c : Control) : Type 0 where
   pub reached : IsReached n w
   pub marked : World
@@ -35,19 +35,19 @@ pub record ReceivesIn (n : ℕ) (w : World) (k j : ℕ) (c : Control) : Type 0 w
   pub can_come : CanCome w j input
   pub receives : ReceivesControl replica input k c
 
--- What a replica hears of another was told to it by that one.
+-- What a replica receives from another was sent to it by that one.
 abbrev pub ReceivedWasSent : Type 0
 ReceivedWasSent = (n : ℕ) (w : World) (k j : ℕ) (c : Control) → ReceivesIn n w k j c → IsSource n w k j c
 
--- Where each message that was told has a spelling, it is the very message.
+-- Where each message that was sent has a spelling, it is the very message.
 abbrev pub ReceivedIsSent : Type 0
 ReceivedIsSent =
     (n : ℕ) (w : World) (k j : ℕ) (c : Control) → ReceivesIn n w k j c → ((s : SentMessage) → WasSentBefore n w s → FitsControl s.message) →
     (s : SentMessage) × (s.from ≡ k) × (s.to ≡ j) × (s.message ≡ c) × WasSentBefore n w s
 
--- ---- what was told is true
+-- ---- what was sent is true
 
--- What a message says of the log of its teller, as it was when it was told.
+-- What a message says of the log of its sender, as it was when it was sent.
 abbrev pub Says : Log → Control → Type 0
 Says log (Control.Suspend e after) = e ≡ known log
 Says log (Control.SuspendOk e done last after whole es) =
@@ -61,6 +61,6 @@ Says log (Control.Decide d) = decision log ≡ Some d
 Says log (Control.Retrieve e from) = (e ≡ known log) × (from ≡ length (executed log))
 Says log (Control.Page e from es) = (from < length (executed log)) × (Control.Page e from es ≡ page_from log from)
 
--- What was told is true of an earlier log of its teller, which the teller's log goes on from.
+-- What was sent is true of an earlier log of its sender, which the sender's log goes on from.
 abbrev pub SentIsTrue : Type 0
 SentIsTrue = (n : ℕ) (w : World) (s : SentMessage) → WasSentBefore n w s → (old : Log) × Extends old (log_at w s.from) × Says old s.message

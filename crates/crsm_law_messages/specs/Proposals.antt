@@ -65,13 +65,13 @@ CoordinatorIsTrue n w k i (Coordinator.Preempted own seen) = Unit {0}
 abbrev pub CoordinatorsAreTrue : Type 0
 CoordinatorsAreTrue = (n : ℕ) (w : World) (k : ℕ) (p : Past n w k) → CoordinatorIsTrue n w k (instance p.draft) p.draft.replica.coordinator
 
--- Who tells P1A has asked for that ballot.
+-- Who sends P1A has asked for that ballot.
 abbrev pub AskedWasAsked : Type 0
 AskedWasAsked =
     (n : ℕ) (w : World) (s : SentMessage) (i : ℕ) (b : Ballot) → WasSentBefore n w s → s.message ≡ Control.P1a i b →
     (own : Decision) × (answers : List (Answer Decision)) × HasAsked n w s.from i b own answers
 
--- The decision of a P2A was proposed in that ballot by its teller.
+-- The decision of a P2A was proposed in that ballot by its sender.
 abbrev pub ProposedWasProposed : Type 0
 ProposedWasProposed =
     (n : ℕ) (w : World) (s : SentMessage) (i : ℕ) (b : Ballot) (d : Decision) → WasSentBefore n w s → s.message ≡ Control.P2a i b d →

@@ -1,4 +1,4 @@
--- Control messages as they were told, and the moments in which they were.
+-- Control messages as they were sent, and the moments in which they were.
 use Rattle.std.specs.Prelude.{◌≡◌, ℕ, ◌<◌, ◌^◌, Some, slice_get}
 use Rattle.crsm_spec.specs.Types.{Control}
 use Rattle.crsm_spec.specs.Log.{boots}
@@ -11,7 +11,7 @@ use Rattle.crsm_step_facts.specs.Messages.{IsSent, Answers}
 use Rattle.crsm_step_facts.specs.Changes.{Changes}
 use Rattle.crsm_law_steps.specs.Happenings.{Marks, CanCome, Ends, Happens, IsReached}
 
--- A control message as it was told: its teller, whom it is for, and the boot and the number under which it went.
+-- A control message as it was sent: its sender, whom it is for, and the boot and the number under which it went.
 pub record SentMessage : Type 0 where
   pub from : ℕ
   pub to : ℕ
@@ -19,8 +19,8 @@ pub record SentMessage : Type 0 where
   pub number : ℕ
   pub message : Control
 
--- In a step of r on this input the draft's replica tells it next: it says what the replica's log and coordinator say, and if it is an
--- answer it is one to the input.
+-- In a step of r on this input the draft's replica sends it next: it says what the replica's log and coordinator say,
+-- and if it is an answer it is one to the input.
 pub record IsSentBy (r : Replica) (input : Input) (x : Draft) (s : SentMessage) : Type 0 where
   pub from : x.replica.me ≡ s.from
   pub boot : boots x.replica.log ≡ s.boot
@@ -55,7 +55,7 @@ pub record Past (n : ℕ) (w : World) (k : ℕ) : Type 0 where
   pub kept : log_at moment.after k ≡ (step replica input reading).replica.log
   pub since : GoesOn moment.after w
 
--- It was told at an earlier moment of what led to w.
+-- It was sent at an earlier moment of what led to w.
 pub record WasSentBefore (n : ℕ) (w : World) (s : SentMessage) : Type 0 where
   pub past : Past n w s.from
   pub sent : IsSentBy past.replica past.input past.draft s

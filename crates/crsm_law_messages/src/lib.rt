@@ -1,22 +1,22 @@
-//! What a replica hears was told to it, and what was told is true of its teller's log.
+//! What a replica receives was sent to it, and what was sent is true of its sender's log.
 #![tactic(auto)]
 
 ghost use Rattle.crsm_law_messages.specs.Laws.{ReceivedWasSent, ReceivedIsSent, SentIsTrue};
 ghost use Rattle.crsm_law_messages.specs.Proposals.{CoordinatorsAreTrue, AskedWasAsked, ProposedWasProposed};
 ghost use Rattle.crsm_law_messages.specs.Counted.{AnswersAreTrue, VotesAreTrue};
 
-/// What a replica hears was told to it by the replica of which it hears, in parts that were lost, came twice or came in
-/// another order.
+/// What a replica receives was sent to it by the replica that it is from, in parts that were lost, came twice or came
+/// in another order.
 pub fn received_was_sent()
     ensures { ReceivedWasSent }
 {}
 
-/// Where the messages that were told have spellings, a replica hears the very messages that were told.
+/// Where the messages that were sent have spellings, a replica receives the very messages that were sent.
 pub fn received_is_sent()
     ensures { ReceivedIsSent }
 {}
 
-/// What was told is true of an earlier log of its teller, which the teller's log goes on from.
+/// What was sent is true of an earlier log of its sender, which the sender's log goes on from.
 pub fn sent_is_true()
     ensures { SentIsTrue }
 {}
@@ -27,12 +27,12 @@ pub fn coordinators_are_true()
     ensures { CoordinatorsAreTrue }
 {}
 
-/// Who tells that it asks for a ballot has asked for it.
+/// Who sends the request for a ballot has asked for it.
 pub fn asked_was_asked()
     ensures { AskedWasAsked }
 {}
 
-/// A decision that is told as proposed in a ballot was proposed in that ballot, with the answers of a majority.
+/// A decision that is sent as proposed in a ballot was proposed in that ballot, with the answers of a majority.
 pub fn proposed_was_proposed()
     ensures { ProposedWasProposed }
 {}

@@ -24,7 +24,7 @@ same_each from to boot number message [] = refl
 same_each from to boot number message (p ∷ ps) =
     ap (λ xs. to_replica (to, datagram.Part from to boot number p.0 (length (cut message)) p.1) ∷ xs) (same_each from to boot number message ps)
 
--- what is cut is what is told
+-- what is cut is what is sent
 pub as_cut : (r : Replica) (k : ℕ) (c : Control) → sends_of r.me k (boots r.log) r.made (control_bytes c) ≡ map to_replica (parts_to r k c)
 unfolding sends_of parts_to
 as_cut r k c = same_each r.me k (boots r.log) r.made (control_bytes c) (enumerate_from 0 (cut (control_bytes c)))

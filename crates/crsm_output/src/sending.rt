@@ -15,7 +15,7 @@ use crsm_segment::cut;
 use crsm_wire::{is_control_spelt, is_decision_spelt, put_control, put_decide};
 use std::alloc::Global;
 
-/// The spelling of a control message. Each that a replica tells has one.
+/// The spelling of a control message. Each that a replica sends has one.
 pub fn spell(alloc: Global, message: &Message) -> Result<Bytes, NoMemory>
     ensures { IfOk result (λ bytes. IsSpellingOf bytes message.now) }
 {
@@ -27,7 +27,7 @@ pub fn spell(alloc: Global, message: &Message) -> Result<Bytes, NoMemory>
     Ok(bytes)
 }
 
-/// The spelling of the control message that tells a decision. Each that a replica tells has one.
+/// The spelling of the control message that carries a decision. Each that a replica sends has one.
 pub fn spell_decision(alloc: Global, decision: &Decision) -> Result<Bytes, NoMemory>
     ensures { IfOk result (λ bytes. IsSpellingOf bytes (Control.Decide decision.now)) }
 {

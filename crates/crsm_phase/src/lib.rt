@@ -1,4 +1,4 @@
-//! The acknowledgements that a replica owes, and when it tells its time unasked.
+//! The acknowledgements that a replica owes, and when it sends its time unasked.
 #![tactic(auto)]
 
 mod unasked;

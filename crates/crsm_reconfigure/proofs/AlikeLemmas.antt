@@ -23,7 +23,7 @@ pub alike_noted : (m : Coordinator) (x y : Draft) → BeginsAlike x y → Begins
 unfolding noting
 alike_noted m x y a = record { me = a.me; n = a.n; knows = a.knows; promises = a.promises; accepts = a.accepts; executes = a.executes; on_record = a.on_record; fitting = a.fitting }
 
--- whatever was told
+-- whatever was sent
 alike_send : (c : Control) (x y : Draft) (k : ℕ) → BeginsAlike x y → BeginsAlike x (send_control c y k)
 unfolding send_control when◌then◌otherwise◌
 alike_send c x y k a = go (y.replica.made == u64_max)

@@ -1,4 +1,4 @@
--- Drafts: choices, what fits, and what telling and entering leave.
+-- Drafts: choices, what fits, and what sending and entering leave.
 use Rattle.std.proofs.Common.{◌≡◌, ℕ, zero, suc, ◌+◌, ◌<◌, ◌≤◌, List, [], ◌∷◌, length, drop, refl, sym, ◌∙◌, ap, subst, cond, arith, Bool, true, false}
 use Rattle.std.specs.Prelude.{◌-◌, ◌==◌, ◌&&◌, ◌||◌, not, nat_lt, nat_le, Option, Some, None, if◌then◌else◌}
 use Rattle.std.specs.List.{AllByRecursion, list_all}
@@ -84,7 +84,7 @@ does_nothing state x y e s = subst (λ z. StandsFor state (when z.fitting then z
 pub instead : (state : ReplicaState) (x y z : Draft) → y ≡ z → StandsFor state (if_fitting x y) → StandsFor state (if_fitting x z)
 instead state x y z e s = subst (λ w. StandsFor state (if_fitting x w)) e s
 
--- ---- telling
+-- ---- sending
 
 pub send_fitting : (c : Control) (x : Draft) (k : ℕ) → (send_control c x k).fitting ≡ x.fitting
 unfolding send_control

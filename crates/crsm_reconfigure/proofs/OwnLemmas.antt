@@ -79,7 +79,7 @@ module _ (b : Ballot) (own value : Decision) (acceptors : List ℕ) (x : Draft) 
       due false t = ap (λ y. y.fitting) (own_waits b (promised x.replica.log) own value acceptors x refl below t) ∙ fit ∙ sym (when_no _ _ _ t)
       due true t = ap (λ y. y.fitting) (own_accepts b (promised x.replica.log) own value acceptors x refl below t) ∙ counted _ _ refl refl ∙ sym (when_yes _ _ _ t)
 
--- ---- what is told changes neither the coordinator nor what fits
+-- ---- what is sent changes neither the coordinator nor what fits
 
 send_coordinator : (c : Control) (x : Draft) (k : ℕ) → (send_control c x k).replica.coordinator ≡ x.replica.coordinator
 unfolding send_control

@@ -1,4 +1,4 @@
--- Executed entries are told and taken.
+-- Executed entries are sent and taken.
 use Rattle.std.proofs.Common.{◌≡◌, ℕ, ◌<◌, List, [], ◌∷◌, ◌++◌, length, drop, refl, sym, ◌∙◌, ap, subst, arith, Bool, true, false}
 use Rattle.std.specs.Prelude.{◌-◌, ◌^◌, ◌==◌, ◌&&◌, ◌||◌, not, nat_lt, nat_le, take, Option, Some, None, if◌then◌else◌}
 use Rattle.std.specs.Option.{option_map_or}
@@ -24,7 +24,7 @@ use Rattle.crsm_log_facts.proofs.LogsFit.{decision_fits, known_small, executed_p
 use Rattle.crsm_reconfigure.specs.Rules.{CanAdopt, on_page_in, send_executed, take_executed, rest_goes_on}
 use Rattle.crsm_reconfigure.proofs.DraftLemmas.{when_yes, when_no, booted_more, rest_fits, enter_fitting, retrieve_fitting}
 
--- ---- telling
+-- ---- sending
 
 pub page_gone : (k from : ℕ) (x : Draft) → None ≡ page_at x.replica.log from → send_executed k from x ≡ x
 unfolding page_at send_executed

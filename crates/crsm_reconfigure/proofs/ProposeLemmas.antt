@@ -1,4 +1,4 @@
--- A proposal: the proposer's own acceptance, and what is told.
+-- A proposal: the proposer's own acceptance, and what is sent.
 use Rattle.std.proofs.Common.{◌≡◌, ℕ, ◌+◌, ◌<◌, List, ◌∷◌, refl, sym, ◌∙◌, ap, subst, Bool, true, false, length, map}
 use Rattle.std.specs.Prelude.{◌&&◌, ◌^◌, not, nat_le, filter, Option, Some, None}
 use Rattle.std.proofs.lemmas.Option.{none-some, same_Some}
@@ -65,7 +65,7 @@ own_small x me n own i o e = subst (λ m. m < 2 ^ 64) (o.next ∙ sym e) o.spelt
 pub none_proposed : {A : Type 0} (o : Option A) (a : A) → o ≡ Some a → o ≡ None → ⊥
 none_proposed o a h i = none-some a (sym i ∙ h)
 
--- ---- what is told
+-- ---- what is sent
 
 pub ask_as : (b : Ballot) (own : Decision) (answers : List (Answer Decision)) (x : Draft) (c : Ballot) (i : ℕ) (ks ms : List ℕ) → c ≡ b → i ≡ instance x → ks ≡ others x.replica →
     ms ≡ filter (λ k. not (has (counted_of (Coordinator.Preparing b own answers)) k)) ks → send_to_each ms (Control.P1a i c) x ≡ send_ask (Coordinator.Preparing b own answers) x

@@ -88,7 +88,7 @@ WhereProposing state P =
 abbrev pub CanAcceptOwn : Ballot → Decision → Decision → List ℕ → Draft → Type 0
 CanAcceptOwn b own value acceptors x = (accept_own b own value acceptors x).fitting ≡ true
 
--- for a value that can be told, and whether it is chosen where the replica itself accepts it, besides these
+-- for a value that can be sent, and whether it is chosen where the replica itself accepts it, besides these
 abbrev pub WhereOwnVote : ReplicaState → Decision → Bool → (Draft → Decision → List ℕ → Type 0) → Type 0
 WhereOwnVote state value is_chosen P =
     (x : Draft) (own : Decision) (acceptors : List ℕ) →

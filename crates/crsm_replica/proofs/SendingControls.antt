@@ -8,7 +8,7 @@ use Rattle.crsm_spec.specs.Types.{Decision, Control}
 use Rattle.crsm_spec.specs.Log.{decision}
 use Rattle.crsm_spec.specs.Draft.{Draft, send_control, send_to_each, send_decision}
 
--- it is told where there is one
+-- it is sent where there is one
 pub send_control-known : (k : ℕ) (x : Draft) (d : Decision) → decision x.replica.log ≡ Some d → send_decision k x ≡ send_control (Control.Decide d) x k
 unfolding send_decision
 send_control-known k x d is = ap (λ o. option_map_or (λ e. send_control (Control.Decide e) x k) o x) is
@@ -21,7 +21,7 @@ pub send_control-unknown : (k : ℕ) (x : Draft) → ((d : Decision) → decisio
 unfolding send_decision
 send_control-unknown k x never = ap (λ o. option_map_or (λ e. send_control (Control.Decide e) x k) o x) (none-is (decision x.replica.log) never)
 
--- one more is told
+-- one more is sent
 pub send_control-more : (c : Control) (x : Draft) (ks : List ℕ) (i d : ℕ) → i < length ks → send_control c (send_to_each (take i ks) c x) (get_or ks i d) ≡ send_to_each (take (i + 1) ks) c x
 unfolding send_to_each
 send_control-more c x ks i d within =

@@ -86,6 +86,6 @@ learnt d x = forget_epoch (noting Coordinator.Idle (keep (Rec.Decide d) x))
 abbrev pub WhereStands : ReplicaState → (Draft → Type 0) → Type 0
 WhereStands state P = (x : Draft) → StandsFor state x → P x
 
--- the same where the replica is not k, and this time is above the latest one that it heard of k
+-- the same where the replica is not k, and this time is above the latest one that it received from k
 abbrev pub WhereLater : ReplicaState → ℕ → ℕ → (Draft → Type 0) → Type 0
 WhereLater state k time P = (x : Draft) → StandsFor state x → k ≢ x.replica.me → latest_from x.replica.received k < time → P x

@@ -8,7 +8,7 @@ use Rattle.crsm_spec.specs.Paxos.PaxosStep.{Proposes}
 use Rattle.crsm_spec.specs.Proposing.{Proposing, value_proposed}
 use Rattle.crsm_spec.specs.Following.{Follows, IsReached}
 
--- some replica has told this decision of epoch i
+-- some replica has sent this decision of epoch i
 abbrev pub IsDecided : {D : Type 0} → (ℕ → List ℕ) → List (Event D) → ℕ → D → Type 0
 IsDecided spec_of events i d = Contains (world_after spec_of start_world events).sent (Decide i d)
 

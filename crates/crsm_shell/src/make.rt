@@ -48,7 +48,7 @@ pub(crate) fn make(
     }
 }
 
-/// One step of the core on an input, in which this replica was heard.
+/// One step of the core on an input, which was received from this replica.
 fn step(
     core: &mut Core,
     input: &Input,

@@ -48,7 +48,7 @@ learn d x = advance (forget_epoch (noting Coordinator.Idle (keep (Rec.Decide d) 
 unfoldable pub both_specs : Replica → Replica → List ℕ
 both_specs old new = filter (λ k. (has (spec_of old) k || has (spec_of new) k) && not (k == old.me)) (numbers_below 15)
 
--- A decision that is chosen is learnt and told to all, of the old Spec and of the new one.
+-- A decision that is chosen is learnt and sent to all, of the old Spec and of the new one.
 unfoldable pub on_chosen : Decision → Draft → Draft
 on_chosen d x = let y = learn d x in send_to_each (both_specs x.replica y.replica) (Control.Decide d) y
 
@@ -78,7 +78,7 @@ accept_own b own value acceptors x =
     then count_acceptor b own value acceptors r.me (keep (Rec.Accept (instance x) b value) x)
     otherwise x
 
--- tells all that have not accepted the proposal, where there still is one
+-- sends the proposal to all that have not accepted it, where there still is one
 unfoldable pub send_proposal : Coordinator → Draft → Draft
 send_proposal (Coordinator.Proposing b own value acceptors) x =
     send_to_each (filter (λ k. not (has acceptors k)) (others x.replica)) (Control.P2a (instance x) b value) x

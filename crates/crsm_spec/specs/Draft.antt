@@ -112,7 +112,7 @@ send_to_each ks c x = fold (send_control c) x ks
 unfoldable pub send_to_all : Control → Draft → Draft
 send_to_all c x = send_to_each (others x.replica) c x
 
--- tells k the known decision, if there is one
+-- sends k the known decision, if there is one
 unfoldable pub send_decision : ℕ → Draft → Draft
 send_decision k x = option_map_or (λ d. send_control (Control.Decide d) x k) (decision x.replica.log) x
 

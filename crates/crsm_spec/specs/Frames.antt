@@ -29,7 +29,7 @@ is_wrong r k (InEpoch.Prepare e) = not (e.epoch == known r.log) || not (e.stamp.
 is_wrong r k (InEpoch.PrepareOk s at) = not (has (members_of r) s.origin)
 is_wrong r k (InEpoch.ClockTime at) = false
 
--- odd at the next number: its time is not above the latest heard from k, or it is wrong
+-- odd at the next number: its time is not above the latest received from k, or it is wrong
 unfoldable pub is_odd_frame : Replica → ℕ → InEpoch → Bool
 is_odd_frame r k payload = nat_le (time_of payload) (latest_from r.received k) || is_wrong r k payload
 
@@ -53,7 +53,7 @@ receive k (InEpoch.Prepare e) x =
 receive k (InEpoch.PrepareOk s at) x = count_vote s k x
 receive k (InEpoch.ClockTime at) x = x
 
--- takes the next frame of k: the link moves on, its time is heard, and it is acknowledged
+-- takes the next frame of k: the link moves on, its time is received, and it is acknowledged
 unfoldable pub take_frame : ℕ → InEpoch → Draft → Draft
 take_frame k payload x =
     let r = x.replica in
@@ -104,7 +104,7 @@ owed_oks reading x = when active x.replica.log then pay_run reading x.replica.ow
 
 -- ---- the clock
 
--- its reading is so far ahead of the last issued time that it tells its time
+-- its reading is so far ahead of the last issued time that it sends its time
 unfoldable pub is_idle : Replica → ℕ → Bool
 is_idle r reading =
     (nat_le (last_issued r + idle_after) reading && nat_lt (last_issued r) u64_max) && not (is_congested r)
@@ -114,7 +114,7 @@ unfoldable pub send_time : Option ℕ → Draft → Draft
 send_time None x = x
 send_time (Some t) x = push_to_members (InEpoch.ClockTime t) (issued_at t x)
 
--- At a tick a replica that has been idle tells its time.
+-- At a tick a replica that has been idle sends its time.
 unfoldable pub idle : ℕ → Draft → Draft
 idle reading x =
     when active x.replica.log && is_idle x.replica reading then send_time (would x reading) x otherwise x

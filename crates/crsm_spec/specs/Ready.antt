@@ -11,7 +11,7 @@ use Rattle.crsm_spec.specs.Replica.{Replica, members_of, spec_of}
 
 -- ---- of lists
 
--- some time heard from k is at least this one
+-- some time received from k is at least this one
 unfoldable pub reached : List (ℕ × ℕ) → ℕ → ℕ → Bool
 reached received time k = list_any (λ h. h.0 == k && nat_le time h.1) received
 
@@ -37,7 +37,7 @@ is_next unexecuted s = option_map_or (λ e. stamp_eq e.stamp s) (first_of unexec
 
 -- ---- of a replica
 
--- the times heard in this epoch, behind their senders, with those that the replica issued itself
+-- the times received in this epoch, behind their senders, with those that the replica issued itself
 unfoldable pub all_received : Replica → List (ℕ × ℕ)
 all_received r = map (λ t. (r.me, t)) r.issued ++ r.received
 

@@ -1,4 +1,4 @@
--- A replica on paper: the log that it kept, and lists of all that it heard, sent and was told in this epoch or boot.
+-- A replica on paper: the log that it kept, and lists of all that it received and sent in this epoch or boot.
 use Rattle.std.specs.Prelude.{ℕ, Bool, ◌==◌, not, nat_le, bytes_eq, if◌then◌else◌, List, [], length, drop, map, filter, count_by, Option, None, Some, unwrap_or}
 use Rattle.std.specs.List.{list_all, list_any, enumerate_from}
 use Rattle.crsm_base.specs.Limits.{most_frames}
@@ -100,7 +100,7 @@ others r = filter (λ k. not (k == r.me)) (spec_of r)
 unfoldable pub last_issued : Replica → ℕ
 last_issued r = unwrap_or (first_of r.issued) 0
 
--- the latest time heard of k, 0 before the first
+-- the latest time received from k, 0 before the first
 unfoldable pub latest_from : List (ℕ × ℕ) → ℕ → ℕ
 latest_from received k = greatest (map (λ h. h.1) (filter (λ h. h.0 == k) received))
 

@@ -32,7 +32,7 @@ unfoldable pub on_whole_message : ℕ → Option Control → Draft → Draft
 on_whole_message k None x = x
 on_whole_message k (Some c) x = on_control k c x
 
--- A part: the message that is whole with it is heard. One whose records would not fit is ignored, and its part is kept.
+-- A part: the message that is whole with it is received. One whose records would not fit is ignored, its part is kept.
 unfoldable pub on_part : Piece → Draft → Draft
 on_part p x =
     let parts = x.replica.parts in

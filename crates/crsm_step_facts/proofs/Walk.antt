@@ -31,7 +31,7 @@ use Rattle.crsm_log_facts.proofs.Tests.{or_parts, not_not, same_number, next_num
 use Rattle.crsm_log_facts.proofs.Lists.{among_take}
 use Rattle.crsm_step_facts.proofs.Going.{Goes, here, both, once, either, of_option, each}
 
--- ---- what telling leaves
+-- ---- what sending leaves
 
 -- the log, the coordinator and the numbers of two drafts are the same
 record Alike (x y : Draft) : Type 0 where

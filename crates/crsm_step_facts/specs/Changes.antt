@@ -25,13 +25,13 @@ use Rattle.crsm_step_facts.specs.Messages.{ReceivesControl, IsSent, Answers}
 abbrev pub IsPeer : Replica → ℕ → Type 0
 IsPeer r k = IsTrue (active r.log) × IsTrue (has (members_of r) k)
 
--- an answer that a proposer counts: its own, by its promise, or the one that it hears
+-- an answer that a proposer counts: its own, by its promise, or the one that it receives
 abbrev pub IsAnswer : Replica → Input → Draft → Ballot → Answer Decision → Type 0
 IsAnswer r input x b a =
     ((a.replica ≡ x.replica.me) × (promised x.replica.log ≡ b) × (a.accepted ≡ accepted x.replica.log))
     ⊎ (IsTrue (has (spec_of x.replica) a.replica) × ReceivesControl r input a.replica (Control.P1b (instance x) b a.accepted))
 
--- a vote that a proposer counts: its own, by its record, or the one that it hears
+-- a vote that a proposer counts: its own, by its record, or the one that it receives
 abbrev pub IsVote : Replica → Input → Draft → Ballot → ℕ → Type 0
 IsVote r input x b k =
     ((k ≡ x.replica.me) × IsTrue (has_accepted b x))
@@ -41,7 +41,7 @@ IsVote r input x b k =
 abbrev pub IsNextRound : Ballot → Ballot → Ballot → Type 0
 IsNextRound promised seen b = ((greater_ballot promised seen).round ≢ u64_max) × (b.round ≡ (greater_ballot promised seen).round + 1)
 
--- the replica has promised this ballot, or hears that another has which refuses b
+-- the replica has promised this ballot, or receives from another, which refuses b, that it has
 abbrev pub IsRefusal : Replica → Input → Draft → Ballot → Ballot → Type 0
 IsRefusal r input x b top = (top ≡ promised x.replica.log) ⊎ ((k : ℕ) × ReceivesControl r input k (Control.P1no (instance x) b top))
 
@@ -83,7 +83,7 @@ pub data Change (r : Replica) (input : Input) (reading : ℕ) (x : Draft) : Draf
   Owes : (ss : List Stamp) → IsTrue (active x.replica.log) →
       ((s : Stamp) → Among ss s → Among x.replica.owed s) × ((s : Stamp) → Among x.replica.owed s → Among ss s ⊎ IsPaid x s) →
       Change r input reading x (owing ss x)
-  -- an idle replica tells its time
+  -- an idle replica sends its time
   SendsTime : (t : ℕ) → IsTrue (active x.replica.log) → IsTrue (is_idle x.replica reading) → would x reading ≡ Some t →
       Change r input reading x (push_to_members (InEpoch.ClockTime t) (issued_at t x))
   -- an unacknowledged frame is sent again
@@ -142,7 +142,7 @@ pub data Change (r : Replica) (input : Input) (reading : ℕ) (x : Draft) : Draf
   Chooses : (b : Ballot) (own d : Decision) (acceptors : List ℕ) → x.replica.coordinator ≡ Coordinator.Proposing b own d acceptors →
       IsTrue (has_majority (spec_of x.replica) acceptors) →
       Change r input reading x (forget_epoch (noting Coordinator.Idle (keep (Rec.Decide d) x)))
-  -- and so is what was heard
+  -- and so is what was received
   Learns : (k : ℕ) (d : Decision) → ReceivesControl r input k (Control.Decide d) → known x.replica.log < d.epoch →
       Change r input reading x (forget_epoch (noting Coordinator.Idle (keep (Rec.Decide d) x)))
   -- the rest of the tail, behind the base

@@ -1,4 +1,4 @@
--- What a step hears and what it tells: the control message that an input makes whole, and when one that is told is true.
+-- What a step receives and sends: the control message that an input makes whole, and when one that is sent is true.
 use Rattle.std.specs.Prelude.{◌≡◌, ◌⊎◌, ℕ, ◌<◌, IsTrue, List, length, Option, Some, None}
 use Rattle.crsm_base.specs.MessageReading.{control_of}
 use Rattle.crsm_spec.specs.Types.{Stamp, Decision, Datagram, Control}
@@ -27,7 +27,7 @@ abbrev pub IsAsked : Coordinator → Option Stamp → Type 0
 IsAsked coordinator after =
     (after ≡ None) ⊎ ((ms : List ℕ) × (pages : List LogPage) × (k : ℕ) × (coordinator ≡ Coordinator.Collecting ms pages) × (after ≡ cursor pages k))
 
--- A control message that is told in this step says what the replica's log and coordinator say now.
+-- A control message that is sent in this step says what the replica's log and coordinator say now.
 abbrev pub IsSent : Draft → Control → Type 0
 IsSent x (Control.Suspend e after) = (e ≡ known x.replica.log) × IsAsked x.replica.coordinator after
 IsSent x (Control.SuspendOk e done last after whole es) =
@@ -44,7 +44,7 @@ IsSent x (Control.Retrieve e from) = (e ≡ known x.replica.log) × (from ≡ le
 IsSent x (Control.Page e from es) =
     (from < length (executed x.replica.log)) × (Control.Page e from es ≡ page_from x.replica.log from)
 
--- An answer is told to what is heard in this step; other messages answer nothing.
+-- An answer is sent to what is received in this step; other messages answer nothing.
 abbrev pub Answers : Replica → Input → Control → Type 0
 Answers r input (Control.SuspendOk e done last after whole es) = (k : ℕ) × ReceivesControl r input k (Control.Suspend e after)
 Answers r input (Control.P1b i b v) = (k : ℕ) × ReceivesControl r input k (Control.P1a i b)

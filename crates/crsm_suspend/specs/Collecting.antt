@@ -19,7 +19,7 @@ use Rattle.crsm_suspend.specs.declared.got.Got.TheVariants.{Stranger, More, Kept
 use Rattle.crsm_ledger.specs.declared.ledger.Ledger.{Ledger}
 use Rattle.crsm_ledger.specs.Ledger.{StandsFor}
 
--- a page is of this epoch, and its entries can be told
+-- a page is of this epoch, and its entries can be sent
 pub record CanSend (epoch : ℕ) (p : LogPage) : Type 0 where
   pub low : p.executed ≤ most_collected
   pub fit : AllByRecursion FitsEntry p.entries
@@ -88,7 +88,7 @@ unfoldable pub got_from : Log → List ℕ → Option (List ℕ) → List ℕ �
 got_from log spec named members pages k =
     when is_whole pages k then got_whole log spec named members pages otherwise got_more k (cursor pages k)
 
--- the decision can be told
+-- the decision can be sent
 abbrev pub FitsGot : Got → Type 0
 FitsGot (Complete d) = FitsDecision d
 FitsGot _ = Unit {0}

@@ -33,7 +33,7 @@ fn add(alloc: Global, pending: &mut Pending, time: u64, origin: u32) -> Result<(
     pending.add(&entry(alloc, time, origin))
 }
 
-/// What members of whom the first two told 5 and the last one told 6 have told.
+/// The times of members of whom the first two sent 5 and the last one sent 6.
 fn told() -> Latest {
     let mut latest = Latest::new();
     latest.receive(0, 5);

@@ -100,7 +100,7 @@ pub fn put_prepare_ok(
     out.append(&joined(prefix, &prepare_ok(stamp, at)))
 }
 
-/// Appends the payload that tells a clock's time, behind its tag.
+/// Appends the payload that carries a clock's time, behind its tag.
 pub fn put_clock_time(at: u64, out: &mut Bytes) -> Result<(), NoMemory>
     ensures { OnOk result (out.new ≡ out.old ++ 3 ∷ u64_bytes at) }
 {

@@ -18,7 +18,7 @@ fn put_bool(flag: bool, out: &mut Bytes) -> Result<(), NoMemory>
     if flag { put_u8(1, out) } else { put_u8(0, out) }
 }
 
-/// Appends the spelling of the control message that tells this decision. After an error a prefix of it may be there.
+/// Appends the spelling of the control message that carries this decision. After an error a prefix of it may be there.
 #[tactic(auto, unfolding(crsm_base::specs::Messages::control_bytes))]
 pub fn put_decide(decision: &Decision, out: &mut Bytes) -> Result<(), NoMemory>
     requires { FitsDecision decision.now }
