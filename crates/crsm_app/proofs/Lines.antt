@@ -6,7 +6,7 @@ use Rattle.crsm_schedule.specs.declared.Event.{Event}
 use Rattle.crsm_text.specs.Words.{Lacks}
 use Rattle.crsm_text.proofs.WordsLemmas.{split_unique, lacks_not}
 use Rattle.crsm_schedule.specs.Grammar.{IsSize, FitsEvent, first_text, event_text}
-use Rattle.crsm_schedule.specs.Laws.{EventsHaveOneText, FirstLinesHaveOneText, EventsAreLines, FirstLinesAreLines}
+use Rattle.crsm_law_texts.specs.Texts.{EventsHaveOneText, FirstLinesHaveOneText, EventsAreLines, FirstLinesAreLines}
 use Rattle.crsm_spec.specs.World.{World, begin}
 use Rattle.crsm_spec.specs.Moments.{act}
 use Rattle.crsm_spec.specs.Possible.{possible}

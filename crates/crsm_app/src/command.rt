@@ -14,7 +14,7 @@ use crate::replay::Replay;
 use crate::status::{Halt, Status};
 use crsm_io::{Sink, Source};
 use crsm_law_runs::{answered_are_kept, decisions_always_agree, runs_are_safe};
-use crsm_schedule::{events_have_one_text, first_lines_have_one_text, spelt_are_lines};
+use crsm_law_texts::{events_have_one_text, first_lines_have_one_text, spelt_are_lines};
 use std::alloc::Global;
 
 /// How many bytes an input has at most.

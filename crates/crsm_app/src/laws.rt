@@ -2,7 +2,7 @@
 
 ghost use Rattle.crsm_app.specs.Laws.{SchedulesAreOne};
 
-use crsm_schedule::{events_have_one_text, first_lines_have_one_text, spelt_are_lines};
+use crsm_law_texts::{events_have_one_text, first_lines_have_one_text, spelt_are_lines};
 
 /// A text is that of one schedule at most.
 pub fn schedules_are_one()

@@ -1,3 +1,2 @@
 pub mod Distinct
 pub mod EventLaws
-pub mod TranscriptLaws

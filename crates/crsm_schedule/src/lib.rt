@@ -3,7 +3,6 @@
 
 mod batch;
 mod event;
-mod laws;
 mod numbers;
 mod print;
 mod read;
@@ -11,9 +10,6 @@ mod single;
 
 pub use crsm_text::LineError;
 pub use event::{Event, Single};
-pub use laws::{
-    events_have_one_text, first_lines_have_one_text, spelt_are_lines, transcripts_are_one,
-};
 pub use numbers::Numbers;
 pub use print::{print_outcome, push_line};
 pub use read::{read_event, read_first};

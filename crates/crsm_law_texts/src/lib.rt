@@ -1,6 +1,7 @@
-//! What texts tell, for the crates above.
+//! What texts tell: a line of a schedule is that of one event, and a transcript that of one list of lines.
+#![tactic(auto)]
 
-ghost use Rattle.crsm_schedule.specs.Laws.{EventsHaveOneText, FirstLinesHaveOneText, EventsAreLines, FirstLinesAreLines, TranscriptsAreOne};
+ghost use Rattle.crsm_law_texts.specs.Texts.{EventsHaveOneText, FirstLinesHaveOneText, EventsAreLines, FirstLinesAreLines, TranscriptsAreOne};
 
 /// A line of a schedule spells one event.
 pub fn events_have_one_text()

@@ -24,7 +24,7 @@ use Rattle.crsm_text.proofs.Named.{named_numbers, commas_after, commas-commas_af
 use Rattle.crsm_text.proofs.Commas.{Fit}
 use Rattle.crsm_text.proofs.TextLaws.{Lacks-join, hex_injective, commas_injective, op_injective, first_digit}
 use Rattle.crsm_schedule.specs.Transcript.{kind_text, state_text, line_words, line_text}
-use Rattle.crsm_schedule.specs.Laws.{numbers_in_answer, bytes_in_answer, FitsLine, Printed, FitsPrinted, printed_text, number_before, lines_of, TranscriptsAreOne}
+use Rattle.crsm_law_texts.specs.Texts.{numbers_in_answer, bytes_in_answer, FitsLine, Printed, FitsPrinted, printed_text, number_before, lines_of, TranscriptsAreOne}
 
 -- ---- words of a line
 

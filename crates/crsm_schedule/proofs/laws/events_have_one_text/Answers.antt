@@ -1,5 +1,0 @@
-use Rattle.crsm_schedule.proofs.EventLaws.{event_injective}
-use Rattle.crsm_schedule.proofs.laws.events_have_one_text.Goals as goal
-
-pub returns : goal.returns
-returns c e f fits gits same = event_injective e f fits gits same
