@@ -12,7 +12,7 @@ ghost use Rattle.crsm_replica.specs.Replica.{StandsFor, Makes, on_paper, WhereSt
 use crate::state::{ReplicaState, Waiting};
 use crsm_base::{Answer, Entry, Line, MAX_VAL_BYTES, NoMemory, Outcome, Refusal, Val, never};
 use crsm_output::Reply;
-use crsm_results::{answer_to, executions, has_no_answer};
+use crsm_results::{answer_to, executions, has_dropped, has_no_answer};
 use std::mem;
 
 impl ReplicaState {
@@ -43,7 +43,7 @@ impl ReplicaState {
     fn waits_on(&self, entry: &Entry) -> bool
         ensures { IsTrue result → WhereStands self.now (λ x. (None ≡ answered (executed x.replica.log) entry.now) × (is_dropped x.replica entry.now ≡ false)) }
     {
-        if self.is_dropped(entry) {
+        if has_dropped(&self.ledger, entry) {
             return false;
         }
         has_no_answer(&self.ledger, entry)
@@ -84,20 +84,12 @@ impl ReplicaState {
     fn drop_or_wait(&mut self, client: Waiting) -> Result<(), NoMemory>
         ensures { IfOk result (λ _. WhereStands self.old (λ x. FitsWaiting (on_paper client) → StandsFor self.new (answer_found (on_paper client) None x))) }
     {
-        if self.is_dropped(&client.entry) {
+        if has_dropped(&self.ledger, &client.entry) {
             self.reply_dropped(&client)?;
         } else {
             self.waiting.push(client)?;
         }
         Ok(())
-    }
-
-    /// A later epoch has begun here without the entry.
-    fn is_dropped(&self, entry: &Entry) -> bool
-        ensures { WhereStands self.now (λ x. result ≡ is_dropped x.replica entry.now) }
-    {
-        let is_later = entry.epoch < self.ledger.known().epoch;
-        self.ledger.start() <= self.ledger.executed_len() && is_later
     }
 
     /// Tells a client the answer at this place.

@@ -5,4 +5,4 @@ use Rattle.crsm_replica.proofs.state.ReplicaState.waits_on.Goals as goal
 pub returns : goal.returns
 unfolding StandsFor
 returns c is x s =
-    (c.has_no_answer.ensures x.replica.me x.replica.n x.replica.log s.ledger s.sound.rises is, sym (c.is_dropped.ensures x s) ∙ c.if-is_dropped.false)
+    (c.has_no_answer.ensures x.replica.me x.replica.n x.replica.log s.ledger s.sound.rises is, sym (c.has_dropped.ensures x.replica s.ledger) ∙ c.if-has_dropped.false)
