@@ -76,6 +76,13 @@ impl MemPort {
         Ok(())
     }
 
+    /// Lets go what was sent, and keeps its room.
+    pub fn forget_sent(&mut self)
+        ensures { self.new ≡ record self.old { sent = [] } }
+    {
+        self.sent.clear();
+    }
+
     /// What was sent.
     pub fn sent(&self) -> &SentPackets
         ensures { packets_of result.now ≡ self.now.sent }

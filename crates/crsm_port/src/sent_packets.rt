@@ -49,6 +49,16 @@ impl SentPackets {
         }
     }
 
+    // Lets all of them go, and keeps their room.
+    pub(crate) fn clear(&mut self)
+        ensures packets { packets self.new.labels.items self.new.bytes.items ≡ [] }
+        ensures lengths { (vec_len self.new.labels ≡ 0) × (vec_len self.new.bytes ≡ 0) }
+        ensures capacity { (vec_capacity self.new.labels ≡ vec_capacity self.old.labels) × (vec_capacity self.new.bytes ≡ vec_capacity self.old.bytes) }
+    {
+        self.labels.clear();
+        self.bytes.clear();
+    }
+
     // Makes room for so many more datagrams and bytes.
     pub(crate) fn reserve(&mut self, datagrams: usize, bytes: usize) -> Result<(), NoMemory>
         ensures same { packets self.new.labels.items self.new.bytes.items ≡ packets self.old.labels.items self.old.bytes.items }
