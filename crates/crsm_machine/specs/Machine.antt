@@ -1,5 +1,6 @@
 -- What a machine stands for.
 use Rattle.std.specs.Prelude.{◌≡◌, ℕ, List}
+use Rattle.crsm_spec.specs.Log.{Log}
 use Rattle.crsm_spec.specs.Replica.{Replica}
 use Rattle.crsm_spec.specs.Draft.{Draft}
 use Rattle.crsm_spec.specs.World.{Site}
@@ -13,6 +14,14 @@ MachineStands machine me n s = (machine.me ≡ me) × (machine.n ≡ n) × IsIn 
 -- The machine is up with r, whose last steps were these; they are not kept yet.
 unfoldable pub MachinePends : Machine → (me n : ℕ) → Replica → List Draft → Type 0
 MachinePends machine me n r steps = (machine.me ≡ me) × (machine.n ≡ n) × IsUpIn me n machine.place r steps
+
+-- for each replica that is up on the machine, with these steps pending
+abbrev pub WherePending : Machine → ((me n : ℕ) → Replica → List Draft → Type 0) → Type 0
+WherePending machine P = (me n : ℕ) (r : Replica) (steps : List Draft) → MachinePends machine me n r steps → P me n r steps
+
+-- for each log with which the machine is down
+abbrev pub WhereDown : Machine → ((me n : ℕ) → Log → Type 0) → Type 0
+WhereDown machine P = (me n : ℕ) (log : Log) → MachineStands machine me n (Site.Down log) → P me n log
 
 -- for each site that the machine is
 abbrev pub WhereStands : Machine → (ℕ → ℕ → Site → Type 0) → Type 0

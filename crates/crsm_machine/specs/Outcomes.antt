@@ -1,5 +1,5 @@
 -- What a machine answers.
-use Rattle.std.specs.Prelude.{◌≡◌, ℕ, Bool, true, false, ◌&&◌, nat_lt, List, [], length, map, drop, Option, Some, None, if◌then◌else◌}
+use Rattle.std.specs.Prelude.{◌≡◌, ℕ, Bool, true, false, ◌&&◌, nat_lt, List, [], ◌∷◌, ◌++◌, length, map, drop, Option, Some, None, if◌then◌else◌}
 use Rattle.crsm_spec.specs.Log.{Log, spec}
 use Rattle.crsm_spec.specs.Replica.{Replica}
 use Rattle.crsm_spec.specs.Draft.{Draft}
@@ -8,19 +8,40 @@ use Rattle.crsm_spec.specs.Moments.{is_kept}
 use Rattle.crsm_base.specs.Messages.{datagram_bytes}
 use Rattle.crsm_core.specs.Core.{Answers}
 use Rattle.crsm_faults.specs.Failing.{good_of}
+use Rattle.crsm_disk.specs.Memory.{Memory as Disk}
+use Rattle.crsm_ledger.specs.Recovered.{with_records}
 use Rattle.crsm_port.specs.Memory.{Memory}
+use Rattle.crsm_shell.specs.declared.boot.Booted.{Booted}
+use Rattle.crsm_shell.specs.declared.shell.Shell.{Shell}
 use Rattle.crsm_shell.specs.Shell.{sends_of}
 use Rattle.crsm_machine.specs.declared.stopped.Stopped.{Stopped}
 use Rattle.crsm_machine.specs.declared.machine.Machine.{Machine}
 use Rattle.crsm_machine.specs.declared.step.Step.{Step}
 use Rattle.crsm_machine.specs.declared.step.Boot.{Boot}
-use Rattle.crsm_machine.specs.Machine.{MachineStands}
-use Rattle.crsm_machine.specs.States.{IsStopped}
+use Rattle.crsm_machine.specs.Machine.{MachineStands, MachinePends}
+use Rattle.crsm_machine.specs.States.{IsStopped, IsUpAs}
 
 -- the step is what the draft has made, and takes as many bytes
 pub record Makes (step : Step) (x : Draft) : Type 0 where
   pub batch : Answers step.batch x
   pub size : step.size ≡ body_size x.batch
+
+-- the machine has made the step of a draft, and is up with the replica that the draft left
+abbrev pub HasStepped : Machine → (me n : ℕ) → Step → Draft → Type 0
+HasStepped machine me n step x = Makes step x × MachineStands machine me n (Site.Up x.replica)
+
+-- the same where the step is pending, behind these
+abbrev pub HasTaken : Machine → (me n : ℕ) → List Draft → Step → Draft → Type 0
+HasTaken machine me n steps step x = Makes step x × MachinePends machine me n x.replica (steps ++ x ∷ [])
+
+-- The shell of r, with this log on the disk, has made the step of a draft, which is pending behind others.
+abbrev pub ShellHasTaken : {g : _} → Shell Disk g → (me n : ℕ) → Log → Replica → List Draft → Step → Draft → Type 0
+ShellHasTaken shell me n kept r steps step x =
+    Makes step x × (x.replica.log ≡ with_records r.log x.batch) × IsUpAs me n shell kept x.replica (steps ++ x ∷ [])
+
+-- the shell has made the step of a draft, and nothing is pending
+abbrev pub ShellHasStepped : {g : _} → Shell Disk g → (me n : ℕ) → Step → Draft → Type 0
+ShellHasStepped shell me n step x = Makes step x × IsUpAs me n shell x.replica.log x.replica []
 
 -- no call of the port fails
 abbrev pub IsWell : Memory → Type 0
@@ -42,6 +63,14 @@ pub record Boots (boot : Boot) (x : Draft) : Type 0 where
   pub lines : boot.lines ≡ x.lines
   pub size : boot.size ≡ body_size x.batch
   pub quiet : IsQuiet x
+
+-- the machine has made a boot, and is up with the replica that the boot left
+abbrev pub HasBooted : Machine → (me n : ℕ) → Boot → Draft → Type 0
+HasBooted machine me n boot x = Boots boot x × MachineStands machine me n (Site.Up x.replica)
+
+-- the same of a shell that was booted
+abbrev pub IsBooted : {g : _} → (me n : ℕ) → Booted Disk g → Draft → Type 0
+IsBooted me n booted x = (booted.lines ≡ x.lines) × (booted.size ≡ body_size x.batch) × IsUpAs me n booted.shell x.replica.log x.replica []
 
 -- ---- a step that is stopped
 

@@ -1,9 +1,10 @@
 -- What the state of a machine stands for.
-use Rattle.std.specs.Prelude.{◌≡◌, ℕ, List, [], length, None}
+use Rattle.std.specs.Prelude.{◌≡◌, ℕ, List, [], ◌∷◌, length, None}
 use Rattle.std.specs.List.{AllByRecursion}
 use Rattle.crsm_core.specs.Core.{FitsSent}
 use Rattle.crsm_image.specs.Calls.{contents}
 use Rattle.crsm_disk.specs.Memory.{Memory, meaning_of, good_left}
+use Rattle.crsm_ledger.specs.Recovered.{with_records}
 use Rattle.crsm_spec.specs.Log.{Log, known, executed}
 use Rattle.crsm_spec.specs.Replica.{Replica}
 use Rattle.crsm_spec.specs.Draft.{Draft}
@@ -43,6 +44,15 @@ pub record IsUpAs (me n : ℕ) {g : _} (shell : Shell Memory g) (kept : Log) (r 
   pub peers : length (peers_of shell) ≡ 15
   pub fits : AllByRecursion FitsSent (sends_of steps)
   pub well : good_left (disk_of shell) ≡ None
+
+-- for whatever replica the shell is, with its log on the disk and the steps that came since
+abbrev pub WhereUpAs : {g : _} → Shell Memory g → ((me n : ℕ) → Log → Replica → List Draft → Type 0) → Type 0
+WhereUpAs shell P = (me n : ℕ) (kept : Log) (r : Replica) (steps : List Draft) → IsUpAs me n shell kept r steps → P me n kept r steps
+
+-- the same where one step has come since, which this draft made
+abbrev pub WhereStepped : {g : _} → Shell Memory g → ((me n : ℕ) → Log → Draft → Type 0) → Type 0
+WhereStepped shell P =
+    (me n : ℕ) (kept : Log) (x : Draft) → IsUpAs me n shell kept x.replica (x ∷ []) → x.replica.log ≡ with_records kept x.batch → P me n kept x
 
 -- ---- either
 

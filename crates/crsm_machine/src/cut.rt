@@ -11,7 +11,7 @@ ghost use Rattle.crsm_spec.specs.Draft.{Draft};
 ghost use Rattle.crsm_spec.specs.Node.{turn};
 ghost use Rattle.crsm_machine.specs.Arriving.{turn_of, IsShort};
 ghost use Rattle.crsm_machine.specs.Outcomes.{LeavesCut, is_cut_kept, log_after};
-ghost use Rattle.crsm_machine.specs.States.{HasSomeLog, IsDisk, IsSomeUp, IsUp, IsUpAs};
+ghost use Rattle.crsm_machine.specs.States.{HasSomeLog, IsDisk, IsSomeUp, IsUp, IsUpAs, WhereStepped};
 
 use crate::arrival::Arrival;
 use crate::sink_port::SinkPort;
@@ -61,8 +61,7 @@ fn is_kept_at(stop: Stop, step: &Step) -> bool
 fn stopped_disk(shell: Shell<MemDisk>, stop: Stop) -> Result<MemDisk, NoMemory>
     requires calls { stop.calls ≤ 4 }
     requires up { ∥ IsSomeUp shell ∥₁ }
-    ensures stands { IfOk result (λ disk. (me n : ℕ) (kept : Log) (x : Draft) → IsUpAs me n shell kept x.replica (x ∷ []) → x.replica.log ≡ with_records kept x.batch →
-        IsDisk me n disk (log_after stop.calls stop.fill kept x)) }
+    ensures stands { IfOk result (λ disk. WhereStepped shell (λ me n kept x. IsDisk me n disk (log_after stop.calls stop.fill kept x))) }
     ensures log { IfOk result (λ disk. (me n : ℕ) → IsUp me n shell → HasSomeLog me n disk) }
 {
     let mut shell = shell;

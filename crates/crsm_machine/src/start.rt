@@ -5,8 +5,8 @@ ghost use Rattle.crsm_spec.specs.Log.{Log};
 ghost use Rattle.crsm_spec.specs.Step as rules;
 ghost use Rattle.crsm_spec.specs.World as world;
 ghost use Rattle.crsm_spec.specs.World.{body_size};
-ghost use Rattle.crsm_machine.specs.Outcomes.{Boots};
-ghost use Rattle.crsm_machine.specs.Machine.{MachineStands};
+ghost use Rattle.crsm_machine.specs.Outcomes.{Boots, HasBooted, IsBooted};
+ghost use Rattle.crsm_machine.specs.Machine.{MachineStands, WhereDown};
 ghost use Rattle.crsm_machine.specs.States.{HasSomeLog, IsDisk, IsUpAs};
 
 use crate::laws::boots_are_quiet;
@@ -43,8 +43,7 @@ impl Machine {
     /// The replica boots on its disk. It is down before; one that is up answers `NoMemory`.
     #[tactic(auto, unfolding(crate::specs::Machine::MachineStands))]
     pub fn start(&mut self) -> Result<Boot, NoMemory>
-        ensures { IfOk result (λ boot. (me n : ℕ) (log : Log) → MachineStands self.old me n (world.Site.Down log) →
-            Boots boot (rules.boot me n log) × MachineStands self.new me n (world.Site.Up (rules.boot me n log).replica)) }
+        ensures { IfOk result (λ boot. WhereDown self.old (λ me n log. HasBooted self.new me n boot (rules.boot me n log))) }
     {
         boots_are_quiet();
         match mem::replace(&mut self.place, MachineState::Spent) {
@@ -69,7 +68,7 @@ fn boot_on(alloc: Global, me: u32, n: u32, left: Stopped) -> Result<Booted<MemDi
     requires some { 1 ≤ n }
     requires most { n ≤ 15 }
     requires left { ∥ HasSomeLog me n left.disk ∥₁ }
-    ensures { IfOk result (λ booted. (log : Log) → IsDisk me n left.disk log → (booted.lines ≡ (rules.boot me n log).lines) × (booted.size ≡ body_size (rules.boot me n log).batch) × IsUpAs me n booted.shell (rules.boot me n log).replica.log (rules.boot me n log).replica []) }
+    ensures { IfOk result (λ booted. (log : Log) → IsDisk me n left.disk log → IsBooted me n booted (rules.boot me n log)) }
 {
     logs_are_not_bad();
     match Shell::boot(alloc, me, n, &ADDRESSES, left.disk) {

@@ -8,11 +8,10 @@ ghost use Rattle.crsm_spec.specs.Draft.{Draft};
 ghost use Rattle.crsm_spec.specs.Node.{turn};
 ghost use Rattle.crsm_spec.specs.World as world;
 ghost use Rattle.crsm_machine.specs.Arriving.{turn_of, IsShort};
-ghost use Rattle.crsm_machine.specs.Outcomes.{IsWell, Makes, Sends};
-ghost use Rattle.crsm_machine.specs.Machine.{MachineStands, MachinePends, WhereUp};
+ghost use Rattle.crsm_machine.specs.Outcomes.{IsWell, Makes, Sends, HasStepped, HasTaken};
+ghost use Rattle.crsm_machine.specs.Machine.{MachineStands, MachinePends, WhereUp, WherePending};
 
 use crate::arrival::Arrival;
-use crate::laws::machines_pend_nothing;
 use crate::machine::Machine;
 use crate::state::MachineState;
 use crate::step::Step;
@@ -23,6 +22,7 @@ use crsm_port::MemPort;
 impl Machine {
     /// One step, whose records are kept, and the place on the port of the first datagram that it sent. The replica is up; one
     /// that is down answers `NoMemory`.
+    #[tactic(auto, unfolding(crate::specs::Machine::MachineStands))]
     pub fn step(
         &mut self,
         arrival: Arrival<'_>,
@@ -31,14 +31,22 @@ impl Machine {
     ) -> Result<(Step, usize), NoMemory>
         requires { IsShort arrival }
         ensures sent { IfOk result (λ made. IsWell port.old → WhereUp self.old (λ me n r. Sends port.new made.1 (turn r (turn_of arrival.entry, reading) ∷ []))) }
-        ensures stands { IfOk result (λ made. WhereUp self.old (λ me n r.
-            Makes made.0 (turn r (turn_of arrival.entry, reading)) × MachineStands self.new me n (world.Site.Up (turn r (turn_of arrival.entry, reading)).replica))) }
+        ensures stands { IfOk result (λ made. WhereUp self.old (λ me n r. HasStepped self.new me n made.0 (turn r (turn_of arrival.entry, reading)))) }
         ensures spelt { IfOk result (λ made. AllByRecursion FitsSent made.0.batch.sends) }
     {
-        machines_pend_nothing();
-        let step = self.take(arrival, reading)?;
-        let first = self.flush(port)?;
-        Ok((step, first))
+        match &mut self.place {
+            MachineState::Up(shell) => match turn::step(shell, arrival, reading, port) {
+                Ok(made) => Ok(made),
+                Err(why) => {
+                    // Half a step was made.
+                    self.place = MachineState::Spent;
+                    Err(why)
+                }
+            },
+            // A world delivers to what is up.
+            MachineState::Down(_) => Err(never()),
+            MachineState::Spent => Err(NoMemory),
+        }
     }
 
     /// One more step of some that `flush` keeps together, 32 at most. The replica is up; one that is down answers
@@ -46,15 +54,14 @@ impl Machine {
     #[tactic(auto, unfolding(crate::specs::Machine::MachinePends))]
     pub fn take(&mut self, arrival: Arrival<'_>, reading: u64) -> Result<Step, NoMemory>
         requires { IsShort arrival }
-        ensures stands { IfOk result (λ step. (me n : ℕ) (r : Replica) (steps : List Draft) → MachinePends self.old me n r steps →
-            Makes step (turn r (turn_of arrival.entry, reading)) × MachinePends self.new me n (turn r (turn_of arrival.entry, reading)).replica (steps ++ turn r (turn_of arrival.entry, reading) ∷ [])) }
+        ensures stands { IfOk result (λ step. WherePending self.old (λ me n r steps. HasTaken self.new me n steps step (turn r (turn_of arrival.entry, reading)))) }
         ensures spelt { IfOk result (λ step. AllByRecursion FitsSent step.batch.sends) }
     {
         match &mut self.place {
             MachineState::Up(shell) => match turn::take(shell, arrival, reading) {
                 Ok(step) => Ok(step),
                 Err(why) => {
-                    // Half a step was made.
+                    // Half a step was taken.
                     self.place = MachineState::Spent;
                     Err(why)
                 }
@@ -69,11 +76,11 @@ impl Machine {
     /// datagram.
     #[tactic(auto, unfolding(crate::specs::Machine::MachinePends, crate::specs::Machine::MachineStands))]
     pub fn flush(&mut self, port: &mut MemPort) -> Result<usize, NoMemory>
-        ensures stands { OnOk result ((me n : ℕ) (r : Replica) (steps : List Draft) → MachinePends self.old me n r steps → MachineStands self.new me n (world.Site.Up r)) }
-        ensures sent { IfOk result (λ first. (me n : ℕ) (r : Replica) (steps : List Draft) → MachinePends self.old me n r steps → IsWell port.old → Sends port.new first steps) }
+        ensures stands { OnOk result (WherePending self.old (λ me n r steps. MachineStands self.new me n (world.Site.Up r))) }
+        ensures sent { IfOk result (λ first. WherePending self.old (λ me n r steps. IsWell port.old → Sends port.new first steps)) }
     {
         match &mut self.place {
-            MachineState::Up(shell) => match turn::flush(self.alloc, shell, port) {
+            MachineState::Up(shell) => match turn::flush(shell, port) {
                 Ok(first) => Ok(first),
                 Err(why) => {
                     // Half a flush was made.

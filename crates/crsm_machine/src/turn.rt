@@ -10,8 +10,8 @@ ghost use Rattle.crsm_spec.specs.Draft.{Draft};
 ghost use Rattle.crsm_spec.specs.Node.{turn};
 ghost use Rattle.crsm_machine.specs.Arriving.{turn_of, IsShort, Asks};
 ghost use Rattle.crsm_machine.specs.PacketPorts.{traffic_of};
-ghost use Rattle.crsm_machine.specs.Outcomes.{IsWell, Makes, Sends};
-ghost use Rattle.crsm_machine.specs.States.{IsSomeUp, IsUpAs};
+ghost use Rattle.crsm_machine.specs.Outcomes.{IsWell, Makes, Sends, ShellHasStepped, ShellHasTaken};
+ghost use Rattle.crsm_machine.specs.States.{IsSomeUp, IsUpAs, WhereUpAs};
 
 use crate::arrival::Arrival;
 use crate::fixed_clock::FixedClock;
@@ -21,7 +21,6 @@ use crsm_base::{NoMemory, never};
 use crsm_disk::MemDisk;
 use crsm_port::{MemPort, Port};
 use crsm_shell::{Shell, TurnError, What};
-use std::alloc::Global;
 
 /// So many steps are kept together at most.
 const MOST_PENDING: u32 = 32;
@@ -55,9 +54,8 @@ pub(crate) fn take(
 ) -> Result<Step, NoMemory>
     requires short { IsShort arrival }
     requires up { ∥ IsSomeUp shell.old ∥₁ }
-    ensures stands { IfOk result (λ step. (me n : ℕ) (kept : Log) (r : Replica) (steps : List Draft) → IsUpAs me n shell.old kept r steps →
-        Makes step (turn r (turn_of arrival.entry, reading)) × ((turn r (turn_of arrival.entry, reading)).replica.log ≡ with_records r.log (turn r (turn_of arrival.entry, reading)).batch)
-        × IsUpAs me n shell.new kept (turn r (turn_of arrival.entry, reading)).replica (steps ++ turn r (turn_of arrival.entry, reading) ∷ [])) }
+    ensures stands { IfOk result (λ step. WhereUpAs shell.old (λ me n kept r steps.
+        ShellHasTaken shell.new me n kept r steps step (turn r (turn_of arrival.entry, reading)))) }
     ensures spelt { IfOk result (λ step. AllByRecursion FitsSent step.batch.sends) }
 {
     if shell.pending() >= MOST_PENDING {
@@ -79,46 +77,26 @@ pub(crate) fn take(
     }
 }
 
-/// A port that has sent as many datagrams gives its place to a new one.
+/// So many datagrams are kept on a port at most before the next steps are flushed.
 const MOST_SENT: usize = 64;
 
-/// The room of a port that begins, which mostly serves for all that it sends.
-const ROOM_SENDS: u64 = 128;
-
-/// The same of their bytes.
-const ROOM_BYTES: u64 = 8192;
-
-/// A port that has sent nothing.
-fn new_port(alloc: Global) -> Result<MemPort, NoMemory>
-    ensures { IfOk result (λ port. IsWell port) }
-{
-    let mut port = MemPort::new(alloc, &[])?;
-    port.reserve(ROOM_SENDS, ROOM_BYTES)?;
-    Ok(port)
-}
-
-/// Room for more: of what a port has sent nobody asks any more once the next steps are flushed.
-fn renew(alloc: Global, port: &mut MemPort) -> Result<(), NoMemory>
-    ensures { OnOk result (IsWell port.old → IsWell port.new) }
+/// Of what a port has sent nobody asks any more once the next steps are flushed.
+fn renew(port: &mut MemPort)
+    ensures { IsWell port.old → IsWell port.new }
 {
     if port.sent().len() >= MOST_SENT {
-        *port = new_port(alloc)?;
+        port.forget_sent();
     }
-    Ok(())
 }
 
 /// Keeps the records of the pending steps, and sends over the port; answers the place on it of the first datagram. The shell
 /// has not failed before, and no call of its disk fails.
-pub(crate) fn flush(
-    alloc: Global,
-    shell: &mut Shell<MemDisk>,
-    port: &mut MemPort,
-) -> Result<usize, NoMemory>
+pub(crate) fn flush(shell: &mut Shell<MemDisk>, port: &mut MemPort) -> Result<usize, NoMemory>
     requires { ∥ IsSomeUp shell.old ∥₁ }
-    ensures stands { OnOk result ((me n : ℕ) (kept : Log) (r : Replica) (steps : List Draft) → IsUpAs me n shell.old kept r steps → IsUpAs me n shell.new r.log r []) }
-    ensures sent { IfOk result (λ first. (me n : ℕ) (kept : Log) (r : Replica) (steps : List Draft) → IsUpAs me n shell.old kept r steps → IsWell port.old → Sends port.new first steps) }
+    ensures stands { OnOk result (WhereUpAs shell.old (λ me n kept r steps. IsUpAs me n shell.new r.log r [])) }
+    ensures sent { IfOk result (λ first. WhereUpAs shell.old (λ me n kept r steps. IsWell port.old → Sends port.new first steps)) }
 {
-    renew(alloc, port)?;
+    renew(port);
     let first = port.sent().len();
     match shell.flush(port) {
         Ok(()) => Ok(first),
@@ -129,4 +107,25 @@ pub(crate) fn flush(
         Err(TurnError::LogFull) => Err(never()),
         Err(TurnError::NoMemory) => Err(NoMemory),
     }
+}
+
+/// One step behind those that are pending, all of which are kept at once; answers the place on the port of the first datagram
+/// that they sent. The shell has not failed before, and no call of its disk fails.
+pub(crate) fn step(
+    shell: &mut Shell<MemDisk>,
+    arrival: Arrival<'_>,
+    reading: u64,
+    port: &mut MemPort,
+) -> Result<(Step, usize), NoMemory>
+    requires short { IsShort arrival }
+    requires up { ∥ IsSomeUp shell.old ∥₁ }
+    ensures stands { IfOk result (λ made. WhereUpAs shell.old (λ me n kept r steps.
+        ShellHasStepped shell.new me n made.0 (turn r (turn_of arrival.entry, reading)))) }
+    ensures sent { IfOk result (λ made. WhereUpAs shell.old (λ me n kept r steps. IsWell port.old →
+        Sends port.new made.1 (steps ++ turn r (turn_of arrival.entry, reading) ∷ []))) }
+    ensures spelt { IfOk result (λ made. AllByRecursion FitsSent made.0.batch.sends) }
+{
+    let step = take(shell, arrival, reading)?;
+    let first = flush(shell, port)?;
+    Ok((step, first))
 }

@@ -1,5 +1,5 @@
 -- The datagrams of a world, and how they are held in memory.
-use Rattle.std.specs.Prelude.{◌≡◌, ◌<◌, ◌≤◌, ◌+◌, ℕ, Bool, true, false, ◌&&◌, not, List, [], ◌∷◌, length, filter, Option, Some, option_map, slice_get, slice_set, slice_range}
+use Rattle.std.specs.Prelude.{◌≡◌, ◌<◌, ◌≤◌, ◌+◌, ℕ, Bool, true, false, ◌&&◌, not, List, [], ◌∷◌, ◌++◌, length, map, filter, Option, Some, option_map, slice_get, slice_set, slice_range}
 use Rattle.std.specs.List.{AllByRecursion, flat_map, range_with_len}
 use Rattle.std.specs.Option.{option_map_or}
 use Rattle.crsm_base.specs.Messages.{datagram_bytes, FitsDatagram}
@@ -8,7 +8,7 @@ use Rattle.crsm_base.specs.declared.send.To.{To}
 use Rattle.crsm_base.specs.declared.send.To.TheVariants as to_whom
 use Rattle.crsm_port.specs.Meaning.{Packet as Sent}
 use Rattle.crsm_spec.specs.Types.{Datagram}
-use Rattle.crsm_spec.specs.World.{Packet}
+use Rattle.crsm_spec.specs.World.{Packet, packet_of, packets_size}
 use Rattle.crsm_network.specs.declared.packets.PacketEntry.{PacketEntry}
 use Rattle.crsm_network.specs.declared.packets.PacketView.{PacketView}
 use Rattle.crsm_network.specs.declared.network.Network.{Network}
@@ -103,6 +103,10 @@ pub record NetworkStands (network : Network) (packets : List Packet) (bytes : �
   pub fresh : HasFresh (λ k. true) packets network.fresh.items
   pub near : HasFresh (is_up_among network.ups.items) packets network.near.items
   pub counted : network.bytes ≡ bytes
+
+-- behind these packets and bytes, the network holds what replica k has sent
+abbrev pub HasSent : Network → List Packet → (bytes k : ℕ) → List (ℕ × Datagram) → Type 0
+HasSent network packets bytes k sends = NetworkStands network (packets ++ map (packet_of k) sends) (bytes + packets_size sends)
 
 -- for the packets and the count of bytes that the network has
 abbrev pub WhereStands : Network → (List Packet → ℕ → Type 0) → Type 0

@@ -4,7 +4,8 @@ ghost use Rattle.std.specs.Prelude.{◌≡◌, ◌≤◌, ◌+◌, ◌++◌, ◌
 ghost use Rattle.std.specs.List.{AllByRecursion};
 ghost use Rattle.crsm_base.specs.Messages.{FitsDatagram, datagram_bytes};
 ghost use Rattle.crsm_spec.specs.World as on_paper;
-ghost use Rattle.crsm_network.specs.Packets.{NetworkStands, FitsPacket, sent_to, sent_of, AreSpelt, WhereSpelt, WhereStands};
+ghost use Rattle.crsm_spec.specs.World.{packet_of};
+ghost use Rattle.crsm_network.specs.Packets.{NetworkStands, FitsPacket, sent_to, sent_of, AreSpelt, WhereSpelt, WhereStands, HasSent};
 ghost use Rattle.crsm_port.specs.Sent.{packets_of};
 
 use crate::network::Network;
@@ -25,7 +26,7 @@ impl Network {
     ) -> Result<(), NoMemory>
         requires { FitsDatagram datagram.now }
         ensures network { OnOk result (WhereSpelt self.old datagram.now text.now (λ packets bytes.
-            NetworkStands self.new (packets ++ on_paper.packet_of k (to, datagram.now) ∷ []) (bytes + length (datagram_bytes datagram.now)))) }
+            NetworkStands self.new (packets ++ packet_of k (to, datagram.now) ∷ []) (bytes + length (datagram_bytes datagram.now)))) }
         ensures lines { OnOk result (WhereSpelt self.old datagram.now text.now (λ packets bytes.
             lines.new ≡ lines.old ++ on_paper.send_line k (length packets) (to, datagram.now) ∷ [])) }
     {
@@ -38,7 +39,7 @@ impl Network {
             from: k,
             to,
             kind: kind_of(datagram),
-            bytes: copy(self.alloc, text)?,
+            bytes: Bytes::from_slice(self.alloc, text)?,
         })?;
         self.fresh.push(index)?;
         self.near.push(index)?;
@@ -63,7 +64,7 @@ impl Network {
     ) -> Result<(), NoMemory>
         requires { FitsPacket send.now }
         ensures network { OnOk result (WhereSpelt self.old send.now.datagram text.now (λ packets bytes.
-            NetworkStands self.new (packets ++ map (on_paper.packet_of k) (sent_to send.now)) (bytes + on_paper.packets_size (sent_to send.now)))) }
+            HasSent self.new packets bytes k (sent_to send.now))) }
         ensures lines { OnOk result (WhereSpelt self.old send.now.datagram text.now (λ packets bytes.
             lines.new ≡ lines.old ++ on_paper.send_lines k (length packets) (sent_to send.now))) }
     {
@@ -88,7 +89,7 @@ impl Network {
     ) -> Result<(), NoMemory>
         requires { AllByRecursion FitsPacket sends.now }
         ensures network { OnOk result (WhereStands self.old (λ packets bytes. AreSpelt sends.now (packets_of sent.now) first →
-            NetworkStands self.new (packets ++ map (on_paper.packet_of k) (sent_of sends.now)) (bytes + on_paper.packets_size (sent_of sends.now)))) }
+            HasSent self.new packets bytes k (sent_of sends.now))) }
         ensures lines { OnOk result (WhereStands self.old (λ packets bytes. AreSpelt sends.now (packets_of sent.now) first →
             lines.new ≡ lines.old ++ on_paper.send_lines k (length packets) (sent_of sends.now))) }
     {
@@ -112,16 +113,6 @@ fn behind(place: usize) -> Result<usize, NoMemory>
 {
     // Whatever has a place is in memory.
     place.checked_add(1).ok_or(never())
-}
-
-/// These bytes, in a list that has room for no more.
-fn copy(alloc: Global, text: &[u8]) -> Result<Bytes, NoMemory>
-    ensures { IfOk result (λ copy. copy ≡ text.now) }
-{
-    let mut copy = Bytes::new(alloc);
-    copy.reserve(text.len())?;
-    copy.append(text)?;
-    Ok(copy)
 }
 
 /// The kind of a datagram between replicas.

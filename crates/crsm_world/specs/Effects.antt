@@ -1,5 +1,5 @@
 -- What comes of a replica where something comes to it, and what of that is let out.
-use Rattle.std.specs.Prelude.{◌≡◌, ◌+◌, ℕ, List, ◌++◌, length, map, take, Some, slice_get, slice_set}
+use Rattle.std.specs.Prelude.{◌≡◌, ◌+◌, ◌-◌, ℕ, List, ◌++◌, length, map, take, Some, slice_get, slice_set}
 use Rattle.std.specs.List.{AllByRecursion}
 use Rattle.crsm_core.specs.Core.{FitsSent}
 use Rattle.crsm_spec.specs.Types.{Datagram, Line}
@@ -9,6 +9,7 @@ use Rattle.crsm_spec.specs.World.{Packet, Site, World as Cluster, Moment, body_s
 use Rattle.crsm_spec.specs.Moments.{silent}
 use Rattle.crsm_network.specs.declared.Network.{Network}
 use Rattle.crsm_network.specs.Packets.{AreSpelt, NetworkStands}
+use Rattle.crsm_port.specs.Meaning.{Packet as Sent}
 use Rattle.crsm_machine.specs.declared.Step.{Step}
 use Rattle.crsm_machine.specs.Outcomes.{Makes}
 use Rattle.crsm_world.specs.declared.ending.Effects.{Effects}
@@ -20,6 +21,11 @@ use Rattle.crsm_world.specs.Machines.{MachinesStand}
 pub record LetsOut (before : List Line) (packets : List Packet) (bytes k : ℕ) (x : Draft) (sends : List (ℕ × Datagram)) (replies : List Reply) (network : Network) (lines : List Line) : Type 0 where
   pub stands : NetworkStands network (packets ++ map (packet_of k) sends) (bytes + body_size x.batch + packets_size sends)
   pub told : lines ≡ before ++ (((x.lines ++ x.excess) ++ send_lines k (length packets) sends) ++ map (λ a. a.line) replies)
+
+-- the same where so many of the draft's datagrams and replies are out, the datagrams first
+abbrev pub LetsOutSome : ℕ → List Line → List Packet → (bytes k : ℕ) → Draft → Network → List Line → Type 0
+LetsOutSome count before packets bytes k x network lines =
+    LetsOut before packets bytes k x (take count x.sends) (take (count - length x.sends) x.replies) network lines
 
 -- What was left leads to the moment where it goes out, and the machines are already as they are then. What goes out was
 -- sent over their port.
@@ -43,6 +49,12 @@ FitsEffects _ = Unit {0}
 -- for a cluster whose sites the machines are, and in which replica k is up
 abbrev pub WhereUpIn : Machines → ℕ → (Cluster → Replica → Type 0) → Type 0
 WhereUpIn machines k P = (v : Cluster) (r : Replica) → MachinesStand machines v.n v.sites → slice_get v.sites k ≡ Some (Site.Up r) → P v r
+
+-- for the moment to which the effects lead, from a cluster with the packets of the network, and for the machines whose port has
+-- sent these
+abbrev pub WhereLeft : Network → List Sent → Effects → (Moment → Machines → Type 0) → Type 0
+WhereLeft network sent effects P =
+    (m : Moment) (v : Cluster) (sites : Machines) → NetworkStands network v.packets v.bytes → sent ≡ sites.port.sent → Leaves m v effects sites → P m sites
 
 -- for the packets so far, and the draft that made the step
 abbrev pub WhereMade : Network → Step → (List Packet → ℕ → Draft → Type 0) → Type 0

@@ -65,6 +65,10 @@ MachinesBoot n places k log None sites = ⊥
 unfoldable pub roomed : List Site → ℕ → List Site
 roomed places k = if k == length places then places ++ Site.Down [] ∷ [] else places
 
+-- replica k is down with this log, or is the next new one
+abbrev pub CanBoot : List Site → ℕ → Log → Type 0
+CanBoot places k log = slice_get (roomed places k) k ≡ Some (Site.Down log)
+
 -- the replicas whose majorities count in the known epoch of k, where it is up
 unfoldable pub spec_in : ℕ → List Site → ℕ → Option (List ℕ)
 spec_in n places k = option_map_or (spec_at n) (slice_get places k) None
@@ -80,6 +84,10 @@ up_in places k = if is_up_in places k then Some k else None
 -- for the sites that the machines are
 abbrev pub WhereMachinesStand : Machines → (ℕ → List Site → Type 0) → Type 0
 WhereMachinesStand machines P = (n : ℕ) (sites : List Site) → MachinesStand machines n sites → P n sites
+
+-- for the sites that the machines are, and the one of replica k among them
+abbrev pub WhereSite : Machines → ℕ → (ℕ → List Site → Site → Type 0) → Type 0
+WhereSite machines k P = (n : ℕ) (sites : List Site) (p : Site) → MachinesStand machines n sites → slice_get sites k ≡ Some p → P n sites p
 
 -- for the sites that the machines are, where replica k is up
 abbrev pub WhereUp : Machines → ℕ → (ℕ → List Site → Replica → Type 0) → Type 0

@@ -1,8 +1,10 @@
 -- How a step ends, and what comes of a turn of a replica.
 use Rattle.std.specs.Prelude.{◌≡◌, ◌≤◌, ℕ, Option, Some, None, slice_get}
 use Rattle.crsm_base.specs.MessageReading.{datagram_of}
+use Rattle.crsm_base.specs.Messages.{datagram_bytes}
 use Rattle.crsm_schedule.specs.declared.Single.{Single}
 use Rattle.crsm_spec.specs.Node.{Turn, turn}
+use Rattle.crsm_spec.specs.Types.{Command, Datagram}
 use Rattle.crsm_spec.specs.World.{Site, World, Moment, Ending, whole_step, cut_step, lost_step}
 use Rattle.crsm_spec.specs.Moments.{silent, cut_at}
 use Rattle.crsm_world.specs.declared.ending.Ending.{Ending as EndingInMemory}
@@ -28,6 +30,10 @@ turn_at_machine ends w k t reading _ = silent w w
 -- a turn of replica k
 unfoldable pub turn_at : Ending → World → ℕ → Turn → ℕ → Moment
 turn_at ends w k t reading = turn_at_machine ends w k t reading (slice_get w.sites k)
+
+-- the turn in which a client's command comes
+abbrev pub request_turn : Command → Turn
+request_turn command = Turn.In command.client (datagram_bytes (Datagram.Request command))
 
 -- bytes from nowhere are no datagram
 abbrev pub IsGenuine : Single → Type 0

@@ -44,6 +44,10 @@ StandsFor w v = Stands w v
 unfoldable pub IsSpent : World → Type 0
 IsSpent w = w.is_spent ≡ true
 
+-- for each replica that is up in the cluster that the world stands for, where it has number k
+abbrev pub WhereUp : World → ℕ → (Replica → Type 0) → Type 0
+WhereUp w k P = (v : Cluster) (r : Replica) → StandsFor w v → slice_get v.sites k ≡ Some (Site.Up r) → P r
+
 -- for each cluster whose parts the world holds
 abbrev pub WhereHolds : World → (Cluster → Type 0) → Type 0
 WhereHolds w P = (v : Cluster) → Holds w v → P v

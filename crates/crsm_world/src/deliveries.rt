@@ -9,11 +9,9 @@ ghost use Rattle.crsm_spec.specs.Moments as moments;
 ghost use Rattle.crsm_spec.specs.Node.{Turn};
 ghost use Rattle.crsm_spec.specs.Replica.{Replica};
 ghost use Rattle.crsm_spec.specs.World as on_paper;
-ghost use Rattle.crsm_base.specs.declared.Datagram.{Datagram as Message};
-ghost use Rattle.crsm_base.specs.Messages.{datagram_bytes};
 ghost use Rattle.crsm_world.specs.Doing.{single_of};
 ghost use Rattle.crsm_world.specs.World.{Holds, Leads, LeadsOn, WhereHolds};
-ghost use Rattle.crsm_world.specs.Turning.{ending_of, FitsEnding, IsGenuine, turn_at};
+ghost use Rattle.crsm_world.specs.Turning.{ending_of, FitsEnding, IsGenuine, turn_at, request_turn};
 
 use crate::ending::Ending;
 use crate::outgoing::leave;
@@ -137,7 +135,7 @@ impl World {
         requires ends { FitsEnding ending }
         requires fits { FitsCommand command.now }
         ensures { OnOk result (WhereHolds self.old (λ v.
-            LeadsOn (turn_at (ending_of ending) v k (Turn.In command.now.client (datagram_bytes (Message.Request command.now))) reading) self.new.sites self.new.network lines.old lines.new)) }
+            LeadsOn (turn_at (ending_of ending) v k (request_turn command.now) reading) self.new.sites self.new.network lines.old lines.new)) }
     {
         let datagram = Datagram::Request {
             command: command.copy(self.alloc)?,

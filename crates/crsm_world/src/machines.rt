@@ -12,7 +12,7 @@ ghost use Rattle.crsm_machine.specs.Arriving.{turn_of, IsShort};
 ghost use Rattle.crsm_machine.specs.Outcomes.{Makes, Sends};
 ghost use Rattle.crsm_machine.specs.Machine.{MachineStands};
 ghost use Rattle.crsm_port.specs.Sent.{packets_of};
-ghost use Rattle.crsm_world.specs.Machines.{MachinesStand, MachinesPend, MachinesCut, MachinesBoot, is_up_in, up_in, roomed, spec_in, WhereMachinesStand, WhereUp, WherePending, StepsTo, PendsTo};
+ghost use Rattle.crsm_world.specs.Machines.{MachinesStand, MachinesPend, MachinesCut, MachinesBoot, is_up_in, up_in, roomed, spec_in, WhereMachinesStand, WhereUp, WherePending, StepsTo, PendsTo, WhereSite, CanBoot};
 
 use crate::ending::Stop;
 use crate::founders::Founders;
@@ -144,8 +144,7 @@ impl Machines {
     /// A replica goes down.
     pub fn crash(&mut self, k: u32) -> Result<(), NoMemory>
         requires { k < length self.old.items.items }
-        ensures stands { OnOk result ((n : ℕ) (places : List on_paper.Site) (p : on_paper.Site) → MachinesStand self.old n places → slice_get places k ≡ Some p →
-            MachinesStand self.new n (slice_set places k (on_paper.Site.Down (on_paper.log_of p)))) }
+        ensures stands { OnOk result (WhereSite self.old k (λ n places p. MachinesStand self.new n (slice_set places k (on_paper.Site.Down (on_paper.log_of p))))) }
         ensures port { self.new.port ≡ self.old.port }
     {
         self.items[k as usize].crash()?;
@@ -166,7 +165,7 @@ impl Machines {
 
     /// A replica that is down boots on its disk; the next new one has an empty disk.
     pub fn start(&mut self, k: u64) -> Result<Option<Boot>, NoMemory>
-        ensures { IfOk result (λ boot. WhereMachinesStand self.old (λ n places. k < 15 → (log : Log) → slice_get (roomed places k) k ≡ Some (on_paper.Site.Down log) →
+        ensures { IfOk result (λ boot. WhereMachinesStand self.old (λ n places. k < 15 → (log : Log) → CanBoot places k log →
             MachinesBoot n (roomed places k) k log boot self.new)) }
     {
         self.make_room(k)?;

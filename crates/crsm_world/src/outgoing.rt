@@ -5,10 +5,8 @@ ghost use Rattle.std.specs.List.{AllByRecursion};
 ghost use Rattle.crsm_core.specs.Core.{FitsSent};
 ghost use Rattle.crsm_machine.specs.Outcomes.{Makes};
 ghost use Rattle.crsm_spec.specs.Draft.{Draft};
-ghost use Rattle.crsm_spec.specs.World as on_paper;
-ghost use Rattle.crsm_world.specs.Effects.{LetsOut, Leaves, FitsEffects, WhereMade};
+ghost use Rattle.crsm_world.specs.Effects.{LetsOut, FitsEffects, WhereMade, LetsOutSome, WhereLeft};
 ghost use Rattle.crsm_world.specs.World.{LeadsOn};
-ghost use Rattle.crsm_world.specs.declared.machines.Machines.{Machines};
 ghost use Rattle.crsm_network.specs.Packets.{AreSpelt, NetworkStands};
 ghost use Rattle.crsm_port.specs.Sent.{packets_of};
 
@@ -34,7 +32,7 @@ pub(crate) fn let_out(
 ) -> Result<(), NoMemory>
     requires { AllByRecursion FitsSent step.batch.sends }
     ensures { OnOk result (WhereMade network.old step (λ packets bytes x. AreSpelt (take count step.batch.sends) (packets_of sent.now) first →
-        LetsOut lines.old packets bytes k x (take count x.sends) (take (count - length x.sends) x.replies) network.new lines.new)) }
+        LetsOutSome count lines.old packets bytes k x network.new lines.new)) }
 {
     let mut step = step;
     let made = step.batch.sends.as_slice().len();
@@ -94,8 +92,7 @@ pub(crate) fn leave(
     lines: &mut Lines,
 ) -> Result<(), NoMemory>
     requires { FitsEffects effects }
-    ensures { OnOk result ((m : on_paper.Moment) (v : on_paper.World) (sites : Machines) → NetworkStands network.old v.packets v.bytes → packets_of sent.now ≡ sites.port.sent → Leaves m v effects sites →
-        LeadsOn m sites network.new lines.old lines.new) }
+    ensures { OnOk result (WhereLeft network.old (packets_of sent.now) effects (λ m sites. LeadsOn m sites network.new lines.old lines.new)) }
 {
     match effects {
         Effects::Nothing => Ok(()),

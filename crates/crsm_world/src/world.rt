@@ -12,7 +12,7 @@ ghost use Rattle.crsm_spec.specs.Replica.{Replica};
 ghost use Rattle.crsm_spec.specs.World as on_paper;
 ghost use Rattle.crsm_world.specs.Doing.{act_of, bad_of};
 ghost use Rattle.crsm_world.specs.Laws.{HasDone, IsLawful};
-ghost use Rattle.crsm_world.specs.World.{Holds, StandsFor, IsSpent, WhereHolds, WhereStands};
+ghost use Rattle.crsm_world.specs.World.{Holds, StandsFor, IsSpent, WhereHolds, WhereStands, WhereUp};
 
 use crate::bad::Bad;
 use crate::machines::Machines;
@@ -121,8 +121,7 @@ impl World {
     #[tactic(auto, unfolding(crate::specs::World::StandsFor))]
     pub fn shell(&self, replica: u32) -> Option<&Shell<MemDisk>>
         ensures up { WhereStands self.now (λ v. is_some result ≡ on_paper.is_up_at v replica) }
-        ensures stands { IfSome result (λ shell. (v : on_paper.World) (r : Replica) → StandsFor self.now v → slice_get v.sites replica ≡ Some (on_paper.Site.Up r) →
-            ShellStands shell.now (meaning_of (disk_of shell.now)) r.log r []) }
+        ensures stands { IfSome result (λ shell. WhereUp self.now replica (λ r. ShellStands shell.now (meaning_of (disk_of shell.now)) r.log r [])) }
     {
         match self.sites.get(u64::from(replica)) {
             Some(machine) => machine.shell(),

@@ -20,7 +20,7 @@ returns-in-Ok-clause-stands c me n kept r steps up =
 
 pub returns-in-Ok-clause-sent : goal.returns-in-Ok-clause-sent
 returns-in-Ok-clause-sent c me n kept r steps up well =
-    sends_all c.renew.new.port c.flush.new.port c.len-first.result (peers_of c.args.shell.now) steps up.peers up.fits (c.in_ok-renew.ensures well)
+    sends_all c.renew.new.port c.flush.new.port c.len-first.result (peers_of c.args.shell.now) steps up.peers up.fits (c.renew.ensures well)
     (c.len-first.ensures ∙ ap length c.sent.ensures) (c.in-Ok.ensures.sent kept r steps up.stands)
 
 -- ---- what it does not answer

@@ -39,5 +39,5 @@ unfolding send_line
 returns-clause-lines c packets bytes h e =
     let more = datagram_bytes c.args.datagram.now in
     let n = c.count-index.ensures packets bytes h in
-    let copy : c.in_ok-copy.field-0 ≡ more = c.in_ok-copy.ensures ∙ e in
+    let copy : c.in_ok-from_slice.field-0 ≡ more = c.in_ok-from_slice.ensures ∙ e in
     cc (c.in_ok-push.ensures.ok, n, c.kind_of.ensures, copy)
