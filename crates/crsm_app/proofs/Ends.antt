@@ -4,7 +4,7 @@ use Rattle.std.proofs.lemmas.List.{append-nil, nil_from_length}
 use Rattle.crsm_io.specs.Streams.{Takes, Puts, PutsPrefix, AtEnd}
 use Rattle.crsm_io.proofs.Steps.{puts_after, puts_none, takes_after, takes_none}
 use Rattle.crsm_world.specs.declared.World.{World as Held}
-use Rattle.crsm_world.specs.World.{StandsFor}
+use Rattle.crsm_world.specs.World.{WorldStands}
 use Rattle.crsm_world.specs.Schedule.{Schedule, ended, schedule_text, transcript, finals_text, last_world}
 use Rattle.crsm_app.specs.State.{State, read_text, shown_text, IsGood, StandsAt}
 use Rattle.crsm_app.specs.Refused.{CutShort, cut_line}
@@ -31,7 +31,7 @@ cut_bad b a h w st total within ended s done cut = record {
 -- all lines are done
 finish_by : (b a h w v : Option (List ℕ)) (st : State) (held : Held) (r : Option Schedule)
     → AtEnd a → IsGood r → StandsAt st.world r → Takes b a (read_text r ++ (st.part ++ [])) → Puts h w (shown_text r)
-    → st.world ≡ Some held → length st.part ≡ 0 → ((s : Schedule) → StandsFor held (last_world s) → PutsPrefix w v (finals_text s)) → RanPartly b a h v
+    → st.world ≡ Some held → length st.part ≡ 0 → ((s : Schedule) → WorldStands held (last_world s) → PutsPrefix w v (finals_text s)) → RanPartly b a h v
 finish_by b a h w v st held None ended good stands t p world none put = absurd (subst (λ x. StandsAt x None) world stands)
 finish_by b a h w v st held (Some s) ended good stands t p world none put =
     let f = put s (subst (λ x. StandsAt x (Some s)) world stands) in
@@ -51,13 +51,13 @@ finish_by b a h w v st held (Some s) ended good stands t p world none put =
 -- a prefix of the final lines was written
 pub finish_partly : (b a h w v : Option (List ℕ)) (st : State) (total : ℕ) (held : Held)
     → AtEnd a → SoFar b a h w st [] total → st.pending ≡ [] → st.world ≡ Some held → length st.part ≡ 0
-    → ((s : Schedule) → StandsFor held (last_world s) → PutsPrefix w v (finals_text s)) → RanPartly b a h v
+    → ((s : Schedule) → WorldStands held (last_world s) → PutsPrefix w v (finals_text s)) → RanPartly b a h v
 finish_partly b a h w v st total held ended s done world none put =
     finish_by b a h w v st held s.read ended s.good s.stands s.takes (nothing_pending b a h w st [] total s done) world none put
 
 well_by : (b a h w v : Option (List ℕ)) (st : State) (total : ℕ) (held : Held) (r : Option Schedule) → total ≤ 1073741824 → AtEnd a
     → IsGood r → StandsAt st.world r → Takes b a (read_text r ++ (st.part ++ [])) → length (read_text r ++ (st.part ++ [])) ≡ total → Puts h w (shown_text r)
-    → st.world ≡ Some held → length st.part ≡ 0 → ((s : Schedule) → StandsFor held (last_world s) → Puts w v (finals_text s)) → RanToEnd b a h v
+    → st.world ≡ Some held → length st.part ≡ 0 → ((s : Schedule) → WorldStands held (last_world s) → Puts w v (finals_text s)) → RanToEnd b a h v
 well_by b a h w v st total held None within ended good stands t l p world short put = absurd (subst (λ x. StandsAt x None) world stands)
 well_by b a h w v st total held (Some s) within ended good stands t l p world short put =
     let text : schedule_text s ++ (st.part ++ []) ≡ schedule_text s = ap (λ y. schedule_text s ++ (y ++ [])) (nil_from_length st.part short) ∙ append-nil (schedule_text s) in
@@ -73,7 +73,7 @@ well_by b a h w v st total held (Some s) within ended good stands t l p world sh
 -- the final lines were written
 pub finish_well : (b a h w v : Option (List ℕ)) (st : State) (total : ℕ) (held : Held) → total ≤ 1073741824 → AtEnd a
     → SoFar b a h w st [] total → st.pending ≡ [] → st.world ≡ Some held → length st.part ≡ 0
-    → ((s : Schedule) → StandsFor held (last_world s) → Puts w v (finals_text s)) → RanToEnd b a h v
+    → ((s : Schedule) → WorldStands held (last_world s) → Puts w v (finals_text s)) → RanToEnd b a h v
 finish_well b a h w v st total held within ended s done world short put =
     well_by b a h w v st total held s.read within ended s.good s.stands s.takes s.taken_len (nothing_pending b a h w st [] total s done) world short put
 

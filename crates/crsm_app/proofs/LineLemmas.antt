@@ -14,7 +14,7 @@ use Rattle.crsm_spec.specs.Possible.{possible}
 use Rattle.crsm_world.specs.declared.Bad.{Bad}
 use Rattle.crsm_world.specs.declared.World.{World as Held}
 use Rattle.crsm_world.specs.Doing.{act_of, bad_of}
-use Rattle.crsm_world.specs.World.{StandsFor}
+use Rattle.crsm_world.specs.World.{WorldStands}
 use Rattle.crsm_world.specs.Schedule.{Schedule, last_world}
 use Rattle.crsm_app.specs.Causes.{cause_of}
 use Rattle.crsm_app.specs.Refused.{RefusedFirst, RefusedNext, unreadable_next, impossible_next, Refused}
@@ -70,7 +70,7 @@ next_impossible w line e bad cause fits text told named =
     })
 
 pub next_line : (w : World) (line : List ℕ) (e : Event) (held : Held) (lines : List Line) → FitsEvent e → line ≡ event_text e
-    → possible w (act_of e) ≡ None → StandsFor held (act w (act_of e)).after → lines ≡ (act w (act_of e)).lines → DoesEvent w line held lines
+    → possible w (act_of e) ≡ None → WorldStands held (act w (act_of e)).after → lines ≡ (act w (act_of e)).lines → DoesEvent w line held lines
 unfolding DoesEvent
 next_line w line e held lines fits text here stands is = record {
   event = e;
@@ -81,7 +81,7 @@ next_line w line e held lines fits text here stands is = record {
 }
 
 -- a world begins
-pub first_line : (line : List ℕ) (n : ℕ) (held : Held) (lines : List Line) → IsSize n → line ≡ first_text n → StandsFor held (begin n) → lines ≡ first_lines n
+pub first_line : (line : List ℕ) (n : ℕ) (held : Held) (lines : List Line) → IsSize n → line ≡ first_text n → WorldStands held (begin n) → lines ≡ first_lines n
     → BeginsWorld line held lines
 unfolding BeginsWorld
 first_line line n held lines size text stands is = record { replicas = n; size = size; text = text; stands = stands; lines_are = is }
@@ -111,12 +111,12 @@ advances_first line old new held lines none world first = record {
 }
 
 handled_next : (read : Option Schedule) (line : List ℕ) (before held : Held) (lines : List Line)
-    → ((c : World) → StandsFor before c → NextLine c line held lines) → StandsAt (Some before) read → HandledAfter read line held lines
+    → ((c : World) → WorldStands before c → NextLine c line held lines) → StandsAt (Some before) read → HandledAfter read line held lines
 handled_next None line before held lines next stands = absurd stands
 handled_next (Some s) line before held lines next stands = next (last_world s) stands
 
 pub advances_next : (line : List ℕ) (old new : Option Held) (before held : Held) (lines : List Line) → old ≡ Some before → new ≡ Some held
-    → ((c : World) → StandsFor before c → DoesEvent c line held lines) → Advances old line new lines
+    → ((c : World) → WorldStands before c → DoesEvent c line held lines) → Advances old line new lines
 unfolding DoesEvent Advances
 advances_next line old new before held lines some world next = record {
   held = held;
@@ -142,7 +142,7 @@ handles_number old new tail lines h = h.number
 
 -- the same of an answer that may be an error
 pub advances_if : {E : Type 0} (result : Result (List Line) E) (line : List ℕ) (old : Option Held) (before held : Held) → old ≡ Some before
-    → ((c : World) → StandsFor before c → IfOk result (λ lines. DoesEvent c line held lines)) → IfOk result (λ lines. Advances old line (Some held) lines)
+    → ((c : World) → WorldStands before c → IfOk result (λ lines. DoesEvent c line held lines)) → IfOk result (λ lines. Advances old line (Some held) lines)
 advances_if (Ok lines) line old before held some next = advances_next line old (Some held) before held lines some refl next
 advances_if (Err e) line old before held some next = tt
 
@@ -150,7 +150,7 @@ refused_first : (cause : Cause) (line : List ℕ) (read : Option Schedule) → R
 refused_first cause line None first stands = first
 refused_first cause line (Some s) first stands = absurd stands
 
-refused_next : (cause : Cause) (line : List ℕ) (before : Held) (read : Option Schedule) → ((c : World) → StandsFor before c → RefusedNext c cause line)
+refused_next : (cause : Cause) (line : List ℕ) (before : Held) (read : Option Schedule) → ((c : World) → WorldStands before c → RefusedNext c cause line)
     → StandsAt (Some before) read → Refused read cause line
 refused_next cause line before None next stands = absurd stands
 refused_next cause line before (Some s) next stands = next (last_world s) stands
@@ -161,13 +161,13 @@ stops_as_first old (Stop.Bad cause) line none first = λ read stands. refused_fi
 stops_as_first old Stop.NoMemory line none first = tt
 
 pub stops_as_next : (old : Option Held) (stopped : Stop) (before : Held) (line : List ℕ) → old ≡ Some before
-    → ((c : World) → StandsFor before c → StopsNext stopped c line) → StopsAt stopped old line
+    → ((c : World) → WorldStands before c → StopsNext stopped c line) → StopsAt stopped old line
 unfolding StopsNext StopsAt
 stops_as_next old (Stop.Bad cause) before line some next = λ read stands. refused_next cause line before read next (subst (λ w. StandsAt w read) some stands)
 stops_as_next old Stop.NoMemory before line some next = tt
 
 pub stops_if : {X : Type 0} (result : Result X Stop) (line : List ℕ) (old : Option Held) (before : Held) → old ≡ Some before
-    → ((c : World) → StandsFor before c → IfErr result (λ stopped. StopsNext stopped c line)) → IfErr result (λ stopped. StopsAt stopped old line)
+    → ((c : World) → WorldStands before c → IfErr result (λ stopped. StopsNext stopped c line)) → IfErr result (λ stopped. StopsAt stopped old line)
 stops_if (Ok x) line old before some next = tt
 stops_if (Err e) line old before some next = stops_as_next old e before line some next
 

@@ -7,7 +7,7 @@ use Rattle.crsm_text.specs.Words.{Lacks}
 use Rattle.crsm_io.specs.Streams.{Takes, Puts, PutsPrefix, AtEnd}
 use Rattle.crsm_spec.specs.World.{World, finals}
 use Rattle.crsm_world.specs.declared.World.{World as Held}
-use Rattle.crsm_world.specs.World.{StandsFor}
+use Rattle.crsm_world.specs.World.{WorldStands}
 use Rattle.crsm_world.specs.Schedule.{Schedule, last_world, finals_text}
 use Rattle.crsm_app.specs.State.{State, StandsAt}
 use Rattle.crsm_app.specs.Handled.{Handles, StopsAt}
@@ -97,11 +97,11 @@ flush_off (Err e) w v old new fault put is =
 -- ---- the world takes something back
 
 -- the world is another one that stands for the same
-held_on : (world held : Held) (read : Option Schedule) → ((v : World) → StandsFor world v → StandsFor held v) → StandsAt (Some world) read → StandsAt (Some held) read
+held_on : (world held : Held) (read : Option Schedule) → ((v : World) → WorldStands world v → WorldStands held v) → StandsAt (Some world) read → StandsAt (Some held) read
 held_on world held None keeps stands = absurd stands
 held_on world held (Some s) keeps stands = keeps (last_world s) stands
 
-pub world_carries : (w : Option (List ℕ)) (old new : State) (world held : Held) → ((v : World) → StandsFor world v → StandsFor held v) → old.world ≡ Some world
+pub world_carries : (w : Option (List ℕ)) (old new : State) (world held : Held) → ((v : World) → WorldStands world v → WorldStands held v) → old.world ≡ Some world
     → new ≡ record { world = Some held; number = old.number; part = old.part; pending = old.pending } → CarriesOn w w old new [] []
 unfolding CarriesOn
 world_carries w old new world held keeps here is = λ before after had ahead total s. subst (λ st. SoFar before after had w st ahead total) (sym is) (record {
@@ -210,14 +210,14 @@ unfolding finals_text
 final_lines_are held lines s is = ap (λ ls. lines_text 0 ls) is
 
 pub partly_finishes : (w v : Option (List ℕ)) (st : State) (held : Held) (lines : List Line) → st.pending ≡ [] → st.world ≡ Some held → length st.part ≡ 0
-    → ((s : Schedule) → StandsFor held (last_world s) → lines ≡ finals (last_world s)) → PutsPrefix w v (lines_text 0 lines) → Finishes Status.WriteFault w v st
+    → ((s : Schedule) → WorldStands held (last_world s) → lines ≡ finals (last_world s)) → PutsPrefix w v (lines_text 0 lines) → Finishes Status.WriteFault w v st
 unfolding Finishes Ran
 partly_finishes w v st held lines done world none is put = λ before after had total within ended s.
     finish_partly before after had w v st total held ended s done world none
     (λ sch stands. subst (λ ys. PutsPrefix w v ys) (final_lines_are held lines sch (is sch stands)) put)
 
 pub well_finishes : (w v : Option (List ℕ)) (st : State) (held : Held) (lines : List Line) → st.pending ≡ [] → st.world ≡ Some held → length st.part ≡ 0
-    → ((s : Schedule) → StandsFor held (last_world s) → lines ≡ finals (last_world s)) → Puts w v (lines_text 0 lines) → FinishesWell w v st
+    → ((s : Schedule) → WorldStands held (last_world s) → lines ≡ finals (last_world s)) → Puts w v (lines_text 0 lines) → FinishesWell w v st
 unfolding FinishesWell
 well_finishes w v st held lines done world none is put = λ before after had total within ended s.
     finish_well before after had w v st total held within ended s done world none

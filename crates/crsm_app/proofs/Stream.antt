@@ -8,7 +8,7 @@ use Rattle.crsm_schedule.specs.Transcript.{lines_text}
 use Rattle.crsm_io.specs.Streams.{Takes, Puts, PutsPrefix}
 use Rattle.crsm_io.proofs.Steps.{puts_after, puts_none, takes_after}
 use Rattle.crsm_world.specs.declared.World.{World as Held}
-use Rattle.crsm_world.specs.World.{StandsFor}
+use Rattle.crsm_world.specs.World.{WorldStands}
 use Rattle.crsm_world.specs.Schedule.{Schedule, no_events, with_event, line_count, ended, schedule_text, transcript, last_world}
 use Rattle.crsm_world.proofs.Schedules.{last_world-none, schedule_text-none, transcript-none, line_count-none, schedule-none, last_world-push, schedule_text-push, transcript-push, line_count-push, schedule-push}
 use Rattle.crsm_app.specs.State.{State, read_text, shown_text, IsGood, count_of, StandsAt}
@@ -25,7 +25,7 @@ use Rattle.crsm_app.specs.declared.status.Cause.TheVariants.{Unreadable}
 record OneMore (read : Option Schedule) (held : Held) (line : List ℕ) (lines : List Line) : Type 0 where
   next : Schedule
   good : IsGood read → IsGood (Some next)
-  stands : StandsFor held (last_world next)
+  stands : WorldStands held (last_world next)
   count : count_of (Some next) ≡ count_of read + 1
   text : schedule_text next ≡ read_text read ++ ended line
   shown : shown_text read ++ lines_text (count_of read + 1) lines ≡ transcript next
@@ -34,7 +34,7 @@ one_more : (read : Option Schedule) (held : Held) (line : List ℕ) (lines : Lis
 one_more None held line lines h = record {
   next = no_events h.replicas;
   good = λ g. schedule-none h.replicas h.size;
-  stands = subst (λ c. StandsFor held c) (sym (last_world-none h.replicas)) h.stands;
+  stands = subst (λ c. WorldStands held c) (sym (last_world-none h.replicas)) h.stands;
   count = line_count-none h.replicas;
   text = schedule_text-none h.replicas ∙ ap (λ ys. ended ys) (sym h.text);
   shown = ap (λ ls. lines_text 1 ls) h.lines_are ∙ sym (transcript-none h.replicas);
@@ -42,7 +42,7 @@ one_more None held line lines h = record {
 one_more (Some s) held line lines h = record {
   next = with_event s h.event;
   good = λ g. schedule-push s h.event g h.next;
-  stands = subst (λ c. StandsFor held c) (sym (last_world-push s h.event)) h.stands;
+  stands = subst (λ c. WorldStands held c) (sym (last_world-push s h.event)) h.stands;
   count = line_count-push s h.event;
   text = schedule_text-push s h.event ∙ ap (λ ys. schedule_text s ++ ended ys) (sym h.text);
   shown = ap (λ ls. transcript s ++ lines_text (line_count s + 1) ls) h.lines_are ∙ sym (transcript-push (line_count s + 1) s h.event refl);

@@ -7,7 +7,7 @@ use Rattle.crsm_spec.specs.World.{World, begin, first_lines}
 use Rattle.crsm_spec.specs.Moments.{act}
 use Rattle.crsm_world.specs.declared.World.{World as Held}
 use Rattle.crsm_world.specs.Doing.{act_of}
-use Rattle.crsm_world.specs.World.{StandsFor}
+use Rattle.crsm_world.specs.World.{WorldStands}
 use Rattle.crsm_world.specs.Schedule.{Schedule, IsNext, last_world}
 use Rattle.crsm_app.specs.Refused.{RefusedFirst, RefusedNext, Refused}
 use Rattle.crsm_app.specs.State.{State, StandsAt}
@@ -18,7 +18,7 @@ pub record FirstLine (line : List ℕ) (held : Held) (lines : List Line) : Type 
   pub replicas : ℕ
   pub size : IsSize replicas
   pub text : line ≡ first_text replicas
-  pub stands : StandsFor held (begin replicas)
+  pub stands : WorldStands held (begin replicas)
   pub lines_are : lines ≡ first_lines replicas
 
 -- a later line is an event
@@ -26,7 +26,7 @@ pub record NextLine (w : World) (line : List ℕ) (held : Held) (lines : List Li
   pub event : Event
   pub next : IsNext w event
   pub text : line ≡ event_text event
-  pub stands : StandsFor held (act w (act_of event)).after
+  pub stands : WorldStands held (act w (act_of event)).after
   pub lines_are : lines ≡ (act w (act_of event)).lines
 
 -- the same two, shut: a proof opens them where it needs what is in them

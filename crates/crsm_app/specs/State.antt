@@ -1,7 +1,7 @@
 -- A replay in mid-stream, and what has been read by then: nothing whole, or a schedule.
 use Rattle.std.specs.Prelude.{ℕ, List, [], ◌++◌, Option, Some, None}
 use Rattle.crsm_world.specs.declared.World.{World}
-use Rattle.crsm_world.specs.World.{StandsFor}
+use Rattle.crsm_world.specs.World.{WorldStands}
 use Rattle.crsm_world.specs.Schedule.{Schedule, IsSchedule, schedule_text, transcript, finals_text, last_world, line_count}
 
 -- the world once the first line has come, how many lines have come, what has come of the next, and the text that is
@@ -42,6 +42,6 @@ count_of (Some s) = line_count s
 -- the world in memory is the one that it leads to
 abbrev pub StandsAt : Option World → Option Schedule → Type 0
 StandsAt None None = Unit {0}
-StandsAt (Some world) (Some s) = StandsFor world (last_world s)
+StandsAt (Some world) (Some s) = WorldStands world (last_world s)
 StandsAt None (Some s) = ⊥
 StandsAt (Some world) None = ⊥

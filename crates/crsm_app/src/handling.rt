@@ -6,7 +6,7 @@ ghost use Rattle.crsm_schedule.specs.Grammar.{FitsEvent, event_text};
 ghost use Rattle.crsm_schedule.specs.Transcript.{lines_text};
 ghost use Rattle.crsm_spec.specs.World as on_paper;
 ghost use Rattle.crsm_world.specs.Doing.{bad_of};
-ghost use Rattle.crsm_world.specs.World.{StandsFor};
+ghost use Rattle.crsm_world.specs.World.{WorldStands};
 ghost use Rattle.crsm_app.specs.Causes.{cause_of};
 ghost use Rattle.crsm_app.specs.Handled.{BeginsWorld, DoesEvent, Advances, StopsFirst, StopsNext, StopsAt};
 
@@ -79,8 +79,8 @@ fn event_of(alloc: Global, line: &[u8]) -> Result<Event, Stop>
 
 /// Does the event that a line spells, and gives its lines.
 fn do_line(alloc: Global, world: &mut World, line: &[u8]) -> Result<Lines, Stop>
-    ensures ok { (w : on_paper.World) → StandsFor world.old w → IfOk result (λ lines. DoesEvent w line.now world.new lines) }
-    ensures err { (w : on_paper.World) → StandsFor world.old w → IfErr result (λ stop. StopsNext stop w line.now) }
+    ensures ok { (w : on_paper.World) → WorldStands world.old w → IfOk result (λ lines. DoesEvent w line.now world.new lines) }
+    ensures err { (w : on_paper.World) → WorldStands world.old w → IfErr result (λ stop. StopsNext stop w line.now) }
 {
     let event = match event_of(alloc, line) {
         Ok(event) => event,

@@ -6,7 +6,7 @@ use Rattle.crsm_base.specs.declared.Entry.{Entry}
 use Rattle.crsm_base.specs.Order.{stamp_eq}
 use Rattle.crsm_spec.specs.Lists.{first_of}
 use Rattle.crsm_spec.specs.Ready.{is_next}
-use Rattle.crsm_commit.specs.Pending.{StandsFor, may_commit, first_ready}
+use Rattle.crsm_commit.specs.Pending.{PendingStands, may_commit, first_ready}
 use Rattle.crsm_commit.specs.declared.pending.Pending.{Pending}
 use Rattle.crsm_commit.proofs.Bits.{same_stamp, vote_other}
 use Rattle.crsm_commit.proofs.Filed.{bool_cases}
@@ -49,7 +49,7 @@ exactly spec members received votes (e ∷ es) s = (forth, back)
         ap (λ b. if b then Some e.stamp else None) passes ∙ ap (λ r. Some r) (sym same)
 
 pub not_counted : (pending : Pending) (tracked : Stamp → Bool) (waiting : List Entry) (votes : List (Stamp × ℕ)) (stamp : Stamp) (k : ℕ) →
-    tracked stamp ≡ false → StandsFor pending tracked waiting votes → StandsFor pending tracked waiting ((stamp, k) ∷ votes)
+    tracked stamp ≡ false → PendingStands pending tracked waiting votes → PendingStands pending tracked waiting ((stamp, k) ∷ votes)
 not_counted pending tracked waiting votes stamp k off stands = record {
   count = stands.count;
   ascending = stands.ascending;
@@ -62,7 +62,7 @@ not_counted pending tracked waiting votes stamp k off stands = record {
 }
 
 pub narrowed : (pending : Pending) (wide narrow : Stamp → Bool) (waiting : List Entry) (votes : List (Stamp × ℕ)) →
-    ((s : Stamp) → narrow s ≡ true → wide s ≡ true) → StandsFor pending wide waiting votes → StandsFor pending narrow waiting votes
+    ((s : Stamp) → narrow s ≡ true → wide s ≡ true) → PendingStands pending wide waiting votes → PendingStands pending narrow waiting votes
 narrowed pending wide narrow waiting votes fewer stands = record {
   count = stands.count;
   ascending = stands.ascending;

@@ -3,7 +3,7 @@ use Rattle.std.specs.Prelude.{◌≡◌, ℕ, ◌↔◌, ◌∷◌, ◌&&◌, Bo
 use Rattle.crsm_base.specs.declared.Stamp.{Stamp}
 use Rattle.crsm_base.specs.declared.Entry.{Entry}
 use Rattle.crsm_spec.specs.Ready.{is_next}
-use Rattle.crsm_commit.specs.Pending.{StandsFor, first_ready, may_commit}
+use Rattle.crsm_commit.specs.Pending.{PendingStands, first_ready, may_commit}
 use Rattle.crsm_commit.specs.declared.pending.Pending.{Pending}
 
 -- a stamp is ready exactly where it may be committed and no entry that waits is below it
@@ -17,10 +17,10 @@ ReadyIsExact =
 abbrev pub UntrackedDoNotCount : Type 0
 UntrackedDoNotCount =
     (pending : Pending) (tracked : Stamp → Bool) (waiting : List Entry) (votes : List (Stamp × ℕ)) (stamp : Stamp) (k : ℕ) →
-    tracked stamp ≡ false → StandsFor pending tracked waiting votes → StandsFor pending tracked waiting ((stamp, k) ∷ votes)
+    tracked stamp ≡ false → PendingStands pending tracked waiting votes → PendingStands pending tracked waiting ((stamp, k) ∷ votes)
 
 -- what stands where some stamps are tracked stands where fewer are
 abbrev pub FewerMayBeTracked : Type 0
 FewerMayBeTracked =
     (pending : Pending) (wide narrow : Stamp → Bool) (waiting : List Entry) (votes : List (Stamp × ℕ)) →
-    ((s : Stamp) → narrow s ≡ true → wide s ≡ true) → StandsFor pending wide waiting votes → StandsFor pending narrow waiting votes
+    ((s : Stamp) → narrow s ≡ true → wide s ≡ true) → PendingStands pending wide waiting votes → PendingStands pending narrow waiting votes

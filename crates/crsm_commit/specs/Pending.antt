@@ -10,12 +10,12 @@ use Rattle.crsm_commit.specs.Masks.{mask_at, mask_of}
 use Rattle.crsm_commit.specs.Waiting.{stamp_of, is_in}
 use Rattle.crsm_commit.specs.declared.pending.Pending.{Pending}
 use Rattle.std.specs.List.{AllByRecursion}
-use Rattle.crsm_commit.specs.Received.{HasReceived}
+use Rattle.crsm_commit.specs.Received.{LatestStands}
 use Rattle.crsm_commit.specs.declared.latest.Latest.{Latest}
 
 -- The value stands for the entries that were added and not taken, by ascending stamp, and for all votes, as far as
 -- they are for a stamp that is tracked.
-pub record StandsFor (pending : Pending) (tracked : Stamp → Bool) (waiting : List Entry) (votes : List (Stamp × ℕ)) : Type 0 where
+pub record PendingStands (pending : Pending) (tracked : Stamp → Bool) (waiting : List Entry) (votes : List (Stamp × ℕ)) : Type 0 where
   pub count : length pending.queues ≡ 16
   pub ascending : IsAscending (map stamp_of waiting)
   pub queues : (i : ℕ) → i < 16 → slice_index_or pending.queues i [] ≡ map stamp_of (filter (is_in i) waiting)
@@ -35,10 +35,10 @@ first_ready spec members received votes (e ∷ es) = if may_commit spec members 
 abbrev pub WhereStands : Pending → ((Stamp → Bool) → List Entry → List (Stamp × ℕ) → Type 0) → Type 0
 WhereStands pending P =
     (tracked : Stamp → Bool) (waiting : List Entry) (votes : List (Stamp × ℕ)) →
-    StandsFor pending tracked waiting votes → P tracked waiting votes
+    PendingStands pending tracked waiting votes → P tracked waiting votes
 
 -- the same where these times were received, of which each is 1 or more
 abbrev pub WhereHeard : Pending → Latest → ((Stamp → Bool) → List Entry → List (Stamp × ℕ) → List (ℕ × ℕ) → Type 0) → Type 0
 WhereHeard pending latest P =
     (tracked : Stamp → Bool) (waiting : List Entry) (votes : List (Stamp × ℕ)) (received : List (ℕ × ℕ)) →
-    StandsFor pending tracked waiting votes → HasReceived latest received → AllByRecursion (λ h. 1 ≤ h.1) received → P tracked waiting votes received
+    PendingStands pending tracked waiting votes → LatestStands latest received → AllByRecursion (λ h. 1 ≤ h.1) received → P tracked waiting votes received

@@ -4,5 +4,5 @@ use Rattle.crsm_spec.specs.Replica.{latest_from}
 use Rattle.crsm_commit.specs.declared.latest.Latest.{Latest}
 
 -- These are all times that were received, each behind its sender.
-abbrev pub HasReceived : Latest → List (ℕ × ℕ) → Type 0
-HasReceived latest received = (k : ℕ) → k < 15 → slice_index latest.times k ≡ latest_from received k
+abbrev pub LatestStands : Latest → List (ℕ × ℕ) → Type 0
+LatestStands latest received = (k : ℕ) → k < 15 → slice_index latest.times k ≡ latest_from received k

@@ -15,11 +15,11 @@ pub struct Latest {
 }
 
 impl Latest {
-    ghost use Rattle.crsm_commit.specs.Received.{HasReceived};
+    ghost use Rattle.crsm_commit.specs.Received.{LatestStands};
 
     /// Nothing was received.
     pub fn new() -> Latest
-        ensures { HasReceived result [] }
+        ensures { LatestStands result [] }
     {
         Latest { times: [0; 15] }
     }
@@ -27,7 +27,7 @@ impl Latest {
     /// A time of k was received. An older one changes nothing.
     pub fn receive(&mut self, k: u32, time: u64)
         requires { k < 15 }
-        ensures { (received : List (ℕ × ℕ)) → HasReceived self.old received → HasReceived self.new ((k, time) ∷ received) }
+        ensures { (received : List (ℕ × ℕ)) → LatestStands self.old received → LatestStands self.new ((k, time) ∷ received) }
     {
         let k = k as usize;
         if time > self.times[k] {
@@ -38,14 +38,14 @@ impl Latest {
     /// The latest time of k, 0 where none was received.
     pub fn of(&self, k: u32) -> u64
         requires { k < 15 }
-        ensures { (received : List (ℕ × ℕ)) → HasReceived self.now received → result ≡ latest_from received k }
+        ensures { (received : List (ℕ × ℕ)) → LatestStands self.now received → result ≡ latest_from received k }
     {
         self.times[k as usize]
     }
 
     /// The least of the latest times of the members: each of them has reached it, and nothing above it.
     pub fn least(&self, members: &Members) -> u64
-        ensures { (received : List (ℕ × ℕ)) (time : ℕ) → HasReceived self.now received → 1 ≤ time → time < 2 ^ 64 →
+        ensures { (received : List (ℕ × ℕ)) (time : ℕ) → LatestStands self.now received → 1 ≤ time → time < 2 ^ 64 →
             nat_le time result ≡ list_all (reached received time) members.now }
     {
         let mut least = u64::MAX;

@@ -33,11 +33,11 @@ pub struct Pending {
 }
 
 impl Pending {
-    ghost use Rattle.crsm_commit.specs.Pending.{StandsFor, WhereHeard, WhereStands, first_ready};
+    ghost use Rattle.crsm_commit.specs.Pending.{PendingStands, WhereHeard, WhereStands, first_ready};
 
     /// Nothing is pending.
     pub fn new(alloc: Global) -> Pending
-        ensures { (tracked : Stamp → Bool) → StandsFor result tracked [] [] }
+        ensures { (tracked : Stamp → Bool) → PendingStands result tracked [] [] }
     {
         Pending {
             queues: [
@@ -65,8 +65,8 @@ impl Pending {
 
     /// Adds an entry that was logged. An `Err` changes nothing.
     pub fn add(&mut self, entry: &Entry) -> Result<(), NoMemory>
-        ensures ok { OnOk result (WhereStands self.old (λ tracked waiting votes. StandsFor self.new tracked (with_entry entry.now waiting) votes)) }
-        ensures err { OnErr result ((tracked : Stamp → Bool) (waiting : List Entry) (votes : List (Stamp × ℕ)) → StandsFor self.old tracked waiting votes → StandsFor self.new tracked waiting votes) }
+        ensures ok { OnOk result (WhereStands self.old (λ tracked waiting votes. PendingStands self.new tracked (with_entry entry.now waiting) votes)) }
+        ensures err { OnErr result ((tracked : Stamp → Bool) (waiting : List Entry) (votes : List (Stamp × ℕ)) → PendingStands self.old tracked waiting votes → PendingStands self.new tracked waiting votes) }
     {
         let place = queue_of(entry.stamp.origin);
         self.queues[place].add(entry.stamp)?;
@@ -77,8 +77,8 @@ impl Pending {
     /// Replica k has logged the stamp, whether its entry was added or not. An `Err` changes nothing.
     pub fn voted(&mut self, stamp: Stamp, k: u32) -> Result<(), NoMemory>
         requires { k < 15 }
-        ensures ok { OnOk result (WhereStands self.old (λ tracked waiting votes. StandsFor self.new tracked waiting ((stamp, k) ∷ votes))) }
-        ensures err { OnErr result ((tracked : Stamp → Bool) (waiting : List Entry) (votes : List (Stamp × ℕ)) → StandsFor self.old tracked waiting votes → StandsFor self.new tracked waiting votes) }
+        ensures ok { OnOk result (WhereStands self.old (λ tracked waiting votes. PendingStands self.new tracked waiting ((stamp, k) ∷ votes))) }
+        ensures err { OnErr result ((tracked : Stamp → Bool) (waiting : List Entry) (votes : List (Stamp × ℕ)) → PendingStands self.old tracked waiting votes → PendingStands self.new tracked waiting votes) }
     {
         let mask = with_vote(self.votes.of(stamp), k);
         self.votes.set(stamp, mask)?;
@@ -106,7 +106,7 @@ impl Pending {
     /// Takes the entry of this stamp, which is tracked no more from then on, and answers whether one was pending.
     pub fn take(&mut self, stamp: Stamp) -> bool
         ensures entry { WhereStands self.old (λ tracked waiting votes. result ≡ is_some (find (is_at stamp) waiting)) }
-        ensures rest { WhereStands self.old (λ tracked waiting votes. StandsFor self.new (λ s. tracked s && not (stamp_eq stamp s)) (without_entry stamp waiting) votes) }
+        ensures rest { WhereStands self.old (λ tracked waiting votes. PendingStands self.new (λ s. tracked s && not (stamp_eq stamp s)) (without_entry stamp waiting) votes) }
     {
         let place = queue_of(stamp.origin);
         let taken = self.queues[place].remove(stamp).is_some();

@@ -17,7 +17,7 @@ use Rattle.std.specs.Option.{option_map_or}
 use Rattle.crsm_spec.specs.Replica.{LogPage, Coordinator as CoordinatorOnPaper}
 use Rattle.crsm_spec.specs.Log.{Log, decision, start, known as known_of}
 use Rattle.crsm_suspend.specs.declared.collect.Collect.{Collect}
-use Rattle.crsm_suspend.specs.Collecting.{IsCollecting}
+use Rattle.crsm_suspend.specs.Collecting.{CollectStands}
 use Rattle.crsm_suspend.proofs.CollectLemmas.{same_collecting}
 use Rattle.crsm_coordinator.specs.declared.coordinator.Coordinator.{Coordinator}
 use Rattle.crsm_coordinator.specs.declared.coordinator.Stage.{Stage}
@@ -31,7 +31,7 @@ none_has k = refl
 
 -- a collection goes on with each log that knows the same decision
 pub gathers : (me n : ℕ) (log : Log) (ms : List ℕ) (pages : List LogPage) (c : Collect) → has (spec_decided n (decision log)) me ≡ true →
-    IsCollecting log (spec_decided n (decision log)) (named_in n (decision log) ms) ms pages c → IsGathering c me n (decision log) ms pages
+    CollectStands log (spec_decided n (decision log)) (named_in n (decision log) ms) ms pages c → IsGathering c me n (decision log) ms pages
 unfolding known_of start
 gathers me n log ms pages c h s = record {
   counted = h;

@@ -13,7 +13,7 @@ use Rattle.crsm_spec.specs.Quorum.{spec_decided, has_majority}
 use Rattle.crsm_spec.specs.Replica.{LogPage, Coordinator as CoordinatorOnPaper}
 use Rattle.crsm_spec.specs.Log.{Log, decision}
 use Rattle.crsm_suspend.specs.declared.collect.Collect.{Collect}
-use Rattle.crsm_suspend.specs.Collecting.{IsCollecting}
+use Rattle.crsm_suspend.specs.Collecting.{CollectStands}
 use Rattle.crsm_spec.specs.Choice.{when◌then◌otherwise◌}
 use Rattle.crsm_coordinator.specs.declared.coordinator.Coordinator.{Coordinator}
 use Rattle.crsm_coordinator.specs.declared.coordinator.Stage.{Stage}
@@ -55,7 +55,7 @@ named_in n known ms = if bytes_eq (next_in n known ms) (spec_decided n None) the
 -- The collection has these pages, whatever log the replica has that knows this decision.
 pub record IsGathering (c : Collect) (me n : ℕ) (known : Option Decision) (ms : List ℕ) (pages : List LogPage) : Type 0 where
   pub counted : has (spec_decided n known) me ≡ true
-  pub collects : (log : Log) → decision log ≡ known → IsCollecting log (spec_decided n known) (named_in n known ms) ms pages c
+  pub collects : (log : Log) → decision log ≡ known → CollectStands log (spec_decided n known) (named_in n known ms) ms pages c
 
 -- ---- a proposal in memory
 

@@ -9,7 +9,7 @@ use Rattle.crsm_spec.specs.Paxos.{Answer, Held}
 use Rattle.crsm_spec.specs.Quorum.{spec_decided}
 use Rattle.crsm_spec.specs.Replica.{LogPage, Coordinator as CoordinatorOnPaper}
 use Rattle.crsm_suspend.specs.declared.collect.Collect.{Collect}
-use Rattle.crsm_suspend.specs.Collecting.{IsCollecting}
+use Rattle.crsm_suspend.specs.Collecting.{CollectStands}
 use Rattle.crsm_coordinator.specs.Coordinator.{CoordinatorStands, IsOwn, answered, named_in}
 use Rattle.crsm_coordinator.specs.declared.coordinator.Coordinator.{Coordinator}
 
@@ -17,7 +17,7 @@ use Rattle.crsm_coordinator.specs.declared.coordinator.Coordinator.{Coordinator}
 
 -- the collection is of this log, for these members
 abbrev pub Collects : Collect → ℕ → Log → List ℕ → List LogPage → Type 0
-Collects c n log ms pages = IsCollecting log (spec_decided n (decision log)) (named_in n (decision log) ms) ms pages c
+Collects c n log ms pages = CollectStands log (spec_decided n (decision log)) (named_in n (decision log) ms) ms pages c
 
 -- the coordinator collects, where the log knows the decision
 abbrev pub CollectsOver : Coordinator → ℕ → ℕ → Log → List ℕ → List LogPage → Type 0

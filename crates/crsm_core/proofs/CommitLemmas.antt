@@ -13,7 +13,7 @@ use Rattle.crsm_spec.specs.Clients.{commit_run, commits}
 use Rattle.crsm_spec.specs.Step.{if_fitting}
 use Rattle.crsm_replica.specs.declared.state.ReplicaState.{ReplicaState}
 use Rattle.crsm_replica.specs.Sound.{IsSound}
-use Rattle.crsm_replica.specs.Replica.{StandsFor}
+use Rattle.crsm_replica.specs.Replica.{ReplicaStands}
 use Rattle.crsm_epoch_state.specs.First.{ready_of, ready_first}
 use Rattle.crsm_core.proofs.Fitting.{stands_as, if_fits}
 
@@ -75,28 +75,28 @@ run_commits x e es q = rw q refl
 -- So many are committed: the state stands for a draft from which the run goes on, and so many are unexecuted less.
 pub record Committed (count : ℕ) (state : ReplicaState) (x : Draft) : Type 0 where
   pub left : Draft
-  pub stands : StandsFor state left
+  pub stands : ReplicaStands state left
   pub runs : active left.replica.log ≡ true
   pub goes_on : commit_run (unexecuted left.replica.log) left ≡ commit_run (unexecuted x.replica.log) x
   pub fewer : length (unexecuted left.replica.log) + count ≡ length (unexecuted x.replica.log)
 
-pub begins : (state : ReplicaState) (x : Draft) → active x.replica.log ≡ true → StandsFor state x → Committed 0 state x
+pub begins : (state : ReplicaState) (x : Draft) → active x.replica.log ≡ true → ReplicaStands state x → Committed 0 state x
 begins state x a s = record { left = x; stands = s; runs = a; goes_on = refl; fewer = omega arith }
 
 abbrev GoesOn : Type 0
-GoesOn = (state : ReplicaState) (x : Draft) (e : Entry) (es : List Entry) → StandsFor state x → unexecuted x.replica.log ≡ e ∷ es →
+GoesOn = (state : ReplicaState) (x : Draft) (e : Entry) (es : List Entry) → ReplicaStands state x → unexecuted x.replica.log ≡ e ∷ es →
     unexecuted (Rec.Commit e.stamp ∷ x.replica.log) ≡ es
 
 -- one more is committed
 pub commit_one : (count : ℕ) (state kept : ReplicaState) (x : Draft) (p : Committed count state x) (s : Stamp) → GoesOn → IsSound p.left →
-    Some s ≡ ready_of p.left.replica → StandsFor kept (if_fitting p.left (keep (Rec.Commit s) p.left)) → Committed (count + 1) kept x
+    Some s ≡ ready_of p.left.replica → ReplicaStands kept (if_fitting p.left (keep (Rec.Commit s) p.left)) → Committed (count + 1) kept x
 unfolding ready_of
 commit_one count state kept x p s go_on sound ready stands =
     let y : Draft = p.left in
     let first = first_ready y.replica s (unexecuted y.replica.log) ready in
     let z : Draft = keep (Rec.Commit s) y in
     let fitting : z.fitting ≡ true = commit_fits y s sound.fitting p.runs first.ready in
-    let now : StandsFor kept z = stands_as kept (if_fitting y z) z (if_fits y z fitting) stands in
+    let now : ReplicaStands kept z = stands_as kept (if_fitting y z) z (if_fits y z fitting) stands in
     let log : z.replica.log ≡ Rec.Commit s ∷ y.replica.log = log_is (Rec.Commit s) y in
     let same : Rec.Commit first.entry.stamp ≡ Rec.Commit s = ap (λ (t : Stamp). Rec.Commit t) first.stamp in
     let rest : unexecuted z.replica.log ≡ first.rest =
@@ -111,7 +111,7 @@ commit_one count state kept x p s go_on sound ready stands =
 
 -- ---- the ends of the loop
 
-pub not_active : (state : ReplicaState) (x : Draft) → active x.replica.log ≡ false → StandsFor state x → StandsFor state (commits x)
+pub not_active : (state : ReplicaState) (x : Draft) → active x.replica.log ≡ false → ReplicaStands state x → ReplicaStands state (commits x)
 unfolding commits when◌then◌otherwise◌
 not_active state x a s = rw a s
 
@@ -120,16 +120,16 @@ unfolding commits when◌then◌otherwise◌
 run_of x a = rw a refl
 
 over : (count : ℕ) (state : ReplicaState) (x : Draft) (p : Committed count state x) → active x.replica.log ≡ true →
-    commit_run (unexecuted p.left.replica.log) p.left ≡ p.left → StandsFor state (commits x)
+    commit_run (unexecuted p.left.replica.log) p.left ≡ p.left → ReplicaStands state (commits x)
 over count state x p a e = stands_as state p.left (commits x) (sym e ∙ p.goes_on ∙ run_of x a) p.stands
 
 pub none_ready : (count : ℕ) (state : ReplicaState) (x : Draft) (p : Committed count state x) → active x.replica.log ≡ true →
-    None ≡ ready_of p.left.replica → StandsFor state (commits x)
+    None ≡ ready_of p.left.replica → ReplicaStands state (commits x)
 unfolding ready_of
 none_ready count state x p a h = over count state x p a (not_ready p.left (unexecuted p.left.replica.log) h)
 
 -- nothing is ready before the first
-pub none_at_first : (state : ReplicaState) (x : Draft) → active x.replica.log ≡ true → StandsFor state x → None ≡ ready_of x.replica → StandsFor state (commits x)
+pub none_at_first : (state : ReplicaState) (x : Draft) → active x.replica.log ≡ true → ReplicaStands state x → None ≡ ready_of x.replica → ReplicaStands state (commits x)
 none_at_first state x a s h = none_ready 0 state x (record { left = x; stands = s; runs = a; goes_on = refl; fewer = omega arith }) a h
 
 empty : (es : List Entry) → length es ≡ 0 → es ≡ []
@@ -141,6 +141,6 @@ unfolding commit_run
 run_of_none x = refl
 
 pub all_committed : (count : ℕ) (state : ReplicaState) (x : Draft) (p : Committed count state x) → active x.replica.log ≡ true →
-    length (unexecuted x.replica.log) ≤ count → StandsFor state (commits x)
+    length (unexecuted x.replica.log) ≤ count → ReplicaStands state (commits x)
 all_committed count state x p a l =
     over count state x p a (ap (λ es. commit_run es p.left) (empty (unexecuted p.left.replica.log) (omega (arith, p.fewer, l))) ∙ run_of_none p.left)

@@ -10,7 +10,7 @@ use Rattle.crsm_spec.specs.Draft.{Draft, keep, send, count_vote, send_decision, 
 use Rattle.crsm_spec.specs.Frames.{time_of, is_wrong, is_odd_frame, owe, ack, receive, take_frame, on_frame, on_ack}
 use Rattle.crsm_spec.specs.Step.{if_fitting}
 use Rattle.crsm_replica.specs.declared.state.ReplicaState.{ReplicaState}
-use Rattle.crsm_replica.specs.Replica.{StandsFor}
+use Rattle.crsm_replica.specs.Replica.{ReplicaStands}
 use Rattle.std.proofs.lemmas.Bool.{leb-false}
 use Rattle.crsm_core.proofs.Fitting.{if_not, stands_as, done, ignored, is_lt, not_lt, is_le, not_le, is_eq, not_eq}
 
@@ -169,11 +169,11 @@ unfolding keep
 received_kept rec x = refl
 
 pub is_taken : (state : ReplicaState) (k : ℕ) (e : Entry) (x : Draft) → (keep (Rec.Prepare e) x).fitting ≡ true →
-    StandsFor state (prepare_taken k e x) → StandsFor state (if_fitting x (take_frame k (InEpoch.Prepare e) x))
+    ReplicaStands state (prepare_taken k e x) → ReplicaStands state (if_fitting x (take_frame k (InEpoch.Prepare e) x))
 is_taken state k e x f s = done state x (take_frame k (InEpoch.Prepare e) x) (prepare_taken k e x) (taken_is k e x) (fits_as k e x ∙ f) s
 
 pub is_not_taken : (state : ReplicaState) (k : ℕ) (e : Entry) (x : Draft) → (keep (Rec.Prepare e) x).fitting ≡ false →
-    StandsFor state (if_fitting x (keep (Rec.Prepare e) x)) → StandsFor state (if_fitting x (take_frame k (InEpoch.Prepare e) x))
+    ReplicaStands state (if_fitting x (keep (Rec.Prepare e) x)) → ReplicaStands state (if_fitting x (take_frame k (InEpoch.Prepare e) x))
 is_not_taken state k e x f s =
     ignored state x (take_frame k (InEpoch.Prepare e) x) (ap (λ (d : Draft). d.fitting) (sym (taken_is k e x)) ∙ fits_as k e x ∙ f)
     (stands_as state (if_fitting x (keep (Rec.Prepare e) x)) x (if_not x (keep (Rec.Prepare e) x) f) s)

@@ -12,7 +12,7 @@ use Rattle.crsm_spec.specs.Replica.{members_of, other_members, last_issued, fram
 use Rattle.crsm_spec.specs.Draft.{Draft, would, issued_at, push_to, push_to_members, next_frame}
 use Rattle.crsm_spec.specs.Frames.{pay, owing, pay_run, owed_oks}
 use Rattle.crsm_replica.specs.declared.state.ReplicaState.{ReplicaState}
-use Rattle.crsm_replica.specs.Replica.{StandsFor}
+use Rattle.crsm_replica.specs.Replica.{ReplicaStands}
 use Rattle.crsm_core.proofs.Fitting.{stands_as, is_lt, not_lt}
 
 -- ---- the run does not look at what is owed
@@ -73,11 +73,11 @@ has_first s (r ∷ ss) h = (ss, cc)
 -- So many are paid: the state stands for a draft from which the run goes on, and so many are owed less.
 pub record Paid (reading count : ℕ) (state : ReplicaState) (x : Draft) : Type 0 where
   pub left : Draft
-  pub stands : StandsFor state left
+  pub stands : ReplicaStands state left
   pub goes_on : pay_run reading left.replica.owed left ≡ pay_run reading x.replica.owed x
   pub fewer : length left.replica.owed + count ≡ length x.replica.owed
 
-pub begins : (reading : ℕ) (state : ReplicaState) (x : Draft) → StandsFor state x → Paid reading 0 state x
+pub begins : (reading : ℕ) (state : ReplicaState) (x : Draft) → ReplicaStands state x → Paid reading 0 state x
 begins reading state x s = record { left = x; stands = s; goes_on = refl; fewer = omega arith }
 
 owed_kept : (s : Stamp) (t : ℕ) (x : Draft) → (pay s t x).replica.owed ≡ x.replica.owed
@@ -91,8 +91,8 @@ owed_is ss x = refl
 -- one more is paid
 pub pays : (reading count : ℕ) (state pushed paid : ReplicaState) (x : Draft) (p : Paid reading count state x) (s : Stamp) (t : ℕ) →
     Some s ≡ first_of p.left.replica.owed → Some t ≡ would p.left reading → s.time < t →
-    StandsFor pushed (push_to_members (InEpoch.PrepareOk s t) (issued_at t p.left)) →
-    ((y : Draft) (first : Stamp) (rest : List Stamp) → StandsFor pushed y → y.replica.owed ≡ first ∷ rest → StandsFor paid (owing rest y)) →
+    ReplicaStands pushed (push_to_members (InEpoch.PrepareOk s t) (issued_at t p.left)) →
+    ((y : Draft) (first : Stamp) (rest : List Stamp) → ReplicaStands pushed y → y.replica.owed ≡ first ∷ rest → ReplicaStands paid (owing rest y)) →
     Paid reading (count + 1) paid x
 unfolding pay
 pays reading count state pushed paid x p s t f w l stands pay_one =
@@ -100,7 +100,7 @@ pays reading count state pushed paid x p s t f w l stands pay_one =
     let rest : List Stamp = first.0 in
     let is : p.left.replica.owed ≡ s ∷ rest = first.1 in
     let y : Draft = pay s t p.left in
-    let now : StandsFor paid (owing rest y) = pay_one y s rest stands (owed_kept s t p.left ∙ is) in
+    let now : ReplicaStands paid (owing rest y) = pay_one y s rest stands (owed_kept s t p.left ∙ is) in
     let run : pay_run reading (owing rest y).replica.owed (owing rest y) ≡ pay_run reading p.left.replica.owed p.left =
     ap (λ ss. pay_run reading ss (owing rest y)) (owed_is rest y) ∙ run_owing reading rest rest y
     ∙ sym (run_pays reading t s rest p.left (sym w) l) ∙ ap (λ ss. pay_run reading ss p.left) (sym is) in
@@ -110,7 +110,7 @@ pays reading count state pushed paid x p s t f w l stands pay_one =
 
 -- ---- the ends of the loop
 
-pub not_active : (reading : ℕ) (state : ReplicaState) (x : Draft) → active x.replica.log ≡ false → StandsFor state x → StandsFor state (owed_oks reading x)
+pub not_active : (reading : ℕ) (state : ReplicaState) (x : Draft) → active x.replica.log ≡ false → ReplicaStands state x → ReplicaStands state (owed_oks reading x)
 unfolding owed_oks when◌then◌otherwise◌
 not_active reading state x a s = rw a s
 
@@ -120,20 +120,20 @@ run_of reading x a = rw a refl
 
 -- nothing more is paid
 over : (reading count : ℕ) (state : ReplicaState) (x : Draft) (p : Paid reading count state x) → active x.replica.log ≡ true →
-    pay_run reading p.left.replica.owed p.left ≡ p.left → StandsFor state (owed_oks reading x)
+    pay_run reading p.left.replica.owed p.left ≡ p.left → ReplicaStands state (owed_oks reading x)
 over reading count state x p a e = stands_as state p.left (owed_oks reading x) (sym e ∙ p.goes_on ∙ run_of reading x a) p.stands
 
 pub none_owed : (reading count : ℕ) (state : ReplicaState) (x : Draft) (p : Paid reading count state x) → active x.replica.log ≡ true →
-    None ≡ first_of p.left.replica.owed → StandsFor state (owed_oks reading x)
+    None ≡ first_of p.left.replica.owed → ReplicaStands state (owed_oks reading x)
 none_owed reading count state x p a h = over reading count state x p a (ends reading p.left (no_first p.left.replica.owed h))
 
 pub no_time : (reading count : ℕ) (state : ReplicaState) (x : Draft) (p : Paid reading count state x) → active x.replica.log ≡ true →
-    None ≡ would p.left reading → StandsFor state (owed_oks reading x)
+    None ≡ would p.left reading → ReplicaStands state (owed_oks reading x)
 no_time reading count state x p a w =
     over reading count state x p a (timeless reading p.left.replica.owed p.left (sym w) ∙ owing_same p.left)
 
 pub not_due : (reading count t : ℕ) (state : ReplicaState) (x : Draft) (p : Paid reading count state x) (s : Stamp) → active x.replica.log ≡ true →
-    Some s ≡ first_of p.left.replica.owed → Some t ≡ would p.left reading → t ≤ s.time → StandsFor state (owed_oks reading x)
+    Some s ≡ first_of p.left.replica.owed → Some t ≡ would p.left reading → t ≤ s.time → ReplicaStands state (owed_oks reading x)
 not_due reading count t state x p s a f w l =
     let first = has_first s p.left.replica.owed f in
     let rest : List Stamp = first.0 in
@@ -146,7 +146,7 @@ empty [] h = refl
 empty (s ∷ ss) h = absurd (omega arith)
 
 pub all_paid : (reading count : ℕ) (state : ReplicaState) (x : Draft) (p : Paid reading count state x) → active x.replica.log ≡ true →
-    length x.replica.owed ≤ count → StandsFor state (owed_oks reading x)
+    length x.replica.owed ≤ count → ReplicaStands state (owed_oks reading x)
 all_paid reading count state x p a l =
     over reading count state x p a (ends reading p.left (empty p.left.replica.owed (omega (arith, p.fewer, l))))
 

@@ -12,7 +12,7 @@ use Rattle.crsm_spec.specs.Draft.{Draft, keep, count_vote, would, issued_at, pus
 use Rattle.crsm_spec.specs.Clients.{own_unexecuted, refusal, refuse, await, submit, submit_at, take_or_refuse, on_request}
 use Rattle.crsm_spec.specs.Step.{if_fitting}
 use Rattle.crsm_replica.specs.declared.state.ReplicaState.{ReplicaState}
-use Rattle.crsm_replica.specs.Replica.{StandsFor}
+use Rattle.crsm_replica.specs.Replica.{ReplicaStands}
 use Rattle.crsm_core.proofs.Fitting.{if_not, stands_as, done, ignored, is_le, not_le, is_eq, not_eq}
 
 pub runs : (log : Log) → live log ≡ true → suspended log ≡ false → active log ≡ true
@@ -114,13 +114,13 @@ fits_as address s e f m t x = refl
 
 pub is_submitted : (state : ReplicaState) (address : ℕ) (c : Command) (t : ℕ) (x : Draft) (s : Stamp) (e f : Entry) (m : ℕ) →
     m ≡ x.replica.me → s ≡ stamp_for t x → e ≡ entry_for c t x → f ≡ e → (keep (Rec.Prepare e) x).fitting ≡ true →
-    StandsFor state (submitted address s e f m t x) → StandsFor state (if_fitting x (submit address c t x))
+    ReplicaStands state (submitted address s e f m t x) → ReplicaStands state (if_fitting x (submit address c t x))
 is_submitted state address c t x s e f m a b d g fit stands =
     done state x (submit address c t x) (submitted address s e f m t x) (submitted_as address c t x s e f m a b d g) (fits_as address s e f m t x ∙ fit) stands
 
 pub is_not_submitted : (state : ReplicaState) (address : ℕ) (c : Command) (t : ℕ) (x : Draft) (e : Entry) →
     e ≡ entry_for c t x → (keep (Rec.Prepare e) x).fitting ≡ false →
-    StandsFor state (if_fitting x (keep (Rec.Prepare e) x)) → StandsFor state (if_fitting x (submit address c t x))
+    ReplicaStands state (if_fitting x (keep (Rec.Prepare e) x)) → ReplicaStands state (if_fitting x (submit address c t x))
 is_not_submitted state address c t x e d fit stands =
     let m = x.replica.me in
     let s = stamp_for t x in

@@ -19,7 +19,7 @@ use Rattle.crsm_output.specs.declared.batch.Batch.{Batch}
 use Rattle.crsm_output.specs.Made.{made_of, IsBatchOf, to_replica, to_address}
 use Rattle.crsm_replica.specs.declared.state.ReplicaState.{ReplicaState}
 use Rattle.crsm_replica.specs.Sound.{IsSound, FitsSend, FitsReply}
-use Rattle.crsm_replica.specs.Replica.{StandsFor}
+use Rattle.crsm_replica.specs.Replica.{ReplicaStands}
 use Rattle.crsm_segment.specs.Taking.{piece}
 use Rattle.crsm_core.specs.declared.input.Input.{Input}
 use Rattle.crsm_core.specs.Inputs.{input_of}
@@ -142,7 +142,7 @@ unfolding idle_at input_of
 nor_then reading ms x = refl
 
 -- another draft that is equal ends in the same way
-pub fitted_as : (state : ReplicaState) (x y z : Draft) → y ≡ z → StandsFor state (if_fitting x y) → StandsFor state (if_fitting x z)
+pub fitted_as : (state : ReplicaState) (x y z : Draft) → y ≡ z → ReplicaStands state (if_fitting x y) → ReplicaStands state (if_fitting x z)
 fitted_as state x y z e s = stands_as state (if_fitting x y) (if_fitting x z) (ap (λ d. if_fitting x d) e) s
 
 pub step_is : (r : Replica) (input : InputOnPaper) (reading : ℕ) →

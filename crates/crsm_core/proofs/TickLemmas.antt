@@ -11,7 +11,7 @@ use Rattle.crsm_spec.specs.Draft.{Draft, would, issued_at, push_to_members}
 use Rattle.crsm_spec.specs.Frames.{is_idle, idle, send_time, again_to, send_again}
 use Rattle.crsm_spec.specs.Step.{on_tick, ask_all, renew}
 use Rattle.crsm_replica.specs.declared.state.ReplicaState.{ReplicaState}
-use Rattle.crsm_replica.specs.Replica.{StandsFor}
+use Rattle.crsm_replica.specs.Replica.{ReplicaStands}
 use Rattle.crsm_core.proofs.Fitting.{stands_as, is_lt, not_lt, is_le, not_le}
 
 -- ---- an idle replica
@@ -69,14 +69,14 @@ take_whole [] (suc i) l = refl
 take_whole (k ∷ ks) zero l = absurd (omega arith)
 take_whole (k ∷ ks) (suc i) l = ap (λ js. k ∷ js) (take_whole ks i (omega arith))
 
-pub again_more : (state : ReplicaState) (ks : List ℕ) (i : ℕ) (x : Draft) → i < length ks → StandsFor state (again_to (fold again_to x (take i ks)) (get_or ks i 0)) →
-    StandsFor state (fold again_to x (take (i + 1) ks))
+pub again_more : (state : ReplicaState) (ks : List ℕ) (i : ℕ) (x : Draft) → i < length ks → ReplicaStands state (again_to (fold again_to x (take i ks)) (get_or ks i 0)) →
+    ReplicaStands state (fold again_to x (take (i + 1) ks))
 again_more state ks i x l s =
     let e : suc i ≡ i + 1 = omega arith in
     stands_as state (again_to (fold again_to x (take i ks)) (get_or ks i 0)) (fold again_to x (take (i + 1) ks))
     (sym (fold_more ks i x l) ∙ ap (λ j. fold again_to x (take j ks)) e) s
 
-pub again_all : (state : ReplicaState) (ks : List ℕ) (i : ℕ) (x : Draft) → length ks ≤ i → ks ≡ other_members x.replica → StandsFor state (fold again_to x (take i ks)) →
-    StandsFor state (send_again x)
+pub again_all : (state : ReplicaState) (ks : List ℕ) (i : ℕ) (x : Draft) → length ks ≤ i → ks ≡ other_members x.replica → ReplicaStands state (fold again_to x (take i ks)) →
+    ReplicaStands state (send_again x)
 unfolding send_again
 again_all state ks i x l e s = stands_as state (fold again_to x (take i ks)) (send_again x) (ap (λ js. fold again_to x js) (take_whole ks i l ∙ e)) s

@@ -11,7 +11,7 @@ use Rattle.crsm_spec.specs.Replica.{Replica}
 use Rattle.crsm_spec.specs.Draft.{Draft, begun}
 use Rattle.crsm_output.specs.declared.batch.Batch.{Batch}
 use Rattle.crsm_output.specs.Made.{made_of, IsBatchOf}
-use Rattle.crsm_replica.specs.Replica.{StandsFor, AwaitsBoot}
+use Rattle.crsm_replica.specs.Replica.{ReplicaStands, AwaitsBoot}
 use Rattle.crsm_core.specs.declared.replica.Core.{Core}
 
 -- memory ran out, and the core says nothing any more
@@ -26,7 +26,7 @@ pub record CoreAwaits (core : Core) (me n : ℕ) (log : Log) : Type 0 where
 -- The core stands for the replica: all that it keeps is what the replica's lists say.
 pub record CoreStands (core : Core) (r : Replica) : Type 0 where
   pub unspent : core.is_spent ≡ false
-  pub stands : StandsFor core.state (begun r)
+  pub stands : ReplicaStands core.state (begun r)
 
 -- a replica to which a datagram may go
 abbrev pub FitsTo : To → Type 0

@@ -10,7 +10,7 @@ ghost use Rattle.crsm_spec.specs.Replica.{members_of, latest_from};
 ghost use Rattle.crsm_spec.specs.Draft.{Draft};
 ghost use Rattle.crsm_spec.specs.Frames as frames;
 ghost use Rattle.crsm_spec.specs.Step.{if_fitting};
-ghost use Rattle.crsm_replica.specs.Replica.{StandsFor, WhereLater};
+ghost use Rattle.crsm_replica.specs.Replica.{ReplicaStands, WhereLater};
 ghost use Rattle.crsm_reconfigure.specs.Receiving.{FollowsFrom};
 ghost use Rattle.crsm_reconfigure.specs.Rules.{Follows};
 
@@ -56,7 +56,7 @@ pub(crate) fn on_frame(
 
 /// The replica is active, and k is a member of its epoch.
 fn takes_part_with(state: &ReplicaState, k: u32) -> bool
-    ensures { (x : Draft) → StandsFor state.now x → result ≡ active x.replica.log && has (members_of x.replica) k }
+    ensures { (x : Draft) → ReplicaStands state.now x → result ≡ active x.replica.log && has (members_of x.replica) k }
 {
     if state.is_active() {
         state.is_member(k)
@@ -79,7 +79,7 @@ fn time_of(payload: &InEpoch) -> u64
 /// At the next number: its time is not above the latest of k, or it is none that k may send.
 fn is_odd(state: &ReplicaState, k: u32, payload: &InEpoch) -> bool
     requires { k < 15 }
-    ensures { (x : Draft) → StandsFor state.now x → k ≢ x.replica.me → result ≡ frames.is_odd_frame x.replica k payload.now }
+    ensures { (x : Draft) → ReplicaStands state.now x → k ≢ x.replica.me → result ≡ frames.is_odd_frame x.replica k payload.now }
 {
     if time_of(payload) <= state.latest_from(k) {
         return true;
@@ -89,7 +89,7 @@ fn is_odd(state: &ReplicaState, k: u32, payload: &InEpoch) -> bool
 
 /// A payload that k may not send.
 fn is_wrong(state: &ReplicaState, k: u32, payload: &InEpoch) -> bool
-    ensures { (x : Draft) → StandsFor state.now x → result ≡ frames.is_wrong x.replica k payload.now }
+    ensures { (x : Draft) → ReplicaStands state.now x → result ≡ frames.is_wrong x.replica k payload.now }
 {
     match payload {
         InEpoch::Prepare { entry } => {
@@ -107,7 +107,7 @@ fn is_wrong(state: &ReplicaState, k: u32, payload: &InEpoch) -> bool
 fn take_frame(state: &mut ReplicaState, k: u32, payload: &InEpoch) -> Result<(), NoMemory>
     requires from { k < 15 }
     requires spelt { FitsPayload payload.now }
-    ensures { IfOk result (λ _. WhereLater state.old k (frames.time_of payload.now) (λ x. StandsFor state.new (if_fitting x (frames.take_frame k payload.now x)))) }
+    ensures { IfOk result (λ _. WhereLater state.old k (frames.time_of payload.now) (λ x. ReplicaStands state.new (if_fitting x (frames.take_frame k payload.now x)))) }
 {
     states_are_sound();
     match payload {
@@ -133,7 +133,7 @@ fn take_frame(state: &mut ReplicaState, k: u32, payload: &InEpoch) -> Result<(),
 fn take_prepare(state: &mut ReplicaState, k: u32, entry: &Entry) -> Result<(), NoMemory>
     requires from { k < 15 }
     requires spelt { FitsEntry entry.now }
-    ensures { IfOk result (λ _. WhereLater state.old k entry.now.stamp.time (λ x. StandsFor state.new (if_fitting x (frames.take_frame k (Payload.Prepare entry.now) x)))) }
+    ensures { IfOk result (λ _. WhereLater state.old k entry.now.stamp.time (λ x. ReplicaStands state.new (if_fitting x (frames.take_frame k (Payload.Prepare entry.now) x)))) }
 {
     let me = state.me();
     if !log_entry(state, entry)? {

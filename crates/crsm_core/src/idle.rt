@@ -3,7 +3,7 @@
 ghost use Rattle.std.specs.Prelude.{◌≡◌};
 ghost use Rattle.crsm_spec.specs.Draft.{Draft};
 ghost use Rattle.crsm_spec.specs.Frames as frames;
-ghost use Rattle.crsm_replica.specs.Replica.{StandsFor, Makes};
+ghost use Rattle.crsm_replica.specs.Replica.{ReplicaStands, Makes};
 
 use crsm_base::{IDLE_UNITS, InEpoch, NoMemory};
 use crsm_replica::ReplicaState;
@@ -27,7 +27,7 @@ pub(crate) fn idle(state: &mut ReplicaState, reading: u64) -> Result<(), NoMemor
 
 /// Its reading is so far ahead of the last issued time that it sends its time.
 fn is_idle(state: &ReplicaState, reading: u64) -> bool
-    ensures { (x : Draft) → StandsFor state.now x → result ≡ frames.is_idle x.replica reading }
+    ensures { (x : Draft) → ReplicaStands state.now x → result ≡ frames.is_idle x.replica reading }
 {
     let last = state.last_issued();
     if reading < IDLE_UNITS {

@@ -3,7 +3,7 @@
 ghost use Rattle.std.specs.Prelude.{◌<◌, ◌≤◌, ℕ, IfOk, OnErr, IsErr};
 ghost use Rattle.std.specs.List.{AllByRecursion};
 ghost use Rattle.crsm_base.specs.Records.{FitsRec};
-ghost use Rattle.crsm_ledger.specs.Ledger.{StandsFor as SaysOfLog};
+ghost use Rattle.crsm_ledger.specs.Ledger.{LedgerStands};
 ghost use Rattle.crsm_epoch_state.specs.EpochState.{EachFits};
 ghost use Rattle.crsm_spec.specs.Clock.{u64_max};
 ghost use Rattle.crsm_spec.specs.Log.{Log, boots};
@@ -29,7 +29,7 @@ pub struct Core {
 impl Core {
     /// The replica of a ledger, before its boot is on record.
     pub fn new(ledger: Ledger) -> Result<Core, NoMemory>
-        ensures { IfOk result (λ core. (me n : ℕ) (log : Log) → SaysOfLog me n ledger log → EachFits me n log → AllByRecursion FitsRec log →
+        ensures { IfOk result (λ core. (me n : ℕ) (log : Log) → LedgerStands me n ledger log → EachFits me n log → AllByRecursion FitsRec log →
             me < 15 → 1 ≤ n → CoreAwaits core me n log) }
     {
         Ok(Core {
@@ -81,8 +81,8 @@ impl Core {
 
     /// What the records of its log say.
     pub fn ledger(&self) -> &Ledger
-        ensures awaiting { (me n : ℕ) (log : Log) → CoreAwaits self.now me n log → SaysOfLog me n result.now log }
-        ensures standing { (r : Replica) → CoreStands self.now r → SaysOfLog r.me r.n result.now r.log }
+        ensures awaiting { (me n : ℕ) (log : Log) → CoreAwaits self.now me n log → LedgerStands me n result.now log }
+        ensures standing { (r : Replica) → CoreStands self.now r → LedgerStands r.me r.n result.now r.log }
     {
         self.state.ledger()
     }

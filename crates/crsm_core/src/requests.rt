@@ -5,7 +5,7 @@ ghost use Rattle.crsm_base.specs.Spelling.{FitsCommand};
 ghost use Rattle.crsm_spec.specs.Clients as clients;
 ghost use Rattle.crsm_spec.specs.Draft.{Draft, would};
 ghost use Rattle.crsm_spec.specs.Step.{if_fitting};
-ghost use Rattle.crsm_replica.specs.Replica.{StandsFor};
+ghost use Rattle.crsm_replica.specs.Replica.{ReplicaStands};
 ghost use Rattle.crsm_reconfigure.specs.Rules.{Follows};
 
 use crate::records::log_entry;
@@ -36,7 +36,7 @@ pub(crate) fn on_request(
 
 /// Why a request is not taken.
 fn refusal(state: &ReplicaState) -> Option<Refusal>
-    ensures { (x : Draft) → StandsFor state.now x → result ≡ clients.refusal x.replica }
+    ensures { (x : Draft) → ReplicaStands state.now x → result ≡ clients.refusal x.replica }
 {
     if !state.is_live() {
         return Some(Refusal::NotLive);
@@ -64,8 +64,8 @@ fn submit(
     time: u64,
 ) -> Result<(), NoMemory>
     requires { FitsCommand command.now }
-    ensures { IfOk result (λ _. (x : Draft) (reading : ℕ) → StandsFor state.old x → would x reading ≡ Some time →
-        StandsFor state.new (if_fitting x (clients.submit address command.now time x))) }
+    ensures { IfOk result (λ _. (x : Draft) (reading : ℕ) → ReplicaStands state.old x → would x reading ≡ Some time →
+        ReplicaStands state.new (if_fitting x (clients.submit address command.now time x))) }
 {
     let me = state.me();
     let stamp = Stamp { time, origin: me };

@@ -6,7 +6,7 @@ ghost use Rattle.crsm_spec.specs.Draft.{Draft, begun};
 ghost use Rattle.crsm_spec.specs.Frames as frames;
 ghost use Rattle.crsm_spec.specs.Replica.{Replica};
 ghost use Rattle.crsm_spec.specs.Step as rules;
-ghost use Rattle.crsm_replica.specs.Replica.{StandsFor, Makes};
+ghost use Rattle.crsm_replica.specs.Replica.{ReplicaStands, Makes};
 ghost use Rattle.crsm_core.specs.Inputs.{input_of, FitsInput};
 ghost use Rattle.crsm_reconfigure.specs.Rules.{Follows};
 
@@ -26,7 +26,7 @@ use crsm_segment::parts_of_datagrams;
 /// One step: the rule of the input, the acknowledgements that are due, at a tick the clock's time, the commits, the replies.
 pub(crate) fn step(state: &mut ReplicaState, input: &Input, reading: u64) -> Result<(), NoMemory>
     requires { FitsInput input.now }
-    ensures { IfOk result (λ _. (r : Replica) → StandsFor state.old (begun r) → StandsFor state.new (rules.step r (input_of input.now) reading)) }
+    ensures { IfOk result (λ _. (r : Replica) → ReplicaStands state.old (begun r) → ReplicaStands state.new (rules.step r (input_of input.now) reading)) }
 {
     on_input(state, input, reading)?;
     owed_oks(state, reading)?;
@@ -73,7 +73,7 @@ fn idle_at(state: &mut ReplicaState, input: &Input, reading: u64) -> Result<(), 
 
 /// A datagram of no other replica, or for another.
 fn is_astray(state: &ReplicaState, from: u32, to: u32) -> bool
-    ensures { (x : Draft) → StandsFor state.now x → result ≡ frames.is_astray x.replica from to }
+    ensures { (x : Draft) → ReplicaStands state.now x → result ≡ frames.is_astray x.replica from to }
 {
     let me = state.me();
     if from > 14 {

@@ -7,11 +7,11 @@ use Rattle.crsm_spec.specs.Lists.{first_of}
 use Rattle.crsm_spec.specs.Log.{active, unexecuted, last_stamp, logged}
 use Rattle.crsm_spec.specs.Replica.{Replica, members_of, spec_of}
 use Rattle.crsm_spec.specs.Ready.{all_received, is_ready, is_next}
-use Rattle.crsm_commit.specs.Received.{HasReceived}
-use Rattle.crsm_commit.specs.Pending.{StandsFor, may_commit, first_ready}
+use Rattle.crsm_commit.specs.Received.{LatestStands}
+use Rattle.crsm_commit.specs.Pending.{PendingStands, may_commit, first_ready}
 use Rattle.crsm_commit.proofs.Bits.{same_stamp}
 use Rattle.crsm_epoch_state.specs.First.{ready_first, ready_of}
-use Rattle.crsm_epoch_state.specs.EpochState.{Runs, is_above}
+use Rattle.crsm_epoch_state.specs.EpochState.{EpochStands, is_above}
 use Rattle.crsm_epoch_state.specs.declared.state.EpochState.{EpochState}
 use Rattle.crsm_epoch_state.proofs.Recorded.{all_above}
 
@@ -36,10 +36,10 @@ above_is : (r : Replica) → AllByRecursion (λ e. is_above (last_stamp r.log) e
 unfolding unexecuted
 above_is r = all_above (last_stamp r.log) (logged r.log)
 
-pub first_is_ready : (running : EpochState) (r : Replica) (result : Option Stamp) (members spec : List ℕ) → Runs running r → members ≡ members_of r → spec ≡ spec_of r → active r.log ≡ true →
-    ((tracked : Stamp → Bool) (waiting : List Entry) (votes : List (Stamp × ℕ)) (received : List (ℕ × ℕ)) → StandsFor running.pending tracked waiting votes → HasReceived running.latest received →
+pub first_is_ready : (running : EpochState) (r : Replica) (result : Option Stamp) (members spec : List ℕ) → EpochStands running r → members ≡ members_of r → spec ≡ spec_of r → active r.log ≡ true →
+    ((tracked : Stamp → Bool) (waiting : List Entry) (votes : List (Stamp × ℕ)) (received : List (ℕ × ℕ)) → PendingStands running.pending tracked waiting votes → LatestStands running.latest received →
     AllByRecursion (λ h. 1 ≤ h.1) received → AllByRecursion (λ e. tracked e.stamp ≡ true) waiting → result ≡ first_ready spec members received votes waiting) → result ≡ ready_of r
-unfolding Runs ready_of
+unfolding EpochStands ready_of
 first_is_ready running r result members spec s ms sp a ready =
     ready (is_above (last_stamp r.log)) (unexecuted r.log) r.votes (all_received r) (s.waiting a) s.latest s.from_one (above_is r)
     ∙ ap (λ ks. first_ready ks members (all_received r) r.votes (unexecuted r.log)) sp ∙ ap (λ ks. first_ready (spec_of r) ks (all_received r) r.votes (unexecuted r.log)) ms

@@ -9,14 +9,14 @@ use Rattle.crsm_spec.specs.Parts.{Piece}
 use Rattle.crsm_spec.specs.Replica.{Replica, Coordinator, Waiting, members_of, other_members, last_issued, latest_from, frames_to}
 use Rattle.crsm_spec.specs.Lists.{first_of}
 use Rattle.crsm_spec.specs.Ready.{all_received}
-use Rattle.crsm_commit.specs.Received.{HasReceived}
-use Rattle.crsm_commit.specs.Pending.{StandsFor}
+use Rattle.crsm_commit.specs.Received.{LatestStands}
+use Rattle.crsm_commit.specs.Pending.{PendingStands}
 use Rattle.crsm_commit.specs.declared.latest.Latest.{Latest}
 use Rattle.crsm_commit.specs.declared.pending.Pending.{Pending}
 use Rattle.crsm_commit.proofs.Bits.{same_stamp}
 use Rattle.crsm_phase.specs.Owed.{without}
 use Rattle.crsm_epoch_state.specs.Linked.{LinksStand, others_of}
-use Rattle.crsm_epoch_state.specs.EpochState.{Runs, EachFits, is_above}
+use Rattle.crsm_epoch_state.specs.EpochState.{EpochStands, EachFits, is_above}
 use Rattle.crsm_epoch_state.specs.declared.link.Link.{Link}
 use Rattle.crsm_epoch_state.specs.declared.links.Links.{Links}
 use Rattle.crsm_epoch_state.specs.declared.state.EpochState.{EpochState}
@@ -25,9 +25,9 @@ use Rattle.crsm_epoch_state.proofs.Pushing.{with_pushed}
 use Rattle.crsm_epoch_state.proofs.Times.{received_more, from_one_more, issued_above, issued_at_it}
 
 -- what it stands for does not depend on these
-pub beside : (running : EpochState) (r : Replica) (parts : List Piece) (coordinator : Coordinator) (made : ℕ) (waiting : List Waiting) → Runs running r →
-    Runs running (record r { parts = parts; coordinator = coordinator; made = made; waiting = waiting })
-unfolding Runs last_issued all_received
+pub beside : (running : EpochState) (r : Replica) (parts : List Piece) (coordinator : Coordinator) (made : ℕ) (waiting : List Waiting) → EpochStands running r →
+    EpochStands running (record r { parts = parts; coordinator = coordinator; made = made; waiting = waiting })
+unfolding EpochStands last_issued all_received
 beside running r parts coordinator made waiting s = record {
   fitting = s.fitting;
   clock = s.clock;
@@ -39,14 +39,14 @@ beside running r parts coordinator made waiting s = record {
 }
 
 -- each record of its log fits behind those before it
-pub each_fits : (running : EpochState) (r : Replica) → Runs running r → EachFits r.me r.n r.log
-unfolding Runs
+pub each_fits : (running : EpochState) (r : Replica) → EpochStands running r → EachFits r.me r.n r.log
+unfolding EpochStands
 each_fits running r s = s.fitting
 
 -- other entries and votes
-pub with_pending : (running : EpochState) (r : Replica) (pending : Pending) (log : Log) (votes : List (Stamp × ℕ)) → Runs running r → EachFits r.me r.n log →
-    (active log ≡ true → StandsFor pending (is_above (last_stamp log)) (unexecuted log) votes) → Runs (record running { pending = pending }) (record r { log = log; votes = votes })
-unfolding Runs last_issued all_received
+pub with_pending : (running : EpochState) (r : Replica) (pending : Pending) (log : Log) (votes : List (Stamp × ℕ)) → EpochStands running r → EachFits r.me r.n log →
+    (active log ≡ true → PendingStands pending (is_above (last_stamp log)) (unexecuted log) votes) → EpochStands (record running { pending = pending }) (record r { log = log; votes = votes })
+unfolding EpochStands last_issued all_received
 with_pending running r pending log votes s fit w = record {
   fitting = fit;
   clock = s.clock;
@@ -58,8 +58,8 @@ with_pending running r pending log votes s fit w = record {
 }
 
 -- other debts
-pub with_owed : (running : EpochState) (r : Replica) (owed owed' : List Stamp) → Runs running r → owed ≡ owed' → Runs (record running { owed = owed }) (record r { owed = owed' })
-unfolding Runs last_issued all_received
+pub with_owed : (running : EpochState) (r : Replica) (owed owed' : List Stamp) → EpochStands running r → owed ≡ owed' → EpochStands (record running { owed = owed }) (record r { owed = owed' })
+unfolding EpochStands last_issued all_received
 with_owed running r owed owed' s e = record {
   fitting = s.fitting;
   clock = s.clock;
@@ -71,15 +71,15 @@ with_owed running r owed owed' s e = record {
 }
 
 -- other acknowledgements
-pub with_acks : (running : EpochState) (r : Replica) (k next : ℕ) (links : Links) → Runs running r → LinksStand links (with_acked r k next) → Runs (record running { links = links }) (with_acked r k next)
-unfolding Runs last_issued all_received
+pub with_acks : (running : EpochState) (r : Replica) (k next : ℕ) (links : Links) → EpochStands running r → LinksStand links (with_acked r k next) → EpochStands (record running { links = links }) (with_acked r k next)
+unfolding EpochStands last_issued all_received
 with_acks running r k next links s l = record { fitting = s.fitting; clock = s.clock; latest = s.latest; from_one = s.from_one; owed = s.owed; links = l; waiting = s.waiting }
 
 -- one more frame and time
-pub with_frame : (running : EpochState) (r : Replica) (k time : ℕ) (links : Links) (latest : Latest) → Runs running r → latest_from r.received k < time →
-    LinksStand links (with_taken r k time) → ((received : List (ℕ × ℕ)) → HasReceived running.latest received → HasReceived latest ((k, time) ∷ received)) →
-    Runs (record running { links = links; latest = latest }) (with_taken r k time)
-unfolding Runs last_issued
+pub with_frame : (running : EpochState) (r : Replica) (k time : ℕ) (links : Links) (latest : Latest) → EpochStands running r → latest_from r.received k < time →
+    LinksStand links (with_taken r k time) → ((received : List (ℕ × ℕ)) → LatestStands running.latest received → LatestStands latest ((k, time) ∷ received)) →
+    EpochStands (record running { links = links; latest = latest }) (with_taken r k time)
+unfolding EpochStands last_issued
 with_frame running r k time links latest s above l received = record {
   fitting = s.fitting;
   clock = s.clock;
@@ -91,10 +91,10 @@ with_frame running r k time links latest s above l received = record {
 }
 
 -- one more time issued, with what is pushed
-pub with_issued : (running : EpochState) (r : Replica) (clock time : ℕ) (payload : InEpoch) (ks : List ℕ) (links : Links) (latest : Latest) → Runs running r → last_issued r < time → clock ≡ time →
-    LinksStand links (with_pushed r time payload ks) → ((received : List (ℕ × ℕ)) → HasReceived running.latest received → HasReceived latest ((r.me, time) ∷ received)) →
-    Runs (record running { clock = clock; links = links; latest = latest }) (with_pushed r time payload ks)
-unfolding Runs last_issued all_received first_of
+pub with_issued : (running : EpochState) (r : Replica) (clock time : ℕ) (payload : InEpoch) (ks : List ℕ) (links : Links) (latest : Latest) → EpochStands running r → last_issued r < time → clock ≡ time →
+    LinksStand links (with_pushed r time payload ks) → ((received : List (ℕ × ℕ)) → LatestStands running.latest received → LatestStands latest ((r.me, time) ∷ received)) →
+    EpochStands (record running { clock = clock; links = links; latest = latest }) (with_pushed r time payload ks)
+unfolding EpochStands last_issued all_received first_of
 with_issued running r clock time payload ks links latest s above is l received = record {
   fitting = s.fitting;
   clock = is;
@@ -107,12 +107,12 @@ with_issued running r clock time payload ks links latest s above is l received =
 
 -- ---- its parts
 
-pub the_links : (running : EpochState) (r : Replica) → Runs running r → LinksStand running.links r
-unfolding Runs
+pub the_links : (running : EpochState) (r : Replica) → EpochStands running r → LinksStand running.links r
+unfolding EpochStands
 the_links running r s = s.links
 
-pub the_waiting : (running : EpochState) (r : Replica) → Runs running r → active r.log ≡ true → StandsFor running.pending (is_above (last_stamp r.log)) (unexecuted r.log) r.votes
-unfolding Runs
+pub the_waiting : (running : EpochState) (r : Replica) → EpochStands running r → active r.log ≡ true → PendingStands running.pending (is_above (last_stamp r.log)) (unexecuted r.log) r.votes
+unfolding EpochStands
 the_waiting running r s = s.waiting
 
 -- ---- results
@@ -123,8 +123,8 @@ if_ok (Err e) p more = tt
 
 -- ---- debts
 
-pub the_debts : (running : EpochState) (r : Replica) → Runs running r → running.owed ≡ r.owed
-unfolding Runs
+pub the_debts : (running : EpochState) (r : Replica) → EpochStands running r → running.owed ≡ r.owed
+unfolding EpochStands
 the_debts running r s = s.owed
 
 -- the first of some
@@ -142,19 +142,19 @@ first_paid owed first s ss e f =
 
 -- ---- a time is issued
 
-pub issued_last : (running : EpochState) (r : Replica) → Runs running r → running.clock ≡ last_issued r
-unfolding Runs
+pub issued_last : (running : EpochState) (r : Replica) → EpochStands running r → running.clock ≡ last_issued r
+unfolding EpochStands
 issued_last running r s = s.clock
 
 if_some : {X : Type 0} (P : X → Type 0) (o : Option X) (x : X) → o ≡ Some x → IfSome o P → P x
 if_some P None x e p = absurd (cc)
 if_some P (Some y) x e p = let same : y ≡ x = cc in subst P same p
 
-pub pushed_at : (running : EpochState) (r : Replica) (clock time reading me : ℕ) (payload : InEpoch) (members : List ℕ) (links : Links) (latest : Latest) (issued : Option ℕ) → Runs running r → me ≡ r.me →
+pub pushed_at : (running : EpochState) (r : Replica) (clock time reading me : ℕ) (payload : InEpoch) (members : List ℕ) (links : Links) (latest : Latest) (issued : Option ℕ) → EpochStands running r → me ≡ r.me →
     members ≡ members_of r → issue (last_issued r) reading ≡ Some time → issued ≡ issue running.clock time → IfSome issued (λ t. clock ≡ t) →
-    ((received : List (ℕ × ℕ)) → HasReceived running.latest received → HasReceived latest ((me, time) ∷ received)) →
+    ((received : List (ℕ × ℕ)) → LatestStands running.latest received → LatestStands latest ((me, time) ∷ received)) →
     ((q : Replica) → LinksStand running.links q → last_issued q < time → LinksStand links (with_pushed q time payload (others_of me members))) →
-    Runs (record running { clock = clock; links = links; latest = latest }) (with_pushed r time payload (other_members r))
+    EpochStands (record running { clock = clock; links = links; latest = latest }) (with_pushed r time payload (other_members r))
 unfolding other_members
 pushed_at running r clock time reading me payload members links latest issued s mine known would is set receives pushes =
     let above : last_issued r < time = issued_above (last_issued r) reading time would in
@@ -162,7 +162,7 @@ pushed_at running r clock time reading me payload members links latest issued s 
     with_issued running r clock time payload (others_of r.me (members_of r)) links latest s above (if_some (λ t. clock ≡ t) issued time again set)
     (subst (λ ks. LinksStand links (with_pushed r time payload (others_of r.me ks))) known
     (subst (λ m. LinksStand links (with_pushed r time payload (others_of m members))) mine (pushes r (the_links running r s) above)))
-    (subst (λ m. (received : List (ℕ × ℕ)) → HasReceived running.latest received → HasReceived latest ((m, time) ∷ received)) mine receives)
+    (subst (λ m. (received : List (ℕ × ℕ)) → LatestStands running.latest received → LatestStands latest ((m, time) ∷ received)) mine receives)
 
 -- ---- frames
 
@@ -171,6 +171,6 @@ some_link [] e = absurd (omega (arith, e))
 some_link (l ∷ links) e = l
 
 -- there are no more frames to another replica than the time says that was issued last
-pub few_sent : (running : EpochState) (r : Replica) (k : ℕ) → Runs running r → k < 15 → length (frames_to r k) ≤ last_issued r
-unfolding Runs
+pub few_sent : (running : EpochState) (r : Replica) (k : ℕ) → EpochStands running r → k < 15 → length (frames_to r k) ≤ last_issued r
+unfolding EpochStands
 few_sent running r k s within = (s.links.each k (some_link running.links.links s.links.count) within).few_sent

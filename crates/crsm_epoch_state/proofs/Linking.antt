@@ -9,7 +9,7 @@ use Rattle.crsm_spec.specs.Lists.{greatest}
 use Rattle.crsm_spec.specs.Parts.{Piece}
 use Rattle.crsm_spec.specs.Replica.{Replica, Coordinator, Waiting, last_issued, latest_from, frames_to, acked_by, next_from}
 use Rattle.crsm_commit.proofs.Filed.{bool_cases}
-use Rattle.crsm_link.specs.Sent.{StandsFor}
+use Rattle.crsm_link.specs.Sent.{OutStands}
 use Rattle.crsm_epoch_state.specs.Linked.{LinkStands, LinksStand}
 use Rattle.crsm_epoch_state.specs.declared.link.Link.{Link}
 use Rattle.crsm_epoch_state.specs.declared.links.Links.{Links}
@@ -27,7 +27,7 @@ at P (l ∷ links) (suc k) none all within = at P links k none all.1 (omega arit
 
 -- a new link
 abbrev pub IsNew : Link → Type 0
-IsNew link = StandsFor link.sender [] 0 × (link.receiver.next ≡ 0)
+IsNew link = OutStands link.sender [] 0 × (link.receiver.next ≡ 0)
 
 new_stands : (link : Link) (r : Replica) (k : ℕ) → r.pushed ≡ [] → r.acked ≡ [] → r.taken ≡ [] → IsNew link → LinkStands link r k
 unfolding frames_to acked_by next_from greatest
@@ -36,7 +36,7 @@ new_stands link r k pushed acked taken new =
     let none : acked_by r k ≡ 0 = ap (λ (xs : List (ℕ × ℕ)). greatest (map (λ a. a.1) (filter (λ a. a.0 == k) xs))) acked in
     let next : next_from r k ≡ 0 = ap (count_by (λ j. j == k)) taken in
     record {
-      sent = subst (λ a. StandsFor link.sender (frames_to r k) a) (sym none) (subst (λ fs. StandsFor link.sender fs 0) (sym frames) new.0);
+      sent = subst (λ a. OutStands link.sender (frames_to r k) a) (sym none) (subst (λ fs. OutStands link.sender fs 0) (sym frames) new.0);
       next = new.1 ∙ sym next;
       few_sent = omega (arith, ap length frames);
       few_taken = omega (arith, next);
@@ -73,7 +73,7 @@ one_changed links q k new len within here there j none below =
 moved : (link : Link) (r q : Replica) (k : ℕ) → frames_to r k ≡ frames_to q k → acked_by r k ≡ acked_by q k → next_from r k ≡ next_from q k →
     last_issued r ≤ last_issued q → latest_from r.received k ≤ latest_from q.received k → LinkStands link r k → LinkStands link q k
 moved link r q k frames acked next issued received l = record {
-  sent = subst (λ a. StandsFor link.sender (frames_to q k) a) acked (subst (λ fs. StandsFor link.sender fs (acked_by r k)) frames l.sent);
+  sent = subst (λ a. OutStands link.sender (frames_to q k) a) acked (subst (λ fs. OutStands link.sender fs (acked_by r k)) frames l.sent);
   next = l.next ∙ next;
   few_sent = omega (arith, ap length frames, l.few_sent);
   few_taken = omega (arith, next, l.few_taken);
@@ -121,8 +121,8 @@ took old new r k time above l next sender =
     let received : latest_from ((k, time) ∷ r.received) k ≡ max time (latest_from r.received k) =
     latest_more k time k r.received ∙ latest_there (k == k) time (latest_from r.received k) test in
     record {
-      sent = subst (λ a. StandsFor new.sender (frames_to (with_taken r k time) k) a) (acked_as r k k time)
-          (subst (λ fs. StandsFor new.sender fs (acked_by r k)) (frames_as r k k time) (subst (λ o. StandsFor o (frames_to r k) (acked_by r k)) (sym sender) l.sent));
+      sent = subst (λ a. OutStands new.sender (frames_to (with_taken r k time) k) a) (acked_as r k k time)
+          (subst (λ fs. OutStands new.sender fs (acked_by r k)) (frames_as r k k time) (subst (λ o. OutStands o (frames_to r k) (acked_by r k)) (sym sender) l.sent));
       next = next (omega (arith, l.next, l.few_taken)) ∙ omega (arith, more, l.next);
       few_sent = omega (arith, ap length (frames_as r k k time), issued_as r k time, l.few_sent);
       few_taken = omega (arith, more, received, l.few_taken);
@@ -158,13 +158,13 @@ unfolding acked_by
 acked_more r k next j = acked_if (k == j) k next j r.acked refl
 
 acks : (old new : Link) (r : Replica) (k next : ℕ) → next ≤ length (frames_to r k) → LinkStands old r k →
-    ((pushed : List InEpoch) (acked : ℕ) → StandsFor old.sender pushed acked → next ≤ length pushed → StandsFor new.sender pushed (max next acked)) →
+    ((pushed : List InEpoch) (acked : ℕ) → OutStands old.sender pushed acked → next ≤ length pushed → OutStands new.sender pushed (max next acked)) →
     new.receiver ≡ old.receiver → LinkStands new (with_acked r k next) k
 unfolding last_issued latest_from frames_to next_from
 acks old new r k next within l sent receiver =
     let more : acked_by (with_acked r k next) k ≡ max next (acked_by r k) = acked_more r k next k ∙ latest_there (k == k) next (acked_by r k) (eq-eqb k k refl) in
     record {
-      sent = subst (λ a. StandsFor new.sender (frames_to r k) a) (sym more) (sent (frames_to r k) (acked_by r k) l.sent within);
+      sent = subst (λ a. OutStands new.sender (frames_to r k) a) (sym more) (sent (frames_to r k) (acked_by r k) l.sent within);
       next = ap (λ i. i.next) receiver ∙ l.next;
       few_sent = l.few_sent;
       few_taken = l.few_taken;
@@ -173,14 +173,14 @@ acks old new r k next within l sent receiver =
 acks_other : (link : Link) (r : Replica) (k j next : ℕ) → (k == j) ≡ false → LinkStands link r j → LinkStands link (with_acked r k next) j
 unfolding last_issued latest_from frames_to next_from
 acks_other link r k j next test l = record {
-  sent = subst (λ a. StandsFor link.sender (frames_to r j) a) (sym (acked_more r k next j ∙ latest_elsewhere (k == j) next (acked_by r j) test)) l.sent;
+  sent = subst (λ a. OutStands link.sender (frames_to r j) a) (sym (acked_more r k next j ∙ latest_elsewhere (k == j) next (acked_by r j) test)) l.sent;
   next = l.next;
   few_sent = l.few_sent;
   few_taken = l.few_taken;
 }
 
 pub acked_stand : (links : Links) (r : Replica) (k next : ℕ) (none new : Link) → LinksStand links r → k < 15 → next ≤ length (frames_to r k) →
-    ((pushed : List InEpoch) (acked : ℕ) → StandsFor (get_or links.links k none).sender pushed acked → next ≤ length pushed → StandsFor new.sender pushed (max next acked)) →
+    ((pushed : List InEpoch) (acked : ℕ) → OutStands (get_or links.links k none).sender pushed acked → next ≤ length pushed → OutStands new.sender pushed (max next acked)) →
     new.receiver ≡ (get_or links.links k none).receiver → AllStand (set links.links k new) (with_acked r k next)
 acked_stand links r k next none new s within upto sent receiver =
     one_changed links.links (with_acked r k next) k new s.count within (acks (get_or links.links k none) new r k next upto (s.each k none within) sent receiver)

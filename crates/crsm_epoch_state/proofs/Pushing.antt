@@ -10,7 +10,7 @@ use Rattle.crsm_base.specs.Members.{IsMembers, RisesWithin}
 use Rattle.crsm_spec.specs.Types.{InEpoch}
 use Rattle.crsm_spec.specs.Lists.{first_of}
 use Rattle.crsm_spec.specs.Replica.{Replica, last_issued, latest_from, frames_to, acked_by, next_from}
-use Rattle.crsm_link.specs.Sent.{StandsFor}
+use Rattle.crsm_link.specs.Sent.{OutStands}
 use Rattle.crsm_epoch_state.specs.Linked.{LinkStands, LinksStand, others_of}
 use Rattle.crsm_epoch_state.specs.declared.link.Link.{Link}
 use Rattle.crsm_epoch_state.specs.declared.links.Links.{Links}
@@ -60,7 +60,7 @@ pushed_one r time payload ks j k b e =
 
 pushes : (old new : Link) (r : Replica) (time : ℕ) (payload : InEpoch) (ks : List ℕ) (j : ℕ) → AllByRecursion (λ i. (i == j) ≡ false) ks →
     length (frames_to r j) < time → LinkStands old (with_pushed r time payload ks) j →
-    ((pushed : List InEpoch) (acked : ℕ) → StandsFor old.sender pushed acked → length pushed < time → StandsFor new.sender (pushed ++ payload ∷ []) acked) →
+    ((pushed : List InEpoch) (acked : ℕ) → OutStands old.sender pushed acked → length pushed < time → OutStands new.sender (pushed ++ payload ∷ []) acked) →
     new.receiver ≡ old.receiver → LinkStands new (with_pushed r time payload (ks ++ j ∷ [])) j
 unfolding last_issued first_of acked_by next_from latest_from
 pushes old new r time payload ks j fresh few l sent receiver =
@@ -68,7 +68,7 @@ pushes old new r time payload ks j fresh few l sent receiver =
     pushed_one r time payload ks j j true (eq-eqb j j refl) in
     let before : length (frames_to (with_pushed r time payload ks) j) ≡ length (frames_to r j) = ap length (pushed_none r time payload ks j fresh) in
     record {
-      sent = subst (λ fs. StandsFor new.sender fs (acked_by r j)) (sym more) (sent _ (acked_by r j) l.sent (omega (arith, before)));
+      sent = subst (λ fs. OutStands new.sender fs (acked_by r j)) (sym more) (sent _ (acked_by r j) l.sent (omega (arith, before)));
       next = ap (λ i. i.next) receiver ∙ l.next;
       few_sent = omega (arith, ap length more, length-append (frames_to (with_pushed r time payload ks) j) (payload ∷ []), before);
       few_taken = l.few_taken;
@@ -81,7 +81,7 @@ pushes_other link r time payload ks j k test l =
     let same : frames_to (with_pushed r time payload (ks ++ j ∷ [])) k ≡ frames_to (with_pushed r time payload ks) k =
     pushed_one r time payload ks j k false test ∙ append-nil (frames_to (with_pushed r time payload ks) k) in
     record {
-      sent = subst (λ fs. StandsFor link.sender fs (acked_by r k)) (sym same) l.sent;
+      sent = subst (λ fs. OutStands link.sender fs (acked_by r k)) (sym same) l.sent;
       next = l.next;
       few_sent = omega (arith, ap length same, l.few_sent);
       few_taken = l.few_taken;
@@ -89,7 +89,7 @@ pushes_other link r time payload ks j k test l =
 
 pub pushed_stand : (links : Links) (r : Replica) (time : ℕ) (payload : InEpoch) (ks : List ℕ) (j : ℕ) (none new : Link) →
     LinksStand links (with_pushed r time payload ks) → j < 15 → AllByRecursion (λ i. (i == j) ≡ false) ks → length (frames_to r j) < time →
-    ((pushed : List InEpoch) (acked : ℕ) → StandsFor (get_or links.links j none).sender pushed acked → length pushed < time → StandsFor new.sender (pushed ++ payload ∷ []) acked) →
+    ((pushed : List InEpoch) (acked : ℕ) → OutStands (get_or links.links j none).sender pushed acked → length pushed < time → OutStands new.sender (pushed ++ payload ∷ []) acked) →
     new.receiver ≡ (get_or links.links j none).receiver → AllStand (set links.links j new) (with_pushed r time payload (ks ++ j ∷ []))
 pushed_stand links r time payload ks j none new s within fresh few sent receiver =
     one_changed links.links (with_pushed r time payload (ks ++ j ∷ [])) j new s.count within
@@ -104,7 +104,7 @@ before_pushing links r time payload above s = record {
   each = λ k none within.
       let l = s.each k none within in
       let same : frames_to (with_pushed r time payload []) k ≡ frames_to r k = pushed_none r time payload [] k tt in
-      record { sent = subst (λ fs. StandsFor (get_or links.links k none).sender fs (acked_by r k)) (sym same) l.sent; next = l.next; few_sent = omega (arith, ap length same, l.few_sent); few_taken = l.few_taken };
+      record { sent = subst (λ fs. OutStands (get_or links.links k none).sender fs (acked_by r k)) (sym same) l.sent; next = l.next; few_sent = omega (arith, ap length same, l.few_sent); few_taken = l.few_taken };
 }
 
 -- ---- the members in turn
@@ -162,7 +162,7 @@ any_other p me (k ∷ members) (suc i) d within other passes = any_if (not (k ==
 pub pushed_next : (before links : Links) (r : Replica) (time : ℕ) (payload copy : InEpoch) (me : ℕ) (members : List ℕ) (i d : ℕ) (none new : Link) →
     IsMembers members → i < length members → get_or members i d < 15 → (get_or members i d == me) ≡ false → copy ≡ payload → LinksStand before r → last_issued r < time →
     LinksStand links (with_pushed r time payload (others_of me (take i members))) →
-    ((pushed : List InEpoch) (acked : ℕ) → StandsFor (get_or links.links (get_or members i d) none).sender pushed acked → length pushed < time → StandsFor new.sender (pushed ++ copy ∷ []) acked) →
+    ((pushed : List InEpoch) (acked : ℕ) → OutStands (get_or links.links (get_or members i d) none).sender pushed acked → length pushed < time → OutStands new.sender (pushed ++ copy ∷ []) acked) →
     new.receiver ≡ (get_or links.links (get_or members i d) none).receiver →
     LinksStand (record links { links = set links.links (get_or members i d) new }) (with_pushed r time payload (others_of me (take (i + 1) members)))
 pushed_next before links r time payload copy me members i d none new are within below other same s above so_far sent receiver = record {
@@ -170,7 +170,7 @@ pushed_next before links r time payload copy me members i d none new are within 
   each = subst (λ ks. AllStand (set links.links (get_or members i d) new) (with_pushed r time payload ks)) (sym (others_more me members i d false within other))
       (pushed_stand links r time payload (others_of me (take i members)) (get_or members i d) none new so_far below (not_yet me members i d are within)
       (omega (arith, (s.each (get_or members i d) none below).few_sent))
-      (λ pushed acked stands few. subst (λ p. StandsFor new.sender (pushed ++ p ∷ []) acked) same (sent pushed acked stands few)) receiver);
+      (λ pushed acked stands few. subst (λ p. OutStands new.sender (pushed ++ p ∷ []) acked) same (sent pushed acked stands few)) receiver);
 }
 
 -- it is me, and is passed over

@@ -11,7 +11,7 @@ use Rattle.crsm_spec.specs.Types.{Stamp, Entry, Rec}
 use Rattle.crsm_spec.specs.Lists.{first_of, last_of}
 use Rattle.crsm_spec.specs.Log.{Log, decision, known, logged, logged_in, with_entry, live, suspended, active, executed, entry_of, above, last_stamp, unexecuted}
 use Rattle.crsm_spec.specs.Fits.{fits}
-use Rattle.crsm_commit.specs.Pending.{StandsFor}
+use Rattle.crsm_commit.specs.Pending.{PendingStands}
 use Rattle.crsm_commit.specs.Waiting.{without_entry}
 use Rattle.crsm_commit.specs.declared.pending.Pending.{Pending}
 use Rattle.crsm_commit.proofs.Bits.{same_stamp}
@@ -274,7 +274,7 @@ still_above log s t f h = still_if (last_stamp log) s t (above_before log s f) h
 
 -- what stands while a replica of this log is active
 abbrev pub Waits : Pending → List (Stamp × ℕ) → Log → Type 0
-Waits pending votes log = active log ≡ true → StandsFor pending (is_above (last_stamp log)) (unexecuted log) votes
+Waits pending votes log = active log ≡ true → PendingStands pending (is_above (last_stamp log)) (unexecuted log) votes
 
 -- a record of no entry
 abbrev pub IsPlain : Rec → Type 0
@@ -331,32 +331,32 @@ same_last log e = refl
 
 -- an entry is logged above the last executed one
 pub waits_with : (old new : Pending) (votes : List (Stamp × ℕ)) (me n : ℕ) (log : Log) (e : Entry) → fits me n log (Rec.Prepare e) ≡ true → is_above (last_stamp log) e.stamp ≡ true →
-    ((tracked : Stamp → Bool) (waiting : List Entry) (votes : List (Stamp × ℕ)) → StandsFor old tracked waiting votes → StandsFor new tracked (with_entry e waiting) votes) →
+    ((tracked : Stamp → Bool) (waiting : List Entry) (votes : List (Stamp × ℕ)) → PendingStands old tracked waiting votes → PendingStands new tracked (with_entry e waiting) votes) →
     Waits old votes log → Waits new votes (Rec.Prepare e ∷ log)
 waits_with old new votes me n log e fit above adds w a =
-    let was : StandsFor old (is_above (last_stamp log)) (unexecuted log) votes = w (prepares me n log e fit).active_is in
+    let was : PendingStands old (is_above (last_stamp log)) (unexecuted log) votes = w (prepares me n log e fit).active_is in
     let is : with_entry e (unexecuted log) ≡ unexecuted (Rec.Prepare e ∷ log) = sym (unexecuted_with me n log e fit above) in
-    subst (λ o. StandsFor new (is_above o) (unexecuted (Rec.Prepare e ∷ log)) votes) (sym (same_last log e))
-    (subst (λ es. StandsFor new (is_above (last_stamp log)) es votes) is (adds (is_above (last_stamp log)) (unexecuted log) votes was))
+    subst (λ o. PendingStands new (is_above o) (unexecuted (Rec.Prepare e ∷ log)) votes) (sym (same_last log e))
+    (subst (λ es. PendingStands new (is_above (last_stamp log)) es votes) is (adds (is_above (last_stamp log)) (unexecuted log) votes was))
 
 -- an entry is logged that is not above it
 pub waits_without : (pending : Pending) (votes : List (Stamp × ℕ)) (me n : ℕ) (log : Log) (e : Entry) → fits me n log (Rec.Prepare e) ≡ true → is_above (last_stamp log) e.stamp ≡ false →
     Waits pending votes log → Waits pending votes (Rec.Prepare e ∷ log)
 waits_without pending votes me n log e fit above w a =
-    let was : StandsFor pending (is_above (last_stamp log)) (unexecuted log) votes = w (prepares me n log e fit).active_is in
-    subst (λ o. StandsFor pending (is_above o) (unexecuted (Rec.Prepare e ∷ log)) votes) (sym (same_last log e))
-    (subst (λ es. StandsFor pending (is_above (last_stamp log)) es votes) (sym (unexecuted_without me n log e fit above)) was)
+    let was : PendingStands pending (is_above (last_stamp log)) (unexecuted log) votes = w (prepares me n log e fit).active_is in
+    subst (λ o. PendingStands pending (is_above o) (unexecuted (Rec.Prepare e ∷ log)) votes) (sym (same_last log e))
+    (subst (λ es. PendingStands pending (is_above (last_stamp log)) es votes) (sym (unexecuted_without me n log e fit above)) was)
 
 -- the first entry is executed
 pub waits_committed : (old new : Pending) (votes : List (Stamp × ℕ)) (me n : ℕ) (log : Log) (s : Stamp) → EachFits me n log → fits me n log (Rec.Commit s) ≡ true →
-    ((tracked : Stamp → Bool) (waiting : List Entry) (votes : List (Stamp × ℕ)) → StandsFor old tracked waiting votes →
-    StandsFor new (λ t. tracked t && not (stamp_eq s t)) (without_entry s waiting) votes) →
+    ((tracked : Stamp → Bool) (waiting : List Entry) (votes : List (Stamp × ℕ)) → PendingStands old tracked waiting votes →
+    PendingStands new (λ t. tracked t && not (stamp_eq s t)) (without_entry s waiting) votes) →
     Waits old votes log → Waits new votes (Rec.Commit s ∷ log)
 waits_committed old new votes me n log s fits_before fit takes w a =
     let f : IsFirst log s = commits me n log s fit in
-    let was : StandsFor old (is_above (last_stamp log)) (unexecuted log) votes = w (commits_active me n log s fit) in
-    let taken : StandsFor new (is_above (Some s)) (without_entry s (unexecuted log)) votes =
+    let was : PendingStands old (is_above (last_stamp log)) (unexecuted log) votes = w (commits_active me n log s fit) in
+    let taken : PendingStands new (is_above (Some s)) (without_entry s (unexecuted log)) votes =
     narrowed new (λ t. is_above (last_stamp log) t && not (stamp_eq s t)) (is_above (Some s)) (without_entry s (unexecuted log)) votes
     (λ t h. still_above log s t f h) (takes (is_above (last_stamp log)) (unexecuted log) votes was) in
-    subst (λ o. StandsFor new (is_above o) (unexecuted (Rec.Commit s ∷ log)) votes) (sym (last_committed log s f))
-    (subst (λ es. StandsFor new (is_above (Some s)) es votes) (sym (unexecuted_committed me n log s fits_before f)) taken)
+    subst (λ o. PendingStands new (is_above o) (unexecuted (Rec.Commit s ∷ log)) votes) (sym (last_committed log s f))
+    (subst (λ es. PendingStands new (is_above (Some s)) es votes) (sym (unexecuted_committed me n log s fits_before f)) taken)

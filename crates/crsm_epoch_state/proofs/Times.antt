@@ -7,7 +7,7 @@ use Rattle.crsm_spec.specs.Clock.{issue, u64_max}
 use Rattle.crsm_spec.specs.Lists.{greatest}
 use Rattle.crsm_spec.specs.Replica.{Replica, latest_from}
 use Rattle.crsm_spec.specs.Ready.{all_received}
-use Rattle.crsm_commit.specs.Received.{HasReceived}
+use Rattle.crsm_commit.specs.Received.{LatestStands}
 use Rattle.crsm_commit.specs.declared.latest.Latest.{Latest}
 
 -- the latest time of k, with one more received from j
@@ -54,8 +54,8 @@ unfolding all_received
 latest_of_other r k other = latest_past_own r.me k r.issued r.received other
 
 -- one more time is received
-pub received_more : (latest : Latest) (r : Replica) (k time : ℕ) (taken : List ℕ) → HasReceived latest ((k, time) ∷ all_received r) →
-    HasReceived latest (all_received (record r { taken = taken; received = (k, time) ∷ r.received }))
+pub received_more : (latest : Latest) (r : Replica) (k time : ℕ) (taken : List ℕ) → LatestStands latest ((k, time) ∷ all_received r) →
+    LatestStands latest (all_received (record r { taken = taken; received = (k, time) ∷ r.received }))
 unfolding all_received
 received_more latest r k time taken h j within = h j within ∙ sym (latest_amid (map (λ t. (r.me, t)) r.issued) r.received (k, time) j)
 

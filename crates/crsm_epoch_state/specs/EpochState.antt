@@ -7,8 +7,8 @@ use Rattle.crsm_spec.specs.Log.{Log, active, last_stamp, unexecuted}
 use Rattle.crsm_spec.specs.Fits.{fits}
 use Rattle.crsm_spec.specs.Replica.{Replica, last_issued, members_of}
 use Rattle.crsm_spec.specs.Ready.{all_received}
-use Rattle.crsm_commit.specs.Received.{HasReceived}
-use Rattle.crsm_commit.specs.Pending.{StandsFor}
+use Rattle.crsm_commit.specs.Received.{LatestStands}
+use Rattle.crsm_commit.specs.Pending.{PendingStands}
 use Rattle.crsm_epoch_state.specs.Linked.{LinksStand}
 use Rattle.crsm_epoch_state.specs.declared.state.EpochState.{EpochState}
 use Rattle.crsm_spec.specs.Clock.{issue}
@@ -32,23 +32,23 @@ abbrev pub is_above : Option Stamp → Stamp → Bool
 is_above None s = true
 is_above (Some last) s = stamp_lt last s
 
-pub record RunsInside (running : EpochState) (r : Replica) : Type 0 where
+pub record StandsInside (running : EpochState) (r : Replica) : Type 0 where
   pub fitting : EachFits r.me r.n r.log
   pub clock : running.clock ≡ last_issued r
-  pub latest : HasReceived running.latest (all_received r)
+  pub latest : LatestStands running.latest (all_received r)
   pub from_one : AllByRecursion (λ h. 1 ≤ h.1) (all_received r)
   pub owed : running.owed ≡ r.owed
   pub links : LinksStand running.links r
-  pub waiting : active r.log ≡ true → StandsFor running.pending (is_above (last_stamp r.log)) (unexecuted r.log) r.votes
+  pub waiting : active r.log ≡ true → PendingStands running.pending (is_above (last_stamp r.log)) (unexecuted r.log) r.votes
 
 -- What is kept stands for the replica: for its times, votes, debts and links, and while it is active for its
 -- unexecuted entries. Each record of its log fits.
-unfoldable pub Runs : EpochState → Replica → Type 0
-Runs running r = RunsInside running r
+unfoldable pub EpochStands : EpochState → Replica → Type 0
+EpochStands running r = StandsInside running r
 
 -- for each replica whose epoch this is the state of
-abbrev pub WhereRuns : EpochState → (Replica → Type 0) → Type 0
-WhereRuns running P = (r : Replica) → Runs running r → P r
+abbrev pub WhereStands : EpochState → (Replica → Type 0) → Type 0
+WhereStands running P = (r : Replica) → EpochStands running r → P r
 
 -- at this reading of its clock the replica issues this time
 abbrev pub IssuesAt : ℕ → ℕ → Replica → Type 0
@@ -57,4 +57,4 @@ IssuesAt reading time r = issue (last_issued r) reading ≡ Some time
 -- for each replica whose epoch this is the state of, with these members, at a reading at which it issues this time
 abbrev pub WhereIssuing : EpochState → (time me : ℕ) → List ℕ → (Replica → Type 0) → Type 0
 WhereIssuing running time me members P =
-    (r : Replica) (reading : ℕ) → Runs running r → me ≡ r.me → members ≡ members_of r → IssuesAt reading time r → P r
+    (r : Replica) (reading : ℕ) → EpochStands running r → me ≡ r.me → members ≡ members_of r → IssuesAt reading time r → P r

@@ -1,7 +1,7 @@
 -- What the links stand for.
 use Rattle.std.specs.Prelude.{◌≡◌, ℕ, ◌<◌, ◌≤◌, ◌==◌, not, List, length, filter, slice_index_or, ◌∷◌, ◌++◌, map}
 use Rattle.crsm_spec.specs.Replica.{Replica, last_issued, latest_from, frames_to, acked_by, next_from}
-use Rattle.crsm_link.specs.Sent.{StandsFor}
+use Rattle.crsm_link.specs.Sent.{OutStands}
 use Rattle.crsm_epoch_state.specs.declared.link.Link.{Link}
 use Rattle.crsm_epoch_state.specs.declared.links.Links.{Links}
 use Rattle.crsm_spec.specs.Types.{InEpoch}
@@ -9,7 +9,7 @@ use Rattle.crsm_spec.specs.Types.{InEpoch}
 -- The links with k stand for the frames that were pushed to k, for those that k has acknowledged, and for how many were
 -- taken of k. Each frame has a time of its own, so there are no more of them than the latest time says.
 pub record LinkStands (link : Link) (r : Replica) (k : ℕ) : Type 0 where
-  pub sent : StandsFor link.sender (frames_to r k) (acked_by r k)
+  pub sent : OutStands link.sender (frames_to r k) (acked_by r k)
   pub next : link.receiver.next ≡ next_from r k
   pub few_sent : length (frames_to r k) ≤ last_issued r
   pub few_taken : next_from r k ≤ latest_from r.received k

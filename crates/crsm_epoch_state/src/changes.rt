@@ -5,7 +5,7 @@ ghost use Rattle.crsm_base.specs.declared.Stamp.{Stamp};
 ghost use Rattle.crsm_spec.specs.Log.{last_stamp};
 ghost use Rattle.crsm_spec.specs.Frames.{with_stamp};
 ghost use Rattle.crsm_spec.specs.Replica.{Replica, other_members, latest_from, frames_to};
-ghost use Rattle.crsm_epoch_state.specs.EpochState.{Runs, WhereIssuing, WhereRuns};
+ghost use Rattle.crsm_epoch_state.specs.EpochState.{EpochStands, WhereIssuing, WhereStands};
 ghost use Rattle.crsm_epoch_state.specs.Linked.{pushed_at};
 
 use crate::records::is_above;
@@ -16,8 +16,8 @@ impl EpochState {
     /// Counts a vote, where `last` is the stamp of the last executed entry.
     pub fn count_vote(&mut self, stamp: Stamp, k: u32, last: Option<Stamp>) -> Result<(), NoMemory>
         requires { k < 15 }
-        ensures { IfOk result (λ _. WhereRuns self.old (λ r. last ≡ last_stamp r.log →
-            Runs self.new (record r { votes = (stamp, k) ∷ r.votes }))) }
+        ensures { IfOk result (λ _. WhereStands self.old (λ r. last ≡ last_stamp r.log →
+            EpochStands self.new (record r { votes = (stamp, k) ∷ r.votes }))) }
     {
         if is_above(last, stamp) {
             self.pending.voted(stamp, k)?;
@@ -34,7 +34,7 @@ impl EpochState {
         payload: &InEpoch,
     ) -> Result<(), NoMemory>
         requires { me < 15 }
-        ensures { IfOk result (λ _. WhereIssuing self.old time me members.now (λ r. Runs self.new (pushed_at time payload.now (other_members r) r))) }
+        ensures { IfOk result (λ _. WhereIssuing self.old time me members.now (λ r. EpochStands self.new (pushed_at time payload.now (other_members r) r))) }
     {
         self.clock.issue(time);
         self.latest.receive(me, time);
@@ -45,8 +45,8 @@ impl EpochState {
     /// Takes the next frame of another replica k, and with it this time, which is above the latest of k. Needs no memory.
     pub fn take_next(&mut self, k: u32, time: u64)
         requires { k < 15 }
-        ensures { WhereRuns self.old (λ r. latest_from r.received k < time →
-            Runs self.new (record r { taken = k ∷ r.taken; received = (k, time) ∷ r.received })) }
+        ensures { WhereStands self.old (λ r. latest_from r.received k < time →
+            EpochStands self.new (record r { taken = k ∷ r.taken; received = (k, time) ∷ r.received })) }
     {
         self.links.take_next(k, time);
         self.latest.receive(k, time);
@@ -55,14 +55,14 @@ impl EpochState {
     /// All frames to k below this number, of those that were pushed, have come.
     pub fn acked(&mut self, k: u32, next: u64)
         requires { k < 15 }
-        ensures { WhereRuns self.old (λ r. next ≤ length (frames_to r k) → Runs self.new (record r { acked = (k, next) ∷ r.acked })) }
+        ensures { WhereStands self.old (λ r. next ≤ length (frames_to r k) → EpochStands self.new (record r { acked = (k, next) ∷ r.acked })) }
     {
         self.links.acked(k, next);
     }
 
     /// Owes an acknowledgement.
     pub fn owe(&mut self, stamp: Stamp) -> Result<(), NoMemory>
-        ensures { IfOk result (λ _. WhereRuns self.old (λ r. Runs self.new (record r { owed = with_stamp stamp r.owed }))) }
+        ensures { IfOk result (λ _. WhereStands self.old (λ r. EpochStands self.new (record r { owed = with_stamp stamp r.owed }))) }
     {
         self.owed.add(stamp)?;
         Ok(())
@@ -70,7 +70,7 @@ impl EpochState {
 
     /// The acknowledgement that was owed first is owed no more.
     pub fn paid(&mut self)
-        ensures { (r : Replica) (s : Stamp) (ss : List Stamp) → Runs self.old r → r.owed ≡ s ∷ ss → Runs self.new (record r { owed = ss }) }
+        ensures { (r : Replica) (s : Stamp) (ss : List Stamp) → EpochStands self.old r → r.owed ≡ s ∷ ss → EpochStands self.new (record r { owed = ss }) }
     {
         if let Some(stamp) = self.owed.first() {
             self.owed.done(stamp);

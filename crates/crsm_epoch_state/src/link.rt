@@ -2,7 +2,7 @@
 
 ghost use Rattle.std.specs.Prelude.{◌≡◌, ◌<◌, ◌≤◌, ◌+◌, ◌∷◌, ◌++◌, [], ℕ, List, length, max, OnOk};
 ghost use Rattle.crsm_spec.specs.Types.{InEpoch};
-ghost use Rattle.crsm_link.specs.Sent.{StandsFor, pushed_count};
+ghost use Rattle.crsm_link.specs.Sent.{OutStands, pushed_count};
 
 use crsm_base::{InEpoch, NoMemory};
 use crsm_link::{In, Out};
@@ -18,7 +18,7 @@ pub(crate) struct Link {
 impl Link {
     /// The ends of new links.
     pub(crate) fn new(alloc: Global) -> Link
-        ensures sent { StandsFor result.sender [] 0 }
+        ensures sent { OutStands result.sender [] 0 }
         ensures next { result.receiver.next ≡ 0 }
     {
         Link {
@@ -30,8 +30,8 @@ impl Link {
     /// Pushes a payload of this time. Times rise from 1 on, so fewer frames were pushed than it says; where that is not
     /// so, this does nothing.
     pub(crate) fn push(&mut self, payload: InEpoch, time: u64) -> Result<(), NoMemory>
-        ensures sent { OnOk result ((pushed : List InEpoch) (acked : ℕ) → StandsFor self.old.sender pushed acked → length pushed < time →
-            StandsFor self.new.sender (pushed ++ payload ∷ []) acked) }
+        ensures sent { OnOk result ((pushed : List InEpoch) (acked : ℕ) → OutStands self.old.sender pushed acked → length pushed < time →
+            OutStands self.new.sender (pushed ++ payload ∷ []) acked) }
         ensures receiver { self.new.receiver ≡ self.old.receiver }
     {
         if self.sender.count() < time {
@@ -54,8 +54,8 @@ impl Link {
 
     /// All frames below this number have come.
     pub(crate) fn acked(&mut self, next: u64)
-        ensures sent { (pushed : List InEpoch) (acked : ℕ) → StandsFor self.old.sender pushed acked → next ≤ length pushed →
-            StandsFor self.new.sender pushed (max next acked) }
+        ensures sent { (pushed : List InEpoch) (acked : ℕ) → OutStands self.old.sender pushed acked → next ≤ length pushed →
+            OutStands self.new.sender pushed (max next acked) }
         ensures receiver { self.new.receiver ≡ self.old.receiver }
     {
         self.sender.acked(next);

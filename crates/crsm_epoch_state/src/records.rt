@@ -5,7 +5,7 @@ ghost use Rattle.crsm_spec.specs.Types.{Rec};
 ghost use Rattle.crsm_spec.specs.Log.{last_stamp};
 ghost use Rattle.crsm_spec.specs.Fits.{fits};
 ghost use Rattle.crsm_spec.specs.Replica.{Replica};
-ghost use Rattle.crsm_epoch_state.specs.EpochState.{Runs, IsNoEnter, is_above, WhereRuns};
+ghost use Rattle.crsm_epoch_state.specs.EpochState.{EpochStands, IsNoEnter, is_above, WhereStands};
 
 use crate::state::EpochState;
 use crsm_base::{Entry, NoMemory, Rec, Stamp};
@@ -14,8 +14,8 @@ impl EpochState {
     /// A record was kept behind which the stamp of the last executed entry was `last`. For the record of entering an
     /// epoch there is `new`.
     pub fn keep(&mut self, rec: &Rec, last: Option<Stamp>) -> Result<(), NoMemory>
-        ensures { IfOk result (λ _. WhereRuns self.old (λ r. last ≡ last_stamp r.log → fits r.me r.n r.log rec.now ≡ true → IsNoEnter rec.now →
-            Runs self.new (record r { log = rec.now ∷ r.log }))) }
+        ensures { IfOk result (λ _. WhereStands self.old (λ r. last ≡ last_stamp r.log → fits r.me r.n r.log rec.now ≡ true → IsNoEnter rec.now →
+            EpochStands self.new (record r { log = rec.now ∷ r.log }))) }
     {
         match rec {
             Rec::Prepare { entry } => self.log_entry(entry, last)?,
@@ -27,8 +27,8 @@ impl EpochState {
 
     /// An entry was logged.
     fn log_entry(&mut self, entry: &Entry, last: Option<Stamp>) -> Result<(), NoMemory>
-        ensures { IfOk result (λ _. WhereRuns self.old (λ r. last ≡ last_stamp r.log → fits r.me r.n r.log (Rec.Prepare entry.now) ≡ true →
-            Runs self.new (record r { log = Rec.Prepare entry.now ∷ r.log }))) }
+        ensures { IfOk result (λ _. WhereStands self.old (λ r. last ≡ last_stamp r.log → fits r.me r.n r.log (Rec.Prepare entry.now) ≡ true →
+            EpochStands self.new (record r { log = Rec.Prepare entry.now ∷ r.log }))) }
     {
         if is_above(last, entry.stamp) {
             self.pending.add(entry)?;
@@ -38,7 +38,7 @@ impl EpochState {
 
     /// The first entry that was not executed is.
     fn commit(&mut self, stamp: Stamp)
-        ensures { WhereRuns self.old (λ r. fits r.me r.n r.log (Rec.Commit stamp) ≡ true → Runs self.new (record r { log = Rec.Commit stamp ∷ r.log })) }
+        ensures { WhereStands self.old (λ r. fits r.me r.n r.log (Rec.Commit stamp) ≡ true → EpochStands self.new (record r { log = Rec.Commit stamp ∷ r.log })) }
     {
         self.pending.take(stamp);
     }

@@ -5,7 +5,7 @@ ghost use Rattle.crsm_spec.specs.Types.{Rec};
 ghost use Rattle.crsm_spec.specs.Log.{known, active};
 ghost use Rattle.crsm_spec.specs.Fits.{fits};
 ghost use Rattle.crsm_spec.specs.Replica.{Replica};
-ghost use Rattle.crsm_epoch_state.specs.EpochState.{Runs, EachFits, forgotten};
+ghost use Rattle.crsm_epoch_state.specs.EpochState.{EpochStands, EachFits, forgotten};
 
 use crate::links::Links;
 use crsm_clock::Rising;
@@ -29,9 +29,9 @@ pub struct EpochState {
 impl EpochState {
     /// An epoch in which nothing has happened yet.
     pub fn new(alloc: Global) -> EpochState
-        ensures inactive { (r : Replica) → EachFits r.me r.n r.log → active r.log ≡ false → Runs result (forgotten r) }
+        ensures inactive { (r : Replica) → EachFits r.me r.n r.log → active r.log ≡ false → EpochStands result (forgotten r) }
         ensures entered { (r : Replica) → EachFits r.me r.n r.log → fits r.me r.n r.log (Rec.Enter (known r.log)) ≡ true →
-            Runs result (record (forgotten r) { log = Rec.Enter (known r.log) ∷ r.log }) }
+            EpochStands result (record (forgotten r) { log = Rec.Enter (known r.log) ∷ r.log }) }
     {
         EpochState {
             clock: Rising::new(),

@@ -15,7 +15,7 @@ use Rattle.crsm_spec.specs.Fits.{goes_on}
 use Rattle.crsm_spec.specs.Lines.{exec_line, exec_lines}
 use Rattle.crsm_ledger.specs.declared.history.History.{History}
 use Rattle.crsm_ledger.specs.declared.history.Position.{Position}
-use Rattle.crsm_ledger.specs.Executed.{HasExecuted, position_of, last_stamp_in, goes_on_behind}
+use Rattle.crsm_ledger.specs.Executed.{HistoryStands, position_of, last_stamp_in, goes_on_behind}
 use Rattle.crsm_log_facts.proofs.Lists.{all-push, map-push, filter-push, slice_get-map, length-map, last_or-push, append-none}
 
 pub last_of-push : {X : Type 0} (xs : List X) (x : X) → last_of (xs ++ x ∷ []) ≡ Some x
@@ -47,7 +47,7 @@ last_stamp_in-push x es e =
     ∙ stamped_by_test (e.epoch == x) e (filter (λ f. f.epoch == x) es)
 
 -- the fields after an entry more
-pub executes : (h : History) (x : ℕ) (es : List Entry) (e : Entry) (spelt : List (List ℕ)) (spelling : List ℕ) (rows : Rows) (last : Option Position) (last_stamp : Option Stamp) → HasExecuted h x es → FitsEntry e → spelt ≡ h.spelt ++ entry_bytes e ∷ [] → rows ≡ (apply h.store e.command).0 → last ≡ Some (record { epoch = e.epoch; stamp = e.stamp }) → last_stamp ≡ (if e.epoch == h.epoch then Some e.stamp else h.last_stamp) → HasExecuted (record h { spelt = spelt; spelling = spelling; store = rows; last = last; last_stamp = last_stamp }) x (es ++ e ∷ [])
+pub executes : (h : History) (x : ℕ) (es : List Entry) (e : Entry) (spelt : List (List ℕ)) (spelling : List ℕ) (rows : Rows) (last : Option Position) (last_stamp : Option Stamp) → HistoryStands h x es → FitsEntry e → spelt ≡ h.spelt ++ entry_bytes e ∷ [] → rows ≡ (apply h.store e.command).0 → last ≡ Some (record { epoch = e.epoch; stamp = e.stamp }) → last_stamp ≡ (if e.epoch == h.epoch then Some e.stamp else h.last_stamp) → HistoryStands (record h { spelt = spelt; spelling = spelling; store = rows; last = last; last_stamp = last_stamp }) x (es ++ e ∷ [])
 executes h x es e spelt spelling rows last last_stamp before fits s r l t = record {
   spelt = s ∙ ap (λ bytes. bytes ++ entry_bytes e ∷ []) before.spelt ∙ sym (map-push entry_bytes es e);
   rows = r ∙ ap (λ rows. (apply rows e.command).0) before.rows ∙ sym (after-push es e);
@@ -58,22 +58,22 @@ executes h x es e spelt spelling rows last last_stamp before fits s r l t = reco
 }
 
 -- the line of the entry that was executed, by the fields before
-pub exec_line-is : (h : History) (x : ℕ) (es : List Entry) (e : Entry) (me : ℕ) (answer : Answer) → HasExecuted h x es → answer ≡ (apply h.store e.command).1 → Line.Exec me (length h.spelt) e.epoch e.stamp e.command.client e.command.number answer ≡ exec_line me es e
+pub exec_line-is : (h : History) (x : ℕ) (es : List Entry) (e : Entry) (me : ℕ) (answer : Answer) → HistoryStands h x es → answer ≡ (apply h.store e.command).1 → Line.Exec me (length h.spelt) e.epoch e.stamp e.command.client e.command.number answer ≡ exec_line me es e
 unfolding exec_line answer_after
 exec_line-is h x es e me answer before is =
     rw (is, before.rows, before.spelt, length-map entry_bytes es)
 
-pub length-spelt : (h : History) (x : ℕ) (es : List Entry) → HasExecuted h x es → length h.spelt ≡ length es
+pub length-spelt : (h : History) (x : ℕ) (es : List Entry) → HistoryStands h x es → length h.spelt ≡ length es
 length-spelt h x es has = ap length has.spelt ∙ length-map entry_bytes es
 
-pub slice_get-spelt : (h : History) (x : ℕ) (es : List Entry) (i : ℕ) → HasExecuted h x es → slice_get h.spelt i ≡ option_map entry_bytes (slice_get es i)
+pub slice_get-spelt : (h : History) (x : ℕ) (es : List Entry) (i : ℕ) → HistoryStands h x es → slice_get h.spelt i ≡ option_map entry_bytes (slice_get es i)
 slice_get-spelt h x es i has = ap (λ spelt. slice_get spelt i) has.spelt ∙ slice_get-map entry_bytes es i
 
 none_of_epoch : (x : ℕ) (es : List Entry) → AllByRecursion (λ e. e.epoch < x) es → filter (λ e. e.epoch == x) es ≡ []
 none_of_epoch x [] below = refl
 none_of_epoch x (e ∷ es) below = let other : (e.epoch == x) ≡ false = grind (arith, nat_tests, below.0) in rw other (none_of_epoch x es below.1)
 
-pub begins : (h : History) (x y : ℕ) (es : List Entry) → HasExecuted h x es → AllByRecursion (λ e. e.epoch < y) es → HasExecuted (record h { epoch = y; last_stamp = None }) y es
+pub begins : (h : History) (x y : ℕ) (es : List Entry) → HistoryStands h x es → AllByRecursion (λ e. e.epoch < y) es → HistoryStands (record h { epoch = y; last_stamp = None }) y es
 unfolding last_stamp_in last_of
 begins h x y es before below = record {
   spelt = before.spelt;

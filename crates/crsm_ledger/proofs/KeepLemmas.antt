@@ -13,8 +13,8 @@ use Rattle.crsm_spec.specs.Fits.{fits, booted}
 use Rattle.crsm_spec.specs.Lines.{lines_of, exec_line, exec_lines}
 use Rattle.crsm_ledger.specs.declared.ledger.Ledger.{Ledger}
 use Rattle.crsm_ledger.specs.declared.history.History.{History}
-use Rattle.crsm_ledger.specs.Executed.{HasExecuted}
-use Rattle.crsm_ledger.specs.Ledger.{Says}
+use Rattle.crsm_ledger.specs.Executed.{HistoryStands}
+use Rattle.crsm_ledger.specs.Ledger.{FieldsStand}
 use Rattle.crsm_log_facts.proofs.Lists.{all_more}
 use Rattle.crsm_ledger.proofs.LoggedLemmas.{with_entry-all}
 use Rattle.crsm_ledger.proofs.ReadLemmas.{me-is, boots-is, logged-is}
@@ -26,7 +26,7 @@ both : (a b : Bool) → (a && b) ≡ true → (a ≡ true) × (b ≡ true)
 both true b is = (refl, is)
 both false b is = cc
 
-pub boots-below : {me n : ℕ} {l : Ledger} {log : Log} (s : Says me n l log) (m k : ℕ) → fits me n log (Rec.Boot m k) ≡ true → l.boots < u64_max
+pub boots-below : {me n : ℕ} {l : Ledger} {log : Log} (s : FieldsStand me n l log) (m k : ℕ) → fits me n log (Rec.Boot m k) ≡ true → l.boots < u64_max
 unfolding fits
 boots-below {me} {n} {l} {log} s m k fit =
     let few : nat_lt (boots log) u64_max ≡ true = (both (m == me && k == n) (nat_lt (boots log) u64_max) fit).1 in
@@ -120,67 +120,67 @@ unexecuted-epoch log e first = first_above (λ f. f.epoch ≡ known log) (last_s
 
 -- ---- lines
 
-pub lines-boot : {me n : ℕ} {l : Ledger} {log : Log} (s : Says me n l log) (m k : ℕ) → Line.Boot l.me (l.boots + 1) ∷ [] ≡ lines_of me log (Rec.Boot m k)
+pub lines-boot : {me n : ℕ} {l : Ledger} {log : Log} (s : FieldsStand me n l log) (m k : ℕ) → Line.Boot l.me (l.boots + 1) ∷ [] ≡ lines_of me log (Rec.Boot m k)
 unfolding lines_of
 lines-boot s m k = rw (me-is s, boots-is s)
 
-pub lines-suspend : {me n : ℕ} {l : Ledger} {log : Log} (s : Says me n l log) (x : ℕ) → Line.Suspend l.me x ∷ [] ≡ lines_of me log (Rec.Suspend x)
+pub lines-suspend : {me n : ℕ} {l : Ledger} {log : Log} (s : FieldsStand me n l log) (x : ℕ) → Line.Suspend l.me x ∷ [] ≡ lines_of me log (Rec.Suspend x)
 unfolding lines_of
 lines-suspend s x = rw (me-is s)
 
-pub lines-promise : {me n : ℕ} {l : Ledger} {log : Log} (s : Says me n l log) (i : ℕ) (b : Ballot) → Line.Promise l.me i b.round b.by ∷ [] ≡ lines_of me log (Rec.Promise i b)
+pub lines-promise : {me n : ℕ} {l : Ledger} {log : Log} (s : FieldsStand me n l log) (i : ℕ) (b : Ballot) → Line.Promise l.me i b.round b.by ∷ [] ≡ lines_of me log (Rec.Promise i b)
 unfolding lines_of
 lines-promise s i b = rw (me-is s)
 
-pub lines-accept : {me n : ℕ} {l : Ledger} {log : Log} (s : Says me n l log) (i : ℕ) (b : Ballot) (d : Decision) → Line.Accept l.me i b.round b.by ∷ [] ≡ lines_of me log (Rec.Accept i b d)
+pub lines-accept : {me n : ℕ} {l : Ledger} {log : Log} (s : FieldsStand me n l log) (i : ℕ) (b : Ballot) (d : Decision) → Line.Accept l.me i b.round b.by ∷ [] ≡ lines_of me log (Rec.Accept i b d)
 unfolding lines_of
 lines-accept s i b d = rw (me-is s)
 
-pub lines-enter : {me n : ℕ} {l : Ledger} {log : Log} (s : Says me n l log) (x : ℕ) → Line.Enter l.me x ∷ [] ≡ lines_of me log (Rec.Enter x)
+pub lines-enter : {me n : ℕ} {l : Ledger} {log : Log} (s : FieldsStand me n l log) (x : ℕ) → Line.Enter l.me x ∷ [] ≡ lines_of me log (Rec.Enter x)
 unfolding lines_of
 lines-enter s x = rw (me-is s)
 
-pub lines-decide : {me n : ℕ} {l : Ledger} {log : Log} (s : Says me n l log) (d : Decision) (members : List ℕ) (count : ℕ) → members ≡ d.members → count ≡ length d.tail → Line.Decide l.me d.epoch members d.base_len count ∷ [] ≡ lines_of me log (Rec.Decide d)
+pub lines-decide : {me n : ℕ} {l : Ledger} {log : Log} (s : FieldsStand me n l log) (d : Decision) (members : List ℕ) (count : ℕ) → members ≡ d.members → count ≡ length d.tail → Line.Decide l.me d.epoch members d.base_len count ∷ [] ≡ lines_of me log (Rec.Decide d)
 unfolding lines_of
 lines-decide s d members count is count_is = rw (me-is s, is, count_is)
 
-pub lines-prepare : {me n : ℕ} {l : Ledger} {log : Log} (s : Says me n l log) (e : Entry) → lines_of l.me log (Rec.Prepare e) ≡ lines_of me log (Rec.Prepare e)
+pub lines-prepare : {me n : ℕ} {l : Ledger} {log : Log} (s : FieldsStand me n l log) (e : Entry) → lines_of l.me log (Rec.Prepare e) ≡ lines_of me log (Rec.Prepare e)
 lines-prepare {log = log} s e = ap (λ (k : ℕ). lines_of k log (Rec.Prepare e)) (me-is s)
 
-pub lines-commit : {me n : ℕ} {l : Ledger} {log : Log} (s : Says me n l log) (t : Stamp) (e : Entry) → entry_of log t ≡ Some e → exec_line l.me (executed log) e ∷ [] ≡ lines_of me log (Rec.Commit t)
+pub lines-commit : {me n : ℕ} {l : Ledger} {log : Log} (s : FieldsStand me n l log) (t : Stamp) (e : Entry) → entry_of log t ≡ Some e → exec_line l.me (executed log) e ∷ [] ≡ lines_of me log (Rec.Commit t)
 unfolding lines_of exec_lines
 lines-commit s t e is = rw (me-is s, is)
 
-pub lines-adopt : {me n : ℕ} {l : Ledger} {log : Log} (s : Says me n l log) (place : ℕ) (es : List Entry) → exec_lines l.me (executed log) es ≡ lines_of me log (Rec.Adopt place es)
+pub lines-adopt : {me n : ℕ} {l : Ledger} {log : Log} (s : FieldsStand me n l log) (place : ℕ) (es : List Entry) → exec_lines l.me (executed log) es ≡ lines_of me log (Rec.Adopt place es)
 unfolding lines_of
 lines-adopt {log = log} s place es = ap (λ (k : ℕ). exec_lines k (executed log) es) (me-is s)
 
 -- ---- fields
 
-pub decides : {me n : ℕ} {l : Ledger} {log : Log} (s : Says me n l log) (d known' : Decision) (start' : ℕ) (logged' : List Entry) (h : History) → fits me n log (Rec.Decide d) ≡ true → known' ≡ d → start' ≡ d.base_len + length d.tail → logged' ≡ [] → HasExecuted h d.epoch (executed log) → Says me n (record l { known = known'; start = start'; is_live = false; is_suspended = false; has_entered = false; promised = no_ballot; accepted = None; logged = logged'; history = h }) (Rec.Decide d ∷ log)
+pub decides : {me n : ℕ} {l : Ledger} {log : Log} (s : FieldsStand me n l log) (d known' : Decision) (start' : ℕ) (logged' : List Entry) (h : History) → fits me n log (Rec.Decide d) ≡ true → known' ≡ d → start' ≡ d.base_len + length d.tail → logged' ≡ [] → HistoryStands h d.epoch (executed log) → FieldsStand me n (record l { known = known'; start = start'; is_live = false; is_suspended = false; has_entered = false; promised = no_ballot; accepted = None; logged = logged'; history = h }) (Rec.Decide d ∷ log)
 decides {me} {n} {l} {log} s d known' start' logged' h fit is start_is none begun =
     rw (is, start_is, none) (says-decide s d h (decide-later me n log d fit) begun)
 
-pub all_earlier : {me n : ℕ} {l : Ledger} {log : Log} (s : Says me n l log) (d : Decision) → fits me n log (Rec.Decide d) ≡ true → AllByRecursion (λ e. e.epoch < d.epoch) (executed log)
+pub all_earlier : {me n : ℕ} {l : Ledger} {log : Log} (s : FieldsStand me n l log) (d : Decision) → fits me n log (Rec.Decide d) ≡ true → AllByRecursion (λ e. e.epoch < d.epoch) (executed log)
 all_earlier {me} {n} {l} {log} s d fit =
     let later : known log < d.epoch = decide-later me n log d fit in
     all_more (λ e. e.epoch ≤ known log) (λ e. e.epoch < d.epoch) (λ e below. omega (arith, later, below)) (executed log) s.none_above.executed
 
-pub prepares : {me n : ℕ} {l : Ledger} {log : Log} (s : Says me n l log) (e copy : Entry) (logged' : List Entry) → fits me n log (Rec.Prepare e) ≡ true → copy ≡ e → logged' ≡ with_entry copy l.logged → Says me n (record l { logged = logged' }) (Rec.Prepare e ∷ log)
+pub prepares : {me n : ℕ} {l : Ledger} {log : Log} (s : FieldsStand me n l log) (e copy : Entry) (logged' : List Entry) → fits me n log (Rec.Prepare e) ≡ true → copy ≡ e → logged' ≡ with_entry copy l.logged → FieldsStand me n (record l { logged = logged' }) (Rec.Prepare e ∷ log)
 prepares {me} {n} {l} {log} s e copy logged' fit same is =
     rw (is, same) (says-prepare s e (prepare-known me n log e fit))
 
-pub commits : {me n : ℕ} {l : Ledger} {log : Log} (s : Says me n l log) (t : Stamp) (e : Entry) (h : History) → fits me n log (Rec.Commit t) ≡ true → first_of (unexecuted log) ≡ Some e → HasExecuted h (known log) (executed log ++ e ∷ []) → Says me n (record l { history = h }) (Rec.Commit t ∷ log)
+pub commits : {me n : ℕ} {l : Ledger} {log : Log} (s : FieldsStand me n l log) (t : Stamp) (e : Entry) (h : History) → fits me n log (Rec.Commit t) ≡ true → first_of (unexecuted log) ≡ Some e → HistoryStands h (known log) (executed log ++ e ∷ []) → FieldsStand me n (record l { history = h }) (Rec.Commit t ∷ log)
 commits {me} {n} {l} {log} s t e h fit first done =
     says-commit s t e h first (commit-same me n log t e fit first) (unexecuted-epoch log e first) done
 
-pub adopts : {me n : ℕ} {l : Ledger} {log : Log} (s : Says me n l log) (place : ℕ) (es : List Entry) (h : History) → fits me n log (Rec.Adopt place es) ≡ true → HasExecuted h (known log) (executed log ++ es) → Says me n (record l { history = h }) (Rec.Adopt place es ∷ log)
+pub adopts : {me n : ℕ} {l : Ledger} {log : Log} (s : FieldsStand me n l log) (place : ℕ) (es : List Entry) (h : History) → fits me n log (Rec.Adopt place es) ≡ true → HistoryStands h (known log) (executed log ++ es) → FieldsStand me n (record l { history = h }) (Rec.Adopt place es ∷ log)
 adopts {me} {n} {l} {log} s place es h fit done = says-adopt s place es h (adopt-known me n log place es fit) done
 
 pub commit-entry : (me n : ℕ) (log : Log) (t : Stamp) (e : Entry) → fits me n log (Rec.Commit t) ≡ true → first_of (unexecuted log) ≡ Some e → entry_of log t ≡ Some e
 commit-entry me n log t e fit first = committed log t e first (commit-same me n log t e fit first)
 
 -- the waiting entries, by the fields
-pub waiting-is : {me n : ℕ} {l : Ledger} {log : Log} (s : Says me n l log) (last : Option Stamp) → last ≡ last_stamp log → above last l.logged ≡ unexecuted log
+pub waiting-is : {me n : ℕ} {l : Ledger} {log : Log} (s : FieldsStand me n l log) (last : Option Stamp) → last ≡ last_stamp log → above last l.logged ≡ unexecuted log
 unfolding unexecuted
 waiting-is s last is = rw (is, logged-is s)

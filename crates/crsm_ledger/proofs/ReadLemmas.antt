@@ -8,57 +8,57 @@ use Rattle.crsm_spec.specs.Quorum.{spec_decided}
 use Rattle.crsm_spec.specs.Log.{Log, decision, known, start, members, spec, boots, live, suspended, has_entered, promised, accepted, logged}
 use Rattle.crsm_ledger.specs.declared.ledger.Ledger.{Ledger}
 use Rattle.crsm_log_facts.proofs.Known.{known-spec}
-use Rattle.crsm_ledger.specs.Ledger.{Says, facts_of, known_decision, founding}
+use Rattle.crsm_ledger.specs.Ledger.{FieldsStand, facts_of, known_decision, founding}
 
-pub me-is : {me n : ℕ} {l : Ledger} {log : Log} → Says me n l log → l.me ≡ me
+pub me-is : {me n : ℕ} {l : Ledger} {log : Log} → FieldsStand me n l log → l.me ≡ me
 unfolding facts_of
 me-is s = ap (λ f. f.me) s.facts
 
-pub n-is : {me n : ℕ} {l : Ledger} {log : Log} → Says me n l log → l.n ≡ n
+pub n-is : {me n : ℕ} {l : Ledger} {log : Log} → FieldsStand me n l log → l.n ≡ n
 unfolding facts_of
 n-is s = ap (λ f. f.n) s.facts
 
-pub founders-are : {me n : ℕ} {l : Ledger} {log : Log} → Says me n l log → l.founders ≡ numbers_below n
+pub founders-are : {me n : ℕ} {l : Ledger} {log : Log} → FieldsStand me n l log → l.founders ≡ numbers_below n
 unfolding facts_of
 founders-are s = ap (λ f. f.founders) s.facts
 
-pub boots-is : {me n : ℕ} {l : Ledger} {log : Log} → Says me n l log → l.boots ≡ boots log
+pub boots-is : {me n : ℕ} {l : Ledger} {log : Log} → FieldsStand me n l log → l.boots ≡ boots log
 unfolding facts_of
 boots-is s = ap (λ f. f.boots) s.facts
 
-pub known-is : {me n : ℕ} {l : Ledger} {log : Log} → Says me n l log → l.known ≡ known_decision n log
+pub known-is : {me n : ℕ} {l : Ledger} {log : Log} → FieldsStand me n l log → l.known ≡ known_decision n log
 unfolding facts_of
 known-is s = ap (λ f. f.known) s.facts
 
-pub start-is : {me n : ℕ} {l : Ledger} {log : Log} → Says me n l log → l.start ≡ start log
+pub start-is : {me n : ℕ} {l : Ledger} {log : Log} → FieldsStand me n l log → l.start ≡ start log
 unfolding facts_of
 start-is s = ap (λ f. f.start) s.facts
 
-pub live-is : {me n : ℕ} {l : Ledger} {log : Log} → Says me n l log → l.is_live ≡ live log
+pub live-is : {me n : ℕ} {l : Ledger} {log : Log} → FieldsStand me n l log → l.is_live ≡ live log
 unfolding facts_of
 live-is s = ap (λ f. f.live) s.facts
 
-pub suspended-is : {me n : ℕ} {l : Ledger} {log : Log} → Says me n l log → l.is_suspended ≡ suspended log
+pub suspended-is : {me n : ℕ} {l : Ledger} {log : Log} → FieldsStand me n l log → l.is_suspended ≡ suspended log
 unfolding facts_of
 suspended-is s = ap (λ f. f.suspended) s.facts
 
-pub entered-is : {me n : ℕ} {l : Ledger} {log : Log} → Says me n l log → l.has_entered ≡ has_entered (known log) log
+pub entered-is : {me n : ℕ} {l : Ledger} {log : Log} → FieldsStand me n l log → l.has_entered ≡ has_entered (known log) log
 unfolding facts_of
 entered-is s = ap (λ f. f.entered) s.facts
 
-pub promised-is : {me n : ℕ} {l : Ledger} {log : Log} → Says me n l log → l.promised ≡ promised log
+pub promised-is : {me n : ℕ} {l : Ledger} {log : Log} → FieldsStand me n l log → l.promised ≡ promised log
 unfolding facts_of
 promised-is s = ap (λ f. f.promised) s.facts
 
-pub accepted-is : {me n : ℕ} {l : Ledger} {log : Log} → Says me n l log → l.accepted ≡ accepted log
+pub accepted-is : {me n : ℕ} {l : Ledger} {log : Log} → FieldsStand me n l log → l.accepted ≡ accepted log
 unfolding facts_of
 accepted-is s = ap (λ f. f.accepted) s.facts
 
-pub logged-is : {me n : ℕ} {l : Ledger} {log : Log} → Says me n l log → l.logged ≡ logged log
+pub logged-is : {me n : ℕ} {l : Ledger} {log : Log} → FieldsStand me n l log → l.logged ≡ logged log
 unfolding facts_of
 logged-is s = ap (λ f. f.logged) s.facts
 
 -- ---- what the decision of the known epoch says
 
-pub spec-is : {me n : ℕ} {l : Ledger} {log : Log} → Says me n l log → unwrap_or l.known.spec (numbers_below n) ≡ spec n log
+pub spec-is : {me n : ℕ} {l : Ledger} {log : Log} → FieldsStand me n l log → unwrap_or l.known.spec (numbers_below n) ≡ spec n log
 spec-is {n = n} {log = log} s = rw (known-is s) (known-spec n log)

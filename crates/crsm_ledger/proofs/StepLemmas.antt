@@ -10,8 +10,8 @@ use Rattle.crsm_spec.specs.Lists.{first_of, numbers_below}
 use Rattle.crsm_spec.specs.Log.{Log, decision, known, start, boots, is_boot, is_enter, live, suspended, has_entered, promised, no_ballot, accepted, with_entry, logged_in, logged, entry_of, executed, last_stamp, unexecuted}
 use Rattle.crsm_ledger.specs.declared.ledger.Ledger.{Ledger}
 use Rattle.crsm_ledger.specs.declared.history.History.{History}
-use Rattle.crsm_ledger.specs.Executed.{HasExecuted}
-use Rattle.crsm_ledger.specs.Ledger.{Facts, Says, facts_of, fields_of, known_decision}
+use Rattle.crsm_ledger.specs.Executed.{HistoryStands}
+use Rattle.crsm_ledger.specs.Ledger.{Facts, FieldsStand, facts_of, fields_of, known_decision}
 use Rattle.crsm_log_facts.proofs.Lists.{all-push, all-append, all_more}
 use Rattle.crsm_ledger.proofs.LoggedLemmas.{stamp_eq-same, find-above}
 
@@ -28,7 +28,7 @@ boots-other rec log other =
 
 -- ---- records that name no entry
 
-pub says-boot : {me n : ℕ} {l : Ledger} {log : Log} (s : Says me n l log) (m k : ℕ) → Says me n (record l { boots = l.boots + 1; is_live = false }) (Rec.Boot m k ∷ log)
+pub says-boot : {me n : ℕ} {l : Ledger} {log : Log} (s : FieldsStand me n l log) (m k : ℕ) → FieldsStand me n (record l { boots = l.boots + 1; is_live = false }) (Rec.Boot m k ∷ log)
 unfolding facts_of is_boot known known_decision decision start live suspended has_entered promised accepted logged logged_in executed is_enter
 says-boot {me} {n} {l} {log} s m k = record {
   few = s.few;
@@ -38,7 +38,7 @@ says-boot {me} {n} {l} {log} s m k = record {
   none_above = record { logged = s.none_above.logged; entered = s.none_above.entered; executed = s.none_above.executed };
 }
 
-pub says-suspend : {me n : ℕ} {l : Ledger} {log : Log} (s : Says me n l log) (x : ℕ) → Says me n (record l { is_suspended = true }) (Rec.Suspend x ∷ log)
+pub says-suspend : {me n : ℕ} {l : Ledger} {log : Log} (s : FieldsStand me n l log) (x : ℕ) → FieldsStand me n (record l { is_suspended = true }) (Rec.Suspend x ∷ log)
 unfolding facts_of is_boot known known_decision decision start live suspended has_entered promised accepted logged logged_in executed is_enter
 says-suspend {me} {n} {l} {log} s x = record {
   few = s.few;
@@ -48,7 +48,7 @@ says-suspend {me} {n} {l} {log} s x = record {
   none_above = record { logged = s.none_above.logged; entered = s.none_above.entered; executed = s.none_above.executed };
 }
 
-pub says-promise : {me n : ℕ} {l : Ledger} {log : Log} (s : Says me n l log) (i : ℕ) (b : Ballot) → Says me n (record l { promised = b }) (Rec.Promise i b ∷ log)
+pub says-promise : {me n : ℕ} {l : Ledger} {log : Log} (s : FieldsStand me n l log) (i : ℕ) (b : Ballot) → FieldsStand me n (record l { promised = b }) (Rec.Promise i b ∷ log)
 unfolding facts_of is_boot known known_decision decision start live suspended has_entered promised accepted logged logged_in executed is_enter
 says-promise {me} {n} {l} {log} s i b = record {
   few = s.few;
@@ -58,7 +58,7 @@ says-promise {me} {n} {l} {log} s i b = record {
   none_above = record { logged = s.none_above.logged; entered = s.none_above.entered; executed = s.none_above.executed };
 }
 
-pub says-accept : {me n : ℕ} {l : Ledger} {log : Log} (s : Says me n l log) (i : ℕ) (b : Ballot) (d : Decision) → Says me n (record l { promised = b; accepted = Some (b, d) }) (Rec.Accept i b d ∷ log)
+pub says-accept : {me n : ℕ} {l : Ledger} {log : Log} (s : FieldsStand me n l log) (i : ℕ) (b : Ballot) (d : Decision) → FieldsStand me n (record l { promised = b; accepted = Some (b, d) }) (Rec.Accept i b d ∷ log)
 unfolding facts_of is_boot known known_decision decision start live suspended has_entered promised accepted logged logged_in executed is_enter
 says-accept {me} {n} {l} {log} s i b d = record {
   few = s.few;
@@ -74,7 +74,7 @@ eqb-false x y less = grind (arith, nat_tests)
 eqb-true : (x y : ℕ) → x ≡ y → (x == y) ≡ true
 eqb-true x y same = (Decides-eqb x y).1 same
 
-pub says-enter : {me n : ℕ} {l : Ledger} {log : Log} (s : Says me n l log) (x : ℕ) → x ≡ known log → Says me n (record l { is_live = true; has_entered = true }) (Rec.Enter x ∷ log)
+pub says-enter : {me n : ℕ} {l : Ledger} {log : Log} (s : FieldsStand me n l log) (x : ℕ) → x ≡ known log → FieldsStand me n (record l { is_live = true; has_entered = true }) (Rec.Enter x ∷ log)
 unfolding facts_of is_boot known known_decision decision start live suspended has_entered promised accepted logged logged_in executed is_enter
 says-enter {me} {n} {l} {log} s x is = record {
   few = s.few;
@@ -89,7 +89,7 @@ says-enter {me} {n} {l} {log} s x is = record {
   };
 }
 
-pub says-decide : {me n : ℕ} {l : Ledger} {log : Log} (s : Says me n l log) (d : Decision) (h : History) → known log < d.epoch → HasExecuted h d.epoch (executed log) → Says me n (record l { known = d; start = d.base_len + length d.tail; is_live = false; is_suspended = false; has_entered = false; promised = no_ballot; accepted = None; logged = []; history = h }) (Rec.Decide d ∷ log)
+pub says-decide : {me n : ℕ} {l : Ledger} {log : Log} (s : FieldsStand me n l log) (d : Decision) (h : History) → known log < d.epoch → HistoryStands h d.epoch (executed log) → FieldsStand me n (record l { known = d; start = d.base_len + length d.tail; is_live = false; is_suspended = false; has_entered = false; promised = no_ballot; accepted = None; logged = []; history = h }) (Rec.Decide d ∷ log)
 unfolding facts_of is_boot known known_decision decision start live suspended has_entered promised accepted logged logged_in executed is_enter
 says-decide {me} {n} {l} {log} s d h after begun = record {
   few = s.few;
@@ -107,7 +107,7 @@ says-decide {me} {n} {l} {log} s d h after begun = record {
 
 -- ---- records that name entries
 
-pub says-prepare : {me n : ℕ} {l : Ledger} {log : Log} (s : Says me n l log) (e : Entry) → e.epoch ≡ known log → Says me n (record l { logged = with_entry e l.logged }) (Rec.Prepare e ∷ log)
+pub says-prepare : {me n : ℕ} {l : Ledger} {log : Log} (s : FieldsStand me n l log) (e : Entry) → e.epoch ≡ known log → FieldsStand me n (record l { logged = with_entry e l.logged }) (Rec.Prepare e ∷ log)
 unfolding facts_of is_boot known known_decision decision start live suspended has_entered promised accepted logged logged_in executed is_enter
 says-prepare {me} {n} {l} {log} s e is = record {
   few = s.few;
@@ -129,7 +129,7 @@ committed log t e next same =
     subst (λ (u : Stamp). find (λ f. stamp_eq f.stamp u) (logged log) ≡ Some e) (stamp_eq-same e.stamp t same)
     (find-above (last_stamp log) (logged log) e next)
 
-pub says-commit : {me n : ℕ} {l : Ledger} {log : Log} (s : Says me n l log) (t : Stamp) (e : Entry) (h : History) → first_of (unexecuted log) ≡ Some e → stamp_eq e.stamp t ≡ true → e.epoch ≡ known log → HasExecuted h (known log) (executed log ++ e ∷ []) → Says me n (record l { history = h }) (Rec.Commit t ∷ log)
+pub says-commit : {me n : ℕ} {l : Ledger} {log : Log} (s : FieldsStand me n l log) (t : Stamp) (e : Entry) (h : History) → first_of (unexecuted log) ≡ Some e → stamp_eq e.stamp t ≡ true → e.epoch ≡ known log → HistoryStands h (known log) (executed log ++ e ∷ []) → FieldsStand me n (record l { history = h }) (Rec.Commit t ∷ log)
 unfolding facts_of is_boot known known_decision decision start live suspended has_entered promised accepted logged logged_in executed is_enter
 says-commit {me} {n} {l} {log} s t e h next same of_known done = record {
   few = s.few;
@@ -142,7 +142,7 @@ says-commit {me} {n} {l} {log} s t e h next same of_known done = record {
   };
 }
 
-pub says-adopt : {me n : ℕ} {l : Ledger} {log : Log} (s : Says me n l log) (place : ℕ) (es : List Entry) (h : History) → AllByRecursion (λ e. e.epoch ≤ known log) es → HasExecuted h (known log) (executed log ++ es) → Says me n (record l { history = h }) (Rec.Adopt place es ∷ log)
+pub says-adopt : {me n : ℕ} {l : Ledger} {log : Log} (s : FieldsStand me n l log) (place : ℕ) (es : List Entry) (h : History) → AllByRecursion (λ e. e.epoch ≤ known log) es → HistoryStands h (known log) (executed log ++ es) → FieldsStand me n (record l { history = h }) (Rec.Adopt place es ∷ log)
 unfolding facts_of is_boot known known_decision decision start live suspended has_entered promised accepted logged logged_in executed is_enter
 says-adopt {me} {n} {l} {log} s place es h below done = record {
   few = s.few;
@@ -157,7 +157,7 @@ says-adopt {me} {n} {l} {log} s place es h below done = record {
 
 -- ---- no record
 
-pub says-nothing : (me n : ℕ) (l : Ledger) (founders members : List ℕ) (tail logged : List Entry) → n ≤ 15 → fields_of l ≡ record { me = me; n = n; founders = founders; boots = 0; known = record { epoch = 0; spec = None; members = members; base_len = 0; tail = tail }; start = 0; live = false; suspended = false; entered = false; promised = no_ballot; accepted = None; logged = logged } → founders ≡ numbers_below n → members ≡ numbers_below n → tail ≡ [] → logged ≡ [] → HasExecuted l.history 0 [] → Says me n l []
+pub says-nothing : (me n : ℕ) (l : Ledger) (founders members : List ℕ) (tail logged : List Entry) → n ≤ 15 → fields_of l ≡ record { me = me; n = n; founders = founders; boots = 0; known = record { epoch = 0; spec = None; members = members; base_len = 0; tail = tail }; start = 0; live = false; suspended = false; entered = false; promised = no_ballot; accepted = None; logged = logged } → founders ≡ numbers_below n → members ≡ numbers_below n → tail ≡ [] → logged ≡ [] → HistoryStands l.history 0 [] → FieldsStand me n l []
 unfolding facts_of boots known known_decision decision start live suspended has_entered promised accepted logged logged_in executed
 says-nothing me n l founders members tail entries few fields first all none nothing done = record {
   few = few;
@@ -171,5 +171,5 @@ says-nothing me n l founders members tail entries few fields first all none noth
 }
 
 -- the mark of a spent ledger says nothing of the log
-pub says-marked : {me n : ℕ} {l : Ledger} {log : Log} → Says me n l log → (mark : Bool) → Says me n (record l { is_spent = mark }) log
+pub says-marked : {me n : ℕ} {l : Ledger} {log : Log} → FieldsStand me n l log → (mark : Bool) → FieldsStand me n (record l { is_spent = mark }) log
 says-marked s mark = record { few = s.few; facts = s.facts; executed = s.executed; none_above = s.none_above }

@@ -19,7 +19,7 @@ unfoldable pub last_stamp_in : ℕ → List Entry → Option Stamp
 last_stamp_in x es = option_map (λ e. e.stamp) (last_of (filter (λ e. e.epoch == x) es))
 
 -- these entries are executed, where x is the known epoch
-pub record HasExecuted (h : History) (x : ℕ) (es : List Entry) : Type 0 where
+pub record HistoryStands (h : History) (x : ℕ) (es : List Entry) : Type 0 where
   pub spelt : h.spelt ≡ map entry_bytes es
   pub rows : h.store ≡ after es
   pub last : h.last ≡ position_of es

@@ -10,7 +10,7 @@ use Rattle.crsm_spec.specs.Lines.{lines_of}
 pub use Rattle.crsm_log_facts.specs.Known.{founding}
 unfoldable pub use Rattle.crsm_log_facts.specs.Known.{known_decision}
 use Rattle.crsm_ledger.specs.declared.ledger.Ledger.{Ledger}
-use Rattle.crsm_ledger.specs.Executed.{HasExecuted}
+use Rattle.crsm_ledger.specs.Executed.{HistoryStands}
 
 -- Of epochs above the known one nothing is logged, executed or entered.
 pub record NoneAbove (log : Log) : Type 0 where
@@ -68,32 +68,32 @@ facts_of me n log = record {
 }
 
 -- The fields of the ledger of replica me, in a cluster that began with n, are what the log says.
-pub record Says (me n : ℕ) (ledger : Ledger) (log : Log) : Type 0 where
+pub record FieldsStand (me n : ℕ) (ledger : Ledger) (log : Log) : Type 0 where
   pub few : n ≤ 15
   pub facts : fields_of ledger ≡ facts_of me n log
-  pub executed : HasExecuted ledger.history (known log) (executed log)
+  pub executed : HistoryStands ledger.history (known log) (executed log)
   pub none_above : NoneAbove log
 
 -- Where the old ledger says what a log says behind which the record fits, the lines are the record's, and the new ledger
 -- says what the log with the record says; or memory ran out.
 abbrev pub Keeps : Ledger → Rec → Result (List Line) NoMemory → Ledger → Type 0
 Keeps old rec result new =
-    (me n : ℕ) (log : Log) → Says me n old log → fits me n log rec ≡ true →
-    IfOk result (λ lines. (lines ≡ lines_of me log rec) × Says me n new (rec ∷ log))
+    (me n : ℕ) (log : Log) → FieldsStand me n old log → fits me n log rec ≡ true →
+    IfOk result (λ lines. (lines ≡ lines_of me log rec) × FieldsStand me n new (rec ∷ log))
 
 -- Where the old ledger says what a log says behind which the record fits, the new one says what the log with the record says.
 abbrev pub Follows : Ledger → Rec → Ledger → Type 0
 Follows old rec new =
-    (me n : ℕ) (log : Log) → Says me n old log → fits me n log rec ≡ true → Says me n new (rec ∷ log)
+    (me n : ℕ) (log : Log) → FieldsStand me n old log → fits me n log rec ≡ true → FieldsStand me n new (rec ∷ log)
 
 -- memory ran out while a record was applied, and the fields say nothing
 abbrev pub IsSpent : Ledger → Type 0
 IsSpent ledger = ledger.is_spent ≡ true
 
 -- the ledger is not spent, and says what the log says
-pub record StandsFor (me n : ℕ) (ledger : Ledger) (log : Log) : Type 0 where
+pub record LedgerStands (me n : ℕ) (ledger : Ledger) (log : Log) : Type 0 where
   pub unspent : ledger.is_spent ≡ false
-  pub says : Says me n ledger log
+  pub says : FieldsStand me n ledger log
 
 -- a record's kind, its first byte
 unfoldable pub kind : Rec → ℕ
@@ -109,8 +109,8 @@ kind (Rec.Enter x) = 9
 
 -- for each log that the ledger stands for
 abbrev pub WhereStands : Ledger → (ℕ → ℕ → Log → Type 0) → Type 0
-WhereStands ledger P = (me n : ℕ) (log : Log) → StandsFor me n ledger log → P me n log
+WhereStands ledger P = (me n : ℕ) (log : Log) → LedgerStands me n ledger log → P me n log
 
 -- for each log that the ledger says
-abbrev pub WhereSays : Ledger → (ℕ → ℕ → Log → Type 0) → Type 0
-WhereSays ledger P = (me n : ℕ) (log : Log) → Says me n ledger log → P me n log
+abbrev pub WhereFieldsStand : Ledger → (ℕ → ℕ → Log → Type 0) → Type 0
+WhereFieldsStand ledger P = (me n : ℕ) (log : Log) → FieldsStand me n ledger log → P me n log

@@ -7,7 +7,7 @@ use Rattle.crsm_spec.specs.Fits.{fits}
 pub use Rattle.crsm_log_facts.specs.Logs.{with_records}
 use Rattle.crsm_ledger.specs.declared.error.LedgerError.{LedgerError}
 use Rattle.crsm_ledger.specs.declared.ledger.Ledger.{Ledger}
-use Rattle.crsm_ledger.specs.Ledger.{StandsFor, kind}
+use Rattle.crsm_ledger.specs.Ledger.{LedgerStands, kind}
 
 -- each record fits behind those before it
 abbrev pub FitInTurn : ℕ → ℕ → Log → List Rec → Type 0
@@ -54,18 +54,18 @@ IfBadLog LedgerError.NoMemory P = Unit {0}
 -- the record fits and is kept, or it does not fit
 abbrev pub TakesRecord : ℕ → Rec → Ledger → Result (Unit {0}) LedgerError → Ledger → Type 0
 TakesRecord entry rec old result new =
-    (me n : ℕ) (log : Log) → StandsFor me n old log →
-    MatchResult result (λ _. (fits me n log rec ≡ true) × StandsFor me n new (rec ∷ log))
+    (me n : ℕ) (log : Log) → LedgerStands me n old log →
+    MatchResult result (λ _. (fits me n log rec ≡ true) × LedgerStands me n new (rec ∷ log))
     (λ e. IfBadLog e (λ at why. (at ≡ entry) × (fits me n log rec ≡ false) × (why ≡ kind rec)))
 
 abbrev pub TakesRecords : ℕ → List Rec → Ledger → Result (Unit {0}) LedgerError → Ledger → Type 0
 TakesRecords entry recs old result new =
-    (me n : ℕ) (log : Log) → StandsFor me n old log →
-    MatchResult result (λ _. FitInTurn me n log recs × StandsFor me n new (with_records log recs))
+    (me n : ℕ) (log : Log) → LedgerStands me n old log →
+    MatchResult result (λ _. FitInTurn me n log recs × LedgerStands me n new (with_records log recs))
     (λ e. IfBadLog e (λ at why. (at ≡ entry) × Misfit me n log recs why))
 
 abbrev pub TakesBody : ℕ → List ℕ → Ledger → Result (Unit {0}) LedgerError → Ledger → Type 0
 TakesBody entry body old result new =
-    (me n : ℕ) (log : Log) → StandsFor me n old log →
-    MatchResult result (λ _. (recs : List Rec) × SpeltBody recs body × FitInTurn me n log recs × StandsFor me n new (with_records log recs))
+    (me n : ℕ) (log : Log) → LedgerStands me n old log →
+    MatchResult result (λ _. (recs : List Rec) × SpeltBody recs body × FitInTurn me n log recs × LedgerStands me n new (with_records log recs))
     (λ e. IfBadLog e (λ at why. (at ≡ entry) × IsBad me n log body why))

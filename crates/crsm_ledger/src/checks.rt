@@ -8,7 +8,7 @@ ghost use Rattle.crsm_base.specs.Order.{stamp_lt, stamp_eq, ballot_lt};
 ghost use Rattle.crsm_spec.specs.Fits.{fits, can_be_members};
 ghost use Rattle.crsm_spec.specs.Lists.{first_of, numbers_below};
 ghost use Rattle.crsm_ledger.specs.Executed.{goes_on_behind};
-ghost use Rattle.crsm_ledger.specs.Ledger.{Says, WhereSays};
+ghost use Rattle.crsm_ledger.specs.Ledger.{FieldsStand, WhereFieldsStand};
 
 use crate::history::Position;
 use crate::ledger::Ledger;
@@ -20,7 +20,7 @@ use crsm_base::{
 impl Ledger {
     /// Whether the record may come next: the test of `apply`.
     pub fn fits(&self, rec: &Rec) -> bool
-        ensures { WhereSays self.now (λ me n log. result ≡ fits me n log rec.now) }
+        ensures { WhereFieldsStand self.now (λ me n log. result ≡ fits me n log rec.now) }
     {
         match rec {
             Rec::Boot { me, n } => self.fits_boot(*me, *n),
@@ -40,13 +40,13 @@ impl Ledger {
     }
 
     fn fits_boot(&self, me: u32, n: u32) -> bool
-        ensures { (own cluster : ℕ) (log : List Rec) → Says own cluster self.now log → result ≡ fits own cluster log (Rec.Boot me n) }
+        ensures { (own cluster : ℕ) (log : List Rec) → FieldsStand own cluster self.now log → result ≡ fits own cluster log (Rec.Boot me n) }
     {
         (me == self.me) & (n == self.n) & (self.boots < u64::MAX)
     }
 
     fn fits_prepare(&self, entry: &Entry) -> bool
-        ensures { WhereSays self.now (λ me n log. result ≡ fits me n log (Rec.Prepare entry.now)) }
+        ensures { WhereFieldsStand self.now (λ me n log. result ≡ fits me n log (Rec.Prepare entry.now)) }
     {
         let is_member = is_among(self.known.members.as_slice(), entry.stamp.origin);
         let is_newest = self.logged.is_newest(entry);
@@ -58,14 +58,14 @@ impl Ledger {
     }
 
     fn fits_commit(&self, stamp: Stamp) -> bool
-        ensures { WhereSays self.now (λ me n log. result ≡ fits me n log (Rec.Commit stamp)) }
+        ensures { WhereFieldsStand self.now (λ me n log. result ≡ fits me n log (Rec.Commit stamp)) }
     {
         let is_next = begins_with(self.logged.above(self.history.last_stamp()), stamp);
         self.is_live & !self.is_suspended & is_next
     }
 
     fn fits_adopt(&self, place: u64, entries: &[Entry]) -> bool
-        ensures { WhereSays self.now (λ me n log. result ≡ fits me n log (Rec.Adopt place entries.now)) }
+        ensures { WhereFieldsStand self.now (λ me n log. result ≡ fits me n log (Rec.Adopt place entries.now)) }
     {
         let is_place = place == self.history.len();
         let are_known = all_up_to(entries, self.known.epoch);
@@ -74,13 +74,13 @@ impl Ledger {
     }
 
     fn fits_suspend(&self, epoch: u64) -> bool
-        ensures { WhereSays self.now (λ me n log. result ≡ fits me n log (Rec.Suspend epoch)) }
+        ensures { WhereFieldsStand self.now (λ me n log. result ≡ fits me n log (Rec.Suspend epoch)) }
     {
         (0 < self.boots) & (epoch == self.known.epoch) & !self.is_suspended
     }
 
     fn fits_promise(&self, instance: u64, ballot: Ballot) -> bool
-        ensures { WhereSays self.now (λ me n log. result ≡ fits me n log (Rec.Promise instance ballot)) }
+        ensures { WhereFieldsStand self.now (λ me n log. result ≡ fits me n log (Rec.Promise instance ballot)) }
     {
         let is_next = is_after(instance, self.known.epoch);
         let is_above = ballot_precedes(self.promised, ballot);
@@ -88,7 +88,7 @@ impl Ledger {
     }
 
     fn fits_accept(&self, instance: u64, ballot: Ballot, decision: &Decision) -> bool
-        ensures { WhereSays self.now (λ me n log. result ≡ fits me n log (Rec.Accept instance ballot decision.now)) }
+        ensures { WhereFieldsStand self.now (λ me n log. result ≡ fits me n log (Rec.Accept instance ballot decision.now)) }
     {
         let is_next = is_after(instance, self.known.epoch);
         let decides_next = is_after(decision.epoch, self.known.epoch);
@@ -99,14 +99,14 @@ impl Ledger {
     }
 
     fn fits_decide(&self, decision: &Decision) -> bool
-        ensures { WhereSays self.now (λ me n log. result ≡ fits me n log (Rec.Decide decision.now)) }
+        ensures { WhereFieldsStand self.now (λ me n log. result ≡ fits me n log (Rec.Decide decision.now)) }
     {
         let has_members = has_members(self.n, decision);
         (0 < self.boots) & (self.known.epoch < decision.epoch) & has_members
     }
 
     fn fits_enter(&self, epoch: u64) -> bool
-        ensures { WhereSays self.now (λ me n log. result ≡ fits me n log (Rec.Enter epoch)) }
+        ensures { WhereFieldsStand self.now (λ me n log. result ≡ fits me n log (Rec.Enter epoch)) }
     {
         let is_member = is_among(self.known.members.as_slice(), self.me);
         let is_start = self.history.len() == self.start;

@@ -7,7 +7,7 @@ ghost use Rattle.crsm_base.specs.declared.Entry.{Entry};
 ghost use Rattle.crsm_base.specs.Spelling.{FitsEntry, entry_bytes};
 ghost use Rattle.crsm_base.specs.Store.{apply};
 ghost use Rattle.crsm_spec.specs.Lines.{exec_line, exec_lines};
-ghost use Rattle.crsm_ledger.specs.Executed.{HasExecuted, position_of, last_stamp_in};
+ghost use Rattle.crsm_ledger.specs.Executed.{HistoryStands, position_of, last_stamp_in};
 
 use crate::spelt::Spelt;
 use crsm_base::{Answer, Bytes, Entry, Line, Lines, NoMemory, Stamp};
@@ -43,7 +43,7 @@ impl History {
     /// Nothing is executed.
     #[tactic(auto, unfolding(crsm_base::specs::Store::after, crate::specs::Executed::position_of, crate::specs::Executed::last_stamp_in, crsm_spec::specs::Lists::last_of))]
     pub fn new(alloc: Global) -> Result<History, NoMemory>
-        ensures { IfOk result (λ history. HasExecuted history 0 []) }
+        ensures { IfOk result (λ history. HistoryStands history 0 []) }
     {
         Ok(History {
             alloc,
@@ -58,28 +58,28 @@ impl History {
 
     /// How many entries are executed.
     pub fn len(&self) -> u64
-        ensures { (x : ℕ) (es : List Entry) → HasExecuted self.now x es → result ≡ length es }
+        ensures { (x : ℕ) (es : List Entry) → HistoryStands self.now x es → result ≡ length es }
     {
         self.spelt.len() as u64
     }
 
     /// Where the last executed entry stands in the global order.
     pub fn last(&self) -> Option<Position>
-        ensures { (x : ℕ) (es : List Entry) → HasExecuted self.now x es → result ≡ position_of es }
+        ensures { (x : ℕ) (es : List Entry) → HistoryStands self.now x es → result ≡ position_of es }
     {
         self.last
     }
 
     /// The stamp of the last executed entry of the known epoch.
     pub fn last_stamp(&self) -> Option<Stamp>
-        ensures { (x : ℕ) (es : List Entry) → HasExecuted self.now x es → result ≡ last_stamp_in x es }
+        ensures { (x : ℕ) (es : List Entry) → HistoryStands self.now x es → result ≡ last_stamp_in x es }
     {
         self.last_stamp
     }
 
     /// A further epoch is known, of which nothing is executed.
     pub fn begin_epoch(&mut self, epoch: u64)
-        ensures { (x : ℕ) (es : List Entry) → HasExecuted self.old x es → AllByRecursion (λ e. e.epoch < epoch) es → HasExecuted self.new epoch es }
+        ensures { (x : ℕ) (es : List Entry) → HistoryStands self.old x es → AllByRecursion (λ e. e.epoch < epoch) es → HistoryStands self.new epoch es }
     {
         self.epoch = epoch;
         self.last_stamp = None;
@@ -87,14 +87,14 @@ impl History {
 
     /// The bytes of the entry at this place.
     pub fn spelt(&self, place: u64) -> Option<&[u8]>
-        ensures { (x : ℕ) (es : List Entry) → HasExecuted self.now x es → option_copied result ≡ option_map entry_bytes (slice_get es place) }
+        ensures { (x : ℕ) (es : List Entry) → HistoryStands self.now x es → option_copied result ≡ option_map entry_bytes (slice_get es place) }
     {
         self.spelt.get(place as usize)
     }
 
     /// The entry at this place.
     pub fn entry(&self, place: u64) -> Result<Option<Entry>, NoMemory>
-        ensures { (x : ℕ) (es : List Entry) → HasExecuted self.now x es → IfOk result (λ r. r ≡ slice_get es place) }
+        ensures { (x : ℕ) (es : List Entry) → HistoryStands self.now x es → IfOk result (λ r. r ≡ slice_get es place) }
     {
         match self.spelt.get(place as usize) {
             None => Ok(None),
@@ -105,7 +105,7 @@ impl History {
     /// Executes an entry, and adds its line.
     pub fn execute(&mut self, me: u32, entry: &Entry, lines: &mut Lines) -> Result<(), NoMemory>
         requires { FitsEntry entry.now }
-        ensures { (x : ℕ) (es : List Entry) → HasExecuted self.old x es → OnOk result (HasExecuted self.new x (es ++ entry.now ∷ []) × (lines.new ≡ lines.old ++ exec_line me es entry.now ∷ [])) }
+        ensures { (x : ℕ) (es : List Entry) → HistoryStands self.old x es → OnOk result (HistoryStands self.new x (es ++ entry.now ∷ []) × (lines.new ≡ lines.old ++ exec_line me es entry.now ∷ [])) }
     {
         let place = self.spelt.len() as u64;
         let answer = self.run(entry)?;
@@ -123,7 +123,7 @@ impl History {
     /// Executes an entry, and gives the store's answer.
     pub fn run(&mut self, entry: &Entry) -> Result<Answer, NoMemory>
         requires { FitsEntry entry.now }
-        ensures executed { (x : ℕ) (es : List Entry) → HasExecuted self.old x es → OnOk result (HasExecuted self.new x (es ++ entry.now ∷ [])) }
+        ensures executed { (x : ℕ) (es : List Entry) → HistoryStands self.old x es → OnOk result (HistoryStands self.new x (es ++ entry.now ∷ [])) }
         ensures answer { IfOk result (λ answer. answer ≡ (apply self.old.store entry.now.command).1) }
     {
         self.spelling.clear();
@@ -143,7 +143,7 @@ impl History {
     /// Executes entries whose lines nobody asks for.
     pub fn run_all(&mut self, entries: &[Entry]) -> Result<(), NoMemory>
         requires { AllByRecursion FitsEntry entries.now }
-        ensures { (x : ℕ) (es : List Entry) → HasExecuted self.old x es → OnOk result (HasExecuted self.new x (es ++ entries.now)) }
+        ensures { (x : ℕ) (es : List Entry) → HistoryStands self.old x es → OnOk result (HistoryStands self.new x (es ++ entries.now)) }
     {
         for entry in entries {
             let _answer = self.run(entry)?;
@@ -159,7 +159,7 @@ impl History {
         lines: &mut Lines,
     ) -> Result<(), NoMemory>
         requires { AllByRecursion FitsEntry entries.now }
-        ensures { (x : ℕ) (es : List Entry) → HasExecuted self.old x es → OnOk result (HasExecuted self.new x (es ++ entries.now) × (lines.new ≡ lines.old ++ exec_lines me es entries.now)) }
+        ensures { (x : ℕ) (es : List Entry) → HistoryStands self.old x es → OnOk result (HistoryStands self.new x (es ++ entries.now) × (lines.new ≡ lines.old ++ exec_lines me es entries.now)) }
     {
         for entry in entries {
             self.execute(me, entry, lines)?;

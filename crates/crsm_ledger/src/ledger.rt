@@ -54,14 +54,14 @@ fn members_of(alloc: Global, numbers: &[u32]) -> Result<Members, NoMemory>
 }
 
 impl Ledger {
-    ghost use Rattle.crsm_ledger.specs.Ledger.{StandsFor, IsSpent, known_decision};
+    ghost use Rattle.crsm_ledger.specs.Ledger.{LedgerStands, IsSpent, known_decision};
 
     /// The ledger of an empty log, of replica `me` in a cluster that began with `n` replicas.
     pub fn new(alloc: Global, me: u32, n: u32) -> Result<Ledger, NoMemory>
         requires me_below { me < 15 }
         requires some { 1 ≤ n }
         requires few { n ≤ 15 }
-        ensures { IfOk result (λ ledger. StandsFor me n ledger []) }
+        ensures { IfOk result (λ ledger. LedgerStands me n ledger []) }
     {
         let numbers = first_replicas(n);
         let founders = members_of(alloc, numbers)?;
@@ -218,8 +218,8 @@ impl Ledger {
     /// and changes nothing. After `NoMemory` the ledger is spent.
     pub fn apply(&mut self, rec: &Rec) -> Result<Lines, LedgerError>
         requires { FitsRec rec.now }
-        ensures kept { WhereStands self.old (λ me n log. IfOk result (λ lines. (fits me n log rec.now ≡ true) × (lines ≡ lines_of me log rec.now) × StandsFor me n self.new (rec.now ∷ log))) }
-        ensures not_fit { (me n why : ℕ) (log : List Rec) → StandsFor me n self.old log → result ≡ Err (LedgerError.NotFit why) → (fits me n log rec.now ≡ false) × (why ≡ kind rec.now) }
+        ensures kept { WhereStands self.old (λ me n log. IfOk result (λ lines. (fits me n log rec.now ≡ true) × (lines ≡ lines_of me log rec.now) × LedgerStands me n self.new (rec.now ∷ log))) }
+        ensures not_fit { (me n why : ℕ) (log : List Rec) → LedgerStands me n self.old log → result ≡ Err (LedgerError.NotFit why) → (fits me n log rec.now ≡ false) × (why ≡ kind rec.now) }
         ensures unchanged { (why : ℕ) → result ≡ Err (LedgerError.NotFit why) → self.new ≡ self.old }
         ensures spent { result ≡ Err LedgerError.NoMemory → IsSpent self.new }
         ensures stays_spent { IsSpent self.old → result ≡ Err LedgerError.NoMemory }

@@ -2,7 +2,7 @@
 
 ghost use Rattle.std.specs.Prelude.{◌≡◌, ℕ, List};
 ghost use Rattle.crsm_base.specs.declared.Rec.{Rec};
-ghost use Rattle.crsm_ledger.specs.Ledger.{StandsFor, WhereStands};
+ghost use Rattle.crsm_ledger.specs.Ledger.{LedgerStands, WhereStands};
 
 use crate::ledger::Ledger;
 use std::alloc::Global;

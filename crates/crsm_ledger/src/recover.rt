@@ -3,7 +3,7 @@
 ghost use Rattle.std.specs.Prelude.{◌≡◌, ◌<◌, ◌≤◌, ℕ, [], List, IfOk, IfErr};
 ghost use Rattle.crsm_base.specs.declared.Rec.{Rec};
 ghost use Rattle.crsm_base.specs.Records.{FitsRec};
-ghost use Rattle.crsm_ledger.specs.Ledger.{StandsFor};
+ghost use Rattle.crsm_ledger.specs.Ledger.{LedgerStands};
 ghost use Rattle.crsm_ledger.specs.Recovered.{AreKept, IfBadLog, IsBadAt, TakesBody, TakesRecord};
 
 use crate::error::LedgerError;
@@ -20,7 +20,7 @@ impl Ledger {
         requires me_below { me < 15 }
         requires some { 1 ≤ n }
         requires few { n ≤ 15 }
-        ensures whole { IfOk result (λ ledger. (log : List Rec) × AreKept me n [] bodies.now log × StandsFor me n ledger log) }
+        ensures whole { IfOk result (λ ledger. (log : List Rec) × AreKept me n [] bodies.now log × LedgerStands me n ledger log) }
         ensures bad { IfErr result (λ e. IfBadLog e (IsBadAt me n bodies.now)) }
     {
         let mut ledger = Ledger::new(alloc, me, n)?;

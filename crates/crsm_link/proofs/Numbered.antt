@@ -4,7 +4,7 @@ use Rattle.std.specs.List.{enumerate_from}
 use Rattle.std.proofs.lemmas.List.FromFn.{length-enumerate_from, get_or-enumerate_from}
 use Rattle.std.proofs.lemmas.List.{take_more, take_min, drop-append-le, drop-drop}
 use Rattle.crsm_base.specs.declared.InEpoch.{InEpoch}
-use Rattle.crsm_link.specs.Sent.{StandsFor, unacked}
+use Rattle.crsm_link.specs.Sent.{OutStands, unacked}
 use Rattle.crsm_link.specs.declared.outbound.Out.{Out}
 
 drop_numbered : (k n : ℕ) (xs : List InEpoch) → drop k (enumerate_from n xs) ≡ enumerate_from (n + k) (drop k xs)
@@ -15,12 +15,12 @@ drop_numbered (suc k) n (x ∷ xs) =
     drop_numbered k (n + 1) xs ∙ ap (λ m. enumerate_from m (drop k xs)) e
 
 -- what is kept, with its numbers, is what is not acknowledged
-pub numbered : (out : Out) (pushed : List InEpoch) (acked : ℕ) → StandsFor out pushed acked →
+pub numbered : (out : Out) (pushed : List InEpoch) (acked : ℕ) → OutStands out pushed acked →
     enumerate_from out.first out.frames.items ≡ unacked pushed acked
 numbered out pushed acked s =
     ap (λ n. enumerate_from n out.frames.items) s.first ∙ ap (enumerate_from acked) s.frames ∙ sym (rw zero-add at (drop_numbered acked 0 pushed))
 
-pub length_kept : (out : Out) (pushed : List InEpoch) (acked : ℕ) → StandsFor out pushed acked →
+pub length_kept : (out : Out) (pushed : List InEpoch) (acked : ℕ) → OutStands out pushed acked →
     length out.frames.items ≡ length (unacked pushed acked)
 length_kept out pushed acked s =
     sym (length-enumerate_from out.first out.frames.items) ∙ ap length (numbered out pushed acked s)

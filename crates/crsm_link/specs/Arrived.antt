@@ -6,5 +6,5 @@ use Rattle.crsm_link.specs.declared.inbound.In.{In}
 
 -- The receiver's end stands for all frames that arrived, in the order in which they came, each with its number: it has
 -- given what is taken of them.
-abbrev pub HasTaken : In → List (ℕ × InEpoch) → Type 0
-HasTaken receiver arrived = receiver.next ≡ length (taken arrived)
+abbrev pub InStands : In → List (ℕ × InEpoch) → Type 0
+InStands receiver arrived = receiver.next ≡ length (taken arrived)

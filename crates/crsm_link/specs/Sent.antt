@@ -13,7 +13,7 @@ abbrev pub IsFrameOf : List InEpoch → ℕ × InEpoch → Type 0
 IsFrameOf pushed frame = slice_get pushed frame.0 ≡ Some frame.1
 
 -- The sender's end stands for all payloads that were pushed, in order, and the greatest number that was acknowledged.
-pub record StandsFor (out : Out) (pushed : List InEpoch) (acked : ℕ) : Type 0 where
+pub record OutStands (out : Out) (pushed : List InEpoch) (acked : ℕ) : Type 0 where
   pub frames : out.frames.items ≡ drop acked pushed
   pub first : out.first ≡ acked
   pub within : acked ≤ length pushed
@@ -24,4 +24,4 @@ pushed_count out = out.first + length out.frames.items
 
 -- for the payloads that were pushed, and how many are acknowledged
 abbrev pub WhereStands : Out → (List InEpoch → ℕ → Type 0) → Type 0
-WhereStands out P = (pushed : List InEpoch) (acked : ℕ) → StandsFor out pushed acked → P pushed acked
+WhereStands out P = (pushed : List InEpoch) (acked : ℕ) → OutStands out pushed acked → P pushed acked

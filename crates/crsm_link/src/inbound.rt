@@ -25,11 +25,11 @@ pub struct In {
 }
 
 impl In {
-    ghost use Rattle.crsm_link.specs.Arrived.{HasTaken};
+    ghost use Rattle.crsm_link.specs.Arrived.{InStands};
 
     /// The end of a new link.
     pub fn new() -> In
-        ensures arrived { HasTaken result [] }
+        ensures arrived { InStands result [] }
         ensures next { result.next ≡ 0 }
     {
         In { next: 0 }
@@ -37,7 +37,7 @@ impl In {
 
     /// The number of the next frame: how many were taken.
     pub fn next(&self) -> u64
-        ensures arrived { (arrived : List (ℕ × InEpoch)) → HasTaken self.now arrived → result ≡ length (taken arrived) }
+        ensures arrived { (arrived : List (ℕ × InEpoch)) → InStands self.now arrived → result ≡ length (taken arrived) }
         ensures next { result ≡ self.now.next }
     {
         self.next
@@ -46,13 +46,13 @@ impl In {
     /// Takes a frame where its number is the next one.
     pub fn take(&mut self, seq: u64) -> Take
         requires { ¬ ((seq ≡ u64.MAX) × (self.old.next ≡ u64.MAX)) }
-        ensures arrived { (arrived : List (ℕ × InEpoch)) (payload : InEpoch) → HasTaken self.old arrived → HasTaken self.new (arrived ++ (seq, payload) ∷ []) }
+        ensures arrived { (arrived : List (ℕ × InEpoch)) (payload : InEpoch) → InStands self.old arrived → InStands self.new (arrived ++ (seq, payload) ∷ []) }
         ensures next { (result ≡ Take.Next) ↔ (seq ≡ self.old.next) }
         ensures moved { seq ≡ self.old.next → self.new.next ≡ self.old.next + 1 }
         ensures waits { seq ≢ self.old.next → self.new.next ≡ self.old.next }
         ensures old { (result ≡ Take.Old) ↔ (seq < self.old.next) }
         ensures early { (result ≡ Take.Early) ↔ (self.old.next < seq) }
-        ensures given { (arrived : List (ℕ × InEpoch)) (payload : InEpoch) → HasTaken self.old arrived →
+        ensures given { (arrived : List (ℕ × InEpoch)) (payload : InEpoch) → InStands self.old arrived →
             (result ≡ Take.Next) ↔ (taken (arrived ++ (seq, payload) ∷ []) ≡ taken arrived ++ payload ∷ []) }
     {
         if seq < self.next {

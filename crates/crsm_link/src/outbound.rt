@@ -20,11 +20,11 @@ pub struct Out {
 }
 
 impl Out {
-    ghost use Rattle.crsm_link.specs.Sent.{StandsFor, unacked, pushed_count, WhereStands};
+    ghost use Rattle.crsm_link.specs.Sent.{OutStands, unacked, pushed_count, WhereStands};
 
     /// The end of a new link.
     pub fn new(alloc: Global) -> Out
-        ensures fresh { StandsFor result [] 0 }
+        ensures fresh { OutStands result [] 0 }
     {
         Out {
             alloc,
@@ -36,10 +36,10 @@ impl Out {
     /// Adds a frame, and answers its number: how many were pushed before. An `Err` changes nothing.
     pub fn push(&mut self, payload: InEpoch) -> Result<u64, NoMemory>
         requires { pushed_count self.old < u64.MAX }
-        ensures ok { OnOk result (WhereStands self.old (λ pushed acked. StandsFor self.new (pushed ++ payload ∷ []) acked)) }
+        ensures ok { OnOk result (WhereStands self.old (λ pushed acked. OutStands self.new (pushed ++ payload ∷ []) acked)) }
         ensures number { IfOk result (λ number. WhereStands self.old (λ pushed acked. number ≡ length pushed)) }
         ensures count { OnOk result (pushed_count self.new ≡ pushed_count self.old + 1) }
-        ensures err { OnErr result (WhereStands self.old (λ pushed acked. StandsFor self.new pushed acked)) }
+        ensures err { OnErr result (WhereStands self.old (λ pushed acked. OutStands self.new pushed acked)) }
     {
         let number = self.first + self.frames.len() as u64;
         self.frames.push_back(payload)?;
@@ -48,8 +48,8 @@ impl Out {
 
     /// All frames below this number have come. A number above what was pushed changes nothing.
     pub fn acked(&mut self, next: u64)
-        ensures within { WhereStands self.old (λ pushed acked. next ≤ length pushed → StandsFor self.new pushed (max next acked)) }
-        ensures past { WhereStands self.old (λ pushed acked. length pushed < next → StandsFor self.new pushed acked) }
+        ensures within { WhereStands self.old (λ pushed acked. next ≤ length pushed → OutStands self.new pushed (max next acked)) }
+        ensures past { WhereStands self.old (λ pushed acked. length pushed < next → OutStands self.new pushed acked) }
     {
         let count = next.saturating_sub(self.first);
         if count > self.frames.len() as u64 {

@@ -4,7 +4,7 @@ ghost use Rattle.std.specs.Prelude.{◌≡◌, ◌∷◌, [], ℕ, length, is_so
 ghost use Rattle.crsm_spec.specs.Log as logs;
 ghost use Rattle.crsm_spec.specs.Replica.{Replica};
 ghost use Rattle.crsm_spec.specs.World as world;
-ghost use Rattle.crsm_ledger.specs.Ledger.{StandsFor as SaysOfLog};
+ghost use Rattle.crsm_ledger.specs.Ledger.{LedgerStands};
 ghost use Rattle.crsm_disk.specs.Memory.{meaning_of};
 ghost use Rattle.crsm_shell.specs.Shell.{ShellStands};
 ghost use Rattle.crsm_shell.specs.Words.{disk_of};
@@ -96,7 +96,7 @@ impl Machine {
 /// How a replica that is up stands, by its ledger.
 #[tactic(auto, unfolding(crsm_spec::specs::Log::active))]
 fn state_of(ledger: &Ledger) -> State
-    ensures { (me n : ℕ) (log : logs.Log) → SaysOfLog me n ledger.now log → result ≡ (if logs.active log then State.Live else if logs.live log then State.Held else State.Out) }
+    ensures { (me n : ℕ) (log : logs.Log) → LedgerStands me n ledger.now log → result ≡ (if logs.active log then State.Live else if logs.live log then State.Held else State.Out) }
 {
     if !ledger.live() {
         return State::Out;

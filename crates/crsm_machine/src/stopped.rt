@@ -2,7 +2,7 @@
 
 ghost use Rattle.std.specs.Prelude.{◌≡◌, ℕ, [], IfOk};
 ghost use Rattle.crsm_image.specs.Image.{image_of};
-ghost use Rattle.crsm_ledger.specs.Ledger.{StandsFor as SaysOfLog};
+ghost use Rattle.crsm_ledger.specs.Ledger.{LedgerStands};
 ghost use Rattle.crsm_spec.specs.Log.{Log};
 ghost use Rattle.crsm_spec.specs.Replica.{Replica};
 ghost use Rattle.crsm_shell.specs.Shell.{HasLog};
@@ -49,7 +49,7 @@ pub(crate) fn never_booted(alloc: Global) -> Result<Stopped, NoMemory>
 
 /// What a ledger says.
 pub(crate) fn summary_of(ledger: &Ledger) -> LogSummary
-    ensures { (me n : ℕ) (log : Log) → SaysOfLog me n ledger.now log → SumsUp result log }
+    ensures { (me n : ℕ) (log : Log) → LedgerStands me n ledger.now log → SumsUp result log }
 {
     LogSummary {
         known: ledger.known().epoch,

@@ -39,7 +39,7 @@ abbrev pub made_of : Draft → Made
 made_of x = record { batch = x.batch; lines = x.lines; excess = x.excess; sends = x.sends; replies = x.replies }
 
 -- The output holds what was made.
-pub record Holds (output : Output) (m : Made) : Type 0 where
+pub record OutputStands (output : Output) (m : Made) : Type 0 where
   pub records : output.records ≡ m.batch
   pub lines : output.lines ≡ m.lines
   pub excess : output.excess.items ≡ m.excess

@@ -2,7 +2,7 @@
 
 ghost use Rattle.std.specs.Prelude.{◌≡◌, ◌++◌, [], ◌∷◌, ℕ, List, IfOk, OnOk, map};
 ghost use Rattle.crsm_base.specs.declared.Datagram.{Datagram};
-ghost use Rattle.crsm_output.specs.Made.{Made, Holds, IsBatchOf, nothing, on_paper, to_replica, to_address, line_of};
+ghost use Rattle.crsm_output.specs.Made.{Made, OutputStands, IsBatchOf, nothing, on_paper, to_replica, to_address, line_of};
 
 use crate::batch::Batch;
 use crsm_base::{Datagram, Line, Lines, NoMemory, Outcome, Rec, Recs, Send, Sends, To};
@@ -36,7 +36,7 @@ pub struct Output {
 impl Output {
     /// Nothing is made.
     pub fn new(alloc: Global) -> Output
-        ensures { Holds result nothing }
+        ensures { OutputStands result nothing }
     {
         Output {
             alloc,
@@ -50,14 +50,14 @@ impl Output {
 
     /// The lines of the records so far.
     pub fn lines(&self) -> &[Line]
-        ensures { (m : Made) → Holds self.now m → result.now ≡ m.lines }
+        ensures { (m : Made) → OutputStands self.now m → result.now ≡ m.lines }
     {
         self.lines.as_slice()
     }
 
     /// A record is kept, which gives these lines.
     pub fn keep(&mut self, rec: Rec, lines: Lines) -> Result<(), NoMemory>
-        ensures { OnOk result ((m : Made) → Holds self.old m → Holds self.new (record m { batch = m.batch ++ rec ∷ []; lines = m.lines ++ lines })) }
+        ensures { OnOk result ((m : Made) → OutputStands self.old m → OutputStands self.new (record m { batch = m.batch ++ rec ∷ []; lines = m.lines ++ lines })) }
     {
         self.records.push(rec)?;
         if self.lines.as_slice().is_empty() {
@@ -71,7 +71,7 @@ impl Output {
 
     /// A collection is refused, with this line.
     pub fn exceed(&mut self, line: Line) -> Result<(), NoMemory>
-        ensures { OnOk result ((m : Made) → Holds self.old m → Holds self.new (record m { excess = m.excess ++ line ∷ [] })) }
+        ensures { OnOk result ((m : Made) → OutputStands self.old m → OutputStands self.new (record m { excess = m.excess ++ line ∷ [] })) }
     {
         self.excess.push(line)?;
         Ok(())
@@ -79,7 +79,7 @@ impl Output {
 
     /// A datagram goes to replica `k`.
     pub fn send(&mut self, k: u32, datagram: Datagram) -> Result<(), NoMemory>
-        ensures { OnOk result ((m : Made) → Holds self.old m → Holds self.new (record m { sends = m.sends ++ (k, datagram) ∷ [] })) }
+        ensures { OnOk result ((m : Made) → OutputStands self.old m → OutputStands self.new (record m { sends = m.sends ++ (k, datagram) ∷ [] })) }
     {
         self.sends.push(Send {
             to: To::Replica(k),
@@ -90,7 +90,7 @@ impl Output {
 
     /// These datagrams go to replicas.
     pub fn send_all(&mut self, sends: Sends) -> Result<(), NoMemory>
-        ensures { OnOk result ((m : Made) (sent : List (ℕ × Datagram)) → Holds self.old m → sends ≡ map to_replica sent → Holds self.new (record m { sends = m.sends ++ sent })) }
+        ensures { OnOk result ((m : Made) (sent : List (ℕ × Datagram)) → OutputStands self.old m → sends ≡ map to_replica sent → OutputStands self.new (record m { sends = m.sends ++ sent })) }
     {
         let mut more = sends;
         self.sends.append(&mut more)?;
@@ -99,7 +99,7 @@ impl Output {
 
     /// A client is told something.
     pub fn reply(&mut self, reply: Reply) -> Result<(), NoMemory>
-        ensures { OnOk result ((m : Made) → Holds self.old m → Holds self.new (record m { replies = m.replies ++ on_paper reply ∷ [] })) }
+        ensures { OnOk result ((m : Made) → OutputStands self.old m → OutputStands self.new (record m { replies = m.replies ++ on_paper reply ∷ [] })) }
     {
         self.replies.push(reply)?;
         Ok(())
@@ -107,8 +107,8 @@ impl Output {
 
     /// Hands out all that was made, and begins anew.
     pub fn take(&mut self) -> Result<Batch, NoMemory>
-        ensures batch { IfOk result (λ batch. (m : Made) → Holds self.old m → IsBatchOf batch m) }
-        ensures nothing { OnOk result (Holds self.new nothing) }
+        ensures batch { IfOk result (λ batch. (m : Made) → OutputStands self.old m → IsBatchOf batch m) }
+        ensures nothing { OnOk result (OutputStands self.new nothing) }
     {
         let alloc = self.alloc;
         let records = mem::replace(&mut self.records, Recs::new(alloc));

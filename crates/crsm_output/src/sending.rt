@@ -4,7 +4,7 @@ ghost use Rattle.std.specs.Prelude.{[], ◌∷◌, ◌++◌, IfOk, OnOk};
 ghost use Rattle.crsm_base.specs.declared.Control.{Control};
 ghost use Rattle.crsm_base.specs.declared.Datagram.{Datagram};
 ghost use Rattle.crsm_spec.specs.Draft.{parts_to};
-ghost use Rattle.crsm_output.specs.Made.{Made, Holds};
+ghost use Rattle.crsm_output.specs.Made.{Made, OutputStands};
 ghost use Rattle.crsm_output.specs.Spellings.{IsSpelling, IsSpellingOf, WhereNext};
 
 use crate::output::Output;
@@ -49,7 +49,7 @@ fn send_at_once(
     number: u64,
     spelling: &[u8],
 ) -> Result<(), NoMemory>
-    ensures { OnOk result ((m : Made) → Holds output.old m → Holds output.new (record m { sends = m.sends ++ (to, Datagram.Part from to boot number 0 1 spelling.now) ∷ [] })) }
+    ensures { OnOk result ((m : Made) → OutputStands output.old m → OutputStands output.new (record m { sends = m.sends ++ (to, Datagram.Part from to boot number 0 1 spelling.now) ∷ [] })) }
 {
     let mut bytes = Bytes::new(alloc);
     bytes.reserve(spelling.len())?;
@@ -79,7 +79,7 @@ pub fn send_parts(
     spelling: &[u8],
 ) -> Result<(), NoMemory>
     requires { IsSpelling spelling.now }
-    ensures { OnOk result (WhereNext output.old from boot number spelling.now (λ r m c. Holds output.new (record m { sends = m.sends ++ parts_to r to c }))) }
+    ensures { OnOk result (WhereNext output.old from boot number spelling.now (λ r m c. OutputStands output.new (record m { sends = m.sends ++ parts_to r to c }))) }
 {
     if spelling.len() <= PART_BYTES as usize {
         send_at_once(alloc, output, from, to, boot, number, spelling)?;

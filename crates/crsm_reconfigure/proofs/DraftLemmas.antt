@@ -16,7 +16,7 @@ use Rattle.crsm_spec.specs.Coordinate.{forget_epoch, adopt_tail, enter, advance,
 use Rattle.crsm_spec.specs.Controls.{on_decide, retrieve_base}
 use Rattle.crsm_spec.specs.Step.{if_fitting}
 use Rattle.crsm_replica.specs.declared.state.ReplicaState.{ReplicaState}
-use Rattle.crsm_replica.specs.Replica.{StandsFor, learnt}
+use Rattle.crsm_replica.specs.Replica.{ReplicaStands, learnt}
 use Rattle.crsm_reconfigure.specs.Rules.{tail_goes_on, rest_goes_on}
 
 -- ---- choices
@@ -55,34 +55,34 @@ and_none false b h = refl
 
 -- ---- an input whose records would not fit
 
-pub is_whole : (state : ReplicaState) (x y : Draft) → y.fitting ≡ true → StandsFor state y → StandsFor state (if_fitting x y)
+pub is_whole : (state : ReplicaState) (x y : Draft) → y.fitting ≡ true → ReplicaStands state y → ReplicaStands state (if_fitting x y)
 unfolding if_fitting
-is_whole state x y f s = subst (λ z. StandsFor state z) (sym (when_yes y.fitting y x f)) s
+is_whole state x y f s = subst (λ z. ReplicaStands state z) (sym (when_yes y.fitting y x f)) s
 
-pub is_ignored : (state : ReplicaState) (x y : Draft) → y.fitting ≡ false → StandsFor state x → StandsFor state (if_fitting x y)
+pub is_ignored : (state : ReplicaState) (x y : Draft) → y.fitting ≡ false → ReplicaStands state x → ReplicaStands state (if_fitting x y)
 unfolding if_fitting
-is_ignored state x y f s = subst (λ z. StandsFor state z) (sym (when_no y.fitting y x f)) s
+is_ignored state x y f s = subst (λ z. ReplicaStands state z) (sym (when_no y.fitting y x f)) s
 
-pub was_whole : (state : ReplicaState) (x y : Draft) → y.fitting ≡ true → StandsFor state (if_fitting x y) → StandsFor state y
+pub was_whole : (state : ReplicaState) (x y : Draft) → y.fitting ≡ true → ReplicaStands state (if_fitting x y) → ReplicaStands state y
 unfolding if_fitting
-was_whole state x y f s = subst (λ z. StandsFor state z) (when_yes y.fitting y x f) s
+was_whole state x y f s = subst (λ z. ReplicaStands state z) (when_yes y.fitting y x f) s
 
-pub was_ignored : (state : ReplicaState) (x y : Draft) → y.fitting ≡ false → StandsFor state (if_fitting x y) → StandsFor state x
+pub was_ignored : (state : ReplicaState) (x y : Draft) → y.fitting ≡ false → ReplicaStands state (if_fitting x y) → ReplicaStands state x
 unfolding if_fitting
-was_ignored state x y f s = subst (λ z. StandsFor state z) (when_no y.fitting y x f) s
+was_ignored state x y f s = subst (λ z. ReplicaStands state z) (when_no y.fitting y x f) s
 
 -- one that does nothing
-pub does_nothing : (state : ReplicaState) (x y : Draft) → y ≡ x → StandsFor state x → StandsFor state (if_fitting x y)
+pub does_nothing : (state : ReplicaState) (x y : Draft) → y ≡ x → ReplicaStands state x → ReplicaStands state (if_fitting x y)
 unfolding if_fitting
-does_nothing state x y e s = subst (λ z. StandsFor state (when z.fitting then z otherwise x)) (sym e) (go x.fitting)
+does_nothing state x y e s = subst (λ z. ReplicaStands state (when z.fitting then z otherwise x)) (sym e) (go x.fitting)
   where
-    go : (b : Bool) → StandsFor state (when b then x otherwise x)
-    go true = subst (λ z. StandsFor state z) (sym (when_yes true x x refl)) s
-    go false = subst (λ z. StandsFor state z) (sym (when_no false x x refl)) s
+    go : (b : Bool) → ReplicaStands state (when b then x otherwise x)
+    go true = subst (λ z. ReplicaStands state z) (sym (when_yes true x x refl)) s
+    go false = subst (λ z. ReplicaStands state z) (sym (when_no false x x refl)) s
 
 -- one that is equal to another
-pub instead : (state : ReplicaState) (x y z : Draft) → y ≡ z → StandsFor state (if_fitting x y) → StandsFor state (if_fitting x z)
-instead state x y z e s = subst (λ w. StandsFor state (if_fitting x w)) e s
+pub instead : (state : ReplicaState) (x y z : Draft) → y ≡ z → ReplicaStands state (if_fitting x y) → ReplicaStands state (if_fitting x z)
+instead state x y z e s = subst (λ w. ReplicaStands state (if_fitting x w)) e s
 
 -- ---- sending
 

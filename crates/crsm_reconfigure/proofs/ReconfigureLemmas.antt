@@ -15,7 +15,7 @@ use Rattle.crsm_spec.specs.Collect.{own_page, frozen, whole_ones, first_pages, a
 use Rattle.crsm_spec.specs.Log.{above}
 use Rattle.crsm_spec.specs.Draft.{Draft, keep, noting, parts_to, send_control, send_to_each, send_to_all}
 use Rattle.crsm_spec.specs.Coordinate.{most_collected, may_reconfigure, suspend_once, collect, on_suspect, on_whole}
-use Rattle.crsm_suspend.specs.Collecting.{IsCollecting, FitsGot, got_decided, got_whole}
+use Rattle.crsm_suspend.specs.Collecting.{CollectStands, FitsGot, got_decided, got_whole}
 use Rattle.crsm_suspend.specs.Coordinating.{on_got, ReportsAreCounted}
 use Rattle.crsm_suspend.specs.declared.collect.Collect.{Collect}
 use Rattle.crsm_suspend.specs.declared.got.Got.{Got}
@@ -81,7 +81,7 @@ next_named x ms next first n f h =
     ap (λ ks. Some ks) n
     ∙ ap (λ b. cond b None (Some (next_spec x.replica ms))) (sym (ap (λ ks. bytes_eq ks (numbers_below x.replica.n)) (sym n) ∙ ap (λ ks. bytes_eq next ks) (sym f) ∙ h))
 
-pub begun_gathers : (x : Draft) (ms : List ℕ) (pages : List LogPage) (c : Collect) → may_reconfigure x.replica ms ≡ true → IsCollecting x.replica.log (spec_of x.replica) (named_spec x.replica ms) ms pages c →
+pub begun_gathers : (x : Draft) (ms : List ℕ) (pages : List LogPage) (c : Collect) → may_reconfigure x.replica ms ≡ true → CollectStands x.replica.log (spec_of x.replica) (named_spec x.replica ms) ms pages c →
     IsGathering c x.replica.me x.replica.n (decision x.replica.log) ms pages
 unfolding spec_of spec named_spec next_spec named_in next_in
 begun_gathers x ms pages c may h = gathers x.replica.me x.replica.n x.replica.log ms pages c (may_counts x.replica ms may) h
@@ -211,6 +211,6 @@ module _ (law : ReportsAreCounted) (ms : List ℕ) (x : Draft) (s : IsSound x) (
     next = asks_on x.replica.me (known x.replica.log) [] (own_pages ms x) (own_got ms x) (whole_is_got x.replica.me [] x.replica.log (spec_of x.replica) (named_spec x.replica ms) ms (own_pages ms x));
   }
 
-  pub suspect_gathers : (c : Collect) → IsCollecting x.replica.log (spec_of x.replica) (named_spec x.replica ms) ms (own_pages ms x) c →
+  pub suspect_gathers : (c : Collect) → CollectStands x.replica.log (spec_of x.replica) (named_spec x.replica ms) ms (own_pages ms x) c →
       IsGathering c (all_told ms x).replica.me (all_told ms x).replica.n (decision ((all_told ms x).replica.log)) ms (own_pages ms x)
   suspect_gathers c h = gathering_alike x (all_told ms x) c ms (own_pages ms x) sent_alike (begun_gathers x ms (own_pages ms x) c may h)

@@ -8,7 +8,7 @@ use Rattle.crsm_spec.specs.Draft.{Draft}
 use Rattle.crsm_spec.specs.Coordinate.{send_ask}
 use Rattle.crsm_spec.specs.Step.{ask_page, missing, send_collect, ask_all, renew, if_fitting}
 use Rattle.crsm_replica.specs.declared.state.ReplicaState.{ReplicaState}
-use Rattle.crsm_replica.specs.Replica.{StandsFor}
+use Rattle.crsm_replica.specs.Replica.{ReplicaStands}
 use Rattle.crsm_coordinator.specs.declared.coordinator.Stage.{Stage}
 use Rattle.crsm_coordinator.specs.Coordinator.{stage_of}
 use Rattle.crsm_reconfigure.proofs.DraftLemmas.{when_same, instead, is_whole, send_fitting, each_fitting, all_fitting}
@@ -100,10 +100,10 @@ asked_all_fitting x = when_same (λ y. y.fitting) _ _ _ x.fitting refl (all_fitt
 -- ---- the answer, and the state
 
 -- a rule that fits makes this of the state, and the answer is that it does
-pub all_fits : (state : ReplicaState) (x y z : Draft) → y ≡ z → y.fitting ≡ true → StandsFor state y → (true ≡ z.fitting) × StandsFor state (if_fitting x z)
+pub all_fits : (state : ReplicaState) (x y z : Draft) → y ≡ z → y.fitting ≡ true → ReplicaStands state y → (true ≡ z.fitting) × ReplicaStands state (if_fitting x z)
 all_fits state x y z e f s = (sym (ap (λ w. w.fitting) (sym e) ∙ f), instead state x y z e (is_whole state x y f s))
 
 -- what holds of a coordinator's renewal holds of that of a coordinator that is the same
-pub renewed_as : (state : ReplicaState) (x : Draft) (fit : Bool) (m k : Coordinator) → m ≡ k → (fit ≡ (renew k x).fitting) × StandsFor state (if_fitting x (renew k x)) →
-    (fit ≡ (renew m x).fitting) × StandsFor state (if_fitting x (renew m x))
-renewed_as state x fit m k e h = subst (λ n. (fit ≡ (renew n x).fitting) × StandsFor state (if_fitting x (renew n x))) (sym e) h
+pub renewed_as : (state : ReplicaState) (x : Draft) (fit : Bool) (m k : Coordinator) → m ≡ k → (fit ≡ (renew k x).fitting) × ReplicaStands state (if_fitting x (renew k x)) →
+    (fit ≡ (renew m x).fitting) × ReplicaStands state (if_fitting x (renew m x))
+renewed_as state x fit m k e h = subst (λ n. (fit ≡ (renew n x).fitting) × ReplicaStands state (if_fitting x (renew n x))) (sym e) h

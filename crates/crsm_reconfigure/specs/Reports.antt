@@ -9,7 +9,7 @@ use Rattle.crsm_spec.specs.Choice.{when◌then◌otherwise◌}
 use Rattle.crsm_spec.specs.Collect.{cursor, is_whole}
 use Rattle.crsm_spec.specs.Step.{ask_page}
 use Rattle.crsm_spec.specs.Coordinate.{begin_proposing, may_reconfigure}
-use Rattle.crsm_suspend.specs.Collecting.{IsCollecting}
+use Rattle.crsm_suspend.specs.Collecting.{CollectStands}
 use Rattle.crsm_suspend.specs.declared.collect.Collect.{Collect}
 use Rattle.crsm_suspend.specs.declared.got.Got.{Got}
 use Rattle.crsm_suspend.specs.declared.got.Got.TheVariants.{More, Complete}
@@ -53,4 +53,4 @@ pub record CanGoOn (k : ℕ) (pages : List LogPage) (got : Got) (x : Draft) : Ty
 -- a collection without pages, where these may be the next members
 abbrev pub Begun : Option Collect → List ℕ → Draft → Type 0
 Begun None ms x = may_reconfigure x.replica ms ≡ false
-Begun (Some c) ms x = (may_reconfigure x.replica ms ≡ true) × IsCollecting x.replica.log (spec_of x.replica) (named_spec x.replica ms) ms [] c
+Begun (Some c) ms x = (may_reconfigure x.replica ms ≡ true) × CollectStands x.replica.log (spec_of x.replica) (named_spec x.replica ms) ms [] c

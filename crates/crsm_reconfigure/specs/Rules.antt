@@ -13,26 +13,26 @@ use Rattle.crsm_spec.specs.Controls.{if_next, if_spec, on_page, page_from, on_p1
 use Rattle.crsm_spec.specs.Coordinate.{advance}
 use Rattle.crsm_spec.specs.Step.{if_fitting}
 use Rattle.crsm_replica.specs.declared.state.ReplicaState.{ReplicaState}
-use Rattle.crsm_replica.specs.Replica.{StandsFor}
+use Rattle.crsm_replica.specs.Replica.{ReplicaStands}
 use Rattle.crsm_coordinator.specs.Coordinator.{IsOwn}
 
 -- Whatever the old state stood for, the new one stands for what the rule makes of it, and for the same where its records
 -- would not fit; or memory ran out.
 abbrev pub Follows : (Draft → Draft) → ReplicaState → Result (Unit {0}) NoMemory → ReplicaState → Type 0
-Follows rule old result new = IfOk result (λ _. (x : Draft) → StandsFor old x → StandsFor new (if_fitting x (rule x)))
+Follows rule old result new = IfOk result (λ _. (x : Draft) → ReplicaStands old x → ReplicaStands new (if_fitting x (rule x)))
 
 -- the same under a premise on the draft
 abbrev pub FollowsWhere : (Draft → Type 0) → (Draft → Draft) → ReplicaState → Result (Unit {0}) NoMemory → ReplicaState → Type 0
-FollowsWhere P rule old result new = IfOk result (λ _. (x : Draft) → StandsFor old x → P x → StandsFor new (if_fitting x (rule x)))
+FollowsWhere P rule old result new = IfOk result (λ _. (x : Draft) → ReplicaStands old x → P x → ReplicaStands new (if_fitting x (rule x)))
 
 -- and where the answer says whether its records fit
 abbrev pub TriesWhere : (Draft → Type 0) → (Draft → Draft) → ReplicaState → Result Bool NoMemory → ReplicaState → Type 0
 TriesWhere P rule old result new =
-    IfOk result (λ fit. (x : Draft) → StandsFor old x → P x → (fit ≡ (rule x).fitting) × StandsFor new (if_fitting x (rule x)))
+    IfOk result (λ fit. (x : Draft) → ReplicaStands old x → P x → (fit ≡ (rule x).fitting) × ReplicaStands new (if_fitting x (rule x)))
 
 -- a rule that fits wherever the draft so far does
 abbrev pub MakesWhere : (Draft → Type 0) → (Draft → Draft) → ReplicaState → Result (Unit {0}) NoMemory → ReplicaState → Type 0
-MakesWhere P rule old result new = IfOk result (λ _. (x : Draft) → StandsFor old x → P x → StandsFor new (rule x))
+MakesWhere P rule old result new = IfOk result (λ _. (x : Draft) → ReplicaStands old x → P x → ReplicaStands new (rule x))
 
 -- Behind these executed entries the rest of a decision's tail goes on, where its base is executed and the tail is not.
 unfoldable pub tail_goes_on : Decision → List Entry → Bool
@@ -60,8 +60,8 @@ pub record CanAdopt (x : Draft) (es : List Entry) : Type 0 where
 
 -- An instance of k that is not the next one is answered; for the next one nothing is done yet.
 pub record IsNextOr (k i : ℕ) (x : Draft) (next : Bool) (new : ReplicaState) : Type 0 where
-  pub here : next ≡ true → (i ≡ known x.replica.log + 1) × StandsFor new x
-  pub other : next ≡ false → (i ≢ known x.replica.log + 1) × ((y : Draft) → StandsFor new (if_next k i x y))
+  pub here : next ≡ true → (i ≡ known x.replica.log + 1) × ReplicaStands new x
+  pub other : next ≡ false → (i ≢ known x.replica.log + 1) × ((y : Draft) → ReplicaStands new (if_next k i x y))
 
 -- sends k the first page of the executed entries from a place on, if there is one
 unfoldable pub send_executed : ℕ → ℕ → Draft → Draft

@@ -15,14 +15,14 @@ use Rattle.crsm_coordinator.specs.declared.coordinator.Coordinator.{Coordinator}
 use Rattle.crsm_coordinator.specs.Coordinator.{CoordinatorStands, IsGathering, IsOwn}
 use Rattle.crsm_coordinator.specs.Stages.{answer_of}
 use Rattle.crsm_replica.specs.declared.state.ReplicaState.{ReplicaState}
-use Rattle.crsm_replica.specs.Replica.{StandsFor}
+use Rattle.crsm_replica.specs.Replica.{ReplicaStands}
 use Rattle.crsm_spec.specs.Coordinate.{accept_own}
 
 -- ---- what comes of a rule
 
 -- the answer says whether the records of y fit; where they do the state stands for y, and otherwise for x
 abbrev pub TriesTo : Bool → ReplicaState → Draft → Draft → Type 0
-TriesTo fit new x y = (fit ≡ y.fitting) × StandsFor new (if_fitting x y)
+TriesTo fit new x y = (fit ≡ y.fitting) × ReplicaStands new (if_fitting x y)
 
 -- the replicas of two Specs but this one, ascending
 abbrev pub others_of_both : List ℕ → List ℕ → ℕ → List ℕ
@@ -33,13 +33,13 @@ others_of_both old new me = filter (λ k. (has old k || has new k) && not (k == 
 abbrev pub WhereCollecting : ReplicaState → (Draft → List ℕ → List LogPage → Type 0) → Type 0
 WhereCollecting state P =
     (x : Draft) (ms : List ℕ) (pages : List LogPage) →
-    StandsFor state x → x.replica.coordinator ≡ CoordinatorOnPaper.Collecting ms pages → P x ms pages
+    ReplicaStands state x → x.replica.coordinator ≡ CoordinatorOnPaper.Collecting ms pages → P x ms pages
 
 -- the collection is in hand
 abbrev pub WhereGathering : ReplicaState → Collect → (Draft → List ℕ → List LogPage → Type 0) → Type 0
 WhereGathering state collect P =
     (x : Draft) (ms : List ℕ) (pages : List LogPage) →
-    StandsFor state x → IsGathering collect x.replica.me x.replica.n (decision x.replica.log) ms pages → P x ms pages
+    ReplicaStands state x → IsGathering collect x.replica.me x.replica.n (decision x.replica.log) ms pages → P x ms pages
 
 -- ---- it prepares
 
@@ -55,26 +55,26 @@ own_answer x = answer_of x.replica.me (accepted x.replica.log)
 abbrev pub WhereNextRound : ReplicaState → Decision → Ballot → (Draft → Ballot → Type 0) → Type 0
 WhereNextRound state own above P =
     (x : Draft) (round : ℕ) →
-    StandsFor state x → IsOwn x.replica.me x.replica.n (decision x.replica.log) own →
+    ReplicaStands state x → IsOwn x.replica.me x.replica.n (decision x.replica.log) own →
     round ≡ above.round + 1 → FitsBallot (record { round = round; by = x.replica.me }) → P x (record { round = round; by = x.replica.me })
 
 abbrev pub WherePreparing : ReplicaState → (Draft → Ballot → Decision → List (Answer Decision) → Type 0) → Type 0
 WherePreparing state P =
     (x : Draft) (b : Ballot) (own : Decision) (answers : List (Answer Decision)) →
-    StandsFor state x → x.replica.coordinator ≡ CoordinatorOnPaper.Preparing b own answers → P x b own answers
+    ReplicaStands state x → x.replica.coordinator ≡ CoordinatorOnPaper.Preparing b own answers → P x b own answers
 
 -- a replica of the Spec that has not answered had accepted this
 abbrev pub WhereAnswerCounts : ReplicaState → ℕ → Held Decision → (Draft → Ballot → Decision → List (Answer Decision) → Type 0) → Type 0
 WhereAnswerCounts state k held P =
     (x : Draft) (b : Ballot) (own : Decision) (answers : List (Answer Decision)) →
-    StandsFor state x → x.replica.coordinator ≡ CoordinatorOnPaper.Preparing b own answers →
+    ReplicaStands state x → x.replica.coordinator ≡ CoordinatorOnPaper.Preparing b own answers →
     has (spec_of x.replica) k ≡ true → has (map (λ f. f.replica) answers) k ≡ false → FitsOption FitsVote held → P x b own answers
 
 -- the answer of this replica makes a majority
 abbrev pub WhereAnswerIsLast : ReplicaState → ℕ → Held Decision → (Draft → Ballot → Decision → List (Answer Decision) → Type 0) → Type 0
 WhereAnswerIsLast state k held P =
     (x : Draft) (b : Ballot) (own : Decision) (answers : List (Answer Decision)) →
-    StandsFor state x → x.replica.coordinator ≡ CoordinatorOnPaper.Preparing b own answers → FitsOption FitsVote held →
+    ReplicaStands state x → x.replica.coordinator ≡ CoordinatorOnPaper.Preparing b own answers → FitsOption FitsVote held →
     has_majority (spec_of x.replica) (map (λ f. f.replica) (answers ++ answer_of k held ∷ [])) ≡ true → P x b own answers
 
 -- ---- it proposes
@@ -82,7 +82,7 @@ WhereAnswerIsLast state k held P =
 abbrev pub WhereProposing : ReplicaState → (Draft → Ballot → Decision → Decision → List ℕ → Type 0) → Type 0
 WhereProposing state P =
     (x : Draft) (b : Ballot) (own value : Decision) (acceptors : List ℕ) →
-    StandsFor state x → x.replica.coordinator ≡ CoordinatorOnPaper.Proposing b own value acceptors → P x b own value acceptors
+    ReplicaStands state x → x.replica.coordinator ≡ CoordinatorOnPaper.Proposing b own value acceptors → P x b own value acceptors
 
 -- the records of the proposer's own acceptance fit
 abbrev pub CanAcceptOwn : Ballot → Decision → Decision → List ℕ → Draft → Type 0
@@ -92,11 +92,11 @@ CanAcceptOwn b own value acceptors x = (accept_own b own value acceptors x).fitt
 abbrev pub WhereOwnVote : ReplicaState → Decision → Bool → (Draft → Decision → List ℕ → Type 0) → Type 0
 WhereOwnVote state value is_chosen P =
     (x : Draft) (own : Decision) (acceptors : List ℕ) →
-    StandsFor state x → FitsDecision value → is_chosen ≡ has_majority (spec_of x.replica) (x.replica.me ∷ acceptors) → P x own acceptors
+    ReplicaStands state x → FitsDecision value → is_chosen ≡ has_majority (spec_of x.replica) (x.replica.me ∷ acceptors) → P x own acceptors
 
 -- ---- its ballot is over
 
 abbrev pub WherePreempted : ReplicaState → (Draft → Decision → Ballot → Type 0) → Type 0
 WherePreempted state P =
     (x : Draft) (own : Decision) (seen : Ballot) →
-    StandsFor state x → x.replica.coordinator ≡ CoordinatorOnPaper.Preempted own seen → P x own seen
+    ReplicaStands state x → x.replica.coordinator ≡ CoordinatorOnPaper.Preempted own seen → P x own seen

@@ -8,7 +8,7 @@ ghost use Rattle.crsm_spec.specs.Draft.{noting};
 ghost use Rattle.crsm_spec.specs.Coordinate.{count_answer};
 ghost use Rattle.crsm_spec.specs.Step.{if_fitting};
 ghost use Rattle.crsm_coordinator.specs.Coordinator.{answered};
-ghost use Rattle.crsm_replica.specs.Replica.{StandsFor};
+ghost use Rattle.crsm_replica.specs.Replica.{ReplicaStands};
 ghost use Rattle.crsm_reconfigure.specs.Rules.{FollowsWhere, receives_answer};
 ghost use Rattle.crsm_coordinator.specs.Stages.{answer_of};
 ghost use Rattle.crsm_reconfigure.specs.Stages.{WhereAnswerCounts, WhereAnswerIsLast};
@@ -53,7 +53,7 @@ fn count_answer(
     accepted: &Option<(Ballot, Decision)>,
 ) -> Result<(), NoMemory>
     requires { k < 15 }
-    ensures { IfOk result (λ _. WhereAnswerCounts state.old k accepted.now (λ x b own answers. StandsFor state.new (if_fitting x (count_answer b own answers (answer_of k accepted.now) x)))) }
+    ensures { IfOk result (λ _. WhereAnswerCounts state.old k accepted.now (λ x b own answers. ReplicaStands state.new (if_fitting x (count_answer b own answers (answer_of k accepted.now) x)))) }
 {
     states_are_sound();
     let is_last = state.coordinator().is_last_answer();
@@ -96,7 +96,7 @@ fn put_answer(
     accepted: &Option<(Ballot, Decision)>,
 ) -> Result<(), NoMemory>
     requires { k < 15 }
-    ensures { IfOk result (λ _. WhereAnswerCounts state.old k accepted.now (λ x b own answers. StandsFor state.new (noting (answered (spec_of x.replica) b own (answers ++ answer_of k accepted.now ∷ [])) x))) }
+    ensures { IfOk result (λ _. WhereAnswerCounts state.old k accepted.now (λ x b own answers. ReplicaStands state.new (noting (answered (spec_of x.replica) b own (answers ++ answer_of k accepted.now ∷ [])) x))) }
 {
     let accepted = copied(state.alloc(), accepted)?;
     let coordinator = state.take_coordinator();

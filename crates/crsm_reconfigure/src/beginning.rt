@@ -8,7 +8,7 @@ ghost use Rattle.crsm_spec.specs.Replica.{spec_of};
 ghost use Rattle.crsm_spec.specs.Draft.{Draft};
 ghost use Rattle.crsm_spec.specs.Coordinate.{greater_ballot, begin_proposing};
 ghost use Rattle.crsm_coordinator.specs.Coordinator.{answered};
-ghost use Rattle.crsm_replica.specs.Replica.{StandsFor};
+ghost use Rattle.crsm_replica.specs.Replica.{ReplicaStands};
 ghost use Rattle.crsm_reconfigure.specs.Rules.{CanPropose, BeginsAlike, MakesWhere};
 ghost use Rattle.crsm_reconfigure.specs.Stages.{CoordinatesAs, WhereNextRound, own_answer};
 
@@ -23,7 +23,7 @@ use crsm_replica::{ReplicaState, states_are_sound};
 /// Whether the records would fit that come of beginning to propose this decision of one's own, one round above what was
 /// promised and seen. They fit alike in whatever the coordinator is and whether the epoch is suspended.
 pub fn may_begin(state: &ReplicaState, own: &Decision, seen: Ballot) -> Result<bool, NoMemory>
-    ensures { IfOk result (λ fit. (x y : Draft) → StandsFor state.now x → CanPropose own.now seen x → BeginsAlike x y → fit ≡ (begin_proposing own.now seen y).fitting) }
+    ensures { IfOk result (λ fit. (x y : Draft) → ReplicaStands state.now x → CanPropose own.now seen x → BeginsAlike x y → fit ≡ (begin_proposing own.now seen y).fitting) }
 {
     states_are_sound();
     let top = greater(state.promised(), seen);
@@ -84,7 +84,7 @@ fn asking(state: &ReplicaState, own: Decision, top: Ballot) -> Result<Coordinato
 
 /// Whether this replica alone is a majority.
 pub(crate) fn is_alone(state: &ReplicaState) -> Result<bool, NoMemory>
-    ensures { IfOk result (λ alone. (x : Draft) → StandsFor state.now x → alone ≡ has_majority (spec_of x.replica) (x.replica.me ∷ [])) }
+    ensures { IfOk result (λ alone. (x : Draft) → ReplicaStands state.now x → alone ≡ has_majority (spec_of x.replica) (x.replica.me ∷ [])) }
 {
     let spec = state.spec()?;
     Ok(is_majority_of(spec.as_slice(), state.me()))

@@ -8,7 +8,7 @@ ghost use Rattle.crsm_spec.specs.Draft.{Draft, noting};
 ghost use Rattle.crsm_spec.specs.Controls as controls;
 ghost use Rattle.crsm_spec.specs.Step as rules;
 ghost use Rattle.crsm_suspend.specs.Coordinating.{on_got};
-ghost use Rattle.crsm_replica.specs.Replica.{StandsFor};
+ghost use Rattle.crsm_replica.specs.Replica.{ReplicaStands};
 ghost use Rattle.crsm_reconfigure.specs.Reports.{IsReport, CanGoOn, ask_missing, is_collecting};
 ghost use Rattle.crsm_reconfigure.specs.Rules.{FollowsWhere};
 ghost use Rattle.crsm_reconfigure.specs.Stages.{WhereCollecting, WhereGathering};
@@ -54,7 +54,7 @@ pub(crate) fn go_on(
     got: Got,
 ) -> Result<(), NoMemory>
     requires { k < 15 }
-    ensures { IfOk result (λ _. WhereGathering state.old collect (λ x ms pages. CanGoOn k pages got x → StandsFor state.new (on_got ms pages got (noting (CoordinatorOnPaper.Collecting ms pages) x)))) }
+    ensures { IfOk result (λ _. WhereGathering state.old collect (λ x ms pages. CanGoOn k pages got x → ReplicaStands state.new (on_got ms pages got (noting (CoordinatorOnPaper.Collecting ms pages) x)))) }
 {
     match got {
         Got::Stranger => {
@@ -84,7 +84,7 @@ pub(crate) fn go_on(
 
 /// Asks each other replica of the Spec for its next page, while collecting, whose last page has not come.
 pub fn send_collect(state: &mut ReplicaState) -> Result<(), NoMemory>
-    ensures { IfOk result (λ _. WhereCollecting state.old (λ x ms pages. StandsFor state.new (rules.send_collect pages x))) }
+    ensures { IfOk result (λ _. WhereCollecting state.old (λ x ms pages. ReplicaStands state.new (rules.send_collect pages x))) }
 {
     let others = state.others()?;
     for k in &others {
@@ -96,7 +96,7 @@ pub fn send_collect(state: &mut ReplicaState) -> Result<(), NoMemory>
 /// Asks replica k for its next page, while collecting, unless its last page has come.
 fn ask_missing(state: &mut ReplicaState, k: u32) -> Result<(), NoMemory>
     requires { k < 15 }
-    ensures { IfOk result (λ _. WhereCollecting state.old (λ x ms pages. StandsFor state.new (ask_missing pages x k))) }
+    ensures { IfOk result (λ _. WhereCollecting state.old (λ x ms pages. ReplicaStands state.new (ask_missing pages x k))) }
 {
     let is_whole = state.coordinator().is_whole(k);
     if is_whole {
@@ -109,7 +109,7 @@ fn ask_missing(state: &mut ReplicaState, k: u32) -> Result<(), NoMemory>
 /// Asks replica k for its next page, while collecting.
 fn ask_page(state: &mut ReplicaState, k: u32) -> Result<(), NoMemory>
     requires { k < 15 }
-    ensures { IfOk result (λ _. WhereCollecting state.old (λ x ms pages. StandsFor state.new (rules.ask_page pages x k))) }
+    ensures { IfOk result (λ _. WhereCollecting state.old (λ x ms pages. ReplicaStands state.new (rules.ask_page pages x k))) }
 {
     let epoch = state.known();
     let after = state.coordinator().cursor(k);
@@ -120,7 +120,7 @@ fn ask_page(state: &mut ReplicaState, k: u32) -> Result<(), NoMemory>
 
 /// Whether frozen logs are collected.
 fn is_collecting(state: &ReplicaState) -> bool
-    ensures { (x : Draft) → StandsFor state.now x → result ≡ is_collecting x.replica.coordinator }
+    ensures { (x : Draft) → ReplicaStands state.now x → result ≡ is_collecting x.replica.coordinator }
 {
     match state.coordinator().stage() {
         Stage::Collecting => true,

@@ -7,7 +7,7 @@ ghost use Rattle.crsm_spec.specs.Log.{known};
 ghost use Rattle.crsm_spec.specs.Replica.{spec_of};
 ghost use Rattle.crsm_spec.specs.Draft.{Draft};
 ghost use Rattle.crsm_spec.specs.Coordinate.{count_acceptor};
-ghost use Rattle.crsm_replica.specs.Replica.{StandsFor};
+ghost use Rattle.crsm_replica.specs.Replica.{ReplicaStands};
 ghost use Rattle.crsm_reconfigure.specs.Rules.{FollowsWhere, receives_no, receives_vote};
 ghost use Rattle.crsm_reconfigure.specs.Stages.{TriesTo, WhereProposing};
 
@@ -89,7 +89,7 @@ pub fn count_vote(state: &mut ReplicaState, k: u32) -> Result<bool, NoMemory>
 
 /// Whether replica k is counted, and the instance is the next one.
 pub(crate) fn is_counted(state: &ReplicaState, k: u32, instance: u64) -> bool
-    ensures { (x : Draft) → StandsFor state.now x → result ≡ (has (spec_of x.replica) k && (instance == known x.replica.log + 1)) }
+    ensures { (x : Draft) → ReplicaStands state.now x → result ≡ (has (spec_of x.replica) k && (instance == known x.replica.log + 1)) }
 {
     let is_of_spec = state.is_of_spec(k);
     let known = state.known();

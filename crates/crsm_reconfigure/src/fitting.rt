@@ -5,7 +5,7 @@ ghost use Rattle.crsm_base.specs.declared.Rec.{Rec as RecOnPaper};
 ghost use Rattle.crsm_spec.specs.Fits.{fits};
 ghost use Rattle.crsm_spec.specs.Draft.{Draft};
 ghost use Rattle.crsm_spec.specs.Coordinate.{accept_own};
-ghost use Rattle.crsm_replica.specs.Replica.{StandsFor};
+ghost use Rattle.crsm_replica.specs.Replica.{ReplicaStands};
 ghost use Rattle.crsm_reconfigure.specs.Stages.{WhereOwnVote};
 
 use crate::proposing::is_due;
@@ -51,7 +51,7 @@ fn would_accept(
     ballot: Ballot,
     value: &Decision,
 ) -> Result<bool, NoMemory>
-    ensures { IfOk result (λ fit. (x : Draft) → StandsFor state.now x → fit ≡ fits x.replica.me x.replica.n x.replica.log (RecOnPaper.Accept instance ballot value.now)) }
+    ensures { IfOk result (λ fit. (x : Draft) → ReplicaStands state.now x → fit ≡ fits x.replica.me x.replica.n x.replica.log (RecOnPaper.Accept instance ballot value.now)) }
 {
     let decision = value.copy(state.alloc())?;
     let rec = Rec::Accept {
@@ -64,7 +64,7 @@ fn would_accept(
 }
 
 fn would_decide(state: &ReplicaState, value: &Decision) -> Result<bool, NoMemory>
-    ensures { IfOk result (λ fit. (x : Draft) → StandsFor state.now x → fit ≡ fits x.replica.me x.replica.n x.replica.log (RecOnPaper.Decide value.now)) }
+    ensures { IfOk result (λ fit. (x : Draft) → ReplicaStands state.now x → fit ≡ fits x.replica.me x.replica.n x.replica.log (RecOnPaper.Decide value.now)) }
 {
     let decision = value.copy(state.alloc())?;
     let rec = Rec::Decide { decision };

@@ -6,7 +6,7 @@ ghost use Rattle.crsm_base.specs.Spelling.{FitsDecision, FitsEntries};
 ghost use Rattle.crsm_spec.specs.Draft.{Draft, keep};
 ghost use Rattle.crsm_spec.specs.Coordinate.{adopt_tail, advance, learn};
 ghost use Rattle.crsm_spec.specs.Controls.{on_decide, retrieve_base};
-ghost use Rattle.crsm_replica.specs.Replica.{StandsFor, Makes};
+ghost use Rattle.crsm_replica.specs.Replica.{ReplicaStands, Makes};
 ghost use Rattle.crsm_reconfigure.specs.Rules.{FollowsWhere, TriesWhere, MakesWhere};
 
 use crate::tails::tail_goes_on;

@@ -5,7 +5,7 @@ ghost use Rattle.crsm_base.specs.Messages.{FitsControl};
 ghost use Rattle.crsm_base.specs.Spelling.{FitsEntries};
 ghost use Rattle.crsm_spec.specs.Draft.{Draft};
 ghost use Rattle.crsm_spec.specs.Controls.{on_retrieve};
-ghost use Rattle.crsm_replica.specs.Replica.{StandsFor, Makes};
+ghost use Rattle.crsm_replica.specs.Replica.{ReplicaStands, Makes};
 ghost use Rattle.crsm_transfer.specs.Fitting.{IsPage};
 ghost use Rattle.crsm_reconfigure.specs.Rules.{FollowsWhere, on_page_in, CanAdopt, send_executed, take_executed};
 

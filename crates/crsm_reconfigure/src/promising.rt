@@ -7,7 +7,7 @@ ghost use Rattle.crsm_base.specs.declared.Control.{Control as ControlOnPaper};
 ghost use Rattle.crsm_base.specs.declared.Rec.{Rec as RecOnPaper};
 ghost use Rattle.crsm_spec.specs.Draft.{Draft, keep, send_control};
 ghost use Rattle.crsm_spec.specs.Controls.{send_promise, on_p1a, on_p2a};
-ghost use Rattle.crsm_replica.specs.Replica.{StandsFor};
+ghost use Rattle.crsm_replica.specs.Replica.{ReplicaStands};
 ghost use Rattle.crsm_reconfigure.specs.Rules.{FollowsWhere, MakesWhere, TriesWhere, IsNextOr};
 
 use crsm_base::{Ballot, Control, Decision, NoMemory, Rec, ballot_precedes, is_same_ballot};
@@ -117,7 +117,7 @@ pub fn accept(
 /// Whether the instance is the next one. Any other one of k is answered.
 fn if_next(state: &mut ReplicaState, k: u32, instance: u64) -> Result<bool, NoMemory>
     requires { k < 15 }
-    ensures { IfOk result (λ next. (x : Draft) → StandsFor state.old x → IsNextOr k instance x next state.new) }
+    ensures { IfOk result (λ next. (x : Draft) → ReplicaStands state.old x → IsNextOr k instance x next state.new) }
 {
     let known = state.known();
     if instance <= known {

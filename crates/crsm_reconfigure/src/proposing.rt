@@ -4,7 +4,7 @@ ghost use Rattle.std.specs.Prelude.{◌≡◌, ◌&&◌, not, nat_le, length, If
 ghost use Rattle.crsm_spec.specs.Log.{executed};
 ghost use Rattle.crsm_spec.specs.Draft.{Draft};
 ghost use Rattle.crsm_spec.specs.Coordinate.{accept_own, has_accepted};
-ghost use Rattle.crsm_replica.specs.Replica.{StandsFor};
+ghost use Rattle.crsm_replica.specs.Replica.{ReplicaStands};
 ghost use Rattle.crsm_reconfigure.specs.Stages.{WhereProposing, CanAcceptOwn};
 
 use crate::counting::count_vote;
@@ -16,7 +16,7 @@ use crsm_replica::{ReplicaState, states_are_sound};
 /// The proposer's own acceptance, where its records fit: over where more was promised, otherwise accepted where the base is
 /// executed.
 pub fn accept_own(state: &mut ReplicaState) -> Result<(), NoMemory>
-    ensures { IfOk result (λ _. WhereProposing state.old (λ x b own value acceptors. CanAcceptOwn b own value acceptors x → StandsFor state.new (accept_own b own value acceptors x))) }
+    ensures { IfOk result (λ _. WhereProposing state.old (λ x b own value acceptors. CanAcceptOwn b own value acceptors x → ReplicaStands state.new (accept_own b own value acceptors x))) }
 {
     states_are_sound();
     let found = state.coordinator().proposal(state.alloc())?;
@@ -42,7 +42,7 @@ pub fn accept_own(state: &mut ReplicaState) -> Result<(), NoMemory>
 
 /// Whether the base is executed, and nothing is accepted in this ballot.
 pub fn is_due(state: &ReplicaState, ballot: Ballot, value: &Decision) -> bool
-    ensures { (x : Draft) → StandsFor state.now x → result ≡ (nat_le value.now.base_len (length (executed x.replica.log)) && not (has_accepted ballot x)) }
+    ensures { (x : Draft) → ReplicaStands state.now x → result ≡ (nat_le value.now.base_len (length (executed x.replica.log)) && not (has_accepted ballot x)) }
 {
     let done = state.executed_len();
     let has_accepted = state.has_accepted(ballot);

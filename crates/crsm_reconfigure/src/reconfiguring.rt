@@ -9,7 +9,7 @@ ghost use Rattle.crsm_spec.specs.Log.{known};
 ghost use Rattle.crsm_spec.specs.Replica.{spec_of, next_spec, named_spec};
 ghost use Rattle.crsm_spec.specs.Draft.{Draft, send_to_all};
 ghost use Rattle.crsm_spec.specs.Coordinate as coordinate;
-ghost use Rattle.crsm_replica.specs.Replica.{StandsFor, Makes};
+ghost use Rattle.crsm_replica.specs.Replica.{ReplicaStands, Makes};
 ghost use Rattle.crsm_reconfigure.specs.Reports.{CanBegin, begins_fitting, Begun};
 ghost use Rattle.crsm_reconfigure.specs.Rules.{Follows, BeginsAlike};
 
@@ -46,7 +46,7 @@ pub fn on_suspect(state: &mut ReplicaState, members: &Members) -> Result<(), NoM
 
 /// A collection for the next epoch without pages, where these may be its members.
 fn begin(state: &ReplicaState, members: &Members) -> Result<Option<Collect>, NoMemory>
-    ensures { IfOk result (λ found. (x : Draft) → StandsFor state.now x → Begun found members.now x) }
+    ensures { IfOk result (λ found. (x : Draft) → ReplicaStands state.now x → Begun found members.now x) }
 {
     let epoch = state.known();
     let start = state.start();
@@ -84,7 +84,7 @@ fn next_spec(state: &ReplicaState, spec: &Members, members: &Members) -> Result<
 
 /// How a decision names the next Spec: not at all where it is the first one.
 fn named_spec(state: &ReplicaState, next: Members) -> Option<Members>
-    ensures { (x : Draft) (ms : List ℕ) → StandsFor state.now x → next ≡ next_spec x.replica ms → result ≡ named_spec x.replica ms }
+    ensures { (x : Draft) (ms : List ℕ) → ReplicaStands state.now x → next ≡ next_spec x.replica ms → result ≡ named_spec x.replica ms }
 {
     states_are_sound();
     let first = first_replicas(state.ledger().n());
@@ -97,7 +97,7 @@ fn named_spec(state: &ReplicaState, next: Members) -> Option<Members>
 
 /// Whether this replica is counted, and these may be the members of an epoch of the next Spec.
 fn can_be_next(state: &ReplicaState, next: &Members, members: &Members) -> bool
-    ensures { (x : Draft) → StandsFor state.now x → result ≡ (has (spec_of x.replica) x.replica.me && can_be_members next.now members.now) }
+    ensures { (x : Draft) → ReplicaStands state.now x → result ≡ (has (spec_of x.replica) x.replica.me && can_be_members next.now members.now) }
 {
     let me = state.me();
     let is_of_spec = state.is_of_spec(me);
@@ -107,7 +107,7 @@ fn can_be_next(state: &ReplicaState, next: &Members, members: &Members) -> bool
 /// Whether the records would fit of what is done by this once the epoch is suspended.
 #[tactic(auto, unfolding(crate::specs::Reports::begins_fitting))]
 fn may_go_on(state: &ReplicaState, got: &Got) -> Result<bool, NoMemory>
-    ensures { IfOk result (λ fit. (x y : Draft) → StandsFor state.now x → CanBegin got.now x → BeginsAlike x y → fit ≡ begins_fitting got.now y) }
+    ensures { IfOk result (λ fit. (x y : Draft) → ReplicaStands state.now x → CanBegin got.now x → BeginsAlike x y → fit ≡ begins_fitting got.now y) }
 {
     match got {
         Got::Complete(decision) => {

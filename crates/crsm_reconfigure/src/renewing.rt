@@ -4,7 +4,7 @@ ghost use Rattle.std.specs.Prelude.{◌≡◌, true, IfOk, Some};
 ghost use Rattle.crsm_spec.specs.Replica.{Coordinator as CoordinatorOnPaper};
 ghost use Rattle.crsm_spec.specs.Coordinate.{accept_own};
 ghost use Rattle.crsm_spec.specs.Step.{renew};
-ghost use Rattle.crsm_replica.specs.Replica.{StandsFor};
+ghost use Rattle.crsm_replica.specs.Replica.{ReplicaStands};
 ghost use Rattle.crsm_reconfigure.specs.Rules.{CanPropose};
 ghost use Rattle.crsm_reconfigure.specs.Stages.{TriesTo, WherePreempted, WhereProposing, CanAcceptOwn};
 
@@ -67,7 +67,7 @@ fn own_again(state: &ReplicaState) -> Result<Option<(Decision, Ballot)>, NoMemor
 /// The proposer's own acceptance, where its records fit. Then the proposal is sent to all that have not accepted it, where
 /// there still is one.
 pub fn accept_and_send(state: &mut ReplicaState) -> Result<(), NoMemory>
-    ensures { IfOk result (λ _. WhereProposing state.old (λ x b own value acceptors. CanAcceptOwn b own value acceptors x → StandsFor state.new (renew (CoordinatorOnPaper.Proposing b own value acceptors) x))) }
+    ensures { IfOk result (λ _. WhereProposing state.old (λ x b own value acceptors. CanAcceptOwn b own value acceptors x → ReplicaStands state.new (renew (CoordinatorOnPaper.Proposing b own value acceptors) x))) }
 {
     accept_own(state)?;
     send_proposal(state)?;

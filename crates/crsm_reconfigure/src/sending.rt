@@ -5,7 +5,7 @@ ghost use Rattle.crsm_spec.specs.Replica.{Coordinator as CoordinatorOnPaper};
 ghost use Rattle.crsm_spec.specs.Draft.{Draft};
 ghost use Rattle.crsm_spec.specs.Coordinate.{instance, send_ask, send_proposal};
 ghost use Rattle.crsm_spec.specs.Step.{ask_all};
-ghost use Rattle.crsm_replica.specs.Replica.{StandsFor, Makes};
+ghost use Rattle.crsm_replica.specs.Replica.{ReplicaStands, Makes};
 ghost use Rattle.crsm_reconfigure.specs.Stages.{WherePreparing};
 
 use crsm_base::{Control, NoMemory, never};
@@ -13,7 +13,7 @@ use crsm_replica::{ReplicaState, states_are_sound};
 
 /// Asks all for a promise that have not given it.
 pub fn send_ask(state: &mut ReplicaState) -> Result<(), NoMemory>
-    ensures { IfOk result (λ _. WherePreparing state.old (λ x b own answers. StandsFor state.new (send_ask (CoordinatorOnPaper.Preparing b own answers) x))) }
+    ensures { IfOk result (λ _. WherePreparing state.old (λ x b own answers. ReplicaStands state.new (send_ask (CoordinatorOnPaper.Preparing b own answers) x))) }
 {
     let found = state.coordinator().ballot();
     let Some(ballot) = found else {
@@ -65,7 +65,7 @@ pub fn ask_all(state: &mut ReplicaState) -> Result<(), NoMemory>
 
 /// The instance that is decided next. No replica knows the last epoch that there can be.
 pub fn next_instance(state: &ReplicaState) -> Result<u64, NoMemory>
-    ensures { IfOk result (λ i. (x : Draft) → StandsFor state.now x → i ≡ instance x) }
+    ensures { IfOk result (λ i. (x : Draft) → ReplicaStands state.now x → i ≡ instance x) }
 {
     let known = state.known();
     if known == u64::MAX {

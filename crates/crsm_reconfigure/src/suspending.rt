@@ -6,7 +6,7 @@ ghost use Rattle.crsm_spec.specs.Draft.{Draft, send_control};
 ghost use Rattle.crsm_spec.specs.Collect.{suspend_ok};
 ghost use Rattle.crsm_spec.specs.Controls.{on_suspend};
 ghost use Rattle.crsm_spec.specs.Coordinate.{suspend_once};
-ghost use Rattle.crsm_replica.specs.Replica.{StandsFor, MakesFitting};
+ghost use Rattle.crsm_replica.specs.Replica.{ReplicaStands, MakesFitting};
 ghost use Rattle.crsm_reconfigure.specs.Rules.{FollowsWhere, MakesWhere};
 
 use crsm_base::{NoMemory, Rec, Stamp};

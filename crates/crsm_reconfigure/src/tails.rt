@@ -5,9 +5,9 @@ ghost use Rattle.std.specs.Option.{option_map_or, option_copied};
 ghost use Rattle.crsm_base.specs.Order.{entry_lt};
 ghost use Rattle.crsm_spec.specs.Log.{Log, executed, decision};
 ghost use Rattle.crsm_spec.specs.Draft.{Draft};
-ghost use Rattle.crsm_ledger.specs.Ledger.{StandsFor as SaysOfLog};
+ghost use Rattle.crsm_ledger.specs.Ledger.{LedgerStands};
 ghost use Rattle.std.specs.Prelude.{ℕ};
-ghost use Rattle.crsm_replica.specs.Replica.{StandsFor};
+ghost use Rattle.crsm_replica.specs.Replica.{ReplicaStands};
 ghost use Rattle.crsm_reconfigure.specs.Rules.{tail_goes_on, rest_goes_on, first_left};
 
 use crsm_base::{Decision, Entries, Entry, NoMemory, entry_precedes, never};
@@ -16,7 +16,7 @@ use crsm_replica::ReplicaState;
 
 /// Whether the rest of the decision's tail goes on behind the executed entries, where its base is executed.
 pub fn tail_goes_on(state: &ReplicaState, decision: &Decision) -> Result<bool, NoMemory>
-    ensures { IfOk result (λ b. (x : Draft) → StandsFor state.now x → b ≡ tail_goes_on decision.now (executed x.replica.log)) }
+    ensures { IfOk result (λ b. (x : Draft) → ReplicaStands state.now x → b ≡ tail_goes_on decision.now (executed x.replica.log)) }
 {
     let Some(entry) = first_left(decision, state.executed_len()) else {
         return Ok(true);
@@ -28,7 +28,7 @@ pub fn tail_goes_on(state: &ReplicaState, decision: &Decision) -> Result<bool, N
 /// Whether the rest of the known decision's tail goes on behind the executed entries and these, of which there is one.
 pub fn rest_goes_on(state: &ReplicaState, entries: &Entries) -> Result<bool, NoMemory>
     requires { entries.now ≢ [] }
-    ensures { IfOk result (λ b. (x : Draft) → StandsFor state.now x → b ≡ rest_goes_on (decision x.replica.log) (executed x.replica.log ++ entries.now)) }
+    ensures { IfOk result (λ b. (x : Draft) → ReplicaStands state.now x → b ≡ rest_goes_on (decision x.replica.log) (executed x.replica.log ++ entries.now)) }
 {
     let Some(decision) = state.decision()? else {
         return Ok(true);
@@ -64,7 +64,7 @@ fn first_left(decision: &Decision, done: u64) -> Option<&Entry>
 
 /// Whether the entry stands behind the last executed one, if there is one.
 fn stands_behind(ledger: &Ledger, entry: &Entry) -> Result<bool, NoMemory>
-    ensures { IfOk result (λ b. (me n : ℕ) (log : Log) → SaysOfLog me n ledger.now log → b ≡ option_map_or (λ f. entry_lt f entry.now) (slice_get (executed log) (length (executed log) - 1)) true) }
+    ensures { IfOk result (λ b. (me n : ℕ) (log : Log) → LedgerStands me n ledger.now log → b ≡ option_map_or (λ f. entry_lt f entry.now) (slice_get (executed log) (length (executed log) - 1)) true) }
 {
     let found = ledger.executed(ledger.executed_len().saturating_sub(1))?;
     let Some(last) = found else {

@@ -19,7 +19,7 @@ use Rattle.crsm_ledger.specs.declared.ledger.Ledger.{Ledger}
 use Rattle.crsm_output.specs.declared.output.Output.{Output}
 use Rattle.crsm_output.specs.Made.{nothing}
 use Rattle.crsm_epoch_state.specs.declared.state.EpochState.{EpochState}
-use Rattle.crsm_epoch_state.specs.EpochState.{EachFits, Runs, forgotten}
+use Rattle.crsm_epoch_state.specs.EpochState.{EachFits, EpochStands, forgotten}
 use Rattle.crsm_replica.specs.declared.state.ReplicaState.{ReplicaState}
 use Rattle.crsm_replica.specs.Recorded.{InBoth}
 use Rattle.crsm_replica.specs.Replica.{StandsInside, AwaitsInside, on_paper}
@@ -118,7 +118,7 @@ boot_spelt me n a b = (a, omega (arith, b))
 -- once the boot is on record, the state stands
 pub stands_booted : (state : ReplicaState) (me n : ℕ) (log : Log) (ledger : Ledger) (output : Output) (running : EpochState) → AwaitsInside state me n log → boots log < u64_max →
     InBoth me n log (Rec.Boot me n) nothing ledger output →
-    ((r : Replica) → EachFits r.me r.n r.log → active r.log ≡ false → Runs running (forgotten r)) →
+    ((r : Replica) → EachFits r.me r.n r.log → active r.log ≡ false → EpochStands running (forgotten r)) →
     StandsInside (record state { ledger = ledger; output = output; running = running }) (boot_again me n log)
 unfolding boot_again keep begun fresh
 stands_booted state me n log ledger output running s l both_kept inactive =

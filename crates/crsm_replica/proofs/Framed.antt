@@ -9,9 +9,9 @@ use Rattle.crsm_base.specs.Messages.{FitsPayload}
 use Rattle.crsm_base.specs.Records.{FitsRec}
 use Rattle.crsm_log_facts.proofs.Lists.{all-append, all-drop, all-take}
 use Rattle.crsm_output.specs.declared.output.Output.{Output}
-use Rattle.crsm_output.specs.Made.{Holds, made_of}
+use Rattle.crsm_output.specs.Made.{OutputStands, made_of}
 use Rattle.crsm_epoch_state.specs.declared.state.EpochState.{EpochState}
-use Rattle.crsm_epoch_state.specs.EpochState.{Runs}
+use Rattle.crsm_epoch_state.specs.EpochState.{EpochStands}
 use Rattle.crsm_epoch_state.proofs.Kept.{few_sent}
 use Rattle.crsm_epoch_state.proofs.Times.{issued_above}
 use Rattle.crsm_spec.specs.Types.{Rec, InEpoch, Datagram}
@@ -61,8 +61,8 @@ would-is x reading time is = issued_above (last_issued x.replica) reading time i
 
 pub pushed : (state : ReplicaState) (x : Draft) (reading time : ℕ) (payload : InEpoch) (output : Output) (running : EpochState) (ks : List ℕ) → StandsInside state x → FitsPayload payload →
     would x reading ≡ Some time → time < 2 ^ 64 → ks ≡ other_members x.replica → All (λ k. k < 15) ks →
-    Holds output (record (made_of x) { sends = x.sends ++ map (next_frame x.replica payload) ks }) →
-    Runs running (record x.replica { issued = time ∷ x.replica.issued; pushed = x.replica.pushed ++ map (λ k. (k, payload)) (other_members x.replica) }) →
+    OutputStands output (record (made_of x) { sends = x.sends ++ map (next_frame x.replica payload) ks }) →
+    EpochStands running (record x.replica { issued = time ∷ x.replica.issued; pushed = x.replica.pushed ++ map (λ k. (k, payload)) (other_members x.replica) }) →
     StandsInside (record state { running = running; output = output }) (push_to_members payload (issued_at time x))
 unfolding push_to_members push_to issued_at other_members members_of next_frame frames_to
 pushed state x reading time payload output running ks s fit is small same below holds runs =
@@ -74,7 +74,7 @@ pushed state x reading time payload output running ks s fit is small same below 
     sent (record state { running = running })
     (record x { replica = record r { issued = time ∷ r.issued; pushed = r.pushed ++ map (λ k. (k, payload)) (other_members r) } })
     output x.excess (x.sends ++ map (next_frame r payload) (other_members r)) x.replies first
-    (subst (λ js. Holds output (record (made_of x) { sends = x.sends ++ map (next_frame r payload) js })) same holds)
+    (subst (λ js. OutputStands output (record (made_of x) { sends = x.sends ++ map (next_frame r payload) js })) same holds)
     (all-append FitsSend x.sends (map (next_frame r payload) (other_members r)) s.sound.sends
     (next-fit r payload fit s.sound.number (known-fits r.log s.sound.spelt) few (other_members r) all)) s.sound.replies
 
@@ -115,7 +115,7 @@ again-fit me epoch k small now below [] all = tt
 again-fit me epoch k small now below (f ∷ fs) all = ((below, (small, below, now, all.0.0, all.0.1)), again-fit me epoch k small now below fs all.1)
 
 pub again : (state : ReplicaState) (x : Draft) (k : ℕ) (output : Output) (fs : List (ℕ × InEpoch)) → StandsInside state x → k < 15 → length (frames_to x.replica k) < 2 ^ 64 →
-    fs ≡ take most_again (unacked x.replica k) → Holds output (record (made_of x) { sends = x.sends ++ map (frame_again x.replica.me (known x.replica.log) k) fs }) →
+    fs ≡ take most_again (unacked x.replica k) → OutputStands output (record (made_of x) { sends = x.sends ++ map (frame_again x.replica.me (known x.replica.log) k) fs }) →
     StandsInside (record state { output = output }) (again_to x k)
 unfolding again_to
 again state x k output fs s below small same holds =

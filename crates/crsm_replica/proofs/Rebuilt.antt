@@ -8,12 +8,12 @@ use Rattle.std.proofs.lemmas.List.Sums.{sum_by-cons}
 use Rattle.crsm_base.specs.Records.{FitsRec}
 use Rattle.crsm_base.specs.Spelling.{FitsStamp}
 use Rattle.crsm_ledger.specs.declared.ledger.Ledger.{Ledger}
-use Rattle.crsm_ledger.specs.Ledger.{StandsFor as SaysOfLog}
+use Rattle.crsm_ledger.specs.Ledger.{LedgerStands}
 use Rattle.crsm_log_facts.proofs.Lists.{all-push, all-append}
 use Rattle.crsm_coordinator.specs.declared.coordinator.Coordinator.{Coordinator as CoordinatorInMemory}
 use Rattle.crsm_coordinator.specs.Coordinator.{CoordinatorStands}
 use Rattle.crsm_output.specs.declared.output.Output.{Output}
-use Rattle.crsm_output.specs.Made.{Made, Holds, made_of, nothing}
+use Rattle.crsm_output.specs.Made.{Made, OutputStands, made_of, nothing}
 use Rattle.crsm_spec.specs.Types.{Stamp, Decision, Rec, InEpoch, Datagram, Line}
 use Rattle.crsm_spec.specs.Choice.{when◌then◌otherwise◌}
 use Rattle.crsm_spec.specs.Log.{Log, decision, boots, is_boot}
@@ -22,11 +22,11 @@ use Rattle.crsm_spec.specs.Lines.{lines_of}
 use Rattle.crsm_spec.specs.Replica.{Coordinator, Waiting}
 use Rattle.crsm_spec.specs.Draft.{Draft, Reply, begun}
 use Rattle.crsm_spec.specs.Step.{if_fitting}
-use Rattle.crsm_segment.specs.Gather.{StandsFor as HasGathered}
+use Rattle.crsm_segment.specs.Gather.{GatherStands}
 use Rattle.crsm_spec.specs.Parts.{Piece}
 use Rattle.crsm_spec.specs.Clock.{u64_max}
 use Rattle.crsm_epoch_state.specs.declared.state.EpochState.{EpochState}
-use Rattle.crsm_epoch_state.specs.EpochState.{Runs, IsNoEnter}
+use Rattle.crsm_epoch_state.specs.EpochState.{EpochStands, IsNoEnter}
 use Rattle.crsm_epoch_state.proofs.Kept.{beside}
 use Rattle.crsm_results.proofs.Kept.{rises_kept, sent_kept}
 use Rattle.crsm_replica.specs.declared.state.ReplicaState.{ReplicaState}
@@ -39,7 +39,7 @@ use Rattle.crsm_replica.specs.Replica.{StandsInside, IsPlain, learnt, on_paper}
 -- ---- what the step has made
 
 pub sent : (state : ReplicaState) (x : Draft) (output : Output) (excess : List Line) (sends : List (ℕ × Datagram)) (replies : List Reply) → StandsInside state x →
-    Holds output (record (made_of x) { excess = excess; sends = sends; replies = replies }) → AllByRecursion FitsSend sends → AllByRecursion FitsReply replies →
+    OutputStands output (record (made_of x) { excess = excess; sends = sends; replies = replies }) → AllByRecursion FitsSend sends → AllByRecursion FitsReply replies →
     StandsInside (record state { output = output }) (record x { excess = excess; sends = sends; replies = replies })
 sent state x output excess sends replies s holds fit fits_too = record {
   me = s.me;
@@ -58,7 +58,7 @@ sent state x output excess sends replies s holds fit fits_too = record {
 
 pub ran : (state : ReplicaState) (x : Draft) (running : EpochState) (issued : List ℕ) (received : List (ℕ × ℕ)) (votes : List (Stamp × ℕ)) (owed : List Stamp)
     (pushed : List (ℕ × InEpoch)) (acked : List (ℕ × ℕ)) (taken : List ℕ) → StandsInside state x →
-    Runs running (record x.replica { issued = issued; received = received; votes = votes; owed = owed; pushed = pushed; acked = acked; taken = taken }) →
+    EpochStands running (record x.replica { issued = issued; received = received; votes = votes; owed = owed; pushed = pushed; acked = acked; taken = taken }) →
     AllByRecursion FitsStamp owed → AllByRecursion FitsPushed pushed →
     StandsInside (record state { running = running })
     (record x { replica = record x.replica { issued = issued; received = received; votes = votes; owed = owed; pushed = pushed; acked = acked; taken = taken } })
@@ -107,7 +107,7 @@ awaits state x now waiting s is fit = record {
   sound = record { number = s.sound.number; some = s.sound.some; few = s.sound.few; spelt = s.sound.spelt; batch = s.sound.batch; sends = s.sound.sends; replies = s.sound.replies; waiting = fit; owed = s.sound.owed; pushed = s.sound.pushed; made = s.sound.made; rises = s.sound.rises; later = s.sound.later; kept = s.sound.kept; on_record = s.sound.on_record; fitting = s.sound.fitting };
 }
 
-pub gathered_one : (state : ReplicaState) (x : Draft) (gathered : Gathered) (parts : List Piece) → StandsInside state x → HasGathered gathered parts →
+pub gathered_one : (state : ReplicaState) (x : Draft) (gathered : Gathered) (parts : List Piece) → StandsInside state x → GatherStands gathered parts →
     StandsInside (record state { gathered = gathered }) (record x { replica = record x.replica { parts = parts } })
 gathered_one state x gathered parts s has = record {
   me = s.me;
@@ -123,7 +123,7 @@ gathered_one state x gathered parts s has = record {
 }
 
 pub sent_one : (state : ReplicaState) (x : Draft) (output : Output) (more : List (ℕ × Datagram)) (made : ℕ) → StandsInside state x →
-    Holds output (record (made_of x) { sends = x.sends ++ more }) → AllByRecursion FitsSend more → made ≡ x.replica.made + 1 → made < 18446744073709551616 →
+    OutputStands output (record (made_of x) { sends = x.sends ++ more }) → AllByRecursion FitsSend more → made ≡ x.replica.made + 1 → made < 18446744073709551616 →
     StandsInside (record state { output = output; made = made }) (record x { replica = record x.replica { made = x.replica.made + 1 }; sends = x.sends ++ more })
 sent_one state x output more made s holds fit next small = record {
   me = s.me;
@@ -195,7 +195,7 @@ pub recorded : (state : ReplicaState) (x : Draft) (rec : Rec) (ledger : Ledger) 
     (issued : List ℕ) (received : List (ℕ × ℕ)) (votes : List (Stamp × ℕ)) (owed : List Stamp) (pushed : List (ℕ × InEpoch)) (acked : List (ℕ × ℕ)) (taken : List ℕ) →
     StandsInside state x → fits x.replica.me x.replica.n x.replica.log rec ≡ true → FitsRec rec →
     InBoth x.replica.me x.replica.n x.replica.log rec (made_of x) ledger output →
-    Runs running (record x.replica { log = rec ∷ x.replica.log; coordinator = m; issued = issued; received = received; votes = votes; owed = owed; pushed = pushed; acked = acked; taken = taken }) →
+    EpochStands running (record x.replica { log = rec ∷ x.replica.log; coordinator = m; issued = issued; received = received; votes = votes; owed = owed; pushed = pushed; acked = acked; taken = taken }) →
     CoordinatorStands coordinator x.replica.me x.replica.n (decision (rec ∷ x.replica.log)) m →
     AllByRecursion FitsStamp owed → AllByRecursion FitsPushed pushed →
     StandsInside (record state { ledger = ledger; output = output; running = running; coordinator = coordinator })
@@ -228,32 +228,32 @@ it_fits true me n log rec m ledger output is p = (sym p.0, p.1)
 it_fits false me n log rec m ledger output is p = absurd (cc)
 
 pub it_does_not : (fit : Bool) (me n : ℕ) (log : Log) (rec : Rec) (m : Made) (ledger : Ledger) (output : Output) → fit ≡ false →
-    (fit ≡ fits me n log rec) × Recorded fit me n log rec m ledger output → (fits me n log rec ≡ false) × SaysOfLog me n ledger log × Holds output m
+    (fit ≡ fits me n log rec) × Recorded fit me n log rec m ledger output → (fits me n log rec ≡ false) × LedgerStands me n ledger log × OutputStands output m
 it_does_not true me n log rec m ledger output is p = absurd (cc)
 it_does_not false me n log rec m ledger output is p = (sym p.0, p.1.0, p.1.1)
 
 -- the ledger has it, and these are its lines
 pub applied_one : (o : Option (List Line)) (lines : List Line) (me n : ℕ) (log : Log) (rec : Rec) (ledger : Ledger) → o ≡ Some lines → Applied o me n log rec ledger →
-    (fits me n log rec ≡ true) × (lines ≡ lines_of me log rec) × SaysOfLog me n ledger (rec ∷ log)
+    (fits me n log rec ≡ true) × (lines ≡ lines_of me log rec) × LedgerStands me n ledger (rec ∷ log)
 applied_one None lines me n log rec ledger is p = absurd (cc)
 applied_one (Some found) lines me n log rec ledger is p = (let same : found ≡ lines = cc in (p.0, sym same ∙ p.1, p.2))
 
 -- it has it not
 pub applied_none : (o : Option (List Line)) (me n : ℕ) (log : Log) (rec : Rec) (ledger : Ledger) → ((lines : List Line) → o ≡ Some lines → ⊥) →
-    Applied o me n log rec ledger → (fits me n log rec ≡ false) × SaysOfLog me n ledger log
+    Applied o me n log rec ledger → (fits me n log rec ≡ false) × LedgerStands me n ledger log
 applied_none None me n log rec ledger is_none p = p
 applied_none (Some found) me n log rec ledger is_none p = absurd (is_none found refl)
 
 -- the output has it too
-pub in_both : (me n : ℕ) (log : Log) (rec : Rec) (m : Made) (ledger : Ledger) (output new : Output) (lines : List Line) → SaysOfLog me n ledger (rec ∷ log) →
-    lines ≡ lines_of me log rec → Holds output m →
-    ((m : Made) → Holds output m → Holds new (record m { batch = m.batch ++ rec ∷ []; lines = m.lines ++ lines })) → InBoth me n log rec m ledger new
+pub in_both : (me n : ℕ) (log : Log) (rec : Rec) (m : Made) (ledger : Ledger) (output new : Output) (lines : List Line) → LedgerStands me n ledger (rec ∷ log) →
+    lines ≡ lines_of me log rec → OutputStands output m →
+    ((m : Made) → OutputStands output m → OutputStands new (record m { batch = m.batch ++ rec ∷ []; lines = m.lines ++ lines })) → InBoth me n log rec m ledger new
 in_both me n log rec m ledger output new lines says same holds keeps = record {
   says = says;
-  holds = subst (λ ls. Holds new (record m { batch = m.batch ++ rec ∷ []; lines = m.lines ++ ls })) same (keeps m holds);
+  holds = subst (λ ls. OutputStands new (record m { batch = m.batch ++ rec ∷ []; lines = m.lines ++ ls })) same (keeps m holds);
 }
 
-pub unrecorded : (state : ReplicaState) (x : Draft) (ledger : Ledger) (output : Output) → StandsInside state x → SaysOfLog x.replica.me x.replica.n ledger x.replica.log → Holds output (made_of x) →
+pub unrecorded : (state : ReplicaState) (x : Draft) (ledger : Ledger) (output : Output) → StandsInside state x → LedgerStands x.replica.me x.replica.n ledger x.replica.log → OutputStands output (made_of x) →
     StandsInside (record state { ledger = ledger; output = output }) x
 unrecorded state x ledger output s says holds = record {
   me = s.me;
@@ -281,7 +281,7 @@ no_enter (Rec.Enter y) plain = plain
 
 -- ---- the next step
 
-pub begun_again : (state : ReplicaState) (x : Draft) (output : Output) → StandsInside state x → Holds output nothing → StandsInside (record state { output = output }) (begun x.replica)
+pub begun_again : (state : ReplicaState) (x : Draft) (output : Output) → StandsInside state x → OutputStands output nothing → StandsInside (record state { output = output }) (begun x.replica)
 unfolding begun
 begun_again state x output s holds = record {
   me = s.me;

@@ -13,7 +13,7 @@ use Rattle.crsm_spec.specs.Draft.{Draft}
 use Rattle.crsm_replica.specs.declared.state.ReplicaState.{ReplicaState}
 use Rattle.crsm_replica.specs.declared.state.Waiting.{Waiting as WaitingInMemory}
 use Rattle.crsm_replica.specs.Sound.{FitsWaiting}
-use Rattle.crsm_replica.specs.Replica.{StandsFor, on_paper}
+use Rattle.crsm_replica.specs.Replica.{ReplicaStands, on_paper}
 use Rattle.crsm_spec.specs.Clients.{find_executed, answer_found, answer_each, is_dropped, reply_ok, reply_dropped, replies}
 
 abbrev placed : List Entry → ℕ × Entry → ℕ × Answer
@@ -88,6 +88,6 @@ middle-fits P [] w vs all = all.0
 middle-fits P (u ∷ ws) w vs all = middle-fits P ws w vs all.1
 
 -- all that wait have a spelling
-pub waiting-fits : (state : ReplicaState) (x : Draft) → StandsFor state x → AllByRecursion FitsWaiting x.replica.waiting
-unfolding StandsFor
+pub waiting-fits : (state : ReplicaState) (x : Draft) → ReplicaStands state x → AllByRecursion FitsWaiting x.replica.waiting
+unfolding ReplicaStands
 waiting-fits state x s = s.sound.waiting

@@ -3,7 +3,7 @@ use Rattle.std.proofs.Common.{◌≡◌, ℕ, ◌+◌, ◌<◌, List, [], ◌∷
 use Rattle.std.specs.Prelude.{◌≢◌}
 use Rattle.std.proofs.lemmas.List.{map-append, append-nil, append_assoc, take_more}
 use Rattle.crsm_output.specs.declared.output.Output.{Output}
-use Rattle.crsm_output.specs.Made.{Made, Holds}
+use Rattle.crsm_output.specs.Made.{Made, OutputStands}
 use Rattle.crsm_spec.specs.Types.{InEpoch, Datagram}
 use Rattle.crsm_spec.specs.Log.{known}
 use Rattle.crsm_spec.specs.Replica.{Replica, frames_to}
@@ -12,18 +12,18 @@ use Rattle.crsm_replica.specs.Again.{frame_again}
 use Rattle.crsm_replica.proofs.Excepting.{but_for, skips, takes}
 
 -- none is sent
-pub sent-none : (output : Output) (m : Made) → Holds output m → Holds output (record m { sends = m.sends ++ [] })
-sent-none output m h = subst (λ sends. Holds output (record m { sends = sends })) (sym (append-nil m.sends)) h
+pub sent-none : (output : Output) (m : Made) → OutputStands output m → OutputStands output (record m { sends = m.sends ++ [] })
+sent-none output m h = subst (λ sends. OutputStands output (record m { sends = sends })) (sym (append-nil m.sends)) h
 
 -- one more is sent
 pub sent-more : {X : Type 0} (old new : Output) (m : Made) (f : X → ℕ × Datagram) (xs : List X) (i : ℕ) (d : X) (s : ℕ × Datagram) → i < length xs → s ≡ f (get_or xs i d) →
-    Holds old (record m { sends = m.sends ++ map f (take i xs) }) → ((m : Made) → Holds old m → Holds new (record m { sends = m.sends ++ s ∷ [] })) →
-    Holds new (record m { sends = m.sends ++ map f (take (i + 1) xs) })
+    OutputStands old (record m { sends = m.sends ++ map f (take i xs) }) → ((m : Made) → OutputStands old m → OutputStands new (record m { sends = m.sends ++ s ∷ [] })) →
+    OutputStands new (record m { sends = m.sends ++ map f (take (i + 1) xs) })
 sent-more old new m f xs i d s within e h sends =
     let same : (m.sends ++ map f (take i xs)) ++ s ∷ [] ≡ m.sends ++ map f (take (i + 1) xs) =
     append_assoc m.sends (map f (take i xs)) (s ∷ [])
     ∙ ap (λ ss. m.sends ++ ss) (ap (λ t. map f (take i xs) ++ t ∷ []) e ∙ sym (map-append f (take i xs) (get_or xs i d ∷ [])) ∙ ap (map f) (sym (take_more xs i d within))) in
-    subst (λ ss. Holds new (record m { sends = ss })) same (sends _ h)
+    subst (λ ss. OutputStands new (record m { sends = ss })) same (sends _ h)
 
 -- the next frame to k
 pub next-is : (r : Replica) (payload copy : InEpoch) (me epoch seq k : ℕ) → me ≡ r.me → epoch ≡ known r.log → seq ≡ length (frames_to r k) → copy ≡ payload →
@@ -42,18 +42,18 @@ again-is me epoch k f copy same = ap (λ p. (k, Datagram.Frame me k epoch f.0 p)
 
 -- the next member is me
 pub passed-me : (output : Output) (m : Made) (f : ℕ → ℕ × Datagram) (ks : List ℕ) (i me : ℕ) → i < length ks → get_or ks i 0 ≡ me →
-    Holds output (record m { sends = m.sends ++ map f (but_for me (take i ks)) }) → Holds output (record m { sends = m.sends ++ map f (but_for me (take (i + 1) ks)) })
+    OutputStands output (record m { sends = m.sends ++ map f (but_for me (take i ks)) }) → OutputStands output (record m { sends = m.sends ++ map f (but_for me (take (i + 1) ks)) })
 passed-me output m f ks i me within e h =
-    subst (λ js. Holds output (record m { sends = m.sends ++ map f js })) (skips ks (but_for me (take i ks)) i me within e refl) h
+    subst (λ js. OutputStands output (record m { sends = m.sends ++ map f js })) (skips ks (but_for me (take i ks)) i me within e refl) h
 
 -- a frame went to the next member
 pub sent-other : (old new : Output) (m : Made) (f : ℕ → ℕ × Datagram) (ks : List ℕ) (i me : ℕ) → i < length ks → get_or ks i 0 ≢ me →
-    Holds old (record m { sends = m.sends ++ map f (but_for me (take i ks)) }) →
-    ((m : Made) → Holds old m → Holds new (record m { sends = m.sends ++ f (get_or ks i 0) ∷ [] })) →
-    Holds new (record m { sends = m.sends ++ map f (but_for me (take (i + 1) ks)) })
+    OutputStands old (record m { sends = m.sends ++ map f (but_for me (take i ks)) }) →
+    ((m : Made) → OutputStands old m → OutputStands new (record m { sends = m.sends ++ f (get_or ks i 0) ∷ [] })) →
+    OutputStands new (record m { sends = m.sends ++ map f (but_for me (take (i + 1) ks)) })
 sent-other old new m f ks i me within e h sends =
     let same : (m.sends ++ map f (but_for me (take i ks))) ++ f (get_or ks i 0) ∷ [] ≡ m.sends ++ map f (but_for me (take (i + 1) ks)) =
     append_assoc m.sends (map f (but_for me (take i ks))) (f (get_or ks i 0) ∷ [])
     ∙ ap (λ ss. m.sends ++ ss) (sym (map-append f (but_for me (take i ks)) (get_or ks i 0 ∷ []))
     ∙ ap (map f) (takes ks (but_for me (take i ks)) (but_for me (take i ks) ++ get_or ks i 0 ∷ []) i me within e refl refl)) in
-    subst (λ ss. Holds new (record m { sends = ss })) same (sends _ h)
+    subst (λ ss. OutputStands new (record m { sends = ss })) same (sends _ h)

@@ -4,9 +4,9 @@ use Rattle.crsm_spec.specs.Types.{InEpoch, Datagram}
 use Rattle.crsm_spec.specs.Log.{known}
 use Rattle.crsm_spec.specs.Replica.{Replica}
 use Rattle.crsm_epoch_state.specs.declared.state.EpochState.{EpochState}
-use Rattle.crsm_epoch_state.specs.EpochState.{Runs}
+use Rattle.crsm_epoch_state.specs.EpochState.{EpochStands}
 use Rattle.crsm_output.specs.declared.output.Output.{Output}
-use Rattle.crsm_output.specs.Made.{Made, Holds}
+use Rattle.crsm_output.specs.Made.{Made, OutputStands}
 
 -- a frame of me to k, behind its receiver
 unfoldable pub frame_again : ℕ → ℕ → ℕ → ℕ × InEpoch → ℕ × Datagram
@@ -18,4 +18,4 @@ sending sends m = record m { sends = m.sends ++ sends }
 
 -- for replica me in this epoch, whose state this is, and what the output holds
 abbrev pub WhereSending : EpochState → Output → ℕ → ℕ → (Replica → Made → Type 0) → Type 0
-WhereSending running output me epoch P = (r : Replica) (m : Made) → Runs running r → Holds output m → me ≡ r.me → epoch ≡ known r.log → P r m
+WhereSending running output me epoch P = (r : Replica) (m : Made) → EpochStands running r → OutputStands output m → me ≡ r.me → epoch ≡ known r.log → P r m

@@ -3,10 +3,10 @@ use Rattle.std.specs.Prelude.{◌≡◌, ℕ, ◌<◌, ◌≤◌, Bool, [], map,
 use Rattle.std.specs.List.{AllByRecursion}
 use Rattle.crsm_base.specs.declared.NoMemory.{NoMemory}
 use Rattle.crsm_base.specs.Records.{FitsRec}
-use Rattle.crsm_ledger.specs.Ledger.{StandsFor as SaysOfLog}
+use Rattle.crsm_ledger.specs.Ledger.{LedgerStands}
 use Rattle.crsm_coordinator.specs.Coordinator.{CoordinatorStands}
-use Rattle.crsm_output.specs.Made.{Holds, made_of, nothing}
-use Rattle.crsm_segment.specs.Gather.{StandsFor as HasGathered}
+use Rattle.crsm_output.specs.Made.{OutputStands, made_of, nothing}
+use Rattle.crsm_segment.specs.Gather.{GatherStands}
 use Rattle.crsm_spec.specs.Types.{Decision, Rec}
 use Rattle.crsm_spec.specs.Log.{Log, decision, executed}
 use Rattle.crsm_spec.specs.Replica.{Coordinator, Waiting, latest_from}
@@ -14,7 +14,7 @@ use Rattle.crsm_spec.specs.Draft.{Draft, keep, noting}
 use Rattle.crsm_spec.specs.Coordinate.{forget_epoch}
 use Rattle.crsm_spec.specs.Step.{if_fitting}
 use Rattle.crsm_results.specs.Answering.{IsTrueOf}
-use Rattle.crsm_epoch_state.specs.EpochState.{Runs, EachFits}
+use Rattle.crsm_epoch_state.specs.EpochState.{EpochStands, EachFits}
 use Rattle.crsm_replica.specs.declared.state.ReplicaState.{ReplicaState}
 use Rattle.crsm_replica.specs.declared.state.Waiting.{Waiting as WaitingInMemory}
 use Rattle.crsm_replica.specs.Sound.{IsSound}
@@ -27,33 +27,33 @@ on_paper w = record { address = w.address; entry = w.entry }
 -- what the state keeps, part by part
 pub record StandsInside (state : ReplicaState) (x : Draft) : Type 0 where
   pub me : state.me ≡ x.replica.me
-  pub ledger : SaysOfLog x.replica.me x.replica.n state.ledger x.replica.log
-  pub running : Runs state.running x.replica
-  pub gathered : HasGathered state.gathered x.replica.parts
+  pub ledger : LedgerStands x.replica.me x.replica.n state.ledger x.replica.log
+  pub running : EpochStands state.running x.replica
+  pub gathered : GatherStands state.gathered x.replica.parts
   pub coordinator : CoordinatorStands state.coordinator x.replica.me x.replica.n (decision x.replica.log) x.replica.coordinator
   pub made : state.made ≡ x.replica.made
   pub waiting : map on_paper state.waiting.items ≡ x.replica.waiting
-  pub output : Holds state.output (made_of x)
+  pub output : OutputStands state.output (made_of x)
   pub told : AllByRecursion (IsTrueOf (executed x.replica.log)) x.lines
   pub sound : IsSound x
 
 -- The state stands for the draft of a step: what it keeps is what the draft's lists say, and all of that is sound.
-unfoldable pub StandsFor : ReplicaState → Draft → Type 0
-StandsFor state x = StandsInside state x
+unfoldable pub ReplicaStands : ReplicaState → Draft → Type 0
+ReplicaStands state x = StandsInside state x
 
 -- a state whose boot is not on record yet
 pub record AwaitsInside (state : ReplicaState) (me n : ℕ) (log : Log) : Type 0 where
   pub number : me < 15
   pub some : 1 ≤ n
   pub mine : state.me ≡ me
-  pub ledger : SaysOfLog me n state.ledger log
+  pub ledger : LedgerStands me n state.ledger log
   pub each : EachFits me n log
   pub spelt : AllByRecursion FitsRec log
-  pub gathered : HasGathered state.gathered []
+  pub gathered : GatherStands state.gathered []
   pub coordinator : (d : Option Decision) → CoordinatorStands state.coordinator me n d Coordinator.Idle
   pub made : state.made ≡ 0
   pub waiting : state.waiting.items ≡ []
-  pub output : Holds state.output nothing
+  pub output : OutputStands state.output nothing
 
 -- The state is that of the ledger of this log, and the boot is not on record yet.
 unfoldable pub AwaitsBoot : ReplicaState → ℕ → ℕ → Log → Type 0
@@ -65,12 +65,12 @@ IsSpent state = Unit {0}
 
 -- Whatever the old state stood for, the new one stands for what this makes of it; or memory ran out.
 abbrev pub Makes : (Draft → Draft) → ReplicaState → Result (Unit {0}) NoMemory → ReplicaState → Type 0
-Makes change old result new = IfOk result (λ _. (x : Draft) → StandsFor old x → StandsFor new (change x))
+Makes change old result new = IfOk result (λ _. (x : Draft) → ReplicaStands old x → ReplicaStands new (change x))
 
 -- The same where the change may not fit: then the answer is false, and the state is as before.
 abbrev pub MakesFitting : (Draft → Draft) → ReplicaState → Result Bool NoMemory → ReplicaState → Type 0
 MakesFitting change old result new =
-    IfOk result (λ fit. (x : Draft) → StandsFor old x → (fit ≡ (change x).fitting) × StandsFor new (if_fitting x (change x)))
+    IfOk result (λ fit. (x : Draft) → ReplicaStands old x → (fit ≡ (change x).fitting) × ReplicaStands new (if_fitting x (change x)))
 
 -- a record that a step keeps but for Decide and Enter
 abbrev pub IsPlain : Rec → Type 0
@@ -84,8 +84,8 @@ learnt d x = forget_epoch (noting Coordinator.Idle (keep (Rec.Decide d) x))
 
 -- for each draft that the state stands for
 abbrev pub WhereStands : ReplicaState → (Draft → Type 0) → Type 0
-WhereStands state P = (x : Draft) → StandsFor state x → P x
+WhereStands state P = (x : Draft) → ReplicaStands state x → P x
 
 -- the same where the replica is not k, and this time is above the latest one that it received from k
 abbrev pub WhereLater : ReplicaState → ℕ → ℕ → (Draft → Type 0) → Type 0
-WhereLater state k time P = (x : Draft) → StandsFor state x → k ≢ x.replica.me → latest_from x.replica.received k < time → P x
+WhereLater state k time P = (x : Draft) → ReplicaStands state x → k ≢ x.replica.me → latest_from x.replica.received k < time → P x

@@ -7,14 +7,14 @@ ghost use Rattle.crsm_spec.specs.Log.{known};
 ghost use Rattle.crsm_spec.specs.Types.{Line};
 ghost use Rattle.crsm_spec.specs.Draft.{send, count_vote};
 ghost use Rattle.crsm_spec.specs.Clients.{refuse, await};
-ghost use Rattle.crsm_replica.specs.Replica.{StandsFor, Makes};
+ghost use Rattle.crsm_replica.specs.Replica.{ReplicaStands, Makes};
 
 use crate::state::{ReplicaState, Waiting};
 use crsm_base::{Command, Datagram, Entry, Line, NoMemory, Outcome, Refusal, Stamp};
 use crsm_output::Reply;
 
 impl ReplicaState {
-    #[tactic(auto, unfolding(crate::specs::Replica::StandsFor))]
+    #[tactic(auto, unfolding(crate::specs::Replica::ReplicaStands))]
     /// Counts a vote.
     pub fn count_vote(&mut self, stamp: Stamp, k: u32) -> Result<(), NoMemory>
         requires { k < 15 }
@@ -25,7 +25,7 @@ impl ReplicaState {
         Ok(())
     }
 
-    #[tactic(auto, unfolding(crate::specs::Replica::StandsFor))]
+    #[tactic(auto, unfolding(crate::specs::Replica::ReplicaStands))]
     /// Sends a datagram to a replica.
     pub fn send(&mut self, k: u32, datagram: Datagram) -> Result<(), NoMemory>
         requires to { k < 15 }
@@ -36,7 +36,7 @@ impl ReplicaState {
         Ok(())
     }
 
-    #[tactic(auto, unfolding(crate::specs::Replica::StandsFor))]
+    #[tactic(auto, unfolding(crate::specs::Replica::ReplicaStands))]
     /// Tells a client why its command is not taken.
     pub fn refuse(&mut self, address: u64, command: &Command, why: Refusal) -> Result<(), NoMemory>
         requires { FitsCommand command.now }
@@ -57,7 +57,7 @@ impl ReplicaState {
         Ok(())
     }
 
-    #[tactic(auto, unfolding(crate::specs::Replica::StandsFor))]
+    #[tactic(auto, unfolding(crate::specs::Replica::ReplicaStands))]
     /// A client waits for the entry.
     pub fn await_entry(&mut self, address: u64, entry: Entry) -> Result<(), NoMemory>
         requires { FitsEntry entry }
@@ -67,7 +67,7 @@ impl ReplicaState {
         Ok(())
     }
 
-    #[tactic(auto, unfolding(crate::specs::Replica::StandsFor))]
+    #[tactic(auto, unfolding(crate::specs::Replica::ReplicaStands))]
     /// A collection is past its limits: so many entries, of so many bytes.
     pub fn refuse_collection(&mut self, count: u64, bytes: u64) -> Result<(), NoMemory>
         ensures { Makes (λ x. record x { excess = x.excess ++ Line.TooMany x.replica.me (known x.replica.log) count bytes ∷ [] }) self.old result self.new }

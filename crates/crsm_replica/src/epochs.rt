@@ -2,7 +2,7 @@
 
 ghost use Rattle.std.specs.Prelude.{◌≡◌, ℕ, IfOk};
 ghost use Rattle.crsm_base.specs.Spelling.{FitsDecision};
-ghost use Rattle.crsm_ledger.specs.Ledger.{StandsFor as SaysOfLog};
+ghost use Rattle.crsm_ledger.specs.Ledger.{LedgerStands};
 ghost use Rattle.crsm_coordinator.specs.Coordinator.{CoordinatorStands};
 ghost use Rattle.crsm_spec.specs.Log.{Log, decision};
 ghost use Rattle.crsm_spec.specs.Types.{Rec};
@@ -10,7 +10,7 @@ ghost use Rattle.crsm_spec.specs.Replica.{Coordinator};
 ghost use Rattle.crsm_spec.specs.Draft.{Draft, noting};
 ghost use Rattle.crsm_spec.specs.Coordinate.{enter};
 ghost use Rattle.crsm_spec.specs.Step.{if_fitting};
-ghost use Rattle.crsm_replica.specs.Replica.{StandsFor, AwaitsBoot, Makes, learnt, WhereStands};
+ghost use Rattle.crsm_replica.specs.Replica.{ReplicaStands, AwaitsBoot, Makes, learnt, WhereStands};
 
 use crate::records::put;
 use crate::state::ReplicaState;
@@ -21,10 +21,10 @@ use crsm_ledger::Ledger;
 use crsm_wire::is_rec_spelt;
 
 impl ReplicaState {
-    #[tactic(auto, unfolding(crate::specs::Replica::StandsFor))]
+    #[tactic(auto, unfolding(crate::specs::Replica::ReplicaStands))]
     /// Learns a decision: the old epoch is over, and with it any coordinator. `false` if it does not fit, and the state is as before.
     pub fn learn_decision(&mut self, decision: &Decision) -> Result<bool, NoMemory>
-        ensures { IfOk result (λ fit. WhereStands self.old (λ x. FitsDecision decision.now → (fit ≡ (learnt decision.now x).fitting) × StandsFor self.new (if_fitting x (learnt decision.now x)))) }
+        ensures { IfOk result (λ fit. WhereStands self.old (λ x. FitsDecision decision.now → (fit ≡ (learnt decision.now x).fitting) × ReplicaStands self.new (if_fitting x (learnt decision.now x)))) }
     {
         let rec = Rec::Decide {
             decision: decision.copy(self.alloc)?,
@@ -41,7 +41,7 @@ impl ReplicaState {
         Ok(true)
     }
 
-    #[tactic(auto, unfolding(crate::specs::Replica::StandsFor))]
+    #[tactic(auto, unfolding(crate::specs::Replica::ReplicaStands))]
     /// Enters the known epoch where that fits.
     pub fn enter(&mut self) -> Result<(), NoMemory>
         ensures { Makes (enter) self.old result self.new }
@@ -56,7 +56,7 @@ impl ReplicaState {
         Ok(())
     }
 
-    #[tactic(auto, unfolding(crate::specs::Replica::StandsFor))]
+    #[tactic(auto, unfolding(crate::specs::Replica::ReplicaStands))]
     /// What the coordinator is at.
     pub fn coordinator(&self) -> &CoordinatorInMemory
         ensures { WhereStands self.now (λ x. CoordinatorStands result.now x.replica.me x.replica.n (decision x.replica.log) x.replica.coordinator) }
@@ -64,28 +64,28 @@ impl ReplicaState {
         &self.coordinator
     }
 
-    #[tactic(auto, unfolding(crate::specs::Replica::StandsFor))]
+    #[tactic(auto, unfolding(crate::specs::Replica::ReplicaStands))]
     /// The coordinator is at this from now on, where it stands for a coordinator on paper.
     pub fn set_coordinator(&mut self, coordinator: CoordinatorInMemory)
-        ensures { (x : Draft) (m : Coordinator) → StandsFor self.old x → CoordinatorStands coordinator x.replica.me x.replica.n (decision x.replica.log) m → StandsFor self.new (noting m x) }
+        ensures { (x : Draft) (m : Coordinator) → ReplicaStands self.old x → CoordinatorStands coordinator x.replica.me x.replica.n (decision x.replica.log) m → ReplicaStands self.new (noting m x) }
     {
         self.coordinator = coordinator;
     }
 
-    #[tactic(auto, unfolding(crate::specs::Replica::StandsFor))]
+    #[tactic(auto, unfolding(crate::specs::Replica::ReplicaStands))]
     /// Takes the coordinator out: the coordinator is at nothing then.
     pub fn take_coordinator(&mut self) -> CoordinatorInMemory
         ensures coordinator { WhereStands self.old (λ x. CoordinatorStands result x.replica.me x.replica.n (decision x.replica.log) x.replica.coordinator) }
-        ensures quiet { WhereStands self.old (λ x. StandsFor self.new (noting Coordinator.Idle x)) }
+        ensures quiet { WhereStands self.old (λ x. ReplicaStands self.new (noting Coordinator.Idle x)) }
     {
         std::mem::replace(&mut self.coordinator, CoordinatorInMemory::quiet())
     }
 
-    #[tactic(auto, unfolding(crate::specs::Replica::StandsFor, crate::specs::Replica::AwaitsBoot))]
+    #[tactic(auto, unfolding(crate::specs::Replica::ReplicaStands, crate::specs::Replica::AwaitsBoot))]
     /// The ledger.
     pub fn ledger(&self) -> &Ledger
-        ensures before { (me n : ℕ) (log : Log) → AwaitsBoot self.now me n log → SaysOfLog me n result.now log }
-        ensures stands { WhereStands self.now (λ x. SaysOfLog x.replica.me x.replica.n result.now x.replica.log) }
+        ensures before { (me n : ℕ) (log : Log) → AwaitsBoot self.now me n log → LedgerStands me n result.now log }
+        ensures stands { WhereStands self.now (λ x. LedgerStands x.replica.me x.replica.n result.now x.replica.log) }
     {
         &self.ledger
     }

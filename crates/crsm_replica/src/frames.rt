@@ -1,7 +1,7 @@
 //! The frames of a step: new ones, and those that go again.
 
 ghost use Rattle.std.specs.Prelude.{◌<◌, [], ◌∷◌, map, All, OnOk};
-ghost use Rattle.crsm_output.specs.Made.{Made, Holds};
+ghost use Rattle.crsm_output.specs.Made.{Made, OutputStands};
 ghost use Rattle.crsm_epoch_state.specs.Linked.{others_of};
 ghost use Rattle.crsm_spec.specs.Draft.{next_frame};
 ghost use Rattle.crsm_replica.specs.Again.{frame_again, WhereSending, sending};
@@ -22,7 +22,7 @@ pub fn send_next(
     payload: &InEpoch,
 ) -> Result<(), NoMemory>
     requires { All (λ k. k < 15) members.now }
-    ensures { OnOk result (WhereSending running.now output.old me epoch (λ r m. Holds output.new (sending (map (next_frame r payload.now) (others_of me members.now)) m))) }
+    ensures { OnOk result (WhereSending running.now output.old me epoch (λ r m. OutputStands output.new (sending (map (next_frame r payload.now) (others_of me members.now)) m))) }
 {
     for k in members {
         if *k != me {
@@ -42,7 +42,7 @@ fn send_frame(
     payload: InEpoch,
 ) -> Result<(), NoMemory>
     requires { k < 15 }
-    ensures { OnOk result (WhereSending running.now output.old me epoch (λ r m. Holds output.new (sending (next_frame r payload k ∷ []) m))) }
+    ensures { OnOk result (WhereSending running.now output.old me epoch (λ r m. OutputStands output.new (sending (next_frame r payload k ∷ []) m))) }
 {
     let seq = running.pushed_to(k);
     let datagram = Datagram::Frame {
@@ -65,7 +65,7 @@ pub fn send_again(
     to: u32,
     frames: &[(u64, InEpoch)],
 ) -> Result<(), NoMemory>
-    ensures { OnOk result ((m : Made) → Holds output.old m → Holds output.new (sending (map (frame_again me epoch to) frames.now) m)) }
+    ensures { OnOk result ((m : Made) → OutputStands output.old m → OutputStands output.new (sending (map (frame_again me epoch to) frames.now) m)) }
 {
     for frame in frames {
         let datagram = Datagram::Frame {

@@ -1,7 +1,7 @@
 //! The parts of control messages that have come, of all replicas that there can be.
 
 ghost use Rattle.std.specs.Prelude.{◌≡◌, ◌<◌, true, List, [], IfOk};
-ghost use Rattle.crsm_segment.specs.Gather.{StandsFor as HasGathered};
+ghost use Rattle.crsm_segment.specs.Gather.{GatherStands};
 ghost use Rattle.crsm_segment.specs.Taking.{is_sized, piece, whole_of};
 ghost use Rattle.crsm_replica.specs.Parts.{TakesPart};
 
@@ -30,7 +30,7 @@ impl Model for Gathered {
 impl Gathered {
     /// None has come.
     pub fn new(alloc: Global) -> Result<Gathered, NoMemory>
-        ensures { IfOk result (λ gathered. HasGathered gathered []) }
+        ensures { IfOk result (λ gathered. GatherStands gathered []) }
     {
         Ok(Gathered {
             inside: Gather::new(alloc, MAX_REPLICAS)?,

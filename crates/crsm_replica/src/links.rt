@@ -7,17 +7,17 @@ ghost use Rattle.crsm_base.specs.declared.Stamp.{Stamp};
 ghost use Rattle.crsm_spec.specs.Replica.{frames_to};
 ghost use Rattle.crsm_spec.specs.Draft.{Draft, would, push_to_members, issued_at};
 ghost use Rattle.crsm_spec.specs.Frames.{ack, owe, owing, again_to};
-ghost use Rattle.crsm_replica.specs.Replica.{StandsFor, Makes, WhereStands, WhereLater};
+ghost use Rattle.crsm_replica.specs.Replica.{ReplicaStands, Makes, WhereStands, WhereLater};
 
 use crate::frames::{send_again, send_next};
 use crate::state::ReplicaState;
 use crsm_base::{Datagram, InEpoch, NoMemory, Stamp};
 
 impl ReplicaState {
-    #[tactic(auto, unfolding(crate::specs::Replica::StandsFor))]
+    #[tactic(auto, unfolding(crate::specs::Replica::ReplicaStands))]
     /// Issues this time, which it would issue at some reading, and pushes a payload to the other members.
     pub fn push_at(&mut self, time: u64, payload: InEpoch) -> Result<(), NoMemory>
-        ensures { IfOk result (λ _. (x : Draft) (reading : ℕ) → StandsFor self.old x → FitsPayload payload → would x reading ≡ Some time → StandsFor self.new (push_to_members payload (issued_at time x))) }
+        ensures { IfOk result (λ _. (x : Draft) (reading : ℕ) → ReplicaStands self.old x → FitsPayload payload → would x reading ≡ Some time → ReplicaStands self.new (push_to_members payload (issued_at time x))) }
     {
         let number = self.me();
         send_next(
@@ -34,17 +34,17 @@ impl ReplicaState {
         Ok(())
     }
 
-    #[tactic(auto, unfolding(crate::specs::Replica::StandsFor))]
+    #[tactic(auto, unfolding(crate::specs::Replica::ReplicaStands))]
     /// Takes the next frame of another replica k, and with it this time, which is above the latest of k.
     pub fn take_next(&mut self, k: u32, time: u64) -> Result<(), NoMemory>
         requires { k < 15 }
-        ensures { IfOk result (λ _. WhereLater self.old k time (λ x. StandsFor self.new (record x { replica = record x.replica { taken = k ∷ x.replica.taken; received = (k, time) ∷ x.replica.received } }))) }
+        ensures { IfOk result (λ _. WhereLater self.old k time (λ x. ReplicaStands self.new (record x { replica = record x.replica { taken = k ∷ x.replica.taken; received = (k, time) ∷ x.replica.received } }))) }
     {
         self.running.take_next(k, time);
         Ok(())
     }
 
-    #[tactic(auto, unfolding(crate::specs::Replica::StandsFor))]
+    #[tactic(auto, unfolding(crate::specs::Replica::ReplicaStands))]
     /// Tells k by an acknowledgement which frame is expected next.
     pub fn ack(&mut self, k: u32) -> Result<(), NoMemory>
         requires { k < 15 }
@@ -64,17 +64,17 @@ impl ReplicaState {
         Ok(())
     }
 
-    #[tactic(auto, unfolding(crate::specs::Replica::StandsFor))]
+    #[tactic(auto, unfolding(crate::specs::Replica::ReplicaStands))]
     /// All frames to k below this number, of those that were pushed, have come.
     pub fn acked(&mut self, k: u32, next: u64) -> Result<(), NoMemory>
         requires { k < 15 }
-        ensures { IfOk result (λ _. WhereStands self.old (λ x. next ≤ length (frames_to x.replica k) → StandsFor self.new (record x { replica = record x.replica { acked = (k, next) ∷ x.replica.acked } }))) }
+        ensures { IfOk result (λ _. WhereStands self.old (λ x. next ≤ length (frames_to x.replica k) → ReplicaStands self.new (record x { replica = record x.replica { acked = (k, next) ∷ x.replica.acked } }))) }
     {
         self.running.acked(k, next);
         Ok(())
     }
 
-    #[tactic(auto, unfolding(crate::specs::Replica::StandsFor))]
+    #[tactic(auto, unfolding(crate::specs::Replica::ReplicaStands))]
     /// Owes an acknowledgement.
     pub fn owe(&mut self, stamp: Stamp) -> Result<(), NoMemory>
         requires { FitsStamp stamp }
@@ -84,16 +84,16 @@ impl ReplicaState {
         Ok(())
     }
 
-    #[tactic(auto, unfolding(crate::specs::Replica::StandsFor))]
+    #[tactic(auto, unfolding(crate::specs::Replica::ReplicaStands))]
     /// The acknowledgement that was owed first is owed no more.
     pub fn paid(&mut self) -> Result<(), NoMemory>
-        ensures { IfOk result (λ _. (x : Draft) (s : Stamp) (ss : List Stamp) → StandsFor self.old x → x.replica.owed ≡ s ∷ ss → StandsFor self.new (owing ss x)) }
+        ensures { IfOk result (λ _. (x : Draft) (s : Stamp) (ss : List Stamp) → ReplicaStands self.old x → x.replica.owed ≡ s ∷ ss → ReplicaStands self.new (owing ss x)) }
     {
         self.running.paid();
         Ok(())
     }
 
-    #[tactic(auto, unfolding(crate::specs::Replica::StandsFor))]
+    #[tactic(auto, unfolding(crate::specs::Replica::ReplicaStands))]
     /// Sends the first unacknowledged frames to k again.
     pub fn again_to(&mut self, k: u32) -> Result<(), NoMemory>
         requires { k < 15 }

@@ -4,14 +4,14 @@ ghost use Rattle.std.specs.Prelude.{◌≡◌, ◌==◌, ◌<◌, ◌≤◌, not
 ghost use Rattle.crsm_spec.specs.Lists.{has};
 ghost use Rattle.crsm_spec.specs.Replica.{members_of, spec_of, others, other_members};
 ghost use Rattle.crsm_spec.specs.Draft.{Draft};
-ghost use Rattle.crsm_replica.specs.Replica.{StandsFor, WhereStands};
+ghost use Rattle.crsm_replica.specs.Replica.{ReplicaStands, WhereStands};
 
 use crate::state::ReplicaState;
 use crsm_base::{Members, NoMemory, is_among};
 use std::alloc::Global;
 
 impl ReplicaState {
-    #[tactic(auto, unfolding(crate::specs::Replica::StandsFor))]
+    #[tactic(auto, unfolding(crate::specs::Replica::ReplicaStands))]
     /// Whether k is a member of the known epoch.
     pub fn is_member(&self, k: u32) -> bool
         ensures { WhereStands self.now (λ x. result ≡ has (members_of x.replica) k) }
@@ -19,7 +19,7 @@ impl ReplicaState {
         is_among(self.ledger.known().members.as_slice(), k)
     }
 
-    #[tactic(auto, unfolding(crate::specs::Replica::StandsFor))]
+    #[tactic(auto, unfolding(crate::specs::Replica::ReplicaStands))]
     /// Whether k is counted in the known epoch.
     pub fn is_of_spec(&self, k: u32) -> bool
         ensures { WhereStands self.now (λ x. result ≡ has (spec_of x.replica) k) }
@@ -30,7 +30,7 @@ impl ReplicaState {
         }
     }
 
-    #[tactic(auto, unfolding(crate::specs::Replica::StandsFor))]
+    #[tactic(auto, unfolding(crate::specs::Replica::ReplicaStands))]
     /// The other replicas that are counted, ascending.
     pub fn others(&self) -> Result<Vec<u32>, NoMemory>
         ensures value { WhereStands self.now (λ x. IfOk result (λ ks. ks.items ≡ others x.replica)) }
@@ -40,7 +40,7 @@ impl ReplicaState {
         Ok(others)
     }
 
-    #[tactic(auto, unfolding(crate::specs::Replica::StandsFor))]
+    #[tactic(auto, unfolding(crate::specs::Replica::ReplicaStands))]
     /// The other members, ascending.
     pub fn other_members(&self) -> Result<Vec<u32>, NoMemory>
         ensures value { WhereStands self.now (λ x. IfOk result (λ ks. ks.items ≡ other_members x.replica)) }
@@ -50,7 +50,7 @@ impl ReplicaState {
         Ok(others)
     }
 
-    #[tactic(auto, unfolding(crate::specs::Replica::StandsFor))]
+    #[tactic(auto, unfolding(crate::specs::Replica::ReplicaStands))]
     /// The replicas that are counted, ascending.
     pub fn spec(&self) -> Result<Members, NoMemory>
         ensures { WhereStands self.now (λ x. IfOk result (λ ks. ks ≡ spec_of x.replica)) }
@@ -59,7 +59,7 @@ impl ReplicaState {
         Ok(spec)
     }
 
-    #[tactic(auto, unfolding(crate::specs::Replica::StandsFor))]
+    #[tactic(auto, unfolding(crate::specs::Replica::ReplicaStands))]
     /// The members, ascending.
     pub fn members(&self) -> Result<Members, NoMemory>
         ensures { WhereStands self.now (λ x. IfOk result (λ ks. ks ≡ members_of x.replica)) }

@@ -5,19 +5,19 @@ ghost use Rattle.crsm_base.specs.declared.Control.{Control as ControlOnPaper};
 ghost use Rattle.crsm_base.specs.Messages.{FitsControl};
 ghost use Rattle.crsm_output.specs.Spellings.{IsSpelling, IsSpellingOf};
 ghost use Rattle.crsm_spec.specs.Draft.{Draft, send_control, send_to_each, send_to_all, send_decision, send_retrieve};
-ghost use Rattle.crsm_replica.specs.Replica.{StandsFor, Makes, WhereStands};
+ghost use Rattle.crsm_replica.specs.Replica.{ReplicaStands, Makes, WhereStands};
 
 use crate::state::ReplicaState;
 use crsm_base::{Control, NoMemory};
 use crsm_output::{parts_are_spelt, send_parts, spell, spell_decision};
 
 impl ReplicaState {
-    #[tactic(auto, unfolding(crate::specs::Replica::StandsFor))]
+    #[tactic(auto, unfolding(crate::specs::Replica::ReplicaStands))]
     /// Makes a control message for k, of this spelling, unless this boot has made as many as can be numbered.
     fn send_spelt(&mut self, k: u32, spelling: &[u8]) -> Result<(), NoMemory>
         requires below { k < 15 }
         requires spelling { IsSpelling spelling.now }
-        ensures { IfOk result (λ _. (x : Draft) (c : ControlOnPaper) → StandsFor self.old x → IsSpellingOf spelling.now c → StandsFor self.new (send_control c x k)) }
+        ensures { IfOk result (λ _. (x : Draft) (c : ControlOnPaper) → ReplicaStands self.old x → IsSpellingOf spelling.now c → ReplicaStands self.new (send_control c x k)) }
     {
         if self.made == u64::MAX {
             return Ok(());
@@ -40,7 +40,7 @@ impl ReplicaState {
     /// Makes a control message for k, unless this boot has made as many as can be numbered.
     pub fn send_control(&mut self, k: u32, control: &Control) -> Result<(), NoMemory>
         requires { k < 15 }
-        ensures { IfOk result (λ _. WhereStands self.old (λ x. FitsControl control.now → StandsFor self.new (send_control control.now x k))) }
+        ensures { IfOk result (λ _. WhereStands self.old (λ x. FitsControl control.now → ReplicaStands self.new (send_control control.now x k))) }
     {
         let spelling = spell(self.alloc, control)?;
         self.send_spelt(k, spelling.as_slice())?;
@@ -50,7 +50,7 @@ impl ReplicaState {
     /// Makes one for each of these. It is spelt once.
     pub fn send_to_each(&mut self, replicas: &[u32], control: &Control) -> Result<(), NoMemory>
         requires { All (λ k. k < 15) replicas.now }
-        ensures { IfOk result (λ _. WhereStands self.old (λ x. FitsControl control.now → StandsFor self.new (send_to_each replicas.now control.now x))) }
+        ensures { IfOk result (λ _. WhereStands self.old (λ x. FitsControl control.now → ReplicaStands self.new (send_to_each replicas.now control.now x))) }
     {
         if replicas.is_empty() {
             return Ok(());
@@ -62,17 +62,17 @@ impl ReplicaState {
         Ok(())
     }
 
-    #[tactic(auto, unfolding(crate::specs::Replica::StandsFor))]
+    #[tactic(auto, unfolding(crate::specs::Replica::ReplicaStands))]
     /// Makes one for each other replica that is counted.
     pub fn send_to_all(&mut self, control: &Control) -> Result<(), NoMemory>
-        ensures { IfOk result (λ _. WhereStands self.old (λ x. FitsControl control.now → StandsFor self.new (send_to_all control.now x))) }
+        ensures { IfOk result (λ _. WhereStands self.old (λ x. FitsControl control.now → ReplicaStands self.new (send_to_all control.now x))) }
     {
         let others = self.others()?;
         self.send_to_each(&others, control)?;
         Ok(())
     }
 
-    #[tactic(auto, unfolding(crate::specs::Replica::StandsFor))]
+    #[tactic(auto, unfolding(crate::specs::Replica::ReplicaStands))]
     /// Sends k the known decision, if there is one.
     pub fn send_decision(&mut self, k: u32) -> Result<(), NoMemory>
         requires { k < 15 }
@@ -87,7 +87,7 @@ impl ReplicaState {
         Ok(())
     }
 
-    #[tactic(auto, unfolding(crate::specs::Replica::StandsFor))]
+    #[tactic(auto, unfolding(crate::specs::Replica::ReplicaStands))]
     /// Asks k for what is known and executed beyond here.
     pub fn send_retrieve(&mut self, k: u32) -> Result<(), NoMemory>
         requires { k < 15 }

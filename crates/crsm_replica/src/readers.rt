@@ -10,7 +10,7 @@ ghost use Rattle.crsm_spec.specs.Replica.{members_of, spec_of, others, other_mem
 ghost use Rattle.crsm_spec.specs.Draft.{Draft, would};
 ghost use Rattle.crsm_spec.specs.Clients.{own_unexecuted};
 ghost use Rattle.crsm_spec.specs.Coordinate.{has_accepted};
-ghost use Rattle.crsm_replica.specs.Replica.{StandsFor, ready_of, WhereStands};
+ghost use Rattle.crsm_replica.specs.Replica.{ReplicaStands, ready_of, WhereStands};
 
 use crate::state::ReplicaState;
 use crsm_base::{Ballot, Decision, MAX_REPLICAS, NoMemory, Stamp, is_same_ballot};
@@ -22,7 +22,7 @@ impl ReplicaState {
         self.alloc
     }
 
-    #[tactic(auto, unfolding(crate::specs::Replica::StandsFor))]
+    #[tactic(auto, unfolding(crate::specs::Replica::ReplicaStands))]
     /// Its number.
     pub fn me(&self) -> u32
         ensures value { WhereStands self.now (λ x. result ≡ x.replica.me) }
@@ -31,7 +31,7 @@ impl ReplicaState {
         self.me.min(MAX_REPLICAS - 1)
     }
 
-    #[tactic(auto, unfolding(crate::specs::Replica::StandsFor))]
+    #[tactic(auto, unfolding(crate::specs::Replica::ReplicaStands))]
     /// The known epoch.
     pub fn known(&self) -> u64
         ensures { WhereStands self.now (λ x. result ≡ known x.replica.log) }
@@ -39,7 +39,7 @@ impl ReplicaState {
         self.ledger.known().epoch
     }
 
-    #[tactic(auto, unfolding(crate::specs::Replica::StandsFor))]
+    #[tactic(auto, unfolding(crate::specs::Replica::ReplicaStands))]
     /// How many entries are executed where the known epoch begins.
     pub fn start(&self) -> u64
         ensures { WhereStands self.now (λ x. result ≡ start x.replica.log) }
@@ -47,7 +47,7 @@ impl ReplicaState {
         self.ledger.start()
     }
 
-    #[tactic(auto, unfolding(crate::specs::Replica::StandsFor))]
+    #[tactic(auto, unfolding(crate::specs::Replica::ReplicaStands))]
     /// How many entries are executed.
     pub fn executed_len(&self) -> u64
         ensures { WhereStands self.now (λ x. result ≡ length (executed x.replica.log)) }
@@ -55,7 +55,7 @@ impl ReplicaState {
         self.ledger.executed_len()
     }
 
-    #[tactic(auto, unfolding(crate::specs::Replica::StandsFor))]
+    #[tactic(auto, unfolding(crate::specs::Replica::ReplicaStands))]
     /// How many executed entries the known epoch's decision takes for granted; 0 in the first epoch.
     pub fn base_len(&self) -> u64
         ensures { WhereStands self.now (λ x. result ≡ option_map_or (λ d. d.base_len) (decision x.replica.log) 0) }
@@ -63,7 +63,7 @@ impl ReplicaState {
         self.ledger.known().base_len
     }
 
-    #[tactic(auto, unfolding(crate::specs::Replica::StandsFor))]
+    #[tactic(auto, unfolding(crate::specs::Replica::ReplicaStands))]
     /// This boot has entered the known epoch.
     pub fn is_live(&self) -> bool
         ensures { WhereStands self.now (λ x. result ≡ live x.replica.log) }
@@ -71,7 +71,7 @@ impl ReplicaState {
         self.ledger.live()
     }
 
-    #[tactic(auto, unfolding(crate::specs::Replica::StandsFor))]
+    #[tactic(auto, unfolding(crate::specs::Replica::ReplicaStands))]
     /// The replica takes no more part in the known epoch.
     pub fn is_suspended(&self) -> bool
         ensures { WhereStands self.now (λ x. result ≡ suspended x.replica.log) }
@@ -79,7 +79,7 @@ impl ReplicaState {
         self.ledger.suspended()
     }
 
-    #[tactic(auto, unfolding(crate::specs::Replica::StandsFor))]
+    #[tactic(auto, unfolding(crate::specs::Replica::ReplicaStands))]
     /// The replica is live and not suspended.
     pub fn is_active(&self) -> bool
         ensures { WhereStands self.now (λ x. result ≡ active x.replica.log) }
@@ -90,7 +90,7 @@ impl ReplicaState {
         self.ledger.live()
     }
 
-    #[tactic(auto, unfolding(crate::specs::Replica::StandsFor))]
+    #[tactic(auto, unfolding(crate::specs::Replica::ReplicaStands))]
     /// The ballot that was promised on the next decision.
     pub fn promised(&self) -> Ballot
         ensures { WhereStands self.now (λ x. result ≡ promised x.replica.log) }
@@ -98,7 +98,7 @@ impl ReplicaState {
         self.ledger.promised()
     }
 
-    #[tactic(auto, unfolding(crate::specs::Replica::StandsFor))]
+    #[tactic(auto, unfolding(crate::specs::Replica::ReplicaStands))]
     /// This ballot's decision was accepted here.
     pub fn has_accepted(&self, b: Ballot) -> bool
         ensures { WhereStands self.now (λ x. result ≡ has_accepted b x) }
@@ -109,7 +109,7 @@ impl ReplicaState {
         }
     }
 
-    #[tactic(auto, unfolding(crate::specs::Replica::StandsFor))]
+    #[tactic(auto, unfolding(crate::specs::Replica::ReplicaStands))]
     /// The accepted decision with its ballot.
     pub fn accepted(&self) -> Result<Option<(Ballot, Decision)>, NoMemory>
         ensures { WhereStands self.now (λ x. IfOk result (λ r. r ≡ accepted x.replica.log)) }
@@ -120,7 +120,7 @@ impl ReplicaState {
         }
     }
 
-    #[tactic(auto, unfolding(crate::specs::Replica::StandsFor))]
+    #[tactic(auto, unfolding(crate::specs::Replica::ReplicaStands))]
     /// The decision of the known epoch, of which the first has none.
     pub fn decision(&self) -> Result<Option<Decision>, NoMemory>
         ensures { WhereStands self.now (λ x. IfOk result (λ r. r ≡ decision x.replica.log)) }
@@ -132,7 +132,7 @@ impl ReplicaState {
         Ok(Some(known.copy(self.alloc)?))
     }
 
-    #[tactic(auto, unfolding(crate::specs::Replica::StandsFor))]
+    #[tactic(auto, unfolding(crate::specs::Replica::ReplicaStands))]
     /// The time that would be issued at this reading.
     pub fn would(&self, reading: u64) -> Option<u64>
         ensures { WhereStands self.now (λ x. result ≡ would x reading) }
@@ -140,7 +140,7 @@ impl ReplicaState {
         self.running.would(reading)
     }
 
-    #[tactic(auto, unfolding(crate::specs::Replica::StandsFor))]
+    #[tactic(auto, unfolding(crate::specs::Replica::ReplicaStands))]
     /// The time that was issued last, 0 before the first.
     pub fn last_issued(&self) -> u64
         ensures { WhereStands self.now (λ x. result ≡ last_issued x.replica) }
@@ -148,7 +148,7 @@ impl ReplicaState {
         self.running.last_issued()
     }
 
-    #[tactic(auto, unfolding(crate::specs::Replica::StandsFor))]
+    #[tactic(auto, unfolding(crate::specs::Replica::ReplicaStands))]
     /// The latest time received from another replica, 0 before the first.
     pub fn latest_from(&self, k: u32) -> u64
         requires { k < 15 }
@@ -157,7 +157,7 @@ impl ReplicaState {
         self.running.latest_from(k)
     }
 
-    #[tactic(auto, unfolding(crate::specs::Replica::StandsFor))]
+    #[tactic(auto, unfolding(crate::specs::Replica::ReplicaStands))]
     /// The number of the next frame from k.
     pub fn next_from(&self, k: u32) -> u64
         requires { k < 15 }
@@ -166,7 +166,7 @@ impl ReplicaState {
         self.running.next_from(k)
     }
 
-    #[tactic(auto, unfolding(crate::specs::Replica::StandsFor))]
+    #[tactic(auto, unfolding(crate::specs::Replica::ReplicaStands))]
     /// How many frames were pushed to k.
     pub fn pushed_to(&self, k: u32) -> u64
         requires { k < 15 }
@@ -175,7 +175,7 @@ impl ReplicaState {
         self.running.pushed_to(k)
     }
 
-    #[tactic(auto, unfolding(crate::specs::Replica::StandsFor))]
+    #[tactic(auto, unfolding(crate::specs::Replica::ReplicaStands))]
     /// Some link to a member holds as many frames as it may.
     pub fn is_congested(&self) -> bool
         ensures { WhereStands self.now (λ x. result ≡ is_congested x.replica) }
@@ -184,7 +184,7 @@ impl ReplicaState {
             .is_congested(self.me, &self.ledger.known().members)
     }
 
-    #[tactic(auto, unfolding(crate::specs::Replica::StandsFor))]
+    #[tactic(auto, unfolding(crate::specs::Replica::ReplicaStands))]
     /// How many of its own entries are not executed, while it is active.
     pub fn own_unexecuted(&self) -> u64
         ensures { WhereStands self.now (λ x. active x.replica.log ≡ true → result ≡ length (own_unexecuted x.replica)) }
@@ -192,7 +192,7 @@ impl ReplicaState {
         self.running.own_unexecuted(self.me())
     }
 
-    #[tactic(auto, unfolding(crate::specs::Replica::StandsFor))]
+    #[tactic(auto, unfolding(crate::specs::Replica::ReplicaStands))]
     /// How many entries are not executed, while it is active.
     pub fn unexecuted_len(&self) -> u64
         ensures { WhereStands self.now (λ x. active x.replica.log ≡ true → result ≡ length (unexecuted x.replica.log)) }
@@ -200,7 +200,7 @@ impl ReplicaState {
         self.ledger.unexecuted().len() as u64
     }
 
-    #[tactic(auto, unfolding(crate::specs::Replica::StandsFor))]
+    #[tactic(auto, unfolding(crate::specs::Replica::ReplicaStands))]
     /// How many acknowledgements are owed.
     pub fn owed_len(&self) -> u64
         ensures { WhereStands self.now (λ x. result ≡ length x.replica.owed) }
@@ -208,7 +208,7 @@ impl ReplicaState {
         self.running.owed_len()
     }
 
-    #[tactic(auto, unfolding(crate::specs::Replica::StandsFor))]
+    #[tactic(auto, unfolding(crate::specs::Replica::ReplicaStands))]
     /// The least stamp whose acknowledgement is owed.
     pub fn first_owed(&self) -> Option<Stamp>
         ensures { WhereStands self.now (λ x. result ≡ first_of x.replica.owed) }
@@ -216,7 +216,7 @@ impl ReplicaState {
         self.running.first_owed()
     }
 
-    #[tactic(auto, unfolding(crate::specs::Replica::StandsFor))]
+    #[tactic(auto, unfolding(crate::specs::Replica::ReplicaStands))]
     /// The stamp of the entry that is executed next, where it is ready, while the replica is active.
     pub fn ready(&self) -> Result<Option<Stamp>, NoMemory>
         ensures value { WhereStands self.now (λ x. active x.replica.log ≡ true → IfOk result (λ r. r ≡ ready_of x.replica)) }

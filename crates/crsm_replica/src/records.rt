@@ -2,13 +2,13 @@
 
 ghost use Rattle.std.specs.Prelude.{◌≡◌, ℕ, false, List, IfOk, None};
 ghost use Rattle.crsm_base.specs.Records.{FitsRec};
-ghost use Rattle.crsm_ledger.specs.Ledger.{StandsFor as SaysOfLog};
+ghost use Rattle.crsm_ledger.specs.Ledger.{LedgerStands};
 ghost use Rattle.crsm_spec.specs.Draft.{keep};
 ghost use Rattle.crsm_spec.specs.Fits.{fits};
 ghost use Rattle.crsm_spec.specs.Step.{if_fitting};
 ghost use Rattle.crsm_spec.specs.Types.{Rec};
 ghost use Rattle.crsm_replica.specs.Recorded.{Applied, Recorded, WhereBothStand};
-ghost use Rattle.crsm_replica.specs.Replica.{StandsFor, MakesFitting, IsPlain, WhereStands};
+ghost use Rattle.crsm_replica.specs.Replica.{ReplicaStands, MakesFitting, IsPlain, WhereStands};
 
 use crate::state::ReplicaState;
 use crsm_base::{Lines, NoMemory, Rec, never};
@@ -17,7 +17,7 @@ use crsm_output::Output;
 use crsm_wire::is_rec_spelt;
 
 impl ReplicaState {
-    #[tactic(auto, unfolding(crate::specs::Replica::StandsFor))]
+    #[tactic(auto, unfolding(crate::specs::Replica::ReplicaStands))]
     /// Keeps a record, which gives its lines. `false` if it does not fit, and the state is as before.
     pub fn keep(&mut self, rec: Rec) -> Result<bool, NoMemory>
         requires plain { IsPlain rec }
@@ -37,7 +37,7 @@ impl ReplicaState {
     /// the state is as before.
     pub fn keep_known(&mut self, rec: Rec) -> Result<bool, NoMemory>
         requires { IsPlain rec }
-        ensures { IfOk result (λ fit. WhereStands self.old (λ x. FitsRec rec → (fit ≡ (keep rec x).fitting) × StandsFor self.new (if_fitting x (keep rec x)))) }
+        ensures { IfOk result (λ fit. WhereStands self.old (λ x. FitsRec rec → (fit ≡ (keep rec x).fitting) × ReplicaStands self.new (if_fitting x (keep rec x)))) }
     {
         if !is_rec_spelt(&rec) {
             return Err(never());
@@ -50,7 +50,7 @@ impl ReplicaState {
 /// Puts a record into the ledger, and answers its lines. `None` if it does not fit, and changes nothing.
 fn apply(ledger: &mut Ledger, rec: &Rec) -> Result<Option<Lines>, NoMemory>
     requires { FitsRec rec.now }
-    ensures kept { (me n : ℕ) (log : List Rec) → SaysOfLog me n ledger.old log → IfOk result (λ lines. Applied lines me n log rec.now ledger.new) }
+    ensures kept { (me n : ℕ) (log : List Rec) → LedgerStands me n ledger.old log → IfOk result (λ lines. Applied lines me n log rec.now ledger.new) }
     ensures unchanged { IfOk result (λ lines. lines ≡ None → ledger.new ≡ ledger.old) }
 {
     match ledger.apply(rec) {

@@ -7,7 +7,7 @@ ghost use Rattle.crsm_spec.specs.Log.{executed};
 ghost use Rattle.crsm_spec.specs.Draft.{Draft};
 ghost use Rattle.crsm_spec.specs.Clients.{find_executed, answer_found, is_dropped, reply_ok, reply_dropped, replies};
 ghost use Rattle.crsm_replica.specs.Sound.{FitsWaiting};
-ghost use Rattle.crsm_replica.specs.Replica.{StandsFor, Makes, on_paper, WhereStands};
+ghost use Rattle.crsm_replica.specs.Replica.{ReplicaStands, Makes, on_paper, WhereStands};
 
 use crate::state::{ReplicaState, Waiting};
 use crsm_base::{Answer, Entry, Line, MAX_VAL_BYTES, NoMemory, Outcome, Refusal, Val, never};
@@ -64,7 +64,7 @@ impl ReplicaState {
     /// Answers a client whose entry is executed or dropped, or lets it wait on. `executions` are those of the step's lines.
     fn answer_client(&mut self, client: Waiting, executions: &[usize]) -> Result<(), NoMemory>
         ensures { IfOk result (λ _. WhereStands self.old (λ x. FitsWaiting (on_paper client) →
-            StandsFor self.new (answer_found (on_paper client) (find_executed (executed x.replica.log) client.entry) x))) }
+            ReplicaStands self.new (answer_found (on_paper client) (find_executed (executed x.replica.log) client.entry) x))) }
     {
         let found = answer_to(
             self.alloc,
@@ -82,7 +82,7 @@ impl ReplicaState {
 
     /// Answers a client whose entry is dropped, and lets any other wait on.
     fn drop_or_wait(&mut self, client: Waiting) -> Result<(), NoMemory>
-        ensures { IfOk result (λ _. WhereStands self.old (λ x. FitsWaiting (on_paper client) → StandsFor self.new (answer_found (on_paper client) None x))) }
+        ensures { IfOk result (λ _. WhereStands self.old (λ x. FitsWaiting (on_paper client) → ReplicaStands self.new (answer_found (on_paper client) None x))) }
     {
         if has_dropped(&self.ledger, &client.entry) {
             self.reply_dropped(&client)?;
@@ -94,7 +94,7 @@ impl ReplicaState {
 
     /// Tells a client the answer at this place.
     fn reply_ok(&mut self, client: &Waiting, place: u64, answer: Answer) -> Result<(), NoMemory>
-        ensures { IfOk result (λ _. WhereStands self.old (λ x. FitsWaiting (on_paper client.now) → StandsFor self.new (reply_ok (on_paper client.now) place answer x))) }
+        ensures { IfOk result (λ _. WhereStands self.old (λ x. FitsWaiting (on_paper client.now) → ReplicaStands self.new (reply_ok (on_paper client.now) place answer x))) }
     {
         if !is_answer_spelt(&answer) {
             return Err(never());
@@ -118,7 +118,7 @@ impl ReplicaState {
 
     /// Tells a client that its entry will never be executed.
     fn reply_dropped(&mut self, client: &Waiting) -> Result<(), NoMemory>
-        ensures { IfOk result (λ _. WhereStands self.old (λ x. FitsWaiting (on_paper client.now) → StandsFor self.new (reply_dropped (on_paper client.now) x))) }
+        ensures { IfOk result (λ _. WhereStands self.old (λ x. FitsWaiting (on_paper client.now) → ReplicaStands self.new (reply_dropped (on_paper client.now) x))) }
     {
         self.output.reply(Reply {
             address: client.address,

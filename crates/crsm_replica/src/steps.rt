@@ -3,7 +3,7 @@
 ghost use Rattle.std.specs.Prelude.{◌≡◌, ◌<◌, ◌≤◌, ℕ, List, IfOk};
 ghost use Rattle.std.specs.List.{AllByRecursion};
 ghost use Rattle.crsm_base.specs.Records.{FitsRec};
-ghost use Rattle.crsm_ledger.specs.Ledger.{StandsFor as SaysOfLog};
+ghost use Rattle.crsm_ledger.specs.Ledger.{LedgerStands};
 ghost use Rattle.crsm_output.specs.Made.{made_of, IsBatchOf};
 ghost use Rattle.crsm_epoch_state.specs.EpochState.{EachFits};
 ghost use Rattle.crsm_spec.specs.Clock.{u64_max};
@@ -11,7 +11,7 @@ ghost use Rattle.crsm_spec.specs.Types.{Rec};
 ghost use Rattle.crsm_spec.specs.Log.{boots};
 ghost use Rattle.crsm_spec.specs.Draft.{Draft, begun};
 ghost use Rattle.crsm_spec.specs.Step.{boot, boot_again};
-ghost use Rattle.crsm_replica.specs.Replica.{StandsFor, AwaitsBoot, WhereStands};
+ghost use Rattle.crsm_replica.specs.Replica.{ReplicaStands, AwaitsBoot, WhereStands};
 
 use crate::gathered::Gathered;
 use crate::records::put;
@@ -26,7 +26,7 @@ impl ReplicaState {
     #[tactic(auto, unfolding(crate::specs::Replica::AwaitsBoot))]
     /// The state of a ledger, before its boot is on record.
     pub fn new(ledger: Ledger) -> Result<ReplicaState, NoMemory>
-        ensures { IfOk result (λ state. (me n : ℕ) (log : List Rec) → SaysOfLog me n ledger log → EachFits me n log → AllByRecursion FitsRec log →
+        ensures { IfOk result (λ state. (me n : ℕ) (log : List Rec) → LedgerStands me n ledger log → EachFits me n log → AllByRecursion FitsRec log →
             me < 15 → 1 ≤ n → AwaitsBoot state me n log) }
     {
         let alloc = ledger.alloc();
@@ -44,10 +44,10 @@ impl ReplicaState {
         })
     }
 
-    #[tactic(auto, unfolding(crate::specs::Replica::StandsFor))]
+    #[tactic(auto, unfolding(crate::specs::Replica::ReplicaStands))]
     /// Puts the boot on record; the first one of a replica that began the cluster enters epoch 0.
     pub fn begin(&mut self) -> Result<(), NoMemory>
-        ensures { IfOk result (λ _. (me n : ℕ) (log : List Rec) → AwaitsBoot self.old me n log → boots log < u64_max → StandsFor self.new (boot me n log)) }
+        ensures { IfOk result (λ _. (me n : ℕ) (log : List Rec) → AwaitsBoot self.old me n log → boots log < u64_max → ReplicaStands self.new (boot me n log)) }
     {
         let is_founding = self.ledger.boot() == 0 && self.me < self.ledger.n();
         self.boot_again()?;
@@ -57,19 +57,19 @@ impl ReplicaState {
         Ok(())
     }
 
-    #[tactic(auto, unfolding(crate::specs::Replica::StandsFor))]
+    #[tactic(auto, unfolding(crate::specs::Replica::ReplicaStands))]
     /// Hands out what the step has made; the next one begins.
     pub fn take_batch(&mut self) -> Result<Batch, NoMemory>
-        ensures { IfOk result (λ batch. WhereStands self.old (λ x. IsBatchOf batch (made_of x) × StandsFor self.new (begun x.replica))) }
+        ensures { IfOk result (λ batch. WhereStands self.old (λ x. IsBatchOf batch (made_of x) × ReplicaStands self.new (begun x.replica))) }
     {
         let batch = self.output.take()?;
         Ok(batch)
     }
 
     /// Puts the boot on record, where that fits.
-    #[tactic(auto, unfolding(crate::specs::Replica::StandsFor, crate::specs::Replica::AwaitsBoot))]
+    #[tactic(auto, unfolding(crate::specs::Replica::ReplicaStands, crate::specs::Replica::AwaitsBoot))]
     fn boot_again(&mut self) -> Result<(), NoMemory>
-        ensures { IfOk result (λ _. (me n : ℕ) (log : List Rec) → AwaitsBoot self.old me n log → boots log < u64_max → StandsFor self.new (boot_again me n log)) }
+        ensures { IfOk result (λ _. (me n : ℕ) (log : List Rec) → AwaitsBoot self.old me n log → boots log < u64_max → ReplicaStands self.new (boot_again me n log)) }
     {
         let me = self.me.min(MAX_REPLICAS - 1);
         let n = self.ledger.n().min(MAX_REPLICAS);

@@ -3,7 +3,7 @@ use Rattle.std.specs.Prelude.{◌≡◌, ℕ, Bool, ◌==◌, ◌&&◌, IsTrue, 
 use Rattle.std.specs.List.{AllByRecursion}
 use Rattle.crsm_base.specs.Order.{entry_lt, stamp_eq}
 use Rattle.crsm_ledger.specs.declared.ledger.Ledger.{Ledger}
-use Rattle.crsm_ledger.specs.Ledger.{StandsFor}
+use Rattle.crsm_ledger.specs.Ledger.{LedgerStands}
 use Rattle.crsm_spec.specs.Log.{Log, executed}
 use Rattle.crsm_spec.specs.Types.{Entry}
 
@@ -14,7 +14,7 @@ RisesStrictly (e ∷ es) = AllByRecursion (λ f. IsTrue (entry_lt e f)) es × Ri
 
 -- for each log that the ledger stands for, where its executed entries strictly rise
 abbrev pub WhereRising : Ledger → (Log → Type 0) → Type 0
-WhereRising ledger P = (me n : ℕ) (log : Log) → StandsFor me n ledger log → RisesStrictly (executed log) → P log
+WhereRising ledger P = (me n : ℕ) (log : Log) → LedgerStands me n ledger log → RisesStrictly (executed log) → P log
 
 -- the answer says whether the entry at this place comes before another
 pub record IsBeforeAt (done : List Entry) (place : ℕ) (e : Entry) (before : Bool) : Type 0 where

@@ -2,7 +2,7 @@
 
 ghost use Rattle.std.specs.Prelude.{◌≡◌, ℕ, List, None, IsTrue, IfOk};
 ghost use Rattle.std.specs.List.{AllByRecursion};
-ghost use Rattle.crsm_ledger.specs.Ledger.{StandsFor};
+ghost use Rattle.crsm_ledger.specs.Ledger.{LedgerStands};
 ghost use Rattle.crsm_spec.specs.Types.{Rec};
 ghost use Rattle.crsm_spec.specs.Log.{executed};
 ghost use Rattle.crsm_results.specs.Answering.{IsTrueOf, IsAnswerAt, answered};
@@ -51,7 +51,7 @@ fn answer_at(
     executions: &[usize],
     place: u64,
 ) -> Result<Answer, NoMemory>
-    ensures { (me n : ℕ) (log : List Rec) → StandsFor me n ledger.now log → AllByRecursion (IsTrueOf (executed log)) lines.now →
+    ensures { (me n : ℕ) (log : List Rec) → LedgerStands me n ledger.now log → AllByRecursion (IsTrueOf (executed log)) lines.now →
         IfOk result (IsAnswerAt (executed log) place) }
 {
     match told_at(lines, executions, place) {

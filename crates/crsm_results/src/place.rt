@@ -2,7 +2,7 @@
 
 ghost use Rattle.std.specs.Prelude.{◌≡◌, ◌<◌, ◌≤◌, ℕ, false, List, slice_get, IfOk};
 ghost use Rattle.std.specs.Option.{option_map, option_map_or};
-ghost use Rattle.crsm_ledger.specs.Ledger.{StandsFor};
+ghost use Rattle.crsm_ledger.specs.Ledger.{LedgerStands};
 ghost use Rattle.crsm_spec.specs.Types.{Rec};
 ghost use Rattle.crsm_spec.specs.Clients.{find_executed};
 ghost use Rattle.crsm_spec.specs.Log.{executed};
@@ -56,7 +56,7 @@ fn middle_of(low: u64, high: u64, back: u64) -> u64
 
 /// Whether the entry is executed at this place.
 fn is_at(ledger: &Ledger, place: u64, entry: &Entry) -> Result<bool, NoMemory>
-    ensures { (me n : ℕ) (log : List Rec) → StandsFor me n ledger.now log → IfOk result (λ at. at ≡ option_map_or (is_same entry.now) (slice_get (executed log) place) false) }
+    ensures { (me n : ℕ) (log : List Rec) → LedgerStands me n ledger.now log → IfOk result (λ at. at ≡ option_map_or (is_same entry.now) (slice_get (executed log) place) false) }
 {
     match ledger.executed(place)? {
         Some(found) => Ok(are_same(&found, entry)),
@@ -66,7 +66,7 @@ fn is_at(ledger: &Ledger, place: u64, entry: &Entry) -> Result<bool, NoMemory>
 
 /// Whether the executed entry at this place, which has one, comes before the entry.
 fn is_before_at(ledger: &Ledger, place: u64, entry: &Entry) -> Result<bool, NoMemory>
-    ensures { (me n : ℕ) (log : List Rec) → StandsFor me n ledger.now log → IfOk result (IsBeforeAt (executed log) place entry.now) }
+    ensures { (me n : ℕ) (log : List Rec) → LedgerStands me n ledger.now log → IfOk result (IsBeforeAt (executed log) place entry.now) }
 {
     match ledger.executed(place)? {
         Some(found) => Ok(entry_precedes(&found, entry)),

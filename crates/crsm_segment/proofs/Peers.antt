@@ -7,7 +7,7 @@ use Rattle.crsm_spec.specs.Lists.{numbers_below}
 use Rattle.crsm_spec.specs.Parts.{Piece, is_older, is_same_message, kept_of, has_index, is_complete, is_old, is_odd, with_part}
 use Rattle.crsm_segment.specs.Gathering.{Gathering}
 use Rattle.crsm_segment.specs.Taking.{is_sized, after_part}
-use Rattle.crsm_segment.specs.Gather.{is_of, is_newer, bytes_at, AreOnce, EachOnce, IsNewest, PeerStandsFor}
+use Rattle.crsm_segment.specs.Gather.{is_of, is_newer, bytes_at, AreOnce, EachOnce, IsNewest, PeerStands}
 use Rattle.crsm_segment.proofs.Facts.{both_false, any_true, any_false, filter_push, filter_push_other, once_push}
 
 -- ---- tests
@@ -88,7 +88,7 @@ once_after p parts once = after_cases EachOnce p parts once (λ none a. go a non
 
 -- ---- other peers
 
-other_peer : (from : ℕ) (p : Piece) → (from == p.from) ≡ false → (peer : Option Gathering) (parts : List Piece) → PeerStandsFor from peer parts → PeerStandsFor from peer (parts ++ p ∷ [])
+other_peer : (from : ℕ) (p : Piece) → (from == p.from) ≡ false → (peer : Option Gathering) (parts : List Piece) → PeerStands from peer parts → PeerStands from peer (parts ++ p ∷ [])
 other_peer from p other None parts s =
     λ q c. elim (Contains-push_cases parts p q c) [ inl old ↦ s q old | inr new ↦ subst (λ z. (from == z.from) ≡ false) new other ]
 other_peer from p other (Some g) parts s =
@@ -112,8 +112,8 @@ other_peer from p other (Some g) parts s =
     clash : (b : Bool) → b ≡ true → b ≡ false → ⊥
     clash b h k = cc
 
-pub other_after : (from : ℕ) (p : Piece) → (from == p.from) ≡ false → (peer : Option Gathering) (parts : List Piece) → PeerStandsFor from peer parts → PeerStandsFor from peer (after_part p parts)
-other_after from p other peer parts s = after_cases (PeerStandsFor from peer) p parts s (λ _. other_peer from p other peer parts s)
+pub other_after : (from : ℕ) (p : Piece) → (from == p.from) ≡ false → (peer : Option Gathering) (parts : List Piece) → PeerStands from peer parts → PeerStands from peer (after_part p parts)
+other_after from p other peer parts s = after_cases (PeerStands from peer) p parts s (λ _. other_peer from p other peer parts s)
 
 -- ---- which parts are old
 

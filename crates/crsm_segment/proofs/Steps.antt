@@ -11,7 +11,7 @@ use Rattle.crsm_spec.specs.Parts.{Piece, is_older, is_same_message, kept_of, has
 use Rattle.crsm_segment.specs.Gathering.{Gathering, part_of, is_before, is_same, has_passed, has_other_count, fits, empty_gathering, gathering_for, after_add, after_heading}
 use Rattle.crsm_segment.specs.Answering.{answer_of, answer_of_add}
 use Rattle.crsm_segment.specs.Taking.{is_sized, after_part, taken_whole, taken_of}
-use Rattle.crsm_segment.specs.Gather.{is_of, is_newer, bytes_at, EachOnce, IsNewest, PeerStandsFor, StandsFor}
+use Rattle.crsm_segment.specs.Gather.{is_of, is_newer, bytes_at, EachOnce, IsNewest, PeerStands, GatherStands}
 use Rattle.crsm_segment.specs.declared.message.Heading.{Heading}
 use Rattle.crsm_segment.specs.declared.message.Taken.{Taken}
 use Rattle.crsm_segment.specs.declared.message.Taken.TheVariants.{Old, Odd}
@@ -53,7 +53,7 @@ its_part : (from : ℕ) (h : Heading) (g : Gathering) (bytes : List ℕ) → is_
     part_of from h bytes ≡ record { from = from; boot = g.boot; number = g.number; index = h.index; count = h.count; bytes = bytes }
 its_part from h g bytes e = λ j. record { from = from; boot = same_boot h g e j; number = same_number h g e j; index = h.index; count = h.count; bytes = bytes }
 
-old_is : (from : ℕ) (peer : Option Gathering) (parts : List Piece) (h : Heading) (bytes : List ℕ) → PeerStandsFor from peer parts →
+old_is : (from : ℕ) (peer : Option Gathering) (parts : List Piece) (h : Heading) (bytes : List ℕ) → PeerStands from peer parts →
     is_old (part_of from h bytes) parts ≡ has_passed peer h
 unfolding is_old is_older is_same_message
 old_is from None parts h bytes s =
@@ -74,7 +74,7 @@ old_is from (Some g) parts h bytes s = go (is_before h g) refl (is_same h g) ref
         both_false _ _ (after_newest from g h q (s.none_newer q c) before other)
         (ap (λ b. b && is_complete q (kept_of (part_of from h bytes) parts)) (beside_newest from g h q (s.none_newer q c) before other)))
 
-odd_is : (from : ℕ) (peer : Option Gathering) (parts : List Piece) (h : Heading) (bytes : List ℕ) → PeerStandsFor from peer parts → has_passed peer h ≡ false →
+odd_is : (from : ℕ) (peer : Option Gathering) (parts : List Piece) (h : Heading) (bytes : List ℕ) → PeerStands from peer parts → has_passed peer h ≡ false →
     is_odd (part_of from h bytes) parts ≡ has_other_count peer h
 unfolding is_odd kept_of is_same_message
 odd_is from None parts h bytes s new =
@@ -137,7 +137,7 @@ fresh_fitting from parts h bytes fit newer of =
     let low : h.index < h.count = sized_below (part_of 0 h bytes) fit in
     record { collects = fresh_collects from parts h (omega arith) newer of; part = refl; below = low; is_open = refl }
 
-fitting : (from : ℕ) (peer : Option Gathering) (parts : List Piece) (h : Heading) (bytes : List ℕ) → PeerStandsFor from peer parts →
+fitting : (from : ℕ) (peer : Option Gathering) (parts : List Piece) (h : Heading) (bytes : List ℕ) → PeerStands from peer parts →
     has_passed peer h ≡ false → has_other_count peer h ≡ false → fits h bytes ≡ true → Fitting from (gathering_for peer h) parts h bytes
 fitting from None parts h bytes s new counted fit =
     fresh_fitting from parts h bytes fit
@@ -177,15 +177,15 @@ added from g parts h bytes f =
     subst (λ z. IsNewest from (after_add g h.index bytes) (cond (has_index (kept_of z parts) h.index) parts (parts ++ z ∷ []))) (sym f.part)
     (newest_of from g parts h.index bytes f.collects f.below f.is_open)
 
-peer_after : (from : ℕ) (peer : Option Gathering) (parts : List Piece) (h : Heading) (bytes : List ℕ) → PeerStandsFor from peer parts →
-    PeerStandsFor from (after_heading peer h bytes) (after_part (part_of from h bytes) parts)
+peer_after : (from : ℕ) (peer : Option Gathering) (parts : List Piece) (h : Heading) (bytes : List ℕ) → PeerStands from peer parts →
+    PeerStands from (after_heading peer h bytes) (after_part (part_of from h bytes) parts)
 peer_after from peer parts h bytes s = go (has_passed peer h) refl (has_other_count peer h) refl (fits h bytes) refl
   where
-    unchanged : after_part (part_of from h bytes) parts ≡ parts → PeerStandsFor from peer (after_part (part_of from h bytes) parts)
-    unchanged e = subst (PeerStandsFor from peer) (sym e) s
+    unchanged : after_part (part_of from h bytes) parts ≡ parts → PeerStands from peer (after_part (part_of from h bytes) parts)
+    unchanged e = subst (PeerStands from peer) (sym e) s
 
     go : (a : Bool) → has_passed peer h ≡ a → (b : Bool) → has_other_count peer h ≡ b → (f : Bool) → fits h bytes ≡ f →
-        PeerStandsFor from (cond (a || (b || not f)) peer (Some (after_add (gathering_for peer h) h.index bytes))) (after_part (part_of from h bytes) parts)
+        PeerStands from (cond (a || (b || not f)) peer (Some (after_add (gathering_for peer h) h.index bytes))) (after_part (part_of from h bytes) parts)
     go true old b odd f fit = unchanged (unchanged_old (part_of from h bytes) parts (old_is from peer parts h bytes s ∙ old))
     go false old true odd f fit = unchanged (unchanged_odd (part_of from h bytes) parts (odd_is from peer parts h bytes s old ∙ odd))
     go false old false odd false fit = unchanged (unchanged_size (part_of from h bytes) parts (sized_of from h bytes ∙ fit))
@@ -211,7 +211,7 @@ added_answer : (from : ℕ) (g : Gathering) (parts : List Piece) (i : ℕ) (byte
 unfolding kept_of is_same_message
 added_answer from g parts i bytes c below is_open once = answer_add from g parts i bytes c below is_open once
 
-peer_answer : (from : ℕ) (peer : Option Gathering) (parts : List Piece) (h : Heading) (bytes : List ℕ) → PeerStandsFor from peer parts → EachOnce parts →
+peer_answer : (from : ℕ) (peer : Option Gathering) (parts : List Piece) (h : Heading) (bytes : List ℕ) → PeerStands from peer parts → EachOnce parts →
     answer_of peer h bytes ≡ taken_of (part_of from h bytes) parts
 unfolding taken_of
 peer_answer from peer parts h bytes s once = go (has_passed peer h) refl (has_other_count peer h) refl (fits h bytes) refl
@@ -249,34 +249,34 @@ peer_answer from peer parts h bytes s once = go (has_passed peer h) refl (has_ot
 
 -- ---- all peers
 
-pub stands_after : (peers : List (Option Gathering)) (from : ℕ) (h : Heading) (bytes : List ℕ) (parts : List Piece) → from < length peers → StandsFor peers parts →
-    StandsFor (set peers from (after_heading (get_or peers from None) h bytes)) (after_part (part_of from h bytes) parts)
+pub stands_after : (peers : List (Option Gathering)) (from : ℕ) (h : Heading) (bytes : List ℕ) (parts : List Piece) → from < length peers → GatherStands peers parts →
+    GatherStands (set peers from (after_heading (get_or peers from None) h bytes)) (after_part (part_of from h bytes) parts)
 stands_after peers from h bytes parts within s = record { once = once_after (part_of from h bytes) parts s.once; peer = λ k low. at k low (nat_eq k from) refl }
   where
     new : Option Gathering
     new = after_heading (get_or peers from None) h bytes
 
-    at : (k : ℕ) → k < length (set peers from new) → (b : Bool) → nat_eq k from ≡ b → PeerStandsFor k (get_or (set peers from new) k None) (after_part (part_of from h bytes) parts)
+    at : (k : ℕ) → k < length (set peers from new) → (b : Bool) → nat_eq k from ≡ b → PeerStands k (get_or (set peers from new) k None) (after_part (part_of from h bytes) parts)
     at k low true same =
         let is : k ≡ from = grind (arith, nat_tests) in
-        subst (λ j. PeerStandsFor j (get_or (set peers from new) j None) (after_part (part_of from h bytes) parts)) (sym is)
-        (subst (λ o. PeerStandsFor from o (after_part (part_of from h bytes) parts)) (sym (get_or-set_same peers from new None within))
+        subst (λ j. PeerStands j (get_or (set peers from new) j None) (after_part (part_of from h bytes) parts)) (sym is)
+        (subst (λ o. PeerStands from o (after_part (part_of from h bytes) parts)) (sym (get_or-set_same peers from new None within))
         (peer_after from (get_or peers from None) parts h bytes (s.peer from within)))
     at k low false other =
         let apart : k ≢ from = grind (arith, nat_tests) in
         let far : (k == from) ≡ false = grind (arith, nat_tests) in
         let there : k < length peers = let l = length-set peers from new in omega arith in
-        subst (λ o. PeerStandsFor k o (after_part (part_of from h bytes) parts)) (sym (get_or-set_other peers from k new None apart))
+        subst (λ o. PeerStands k o (after_part (part_of from h bytes) parts)) (sym (get_or-set_other peers from k new None apart))
         (other_after k (part_of from h bytes) far (get_or peers k None) parts (s.peer k there))
 
-pub answer_after : (peers : List (Option Gathering)) (from : ℕ) (h : Heading) (bytes : List ℕ) (parts : List Piece) → from < length peers → StandsFor peers parts →
+pub answer_after : (peers : List (Option Gathering)) (from : ℕ) (h : Heading) (bytes : List ℕ) (parts : List Piece) → from < length peers → GatherStands peers parts →
     answer_of (get_or peers from None) h bytes ≡ taken_of (part_of from h bytes) parts
 answer_after peers from h bytes parts within s = peer_answer from (get_or peers from None) parts h bytes (s.peer from within) s.once
 
-stands_for_none : (from : ℕ) (o : Option Gathering) → o ≡ None → PeerStandsFor from o []
-stands_for_none from o e = subst (λ o. PeerStandsFor from o []) (sym e) (λ q c. absurd (let i = c.1 in omega arith))
+stands_for_none : (from : ℕ) (o : Option Gathering) → o ≡ None → PeerStands from o []
+stands_for_none from o e = subst (λ o. PeerStands from o []) (sym e) (λ q c. absurd (let i = c.1 in omega arith))
 
-pub stands_at_first : (n : ℕ) → StandsFor (replicate n None) []
+pub stands_at_first : (n : ℕ) → GatherStands (replicate n None) []
 unfolding kept_of
 stands_at_first n =
     let none : Option Gathering = None in
@@ -294,20 +294,20 @@ same_at (x ∷ xs) (suc i) d e low = same_at xs i d e (omega arith)
 
 pub take_stands : {T E : Type 0} (r : Result T E) (peers view : List (Option Gathering)) (from : ℕ) (h : Heading) (bytes : List ℕ) (old new : Option Gathering) →
     peers ≡ view → from < length view → old ≡ get_or peers from old → OnOk r (new ≡ after_heading old h bytes) →
-    OnOk r ((parts : List Piece) → StandsFor view parts → StandsFor (set peers from new) (after_part (part_of from h bytes) parts))
+    OnOk r ((parts : List Piece) → GatherStands view parts → GatherStands (set peers from new) (after_part (part_of from h bytes) parts))
 take_stands r peers view from h bytes old new is within o state =
     on_ok_weaker r (λ e parts s.
     let low : from < length peers = subst (λ v. from < length v) (sym is) within in
     let at : old ≡ get_or peers from None = o ∙ same_at peers from old None low in
-    subst (λ z. StandsFor (set peers from z) (after_part (part_of from h bytes) parts)) (sym (e ∙ ap (λ o. after_heading o h bytes) at))
-    (stands_after peers from h bytes parts low (subst (λ v. StandsFor v parts) (sym is) s))) state
+    subst (λ z. GatherStands (set peers from z) (after_part (part_of from h bytes) parts)) (sym (e ∙ ap (λ o. after_heading o h bytes) at))
+    (stands_after peers from h bytes parts low (subst (λ v. GatherStands v parts) (sym is) s))) state
 
 pub take_answers : {E : Type 0} (r : Result Taken E) (peers view : List (Option Gathering)) (from : ℕ) (h : Heading) (bytes : List ℕ) (old : Option Gathering) →
     peers ≡ view → from < length view → old ≡ get_or peers from old → IfOk r (λ taken. taken ≡ answer_of old h bytes) →
-    IfOk r (λ taken. (parts : List Piece) → StandsFor view parts → taken ≡ taken_of (part_of from h bytes) parts)
+    IfOk r (λ taken. (parts : List Piece) → GatherStands view parts → taken ≡ taken_of (part_of from h bytes) parts)
 take_answers r peers view from h bytes old is within o answered =
-    IfOk-weaker r (λ taken. taken ≡ answer_of old h bytes) (λ taken. (parts : List Piece) → StandsFor view parts → taken ≡ taken_of (part_of from h bytes) parts)
+    IfOk-weaker r (λ taken. taken ≡ answer_of old h bytes) (λ taken. (parts : List Piece) → GatherStands view parts → taken ≡ taken_of (part_of from h bytes) parts)
     (λ taken e parts s.
     let low : from < length peers = subst (λ v. from < length v) (sym is) within in
     let at : old ≡ get_or peers from None = o ∙ same_at peers from old None low in
-    e ∙ ap (λ o. answer_of o h bytes) at ∙ answer_after peers from h bytes parts low (subst (λ v. StandsFor v parts) (sym is) s)) answered
+    e ∙ ap (λ o. answer_of o h bytes) at ∙ answer_after peers from h bytes parts low (subst (λ v. GatherStands v parts) (sym is) s)) answered

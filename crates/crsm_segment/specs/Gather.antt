@@ -36,11 +36,11 @@ pub record IsNewest (from : ℕ) (g : Gathering) (parts : List Piece) : Type 0 w
   pub slots : g.given ≡ false → g.slots ≡ map (bytes_at (filter (is_of from g.boot g.number) parts)) (numbers_below g.count)
 
 -- what is kept of a peer stands for its parts taken
-abbrev pub PeerStandsFor : ℕ → Option Gathering → List Piece → Type 0
-PeerStandsFor from None parts = (q : Piece) → Contains parts q → (from == q.from) ≡ false
-PeerStandsFor from (Some g) parts = IsNewest from g parts
+abbrev pub PeerStands : ℕ → Option Gathering → List Piece → Type 0
+PeerStands from None parts = (q : Piece) → Contains parts q → (from == q.from) ≡ false
+PeerStands from (Some g) parts = IsNewest from g parts
 
 -- what is kept of all peers stands for all parts taken
-pub record StandsFor (peers : List (Option Gathering)) (parts : List Piece) : Type 0 where
+pub record GatherStands (peers : List (Option Gathering)) (parts : List Piece) : Type 0 where
   pub once : EachOnce parts
-  pub peer : (from : ℕ) → from < length peers → PeerStandsFor from (slice_index_or peers from None) parts
+  pub peer : (from : ℕ) → from < length peers → PeerStands from (slice_index_or peers from None) parts

@@ -3,7 +3,7 @@
 ghost use Rattle.std.specs.Prelude.{◌≡◌, ◌<◌, ◌≤◌, List, [], length, IfOk, OnOk, OnErr, None, replicate};
 ghost use Rattle.crsm_spec.specs.Parts.{Piece};
 ghost use Rattle.crsm_segment.specs.Taking.{after_part, taken_of, piece};
-ghost use Rattle.crsm_segment.specs.Gather.{StandsFor};
+ghost use Rattle.crsm_segment.specs.Gather.{GatherStands};
 
 use crate::message::{Heading, Message, Taken, take_part};
 use crsm_base::NoMemory;
@@ -33,7 +33,7 @@ impl Gather {
         requires one { 1 ≤ n }
         requires few { n ≤ 15 }
         ensures peers { IfOk result (λ made. length made ≡ n) }
-        ensures empty { IfOk result (λ made. StandsFor made []) }
+        ensures empty { IfOk result (λ made. GatherStands made []) }
     {
         let mut peers = Vec::new(alloc);
         for _k in 0..n {
@@ -56,8 +56,8 @@ impl Gather {
     ) -> Result<Taken, NoMemory>
         requires { from < length self.old }
         ensures peers { length self.new ≡ length self.old }
-        ensures state { OnOk result ((parts : List Piece) → StandsFor self.old parts → StandsFor self.new (after_part (piece from boot number index count bytes.now) parts)) }
-        ensures taken { IfOk result (λ taken. (parts : List Piece) → StandsFor self.old parts → taken ≡ taken_of (piece from boot number index count bytes.now) parts) }
+        ensures state { OnOk result ((parts : List Piece) → GatherStands self.old parts → GatherStands self.new (after_part (piece from boot number index count bytes.now) parts)) }
+        ensures taken { IfOk result (λ taken. (parts : List Piece) → GatherStands self.old parts → taken ≡ taken_of (piece from boot number index count bytes.now) parts) }
         ensures err { OnErr result (self.new ≡ self.old) }
     {
         let heading = Heading {

@@ -2,7 +2,7 @@
 
 ghost use Rattle.std.specs.Prelude.{◌≡◌, ◌<◌, ◌≤◌, ℕ, [], length, IfOk, IfErr};
 ghost use Rattle.crsm_ledger.specs.Recovered.{AreKept};
-ghost use Rattle.crsm_ledger.specs.Ledger.{StandsFor};
+ghost use Rattle.crsm_ledger.specs.Ledger.{LedgerStands};
 ghost use Rattle.crsm_spec.specs.Clock.{u64_max};
 ghost use Rattle.crsm_spec.specs.Log.{Log, boots};
 ghost use Rattle.crsm_shell.specs.Beginning.{BeginsOn, IsRefusal};
@@ -71,7 +71,7 @@ fn recovered(alloc: Global, me: u32, n: u32, bodies: &Bodies) -> Result<Ledger, 
     requires me_below { me < 15 }
     requires some { 1 ≤ n }
     requires few { n ≤ 15 }
-    ensures whole { IfOk result (λ ledger. (log : Log) × AreKept me n [] bodies.now log × StandsFor me n ledger log × (boots log < u64_max)) }
+    ensures whole { IfOk result (λ ledger. (log : Log) × AreKept me n [] bodies.now log × LedgerStands me n ledger log × (boots log < u64_max)) }
     ensures refused { IfErr result (IsRefusal me n bodies.now) }
 {
     match Ledger::recover(alloc, me, n, bodies) {
@@ -86,7 +86,7 @@ fn recovered(alloc: Global, me: u32, n: u32, bodies: &Bodies) -> Result<Ledger, 
 /// The ledger, if one more boot can be counted. No memory has room for a log of which that is false.
 fn with_room(ledger: Ledger) -> Result<Ledger, BootError>
     ensures same { IfOk result (λ same. same ≡ ledger) }
-    ensures room { IfOk result (λ _. (me n : ℕ) (log : Log) → StandsFor me n ledger log → boots log < u64_max) }
+    ensures room { IfOk result (λ _. (me n : ℕ) (log : Log) → LedgerStands me n ledger log → boots log < u64_max) }
     ensures refused { IfErr result (λ why. why ≡ BootError.NoMemory) }
 {
     if ledger.boot() == u64::MAX {

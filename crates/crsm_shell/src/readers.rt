@@ -4,7 +4,7 @@ ghost use Rattle.std.specs.Prelude.{◌≡◌, length, false, Some};
 ghost use Rattle.crsm_disk.specs.Contract.{Arms};
 ghost use Rattle.crsm_disk.specs.Meaning.{Only};
 ghost use Rattle.crsm_image.specs.Image.{image_of};
-ghost use Rattle.crsm_ledger.specs.Ledger.{StandsFor as SaysOfLog};
+ghost use Rattle.crsm_ledger.specs.Ledger.{LedgerStands};
 ghost use Rattle.crsm_shell.specs.Shell.{HasLog, ShellStands, WhereHistory, WhereHonest, WhereStands};
 ghost use Rattle.crsm_shell.specs.Taking.{most_received};
 ghost use Rattle.crsm_shell.specs.Words.{buffer_of, disk_of, gate_of, peers_of, pending_of, has_failed};
@@ -44,7 +44,7 @@ impl<D: Disk> Shell<D> {
     /// What the records say, those of the pending steps among them.
     #[tactic(auto, unfolding(crate::specs::Shell::ShellStands))]
     pub fn state(&self) -> &Ledger
-        ensures { WhereStands D.meaning self.now (λ kept r steps. SaysOfLog r.me r.n result.now r.log) }
+        ensures { WhereStands D.meaning self.now (λ kept r steps. LedgerStands r.me r.n result.now r.log) }
     {
         self.core.ledger()
     }

@@ -19,12 +19,12 @@ use Rattle.crsm_spec.specs.Collect.{own_page, frozen, pages_of, is_whole, cursor
 use Rattle.crsm_log_facts.proofs.Lists.{has_in, has_from, kept_from, kept_in, all-push}
 use Rattle.crsm_log_facts.proofs.Merge.{union_goes_on}
 use Rattle.crsm_suspend.specs.Pages.{asked_stamp}
-use Rattle.crsm_suspend.specs.Reports.{head_of, report_of, page_from, HasReports}
+use Rattle.crsm_suspend.specs.Reports.{head_of, report_of, page_from, ReportsStand}
 use Rattle.crsm_suspend.specs.declared.report.Page.{Page}
 use Rattle.crsm_suspend.specs.declared.report.Report.{Report}
 use Rattle.crsm_base.specs.Spelling.{FitsEntry}
 use Rattle.crsm_base.specs.declared.control.Control.TheVariants.{SuspendOk}
-use Rattle.crsm_suspend.specs.Collecting.{IsCollecting, CanSend, FitsGot, is_asked, got_decided, got_whole, got_more, got_page, got_from, page_in, got_of, pages_after}
+use Rattle.crsm_suspend.specs.Collecting.{CollectStands, CanSend, FitsGot, is_asked, got_decided, got_whole, got_more, got_page, got_from, page_in, got_of, pages_after}
 use Rattle.crsm_suspend.specs.declared.collect.Collect.{Collect}
 use Rattle.crsm_suspend.specs.declared.got.Got.TheVariants as Got
 use Rattle.crsm_suspend.proofs.WholeLemmas.{report_at}
@@ -33,7 +33,7 @@ use Rattle.crsm_suspend.proofs.GrowLemmas.{whole_more, or_none, cursor_more}
 
 -- ---- reading
 
-pub head_at : (reports : List Report) (pages : List LogPage) (k : ℕ) (r : Report) → HasReports reports pages → k < 15 → r ≡ get_or reports k r → (get_or reports k r).head ≡ head_of (pages_of pages k)
+pub head_at : (reports : List Report) (pages : List LogPage) (k : ℕ) (r : Report) → ReportsStand reports pages → k < 15 → r ≡ get_or reports k r → (get_or reports k r).head ≡ head_of (pages_of pages k)
 unfolding report_of
 head_at reports pages k r h l e = ap (λ (s : Report). s.head) (sym e ∙ report_at reports pages k r h l e)
 
@@ -259,8 +259,8 @@ own_whole me log = refl
 
 -- ---- a page more
 
-pub goes_on : (log : Log) (spec : List ℕ) (named : Option (List ℕ)) (members : List ℕ) (pages : List LogPage) (c : Collect) (reports : List Report) (p : LogPage) → IsCollecting log spec named members pages c →
-    CanSend (known log) p → HasReports reports (pages ++ p ∷ []) → IsCollecting log spec named members (pages ++ p ∷ []) (record c { reports = reports })
+pub goes_on : (log : Log) (spec : List ℕ) (named : Option (List ℕ)) (members : List ℕ) (pages : List LogPage) (c : Collect) (reports : List Report) (p : LogPage) → CollectStands log spec named members pages c →
+    CanSend (known log) p → ReportsStand reports (pages ++ p ∷ []) → CollectStands log spec named members (pages ++ p ∷ []) (record c { reports = reports })
 goes_on log spec named members pages c reports p s t h = record {
   epoch = s.epoch;
   next = s.next;
@@ -278,7 +278,7 @@ goes_on log spec named members pages c reports p s t h = record {
 
 -- of the log a collection knows the epoch and its start alone
 pub same_collecting : (a b : Log) (spec : List ℕ) (named : Option (List ℕ)) (members : List ℕ) (pages : List LogPage) (c : Collect) → known a ≡ known b → start a ≡ start b →
-    IsCollecting a spec named members pages c → IsCollecting b spec named members pages c
+    CollectStands a spec named members pages c → CollectStands b spec named members pages c
 same_collecting a b spec named members pages c k l s = record {
   epoch = s.epoch ∙ k;
   next = s.next ∙ ap (λ n. n + 1) k;

@@ -14,7 +14,7 @@ use Rattle.crsm_spec.specs.Lists.{first_of, last_of}
 use Rattle.crsm_spec.specs.Replica.{LogPage}
 use Rattle.crsm_spec.specs.Collect.{pages_of, is_whole, cursor}
 use Rattle.crsm_suspend.specs.Pages.{without_last}
-use Rattle.crsm_suspend.specs.Reports.{head_of, report_of, no_report, page_from, last_stamp_or, head_with, with_page, HasReports}
+use Rattle.crsm_suspend.specs.Reports.{head_of, report_of, no_report, page_from, last_stamp_or, head_with, with_page, ReportsStand}
 use Rattle.crsm_suspend.specs.declared.report.Page.{Page}
 use Rattle.crsm_suspend.specs.declared.report.Report.{Report}
 use Rattle.crsm_suspend.proofs.WholeLemmas.{report_at}
@@ -30,7 +30,7 @@ all_none [] k h = refl
 all_none (r ∷ rs) zero h = h.0
 all_none (r ∷ rs) (suc k) h = all_none rs k h.1
 
-pub no_reports : (rs : List Report) → length rs ≡ 15 → AllByRecursion (λ r. r ≡ no_report) rs → HasReports rs []
+pub no_reports : (rs : List Report) → length rs ≡ 15 → AllByRecursion (λ r. r ≡ no_report) rs → ReportsStand rs []
 no_reports rs l h = record { long = l; each = λ k within. all_none rs k h ∙ sym (none_of k) }
 
 -- ---- the last stamp
@@ -111,8 +111,8 @@ unfolding report_of
 other pages k j p e =
     ap (λ ps. (let r : Report = record { head = head_of ps; pages = map (λ q. q.entries) ps } in r)) (of_more pages k j p false e ∙ append-nil (pages_of pages j))
 
-pub reports_grow : (reports : List Report) (pages : List LogPage) (k : ℕ) (p : Page) (old new : Report) → HasReports reports pages → k < 15 → old ≡ get_or reports k old → new ≡ with_page old p →
-    HasReports (set reports k new) (pages ++ page_from k p ∷ [])
+pub reports_grow : (reports : List Report) (pages : List LogPage) (k : ℕ) (p : Page) (old new : Report) → ReportsStand reports pages → k < 15 → old ≡ get_or reports k old → new ≡ with_page old p →
+    ReportsStand (set reports k new) (pages ++ page_from k p ∷ [])
 reports_grow reports pages k p old new h l at is = record {
   long = length-set reports k new ∙ h.long;
   each = λ j within. go j within (k == j) refl;

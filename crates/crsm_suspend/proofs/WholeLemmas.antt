@@ -16,7 +16,7 @@ use Rattle.crsm_spec.specs.Replica.{LogPage}
 use Rattle.crsm_spec.specs.Collect.{pages_of, is_whole, whole_ones, first_pages, all_entries, base_of, floor_of, union, with_new}
 use Rattle.crsm_suspend.specs.Pages.{is_over}
 use Rattle.crsm_suspend.proofs.FrozenLemmas.{above_none, above_next}
-use Rattle.crsm_suspend.specs.Reports.{head_of, report_of, no_report, HasReports}
+use Rattle.crsm_suspend.specs.Reports.{head_of, report_of, no_report, ReportsStand}
 use Rattle.crsm_suspend.specs.declared.report.Report.{Report}
 use Rattle.crsm_log_facts.proofs.Merge.{union_goes_on}
 
@@ -56,7 +56,7 @@ unfolding first_of
 has_first [] h = absurd (cc)
 has_first (p ∷ ps) h = (p, refl)
 
-pub report_at : (reports : List Report) (pages : List LogPage) (k : ℕ) (r : Report) → HasReports reports pages → k < 15 → r ≡ get_or reports k r → r ≡ report_of pages k
+pub report_at : (reports : List Report) (pages : List LogPage) (k : ℕ) (r : Report) → ReportsStand reports pages → k < 15 → r ≡ get_or reports k r → r ≡ report_of pages k
 report_at reports pages k r h l e =
     let long = h.long in
     e ∙ get_or_default reports k r no_report (omega (arith, long, l)) ∙ h.each k l

@@ -12,12 +12,12 @@ use Rattle.crsm_spec.specs.Collect.{is_whole, cursor, whole_ones, collected, is_
 use Rattle.crsm_spec.specs.Quorum.{has_majority}
 use Rattle.crsm_spec.specs.Controls.{is_page_of}
 use Rattle.crsm_spec.specs.Coordinate.{most_collected}
-use Rattle.crsm_suspend.specs.Reports.{HasReports}
+use Rattle.crsm_suspend.specs.Reports.{ReportsStand}
 use Rattle.crsm_suspend.specs.declared.collect.Collect.{Collect}
 use Rattle.crsm_suspend.specs.declared.got.Got.{Got}
 use Rattle.crsm_suspend.specs.declared.got.Got.TheVariants.{Stranger, More, Kept, Complete, TooMany}
 use Rattle.crsm_ledger.specs.declared.ledger.Ledger.{Ledger}
-use Rattle.crsm_ledger.specs.Ledger.{StandsFor}
+use Rattle.crsm_ledger.specs.Ledger.{LedgerStands}
 
 -- a page is of this epoch, and its entries can be sent
 pub record CanSend (epoch : ℕ) (p : LogPage) : Type 0 where
@@ -27,14 +27,14 @@ pub record CanSend (epoch : ℕ) (p : LogPage) : Type 0 where
 
 -- The collection of a replica with this log has these pages, in the order in which they came. It is counted over the Spec,
 -- and is to name the next Spec so, with these members. Of the log it knows the epoch and its start alone.
-pub record IsCollecting (log : Log) (spec : List ℕ) (named : Option (List ℕ)) (members : List ℕ) (pages : List LogPage) (c : Collect) : Type 0 where
+pub record CollectStands (log : Log) (spec : List ℕ) (named : Option (List ℕ)) (members : List ℕ) (pages : List LogPage) (c : Collect) : Type 0 where
   pub epoch : c.epoch ≡ known log
   pub next : c.next ≡ known log + 1
   pub begins : c.start ≡ start log
   pub spec_is : c.spec ≡ spec
   pub named_is : c.named ≡ named
   pub members_are : c.members ≡ members
-  pub reports : HasReports c.reports pages
+  pub reports : ReportsStand c.reports pages
   pub low_epoch : known log ≤ most_collected
   pub low_start : start log ≤ most_collected
   pub told : AllByRecursion (CanSend (known log)) pages
@@ -97,16 +97,16 @@ FitsGot _ = Unit {0}
 abbrev pub WhereCollecting : Collect → (Log → List ℕ → Option (List ℕ) → List ℕ → List LogPage → Type 0) → Type 0
 WhereCollecting c P =
     (log : Log) (spec : List ℕ) (named : Option (List ℕ)) (members : List ℕ) (pages : List LogPage) →
-    IsCollecting log spec named members pages c → P log spec named members pages
+    CollectStands log spec named members pages c → P log spec named members pages
 
 -- the same where a ledger stands for the log
 abbrev pub WhereCollectingOver : ℕ → Ledger → Collect → (Log → List ℕ → Option (List ℕ) → List ℕ → List LogPage → Type 0) → Type 0
 WhereCollectingOver me ledger c P =
     (n : ℕ) (log : Log) (spec : List ℕ) (named : Option (List ℕ)) (members : List ℕ) (pages : List LogPage) →
-    StandsFor me n ledger log → IsCollecting log spec named members pages c → P log spec named members pages
+    LedgerStands me n ledger log → CollectStands log spec named members pages c → P log spec named members pages
 
 -- the same where a replica of that epoch can send this page
 abbrev pub WhereCanSend : Collect → LogPage → (Log → List ℕ → Option (List ℕ) → List ℕ → List LogPage → Type 0) → Type 0
 WhereCanSend c p P =
     (log : Log) (spec : List ℕ) (named : Option (List ℕ)) (members : List ℕ) (pages : List LogPage) →
-    IsCollecting log spec named members pages c → CanSend (known log) p → P log spec named members pages
+    CollectStands log spec named members pages c → CanSend (known log) p → P log spec named members pages

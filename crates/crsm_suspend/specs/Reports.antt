@@ -51,6 +51,6 @@ abbrev pub no_report : Report
 no_report = record { head = head_of []; pages = [] }
 
 -- there is a report of each replica, and they say what these pages say
-pub record HasReports (reports : List Report) (pages : List LogPage) : Type 0 where
+pub record ReportsStand (reports : List Report) (pages : List LogPage) : Type 0 where
   pub long : length reports ≡ 15
   pub each : (k : ℕ) → k < 15 → slice_index_or reports k no_report ≡ report_of pages k

@@ -4,7 +4,7 @@ ghost use Rattle.std.specs.Prelude.{◌≡◌, ℕ, List, IfOk};
 ghost use Rattle.std.specs.Option.{option_eq};
 ghost use Rattle.crsm_base.specs.Order.{stamp_eq};
 ghost use Rattle.crsm_base.specs.declared.Rec.{Rec};
-ghost use Rattle.crsm_ledger.specs.Ledger.{StandsFor};
+ghost use Rattle.crsm_ledger.specs.Ledger.{LedgerStands};
 ghost use Rattle.crsm_spec.specs.Collect.{own_page};
 ghost use Rattle.crsm_spec.specs.Controls.{are_above, is_page_of};
 ghost use Rattle.crsm_spec.specs.Log.{above, known};
@@ -23,8 +23,8 @@ const MOST_EXECUTED: u64 = u64::MAX - 4_096;
 
 /// The replica's own frozen log in one page. No memory holds more executed entries than a page may name.
 pub fn own_page(alloc: Global, ledger: &Ledger) -> Result<Page, NoMemory>
-    ensures page { (me n : ℕ) (log : List Rec) → StandsFor me n ledger.now log → IfOk result (λ p. page_from me p ≡ own_page me log) }
-    ensures told { (me n : ℕ) (log : List Rec) → StandsFor me n ledger.now log → IfOk result (λ p. CanSend (known log) (page_from me p)) }
+    ensures page { (me n : ℕ) (log : List Rec) → LedgerStands me n ledger.now log → IfOk result (λ p. page_from me p ≡ own_page me log) }
+    ensures told { (me n : ℕ) (log : List Rec) → LedgerStands me n ledger.now log → IfOk result (λ p. CanSend (known log) (page_from me p)) }
 {
     let executed = ledger.executed_len();
     if executed > MOST_EXECUTED {

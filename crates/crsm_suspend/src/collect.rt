@@ -38,7 +38,7 @@ pub struct Collect {
 }
 
 impl Collect {
-    ghost use Rattle.crsm_suspend.specs.Collecting.{IsCollecting, is_asked, got_whole, got_from, got_of, pages_after, FitsGot, WhereCanSend, WhereCollecting, WhereCollectingOver};
+    ghost use Rattle.crsm_suspend.specs.Collecting.{CollectStands, is_asked, got_whole, got_from, got_of, pages_after, FitsGot, WhereCanSend, WhereCollecting, WhereCollectingOver};
     ghost use Rattle.crsm_suspend.specs.Reports.{head_of, page_from};
     ghost use Rattle.crsm_spec.specs.Collect.{pages_of, cursor, is_whole, whole_ones};
     ghost use Rattle.crsm_spec.specs.Quorum.{has_majority};
@@ -55,7 +55,7 @@ impl Collect {
     ) -> Collect
         requires epoch { epoch ≤ most_collected }
         requires start { start ≤ most_collected }
-        ensures { (log : List Rec) → known log ≡ epoch → start_of log ≡ start → IsCollecting log spec named members [] result }
+        ensures { (log : List Rec) → known log ≡ epoch → start_of log ≡ start → CollectStands log spec named members [] result }
     {
         Collect {
             alloc,
@@ -90,7 +90,7 @@ impl Collect {
     pub fn take_own(&mut self, me: u32, ledger: &Ledger) -> Result<Got, NoMemory>
         requires { me < 15 }
         ensures got { WhereCollectingOver me ledger.now self.old (λ log spec named members pages. IfOk result (λ got. got ≡ got_whole log spec named members (pages ++ own_page me log ∷ []))) }
-        ensures state { WhereCollectingOver me ledger.now self.old (λ log spec named members pages. OnOk result (IsCollecting log spec named members (pages ++ own_page me log ∷ []) self.new)) }
+        ensures state { WhereCollectingOver me ledger.now self.old (λ log spec named members pages. OnOk result (CollectStands log spec named members (pages ++ own_page me log ∷ []) self.new)) }
         ensures fits { WhereCollectingOver me ledger.now self.old (λ log spec named members pages. IfOk result FitsGot) }
         ensures err { OnErr result (self.new ≡ self.old) }
     {
@@ -104,7 +104,7 @@ impl Collect {
         requires from { from < 15 }
         requires fits { FitsControl answer }
         ensures got { WhereCollecting self.old (λ log spec named members pages. IfOk result (λ got. got ≡ got_of log spec named members pages from answer)) }
-        ensures state { WhereCollecting self.old (λ log spec named members pages. OnOk result (IsCollecting log spec named members (pages_after log spec pages from answer) self.new)) }
+        ensures state { WhereCollecting self.old (λ log spec named members pages. OnOk result (CollectStands log spec named members (pages_after log spec pages from answer) self.new)) }
         ensures fits { WhereCollecting self.old (λ log spec named members pages. IfOk result FitsGot) }
         ensures err { OnErr result (self.new ≡ self.old) }
     {
@@ -169,7 +169,7 @@ impl Collect {
     fn add(&mut self, from: u32, page: Page) -> Result<Got, NoMemory>
         requires { from < 15 }
         ensures got { WhereCanSend self.old (page_from from page) (λ log spec named members pages. IfOk result (λ got. got ≡ got_from log spec named members (pages ++ page_from from page ∷ []) from)) }
-        ensures state { WhereCanSend self.old (page_from from page) (λ log spec named members pages. OnOk result (IsCollecting log spec named members (pages ++ page_from from page ∷ []) self.new)) }
+        ensures state { WhereCanSend self.old (page_from from page) (λ log spec named members pages. OnOk result (CollectStands log spec named members (pages ++ page_from from page ∷ []) self.new)) }
         ensures fits { WhereCanSend self.old (page_from from page) (λ log spec named members pages. IfOk result FitsGot) }
         ensures err { OnErr result (self.new ≡ self.old) }
     {

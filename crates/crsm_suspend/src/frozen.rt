@@ -4,7 +4,7 @@ ghost use Rattle.std.specs.Prelude.{◌≡◌, ◌==◌, ℕ, List, length, IfOk
 ghost use Rattle.crsm_base.specs.declared.Rec.{Rec};
 ghost use Rattle.crsm_spec.specs.Collect.{first_page, suspend_ok};
 ghost use Rattle.crsm_spec.specs.Log.{above};
-ghost use Rattle.crsm_ledger.specs.Ledger.{StandsFor};
+ghost use Rattle.crsm_ledger.specs.Ledger.{LedgerStands};
 ghost use Rattle.crsm_suspend.specs.Pages.{asked_stamp};
 
 use crate::checks::is_above;
@@ -16,7 +16,7 @@ use std::alloc::Global;
 /// The answer to one who ends the known epoch: the first page of the logged entries above this stamp, or above the
 /// last executed one where there is none.
 pub fn page_of(alloc: Global, ledger: &Ledger, after: Option<Stamp>) -> Result<Control, NoMemory>
-    ensures { (me n : ℕ) (log : List Rec) → StandsFor me n ledger.now log → IfOk result (λ answer. answer ≡ suspend_ok log after) }
+    ensures { (me n : ℕ) (log : List Rec) → LedgerStands me n ledger.now log → IfOk result (λ answer. answer ≡ suspend_ok log after) }
 {
     let last = ledger.last_stamp();
     let page = page_above(alloc, asked(after, last), ledger.logged())?;

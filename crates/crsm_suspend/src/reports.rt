@@ -4,7 +4,7 @@ ghost use Rattle.std.specs.Prelude.{◌≡◌, ◌<◌, ◌≤◌, List, All, If
 ghost use Rattle.crsm_spec.specs.Replica.{LogPage};
 ghost use Rattle.crsm_spec.specs.Collect.{whole_ones, first_pages, all_entries, base_of, floor_of, union};
 ghost use Rattle.crsm_spec.specs.Log.{above};
-ghost use Rattle.crsm_suspend.specs.Reports.{HasReports};
+ghost use Rattle.crsm_suspend.specs.Reports.{ReportsStand};
 
 use crate::report::Report;
 use crate::union::Union;
@@ -14,7 +14,7 @@ use std::alloc::Global;
 /// How many replicas of the Spec are whole.
 pub fn whole_count(reports: &[Report; 15], spec: &[u32]) -> usize
     requires { All (λ k. k < 15) spec.now }
-    ensures { (pages : List LogPage) → HasReports reports.now pages → result ≡ length (whole_ones spec.now pages) }
+    ensures { (pages : List LogPage) → ReportsStand reports.now pages → result ≡ length (whole_ones spec.now pages) }
 {
     let mut count = 0;
     for k in spec {
@@ -30,7 +30,7 @@ pub fn whole_count(reports: &[Report; 15], spec: &[u32]) -> usize
 /// The greatest executed length of the whole replicas, at least this one.
 pub fn base_of(start: u64, reports: &[Report; 15], spec: &[u32]) -> u64
     requires { All (λ k. k < 15) spec.now }
-    ensures { (pages : List LogPage) → HasReports reports.now pages →
+    ensures { (pages : List LogPage) → ReportsStand reports.now pages →
         result ≡ base_of start (first_pages (whole_ones spec.now pages) pages) }
 {
     let mut base = start;
@@ -47,7 +47,7 @@ pub fn base_of(start: u64, reports: &[Report; 15], spec: &[u32]) -> u64
 /// The last stamp of the first whole replica of this executed length.
 pub fn floor_of(base: u64, reports: &[Report; 15], spec: &[u32]) -> Option<Stamp>
     requires { All (λ k. k < 15) spec.now }
-    ensures { (pages : List LogPage) → HasReports reports.now pages →
+    ensures { (pages : List LogPage) → ReportsStand reports.now pages →
         result ≡ floor_of base (first_pages (whole_ones spec.now pages) pages) }
 {
     for k in spec {
@@ -70,7 +70,7 @@ pub fn union_of(
     spec: &[u32],
 ) -> Result<Union, NoMemory>
     requires { All (λ k. k < 15) spec.now }
-    ensures { (pages : List LogPage) → HasReports reports.now pages →
+    ensures { (pages : List LogPage) → ReportsStand reports.now pages →
         IfOk result (λ set. set ≡ union (above floor (all_entries (whole_ones spec.now pages) pages))) }
 {
     let mut set = Union::new(alloc);

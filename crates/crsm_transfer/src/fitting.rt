@@ -3,7 +3,7 @@
 ghost use Rattle.std.specs.Prelude.{◌≡◌, ◌≤◌, ℕ, List, drop, take, IfOk};
 ghost use Rattle.crsm_base.specs.declared.Rec.{Rec};
 ghost use Rattle.crsm_spec.specs.Log.{active};
-ghost use Rattle.crsm_ledger.specs.Ledger.{StandsFor};
+ghost use Rattle.crsm_ledger.specs.Ledger.{LedgerStands};
 ghost use Rattle.crsm_transfer.specs.Fitting.{IsPage, fit_in, fit_of, new_above};
 
 use crate::answer::Fit;
@@ -14,7 +14,7 @@ use std::alloc::Global;
 /// How a page fits, by the first of the four answers that applies.
 pub fn fit(alloc: Global, ledger: &Ledger, page: &Control) -> Result<Fit, NoMemory>
     requires { IsPage page.now }
-    ensures { (me n : ℕ) (log : List Rec) → StandsFor me n ledger.now log → IfOk result (λ fit. fit ≡ fit_in log page.now) }
+    ensures { (me n : ℕ) (log : List Rec) → LedgerStands me n ledger.now log → IfOk result (λ fit. fit ≡ fit_in log page.now) }
 {
     match page {
         Control::Page {
@@ -33,7 +33,7 @@ fn fit_entries(
     from: u64,
     entries: &[Entry],
 ) -> Result<Fit, NoMemory>
-    ensures { (me n : ℕ) (log : List Rec) → StandsFor me n ledger.now log → IfOk result (λ fit. fit ≡ fit_of log known from entries.now) }
+    ensures { (me n : ℕ) (log : List Rec) → LedgerStands me n ledger.now log → IfOk result (λ fit. fit ≡ fit_of log known from entries.now) }
 {
     let decision = ledger.known();
     let done = ledger.executed_len();
@@ -55,7 +55,7 @@ fn fit_entries(
 
 /// Whether the replica takes part in the known epoch: live and not suspended.
 fn takes_part(ledger: &Ledger) -> bool
-    ensures { (me n : ℕ) (log : List Rec) → StandsFor me n ledger.now log → result ≡ active log }
+    ensures { (me n : ℕ) (log : List Rec) → LedgerStands me n ledger.now log → result ≡ active log }
 {
     if ledger.suspended() {
         return false;

@@ -6,7 +6,7 @@ ghost use Rattle.crsm_base.specs.declared.Rec.{Rec};
 ghost use Rattle.crsm_base.specs.declared.Control.{Control};
 ghost use Rattle.crsm_spec.specs.Log.{known, executed};
 ghost use Rattle.crsm_spec.specs.Collect.{first_page};
-ghost use Rattle.crsm_ledger.specs.Ledger.{StandsFor};
+ghost use Rattle.crsm_ledger.specs.Ledger.{LedgerStands};
 ghost use Rattle.crsm_transfer.specs.Paging.{page_at, next_in, size_of_found};
 
 use crsm_base::{Control, Entries, Entry, MAX_PAGE_BYTES, NoMemory};
@@ -16,7 +16,7 @@ use std::alloc::Global;
 /// Asks for the executed entries behind one's own, and for decisions above the known epoch. A library call: a replica
 /// makes the same message where it sends it (`crsm_replica`).
 pub fn want(ledger: &Ledger) -> Control
-    ensures { (me n : ℕ) (log : List Rec) → StandsFor me n ledger.now log → result ≡ Control.Retrieve (known log) (length (executed log)) }
+    ensures { (me n : ℕ) (log : List Rec) → LedgerStands me n ledger.now log → result ≡ Control.Retrieve (known log) (length (executed log)) }
 {
     Control::Retrieve {
         known: ledger.known().epoch,
@@ -27,7 +27,7 @@ pub fn want(ledger: &Ledger) -> Control
 /// The page of executed entries from a place on, as many as go into one: `None` exactly where the place is not below
 /// the executed length. No other entries are read.
 pub fn page(alloc: Global, ledger: &Ledger, from: u64) -> Result<Option<Control>, NoMemory>
-    ensures { (me n : ℕ) (log : List Rec) → StandsFor me n ledger.now log → IfOk result (λ page. page ≡ page_at log from) }
+    ensures { (me n : ℕ) (log : List Rec) → LedgerStands me n ledger.now log → IfOk result (λ page. page ≡ page_at log from) }
 {
     if from >= ledger.executed_len() {
         return Ok(None);
@@ -42,7 +42,7 @@ pub fn page(alloc: Global, ledger: &Ledger, from: u64) -> Result<Option<Control>
 
 /// As many of the executed entries from a place on as go into a page.
 fn entries_from(alloc: Global, ledger: &Ledger, from: u64) -> Result<Entries, NoMemory>
-    ensures { (me n : ℕ) (log : List Rec) → StandsFor me n ledger.now log → IfOk result (λ es. es ≡ first_page (drop from (executed log))) }
+    ensures { (me n : ℕ) (log : List Rec) → LedgerStands me n ledger.now log → IfOk result (λ es. es ≡ first_page (drop from (executed log))) }
 {
     let mut entries = Entries::new(alloc);
     let mut room = MAX_PAGE_BYTES as usize;
@@ -60,7 +60,7 @@ fn entries_from(alloc: Global, ledger: &Ledger, from: u64) -> Result<Entries, No
 
 /// The executed entry at a place and how many bytes it takes, where they are not more than this.
 fn next(ledger: &Ledger, place: u64, room: usize) -> Result<Option<(Entry, usize)>, NoMemory>
-    ensures value { (me n : ℕ) (log : List Rec) → StandsFor me n ledger.now log → IfOk result (λ r. r ≡ next_in room (slice_get (executed log) place)) }
+    ensures value { (me n : ℕ) (log : List Rec) → LedgerStands me n ledger.now log → IfOk result (λ r. r ≡ next_in room (slice_get (executed log) place)) }
     ensures within { IfOk result (λ r. IfSome r (λ p. p.1 ≤ room)) }
 {
     let Some(size) = size_at(ledger, place) else {
@@ -77,7 +77,7 @@ fn next(ledger: &Ledger, place: u64, room: usize) -> Result<Option<(Entry, usize
 
 /// How many bytes the executed entry at a place takes.
 fn size_at(ledger: &Ledger, place: u64) -> Option<usize>
-    ensures { (me n : ℕ) (log : List Rec) → StandsFor me n ledger.now log → result ≡ size_of_found (slice_get (executed log) place) }
+    ensures { (me n : ℕ) (log : List Rec) → LedgerStands me n ledger.now log → result ≡ size_of_found (slice_get (executed log) place) }
 {
     match ledger.spelt(place) {
         Some(bytes) => Some(bytes.len()),

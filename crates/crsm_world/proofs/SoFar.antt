@@ -12,7 +12,7 @@ use Rattle.crsm_law_runs.specs.Laws.{AnsweredAreKept}
 use Rattle.crsm_law_runs.specs.DurableLaws.{DecisionsAlwaysAgree}
 use Rattle.crsm_world.specs.declared.world.World.{World}
 use Rattle.crsm_world.specs.Doing.{act_of}
-use Rattle.crsm_world.specs.World.{StandsFor}
+use Rattle.crsm_world.specs.World.{WorldStands}
 use Rattle.crsm_world.specs.Laws.{HasDone, IsLawful}
 use Rattle.crsm_world.proofs.Schedules.{fits_act}
 
@@ -28,14 +28,14 @@ possible_more v (x ∷ xs) a p fits here = (p.0, p.1, possible_more (act v x).af
 
 -- a world that has done these acts has done one more where that was possible and it stands for what comes of it
 pub does_more : (old new : World) (n : ℕ) (acts : List Act) (e : Event) → HasDone old n acts → FitsEvent e
-    → possible (last_world n acts) (act_of e) ≡ None → StandsFor new (act (last_world n acts) (act_of e)).after → HasDone new n (acts ++ act_of e ∷ [])
+    → possible (last_world n acts) (act_of e) ≡ None → WorldStands new (act (last_world n acts) (act_of e)).after → HasDone new n (acts ++ act_of e ∷ [])
 unfolding last_world
 does_more old new n acts e done fits here stands =
     record {
       some = done.some;
       most = done.most;
       possible = possible_more (begin n) acts (act_of e) done.possible (fits_act e fits) here;
-      stands = subst (λ v. StandsFor new v) (sym (after_more (begin n) acts (act_of e))) stands;
+      stands = subst (λ v. WorldStands new v) (sym (after_more (begin n) acts (act_of e))) stands;
     }
 
 -- what it has done keeps all laws

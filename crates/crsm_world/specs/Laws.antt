@@ -7,14 +7,14 @@ use Rattle.crsm_spec.specs.Safe.{Agreed, Answered, RealTime}
 use Rattle.crsm_spec.specs.Decided.{DecisionsAgree}
 use Rattle.crsm_spec.specs.Durable.{KeepsAnswered}
 use Rattle.crsm_world.specs.declared.world.World.{World}
-use Rattle.crsm_world.specs.World.{StandsFor}
+use Rattle.crsm_world.specs.World.{WorldStands}
 
 -- The world stands where a cluster of n replicas is after these acts, each of which was possible.
 pub record HasDone (w : World) (n : ℕ) (acts : List Act) : Type 0 where
   pub some : 1 ≤ n
   pub most : n ≤ 15
   pub possible : ArePossible (begin n) acts
-  pub stands : StandsFor w (last_world n acts)
+  pub stands : WorldStands w (last_world n acts)
 
 -- In the run of these acts executed lists agree, answers are the store's, real time is kept, nothing answered is lost,
 -- and decisions agree.

@@ -33,12 +33,12 @@ pub record LeadsOn (m : Moment) (sites : Machines) (network : Network) (before l
   pub told : lines ≡ before ++ m.lines
 
 -- The world in memory stands for this one on paper.
-pub record Stands (w : World) (v : Cluster) : Type 0 where
+pub record StandsInside (w : World) (v : Cluster) : Type 0 where
   pub unspent : w.is_spent ≡ false
   pub holds : Holds w v
 
-unfoldable pub StandsFor : World → Cluster → Type 0
-StandsFor w v = Stands w v
+unfoldable pub WorldStands : World → Cluster → Type 0
+WorldStands w v = StandsInside w v
 
 -- memory ran out in it: nothing is promised any more
 unfoldable pub IsSpent : World → Type 0
@@ -46,7 +46,7 @@ IsSpent w = w.is_spent ≡ true
 
 -- for each replica that is up in the cluster that the world stands for, where it has number k
 abbrev pub WhereUp : World → ℕ → (Replica → Type 0) → Type 0
-WhereUp w k P = (v : Cluster) (r : Replica) → StandsFor w v → slice_get v.sites k ≡ Some (Site.Up r) → P r
+WhereUp w k P = (v : Cluster) (r : Replica) → WorldStands w v → slice_get v.sites k ≡ Some (Site.Up r) → P r
 
 -- for each cluster whose parts the world holds
 abbrev pub WhereHolds : World → (Cluster → Type 0) → Type 0
@@ -54,7 +54,7 @@ WhereHolds w P = (v : Cluster) → Holds w v → P v
 
 -- for each cluster that the world stands for
 abbrev pub WhereStands : World → (Cluster → Type 0) → Type 0
-WhereStands w P = (v : Cluster) → StandsFor w v → P v
+WhereStands w P = (v : Cluster) → WorldStands w v → P v
 
 -- for each cluster that the world holds, where replica k is up
 abbrev pub WhereHeldUp : World → ℕ → (Cluster → Replica → Type 0) → Type 0

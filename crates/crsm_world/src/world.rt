@@ -12,7 +12,7 @@ ghost use Rattle.crsm_spec.specs.Replica.{Replica};
 ghost use Rattle.crsm_spec.specs.World as on_paper;
 ghost use Rattle.crsm_world.specs.Doing.{act_of, bad_of};
 ghost use Rattle.crsm_world.specs.Laws.{HasDone, IsLawful};
-ghost use Rattle.crsm_world.specs.World.{Holds, StandsFor, IsSpent, WhereHolds, WhereStands, WhereUp};
+ghost use Rattle.crsm_world.specs.World.{Holds, WorldStands, IsSpent, WhereHolds, WhereStands, WhereUp};
 
 use crate::bad::Bad;
 use crate::machines::Machines;
@@ -41,7 +41,7 @@ impl World {
     pub fn new(alloc: Global, n: u32) -> Result<(World, Lines), NoMemory>
         requires some { 1 ≤ n }
         requires most { n ≤ 15 }
-        ensures world { IfOk result (λ made. StandsFor made.0 (on_paper.begin n)) }
+        ensures world { IfOk result (λ made. WorldStands made.0 (on_paper.begin n)) }
         ensures lines { IfOk result (λ made. made.1 ≡ on_paper.first_lines n) }
         ensures done { IfOk result (λ made. HasDone made.0 n []) }
     {
@@ -65,14 +65,14 @@ impl World {
 
     /// Does an event, and gives its lines. After a cause other than memory the world is as before. Of all that the world has
     /// done since it was made, the laws of a run hold.
-    #[tactic(auto, unfolding(crate::specs::World::StandsFor, crate::specs::World::IsSpent))]
+    #[tactic(auto, unfolding(crate::specs::World::WorldStands, crate::specs::World::IsSpent))]
     pub fn step(&mut self, event: &Event) -> Result<Lines, Bad>
         requires { FitsEvent event.now }
         ensures possible { WhereStands self.old (λ v. IfOk result (λ lines. possible v (act_of event.now) ≡ None)) }
-        ensures world { WhereStands self.old (λ v. IfOk result (λ lines. StandsFor self.new (act v (act_of event.now)).after)) }
+        ensures world { WhereStands self.old (λ v. IfOk result (λ lines. WorldStands self.new (act v (act_of event.now)).after)) }
         ensures lines { WhereStands self.old (λ v. IfOk result (λ lines. lines ≡ (act v (act_of event.now)).lines)) }
         ensures bad { WhereStands self.old (λ v. IfErr result (λ bad. bad ≢ Bad.NoMemory → possible v (act_of event.now) ≡ bad_of bad)) }
-        ensures unchanged { WhereStands self.old (λ v. IfErr result (λ bad. bad ≢ Bad.NoMemory → StandsFor self.new v)) }
+        ensures unchanged { WhereStands self.old (λ v. IfErr result (λ bad. bad ≢ Bad.NoMemory → WorldStands self.new v)) }
         ensures spent { IsErrOf result Bad.NoMemory → IsSpent self.new }
         ensures stays_spent { IsSpent self.old → IsErrOf result Bad.NoMemory }
         ensures done { (n : ℕ) (acts : List Act) → HasDone self.old n acts → IfOk result (λ lines. HasDone self.new n (acts ++ act_of event.now ∷ [])) }
@@ -98,9 +98,9 @@ impl World {
     }
 
     /// Takes back the lines of a step, so that the next step uses their room.
-    #[tactic(auto, unfolding(crate::specs::World::StandsFor, crate::specs::World::IsSpent))]
+    #[tactic(auto, unfolding(crate::specs::World::WorldStands, crate::specs::World::IsSpent))]
     pub fn take_back(&mut self, lines: Lines)
-        ensures stands { WhereStands self.old (λ v. StandsFor self.new v) }
+        ensures stands { WhereStands self.old (λ v. WorldStands self.new v) }
         ensures stays_spent { IsSpent self.old → IsSpent self.new }
     {
         self.spare = lines;
@@ -118,7 +118,7 @@ impl World {
 
     /// The shell of a replica that is up: none where it is down, and where no replica has this number. Its core is that of
     /// the replica, and its disk has the replica's log.
-    #[tactic(auto, unfolding(crate::specs::World::StandsFor))]
+    #[tactic(auto, unfolding(crate::specs::World::WorldStands))]
     pub fn shell(&self, replica: u32) -> Option<&Shell<MemDisk>>
         ensures up { WhereStands self.now (λ v. is_some result ≡ on_paper.is_up_at v replica) }
         ensures stands { IfSome result (λ shell. WhereUp self.now replica (λ r. ShellStands shell.now (meaning_of (disk_of shell.now)) r.log r [])) }
@@ -130,7 +130,7 @@ impl World {
     }
 
     /// The last lines, of a world whose acts so far keep the laws of a run.
-    #[tactic(auto, unfolding(crate::specs::World::StandsFor, crate::specs::World::IsSpent, crsm_spec::specs::World::finals))]
+    #[tactic(auto, unfolding(crate::specs::World::WorldStands, crate::specs::World::IsSpent, crsm_spec::specs::World::finals))]
     pub fn finals(&self) -> Result<Lines, NoMemory>
         ensures lines { WhereStands self.now (λ v. IfOk result (λ lines. lines ≡ on_paper.finals v)) }
         ensures laws { (n : ℕ) (acts : List Act) → HasDone self.now n acts → IfOk result (λ lines. IsLawful n acts) }

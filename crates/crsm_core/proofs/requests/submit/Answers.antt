@@ -3,7 +3,7 @@ use Rattle.crsm_base.specs.Spelling.{FitsEntry}
 use Rattle.crsm_spec.specs.Types.{Stamp, Entry, Rec}
 use Rattle.crsm_spec.specs.Clients.{await}
 use Rattle.crsm_spec.specs.Draft.{Draft, keep, count_vote}
-use Rattle.crsm_replica.specs.Replica.{StandsFor}
+use Rattle.crsm_replica.specs.Replica.{ReplicaStands}
 use Rattle.crsm_core.proofs.Fitting.{if_fits, stands_as}
 use Rattle.crsm_core.proofs.RequestLemmas.{is_submitted, is_not_submitted, would_kept, entry_is, entry_fits, stamp_is}
 use Rattle.crsm_core.proofs.requests.submit.Goals as goal
@@ -37,7 +37,7 @@ returns c = λ x reading s w.
     let rec : Rec = Rec.Prepare e in
     let y : Draft = keep rec x in
     let fit : y.fitting ≡ true = sym both.0 ∙ c.if-not-branch.false in
-    let a : StandsFor c.log_entry.new.state y = stands_as c.log_entry.new.state _ y (if_fits x y fit) both.1 in
+    let a : ReplicaStands c.log_entry.new.state y = stands_as c.log_entry.new.state _ y (if_fits x y fit) both.1 in
     let b = c.in_ok-count_vote.ensures y a in
     let d = c.in_ok-await_entry.ensures (count_vote stamp me y) b in
     let fits : FitsEntry e =

@@ -4,7 +4,7 @@ use Rattle.crsm_base.specs.Messages.{control_bytes}
 use Rattle.crsm_spec.specs.Types.{Datagram}
 use Rattle.crsm_spec.specs.Draft.{parts_to}
 use Rattle.crsm_segment.specs.Pieces.{sends_of}
-use Rattle.crsm_output.specs.Made.{Holds, to_replica}
+use Rattle.crsm_output.specs.Made.{OutputStands, to_replica}
 use Rattle.crsm_output.proofs.Parts.{as_cut, one_part}
 use Rattle.crsm_output.proofs.Sizes.{some, few}
 use Rattle.crsm_output.proofs.sending.send_parts.Goals as goal
@@ -29,4 +29,4 @@ returns-then-spelling c r m control s me boot number is =
     let part : (c.args.to, datagram.Part c.args.from c.args.to c.args.boot c.args.number 0 1 c.args.spelling.now) ∷ [] ≡ parts_to r c.args.to control =
     (λ j. (c.args.to, datagram.Part (me j) c.args.to (boot j) (number j) 0 1 (is.spelt j)) ∷ [])
     ∙ sym (one_part r c.args.to control (some control) short) in
-    subst (λ (sent : List (ℕ × Datagram)). Holds c.send_at_once.new.output (record m { sends = m.sends ++ sent })) part (c.in_ok-send_at_once.ensures m s)
+    subst (λ (sent : List (ℕ × Datagram)). OutputStands c.send_at_once.new.output (record m { sends = m.sends ++ sent })) part (c.in_ok-send_at_once.ensures m s)

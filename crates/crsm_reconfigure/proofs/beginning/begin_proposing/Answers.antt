@@ -10,7 +10,7 @@ use Rattle.crsm_spec.specs.Replica.{Coordinator, spec_of}
 use Rattle.crsm_spec.specs.Draft.{Draft, keep, noting}
 use Rattle.crsm_spec.specs.Coordinate.{instance, greater_ballot, accept_own}
 use Rattle.crsm_coordinator.specs.Coordinator.{answered}
-use Rattle.crsm_replica.specs.Replica.{StandsFor}
+use Rattle.crsm_replica.specs.Replica.{ReplicaStands}
 use Rattle.crsm_reconfigure.proofs.DraftLemmas.{was_whole}
 use Rattle.crsm_reconfigure.proofs.BeginLemmas.{mine, after, round_left, top_fits, begin_spent, begin_asks, ask_more, ask_last, answered_more, answered_last, promise_kept, kept_stands, kept_instance}
 use Rattle.crsm_reconfigure.proofs.OwnLemmas.{renewed_fitting, noted}
@@ -20,7 +20,7 @@ pub returns-then-top : goal.returns-then-top
 returns-then-top c = λ x s p.
     let top = c.greater-top.ensures ∙ ap (λ b. greater_ballot b c.args.seen) (c.promised.ensures x s) in
     let is = begin_spent c.args.own c.args.seen x (ap (λ (b : Ballot). b.round == u64_max) (sym top) ∙ eq-eqb c.greater-top.result.round u64_max c.if-top.true) in
-    subst (λ y. StandsFor c.set_coordinator.new.self y) (sym is) (c.set_coordinator.ensures x Coordinator.Idle s (c.quiet.ensures x.replica.me x.replica.n (decision x.replica.log)))
+    subst (λ y. ReplicaStands c.set_coordinator.new.self y) (sym is) (c.set_coordinator.ensures x Coordinator.Idle s (c.quiet.ensures x.replica.me x.replica.n (decision x.replica.log)))
 
 pub returns-then-is_alone : goal.returns-then-is_alone
 returns-then-is_alone c = λ x s p.
@@ -36,14 +36,14 @@ returns-then-is_alone c = λ x s p.
     let same = kept_instance x c.in_ok-instance.instance c.above-ballot.result b (c.in_ok-instance.ensures x s) ballot in
     let kept = (c.in_ok-promise.ensures x s (subst (λ q. FitsBallot q) (sym ballot) spelt)).1 in
     let fit : z.fitting ≡ true = promise_kept c.args.seen x sound.fitting sound.on_record in
-    let mid = subst (λ y. StandsFor c.promise.new.state y) same (was_whole c.promise.new.state x _ (ap (λ y. y.fitting) same ∙ fit) kept) in
+    let mid = subst (λ y. ReplicaStands c.promise.new.state y) same (was_whole c.promise.new.state x _ (ap (λ y. y.fitting) same ∙ fit) kept) in
     let stands = kept_stands c.in_ok-coordinator.coordinator (instance x) b (answered (spec_of x.replica) b c.args.own (mine x ∷ [])) x (c.in_ok-coordinator.ensures x b.round s p.0.0 round spelt) in
     let v = value_of c.args.own (mine x ∷ []) in
     let m : Coordinator = Coordinator.Proposing b c.args.own v [] in
-    let set = subst (λ q. StandsFor c.set_coordinator-2.new.self (noting q z)) (answered_last (spec_of x.replica) b c.args.own (mine x ∷ []) many) (c.set_coordinator-2.ensures z (answered (spec_of x.replica) b c.args.own (mine x ∷ [])) mid stands) in
+    let set = subst (λ q. ReplicaStands c.set_coordinator-2.new.self (noting q z)) (answered_last (spec_of x.replica) b c.args.own (mine x ∷ []) many) (c.set_coordinator-2.ensures z (answered (spec_of x.replica) b c.args.own (mine x ∷ [])) mid stands) in
     let is = begin_asks c.args.own c.args.seen x (ap (λ (q : Ballot). q.round == u64_max) (sym top) ∙ left) ∙ ask_last b c.args.own x many in
     let whole : (accept_own b c.args.own v [] (noting m z)).fitting ≡ true = sym (renewed_fitting b c.args.own v [] (noting m z)) ∙ ap (λ y. y.fitting) (sym is) ∙ p.1 in
-    subst (λ y. StandsFor c.accept_and_send.new.state y) (sym is) (c.in_ok-accept_and_send.ensures (noting m z) b c.args.own v [] set (noted m z) whole)
+    subst (λ y. ReplicaStands c.accept_and_send.new.state y) (sym is) (c.in_ok-accept_and_send.ensures (noting m z) b c.args.own v [] set (noted m z) whole)
 
 pub returns : goal.returns
 returns c = λ x s p.
@@ -59,9 +59,9 @@ returns c = λ x s p.
     let same = kept_instance x c.in_ok-instance.instance c.above-ballot.result b (c.in_ok-instance.ensures x s) ballot in
     let kept = (c.in_ok-promise.ensures x s (subst (λ q. FitsBallot q) (sym ballot) spelt)).1 in
     let fit : z.fitting ≡ true = promise_kept c.args.seen x sound.fitting sound.on_record in
-    let mid = subst (λ y. StandsFor c.promise.new.state y) same (was_whole c.promise.new.state x _ (ap (λ y. y.fitting) same ∙ fit) kept) in
+    let mid = subst (λ y. ReplicaStands c.promise.new.state y) same (was_whole c.promise.new.state x _ (ap (λ y. y.fitting) same ∙ fit) kept) in
     let stands = kept_stands c.in_ok-coordinator.coordinator (instance x) b (answered (spec_of x.replica) b c.args.own (mine x ∷ [])) x (c.in_ok-coordinator.ensures x b.round s p.0.0 round spelt) in
     let m : Coordinator = Coordinator.Preparing b c.args.own (mine x ∷ []) in
-    let set = subst (λ q. StandsFor c.set_coordinator-2.new.self (noting q z)) (answered_more (spec_of x.replica) b c.args.own (mine x ∷ []) few) (c.set_coordinator-2.ensures z (answered (spec_of x.replica) b c.args.own (mine x ∷ [])) mid stands) in
+    let set = subst (λ q. ReplicaStands c.set_coordinator-2.new.self (noting q z)) (answered_more (spec_of x.replica) b c.args.own (mine x ∷ []) few) (c.set_coordinator-2.ensures z (answered (spec_of x.replica) b c.args.own (mine x ∷ [])) mid stands) in
     let is = begin_asks c.args.own c.args.seen x (ap (λ (q : Ballot). q.round == u64_max) (sym top) ∙ left) ∙ ask_more b c.args.own x few in
-    subst (λ y. StandsFor c.send_ask.new.state y) (sym is) (c.in_ok-send_ask.ensures (noting m z) b c.args.own (mine x ∷ []) set (noted m z))
+    subst (λ y. ReplicaStands c.send_ask.new.state y) (sym is) (c.in_ok-send_ask.ensures (noting m z) b c.args.own (mine x ∷ []) set (noted m z))

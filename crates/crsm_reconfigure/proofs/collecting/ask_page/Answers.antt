@@ -2,7 +2,7 @@ use Rattle.std.proofs.Common.{◌<◌, ◌^◌, sym, subst, arith}
 use Rattle.crsm_base.specs.Spelling.{FitsOption, FitsStamp}
 use Rattle.crsm_spec.specs.Log.{decision}
 use Rattle.crsm_coordinator.specs.Coordinator.{CoordinatorStands}
-use Rattle.crsm_replica.specs.Replica.{StandsFor}
+use Rattle.crsm_replica.specs.Replica.{ReplicaStands}
 use Rattle.crsm_reconfigure.proofs.ReportLemmas.{gathering_in, asked_fits, ask_as}
 use Rattle.crsm_reconfigure.proofs.collecting.ask_page.Goals as goal
 
@@ -14,4 +14,4 @@ returns c = λ x ms pages s e.
     let known = c.known-epoch.ensures x s in
     let small : c.known-epoch.result < 2 ^ 64 = omega arith in
     let spelt = subst (λ o. FitsOption FitsStamp o) (sym after) (asked_fits x x.replica.me x.replica.n g.0 ms pages c.args.k g.1) in
-    subst (λ y. StandsFor c.send_control.new.self y) (ask_as pages x c.args.k c.known-epoch.result c.cursor-after.result known after) (c.in_ok-send_control.ensures x s (small, spelt))
+    subst (λ y. ReplicaStands c.send_control.new.self y) (ask_as pages x c.args.k c.known-epoch.result c.cursor-after.result known after) (c.in_ok-send_control.ensures x s (small, spelt))

@@ -9,7 +9,7 @@ use Rattle.crsm_suspend.specs.Collecting.{FitsGot}
 use Rattle.crsm_suspend.specs.Coordinating.{on_got}
 use Rattle.crsm_coordinator.specs.Coordinator.{CoordinatorStands, IsGathering, named_in}
 use Rattle.crsm_coordinator.proofs.Coordinators.{gathers}
-use Rattle.crsm_replica.specs.Replica.{StandsFor}
+use Rattle.crsm_replica.specs.Replica.{ReplicaStands}
 use Rattle.crsm_reconfigure.specs.Reports.{IsReport, CanGoOn}
 use Rattle.crsm_reconfigure.proofs.ReportLemmas.{collecting_as, after_report, report_got, by_the_rules, report_ignored, report_goes_on, taken_is_got, done_in, report_fitting}
 use Rattle.crsm_reconfigure.proofs.DraftLemmas.{is_whole, does_nothing}
@@ -53,4 +53,4 @@ returns c = λ x s apart.
     done_in ms pages after k _ (report_got k a ms pages x) x is m.2 ∙ by_the_rules c.got_is_by_the_rules.ensures.taken k a ms pages x report m.2 ∙ ap (λ b. on_control k b x) c.in_ok-answer.ensures in
     is_whole c.go_on.new.state x _
     (ap (λ y. y.fitting) (sym rule) ∙ report_fitting ms after (report_got k a ms pages x) (Coordinator.Collecting ms after) x (c.states_are_sound.ensures c.args.state.now x s).fitting can.fits)
-    (subst (λ y. StandsFor c.go_on.new.state y) rule (subst (λ r. StandsFor c.go_on.new.state (on_got ms after r (noting (Coordinator.Collecting ms after) (noting Coordinator.Idle x)))) got gone))
+    (subst (λ y. ReplicaStands c.go_on.new.state y) rule (subst (λ r. ReplicaStands c.go_on.new.state (on_got ms after r (noting (Coordinator.Collecting ms after) (noting Coordinator.Idle x)))) got gone))

@@ -10,7 +10,7 @@ use Rattle.crsm_spec.specs.Quorum.{spec_decided}
 use Rattle.crsm_spec.specs.Coordinate.{on_chosen, count_acceptor}
 use Rattle.crsm_coordinator.specs.Coordinator.{CoordinatorStands, proposal_of}
 use Rattle.std.proofs.Common.{◌∷◌}
-use Rattle.crsm_replica.specs.Replica.{StandsFor}
+use Rattle.crsm_replica.specs.Replica.{ReplicaStands}
 use Rattle.crsm_reconfigure.proofs.ChoiceLemmas.{vote_last, vote_more, noted_twice, noted_fitting, spec_is, voted_more, same_value, voted_not_more}
 use Rattle.crsm_reconfigure.proofs.DraftLemmas.{is_whole, instead}
 use Rattle.crsm_reconfigure.proofs.ProposeLemmas.{none_proposed}
@@ -45,7 +45,7 @@ returns c = λ x b own value acceptors s e h.
     let set = c.set_coordinator.ensures (noting Coordinator.Idle x) m (c.take_coordinator-coordinator.ensures.quiet x s) stands in
     let rule = vote_more b own value acceptors c.args.k x few in
     let fit : (count_acceptor b own value acceptors c.args.k x).fitting ≡ true = ap (λ y. y.fitting) rule ∙ noted_fitting m x ∙ (c.states_are_sound.ensures c.args.state.now x s).fitting in
-    (sym fit, is_whole c.set_coordinator.new.self x _ fit (subst (λ y. StandsFor c.set_coordinator.new.self y) (noted_twice m x ∙ sym rule) set))
+    (sym fit, is_whole c.set_coordinator.new.self x _ fit (subst (λ y. ReplicaStands c.set_coordinator.new.self y) (noted_twice m x ∙ sym rule) set))
 
 pub returns-in_default : goal.returns-in_default
 unfolding proposal_of

@@ -3,7 +3,7 @@ use Rattle.crsm_spec.specs.Log.{decision}
 use Rattle.crsm_spec.specs.Draft.{noting}
 use Rattle.crsm_spec.specs.Replica.{Coordinator}
 use Rattle.crsm_coordinator.specs.Coordinator.{preempted_by}
-use Rattle.crsm_replica.specs.Replica.{StandsFor}
+use Rattle.crsm_replica.specs.Replica.{ReplicaStands}
 use Rattle.crsm_reconfigure.proofs.ChoiceLemmas.{no_ends, no_ignored, noted_twice, noted_fitting}
 use Rattle.crsm_reconfigure.proofs.DraftLemmas.{is_whole, does_nothing, and_none, and_no, and_first}
 use Rattle.crsm_reconfigure.proofs.counting.on_p1no.Goals as goal
@@ -26,4 +26,4 @@ returns c = λ x s f.
     let stands = c.preempted.ensures x.replica.me x.replica.n (decision x.replica.log) x.replica.coordinator (c.take_coordinator-coordinator.ensures.coordinator x s) f in
     let set = c.set_coordinator.ensures (noting Coordinator.Idle x) (preempted_by x.replica.coordinator c.args.top) (c.take_coordinator-coordinator.ensures.quiet x s) stands in
     is_whole c.set_coordinator.new.self x _ (ap (λ y. y.fitting) is ∙ noted_fitting (preempted_by x.replica.coordinator c.args.top) x ∙ (c.states_are_sound.ensures c.args.state.now x s).fitting)
-    (subst (λ y. StandsFor c.set_coordinator.new.self y) (noted_twice (preempted_by x.replica.coordinator c.args.top) x ∙ sym is) set)
+    (subst (λ y. ReplicaStands c.set_coordinator.new.self y) (noted_twice (preempted_by x.replica.coordinator c.args.top) x ∙ sym is) set)

@@ -2,18 +2,18 @@ use Rattle.std.proofs.Common.{◌≡◌, ◌∙◌, sym, subst, ap}
 use Rattle.std.specs.Prelude.{Some, ◌-◌, drop}
 use Rattle.crsm_base.specs.Spelling.{FitsDecision, FitsEntries, FitsOption}
 use Rattle.crsm_spec.specs.Log.{decision}
-use Rattle.crsm_replica.specs.Replica.{StandsFor}
+use Rattle.crsm_replica.specs.Replica.{ReplicaStands}
 use Rattle.crsm_reconfigure.proofs.DraftLemmas.{no_tail, past_tail, some_tail, was_whole}
 use Rattle.crsm_log_facts.proofs.EntriesFit.{drop_fits}
 use Rattle.crsm_log_facts.proofs.LogsFit.{decision_fits}
 use Rattle.crsm_reconfigure.proofs.learning.adopt_tail.Goals as goal
 
 pub returns-in_default : goal.returns-in_default
-returns-in_default c = λ x s f. subst (λ y. StandsFor c.args.state.now y) (sym (no_tail x (sym (c.in_ok-decision.ensures x s) ∙ c.in_default.is))) s
+returns-in_default c = λ x s f. subst (λ y. ReplicaStands c.args.state.now y) (sym (no_tail x (sym (c.in_ok-decision.ensures x s) ∙ c.in_default.is))) s
 
 pub returns-then-not-is_left : goal.returns-then-not-is_left
 returns-then-not-is_left c = λ x s f.
-    subst (λ y. StandsFor c.args.state.now y)
+    subst (λ y. ReplicaStands c.args.state.now y)
     (sym (past_tail x c.in-Some.decision c.executed_len-place.result c.start.result (sym (c.in_ok-decision.ensures x s) ∙ c.in-Some.is) (c.executed_len-place.ensures x s) (c.start.ensures x s)
     (sym c.is_left.ensures ∙ c.if-not-is_left.true))) s
 
@@ -26,4 +26,4 @@ returns c = λ x s f.
     let is = some_tail x c.in-Some.decision c.executed_len-place.result c.start.result c.behind-rest.result.now known (c.executed_len-place.ensures x s) (c.start.ensures x s)
     (sym c.is_left.ensures ∙ c.if-not-is_left.false) rest in
     let k = c.in_ok-adopt.ensures x s fits in
-    subst (λ y. StandsFor c.adopt.new.state y) is (was_whole c.adopt.new.state x _ (ap (λ y. y.fitting) is ∙ f) k.1)
+    subst (λ y. ReplicaStands c.adopt.new.state y) is (was_whole c.adopt.new.state x _ (ap (λ y. y.fitting) is ∙ f) k.1)

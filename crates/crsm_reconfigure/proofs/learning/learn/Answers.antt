@@ -1,7 +1,7 @@
 use Rattle.std.proofs.Common.{◌≡◌, ◌∙◌, sym, subst, true, false}
 use Rattle.crsm_spec.specs.Log.{executed}
 use Rattle.crsm_spec.specs.Coordinate.{learn}
-use Rattle.crsm_replica.specs.Replica.{StandsFor, learnt}
+use Rattle.crsm_replica.specs.Replica.{ReplicaStands, learnt}
 use Rattle.crsm_reconfigure.specs.Rules.{tail_goes_on}
 use Rattle.crsm_reconfigure.proofs.DraftLemmas.{learn_fits, and_yes, and_no, and_none, is_whole, is_ignored, was_whole, was_ignored, learn_as}
 use Rattle.crsm_reconfigure.proofs.learning.learn.Goals as goal
@@ -31,5 +31,5 @@ returns c = λ x s f.
     let l = learn_as c.args.decision.now x in (
       sym e,
       is_whole c.advance.new.state x (learn c.args.decision.now x) e
-          (subst (λ y. StandsFor c.advance.new.state y) (sym l.0) (c.in_ok-advance.ensures (learnt c.args.decision.now x) (was_whole c.learn_decision.new.self x (learnt c.args.decision.now x) u k.1) (sym l.1 ∙ e))),
+          (subst (λ y. ReplicaStands c.advance.new.state y) (sym l.0) (c.in_ok-advance.ensures (learnt c.args.decision.now x) (was_whole c.learn_decision.new.self x (learnt c.args.decision.now x) u k.1) (sym l.1 ∙ e))),
     )

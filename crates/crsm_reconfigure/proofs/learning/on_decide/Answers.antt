@@ -1,7 +1,7 @@
 use Rattle.std.proofs.Common.{◌≡◌, ◌∙◌, sym, subst, ap, arith, true, false}
 use Rattle.crsm_spec.specs.Coordinate.{learn}
 use Rattle.crsm_spec.specs.Controls.{on_decide, retrieve_base}
-use Rattle.crsm_replica.specs.Replica.{StandsFor}
+use Rattle.crsm_replica.specs.Replica.{ReplicaStands}
 use Rattle.crsm_reconfigure.proofs.DraftLemmas.{learn_later, learn_no, base_fitting, is_whole, is_ignored, was_whole, was_ignored, does_nothing}
 use Rattle.crsm_reconfigure.proofs.learning.on_decide.Goals as goal
 
@@ -24,4 +24,4 @@ returns c = λ x s f.
     let k = c.in_ok-fits.ensures x s f in
     let u : (learn c.args.decision.now x).fitting ≡ true = sym k.0 ∙ c.if-not-fits.false in
     is_whole c.retrieve_base.new.state x _ (ap (λ y. y.fitting) later ∙ base_fitting c.args.k (learn c.args.decision.now x) ∙ u)
-    (subst (λ y. StandsFor c.retrieve_base.new.state y) (sym later) (c.in_ok-retrieve_base.ensures (learn c.args.decision.now x) (was_whole c.learn.new.state x (learn c.args.decision.now x) u k.1)))
+    (subst (λ y. ReplicaStands c.retrieve_base.new.state y) (sym later) (c.in_ok-retrieve_base.ensures (learn c.args.decision.now x) (was_whole c.learn.new.state x (learn c.args.decision.now x) u k.1)))

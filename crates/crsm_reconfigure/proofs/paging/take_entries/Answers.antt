@@ -5,7 +5,7 @@ use Rattle.crsm_spec.specs.Log.{executed}
 use Rattle.crsm_spec.specs.Draft.{Draft, keep, send_retrieve}
 use Rattle.crsm_spec.specs.Coordinate.{advance, adopt_tail}
 use Rattle.crsm_spec.specs.Step.{if_fitting}
-use Rattle.crsm_replica.specs.Replica.{StandsFor}
+use Rattle.crsm_replica.specs.Replica.{ReplicaStands}
 use Rattle.crsm_reconfigure.specs.Rules.{take_executed}
 use Rattle.std.specs.Prelude.{◌==◌}
 use Rattle.crsm_reconfigure.proofs.PageLemmas.{tail_fits, take_fitting, no_entries}
@@ -27,7 +27,7 @@ pub returns-then-not-fits : goal.returns-then-not-fits
 returns-then-not-fits c = λ x s f.
     let slice : c.as_slice-2.result.now ≡ c.args.entries.now = c.as_slice-2.ensures in
     let j = c.in_ok-fits.ensures x s (subst (λ es. FitsEntries es) (sym slice) f.0) in
-    let k = subst (λ es. (c.in_ok-fits.fits ≡ (keep (Rec.Adopt c.executed_len-place.result es) x).fitting) × StandsFor c.adopt.new.state (if_fitting x (keep (Rec.Adopt c.executed_len-place.result es) x))) slice j in
+    let k = subst (λ es. (c.in_ok-fits.fits ≡ (keep (Rec.Adopt c.executed_len-place.result es) x).fitting) × ReplicaStands c.adopt.new.state (if_fitting x (keep (Rec.Adopt c.executed_len-place.result es) x))) slice j in
     let place = c.executed_len-place.ensures x s in
     let u : (keep (Rec.Adopt (length (executed x.replica.log)) c.args.entries.now) x).fitting ≡ false =
     ap (λ i. (keep (Rec.Adopt i c.args.entries.now) x).fitting) (sym place) ∙ sym k.0 ∙ c.if-not-fits.true in
@@ -40,7 +40,7 @@ unfolding take_executed
 returns c = λ x s f.
     let slice : c.as_slice-2.result.now ≡ c.args.entries.now = c.as_slice-2.ensures in
     let j = c.in_ok-fits.ensures x s (subst (λ es. FitsEntries es) (sym slice) f.0) in
-    let k = subst (λ es. (c.in_ok-fits.fits ≡ (keep (Rec.Adopt c.executed_len-place.result es) x).fitting) × StandsFor c.adopt.new.state (if_fitting x (keep (Rec.Adopt c.executed_len-place.result es) x))) slice j in
+    let k = subst (λ es. (c.in_ok-fits.fits ≡ (keep (Rec.Adopt c.executed_len-place.result es) x).fitting) × ReplicaStands c.adopt.new.state (if_fitting x (keep (Rec.Adopt c.executed_len-place.result es) x))) slice j in
     let place = c.executed_len-place.ensures x s in
     let z : Draft = keep (Rec.Adopt c.executed_len-place.result c.args.entries.now) x in
     let u : z.fitting ≡ true = sym k.0 ∙ c.if-not-fits.false in
@@ -50,5 +50,5 @@ returns c = λ x s f.
     let e : (take_executed c.args.k c.args.entries.now x).fitting ≡ true =
     take_fitting c.args.k x c.args.entries.now sound f.1 ∙ and_yes _ _ g ∙ ap (λ i. (keep (Rec.Adopt i c.args.entries.now) x).fitting) (sym place) ∙ u in
     is_whole c.send_retrieve.new.self x _ e
-    (subst (λ i. StandsFor c.send_retrieve.new.self (send_retrieve c.args.k (advance (keep (Rec.Adopt i c.args.entries.now) x)))) place
+    (subst (λ i. ReplicaStands c.send_retrieve.new.self (send_retrieve c.args.k (advance (keep (Rec.Adopt i c.args.entries.now) x)))) place
     (c.in_ok-send_retrieve.ensures (advance z) (c.in_ok-advance.ensures z (was_whole c.adopt.new.state x z u k.1) t)))

@@ -1,5 +1,5 @@
 use Rattle.std.proofs.Common.{sym, subst, arith}
-use Rattle.crsm_replica.specs.Replica.{StandsFor}
+use Rattle.crsm_replica.specs.Replica.{ReplicaStands}
 use Rattle.crsm_reconfigure.proofs.PromiseLemmas.{next_old, next_later}
 use Rattle.crsm_reconfigure.proofs.promising.if_next.Goals as goal
 
@@ -9,7 +9,7 @@ returns-then-instance-known c = λ x s.
     let l = c.if-instance-known.true in
     record {
       here = λ t. absurd (cc t);
-      other = λ t. (λ n. absurd (omega (arith, e, l, n)), λ y. subst (λ z. StandsFor c.send_decision.new.self z) (sym (next_old c.args.k c.args.instance x y (omega (arith, e, l)))) (c.in_ok-send_decision.ensures x s));
+      other = λ t. (λ n. absurd (omega (arith, e, l, n)), λ y. subst (λ z. ReplicaStands c.send_decision.new.self z) (sym (next_old c.args.k c.args.instance x y (omega (arith, e, l)))) (c.in_ok-send_decision.ensures x s));
     }
 
 pub returns-then-before-known : goal.returns-then-before-known
@@ -19,7 +19,7 @@ returns-then-before-known c = λ x s.
     let m = c.if-instance-known.false in
     record {
       here = λ t. absurd (cc t);
-      other = λ t. (λ n. absurd (omega (arith, e, l, m, n)), λ y. subst (λ z. StandsFor c.send_retrieve.new.self z) (sym (next_later c.args.k c.args.instance x y (omega (arith, e, l, m)))) (c.in_ok-send_retrieve.ensures x s));
+      other = λ t. (λ n. absurd (omega (arith, e, l, m, n)), λ y. subst (λ z. ReplicaStands c.send_retrieve.new.self z) (sym (next_later c.args.k c.args.instance x y (omega (arith, e, l, m)))) (c.in_ok-send_retrieve.ensures x s));
     }
 
 pub returns : goal.returns

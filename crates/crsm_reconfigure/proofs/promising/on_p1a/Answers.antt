@@ -3,7 +3,7 @@ use Rattle.crsm_base.specs.Spelling.{FitsBallot}
 use Rattle.crsm_spec.specs.Types.{Rec}
 use Rattle.crsm_spec.specs.Draft.{Draft, keep}
 use Rattle.crsm_spec.specs.Controls.{on_p1a}
-use Rattle.crsm_replica.specs.Replica.{StandsFor}
+use Rattle.crsm_replica.specs.Replica.{ReplicaStands}
 use Rattle.crsm_reconfigure.proofs.PromiseLemmas.{p1a_promises, p1a_repeats, p1a_refuses, promise_fitting, other_fitting}
 use Rattle.crsm_log_facts.proofs.LogsFit.{promised_fits}
 use Rattle.crsm_reconfigure.proofs.DraftLemmas.{is_whole, is_ignored, was_whole, was_ignored, send_fitting}
@@ -37,7 +37,7 @@ returns-then-ballot_precedes c = λ x s f.
     let z : Draft = keep (Rec.Promise c.args.instance c.args.ballot) x in
     let u : z.fitting ≡ true = sym k.0 ∙ c.if-not-fits.false in
     is_whole c.send_promise.new.state x _ (ap (λ y. y.fitting) is ∙ promise_fitting c.args.k c.args.instance c.args.ballot z ∙ u)
-    (subst (λ y. StandsFor c.send_promise.new.state y) (sym is) (c.in_ok-send_promise.ensures z (was_whole c.promise.new.state x z u k.1) f))
+    (subst (λ y. ReplicaStands c.send_promise.new.state y) (sym is) (c.in_ok-send_promise.ensures z (was_whole c.promise.new.state x z u k.1) f))
 
 pub returns-then-is_same_ballot : goal.returns-then-is_same_ballot
 returns-then-is_same_ballot c = λ x s f.
@@ -47,7 +47,7 @@ returns-then-is_same_ballot c = λ x s f.
     let top : FitsBallot c.promised-top.result = subst (λ b. FitsBallot b) (sym t) (promised_fits x.replica.log sound.spelt) in
     let is = p1a_repeats c.args.k c.args.instance c.args.ballot c.promised-top.result x n.0 t (sym c.ballot_precedes.ensures ∙ c.if-ballot_precedes.false) (sym c.is_same_ballot.ensures ∙ c.if-is_same_ballot.true) in
     is_whole c.send_promise-then-is_same_ballot.new.state x _ (ap (λ y. y.fitting) is ∙ promise_fitting c.args.k c.args.instance c.args.ballot x ∙ sound.fitting)
-    (subst (λ y. StandsFor c.send_promise-then-is_same_ballot.new.state y) (sym is) (c.in_ok-send_promise-2.ensures x n.1 f))
+    (subst (λ y. ReplicaStands c.send_promise-then-is_same_ballot.new.state y) (sym is) (c.in_ok-send_promise-2.ensures x n.1 f))
 
 pub returns : goal.returns
 returns c = λ x s f.
@@ -57,4 +57,4 @@ returns c = λ x s f.
     let top : FitsBallot c.promised-top.result = subst (λ b. FitsBallot b) (sym t) (promised_fits x.replica.log sound.spelt) in
     let is = p1a_refuses c.args.k c.args.instance c.args.ballot c.promised-top.result x n.0 t (sym c.ballot_precedes.ensures ∙ c.if-ballot_precedes.false) (sym c.is_same_ballot.ensures ∙ c.if-is_same_ballot.false) in
     is_whole c.refuse.new.state x _ (ap (λ y. y.fitting) is ∙ send_fitting _ x c.args.k ∙ sound.fitting)
-    (subst (λ y. StandsFor c.refuse.new.state y) (sym is) (c.in_ok-refuse.ensures x n.1 (f, top)))
+    (subst (λ y. ReplicaStands c.refuse.new.state y) (sym is) (c.in_ok-refuse.ensures x n.1 (f, top)))

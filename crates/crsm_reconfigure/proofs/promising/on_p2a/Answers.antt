@@ -3,7 +3,7 @@ use Rattle.crsm_base.specs.Spelling.{FitsBallot}
 use Rattle.crsm_spec.specs.Types.{Rec}
 use Rattle.crsm_spec.specs.Draft.{Draft, keep}
 use Rattle.crsm_spec.specs.Controls.{on_p2a}
-use Rattle.crsm_replica.specs.Replica.{StandsFor}
+use Rattle.crsm_replica.specs.Replica.{ReplicaStands}
 use Rattle.crsm_reconfigure.proofs.PromiseLemmas.{p2a_refuses, p2a_repeats, p2a_lacks, p2a_accepts, other_fitting}
 use Rattle.crsm_log_facts.proofs.LogsFit.{promised_fits}
 use Rattle.crsm_reconfigure.proofs.DraftLemmas.{is_whole, is_ignored, was_whole, was_ignored, send_fitting, retrieve_fitting}
@@ -23,7 +23,7 @@ returns-then-ballot_precedes c = λ x s f.
     let top : FitsBallot c.promised-top.result = subst (λ b. FitsBallot b) (sym t) (promised_fits x.replica.log sound.spelt) in
     let is = p2a_refuses c.args.k c.args.instance c.args.ballot c.promised-top.result c.args.decision.now x n.0 t (sym c.ballot_precedes.ensures ∙ c.if-ballot_precedes.true) in
     is_whole c.refuse.new.state x _ (ap (λ y. y.fitting) is ∙ send_fitting _ x c.args.k ∙ sound.fitting)
-    (subst (λ y. StandsFor c.refuse.new.state y) (sym is) (c.in_ok-refuse.ensures x n.1 (f.0, top)))
+    (subst (λ y. ReplicaStands c.refuse.new.state y) (sym is) (c.in_ok-refuse.ensures x n.1 (f.0, top)))
 
 pub returns-then-has_accepted : goal.returns-then-has_accepted
 returns-then-has_accepted c = λ x s f.
@@ -34,7 +34,7 @@ returns-then-has_accepted c = λ x s f.
     let is = p2a_repeats c.args.k c.args.instance c.args.ballot c.promised-top.result c.args.decision.now x n.0 t (sym c.ballot_precedes.ensures ∙ c.if-ballot_precedes.false)
     (sym (c.has_accepted-has_accepted.ensures x n.1) ∙ c.if-has_accepted.true) in
     is_whole c.vote.new.state x _ (ap (λ y. y.fitting) is ∙ send_fitting _ x c.args.k ∙ sound.fitting)
-    (subst (λ y. StandsFor c.vote.new.state y) (sym is) (c.in_ok-vote.ensures x n.1 f.0))
+    (subst (λ y. ReplicaStands c.vote.new.state y) (sym is) (c.in_ok-vote.ensures x n.1 f.0))
 
 pub returns-then-done-base_len : goal.returns-then-done-base_len
 returns-then-done-base_len c = λ x s f.
@@ -45,7 +45,7 @@ returns-then-done-base_len c = λ x s f.
     let is = p2a_lacks c.args.k c.args.instance c.args.ballot c.promised-top.result c.args.decision.now x c.executed_len-done.result n.0 t (sym c.ballot_precedes.ensures ∙ c.if-ballot_precedes.false)
     (sym (c.has_accepted-has_accepted.ensures x n.1) ∙ c.if-has_accepted.false) (c.executed_len-done.ensures x n.1) c.if-done-base_len.true in
     is_whole c.send_retrieve.new.self x _ (ap (λ y. y.fitting) is ∙ retrieve_fitting c.args.k x ∙ sound.fitting)
-    (subst (λ y. StandsFor c.send_retrieve.new.self y) (sym is) (c.in_ok-send_retrieve.ensures x n.1))
+    (subst (λ y. ReplicaStands c.send_retrieve.new.self y) (sym is) (c.in_ok-send_retrieve.ensures x n.1))
 
 pub returns-then-not-fits : goal.returns-then-not-fits
 returns-then-not-fits c = λ x s f.
@@ -71,4 +71,4 @@ returns c = λ x s f.
     let z : Draft = keep (Rec.Accept c.args.instance c.args.ballot c.args.decision.now) x in
     let u : z.fitting ≡ true = sym k.0 ∙ c.if-not-fits.false in
     is_whole c.vote-2.new.state x _ (ap (λ y. y.fitting) is ∙ send_fitting _ z c.args.k ∙ u)
-    (subst (λ y. StandsFor c.vote-2.new.state y) (sym is) (c.in_ok-vote-2.ensures z (was_whole c.accept.new.state x z u k.1) f.0))
+    (subst (λ y. ReplicaStands c.vote-2.new.state y) (sym is) (c.in_ok-vote-2.ensures z (was_whole c.accept.new.state x z u k.1) f.0))

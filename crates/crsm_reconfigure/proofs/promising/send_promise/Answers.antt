@@ -5,7 +5,7 @@ use Rattle.crsm_base.specs.Messages.{FitsVote}
 use Rattle.crsm_spec.specs.Types.{Control}
 use Rattle.crsm_spec.specs.Draft.{send_control}
 use Rattle.crsm_spec.specs.Controls.{send_promise}
-use Rattle.crsm_replica.specs.Replica.{StandsFor}
+use Rattle.crsm_replica.specs.Replica.{ReplicaStands}
 use Rattle.crsm_log_facts.proofs.LogsFit.{accepted_fits}
 use Rattle.crsm_reconfigure.proofs.promising.send_promise.Goals as goal
 
@@ -15,4 +15,4 @@ returns c = λ x s f.
     let small : c.args.instance < 2 ^ 64 = omega arith in
     let is = c.in_ok-accepted.ensures x s in
     let a : FitsOption FitsVote c.in_ok-accepted.accepted = subst (λ o. FitsOption FitsVote o) (sym is) (accepted_fits x.replica.log (c.states_are_sound.ensures c.args.state.now x s).spelt) in
-    subst (λ o. StandsFor c.send_control.new.self (send_control (Control.P1b c.args.instance c.args.ballot o) x c.args.k)) is (c.in_ok-send_control.ensures x s (small, f, a))
+    subst (λ o. ReplicaStands c.send_control.new.self (send_control (Control.P1b c.args.instance c.args.ballot o) x c.args.k)) is (c.in_ok-send_control.ensures x s (small, f, a))

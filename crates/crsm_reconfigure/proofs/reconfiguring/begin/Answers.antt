@@ -1,6 +1,6 @@
 use Rattle.std.proofs.Common.{◌∙◌, sym, subst, arith, []}
 use Rattle.crsm_spec.specs.Replica.{named_spec}
-use Rattle.crsm_suspend.specs.Collecting.{IsCollecting}
+use Rattle.crsm_suspend.specs.Collecting.{CollectStands}
 use Rattle.crsm_reconfigure.proofs.ReconfigureLemmas.{epoch_spent, start_spent, may_not, may_now}
 use Rattle.crsm_reconfigure.proofs.reconfiguring.begin.Goals as goal
 
@@ -25,7 +25,7 @@ returns c = λ x s.
     let early = c.if-start-gt-MOST_COLLECTED.false in
     let collects = c.start-collect.ensures x.replica.log (sym epoch) (sym start) in (
       may_now x ms c.in_ok-next.next c.known-epoch.result c.start-start.result next (sym (c.can_be_next-can.ensures x s) ∙ c.if-not-can.false) epoch start (omega (arith, low)) (omega (arith, early)),
-      subst (λ ks. IsCollecting x.replica.log ks (named_spec x.replica ms) ms [] c.start-collect.result) spec
-          (subst (λ o. IsCollecting x.replica.log c.in_ok-spec.spec o ms [] c.start-collect.result) (c.named_spec-named.ensures x ms s next)
-          (subst (λ ks. IsCollecting x.replica.log c.in_ok-spec.spec c.named_spec-named.result ks [] c.start-collect.result) c.in_ok-members.ensures collects)),
+      subst (λ ks. CollectStands x.replica.log ks (named_spec x.replica ms) ms [] c.start-collect.result) spec
+          (subst (λ o. CollectStands x.replica.log c.in_ok-spec.spec o ms [] c.start-collect.result) (c.named_spec-named.ensures x ms s next)
+          (subst (λ ks. CollectStands x.replica.log c.in_ok-spec.spec c.named_spec-named.result ks [] c.start-collect.result) c.in_ok-members.ensures collects)),
     )

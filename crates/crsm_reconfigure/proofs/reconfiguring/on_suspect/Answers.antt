@@ -3,10 +3,10 @@ use Rattle.crsm_spec.specs.Collect.{own_page}
 use Rattle.crsm_spec.specs.Replica.{Coordinator, spec_of, named_spec}
 use Rattle.crsm_spec.specs.Draft.{noting}
 use Rattle.crsm_spec.specs.Coordinate.{suspend_once}
-use Rattle.crsm_ledger.specs.Ledger.{StandsFor as SaysOfLog}
-use Rattle.crsm_suspend.specs.Collecting.{FitsGot, IsCollecting, got_whole}
+use Rattle.crsm_ledger.specs.Ledger.{LedgerStands}
+use Rattle.crsm_suspend.specs.Collecting.{FitsGot, CollectStands, got_whole}
 use Rattle.crsm_suspend.specs.Coordinating.{on_got}
-use Rattle.crsm_replica.specs.Replica.{StandsFor}
+use Rattle.crsm_replica.specs.Replica.{ReplicaStands}
 use Rattle.crsm_reconfigure.specs.Reports.{CanBegin, CanGoOn, Begun, begins_fitting}
 use Rattle.crsm_reconfigure.proofs.ReconfigureLemmas.{suspect_ignored, own_pages, own_got, all_told, sent_alike, suspect_is, suspect_fitting, suspect_can, suspect_goes_on, suspect_gathers}
 use Rattle.crsm_reconfigure.proofs.AlikeLemmas.{alike_suspended}
@@ -24,7 +24,7 @@ returns-then-not-fits c = λ x s.
     let sound = c.states_are_sound.ensures c.args.state.now x s in
     let begun = subst (λ o. Begun o ms x) c.in-Some.is (c.in_ok-collect.ensures x s) in
     let me : c.me-me.result ≡ x.replica.me = c.me-me.ensures.value x s in
-    let says = subst (λ k. SaysOfLog k x.replica.n c.ledger.result.now x.replica.log) (sym me) (c.ledger.ensures.stands x s) in
+    let says = subst (λ k. LedgerStands k x.replica.n c.ledger.result.now x.replica.log) (sym me) (c.ledger.ensures.stands x s) in
     let got : c.in_ok-got.got ≡ own_got ms x =
     c.in_ok-got.ensures.got x.replica.n x.replica.log (spec_of x.replica) (named_spec x.replica ms) ms [] says begun.1
     ∙ ap (λ k. got_whole x.replica.log (spec_of x.replica) (named_spec x.replica ms) ms (own_page k x.replica.log ∷ [])) me in
@@ -40,7 +40,7 @@ returns c = λ x s.
     let sound = c.states_are_sound.ensures c.args.state.now x s in
     let begun = subst (λ o. Begun o ms x) c.in-Some.is (c.in_ok-collect.ensures x s) in
     let me : c.me-me.result ≡ x.replica.me = c.me-me.ensures.value x s in
-    let says = subst (λ k. SaysOfLog k x.replica.n c.ledger.result.now x.replica.log) (sym me) (c.ledger.ensures.stands x s) in
+    let says = subst (λ k. LedgerStands k x.replica.n c.ledger.result.now x.replica.log) (sym me) (c.ledger.ensures.stands x s) in
     let spec = spec_of x.replica in
     let named = named_spec x.replica ms in
     let got : c.in_ok-got.got ≡ own_got ms x =
@@ -50,7 +50,7 @@ returns c = λ x s.
     let fit = subst (λ r. c.in_ok-fits.fits ≡ begins_fitting r (all_told ms x)) got
     (c.in_ok-fits.ensures x (all_told ms x) s (subst (λ r. CanBegin r x) (sym got) (suspect_can law ms x sound begun.0 spelt)) (sent_alike law ms x sound begun.0)) in
     let fitting : begins_fitting (own_got ms x) (all_told ms x) ≡ true = sym fit ∙ c.if-not-fits.false in
-    let held = subst (λ k. IsCollecting x.replica.log spec named ms (own_page k x.replica.log ∷ []) c.take_own.new.self) me
+    let held = subst (λ k. CollectStands x.replica.log spec named ms (own_page k x.replica.log ∷ []) c.take_own.new.self) me
     (c.in_ok-got.ensures.state x.replica.n x.replica.log spec named ms [] says begun.1) in
     let suspended = was_whole c.suspend_once.new.state x _ (alike_suspended x sound).fitting ((c.in_ok-suspend_once.ensures x s).1) in
     let sent = c.in_ok-send_suspend.ensures (suspend_once x) suspended in
@@ -59,5 +59,5 @@ returns c = λ x s.
     (subst (λ k. CanGoOn k (own_pages ms x) c.in_ok-got.got (all_told ms x)) (sym me) (subst (λ r. CanGoOn x.replica.me (own_pages ms x) r (all_told ms x)) (sym got) can)) in
     let rule = suspect_is law ms x sound begun.0 in
     is_whole c.go_on.new.state x _ (suspect_fitting law ms x sound begun.0 ∙ fitting)
-    (subst (λ y. StandsFor c.go_on.new.state y) (sym rule)
-    (subst (λ r. StandsFor c.go_on.new.state (on_got ms (own_pages ms x) r (noting (Coordinator.Collecting ms (own_pages ms x)) (all_told ms x)))) got gone))
+    (subst (λ y. ReplicaStands c.go_on.new.state y) (sym rule)
+    (subst (λ r. ReplicaStands c.go_on.new.state (on_got ms (own_pages ms x) r (noting (Coordinator.Collecting ms (own_pages ms x)) (all_told ms x)))) got gone))

@@ -3,7 +3,7 @@ use Rattle.std.proofs.lemmas.Option.{same_Some}
 use Rattle.crsm_spec.specs.Types.{Ballot, Decision}
 use Rattle.crsm_spec.specs.Coordinate.{begin_proposing}
 use Rattle.crsm_spec.specs.Step.{renew}
-use Rattle.crsm_replica.specs.Replica.{StandsFor}
+use Rattle.crsm_replica.specs.Replica.{ReplicaStands}
 use Rattle.crsm_reconfigure.specs.Rules.{CanPropose}
 use Rattle.crsm_reconfigure.proofs.AlikeLemmas.{alike_self}
 use Rattle.crsm_reconfigure.proofs.DraftLemmas.{is_whole, is_ignored}
@@ -31,6 +31,6 @@ returns c = λ x own seen s e.
     let can = subst (λ (q : Decision × Ballot). CanPropose q.0 q.1 x) (sym same) found.1 in
     let fit = c.in_ok-fits.ensures x x s can (alike_self x (c.states_are_sound.ensures c.args.state.now x s)) in
     let u = sym fit ∙ c.if-not-fits.false in
-    let made = subst (λ (q : Decision × Ballot). StandsFor c.begin_proposing.new.state (begin_proposing q.0 q.1 x)) same (c.in_ok-begin_proposing.ensures x s (can, u)) in
+    let made = subst (λ (q : Decision × Ballot). ReplicaStands c.begin_proposing.new.state (begin_proposing q.0 q.1 x)) same (c.in_ok-begin_proposing.ensures x s (can, u)) in
     let whole = ap (λ (q : Decision × Ballot). (begin_proposing q.0 q.1 x).fitting) (sym same) ∙ u in
     (sym whole, is_whole c.begin_proposing.new.state x _ whole made)

@@ -4,7 +4,7 @@ use Rattle.crsm_base.specs.Spelling.{FitsBallot}
 use Rattle.crsm_spec.specs.Log.{decision}
 use Rattle.crsm_spec.specs.Replica.{Coordinator}
 use Rattle.crsm_coordinator.specs.Coordinator.{CoordinatorStands, ballot_of}
-use Rattle.crsm_replica.specs.Replica.{StandsFor}
+use Rattle.crsm_replica.specs.Replica.{ReplicaStands}
 use Rattle.crsm_reconfigure.proofs.ProposeLemmas.{ask_as, none_proposed, own_small}
 use Rattle.std.proofs.lemmas.Option.{same_Some}
 use Rattle.crsm_coordinator.proofs.Coordinators.{asking_mine}
@@ -27,6 +27,6 @@ returns c = λ x b own answers s e.
     let same : c.in-Some.ballot ≡ b = same_Some _ _ (sym c.in-Some.is ∙ found) in
     let next = c.in_ok-instance.ensures x s in
     let sent = c.in_ok-send_to_each.ensures x s (own_small x x.replica.me x.replica.n own c.in_ok-instance.instance mine.0 next, subst (λ z. FitsBallot z) (sym same) mine.1) in
-    subst (λ y. StandsFor c.send_to_each.new.self y)
+    subst (λ y. ReplicaStands c.send_to_each.new.self y)
     (ask_as b own answers x c.in-Some.ballot c.in_ok-instance.instance c.deref.result.now c.deref-2.result.now same next (c.deref.ensures.value ∙ c.in_ok-others.ensures.value x s)
     (c.deref-2.ensures.value ∙ c.in_ok-missing.ensures.value x.replica.me x.replica.n (decision x.replica.log) m again)) sent

@@ -2,7 +2,7 @@ use Rattle.std.proofs.Common.{◌≡◌, ◌∙◌, ◌<◌, sym, subst, ap, ari
 use Rattle.std.specs.Prelude.{◌^◌}
 use Rattle.crsm_spec.specs.Types.{Rec}
 use Rattle.crsm_spec.specs.Draft.{keep}
-use Rattle.crsm_replica.specs.Replica.{StandsFor}
+use Rattle.crsm_replica.specs.Replica.{ReplicaStands}
 use Rattle.crsm_reconfigure.proofs.SuspendLemmas.{once_done, once_now}
 use Rattle.crsm_reconfigure.proofs.DraftLemmas.{is_whole, instead}
 use Rattle.crsm_spec.specs.Coordinate.{suspend_once}
@@ -12,7 +12,7 @@ pub returns-then-is_suspended : goal.returns-then-is_suspended
 returns-then-is_suspended c = λ x s.
     let is = once_done x (sym (c.is_suspended-is_suspended.ensures x s) ∙ c.if-is_suspended.true) in
     let fit : (suspend_once x).fitting ≡ true = ap (λ y. y.fitting) is ∙ (c.states_are_sound.ensures c.args.state.now x s).fitting in
-    (sym fit, is_whole c.args.state.now x _ fit (subst (λ y. StandsFor c.args.state.now y) (sym is) s))
+    (sym fit, is_whole c.args.state.now x _ fit (subst (λ y. ReplicaStands c.args.state.now y) (sym is) s))
 
 pub returns : goal.returns
 returns c = λ x s.

@@ -1,6 +1,6 @@
 use Rattle.std.proofs.Common.{◌≡◌, ◌∙◌, ◌++◌, ap, subst, map, get_or, arith}
 use Rattle.std.proofs.lemmas.List.{take_all}
-use Rattle.crsm_output.specs.Made.{Holds}
+use Rattle.crsm_output.specs.Made.{OutputStands}
 use Rattle.crsm_replica.specs.Again.{frame_again}
 use Rattle.crsm_replica.proofs.Sending.{sent-none, sent-more, again-is}
 use Rattle.crsm_replica.proofs.frames.send_again.Goals as goal
@@ -17,5 +17,5 @@ loop-frame-preserved c m holds =
 
 pub returns : goal.returns
 returns c m holds =
-    subst (λ fs. Holds c.loop-frame.output (record m { sends = m.sends ++ map (frame_again c.args.me c.args.epoch c.args.to) fs }))
+    subst (λ fs. OutputStands c.loop-frame.output (record m { sends = m.sends ++ map (frame_again c.args.me c.args.epoch c.args.to) fs }))
     (take_all c.loop-frame.frame-index c.args.frames.now (omega arith)) (c.loop-frame.invariant m holds)

@@ -1,10 +1,10 @@
 use Rattle.std.proofs.Common.{[], ◌∷◌, ◌++◌, subst, refl}
-use Rattle.crsm_output.specs.Made.{Holds}
+use Rattle.crsm_output.specs.Made.{OutputStands}
 use Rattle.crsm_replica.proofs.Sending.{next-is}
 use Rattle.crsm_replica.proofs.frames.send_frame.Goals as goal
 
 pub returns : goal.returns
 returns c r m runs holds me now =
-    subst (λ s. Holds c.send.new.self (record m { sends = m.sends ++ s ∷ [] }))
+    subst (λ s. OutputStands c.send.new.self (record m { sends = m.sends ++ s ∷ [] }))
     (next-is r c.args.payload c.args.payload c.args.me c.args.epoch c.pushed_to-seq.result c.args.k me now (c.pushed_to-seq.ensures r runs) refl)
     (c.in_ok-send.ensures m holds)

@@ -1,6 +1,6 @@
 use Rattle.std.proofs.Common.{◌-◌, ◌<◌, ◌≤◌, ◌^◌, ℕ, List, take, drop}
 use Rattle.std.specs.List.{AllByRecursion}
-use Rattle.crsm_ledger.specs.Ledger.{StandsFor}
+use Rattle.crsm_ledger.specs.Ledger.{LedgerStands}
 use Rattle.crsm_spec.specs.Types.{Rec}
 use Rattle.crsm_spec.specs.Log.{executed}
 use Rattle.crsm_results.specs.Rising.{RisesStrictly}
@@ -11,7 +11,7 @@ abbrev pub invariant-loop-low : goal.invariant-loop-low
 invariant-loop-low l =
     (l.low ≤ l.high)
     × (l.high < 2 ^ 64)
-    × ((me n : ℕ) (log : List Rec) → StandsFor me n l.ledger log → RisesStrictly (executed log) →
+    × ((me n : ℕ) (log : List Rec) → LedgerStands me n l.ledger log → RisesStrictly (executed log) →
     AllByRecursion (Below l.entry) (take l.low (executed log)) × AllByRecursion (NotBelow l.entry) (drop l.high (executed log)))
 
 abbrev pub decreases-loop-low : goal.decreases-loop-low

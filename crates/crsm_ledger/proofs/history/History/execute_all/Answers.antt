@@ -2,14 +2,14 @@ use Rattle.std.proofs.Common.{◌≡◌, ◌+◌, [], ◌∷◌, ◌++◌, List,
 use Rattle.std.proofs.lemmas.Grind.{common_steps}
 use Rattle.crsm_spec.specs.Types.{Entry, Line}
 use Rattle.crsm_spec.specs.Lines.{exec_line, exec_lines}
-use Rattle.crsm_ledger.specs.Executed.{HasExecuted}
+use Rattle.crsm_ledger.specs.Executed.{HistoryStands}
 use Rattle.crsm_log_facts.proofs.Lists.{append-none}
 use Rattle.crsm_ledger.proofs.ExecutedLemmas.{exec_lines-none, lines-push}
 use Rattle.crsm_ledger.proofs.history.History.execute_all.Goals as goal
 
 pub loop-entry-init : goal.loop-entry-init
 loop-entry-init c = λ x es has. (
-  subst (λ (done : List Entry). HasExecuted c.args.self.now x done) (sym (append-none es)) has,
+  subst (λ (done : List Entry). HistoryStands c.args.self.now x done) (sym (append-none es)) has,
   sym (ap (λ (ls : List Line). c.args.lines.now ++ ls) (exec_lines-none c.args.me es) ∙ append-none c.args.lines.now),
 )
 
@@ -19,7 +19,7 @@ loop-entry-preserved c = λ x es has.
     let before : List Entry = take c.loop-entry.entry-index c.args.entries.now in
     let more : take (c.loop-entry.entry-index + 1) c.args.entries.now ≡ before ++ c.entry-item.result ∷ [] = grind (arith, common_steps) in
     let step = c.in_ok-execute.ensures x (es ++ before) so_far.0 in (
-      subst (λ (done : List Entry). HasExecuted c.execute.new.self x done)
+      subst (λ (done : List Entry). HistoryStands c.execute.new.self x done)
           (append_assoc es before (c.entry-item.result ∷ []) ∙ ap (λ (prefix : List Entry). es ++ prefix) (sym more)) step.0,
       step.1
           ∙ ap (λ (ls : List Line). ls ++ exec_line c.args.me (es ++ before) c.entry-item.result ∷ []) so_far.1

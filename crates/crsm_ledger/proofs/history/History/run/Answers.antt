@@ -5,7 +5,7 @@ use Rattle.crsm_base.specs.Spelling.{entry_bytes}
 use Rattle.crsm_base.specs.Store.{Rows, apply}
 use Rattle.crsm_spec.specs.Types.{Answer}
 use Rattle.crsm_ledger.specs.declared.history.History.{History}
-use Rattle.crsm_ledger.specs.Executed.{HasExecuted}
+use Rattle.crsm_ledger.specs.Executed.{HistoryStands}
 use Rattle.crsm_ledger.proofs.ExecutedLemmas.{executes}
 use Rattle.crsm_ledger.proofs.history.History.run.Goals.{then-entry-self, else-entry-self}
 use Rattle.crsm_ledger.proofs.history.History.run.Goals as goal
@@ -20,11 +20,11 @@ returns-clause-executed c = λ x es has.
     let rows : c.apply.new.self ≡ (apply h.store e.command).0 = ap (λ (r : Rows × Answer). r.0) c.in_ok-answer.ensures.done in
     elim c.if-entry-self.branch [
       | then-entry-self w ↦
-          subst (λ (after : History). HasExecuted after x (es ++ e ∷ [])) (sym w.self-is)
+          subst (λ (after : History). HistoryStands after x (es ++ e ∷ [])) (sym w.self-is)
           (executes h x es e c.push.new.self c.put_entry.new.out c.apply.new.self _ _ has c.requires spelt rows refl
           (ap (λ (same : Bool). if same then Some e.stamp else h.last_stamp) (sym ((Decides-eqb e.epoch h.epoch).1 w.if-entry-self.true))))
       | else-entry-self w ↦
-          subst (λ (after : History). HasExecuted after x (es ++ e ∷ [])) (sym w.self-is)
+          subst (λ (after : History). HistoryStands after x (es ++ e ∷ [])) (sym w.self-is)
           (executes h x es e c.push.new.self c.put_entry.new.out c.apply.new.self _ _ has c.requires spelt rows refl
           (let other : (e.epoch == h.epoch) ≡ false = grind (arith, nat_tests, w.if-entry-self.false) in
           ap (λ (same : Bool). if same then Some e.stamp else h.last_stamp) (sym other)))

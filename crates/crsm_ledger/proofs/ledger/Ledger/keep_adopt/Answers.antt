@@ -2,7 +2,7 @@ use Rattle.std.proofs.Common.{◌++◌, List, ◌∙◌, ap, subst}
 use Rattle.crsm_spec.specs.Types.{Entry, Line}
 use Rattle.crsm_spec.specs.Log.{known, executed}
 use Rattle.crsm_spec.specs.Lines.{exec_lines}
-use Rattle.crsm_ledger.specs.Executed.{HasExecuted}
+use Rattle.crsm_ledger.specs.Executed.{HistoryStands}
 use Rattle.crsm_ledger.proofs.KeepLemmas.{lines-adopt, adopts}
 use Rattle.crsm_ledger.proofs.ledger.Ledger.keep_adopt.Goals as goal
 
@@ -14,5 +14,5 @@ returns-clause-kept c = λ place me n log s fit.
           ∙ ap (λ (es : List Entry). exec_lines c.args.self.now.me (executed log) es) c.as_slice.ensures
           ∙ lines-adopt s place c.args.entries.now,
       adopts s place c.args.entries.now c.execute_all.new.self fit
-          (subst (λ (es : List Entry). HasExecuted c.execute_all.new.self (known log) (executed log ++ es)) c.as_slice.ensures done.0),
+          (subst (λ (es : List Entry). HistoryStands c.execute_all.new.self (known log) (executed log ++ es)) c.as_slice.ensures done.0),
     )

@@ -8,7 +8,7 @@ use Rattle.crsm_spec.specs.Log.{Log}
 use Rattle.crsm_spec.specs.Fits.{fits}
 use Rattle.crsm_ledger.specs.declared.error.LedgerError.{LedgerError}
 use Rattle.crsm_ledger.specs.declared.error.LedgerError.TheVariants.{BadLog}
-use Rattle.crsm_ledger.specs.Ledger.{StandsFor, kind}
+use Rattle.crsm_ledger.specs.Ledger.{LedgerStands, kind}
 use Rattle.crsm_ledger.specs.Recovered.{FitInTurn, with_records, IsBad, IfBadLog}
 use Rattle.crsm_log_facts.proofs.Logged.{with_records-push}
 use Rattle.crsm_ledger.proofs.RecoverLemmas.{fit-push, bad_more, refused_as}
@@ -64,7 +64,7 @@ loop-rest-preserved c =
           let so_far = h.2 me n log s in
           let step = c.in_default-take_record.ensures me n (with_records log h.0) so_far.1 in (
             fit-push me n log h.0 c.in-Some.rec so_far.0 step.0,
-            subst (λ (l : Log). StandsFor me n c.take_record.new.self l) (sym (with_records-push log h.0 c.in-Some.rec)) step.1,
+            subst (λ (l : Log). LedgerStands me n c.take_record.new.self l) (sym (with_records-push log h.0 c.in-Some.rec)) step.1,
           ),
     )
 

@@ -1,8 +1,8 @@
 use Rattle.std.proofs.Common.{◌≡◌, ◌<◌, ℕ, [], ◌∷◌, ◌++◌, subst}
-use Rattle.crsm_replica.specs.Replica.{StandsFor}
+use Rattle.crsm_replica.specs.Replica.{ReplicaStands}
 use Rattle.crsm_base.specs.declared.datagram.Datagram.TheVariants as datagram
 use Rattle.crsm_log_facts.proofs.Lists.{all-push}
-use Rattle.crsm_output.specs.Made.{made_of, Holds}
+use Rattle.crsm_output.specs.Made.{made_of, OutputStands}
 use Rattle.crsm_spec.specs.Types.{Datagram}
 use Rattle.crsm_spec.specs.Log.{known}
 use Rattle.crsm_spec.specs.Replica.{next_from}
@@ -13,7 +13,7 @@ use Rattle.crsm_replica.proofs.Rebuilt.{sent}
 use Rattle.crsm_replica.proofs.state.ReplicaState.ack.Goals as goal
 
 pub returns : goal.returns
-unfolding StandsFor ack send
+unfolding ReplicaStands ack send
 returns c x s =
     let epoch : c.known-epoch.result ≡ known x.replica.log = c.known-epoch.ensures x s in
     let next : c.next_from-next.result ≡ next_from x.replica c.args.k = c.next_from-next.ensures x.replica s.running in
@@ -21,7 +21,7 @@ returns c x s =
     let small : c.known-epoch.result < 18446744073709551616 = c.known-epoch.type_inv in
     let few : c.next_from-next.result < 18446744073709551616 = c.next_from-next.type_inv in
     sent c.args.self.now x c.send.new.self x.excess (x.sends ++ (c.args.k, one) ∷ []) x.replies s
-    (subst (λ (d : Datagram). Holds c.send.new.self (record (made_of x) { sends = x.sends ++ (c.args.k, d) ∷ [] })) (λ j. datagram.Ack (s.me j) c.args.k (epoch j) (next j))
+    (subst (λ (d : Datagram). OutputStands c.send.new.self (record (made_of x) { sends = x.sends ++ (c.args.k, d) ∷ [] })) (λ j. datagram.Ack (s.me j) c.args.k (epoch j) (next j))
     (c.in_ok-send.ensures (made_of x) s.output))
     (all-push FitsSend x.sends (c.args.k, one) s.sound.sends
     (c.requires, (s.sound.number, c.requires, subst (λ (n : ℕ). n < 18446744073709551616) epoch small, subst (λ (n : ℕ). n < 18446744073709551616) next few)))

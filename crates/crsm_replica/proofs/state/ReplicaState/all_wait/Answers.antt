@@ -3,7 +3,7 @@ use Rattle.std.proofs.lemmas.Grind.{common_steps}
 use Rattle.std.proofs.lemmas.List.{take_all}
 use Rattle.std.specs.List.{AllByRecursion}
 use Rattle.crsm_log_facts.proofs.Lists.{all-push}
-use Rattle.crsm_replica.specs.Replica.{StandsFor, on_paper}
+use Rattle.crsm_replica.specs.Replica.{ReplicaStands, on_paper}
 use Rattle.crsm_replica.proofs.Replying.{Waits, replies-wait, waits-paper}
 use Rattle.crsm_replica.proofs.state.ReplicaState.all_wait.Goals as goal
 
@@ -16,7 +16,7 @@ loop-client-preserved c x s =
     (all-push (λ w. Waits x (on_paper w)) (take c.loop-client.client-index clients) c.client-item.result (c.loop-client.invariant x s) (c.waits_on.ensures (search rules) x s))
 
 pub returns : goal.returns
-unfolding StandsFor
+unfolding ReplicaStands
 returns c is x s =
     let all : take c.loop-client.client-index c.as_slice-client-items.result.now ≡ c.args.self.now.waiting.items =
     take_all c.loop-client.client-index c.as_slice-client-items.result.now (omega arith) ∙ c.as_slice-client-items.ensures.value in

@@ -4,24 +4,24 @@ use Rattle.crsm_results.specs.Answering.{IsTrueOf}
 use Rattle.crsm_output.specs.Made.{made_of}
 use Rattle.crsm_spec.specs.Log.{executed}
 use Rattle.crsm_spec.specs.Draft.{Draft}
-use Rattle.crsm_replica.specs.Replica.{StandsFor, on_paper}
+use Rattle.crsm_replica.specs.Replica.{ReplicaStands, on_paper}
 use Rattle.crsm_replica.proofs.Replying.{found-some, found-none}
 use Rattle.crsm_replica.proofs.state.ReplicaState.answer_client.Goals as goal
 
 pub returns-in_ok-reply_ok-in-Some : goal.returns-in_ok-reply_ok-in-Some
-unfolding StandsFor on_paper
+unfolding ReplicaStands on_paper
 returns-in_ok-reply_ok-in-Some c x s fit =
     let r = x.replica in
     let told = subst (AllByRecursion (IsTrueOf (executed r.log))) (sym (c.lines.ensures (made_of x) s.output)) s.told in
     let is = c.in_ok-found.ensures r.me r.n r.log s.ledger s.sound.rises told in
-    subst (λ (y : Draft). StandsFor c.reply_ok.new.self y) (sym (found-some (on_paper c.args.client) x c.in-Some.place c.in-Some.answer (sym c.in-Some.is ∙ is)))
+    subst (λ (y : Draft). ReplicaStands c.reply_ok.new.self y) (sym (found-some (on_paper c.args.client) x c.in-Some.place c.in-Some.answer (sym c.in-Some.is ∙ is)))
     (c.in_ok-reply_ok-in-Some.ensures x s fit)
 
 pub returns-in_ok-drop_or_wait-in-None : goal.returns-in_ok-drop_or_wait-in-None
-unfolding StandsFor on_paper
+unfolding ReplicaStands on_paper
 returns-in_ok-drop_or_wait-in-None c x s fit =
     let r = x.replica in
     let told = subst (AllByRecursion (IsTrueOf (executed r.log))) (sym (c.lines.ensures (made_of x) s.output)) s.told in
     let is = c.in_ok-found.ensures r.me r.n r.log s.ledger s.sound.rises told in
-    subst (λ (y : Draft). StandsFor c.drop_or_wait.new.self y) (sym (found-none (on_paper c.args.client) x (sym c.in-None.is ∙ is)))
+    subst (λ (y : Draft). ReplicaStands c.drop_or_wait.new.self y) (sym (found-none (on_paper c.args.client) x (sym c.in-None.is ∙ is)))
     (c.in_ok-drop_or_wait-in-None.ensures x s fit)

@@ -1,5 +1,5 @@
 use Rattle.std.proofs.Common.{◌≡◌, [], ◌∷◌, ◌++◌, map, ap, ◌∙◌, rules}
-use Rattle.crsm_replica.specs.Replica.{StandsFor}
+use Rattle.crsm_replica.specs.Replica.{ReplicaStands}
 use Rattle.crsm_log_facts.proofs.Lists.{all-push, map-push}
 use Rattle.crsm_spec.specs.Replica.{Waiting}
 use Rattle.crsm_spec.specs.Clients.{await}
@@ -10,7 +10,7 @@ use Rattle.crsm_replica.proofs.Rebuilt.{awaits}
 use Rattle.crsm_replica.proofs.state.ReplicaState.await_entry.Goals as goal
 
 pub returns : goal.returns
-unfolding StandsFor await on_paper
+unfolding ReplicaStands await on_paper
 returns c x s =
     let one : WaitingInMemory = record { address = c.args.address; entry = c.args.entry } in
     let more : c.push.new.self.items ≡ c.args.self.now.waiting.items ++ one ∷ [] = search rules in

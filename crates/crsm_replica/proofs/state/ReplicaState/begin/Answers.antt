@@ -4,7 +4,7 @@ use Rattle.std.proofs.Common.{subst}
 use Rattle.crsm_spec.specs.Draft.{Draft}
 use Rattle.crsm_spec.specs.Log.{boots}
 use Rattle.crsm_spec.specs.Step.{boot_again}
-use Rattle.crsm_replica.specs.Replica.{StandsFor, AwaitsBoot}
+use Rattle.crsm_replica.specs.Replica.{ReplicaStands, AwaitsBoot}
 use Rattle.crsm_replica.proofs.Founding.{founds, later_boot, no_founder, is_below, is_not_below, not_both, not_zero}
 use Rattle.crsm_replica.proofs.state.ReplicaState.begin.Goals.{then-boot-eq0, else-boot-eq0}
 use Rattle.crsm_replica.proofs.state.ReplicaState.begin.Goals as goal
@@ -18,7 +18,7 @@ returns-in_ok-enter c me n log s l =
           let none : boots log ≡ 0 = sym (c.boot.ensures me n log s.ledger) ∙ w.if-boot-eq0.true in
           let test : nat_lt c.args.self.now.me w.n.result ≡ true = sym w.is_founding-is ∙ c.if-is_founding.true in
           let below : me < n = is_below c.args.self.now.me w.n.result me n test s.mine (w.n.ensures me n log s.ledger) in
-          subst (λ (x : Draft). StandsFor c.enter.new.self x) (founds me n log s.each none below) entered)
+          subst (λ (x : Draft). ReplicaStands c.enter.new.self x) (founds me n log s.each none below) entered)
       | else-boot-eq0 w ↦ absurd (not_both c.if-boot-eq0.is_founding (w.is_founding-is ∙ not_zero c.boot.result w.if-boot-eq0.false) c.if-is_founding.true)
     ]
 
@@ -30,8 +30,8 @@ returns-else-is_founding c me n log s l =
       | then-boot-eq0 w ↦ (
           let test : nat_lt c.args.self.now.me w.n.result ≡ false = sym w.is_founding-is ∙ c.if-is_founding.false in
           let above : n ≤ me = is_not_below c.args.self.now.me w.n.result me n test s.mine (w.n.ensures me n log s.ledger) in
-          subst (λ (x : Draft). StandsFor c.boot_again.new.self x) (no_founder me n log above) booted)
+          subst (λ (x : Draft). ReplicaStands c.boot_again.new.self x) (no_founder me n log above) booted)
       | else-boot-eq0 w ↦ (
           let some : boots log ≢ 0 = λ e. w.if-boot-eq0.false (c.boot.ensures me n log s.ledger ∙ e) in
-          subst (λ (x : Draft). StandsFor c.boot_again.new.self x) (later_boot me n log s.each some) booted)
+          subst (λ (x : Draft). ReplicaStands c.boot_again.new.self x) (later_boot me n log s.each some) booted)
     ]

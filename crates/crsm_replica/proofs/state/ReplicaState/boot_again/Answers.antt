@@ -2,7 +2,7 @@ use Rattle.std.proofs.Common.{◌≡◌, ◌≤◌, subst, arith}
 use Rattle.crsm_spec.specs.Types.{Rec}
 use Rattle.crsm_output.specs.Made.{nothing}
 use Rattle.crsm_replica.specs.Recorded.{InBoth}
-use Rattle.crsm_replica.specs.Replica.{StandsFor, AwaitsBoot}
+use Rattle.crsm_replica.specs.Replica.{ReplicaStands, AwaitsBoot}
 use Rattle.crsm_replica.proofs.Booting.{stands_booted, same_boot}
 use Rattle.crsm_replica.proofs.Rebuilt.{it_fits}
 use Rattle.crsm_replica.proofs.state.ReplicaState.boot_again.Goals as goal
@@ -14,7 +14,7 @@ put-requires c =
     (omega (arith, a), omega (arith, b))
 
 pub returns : goal.returns
-unfolding StandsFor AwaitsBoot
+unfolding ReplicaStands AwaitsBoot
 returns c me n log s l =
     let few : n ≤ 15 = s.ledger.says.few in
     let number : c.min-me.result ≡ me = (let a = c.min-me.ensures in let b = s.mine in let d = s.number in omega (arith, a, b, d)) in

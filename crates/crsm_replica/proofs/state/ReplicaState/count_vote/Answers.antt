@@ -1,11 +1,11 @@
 use Rattle.std.proofs.Common.{◌∷◌}
-use Rattle.crsm_replica.specs.Replica.{StandsFor}
+use Rattle.crsm_replica.specs.Replica.{ReplicaStands}
 use Rattle.crsm_spec.specs.Draft.{count_vote}
 use Rattle.crsm_replica.proofs.Rebuilt.{ran}
 use Rattle.crsm_replica.proofs.state.ReplicaState.count_vote.Goals as goal
 
 pub returns : goal.returns
-unfolding StandsFor count_vote
+unfolding ReplicaStands count_vote
 returns c x s =
     let r = x.replica in
     ran c.args.self.now x c.count_vote.new.self r.issued r.received ((c.args.stamp, c.args.k) ∷ r.votes) r.owed r.pushed r.acked r.taken s

@@ -1,17 +1,17 @@
 use Rattle.std.proofs.Common.{sym, ap, ◌∙◌, arith}
 use Rattle.std.specs.Prelude.{Some}
 use Rattle.crsm_spec.specs.Types.{Decision}
-use Rattle.crsm_replica.specs.Replica.{StandsFor}
+use Rattle.crsm_replica.specs.Replica.{ReplicaStands}
 use Rattle.crsm_replica.proofs.Known.{none-known, some-known}
 use Rattle.crsm_replica.proofs.state.ReplicaState.decision.Goals as goal
 
 pub returns-then-known-eq0 : goal.returns-then-known-eq0
-unfolding StandsFor
+unfolding ReplicaStands
 returns-then-known-eq0 c x s =
     none-known x.replica.n x.replica.log s.sound.later (ap (λ d. d.epoch) (sym (c.known-known.ensures x.replica.me x.replica.n x.replica.log s.ledger)) ∙ c.if-known-eq0.true)
 
 pub returns : goal.returns
-unfolding StandsFor
+unfolding ReplicaStands
 returns c x s =
     ap (λ (d : Decision). Some d) (c.in_ok-copy.ensures ∙ c.known-known.ensures x.replica.me x.replica.n x.replica.log s.ledger)
     ∙ some-known x.replica.n x.replica.log

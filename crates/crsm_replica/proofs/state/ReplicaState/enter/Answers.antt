@@ -1,5 +1,5 @@
 use Rattle.std.proofs.Common.{◌≡◌, ◌<◌, ℕ, [], subst, rules, true, false}
-use Rattle.crsm_replica.specs.Replica.{StandsFor}
+use Rattle.crsm_replica.specs.Replica.{ReplicaStands}
 use Rattle.crsm_output.specs.Made.{made_of}
 use Rattle.crsm_spec.specs.Types.{Rec}
 use Rattle.crsm_spec.specs.Fits.{fits}
@@ -11,7 +11,7 @@ use Rattle.crsm_replica.proofs.Rebuilt.{moved, recorded, unrecorded, it_fits, it
 use Rattle.crsm_replica.proofs.state.ReplicaState.enter.Goals as goal
 
 pub returns-then-not-fit : goal.returns-then-not-fit
-unfolding StandsFor keep enter forget_epoch
+unfolding ReplicaStands keep enter forget_epoch
 returns-then-not-fit c x s =
     let r = x.replica in
     let epoch : c.known-epoch.result ≡ known r.log = c.known-epoch.ensures x s in
@@ -21,7 +21,7 @@ returns-then-not-fit c x s =
     (unrecorded c.args.self.now x c.put.new.ledger c.put.new.output s n.1 n.2)
 
 pub returns : goal.returns
-unfolding StandsFor keep enter forget_epoch decision
+unfolding ReplicaStands keep enter forget_epoch decision
 returns c x s =
     let r = x.replica in
     let epoch : c.known-epoch.result ≡ known r.log = c.known-epoch.ensures x s in

@@ -1,11 +1,11 @@
 use Rattle.std.proofs.Common.{ap, ◌∙◌}
-use Rattle.crsm_replica.specs.Replica.{StandsFor}
+use Rattle.crsm_replica.specs.Replica.{ReplicaStands}
 use Rattle.crsm_spec.specs.Replica.{members_of}
 use Rattle.crsm_log_facts.proofs.Known.{known-members}
 use Rattle.crsm_replica.proofs.state.ReplicaState.is_congested.Goals as goal
 
 pub returns : goal.returns
-unfolding StandsFor members_of
+unfolding ReplicaStands members_of
 returns c x s =
     c.is_congested.ensures x.replica s.running s.me
     (ap (λ d. d.members) (c.known.ensures x.replica.me x.replica.n x.replica.log s.ledger) ∙ known-members x.replica.n x.replica.log)

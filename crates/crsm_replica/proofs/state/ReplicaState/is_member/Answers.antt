@@ -1,12 +1,12 @@
 use Rattle.std.proofs.Common.{ap, ◌∙◌}
-use Rattle.crsm_replica.specs.Replica.{StandsFor}
+use Rattle.crsm_replica.specs.Replica.{ReplicaStands}
 use Rattle.crsm_spec.specs.Lists.{has}
 use Rattle.crsm_spec.specs.Replica.{members_of}
 use Rattle.crsm_log_facts.proofs.Known.{known-members}
 use Rattle.crsm_replica.proofs.state.ReplicaState.is_member.Goals as goal
 
 pub returns : goal.returns
-unfolding StandsFor members_of
+unfolding ReplicaStands members_of
 returns c x s =
     c.is_among.ensures
     ∙ ap (λ ks. has ks c.args.k) (c.as_slice.ensures.value ∙ ap (λ d. d.members) (c.known.ensures x.replica.me x.replica.n x.replica.log s.ledger) ∙ known-members x.replica.n x.replica.log)

@@ -6,12 +6,12 @@ use Rattle.crsm_spec.specs.Log.{spec}
 use Rattle.crsm_spec.specs.Types.{Decision}
 use Rattle.crsm_spec.specs.Replica.{spec_of}
 use Rattle.crsm_log_facts.proofs.Known.{known-spec}
-use Rattle.crsm_replica.specs.Replica.{StandsFor}
+use Rattle.crsm_replica.specs.Replica.{ReplicaStands}
 use Rattle.crsm_replica.proofs.Excepting.{among_named, among_first}
 use Rattle.crsm_replica.proofs.state.ReplicaState.is_of_spec.Goals as goal
 
 pub returns-in-Some : goal.returns-in-Some
-unfolding StandsFor spec_of
+unfolding ReplicaStands spec_of
 returns-in-Some c x s =
     let known = c.known.ensures x.replica.me x.replica.n x.replica.log s.ledger in
     c.is_among.ensures ∙ ap (λ ks. has ks c.args.k) c.as_slice.ensures.value
@@ -19,7 +19,7 @@ returns-in-Some c x s =
     (ap (λ (d : Decision). d.spec) (sym known) ∙ c.in-Some.is) (known-spec x.replica.n x.replica.log)
 
 pub returns-in-None : goal.returns-in-None
-unfolding StandsFor spec_of
+unfolding ReplicaStands spec_of
 returns-in-None c x s =
     let known = c.known.ensures x.replica.me x.replica.n x.replica.log s.ledger in
     ap (λ n. nat_lt c.args.k n) (c.n.ensures x.replica.me x.replica.n x.replica.log s.ledger)

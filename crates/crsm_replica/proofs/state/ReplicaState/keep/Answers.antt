@@ -5,12 +5,12 @@ use Rattle.crsm_output.specs.Made.{made_of}
 use Rattle.crsm_spec.specs.Types.{Decision}
 use Rattle.crsm_spec.specs.Fits.{fits}
 use Rattle.crsm_spec.specs.Draft.{keep}
-use Rattle.crsm_replica.specs.Replica.{StandsFor}
+use Rattle.crsm_replica.specs.Replica.{ReplicaStands}
 use Rattle.crsm_replica.proofs.Rebuilt.{moved, recorded, unrecorded, applied_one, applied_none, in_both, where_fit, where_not, fitting_both, fitting_not, same_decision, no_enter}
 use Rattle.crsm_replica.proofs.state.ReplicaState.keep.Goals as goal
 
 pub returns-in_default : goal.returns-in_default
-unfolding StandsFor keep
+unfolding ReplicaStands keep
 returns-in_default c x s =
     let r = x.replica in
     let n = applied_none c.in_ok-lines.field-0 r.me r.n r.log c.args.rec c.apply.new.ledger c.in_default.not-Some (c.in_ok-lines.ensures.kept r.me r.n r.log s.ledger) in
@@ -20,7 +20,7 @@ returns-in_default c x s =
     )
 
 pub returns : goal.returns
-unfolding StandsFor keep
+unfolding ReplicaStands keep
 returns c x s =
     let r = x.replica in
     let f = applied_one c.in_ok-lines.field-0 c.in-Some.lines r.me r.n r.log c.args.rec c.apply.new.ledger c.in-Some.is (c.in_ok-lines.ensures.kept r.me r.n r.log s.ledger) in

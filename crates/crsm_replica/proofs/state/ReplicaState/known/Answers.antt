@@ -1,8 +1,8 @@
 use Rattle.std.proofs.Common.{ap, ◌∙◌}
-use Rattle.crsm_replica.specs.Replica.{StandsFor}
+use Rattle.crsm_replica.specs.Replica.{ReplicaStands}
 use Rattle.crsm_log_facts.proofs.Known.{known-epoch}
 use Rattle.crsm_replica.proofs.state.ReplicaState.known.Goals as goal
 
 pub returns : goal.returns
-unfolding StandsFor
+unfolding ReplicaStands
 returns c x s = ap (λ d. d.epoch) (c.known.ensures x.replica.me x.replica.n x.replica.log s.ledger) ∙ known-epoch x.replica.n x.replica.log

@@ -1,5 +1,5 @@
 use Rattle.std.proofs.Common.{[], ◌∷◌, refl, sym, subst, rules, true, false}
-use Rattle.crsm_replica.specs.Replica.{StandsFor}
+use Rattle.crsm_replica.specs.Replica.{ReplicaStands}
 use Rattle.crsm_output.specs.Made.{made_of}
 use Rattle.crsm_spec.specs.Types.{Rec}
 use Rattle.crsm_spec.specs.Fits.{fits}
@@ -14,7 +14,7 @@ use Rattle.crsm_replica.proofs.Rebuilt.{moved, learnt_same, recorded, unrecorded
 use Rattle.crsm_replica.proofs.state.ReplicaState.learn_decision.Goals as goal
 
 pub returns-then-not-fit : goal.returns-then-not-fit
-unfolding StandsFor keep learnt noting forget_epoch
+unfolding ReplicaStands keep learnt noting forget_epoch
 returns-then-not-fit c x s spelt =
     let r = x.replica in
     let d = c.in_ok-copy.field-0 in
@@ -26,7 +26,7 @@ returns-then-not-fit c x s spelt =
     )
 
 pub returns : goal.returns
-unfolding StandsFor keep learnt noting forget_epoch active live
+unfolding ReplicaStands keep learnt noting forget_epoch active live
 returns c x s spelt =
     let r = x.replica in
     let d = c.in_ok-copy.field-0 in

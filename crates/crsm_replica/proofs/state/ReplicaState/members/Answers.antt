@@ -1,9 +1,9 @@
 use Rattle.std.proofs.Common.{ap, ◌∙◌}
-use Rattle.crsm_replica.specs.Replica.{StandsFor}
+use Rattle.crsm_replica.specs.Replica.{ReplicaStands}
 use Rattle.crsm_spec.specs.Replica.{members_of}
 use Rattle.crsm_log_facts.proofs.Known.{known-members}
 use Rattle.crsm_replica.proofs.state.ReplicaState.members.Goals as goal
 
 pub returns : goal.returns
-unfolding StandsFor members_of
+unfolding ReplicaStands members_of
 returns c x s = c.in_ok-members.ensures ∙ ap (λ d. d.members) (c.known.ensures x.replica.me x.replica.n x.replica.log s.ledger) ∙ known-members x.replica.n x.replica.log

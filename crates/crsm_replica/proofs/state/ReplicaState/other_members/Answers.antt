@@ -2,12 +2,12 @@ use Rattle.std.proofs.Common.{◌≡◌, ◌∙◌, ℕ, ap, subst, List}
 use Rattle.crsm_spec.specs.Types.{Decision}
 use Rattle.crsm_spec.specs.Replica.{members_of, other_members}
 use Rattle.crsm_log_facts.proofs.Known.{known-members}
-use Rattle.crsm_replica.specs.Replica.{StandsFor}
+use Rattle.crsm_replica.specs.Replica.{ReplicaStands}
 use Rattle.crsm_replica.proofs.Excepting.{but_for}
 use Rattle.crsm_replica.proofs.state.ReplicaState.other_members.Goals as goal
 
 pub returns-clause-value : goal.returns-clause-value
-unfolding StandsFor other_members members_of
+unfolding ReplicaStands other_members members_of
 returns-clause-value c x s =
     let is = c.as_slice.ensures.value ∙ ap (λ (d : Decision). d.members) (c.known.ensures x.replica.me x.replica.n x.replica.log s.ledger) ∙ known-members x.replica.n x.replica.log in
     let mine = subst (λ (m : ℕ). c.in_ok-others.others.items ≡ but_for m c.as_slice.result.now) s.me c.in_ok-others.ensures.value in

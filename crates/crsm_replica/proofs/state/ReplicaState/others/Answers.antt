@@ -1,11 +1,11 @@
 use Rattle.std.proofs.Common.{◌≡◌, ◌∙◌, ℕ, subst, List}
 use Rattle.crsm_spec.specs.Replica.{spec_of, others}
-use Rattle.crsm_replica.specs.Replica.{StandsFor}
+use Rattle.crsm_replica.specs.Replica.{ReplicaStands}
 use Rattle.crsm_replica.proofs.Excepting.{but_for}
 use Rattle.crsm_replica.proofs.state.ReplicaState.others.Goals as goal
 
 pub returns-clause-value : goal.returns-clause-value
-unfolding StandsFor others spec_of
+unfolding ReplicaStands others spec_of
 returns-clause-value c x s =
     let is = c.as_slice.ensures.value ∙ c.counted.ensures x.replica.me x.replica.n x.replica.log s.ledger in
     let mine = subst (λ (m : ℕ). c.in_ok-others.others.items ≡ but_for m c.as_slice.result.now) s.me c.in_ok-others.ensures.value in

@@ -1,5 +1,5 @@
 use Rattle.std.proofs.Common.{List, ◌∷◌, subst}
-use Rattle.crsm_replica.specs.Replica.{StandsFor}
+use Rattle.crsm_replica.specs.Replica.{ReplicaStands}
 use Rattle.std.specs.List.{AllByRecursion}
 use Rattle.crsm_base.specs.Spelling.{FitsStamp}
 use Rattle.crsm_spec.specs.Types.{Stamp}
@@ -8,7 +8,7 @@ use Rattle.crsm_replica.proofs.Rebuilt.{ran}
 use Rattle.crsm_replica.proofs.state.ReplicaState.paid.Goals as goal
 
 pub returns : goal.returns
-unfolding StandsFor owing
+unfolding ReplicaStands owing
 returns c x t ts s is =
     let r = x.replica in
     let fit : AllByRecursion FitsStamp (t ∷ ts) = subst (λ (all : List Stamp). AllByRecursion FitsStamp all) is s.sound.owed in

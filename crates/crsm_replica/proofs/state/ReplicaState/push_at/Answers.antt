@@ -7,12 +7,12 @@ use Rattle.crsm_spec.specs.Draft.{would}
 use Rattle.crsm_spec.specs.Log.{known}
 use Rattle.crsm_spec.specs.Replica.{members_of, other_members}
 use Rattle.crsm_log_facts.proofs.Known.{known-epoch, known-members}
-use Rattle.crsm_replica.specs.Replica.{StandsFor}
+use Rattle.crsm_replica.specs.Replica.{ReplicaStands}
 use Rattle.crsm_replica.proofs.Framed.{pushed}
 use Rattle.crsm_replica.proofs.state.ReplicaState.push_at.Goals as goal
 
 pub returns : goal.returns
-unfolding StandsFor would members_of other_members
+unfolding ReplicaStands would members_of other_members
 returns c x reading s fit is =
     let r = x.replica in
     let mine : c.me-number.result ≡ r.me = c.me-number.ensures.value x s in

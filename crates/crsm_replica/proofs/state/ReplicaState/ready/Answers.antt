@@ -1,5 +1,5 @@
 use Rattle.std.proofs.Common.{◌≡◌, sym, ap, ◌∙◌, subst}
-use Rattle.crsm_replica.specs.Replica.{StandsFor}
+use Rattle.crsm_replica.specs.Replica.{ReplicaStands}
 use Rattle.std.specs.Prelude.{Option}
 use Rattle.crsm_base.specs.Spelling.{FitsOption, FitsStamp}
 use Rattle.crsm_spec.specs.Types.{Stamp}
@@ -10,7 +10,7 @@ use Rattle.crsm_replica.proofs.Known.{ready-fits}
 use Rattle.crsm_replica.proofs.state.ReplicaState.ready.Goals as goal
 
 pub returns-clause-value : goal.returns-clause-value
-unfolding StandsFor members_of spec_of
+unfolding ReplicaStands members_of spec_of
 returns-clause-value c x s active =
     let named = c.counted.ensures x.replica.me x.replica.n x.replica.log s.ledger in
     let is : c.ready-ready.result ≡ ready_of x.replica =

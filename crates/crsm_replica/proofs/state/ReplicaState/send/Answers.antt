@@ -1,5 +1,5 @@
 use Rattle.std.proofs.Common.{[], ◌∷◌, ◌++◌}
-use Rattle.crsm_replica.specs.Replica.{StandsFor}
+use Rattle.crsm_replica.specs.Replica.{ReplicaStands}
 use Rattle.crsm_log_facts.proofs.Lists.{all-push}
 use Rattle.crsm_output.specs.Made.{made_of}
 use Rattle.crsm_spec.specs.Draft.{send}
@@ -8,7 +8,7 @@ use Rattle.crsm_replica.proofs.Rebuilt.{sent}
 use Rattle.crsm_replica.proofs.state.ReplicaState.send.Goals as goal
 
 pub returns : goal.returns
-unfolding StandsFor send
+unfolding ReplicaStands send
 returns c x s =
     sent c.args.self.now x c.send.new.self x.excess (x.sends ++ (c.args.k, c.args.datagram) ∷ []) x.replies s
     (c.in_ok-send.ensures (made_of x) s.output)

@@ -1,7 +1,7 @@
-use Rattle.crsm_replica.specs.Replica.{StandsFor}
+use Rattle.crsm_replica.specs.Replica.{ReplicaStands}
 use Rattle.crsm_spec.specs.Replica.{spec_of}
 use Rattle.crsm_replica.proofs.state.ReplicaState.spec.Goals as goal
 
 pub returns : goal.returns
-unfolding StandsFor spec_of
+unfolding ReplicaStands spec_of
 returns c x s = c.in_ok-spec.ensures x.replica.me x.replica.n x.replica.log s.ledger

@@ -1,5 +1,5 @@
 use Rattle.std.proofs.Common.{◌≡◌, sym, subst, rules}
-use Rattle.crsm_replica.specs.Replica.{StandsFor}
+use Rattle.crsm_replica.specs.Replica.{ReplicaStands}
 use Rattle.crsm_coordinator.specs.declared.coordinator.Coordinator.{Coordinator as CoordinatorInMemory}
 use Rattle.crsm_coordinator.specs.Coordinator.{CoordinatorStands}
 use Rattle.crsm_spec.specs.Log.{decision}
@@ -9,7 +9,7 @@ use Rattle.crsm_replica.proofs.Rebuilt.{noted}
 use Rattle.crsm_replica.proofs.state.ReplicaState.take_coordinator.Goals as goal
 
 pub returns-clause-quiet : goal.returns-clause-quiet
-unfolding StandsFor noting
+unfolding ReplicaStands noting
 returns-clause-quiet c x s =
     let is : c.replace.new.dest ≡ c.quiet.result = search rules in
     noted c.args.self.now x c.replace.new.dest Coordinator.Idle s

@@ -1,7 +1,7 @@
 use Rattle.std.proofs.Common.{◌≡◌, ◌∙◌, ◌<◌, ◌++◌, ◌∷◌, [], ap, sym, set, get_or, get_or-set_same, List, length, arith, rules}
 use Rattle.std.proofs.lemmas.List.{get_or_default}
 use Rattle.crsm_suspend.specs.Pages.{without_last}
-use Rattle.crsm_suspend.specs.Reports.{page_from, with_page, HasReports}
+use Rattle.crsm_suspend.specs.Reports.{page_from, with_page, ReportsStand}
 use Rattle.crsm_suspend.specs.declared.collect.Collect.{Collect}
 use Rattle.crsm_suspend.specs.declared.report.Report.{Report}
 use Rattle.crsm_suspend.proofs.CollectLemmas.{goes_on}
@@ -23,7 +23,7 @@ returns-then-is_err-clause-err c =
 
 pub returns-else-is_err-clause-got : goal.returns-else-is_err-clause-got
 returns-else-is_err-clause-got c = λ log spec named members pages s t.
-    let grown : HasReports (set c.args.self.now.reports c.args.from c.push.new.self) (pages ++ page_from c.args.from c.args.page ∷ []) =
+    let grown : ReportsStand (set c.args.self.now.reports c.args.from c.push.new.self) (pages ++ page_from c.args.from c.args.page ∷ []) =
     reports_grow c.args.self.now.reports pages c.args.from c.args.page c.index-self-index-2.result c.push.new.self s.reports c.requires c.index-self-index-2.is
     (c.in_ok-push.ensures.ok ∙ ap (λ (r : Report). with_page r c.args.page) (sym c.index-self-index-2.is)) in
     let after = goes_on log spec named members pages c.args.self.now (set c.args.self.now.reports c.args.from c.push.new.self) (page_from c.args.from c.args.page) s t grown in
@@ -31,7 +31,7 @@ returns-else-is_err-clause-got c = λ log spec named members pages s t.
 
 pub returns-else-is_err-clause-state : goal.returns-else-is_err-clause-state
 returns-else-is_err-clause-state c = λ log spec named members pages s t.
-    let grown : HasReports (set c.args.self.now.reports c.args.from c.push.new.self) (pages ++ page_from c.args.from c.args.page ∷ []) =
+    let grown : ReportsStand (set c.args.self.now.reports c.args.from c.push.new.self) (pages ++ page_from c.args.from c.args.page ∷ []) =
     reports_grow c.args.self.now.reports pages c.args.from c.args.page c.index-self-index-2.result c.push.new.self s.reports c.requires c.index-self-index-2.is
     (c.in_ok-push.ensures.ok ∙ ap (λ (r : Report). with_page r c.args.page) (sym c.index-self-index-2.is)) in
     let after = goes_on log spec named members pages c.args.self.now (set c.args.self.now.reports c.args.from c.push.new.self) (page_from c.args.from c.args.page) s t grown in
@@ -39,7 +39,7 @@ returns-else-is_err-clause-state c = λ log spec named members pages s t.
 
 pub returns-else-is_err-clause-fits : goal.returns-else-is_err-clause-fits
 returns-else-is_err-clause-fits c = λ log spec named members pages s t.
-    let grown : HasReports (set c.args.self.now.reports c.args.from c.push.new.self) (pages ++ page_from c.args.from c.args.page ∷ []) =
+    let grown : ReportsStand (set c.args.self.now.reports c.args.from c.push.new.self) (pages ++ page_from c.args.from c.args.page ∷ []) =
     reports_grow c.args.self.now.reports pages c.args.from c.args.page c.index-self-index-2.result c.push.new.self s.reports c.requires c.index-self-index-2.is
     (c.in_ok-push.ensures.ok ∙ ap (λ (r : Report). with_page r c.args.page) (sym c.index-self-index-2.is)) in
     let after = goes_on log spec named members pages c.args.self.now (set c.args.self.now.reports c.args.from c.push.new.self) (page_from c.args.from c.args.page) s t grown in

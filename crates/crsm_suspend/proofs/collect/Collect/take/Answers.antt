@@ -2,7 +2,7 @@ use Rattle.std.proofs.Common.{◌≡◌, ◌∙◌, ◌++◌, ◌∷◌, [], ap,
 use Rattle.std.proofs.lemmas.Result.{IfOk-weaker}
 use Rattle.crsm_base.specs.Messages.{FitsControl}
 use Rattle.crsm_spec.specs.Log.{known}
-use Rattle.crsm_suspend.specs.Collecting.{IsCollecting, CanSend, is_asked, page_in, got_from, got_of, pages_after}
+use Rattle.crsm_suspend.specs.Collecting.{CollectStands, CanSend, is_asked, page_in, got_from, got_of, pages_after}
 use Rattle.crsm_suspend.specs.declared.report.Page.{Page}
 use Rattle.crsm_suspend.proofs.CollectLemmas.{stranger_is, taken_is, none_after, one_after, page_got, asked_told, asked_not_whole}
 use Rattle.crsm_suspend.proofs.collect.Collect.take.Goals as goal
@@ -19,7 +19,7 @@ returns-then-not-is_asked-clause-state c = λ log spec named members pages s.
     let m = c.in-SuspendOk in
     let no : is_asked log spec pages m.epoch m.after (page_in c.args.from m.executed m.last m.whole m.entries) ≡ false =
     sym (c.is_asked.ensures log spec named members pages s) ∙ c.if-not-is_asked.true in
-    subst (λ ps. IsCollecting log spec named members ps c.args.self.now)
+    subst (λ ps. CollectStands log spec named members ps c.args.self.now)
     (none_after log spec pages c.args.from m.epoch m.executed m.last m.after m.whole m.entries no ∙ ap (pages_after log spec pages c.args.from) (sym m.is)) s
 
 pub returns-clause-got : goal.returns-clause-got
@@ -44,8 +44,8 @@ returns-clause-state c = λ log spec named members pages s.
     let told : CanSend (known log) (page_in c.args.from m.executed m.last m.whole m.entries) =
     asked_told log spec pages m.epoch m.after (page_in c.args.from m.executed m.last m.whole m.entries) yes (subst FitsControl m.is c.requires.fits).4.fit in
     let is = one_after log spec pages c.args.from m.epoch m.executed m.last m.after m.whole m.entries yes ∙ ap (pages_after log spec pages c.args.from) (sym m.is) in
-    IfOk-weaker c.add.result (λ _. IsCollecting log spec named members (pages ++ page_in c.args.from m.executed m.last m.whole m.entries ∷ []) c.add.new.self) (λ _. IsCollecting log spec named members (pages_after log spec pages c.args.from c.args.answer) c.add.new.self)
-    (λ got t. subst (λ ps. IsCollecting log spec named members ps c.add.new.self) is t) (c.add.ensures.state log spec named members pages s told)
+    IfOk-weaker c.add.result (λ _. CollectStands log spec named members (pages ++ page_in c.args.from m.executed m.last m.whole m.entries ∷ []) c.add.new.self) (λ _. CollectStands log spec named members (pages_after log spec pages c.args.from c.args.answer) c.add.new.self)
+    (λ got t. subst (λ ps. CollectStands log spec named members ps c.add.new.self) is t) (c.add.ensures.state log spec named members pages s told)
 
 pub returns-clause-fits : goal.returns-clause-fits
 returns-clause-fits c = λ log spec named members pages s.

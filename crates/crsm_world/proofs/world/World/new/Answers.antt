@@ -3,7 +3,7 @@ use Rattle.crsm_spec.specs.World.{World}
 use Rattle.crsm_spec.specs.Moments.{start_at}
 use Rattle.crsm_spec.specs.Run.{after_acts, last_world}
 use Rattle.crsm_world.specs.Starting.{CanStart}
-use Rattle.crsm_world.specs.World.{StandsFor, Holds, Leads}
+use Rattle.crsm_world.specs.World.{WorldStands, Holds, Leads}
 use Rattle.crsm_world.proofs.First.{part, part_lines, no_part, no_lines, all_parts, all_lines, next_can, part_next, lines_more}
 use Rattle.crsm_world.proofs.world.World.new.Goals as goal
 
@@ -24,7 +24,7 @@ loop-k-preserved c =
     }
 
 pub returns-clause-world : goal.returns-clause-world
-unfolding StandsFor
+unfolding WorldStands
 returns-clause-world c =
     let e : c.loop-k.k ≡ c.args.n = let a = c.loop-k-test.false in let b = c.loop-k.auto.k-end in omega arith in
     let h = subst (λ (u : World). Holds c.loop-k.world u) (ap (part c.args.n) e ∙ all_parts c.args.n) c.loop-k.invariant.holds in
@@ -36,7 +36,7 @@ returns-clause-lines c =
     c.loop-k.invariant.told ∙ ap (part_lines c.args.n) e ∙ all_lines c.args.n
 
 pub returns-clause-done : goal.returns-clause-done
-unfolding StandsFor last_world after_acts
+unfolding WorldStands last_world after_acts
 returns-clause-done c =
     let e : c.loop-k.k ≡ c.args.n = let a = c.loop-k-test.false in let b = c.loop-k.auto.k-end in omega arith in
     let h = subst (λ (u : World). Holds c.loop-k.world u) (ap (part c.args.n) e ∙ all_parts c.args.n) c.loop-k.invariant.holds in

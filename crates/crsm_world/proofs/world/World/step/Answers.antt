@@ -1,12 +1,12 @@
 use Rattle.std.proofs.Common.{[], ◌∷◌, ◌++◌, refl}
 use Rattle.crsm_spec.specs.Run.{last_world}
 use Rattle.crsm_world.specs.Doing.{act_of}
-use Rattle.crsm_world.specs.World.{StandsFor}
+use Rattle.crsm_world.specs.World.{WorldStands}
 use Rattle.crsm_world.proofs.SoFar.{does_more, is_lawful}
 use Rattle.crsm_world.proofs.world.World.step.Goals as goal
 
 pub returns-clause-done : goal.returns-clause-done
-unfolding StandsFor
+unfolding WorldStands
 returns-clause-done c n acts done =
     let before = done.stands.holds in
     let here = c.in_default.ensures (last_world n acts) before in
