@@ -1,0 +1,4 @@
+pub mod Again
+pub mod Musts
+pub mod Staying
+pub mod Answering
