@@ -107,13 +107,13 @@ enumerate_more : {A : Type 0} (i : ℕ) (xs : List A) (x : A) → enumerate_from
 enumerate_more i [] x = ap (λ n. (n, x) ∷ []) (omega arith)
 enumerate_more i (y ∷ ys) x = ap (λ l. (i, y) ∷ l) (enumerate_more (i + 1) ys x ∙ ap (λ n. enumerate_from (i + 1) ys ++ (n, x) ∷ []) (omega arith))
 
-pair_none : (p : InEpoch) (j : ℕ) (ks : List ℕ) → (Among ks j → ⊥) → map (λ (f : ℕ × InEpoch). f.1) (filter (λ f. f.0 == j) (map (λ k. (k, p)) ks)) ≡ []
+pub pair_none : (p : InEpoch) (j : ℕ) (ks : List ℕ) → (Among ks j → ⊥) → map (λ (f : ℕ × InEpoch). f.1) (filter (λ f. f.0 == j) (map (λ k. (k, p)) ks)) ≡ []
 pair_none p j [] n = refl
 pair_none p j (k ∷ ks) n =
     ap (λ (b : Bool). map (λ (f : ℕ × InEpoch). f.1) (cond b ((k, p) ∷ filter (λ f. f.0 == j) (map (λ k. (k, p)) ks)) (filter (λ f. f.0 == j) (map (λ k. (k, p)) ks)))) (ne_eqb k j (λ e. n (inl e)))
     ∙ pair_none p j ks (λ m. n (inr m))
 
-pair_one : (p : InEpoch) (j : ℕ) (ks : List ℕ) → Distinct ks → Among ks j → map (λ (f : ℕ × InEpoch). f.1) (filter (λ f. f.0 == j) (map (λ k. (k, p)) ks)) ≡ p ∷ []
+pub pair_one : (p : InEpoch) (j : ℕ) (ks : List ℕ) → Distinct ks → Among ks j → map (λ (f : ℕ × InEpoch). f.1) (filter (λ f. f.0 == j) (map (λ k. (k, p)) ks)) ≡ p ∷ []
 pair_one p j [] d m = absurd m
 pair_one p j (k ∷ ks) d (inl e) =
     ap (λ (b : Bool). map (λ (f : ℕ × InEpoch). f.1) (cond b ((k, p) ∷ filter (λ f. f.0 == j) (map (λ k. (k, p)) ks)) (filter (λ f. f.0 == j) (map (λ k. (k, p)) ks)))) (eq-eqb k j e)
