@@ -61,18 +61,18 @@ module _ (k : ℕ) (all : List Datagram) where
       q.acked ≡ r.acked → q.taken ≡ r.taken → record r { parts = q.parts; coordinator = q.coordinator; made = q.made; waiting = q.waiting } ≡ q
   rebuilt r q me n log issued received votes owed pushed acked taken =
       let same : record r { parts = q.parts; coordinator = q.coordinator; made = q.made; waiting = q.waiting }
-          ≡ record q {
-            me = q.me;
-            n = q.n;
-            log = q.log;
-            issued = q.issued;
-            received = q.received;
-            votes = q.votes;
-            owed = q.owed;
-            pushed = q.pushed;
-            acked = q.acked;
-            taken = q.taken;
-          } = rw (me, n, log, issued, received, votes, owed, pushed, acked, taken) refl in
+      ≡ record q {
+        me = q.me;
+        n = q.n;
+        log = q.log;
+        issued = q.issued;
+        received = q.received;
+        votes = q.votes;
+        owed = q.owed;
+        pushed = q.pushed;
+        acked = q.acked;
+        taken = q.taken;
+      } = rw (me, n, log, issued, received, votes, owed, pushed, acked, taken) refl in
       same
 
   pub alike : (r q : Replica) → IsAlike r q → Counted k r all → Counted k q all

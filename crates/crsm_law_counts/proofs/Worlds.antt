@@ -87,7 +87,7 @@ module _ (w u : World) (k : ℕ) (s t : Site) (there : slice_get w.sites k ≡ S
     ];
   }
 
-down_up : (log : Log) (r : Replica) → Site.Down log ≡ Site.Up r → ⊥
+pub down_up : (log : Log) (r : Replica) → Site.Down log ≡ Site.Up r → ⊥
 down_up log r e = cc
 
 down_log : (log : Log) → log_of (Site.Down log) ≡ log
@@ -202,7 +202,7 @@ get_room [] (suc i) r h = absurd (none-some _ h)
 get_room (s ∷ ss) zero r h = h
 get_room (s ∷ ss) (suc i) r h = get_room ss i r h
 
-room_up : (w : World) (k j : ℕ) (r : Replica) → slice_get (with_room w k).sites j ≡ Some (Site.Up r) → slice_get w.sites j ≡ Some (Site.Up r)
+pub room_up : (w : World) (k j : ℕ) (r : Replica) → slice_get (with_room w k).sites j ≡ Some (Site.Up r) → slice_get w.sites j ≡ Some (Site.Up r)
 unfolding with_room
 room_up w k j r = go (k == length w.sites)
   where
@@ -282,7 +282,7 @@ first_counted n = record {
   acks = λ j m e a h. absurd h;
 }
 
-few_before : (w u : World) → LogsGoOn w u → HasFewBoots u → HasFewBoots w
+pub few_before : (w u : World) → LogsGoOn w u → HasFewBoots u → HasFewBoots w
 few_before w u grows few k = let t = boots_grow (log_at w k) (log_at u k) (grows k) in let f = few k in omega (arith, t, f)
 
 all_counted : (n : ℕ) (w : World) → IsReached n w → HasFewBoots w → HasCounted w
