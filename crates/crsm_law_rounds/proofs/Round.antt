@@ -1,0 +1,271 @@
+-- One calm round: each frame that was pushed before its settle is taken in it.
+use Rattle.std.proofs.Common.{◌≡◌, ℕ, zero, suc, ◌+◌, ◌<◌, ◌≤◌, List, [], ◌∷◌, ◌++◌, length, refl, sym, ◌∙◌, ap, subst, inl, inr, Bool, true, false, cond, arith, map, take, drop}
+use Rattle.std.specs.Prelude.{◌≢◌, ◌⊎◌, ◌^◌, IsTrue, Option, Some, None, slice_get, filter, not, ◌==◌, ◌&&◌, count_by}
+use Rattle.std.specs.Option.{option_map_or}
+use Rattle.std.specs.List.{enumerate_from}
+use Rattle.std.proofs.lemmas.Bool.{cases_eq, cases_lt, eq-eqb, ne_eqb, eqb-true, false≢true}
+use Rattle.std.proofs.lemmas.Option.{none-some, same_Some}
+use Rattle.std.proofs.lemmas.List.{length-drop}
+use Rattle.crsm_base.specs.Limits.{most_again}
+use Rattle.crsm_spec.specs.Types.{InEpoch, Datagram}
+use Rattle.crsm_spec.specs.Lists.{Among, greatest}
+use Rattle.crsm_spec.specs.Log.{known, active, members}
+use Rattle.crsm_spec.specs.Replica.{Replica, members_of, other_members, frames_to, next_from, acked_by, unacked}
+use Rattle.crsm_spec.specs.Draft.{Draft}
+use Rattle.crsm_spec.specs.Step.{Input, step}
+use Rattle.crsm_spec.specs.World.{Site, Packet, World, is_full, is_up, is_up_at, log_at, packet_of, whole_step}
+use Rattle.crsm_spec.specs.Moments.{use_up, deliverable}
+use Rattle.crsm_log_facts.proofs.Lists.{kept_from, kept_in}
+use Rattle.crsm_log_facts.proofs.Logged.{extends_trans}
+use Rattle.crsm_law_steps.specs.Laws.{LogsGoOn}
+use Rattle.crsm_law_steps.proofs.Happen.{got_among}
+use Rattle.crsm_law_epoch.specs.Numbers.{Distinct}
+use Rattle.crsm_law_epoch.specs.LogWorlds.{HasFewBoots}
+use Rattle.crsm_law_epoch.specs.Worlds.{sent_in}
+use Rattle.crsm_law_epoch.proofs.Words.{among_map, among_unmap, distinct_filter}
+use Rattle.crsm_law_active.specs.Again.{sent_to, frame_of}
+use Rattle.crsm_law_active.specs.Staying.{IsCalmInput, Stays, ticks_in}
+use Rattle.crsm_law_active.proofs.Again.{steps_send_again}
+use Rattle.crsm_law_active.proofs.Staying.{steps_stay}
+use Rattle.crsm_law_counts.proofs.Worlds.{few_before}
+use Rattle.crsm_law_rounds.specs.Rounds.{GoesCalmly, IsFrameAt, Carries}
+use Rattle.crsm_law_rounds.specs.Rounds.GoesCalmly.{stay, marks, by_tick, by_packet}
+use Rattle.crsm_law_rounds.specs.Members.{IsMemberUp, AllUp}
+use Rattle.crsm_law_rounds.proofs.Growing.{IsLater, grows_known, grows_active, grows_members, next_later, greatest_among}
+use Rattle.crsm_law_rounds.proofs.Going.{IsAt, StaysUp, up_one, calm_reached, calm_logs, calm_at, calm_later, site_after, other_site, mark_sites}
+use Rattle.crsm_law_rounds.proofs.Ticks.{ticks, TickOf, tick_of, HaveTicked, have_ticked, AllActive, passing, passing_then, passing_at, can_go, deliverable_is, carries_behind, carries_before, carries_sends, IsUpOrNot, Up, Off, up_or_not}
+use Rattle.crsm_law_rounds.proofs.Settling.{after_go, go_up, go_off, settled, settle_logs, settle_goes, all_come, next_at, next_is, next_same, mark_up}
+use Rattle.crsm_law_rounds.proofs.Links.{counted, numbers, next_is_taken, next_rises}
+
+-- ---- a member stays one
+
+pub later_member : (e count k : ℕ) (ms : List ℕ) (v w : World) (r : Replica) → IsMemberUp e ms v k r → (s : StaysUp count k r w) → IsMemberUp e ms w k s.replica
+unfolding members_of
+later_member e count k ms v w r m s =
+    let l = s.later in
+    record {
+      up = s.up;
+      knows = grows_known r.me l.log ∙ m.knows;
+      runs = grows_active r.me l.log ∙ m.runs;
+      counts = ap (λ i. members i s.replica.log) l.n ∙ grows_members r.me r.n l.log ∙ m.counts;
+    }
+
+-- numbers in front of what was dropped
+drop_numbers : {A : Type 0} (a b : ℕ) (xs : List A) → drop a (enumerate_from b xs) ≡ enumerate_from (b + a) (drop a xs)
+drop_numbers zero b xs = ap (λ i. enumerate_from i xs) (omega arith)
+drop_numbers (suc a) b [] = refl
+drop_numbers (suc a) b (x ∷ xs) = drop_numbers a (b + 1) xs ∙ ap (λ i. enumerate_from i (drop a xs)) (omega arith)
+
+module _ (n e t : ℕ) (ms : List ℕ) (lt : t < 2 ^ 64) (distinct : Distinct ms) (small : (k : ℕ) → Among ms k → k ≤ 14) where
+  abbrev pub C : ℕ → Type 0
+  C k = Among ms k
+
+  pub up_later : (v w : World) → AllUp n e ms v → {ts : List ℕ} → GoesCalmly t C v ts w → HasFewBoots w → AllUp n e ms w
+  up_later v w h g few = record {
+    reached = calm_reached t C v n lt h.reached g;
+    few = few;
+    member = λ k m. let o = h.member k m in let s = calm_later t C v k o.0 m o.1.up g in (s.replica, later_member e _ k ms v w o.0 o.1 s);
+  }
+
+  -- the other members of a member
+  pub others_distinct : (w : World) (k : ℕ) (r : Replica) → IsMemberUp e ms w k r → Distinct (other_members r)
+  unfolding other_members
+  others_distinct w k r m = distinct_filter (λ i. not (i == r.me)) (members_of r) (subst Distinct (sym m.counts) distinct)
+
+  pub is_other : (w : World) (k j : ℕ) (r : Replica) → IsMemberUp e ms w k r → r.me ≡ k → Among ms j → (k ≡ j → ⊥) → Among (other_members r) j
+  unfolding other_members
+  is_other w k j r m me a ne =
+      kept_in (λ i. not (i == r.me)) (members_of r) j (subst (λ l. Among l j) (sym m.counts) a) (ap not (ne_eqb j r.me (λ q. ne (sym (q ∙ me)))))
+
+  pub other_is : (w : World) (k j : ℕ) (r : Replica) → IsMemberUp e ms w k r → r.me ≡ k → Among (other_members r) j → Among ms j × (k ≡ j → ⊥)
+  unfolding other_members
+  other_is w k j r m me a =
+      let t = kept_from (λ i. not (i == r.me)) (members_of r) j a in
+      (subst (λ l. Among l j) m.counts t.0, λ q. not_self (j == r.me) (eq-eqb j r.me (sym (me ∙ q))) t.1)
+    where
+      not_self : (b : Bool) → b ≡ true → IsTrue (not b) → ⊥
+      not_self true q h = false≢true h
+      not_self false q h = false≢true q
+
+  module _ (v end : World) (h : AllUp n e ms v) (few : HasFewBoots end) (ends : LogsGoOn (settled t (deliverable (ticks t ms v)) (ticks t ms v)) end)
+      (free : is_full (settled t (deliverable (ticks t ms v)) (ticks t ms v)) ≡ false)
+      (short : (k j : ℕ) (r : Replica) → IsMemberUp e ms v k r → Among (other_members r) j → length (unacked r j) ≤ 64)
+      (calm : (u : World) → GoesCalmly t (λ k. Among ms k) (ticks t ms v) [] u → LogsGoOn u end → (i : ℕ) (m : Packet) → Among (deliverable (ticks t ms v)) i →
+          slice_get (ticks t ms v).packets i ≡ Some m → Among ms m.to → (r : Replica) → slice_get u.sites m.to ≡ Some (Site.Up r) → IsCalmInput r (Input.Came m.from m.datagram)) where
+    abbrev w1 : World
+    w1 = ticks t ms v
+
+    abbrev w2 : World
+    w2 = settled t (deliverable w1) w1
+
+    pub ticked : HaveTicked t C v ms [] v
+    ticked = have_ticked t C v ms [] v distinct stay (λ k m. let o = h.member k m in (o.0, o.1.up, o.1.runs))
+
+    logs1 : LogsGoOn w1 end
+    logs1 = λ k. extends_trans (settle_logs t lt (deliverable w1) w1 k) (ends k)
+
+    pub up1 : AllUp n e ms w1
+    up1 = up_later v w1 h ticked.goes (few_before w1 end logs1 few)
+
+    packets : (i : ℕ) → Among (deliverable w1) i → (m : Packet) × (slice_get w1.packets i ≡ Some m)
+    packets i a =
+        let p = passing_at (can_go w1) 0 w1.packets i (subst (λ l. Among l i) (deliverable_is w1) a) in
+        (p.1, subst (λ z. slice_get w1.packets z ≡ Some p.1) (let z = p.2 in omega (arith, z)) p.3)
+
+    pub goes2 : GoesCalmly t C w1 [] w2
+    goes2 = settle_goes t C w1 end lt (deliverable w1) packets calm (deliverable w1) w1 (λ i m. m) stay ends free
+
+    pub up_at : (u : World) → GoesCalmly t C w1 [] u → LogsGoOn u end → AllUp n e ms u
+    up_at u g on_end = up_later w1 u up1 g (few_before u end on_end few)
+
+    pub up2 : AllUp n e ms w2
+    up2 = up_at w2 goes2 ends
+
+    -- ---- one link
+
+    module _ (k j : ℕ) (in_k : Among ms k) (in_j : Among ms j) (ne : k ≡ j → ⊥) where
+      -- a delivery never takes a frame back
+      never_back : (u : World) → GoesCalmly t C w1 [] u → LogsGoOn u end → (i : ℕ) → Among (deliverable w1) i → next_at k j u ≤ next_at k j (after_go t u i)
+      never_back u g on_end i a =
+          let p = packets i a in
+          let o = (up_at u g on_end).member j in_j in
+          go p.0 p.1 (calm_at t C w1 g i p.0 p.1) o.0 o.1 (up_or_not u p.0.to)
+        where
+          go : (m : Packet) → slice_get w1.packets i ≡ Some m → IsAt u.packets i m → (q : Replica) → IsMemberUp e ms u j q → IsUpOrNot u m.to → next_at k j u ≤ next_at k j (after_go t u i)
+          go m e1 at q mj (Off none) =
+              let is = go_off t u i (record m { used = at.0 }) at.1 none in
+              let same_next = next_same k j u (after_go t u i) (ap (λ (z : World). slice_get z.sites j) is ∙ ap (λ ss. slice_get ss j) (mark_sites i u)) in
+              omega (arith, same_next)
+          go m e1 at q mj (Up r up) =
+              let x = step r (Input.Came m.from m.datagram) t in
+              let is = go_up t u i (record m { used = at.0 }) r at.1 up in
+              elim (cases_eq j m.to) [
+                | inr other ↦ (let same_next = next_same k j u (after_go t u i)
+                    (ap (λ (z : World). slice_get z.sites j) is ∙ other_site (use_up i u) m.to j x other ∙ ap (λ ss. slice_get ss j) (mark_sites i u)) in
+                    omega (arith, same_next))
+                | inl here ↦ (let one : r ≡ q = up_one r q (same_Some _ _ (sym (subst (λ z. slice_get u.sites z ≡ Some (Site.Up r)) (sym here) up) ∙ mj.up)) in
+                    let now : slice_get (after_go t u i).sites j ≡ Some (Site.Up x.replica) =
+                    ap (λ (z : World). slice_get z.sites j) is ∙ subst (λ z. slice_get (whole_step (use_up i u) m.to x).after.sites z ≡ Some (Site.Up x.replica)) (sym here) (site_after (use_up i u) m.to (Site.Up r) x (mark_up i u m.to r up)) in
+                    let stays = steps_stay r (Input.Came m.from m.datagram) t (calm u g on_end i m a e1 (subst (Among ms) here in_j) r up) in
+                    let le = next_later r x.replica k stays.taken in
+                    let old = next_is k j u q mj.up in
+                    let same_q = ap (λ z. next_from z k) one in
+                    let new = next_is k j (after_go t u i) x.replica now in
+                    omega (arith, le, old, same_q, new))
+              ]
+
+      -- a frame of the next number, or of a lower one, leaves the link beyond it
+      takes : (u : World) → GoesCalmly t C w1 [] u → LogsGoOn u end → (i a : ℕ) → Among (deliverable w1) i → IsFrameAt w1.packets i k j e a → a ≤ next_at k j u → a + 1 ≤ next_at k j (after_go t u i)
+      unfolding sent_in
+      takes u g on_end i a in_all frame le =
+          let up = up_at u g on_end in
+          let mk = up.member k in_k in
+          let mj = up.member j in_j in
+          let m = frame.0 in
+          let at = calm_at t C w1 g i m frame.2 in
+          let here : slice_get u.sites m.to ≡ Some (Site.Up mj.0) = subst (λ z. slice_get u.sites z ≡ Some (Site.Up mj.0)) (sym frame.3) mj.1.up in
+          let is = go_up t u i (record m { used = at.0 }) mj.0 at.1 here in
+          let x = step mj.0 (Input.Came m.from m.datagram) t in
+          let now : slice_get (after_go t u i).sites j ≡ Some (Site.Up x.replica) =
+          ap (λ (z : World). slice_get z.sites j) is ∙ subst (λ z. slice_get (whole_step (use_up i u) m.to x).after.sites z ≡ Some (Site.Up x.replica)) frame.3 (site_after (use_up i u) m.to (Site.Up mj.0) x (mark_up i u m.to mj.0 here)) in
+          let stays = steps_stay mj.0 (Input.Came m.from m.datagram) t (calm u g on_end i m in_all frame.2 (subst (Among ms) (sym frame.3) in_j) mj.0 here) in
+          let never = next_later mj.0 x.replica k stays.taken in
+          let old = next_is k j u mj.0 mj.1.up in
+          let new = next_is k j (after_go t u i) x.replica now in
+          let sent : Among (sent_in u) (Datagram.Frame k j e a frame.1) = subst (Among (sent_in u)) frame.4 (was_sent u i m at) in
+          elim (cases_eq a (next_from mj.0 k)) [
+            | inr less ↦ omega (arith, never, old, new, le, less)
+            | inl next ↦ (let sent2 = subst (λ z. Among (sent_in u) (Datagram.Frame k j e z frame.1)) next sent in
+                let taken = next_is_taken n e ms u up k j mk.0 mj.0 mk.1 mj.1 in_k ne t m.from frame.1 (small k in_k) sent2 in
+                let same_input : step mj.0 (Input.Came m.from (Datagram.Frame k j e (next_from mj.0 k) frame.1)) t ≡ x =
+                ap (λ z. step mj.0 (Input.Came m.from (Datagram.Frame k j e z frame.1)) t) (sym next) ∙ ap (λ d. step mj.0 (Input.Came m.from d) t) (sym frame.4) in
+                let rises = next_rises n e ms u up k j mk.0 mj.0 mk.1 mj.1 in_k ne x.replica (sym (ap (λ (d : Draft). d.replica.taken) same_input) ∙ taken) in
+                omega (arith, rises, new, next))
+          ]
+        where
+          was_sent : (u : World) (i : ℕ) (m : Packet) → IsAt u.packets i m → Among (sent_in u) m.datagram
+          was_sent u i m at = among_map (λ (z : Packet). z.datagram) u.packets (record m { used = at.0 }) (got_among u.packets i _ at.1)
+
+      -- ---- what is carried
+
+      module _ (r : Replica) (mk : IsMemberUp e ms v k r) where
+        abbrev x : Draft
+        x = step r Input.Ticked t
+
+        abbrev a : ℕ
+        a = acked_by x.replica j
+
+        of_tick : TickOf t ms v k r
+        of_tick = tick_of t ms v k r distinct in_k mk.up
+
+        now_k : IsMemberUp e ms w1 k x.replica
+        now_k =
+            let o = up1.member k in_k in
+            subst (IsMemberUp e ms w1 k) (up_one o.0 x.replica (same_Some _ _ (sym o.1.up ∙ of_tick.up))) o.1
+
+        frames_sent : sent_to j x.sends ≡ map (frame_of k e j) (enumerate_from a (drop a (frames_to x.replica j)))
+        unfolding unacked
+        frames_sent =
+            let nums = numbers n e ms v h k r mk in
+            let other = is_other v k j r mk nums.0 in_j ne in
+            let few_frames = short k j r mk other in
+            let pushed = (counted n e ms v h k r mk).pushed j in
+            steps_send_again r t j mk.runs (others_distinct v k r mk) other few_frames pushed
+            ∙ ap (λ z. map (frame_of z (known r.log) j) (drop a (enumerate_from 0 (frames_to x.replica j)))) nums.0
+            ∙ ap (λ z. map (frame_of k z j) (drop a (enumerate_from 0 (frames_to x.replica j)))) mk.knows
+            ∙ ap (map (frame_of k e j)) (drop_numbers a 0 (frames_to x.replica j) ∙ ap (λ i. enumerate_from i (drop a (frames_to x.replica j))) (omega arith))
+
+        can_come : (m : Packet) → m.used ≡ false → m.to ≡ j → can_go w1 m ≡ true
+        unfolding can_go is_up_at is_up
+        can_come m fresh to = rw (fresh, to) (ap (λ o. option_map_or is_up o false) ((up1.member j in_j).1.up))
+
+        end_is : a + length (drop a (frames_to x.replica j)) ≡ length (frames_to x.replica j)
+        end_is = (let l = length-drop a (frames_to x.replica j) in let p = (counted n e ms w1 up1 k x.replica now_k).pushed j in omega (arith, l, p))
+
+        carried : Carries w1.packets k j e (length (frames_to x.replica j)) (deliverable w1) a
+        carried =
+            let P = can_go w1 in
+            let sends = map (packet_of k) x.sends in
+            let b = of_tick.before in
+            let c = carries_sends w1.packets k j e P can_come k x.sends b of_tick.more a (drop a (frames_to x.replica j)) of_tick.packets frames_sent in
+            let q = length (frames_to x.replica j) in
+            let c2 : Carries w1.packets k j e q (passing P (0 + length b) sends) a =
+            subst (λ i. Carries w1.packets k j e q (passing P i sends) a) (omega arith) (subst (λ z. Carries w1.packets k j e z (passing P (length b) sends) a) end_is c) in
+            let all : deliverable w1 ≡ passing P 0 b ++ (passing P (0 + length b) sends ++ passing P (0 + length b + length sends) of_tick.more) =
+            deliverable_is w1 ∙ ap (passing P 0) of_tick.packets ∙ passing_then P 0 b (sends ++ of_tick.more) ∙ ap (λ l. passing P 0 b ++ l) (passing_then P (0 + length b) sends of_tick.more) in
+            subst (λ l. Carries w1.packets k j e q l a) (sym all)
+            (carries_behind w1.packets k j e q (passing P 0 b) _ a (carries_before w1.packets k j e q (passing P (0 + length b) sends) (passing P (0 + length b + length sends) of_tick.more) a c2))
+
+        -- what was acknowledged has been taken
+        begins : a ≤ next_at k j w1
+        unfolding acked_by
+        begins =
+            let mj = up1.member j in_j in
+            let is = next_is k j w1 mj.0 mj.1.up in
+            let ck = counted n e ms w1 up1 k x.replica now_k in
+            let cj = counted n e ms w1 up1 j mj.0 mj.1 in
+            elim (greatest_among (map (λ (z : ℕ × ℕ). z.1) (filter (λ z. z.0 == j) x.replica.acked))) [
+              | inl none ↦ omega (arith, none)
+              | inr m ↦ (let y = among_unmap (λ (z : ℕ × ℕ). z.1) (filter (λ z. z.0 == j) x.replica.acked) _ m in
+                  let f = kept_from (λ (z : ℕ × ℕ). z.0 == j) x.replica.acked y.0 y.1 in
+                  let here : Among x.replica.acked (j, y.0.1) = subst (λ z. Among x.replica.acked (z, y.0.1)) (eqb-true y.0.0 j f.1) f.0 in
+                  let ack = subst (λ z. Among (sent_in w1) (Datagram.Ack j k z y.0.1)) (now_k.knows ∙ sym mj.1.knows) (ck.acks j y.0.1 here) in
+                  let le = cj.told k y.0.1 ack in
+                  let same_number = y.2 in
+                  omega (arith, le, same_number, is))
+            ]
+
+        -- the link is taken to its end
+        come_all : length (frames_to x.replica j) ≤ next_at k j w2
+        come_all = all_come t C w1 end lt (deliverable w1) packets calm k j e never_back takes (deliverable w1) w1 a (length (frames_to x.replica j)) (λ i m. m) stay ends free carried begins
+
+    -- Each frame that a member had pushed to another when the settle began is taken when it ends.
+    pub come : (k j : ℕ) (r q : Replica) → Among ms k → Among ms j → (k ≡ j → ⊥) → IsMemberUp e ms w1 k r → IsMemberUp e ms w2 j q → length (frames_to r j) ≤ next_from q k
+    come k j r q in_k in_j ne mk mj =
+        let o = h.member k in_k in
+        let is = now_k k j in_k in_j ne o.0 o.1 in
+        let one : (step o.0 Input.Ticked t).replica ≡ r = up_one _ r (same_Some _ _ (sym is.up ∙ mk.up)) in
+        let le = come_all k j in_k in_j ne o.0 o.1 in
+        let at = next_is k j w2 q mj.up in
+        let frames = ap (λ (z : Replica). length (frames_to z j)) one in
+        omega (arith, le, at, frames)
