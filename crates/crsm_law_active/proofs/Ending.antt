@@ -185,15 +185,16 @@ pub record IsPaid (left : ℕ) (x y : Draft) : Type 0 where
   pub parts : y.replica.parts ≡ x.replica.parts
   pub made : y.replica.made ≡ x.replica.made
   pub waiting : y.replica.waiting ≡ x.replica.waiting
+  pub issued : IsEndOf x.replica.issued y.replica.issued
   pub times : length y.replica.issued + length y.replica.owed ≤ left
 
 owes_those : (ss : List Stamp) (x : Draft) → IsPaid (length x.replica.issued + length ss) x (owing ss x)
 unfolding owing
-owes_those ss x = record { me = refl; n = refl; log = refl; acked = refl; taken = refl; parts = refl; made = refl; waiting = refl; times = omega arith }
+owes_those ss x = record { me = refl; n = refl; log = refl; acked = refl; taken = refl; parts = refl; made = refl; waiting = refl; issued = end_self x.replica.issued; times = omega arith }
 
 pays_one : (s : Stamp) (t : ℕ) (x : Draft) (left : ℕ) (y : Draft) → IsPaid left (pay s t x) y → IsPaid left x y
 unfolding pay push_to_members push_to issued_at
-pays_one s t x left y p = record { me = p.me; n = p.n; log = p.log; acked = p.acked; taken = p.taken; parts = p.parts; made = p.made; waiting = p.waiting; times = p.times }
+pays_one s t x left y p = record { me = p.me; n = p.n; log = p.log; acked = p.acked; taken = p.taken; parts = p.parts; made = p.made; waiting = p.waiting; issued = end_then (t ∷ [], refl) p.issued; times = p.times }
 
 pay_issues : (s : Stamp) (t : ℕ) (x : Draft) → length (pay s t x).replica.issued ≡ length x.replica.issued + 1
 unfolding pay push_to_members push_to issued_at
@@ -213,7 +214,7 @@ run_pays reading (s ∷ ss) x =
     (λ t e. by_when (IsPaid left x) _ _ _ (one_more s ss t x (pay_run reading ss (pay s t x)) (run_pays reading ss (pay s t x))) (owes_those (s ∷ ss) x)) (owes_those (s ∷ ss) x)
 
 pays_nothing : (left : ℕ) (x : Draft) → length x.replica.issued + length x.replica.owed ≤ left → IsPaid left x x
-pays_nothing left x le = record { me = refl; n = refl; log = refl; acked = refl; taken = refl; parts = refl; made = refl; waiting = refl; times = le }
+pays_nothing left x le = record { me = refl; n = refl; log = refl; acked = refl; taken = refl; parts = refl; made = refl; waiting = refl; issued = end_self x.replica.issued; times = le }
 
 pub owed_paid : (reading : ℕ) (x : Draft) → IsPaid (length x.replica.issued + length x.replica.owed) x (owed_oks reading x)
 unfolding owed_oks
@@ -222,7 +223,7 @@ owed_paid reading x = by_when (IsPaid (length x.replica.issued + length x.replic
 time_paid : (o : Option ℕ) (x : Draft) → IsPaid (length x.replica.issued + length x.replica.owed + 1) x (send_time o x)
 unfolding send_time push_to_members push_to issued_at
 time_paid None x = pays_nothing _ x (omega arith)
-time_paid (Some t) x = record { me = refl; n = refl; log = refl; acked = refl; taken = refl; parts = refl; made = refl; waiting = refl; times = omega arith }
+time_paid (Some t) x = record { me = refl; n = refl; log = refl; acked = refl; taken = refl; parts = refl; made = refl; waiting = refl; issued = (t ∷ [], refl); times = omega arith }
 
 pub idle_paid : (input : Input) (reading : ℕ) (x : Draft) → IsPaid (length x.replica.issued + length x.replica.owed + ticks_in input) x (idle_at input reading x)
 unfolding idle_at idle
@@ -231,7 +232,7 @@ idle_paid (Input.Came a d) reading x = pays_nothing _ x (omega arith)
 idle_paid (Input.Suspected ms) reading x = pays_nothing _ x (omega arith)
 
 pub paid_then : {m left : ℕ} {x y z : Draft} → IsPaid m x y → IsPaid left y z → IsPaid left x z
-paid_then p q = record { me = q.me ∙ p.me; n = q.n ∙ p.n; log = q.log ∙ p.log; acked = q.acked ∙ p.acked; taken = q.taken ∙ p.taken; parts = q.parts ∙ p.parts; made = q.made ∙ p.made; waiting = q.waiting ∙ p.waiting; times = q.times }
+paid_then p q = record { me = q.me ∙ p.me; n = q.n ∙ p.n; log = q.log ∙ p.log; acked = q.acked ∙ p.acked; taken = q.taken ∙ p.taken; parts = q.parts ∙ p.parts; made = q.made ∙ p.made; waiting = q.waiting ∙ p.waiting; issued = end_then p.issued q.issued; times = q.times }
 
 -- debts and then the clock time
 pub pays_in : (input : Input) (reading : ℕ) (x : Draft) → IsPaid (length x.replica.issued + length x.replica.owed + ticks_in input) x (idle_at input reading (owed_oks reading x))
@@ -240,4 +241,4 @@ pays_in input reading x =
     let p = owed_paid reading x in
     let q = idle_paid input reading y in
     let t = paid_then p q in
-    record { me = t.me; n = t.n; log = t.log; acked = t.acked; taken = t.taken; parts = t.parts; made = t.made; waiting = t.waiting; times = (let a = p.times in let b = q.times in omega (arith, a, b)) }
+    record { me = t.me; n = t.n; log = t.log; acked = t.acked; taken = t.taken; parts = t.parts; made = t.made; waiting = t.waiting; issued = t.issued; times = (let a = p.times in let b = q.times in omega (arith, a, b)) }

@@ -5,3 +5,4 @@ pub mod Again
 pub mod Paying
 pub mod Staying
 pub mod Answering
+pub mod Telling

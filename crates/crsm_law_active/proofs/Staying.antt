@@ -1,5 +1,5 @@
 -- A calm step leaves a replica in its epoch.
-use Rattle.std.proofs.Common.{◌≡◌, ℕ, ◌+◌, ◌≤◌, List, [], ◌∷◌, length, refl, sym, ◌∙◌, ap, subst, Bool, true, false, arith}
+use Rattle.std.proofs.Common.{◌≡◌, ℕ, ◌+◌, ◌≤◌, List, [], ◌∷◌, ◌++◌, length, refl, sym, ◌∙◌, ap, subst, Bool, true, false, arith}
 use Rattle.std.specs.Prelude.{◌≢◌, IsTrue, Option, Some, None, nat_lt}
 use Rattle.std.proofs.lemmas.Bool.{ltb-true}
 use Rattle.crsm_base.specs.MessageReading.{control_of}
@@ -232,6 +232,7 @@ steps_stay r input reading calm =
       log = grows_then r.me grown ended;
       taken = (h.taken.0, b.taken ∙ p.taken ∙ h.taken.1);
       acked = (h.acked.0, b.acked ∙ p.acked ∙ h.acked.1);
+      issued = (p.issued.0, b.issued ∙ p.issued.1 ∙ ap (λ l. p.issued.0 ++ l) h.issued);
       times = (let i = ap (λ (l : List ℕ). length l) b.issued in let o = ap (λ (l : List Stamp). length l) b.owed in let t = p.times in
           let w = h.owed in let e = ap (λ (l : List ℕ). length l) h.issued in omega (arith, i, o, t, w, e));
     }

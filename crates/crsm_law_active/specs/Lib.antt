@@ -2,3 +2,4 @@ pub mod Again
 pub mod Musts
 pub mod Staying
 pub mod Answering
+pub mod Telling

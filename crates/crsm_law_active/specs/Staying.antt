@@ -51,6 +51,7 @@ pub record Stays (r : Replica) (ticks : ℕ) (x : Draft) : Type 0 where
   pub log : GrowsBy r.me r.log entries x.replica.log
   pub taken : IsEndOf r.taken x.replica.taken
   pub acked : IsEndOf r.acked x.replica.acked
+  pub issued : IsEndOf r.issued x.replica.issued
   pub times : length x.replica.issued + length x.replica.owed ≤ length r.issued + length r.owed + length entries + ticks
 
 -- A calm step leaves a replica in its epoch.

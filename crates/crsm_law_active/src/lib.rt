@@ -8,6 +8,7 @@ ghost use Rattle.crsm_law_active.specs.Again.{StepsSendAgain};
 ghost use Rattle.crsm_law_active.specs.Answering.{StepsAnswer};
 ghost use Rattle.crsm_law_active.specs.Musts.{StepsExecute, StepsPay, StepsTake};
 ghost use Rattle.crsm_law_active.specs.Staying.{StepsStay};
+ghost use Rattle.crsm_law_active.specs.Telling.{LinksTellLittle};
 
 /// A frame that is next on its link and not odd is taken, if its record fits.
 pub fn steps_take()
@@ -38,4 +39,10 @@ pub fn steps_stay()
 /// By such a step each client that waited is answered if its entry is executed, and waits on if it is not.
 pub fn steps_answer()
     ensures { StepsAnswer }
+{}
+
+/// A step on a frame or an Ack tells no more than the known decision or one question beside frames and Acks, whatever the replica, and
+/// a tick of an active replica sends frames alone.
+pub fn links_tell_little()
+    ensures { LinksTellLittle }
 {}

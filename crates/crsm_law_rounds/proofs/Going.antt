@@ -49,10 +49,10 @@ mark_sites i w = refl
 -- ---- moments
 
 -- a step of a calm world is a moment that happens
-tick_happens : (t : ℕ) (w : World) (k : ℕ) (r : Replica) → t < 2 ^ 64 → slice_get w.sites k ≡ Some (Site.Up r) → Happens w (begun_at w (whole_step w k (step r Input.Ticked t)))
+pub tick_happens : (t : ℕ) (w : World) (k : ℕ) (r : Replica) → t < 2 ^ 64 → slice_get w.sites k ≡ Some (Site.Up r) → Happens w (begun_at w (whole_step w k (step r Input.Ticked t)))
 tick_happens t w k r lt e = Happens.Steps w Marks.none k r e Input.Ticked t lt CanCome.IsTick (whole_step w k (step r Input.Ticked t)) Ends.IsWhole
 
-packet_happens : (t : ℕ) (w : World) (k : ℕ) (r : Replica) (from : ℕ) (d : Datagram) → t < 2 ^ 64 → slice_get w.sites k ≡ Some (Site.Up r) → WasSent w from k d →
+pub packet_happens : (t : ℕ) (w : World) (k : ℕ) (r : Replica) (from : ℕ) (d : Datagram) → t < 2 ^ 64 → slice_get w.sites k ≡ Some (Site.Up r) → WasSent w from k d →
     Happens w (begun_at w (whole_step w k (step r (Input.Came from d) t)))
 packet_happens t w k r from d lt e s = Happens.Steps w Marks.none k r e (Input.Came from d) t lt (CanCome.IsPacket from d s) (whole_step w k (step r (Input.Came from d) t)) Ends.IsWhole
 
@@ -133,7 +133,7 @@ module _ (t : ℕ) (C : ℕ → Type 0) (v : World) where
   -- ---- a replica that takes calm input
 
   stays_later : (ticks : ℕ) (r : Replica) (x : Draft) → Stays r ticks x → IsLater ticks r x.replica
-  stays_later ticks r x s = record { me = s.me; n = s.n; entries = s.entries; log = s.log; taken = s.taken; acked = s.acked; times = s.times }
+  stays_later ticks r x s = record { me = s.me; n = s.n; entries = s.entries; log = s.log; taken = s.taken; acked = s.acked; issued = s.issued; times = s.times }
 
   moved : (ticks more k j : ℕ) (r : Replica) (w : World) (q : Replica) (x : Draft) → slice_get w.sites j ≡ Some (Site.Up q) → StaysUp ticks k r w →
       ((k ≡ j) → Stays q more x) → ((k ≡ j → ⊥) → ticks ≡ ticks + more) → StaysUp (more + ticks) k r (whole_step w j x).after

@@ -20,7 +20,7 @@ use Rattle.crsm_law_active.proofs.Ending.{grows_then, end_self, end_then}
 
 -- ---- logs that grow
 
-grows_decision : (me : ℕ) {a b : Log} {xs : List Entry} → GrowsBy me a xs b → decision b ≡ decision a
+pub grows_decision : (me : ℕ) {a b : Log} {xs : List Entry} → GrowsBy me a xs b → decision b ≡ decision a
 unfolding decision
 grows_decision me GrowsBy.same = refl
 grows_decision me (GrowsBy.entry f ne p) = grows_decision me p
@@ -167,10 +167,11 @@ pub record IsLater (ticks : ℕ) (r q : Replica) : Type 0 where
   pub log : GrowsBy r.me r.log entries q.log
   pub taken : IsEndOf r.taken q.taken
   pub acked : IsEndOf r.acked q.acked
+  pub issued : IsEndOf r.issued q.issued
   pub times : length q.issued + length q.owed ≤ length r.issued + length r.owed + length entries + ticks
 
 pub later_self : (r : Replica) → IsLater 0 r r
-later_self r = record { me = refl; n = refl; entries = []; log = GrowsBy.same; taken = end_self r.taken; acked = end_self r.acked; times = omega arith }
+later_self r = record { me = refl; n = refl; entries = []; log = GrowsBy.same; taken = end_self r.taken; acked = end_self r.acked; issued = end_self r.issued; times = omega arith }
 
 pub later_then : {a b : ℕ} {r q s : Replica} → IsLater a r q → IsLater b q s → IsLater (b + a) r s
 later_then {a} {b} {r} {q} {s} p o = record {
@@ -180,5 +181,6 @@ later_then {a} {b} {r} {q} {s} p o = record {
   log = grows_then r.me p.log (subst (λ k. GrowsBy k q.log o.entries s.log) p.me o.log);
   taken = end_then p.taken o.taken;
   acked = end_then p.acked o.acked;
+  issued = end_then p.issued o.issued;
   times = (let e = length-append o.entries p.entries in let x = p.times in let y = o.times in omega (arith, e, x, y));
 }

@@ -4,3 +4,11 @@ pub mod Ticks
 pub mod Settling
 pub mod Links
 pub mod Round
+pub mod Pigeons
+pub mod Executed
+pub mod Spreading
+pub mod Finishing
+pub mod Hearing
+pub mod Parts
+pub mod Answered
+pub mod Bounded

@@ -32,7 +32,7 @@ use Rattle.crsm_law_rounds.proofs.Growing.{greatest_among}
 
 -- ---- whose entries a log has
 
-fits_member : (me n : ℕ) (log : Log) (f : Entry) → IsTrue (fits me n log (Rec.Prepare f)) → IsTrue (has (members n log) f.stamp.origin)
+pub fits_member : (me n : ℕ) (log : Log) (f : Entry) → IsTrue (fits me n log (Rec.Prepare f)) → IsTrue (has (members n log) f.stamp.origin)
 unfolding fits
 fits_member me n log f h = (and_parts _ (has (members n log) f.stamp.origin) (and_parts _ (is_newest f (logged log)) h).0).1
 

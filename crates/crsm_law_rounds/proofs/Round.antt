@@ -33,7 +33,7 @@ use Rattle.crsm_law_rounds.specs.Rounds.GoesCalmly.{stay, marks, by_tick, by_pac
 use Rattle.crsm_law_rounds.specs.Members.{IsMemberUp, AllUp}
 use Rattle.crsm_law_rounds.proofs.Growing.{IsLater, grows_known, grows_active, grows_members, next_later, greatest_among}
 use Rattle.crsm_law_rounds.proofs.Going.{IsAt, StaysUp, up_one, calm_reached, calm_logs, calm_at, calm_later, site_after, other_site, mark_sites}
-use Rattle.crsm_law_rounds.proofs.Ticks.{ticks, TickOf, tick_of, HaveTicked, have_ticked, AllActive, passing, passing_then, passing_at, can_go, deliverable_is, carries_behind, carries_before, carries_sends, IsUpOrNot, Up, Off, up_or_not}
+use Rattle.crsm_law_rounds.proofs.Ticks.{ticks, TickOf, tick_of, HaveTicked, have_ticked, AllActive, count_once, passing, passing_then, passing_at, can_go, deliverable_is, carries_behind, carries_before, carries_sends, IsUpOrNot, Up, Off, up_or_not}
 use Rattle.crsm_law_rounds.proofs.Settling.{after_go, go_up, go_off, settled, settle_logs, settle_goes, all_come, next_at, next_is, next_same, mark_up}
 use Rattle.crsm_law_rounds.proofs.Links.{counted, numbers, next_is_taken, next_rises}
 
@@ -121,6 +121,15 @@ module _ (n e t : ℕ) (ms : List ℕ) (lt : t < 2 ^ 64) (distinct : Distinct ms
     pub up2 : AllUp n e ms w2
     up2 = up_at w2 goes2 ends
 
+    -- what a member is when all have ticked
+    tick_at : (k : ℕ) (r : Replica) → Among ms k → IsMemberUp e ms v k r → TickOf t ms v k r
+    tick_at k r in_k mk = tick_of t ms v k r distinct in_k mk.up
+
+    pub ticked_at : (k : ℕ) (r : Replica) → Among ms k → IsMemberUp e ms v k r → IsMemberUp e ms w1 k (step r Input.Ticked t).replica
+    ticked_at k r in_k mk =
+        let o = up1.member k in_k in
+        subst (IsMemberUp e ms w1 k) (up_one o.0 (step r Input.Ticked t).replica (same_Some _ _ (sym o.1.up ∙ (tick_at k r in_k mk).up))) o.1
+
     -- ---- one link
 
     module _ (k j : ℕ) (in_k : Among ms k) (in_j : Among ms j) (ne : k ≡ j → ⊥) where
@@ -196,12 +205,10 @@ module _ (n e t : ℕ) (ms : List ℕ) (lt : t < 2 ^ 64) (distinct : Distinct ms
         a = acked_by x.replica j
 
         of_tick : TickOf t ms v k r
-        of_tick = tick_of t ms v k r distinct in_k mk.up
+        of_tick = tick_at k r in_k mk
 
         now_k : IsMemberUp e ms w1 k x.replica
-        now_k =
-            let o = up1.member k in_k in
-            subst (IsMemberUp e ms w1 k) (up_one o.0 x.replica (same_Some _ _ (sym o.1.up ∙ of_tick.up))) o.1
+        now_k = ticked_at k r in_k mk
 
         frames_sent : sent_to j x.sends ≡ map (frame_of k e j) (enumerate_from a (drop a (frames_to x.replica j)))
         unfolding unacked
@@ -269,3 +276,41 @@ module _ (n e t : ℕ) (ms : List ℕ) (lt : t < 2 ^ 64) (distinct : Distinct ms
         let at = next_is k j w2 q mj.up in
         let frames = ap (λ (z : Replica). length (frames_to z j)) one in
         omega (arith, le, at, frames)
+
+-- ---- what a round has done
+
+-- From v by the ticks to w1 and by the settle to w2: the members stay up, each ticks once, and each frame of a link between them
+-- that was pushed before the settle is taken.
+pub record RoundDone (n e t : ℕ) (ms : List ℕ) (v w1 w2 : World) : Type 0 where
+  pub up1 : AllUp n e ms w1
+  pub up2 : AllUp n e ms w2
+  pub ticks_in : List ℕ
+  pub goes1 : GoesCalmly t (λ k. Among ms k) v ticks_in w1
+  pub once : (j : ℕ) → count_by (λ i. i == j) ticks_in ≤ 1
+  pub goes2 : GoesCalmly t (λ k. Among ms k) w1 [] w2
+  pub ticked : (k : ℕ) (r : Replica) → Among ms k → IsMemberUp e ms v k r → IsMemberUp e ms w1 k (step r Input.Ticked t).replica
+  pub come : (k j : ℕ) (r q : Replica) → Among ms k → Among ms j → (k ≡ j → ⊥) → IsMemberUp e ms w1 k r → IsMemberUp e ms w2 j q → length (frames_to r j) ≤ next_from q k
+
+pub round_done : (n e t : ℕ) (ms : List ℕ) (lt : t < 2 ^ 64) → Distinct ms → ((k : ℕ) → Among ms k → k ≤ 14) → (v end : World) → AllUp n e ms v → HasFewBoots end →
+    LogsGoOn (settled t (deliverable (ticks t ms v)) (ticks t ms v)) end → is_full (settled t (deliverable (ticks t ms v)) (ticks t ms v)) ≡ false →
+    ((k j : ℕ) (r : Replica) → IsMemberUp e ms v k r → Among (other_members r) j → length (unacked r j) ≤ 64) →
+    ((u : World) → GoesCalmly t (λ k. Among ms k) (ticks t ms v) [] u → LogsGoOn u end → (i : ℕ) (m : Packet) → Among (deliverable (ticks t ms v)) i →
+        slice_get (ticks t ms v).packets i ≡ Some m → Among ms m.to → (r : Replica) → slice_get u.sites m.to ≡ Some (Site.Up r) → IsCalmInput r (Input.Came m.from m.datagram)) →
+    RoundDone n e t ms v (ticks t ms v) (settled t (deliverable (ticks t ms v)) (ticks t ms v))
+round_done n e t ms lt distinct small v end h few ends free short calm = record {
+  up1 = up1 n e t ms lt distinct small v end h few ends free short calm;
+  up2 = up2 n e t ms lt distinct small v end h few ends free short calm;
+  ticks_in = (ticked n e t ms lt distinct small v end h few ends free short calm).all;
+  goes1 = (ticked n e t ms lt distinct small v end h few ends free short calm).goes;
+  once = λ j.
+      let c = (ticked n e t ms lt distinct small v end h few ends free short calm).counts j in
+      let o = count_once ms j distinct in
+      let z = none_counted j in
+      omega (arith, c, o, z);
+  goes2 = goes2 n e t ms lt distinct small v end h few ends free short calm;
+  ticked = ticked_at n e t ms lt distinct small v end h few ends free short calm;
+  come = come n e t ms lt distinct small v end h few ends free short calm;
+}
+  where
+    none_counted : (j : ℕ) → count_by (λ i. i == j) [] ≡ 0
+    none_counted j = refl

@@ -26,7 +26,7 @@ use Rattle.crsm_law_rounds.proofs.Ticks.{step_up, IsUpOrNot, Up, Off, up_or_not}
 
 -- ---- one delivery
 
-pub after_go : ℕ → World → ℕ → World
+unfoldable pub after_go : ℕ → World → ℕ → World
 after_go t v i = (single whole_step v (Single.Go i t)).after
 
 go_is : (t : ℕ) (v : World) (i : ℕ) (m : Packet) → slice_get v.packets i ≡ Some m → after_go t v i ≡ (step_at whole_step (use_up i v) m.to (Input.Came m.from m.datagram) t).after
@@ -107,7 +107,7 @@ next_same k j u w e = ap (λ o. option_map_or (next_of k) o 0) e
 
 -- ---- logs go on
 
-mark_sent : (u : World) (i : ℕ) (m : Packet) → (used : Bool) × (slice_get u.packets i ≡ Some (record m { used = used })) → WasSent (use_up i u) m.from m.to m.datagram
+pub mark_sent : (u : World) (i : ℕ) (m : Packet) → (used : Bool) × (slice_get u.packets i ≡ Some (record m { used = used })) → WasSent (use_up i u) m.from m.to m.datagram
 unfolding use_up
 mark_sent u i m h =
     (true, subst (λ (o : Option Packet). Among (option_map_or (λ z. slice_set u.packets i (record z { used = true })) o u.packets) (record { from = m.from; to = m.to; datagram = m.datagram; used = true })) (sym h.1)
@@ -132,7 +132,7 @@ go_logs t lt u i = go (slice_get u.packets i) refl
     go None e = subst (LogsGoOn u) (sym (go_none t u i e)) (calm_logs t (λ k. ⊥) u lt (marks i stay))
     go (Some m) e = by_receiver m e (up_or_not u m.to)
 
-logs_then : (u v w : World) → LogsGoOn u v → LogsGoOn v w → LogsGoOn u w
+pub logs_then : (u v w : World) → LogsGoOn u v → LogsGoOn v w → LogsGoOn u w
 logs_then u v w p q = λ k. extends_trans (p k) (q k)
 
 full_stays : (t i : ℕ) (is : List ℕ) (u : World) → is_full u ≡ true → settled t (i ∷ is) u ≡ u

@@ -24,7 +24,7 @@ use Rattle.crsm_law_rounds.proofs.Going.{site_after, other_site, packets_after}
 
 -- ---- one tick
 
-pub tick : ℕ → ℕ → World → World
+unfoldable pub tick : ℕ → ℕ → World → World
 tick t k w = (act w (Act.One (Single.Tick k t))).after
 
 pub step_up : (w : World) (k : ℕ) (r : Replica) (input : Input) (t : ℕ) → slice_get w.sites k ≡ Some (Site.Up r) → step_at whole_step w k input t ≡ whole_step w k (step r input t)
@@ -65,7 +65,7 @@ tick_off : (t k : ℕ) (w : World) → ((r : Replica) → slice_get w.sites k �
 unfolding tick act moments_of world_after single
 tick_off t k w off = step_off w k Input.Ticked t off
 
-tick_other : (t k : ℕ) (w : World) (j : ℕ) → (j ≡ k → ⊥) → slice_get (tick t k w).sites j ≡ slice_get w.sites j
+pub tick_other : (t k : ℕ) (w : World) (j : ℕ) → (j ≡ k → ⊥) → slice_get (tick t k w).sites j ≡ slice_get w.sites j
 tick_other t k w j ne = go (up_or_not w k)
   where
     go : IsUpOrNot w k → slice_get (tick t k w).sites j ≡ slice_get w.sites j
