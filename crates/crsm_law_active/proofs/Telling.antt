@@ -1,17 +1,15 @@
 -- A step on a link tells little.
-use Rattle.std.proofs.Common.{◌≡◌, ℕ, ◌+◌, List, [], ◌∷◌, ◌++◌, length, refl, sym, ◌∙◌, ap, subst, inl, inr, Bool, true, false, map, take}
-use Rattle.std.specs.Prelude.{◌⊎◌, ◌≢◌, IsTrue, Option, Some, None, not, nat_lt, nat_le, ◌==◌, ◌&&◌, ◌||◌, fold}
-use Rattle.std.specs.Option.{option_map_or}
+use Rattle.std.proofs.Common.{◌≡◌, ℕ, List, [], ◌∷◌, ◌++◌, length, refl, sym, ap, subst, inl, inr, map, take}
+use Rattle.std.specs.Prelude.{IsTrue, Option, Some, None, fold}
 use Rattle.crsm_base.specs.Limits.{most_again}
 use Rattle.crsm_spec.specs.Choice.{when◌then◌otherwise◌}
-use Rattle.crsm_spec.specs.Clock.{u64_max}
-use Rattle.crsm_spec.specs.Types.{Stamp, InEpoch, Rec, Datagram, Control, Decision}
-use Rattle.crsm_spec.specs.Lists.{Among, has}
+use Rattle.crsm_spec.specs.Types.{Stamp, InEpoch, Datagram, Control, Decision}
+use Rattle.crsm_spec.specs.Lists.{Among}
 use Rattle.crsm_spec.specs.Log.{known, decision, executed, active}
-use Rattle.crsm_spec.specs.Replica.{Replica, members_of, other_members, next_from, frames_to, unacked}
-use Rattle.crsm_spec.specs.Draft.{Draft, begun, keep, send, count_vote, issued_at, push_to_members, push_to, next_frame, parts_to, send_control, send_decision, send_retrieve, retrieve, would}
+use Rattle.crsm_spec.specs.Replica.{Replica, other_members, unacked}
+use Rattle.crsm_spec.specs.Draft.{Draft, begun, keep, send, count_vote, issued_at, push_to_members, push_to, next_frame, send_control, send_decision, send_retrieve, retrieve, would}
 use Rattle.crsm_spec.specs.Clients.{commits, replies}
-use Rattle.crsm_spec.specs.Frames.{is_astray, is_odd_frame, on_frame, on_ack, take_frame, receive, owe, ack, pay, owing, pay_run, owed_oks, send_time, idle, again_frame, again_to, send_again}
+use Rattle.crsm_spec.specs.Frames.{on_frame, on_ack, take_frame, receive, owe, ack, pay, owing, pay_run, owed_oks, send_time, idle, again_frame, again_to, send_again}
 use Rattle.crsm_spec.specs.Step.{Input, if_fitting, on_input, on_datagram, on_tick, idle_at, step}
 use Rattle.crsm_log_facts.proofs.Lists.{among_left, among_either}
 use Rattle.crsm_law_active.specs.Telling.{IsOfLink, IsKnown, TellsLittle, ComesOnLink, LinksTellLittle}

@@ -1,5 +1,5 @@
 -- What a step tells that ticks, or takes a frame or an Ack.
-use Rattle.std.specs.Prelude.{◌≡◌, ◌⊎◌, ℕ, IsTrue, List, length, Some}
+use Rattle.std.specs.Prelude.{◌≡◌, ◌⊎◌, ℕ, IsTrue, length, Some}
 use Rattle.crsm_spec.specs.Types.{Datagram, Control}
 use Rattle.crsm_spec.specs.Lists.{Among}
 use Rattle.crsm_spec.specs.Log.{known, decision, executed, active}

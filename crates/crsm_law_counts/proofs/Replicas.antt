@@ -1,18 +1,17 @@
 -- Each kind of change of a replica keeps what it has counted.
-use Rattle.std.proofs.Common.{◌≡◌, ℕ, ◌+◌, ◌<◌, ◌≤◌, List, [], ◌∷◌, ◌++◌, length, refl, sym, ◌∙◌, ap, subst, inl, inr, Bool, true, false, cond, arith, map, max, length-append}
-use Rattle.std.specs.Prelude.{◌≢◌, ◌⊎◌, IsTrue, filter, not, ◌==◌, count_by}
+use Rattle.std.proofs.Common.{◌≡◌, ℕ, ◌+◌, ◌<◌, ◌≤◌, List, [], ◌∷◌, ◌++◌, length, refl, sym, ◌∙◌, ap, subst, inl, inr, Bool, true, false, cond, arith, map, length-append}
+use Rattle.std.specs.Prelude.{◌⊎◌, filter, not, ◌==◌, count_by}
 use Rattle.std.proofs.lemmas.Bool.{cases_eq, cases_lt, eqb-true}
 use Rattle.std.proofs.lemmas.List.{map-append}
 use Rattle.std.proofs.lemmas.List.Elements.{filter-append}
 use Rattle.crsm_spec.specs.Types.{Stamp, Entry, Rec, InEpoch, Datagram}
 use Rattle.crsm_spec.specs.Lists.{Among, greatest}
-use Rattle.crsm_spec.specs.Log.{Log, known, decision, members, has_entered}
+use Rattle.crsm_spec.specs.Log.{known, decision, members}
 use Rattle.crsm_spec.specs.Replica.{Replica, Coordinator, Waiting, members_of, other_members, frames_to, next_from, acked_by}
 use Rattle.crsm_spec.specs.Parts.{Piece}
 use Rattle.crsm_spec.specs.Frames.{time_of, with_stamp}
 use Rattle.crsm_base.specs.Order.{stamp_lt}
 use Rattle.crsm_spec.specs.Choice.{when◌then◌otherwise◌}
-use Rattle.crsm_log_facts.specs.Logs.{Logged}
 use Rattle.crsm_log_facts.proofs.Lists.{among_left}
 use Rattle.crsm_law_epoch.specs.Numbers.{Distinct}
 use Rattle.crsm_law_epoch.proofs.CommitEffects.{same_entry}

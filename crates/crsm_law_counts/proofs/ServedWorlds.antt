@@ -1,15 +1,15 @@
 -- Nothing is left to do in any world that is reached.
-use Rattle.std.proofs.Common.{◌≡◌, ℕ, ◌<◌, List, [], ◌∷◌, ◌++◌, length, refl, sym, ◌∙◌, ap, subst, inl, inr, Bool, true, false, arith}
-use Rattle.std.specs.Prelude.{◌⊎◌, IsTrue, Option, Some, None, slice_get, slice_set, nat_lt}
-use Rattle.std.proofs.lemmas.Bool.{cases_eq, false≢true}
+use Rattle.std.proofs.Common.{◌≡◌, ℕ, [], ◌∷◌, length, refl, sym, ◌∙◌, ap, subst, inl, inr, Bool, true, false}
+use Rattle.std.specs.Prelude.{◌⊎◌, Some, slice_get, slice_set, nat_lt}
+use Rattle.std.proofs.lemmas.Bool.{false≢true}
 use Rattle.std.proofs.lemmas.Option.{none-some, same_Some}
 use Rattle.crsm_spec.specs.Choice.{when◌then◌otherwise◌}
-use Rattle.crsm_spec.specs.Types.{Entry, Rec}
-use Rattle.crsm_spec.specs.Lists.{Among, first_of, last_of, numbers_below}
+use Rattle.crsm_spec.specs.Types.{Entry}
+use Rattle.crsm_spec.specs.Lists.{first_of, last_of, numbers_below}
 use Rattle.crsm_spec.specs.Log.{Log, active, live, suspended, unexecuted, above, last_stamp, logged, logged_in, known, decision, executed}
 use Rattle.crsm_spec.specs.Replica.{Replica, fresh}
 use Rattle.crsm_spec.specs.Draft.{Draft, begun, keep}
-use Rattle.crsm_spec.specs.Step.{Input, step, boot, boot_again, founding_boot, first_boot}
+use Rattle.crsm_spec.specs.Step.{step, boot, boot_again, founding_boot, first_boot}
 use Rattle.crsm_spec.specs.World.{Site, World, Moment, begin, log_at, with_site, whole_step, cut_step, lost_step, down, after_step, then_down}
 use Rattle.crsm_spec.specs.Moments.{silent, begun_at, with_room, start_at}
 use Rattle.crsm_log_facts.specs.Logs.{AllFit}
@@ -21,8 +21,7 @@ use Rattle.crsm_law_steps.proofs.Moments.{set_case, moment_goes_on}
 use Rattle.crsm_law_epoch.specs.LogWorlds.{HasFewBoots}
 use Rattle.crsm_law_epoch.proofs.LogWorlds.{logs_fit, up_numbers, get_range, from_zero}
 use Rattle.crsm_law_epoch.proofs.Worlds.{marked_sites, up_same, log_there}
-use Rattle.crsm_law_active.specs.Musts.{NoneReady}
-use Rattle.crsm_law_counts.specs.Served.{WaitsRightly, IsDone, NothingIsLeft}
+use Rattle.crsm_law_counts.specs.Served.{IsDone, NothingIsLeft}
 use Rattle.crsm_law_counts.proofs.Serving.{step_done}
 use Rattle.crsm_law_counts.proofs.Worlds.{few_before, room_up, down_up}
 

@@ -1,11 +1,11 @@
 -- After a step nobody waits whose entry is executed or dropped.
-use Rattle.std.proofs.Common.{◌≡◌, ℕ, ◌<◌, ◌≤◌, List, [], ◌∷◌, ◌++◌, length, refl, sym, ◌∙◌, ap, subst, inl, inr, Bool, true, false, arith, length-append}
+use Rattle.std.proofs.Common.{◌≡◌, ℕ, ◌≤◌, List, [], ◌∷◌, ◌++◌, length, refl, sym, ◌∙◌, ap, subst, inl, inr, Bool, true, false, arith, length-append}
 use Rattle.std.specs.Prelude.{◌⊎◌, IsTrue, Option, Some, None, nat_lt, nat_le, ◌&&◌, option_to_list}
-use Rattle.std.proofs.lemmas.Bool.{and_parts, false≢true, ltb-false, le-leb, ltb-true}
+use Rattle.std.proofs.lemmas.Bool.{and_parts, false≢true, ltb-false, le-leb}
 use Rattle.crsm_spec.specs.Choice.{when◌then◌otherwise◌}
 use Rattle.crsm_spec.specs.Types.{Entry, Rec, InEpoch, Control}
 use Rattle.crsm_spec.specs.Lists.{Among}
-use Rattle.crsm_spec.specs.Log.{Log, known, start, decision, executed, entry_of, live, suspended, active}
+use Rattle.crsm_spec.specs.Log.{Log, known, start, decision, executed, entry_of, live, active}
 use Rattle.crsm_spec.specs.Fits.{fits}
 use Rattle.crsm_spec.specs.Replica.{Replica, Waiting}
 use Rattle.crsm_spec.specs.Draft.{Draft, begun, keep, noting, send, reply, count_vote, issued_at, push_to_members, push_to, send_control}

@@ -1,24 +1,23 @@
 -- Each change of a step keeps what its replica has counted.
-use Rattle.std.proofs.Common.{◌≡◌, ℕ, ◌+◌, ◌<◌, ◌≤◌, List, [], ◌∷◌, ◌++◌, length, refl, sym, ◌∙◌, ap, subst, inl, inr, Bool, true, false, cond, arith, map, max}
-use Rattle.std.specs.Prelude.{◌≢◌, ◌⊎◌, IsTrue, Option, Some, None, not, ◌&&◌, ◌==◌}
+use Rattle.std.proofs.Common.{◌≡◌, ℕ, ◌+◌, ◌≤◌, List, [], ◌∷◌, ◌++◌, length, refl, sym, ◌∙◌, ap, subst, inl, inr, Bool, true, false, cond, arith, map, max}
+use Rattle.std.specs.Prelude.{◌⊎◌, IsTrue, Some, None, not, ◌&&◌, ◌==◌}
 use Rattle.std.specs.List.{enumerate_from}
-use Rattle.std.proofs.lemmas.Bool.{and_parts, false≢true, eqb-true}
+use Rattle.std.proofs.lemmas.Bool.{and_parts, false≢true}
 use Rattle.std.proofs.lemmas.Option.{none-some, same_Some}
 use Rattle.std.proofs.lemmas.List.{append-nil, map-append}
 use Rattle.crsm_base.specs.Messages.{control_bytes}
 use Rattle.crsm_spec.specs.Clock.{u64_max, issue}
-use Rattle.crsm_spec.specs.Types.{Stamp, Entry, Command, Rec, InEpoch, Datagram, Control}
-use Rattle.crsm_spec.specs.Choice.{when◌then◌otherwise◌}
+use Rattle.crsm_spec.specs.Types.{Entry, Command, Rec, InEpoch, Datagram, Control}
 use Rattle.crsm_spec.specs.Lists.{Among}
 use Rattle.crsm_spec.specs.Log.{Log, known, decision, members, live, suspended, active, boots, has_entered}
 use Rattle.crsm_spec.specs.Fits.{fits}
 use Rattle.crsm_spec.specs.Parts.{cut}
-use Rattle.crsm_spec.specs.Replica.{Replica, members_of, other_members, frames_to, next_from, acked_by, last_issued}
-use Rattle.crsm_spec.specs.Draft.{Draft, begun, keep, noting, send, reply, count_vote, issued_at, push_to_members, push_to, next_frame, parts_to, send_control, would}
+use Rattle.crsm_spec.specs.Replica.{Replica, members_of, other_members, frames_to, next_from, last_issued}
+use Rattle.crsm_spec.specs.Draft.{Draft, keep, noting, send, reply, count_vote, issued_at, push_to_members, push_to, next_frame, parts_to, send_control, would}
 use Rattle.crsm_spec.specs.Clients.{refuse, submit, await, replies}
 use Rattle.crsm_spec.specs.Frames.{time_of, take_frame, receive, owe, ack, pay, owing, again_frame, is_odd_frame}
 use Rattle.crsm_spec.specs.Coordinate.{forget_epoch}
-use Rattle.crsm_spec.specs.Step.{Input, step}
+use Rattle.crsm_spec.specs.Step.{Input}
 use Rattle.crsm_step_facts.specs.Changes.{Change, Changes, stay, and_then}
 use Rattle.crsm_step_facts.specs.Changes.Change.{Submits, Refuses, Commits, Replies, Takes, Acks, IsAcked, Pays, Owes, SendsTime, SendsAgain, SendsControl, Gathers, Suspends, Collects, TakesPage, Completes, Refrains, GivesUp, Asks, CountsAnswer, Proposes, IsPreempted, AcceptsOwn, CountsVote, Promises, Accepts, Chooses, Learns, AdoptsTail, AdoptsPage, Enters}
 use Rattle.crsm_step_facts.proofs.Logs.{log_change, change_grows}
@@ -31,9 +30,9 @@ use Rattle.crsm_law_epoch.proofs.CommitLogs.{enter_new}
 use Rattle.crsm_law_epoch.proofs.Drafts.{outs}
 use Rattle.crsm_law_epoch.proofs.Kept.{live_entered}
 use Rattle.crsm_law_epoch.proofs.Quiet.{IsNoEntry, strip, entered_more}
-use Rattle.crsm_law_epoch.proofs.Words.{among_unmap, distinct_filter}
+use Rattle.crsm_law_epoch.proofs.Words.{distinct_filter}
 use Rattle.crsm_law_active.proofs.Ending.{all_replied, by_when}
-use Rattle.crsm_law_counts.specs.Counted.{IsOf, Counted}
+use Rattle.crsm_law_counts.specs.Counted.{Counted}
 use Rattle.crsm_law_counts.proofs.Replicas as of
 
 -- ---- what is so while a replica makes a step

@@ -6,15 +6,15 @@ use Rattle.std.proofs.lemmas.Bool.{cases_eq, false≢true}
 use Rattle.std.proofs.lemmas.Option.{none-some, same_Some}
 use Rattle.std.proofs.lemmas.List.{append-nil, map-append}
 use Rattle.crsm_spec.specs.Choice.{when◌then◌otherwise◌}
-use Rattle.crsm_spec.specs.Types.{Entry, Rec, InEpoch, Datagram}
+use Rattle.crsm_spec.specs.Types.{Entry, Rec, Datagram}
 use Rattle.crsm_spec.specs.Lists.{Among, numbers_below}
-use Rattle.crsm_spec.specs.Log.{Log, known, decision, active, live, suspended, has_entered}
+use Rattle.crsm_spec.specs.Log.{Log, known, active, live, suspended, has_entered}
 use Rattle.crsm_spec.specs.Replica.{Replica, fresh}
 use Rattle.crsm_spec.specs.Draft.{Draft, begun, keep}
 use Rattle.crsm_spec.specs.Step.{Input, step, boot, boot_again, founding_boot, first_boot}
 use Rattle.crsm_spec.specs.World.{Site, World, Moment, begin, log_of, log_at, with_site, packet_of, whole_step, cut_step, lost_step, down, after_step, then_down}
 use Rattle.crsm_spec.specs.Moments.{silent, begun_at, with_room, start_at}
-use Rattle.crsm_log_facts.specs.Logs.{AllFit, Extends, same, more, Logged}
+use Rattle.crsm_log_facts.specs.Logs.{AllFit, Extends, same, Logged}
 use Rattle.crsm_log_facts.proofs.Lists.{among_left, among_right, among_either, among_take}
 use Rattle.crsm_step_facts.proofs.Fitted.{step_changes}
 use Rattle.crsm_law_steps.specs.Laws.{LogsGoOn}
@@ -24,8 +24,7 @@ use Rattle.crsm_law_steps.specs.Happenings.Ends.{IsWhole, IsCut, IsLost}
 use Rattle.crsm_law_steps.specs.Happenings.Happens.{Nothing, Steps, Junk, Stops, Joins, Starts}
 use Rattle.crsm_law_steps.specs.Happenings.IsReached.{first, next}
 use Rattle.crsm_law_steps.proofs.Moments.{moment_goes_on}
-use Rattle.crsm_law_epoch.specs.Numbers.{Distinct}
-use Rattle.crsm_law_epoch.specs.Worlds.{seats, sent_in, IsWell}
+use Rattle.crsm_law_epoch.specs.Worlds.{sent_in, IsWell}
 use Rattle.crsm_law_epoch.specs.LogWorlds.{HasFewBoots}
 use Rattle.crsm_law_epoch.proofs.Drafts.{outs}
 use Rattle.crsm_law_epoch.proofs.LogBoots.{boots_grow}
@@ -33,7 +32,7 @@ use Rattle.crsm_law_epoch.proofs.LogWorlds.{is_well, up_numbers, get_range, from
 use Rattle.crsm_law_epoch.proofs.Quiet.{entered_more}
 use Rattle.crsm_law_epoch.proofs.Words.{among_map, set_same, set_other}
 use Rattle.crsm_law_epoch.proofs.Worlds.{marked_sent, marked_sites, came_sent, packets_sent, map_take, up_same, set_nowhere, log_there, log_after, room_sent, room_seats, room_there, seat_log_at}
-use Rattle.crsm_law_counts.specs.Counted.{IsOf, Counted, CountsHold, AcksAreEntered}
+use Rattle.crsm_law_counts.specs.Counted.{Counted, CountsHold, AcksAreEntered}
 use Rattle.crsm_law_counts.proofs.Replicas as of
 use Rattle.crsm_law_counts.proofs.Steps.{Mid, chain}
 

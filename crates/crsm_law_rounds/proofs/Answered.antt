@@ -1,21 +1,21 @@
 -- Who waits in a calm round is told the answer, or waits on.
-use Rattle.std.proofs.Common.{◌≡◌, ℕ, ◌+◌, ◌<◌, ◌≤◌, List, [], ◌∷◌, ◌++◌, length, refl, sym, ◌∙◌, ap, subst, inl, inr, Bool, true, false, cond, arith, map, take, append_assoc}
+use Rattle.std.proofs.Common.{◌≡◌, ℕ, ◌<◌, List, [], ◌∷◌, ◌++◌, length, refl, sym, ◌∙◌, ap, subst, inl, inr, Bool, true, false, cond, arith, map, take, append_assoc}
 use Rattle.std.specs.Prelude.{◌⊎◌, ◌^◌, IsTrue, Option, Some, None, slice_get, flat_map, option_to_list, nat_le, nat_lt, ◌==◌, ◌&&◌}
 use Rattle.std.proofs.lemmas.Bool.{cases_eq, and_parts, eqb-true, eq-eqb, false≢true, ltb-true}
-use Rattle.std.proofs.lemmas.Option.{none-some, same_Some}
+use Rattle.std.proofs.lemmas.Option.{same_Some}
 use Rattle.std.proofs.lemmas.List.{append-nil, map-append}
 use Rattle.crsm_base.specs.Order.{stamp_eq}
 use Rattle.crsm_base.specs.Store.{answer_after}
-use Rattle.crsm_spec.specs.Types.{Entry, Rec, Line}
+use Rattle.crsm_spec.specs.Types.{Entry, Line}
 use Rattle.crsm_spec.specs.Lists.{Among}
 use Rattle.crsm_spec.specs.Log.{Log, known, start, active, executed, entry_of}
 use Rattle.crsm_spec.specs.Replica.{Replica, Waiting}
 use Rattle.crsm_spec.specs.Draft.{Draft, Reply}
 use Rattle.crsm_spec.specs.Clients.{find_executed, is_dropped}
 use Rattle.crsm_spec.specs.Step.{Input, step}
-use Rattle.crsm_spec.specs.World.{Site, Packet, World, Moment, is_full, packet_of, send_lines, whole_step, after_step}
+use Rattle.crsm_spec.specs.World.{Site, Packet, World, Moment, is_full, send_lines, whole_step, after_step}
 use Rattle.crsm_spec.specs.Acts.{Single, Act}
-use Rattle.crsm_spec.specs.Moments.{use_up, begun_at, silent, single, come, step_at, step_at_site, deliverable, go_each, moments_of, world_after, act, lines_of}
+use Rattle.crsm_spec.specs.Moments.{use_up, begun_at, single, come, deliverable, go_each, moments_of, act, lines_of}
 use Rattle.crsm_spec.specs.Run.{TraceLine, traced, told, after_acts}
 use Rattle.crsm_log_facts.proofs.Tests.{same_stamp}
 use Rattle.crsm_log_facts.proofs.Sorted.{eq_self}
@@ -23,7 +23,7 @@ use Rattle.crsm_log_facts.proofs.Lists.{among_left, among_right, get_left, get_i
 use Rattle.crsm_law_steps.specs.Laws.{LogsGoOn}
 use Rattle.crsm_law_epoch.specs.Numbers.{Distinct}
 use Rattle.crsm_law_runs.proofs.Drafts.{find_at, find_none}
-use Rattle.crsm_law_active.specs.Staying.{GrowsBy, IsCalmInput, Stays, ticks_in}
+use Rattle.crsm_law_active.specs.Staying.{GrowsBy, IsCalmInput}
 use Rattle.crsm_law_active.specs.Answering.{answer_line, IsServed}
 use Rattle.crsm_law_active.specs.Answering.IsServed.{Waits, Answered, Dropped}
 use Rattle.crsm_law_active.proofs.Staying.{steps_stay}
@@ -32,7 +32,7 @@ use Rattle.crsm_law_rounds.specs.Rounds.{GoesCalmly}
 use Rattle.crsm_law_rounds.proofs.Growing.{grows_known, grows_active}
 use Rattle.crsm_law_rounds.proofs.Going.{IsAt, up_one, calm_at, site_after, other_site, mark_sites}
 use Rattle.crsm_law_rounds.proofs.Ticks.{tick, tick_up, tick_other, ticks, step_up, AllActive, IsUpOrNot, Up, Off, up_or_not}
-use Rattle.crsm_law_rounds.proofs.Settling.{after_go, go_up, go_off, mark_up, mark_sent, go_logs, logs_then, settled, settle_logs, go_calmly, room, on, off}
+use Rattle.crsm_law_rounds.proofs.Settling.{after_go, go_up, go_off, mark_up, go_logs, logs_then, settled, settle_logs, go_calmly, room, on, off}
 
 -- ---- executed lists go on
 
@@ -256,7 +256,7 @@ marked_serves k e i c w lines h = record { replica = h.replica; up = ap (λ ss. 
 module _ (t : ℕ) (C : ℕ → Type 0) (v end : World) (lt : t < 2 ^ 64) (all : List ℕ)
     (packets : (i : ℕ) → Among all i → (m : Packet) × (slice_get v.packets i ≡ Some m))
     (calm : (u : World) → GoesCalmly t C v [] u → LogsGoOn u end → (i : ℕ) (m : Packet) → Among all i → slice_get v.packets i ≡ Some m → C m.to → (r : Replica) →
-        slice_get u.sites m.to ≡ Some (Site.Up r) → IsCalmInput r (Input.Came m.from m.datagram)) (k e : ℕ) (c : Waiting) (epoch : c.entry.epoch ≡ e) (counted : C k) where
+    slice_get u.sites m.to ≡ Some (Site.Up r) → IsCalmInput r (Input.Came m.from m.datagram)) (k e : ℕ) (c : Waiting) (epoch : c.entry.epoch ≡ e) (counted : C k) where
   go_serves : (u : World) → GoesCalmly t C v [] u → LogsGoOn u end → (i : ℕ) → Among all i → (lines : List Line) → WaitsOrTold k e c u lines →
       WaitsOrTold k e c (after_go t u i) (lines ++ (single whole_step u (Single.Go i t)).lines)
   go_serves u g ends i a lines h = (let p = packets i a in go p.0 p.1 (calm_at t C v g i p.0 p.1) (up_or_not u p.0.to))

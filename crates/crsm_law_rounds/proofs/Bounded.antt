@@ -1,19 +1,17 @@
 -- Two calm rounds, in every possible run.
-use Rattle.std.proofs.Common.{◌≡◌, ℕ, ◌+◌, ◌-◌, ◌<◌, ◌≤◌, List, [], ◌∷◌, ◌++◌, length, refl, sym, ◌∙◌, ap, subst, inl, inr, Bool, true, false, cond, arith, map, take, append_assoc}
-use Rattle.std.specs.Prelude.{◌⊎◌, ◌^◌, IsTrue, Option, Some, None, slice_get, not, ◌&&◌, Contains}
+use Rattle.std.proofs.Common.{◌≡◌, ℕ, ◌+◌, ◌<◌, ◌≤◌, List, [], ◌∷◌, ◌++◌, length, refl, sym, ◌∙◌, ap, subst, inl, inr, Bool, true, false, cond, arith, map, take, append_assoc}
+use Rattle.std.specs.Prelude.{◌⊎◌, ◌^◌, IsTrue, Some, None, slice_get, not, Contains}
 use Rattle.std.specs.List.{AllByRecursion}
 use Rattle.std.specs.Option.{option_map_or}
 use Rattle.std.proofs.lemmas.List.{append-nil}
 use Rattle.std.proofs.lemmas.Bool.{and_parts, cases_lt, false≢true}
 use Rattle.std.proofs.lemmas.Option.{none-some, same_Some}
 use Rattle.crsm_base.specs.Store.{answer_after}
-use Rattle.crsm_spec.specs.Clock.{u64_max}
-use Rattle.crsm_spec.specs.Types.{Stamp, Entry, Rec, Decision, Datagram, Control, Line}
+use Rattle.crsm_spec.specs.Types.{Stamp, Entry, Rec, Decision, Datagram, Line}
 use Rattle.crsm_spec.specs.Lists.{Among, has, numbers_below}
 use Rattle.crsm_spec.specs.Log.{Log, known, decision, members, active, live, executed}
-use Rattle.crsm_spec.specs.Fits.{fits}
-use Rattle.crsm_spec.specs.Parts.{Piece, whole_with}
-use Rattle.crsm_spec.specs.Replica.{Replica, Waiting, members_of, other_members, unacked}
+use Rattle.crsm_spec.specs.Parts.{Piece}
+use Rattle.crsm_spec.specs.Replica.{Replica, Waiting, members_of, unacked}
 use Rattle.crsm_spec.specs.Step.{Input}
 use Rattle.crsm_spec.specs.World.{Site, Packet, World, begin, log_at, is_full}
 use Rattle.crsm_spec.specs.Acts.{Single, Act, Bad, FitsAct}
@@ -21,8 +19,8 @@ use Rattle.crsm_spec.specs.Moments.{deliverable, moments_of, act}
 use Rattle.crsm_spec.specs.Possible.{first_bad, causes_of, possible}
 use Rattle.crsm_spec.specs.Run.{ArePossible, after_acts, last_world}
 use Rattle.crsm_spec.specs.Safe.{AnswersAt}
-use Rattle.crsm_spec.specs.Calm.{IsPart, IsLaterDecide, IsCalm, IsCalmAt, IsCalmReading, IsOpen, IsUpAs, calm_round, AllIsDone, IsAnsweredAt, IsBounded, RoundsAreBounded}
-use Rattle.crsm_log_facts.specs.Logs.{AllFit, Extends, same, more, Logged}
+use Rattle.crsm_spec.specs.Calm.{IsCalm, IsCalmAt, IsCalmReading, calm_round, AllIsDone, IsAnsweredAt, RoundsAreBounded}
+use Rattle.crsm_log_facts.specs.Logs.{Extends, same, more, Logged}
 use Rattle.crsm_log_facts.proofs.Logged.{extends_trans, end_fits, prepare_known}
 use Rattle.crsm_log_facts.proofs.Lists.{all_at, all_from, has_from}
 use Rattle.crsm_law_steps.specs.Laws.{LogsGoOn}
@@ -31,10 +29,9 @@ use Rattle.crsm_law_steps.proofs.Happen.{act_happens, got_among}
 use Rattle.crsm_law_steps.proofs.Moments.{end_of_moments}
 use Rattle.crsm_law_epoch.specs.Numbers.{Distinct}
 use Rattle.crsm_law_epoch.specs.LogWorlds.{HasFewBoots}
-use Rattle.crsm_law_epoch.specs.Worlds.{seats}
 use Rattle.crsm_law_epoch.proofs.Kept.{live_entered}
 use Rattle.crsm_law_epoch.proofs.LogSteps.{IsBetween}
-use Rattle.crsm_law_epoch.proofs.LogWorlds.{all_held, is_well, up_numbers, logs_fit}
+use Rattle.crsm_law_epoch.proofs.LogWorlds.{all_held, is_well, logs_fit}
 use Rattle.crsm_law_epoch.proofs.Worlds.{log_there}
 use Rattle.crsm_law_decisions.proofs.Agree.{known_are_one}
 use Rattle.crsm_law_decisions.proofs.Choice.{contains_among}
@@ -51,15 +48,15 @@ use Rattle.crsm_law_rounds.specs.Rounds.{GoesCalmly}
 use Rattle.crsm_law_rounds.specs.Rounds.GoesCalmly.{stay}
 use Rattle.crsm_law_rounds.specs.Members.{IsMemberUp, AllUp}
 use Rattle.crsm_law_rounds.proofs.Going.{up_one, calm_at}
-use Rattle.crsm_law_rounds.proofs.Ticks.{ticks, ticks_are, acts_then, AllActive, HaveTicked, have_ticked, can_go, passing_at, deliverable_is}
+use Rattle.crsm_law_rounds.proofs.Ticks.{ticks, ticks_are, acts_then, AllActive, have_ticked, can_go, passing_at, deliverable_is}
 use Rattle.crsm_law_rounds.proofs.Settling.{settled, settle_is, settle_logs}
 use Rattle.crsm_law_rounds.proofs.Links.{fits_member, numbers, fit, facts, seat_log}
 use Rattle.crsm_law_rounds.proofs.Round.{RoundDone, round_done, up_later, other_is}
 use Rattle.crsm_law_rounds.proofs.Executed.{decided_on, executed_is_logged}
 use Rattle.crsm_law_rounds.proofs.Spreading.{CalmStart, IsSubmitted, short_link}
 use Rattle.crsm_law_rounds.proofs.Finishing.{executed_there, logged4}
-use Rattle.crsm_law_rounds.proofs.Hearing.{ToldMildly, whole_is_mild}
-use Rattle.crsm_law_rounds.proofs.Parts.{told_calm, sent_calm, MildPackets, LowDecisions, NoParts, no_parts_after, mild_after_tick, low_after_tick, ticks_keep, fresh_link, link_calm, StaysMild, settle_mild, part_is}
+use Rattle.crsm_law_rounds.proofs.Hearing.{whole_is_mild}
+use Rattle.crsm_law_rounds.proofs.Parts.{told_calm, MildPackets, LowDecisions, NoParts, no_parts_after, mild_after_tick, low_after_tick, ticks_keep, fresh_link, link_calm, StaysMild, settle_mild, part_is}
 use Rattle.crsm_law_rounds.proofs.Answered.{WaitsOrTold, WasTold, lines_told, lines_then, lines_cons, lines_nil, ticks_serve, settle_serves, settle_lines, settle_lines_are, found_there}
 
 -- ---- acts that are possible

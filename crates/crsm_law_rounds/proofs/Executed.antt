@@ -1,20 +1,19 @@
 -- What an active replica has executed of its epoch it has logged, and all that it has logged where nothing is left.
-use Rattle.std.proofs.Common.{◌≡◌, ℕ, suc, ◌+◌, ◌<◌, ◌≤◌, List, [], ◌∷◌, ◌++◌, length, refl, sym, ◌∙◌, ap, subst, inl, inr, Bool, true, false, cond, arith}
-use Rattle.std.specs.Prelude.{◌⊎◌, IsTrue, Option, Some, None, slice_get, filter, option_map, ◌==◌}
+use Rattle.std.proofs.Common.{◌≡◌, ℕ, ◌<◌, List, [], ◌∷◌, ◌++◌, length, refl, sym, ◌∙◌, ap, subst, inl, inr, cond, arith}
+use Rattle.std.specs.Prelude.{IsTrue, Option, Some, None, slice_get, filter, option_map, ◌==◌}
 use Rattle.std.specs.Option.{option_map_or}
-use Rattle.std.proofs.lemmas.Bool.{eq-eqb, ne_eqb, false≢true}
+use Rattle.std.proofs.lemmas.Bool.{eq-eqb, ne_eqb}
 use Rattle.std.proofs.lemmas.List.{append-nil}
 use Rattle.std.proofs.lemmas.Option.{same_Some, none-some}
 use Rattle.crsm_spec.specs.Types.{Entry, Rec, Decision}
 use Rattle.crsm_spec.specs.Lists.{Among, last_of}
 use Rattle.crsm_spec.specs.Log.{Log, known, decision, active, executed, unexecuted, logged, logged_in, last_stamp, above}
 use Rattle.crsm_spec.specs.World.{World, log_at}
-use Rattle.crsm_log_facts.specs.Logs.{Extends, same, Logged}
+use Rattle.crsm_log_facts.specs.Logs.{same, Logged}
 use Rattle.crsm_log_facts.specs.Rising.{Rises}
 use Rattle.crsm_log_facts.proofs.Lists.{among_left, among_right, among_either, get_left, get_inside}
-use Rattle.crsm_log_facts.proofs.Logged.{logged_is, logged_rises, logged_epoch, end_fits}
+use Rattle.crsm_log_facts.proofs.Logged.{logged_is, logged_rises, logged_epoch}
 use Rattle.crsm_law_steps.specs.Happenings.{IsReached}
-use Rattle.crsm_law_collection.specs.Collecting.{EpochFacts}
 use Rattle.crsm_law_collection.proofs.Orderly.{Orderly, orderly, above_last}
 use Rattle.crsm_law_agreement.specs.Openings.{IsEpochOf, EpochHolds}
 use Rattle.crsm_law_agreement.proofs.Agree.{epochs_hold}

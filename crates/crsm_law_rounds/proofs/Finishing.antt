@@ -1,10 +1,10 @@
 -- After two calm rounds all that was submitted is executed at each member.
-use Rattle.std.proofs.Common.{◌≡◌, ℕ, zero, suc, ◌+◌, ◌-◌, ◌<◌, ◌≤◌, ◌/◌, List, [], ◌∷◌, ◌++◌, length, refl, sym, ◌∙◌, ap, subst, inl, inr, Bool, true, false, arith, map, unwrap_or}
-use Rattle.std.specs.Prelude.{◌⊎◌, ◌^◌, IsTrue, Option, Some, None, slice_get, not, nat_le, ◌==◌, ◌&&◌, ◌||◌, count_by}
+use Rattle.std.proofs.Common.{◌≡◌, ℕ, zero, suc, ◌+◌, ◌-◌, ◌<◌, ◌≤◌, List, [], ◌∷◌, ◌++◌, length, refl, sym, ◌∙◌, ap, subst, inl, inr, Bool, true, false, arith, map, unwrap_or}
+use Rattle.std.specs.Prelude.{◌⊎◌, ◌^◌, IsTrue, Some, nat_le, ◌==◌, ◌&&◌, ◌||◌, count_by}
 use Rattle.std.specs.List.{list_any, list_all, range_with_len}
 use Rattle.std.specs.Option.{option_map_or}
-use Rattle.std.proofs.lemmas.Bool.{and_parts, cases_eq, eq-eqb, eqb-true, false≢true, le-leb, leb-true}
-use Rattle.std.proofs.lemmas.Option.{none-some, same_Some}
+use Rattle.std.proofs.lemmas.Bool.{and_parts, cases_eq, eq-eqb, false≢true, le-leb, leb-true}
+use Rattle.std.proofs.lemmas.Option.{same_Some}
 use Rattle.crsm_base.specs.Order.{stamp_eq}
 use Rattle.crsm_base.specs.Replicas.{majority}
 use Rattle.crsm_base.proofs.MembersTests.{true_both}
@@ -15,18 +15,17 @@ use Rattle.crsm_spec.specs.Log.{Log, known, decision, members, spec, active, exe
 use Rattle.crsm_spec.specs.Quorum.{spec_decided}
 use Rattle.crsm_spec.specs.Fits.{fits, can_be_members}
 use Rattle.crsm_spec.specs.Ready.{is_ready, is_replicated, is_stable, is_next, voted, votes_for, reached, all_received}
-use Rattle.crsm_spec.specs.Replica.{Replica, members_of, spec_of, other_members, frames_to, next_from, last_issued}
+use Rattle.crsm_spec.specs.Replica.{Replica, members_of, spec_of, frames_to, last_issued}
 use Rattle.crsm_spec.specs.Frames.{time_of}
-use Rattle.crsm_spec.specs.Step.{Input, step}
-use Rattle.crsm_spec.specs.World.{Site, World, log_at}
+use Rattle.crsm_spec.specs.World.{World, log_at}
 use Rattle.crsm_log_facts.specs.Logs.{AllFit, Logged}
 use Rattle.crsm_log_facts.proofs.Sorted.{eq_self}
-use Rattle.crsm_log_facts.proofs.Lists.{list_all_at, has_from, has_in, get_inside, among_left, among_right}
+use Rattle.crsm_log_facts.proofs.Lists.{list_all_at, has_from, get_inside, among_left, among_right}
 use Rattle.crsm_law_epoch.specs.Numbers.{Distinct}
 use Rattle.crsm_law_epoch.specs.Seats.{seat_up}
-use Rattle.crsm_law_epoch.specs.Worlds.{seats, sent_in}
+use Rattle.crsm_law_epoch.specs.Worlds.{sent_in}
 use Rattle.crsm_law_epoch.proofs.CommitLogs.{unexecuted_logged}
-use Rattle.crsm_law_epoch.proofs.Words.{among_map, range_is, is_range}
+use Rattle.crsm_law_epoch.proofs.Words.{among_map}
 use Rattle.crsm_law_epoch.proofs.Worlds.{log_there}
 use Rattle.crsm_law_bounds.specs.Bounds.{IsSpelt}
 use Rattle.crsm_law_runs.proofs.DurableLists.{among_place}
@@ -40,7 +39,7 @@ use Rattle.crsm_law_rounds.proofs.Links.{facts, numbers, seat_log, sends, receiv
 use Rattle.crsm_law_rounds.proofs.Round.{RoundDone, is_other}
 use Rattle.crsm_law_rounds.proofs.Pigeons.{pigeons, set_of}
 use Rattle.crsm_law_rounds.proofs.Executed.{all_executed}
-use Rattle.crsm_law_rounds.proofs.Spreading.{WasMember, AllWere, were_then, were1, were2, IsSubmitted, was_submitted, spreads, CalmStart, few_owed}
+use Rattle.crsm_law_rounds.proofs.Spreading.{AllWere, were_then, were1, were2, IsSubmitted, was_submitted, spreads, CalmStart, few_owed}
 
 -- ---- tests over lists
 

@@ -1,28 +1,27 @@
 -- What a world keeps that goes on calmly.
-use Rattle.std.proofs.Common.{◌≡◌, ℕ, zero, suc, ◌+◌, ◌<◌, ◌≤◌, List, [], ◌∷◌, ◌++◌, length, refl, sym, ◌∙◌, ap, subst, inl, inr, Bool, true, false, cond, arith, map}
-use Rattle.std.specs.Prelude.{◌⊎◌, ◌^◌, IsTrue, Option, Some, None, slice_get, slice_set, count_by, ◌==◌}
+use Rattle.std.proofs.Common.{◌≡◌, ℕ, ◌+◌, ◌<◌, List, ◌∷◌, ◌++◌, refl, sym, ◌∙◌, ap, subst, inl, inr, Bool, true, cond, arith, map}
+use Rattle.std.specs.Prelude.{◌^◌, Option, Some, None, slice_get, slice_set, count_by, ◌==◌}
 use Rattle.std.specs.Option.{option_map_or}
 use Rattle.std.proofs.lemmas.Bool.{cases_eq, eq-eqb, ne_eqb}
-use Rattle.std.proofs.lemmas.Option.{none-some, same_Some}
+use Rattle.std.proofs.lemmas.Option.{same_Some}
 use Rattle.std.proofs.lemmas.List.{map-append}
 use Rattle.crsm_spec.specs.Types.{Datagram}
 use Rattle.crsm_spec.specs.Lists.{Among}
-use Rattle.crsm_spec.specs.Log.{active}
 use Rattle.crsm_spec.specs.Replica.{Replica}
 use Rattle.crsm_spec.specs.Draft.{Draft}
 use Rattle.crsm_spec.specs.Step.{Input, step}
-use Rattle.crsm_spec.specs.World.{Site, Packet, World, Moment, log_at, packet_of, whole_step, after_step}
+use Rattle.crsm_spec.specs.World.{Site, Packet, World, Moment, packet_of, whole_step, after_step}
 use Rattle.crsm_spec.specs.Moments.{use_up, silent, begun_at}
-use Rattle.crsm_log_facts.specs.Logs.{Extends, same}
+use Rattle.crsm_log_facts.specs.Logs.{same}
 use Rattle.crsm_log_facts.proofs.Logged.{extends_trans}
-use Rattle.crsm_log_facts.proofs.Lists.{among_left, get_left, get_inside}
+use Rattle.crsm_log_facts.proofs.Lists.{among_left, get_left}
 use Rattle.crsm_law_steps.specs.Laws.{LogsGoOn}
 use Rattle.crsm_law_steps.specs.Happenings.{Marks, CanCome, Ends, Happens, IsReached, WasSent}
 use Rattle.crsm_law_steps.proofs.Moments.{moment_goes_on}
 use Rattle.crsm_law_epoch.specs.Worlds.{sent_in}
 use Rattle.crsm_law_epoch.proofs.Words.{set_same, set_other, count_same, count_other}
-use Rattle.crsm_law_epoch.proofs.Worlds.{marked_sent, marked_sites}
-use Rattle.crsm_law_active.specs.Staying.{IsCalmInput, ticks_in, Stays}
+use Rattle.crsm_law_epoch.proofs.Worlds.{marked_sent}
+use Rattle.crsm_law_active.specs.Staying.{Stays}
 use Rattle.crsm_law_active.proofs.Staying.{steps_stay}
 use Rattle.crsm_law_rounds.specs.Rounds.{GoesCalmly}
 use Rattle.crsm_law_rounds.specs.Rounds.GoesCalmly.{stay, marks, by_tick, by_packet}
@@ -106,9 +105,11 @@ module _ (t : ℕ) (C : ℕ → Type 0) (v : World) where
 
   set_at : (ps : List Packet) (i j : ℕ) (m : Packet) (n : Packet) → slice_get ps i ≡ Some n → IsAt ps j m → IsAt (slice_set ps i (record n { used = true })) j m
   set_at ps i j m n e h = elim (cases_eq j i) [
-    | inl q ↦ (let is : n ≡ record m { used = h.0 } = same_Some n _ (sym e ∙ subst (λ z. slice_get ps z ≡ Some (record m { used = h.0 })) q h.1) in
-        (true, subst (λ z. slice_get (slice_set ps i (record n { used = true })) z ≡ Some (record m { used = true })) (sym q)
-        (subst (λ (z : Packet). slice_get (slice_set ps i (record n { used = true })) i ≡ Some (record z { used = true })) is (set_same ps i n (record n { used = true }) e))))
+    | inl q ↦ (let is : n ≡ record m { used = h.0 } = same_Some n _ (sym e ∙ subst (λ z. slice_get ps z ≡ Some (record m { used = h.0 })) q h.1) in (
+      true,
+      subst (λ z. slice_get (slice_set ps i (record n { used = true })) z ≡ Some (record m { used = true })) (sym q)
+          (subst (λ (z : Packet). slice_get (slice_set ps i (record n { used = true })) i ≡ Some (record z { used = true })) is (set_same ps i n (record n { used = true }) e)),
+    ))
     | inr ne ↦ (h.0, set_other ps i j (record n { used = true }) ne ∙ h.1)
   ]
 

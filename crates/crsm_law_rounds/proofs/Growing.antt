@@ -1,21 +1,20 @@
 -- A replica later in the same epoch.
-use Rattle.std.proofs.Common.{◌≡◌, ℕ, suc, ◌+◌, ◌<◌, ◌≤◌, List, [], ◌∷◌, ◌++◌, length, refl, sym, ◌∙◌, ap, subst, inl, inr, Bool, true, false, cond, arith, map, max, append_assoc, length-append}
+use Rattle.std.proofs.Common.{◌≡◌, ℕ, ◌+◌, ◌≤◌, List, [], ◌∷◌, ◌++◌, length, refl, sym, ◌∙◌, ap, subst, inl, inr, Bool, true, false, cond, arith, map, max, length-append}
 use Rattle.std.specs.Prelude.{◌≢◌, ◌⊎◌, IsTrue, filter, count_by, ◌==◌, not, ◌||◌, nat_lt}
-use Rattle.std.specs.List.{AllByRecursion}
 use Rattle.std.proofs.lemmas.Bool.{cases_eq, eq-eqb, false≢true, ltb-true}
-use Rattle.std.proofs.lemmas.List.Sums.{sum_by-append, sum_by-cons}
+use Rattle.std.proofs.lemmas.List.Sums.{sum_by-append}
 use Rattle.std.proofs.lemmas.List.Elements.{filter-append}
 use Rattle.std.proofs.lemmas.List.{map-append}
-use Rattle.crsm_spec.specs.Types.{Entry, Rec, Decision}
+use Rattle.crsm_spec.specs.Types.{Entry, Rec}
 use Rattle.crsm_spec.specs.Lists.{Among, greatest}
-use Rattle.crsm_spec.specs.Log.{Log, known, decision, members, spec, active, live, suspended, logged, logged_in}
+use Rattle.crsm_spec.specs.Log.{Log, known, decision, members, active, live, suspended, logged, logged_in}
 use Rattle.crsm_spec.specs.Fits.{fits, is_newest}
 use Rattle.crsm_spec.specs.Replica.{Replica, next_from, acked_by}
 use Rattle.crsm_log_facts.specs.Logs.{AllFit, Extends, same, more, Logged}
 use Rattle.crsm_log_facts.proofs.Logged.{prepare_known}
 use Rattle.crsm_log_facts.proofs.Lists.{list_all_at}
 use Rattle.crsm_law_agreement.proofs.Logs.{is_logged}
-use Rattle.crsm_law_active.specs.Staying.{GrowsBy, IsEndOf, Stays}
+use Rattle.crsm_law_active.specs.Staying.{GrowsBy, IsEndOf}
 use Rattle.crsm_law_active.proofs.Ending.{grows_then, end_self, end_then}
 
 -- ---- logs that grow
@@ -119,9 +118,10 @@ pub grows_set : (me k n : ℕ) {a b : Log} {xs : List Entry} → GrowsBy me a xs
 grows_set me k n GrowsBy.same h = (tt, λ f m. absurd m)
 grows_set me k n (GrowsBy.entry {new = log} g ne p) h =
     let t = grows_set me k n p h.1 in
-    let new = fresh_entry k n log g h.0 in
-    ((λ m. new (grows_new me p g m), t.0),
-    λ f m l. elim m [ inl e ↦ new (logged_on g (grows_extends me p) (subst (Logged _) (sym e) l)) | inr q ↦ t.1 f q l ])
+    let new = fresh_entry k n log g h.0 in (
+      (λ m. new (grows_new me p g m), t.0),
+      λ f m l. elim m [ inl e ↦ new (logged_on g (grows_extends me p) (subst (Logged _) (sym e) l)) | inr q ↦ t.1 f q l ],
+    )
 grows_set me k n (GrowsBy.commit s p) h = grows_set me k n p h.1
 
 -- ---- what is in front only adds
@@ -142,8 +142,8 @@ pub acked_later : (r q : Replica) (j : ℕ) → IsEndOf r.acked q.acked → acke
 unfolding acked_by
 acked_later r q j e =
     let is = ap (λ l. greatest (map (λ (a : ℕ × ℕ). a.1) (filter (λ a. a.0 == j) l))) e.1
-        ∙ ap (λ l. greatest (map (λ (a : ℕ × ℕ). a.1) l)) (filter-append (λ (a : ℕ × ℕ). a.0 == j) e.0 r.acked)
-        ∙ ap greatest (map-append (λ (a : ℕ × ℕ). a.1) (filter (λ a. a.0 == j) e.0) (filter (λ a. a.0 == j) r.acked)) in
+    ∙ ap (λ l. greatest (map (λ (a : ℕ × ℕ). a.1) l)) (filter-append (λ (a : ℕ × ℕ). a.0 == j) e.0 r.acked)
+    ∙ ap greatest (map-append (λ (a : ℕ × ℕ). a.1) (filter (λ a. a.0 == j) e.0) (filter (λ a. a.0 == j) r.acked)) in
     let le = greatest_right (map (λ (a : ℕ × ℕ). a.1) (filter (λ a. a.0 == j) e.0)) (map (λ (a : ℕ × ℕ). a.1) (filter (λ a. a.0 == j) r.acked)) in
     omega (arith, is, le)
 

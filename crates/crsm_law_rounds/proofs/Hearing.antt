@@ -1,18 +1,17 @@
 -- A message whose parts were all sent within a calm round is the one that is made whole of them.
-use Rattle.std.proofs.Common.{◌≡◌, ℕ, zero, suc, ◌+◌, ◌<◌, ◌≤◌, List, [], ◌∷◌, ◌++◌, length, refl, sym, ◌∙◌, ap, subst, inl, inr, Bool, true, false, arith, map, get_or}
-use Rattle.std.specs.Prelude.{◌⊎◌, IsTrue, Option, Some, None, slice_get}
+use Rattle.std.proofs.Common.{◌≡◌, ℕ, suc, ◌<◌, List, [], ◌∷◌, length, refl, sym, ◌∙◌, ap, subst, inl, inr, arith, get_or}
+use Rattle.std.specs.Prelude.{IsTrue, Some, slice_get}
 use Rattle.std.proofs.lemmas.Option.{same_Some}
 use Rattle.crsm_base.specs.Messages.{control_bytes, FitsControl}
 use Rattle.crsm_base.specs.MessageReading.{control_of}
 use Rattle.crsm_base.proofs.ControlLaws.{control_of-bytes}
 use Rattle.crsm_spec.specs.Types.{Datagram, Control}
-use Rattle.crsm_spec.specs.Lists.{Among}
-use Rattle.crsm_spec.specs.Parts.{Piece, cut, is_same_message, with_part, whole_with}
+use Rattle.crsm_spec.specs.Parts.{Piece, cut, is_same_message, whole_with}
 use Rattle.crsm_spec.specs.Replica.{Replica}
 use Rattle.crsm_spec.specs.World.{Site, World}
 use Rattle.crsm_law_steps.specs.Happenings.{IsReached, WasSent}
 use Rattle.crsm_law_messages.proofs.Gathered.{same_keys, with_among, whole_is}
-use Rattle.crsm_law_messages.proofs.SendingControls.{IsFor, Here, piece}
+use Rattle.crsm_law_messages.proofs.SendingControls.{IsFor, piece}
 use Rattle.crsm_law_messages.proofs.Worlds.{all_known}
 use Rattle.crsm_law_active.specs.Staying.{IsMild}
 

@@ -1,23 +1,23 @@
 -- A frame of the next number of a link between members is not odd, and fits.
-use Rattle.std.proofs.Common.{◌≡◌, ℕ, ◌+◌, ◌<◌, ◌≤◌, List, [], ◌∷◌, ◌++◌, length, refl, sym, ◌∙◌, ap, subst, inl, inr, Bool, true, false, cond, arith, map}
-use Rattle.std.specs.Prelude.{◌≢◌, ◌⊎◌, IsTrue, Some, slice_get, not, nat_lt, nat_le, ◌==◌, ◌&&◌, ◌||◌, filter, count_by}
+use Rattle.std.proofs.Common.{◌≡◌, ℕ, ◌+◌, ◌<◌, ◌≤◌, List, [], ◌∷◌, refl, sym, ◌∙◌, ap, subst, inl, inr, Bool, true, false, arith, map}
+use Rattle.std.specs.Prelude.{◌≢◌, IsTrue, Some, slice_get, not, nat_lt, nat_le, ◌==◌, ◌||◌, filter, count_by}
 use Rattle.std.specs.List.{list_all}
 use Rattle.std.proofs.lemmas.Bool.{and_parts, cases_eq, cases_lt, eq-eqb, ne_eqb, eqb-true, false≢true, lt-ltb}
 use Rattle.std.proofs.lemmas.Bool.Decides.{nat_tests}
 use Rattle.crsm_base.proofs.MembersTests.{true_both}
 use Rattle.crsm_spec.specs.Types.{Stamp, Entry, Rec, InEpoch, Datagram}
-use Rattle.crsm_spec.specs.Lists.{Among, has, greatest}
+use Rattle.crsm_spec.specs.Lists.{Among, has}
 use Rattle.crsm_spec.specs.Log.{Log, known, decision, members, active, logged}
 use Rattle.crsm_spec.specs.Fits.{fits, is_newest}
-use Rattle.crsm_spec.specs.Replica.{Replica, members_of, other_members, frames_to, next_from, latest_from}
+use Rattle.crsm_spec.specs.Replica.{Replica, members_of, frames_to, next_from, latest_from}
 use Rattle.crsm_spec.specs.Frames.{time_of, is_odd_frame, is_wrong}
 use Rattle.crsm_spec.specs.Step.{Input, step}
-use Rattle.crsm_spec.specs.World.{World, Site, log_at}
+use Rattle.crsm_spec.specs.World.{World}
 use Rattle.crsm_log_facts.specs.Logs.{AllFit, Logged}
-use Rattle.crsm_log_facts.proofs.Logged.{prepare_known, decide_above}
+use Rattle.crsm_log_facts.proofs.Logged.{decide_above}
 use Rattle.crsm_log_facts.proofs.LogsFit.{of_known}
 use Rattle.crsm_log_facts.proofs.Lists.{kept_from, has_in, has_from}
-use Rattle.crsm_law_epoch.specs.Seats.{Seat, seat_up, seat_of, Sender, Receiver, Facts, logs_of, pushed_to, taken_of}
+use Rattle.crsm_law_epoch.specs.Seats.{seat_up, seat_of, Sender, Receiver, Facts, logs_of, pushed_to, taken_of}
 use Rattle.crsm_law_epoch.specs.Worlds.{seats, sent_in}
 use Rattle.crsm_law_epoch.proofs.LogWorlds.{epochs_hold_always, logs_fit, up_numbers}
 use Rattle.crsm_law_epoch.proofs.Words.{among_unmap, count_same}

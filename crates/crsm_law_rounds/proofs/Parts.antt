@@ -1,46 +1,45 @@
 -- In a calm round no message is told but known decisions and questions.
-use Rattle.std.proofs.Common.{◌≡◌, ℕ, zero, suc, ◌+◌, ◌<◌, ◌≤◌, List, [], ◌∷◌, ◌++◌, length, refl, sym, ◌∙◌, ap, subst, inl, inr, Bool, true, false, cond, arith, map, get_or}
-use Rattle.std.specs.Prelude.{◌⊎◌, ◌^◌, IsTrue, Option, Some, None, slice_get, slice_set, not, ◌&&◌, Contains}
+use Rattle.std.proofs.Common.{◌≡◌, ℕ, zero, suc, ◌+◌, ◌<◌, ◌≤◌, List, [], ◌∷◌, length, refl, sym, ◌∙◌, ap, subst, inl, inr, true, false, arith, map, get_or}
+use Rattle.std.specs.Prelude.{◌⊎◌, ◌^◌, IsTrue, Option, Some, None, slice_get, slice_set}
 use Rattle.std.specs.List.{enumerate_from}
 use Rattle.std.specs.Option.{option_map_or}
-use Rattle.std.proofs.lemmas.Bool.{cases_eq, cases_lt, and_parts, false≢true}
-use Rattle.std.proofs.lemmas.Option.{none-some, same_Some}
+use Rattle.std.proofs.lemmas.Bool.{cases_eq, false≢true}
+use Rattle.std.proofs.lemmas.Option.{same_Some}
 use Rattle.crsm_base.specs.Messages.{control_bytes, FitsControl}
-use Rattle.crsm_spec.specs.Types.{Rec, Decision, Datagram, Control}
+use Rattle.crsm_spec.specs.Types.{Decision, Datagram, Control}
 use Rattle.crsm_spec.specs.Lists.{Among}
-use Rattle.crsm_spec.specs.Log.{Log, decision, boots, active}
-use Rattle.crsm_spec.specs.Parts.{Piece, cut}
+use Rattle.crsm_spec.specs.Log.{decision, boots, active}
+use Rattle.crsm_spec.specs.Parts.{cut}
 use Rattle.crsm_spec.specs.Replica.{Replica}
 use Rattle.crsm_spec.specs.Draft.{Draft, begun, parts_to}
 use Rattle.crsm_spec.specs.Step.{Input, step}
-use Rattle.crsm_spec.specs.World.{Site, Packet, World, Moment, is_full, log_at, log_of, packet_of, is_up_at, whole_step}
-use Rattle.crsm_spec.specs.Moments.{use_up, begun_at, deliverable}
-use Rattle.crsm_spec.specs.Calm.{IsPart, IsLaterDecide}
-use Rattle.crsm_log_facts.specs.Logs.{Extends, same}
-use Rattle.crsm_log_facts.proofs.Lists.{among_left, among_right, among_either}
-use Rattle.crsm_step_facts.specs.Changes.{Changes, stay as no_change}
+use Rattle.crsm_spec.specs.World.{Site, Packet, World, is_full, packet_of, whole_step}
+use Rattle.crsm_spec.specs.Moments.{use_up}
+use Rattle.crsm_spec.specs.Calm.{IsPart}
+use Rattle.crsm_log_facts.proofs.Lists.{among_right, among_either}
+use Rattle.crsm_step_facts.specs.Changes.{stay as no_change}
 use Rattle.crsm_step_facts.specs.Messages.{IsSent, Answers}
 use Rattle.crsm_step_facts.proofs.Fitted.{step_changes}
 use Rattle.crsm_law_steps.specs.Laws.{LogsGoOn}
-use Rattle.crsm_law_steps.specs.Happenings.{Marks, CanCome, Ends, Happens, IsReached, WasSent}
+use Rattle.crsm_law_steps.specs.Happenings.{Marks, CanCome, Ends, IsReached, WasSent}
 use Rattle.crsm_law_steps.proofs.Happen.{got_among, among_set}
 use Rattle.crsm_law_epoch.specs.Numbers.{Distinct}
 use Rattle.crsm_law_epoch.proofs.LogSteps.{IsBetween}
 use Rattle.crsm_law_epoch.proofs.LogWorlds.{all_held, up_numbers}
 use Rattle.crsm_law_epoch.proofs.Words.{among_unmap, among_map}
 use Rattle.crsm_law_epoch.proofs.Worlds.{log_there}
-use Rattle.crsm_law_messages.specs.SentMessages.{SentMessage, WasSentBefore, here}
+use Rattle.crsm_law_messages.specs.SentMessages.{SentMessage, here}
 use Rattle.crsm_law_bounds.specs.Bounds.{IsSpelt}
 use Rattle.crsm_law_runs.proofs.DurableLists.{among_place}
-use Rattle.crsm_law_active.specs.Staying.{IsMild, IsCalmInput, Stays, ticks_in}
-use Rattle.crsm_law_active.specs.Telling.{IsOfLink, IsKnown, TellsLittle, ComesOnLink}
+use Rattle.crsm_law_active.specs.Staying.{IsMild, IsCalmInput}
+use Rattle.crsm_law_active.specs.Telling.{IsOfLink, IsKnown, TellsLittle}
 use Rattle.crsm_law_active.specs.Telling.TellsLittle.{OfLinks, OneMessage}
 use Rattle.crsm_law_active.proofs.Staying.{steps_stay}
 use Rattle.crsm_law_active.proofs.Telling.{links_tell_little}
 use Rattle.crsm_law_rounds.specs.Rounds.{GoesCalmly}
 use Rattle.crsm_law_rounds.specs.Rounds.GoesCalmly.{stay, marks, by_tick, by_packet}
 use Rattle.crsm_law_rounds.proofs.Growing.{grows_decision}
-use Rattle.crsm_law_rounds.proofs.Going.{IsAt, up_one, calm_reached, calm_at, site_after, other_site, packets_after, mark_sites, tick_happens, packet_happens}
+use Rattle.crsm_law_rounds.proofs.Going.{IsAt, up_one, calm_reached, calm_at, site_after, other_site, packets_after, mark_sites, packet_happens}
 use Rattle.crsm_law_rounds.proofs.Ticks.{tick, tick_up, tick_other, ticks, AllActive, IsUpOrNot, Up, Off, up_or_not}
 use Rattle.crsm_law_rounds.proofs.Settling.{after_go, go_up, go_off, mark_up, mark_sent, go_logs, logs_then, settled, settle_logs, go_calmly, room, on, off}
 use Rattle.crsm_law_rounds.proofs.Hearing.{ToldMildly}
@@ -203,8 +202,11 @@ module _ (n e t : ℕ) (u : World) (reached : IsReached n u) (i : ℕ) (k : ℕ)
 
   -- what the step has sent was sent
   sent_now : (s : ℕ × Datagram) → Among x.sends s → WasSent after k s.0 s.1
-  sent_now s a = (false, subst (λ l. Among l (record { from = k; to = s.0; datagram = s.1; used = false })) (sym (packets_after w k x))
-      (among_right w.packets (map (packet_of k) x.sends) _ (subst (Among (map (packet_of k) x.sends)) (packet_is k s) (among_map (packet_of k) x.sends s a))))
+  sent_now s a = (
+    false,
+    subst (λ l. Among l (record { from = k; to = s.0; datagram = s.1; used = false })) (sym (packets_after w k x))
+        (among_right w.packets (map (packet_of k) x.sends) _ (subst (Among (map (packet_of k) x.sends)) (packet_is k s) (among_map (packet_of k) x.sends s a))),
+  )
 
   new_told : IsSpelt n after → ((v : Decision) → decision r.log ≡ Some v → v.epoch ≤ e) → TellsLittle r x → (s : ℕ × Datagram) → Among x.sends s →
       (a b boot number index count : ℕ) (bytes : List ℕ) → s.1 ≡ Datagram.Part a b boot number index count bytes → (s.0 ≡ b) × ToldMildly e after a b boot number count
@@ -220,10 +222,11 @@ module _ (n e t : ℕ) (u : World) (reached : IsReached n u) (i : ℕ) (k : ℕ)
           count_is = refl;
           parts = λ y within. subst (λ z. WasSent after k j (Datagram.Part z j (boots r.log) r.made y (length (cut (control_bytes c))) (get_or (cut (control_bytes c)) y []))) me
               (sent_now (j, Datagram.Part r.me j (boots r.log) r.made y (length (cut (control_bytes c))) (get_or (cut (control_bytes c)) y [])) (g _ (part_in r j c y within)));
-        } in
-        (ap (λ (z : ℕ × Datagram). z.0) (sym f.1) ∙ same.1,
-        subst (λ z. ToldMildly e after z b boot number count) (sym me ∙ same.0) (subst (λ z. ToldMildly e after k z boot number count) same.1
-        (subst (λ z. ToldMildly e after k j z number count) same.2 (subst (λ z. ToldMildly e after k j (boots r.log) z count) same.3 (subst (ToldMildly e after k j (boots r.log) r.made) same.4 told))))))
+        } in (
+          ap (λ (z : ℕ × Datagram). z.0) (sym f.1) ∙ same.1,
+          subst (λ z. ToldMildly e after z b boot number count) (sym me ∙ same.0) (subst (λ z. ToldMildly e after k z boot number count) same.1
+              (subst (λ z. ToldMildly e after k j z number count) same.2 (subst (λ z. ToldMildly e after k j (boots r.log) z count) same.3 (subst (ToldMildly e after k j (boots r.log) r.made) same.4 told)))),
+        ))
   ]
     where
       same_part : (a b c y i l : ℕ) (ps : List ℕ) (a2 b2 c2 y2 i2 l2 : ℕ) (ps2 : List ℕ) → Datagram.Part a b c y i l ps ≡ Datagram.Part a2 b2 c2 y2 i2 l2 ps2 →

@@ -1,6 +1,6 @@
 -- A list without repetition is no longer than one that has all its elements.
-use Rattle.std.proofs.Common.{◌≡◌, ℕ, ◌+◌, ◌≤◌, List, [], ◌∷◌, ◌++◌, length, refl, sym, ◌∙◌, ap, subst, inl, inr, Bool, true, cond, arith, length-append}
-use Rattle.std.specs.Prelude.{◌⊎◌, IsTrue, count_by}
+use Rattle.std.proofs.Common.{◌≡◌, ℕ, ◌+◌, ◌≤◌, List, [], ◌∷◌, ◌++◌, length, refl, sym, ◌∙◌, ap, subst, inl, inr, Bool, cond, arith}
+use Rattle.std.specs.Prelude.{IsTrue, count_by}
 use Rattle.std.proofs.lemmas.List.Sums.{sum_by-append, sum_by-cons}
 use Rattle.crsm_spec.specs.Lists.{Among}
 use Rattle.crsm_log_facts.proofs.Lists.{among_left, among_right, among_either}

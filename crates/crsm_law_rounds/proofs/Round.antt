@@ -1,19 +1,18 @@
 -- One calm round: each frame that was pushed before its settle is taken in it.
-use Rattle.std.proofs.Common.{◌≡◌, ℕ, zero, suc, ◌+◌, ◌<◌, ◌≤◌, List, [], ◌∷◌, ◌++◌, length, refl, sym, ◌∙◌, ap, subst, inl, inr, Bool, true, false, cond, arith, map, take, drop}
-use Rattle.std.specs.Prelude.{◌≢◌, ◌⊎◌, ◌^◌, IsTrue, Option, Some, None, slice_get, filter, not, ◌==◌, ◌&&◌, count_by}
+use Rattle.std.proofs.Common.{◌≡◌, ℕ, zero, suc, ◌+◌, ◌<◌, ◌≤◌, List, [], ◌∷◌, ◌++◌, length, refl, sym, ◌∙◌, ap, subst, inl, inr, Bool, true, false, arith, map, drop}
+use Rattle.std.specs.Prelude.{◌^◌, IsTrue, Some, slice_get, filter, not, ◌==◌, count_by}
 use Rattle.std.specs.Option.{option_map_or}
 use Rattle.std.specs.List.{enumerate_from}
-use Rattle.std.proofs.lemmas.Bool.{cases_eq, cases_lt, eq-eqb, ne_eqb, eqb-true, false≢true}
-use Rattle.std.proofs.lemmas.Option.{none-some, same_Some}
+use Rattle.std.proofs.lemmas.Bool.{cases_eq, eq-eqb, ne_eqb, eqb-true, false≢true}
+use Rattle.std.proofs.lemmas.Option.{same_Some}
 use Rattle.std.proofs.lemmas.List.{length-drop}
-use Rattle.crsm_base.specs.Limits.{most_again}
-use Rattle.crsm_spec.specs.Types.{InEpoch, Datagram}
-use Rattle.crsm_spec.specs.Lists.{Among, greatest}
-use Rattle.crsm_spec.specs.Log.{known, active, members}
+use Rattle.crsm_spec.specs.Types.{Datagram}
+use Rattle.crsm_spec.specs.Lists.{Among}
+use Rattle.crsm_spec.specs.Log.{known, members}
 use Rattle.crsm_spec.specs.Replica.{Replica, members_of, other_members, frames_to, next_from, acked_by, unacked}
 use Rattle.crsm_spec.specs.Draft.{Draft}
 use Rattle.crsm_spec.specs.Step.{Input, step}
-use Rattle.crsm_spec.specs.World.{Site, Packet, World, is_full, is_up, is_up_at, log_at, packet_of, whole_step}
+use Rattle.crsm_spec.specs.World.{Site, Packet, World, is_full, is_up, is_up_at, packet_of, whole_step}
 use Rattle.crsm_spec.specs.Moments.{use_up, deliverable}
 use Rattle.crsm_log_facts.proofs.Lists.{kept_from, kept_in}
 use Rattle.crsm_log_facts.proofs.Logged.{extends_trans}
@@ -24,16 +23,16 @@ use Rattle.crsm_law_epoch.specs.LogWorlds.{HasFewBoots}
 use Rattle.crsm_law_epoch.specs.Worlds.{sent_in}
 use Rattle.crsm_law_epoch.proofs.Words.{among_map, among_unmap, distinct_filter}
 use Rattle.crsm_law_active.specs.Again.{sent_to, frame_of}
-use Rattle.crsm_law_active.specs.Staying.{IsCalmInput, Stays, ticks_in}
+use Rattle.crsm_law_active.specs.Staying.{IsCalmInput}
 use Rattle.crsm_law_active.proofs.Again.{steps_send_again}
 use Rattle.crsm_law_active.proofs.Staying.{steps_stay}
 use Rattle.crsm_law_counts.proofs.Worlds.{few_before}
 use Rattle.crsm_law_rounds.specs.Rounds.{GoesCalmly, IsFrameAt, Carries}
-use Rattle.crsm_law_rounds.specs.Rounds.GoesCalmly.{stay, marks, by_tick, by_packet}
+use Rattle.crsm_law_rounds.specs.Rounds.GoesCalmly.{stay}
 use Rattle.crsm_law_rounds.specs.Members.{IsMemberUp, AllUp}
-use Rattle.crsm_law_rounds.proofs.Growing.{IsLater, grows_known, grows_active, grows_members, next_later, greatest_among}
-use Rattle.crsm_law_rounds.proofs.Going.{IsAt, StaysUp, up_one, calm_reached, calm_logs, calm_at, calm_later, site_after, other_site, mark_sites}
-use Rattle.crsm_law_rounds.proofs.Ticks.{ticks, TickOf, tick_of, HaveTicked, have_ticked, AllActive, count_once, passing, passing_then, passing_at, can_go, deliverable_is, carries_behind, carries_before, carries_sends, IsUpOrNot, Up, Off, up_or_not}
+use Rattle.crsm_law_rounds.proofs.Growing.{grows_known, grows_active, grows_members, next_later, greatest_among}
+use Rattle.crsm_law_rounds.proofs.Going.{IsAt, StaysUp, up_one, calm_reached, calm_at, calm_later, site_after, other_site, mark_sites}
+use Rattle.crsm_law_rounds.proofs.Ticks.{ticks, TickOf, tick_of, HaveTicked, have_ticked, count_once, passing, passing_then, passing_at, can_go, deliverable_is, carries_behind, carries_before, carries_sends, IsUpOrNot, Up, Off, up_or_not}
 use Rattle.crsm_law_rounds.proofs.Settling.{after_go, go_up, go_off, settled, settle_logs, settle_goes, all_come, next_at, next_is, next_same, mark_up}
 use Rattle.crsm_law_rounds.proofs.Links.{counted, numbers, next_is_taken, next_rises}
 
@@ -91,7 +90,7 @@ module _ (n e t : ℕ) (ms : List ℕ) (lt : t < 2 ^ 64) (distinct : Distinct ms
       (free : is_full (settled t (deliverable (ticks t ms v)) (ticks t ms v)) ≡ false)
       (short : (k j : ℕ) (r : Replica) → IsMemberUp e ms v k r → Among (other_members r) j → length (unacked r j) ≤ 64)
       (calm : (u : World) → GoesCalmly t (λ k. Among ms k) (ticks t ms v) [] u → LogsGoOn u end → (i : ℕ) (m : Packet) → Among (deliverable (ticks t ms v)) i →
-          slice_get (ticks t ms v).packets i ≡ Some m → Among ms m.to → (r : Replica) → slice_get u.sites m.to ≡ Some (Site.Up r) → IsCalmInput r (Input.Came m.from m.datagram)) where
+      slice_get (ticks t ms v).packets i ≡ Some m → Among ms m.to → (r : Replica) → slice_get u.sites m.to ≡ Some (Site.Up r) → IsCalmInput r (Input.Came m.from m.datagram)) where
     abbrev w1 : World
     w1 = ticks t ms v
 
@@ -295,7 +294,7 @@ pub round_done : (n e t : ℕ) (ms : List ℕ) (lt : t < 2 ^ 64) → Distinct ms
     LogsGoOn (settled t (deliverable (ticks t ms v)) (ticks t ms v)) end → is_full (settled t (deliverable (ticks t ms v)) (ticks t ms v)) ≡ false →
     ((k j : ℕ) (r : Replica) → IsMemberUp e ms v k r → Among (other_members r) j → length (unacked r j) ≤ 64) →
     ((u : World) → GoesCalmly t (λ k. Among ms k) (ticks t ms v) [] u → LogsGoOn u end → (i : ℕ) (m : Packet) → Among (deliverable (ticks t ms v)) i →
-        slice_get (ticks t ms v).packets i ≡ Some m → Among ms m.to → (r : Replica) → slice_get u.sites m.to ≡ Some (Site.Up r) → IsCalmInput r (Input.Came m.from m.datagram)) →
+    slice_get (ticks t ms v).packets i ≡ Some m → Among ms m.to → (r : Replica) → slice_get u.sites m.to ≡ Some (Site.Up r) → IsCalmInput r (Input.Came m.from m.datagram)) →
     RoundDone n e t ms v (ticks t ms v) (settled t (deliverable (ticks t ms v)) (ticks t ms v))
 round_done n e t ms lt distinct small v end h few ends free short calm = record {
   up1 = up1 n e t ms lt distinct small v end h few ends free short calm;

@@ -1,26 +1,23 @@
 -- The settle of a calm round: what it carries in order is taken.
 use Rattle.std.proofs.Common.{◌≡◌, ℕ, ◌+◌, ◌<◌, ◌≤◌, List, [], ◌∷◌, refl, sym, ◌∙◌, ap, subst, Bool, true, false, cond, arith, inl, inr}
-use Rattle.std.specs.Prelude.{◌⊎◌, ◌^◌, IsTrue, Option, Some, None, slice_get, slice_set}
+use Rattle.std.specs.Prelude.{◌^◌, Option, Some, None, slice_get, slice_set}
 use Rattle.std.specs.Option.{option_map_or}
-use Rattle.std.proofs.lemmas.Bool.{cases_eq, false≢true}
-use Rattle.std.proofs.lemmas.Option.{none-some, same_Some}
-use Rattle.crsm_spec.specs.Types.{InEpoch, Datagram}
+use Rattle.std.proofs.lemmas.Bool.{false≢true}
 use Rattle.crsm_spec.specs.Lists.{Among}
 use Rattle.crsm_spec.specs.Replica.{Replica, next_from}
 use Rattle.crsm_spec.specs.Step.{Input, step}
-use Rattle.crsm_spec.specs.World.{Site, Packet, World, Moment, is_full, whole_step, log_at}
+use Rattle.crsm_spec.specs.World.{Site, Packet, World, Moment, is_full, whole_step}
 use Rattle.crsm_spec.specs.Acts.{Single, Act}
 use Rattle.crsm_spec.specs.Moments.{use_up, begun_at, silent, come, single, step_at, step_at_site, deliverable, go_each, moments_of, world_after, act}
-use Rattle.crsm_log_facts.specs.Logs.{Extends, same}
+use Rattle.crsm_log_facts.specs.Logs.{same}
 use Rattle.crsm_log_facts.proofs.Logged.{extends_trans}
-use Rattle.crsm_step_facts.proofs.Logs.{steps_grow}
 use Rattle.crsm_law_steps.specs.Laws.{LogsGoOn}
 use Rattle.crsm_law_steps.specs.Happenings.{WasSent}
 use Rattle.crsm_law_steps.proofs.Happen.{got_among}
 use Rattle.crsm_law_epoch.proofs.Words.{set_same}
 use Rattle.crsm_law_active.specs.Staying.{IsCalmInput}
 use Rattle.crsm_law_rounds.specs.Rounds.{GoesCalmly, IsFrameAt, Carries}
-use Rattle.crsm_law_rounds.specs.Rounds.GoesCalmly.{stay, marks, by_tick, by_packet}
+use Rattle.crsm_law_rounds.specs.Rounds.GoesCalmly.{stay, marks, by_packet}
 use Rattle.crsm_law_rounds.proofs.Going.{IsAt, calm_at, calm_logs}
 use Rattle.crsm_law_rounds.proofs.Ticks.{step_up, IsUpOrNot, Up, Off, up_or_not}
 
@@ -109,9 +106,11 @@ next_same k j u w e = ap (λ o. option_map_or (next_of k) o 0) e
 
 pub mark_sent : (u : World) (i : ℕ) (m : Packet) → (used : Bool) × (slice_get u.packets i ≡ Some (record m { used = used })) → WasSent (use_up i u) m.from m.to m.datagram
 unfolding use_up
-mark_sent u i m h =
-    (true, subst (λ (o : Option Packet). Among (option_map_or (λ z. slice_set u.packets i (record z { used = true })) o u.packets) (record { from = m.from; to = m.to; datagram = m.datagram; used = true })) (sym h.1)
-    (got_among _ i _ (set_same u.packets i (record m { used = h.0 }) (record m { used = true }) h.1)))
+mark_sent u i m h = (
+  true,
+  subst (λ (o : Option Packet). Among (option_map_or (λ z. slice_set u.packets i (record z { used = true })) o u.packets) (record { from = m.from; to = m.to; datagram = m.datagram; used = true })) (sym h.1)
+      (got_among _ i _ (set_same u.packets i (record m { used = h.0 }) (record m { used = true }) h.1)),
+)
 
 go_none : (t : ℕ) (v : World) (i : ℕ) → slice_get v.packets i ≡ None → after_go t v i ≡ use_up i v
 unfolding after_go single begun_at come silent
@@ -152,7 +151,7 @@ settle_logs t lt (i ∷ is) u = go (is_full u) refl (settle_logs t lt is (after_
 module _ (t : ℕ) (C : ℕ → Type 0) (v end : World) (lt : t < 2 ^ 64) (all : List ℕ)
     (packets : (i : ℕ) → Among all i → (m : Packet) × (slice_get v.packets i ≡ Some m))
     (calm : (u : World) → GoesCalmly t C v [] u → LogsGoOn u end → (i : ℕ) (m : Packet) → Among all i → slice_get v.packets i ≡ Some m → C m.to → (r : Replica) →
-        slice_get u.sites m.to ≡ Some (Site.Up r) → IsCalmInput r (Input.Came m.from m.datagram)) where
+    slice_get u.sites m.to ≡ Some (Site.Up r) → IsCalmInput r (Input.Came m.from m.datagram)) where
   abbrev G : World → Type 0
   G u = GoesCalmly t C v [] u
 

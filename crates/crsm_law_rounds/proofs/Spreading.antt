@@ -1,7 +1,7 @@
 -- After one calm round each member has logged what was submitted, and its links are short.
-use Rattle.std.proofs.Common.{◌≡◌, ℕ, ◌+◌, ◌<◌, ◌≤◌, List, [], ◌∷◌, ◌++◌, length, refl, sym, ◌∙◌, ap, subst, inl, inr, Bool, true, false, arith, length-append}
-use Rattle.std.specs.Prelude.{◌⊎◌, ◌^◌, IsTrue, Some, slice_get, Contains, count_by, ◌==◌}
-use Rattle.std.specs.List.{AllByRecursion, enumerate_from}
+use Rattle.std.proofs.Common.{◌≡◌, ℕ, ◌+◌, ◌<◌, ◌≤◌, List, [], length, refl, sym, ◌∙◌, ap, subst, inl, inr, true, arith, length-append}
+use Rattle.std.specs.Prelude.{◌^◌, IsTrue, Some, slice_get, Contains, count_by, ◌==◌}
+use Rattle.std.specs.List.{enumerate_from}
 use Rattle.std.proofs.lemmas.Bool.{cases_eq}
 use Rattle.std.proofs.lemmas.Option.{same_Some}
 use Rattle.std.proofs.lemmas.List.{length-drop}
@@ -9,23 +9,23 @@ use Rattle.std.proofs.lemmas.List.FromFn.{length-enumerate_from}
 use Rattle.std.proofs.lemmas.List.Sums.{count_by-le-length}
 use Rattle.crsm_spec.specs.Types.{Entry, Rec, InEpoch, Datagram}
 use Rattle.crsm_spec.specs.Lists.{Among, has}
-use Rattle.crsm_spec.specs.Log.{Log, known, members, active, executed}
-use Rattle.crsm_spec.specs.Replica.{Replica, members_of, other_members, frames_to, next_from, acked_by, unacked}
+use Rattle.crsm_spec.specs.Log.{known, members, active, executed}
+use Rattle.crsm_spec.specs.Replica.{Replica, other_members, frames_to, next_from, acked_by, unacked}
 use Rattle.crsm_spec.specs.World.{Site, World, log_at}
 use Rattle.crsm_spec.specs.Calm.{IsOpen}
 use Rattle.crsm_log_facts.specs.Logs.{Logged}
 use Rattle.crsm_log_facts.proofs.Lists.{all_at, get_inside, has_in}
 use Rattle.crsm_law_epoch.specs.Numbers.{Distinct}
-use Rattle.crsm_law_epoch.specs.Seats.{Sender, Receiver, seat_up, seat_of, pushed_to, taken_of, logs_of}
-use Rattle.crsm_law_epoch.specs.Worlds.{seats, sent_in}
+use Rattle.crsm_law_epoch.specs.Seats.{seat_up, pushed_to, taken_of}
+use Rattle.crsm_law_epoch.specs.Worlds.{sent_in}
 use Rattle.crsm_law_epoch.proofs.Worlds.{log_there}
 use Rattle.crsm_law_decisions.proofs.Choice.{contains_among}
 use Rattle.crsm_law_bounds.specs.Bounds.{IsSpelt}
 use Rattle.crsm_law_runs.proofs.DurableLists.{among_contains}
 use Rattle.crsm_law_rounds.specs.Rounds.{GoesCalmly}
 use Rattle.crsm_law_rounds.specs.Members.{IsMemberUp, AllUp}
-use Rattle.crsm_law_rounds.proofs.Growing.{IsLater, later_then, later_self, logged_on, grows_extends, grows_own, grows_new, grows_epoch, grows_set, acked_later, IsSet}
-use Rattle.crsm_law_rounds.proofs.Going.{StaysUp, up_one, calm_later, calm_sent}
+use Rattle.crsm_law_rounds.proofs.Growing.{IsLater, later_then, logged_on, grows_extends, grows_own, grows_new, grows_epoch, grows_set, acked_later, IsSet}
+use Rattle.crsm_law_rounds.proofs.Going.{up_one, calm_later, calm_sent}
 use Rattle.crsm_law_rounds.proofs.Links.{facts, numbers, seat_log, sends, receives, counted, fit, members_are, origin_member, sent_at}
 use Rattle.crsm_law_rounds.proofs.Round.{RoundDone, other_is, is_other}
 use Rattle.crsm_law_rounds.proofs.Pigeons.{pigeons}

@@ -1,6 +1,6 @@
 -- The ticks of a calm round.
-use Rattle.std.proofs.Common.{◌≡◌, ℕ, zero, suc, ◌+◌, ◌<◌, ◌≤◌, List, [], ◌∷◌, ◌++◌, length, refl, sym, ◌∙◌, ap, subst, inl, inr, Bool, true, false, cond, arith, map, append_assoc, take, drop}
-use Rattle.std.specs.Prelude.{◌⊎◌, IsTrue, Option, Some, None, slice_get, filter, not, ◌&&◌, ◌==◌, count_by}
+use Rattle.std.proofs.Common.{◌≡◌, ℕ, suc, ◌+◌, ◌≤◌, List, [], ◌∷◌, ◌++◌, length, refl, sym, ◌∙◌, ap, subst, inl, inr, Bool, true, false, cond, arith, map, append_assoc}
+use Rattle.std.specs.Prelude.{IsTrue, Option, Some, None, slice_get, filter, not, ◌&&◌, ◌==◌, count_by}
 use Rattle.std.specs.List.{enumerate_from}
 use Rattle.std.proofs.lemmas.Bool.{cases_eq, eq-eqb, ne_eqb, false≢true}
 use Rattle.std.proofs.lemmas.Option.{none-some, same_Some}
@@ -9,17 +9,16 @@ use Rattle.crsm_spec.specs.Types.{InEpoch, Datagram}
 use Rattle.crsm_spec.specs.Lists.{Among}
 use Rattle.crsm_spec.specs.Log.{active}
 use Rattle.crsm_spec.specs.Replica.{Replica}
-use Rattle.crsm_spec.specs.Draft.{Draft}
 use Rattle.crsm_spec.specs.Step.{Input, step}
 use Rattle.crsm_spec.specs.World.{Site, Packet, World, Moment, packet_of, is_up_at, whole_step}
 use Rattle.crsm_spec.specs.Acts.{Single, Act}
 use Rattle.crsm_spec.specs.Moments.{silent, step_at_site, step_at, single, deliverable, moments_of, world_after, act}
 use Rattle.crsm_spec.specs.Run.{after_acts}
 use Rattle.crsm_law_epoch.specs.Numbers.{Distinct}
-use Rattle.crsm_law_epoch.proofs.Words.{get_end, count_same, count_other}
+use Rattle.crsm_law_epoch.proofs.Words.{count_same, count_other}
 use Rattle.crsm_law_active.specs.Again.{sent_to, frame_of}
 use Rattle.crsm_law_rounds.specs.Rounds.{GoesCalmly, IsFrameAt, Carries}
-use Rattle.crsm_law_rounds.specs.Rounds.GoesCalmly.{stay, marks, by_tick, by_packet}
+use Rattle.crsm_law_rounds.specs.Rounds.GoesCalmly.{by_tick}
 use Rattle.crsm_law_rounds.proofs.Going.{site_after, other_site, packets_after}
 
 -- ---- one tick
@@ -321,7 +320,7 @@ module _ (packets : List Packet) (k j e : ℕ) where
               let size : a + 1 + length o.1 ≡ a + length fs = (let z = ap (λ (l : List InEpoch). length l) o.2 in omega (arith, z)) in
               let passes = goes m t.0 (t.1 ∙ to) in
               let found : IsFrameAt packets (length front) k j e a = (m, o.0, ap (λ l. slice_get l (length front)) at ∙ at_front front (rest ++ more) m, t.1 ∙ to, t.2 ∙ o.3 ∙ framed a o.0) in
-              subst (λ l. Carries packets k j e (a + length fs) l a) (sym (one_passing P (length front) m rest) )
+              subst (λ l. Carries packets k j e (a + length fs) l a) (sym (one_passing P (length front) m rest))
               (step_on P (a + length fs) a (length front) m (passing P (length front + 1) rest)
               (λ w. inr (inl (found, subst (λ z. Carries packets k j e z (passing P (length front + 1) rest) (a + 1)) size (subst (λ l. Carries packets k j e (a + 1 + length o.1) l (a + 1)) numbers h))))
               (λ w. absurd (false≢true (sym w ∙ passes)))))
