@@ -2,6 +2,8 @@
 
 ghost use Rattle.std.specs.Prelude.{◌≡◌, ◌≢◌, ◌<◌, ◌≤◌, ◌+◌, ◌↔◌, ℕ, IsTrue, List, Some, length};
 ghost use Rattle.crsm_faults.specs.Counts.{Rose};
+ghost use Rattle.crsm_spec.specs.Calm.{IsBounded};
+ghost use Rattle.crsm_spec.specs.Run.{last_world};
 ghost use Rattle.crsm_spec.specs.Safe.{Agreed, Answered, RealTime};
 ghost use Rattle.crsm_spec.specs.Decided.{DecisionsAgree};
 ghost use Rattle.crsm_spec.specs.Durable.{KeepsAnswered};
@@ -13,6 +15,7 @@ ghost use Rattle.crsm_app.specs.Run.{Ran, IsDone, IsRefused, IsTooLong, IsReplay
 use crate::replay::Replay;
 use crate::status::{Halt, Status};
 use crsm_io::{Sink, Source};
+use crsm_law_rounds::rounds_are_bounded;
 use crsm_law_runs::{answered_are_kept, decisions_always_agree, runs_are_safe};
 use crsm_law_texts::{events_have_one_text, first_lines_have_one_text, spelt_are_lines};
 use std::alloc::Global;
@@ -151,10 +154,14 @@ pub fn run<I: Source, O: Sink>(
     ensures real_time { (s : Schedule) → IsSchedule s → RealTime s.replicas (acts_of s) }
     ensures durable { (s : Schedule) → IsSchedule s → KeepsAnswered s.replicas (acts_of s) }
     ensures decisions { (s : Schedule) → IsSchedule s → DecisionsAgree s.replicas (acts_of s) }
+
+    // Where a schedule has led to a calm state, two calm rounds more do all that was submitted.
+    ensures bounded { (s : Schedule) → IsSchedule s → IsBounded (last_world s.replicas (acts_of s)) }
 {
     runs_are_safe();
     answered_are_kept();
     decisions_always_agree();
+    rounds_are_bounded();
     events_have_one_text();
     first_lines_have_one_text();
     spelt_are_lines();

@@ -7,6 +7,7 @@ use Rattle.crsm_spec.specs.Acts.{Act, FitsAct}
 use Rattle.crsm_spec.specs.Moments.{act}
 use Rattle.crsm_spec.specs.Possible.{possible}
 use Rattle.crsm_spec.specs.Run.{ArePossible, after_acts, last_world}
+use Rattle.crsm_spec.specs.Calm.{RoundsAreBounded}
 use Rattle.crsm_spec.specs.Safe.{IsSafe}
 use Rattle.crsm_law_runs.specs.Laws.{AnsweredAreKept}
 use Rattle.crsm_law_runs.specs.DurableLaws.{DecisionsAlwaysAgree}
@@ -39,8 +40,8 @@ does_more old new n acts e done fits here stands =
     }
 
 -- what it has done keeps all laws
-pub is_lawful : (w : World) (n : ℕ) (acts : List Act) → IsSafe → AnsweredAreKept → DecisionsAlwaysAgree → HasDone w n acts → IsLawful n acts
-is_lawful w n acts safe kept agree done =
+pub is_lawful : (w : World) (n : ℕ) (acts : List Act) → IsSafe → AnsweredAreKept → DecisionsAlwaysAgree → RoundsAreBounded → HasDone w n acts → IsLawful n acts
+is_lawful w n acts safe kept agree bound done =
     let all = safe n done.some done.most acts done.possible in
     record {
       agreement = all.0;
@@ -48,4 +49,5 @@ is_lawful w n acts safe kept agree done =
       real_time = all.2;
       durable = kept n acts done.most done.possible;
       decisions = agree n acts done.most done.possible;
+      bounded = bound n done.some done.most acts done.possible;
     }

@@ -18,6 +18,7 @@ use crate::bad::Bad;
 use crate::machines::Machines;
 use crsm_base::{Lines, NoMemory};
 use crsm_disk::MemDisk;
+use crsm_law_rounds::rounds_are_bounded;
 use crsm_law_runs::{answered_are_kept, decisions_always_agree, runs_are_safe};
 use crsm_network::Network;
 use crsm_schedule::Event;
@@ -94,6 +95,7 @@ impl World {
         runs_are_safe();
         answered_are_kept();
         decisions_always_agree();
+        rounds_are_bounded();
         Ok(lines)
     }
 
@@ -143,6 +145,7 @@ impl World {
         runs_are_safe();
         answered_are_kept();
         decisions_always_agree();
+        rounds_are_bounded();
         Ok(lines)
     }
 }

@@ -78,3 +78,9 @@ returns-then-is_replay-clause-decisions g c = λ s good. c.decisions_always_agre
 
 pub returns-else-is_replay-clause-decisions : goal.returns-else-is_replay-clause-decisions
 returns-else-is_replay-clause-decisions g c = λ s good. c.decisions_always_agree.ensures s.replicas (acts_of s) good.size.1 good.possible
+
+pub returns-then-is_replay-clause-bounded : goal.returns-then-is_replay-clause-bounded
+returns-then-is_replay-clause-bounded g c = λ s good. c.rounds_are_bounded.ensures s.replicas good.size.0 good.size.1 (acts_of s) good.possible
+
+pub returns-else-is_replay-clause-bounded : goal.returns-else-is_replay-clause-bounded
+returns-else-is_replay-clause-bounded g c = λ s good. c.rounds_are_bounded.ensures s.replicas good.size.0 good.size.1 (acts_of s) good.possible

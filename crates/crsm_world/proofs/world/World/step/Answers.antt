@@ -15,5 +15,5 @@ returns-clause-done c n acts done =
 
 pub returns-clause-laws : goal.returns-clause-laws
 returns-clause-laws c n acts done =
-    is_lawful _ n (acts ++ act_of c.args.event.now ∷ []) c.runs_are_safe.ensures c.answered_are_kept.ensures c.decisions_always_agree.ensures
+    is_lawful _ n (acts ++ act_of c.args.event.now ∷ []) c.runs_are_safe.ensures c.answered_are_kept.ensures c.decisions_always_agree.ensures c.rounds_are_bounded.ensures
     (returns-clause-done c n acts done)
