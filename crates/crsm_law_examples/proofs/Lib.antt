@@ -21,6 +21,7 @@ mod LostTogether
 mod StopAtTheGate
 mod StopBeforeTheGate
 mod CalmRounds
+mod CalmState
 mod ReplacedReplica
 mod ClockNearItsEnd
 mod StopsAndReplies

@@ -3,10 +3,17 @@
 //! code.
 #![tactic(auto)]
 
+ghost use Rattle.crsm_law_examples.specs.Calming.{ComesToCalm};
 ghost use Rattle.crsm_law_examples.specs.Changing.{ChangesEpochs};
 
 /// There are possible runs in which an epoch is decided and a command is answered that the decision saved: the premises of
 /// the laws of all runs can be met.
 pub fn epochs_change()
     ensures { ChangesEpochs }
+{}
+
+/// There are possible runs that come to a calm state with an entry that is not executed, and two calm rounds that are possible
+/// there: the premises of the bound can be met.
+pub fn calm_rounds_come()
+    ensures { ComesToCalm }
 {}
