@@ -1,17 +1,17 @@
 -- Two calm rounds, in every possible run.
 use Rattle.std.proofs.Common.{◌≡◌, ℕ, ◌+◌, ◌<◌, ◌≤◌, List, [], ◌∷◌, ◌++◌, length, refl, sym, ◌∙◌, ap, subst, inl, inr, Bool, true, false, cond, arith, map, take, append_assoc}
-use Rattle.std.specs.Prelude.{◌⊎◌, ◌^◌, IsTrue, Some, None, slice_get, not, Contains}
+use Rattle.std.specs.Prelude.{◌≢◌, ◌⊎◌, ◌^◌, IsTrue, Some, None, slice_get, not, Contains}
 use Rattle.std.specs.List.{AllByRecursion}
 use Rattle.std.specs.Option.{option_map_or}
 use Rattle.std.proofs.lemmas.List.{append-nil}
 use Rattle.std.proofs.lemmas.Bool.{and_parts, cases_lt, false≢true}
 use Rattle.std.proofs.lemmas.Option.{none-some, same_Some}
 use Rattle.crsm_base.specs.Store.{answer_after}
-use Rattle.crsm_spec.specs.Types.{Stamp, Entry, Rec, Decision, Datagram, Line}
+use Rattle.crsm_spec.specs.Types.{Stamp, Entry, Rec, Decision, Datagram, Line, InEpoch}
 use Rattle.crsm_spec.specs.Lists.{Among, has, numbers_below}
 use Rattle.crsm_spec.specs.Log.{Log, known, decision, members, active, live, executed}
 use Rattle.crsm_spec.specs.Parts.{Piece}
-use Rattle.crsm_spec.specs.Replica.{Replica, Waiting, members_of, unacked}
+use Rattle.crsm_spec.specs.Replica.{Replica, Waiting, members_of, unacked, frames_to}
 use Rattle.crsm_spec.specs.Step.{Input}
 use Rattle.crsm_spec.specs.World.{Site, Packet, World, begin, log_at, is_full}
 use Rattle.crsm_spec.specs.Acts.{Single, Act, Bad, FitsAct}
@@ -19,7 +19,7 @@ use Rattle.crsm_spec.specs.Moments.{deliverable, moments_of, act}
 use Rattle.crsm_spec.specs.Possible.{first_bad, causes_of, possible}
 use Rattle.crsm_spec.specs.Run.{ArePossible, after_acts, last_world}
 use Rattle.crsm_spec.specs.Safe.{AnswersAt}
-use Rattle.crsm_spec.specs.Calm.{IsCalm, IsCalmAt, IsCalmReading, calm_round, AllIsDone, IsAnsweredAt, RoundsAreBounded}
+use Rattle.crsm_spec.specs.Calm.{IsCalm, IsCalmAt, IsCalmReading, calm_round, AllIsDone, IsAnsweredAt, RoundsAreBounded, IsUpAs}
 use Rattle.crsm_log_facts.specs.Logs.{Extends, same, more, Logged}
 use Rattle.crsm_log_facts.proofs.Logged.{extends_trans, end_fits, prepare_known}
 use Rattle.crsm_log_facts.proofs.Lists.{all_at, all_from, has_from}
@@ -47,14 +47,15 @@ use Rattle.crsm_law_counts.proofs.Worlds.{few_before}
 use Rattle.crsm_law_rounds.specs.Rounds.{GoesCalmly}
 use Rattle.crsm_law_rounds.specs.Rounds.GoesCalmly.{stay}
 use Rattle.crsm_law_rounds.specs.Members.{IsMemberUp, AllUp}
+use Rattle.crsm_law_rounds.specs.Passes.{ticks_of, AllTaken, FramesAreTaken, LinksStayShort, IsAcknowledged, EntriesAreSpread}
 use Rattle.crsm_law_rounds.proofs.Going.{up_one, calm_at}
 use Rattle.crsm_law_rounds.proofs.Ticks.{ticks, ticks_are, acts_then, AllActive, have_ticked, can_go, passing_at, deliverable_is}
 use Rattle.crsm_law_rounds.proofs.Settling.{settled, settle_is, settle_logs}
 use Rattle.crsm_law_rounds.proofs.Links.{fits_member, numbers, fit, facts, seat_log}
-use Rattle.crsm_law_rounds.proofs.Round.{RoundDone, round_done, up_later, other_is}
+use Rattle.crsm_law_rounds.proofs.Round.{RoundDone, round_done, up_later, other_is, is_other}
 use Rattle.crsm_law_rounds.proofs.Executed.{decided_on, executed_is_logged}
-use Rattle.crsm_law_rounds.proofs.Spreading.{CalmStart, IsSubmitted, short_link}
-use Rattle.crsm_law_rounds.proofs.Finishing.{executed_there, logged4}
+use Rattle.crsm_law_rounds.proofs.Spreading.{CalmStart, IsSubmitted, short_link, spreads}
+use Rattle.crsm_law_rounds.proofs.Finishing.{executed_there, logged4, paid}
 use Rattle.crsm_law_rounds.proofs.Hearing.{whole_is_mild}
 use Rattle.crsm_law_rounds.proofs.Parts.{told_calm, MildPackets, LowDecisions, NoParts, no_parts_after, mild_after_tick, low_after_tick, ticks_keep, fresh_link, link_calm, StaysMild, settle_mild, part_is}
 use Rattle.crsm_law_rounds.proofs.Answered.{WaitsOrTold, WasTold, lines_told, lines_then, lines_cons, lines_nil, ticks_serve, settle_serves, settle_lines, settle_lines_are, found_there}
@@ -368,7 +369,7 @@ module _ (n : ℕ) (one : 1 ≤ n) (most : n ≤ 15) (acts : List Act) (run : Ar
 
   d2 : RoundDone n e u ms v2 v3 v4
   d2 = round_done n e u ms lt_u distinct small v2 v4 d1.up2 few4 (λ k. same) free4
-      (λ k j r m o. short_link n e t ms distinct small lt_t v v1 v2 h spelt start d1 k (runs_member n e ms v2 d1.up2 k r m) r m j o) calm2
+      (λ k j r m o. let le = short_link n e t ms distinct small lt_t v v1 v2 h spelt start d1 k (runs_member n e ms v2 d1.up2 k r m) r m j o in omega (arith, le)) calm2
 
   above : (k time : ℕ) (r : Replica) → Among ms k → IsMemberUp e ms v2 k r → Among r.issued time → time + 10 ≤ u
   above k time r in_k m a =
@@ -495,6 +496,56 @@ module _ (n : ℕ) (one : 1 ≤ n) (most : n ≤ 15) (acts : List Act) (run : Ar
               line = contains_among (lines_told v rounds_acts) _ was.line;
             }
 
+  -- ---- the passes
+
+  ticks1 : after_acts v (ticks_of ms t) ≡ v1
+  unfolding ticks_of
+  ticks1 = ticks_are t ms v
+
+  ticks3 : after_acts v (calm_round ms t ++ ticks_of ms u) ≡ v3
+  unfolding ticks_of
+  ticks3 = acts_then v (calm_round ms t) (tick_acts u ms) ∙ ap (λ w. after_acts w (tick_acts u ms)) end2 ∙ ticks_are u ms v2
+
+  member_up : (w : World) → AllUp n e ms w → (k : ℕ) (r : Replica) → Among ms k → slice_get w.sites k ≡ Some (Site.Up r) → IsMemberUp e ms w k r
+  member_up w all_up k r in_k up = let o = all_up.member k in_k in subst (IsMemberUp e ms w k) (up_one o.0 r (same_Some _ _ (sym o.1.up ∙ up))) o.1
+
+  taken_by : (time : ℕ) (x y z : World) → RoundDone n e time ms x y z → AllTaken ms y z
+  taken_by time x y z d k j r q in_k in_j ne up_k up_j =
+      let a = among_contains ms k in_k in
+      let b = among_contains ms j in_j in
+      d.come k j r q a b ne (member_up y d.up1 k r a up_k) (member_up z d.up2 j q b up_j)
+
+  pub frames_taken : AllTaken ms (after_acts v (ticks_of ms t)) (after_acts v (calm_round ms t)) × AllTaken ms (after_acts v (calm_round ms t ++ ticks_of ms u)) (after_acts v rounds_acts)
+  frames_taken = (
+    subst (λ w. AllTaken ms w (after_acts v (calm_round ms t))) (sym ticks1) (subst (AllTaken ms v1) (sym end2) (taken_by t v v1 v2 d1)),
+    subst (λ w. AllTaken ms w (after_acts v rounds_acts)) (sym ticks3) (subst (AllTaken ms v3) (sym end4) (taken_by u v2 v3 v4 d2)),
+  )
+
+  pub links_short : (k j : ℕ) (r : Replica) → Contains ms k → Contains ms j → k ≢ j → IsUpAs (after_acts v (calm_round ms t)) k r → length (unacked r j) ≤ 49
+  links_short k j r in_k in_j ne up =
+      let a = among_contains ms k in_k in
+      let m = member_up v2 d1.up2 k r a (subst (λ w. slice_get w.sites k ≡ Some (Site.Up r)) end2 up) in
+      let nums = numbers n e ms v2 d1.up2 k r m in
+      short_link n e t ms distinct small lt_t v v1 v2 h spelt start d1 k a r m j (is_other n e t ms lt_t distinct small v2 k j r m nums.0 (among_contains ms j in_j) ne)
+
+  pub entries_spread : (f : Entry) → f.epoch ≡ e → Contains (log_at v f.stamp.origin) (Rec.Prepare f) → (k : ℕ) → Contains ms k →
+      Contains (log_at (after_acts v (calm_round ms t)) k) (Rec.Prepare f)
+      × ((r : Replica) → f.stamp.origin ≢ k → IsUpAs (after_acts v (calm_round ms t ++ ticks_of ms u)) k r → IsAcknowledged ms k r f)
+  entries_spread f ep c k contains_k =
+      let in_k = among_contains ms k contains_k in
+      let s = submitted f ep (among_contains (log_at v f.stamp.origin) (Rec.Prepare f) c) k in_k in
+      let q = d1.up2.member k in_k in
+      let log_is : log_at (after_acts v (calm_round ms t)) k ≡ q.0.log = ap (λ w. log_at w k) end2 ∙ log_there v2 k q.0 q.1.up in
+      (subst (λ l. Contains l (Rec.Prepare f)) (sym log_is) (contains_among q.0.log (Rec.Prepare f) (spreads n e t ms v v1 v2 h d1 f s k q.0 in_k q.1)), pushed f s k in_k)
+    where
+      pushed : (f : Entry) → IsSubmitted e ms v f → (k : ℕ) → Among ms k → (r : Replica) → f.stamp.origin ≢ k → IsUpAs (after_acts v (calm_round ms t ++ ticks_of ms u)) k r → IsAcknowledged ms k r f
+      pushed f s k in_k r other up j in_j ne =
+          let m = member_up v3 d2.up1 k r in_k (subst (λ w. slice_get w.sites k ≡ Some (Site.Up r)) ticks3 up) in
+          let nums = numbers n e ms v3 d2.up1 k r m in
+          let p = paid n e t u ms one distinct small lt_t v v1 v2 v3 v4 h spelt spelt4 start d1 d2 above read2.below f s k r in_k m other j
+          (is_other n e t ms lt_t distinct small v3 k j r m nums.0 (among_contains ms j in_j) ne) in
+          (p.0, contains_among (frames_to r j) (InEpoch.PrepareOk f.stamp p.0) p.1)
+
   pub all_is_done : AllIsDone e ms v rounds_acts
   all_is_done = record {
     executed = all_executed_there;
@@ -503,3 +554,14 @@ module _ (n : ℕ) (one : 1 ≤ n) (most : n ≤ 15) (acts : List Act) (run : Ar
 
 pub rounds_are_bounded : RoundsAreBounded
 rounds_are_bounded n one most acts run e ms t u calm read1 read2 rounds free = all_is_done n one most acts run e ms t u calm read1 read2 rounds free
+
+-- ---- the laws of the passes
+
+pub frames_are_taken : FramesAreTaken
+frames_are_taken n acts e ms t u p = frames_taken n p.some p.most acts p.run e ms t u p.calm p.first p.second p.possible p.room
+
+pub links_stay_short : LinksStayShort
+links_stay_short n acts e ms t u p = links_short n p.some p.most acts p.run e ms t u p.calm p.first p.second p.possible p.room
+
+pub entries_are_spread : EntriesAreSpread
+entries_are_spread n acts e ms t u p = entries_spread n p.some p.most acts p.run e ms t u p.calm p.first p.second p.possible p.room

@@ -161,7 +161,7 @@ module _ (n e t u : ℕ) (ms : List ℕ) (one : 1 ≤ n) (distinct : Distinct ms
 
   module _ (f : Entry) (s : IsSubmitted e ms v f) where
     -- each member but the origin has pushed its PREPAREOK
-    paid : (k : ℕ) (r : Replica) → Among ms k → IsMemberUp e ms v3 k r → (f.stamp.origin ≡ k → ⊥) → IsPaidTo r f.stamp
+    pub paid : (k : ℕ) (r : Replica) → Among ms k → IsMemberUp e ms v3 k r → (f.stamp.origin ≡ k → ⊥) → IsPaidTo r f.stamp
     paid k r in_k m3 ne = elim ((counted n e ms v3 d2.up1 k r m3).paid f (logged3 f s k r in_k m3, s.epoch ∙ sym m3.knows) ne) [
       | inl owed ↦ absurd (subst (λ l. Among l f.stamp) (none_owed k r in_k m3) owed)
       | inr p ↦ p

@@ -191,7 +191,7 @@ module _ (n e t : ℕ) (ms : List ℕ) (distinct : Distinct ms) (small : (k : �
       omega (arith, times, owed, entries, ticks, issued)
 
   -- and links are short
-  pub short_link : (j : ℕ) → Among (other_members r2) j → length (unacked r2 j) ≤ 64
+  pub short_link : (j : ℕ) → Among (other_members r2) j → length (unacked r2 j) ≤ 49
   short_link j o =
       let mine = numbers n e ms v2 d.up2 k r2 m2 in
       let other = other_is n e t ms lt distinct small v2 k j r2 m2 mine.0 o in
