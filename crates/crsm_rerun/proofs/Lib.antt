@@ -1,0 +1,6 @@
+pub mod Fronts
+pub mod Steps
+pub mod Cores
+pub mod Stages
+pub mod StepTexts
+pub mod Spelt

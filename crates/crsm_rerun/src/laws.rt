@@ -1,0 +1,14 @@
+//! What is known of the replay of a sheet, for the crates above.
+
+ghost use Rattle.crsm_rerun.specs.Laws.{SheetsHaveOneText};
+
+use crsm_codec::one_spelling_each;
+use crsm_sheet::sheets_are_one;
+
+/// A sheet is replayed to one text.
+pub fn sheets_have_one_text()
+    ensures { SheetsHaveOneText }
+{
+    one_spelling_each();
+    sheets_are_one();
+}

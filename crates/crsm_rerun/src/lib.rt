@@ -1,0 +1,17 @@
+//! The replay of a node's sheet: what a replica kept, sent and told at each line.
+#![tactic(auto)]
+
+mod boot;
+mod ending;
+mod error;
+mod laws;
+mod lines;
+mod rerun;
+mod stage;
+mod step;
+mod text;
+
+pub use error::RerunError;
+pub use laws::sheets_have_one_text;
+pub use rerun::Rerun;
+pub use text::push_step;
