@@ -1,0 +1,10 @@
+pub mod AddressLaws
+pub mod Asking
+pub mod Clusters
+pub mod Distinct
+pub mod Ends
+pub mod Leaf
+pub mod Listed
+pub mod Parts
+pub mod Spaced
+pub mod Table

@@ -1,0 +1,15 @@
+//! The words of the command line: `clap` splits them into a command and its values, and each value is read here.
+#![tactic(auto)]
+
+mod address;
+mod command;
+mod order;
+mod read;
+mod tasks;
+mod usage;
+mod values;
+
+pub use address::{Addresses, read_address, read_addresses};
+pub use order::{LockAction, LockTask, NodeTask, Order, Plan, Task};
+pub use read::{Refusal, read_words};
+pub use usage::usage_text;
