@@ -1,0 +1,5 @@
+pub mod Texts
+pub mod Stream
+pub mod Ends
+pub mod Pieces
+pub mod UpToDate

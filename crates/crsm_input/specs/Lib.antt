@@ -1,0 +1,3 @@
+pub mod Handling
+pub mod State
+pub mod Run
