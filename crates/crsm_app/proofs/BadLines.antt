@@ -6,9 +6,9 @@ use Rattle.crsm_io.specs.Streams.{Takes}
 use Rattle.crsm_text.proofs.WordsLemmas.{split_unique, lacks_not}
 use Rattle.crsm_schedule.specs.Grammar.{first_text, event_text}
 use Rattle.crsm_world.specs.Schedule.{Schedule, IsSchedule, ended, schedule_text}
-use Rattle.crsm_app.specs.State.{read_text, IsGood, count_of}
+use Rattle.crsm_app.specs.State.{read_text, IsGood, count_of, lines_read}
 use Rattle.crsm_app.specs.Refused.{Refused, CutShort, BeginsBad, bad_line, long_line, cut_line}
-use Rattle.crsm_app.proofs.Lines.{TextLaws, nil_not_cons, some_same, none_not_some, lines_read, read_is, read_lacks, first_line, split_lines, prefix_short, GoodNext, next_good, same_read, good_lacks, good_not_refused, one_cause, long_unreadable, GoesOn}
+use Rattle.crsm_app.proofs.Lines.{TextLaws, nil_not_cons, some_same, none_not_some, read_is, read_lacks, first_line, split_lines, prefix_short, GoodNext, next_good, same_read, good_lacks, good_not_refused, one_cause, long_unreadable, GoesOn}
 use Rattle.crsm_app.specs.declared.status.Cause.{Cause}
 
 -- ---- what begins well does not begin badly

@@ -4,10 +4,10 @@ use Rattle.std.specs.List.{flat_map}
 use Rattle.std.proofs.lemmas.List.{append-nil}
 use Rattle.crsm_text.specs.Words.{Lacks}
 use Rattle.crsm_world.specs.Schedule.{Schedule, IsSchedule, ended, schedule_text}
-use Rattle.crsm_app.specs.State.{read_text, IsGood, count_of}
+use Rattle.crsm_app.specs.State.{read_text, IsGood, count_of, lines_read}
 use Rattle.crsm_app.specs.Refused.{BeginsBad, bad_line, long_line, cut_line}
 use Rattle.crsm_app.specs.Run.{Ran, RanToEnd, RanToBad, RanTooLong, IsDone, IsRefused, IsTooLong}
-use Rattle.crsm_app.proofs.Lines.{TextLaws, lines_read, read_is, first_line, prefix_short, same_read}
+use Rattle.crsm_app.proofs.Lines.{TextLaws, read_is, first_line, prefix_short, same_read}
 use Rattle.crsm_app.specs.declared.status.Cause.{Cause}
 use Rattle.crsm_app.specs.declared.status.Status.{Status}
 use Rattle.crsm_app.proofs.BadLines.{not_bad, told, good_not_bad, line_first, next_read, both_lines, same_bad}

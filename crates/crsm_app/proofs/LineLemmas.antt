@@ -18,25 +18,25 @@ use Rattle.crsm_world.specs.World.{WorldStands}
 use Rattle.crsm_world.specs.Schedule.{Schedule, last_world}
 use Rattle.crsm_app.specs.Causes.{cause_of}
 use Rattle.crsm_app.specs.Refused.{RefusedFirst, RefusedNext, unreadable_next, impossible_next, Refused}
-use Rattle.crsm_app.specs.Handled.{FirstLine, NextLine, BeginsWorld, DoesEvent, HandledAfter, Advances, Handles, StopsFirst, StopsNext, StopsAt}
-use Rattle.crsm_app.specs.State.{State, StandsAt}
+use Rattle.crsm_app.specs.Handled.{FirstLine, NextLine, BeginsWorld, DoesEvent, HandledAfter, Advances, StopsFirst, StopsNext, StopsAt}
+use Rattle.crsm_app.specs.State.{StandsAt}
 use Rattle.crsm_app.proofs.Lines.{none_not_some, some_same}
 use Rattle.crsm_app.specs.declared.status.Cause.{Cause}
-use Rattle.crsm_app.specs.declared.status.Stop.{Stop}
+use Rattle.crsm_input.specs.declared.Stop.{Stop}
 
 other_errors : not_readable ≡ no_memory → ⊥
 other_errors e = cc
 
 -- ---- the first line
 
-pub first_unreadable : (line : List ℕ) (read : Option ℕ) → ((n : ℕ) → IsSize n → line ≡ first_text n → read ≡ Some n) → read ≡ None → StopsFirst (Stop.Bad Cause.Unreadable) line
+pub first_unreadable : (line : List ℕ) (read : Option ℕ) → ((n : ℕ) → IsSize n → line ≡ first_text n → read ≡ Some n) → read ≡ None → StopsFirst (Stop.Refused Cause.Unreadable) line
 unfolding StopsFirst
 first_unreadable line read only none = (refl, λ n size text. none_not_some n (sym none ∙ only n size text))
 
 -- ---- a later line
 
 pub next_unreadable : (w : World) (line : List ℕ) (read : Result Event LineError) → ((e : Event) → FitsEvent e → line ≡ event_text e → ReadsAs read e)
-    → read ≡ Err not_readable → StopsNext (Stop.Bad Cause.Unreadable) w line
+    → read ≡ Err not_readable → StopsNext (Stop.Refused Cause.Unreadable) w line
 unfolding StopsNext
 next_unreadable w line read only err =
     unreadable_next refl (λ e fits text. other_errors (subst (λ r. ReadsAs r e) err (only e fits text)))
@@ -56,7 +56,7 @@ unfolding bad_of
 cause_not_memory bad cause named is = none_not_some cause (ap (λ b. option_map cause_of (bad_of b)) (sym is) ∙ named)
 
 pub next_impossible : (w : World) (line : List ℕ) (e : Event) (bad : Bad) (cause : Cause) → FitsEvent e → line ≡ event_text e
-    → (bad ≢ Bad.NoMemory → possible w (act_of e) ≡ bad_of bad) → option_map cause_of (bad_of bad) ≡ Some cause → StopsNext (Stop.Bad cause) w line
+    → (bad ≢ Bad.NoMemory → possible w (act_of e) ≡ bad_of bad) → option_map cause_of (bad_of bad) ≡ Some cause → StopsNext (Stop.Refused cause) w line
 unfolding StopsNext
 next_impossible w line e bad cause fits text told named =
     let why = names (bad_of bad) cause named in
@@ -124,22 +124,6 @@ advances_next line old new before held lines some world next = record {
   after = λ read stands. handled_next read line before held lines next (subst (λ w. StandsAt w read) some stands);
 }
 
--- the part and what came behind it were handled as a line
-pub handles_from : (old new : State) (tail : List ℕ) (lines : List Line) (world : Option Held) → Advances old.world (old.part ++ tail) world lines → new.world ≡ world
-    → new.number ≡ old.number + 1 → new.part ≡ [] → Handles old new tail lines
-unfolding Advances Handles
-handles_from old new tail lines world advances same number part = record {
-  held = advances.held;
-  world = same ∙ advances.world;
-  number = number;
-  part = part;
-  after = advances.after;
-}
-
-pub handles_number : (old new : State) (tail : List ℕ) (lines : List Line) → Handles old new tail lines → new.number ≡ old.number + 1
-unfolding Handles
-handles_number old new tail lines h = h.number
-
 -- the same of an answer that may be an error
 pub advances_if : {E : Type 0} (result : Result (List Line) E) (line : List ℕ) (old : Option Held) (before held : Held) → old ≡ Some before
     → ((c : World) → WorldStands before c → IfOk result (λ lines. DoesEvent c line held lines)) → IfOk result (λ lines. Advances old line (Some held) lines)
@@ -155,18 +139,18 @@ refused_next : (cause : Cause) (line : List ℕ) (before : Held) (read : Option 
 refused_next cause line before None next stands = absurd stands
 refused_next cause line before (Some s) next stands = next (last_world s) stands
 
-pub stops_as_first : (old : Option Held) (stopped : Stop) (line : List ℕ) → old ≡ None → StopsFirst stopped line → StopsAt stopped old line
+pub stops_as_first : (old : Option Held) (stopped : Stop Cause) (line : List ℕ) → old ≡ None → StopsFirst stopped line → StopsAt stopped old line
 unfolding StopsFirst StopsAt
-stops_as_first old (Stop.Bad cause) line none first = λ read stands. refused_first cause line read first (subst (λ w. StandsAt w read) none stands)
+stops_as_first old (Stop.Refused cause) line none first = λ read stands. refused_first cause line read first (subst (λ w. StandsAt w read) none stands)
 stops_as_first old Stop.NoMemory line none first = tt
 
-pub stops_as_next : (old : Option Held) (stopped : Stop) (before : Held) (line : List ℕ) → old ≡ Some before
+pub stops_as_next : (old : Option Held) (stopped : Stop Cause) (before : Held) (line : List ℕ) → old ≡ Some before
     → ((c : World) → WorldStands before c → StopsNext stopped c line) → StopsAt stopped old line
 unfolding StopsNext StopsAt
-stops_as_next old (Stop.Bad cause) before line some next = λ read stands. refused_next cause line before read next (subst (λ w. StandsAt w read) some stands)
+stops_as_next old (Stop.Refused cause) before line some next = λ read stands. refused_next cause line before read next (subst (λ w. StandsAt w read) some stands)
 stops_as_next old Stop.NoMemory before line some next = tt
 
-pub stops_if : {X : Type 0} (result : Result X Stop) (line : List ℕ) (old : Option Held) (before : Held) → old ≡ Some before
+pub stops_if : {X : Type 0} (result : Result X (Stop Cause)) (line : List ℕ) (old : Option Held) (before : Held) → old ≡ Some before
     → ((c : World) → WorldStands before c → IfErr result (λ stopped. StopsNext stopped c line)) → IfErr result (λ stopped. StopsAt stopped old line)
 stops_if (Ok x) line old before some next = tt
 stops_if (Err e) line old before some next = stops_as_next old e before line some next

@@ -13,7 +13,7 @@ use Rattle.crsm_spec.specs.Possible.{possible}
 use Rattle.crsm_spec.specs.Run.{ArePossible, after_acts, last_world as world_at_end}
 use Rattle.crsm_world.specs.Doing.{act_of}
 use Rattle.crsm_world.specs.Schedule.{Schedule, IsSchedule, IsNext, ended, schedule_text, acts_of, last_world, line_count}
-use Rattle.crsm_app.specs.State.{read_text, IsGood, count_of}
+use Rattle.crsm_app.specs.State.{read_text, lines_read, IsGood, count_of}
 use Rattle.crsm_app.specs.Laws.{FitsSchedule, SchedulesAreOne}
 use Rattle.crsm_app.specs.Causes.{cause_of}
 use Rattle.crsm_app.specs.Refused.{RefusedNext, unreadable_next, impossible_next, Refused}
@@ -44,11 +44,6 @@ pub none_not_some : {A : Type 0} (x : A) → None ≡ Some x → ⊥
 none_not_some x e = cc
 
 -- ---- lines of a text
-
--- the whole lines that were read
-abbrev pub lines_read : Option Schedule → List (List ℕ)
-lines_read None = []
-lines_read (Some s) = first_text s.replicas ∷ map event_text s.events
 
 flat_map-map : (es : List Event) → flat_map (λ e. ended (event_text e)) es ≡ flat_map ended (map event_text es)
 flat_map-map [] = refl

@@ -1,9 +1,11 @@
--- The cause of a refusal, and the number of a status.
+-- The cause of a refusal, the status of a run, and the number of a status.
 use Rattle.std.specs.Prelude.{ℕ}
 use Rattle.crsm_spec.specs.Acts.{Bad}
 use Rattle.crsm_app.specs.declared.status.Cause.{Cause}
 use Rattle.crsm_app.specs.declared.status.Status.{Status}
-use Rattle.crsm_app.specs.declared.status.Halt.{Halt}
+use Rattle.crsm_input.specs.declared.Bad.{Bad as BadLine}
+use Rattle.crsm_input.specs.declared.Bad.TheVariants.{Refused, TooLong, Cut}
+use Rattle.crsm_input.specs.declared.Ending.{Ending}
 
 -- why an act is not possible
 unfoldable pub cause_of : Bad → Cause
@@ -28,8 +30,17 @@ number_of Status.WriteFault = 5
 number_of Status.NoMemory = 8
 number_of Status.InputTooLong = 12
 
--- the status of a run that ended in mid-stream
-abbrev pub status_of : Halt → Status
-status_of (Halt.BadInput line cause) = Status.BadInput line cause
-status_of Halt.WriteFault = Status.WriteFault
-status_of Halt.NoMemory = Status.NoMemory
+-- the cause that a bad line is told with
+abbrev pub cause_in : BadLine Cause → Cause
+cause_in (Refused cause) = cause
+cause_in TooLong = Cause.Unreadable
+cause_in Cut = Cause.Unreadable
+
+-- the status of a run over an input that ended so
+abbrev pub status_of : Ending Cause → Status
+status_of Ending.Done = Status.Ok
+status_of (Ending.BadLine line why) = Status.BadInput line (cause_in why)
+status_of Ending.ReadFault = Status.ReadFault
+status_of Ending.WriteFault = Status.WriteFault
+status_of Ending.NoMemory = Status.NoMemory
+status_of Ending.InputTooLong = Status.InputTooLong

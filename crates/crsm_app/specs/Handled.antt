@@ -1,5 +1,5 @@
 -- A line that is handled: what it adds to what has been read, and its lines of the transcript.
-use Rattle.std.specs.Prelude.{◌≡◌, ℕ, ◌+◌, List, [], ◌++◌, Option, Some, None}
+use Rattle.std.specs.Prelude.{◌≡◌, ℕ, List, Option, Some, None}
 use Rattle.crsm_base.specs.declared.Line.{Line}
 use Rattle.crsm_schedule.specs.declared.Event.{Event}
 use Rattle.crsm_schedule.specs.Grammar.{IsSize, first_text, event_text}
@@ -10,8 +10,9 @@ use Rattle.crsm_world.specs.Doing.{act_of}
 use Rattle.crsm_world.specs.World.{WorldStands}
 use Rattle.crsm_world.specs.Schedule.{Schedule, IsNext, last_world}
 use Rattle.crsm_app.specs.Refused.{RefusedFirst, RefusedNext, Refused}
-use Rattle.crsm_app.specs.State.{State, StandsAt}
-use Rattle.crsm_app.specs.declared.status.Stop.{Stop}
+use Rattle.crsm_app.specs.State.{StandsAt}
+use Rattle.crsm_input.specs.declared.Stop.{Stop}
+use Rattle.crsm_app.specs.declared.status.Cause.{Cause}
 
 -- the first line begins a world
 pub record FirstLine (line : List ℕ) (held : Held) (lines : List Line) : Type 0 where
@@ -49,26 +50,19 @@ pub record Advanced (old : Option Held) (line : List ℕ) (new : Option Held) (l
 unfoldable pub Advances : Option Held → List ℕ → Option Held → List Line → Type 0
 Advances old line new lines = Advanced old line new lines
 
--- the part and what came behind it were handled as a line
-pub record Handled (old new : State) (tail : List ℕ) (lines : List Line) : Type 0 where
-  pub held : Held
-  pub world : new.world ≡ Some held
-  pub number : new.number ≡ old.number + 1
-  pub part : new.part ≡ []
-  pub after : (read : Option Schedule) → StandsAt old.world read → HandledAfter read (old.part ++ tail) held lines
-
-unfoldable pub Handles : State → State → List ℕ → List Line → Type 0
-Handles old new tail lines = Handled old new tail lines
+-- the world in memory may be another one that stands for the same
+abbrev pub StaysAt : Option Held → Option Held → Type 0
+StaysAt old new = (read : Option Schedule) → StandsAt old read → StandsAt new read
 
 -- a line is not handled: it is refused, or memory ran out
-unfoldable pub StopsFirst : Stop → List ℕ → Type 0
-StopsFirst (Stop.Bad cause) line = RefusedFirst cause line
+unfoldable pub StopsFirst : Stop Cause → List ℕ → Type 0
+StopsFirst (Stop.Refused cause) line = RefusedFirst cause line
 StopsFirst Stop.NoMemory line = Unit {0}
 
-unfoldable pub StopsNext : Stop → World → List ℕ → Type 0
-StopsNext (Stop.Bad cause) w line = RefusedNext w cause line
+unfoldable pub StopsNext : Stop Cause → World → List ℕ → Type 0
+StopsNext (Stop.Refused cause) w line = RefusedNext w cause line
 StopsNext Stop.NoMemory w line = Unit {0}
 
-unfoldable pub StopsAt : Stop → Option Held → List ℕ → Type 0
-StopsAt (Stop.Bad cause) world line = (read : Option Schedule) → StandsAt world read → Refused read cause line
+unfoldable pub StopsAt : Stop Cause → Option Held → List ℕ → Type 0
+StopsAt (Stop.Refused cause) world line = (read : Option Schedule) → StandsAt world read → Refused read cause line
 StopsAt Stop.NoMemory world line = Unit {0}

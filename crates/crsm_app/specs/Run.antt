@@ -1,47 +1,15 @@
--- What a run does: how it stands in mid-stream, and what it did by its status.
+-- What a run did, by its status.
 use Rattle.std.specs.Prelude.{◌≡◌, ℕ, ◌+◌, ◌≤◌, ◌⊎◌, List, [], ◌∷◌, ◌++◌, Option, length, ◌<◌, Some, String, codes, map, string_bytes}
 use Rattle.crsm_io.specs.Streams.{Takes, Puts, PutsPrefix, AtEnd}
 use Rattle.crsm_text.specs.Words.{Lacks}
 use Rattle.crsm_world.specs.Schedule.{Schedule, IsSchedule, schedule_text, transcript, finals_text}
-use Rattle.crsm_app.specs.State.{State, read_text, shown_text, whole_text, IsGood, count_of, StandsAt}
+use Rattle.crsm_app.specs.State.{read_text, shown_text, whole_text, IsGood, count_of}
 use Rattle.crsm_app.specs.Refused.{BeginsBad}
 use Rattle.crsm_app.specs.declared.status.Cause.{Cause}
 use Rattle.crsm_app.specs.declared.status.Status.{Status}
 use Rattle.crsm_faults.specs.Counts.{Rose}
 
 -- In each of these the source had `before` and has `after` left, and the sink had `had` and has `has` written.
-
--- ---- in mid-stream
-
--- This has been read, and its transcript is what was written and what is pending; so many bytes were taken, and the last
--- of these are still ahead.
-pub record SoFar (before after had has : Option (List ℕ)) (state : State) (ahead : List ℕ) (total : ℕ) : Type 0 where
-  pub read : Option Schedule
-  pub good : IsGood read
-  pub stands : StandsAt state.world read
-  pub number : state.number ≡ count_of read
-  pub part : Lacks 10 state.part
-  pub short : length state.part ≤ 16777216
-  pub takes : Takes before after (read_text read ++ (state.part ++ ahead))
-  pub taken_len : length (read_text read ++ (state.part ++ ahead)) ≡ total
-  pub written : List ℕ
-  pub puts : Puts had has written
-  pub shown : shown_text read ≡ written ++ state.pending
-
--- ---- between two pieces
-
--- These bytes were taken. Each whole line of them is handled, the transcript of all of these is written to its end, and
--- nothing is pending; behind them there is a part of a line.
-pub record IsUpToDate (had has : Option (List ℕ)) (state : State) (taken : List ℕ) : Type 0 where
-  pub read : Option Schedule
-  pub good : IsGood read
-  pub stands : StandsAt state.world read
-  pub number : state.number ≡ count_of read
-  pub part : Lacks 10 state.part
-  pub short : length state.part ≤ 16777216
-  pub taken_is : taken ≡ read_text read ++ state.part
-  pub puts : Puts had has (shown_text read)
-  pub none_pending : state.pending ≡ []
 
 -- ---- by the status
 
@@ -110,37 +78,6 @@ Ran Status.ReadFault before after had has = RanSoFar before after had has
 Ran Status.WriteFault before after had has = RanPartly before after had has
 Ran Status.NoMemory before after had has = RanPartly before after had has
 Ran Status.InputTooLong before after had has = RanTooLong before after had has
-
--- ---- pieces
-
--- these bytes were handled but for the rest, and what was so far goes on
-unfoldable pub CarriesOn : Option (List ℕ) → Option (List ℕ) → State → State → List ℕ → List ℕ → Type 0
-CarriesOn has now old new bytes rest = (before after had : Option (List ℕ)) (ahead : List ℕ) (total : ℕ)
-    → SoFar before after had has old (bytes ++ ahead) total → SoFar before after had now new (rest ++ ahead) total
-
--- the run ends once what is pending is written, or with a prefix of it
-pub record Halted (result : Status) (before after had has : Option (List ℕ)) (pending : List ℕ) : Type 0 where
-  pub ran : (now : Option (List ℕ)) → Puts has now pending → Ran result before after had now
-  pub partly : (now : Option (List ℕ)) → PutsPrefix has now pending → RanPartly before after had now
-
--- in these bytes the run ends, but for what is pending
-unfoldable pub Halts : Status → Option (List ℕ) → Option (List ℕ) → State → State → List ℕ → Type 0
-Halts result has now old new bytes = (before after had : Option (List ℕ)) (ahead : List ℕ) (total : ℕ) → total ≤ 1073741824
-    → SoFar before after had has old (bytes ++ ahead) total → Halted result before after had now new.pending
-
--- in these bytes the run ends
-unfoldable pub Ends : Status → Option (List ℕ) → Option (List ℕ) → State → List ℕ → Type 0
-Ends result has now old bytes = (before after had : Option (List ℕ)) (ahead : List ℕ) (total : ℕ) → total ≤ 1073741824
-    → SoFar before after had has old (bytes ++ ahead) total → Ran result before after had now
-
--- at the end of the input the run ends
-unfoldable pub Finishes : Status → Option (List ℕ) → Option (List ℕ) → State → Type 0
-Finishes result has now state = (before after had : Option (List ℕ)) (total : ℕ) → total ≤ 1073741824 → AtEnd after
-    → SoFar before after had has state [] total → Ran result before after had now
-
-unfoldable pub FinishesWell : Option (List ℕ) → Option (List ℕ) → State → Type 0
-FinishesWell has now state = (before after had : Option (List ℕ)) (total : ℕ) → total ≤ 1073741824 → AtEnd after
-    → SoFar before after had has state [] total → RanToEnd before after had now
 
 -- ---- answers that are exact
 

@@ -1,23 +1,19 @@
--- A replay in mid-stream, and what has been read by then: nothing whole, or a schedule.
-use Rattle.std.specs.Prelude.{ℕ, List, [], ◌++◌, Option, Some, None}
+-- What has been read of an input: nothing whole, or a schedule.
+use Rattle.std.specs.Prelude.{ℕ, List, [], ◌∷◌, ◌++◌, map, Option, Some, None}
+use Rattle.crsm_schedule.specs.Grammar.{first_text, event_text}
 use Rattle.crsm_world.specs.declared.World.{World}
 use Rattle.crsm_world.specs.World.{WorldStands}
 use Rattle.crsm_world.specs.Schedule.{Schedule, IsSchedule, schedule_text, transcript, finals_text, last_world, line_count}
-
--- the world once the first line has come, how many lines have come, what has come of the next, and the text that is
--- still to be written
-pub record State : Type 0 where
-  pub world : Option World
-  pub number : ℕ
-  pub part : List ℕ
-  pub pending : List ℕ
-
--- ---- what has been read
 
 -- its text
 abbrev pub read_text : Option Schedule → List ℕ
 read_text None = []
 read_text (Some s) = schedule_text s
+
+-- its lines
+abbrev pub lines_read : Option Schedule → List (List ℕ)
+lines_read None = []
+lines_read (Some s) = first_text s.replicas ∷ map event_text s.events
 
 -- its transcript
 abbrev pub shown_text : Option Schedule → List ℕ

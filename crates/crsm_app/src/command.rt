@@ -8,85 +8,43 @@ ghost use Rattle.crsm_spec.specs.Safe.{Agreed, Answered, RealTime};
 ghost use Rattle.crsm_spec.specs.Decided.{DecisionsAgree};
 ghost use Rattle.crsm_spec.specs.Durable.{KeepsAnswered};
 ghost use Rattle.crsm_world.specs.Schedule.{Schedule, IsSchedule, ShowsAll, acts_of};
-ghost use Rattle.crsm_app.specs.Causes.{status_of};
+ghost use Rattle.crsm_app.specs.Causes.{cause_in, status_of};
 ghost use Rattle.crsm_app.specs.State.{count_of};
 ghost use Rattle.crsm_app.specs.Run.{Ran, IsDone, IsRefused, IsTooLong, IsReplay, WhereBad, WhereReplayed, WhereSchedule, WhereTooLong};
 
-use crate::replay::Replay;
-use crate::status::{Halt, Status};
+use crate::handling::Replaying;
+use crate::status::{Cause, Status};
+use crsm_input::{Bad, Ending, MAX_INPUT_BYTES, run_lines};
 use crsm_io::{Sink, Source};
 use crsm_law_rounds::rounds_are_bounded;
 use crsm_law_runs::{answered_are_kept, decisions_always_agree, runs_are_safe};
 use crsm_law_texts::{events_have_one_text, first_lines_have_one_text, spelt_are_lines};
 use std::alloc::Global;
 
-/// How many bytes an input has at most.
-const MAX_INPUT_BYTES: u64 = 1_073_741_824;
-
-/// How many bytes are read at once.
-const PIECE_BYTES: usize = 65_536;
-
-/// How many bytes are asked for, so that no more than one byte beyond the limit is taken.
-fn room(total: u64) -> usize
-    requires { total ≤ MAX_INPUT_BYTES }
-    ensures some { (0 < result) × (result ≤ PIECE_BYTES) }
-    ensures within { total < MAX_INPUT_BYTES → total + result ≤ MAX_INPUT_BYTES }
-    ensures one { total ≡ MAX_INPUT_BYTES → result ≡ 1 }
+/// The cause that a bad line is told with.
+fn told_cause(why: Bad<Cause>) -> Cause
+    ensures { result ≡ cause_in why }
 {
-    let left = MAX_INPUT_BYTES - total;
-    if left == 0 {
-        1
-    } else if left < PIECE_BYTES as u64 {
-        left as usize
-    } else {
-        PIECE_BYTES
+    match why {
+        Bad::Refused(cause) => cause,
+        Bad::TooLong | Bad::Cut => Cause::Unreadable,
     }
 }
 
-/// The status of a run that ended in mid-stream.
-fn halted(halt: Halt) -> Status
-    ensures { result ≡ status_of halt }
+/// The status of a run over an input that ended so.
+fn ended(ending: Ending<Cause>) -> Status
+    ensures { result ≡ status_of ending }
 {
-    match halt {
-        Halt::BadInput { line, cause } => Status::BadInput { line, cause },
-        Halt::WriteFault => Status::WriteFault,
-        Halt::NoMemory => Status::NoMemory,
-    }
-}
-
-/// Reads a schedule to its end through the buffer, and writes its transcript and final lines.
-fn replay_through<I: Source, O: Sink>(
-    alloc: Global,
-    buf: &mut [u8],
-    input: &mut I,
-    output: &mut O,
-) -> Status
-    requires { length buf.old ≡ PIECE_BYTES }
-    ensures ran { Ran result (I.left input.old) (I.left input.new) (O.written output.old) (O.written output.new) }
-    ensures read { result ≡ Status.ReadFault → Rose (I.faults input.old) (I.faults input.new) }
-    ensures write { result ≡ Status.WriteFault → Rose (O.faults output.old) (O.faults output.new) }
-    ensures usage { result ≢ Status.Usage }
-{
-    let mut replay = Replay::new(alloc);
-    let mut total: u64 = 0;
-    loop {
-        let want = room(total);
-        let Ok(count) = input.read(&mut buf[..want]) else {
-            return Status::ReadFault;
-        };
-        if count == 0 {
-            if let Err(halt) = replay.finish(output) {
-                return halted(halt);
-            }
-            return Status::Ok;
-        }
-        if total == MAX_INPUT_BYTES {
-            return Status::InputTooLong;
-        }
-        total += count as u64;
-        if let Err(halt) = replay.feed(&buf[..count], output) {
-            return halted(halt);
-        }
+    match ending {
+        Ending::Done => Status::Ok,
+        Ending::BadLine { line, why } => Status::BadInput {
+            line,
+            cause: told_cause(why),
+        },
+        Ending::ReadFault => Status::ReadFault,
+        Ending::WriteFault => Status::WriteFault,
+        Ending::NoMemory => Status::NoMemory,
+        Ending::InputTooLong => Status::InputTooLong,
     }
 }
 
@@ -97,10 +55,7 @@ fn replay<I: Source, O: Sink>(alloc: Global, input: &mut I, output: &mut O) -> S
     ensures write { result ≡ Status.WriteFault → Rose (O.faults output.old) (O.faults output.new) }
     ensures usage { result ≢ Status.Usage }
 {
-    let Ok(mut buf) = vec![in alloc; 0u8; PIECE_BYTES] else {
-        return Status::NoMemory;
-    };
-    replay_through(alloc, buf.as_mut_slice(), input, output)
+    ended(run_lines(alloc, Replaying::new(alloc), input, output))
 }
 
 /// Whether the words are the single word `replay`.

@@ -5,11 +5,9 @@ mod command;
 mod entry;
 mod handling;
 mod laws;
-mod replay;
 mod status;
 
 pub use command::run;
 pub use entry::start;
 pub use laws::schedules_are_one;
-pub use replay::Replay;
-pub use status::{Cause, Halt, Status};
+pub use status::{Cause, Status};

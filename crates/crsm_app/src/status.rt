@@ -101,18 +101,3 @@ impl Display for Status {
         }
     }
 }
-
-/// Why a line is not handled.
-#[derive(Clone, Copy, Debug, PartialEq, Eq)]
-pub enum Stop {
-    Bad(Cause),
-    NoMemory,
-}
-
-/// Why a replay ends in mid-stream.
-#[derive(Clone, Copy, Debug, PartialEq, Eq)]
-pub enum Halt {
-    BadInput { line: u64, cause: Cause },
-    WriteFault,
-    NoMemory,
-}

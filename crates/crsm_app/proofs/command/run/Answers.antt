@@ -1,4 +1,4 @@
-use Rattle.crsm_app.proofs.Pieces.{usage_at}
+use Rattle.crsm_app.proofs.Replayed.{usage_at}
 use Rattle.crsm_world.specs.Schedule.{acts_of}
 use Rattle.crsm_world.proofs.Schedules.{shows_all}
 use Rattle.crsm_app.proofs.Exact.{completed, refused, too_long, not_done, not_too_long}
