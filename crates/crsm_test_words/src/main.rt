@@ -1,6 +1,8 @@
 //! Reads command lines from the standard input, the words of each with a tab between each two, and writes what they ask for.
 #![tactic(auto)]
 
+ghost use Rattle.crsm_words.specs.Plans.{HasOwnPeer};
+
 use crsm_base::Bytes;
 use crsm_words::{Order, Refusal, Task, read_words, usage_text};
 use std::alloc::{AllocError, Global};
@@ -27,7 +29,10 @@ fn first_line(text: &Bytes) -> &str {
     }
 }
 
-fn shown(alloc: Global, order: &Order) -> Result<String, AllocError> {
+/// What an order says, with the devices that it wants.
+fn shown(alloc: Global, order: &Order) -> Result<String, AllocError>
+    requires { HasOwnPeer order.now.task }
+{
     let task = &order.task;
     let plan = task.plan();
     match task {
