@@ -1,0 +1,4 @@
+pub mod Noted
+pub mod Appended
+pub mod Timely
+pub mod Suspected

@@ -1,0 +1,4 @@
+pub mod Watching
+pub mod Wishing
+pub mod Wished
+pub mod Detector
