@@ -25,7 +25,7 @@ use Rattle.crsm_rerun.specs.declared.rerun.Rerun.{Rerun}
 use Rattle.crsm_rerun.specs.Sheets.{BeginASheet, LeadTo, replica_after, replica_of, steps_of}
 use Rattle.crsm_rerun.specs.Stages.{AnswersAll, BootsOn, IfBadLog, IsNothing, IsRefusal, Runs, StageAdvances, StageStands, TakesLine}
 use Rattle.crsm_rerun.specs.Texts.{ending_of, shown_text, steps_text}
-use Rattle.crsm_rerun.specs.Replaying.{AddsText, Advances, Ends, IsNoSheet, StandsFor}
+use Rattle.crsm_rerun.specs.Replaying.{AddsText, Advances, Ends, IsNoSheet, RerunStands}
 use Rattle.crsm_rerun.proofs.Fronts.{IsNoTurn, bodies_are_no_sheet, bodies_more, not_before_open, not_behind_open, opened, turns_more}
 use Rattle.crsm_rerun.proofs.Steps.{after_boot, after_more, outputs_boot, outputs_more}
 use Rattle.crsm_rerun.proofs.StepTexts.{shown_more}
@@ -125,7 +125,7 @@ leads_of : (me n : ℕ) (stage : Stage) (lines : List SheetLine) (steps : List D
 leads_of me n (stages.Finding bodies) lines steps s = inl (record { bodies = bodies; is = s.0 }, s.1)
 leads_of me n (stages.Running core) lines steps s = inr (record { sheet = s.sheet; are = s.are })
 
-module _ (me n first : ℕ) (old : Rerun) (lines : List SheetLine) (steps : List Draft) (s : StandsFor me n first old lines steps) where
+module _ (me n first : ℕ) (old : Rerun) (lines : List SheetLine) (steps : List Draft) (s : RerunStands me n first old lines steps) where
   inside : StageStands old.me old.n old.stage lines steps
   inside =
       subst (λ (k : ℕ). StageStands k old.n old.stage lines steps) (sym s.is_me)

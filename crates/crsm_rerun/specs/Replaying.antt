@@ -14,7 +14,7 @@ use Rattle.crsm_rerun.specs.Texts.{IsNodeText, ending_of, shown_text}
 
 -- The replay is that of a sheet of replica me, in a cluster that began with n. Of the sheet these lines have come, the
 -- first of which has the number `first`, and they have led to these steps.
-pub record StandsFor (me n first : ℕ) (rerun : Rerun) (lines : List SheetLine) (steps : List Draft) : Type 0 where
+pub record RerunStands (me n first : ℕ) (rerun : Rerun) (lines : List SheetLine) (steps : List Draft) : Type 0 where
   pub is_me : rerun.me ≡ me
   pub began : rerun.n ≡ n
   pub next : rerun.next ≡ first + length lines
@@ -23,7 +23,7 @@ pub record StandsFor (me n first : ℕ) (rerun : Rerun) (lines : List SheetLine)
 
 -- for each sheet so far that the replay stands for
 abbrev pub WhereStands : Rerun → ((me n first : ℕ) → List SheetLine → List Draft → Type 0) → Type 0
-WhereStands rerun P = (me n first : ℕ) (lines : List SheetLine) (steps : List Draft) → StandsFor me n first rerun lines steps → P me n first lines steps
+WhereStands rerun P = (me n first : ℕ) (lines : List SheetLine) (steps : List Draft) → RerunStands me n first rerun lines steps → P me n first lines steps
 
 -- the number of the next line
 abbrev pub next_of : Rerun → ℕ
@@ -35,12 +35,12 @@ next_of rerun = rerun.next
 pub record Advances (me n first : ℕ) (new : Rerun) (lines : List SheetLine) (steps : List Draft) (line : SheetLine) (batch : Batch) : Type 0 where
   pub more : List Draft
   pub answers : AnswersAll batch more
-  pub stands : StandsFor me n first new (lines ++ line ∷ []) (steps ++ more)
+  pub stands : RerunStands me n first new (lines ++ line ∷ []) (steps ++ more)
 
 -- The same, and the text that was added is that of these steps.
 pub record AddsText (me n first : ℕ) (new : Rerun) (lines : List SheetLine) (steps : List Draft) (line : SheetLine) (before after : List ℕ) : Type 0 where
   pub more : List Draft
-  pub stands : StandsFor me n first new (lines ++ line ∷ []) (steps ++ more)
+  pub stands : RerunStands me n first new (lines ++ line ∷ []) (steps ++ more)
   pub text : List ℕ
   pub added : after ≡ before ++ text
   pub shows : shown_text first (lines ++ line ∷ []) (steps ++ more) ≡ shown_text first lines steps ++ text

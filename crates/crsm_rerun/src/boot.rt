@@ -57,7 +57,7 @@ fn recovered(alloc: Global, me: u32, n: u32, bodies: &Bodies) -> Result<Ledger, 
         Err(LedgerError::BadLog { entry, why }) => Err(RerunError::BadLog { entry, why }),
         Err(LedgerError::NoMemory) => Err(RerunError::NoMemory),
         // No body is refused so.
-        Err(LedgerError::NotFit { .. }) => Err(RerunError::NoMemory),
+        Err(LedgerError::NotFit { .. }) => unreachable!(),
     }
 }
 

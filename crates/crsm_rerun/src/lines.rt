@@ -4,7 +4,7 @@ ghost use Rattle.std.specs.Prelude.{◌≡◌, ◌<◌, ◌≤◌, ◌+◌, ◌-
 ghost use Rattle.std.specs.List.{AllByRecursion};
 ghost use Rattle.crsm_core.specs.Core.{FitsSent};
 ghost use Rattle.crsm_rerun.specs.Stages.{IsRefusal};
-ghost use Rattle.crsm_rerun.specs.Replaying.{AddsText, Advances, Ends, IsNoSheet, StandsFor, WhereStands, next_of};
+ghost use Rattle.crsm_rerun.specs.Replaying.{AddsText, Advances, Ends, IsNoSheet, RerunStands, WhereStands, next_of};
 
 use crate::ending::ending;
 use crate::error::RerunError;
@@ -22,7 +22,7 @@ impl Rerun {
         requires me_below { me < 15 }
         requires some { 1 ≤ n }
         requires few { n ≤ 15 }
-        ensures { StandsFor me n first result [] [] }
+        ensures { RerunStands me n first result [] [] }
     {
         Rerun {
             alloc,
