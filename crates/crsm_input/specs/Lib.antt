@@ -1,3 +1,4 @@
 pub mod Handling
 pub mod State
 pub mod Run
+pub mod Exact

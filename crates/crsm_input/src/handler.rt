@@ -29,21 +29,21 @@ pub trait Handler {
     /// Why a line is refused.
     type Refusal: Copy;
 
-    /// What lines, texts and refusals mean to it.
-    ghost handling: { Handling Self Self.Refusal };
+    /// What lines, texts and refusals mean to it, by what it was before the first line.
+    ghost handling: { Self → Handling Self Self.Refusal };
 
     /// Handles the line with this number, counted from 1, and adds its text at the end. After a refusal nothing was added;
     /// where memory ran out, what was there may have lost its end.
     fn line(&mut self, at: u64, line: &[u8], text: &mut Bytes) -> Result<(), Stop<Self::Refusal>>
-        ensures ok { (lines : List (List ℕ)) (shown : List ℕ) → at ≡ length lines + 1 → handling.after self.old lines shown
-            → OnOk result (Handles handling self.new lines shown line.now text.old text.new) }
-        ensures err { (lines : List (List ℕ)) (shown : List ℕ) → at ≡ length lines + 1 → handling.after self.old lines shown
-            → IfErr result (λ stop. StopsAt handling lines shown line.now text.old text.new stop) };
+        ensures ok { (first : Self) (lines : List (List ℕ)) (shown : List ℕ) → at ≡ length lines + 1 → (handling first).after self.old lines shown
+            → OnOk result (Handles (handling first) self.new lines shown line.now text.old text.new) }
+        ensures err { (first : Self) (lines : List (List ℕ)) (shown : List ℕ) → at ≡ length lines + 1 → (handling first).after self.old lines shown
+            → IfErr result (λ stop. StopsAt (handling first) lines shown line.now text.old text.new stop) };
 
     /// Ends the input, and adds the text of its end.
     fn end(&self, text: &mut Bytes) -> Result<(), Stop<Self::Refusal>>
-        ensures ok { (lines : List (List ℕ)) (shown : List ℕ) → handling.after self.now lines shown
-            → OnOk result (EndsWell handling lines shown text.old text.new) }
-        ensures err { (lines : List (List ℕ)) (shown : List ℕ) → handling.after self.now lines shown
-            → IfErr result (λ stop. StopsAtEnd handling lines shown stop) };
+        ensures ok { (first : Self) (lines : List (List ℕ)) (shown : List ℕ) → (handling first).after self.now lines shown
+            → OnOk result (EndsWell (handling first) lines shown text.old text.new) }
+        ensures err { (first : Self) (lines : List (List ℕ)) (shown : List ℕ) → (handling first).after self.now lines shown
+            → IfErr result (λ stop. StopsAtEnd (handling first) lines shown stop) };
 }

@@ -53,7 +53,7 @@ impl<H: Handler> Lines<H> {
     /// Nothing has come yet.
     pub fn new(alloc: Global, handler: H) -> Lines<H>
         ensures value { state_of result ≡ record { handler = handler; number = 0; part = []; pending = [] } }
-        ensures up_to_date { (had : Option (List ℕ)) → Begins H.handling handler → IsUpToDate H.handling had had (state_of result) [] }
+        ensures up_to_date { (had : Option (List ℕ)) → Begins (H.handling handler) handler → IsUpToDate (H.handling handler) had had (state_of result) [] }
     {
         Lines {
             alloc,
@@ -67,10 +67,10 @@ impl<H: Handler> Lines<H> {
     /// Hands the line that ends with these bytes to the handler. A line that lies whole in its piece is not copied.
     fn advance(&mut self, tail: &[u8]) -> Result<(), Stop<H::Refusal>>
         requires { self.old.number < 2 ^ 64 - 1 }
-        ensures ok { (lines : List (List ℕ)) (shown : List ℕ) → self.old.number ≡ length lines → H.handling.after self.old.handler lines shown
-            → OnOk result (Handles H.handling self.new.handler lines shown (self.old.part.items ++ tail.now) self.old.pending self.new.pending) }
-        ensures err { (lines : List (List ℕ)) (shown : List ℕ) → self.old.number ≡ length lines → H.handling.after self.old.handler lines shown
-            → IfErr result (λ stop. StopsAt H.handling lines shown (self.old.part.items ++ tail.now) self.old.pending self.new.pending stop) }
+        ensures ok { (first : H) (lines : List (List ℕ)) (shown : List ℕ) → self.old.number ≡ length lines → (H.handling first).after self.old.handler lines shown
+            → OnOk result (Handles (H.handling first) self.new.handler lines shown (self.old.part.items ++ tail.now) self.old.pending self.new.pending) }
+        ensures err { (first : H) (lines : List (List ℕ)) (shown : List ℕ) → self.old.number ≡ length lines → (H.handling first).after self.old.handler lines shown
+            → IfErr result (λ stop. StopsAt (H.handling first) lines shown (self.old.part.items ++ tail.now) self.old.pending self.new.pending stop) }
         ensures number { self.new.number ≡ self.old.number }
     {
         let at = self.number + 1;
@@ -88,8 +88,8 @@ impl<H: Handler> Lines<H> {
     fn end_line(&mut self, tail: &[u8]) -> Result<(), Halt<H::Refusal>>
         requires number { self.old.number < 2 ^ 64 - 1 }
         requires lacks { Lacks 10 tail.now }
-        ensures ok { (has : Option (List ℕ)) → OnOk result (CarriesOn H.handling has has (state_of self.old) (state_of self.new) (tail.now ++ 10 ∷ []) []) }
-        ensures err { (has : Option (List ℕ)) → IfErr result (λ halt. Halts H.handling (ending_of halt) has has (state_of self.old) (state_of self.new) (tail.now ++ 10 ∷ [])) }
+        ensures ok { (first : H) (has : Option (List ℕ)) → OnOk result (CarriesOn (H.handling first) has has (state_of self.old) (state_of self.new) (tail.now ++ 10 ∷ []) []) }
+        ensures err { (first : H) (has : Option (List ℕ)) → IfErr result (λ halt. Halts (H.handling first) (ending_of halt) has has (state_of self.old) (state_of self.new) (tail.now ++ 10 ∷ [])) }
         ensures number { OnOk result (self.new.number ≡ self.old.number + 1) }
         ensures fault { IfErr result (λ halt. halt ≢ Halt.WriteFault) }
     {
@@ -115,8 +115,8 @@ impl<H: Handler> Lines<H> {
     fn keep(&mut self, prefix: &[u8]) -> Result<(), Halt<H::Refusal>>
         requires number { self.old.number + length prefix.now < 2 ^ 64 }
         requires lacks { Lacks 10 prefix.now }
-        ensures ok { (has : Option (List ℕ)) → OnOk result (CarriesOn H.handling has has (state_of self.old) (state_of self.new) prefix.now []) }
-        ensures err { (has : Option (List ℕ)) → IfErr result (λ halt. Halts H.handling (ending_of halt) has has (state_of self.old) (state_of self.new) prefix.now) }
+        ensures ok { (first : H) (has : Option (List ℕ)) → OnOk result (CarriesOn (H.handling first) has has (state_of self.old) (state_of self.new) prefix.now []) }
+        ensures err { (first : H) (has : Option (List ℕ)) → IfErr result (λ halt. Halts (H.handling first) (ending_of halt) has has (state_of self.old) (state_of self.new) prefix.now) }
         ensures number { self.new.number ≡ self.old.number }
         ensures fault { IfErr result (λ halt. halt ≢ Halt.WriteFault) }
     {
@@ -153,8 +153,8 @@ impl<H: Handler> Lines<H> {
 
     /// Writes what is pending, where it is much.
     fn flush_full<O: Sink>(&mut self, output: &mut O) -> Result<(), Halt<H::Refusal>>
-        ensures ok { OnOk result (CarriesOn H.handling (O.written output.old) (O.written output.new) (state_of self.old) (state_of self.new) [] []) }
-        ensures err { IfErr result (λ halt. Halts H.handling (ending_of halt) (O.written output.old) (O.written output.new) (state_of self.old) (state_of self.new) []) }
+        ensures ok { (first : H) → OnOk result (CarriesOn (H.handling first) (O.written output.old) (O.written output.new) (state_of self.old) (state_of self.new) [] []) }
+        ensures err { (first : H) → IfErr result (λ halt. Halts (H.handling first) (ending_of halt) (O.written output.old) (O.written output.new) (state_of self.old) (state_of self.new) []) }
         ensures number { self.new.number ≡ self.old.number }
         ensures later { O.faults output.old ≤ O.faults output.new }
         ensures rose { OnErr result (Rose (O.faults output.old) (O.faults output.new)) }
@@ -168,8 +168,8 @@ impl<H: Handler> Lines<H> {
     /// Takes the bytes of a piece, up to a line that ends the run.
     fn take_lines<O: Sink>(&mut self, piece: &[u8], output: &mut O) -> Result<(), Halt<H::Refusal>>
         requires { self.old.number + length piece.now < 2 ^ 64 }
-        ensures ok { OnOk result (CarriesOn H.handling (O.written output.old) (O.written output.new) (state_of self.old) (state_of self.new) piece.now []) }
-        ensures err { IfErr result (λ halt. Halts H.handling (ending_of halt) (O.written output.old) (O.written output.new) (state_of self.old) (state_of self.new) piece.now) }
+        ensures ok { (first : H) → OnOk result (CarriesOn (H.handling first) (O.written output.old) (O.written output.new) (state_of self.old) (state_of self.new) piece.now []) }
+        ensures err { (first : H) → IfErr result (λ halt. Halts (H.handling first) (ending_of halt) (O.written output.old) (O.written output.new) (state_of self.old) (state_of self.new) piece.now) }
         ensures number { OnOk result (self.new.number ≤ self.old.number + length piece.now) }
         ensures later { O.faults output.old ≤ O.faults output.new }
         ensures rose { IsErrOf result Halt.WriteFault → Rose (O.faults output.old) (O.faults output.new) }
@@ -187,12 +187,12 @@ impl<H: Handler> Lines<H> {
     /// before the next read, handled every whole line that came, and written its text.
     pub fn feed<O: Sink>(&mut self, piece: &[u8], output: &mut O) -> Result<(), Halt<H::Refusal>>
         requires { self.old.number + length piece.now < 2 ^ 64 }
-        ensures ok { OnOk result (CarriesOn H.handling (O.written output.old) (O.written output.new) (state_of self.old) (state_of self.new) piece.now []) }
-        ensures err { IfErr result (λ halt. Ends H.handling (ending_of halt) (O.written output.old) (O.written output.new) (state_of self.old) piece.now) }
+        ensures ok { (first : H) → OnOk result (CarriesOn (H.handling first) (O.written output.old) (O.written output.new) (state_of self.old) (state_of self.new) piece.now []) }
+        ensures err { (first : H) → IfErr result (λ halt. Ends (H.handling first) (ending_of halt) (O.written output.old) (O.written output.new) (state_of self.old) piece.now) }
         ensures number { OnOk result (self.new.number ≤ self.old.number + length piece.now) }
         ensures pending { self.new.pending ≡ [] }
-        ensures up_to_date { (had : Option (List ℕ)) (taken : List ℕ) → IsUpToDate H.handling had (O.written output.old) (state_of self.old) taken
-            → OnOk result (IsUpToDate H.handling had (O.written output.new) (state_of self.new) (taken ++ piece.now)) }
+        ensures up_to_date { (first : H) (had : Option (List ℕ)) (taken : List ℕ) → IsUpToDate (H.handling first) had (O.written output.old) (state_of self.old) taken
+            → OnOk result (IsUpToDate (H.handling first) had (O.written output.new) (state_of self.new) (taken ++ piece.now)) }
         ensures later { O.faults output.old ≤ O.faults output.new }
         ensures rose { IsErrOf result Halt.WriteFault → Rose (O.faults output.old) (O.faults output.new) }
     {
@@ -207,8 +207,8 @@ impl<H: Handler> Lines<H> {
     pub fn finish<O: Sink>(&self, output: &mut O) -> Result<(), Halt<H::Refusal>>
         requires number { self.now.number < 2 ^ 64 - 1 }
         requires pending { self.now.pending ≡ [] }
-        ensures ok { OnOk result (Finishes H.handling Ending.Done (O.written output.old) (O.written output.new) (state_of self.now)) }
-        ensures err { IfErr result (λ halt. Finishes H.handling (ending_of halt) (O.written output.old) (O.written output.new) (state_of self.now)) }
+        ensures ok { (first : H) → OnOk result (Finishes (H.handling first) Ending.Done (O.written output.old) (O.written output.new) (state_of self.now)) }
+        ensures err { (first : H) → IfErr result (λ halt. Finishes (H.handling first) (ending_of halt) (O.written output.old) (O.written output.new) (state_of self.now)) }
         ensures later { O.faults output.old ≤ O.faults output.new }
         ensures rose { IsErrOf result Halt.WriteFault → Rose (O.faults output.old) (O.faults output.new) }
     {

@@ -1,8 +1,9 @@
 //! An input from its beginning to its end.
 
-ghost use Rattle.std.specs.Prelude.{◌≡◌, ◌<◌, ◌≤◌, ◌+◌, length, IsErrOf};
+ghost use Rattle.std.specs.Prelude.{◌≡◌, ◌≢◌, ◌<◌, ◌≤◌, ◌+◌, ℕ, List, Some, length, IsErrOf};
 ghost use Rattle.crsm_faults.specs.Counts.{Rose};
 ghost use Rattle.crsm_input.specs.Handling.{Begins};
+ghost use Rattle.crsm_input.specs.Exact.{Exact, IsDone, IsRefused, IsTooLong, WhereBad, WhereFaultless, WhereTooLong, WhereWhole};
 ghost use Rattle.crsm_input.specs.Run.{Ran, ending_of};
 
 use crate::handler::Handler;
@@ -68,9 +69,9 @@ fn run_through<H: Handler + Drop, I: Source, O: Sink>(
     input: &mut I,
     output: &mut O,
 ) -> Ending<H::Refusal>
-    requires begins { Begins H.handling handler }
+    requires begins { Begins (H.handling handler) handler }
     requires room { length buf.old ≡ PIECE_BYTES }
-    ensures ran { Ran H.handling result (I.left input.old) (I.left input.new) (O.written output.old) (O.written output.new) }
+    ensures ran { Ran (H.handling handler) result (I.left input.old) (I.left input.new) (O.written output.old) (O.written output.new) }
     ensures read { result ≡ Ending.ReadFault → Rose (I.faults input.old) (I.faults input.new) }
     ensures write { result ≡ Ending.WriteFault → Rose (O.faults output.old) (O.faults output.new) }
 {
@@ -97,15 +98,15 @@ fn run_through<H: Handler + Drop, I: Source, O: Sink>(
     }
 }
 
-/// Reads an input to its end, hands each of its lines to the handler, and writes their texts and that of the end.
-pub fn run_lines<H: Handler + Drop, I: Source, O: Sink>(
+/// Reads an input to its end, in pieces of its own.
+fn run_pieces<H: Handler + Drop, I: Source, O: Sink>(
     alloc: Global,
     handler: H,
     input: &mut I,
     output: &mut O,
 ) -> Ending<H::Refusal>
-    requires { Begins H.handling handler }
-    ensures ran { Ran H.handling result (I.left input.old) (I.left input.new) (O.written output.old) (O.written output.new) }
+    requires { Begins (H.handling handler) handler }
+    ensures ran { Ran (H.handling handler) result (I.left input.old) (I.left input.new) (O.written output.old) (O.written output.new) }
     ensures read { result ≡ Ending.ReadFault → Rose (I.faults input.old) (I.faults input.new) }
     ensures write { result ≡ Ending.WriteFault → Rose (O.faults output.old) (O.faults output.new) }
 {
@@ -113,4 +114,33 @@ pub fn run_lines<H: Handler + Drop, I: Source, O: Sink>(
         return Ending::NoMemory;
     };
     run_through(alloc, handler, buf.as_mut_slice(), input, output)
+}
+
+/// Reads an input to its end, hands each of its lines to the handler, and writes their texts and that of the end.
+pub fn run_lines<H: Handler + Drop, I: Source, O: Sink>(
+    alloc: Global,
+    handler: H,
+    input: &mut I,
+    output: &mut O,
+) -> Ending<H::Refusal>
+    requires { Begins (H.handling handler) handler }
+
+    // What was taken and what was written, by how it ended.
+    ensures ran { Ran (H.handling handler) result (I.left input.old) (I.left input.new) (O.written output.old) (O.written output.new) }
+
+    // A fault is answered only where it was counted.
+    ensures read { result ≡ Ending.ReadFault → Rose (I.faults input.old) (I.faults input.new) }
+    ensures write { result ≡ Ending.WriteFault → Rose (O.faults output.old) (O.faults output.new) }
+
+    // Where lines alone say what is handled, and no fault was counted: whole lines that fit are done, the first bad line is
+    // refused for its reason, and lines that fit up to the limit are too long where more bytes follow.
+    ensures complete { (x : Exact (H.handling handler)) → WhereWhole (H.handling handler) x (I.left input.old) (WhereFaultless (I.faults input.old) (I.faults input.new) (O.faults output.old) (O.faults output.new) (IsDone result)) }
+    ensures refused { (x : Exact (H.handling handler)) → WhereBad (H.handling handler) x (I.left input.old) (λ line why. WhereFaultless (I.faults input.old) (I.faults input.new) (O.faults output.old) (O.faults output.new) (IsRefused (H.handling handler) x line why result)) }
+    ensures too_long { (x : Exact (H.handling handler)) → WhereTooLong (H.handling handler) x (I.left input.old) (WhereFaultless (I.faults input.old) (I.faults input.new) (O.faults output.old) (O.faults output.new) (IsTooLong result)) }
+
+    // An input beyond the limit is never done, and one within it is never too long.
+    ensures limit { (bytes : List ℕ) → I.left input.old ≡ Some bytes → MAX_INPUT_BYTES < length bytes → result ≢ Ending.Done }
+    ensures within { (bytes : List ℕ) → I.left input.old ≡ Some bytes → length bytes ≤ MAX_INPUT_BYTES → result ≢ Ending.InputTooLong }
+{
+    run_pieces(alloc, handler, input, output)
 }

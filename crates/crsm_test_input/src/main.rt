@@ -41,7 +41,7 @@ impl Handler for Sum {
 
     ghost use Rattle.crsm_test_input.specs.Any.{any};
 
-    ghost handling = { any };
+    ghost handling = { λ _. any };
 
     fn line(&mut self, at: u64, line: &[u8], text: &mut Bytes) -> Result<(), Stop<Fault>> {
         let Some(number) = read_number(line) else {

@@ -5,7 +5,7 @@ use Rattle.crsm_input.proofs.run.run_through.Given as goal
 
 abbrev pub invariant-loop-count : goal.invariant-loop-count
 invariant-loop-count g l = record {
-  so_far : SoFar g.H.Handler.handling (g.I.Source.left l.fn.input) (g.I.Source.left l.input) (g.O.Sink.written l.fn.output) (g.O.Sink.written l.output) (state_of l.lines) [] l.total;
+  so_far : SoFar (g.H.Handler.handling l.fn.handler) (g.I.Source.left l.fn.input) (g.I.Source.left l.input) (g.O.Sink.written l.fn.output) (g.O.Sink.written l.output) (state_of l.lines) [] l.total;
   pending : l.lines.pending ≡ [];
   within : l.total ≤ 1073741824;
   number : l.lines.number ≤ l.total;

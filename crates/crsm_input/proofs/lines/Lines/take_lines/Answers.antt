@@ -9,35 +9,33 @@ use Rattle.crsm_input.proofs.lines.Lines.take_lines.Goals as goal
 
 pub loop-tail-init : goal.loop-tail-init
 loop-tail-init g c = record {
-  carries = nothing_carries g.H.Handler.handling (g.O.Sink.written c.args.output.now) (state_of c.args.self.now) c.args.piece.now;
+  carries = λ first. nothing_carries (g.H.Handler.handling first) (g.O.Sink.written c.args.output.now) (state_of c.args.self.now) c.args.piece.now;
   number = omega arith;
   later = omega arith;
 }
 
 pub returns-in_err-end_line-clause-err : goal.returns-in_err-end_line-clause-err
-returns-in_err-end_line-clause-err g c =
+returns-in_err-end_line-clause-err g c = λ first.
     let r = err_from_is_err_and c.from_residual.result c.from_residual.ensures.1 in
     let had = g.O.Sink.written c.args.output.now in
     let has = g.O.Sink.written c.loop-tail.output in
-    rw (r.1, r.2) (at_line g.H.Handler.handling (ending_of c.in_err-end_line.field-0.0) had has (state_of c.args.self.now) (state_of c.loop-tail.self) (state_of c.end_line.new.self) c.args.piece.now c.loop-tail.rest.now c.in-Some.tail.now c.in-Some.behind.now
-    c.in-Some.ensures.found c.loop-tail.invariant.carries (c.in_err-end_line.ensures.err has))
+    rw (r.1, r.2) (at_line (g.H.Handler.handling first) (ending_of c.in_err-end_line.field-0.0) had has (state_of c.args.self.now) (state_of c.loop-tail.self) (state_of c.end_line.new.self) c.args.piece.now c.loop-tail.rest.now c.in-Some.tail.now c.in-Some.behind.now
+    c.in-Some.ensures.found (c.loop-tail.invariant.carries first) (c.in_err-end_line.ensures.err first has))
 
 pub returns-in_err-flush_full-clause-err : goal.returns-in_err-flush_full-clause-err
-returns-in_err-flush_full-clause-err g c =
+returns-in_err-flush_full-clause-err g c = λ first.
     let r = err_from_is_err_and c.from_residual-in_err-flush_full.result c.from_residual-in_err-flush_full.ensures.1 in
     let had = g.O.Sink.written c.args.output.now in
     let has = g.O.Sink.written c.loop-tail.output in
-    let on = past_line g.H.Handler.handling had has (state_of c.args.self.now) (state_of c.loop-tail.self) (state_of c.end_line.new.self) c.args.piece.now c.loop-tail.rest.now c.in-Some.tail.now c.in-Some.behind.now
-    c.in-Some.ensures.found c.loop-tail.invariant.carries (c.in_ok-end_line.ensures.ok has) in
-    rw (r.1, r.2) (at_flush g.H.Handler.handling (ending_of c.in_err-flush_full.field-0.0) had has (g.O.Sink.written c.flush_full.new.output) (state_of c.args.self.now) (state_of c.end_line.new.self) (state_of c.flush_full.new.self) c.args.piece.now c.in-Some.behind.now
-    on c.in_err-flush_full.ensures.err)
+    let on = past_line (g.H.Handler.handling first) had has (state_of c.args.self.now) (state_of c.loop-tail.self) (state_of c.end_line.new.self) c.args.piece.now c.loop-tail.rest.now c.in-Some.tail.now c.in-Some.behind.now
+    c.in-Some.ensures.found (c.loop-tail.invariant.carries first) (c.in_ok-end_line.ensures.ok first has) in
+    rw (r.1, r.2) (at_flush (g.H.Handler.handling first) (ending_of c.in_err-flush_full.field-0.0) had has (g.O.Sink.written c.flush_full.new.output) (state_of c.args.self.now) (state_of c.end_line.new.self) (state_of c.flush_full.new.self) c.args.piece.now c.in-Some.behind.now
+    on (c.in_err-flush_full.ensures.err first))
 
 pub loop-tail-preserved : goal.loop-tail-preserved
 loop-tail-preserved g c =
     let had = g.O.Sink.written c.args.output.now in
     let has = g.O.Sink.written c.loop-tail.output in
-    let on = past_line g.H.Handler.handling had has (state_of c.args.self.now) (state_of c.loop-tail.self) (state_of c.end_line.new.self) c.args.piece.now c.loop-tail.rest.now c.in-Some.tail.now c.in-Some.behind.now
-    c.in-Some.ensures.found c.loop-tail.invariant.carries (c.in_ok-end_line.ensures.ok has) in
     let number = c.loop-tail.invariant.number in
     let later = c.loop-tail.invariant.later in
     let next = c.in_ok-end_line.ensures.number in
@@ -46,9 +44,11 @@ loop-tail-preserved g c =
     let len : length c.loop-tail.rest.now ≡ length c.in-Some.tail.now + length (10 ∷ c.in-Some.behind.now) =
     ap length c.in-Some.ensures.found ∙ length-append c.in-Some.tail.now (10 ∷ c.in-Some.behind.now) in
     record {
-      carries =
-          past_flush g.H.Handler.handling had has (g.O.Sink.written c.flush_full.new.output) (state_of c.args.self.now) (state_of c.end_line.new.self) (state_of c.flush_full.new.self) c.args.piece.now c.in-Some.behind.now
-          on c.in_ok-flush_full.ensures.ok;
+      carries = λ first.
+          let on = past_line (g.H.Handler.handling first) had has (state_of c.args.self.now) (state_of c.loop-tail.self) (state_of c.end_line.new.self) c.args.piece.now c.loop-tail.rest.now c.in-Some.tail.now c.in-Some.behind.now
+          c.in-Some.ensures.found (c.loop-tail.invariant.carries first) (c.in_ok-end_line.ensures.ok first has) in
+          past_flush (g.H.Handler.handling first) had has (g.O.Sink.written c.flush_full.new.output) (state_of c.args.self.now) (state_of c.end_line.new.self) (state_of c.flush_full.new.self) c.args.piece.now c.in-Some.behind.now
+          on (c.in_ok-flush_full.ensures.ok first);
       number = omega (arith, number, next, same, len);
       later = omega (arith, later, more);
     }
@@ -63,13 +63,13 @@ keep-requires g c =
     }
 
 pub returns-clause-ok : goal.returns-clause-ok
-returns-clause-ok g c =
+returns-clause-ok g c = λ first.
     let had = g.O.Sink.written c.args.output.now in
     let has = g.O.Sink.written c.loop-tail.output in
-    carries_if g.H.Handler.handling c.keep.result had has (state_of c.args.self.now) (state_of c.loop-tail.self) (state_of c.keep.new.self) c.args.piece.now c.loop-tail.rest.now c.loop-tail.invariant.carries (c.keep.ensures.ok has)
+    carries_if (g.H.Handler.handling first) c.keep.result had has (state_of c.args.self.now) (state_of c.loop-tail.self) (state_of c.keep.new.self) c.args.piece.now c.loop-tail.rest.now (c.loop-tail.invariant.carries first) (c.keep.ensures.ok first has)
 
 pub returns-clause-err : goal.returns-clause-err
-returns-clause-err g c =
+returns-clause-err g c = λ first.
     let had = g.O.Sink.written c.args.output.now in
     let has = g.O.Sink.written c.loop-tail.output in
-    halts_if g.H.Handler.handling c.keep.result had has (state_of c.args.self.now) (state_of c.loop-tail.self) (state_of c.keep.new.self) c.args.piece.now c.loop-tail.rest.now c.loop-tail.invariant.carries (c.keep.ensures.err has)
+    halts_if (g.H.Handler.handling first) c.keep.result had has (state_of c.args.self.now) (state_of c.loop-tail.self) (state_of c.keep.new.self) c.args.piece.now c.loop-tail.rest.now (c.loop-tail.invariant.carries first) (c.keep.ensures.err first has)

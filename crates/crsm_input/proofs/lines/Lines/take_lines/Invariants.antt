@@ -5,7 +5,7 @@ use Rattle.crsm_input.proofs.lines.Lines.take_lines.Given as goal
 
 abbrev pub invariant-loop-tail : goal.invariant-loop-tail
 invariant-loop-tail g l = record {
-  carries : CarriesOn g.H.Handler.handling (g.O.Sink.written l.fn.output) (g.O.Sink.written l.output) (state_of l.fn.self) (state_of l.self) l.piece l.rest;
+  carries : (first : g.row.H.Denot) → CarriesOn (g.H.Handler.handling first) (g.O.Sink.written l.fn.output) (g.O.Sink.written l.output) (state_of l.fn.self) (state_of l.self) l.piece l.rest;
   number : l.self.number + length l.rest ≤ l.fn.self.number + length l.piece;
   later : g.O.Sink.faults l.fn.output ≤ g.O.Sink.faults l.output;
 }
