@@ -4,3 +4,4 @@ pub mod Cores
 pub mod Stages
 pub mod StepTexts
 pub mod Spelt
+pub mod BadLogs

@@ -12,6 +12,6 @@ mod step;
 mod text;
 
 pub use error::RerunError;
-pub use laws::sheets_have_one_text;
+pub use laws::{bad_logs_are_one, sheets_have_one_text};
 pub use rerun::Rerun;
 pub use text::push_step;

@@ -1,6 +1,6 @@
 //! The lines of a sheet, one after another.
 
-ghost use Rattle.std.specs.Prelude.{◌≡◌, ◌<◌, ◌≤◌, ◌+◌, ◌-◌, ◌^◌, ℕ, [], List, IfOk, IfErr, OnOk, MatchOption};
+ghost use Rattle.std.specs.Prelude.{◌≡◌, ◌≢◌, ◌<◌, ◌≤◌, ◌+◌, ◌-◌, ◌^◌, ℕ, [], List, IfOk, IfErr, OnOk, MatchOption};
 ghost use Rattle.std.specs.List.{AllByRecursion};
 ghost use Rattle.crsm_core.specs.Core.{FitsSent};
 ghost use Rattle.crsm_rerun.specs.Stages.{IsRefusal};
@@ -56,11 +56,13 @@ impl Rerun {
         Ok(batch)
     }
 
-    /// Replays a line, and adds the text of what the replica makes at it. After an error both are of no use.
+    /// Replays a line, and adds the text of what the replica makes at it. After an error it is of no use any more, and
+    /// where memory ran out the text is of none.
     pub fn replay(&mut self, line: &SheetLine, out: &mut Bytes) -> Result<(), RerunError>
         requires { next_of self.old < 2 ^ 64 - 1 }
         ensures adds { WhereStands self.old (λ me n first lines steps. OnOk result (AddsText me n first self.new lines steps line.now out.old out.new)) }
         ensures refused { WhereStands self.old (λ me n first lines steps. IfErr result (IsRefusal me n lines line.now)) }
+        ensures kept { IfErr result (λ why. why ≢ RerunError.NoMemory → out.new ≡ out.old) }
         ensures next { OnOk result (next_of self.new ≡ next_of self.old + 1) }
     {
         let at = self.next;
