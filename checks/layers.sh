@@ -7,7 +7,7 @@ set -u
 cd "$(dirname "$0")/.." || exit 1
 list=${1:-crates.txt}
 fail=0
-cites_laws=' crsm_safety crsm_world crsm_app '
+cites_laws=' crsm_safety crsm_world crsm_replay crsm_app '
 runs_replicas=' crsm_shell crsm_machine crsm_network crsm_world '
 lines=0
 while IFS= read -r line; do
