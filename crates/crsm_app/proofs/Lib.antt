@@ -1,7 +1,3 @@
-pub mod Lists
-pub mod Lines
-pub mod LineLemmas
-pub mod BadLines
-pub mod Exact
-pub mod OneMore
-pub mod Replayed
+pub mod Schedules
+pub mod Sheets
+pub mod Asked

@@ -1,7 +1,3 @@
-pub mod State
-pub mod Causes
-pub mod Refused
-pub mod Handled
-pub mod Replayed
+pub mod Statuses
+pub mod Did
 pub mod Run
-pub mod Laws

@@ -1,118 +1,70 @@
--- What a run did, by its status.
-use Rattle.std.specs.Prelude.{◌≡◌, ℕ, ◌+◌, ◌≤◌, ◌⊎◌, List, [], ◌∷◌, ◌++◌, Option, length, ◌<◌, Some, String, codes, map, string_bytes}
-use Rattle.crsm_io.specs.Streams.{Takes, Puts, PutsPrefix, AtEnd}
-use Rattle.crsm_text.specs.Words.{Lacks}
-use Rattle.crsm_world.specs.Schedule.{Schedule, IsSchedule, schedule_text, transcript, finals_text}
-use Rattle.crsm_app.specs.State.{read_text, shown_text, whole_text, IsGood, count_of}
-use Rattle.crsm_app.specs.Refused.{BeginsBad}
-use Rattle.crsm_app.specs.declared.status.Cause.{Cause}
-use Rattle.crsm_app.specs.declared.status.Status.{Status}
+-- What a run did, by its words and its status.
+use Rattle.std.specs.Prelude.{◌≡◌, ◌⊎◌, ℕ, ◌<◌, List, [], ◌∷◌, Option, String, codes, decimal, map, string_bytes}
+use Rattle.std.specs.List.{All}
+use Rattle.clap.specs.Words.{Text}
 use Rattle.crsm_faults.specs.Counts.{Rose}
+use Rattle.crsm_words.specs.Answers.{OrderMade, OrderRefused}
+use Rattle.crsm_words.specs.Orders.{AsksFor, IsClusterSize}
+use Rattle.crsm_words.specs.Split.{IsPlain}
+use Rattle.crsm_words.specs.declared.order.Order.{Order}
+use Rattle.crsm_words.specs.declared.order.Task.{Task}
+use Rattle.crsm_words.specs.declared.order.Task.TheVariants.{Show, Replay, ReplayNode}
+use Rattle.crsm_words.specs.declared.read.Refusal.{Refusal}
+use Rattle.crsm_app.specs.Did.{Did, Untouched}
+use Rattle.crsm_app.specs.declared.status.Status.{Status}
 
--- In each of these the source had `before` and has `after` left, and the sink had `had` and has `has` written.
+-- ---- tasks
 
--- ---- by the status
+-- the tasks that are there
+abbrev pub IsThere : Task → Type 0
+IsThere (Show text) = Unit {0}
+IsThere Replay = Unit {0}
+IsThere (ReplayNode me n) = Unit {0}
+IsThere _ = ⊥
 
--- all of a schedule was read, and its transcript and final lines were written
-pub record RanToEnd (before after had has : Option (List ℕ)) : Type 0 where
-  pub schedule : Schedule
-  pub good : IsSchedule schedule
-  pub takes : Takes before after (schedule_text schedule)
-  pub ended : AtEnd after
-  pub short : length (schedule_text schedule) ≤ 1073741824
-  pub puts : Puts had has (transcript schedule ++ finals_text schedule)
+-- the tasks that read an input
+abbrev pub IsReader : Task → Type 0
+IsReader Replay = Unit {0}
+IsReader (ReplayNode me n) = Unit {0}
+IsReader _ = ⊥
 
--- this line is the first that is bad, and the transcript of all lines before it was written
-pub record RanToBad (before after had has : Option (List ℕ)) (line : ℕ) (cause : Cause) : Type 0 where
-  pub read : Option Schedule
-  pub good : IsGood read
-  pub line_is : line ≡ count_of read + 1
-  pub rest : List ℕ
-  pub within : length (read_text read ++ rest) ≤ 1073741824
-  pub takes : Takes before after (read_text read ++ rest)
-  pub bad : BeginsBad read after cause rest
-  pub puts : Puts had has (shown_text read)
+-- its numbers are within the limits
+abbrev pub IsWithinLimits : Task → Type 0
+IsWithinLimits (ReplayNode me n) = (me < 15) × IsClusterSize n
+IsWithinLimits _ = Unit {0}
 
--- the transcript of all whole lines that were taken was written
-pub record RanSoFar (before after had has : Option (List ℕ)) : Type 0 where
-  pub read : Option Schedule
-  pub good : IsGood read
-  pub rest : List ℕ
-  pub whole : Lacks 10 rest
-  pub short : length rest ≤ 16777216
-  pub takes : Takes before after (read_text read ++ rest)
-  pub puts : Puts had has (shown_text read)
+-- ---- words
 
--- the same, where 1,073,741,824 bytes were taken and then one more
-pub record RanTooLong (before after had has : Option (List ℕ)) : Type 0 where
-  pub read : Option Schedule
-  pub good : IsGood read
-  pub rest : List ℕ
-  pub whole : Lacks 10 rest
-  pub short : length rest ≤ 16777216
-  pub long : length (read_text read ++ rest) ≡ 1073741824
-  pub more : ℕ
-  pub takes : Takes before after (read_text read ++ (rest ++ more ∷ []))
-  pub puts : Puts had has (shown_text read)
+-- Words were read as those of an order, which was done; or they are at fault or memory ran out, and nothing was done.
+pub data Ran (words : List Text) (result : Status) (before after had has : Option (List ℕ)) : Type 0 where
+  did : (order : Order) → OrderMade words order → Did order.task result before after had has → Ran words result before after had has
+  at_fault : OrderRefused words Refusal.Usage → result ≡ Status.Usage → Untouched before after had has → Ran words result before after had has
+  no_memory : result ≡ Status.NoMemory → Untouched before after had has → Ran words result before after had has
 
--- A prefix of the transcript of what has been read was written, or, at the end of the input, a prefix of all that is to
--- be written.
-pub data WrotePart (read : Option Schedule) (rest : List ℕ) (after had has : Option (List ℕ)) : Type 0 where
-  of_transcript : PutsPrefix had has (shown_text read) → WrotePart read rest after had has
-  of_all : rest ≡ [] → AtEnd after → PutsPrefix had has (whole_text read) → WrotePart read rest after had has
+-- they ask for nothing, or for what is not there
+pub data AskForNothing (words : List Text) : Type 0 where
+  nothing : OrderRefused words Refusal.Usage → AskForNothing words
+  not_there : (order : Order) → OrderMade words order → ¬ (IsThere order.task) → AskForNothing words
 
--- a part of what is to be written was written
-pub record RanPartly (before after had has : Option (List ℕ)) : Type 0 where
-  pub read : Option Schedule
-  pub good : IsGood read
-  pub rest : List ℕ
-  pub takes : Takes before after (read_text read ++ rest)
-  pub wrote : WrotePart read rest after had has
-
--- What a run did. It is shut, as the words below are: a proof opens it where it needs what is in it.
-unfoldable pub Ran : Status → Option (List ℕ) → Option (List ℕ) → Option (List ℕ) → Option (List ℕ) → Type 0
-Ran Status.Ok before after had has = RanToEnd before after had has
-Ran Status.Usage before after had has = (after ≡ before) × (has ≡ had)
-Ran (Status.BadInput line cause) before after had has = RanToBad before after had has line cause
-Ran Status.ReadFault before after had has = RanSoFar before after had has
-Ran Status.WriteFault before after had has = RanPartly before after had has
-Ran Status.NoMemory before after had has = RanPartly before after had has
-Ran Status.InputTooLong before after had has = RanTooLong before after had has
-
--- ---- answers that are exact
-
--- done, unless memory ran out
-abbrev pub IsDone : Status → Type 0
-IsDone result = (result ≡ Status.Ok) ⊎ (result ≡ Status.NoMemory)
-
--- refused for this line and cause, unless memory ran out
-abbrev pub IsRefused : ℕ → Cause → Status → Type 0
-IsRefused line cause result = (result ≡ Status.BadInput line cause) ⊎ (result ≡ Status.NoMemory)
-
--- too long, unless memory ran out
-abbrev pub IsTooLong : Status → Type 0
-IsTooLong result = (result ≡ Status.InputTooLong) ⊎ (result ≡ Status.NoMemory)
+-- where they ask for what is there
+abbrev pub WhereThere : List Text → Type 0 → Type 0
+WhereThere words P = All IsPlain words → (order : Order) → AsksFor order words → IsThere order.task → P
 
 -- the words are the single word `replay`
 abbrev pub IsReplay : {Z : Type 0} → List (String Z) → Type 0
 IsReplay words = map string_bytes words ≡ codes "replay" ∷ []
 
--- they are, and no fault of the input or of the output was counted
+-- they are `replay-node` and the numbers of a replica and of a cluster
+abbrev pub IsReplayNode : (me n : ℕ) → {Z : Type 0} → List (String Z) → Type 0
+IsReplayNode me n words = (me < 15) × IsClusterSize n × (map string_bytes words ≡ codes "replay-node" ∷ decimal me ∷ decimal n ∷ [])
+
+abbrev pub ReadsInput : {Z : Type 0} → List (String Z) → Type 0
+ReadsInput words = IsReplay words ⊎ ((me n : ℕ) × IsReplayNode me n words)
+
+-- the words are `replay`, and no fault of the input or of the output was counted
 abbrev pub WhereReplayed : {Z : Type 0} → List (String Z) → (in_old in_new out_old out_new : ℕ) → Type 0 → Type 0
 WhereReplayed words in_old in_new out_old out_new P = IsReplay words → ¬ (Rose in_old in_new) → ¬ (Rose out_old out_new) → P
 
--- for a schedule within the limit, where its text is what is left
-abbrev pub WhereSchedule : Option (List ℕ) → (Schedule → Type 0) → Type 0
-WhereSchedule left P = (s : Schedule) → IsSchedule s → left ≡ Some (schedule_text s) → length (schedule_text s) ≤ 1073741824 → P s
-
--- for good lines and a bad one behind them, within the limit
-abbrev pub WhereBad : Option (List ℕ) → (Option Schedule → Cause → Type 0) → Type 0
-WhereBad left P =
-    (read : Option Schedule) (text more : List ℕ) (cause : Cause) → IsGood read → left ≡ Some (read_text read ++ (text ++ more)) →
-    BeginsBad read (Some more) cause text → length (read_text read ++ text) ≤ 1073741824 → P read cause
-
--- for good lines up to the limit, with a part of a line, and more bytes behind it
-abbrev pub WhereTooLong : Option (List ℕ) → Type 0 → Type 0
-WhereTooLong left P =
-    (read : Option Schedule) (rest more : List ℕ) → IsGood read → Lacks 10 rest → length rest ≤ 16777216 →
-    length (read_text read ++ rest) ≡ 1073741824 → 0 < length more → left ≡ Some (read_text read ++ (rest ++ more)) → P
+-- the same of `replay-node`
+abbrev pub WhereSheetReplayed : (me n : ℕ) → {Z : Type 0} → List (String Z) → (in_old in_new out_old out_new : ℕ) → Type 0 → Type 0
+WhereSheetReplayed me n words in_old in_new out_old out_new P = IsReplayNode me n words → ¬ (Rose in_old in_new) → ¬ (Rose out_old out_new) → P

@@ -1,13 +1,11 @@
-//! The commands of the program.
+//! The commands of the program: what the words ask for is done by the crate of its command.
 #![tactic(auto)]
 
 mod command;
 mod entry;
-mod handling;
-mod laws;
 mod status;
 
 pub use command::run;
+pub use crsm_replay::Cause;
 pub use entry::start;
-pub use laws::schedules_are_one;
-pub use status::{Cause, Status};
+pub use status::Status;

@@ -1,41 +1,17 @@
 //! How a run ends.
 
 ghost use Rattle.std.specs.Prelude.{◌≡◌};
-ghost use Rattle.crsm_app.specs.Causes.{number_of};
+ghost use Rattle.crsm_app.specs.Statuses.{number_of, status_of_refused, status_of_replay, status_of_sheet};
 
+use crsm_input::Ending;
+use crsm_replay::{Cause, told_cause as cause_in_schedule};
+use crsm_replay_node::{SheetCause, told_cause as cause_in_sheet};
 use std::fmt::{self, Display, Formatter, Write};
-
-/// What is wrong with a line.
-#[derive(Clone, Copy, Debug, PartialEq, Eq)]
-pub enum Cause {
-    /// It is outside the grammar.
-    Unreadable,
-    /// The datagrams and the log bodies have so many bytes, which is the limit or above it.
-    Full { bytes: u64 },
-    /// No replica has this number.
-    NoSuchReplica,
-    /// No datagram with this number was sent.
-    NoSuchDatagram,
-    /// The datagram was delivered or lost before.
-    Used,
-    /// The datagram was neither delivered nor lost before.
-    Fresh,
-    /// The datagrams have not all one receiver.
-    Mixed,
-    /// The replica is down.
-    IsDown,
-    /// The replica is up.
-    IsUp,
-    /// The members are fewer than a majority.
-    TooFew,
-    /// The bytes are a datagram.
-    Forged,
-}
 
 /// How a run ended.
 #[derive(Clone, Copy, Debug, PartialEq, Eq)]
 pub enum Status {
-    /// The input was read to its end.
+    /// All was done.
     Ok,
     /// The words are not those of a command.
     Usage,
@@ -47,6 +23,9 @@ pub enum Status {
     WriteFault,
     /// Memory ran out.
     NoMemory,
+    /// This entry of the log, counted from 0, is the first that is no list of records (0), or whose first record that
+    /// does not fit is of this kind (1 to 9).
+    BadLog { entry: u64, why: u32 },
     /// The input has more than 1,073,741,824 bytes.
     InputTooLong,
 }
@@ -63,27 +42,69 @@ impl Status {
             Status::ReadFault => 4,
             Status::WriteFault => 5,
             Status::NoMemory => 8,
+            Status::BadLog { .. } => 10,
             Status::InputTooLong => 12,
         }
     }
 }
 
-/// The cause in words.
-impl Display for Cause {
-    fn fmt<W: Write>(&self, f: &mut Formatter<W>) -> fmt::Result {
-        match self {
-            Cause::Unreadable => f.write_str("it cannot be read"),
-            Cause::Full { bytes } => write!(f, "the world is full with {bytes} bytes"),
-            Cause::NoSuchReplica => f.write_str("there is no such replica"),
-            Cause::NoSuchDatagram => f.write_str("there is no such datagram"),
-            Cause::Used => f.write_str("the datagram was delivered or lost before"),
-            Cause::Fresh => f.write_str("the datagram was not delivered or lost before"),
-            Cause::Mixed => f.write_str("the datagrams have more than one receiver"),
-            Cause::IsDown => f.write_str("the replica is down"),
-            Cause::IsUp => f.write_str("the replica is up"),
-            Cause::TooFew => f.write_str("the members are fewer than a majority"),
-            Cause::Forged => f.write_str("the bytes are a datagram"),
-        }
+/// The status of a schedule that ended so.
+pub(crate) fn replay_status(ending: Ending<Cause>) -> Status
+    ensures { result ≡ status_of_replay ending }
+{
+    match ending {
+        Ending::Done => Status::Ok,
+        Ending::BadLine { line, why } => Status::BadInput {
+            line,
+            cause: cause_in_schedule(why),
+        },
+        Ending::ReadFault => Status::ReadFault,
+        Ending::WriteFault => Status::WriteFault,
+        Ending::NoMemory => Status::NoMemory,
+        Ending::InputTooLong => Status::InputTooLong,
+    }
+}
+
+/// The status of a line of a sheet that is refused.
+fn refused_status(line: u64, cause: SheetCause) -> Status
+    ensures { result ≡ status_of_refused line cause }
+{
+    match cause {
+        SheetCause::Unreadable => Status::BadInput {
+            line,
+            cause: Cause::Unreadable,
+        },
+        SheetCause::BadLog { entry, why } => Status::BadLog { entry, why },
+    }
+}
+
+/// The status of a sheet that ended so.
+pub(crate) fn sheet_status(ending: Ending<SheetCause>) -> Status
+    ensures { result ≡ status_of_sheet ending }
+{
+    match ending {
+        Ending::Done => Status::Ok,
+        Ending::BadLine { line, why } => refused_status(line, cause_in_sheet(why)),
+        Ending::ReadFault => Status::ReadFault,
+        Ending::WriteFault => Status::WriteFault,
+        Ending::NoMemory => Status::NoMemory,
+        Ending::InputTooLong => Status::InputTooLong,
+    }
+}
+
+/// The name of a kind of records, by their first byte.
+fn kind_name(kind: u32) -> &'static str {
+    match kind {
+        1 => "boot",
+        2 => "prepare",
+        3 => "commit",
+        4 => "adopt",
+        5 => "suspend",
+        6 => "promise",
+        7 => "accept",
+        8 => "decide",
+        9 => "enter",
+        _ => "unknown",
     }
 }
 
@@ -92,11 +113,18 @@ impl Display for Status {
     fn fmt<W: Write>(&self, f: &mut Formatter<W>) -> fmt::Result {
         match self {
             Status::Ok => f.write_str("done"),
-            Status::Usage => f.write_str("usage: crsm replay"),
+            Status::Usage => f.write_str("the words are no command"),
             Status::BadInput { line, cause } => write!(f, "line {line}: {cause}"),
             Status::ReadFault => f.write_str("the input failed"),
             Status::WriteFault => f.write_str("the output failed"),
             Status::NoMemory => f.write_str("memory ran out"),
+            Status::BadLog { entry, why: 0 } => {
+                write!(f, "log entry {entry}: it is no list of records")
+            }
+            Status::BadLog { entry, why } => {
+                let kind = kind_name(*why);
+                write!(f, "log entry {entry}: a record of kind {kind} does not fit")
+            }
             Status::InputTooLong => f.write_str("the input has more than 1073741824 bytes"),
         }
     }

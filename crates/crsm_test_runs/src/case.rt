@@ -1,8 +1,11 @@
-//! One case: a header that says how it is run, and a schedule.
+//! One case: a header that says how it is run, and an input.
 
 use crsm_app::{Status, run};
 use crsm_base::NoMemory;
+use crsm_clock::ListClock;
+use crsm_disk::MemDisk;
 use crsm_io::{MemSink, MemSource};
+use crsm_port::MemPort;
 use std::alloc::Global;
 
 /// How a case is run: the words of a header after its name.
@@ -16,8 +19,6 @@ enum Manner {
     Read(u64),
     /// `write K`: the K-th write fails.
     Write(u64),
-    /// `words A B ..`: with these words in place of `replay`.
-    Words,
 }
 
 /// What a run answered, and what it wrote.
@@ -35,41 +36,67 @@ fn manner_of(header: &str) -> Manner {
         (Some("cut"), _) => Manner::Cut,
         (Some("read"), Some(call)) => Manner::Read(call),
         (Some("write"), Some(call)) => Manner::Write(call),
-        (Some("words"), _) => Manner::Words,
         _ => Manner::Plain,
     }
 }
 
-fn words_of(alloc: Global, header: &str, manner: Manner) -> Result<Vec<String>, NoMemory> {
-    let mut words = Vec::new(alloc);
-    match manner {
-        Manner::Words => {
-            for word in header.split(' ').skip(2) {
-                words.push(String::from_str(alloc, word)?)?;
+/// The words of the command line: those behind `words`, which stands last in a header, or else the word `replay`.
+fn words_of(alloc: Global, words: Option<&str>) -> Result<Vec<String>, NoMemory> {
+    let mut list = Vec::new(alloc);
+    match words {
+        Some(words) => {
+            for word in words.split(' ').skip(1) {
+                list.push(String::from_str(alloc, word)?)?;
             }
         }
-        _ => words.push(String::from_str(alloc, "replay")?)?,
+        None => list.push(String::from_str(alloc, "replay")?)?,
     }
-    Ok(words)
+    Ok(list)
 }
 
-/// Runs a schedule over memory in the manner that the header names.
-pub fn run_case(alloc: Global, header: &str, schedule: &str) -> Result<Ran, NoMemory> {
-    let manner = manner_of(header);
-    let words = words_of(alloc, header, manner)?;
+/// The input of a case.
+fn source_of(alloc: Global, manner: Manner, text: &str) -> Result<MemSource, NoMemory> {
     let input = match manner {
-        Manner::Cut => schedule.trim_end(),
-        _ => schedule,
+        Manner::Cut => text.trim_end(),
+        _ => text,
     };
-    let mut source = match manner {
-        Manner::Read(call) => MemSource::new(alloc, input.as_bytes(), &[call])?,
-        _ => MemSource::new(alloc, input.as_bytes(), &[])?,
-    };
+    match manner {
+        Manner::Read(call) => MemSource::new(alloc, input.as_bytes(), &[call]),
+        _ => MemSource::new(alloc, input.as_bytes(), &[]),
+    }
+}
+
+/// Where its output goes.
+fn sink_of(alloc: Global, manner: Manner) -> Result<MemSink, NoMemory> {
     let mut output = match manner {
         Manner::Write(call) => MemSink::new(alloc, &[call])?,
         _ => MemSink::new(alloc, &[])?,
     };
     output.reserve(65_536)?;
-    let status = run(alloc, &words, &mut source, &mut output);
+    Ok(output)
+}
+
+/// Runs an input over memory in the manner that the header names.
+pub fn run_case(alloc: Global, header: &str, text: &str) -> Result<Ran, NoMemory> {
+    let (front, words) = match header.split_once(" words") {
+        Some((front, words)) => (front, Some(words)),
+        None => (header, None),
+    };
+    let manner = manner_of(front);
+    let words = words_of(alloc, words)?;
+    let mut input = source_of(alloc, manner, text)?;
+    let mut output = sink_of(alloc, manner)?;
+    let mut port = MemPort::new(alloc, &[])?;
+    let mut disk = MemDisk::new(alloc, &[], None, 0)?;
+    let mut clock = ListClock::new(alloc, &[])?;
+    let status = run(
+        alloc,
+        &words,
+        &mut input,
+        &mut output,
+        &mut port,
+        &mut disk,
+        &mut clock,
+    );
     Ok(Ran { status, output })
 }

@@ -1,4 +1,4 @@
-//! Runs the schedules of the standard input one after another over memory, and writes what each run wrote and answered.
+//! Runs the inputs of the standard input one after another over memory, and writes what each run wrote and answered.
 #![tactic(auto)]
 
 mod case;
@@ -9,10 +9,10 @@ use std::io::{self, ErrorKind, Write};
 fn main(rt: HostRuntime) -> io::Result<()> {
     let text = io::read_to_string(rt.alloc(), rt.reader())?;
     for part in text.split("== ").skip(1) {
-        let Some((header, schedule)) = part.split_once("\n") else {
+        let Some((header, text)) = part.split_once("\n") else {
             continue;
         };
-        let Ok(Ran { status, output }) = run_case(rt.alloc(), header, schedule) else {
+        let Ok(Ran { status, output }) = run_case(rt.alloc(), header, text) else {
             return Err(io::Error::from(ErrorKind::OutOfMemory));
         };
         println!(rt; "== {header}")?;

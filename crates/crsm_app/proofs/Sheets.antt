@@ -1,0 +1,98 @@
+-- A sheet by its status.
+use Rattle.std.proofs.Common.{◌≡◌, ◌≢◌, ℕ, inl, inr, List, Option, refl, ap, sym, ◌∙◌, subst}
+use Rattle.crsm_input.specs.Exact as loop
+use Rattle.crsm_input.specs.declared.Ending.{Ending}
+use Rattle.crsm_replay_node.specs.Causes.{cause_in}
+use Rattle.crsm_replay_node.specs.Run as sheet
+use Rattle.crsm_replay_node.specs.declared.cause.SheetCause.{SheetCause}
+use Rattle.crsm_app.specs.Did.{DidSheet, IsDone, IsRefusedSheet, IsTooLong}
+use Rattle.crsm_app.specs.Statuses.{status_of_refused, status_of_sheet}
+use Rattle.crsm_app.specs.declared.status.Status.{Status}
+
+refused : (me n line : ℕ) (cause : SheetCause) (b a d w : Option (List ℕ)) → sheet.RanToBad me n b a d w line cause → DidSheet me n (status_of_refused line cause) b a d w
+unfolding DidSheet
+refused me n line SheetCause.Unreadable b a d w ran = (refl, ran)
+refused me n line (SheetCause.BadLog entry why) b a d w ran = (line, ran)
+
+did : (me n : ℕ) (e : Ending SheetCause) (b a d w : Option (List ℕ)) → sheet.Ran me n e b a d w → DidSheet me n (status_of_sheet e) b a d w
+unfolding sheet.Ran DidSheet
+did me n Ending.Done b a d w ran = ran
+did me n (Ending.BadLine line why) b a d w ran = refused me n line (cause_in why) b a d w ran
+did me n Ending.ReadFault b a d w ran = ran
+did me n Ending.WriteFault b a d w ran = ran
+did me n Ending.NoMemory b a d w ran = ran
+did me n Ending.InputTooLong b a d w ran = ran
+
+-- a refused line is no fault, no end, and not too long
+refused_alone : (line : ℕ) (cause : SheetCause) → (status_of_refused line cause ≢ Status.ReadFault) × (status_of_refused line cause ≢ Status.WriteFault)
+    × (status_of_refused line cause ≢ Status.Ok) × (status_of_refused line cause ≢ Status.InputTooLong)
+refused_alone line SheetCause.Unreadable = (λ e. (cc e), λ e. (cc e), λ e. (cc e), λ e. (cc e))
+refused_alone line (SheetCause.BadLog entry why) = (λ e. (cc e), λ e. (cc e), λ e. (cc e), λ e. (cc e))
+
+read_fault : (e : Ending SheetCause) → status_of_sheet e ≡ Status.ReadFault → e ≡ Ending.ReadFault
+read_fault Ending.Done is = absurd (cc is)
+read_fault (Ending.BadLine line why) is = absurd ((refused_alone line (cause_in why)).0 is)
+read_fault Ending.ReadFault is = refl
+read_fault Ending.WriteFault is = absurd (cc is)
+read_fault Ending.NoMemory is = absurd (cc is)
+read_fault Ending.InputTooLong is = absurd (cc is)
+
+write_fault : (e : Ending SheetCause) → status_of_sheet e ≡ Status.WriteFault → e ≡ Ending.WriteFault
+write_fault Ending.Done is = absurd (cc is)
+write_fault (Ending.BadLine line why) is = absurd ((refused_alone line (cause_in why)).1 is)
+write_fault Ending.ReadFault is = absurd (cc is)
+write_fault Ending.WriteFault is = refl
+write_fault Ending.NoMemory is = absurd (cc is)
+write_fault Ending.InputTooLong is = absurd (cc is)
+
+done : (e : Ending SheetCause) → status_of_sheet e ≡ Status.Ok → e ≡ Ending.Done
+done Ending.Done is = refl
+done (Ending.BadLine line why) is = absurd ((refused_alone line (cause_in why)).2 is)
+done Ending.ReadFault is = absurd (cc is)
+done Ending.WriteFault is = absurd (cc is)
+done Ending.NoMemory is = absurd (cc is)
+done Ending.InputTooLong is = absurd (cc is)
+
+long : (e : Ending SheetCause) → status_of_sheet e ≡ Status.InputTooLong → e ≡ Ending.InputTooLong
+long Ending.Done is = absurd (cc is)
+long (Ending.BadLine line why) is = absurd ((refused_alone line (cause_in why)).3 is)
+long Ending.ReadFault is = absurd (cc is)
+long Ending.WriteFault is = absurd (cc is)
+long Ending.NoMemory is = absurd (cc is)
+long Ending.InputTooLong is = refl
+
+told : (line : ℕ) (cause : SheetCause) (result : Status) → result ≡ status_of_refused line cause → IsRefusedSheet line cause result
+told line SheetCause.Unreadable result is = inl is
+told line (SheetCause.BadLog entry why) result is = inl is
+
+pub no_memory : (line : ℕ) (cause : SheetCause) (result : Status) → result ≡ Status.NoMemory → IsRefusedSheet line cause result
+no_memory line SheetCause.Unreadable result is = inr is
+no_memory line (SheetCause.BadLog entry why) result is = inr is
+
+module _ (e : Ending SheetCause) (result : Status) (is : result ≡ status_of_sheet e) where
+  pub did_so : (me n : ℕ) (b a d w : Option (List ℕ)) → sheet.Ran me n e b a d w → DidSheet me n result b a d w
+  did_so me n b a d w ran = subst (λ (s : Status). DidSheet me n s b a d w) (sym is) (did me n e b a d w ran)
+
+  pub is_read_fault : result ≡ Status.ReadFault → e ≡ Ending.ReadFault
+  is_read_fault fault = read_fault e (sym is ∙ fault)
+
+  pub is_write_fault : result ≡ Status.WriteFault → e ≡ Ending.WriteFault
+  is_write_fault fault = write_fault e (sym is ∙ fault)
+
+  pub is_done : result ≡ Status.Ok → e ≡ Ending.Done
+  is_done ok = done e (sym is ∙ ok)
+
+  pub is_long : result ≡ Status.InputTooLong → e ≡ Ending.InputTooLong
+  is_long too_long = long e (sym is ∙ too_long)
+
+  pub completes : loop.IsDone e → IsDone result
+  completes (inl p) = inl (is ∙ ap status_of_sheet p)
+  completes (inr p) = inr (is ∙ ap status_of_sheet p)
+
+  pub refuses : (line : ℕ) (cause : SheetCause) → sheet.IsRefused line cause e → IsRefusedSheet line cause result
+  refuses line cause (inl p) = told line cause result (is ∙ ap status_of_sheet p.is ∙ ap (λ (c : SheetCause). status_of_refused line c) p.told)
+  refuses line cause (inr p) = no_memory line cause result (is ∙ ap status_of_sheet p)
+
+  pub is_too_long : loop.IsTooLong e → IsTooLong result
+  is_too_long (inl p) = inl (is ∙ ap status_of_sheet p)
+  is_too_long (inr p) = inr (is ∙ ap status_of_sheet p)

@@ -1,0 +1,26 @@
+use Rattle.crsm_app.proofs.Schedules.{completes, did_so, is_done, is_long, is_read_fault, is_too_long, is_write_fault, refuses}
+use Rattle.crsm_app.proofs.command.run_replay.Goals as goal
+
+pub returns-clause-did : goal.returns-clause-did
+returns-clause-did g c = did_so c.replay.result c.replay_status.result c.replay_status.ensures _ _ _ _ c.replay.ensures.ran
+
+pub returns-clause-read_fault : goal.returns-clause-read_fault
+returns-clause-read_fault g c = λ e. c.replay.ensures.read_fault (is_read_fault c.replay.result c.replay_status.result c.replay_status.ensures e)
+
+pub returns-clause-write_fault : goal.returns-clause-write_fault
+returns-clause-write_fault g c = λ e. c.replay.ensures.write_fault (is_write_fault c.replay.result c.replay_status.result c.replay_status.ensures e)
+
+pub returns-clause-exact : goal.returns-clause-exact
+returns-clause-exact g c = λ no_read no_write. record {
+  complete = λ s good is short. completes c.replay.result c.replay_status.result c.replay_status.ensures (c.replay.ensures.complete s good is short no_read no_write);
+  refused = λ read text more cause good is bad short.
+      refuses c.replay.result c.replay_status.result c.replay_status.ensures _ cause (c.replay.ensures.refused read text more cause good is bad short no_read no_write);
+  too_long = λ read rest more good lacks short long some is.
+      is_too_long c.replay.result c.replay_status.result c.replay_status.ensures (c.replay.ensures.too_long read rest more good lacks short long some is no_read no_write);
+}
+
+pub returns-clause-limit : goal.returns-clause-limit
+returns-clause-limit g c = λ bytes is long e. c.replay.ensures.limit bytes is long (is_done c.replay.result c.replay_status.result c.replay_status.ensures e)
+
+pub returns-clause-within : goal.returns-clause-within
+returns-clause-within g c = λ bytes is short e. c.replay.ensures.within bytes is short (is_long c.replay.result c.replay_status.result c.replay_status.ensures e)

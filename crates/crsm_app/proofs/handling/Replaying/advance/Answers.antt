@@ -1,6 +1,0 @@
-use Rattle.std.proofs.lemmas.Result.{err_from_is_err_and}
-use Rattle.crsm_app.proofs.LineLemmas.{stops_no_memory}
-use Rattle.crsm_app.proofs.handling.Replaying.advance.Goals as goal
-
-pub returns-in_default-clause-err : goal.returns-in_default-clause-err
-returns-in_default-clause-err c = stops_no_memory c.args.self.now.world _

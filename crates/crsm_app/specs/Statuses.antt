@@ -1,0 +1,42 @@
+-- The number of a status, and the status of a command that ended so.
+use Rattle.std.specs.Prelude.{ℕ}
+use Rattle.crsm_input.specs.declared.Ending.{Ending}
+use Rattle.crsm_replay.specs.Causes as schedule
+use Rattle.crsm_replay.specs.declared.cause.Cause.{Cause}
+use Rattle.crsm_replay_node.specs.Causes as sheet
+use Rattle.crsm_replay_node.specs.declared.cause.SheetCause.{SheetCause}
+use Rattle.crsm_app.specs.declared.status.Status.{Status}
+
+-- the number that the program ends with
+abbrev pub number_of : Status → ℕ
+number_of Status.Ok = 0
+number_of Status.Usage = 2
+number_of (Status.BadInput line cause) = 3
+number_of Status.ReadFault = 4
+number_of Status.WriteFault = 5
+number_of Status.NoMemory = 8
+number_of (Status.BadLog entry why) = 10
+number_of Status.InputTooLong = 12
+
+-- the status of a schedule that ended so
+abbrev pub status_of_replay : Ending Cause → Status
+status_of_replay Ending.Done = Status.Ok
+status_of_replay (Ending.BadLine line why) = Status.BadInput line (schedule.cause_in why)
+status_of_replay Ending.ReadFault = Status.ReadFault
+status_of_replay Ending.WriteFault = Status.WriteFault
+status_of_replay Ending.NoMemory = Status.NoMemory
+status_of_replay Ending.InputTooLong = Status.InputTooLong
+
+-- the status of a line of a sheet that is refused
+abbrev pub status_of_refused : ℕ → SheetCause → Status
+status_of_refused line SheetCause.Unreadable = Status.BadInput line Cause.Unreadable
+status_of_refused line (SheetCause.BadLog entry why) = Status.BadLog entry why
+
+-- the status of a sheet that ended so
+abbrev pub status_of_sheet : Ending SheetCause → Status
+status_of_sheet Ending.Done = Status.Ok
+status_of_sheet (Ending.BadLine line why) = status_of_refused line (sheet.cause_in why)
+status_of_sheet Ending.ReadFault = Status.ReadFault
+status_of_sheet Ending.WriteFault = Status.WriteFault
+status_of_sheet Ending.NoMemory = Status.NoMemory
+status_of_sheet Ending.InputTooLong = Status.InputTooLong
