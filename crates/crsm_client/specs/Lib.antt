@@ -1,0 +1,6 @@
+pub mod Exchange
+pub mod Asking
+pub mod Operating
+pub mod Commands
+pub mod Marks
+pub mod Turns
