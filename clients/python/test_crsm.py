@@ -1,0 +1,347 @@
+"""Tests of the client against a small node: a UDP server on a thread, with a store of its own."""
+
+import socket
+import struct
+import threading
+import time
+import unittest
+
+from crsm import Client, CrsmError, NoAnswer, NoRoom, Refused, Stale, Unsafe
+
+FAST = {"timeout": 3.0, "node_timeout": 0.25, "resend": 0.1}
+
+
+class Store:
+    """Keys, and of each client the last command's number and answer, as the replicas of a cluster agree on them."""
+
+    def __init__(self):
+        self.rows, self.clients, self.done, self.room = {}, {}, 0, 3
+
+    def apply(self, client, number, op):
+        last, answer = self.clients.get(client, (-1, b""))
+        if number < last:
+            return b"\x05" + struct.pack(">Q", last)
+        if number > last:
+            answer = self.change(op)
+            self.done += 1
+            self.clients[client] = (number, answer)
+        return answer
+
+    def change(self, op):
+        kind, size = op[0], op[1]
+        key, rest = op[2 : 2 + size], op[2 + size :]
+        had = self.rows.get(key)
+        if kind == 1:
+            return b"\x02" if had is None else b"\x01" + spelt(had)
+        if kind == 3:
+            return b"\x02" if self.rows.pop(key, None) is None else b"\x03"
+        if kind == 2:
+            return self.set(key, rest[2:])
+        expected, rest = optional(rest)
+        new, _ = optional(rest)
+        if had != expected:
+            return b"\x04" + (b"\0" if had is None else b"\1" + spelt(had))
+        return self.set(key, new)
+
+    def set(self, key, value):
+        if value is None:
+            self.rows.pop(key, None)
+            return b"\x03"
+        if key not in self.rows and len(self.rows) == self.room:
+            return b"\x06"
+        self.rows[key] = value
+        return b"\x03"
+
+
+def spelt(value):
+    return struct.pack(">H", len(value)) + value
+
+
+def optional(data):
+    if data[0] == 0:
+        return None, data[1:]
+    size = int.from_bytes(data[1:3], "big")
+    return data[3 : 3 + size], data[3 + size :]
+
+
+class Node(threading.Thread):
+    """A node that loses `deaf` requests, then refuses with these codes, and then keeps `mute` replies to itself."""
+
+    def __init__(self, store, cluster=0, deaf=0, mute=0, refuse=(), before=()):
+        super().__init__(daemon=True)
+        self.store, self.deaf, self.mute = store, deaf, mute
+        self.mark = b"" if cluster == 0 else b"\x10" + struct.pack(">Q", cluster)
+        self.refuse, self.before = list(refuse), list(before)
+        self.taken, self.times = [], []
+        self.socket = socket.socket(socket.AF_INET, socket.SOCK_DGRAM)
+        self.socket.bind(("127.0.0.1", 0))
+        self.address = self.socket.getsockname()
+        self.start()
+
+    def run(self):
+        while True:
+            data, source = self.socket.recvfrom(9000)
+            if data == b"stop":
+                self.socket.close()
+                return
+            self.take(data, source)
+
+    def take(self, data, source):
+        self.taken.append(data)
+        self.times.append(time.monotonic())
+        if not data.startswith(self.mark) or data[len(self.mark)] != 4:
+            return
+        if self.deaf:
+            self.deaf -= 1
+            return
+        bare = data[len(self.mark) :]
+        client, number = struct.unpack(">QQ", bare[1:17])
+        head = b"\x05" + bare[1:17]
+        if self.refuse:
+            self.socket.sendto(self.mark + head + bytes([self.refuse.pop(0)]), source)
+            return
+        answer = self.store.apply(client, number, bare[17:])
+        if self.mute:
+            self.mute -= 1
+            return
+        for wrong in self.before:
+            self.socket.sendto(wrong(self.mark, head, answer), source)
+        self.socket.sendto(self.mark + head + b"\0" + answer, source)
+        self.socket.sendto(self.mark + head + b"\0" + answer, source)
+
+    def stop(self):
+        self.socket.sendto(b"stop", self.address)
+        self.join()
+
+
+class ClientTest(unittest.TestCase):
+    def setUp(self):
+        self.store = Store()
+
+    def node(self, **how):
+        node = Node(self.store, **how)
+        self.addCleanup(node.stop)
+        return node
+
+    def client(self, *nodes, **how):
+        addresses = [node.address if isinstance(node, Node) else node.getsockname() for node in nodes]
+        client = Client(addresses, **{**FAST, **how})
+        self.addCleanup(client.close)
+        return client
+
+    def dead(self):
+        """The socket of a node that never answers."""
+        quiet = socket.socket(socket.AF_INET, socket.SOCK_DGRAM)
+        quiet.bind(("127.0.0.1", 0))
+        quiet.setblocking(False)
+        self.addCleanup(quiet.close)
+        return quiet
+
+    def test_commands(self):
+        client = self.client(self.node())
+        self.assertIsNone(client.get("a"))
+        client.put("a", "blue")
+        self.assertEqual(client.get(b"a"), b"blue")
+        self.assertEqual(client.get_text("a"), "blue")
+        self.assertEqual(tuple(client.cas("a", "red", "green")), (False, b"blue"))
+        self.assertTrue(client.cas("a", "blue", "green"))
+        self.assertFalse(client.cas("b", "x", None))
+        self.assertTrue(client.cas("b", None, ""))
+        self.assertEqual(client.get("b"), b"")
+        self.assertTrue(client.cas("b", "", None))
+        self.assertTrue(client.delete("a"))
+        self.assertFalse(client.delete("a"))
+        self.assertIsNone(client.get_text("a"))
+        self.assertEqual(self.store.done, 13)
+
+    def test_bytes(self):
+        node = self.node()
+        client = self.client(node, client=7)
+        client.put("a", "b")
+        client.get("é")
+        client.cas("a", None, bytes(512))
+        client.delete(b"\xff" * 64)
+        zeros = "0" * 15
+        self.assertEqual(node.taken[0].hex(), f"04{zeros}7{zeros}1" + "020161000162")
+        self.assertEqual(node.taken[1].hex(), f"04{zeros}7{zeros}2" + "0102c3a9")
+        self.assertEqual(node.taken[2].hex(), f"04{zeros}7{zeros}3" + "040161000102" + "00" * 513)
+        self.assertEqual(node.taken[3].hex(), f"04{zeros}7{zeros}4" + "0340" + "ff" * 64)
+
+    def test_lost_requests(self):
+        node = self.node(deaf=2)
+        self.client(node, node_timeout=3.0).put("a", "1")
+        self.assertEqual((len(node.taken), self.store.done), (3, 1))
+        for before, after in zip(node.times, node.times[1:]):
+            self.assertGreater(after - before, 0.09)
+
+    def test_lost_replies(self):
+        node = self.node(mute=2)
+        self.assertTrue(self.client(node, node_timeout=3.0).cas("a", None, "1"))
+        self.assertEqual((len(node.taken), self.store.done), (3, 1))
+
+    def test_dead_node(self):
+        dead, node = self.dead(), self.node()
+        client = self.client(dead, node)
+        client.put("a", "1")
+        dead.recv(9000)
+        with self.assertRaises(BlockingIOError):
+            for _ in range(100):
+                dead.recv(9000)
+        client.put("a", "2")
+        with self.assertRaises(BlockingIOError):
+            dead.recv(9000)
+        self.assertEqual(self.store.rows, {b"a": b"2"})
+
+    def test_refusals(self):
+        first, second = self.node(refuse=[1, 3]), self.node(refuse=[2])
+        self.client(first, second).put("a", "1")
+        self.assertEqual(self.store.done, 1)
+        self.assertEqual(len({bytes(taken) for taken in first.taken + second.taken}), 1)
+
+    def test_done_by_a_node_that_is_not_heard(self):
+        first, second = self.node(mute=9), self.node(refuse=[6])
+        self.assertTrue(self.client(first, second).cas("a", None, "1"))
+        self.assertEqual(self.store.done, 1)
+
+    def test_refused(self):
+        nodes = self.node(refuse=[4] * 50), self.node(refuse=[5] * 50)
+        client = self.client(*nodes, timeout=1.2, resend=0.4)
+        with self.assertRaises(Refused) as caught:
+            client.put("a", "1")
+        self.assertIn(caught.exception.code, (4, 5))
+        self.assertEqual(self.store.done, 0)
+
+    def test_no_answer(self):
+        with self.assertRaises(NoAnswer):
+            self.client(self.dead(), self.dead(), timeout=0.4).get("a")
+
+    def test_refused_and_lost_is_no_answer(self):
+        with self.assertRaises(NoAnswer):
+            self.client(self.node(refuse=[1] * 50), self.dead(), timeout=0.6).put("a", "1")
+
+    def test_wrong_senders(self):
+        stranger = socket.socket(socket.AF_INET, socket.SOCK_DGRAM)
+        self.addCleanup(stranger.close)
+        node = self.node(deaf=1)
+        client = self.client(node, client=7)
+        port = []
+
+        def forge():
+            while not node.taken:
+                time.sleep(0.01)
+            port.append(client._socket.getsockname()[1])
+            stranger.sendto(b"\x05" + struct.pack(">QQ", 7, 1) + b"\0\x01" + spelt(b"forged"), ("127.0.0.1", port[0]))
+
+        forger = threading.Thread(target=forge)
+        forger.start()
+        self.assertIsNone(client.get("a"))
+        forger.join()
+        self.assertTrue(port)
+
+    def test_wrong_datagrams(self):
+        wrong = [
+            lambda mark, head, answer: b"",
+            lambda mark, head, answer: mark + b"\x05",
+            lambda mark, head, answer: mark + head + b"\0" + answer + b"\0",
+            lambda mark, head, answer: mark + head + b"\x07",
+            lambda mark, head, answer: mark + head + b"\0\x09",
+            lambda mark, head, answer: mark + head + b"\0\x01\x02\x01" + bytes(513),
+            lambda mark, head, answer: mark + head + b"\0\x04\x02",
+            lambda mark, head, answer: mark + b"\x04" + head[1:] + b"\0" + answer,
+            lambda mark, head, answer: mark + head[:9] + struct.pack(">Q", 9) + b"\0\x01\0\0",
+            lambda mark, head, answer: mark + b"\x05" + struct.pack(">Q", 8) + head[9:] + b"\0\x01\0\0",
+            lambda mark, head, answer: b"\x10" + struct.pack(">Q", 8) + head + b"\0\x01\0\0",
+        ]
+        for cluster in (0, 9):
+            client = self.client(self.node(before=wrong, cluster=cluster), cluster=cluster)
+            self.assertIsNone(client.get("a"))
+
+    def test_clusters(self):
+        node, other = self.node(cluster=9), self.node(cluster=8)
+        self.client(other, node, cluster=9, client=7).put("a", "b")
+        zeros = "0" * 15
+        self.assertEqual(node.taken[0].hex(), f"10{zeros}9" + f"04{zeros}7{zeros}1" + "020161000162")
+        self.assertEqual(self.store.done, 1)
+
+    def test_stale(self):
+        node = self.node()
+        self.store.clients[7] = (20, b"\x03")
+        client = self.client(node, client=7)
+        with self.assertRaises(Stale) as caught:
+            client.put("a", "1")
+        self.assertEqual(caught.exception.number, 20)
+        client.put("a", "2")
+        self.assertEqual(self.store.rows, {b"a": b"2"})
+
+    def test_answer_of_another_command(self):
+        self.store.clients[7] = (1, b"\x03")
+        with self.assertRaises(CrsmError):
+            self.client(self.node(), client=7).get("a")
+
+    def test_no_room(self):
+        client = self.client(self.node())
+        for key in "abc":
+            client.put(key, "1")
+        with self.assertRaises(NoRoom):
+            client.put("d", "1")
+
+    def test_limits(self):
+        node = self.node()
+        client = self.client(node)
+        for key, value in (("", "1"), ("k" * 65, "1"), ("a", "v" * 513)):
+            with self.assertRaises(ValueError):
+                client.put(key, value)
+        client.put("k" * 64, "v" * 512)
+        self.assertEqual(client.get("k" * 64), b"v" * 512)
+        self.assertEqual(len(node.taken), 2)
+
+    def test_reconfigure(self):
+        nodes = [self.node(cluster=9) for _ in range(3)]
+        client = self.client(*nodes, cluster=9)
+        client.reconfigure([1, 0])
+        client.reconfigure([2, 1], via=2)
+        for members in ([1], [1, 3], [9, 10, 11]):
+            with self.assertRaises(Unsafe):
+                client.reconfigure(members)
+        client.reconfigure([1], sure=True)
+        for members, via in (([], None), ([-1, 0], None), ([0, 1, 15], None), ([0, 1], 3)):
+            with self.assertRaises(ValueError):
+                client.reconfigure(members, via=via)
+        time.sleep(0.2)
+        mark = "10" + "0" * 15 + "9"
+        taken = [[data.hex() for data in node.taken] for node in nodes]
+        self.assertEqual(taken, [[mark + "06020001"], [mark + "060101"], [mark + "06020102"]])
+
+    def test_wrong_use(self):
+        for nodes in ([], ["127.0.0.1"], ["127.0.0.1:x"], ["127.0.0.1:0"], ["127.0.0.1:70000"], ["127.0.0.1:7"] * 2):
+            with self.assertRaises(ValueError):
+                Client(nodes)
+        for how in ({"resend": 0.05}, {"cluster": -1}, {"client": 2**64}):
+            with self.assertRaises(ValueError):
+                Client(["127.0.0.1:7000"], **how)
+
+    def test_clients_have_numbers_of_their_own(self):
+        node = self.node()
+        self.assertNotEqual(self.client(node).client, self.client(node).client)
+
+    def test_threads_share_a_client(self):
+        client = self.client(self.node())
+        client.put("n", "0")
+
+        def count():
+            for _ in range(10):
+                while True:
+                    had = client.get("n")
+                    if client.cas("n", had, str(int(had) + 1)):
+                        break
+
+        threads = [threading.Thread(target=count) for _ in range(4)]
+        for thread in threads:
+            thread.start()
+        for thread in threads:
+            thread.join()
+        self.assertEqual(client.get("n"), b"40")
+
+
+if __name__ == "__main__":
+    unittest.main()
