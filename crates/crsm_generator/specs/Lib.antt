@@ -1,0 +1,4 @@
+pub mod View
+pub mod Sequence
+pub mod Drawing
+pub mod Bytes

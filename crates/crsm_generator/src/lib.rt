@@ -1,0 +1,14 @@
+//! Draws the events of a run from a number: a large run that is possible, and that can be made again.
+#![tactic(auto)]
+
+mod choice;
+mod command;
+mod drawing;
+mod events;
+mod generator;
+mod kind;
+mod look;
+
+pub use drawing::Drawing;
+pub use generator::Generator;
+pub use look::Look;
