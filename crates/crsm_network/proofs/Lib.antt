@@ -3,3 +3,5 @@ pub mod PacketLists
 pub mod Numbers
 pub mod Marked
 pub mod PacketViews
+pub mod Classes
+pub mod Receiving

@@ -1,5 +1,5 @@
 -- The datagrams of a world, and how they are held in memory.
-use Rattle.std.specs.Prelude.{◌≡◌, ◌<◌, ◌≤◌, ◌+◌, ℕ, Bool, true, false, ◌&&◌, not, List, [], ◌∷◌, ◌++◌, length, map, filter, Option, Some, option_map, slice_get, slice_set, slice_range}
+use Rattle.std.specs.Prelude.{◌≡◌, ◌<◌, ◌≤◌, ◌+◌, ℕ, Bool, true, false, ◌&&◌, not, min, if◌then◌else◌, List, [], ◌∷◌, ◌++◌, length, map, filter, Option, Some, option_map, slice_get, slice_set, slice_range}
 use Rattle.std.specs.List.{AllByRecursion, flat_map, range_with_len}
 use Rattle.std.specs.Option.{option_map_or}
 use Rattle.crsm_base.specs.Messages.{datagram_bytes, FitsDatagram}
@@ -12,6 +12,8 @@ use Rattle.crsm_spec.specs.World.{Packet, packet_of, packets_size}
 use Rattle.crsm_network.specs.declared.packets.PacketEntry.{PacketEntry}
 use Rattle.crsm_network.specs.declared.packets.PacketView.{PacketView}
 use Rattle.crsm_network.specs.declared.network.Network.{Network}
+use Rattle.crsm_network.specs.declared.receivers.Receivers.{Receivers}
+use Rattle.crsm_tally.specs.Tally.{TallyStands, is_wanted}
 
 -- The datagram in memory is this one on paper, which has a spelling: it stands at its place among the bytes of all.
 pub record IsPacket (spelling : List ℕ) (m : PacketEntry) (p : Packet) : Type 0 where
@@ -67,6 +69,29 @@ numbers_of packets = range_with_len 0 (length packets)
 unfoldable pub is_up_among : List Bool → ℕ → Bool
 is_up_among ups k = option_map_or (λ up. up) (slice_get ups k) false
 
+-- ---- classes
+
+-- the class of a datagram for this receiver; those of 15 and above are one
+unfoldable pub class_of : (to : ℕ) → (used : Bool) → ℕ
+class_of to used = if used then min to 15 + 16 else min to 15
+
+unfoldable pub class_of_packet : Packet → ℕ
+class_of_packet p = class_of p.to p.used
+
+-- the datagram is used, or fresh, and its receiver passes the test
+unfoldable pub is_of : (used : Bool) → (ℕ → Bool) → Packet → Bool
+is_of used test p = (if used then p.used else not p.used) && test p.to
+
+-- the classes of used or of fresh datagrams for the receivers
+abbrev pub wanted : Receivers → (used : Bool) → List Bool
+wanted r true = r.used
+wanted r false = r.fresh
+
+-- these are the receivers that pass the test
+pub record Receives (r : Receivers) (test : ℕ → Bool) : Type 0 where
+  pub whole : (used : Bool) → length (wanted r used) ≡ 32
+  pub right : (used : Bool) (p : Packet) → is_wanted (wanted r used) (class_of_packet p) ≡ is_of used test p
+
 -- ---- what leaves
 
 -- the datagram has a spelling
@@ -102,6 +127,7 @@ pub record NetworkStands (network : Network) (packets : List Packet) (bytes : �
   pub held : HoldsPackets network.spelling network.packets.items packets
   pub fresh : HasFresh (λ k. true) packets network.fresh.items
   pub near : HasFresh (is_up_among network.ups.items) packets network.near.items
+  pub tallied : TallyStands network.tally (map class_of_packet packets)
   pub counted : network.bytes ≡ bytes
 
 -- behind these packets and bytes, the network holds what replica k has sent

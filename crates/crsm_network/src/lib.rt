@@ -4,8 +4,11 @@
 mod fresh;
 mod network;
 mod packets;
+mod receivers;
 mod sending;
+mod sorted;
 
 pub use network::Network;
 pub use packets::PacketView;
+pub use receivers::Receivers;
 pub use sending::packets_in;

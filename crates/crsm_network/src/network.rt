@@ -6,7 +6,9 @@ ghost use Rattle.crsm_spec.specs.World as on_paper;
 ghost use Rattle.crsm_network.specs.Packets.{NetworkStands, IsPacket, IsPacketView, used_up, is_used_at, receiver_of, receiver_or, WhereStands};
 
 use crate::packets::{PacketEntry, PacketView};
+use crate::receivers::class_of;
 use crsm_base::{Bytes, MAX_WORLD_BYTES, NoMemory, never};
+use crsm_tally::Tally;
 use std::alloc::Global;
 
 /// Every datagram that was sent, by number, and how many bytes the world has.
@@ -22,6 +24,8 @@ pub struct Network {
     pub(crate) ups: Vec<bool>,
     /// Of the fresh ones those whose receivers were up then, and some others, ascending.
     pub(crate) near: Vec<u64>,
+    /// The classes of all, by number.
+    pub(crate) tally: Tally,
     /// Of all datagrams sent and all log bodies kept.
     bytes: u64,
 }
@@ -38,6 +42,7 @@ impl Network {
             fresh: Vec::new(alloc),
             ups: Vec::new(alloc),
             near: Vec::new(alloc),
+            tally: Tally::new(alloc),
             bytes: 0,
         }
     }
@@ -137,6 +142,8 @@ impl Network {
         if number < self.packets.len() as u64 {
             let packet = &mut self.packets[number as usize];
             packet.is_used = true;
+            let class = class_of(packet.to, true);
+            self.tally.set(number as usize, class);
         }
     }
 

@@ -10,6 +10,7 @@ ghost use Rattle.crsm_port.specs.Sent.{packets_of};
 
 use crate::network::Network;
 use crate::packets::PacketEntry;
+use crate::receivers::class_of;
 use crsm_base::{Bytes, Datagram, Line, Lines, NoMemory, Send, SendKind, To, never};
 use crsm_port::SentPackets;
 use std::alloc::Global;
@@ -43,6 +44,7 @@ impl Network {
         })?;
         self.fresh.push(index)?;
         self.near.push(index)?;
+        self.tally.push(class_of(to, false))?;
         self.packets.push(PacketEntry {
             from: k,
             to,

@@ -1,13 +1,14 @@
-use Rattle.std.proofs.Common.{◌≡◌, ◌∙◌, ◌+◌, ◌++◌, ◌∷◌, [], ℕ, ap, arith, refl, subst, length, length-append}
+use Rattle.std.proofs.Common.{◌≡◌, ◌∙◌, ◌+◌, ◌++◌, ◌∷◌, [], ℕ, ap, arith, refl, subst, length, length-append, map}
 use Rattle.crsm_base.specs.Messages.{datagram_bytes}
 use Rattle.crsm_spec.specs.World.{packet_of, send_line}
-use Rattle.crsm_network.specs.Packets.{NetworkStands}
+use Rattle.crsm_tally.specs.Tally.{TallyStands}
+use Rattle.crsm_network.specs.Packets.{NetworkStands, class_of_packet}
 use Rattle.crsm_network.proofs.PacketLists.{spelt_here}
 use Rattle.crsm_network.proofs.Marked.{sends, spelt_more}
 use Rattle.crsm_network.proofs.network.Network.send.Goals as goal
 
 pub returns-clause-network : goal.returns-clause-network
-unfolding packet_of
+unfolding packet_of class_of_packet
 returns-clause-network c packets bytes h e =
     let old = c.args.self.now.spelling in
     let more = datagram_bytes c.args.datagram.now in
@@ -20,7 +21,7 @@ returns-clause-network c packets bytes h e =
     let size : length c.args.text.now ≡ length more = ap length e in
     let number = c.count-index.ensures packets bytes h in
     let network = record c.args.self.now { spelling = c.append.new.self } in
-    let sent = sends network packets bytes c.push-4.new.self c.push-2.new.self c.push-3.new.self _ (packet_of c.args.k (c.args.to, c.args.datagram.now)) grown c.in_ok-push-4.ensures.items
+    let sent = sends network packets bytes c.push-5.new.self c.push-2.new.self c.push-3.new.self c.push-4.new.self _ (packet_of c.args.k (c.args.to, c.args.datagram.now)) grown c.in_ok-push-5.ensures.items
     (c.in_ok-push-2.ensures.items ∙ ap (λ n. c.args.self.now.fresh.items ++ n ∷ []) number)
     (c.in_ok-push-3.ensures.items ∙ ap (λ n. c.args.self.now.near.items ++ n ∷ []) number)
     (record {
@@ -31,7 +32,8 @@ returns-clause-network c packets bytes h e =
       bytes = spelt_here old more c.append.new.self c.as_slice-start.result.now c.as_slice-end.result.now spelling start end;
       fits = c.requires;
       used = refl;
-    }) in
+    })
+    (subst (λ (class : ℕ). TallyStands c.push-4.new.self (map class_of_packet packets ++ class ∷ [])) c.class_of.ensures.class (c.in_ok-push-4.ensures (map class_of_packet packets) h.tallied)) in
     subst (λ (n : ℕ). NetworkStands c.keep.new.self (packets ++ packet_of c.args.k (c.args.to, c.args.datagram.now) ∷ []) (bytes + n)) size (c.in_ok-keep.ensures _ bytes sent)
 
 pub returns-clause-lines : goal.returns-clause-lines
