@@ -10,3 +10,4 @@ pub mod First
 pub mod Schedules
 pub mod Due
 pub mod SoFar
+pub mod Looking

@@ -8,3 +8,4 @@ pub mod Refusing
 pub mod World
 pub mod Schedule
 pub mod Laws
+pub mod Seen

@@ -10,6 +10,7 @@ mod events;
 mod founders;
 mod groups;
 mod lines;
+mod look;
 mod machines;
 mod outgoing;
 mod replicas;
