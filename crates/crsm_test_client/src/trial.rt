@@ -1,9 +1,11 @@
 //! One line, tried.
 
+ghost use Rattle.crsm_base.specs.Spelling.{FitsCommand};
+
 use crate::fault::Fault;
 use crate::words::{command, fails, number, parted, port};
-use crsm_base::Bytes;
-use crsm_client::{ClientOrder, ask, client, operate, operate_command};
+use crsm_base::{Bytes, Outcome};
+use crsm_client::{AskError, ClientOrder, ask, client, operate, operate_command};
 use crsm_io::MemSink;
 use crsm_port::MemPort;
 use crsm_schedule::print_outcome;
@@ -14,8 +16,8 @@ use std::str::from_utf8;
 /// How many bytes an output has at most.
 const ROOM: u64 = 4_096;
 
-/// What was sent, each datagram as `TO:HEX`.
-fn sent(alloc: Global, port: &MemPort) -> Result<String, Fault> {
+/// How it ended, and what was sent, each datagram as `TO:HEX`.
+fn with_sent(alloc: Global, end: &str, port: &MemPort) -> Result<String, Fault> {
     let mut text = Bytes::new(alloc);
     let packets = port.sent();
     for i in 0..packets.len() {
@@ -26,8 +28,25 @@ fn sent(alloc: Global, port: &MemPort) -> Result<String, Fault> {
             push_hex(&mut text, bytes)?;
         }
     }
-    let text = from_utf8(text.as_slice()).unwrap_or(" no text");
-    Ok(format!(in alloc; "{text}")?)
+    let sent = from_utf8(text.as_slice()).unwrap_or(" no text");
+    Ok(format!(in alloc; "{end}{sent}")?)
+}
+
+/// How the command of a client ends, over a port and over an output that fails at these calls.
+fn client_ends(
+    alloc: Global,
+    order: &ClientOrder,
+    cluster: u64,
+    port: &mut MemPort,
+    writes: &[u64],
+) -> Result<String, Fault>
+    requires { FitsCommand order.now.command }
+{
+    let mut output = MemSink::new(alloc, writes)?;
+    output.reserve(ROOM)?;
+    let end = client(alloc, order, cluster, port, &mut output);
+    let written = from_utf8(output.as_slice()).unwrap_or("no text");
+    Ok(format!(in alloc; "{end:?} {written:?}")?)
 }
 
 /// The command of a client.
@@ -37,18 +56,28 @@ fn tell_client(alloc: Global, words: &str, datagrams: &str) -> Result<String, Fa
     let (turns, words) = parted(words)?;
     let (calls, words) = parted(words)?;
     let (writes, words) = parted(words)?;
-    let order = ClientOrder {
-        to: number(to)?,
-        turns: number(turns)?,
-        command: command(alloc, words)?,
-    };
+    let cluster = number(cluster)?;
+    let to = number(to)?;
+    let turns = number(turns)?;
+    let writes = fails(alloc, writes)?;
     let mut port = port(alloc, calls, datagrams)?;
-    let mut output = MemSink::new(alloc, fails(alloc, writes)?.as_slice())?;
-    output.reserve(ROOM)?;
-    let end = client(alloc, &order, number(cluster)?, &mut port, &mut output);
-    let written = from_utf8(output.as_slice()).unwrap_or("no text");
-    let sent = sent(alloc, &port)?;
-    Ok(format!(in alloc; "{end:?} {written:?}{sent}")?)
+    let command = command(alloc, words)?;
+    let order = ClientOrder { to, turns, command };
+    let end = client_ends(alloc, &order, cluster, &mut port, writes.as_slice())?;
+    with_sent(alloc, end.as_str(), &port)
+}
+
+/// How asking ended.
+fn answer_text(alloc: Global, answer: &Result<Outcome, AskError>) -> Result<String, Fault> {
+    match answer {
+        Ok(outcome) => {
+            let mut text = Bytes::new(alloc);
+            print_outcome(alloc, outcome, &mut text)?;
+            let text = from_utf8(text.as_slice()).unwrap_or("no text");
+            Ok(format!(in alloc; "{text:?}")?)
+        }
+        Err(error) => Ok(format!(in alloc; "{error:?}")?),
+    }
 }
 
 /// The call below it.
@@ -57,30 +86,14 @@ fn tell_ask(alloc: Global, words: &str, datagrams: &str) -> Result<String, Fault
     let (turns, words) = parted(words)?;
     let (resend, words) = parted(words)?;
     let (calls, words) = parted(words)?;
-    let command = command(alloc, words)?;
-    let resend = number(resend)?;
-    if resend == 0 {
-        return Err(Fault::Unreadable);
-    }
+    let to = number(to)?;
+    let turns = number(turns)?;
+    let resend = number(resend)?.max(1);
     let mut port = port(alloc, calls, datagrams)?;
-    let answer = ask(
-        alloc,
-        &mut port,
-        number(to)?,
-        &command,
-        number(turns)?,
-        resend,
-    );
-    let sent = sent(alloc, &port)?;
-    match answer {
-        Ok(outcome) => {
-            let mut text = Bytes::new(alloc);
-            print_outcome(alloc, &outcome, &mut text)?;
-            let text = from_utf8(text.as_slice()).unwrap_or("no text");
-            Ok(format!(in alloc; "{text:?}{sent}")?)
-        }
-        Err(error) => Ok(format!(in alloc; "{error:?}{sent}")?),
-    }
+    let command = command(alloc, words)?;
+    let answer = ask(alloc, &mut port, to, &command, turns, resend);
+    let end = answer_text(alloc, &answer)?;
+    with_sent(alloc, end.as_str(), &port)
 }
 
 /// The command of an operator, and for cluster 0 the call below it.
@@ -96,8 +109,8 @@ fn tell_operate(alloc: Global, words: &str, datagrams: &str) -> Result<String, F
         0 => operate(alloc, &mut port, to, &members),
         _ => operate_command(alloc, to, &members, cluster, &mut port),
     };
-    let sent = sent(alloc, &port)?;
-    Ok(format!(in alloc; "{end:?}{sent}")?)
+    let end = format!(in alloc; "{end:?}")?;
+    with_sent(alloc, end.as_str(), &port)
 }
 
 /// What comes of a line.
