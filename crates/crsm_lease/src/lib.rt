@@ -1,0 +1,12 @@
+//! Locks over the store, with fencing numbers: what a client asks for, by what it found, and what it is told.
+#![tactic(auto)]
+
+mod laws;
+mod lock;
+mod rule;
+mod told;
+
+pub use laws::{asked_are_grants_or_returns, locks_have_one_value};
+pub use lock::{Lock, read_lock, write_lock};
+pub use rule::{Action, Next, Ruling, after_cas, after_get};
+pub use told::{Told, print_told};
