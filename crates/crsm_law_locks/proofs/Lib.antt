@@ -1,0 +1,6 @@
+mod Rows
+mod Stepping
+mod Events
+mod Following
+mod Held
+mod Hands
