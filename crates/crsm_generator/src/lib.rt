@@ -7,8 +7,10 @@ mod drawing;
 mod events;
 mod generator;
 mod kind;
+mod laws;
 mod look;
 
 pub use drawing::Drawing;
 pub use generator::Generator;
+pub use laws::drawn_can_happen;
 pub use look::Look;
