@@ -1,0 +1,10 @@
+pub mod Lists
+pub mod Pending
+pub mod Same
+pub mod Came
+pub mod Shown
+pub mod Joining
+pub mod Booting
+pub mod Turning
+pub mod Showing
+pub mod Agree

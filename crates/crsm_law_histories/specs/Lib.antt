@@ -1,0 +1,5 @@
+pub mod Clusters
+pub mod Histories
+pub mod Lawful
+pub mod Showing
+pub mod Laws
