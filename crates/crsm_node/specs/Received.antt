@@ -1,0 +1,46 @@
+-- What turns take off a clock and a port.
+use Rattle.std.specs.Prelude.{◌≡◌, ℕ, List, [], ◌∷◌, ◌++◌, map, take, Option, Some, None}
+use Rattle.std.specs.List.{flat_map}
+use Rattle.crsm_spec.specs.Node.{Turn}
+use Rattle.crsm_clock.specs.Readings.{Gives, Readings}
+use Rattle.crsm_port.specs.Meaning.{Coat, Packet, Traffic}
+
+-- ---- the clock
+
+abbrev pub readings_of : List (Turn × ℕ) → List ℕ
+readings_of turns = map (λ t. t.1) turns
+
+-- these readings are given, one behind another
+unfoldable pub GivesAll : List ℕ → Option Readings → Option Readings → Type 0
+GivesAll [] before after = after ≡ before
+GivesAll (reading ∷ readings) before after = (between : Option Readings) × Gives before between reading × GivesAll readings between after
+
+-- ---- the port
+
+-- the datagram that a turn takes, with the address that it came from
+abbrev pub datagram_in : Turn → List Packet
+datagram_in (Turn.In address bytes) = (record { address = address; bytes = bytes }) ∷ []
+datagram_in Turn.Tick = []
+datagram_in (Turn.Suspect members) = []
+
+unfoldable pub datagrams_in : List (Turn × ℕ) → List Packet
+datagrams_in turns = flat_map (λ t. datagram_in t.0) turns
+
+-- a datagram as it is received: what its coat leaves of it, cut to a buffer
+abbrev pub received : Coat → Packet → Packet
+received coat d = record (coat.unwrap d) { bytes = take 8192 (coat.unwrap d).bytes }
+
+-- These datagrams were taken, in order, as they are received, and those were sent.
+pub record Passes (coat : Coat) (taken sent : List Packet) (old new : Traffic) : Type 0 where
+  pub came : List Packet
+  pub waited : old.waiting ≡ came ++ new.waiting
+  pub told : new.taken ≡ old.taken ++ came
+  pub received : taken ≡ map (received coat) came
+  pub sent : new.sent ≡ old.sent ++ map coat.wrap sent
+
+-- a relation of what a port tells before and after, where it tells
+abbrev pub BothTell : (Traffic → Traffic → Type 0) → Option Traffic → Option Traffic → Type 0
+BothTell R None None = Unit {0}
+BothTell R None (Some new) = ⊥
+BothTell R (Some old) None = ⊥
+BothTell R (Some old) (Some new) = R old new

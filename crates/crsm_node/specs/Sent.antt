@@ -1,0 +1,56 @@
+-- What groups of turns hand out, and which of it goes out.
+use Rattle.std.specs.Prelude.{◌≡◌, ℕ, Bool, true, false, List, [], ◌∷◌, ◌++◌, length, IsSome, if◌then◌else◌}
+use Rattle.std.specs.List.{AllByRecursion, flat_map}
+use Rattle.crsm_base.specs.declared.send.Send.{Send}
+use Rattle.crsm_spec.specs.Draft.{Draft}
+use Rattle.crsm_spec.specs.Node.{Turn, outputs_from}
+use Rattle.crsm_spec.specs.Replica.{Replica}
+use Rattle.crsm_lives.specs.Lives.{Group, kept_turns}
+use Rattle.crsm_detector.specs.Wished.{replica_after}
+use Rattle.crsm_port.specs.Meaning.{Packet}
+use Rattle.crsm_shell.specs.Shell.{sends_of}
+use Rattle.crsm_turns.specs.Outgoing.{address_of, packets_for}
+
+-- the steps of each of these lists of turns, the first of which this replica takes
+unfoldable pub steps_by_group : Replica → List (List (Turn × ℕ)) → List (List Draft)
+steps_by_group r [] = []
+steps_by_group r (turns ∷ groups) = outputs_from r turns ∷ steps_by_group (replica_after r turns) groups
+
+-- what the turns of groups hand out, in order, and the fate of each
+unfoldable pub handed_out : Replica → List Group → List Send
+handed_out r groups = sends_of (outputs_from r (kept_turns groups))
+
+unfoldable pub fates_of : List Group → List Bool
+fates_of groups = flat_map (λ g. g.fates) groups
+
+-- of what is handed out, that which went out, and that which did not
+unfoldable pub gone : List Send → List Bool → List Send
+gone [] fates = []
+gone (s ∷ sends) [] = []
+gone (s ∷ sends) (fate ∷ fates) = if fate then s ∷ gone sends fates else gone sends fates
+
+unfoldable pub not_gone : List Send → List Bool → List Send
+not_gone [] fates = []
+not_gone (s ∷ sends) [] = []
+not_gone (s ∷ sends) (fate ∷ fates) = if fate then not_gone sends fates else s ∷ not_gone sends fates
+
+-- its receiver has an address
+abbrev pub HasAddress : List ℕ → Send → Type 0
+HasAddress peers s = IsSome (address_of peers s.to)
+
+-- each group has a fate for all that it hands out
+unfoldable pub HaveFates : Replica → List Group → Type 0
+HaveFates r [] = Unit {0}
+HaveFates r (g ∷ groups) = (length g.fates ≡ length (sends_of (outputs_from r g.turns))) × HaveFates (replica_after r g.turns) groups
+
+-- the datagrams of groups that went out
+unfoldable pub packets_gone : List ℕ → Replica → List Group → List Packet
+packets_gone peers r groups = packets_for peers (gone (handed_out r groups) (fates_of groups))
+
+-- how many did not, of those that have an address
+unfoldable pub packets_missing : List ℕ → Replica → List Group → ℕ
+packets_missing peers r groups = length (packets_for peers (not_gone (handed_out r groups) (fates_of groups)))
+
+-- what went out has an address
+abbrev pub AreAddressed : List ℕ → Replica → List Group → Type 0
+AreAddressed peers r groups = AllByRecursion (HasAddress peers) (gone (handed_out r groups) (fates_of groups))

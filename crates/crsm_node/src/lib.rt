@@ -1,0 +1,16 @@
+//! A running node: it boots a replica on its log, takes turn after turn, keeps them in groups, and writes its sheet.
+#![tactic(auto)]
+
+mod errors;
+mod keep;
+mod opening;
+mod order;
+mod pending;
+mod run;
+mod serve;
+mod take;
+
+pub use errors::{NodeEnd, NodeError};
+pub use order::NodeOrder;
+pub use run::run_node;
+pub use serve::serve;

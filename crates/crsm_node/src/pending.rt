@@ -1,0 +1,68 @@
+//! What is known of the turns that are pending.
+
+ghost use Rattle.std.specs.Prelude.{◌≡◌, ◌++◌, [], OnOk, length};
+ghost use Rattle.crsm_shell.specs.Taking.{turn_of};
+ghost use Rattle.crsm_turns.specs.Input.{IsWithin};
+ghost use Rattle.crsm_node.specs.Steps.{turn_text};
+
+use crsm_base::{Bytes, NoMemory};
+use crsm_sheet::{SheetLine, print_sheet, push_in};
+use crsm_shell::{Taken, Turned};
+use std::alloc::Global;
+
+/// The turns that are pending, as their node needs them.
+#[derive(Drop)]
+pub(crate) struct Pending {
+    alloc: Global,
+    /// Their lines, each with its line feed.
+    pub(crate) lines: Bytes,
+    /// Whether one of them has a record, which others wait for.
+    pub(crate) has_record: bool,
+}
+
+impl Pending {
+    /// No turn.
+    pub(crate) fn new(alloc: Global) -> Pending
+        ensures { result.lines ≡ [] }
+    {
+        Pending {
+            alloc,
+            lines: Bytes::new(alloc),
+            has_record: false,
+        }
+    }
+
+    /// One turn more, whose datagram is a prefix of the buffer. Its line is printed at once, so that once the turn is kept
+    /// no memory is needed any more.
+    pub(crate) fn add(&mut self, turned: Turned, buffer: &[u8]) -> Result<(), NoMemory>
+        requires { IsWithin (length buffer.now) turned.taken }
+        ensures { OnOk result (self.new.lines ≡ self.old.lines ++ turn_text (turn_of buffer.now turned.taken, turned.reading)) }
+    {
+        if turned.size > 0 {
+            self.has_record = true;
+        }
+        let reading = turned.reading;
+        match turned.taken {
+            Taken::Datagram { from, len } => push_in(
+                &mut self.lines,
+                reading,
+                from,
+                &buffer[..len],
+            ),
+            Taken::Tick => print_sheet(self.alloc, &SheetLine::Tick { reading }, &mut self.lines),
+            Taken::Suspect(members) => print_sheet(
+                self.alloc,
+                &SheetLine::Suspect { reading, members },
+                &mut self.lines,
+            ),
+        }
+    }
+
+    /// No turn is pending any more. The room stays.
+    pub(crate) fn clear(&mut self)
+        ensures { self.new.lines ≡ [] }
+    {
+        self.lines.clear();
+        self.has_record = false;
+    }
+}

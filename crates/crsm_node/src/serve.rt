@@ -1,0 +1,64 @@
+//! Turns of a node, one after another.
+
+ghost use Rattle.std.specs.Prelude.{◌≡◌, ◌↔◌, true, IsErrOf};
+ghost use Rattle.crsm_shell.specs.Words.{disk_of, has_failed};
+ghost use Rattle.crsm_node.specs.Devices.{WhereIdle, node_of};
+ghost use Rattle.crsm_node.specs.Serving.{Serves};
+
+use crate::errors::NodeError;
+use crate::keep::keep_group;
+use crate::pending::Pending;
+use crate::take::{MOST_PENDING, take_turn};
+use crsm_clock::Clock;
+use crsm_detector::Detector;
+use crsm_disk::Disk;
+use crsm_io::Sink;
+use crsm_port::Port;
+use crsm_shell::Shell;
+use std::alloc::Global;
+
+/// Takes so many turns, each as the detector wants it, and keeps them in groups: a group ends with a turn that took no
+/// datagram, with 32 turns, or with the last turn. Once a group is kept its datagrams go out, and then its lines are
+/// written. Nothing is to be pending, and the detector is that of the same replica.
+///
+/// # Errors
+/// After `PortFault` and `WriteFault` the shell and the detector may serve on: all turns that were taken are kept. After
+/// the others the turns of the last group are lost, but for a `DiskFault`, which leaves all of them or none, and nothing
+/// of them was sent. `Failed` comes of a shell that had failed before, and nothing is done.
+pub fn serve<C: Clock, P: Port, D: Disk, O: Sink>(
+    alloc: Global,
+    shell: &mut Shell<D>,
+    detector: &mut Detector,
+    clock: &mut C,
+    port: &mut P,
+    sheet: &mut O,
+    turns: u64,
+) -> Result<(), NodeError>
+    // What it took, kept, sent and wrote, of the replica that it stands for with nothing pending.
+    ensures serves { let node = node_of D.meaning P.meaning C.readings O.written O.faults in
+        WhereIdle (node shell.old detector.old port.old clock.old sheet.old) (λ r w.
+        Serves r w turns (node shell.old detector.old port.old clock.old sheet.old) (node shell.new detector.new port.new clock.new sheet.new) result) }
+
+    // A shell that had failed does nothing.
+    ensures failed { IsErrOf result NodeError.Failed ↔ (has_failed shell.old ≡ true) }
+    ensures nothing { has_failed shell.old ≡ true → (shell.new ≡ shell.old) × (port.new ≡ port.old) × (clock.new ≡ clock.old) × (sheet.new ≡ sheet.old) × (detector.new ≡ detector.old) }
+{
+    if shell.failed() {
+        return Err(NodeError::Failed);
+    }
+    let mut pending = Pending::new(alloc);
+    for turn in 0..turns {
+        match take_turn(shell, detector, clock, port, &mut pending) {
+            Ok(true) if turn + 1 < turns && shell.pending() < MOST_PENDING => {}
+            Ok(_) => keep_group(shell, port, sheet, &mut pending)?,
+            Err(NodeError::PortFault) => {
+                if shell.pending() > 0 {
+                    keep_group(shell, port, sheet, &mut pending)?;
+                }
+                return Err(NodeError::PortFault);
+            }
+            Err(why) => return Err(why),
+        }
+    }
+    Ok(())
+}

@@ -1,0 +1,70 @@
+//! One turn is taken.
+
+ghost use Rattle.std.specs.Prelude.{◌≡◌, ◌∷◌, [], ℕ, List, true, false, is_err, IfOk, IfErr, OnOk, IsErrOf};
+ghost use Rattle.crsm_spec.specs.Draft.{Draft};
+ghost use Rattle.crsm_spec.specs.Log.{Log};
+ghost use Rattle.crsm_spec.specs.Replica.{Replica};
+ghost use Rattle.crsm_detector.specs.Detector.{DetectorStands, WhereStands as WhereWatches};
+ghost use Rattle.crsm_detector.specs.Watching.{Watch};
+ghost use Rattle.crsm_detector.specs.Wished.{taken};
+ghost use Rattle.crsm_detector.specs.Watching.{heard_at};
+ghost use Rattle.crsm_shell.specs.Shell.{WhereStands};
+ghost use Rattle.crsm_shell.specs.Taking.{turn_of};
+ghost use Rattle.crsm_shell.specs.Words.{disk_of, has_failed, peers_of};
+ghost use Rattle.crsm_node.specs.Steps.{FailsToTake, TakesTurn};
+
+use crate::errors::NodeError;
+use crate::pending::Pending;
+use crsm_base::never;
+use crsm_clock::Clock;
+use crsm_detector::Detector;
+use crsm_disk::Disk;
+use crsm_port::Port;
+use crsm_shell::{Shell, Taken, Turned, What};
+
+/// So many turns are kept together at most.
+pub(crate) const MOST_PENDING: u32 = 32;
+
+/// Takes the turn that the detector wants, and prints its line behind those that are pending. Answers whether it took a
+/// datagram.
+pub(crate) fn take_turn<C: Clock, P: Port, D: Disk>(
+    shell: &mut Shell<D>,
+    detector: &mut Detector,
+    clock: &mut C,
+    port: &mut P,
+    pending: &mut Pending,
+) -> Result<bool, NodeError>
+    ensures took { WhereStands D.meaning shell.old (λ kept r steps. WhereWatches detector.old (λ me w. me ≡ r.me → IfOk result (λ is_datagram.
+        TakesTurn shell.new (D.meaning (disk_of shell.new)) detector.new (C.readings clock.old) (C.readings clock.new) (P.meaning port.old) (P.meaning port.new) pending.old.lines pending.new.lines is_datagram kept r steps w))) }
+    ensures failed { WhereStands D.meaning shell.old (λ kept r steps. WhereWatches detector.old (λ me w. me ≡ r.me → IfErr result
+        (FailsToTake shell.new (D.meaning (disk_of shell.new)) detector.new (C.readings clock.old) (C.readings clock.new) (P.meaning port.old) (P.meaning port.new) pending.old.lines pending.new.lines kept r steps w))) }
+    ensures disk { disk_of shell.new ≡ disk_of shell.old }
+    ensures peers { peers_of shell.new ≡ peers_of shell.old }
+    ensures usable { OnOk result (has_failed shell.new ≡ false) }
+    ensures had_failed { IsErrOf result NodeError.Failed → has_failed shell.old ≡ true }
+{
+    if shell.pending() >= MOST_PENDING {
+        // Whoever takes 32 turns flushes them.
+        return Err(NodeError::from(never()));
+    }
+    let what = detector.next(shell.state())?;
+    if pending.has_record && matches!(what, What::Receive) {
+        // Others wait for these records: they are kept as soon as nothing more comes.
+        port.hurry();
+    }
+    let turned = shell.take(what, clock, port)?;
+    note(detector, &turned);
+    let is_datagram = matches!(turned.taken, Taken::Datagram { .. });
+    pending.add(turned, shell.buffer())?;
+    Ok(is_datagram)
+}
+
+/// Notes the reading of a turn and what it took.
+fn note(detector: &mut Detector, turned: &Turned)
+    ensures { WhereWatches detector.old (λ me w. (buffer : List ℕ) → DetectorStands detector.new me (taken (turn_of buffer turned.now.taken) (heard_at turned.now.received turned.now.reading w))) }
+{
+    detector.hear(turned.reading, turned.received);
+    if matches!(turned.taken, Taken::Tick) {
+        detector.ticked();
+    }
+}
