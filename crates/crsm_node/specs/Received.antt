@@ -31,12 +31,12 @@ abbrev pub received : Coat → Packet → Packet
 received coat d = record (coat.unwrap d) { bytes = take 8192 (coat.unwrap d).bytes }
 
 -- These datagrams were taken, in order, as they are received, and those were sent.
-pub record Passes (coat : Coat) (taken sent : List Packet) (old new : Traffic) : Type 0 where
+pub record Passes (coat : Coat) (took gone : List Packet) (old new : Traffic) : Type 0 where
   pub came : List Packet
   pub waited : old.waiting ≡ came ++ new.waiting
   pub told : new.taken ≡ old.taken ++ came
-  pub received : taken ≡ map (received coat) came
-  pub sent : new.sent ≡ old.sent ++ map coat.wrap sent
+  pub are : took ≡ map (received coat) came
+  pub out : new.sent ≡ old.sent ++ map coat.wrap gone
 
 -- a relation of what a port tells before and after, where it tells
 abbrev pub BothTell : (Traffic → Traffic → Type 0) → Option Traffic → Option Traffic → Type 0

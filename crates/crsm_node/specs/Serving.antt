@@ -1,10 +1,11 @@
 -- What a node does over so many turns.
-use Rattle.std.specs.Prelude.{◌≡◌, ℕ, ◌≤◌, List, [], ◌∷◌, ◌++◌, length, map, IsTrue, Result, Ok, Err}
+use Rattle.std.specs.Prelude.{◌≡◌, ℕ, ◌≤◌, List, [], ◌∷◌, ◌++◌, length, map, IsTrue, Option, Result, Ok, Err}
 use Rattle.crsm_faults.specs.Counts.{Rose}
 use Rattle.crsm_spec.specs.Node.{Turn, outputs_from}
 use Rattle.crsm_spec.specs.Replica.{Replica}
 use Rattle.crsm_lives.specs.Groups.{AreGroups}
 use Rattle.crsm_lives.specs.Lives.{Group, kept_turns}
+use Rattle.crsm_clock.specs.Readings.{Readings}
 use Rattle.crsm_io.specs.Streams.{Puts, PutsPrefix}
 use Rattle.crsm_sheet.specs.Sheets.{sheet_text, turn_line}
 use Rattle.crsm_disk.specs.Meaning.{LeavesOnly, Meaning as DiskMeaning}
@@ -38,9 +39,9 @@ turns_text turns = sheet_text (map turn_line turns)
 -- ---- its devices
 
 -- Each turn is one that was wanted, at a reading of the clock.
-pub record Takes (r : Replica) (w : Watch) (turns : List (Turn × ℕ)) (old new : Node) : Type 0 where
+pub record Takes (r : Replica) (w : Watch) (turns : List (Turn × ℕ)) (before after : Option Readings) : Type 0 where
   pub wished : AreWished w r turns
-  pub readings : GivesAll (readings_of turns) old.clock new.clock
+  pub readings : GivesAll (readings_of turns) before after
 
 -- The port gave the datagrams among these turns, and sent what went out of the groups. A turn that wanted to receive took
 -- a tick only where a receive was empty, and no more is missing than the count of losses rose by.
@@ -76,10 +77,10 @@ pub record Keeps (r : Replica) (groups : List Group) (lost : List (Turn × ℕ))
   pub any_moment : LeavesOnly old new (IsLeftOf old.seen (bodies_in_log r (maybe_kept groups lost result)))
 
 -- the lines of the turns that were kept, or a prefix of them where the sheet failed
-abbrev pub Writes : List Group → Node → Node → Result (Unit {0}) NodeError → Type 0
-Writes groups old new (Err WriteFault) = PutsPrefix old.sheet new.sheet (turns_text (kept_turns groups))
-Writes groups old new (Err _) = Puts old.sheet new.sheet (turns_text (kept_turns groups))
-Writes groups old new (Ok _) = Puts old.sheet new.sheet (turns_text (kept_turns groups))
+abbrev pub Writes : List Group → Option (List ℕ) → Option (List ℕ) → Result (Unit {0}) NodeError → Type 0
+Writes groups had has (Err WriteFault) = PutsPrefix had has (turns_text (kept_turns groups))
+Writes groups had has (Err _) = Puts had has (turns_text (kept_turns groups))
+Writes groups had has (Ok _) = Puts had has (turns_text (kept_turns groups))
 
 -- ---- how it ends
 
@@ -108,10 +109,10 @@ pub record Serves (r : Replica) (w : Watch) (turns : ℕ) (old new : Node) (resu
   pub are_groups : AreGroups (with_lost (turns_by_group groups) lost)
   pub fates : HaveFates r groups
   pub addressed : AreAddressed old.peers r groups
-  pub takes : Takes r w (kept_turns groups ++ lost) old new
+  pub takes : Takes r w (kept_turns groups ++ lost) old.clock new.clock
   pub carries : Carries old.peers r w (kept_turns groups ++ lost) groups old.port new.port
   pub goes : Goes old.disk new.disk
   pub keeps : IsTrue old.disk.honest → Keeps r groups lost old.disk new.disk result
-  pub writes : Writes groups old new result
+  pub writes : Writes groups old.sheet new.sheet result
   pub ends : Ends r w turns groups lost old new result
   pub peers : new.peers ≡ old.peers

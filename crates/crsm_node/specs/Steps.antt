@@ -57,21 +57,30 @@ pub record TakesTurn {D : Type 0} {g : _} (shell : Shell D g) (m : DiskMeaning) 
   pub prints : printed ≡ lines ++ turn_text t
   pub kind : IsTrue is_datagram ↔ IsDatagram t
 
+-- nothing is taken off the port and nothing is sent
+pub record IsIdle (old new : PortMeaning) : Type 0 where
+  pub traffic : new.traffic ≡ old.traffic
+  pub empties : new.empties ≡ old.empties
+  pub losses : new.losses ≡ old.losses
+  pub later : old.faults ≤ new.faults
+  pub coat : new.coat ≡ old.coat
+  pub lent : new.lent ≡ old.lent
+
 -- a receive failed, and the rest is as before
 pub record FailsToReceive {D : Type 0} {g : _} (shell : Shell D g) (m : DiskMeaning) (detector : Detector) (ahead later : Option Readings) (old new : PortMeaning)
     (lines printed : List ℕ) (kept : Log) (r : Replica) (steps : List Draft) (w : Watch) : Type 0 where
   pub fault : Rose old.faults new.faults
-  pub port : new ≡ record old { faults = new.faults; plan = new.plan }
-  pub clock : later ≡ ahead
+  pub idle : IsIdle old new
+  pub unread : later ≡ ahead
   pub stands : ShellStands shell m kept r steps
   pub watches : DetectorStands detector r.me w
-  pub lines : printed ≡ lines
+  pub unprinted : printed ≡ lines
 
 -- why no step is pending: memory ran out before or after a turn was taken, or a receive failed
 abbrev pub FailsToTake : {D : Type 0} {g : _} → Shell D g → DiskMeaning → Detector → (ahead later : Option Readings) → (old new : PortMeaning) → (lines printed : List ℕ) →
     Log → Replica → List Draft → Watch → NodeError → Type 0
 FailsToTake shell m detector ahead later old new lines printed kept r steps w PortFault = FailsToReceive shell m detector ahead later old new lines printed kept r steps w
-FailsToTake shell m detector ahead later old new lines printed kept r steps w NoMemory = ((later ≡ ahead) × (new ≡ old)) ⊎ ((t : Turn × ℕ) × Took r w t ahead later old new)
+FailsToTake shell m detector ahead later old new lines printed kept r steps w NoMemory = ((later ≡ ahead) × IsIdle old new) ⊎ ((t : Turn × ℕ) × Took r w t ahead later old new)
 FailsToTake shell m detector ahead later old new lines printed kept r steps w DiskFault = ⊥
 FailsToTake shell m detector ahead later old new lines printed kept r steps w LogFull = ⊥
 FailsToTake shell m detector ahead later old new lines printed kept r steps w WriteFault = ⊥

@@ -7,10 +7,10 @@ mod opening;
 mod order;
 mod pending;
 mod run;
-mod serve;
+mod serving;
 mod take;
 
 pub use errors::{NodeEnd, NodeError};
 pub use order::NodeOrder;
 pub use run::run_node;
-pub use serve::serve;
+pub use serving::serve;

@@ -34,15 +34,22 @@ impl Pending {
 
     /// One turn more, whose datagram is a prefix of the buffer. Its line is printed at once, so that once the turn is kept
     /// no memory is needed any more.
+    #[tactic(auto, unfolding(crsm_shell::specs::Taking::turn_of))]
     pub(crate) fn add(&mut self, turned: Turned, buffer: &[u8]) -> Result<(), NoMemory>
         requires { IsWithin (length buffer.now) turned.taken }
         ensures { OnOk result (self.new.lines ≡ self.old.lines ++ turn_text (turn_of buffer.now turned.taken, turned.reading)) }
     {
-        if turned.size > 0 {
+        let Turned {
+            reading,
+            taken,
+            received: _,
+            batch: _,
+            size,
+        } = turned;
+        if size > 0 {
             self.has_record = true;
         }
-        let reading = turned.reading;
-        match turned.taken {
+        match taken {
             Taken::Datagram { from, len } => push_in(
                 &mut self.lines,
                 reading,

@@ -3,7 +3,7 @@
 use crate::errors::{NodeEnd, NodeError};
 use crate::opening::write_opening;
 use crate::order::NodeOrder;
-use crate::serve::serve;
+use crate::serving::serve;
 use crsm_base::Bodies;
 use crsm_clock::Clock;
 use crsm_detector::Detector;

@@ -1,12 +1,13 @@
 //! One turn is taken.
 
-ghost use Rattle.std.specs.Prelude.{◌≡◌, ◌∷◌, [], ℕ, List, true, false, is_err, IfOk, IfErr, OnOk, IsErrOf};
+ghost use Rattle.std.specs.Prelude.{◌≡◌, ◌↔◌, IsTrue, ◌∷◌, [], ℕ, List, true, false, is_err, IfOk, IfErr, OnOk, IsErrOf};
 ghost use Rattle.crsm_spec.specs.Draft.{Draft};
 ghost use Rattle.crsm_spec.specs.Log.{Log};
 ghost use Rattle.crsm_spec.specs.Replica.{Replica};
+ghost use Rattle.crsm_lives.specs.Groups.{IsDatagram};
 ghost use Rattle.crsm_detector.specs.Detector.{DetectorStands, WhereStands as WhereWatches};
 ghost use Rattle.crsm_detector.specs.Watching.{Watch};
-ghost use Rattle.crsm_detector.specs.Wished.{taken};
+ghost use Rattle.crsm_detector.specs.Wished.{with_turn};
 ghost use Rattle.crsm_detector.specs.Watching.{heard_at};
 ghost use Rattle.crsm_shell.specs.Shell.{WhereStands};
 ghost use Rattle.crsm_shell.specs.Taking.{turn_of};
@@ -17,7 +18,7 @@ use crate::errors::NodeError;
 use crate::pending::Pending;
 use crsm_base::never;
 use crsm_clock::Clock;
-use crsm_detector::Detector;
+use crsm_detector::{Detector, inputs_are_wished, turns_are_watched};
 use crsm_disk::Disk;
 use crsm_port::Port;
 use crsm_shell::{Shell, Taken, Turned, What};
@@ -43,28 +44,51 @@ pub(crate) fn take_turn<C: Clock, P: Port, D: Disk>(
     ensures usable { OnOk result (has_failed shell.new ≡ false) }
     ensures had_failed { IsErrOf result NodeError.Failed → has_failed shell.old ≡ true }
 {
+    inputs_are_wished();
+    turns_are_watched();
     if shell.pending() >= MOST_PENDING {
         // Whoever takes 32 turns flushes them.
         return Err(NodeError::from(never()));
     }
     let what = detector.next(shell.state())?;
-    if pending.has_record && matches!(what, What::Receive) {
-        // Others wait for these records: they are kept as soon as nothing more comes.
-        port.hurry();
-    }
+    hurry(port, &what, pending);
     let turned = shell.take(what, clock, port)?;
     note(detector, &turned);
-    let is_datagram = matches!(turned.taken, Taken::Datagram { .. });
+    let took_datagram = is_datagram(&turned.taken);
     pending.add(turned, shell.buffer())?;
-    Ok(is_datagram)
+    Ok(took_datagram)
+}
+
+/// Others wait for the records that are pending: these are to be kept as soon as nothing more comes.
+fn hurry<P: Port>(port: &mut P, what: &What, pending: &Pending)
+    ensures { P.meaning port.new ≡ P.meaning port.old }
+{
+    if pending.has_record && matches!(what, What::Receive) {
+        port.hurry();
+    }
+}
+
+#[tactic(auto, unfolding(crsm_shell::specs::Taking::turn_of))]
+fn is_datagram(taken: &Taken) -> bool
+    ensures { (buffer : List ℕ) (reading : ℕ) → IsTrue result ↔ IsDatagram (turn_of buffer taken.now, reading) }
+{
+    match taken {
+        Taken::Datagram { .. } => true,
+        Taken::Tick => false,
+        Taken::Suspect(_) => false,
+    }
 }
 
 /// Notes the reading of a turn and what it took.
+#[tactic(auto, unfolding(crsm_shell::specs::Taking::turn_of))]
 fn note(detector: &mut Detector, turned: &Turned)
-    ensures { WhereWatches detector.old (λ me w. (buffer : List ℕ) → DetectorStands detector.new me (taken (turn_of buffer turned.now.taken) (heard_at turned.now.received turned.now.reading w))) }
+    ensures { WhereWatches detector.old (λ me w. (buffer : List ℕ) →
+        DetectorStands detector.new me (with_turn (turn_of buffer turned.now.taken) (heard_at turned.now.received turned.now.reading w))) }
 {
     detector.hear(turned.reading, turned.received);
-    if matches!(turned.taken, Taken::Tick) {
-        detector.ticked();
+    match turned.taken {
+        Taken::Datagram { .. } => {}
+        Taken::Tick => detector.ticked(),
+        Taken::Suspect(_) => {}
     }
 }

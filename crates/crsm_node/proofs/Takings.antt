@@ -1,0 +1,162 @@
+-- What a turn takes off a port, in the words of a node.
+use Rattle.std.proofs.Common.{◌≡◌, ◌⊎◌, inl, inr, ⊎_elim, ℕ, ◌+◌, ◌≤◌, ◌↔◌, List, [], ◌∷◌, ◌++◌, length, map, take, refl, sym, ◌∙◌, ap, subst, arith, true, false, Bool}
+use Rattle.std.proofs.lemmas.List.{append-nil}
+use Rattle.std.specs.Prelude.{Option, Some, None, IsSome, IfErr, Result, Ok, Err}
+use Rattle.crsm_clock.specs.Readings.{Gives, Readings}
+use Rattle.crsm_disk.specs.Meaning.{Meaning as DiskMeaning}
+use Rattle.crsm_faults.specs.Counts.{Rose}
+use Rattle.crsm_port.specs.Meaning.{Coat, Meaning as PortMeaning, Packet, Traffic}
+use Rattle.crsm_spec.specs.Draft.{Draft}
+use Rattle.crsm_spec.specs.Log.{Log}
+use Rattle.crsm_spec.specs.Node.{Turn, turn}
+use Rattle.crsm_spec.specs.Replica.{Replica}
+use Rattle.crsm_turns.specs.Input.{CountsTick, IsFirst, Receives, TakesInput}
+use Rattle.crsm_turns.specs.Outgoing.{raised_by}
+use Rattle.crsm_turns.specs.declared.input.Taken.{Taken}
+use Rattle.crsm_turns.specs.declared.input.Taken.TheVariants as taken
+use Rattle.crsm_turns.specs.declared.input.TakeError.{TakeError}
+use Rattle.crsm_turns.specs.declared.input.TakeError.TheVariants as take_error
+use Rattle.crsm_turns.specs.declared.input.What.{What}
+use Rattle.crsm_turns.specs.declared.input.What.TheVariants as what
+use Rattle.crsm_detector.specs.Detector.{DetectorStands}
+use Rattle.crsm_detector.specs.Watching.{Watch}
+use Rattle.crsm_detector.specs.Wished.{Fulfils, chosen, empty_receive, wish_of}
+use Rattle.crsm_detector.specs.declared.detector.Detector.{Detector}
+use Rattle.crsm_shell.specs.Shell.{ShellStands}
+use Rattle.crsm_shell.specs.Taking.{Reads, Takes, most_received, turn_of}
+use Rattle.crsm_shell.specs.declared.errors.TurnError.{TurnError}
+use Rattle.crsm_shell.specs.declared.errors.TurnError.TheVariants as errors
+use Rattle.crsm_shell.specs.declared.shell.Shell.{Shell}
+use Rattle.crsm_shell.specs.declared.turned.Turned.{Turned}
+use Rattle.crsm_node.specs.Errors.{turn_failure}
+use Rattle.crsm_node.specs.Received.{BothTell, Passes, datagram_in, received}
+use Rattle.crsm_node.specs.Steps.{FailsToReceive, FailsToTake, IsIdle, TakesOff, Took}
+use Rattle.crsm_node.proofs.Ports.{both_same, passes_none, raised_none}
+
+-- ---- what is told
+
+abbrev none_of : (A : Type 0) → Option A
+none_of A = None
+
+none_some : (A : Type 0) → IsSome (none_of A) → ⊥
+none_some A is = cc
+
+told_both : (R : Traffic → Traffic → Type 0) (a b : Option Traffic) → (IsSome a ↔ IsSome b) → ((t u : Traffic) → a ≡ Some t → b ≡ Some u → R t u) → BothTell R a b
+told_both R None None told each = tt
+told_both R None (Some u) told each = absurd (none_some Traffic (told.1 refl))
+told_both R (Some t) None told each = absurd (none_some Traffic (told.0 refl))
+told_both R (Some t) (Some u) told each = each t u refl refl
+
+-- the first datagram that waits is taken, or none waits
+first_passes : (buffer : List ℕ) (coat : Coat) (t u : Traffic) (it : Taken) → IsFirst most_received buffer coat t u it → Passes coat (datagram_in (turn_of buffer it)) [] t u
+unfolding turn_of
+first_passes buffer coat t u taken.Tick h = subst (λ (x : Traffic). Passes coat [] [] t x) (sym h.1) (passes_none coat t)
+first_passes buffer coat t u (taken.Datagram from len) h =
+    let d = h.0 in
+    let address : from ≡ (coat.unwrap d).address = h.3 in
+    let bytes : take len buffer ≡ take most_received (coat.unwrap d).bytes = h.4 in
+    let after : Traffic = record t { waiting = h.1; taken = t.taken ++ d ∷ [] } in
+    subst (λ (x : Traffic). Passes coat ((record { address = from; bytes = take len buffer }) ∷ []) [] t x) (sym h.5) (record {
+      came = d ∷ [];
+      waited = h.2;
+      told = refl;
+      are = ap (λ (a : ℕ). (record { address = a; bytes = take len buffer }) ∷ []) address
+          ∙ ap (λ (bs : List ℕ). (record { address = (coat.unwrap d).address; bytes = bs }) ∷ []) bytes;
+      out = sym (append-nil t.sent);
+    })
+first_passes buffer coat t u (taken.Suspect members) h = absurd h
+
+-- ---- what is taken
+
+abbrev taking : Taken → Result Taken TakeError
+taking t = Ok t
+
+no_fault : (t : Taken) → taking t ≡ Err take_error.PortFault → ⊥
+no_fault t is = cc
+
+counts : (old new : ℕ) (buffer : List ℕ) (t : Taken) → CountsTick old new t → raised_by (empty_receive what.Receive (turn_of buffer t)) old ≤ new
+unfolding turn_of
+counts old new buffer taken.Tick h = omega (arith, h.0)
+counts old new buffer (taken.Datagram from len) h = omega (arith, h)
+counts old new buffer (taken.Suspect members) h = absurd h
+
+-- nothing is taken off the port
+stays_off : (wanted : What) (t : Turn) (m : PortMeaning) → datagram_in t ≡ [] → empty_receive wanted t ≡ 0 → TakesOff wanted t m m
+stays_off wanted t m none zero = record {
+  traffic = subst (λ (ps : List Packet). BothTell (Passes m.coat ps []) m.traffic m.traffic) (sym none) (both_same (Passes m.coat [] []) m.traffic (passes_none m.coat));
+  empties = subst (λ (k : ℕ). raised_by k m.empties ≤ m.empties) (sym zero) (raised_none m.empties m.empties (omega arith));
+  losses = refl;
+  faults = refl;
+  coat = refl;
+  lent = refl;
+}
+
+same_input : (t u : Taken) → taking t ≡ taking u → t ≡ u
+same_input t u is = cc
+
+-- the input that was taken as it is wanted
+pub takes_off : (wanted : What) (buffer : List ℕ) (old new : PortMeaning) (t : Taken) → TakesInput wanted most_received buffer old new (Ok t) → TakesOff wanted (turn_of buffer t) old new
+unfolding turn_of
+takes_off what.Receive buffer old new t h = record {
+  traffic = told_both (Passes old.coat (datagram_in (turn_of buffer t)) []) old.traffic new.traffic h.told (λ a b is other. first_passes buffer old.coat a b t (h.first a b is other));
+  empties = counts old.empties new.empties buffer t h.counted;
+  losses = h.losses;
+  faults = h.no_fault (no_fault t);
+  coat = h.coat;
+  lent = h.lent;
+}
+takes_off what.Tick buffer old new t h =
+    subst (λ (m : PortMeaning). TakesOff what.Tick (turn_of buffer t) old m) (sym h.0)
+    (subst (λ (x : Taken). TakesOff what.Tick (turn_of buffer x) old old) (sym (same_input t taken.Tick h.1)) (stays_off what.Tick Turn.Tick old refl refl))
+takes_off (what.Suspect members) buffer old new t h =
+    subst (λ (m : PortMeaning). TakesOff (what.Suspect members) (turn_of buffer t) old m) (sym h.0)
+    (subst (λ (x : Taken). TakesOff (what.Suspect members) (turn_of buffer x) old old) (sym (same_input t (taken.Suspect members) h.1))
+    (stays_off (what.Suspect members) (Turn.Suspect members) old refl refl))
+
+-- the law of the detector: what is taken as it is wanted is such a turn
+abbrev pub FulfilsWishes : Type 0
+FulfilsWishes = (wanted : What) (size : ℕ) (buffer : List ℕ) (old new : PortMeaning) (t : Taken) → TakesInput wanted size buffer old new (Ok t) → Fulfils wanted (turn_of buffer t)
+
+pub took_as_wished : FulfilsWishes → (r : Replica) (w : Watch) (wanted : What) → wanted ≡ wish_of w r → (buffer : List ℕ) (ahead later : Option Readings) (old between new : PortMeaning) → between ≡ old → (t : Taken) (reading : ℕ) →
+    TakesInput wanted most_received buffer between new (Ok t) → Gives ahead later reading → Took r w (turn_of buffer t, reading) ahead later old new
+took_as_wished law r w wanted is buffer ahead later old between new same t reading h gives =
+    let k : TakesInput wanted most_received buffer old new (Ok t) = subst (λ (m : PortMeaning). TakesInput wanted most_received buffer m new (Ok t)) same h in
+    record {
+      fulfils = subst (λ (x : What). Fulfils x (turn_of buffer t)) is (law wanted most_received buffer old new t k);
+      gives = gives;
+      off = subst (λ (x : What). TakesOff x (turn_of buffer t) old new) is (takes_off wanted buffer old new t k);
+    }
+
+-- ---- nothing is taken
+
+abbrev taking_fails : Result Taken TakeError
+taking_fails = Err take_error.PortFault
+
+is_no_fault : (t : Taken) → taking_fails ≡ taking t → ⊥
+is_no_fault t is = cc
+
+module _ {D : Type 0} {g : _} (shell : Shell D g) (m : DiskMeaning) (detector : Detector) (ahead later : Option Readings) (lines : List ℕ) (kept : Log) (r : Replica) (steps : List Draft) (w : Watch) (buffer : List ℕ) (law : FulfilsWishes) where
+  receive_fails : (wanted : What) (old new : PortMeaning) → TakesInput wanted most_received buffer old new (Err take_error.PortFault) → later ≡ ahead → ShellStands shell m kept r steps →
+      DetectorStands detector r.me (chosen wanted w) → FailsToReceive shell m detector ahead later old new lines lines kept r steps w
+  receive_fails what.Receive old new h unread stands watches = record {
+    fault = h.fault refl;
+    idle = record { traffic = h.none_taken refl; empties = h.not_empty refl; losses = h.losses; later = h.later; coat = h.coat; lent = h.lent };
+    unread = unread;
+    stands = stands;
+    watches = watches;
+    unprinted = refl;
+  }
+  receive_fails what.Tick old new h unread stands watches = absurd (is_no_fault taken.Tick h.1)
+  receive_fails (what.Suspect members) old new h unread stands watches = absurd (is_no_fault (taken.Suspect members) h.1)
+
+  -- why a take failed
+  pub take_fails : (wanted : What) → wanted ≡ wish_of w r → (old between new : PortMeaning) → between ≡ old → (why : TurnError) → Takes wanted buffer between new (Err why) → Reads ahead later (Err why) →
+      (why ≡ errors.Failed → ⊥) → (why ≡ errors.PortFault → ShellStands shell m kept r steps) → DetectorStands detector r.me (chosen wanted w) →
+      FailsToTake shell m detector ahead later old new lines lines kept r steps w (turn_failure why)
+  take_fails wanted is old between new same errors.PortFault takes reads other stands watches =
+      receive_fails wanted old new (subst (λ (x : PortMeaning). TakesInput wanted most_received buffer x new (Err take_error.PortFault)) same takes) reads (stands refl) watches
+  take_fails wanted is old between new same errors.NoMemory takes reads other stands watches =
+      inr ((turn_of buffer takes.0, reads.0), took_as_wished law r w wanted is buffer ahead later old between new same takes.0 reads.0 takes.1 reads.1)
+  take_fails wanted is old between new same errors.Failed takes reads other stands watches = absurd (other refl)
+  take_fails wanted is old between new same errors.DiskFault takes reads other stands watches = absurd takes
+  take_fails wanted is old between new same errors.LogFull takes reads other stands watches = absurd takes
