@@ -2,6 +2,7 @@ pub mod Disks
 pub mod Ends
 pub mod Fates
 pub mod Groups
+pub mod Keepings
 pub mod Ports
 pub mod SoFar
 pub mod Takings
