@@ -17,7 +17,7 @@ pub none_open : AreOpen []
 none_open = record { datagrams = tt; few = omega arith }
 
 -- with one turn more they are a group
-pub group_of : (ts : List (Turn × ℕ)) (t : Turn × ℕ) → AreOpen ts → IsGroup (ts ++ t ∷ [])
+abbrev pub group_of : (ts : List (Turn × ℕ)) (t : Turn × ℕ) → AreOpen ts → IsGroup (ts ++ t ∷ [])
 group_of ts t open_ = record { before = ts; last = t; are = refl; datagrams = open_.datagrams; few = open_.few }
 
 pub open_more : (ts : List (Turn × ℕ)) (t : Turn × ℕ) → AreOpen ts → IsDatagram t → length (ts ++ t ∷ []) < 32 → AreOpen (ts ++ t ∷ [])

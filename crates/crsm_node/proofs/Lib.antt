@@ -4,6 +4,7 @@ pub mod Fates
 pub mod Groups
 pub mod Keepings
 pub mod Ports
+pub mod Serves
 pub mod SoFar
 pub mod Takings
 pub mod Turns

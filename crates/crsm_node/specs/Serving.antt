@@ -88,7 +88,7 @@ Writes groups had has (Ok _) = Puts had has (turns_text (kept_turns groups))
 pub record MayGoOn (r : Replica) (w : Watch) (groups : List Group) (lost : List (Turn × ℕ)) (new : Node) : Type 0 where
   pub none_lost : lost ≡ []
   pub stands : new.stands (replica_after r (kept_turns groups)).log (replica_after r (kept_turns groups)) []
-  pub watches : new.watches r.me (watch_after w (kept_turns groups))
+  pub watches : new.watches (replica_after r (kept_turns groups)).me (watch_after w (kept_turns groups))
 
 -- all turns were taken, or the device failed that is named
 abbrev pub Ends : Replica → Watch → ℕ → List Group → List (Turn × ℕ) → Node → Node → Result (Unit {0}) NodeError → Type 0

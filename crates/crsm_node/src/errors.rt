@@ -1,6 +1,6 @@
 //! How a node ends.
 
-ghost use Rattle.std.specs.Prelude.{◌≡◌};
+ghost use Rattle.std.specs.Prelude.{◌≡◌, true, false};
 ghost use Rattle.crsm_node.specs.declared.errors.NodeEnd.TheVariants.{NoMemory as EndWithoutMemory};
 ghost use Rattle.crsm_node.specs.declared.errors.NodeError.TheVariants.{NoMemory as TurnsWithoutMemory};
 ghost use Rattle.crsm_node.specs.Errors.{boot_end, claim_end, serve_end, turn_failure};
@@ -51,6 +51,16 @@ impl From<TurnError> for NodeError {
             TurnError::Failed => NodeError::Failed,
             TurnError::NoMemory => NodeError::NoMemory,
         }
+    }
+}
+
+impl NodeError {
+    /// Whether the port failed, so that the turns before it may be kept.
+    pub(crate) fn is_port_fault(self) -> bool
+        ensures yes { result ≡ true → self ≡ NodeError.PortFault }
+        ensures no { result ≡ false → self ≡ NodeError.PortFault → ⊥ }
+    {
+        matches!(self, NodeError::PortFault)
     }
 }
 

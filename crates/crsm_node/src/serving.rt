@@ -1,6 +1,6 @@
 //! Turns of a node, one after another.
 
-ghost use Rattle.std.specs.Prelude.{◌≡◌, ◌↔◌, true, IsErrOf};
+ghost use Rattle.std.specs.Prelude.{◌≡◌, ◌≢◌, ◌⊎◌, ◌<◌, ◌≤◌, ◌↔◌, true, false, IsErrOf};
 ghost use Rattle.crsm_shell.specs.Words.{disk_of, has_failed};
 ghost use Rattle.crsm_node.specs.Devices.{WhereIdle, node_of};
 ghost use Rattle.crsm_node.specs.Serving.{Serves};
@@ -49,16 +49,27 @@ pub fn serve<C: Clock, P: Port, D: Disk, O: Sink>(
     let mut pending = Pending::new(alloc);
     for turn in 0..turns {
         match take_turn(shell, detector, clock, port, &mut pending) {
-            Ok(true) if turn + 1 < turns && shell.pending() < MOST_PENDING => {}
-            Ok(_) => keep_group(shell, port, sheet, &mut pending)?,
-            Err(NodeError::PortFault) => {
-                if shell.pending() > 0 {
+            Ok(took_datagram) => {
+                let left = turns - turn - 1;
+                if ends_group(took_datagram, left, shell.pending()) {
                     keep_group(shell, port, sheet, &mut pending)?;
                 }
-                return Err(NodeError::PortFault);
             }
-            Err(why) => return Err(why),
+            Err(why) => {
+                if why.is_port_fault() && shell.pending() > 0 {
+                    keep_group(shell, port, sheet, &mut pending)?;
+                }
+                return Err(why);
+            }
         }
     }
     Ok(())
+}
+
+/// Whether a group ends behind a turn, where so many turns are left and so many are pending.
+fn ends_group(took_datagram: bool, left: u64, pending: u32) -> bool
+    ensures yes { result ≡ true → (took_datagram ≡ false) ⊎ ((left ≡ 0) ⊎ (32 ≤ pending)) }
+    ensures no { result ≡ false → (took_datagram ≡ true) × (left ≢ 0) × (pending < 32) }
+{
+    !took_datagram || left == 0 || pending >= MOST_PENDING
 }

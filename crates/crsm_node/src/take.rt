@@ -42,6 +42,7 @@ pub(crate) fn take_turn<C: Clock, P: Port, D: Disk>(
     ensures disk { disk_of shell.new ≡ disk_of shell.old }
     ensures peers { peers_of shell.new ≡ peers_of shell.old }
     ensures usable { OnOk result (has_failed shell.new ≡ false) }
+    ensures spared { IsErrOf result NodeError.PortFault → has_failed shell.new ≡ false }
     ensures had_failed { IsErrOf result NodeError.Failed → has_failed shell.old ≡ true }
 {
     inputs_are_wished();

@@ -46,7 +46,7 @@ returns-in_err-flush-clause-keeps g c kept r steps s =
       not_failed = λ is. both (has_failed before) (e.failed.0 (ap failing is)) (not_failed before (meaning (disk_of before)) kept r steps s);
       unsent = e.unsent;
       fault = λ is. e.fault (ap failing is);
-      unwritten = λ other. e.unwritten refl (λ is. other (same_failing why errors.DiskFault is));
+      unwritten = λ other. e.unwritten (refl {a = true}) (λ is. other (same_failing why errors.DiskFault is));
       left = e.left kept r steps s;
       full = λ honest is. e.full kept r steps s honest (ap failing is);
       not_full = λ honest is full. (e.not_full kept r steps s honest full).1 (ap failing is);

@@ -15,6 +15,8 @@ use Rattle.crsm_spec.specs.Node.{turn}
 use Rattle.crsm_node.specs.Errors.{turn_failure}
 use Rattle.crsm_node.specs.Steps.{FailsToTake, TakesTurn, turn_text}
 use Rattle.crsm_node.specs.declared.errors.NodeError.{NodeError}
+use Rattle.crsm_node.specs.declared.errors.NodeError.TheVariants as node_errors
+use Rattle.crsm_shell.specs.Errors.{is_lasting}
 use Rattle.crsm_node.proofs.Takings.{take_fails, took_as_wished}
 use Rattle.crsm_node.proofs.take.take_turn.Goals as goal
 
@@ -93,3 +95,22 @@ returns-clause-took g c kept r steps s me w watches same =
       prints = c.in_ok-add.ensures ∙ ap (λ (b : List ℕ). c.args.pending.now.lines ++ turn_text (turn_of b t.taken, t.reading)) c.buffer.ensures.value;
       kind = c.is_datagram-took_datagram.ensures buffer t.reading;
     }
+
+abbrev ending : NodeError → Result Bool NodeError
+ending why = Err why
+
+same_end : (a b : NodeError) → ending a ≡ ending b → a ≡ b
+same_end a b is = cc
+
+-- only a fault of the port spares the shell
+spares : (why : TurnError) (f : Bool) → f ≡ is_lasting why → turn_failure why ≡ node_errors.PortFault → f ≡ false
+spares errors.PortFault f is same = is
+spares errors.DiskFault f is same = cc
+spares errors.LogFull f is same = cc
+spares errors.Failed f is same = cc
+spares errors.NoMemory f is same = cc
+
+pub returns-in_err-turned-clause-spared : goal.returns-in_err-turned-clause-spared
+returns-in_err-turned-clause-spared g c is =
+    let p = err_from_is_err_and c.from_residual-in_err-turned.result c.from_residual-in_err-turned.ensures.1 in
+    spares c.in_err-turned.field-0.0 (has_failed c.take.new.self) c.in_err-turned.ensures.lasting (sym p.2 ∙ same_end p.0 node_errors.PortFault (sym p.1 ∙ is))
