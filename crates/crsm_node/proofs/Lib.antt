@@ -3,8 +3,11 @@ pub mod Ends
 pub mod Fates
 pub mod Groups
 pub mod Keepings
+pub mod Lived
+pub mod Openings
 pub mod Ports
 pub mod Serves
 pub mod SoFar
+pub mod Starts
 pub mod Takings
 pub mod Turns

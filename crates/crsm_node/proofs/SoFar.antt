@@ -78,7 +78,7 @@ pub text_more : (ts : List (Turn × ℕ)) (t : Turn × ℕ) → turns_text (ts +
 unfolding turns_text
 text_more ts t = text_append ts (t ∷ []) ∙ ap (λ (xs : List ℕ). turns_text ts ++ xs) (append-nil (sheet_line_text (turn_line t) ++ 10 ∷ []))
 
-puts_then : (a b c : Option (List ℕ)) (x y : List ℕ) → Puts a b x → Puts b c y → Puts a c (x ++ y)
+pub puts_then : (a b c : Option (List ℕ)) (x y : List ℕ) → Puts a b x → Puts b c y → Puts a c (x ++ y)
 puts_then None b c x y one two = subst (λ (m : Option (List ℕ)). Puts m c y) one two
 puts_then (Some had) b c x y one two = subst (λ (m : Option (List ℕ)). Puts m c y) one two ∙ ap Some (append_assoc had x y)
 

@@ -5,3 +5,5 @@ pub mod Sent
 pub mod Kept
 pub mod Serving
 pub mod Steps
+pub mod Order
+pub mod Running

@@ -1,5 +1,11 @@
 //! A node from its start to its end.
 
+ghost use Rattle.std.specs.Prelude.{◌≡◌, []};
+ghost use Rattle.crsm_spec.specs.Replica.{Replica};
+ghost use Rattle.crsm_shell.specs.Shell.{ShellStands};
+ghost use Rattle.crsm_shell.specs.Words.{disk_of};
+ghost use Rattle.crsm_node.specs.Running.{Runs, RunsOverCluster, RunsShell, devices_of, end_of};
+
 use crate::errors::{NodeEnd, NodeError};
 use crate::opening::write_opening;
 use crate::order::NodeOrder;
@@ -11,7 +17,7 @@ use crsm_disk::Disk;
 use crsm_io::Sink;
 use crsm_log::claim;
 use crsm_port::{ClusterPort, Port};
-use crsm_shell::Shell;
+use crsm_shell::{Booted, Shell, logs_are_one};
 use std::alloc::Global;
 
 /// Runs a node: claims its log for the cluster, boots the replica on it, writes the first lines of the sheet, and takes
@@ -23,7 +29,10 @@ pub fn run_node<P: Port, D: Disk, C: Clock, O: Sink>(
     disk: &mut D,
     clock: &mut C,
     sheet: &mut O,
-) -> NodeEnd {
+) -> NodeEnd
+    ensures { let at = devices_of D.meaning P.meaning C.readings O.written O.faults in
+        RunsOverCluster order.now (at disk.old port.old clock.old sheet.old) (at disk.new port.new clock.new sheet.new) result }
+{
     let mut over = match ClusterPort::new(alloc, &mut *port, order.cluster) {
         Ok(over) => over,
         Err(why) => return NodeEnd::from(why),
@@ -41,14 +50,23 @@ fn run_over<P: Port, D: Disk, C: Clock, O: Sink>(
     disk: &mut D,
     clock: &mut C,
     sheet: &mut O,
-) -> NodeEnd {
+) -> NodeEnd
+    ensures { let at = devices_of D.meaning P.meaning C.readings O.written O.faults in
+        Runs order.now (at disk.old port.old clock.old sheet.old) (at disk.new port.new clock.new sheet.new) result }
+{
+    logs_are_one();
     if let Err(why) = claim(alloc, disk, order.cluster) {
         return NodeEnd::from(why);
     }
     match Shell::boot(alloc, order.me, order.n, &order.peers, &mut *disk) {
         Ok(booted) => {
-            let mut shell = booted.shell;
-            let ended = run_shell(alloc, order, &booted.bodies, &mut shell, port, clock, sheet);
+            let Booted {
+                mut shell,
+                bodies,
+                lines: _lines,
+                size: _,
+            } = booted;
+            let ended = run_shell(alloc, order, &bodies, &mut shell, port, clock, sheet);
             let _disk = shell.into_disk();
             end_of(ended)
         }
@@ -56,7 +74,9 @@ fn run_over<P: Port, D: Disk, C: Clock, O: Sink>(
     }
 }
 
-fn end_of(ended: Result<(), NodeError>) -> NodeEnd {
+fn end_of(ended: Result<(), NodeError>) -> NodeEnd
+    ensures { result ≡ end_of ended }
+{
     match ended {
         Ok(()) => NodeEnd::Done,
         Err(why) => NodeEnd::from(why),
@@ -72,7 +92,10 @@ fn run_shell<P: Port, D: Disk, C: Clock, O: Sink>(
     port: &mut P,
     clock: &mut C,
     sheet: &mut O,
-) -> Result<(), NodeError> {
+) -> Result<(), NodeError>
+    ensures { (r : Replica) → ShellStands shell.old (D.meaning (disk_of shell.old)) r.log r [] → order.now.me ≡ r.me →
+        RunsShell D.meaning P.meaning C.readings O.written O.faults shell.old shell.new port.old port.new clock.old clock.new sheet.old sheet.new bodies.now r order.now.turns result }
+{
     write_opening(alloc, bodies, sheet)?;
     let mut detector = Detector::new(order.me);
     serve(alloc, shell, &mut detector, clock, port, sheet, order.turns)
