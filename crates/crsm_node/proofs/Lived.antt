@@ -1,33 +1,46 @@
 -- One process of a node, from its claim and its boot to its last turn.
-use Rattle.std.proofs.Common.{◌≡◌, ◌≢◌, ◌⊎◌, inl, inr, IsTrue, ℕ, ◌+◌, ◌≤◌, List, [], ◌∷◌, ◌++◌, length, map, refl, sym, ◌∙◌, ap, subst, arith, append_assoc}
+use Rattle.std.proofs.Common.{◌≡◌, ◌≢◌, ◌⊎◌, inl, inr, IsTrue, ℕ, ◌+◌, ◌≤◌, List, [], ◌∷◌, ◌++◌, length, map, true, refl, sym, ◌∙◌, ap, subst, arith, append_assoc}
 use Rattle.std.proofs.lemmas.List.{append-nil}
 use Rattle.std.proofs.lemmas.Grind.{flat_map-append}
 use Rattle.std.specs.Prelude.{Option, Some, None, Result, Ok, Err}
-use Rattle.crsm_disk.specs.Meaning.{LeavesOnly, Meaning}
+use Rattle.crsm_disk.specs.Meaning.{LeavesOnly, Meaning, Only}
 use Rattle.crsm_faults.specs.Counts.{Rose}
 use Rattle.crsm_io.specs.Streams.{Puts, PutsPrefix}
 use Rattle.crsm_ledger.specs.Recovered.{AreKept}
+use Rattle.crsm_lives.specs.Groups.{AreGroups}
 use Rattle.crsm_lives.specs.Lives.{Group, Life, kept_turns}
 use Rattle.crsm_log.specs.Claim.{Claims, IsClaimedOrBefore}
 use Rattle.crsm_log.specs.Format.{bodies_in, bodies_of, found, reading}
 use Rattle.crsm_sheet.specs.declared.line.SheetLine.{SheetLine}
 use Rattle.crsm_sheet.specs.Grammar.{sheet_line_text}
 use Rattle.crsm_sheet.specs.Sheets.{entry_line, sheet_of, sheet_text, turn_line}
+use Rattle.crsm_clock.specs.Readings.{Readings}
+use Rattle.crsm_port.specs.Meaning.{Meaning as PortMeaning}
+use Rattle.crsm_log.specs.Log.{Goes}
+use Rattle.crsm_detector.specs.Watching.{Watch, unwatched}
+use Rattle.crsm_detector.specs.Wished.{AreWished, empty_receives, replica_after}
+use Rattle.crsm_turns.specs.Outgoing.{packets_for}
 use Rattle.crsm_spec.specs.Log.{Log}
 use Rattle.crsm_spec.specs.Lists.{IsPrefixOf}
-use Rattle.crsm_spec.specs.Node.{Turn}
+use Rattle.crsm_spec.specs.Node.{Turn, outputs_from}
 use Rattle.crsm_spec.specs.Replica.{Replica}
 use Rattle.crsm_shell.specs.Booting.{IsLeftByBoot, ReadsAsBefore, boot_body}
-use Rattle.crsm_shell.specs.Shell.{HasLog}
-use Rattle.crsm_node.specs.Kept.{HasBehind, IsLeftOf, bodies_in_log}
-use Rattle.crsm_node.specs.Running.{IsLeftAtStart, IsLeftInLife, KeepsLife, WritesLife, booted, opening_text, unlent_disk}
-use Rattle.crsm_node.specs.Serving.{Keeps, Writes, maybe_kept, turns_by_group, turns_text}
+use Rattle.crsm_shell.specs.Shell.{HasLog, sends_of}
+use Rattle.crsm_node.specs.Kept.{HasBehind, IsLeftOf, PutInTurn, bodies_in_log}
+use Rattle.crsm_node.specs.Received.{GivesAll, Passes, datagrams_in}
+use Rattle.crsm_node.specs.Devices.{Node}
+use Rattle.crsm_node.specs.Order.{peers_in}
+use Rattle.crsm_node.specs.Running.{Devices, EndsLife, IsLeftAtStart, IsLeftInLife, KeepsLife, RunsLife, WritesLife, booted, end_of, opening_text, unlent_disk, unlent_port}
+use Rattle.crsm_node.specs.Sent.{AreAddressed, HaveFates, fates_of, gone, handed_out, not_gone, packets_gone, packets_missing, steps_by_group}
+use Rattle.crsm_node.specs.Serving.{Carries, Ends, Keeps, StopsAt, Takes, Writes, maybe_kept, turns_by_group, turns_text, with_lost}
+use Rattle.crsm_node.specs.declared.errors.NodeEnd.{NodeEnd}
 use Rattle.crsm_node.specs.declared.errors.NodeError.{NodeError}
 use Rattle.crsm_node.specs.declared.errors.NodeError.TheVariants as errors
 use Rattle.crsm_node.specs.declared.order.NodeOrder.{NodeOrder}
-use Rattle.crsm_node.proofs.Disks.{runs_on}
+use Rattle.crsm_node.proofs.Disks.{not_begun, runs_on}
+use Rattle.crsm_node.proofs.Ports.{both_same, passes_none, raised_none}
 use Rattle.crsm_node.proofs.SoFar.{puts_then}
-use Rattle.crsm_node.proofs.Starts.{same_log, start_run, unlent_run}
+use Rattle.crsm_node.proofs.Starts.{same_log, start_run, unlent_goes, unlent_run}
 
 -- ---- the sheet
 
@@ -113,3 +126,110 @@ module _ (order : NodeOrder) (life : Life) (m n o p : Meaning) (result : Result 
     any_moment = unlent_run m p (IsLeftInLife order life (unlent_disk m) result)
         (runs_on m o p (IsLeftAtStart order m) (IsLeftOf o.seen ours) (IsLeftInLife order life (unlent_disk m) result) (start_run order m n o claimed first second) keeps.any_moment at_start in_turns);
   }
+
+-- ---- the whole
+
+-- what was sent and received, whoever lends the port
+carries_unlent : (peers : List ℕ) (r : Replica) (w : Watch) (ts : List (Turn × ℕ)) (groups : List Group) (a b : PortMeaning) → Carries peers r w ts groups a b → Carries peers r w ts groups (unlent_port a) (unlent_port b)
+carries_unlent peers r w ts groups a b h = record { traffic = h.traffic; empties = h.empties; losses = h.losses; faults = h.faults; coat = h.coat; lent = refl }
+
+-- what a life did to the devices, but for its sheet and its end
+pub record Lived (order : NodeOrder) (found_log : Log) (groups : List Group) (lost : List (Turn × ℕ)) (before after : Option Readings) (a b : PortMeaning) (o p : Meaning) (result : Result (Unit {0}) NodeError) : Type 0 where
+  pub most : length (kept_turns groups ++ lost) ≤ order.turns
+  pub are_groups : AreGroups (with_lost (turns_by_group groups) lost)
+  pub fates : HaveFates (booted order found_log) groups
+  pub addressed : AreAddressed (peers_in order) (booted order found_log) groups
+  pub takes : Takes (booted order found_log) unwatched (kept_turns groups ++ lost) before after
+  pub carries : Carries (peers_in order) (booted order found_log) unwatched (kept_turns groups ++ lost) groups a b
+  pub goes : Goes o p
+  pub keeps : IsTrue o.honest → Keeps (booted order found_log) groups lost o p result
+
+-- how a life ends that served so
+pub life_ends : (order : NodeOrder) (life : Life) (r : Replica) (w : Watch) (groups : List Group) (lost : List (Turn × ℕ)) (start now : Node) (old new : Devices) (result : Result (Unit {0}) NodeError) →
+    life.groups ≡ groups → life.lost ≡ lost → Ends r w order.turns groups lost start now result → old.port.faults ≡ start.port.faults → new.port.faults ≡ now.port.faults → old.faults ≤ start.faults → new.faults ≡ now.faults →
+    old.disk.faults ≤ start.disk.faults → new.disk.faults ≡ now.disk.faults → EndsLife order life old new result
+life_ends order life r w groups lost start now old new (Ok x) g l ends port port' sheet sheet' disk disk' = (ap (λ (gs : List Group). length (kept_turns gs)) g ∙ ends.0, l ∙ ends.1.none_lost)
+life_ends order life r w groups lost start now old new (Err errors.PortFault) g l ends port port' sheet sheet' disk disk' = let rose = ends.0 in (omega (arith, rose, port, port'), l ∙ ends.1.none_lost)
+life_ends order life r w groups lost start now old new (Err errors.WriteFault) g l ends port port' sheet sheet' disk disk' = let rose = ends.0 in (omega (arith, rose, sheet, sheet'), l ∙ ends.1.none_lost)
+life_ends order life r w groups lost start now old new (Err errors.DiskFault) g l ends port port' sheet sheet' disk disk' = omega (arith, ends, disk, disk')
+life_ends order life r w groups lost start now old new (Err errors.LogFull) g l ends port port' sheet sheet' disk disk' = tt
+life_ends order life r w groups lost start now old new (Err errors.NoMemory) g l ends port port' sheet sheet' disk disk' = tt
+life_ends order life r w groups lost start now old new (Err errors.Failed) g l ends port port' sheet sheet' disk disk' = absurd ends
+
+abbrev pub life_of : NodeOrder → Log → List Group → List (Turn × ℕ) → Life
+life_of order log groups lost = record { me = order.me; found = log; groups = groups; lost = lost; ended = true }
+
+-- a life behind a claim and a boot; the disk is m at first, n once it is claimed, o once the boot is kept, and p at the end
+pub runs_life : (order : NodeOrder) (log : Log) (groups : List Group) (lost : List (Turn × ℕ)) (m n o p : Meaning) (a b : PortMeaning) (before after : Option Readings) (had has : Option (List ℕ)) (faults more : ℕ)
+    (result : Result (Unit {0}) NodeError) (end : NodeEnd) (bodies : List (List ℕ)) → LogsAreOne → n.honest ≡ m.honest → n.fill ≡ m.fill → m.faults ≤ n.faults → Goes n o →
+    (IsTrue m.honest → Claims m n order.cluster) → (IsTrue m.honest → LeavesOnly m n (IsClaimedOrBefore m order.cluster)) → (IsTrue n.honest → reading n.seen ≡ found bodies) → AreKept order.me order.n [] bodies log →
+    (IsTrue n.honest → reading o.seen ≡ found (bodies ++ boot_body order.me order.n log ∷ [])) → (IsTrue n.honest → LeavesOnly n o (IsLeftByBoot order.me order.n n)) →
+    Lived order log groups lost before after a b o p result → end ≡ end_of result → WritesLife bodies (life_of order log groups lost) had has result →
+    EndsLife order (life_of order log groups lost) (record { disk = unlent_disk m; port = unlent_port a; clock = before; sheet = had; faults = faults }) (record { disk = unlent_disk p; port = unlent_port b; clock = after; sheet = has; faults = more }) result →
+    RunsLife order (record { disk = unlent_disk m; port = unlent_port a; clock = before; sheet = had; faults = faults }) (record { disk = unlent_disk p; port = unlent_port b; clock = after; sheet = has; faults = more }) end
+runs_life order log groups lost m n o p a b before after had has faults more result end bodies logs trust fill first booted_on claimed left reads kept added left_by h ends_so writes done =
+    let life = life_of order log groups lost in
+    let trusts : IsTrue m.honest → IsTrue n.honest = λ honest. subst IsTrue (sym trust) honest in
+    let trusts' : IsTrue m.honest → IsTrue o.honest = λ honest. subst IsTrue (sym (booted_on.honest ∙ trust)) honest in
+    let second = booted_on.later in
+    let third = h.goes.later in
+    record {
+      life = life;
+      bodies = bodies;
+      result = result;
+      ends_so = ends_so;
+      me = refl;
+      ended = refl;
+      kept = kept;
+      found = λ honest. (sym (claimed honest).bodies ∙ reads (trusts honest), (claimed honest).open_to);
+      most = h.most;
+      are_groups = h.are_groups;
+      fates = h.fates;
+      addressed = h.addressed;
+      takes = h.takes;
+      carries = carries_unlent (peers_in order) (booted order log) unwatched (kept_turns groups ++ lost) groups a b h.carries;
+      goes = unlent_goes p m (h.goes.honest ∙ booted_on.honest ∙ trust) (h.goes.fill ∙ booted_on.fill ∙ fill) (omega (arith, first, second, third));
+      keeps = λ honest. life_keeps order life m n o p result bodies logs (claimed honest) (left honest) (reads (trusts honest)) kept (added (trusts honest)) (left_by (trusts honest)) (h.keeps (trusts' honest));
+      writes = writes;
+      done = done;
+    }
+
+-- no turn is taken
+pub lived_still : (order : NodeOrder) (log : Log) (before after : Option Readings) (a b : PortMeaning) (o : Meaning) (result : Result (Unit {0}) NodeError) → b ≡ a → after ≡ before →
+    ((r : Replica) → StopsAt r [] o.seen result) → maybe_kept [] [] result ≡ [] → (IsTrue o.honest → HasBehind o.seen [] o.seen) → (IsTrue o.honest → Only o.seen o.may_leave) → Lived order log [] [] before after a b o o result
+unfolding kept_turns AreWished GivesAll datagrams_in packets_gone packets_missing handed_out fates_of gone not_gone sends_of outputs_from packets_for empty_receives HaveFates bodies_in_log steps_by_group PutInTurn
+lived_still order log before after a b o result port clock stops maybe has only =
+    let r : Replica = booted order log in
+    let still : Carries (peers_in order) r unwatched [] [] a a = record {
+      traffic = both_same (Passes a.coat [] []) a.traffic (passes_none a.coat);
+      empties = raised_none a.empties a.empties (omega arith);
+      losses = raised_none a.losses a.losses (omega arith);
+      faults = omega arith;
+      coat = refl;
+      lent = refl;
+    } in
+    record {
+      most = omega arith;
+      are_groups = tt;
+      fates = tt;
+      addressed = tt;
+      takes = record { wished = tt; readings = clock };
+      carries = subst (λ (x : PortMeaning). Carries (peers_in order) r unwatched [] [] a x) (sym port) still;
+      goes = record { honest = refl; fill = refl; lent = refl; later = omega arith };
+      keeps = λ honest. record {
+        file = o.seen;
+        put = refl;
+        bodies = has honest;
+        is = λ _. refl;
+        stops = stops (replica_after r (kept_turns []));
+        any_moment = subst (λ (gs : List (List (Turn × ℕ))). LeavesOnly o o (IsLeftOf o.seen (bodies_in_log r gs))) (sym maybe) (not_begun o o.seen (has honest) (only honest));
+      };
+    }
+
+pub opening_prefix : (order : NodeOrder) (log : Log) (bodies : List (List ℕ)) (had has : Option (List ℕ)) → PutsPrefix had has (opening_text bodies) → WritesLife bodies (life_of order log [] []) had has (Err errors.WriteFault)
+unfolding kept_turns
+opening_prefix order log bodies had has h = h
+
+pub opening_memory : (order : NodeOrder) (log : Log) (bodies : List (List ℕ)) (had has : Option (List ℕ)) → PutsPrefix had has (opening_text bodies) → WritesLife bodies (life_of order log [] []) had has (Err errors.NoMemory)
+unfolding kept_turns
+opening_memory order log bodies had has h = inr (refl, h)

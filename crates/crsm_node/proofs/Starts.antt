@@ -1,5 +1,5 @@
 -- The log that is claimed, and the boot on it.
-use Rattle.std.proofs.Common.{◌≡◌, ◌≢◌, ◌⊎◌, inl, inr, ⊎_elim, IsTrue, ℕ, ◌+◌, ◌<◌, ◌≤◌, List, [], ◌∷◌, ◌++◌, refl, sym, ◌∙◌, ap, subst, arith}
+use Rattle.std.proofs.Common.{◌≡◌, ◌≢◌, ◌⊎◌, inl, inr, ⊎_elim, IsTrue, Bool, true, false, nat_lt, ℕ, ◌+◌, ◌<◌, ◌≤◌, List, [], ◌∷◌, ◌++◌, refl, sym, ◌∙◌, ap, subst, arith}
 use Rattle.std.proofs.lemmas.List.{append-nil}
 use Rattle.std.specs.Prelude.{Option, Some, None}
 use Rattle.crsm_base.specs.declared.limits.TheConstants.{MAX_LOG_BYTES}
@@ -11,7 +11,11 @@ use Rattle.crsm_log.specs.Format.{bodies_in, bodies_of, found, reading}
 use Rattle.crsm_log.specs.Log.{Goes}
 use Rattle.crsm_log.specs.declared.errors.ClaimError.{ClaimError}
 use Rattle.crsm_log.specs.declared.errors.ClaimError.TheVariants as claims
+use Rattle.crsm_spec.specs.Choice.{when◌then◌otherwise◌}
+use Rattle.crsm_spec.specs.Draft.{begun, keep}
 use Rattle.crsm_spec.specs.Log.{Log}
+use Rattle.crsm_spec.specs.Replica.{fresh}
+use Rattle.crsm_spec.specs.Step.{boot, boot_again, first_boot, founding_boot}
 use Rattle.crsm_shell.specs.Booting.{IsBadLog, IsLeftByBoot, ReadsAsBefore, RefusesBoot, boot_body}
 use Rattle.crsm_shell.specs.Shell.{HasLog}
 use Rattle.crsm_shell.specs.declared.errors.BootError.{BootError}
@@ -156,3 +160,14 @@ boot_refused order m n o why trust fill first claimed left refuses left_by =
       stays = λ honest other. refuses.stays (trusts honest) (λ is. other (boot_fault why is)) ∙ (claimed honest).bodies;
       any_moment = λ honest. unlent_left order m o (start_run order m n o (claimed honest) (left honest) (left_by (trusts honest)));
     }
+
+-- ---- the replica of a boot
+
+pub boot_mine : (me n : ℕ) (log : Log) → (boot me n log).replica.me ≡ me
+unfolding boot first_boot founding_boot boot_again keep begun fresh when◌then◌otherwise◌
+boot_mine me n [] = go (nat_lt me n)
+  where
+    go : (b : Bool) → (when b then founding_boot me n otherwise boot_again me n []).replica.me ≡ me
+    go true = refl
+    go false = refl
+boot_mine me n (rec ∷ log) = refl

@@ -1,4 +1,4 @@
-use Rattle.std.proofs.Common.{◌≡◌, ◌⊎◌, inl, inr, ◌≤◌, ◌∙◌, ℕ, List, refl, sym, ap, subst, arith, Err, IfErr}
+use Rattle.std.proofs.Common.{◌≡◌, ◌⊎◌, inl, inr, ◌≤◌, ◌∙◌, ℕ, List, length, refl, sym, ap, subst, arith, Ok, Err, IfErr, OnOk}
 use Rattle.std.proofs.lemmas.Result.{err_from_is_err_and}
 use Rattle.std.specs.Prelude.{Option, Result}
 use Rattle.crsm_faults.specs.Counts.{Rose}
@@ -53,8 +53,31 @@ loop-index-preserved g c =
       later = omega (arith, before, after);
     }
 
+map_ok : (result : Result (Unit {0}) NodeError) (P Q : Type 0) → (P → Q) → OnOk result P → OnOk result Q
+map_ok (Ok x) P Q implies h = implies h
+map_ok (Err why) P Q implies h = h
+
+map_err : (result : Result (Unit {0}) NodeError) (P Q : NodeError → Type 0) → ((why : NodeError) → P why → Q why) → IfErr result P → IfErr result Q
+map_err (Ok x) P Q implies h = h
+map_err (Err why) P Q implies h = implies why h
+
 pub returns-clause-opened : goal.returns-clause-opened
-returns-clause-opened g c = ?
+returns-clause-opened g c =
+    let between = g.O.Sink.written c.loop-index.sheet in
+    let has = g.O.Sink.written c.write_line-2.new.sheet in
+    let inside = c.loop-index.auto.index-end in
+    let out = c.loop-index-test.false in
+    let count = c.len-count.ensures in
+    let all : c.loop-index.index ≡ length c.args.bodies.now = omega (arith, inside, out, count) in
+    map_ok c.write_line-2.result _ _ (λ put. opening_put c.args.bodies.now c.loop-index.index (g.O.Sink.written c.args.sheet.now) between has all c.loop-index.invariant.put put) c.write_line-2.ensures.put
 
 pub returns-clause-failed : goal.returns-clause-failed
-returns-clause-failed g c = ?
+returns-clause-failed g c =
+    let between = g.O.Sink.written c.loop-index.sheet in
+    let has = g.O.Sink.written c.write_line-2.new.sheet in
+    let inside = c.loop-index.auto.index-end in
+    let out = c.loop-index-test.false in
+    let count = c.len-count.ensures in
+    let all : c.loop-index.index ≡ length c.args.bodies.now = omega (arith, inside, out, count) in
+    map_err c.write_line-2.result _ _ (λ why h. why_not (g.O.Sink.written c.args.sheet.now) has c.args.bodies.now (g.O.Sink.faults c.args.sheet.now) (g.O.Sink.faults c.loop-index.sheet) (g.O.Sink.faults c.write_line-2.new.sheet) why c.loop-index.invariant.later
+    (stops_at_open c.args.bodies.now c.loop-index.index (g.O.Sink.written c.args.sheet.now) between has all c.loop-index.invariant.put c.write_line-2.ensures.prefix) h) c.write_line-2.ensures.why
