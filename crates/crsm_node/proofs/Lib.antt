@@ -1,3 +1,4 @@
+pub mod Clustered
 pub mod Disks
 pub mod Ends
 pub mod Fates

@@ -16,8 +16,8 @@ use Rattle.crsm_ledger.specs.Recovered.{AreKept}
 use Rattle.crsm_log.specs.Claim.{IsOpenTo, claimed}
 use Rattle.crsm_log.specs.Format.{bodies_of, cluster_of, found, gate_in, reading}
 use Rattle.crsm_log.specs.Log.{Goes}
-use Rattle.crsm_port.specs.Cluster.{clustered}
-use Rattle.crsm_port.specs.Meaning.{Meaning as PortMeaning}
+use Rattle.crsm_port.specs.Cluster.{clustered, over}
+use Rattle.crsm_port.specs.Meaning.{Coat, Meaning as PortMeaning}
 use Rattle.crsm_detector.specs.Detector.{DetectorStands}
 use Rattle.crsm_detector.specs.Watching.{unwatched}
 use Rattle.crsm_detector.specs.Wished.{replica_after}
@@ -191,9 +191,9 @@ abbrev pub devices_of : {C P D O : Type 0} → (D → DiskMeaning) → (P → Po
 devices_of disk port clock written faults d p c o =
     record { disk = unlent_disk (disk d); port = unlent_port (port p); clock = clock c; sheet = written o; faults = faults o }
 
--- the same over the port of a cluster, where so many sends were too long
-abbrev pub over_cluster : ℕ → ℕ → Devices → Devices
-over_cluster cluster too_long devices = record devices { port = clustered cluster too_long devices.port }
+-- the same over the port of a cluster, where so many sends were too long, and datagrams stand on the wire in this coat
+abbrev pub over_cluster : ℕ → ℕ → Coat → Devices → Devices
+over_cluster cluster too_long coat devices = record devices { port = record (clustered cluster too_long devices.port) { coat = over cluster coat } }
 
 -- memory ran out before the node began
 abbrev pub NotBegun : Devices → Devices → NodeEnd → Type 0
@@ -201,4 +201,4 @@ NotBegun old new end = (end ≡ ends.NoMemory) × Goes old.disk new.disk × (new
 
 -- What went over the port of the cluster went over the port below by its coat.
 abbrev pub RunsOverCluster : NodeOrder → Devices → Devices → NodeEnd → Type 0
-RunsOverCluster order old new end = ((too_long : ℕ) × Runs order (over_cluster order.cluster 0 old) (over_cluster order.cluster too_long new) end) ⊎ NotBegun old new end
+RunsOverCluster order old new end = ((too_long : ℕ) × Runs order (over_cluster order.cluster 0 old.port.coat old) (over_cluster order.cluster too_long old.port.coat new) end) ⊎ NotBegun old new end

@@ -51,8 +51,10 @@ fn run_over<P: Port, D: Disk, C: Clock, O: Sink>(
     clock: &mut C,
     sheet: &mut O,
 ) -> NodeEnd
-    ensures { let at = devices_of D.meaning P.meaning C.readings O.written O.faults in
+    ensures runs { let at = devices_of D.meaning P.meaning C.readings O.written O.faults in
         Runs order.now (at disk.old port.old clock.old sheet.old) (at disk.new port.new clock.new sheet.new) result }
+    ensures coat { (P.meaning port.new).coat ≡ (P.meaning port.old).coat }
+    ensures lent { (P.meaning port.new).lent ≡ (P.meaning port.old).lent }
 {
     logs_are_one();
     if let Err(why) = claim(alloc, disk, order.cluster) {

@@ -3,6 +3,7 @@ use Rattle.std.specs.Prelude.{Option, Some, ℕ, Result, Err}
 use Rattle.crsm_log.specs.declared.errors.ClaimError.{ClaimError}
 use Rattle.std.specs.Borrow.{MutBor}
 use Rattle.std.proofs.lemmas.List.{append-nil}
+use Rattle.crsm_port.specs.Meaning.{Meaning as PortMeaning}
 use Rattle.crsm_disk.specs.Meaning.{LeavesOnly, Meaning, Only}
 use Rattle.crsm_detector.specs.Watching.{unwatched}
 use Rattle.crsm_lives.specs.Lives.{kept_turns}
@@ -33,8 +34,8 @@ name k = Some k
 abbrev failing : ClaimError → Result (Unit {0}) ClaimError
 failing why = Err why
 
-pub returns-in-Err : goal.returns-in-Err
-returns-in-Err g c =
+pub returns-in-Err-clause-runs : goal.returns-in-Err-clause-runs
+returns-in-Err-clause-runs g c =
     let old = g.D.Disk.meaning c.args.disk.now in
     let new = g.D.Disk.meaning c.claim.new.disk in
     let e = c.in-Err.ensures in
@@ -50,8 +51,8 @@ lent meaning d = record (meaning d.now) { lent = Some d.ghost_name }
 same_some : (a b : ℕ) → name a ≡ name b → a ≡ b
 same_some a b is = cc
 
-pub returns-in-Err-boot : goal.returns-in-Err-boot
-returns-in-Err-boot g c =
+pub returns-in-Err-boot-clause-runs : goal.returns-in-Err-boot-clause-runs
+returns-in-Err-boot-clause-runs g c =
     let old = g.D.Disk.meaning c.args.disk.now in
     let mid = g.D.Disk.meaning c.claim.new.disk in
     let k = Some c.boot-arg-1.given in
@@ -78,8 +79,8 @@ not_failed : {D : Type 0} {g : _} (shell : Shell D g) (m : Meaning) (kept : Log)
 unfolding ShellStands
 not_failed shell m kept r steps s = s.well
 
-pub returns-in-Ok : goal.returns-in-Ok
-returns-in-Ok g c =
+pub returns-in-Ok-clause-runs : goal.returns-in-Ok-clause-runs
+returns-in-Ok-clause-runs g c =
     let order = c.args.order.now in
     let old = g.D.Disk.meaning c.args.disk.now in
     let mid = g.D.Disk.meaning c.claim.new.disk in
@@ -152,4 +153,24 @@ returns-in-Ok g c =
                 (λ honest. e.added honest log kept) e.left (lived_still order log before after a z o (Err node_errors.NoMemory) failed.2 failed.3 (λ q. tt) refl has_none only) (c.end_of.ensures ∙ ap end_of memory)
                 (opening_memory order log b.bodies had has t.wrote) tt)
           ])
+    ]
+
+pub returns-in-Ok-clause-coat : goal.returns-in-Ok-clause-coat
+returns-in-Ok-clause-coat g c =
+    let order = c.args.order.now in
+    let e = c.in-Ok.ensures in
+    let log = e.found.0 in
+    elim (c.run_shell-ended.ensures (booted order log) (e.boots log e.found.1).stands (sym (boot_mine order.me order.n log))) [
+      | inl served ↦ served.serves.carries.coat
+      | inr failed ↦ ap (λ (m : PortMeaning). m.coat) failed.2
+    ]
+
+pub returns-in-Ok-clause-lent : goal.returns-in-Ok-clause-lent
+returns-in-Ok-clause-lent g c =
+    let order = c.args.order.now in
+    let e = c.in-Ok.ensures in
+    let log = e.found.0 in
+    elim (c.run_shell-ended.ensures (booted order log) (e.boots log e.found.1).stands (sym (boot_mine order.me order.n log))) [
+      | inl served ↦ served.serves.carries.lent
+      | inr failed ↦ ap (λ (m : PortMeaning). m.lent) failed.2
     ]
