@@ -1,5 +1,5 @@
 -- A run over the port of a cluster, in the words of the port below.
-use Rattle.std.proofs.Common.{◌≡◌, ℕ, List, refl, sym, ap, subst}
+use Rattle.std.proofs.Common.{◌≡◌, ℕ, List, subst}
 use Rattle.std.specs.Prelude.{Option}
 use Rattle.crsm_clock.specs.Readings.{Readings}
 use Rattle.crsm_disk.specs.Meaning.{Meaning as DiskMeaning}

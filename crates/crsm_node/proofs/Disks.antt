@@ -1,8 +1,8 @@
 -- Bodies that are put one behind another, and what a crash leaves of them.
-use Rattle.std.proofs.Common.{◌≡◌, ◌⊎◌, inl, inr, ⊎_elim, ℕ, ◌≤◌, List, [], ◌∷◌, ◌++◌, refl, sym, ◌∙◌, ap, subst, arith, append_assoc}
+use Rattle.std.proofs.Common.{◌≡◌, inl, inr, ⊎_elim, ℕ, List, [], ◌∷◌, ◌++◌, refl, sym, ◌∙◌, ap, subst, arith, append_assoc}
 use Rattle.std.proofs.lemmas.List.{append-nil}
 use Rattle.crsm_disk.specs.Meaning.{LeavesOnly, Meaning, Only, Same}
-use Rattle.crsm_log.specs.Format.{Reading, bodies_in, bodies_of, found, reading}
+use Rattle.crsm_log.specs.Format.{bodies_in, bodies_of, found, reading}
 use Rattle.crsm_spec.specs.Lists.{IsPrefixOf}
 use Rattle.crsm_shell.specs.Flushing.{Adds, IsFull, IsLeft}
 use Rattle.crsm_node.specs.Kept.{HasBehind, IsLeftOf, PutInTurn, body_if_some}

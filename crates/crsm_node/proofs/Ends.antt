@@ -1,31 +1,30 @@
 -- How a node ends, from what it has done so far.
-use Rattle.std.proofs.Common.{◌≡◌, ◌⊎◌, inl, inr, IsTrue, Bool, ℕ, ◌+◌, ◌≤◌, List, [], ◌∷◌, ◌++◌, length, map, refl, sym, ◌∙◌, ap, subst, arith, append_assoc, length-append}
-use Rattle.std.proofs.lemmas.List.{append-nil, map-append}
-use Rattle.std.specs.Prelude.{Option, Some, None, Result, Ok, Err, ◌≢◌}
+use Rattle.std.proofs.Common.{◌≡◌, IsTrue, Bool, ℕ, ◌≤◌, List, [], ◌∷◌, ◌++◌, length, refl, sym, ◌∙◌, ap, subst, arith}
+use Rattle.std.proofs.lemmas.List.{append-nil}
+use Rattle.std.specs.Prelude.{Option, Result, Ok, Err, ◌≢◌}
 use Rattle.std.specs.List.{AllByRecursion}
 use Rattle.crsm_clock.specs.Readings.{Readings}
-use Rattle.crsm_disk.specs.Meaning.{LeavesOnly, Meaning as DiskMeaning, Only, Same}
+use Rattle.crsm_disk.specs.Meaning.{LeavesOnly}
 use Rattle.crsm_faults.specs.Counts.{Rose}
 use Rattle.crsm_io.specs.Streams.{Puts, PutsPrefix}
 use Rattle.crsm_lives.specs.Groups.{AreGroups, IsGroup}
 use Rattle.crsm_lives.specs.Lives.{Group, kept_turns}
 use Rattle.crsm_log.specs.Format.{bodies_of}
 use Rattle.crsm_log.specs.Log.{Goes}
-use Rattle.crsm_port.specs.Meaning.{Meaning as PortMeaning}
 use Rattle.crsm_spec.specs.Node.{Turn, outputs_from}
 use Rattle.crsm_spec.specs.Replica.{Replica}
 use Rattle.crsm_detector.specs.Watching.{Watch}
-use Rattle.crsm_detector.specs.Wished.{replica_after, watch_after}
+use Rattle.crsm_detector.specs.Wished.{replica_after}
 use Rattle.crsm_turns.specs.Outgoing.{packets_for}
 use Rattle.crsm_shell.specs.Flushing.{Adds, IsFull, IsLeft, SendsPackets}
 use Rattle.crsm_shell.specs.Shell.{group_body, sends_of}
 use Rattle.crsm_node.specs.Devices.{Node}
-use Rattle.crsm_node.specs.Kept.{HasBehind, IsLeftOf, PutInTurn, bodies_in_log, body_in_log}
+use Rattle.crsm_node.specs.Kept.{IsLeftOf, bodies_in_log, body_in_log}
 use Rattle.crsm_node.specs.Sent.{AreAddressed, HaveFates}
-use Rattle.crsm_node.specs.Serving.{Carries, Ends, Keeps, MayGoOn, Serves, StopsAt, Takes, maybe_kept, turns_by_group, turns_text, with_lost}
+use Rattle.crsm_node.specs.Serving.{Carries, Keeps, MayGoOn, Serves, StopsAt, Takes, maybe_kept, turns_by_group, turns_text, with_lost}
 use Rattle.crsm_node.specs.declared.errors.NodeError.{NodeError}
 use Rattle.crsm_node.specs.declared.errors.NodeError.TheVariants.{PortFault, DiskFault, LogFull, WriteFault, NoMemory}
-use Rattle.crsm_node.proofs.Disks.{left_more, runs_no_further}
+use Rattle.crsm_node.proofs.Disks.{left_more}
 use Rattle.crsm_node.proofs.Groups.{AreOpen, groups_more, IsShut, open_group, shut_groups}
 use Rattle.crsm_node.proofs.Fates.{addressed_more, fates_for, have_fates_more}
 use Rattle.crsm_node.proofs.SoFar.{OnDisk, carries_group, disk_more, goes_then}

@@ -1,5 +1,5 @@
 -- Why a group is not kept, in the words of a node.
-use Rattle.std.proofs.Common.{◌≡◌, IsTrue, ℕ, List, [], refl, sym, ap, subst}
+use Rattle.std.proofs.Common.{◌≡◌, IsTrue, ℕ, List, refl}
 use Rattle.std.specs.Prelude.{Option, Err}
 use Rattle.crsm_disk.specs.Meaning.{Meaning as DiskMeaning, Same}
 use Rattle.crsm_faults.specs.Counts.{Rose}

@@ -1,10 +1,8 @@
 -- One process of a node, from its claim and its boot to its last turn.
-use Rattle.std.proofs.Common.{◌≡◌, ◌≢◌, ◌⊎◌, inl, inr, IsTrue, ℕ, ◌+◌, ◌≤◌, List, [], ◌∷◌, ◌++◌, length, map, true, refl, sym, ◌∙◌, ap, subst, arith, append_assoc}
-use Rattle.std.proofs.lemmas.List.{append-nil}
+use Rattle.std.proofs.Common.{◌≡◌, inl, inr, IsTrue, ℕ, ◌≤◌, List, [], ◌∷◌, ◌++◌, length, map, true, refl, sym, ◌∙◌, ap, subst, arith, append_assoc}
 use Rattle.std.proofs.lemmas.Grind.{flat_map-append}
-use Rattle.std.specs.Prelude.{Option, Some, None, Result, Ok, Err}
+use Rattle.std.specs.Prelude.{Option, Result, Ok, Err}
 use Rattle.crsm_disk.specs.Meaning.{LeavesOnly, Meaning, Only}
-use Rattle.crsm_faults.specs.Counts.{Rose}
 use Rattle.crsm_io.specs.Streams.{Puts, PutsPrefix}
 use Rattle.crsm_ledger.specs.Recovered.{AreKept}
 use Rattle.crsm_lives.specs.Groups.{AreGroups}
@@ -21,10 +19,9 @@ use Rattle.crsm_detector.specs.Watching.{Watch, unwatched}
 use Rattle.crsm_detector.specs.Wished.{AreWished, empty_receives, replica_after}
 use Rattle.crsm_turns.specs.Outgoing.{packets_for}
 use Rattle.crsm_spec.specs.Log.{Log}
-use Rattle.crsm_spec.specs.Lists.{IsPrefixOf}
 use Rattle.crsm_spec.specs.Node.{Turn, outputs_from}
 use Rattle.crsm_spec.specs.Replica.{Replica}
-use Rattle.crsm_shell.specs.Booting.{IsLeftByBoot, ReadsAsBefore, boot_body}
+use Rattle.crsm_shell.specs.Booting.{IsLeftByBoot, boot_body}
 use Rattle.crsm_shell.specs.Shell.{HasLog, sends_of}
 use Rattle.crsm_node.specs.Kept.{HasBehind, IsLeftOf, PutInTurn, bodies_in_log}
 use Rattle.crsm_node.specs.Received.{GivesAll, Passes, datagrams_in}
@@ -40,7 +37,7 @@ use Rattle.crsm_node.specs.declared.order.NodeOrder.{NodeOrder}
 use Rattle.crsm_node.proofs.Disks.{not_begun, runs_on}
 use Rattle.crsm_node.proofs.Ports.{both_same, passes_none, raised_none}
 use Rattle.crsm_node.proofs.SoFar.{puts_then}
-use Rattle.crsm_node.proofs.Starts.{same_log, start_run, unlent_goes, unlent_run}
+use Rattle.crsm_node.proofs.Starts.{start_run, unlent_goes, unlent_run}
 
 -- ---- the sheet
 

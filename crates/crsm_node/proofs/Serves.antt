@@ -1,17 +1,16 @@
 -- The turns of a node one after another: what stands between two turns, and how they end.
-use Rattle.std.proofs.Common.{◌≡◌, ◌≢◌, ◌⊎◌, inl, inr, IsTrue, ℕ, ◌+◌, ◌-◌, ◌<◌, ◌≤◌, ◌↔◌, List, [], ◌∷◌, ◌++◌, length, map, refl, sym, ◌∙◌, ap, subst, arith, append_assoc, length-append, true, false, Bool}
+use Rattle.std.proofs.Common.{◌≡◌, ◌≢◌, ◌⊎◌, inl, inr, IsTrue, ℕ, ◌+◌, ◌-◌, ◌<◌, ◌≤◌, List, [], ◌∷◌, ◌++◌, length, refl, sym, ◌∙◌, ap, subst, arith, append_assoc, Bool}
 use Rattle.std.proofs.lemmas.List.{append-nil, map-append}
 use Rattle.std.specs.Prelude.{Option, Some, None, Result, Ok, Err}
 use Rattle.std.specs.List.{AllByRecursion}
 use Rattle.crsm_clock.specs.Readings.{Readings}
-use Rattle.crsm_disk.specs.Meaning.{LeavesOnly, Meaning as DiskMeaning, Only, Same}
+use Rattle.crsm_disk.specs.Meaning.{Meaning as DiskMeaning, Only, Same}
 use Rattle.crsm_faults.specs.Counts.{Rose}
 use Rattle.crsm_io.specs.Streams.{Puts, PutsPrefix}
 use Rattle.crsm_lives.specs.Groups.{AreGroups, IsClosed, IsDatagram, IsGroup}
 use Rattle.crsm_lives.specs.Lives.{Group, kept_turns}
-use Rattle.crsm_log.specs.Format.{bodies_of}
 use Rattle.crsm_log.specs.Log.{Goes}
-use Rattle.crsm_port.specs.Meaning.{Coat, Meaning as PortMeaning, Packet, Traffic}
+use Rattle.crsm_port.specs.Meaning.{Meaning as PortMeaning, Traffic}
 use Rattle.crsm_spec.specs.Draft.{Draft}
 use Rattle.crsm_spec.specs.Node.{Turn, outputs_from, turn}
 use Rattle.crsm_spec.specs.Replica.{Replica}
@@ -21,7 +20,7 @@ use Rattle.crsm_detector.specs.Wished.{AreWished, empty_receives, replica_after,
 use Rattle.crsm_detector.specs.Detector.{DetectorStands}
 use Rattle.crsm_detector.specs.declared.detector.Detector.{Detector}
 use Rattle.crsm_shell.specs.declared.shell.Shell.{Shell}
-use Rattle.crsm_shell.specs.Flushing.{IsFull, IsLeft, SendsNone, SendsPackets}
+use Rattle.crsm_shell.specs.Flushing.{IsFull, SendsNone, SendsPackets}
 use Rattle.crsm_shell.specs.Shell.{ShellStands, group_body, sends_of}
 use Rattle.crsm_shell.specs.Words.{disk_of, peers_of}
 use Rattle.crsm_node.specs.Devices.{Node, node_of}
@@ -29,15 +28,15 @@ use Rattle.crsm_node.specs.Kept.{HasBehind, IsLeftOf, PutInTurn, bodies_in_log}
 use Rattle.crsm_node.specs.Received.{BothTell, GivesAll, Passes, datagrams_in}
 use Rattle.crsm_node.specs.Sent.{HaveFates, fates_of, gone, handed_out, not_gone, packets_gone, packets_missing, steps_by_group}
 use Rattle.crsm_node.specs.Serving.{Carries, MayGoOn, Serves, Takes, turns_by_group, turns_text, with_lost}
-use Rattle.crsm_node.specs.Steps.{FailsToKeep, FailsToReceive, FailsToTake, FailsToWrite, FindsFull, IsIdle, KeepsGroup, KeepsSteps, StopsKeeping, TakesTurn, Took, turn_text}
+use Rattle.crsm_node.specs.Steps.{FailsToReceive, FailsToTake, IsIdle, KeepsGroup, KeepsSteps, TakesTurn, Took, turn_text}
 use Rattle.crsm_node.specs.declared.errors.NodeError.{NodeError}
 use Rattle.crsm_node.specs.declared.errors.NodeError.TheVariants as errors
 use Rattle.crsm_node.proofs.Disks.{not_begun, runs_no_further}
 use Rattle.crsm_node.proofs.Ends.{KeepsTurns, SoFar, ends_at_disk, ends_at_port, ends_at_sheet, ends_full, ends_well, ends_without_memory, group_if, group_kept, groups_with, lost_some}
-use Rattle.crsm_node.proofs.Groups.{AreOpen, IsShut, group_of, groups_more, none_open, open_more, shut_groups, shut_more}
+use Rattle.crsm_node.proofs.Groups.{AreOpen, IsShut, group_of, groups_more, none_open, open_more, shut_more}
 use Rattle.crsm_node.proofs.Ports.{both_same, passes_none, raised_none}
 use Rattle.crsm_node.proofs.SoFar.{OnDisk, carries_more, goes_then, prefix_more, takes_more, text_more, written_more}
-use Rattle.crsm_node.proofs.Turns.{count_more, count_outputs, kept_more, outputs_more, replica_append, replica_more, watch_more}
+use Rattle.crsm_node.proofs.Turns.{count_more, kept_more, outputs_more, replica_append, replica_more, watch_more}
 
 none_left : (taken most : ℕ) → taken + 1 < most → most - taken - 1 ≡ 0 → ⊥
 none_left taken most more last = omega (arith, more, last)

@@ -1,34 +1,34 @@
 -- What a node has done so far, with some turns pending, and how that goes on.
-use Rattle.std.proofs.Common.{◌≡◌, ◌⊎◌, inl, inr, IsTrue, ℕ, ◌+◌, ◌≤◌, List, [], ◌∷◌, ◌++◌, length, map, refl, sym, ◌∙◌, ap, subst, arith, append_assoc, length-append}
+use Rattle.std.proofs.Common.{◌≡◌, IsTrue, ℕ, ◌≤◌, List, [], ◌∷◌, ◌++◌, map, sym, ◌∙◌, ap, subst, arith, append_assoc}
 use Rattle.std.proofs.lemmas.List.{append-nil, map-append}
 use Rattle.std.proofs.lemmas.Grind.{flat_map-append}
-use Rattle.std.specs.Prelude.{Option, Some, None, option_map}
+use Rattle.std.specs.Prelude.{Option, Some, None}
 use Rattle.std.specs.List.{flat_map}
 use Rattle.crsm_clock.specs.Readings.{Gives, Readings}
-use Rattle.crsm_disk.specs.Meaning.{LeavesOnly, Meaning as DiskMeaning, Only, Same}
+use Rattle.crsm_disk.specs.Meaning.{LeavesOnly, Meaning as DiskMeaning}
 use Rattle.crsm_io.specs.Streams.{Puts, PutsPrefix}
 use Rattle.crsm_lives.specs.Lives.{Group, kept_turns}
 use Rattle.crsm_log.specs.Format.{bodies_of}
 use Rattle.crsm_log.specs.Log.{Goes}
-use Rattle.crsm_port.specs.Meaning.{Coat, Meaning as PortMeaning, Packet, Traffic}
+use Rattle.crsm_port.specs.Meaning.{Coat, Meaning as PortMeaning, Packet}
 use Rattle.crsm_sheet.specs.declared.line.SheetLine.{SheetLine}
 use Rattle.crsm_sheet.specs.Grammar.{sheet_line_text}
 use Rattle.crsm_sheet.specs.Sheets.{sheet_text, turn_line}
-use Rattle.crsm_spec.specs.Node.{Turn, outputs_from, turn}
+use Rattle.crsm_spec.specs.Node.{Turn, outputs_from}
 use Rattle.crsm_spec.specs.Replica.{Replica}
 use Rattle.crsm_turns.specs.Outgoing.{GoesOut, packets_for, raised_by}
 use Rattle.crsm_detector.specs.Watching.{Watch}
 use Rattle.crsm_detector.specs.Wished.{Fulfils, empty_receive, empty_receives, replica_after, watch_after, wish_of}
-use Rattle.crsm_shell.specs.Flushing.{Adds, IsFull, IsLeft, SendsPackets}
+use Rattle.crsm_shell.specs.Flushing.{Adds, IsFull, IsLeft}
 use Rattle.crsm_shell.specs.Shell.{group_body, sends_of}
 use Rattle.crsm_node.specs.Kept.{HasBehind, IsLeftOf, PutInTurn, bodies_in_log, body_in_log}
 use Rattle.crsm_node.specs.Received.{BothTell, GivesAll, Passes, datagram_in, datagrams_in, readings_of}
-use Rattle.crsm_node.specs.Sent.{AreAddressed, HaveFates, packets_gone, packets_missing}
+use Rattle.crsm_node.specs.Sent.{HaveFates, packets_gone, packets_missing}
 use Rattle.crsm_node.specs.Serving.{Carries, Takes, turns_by_group, turns_text}
 use Rattle.crsm_node.specs.Steps.{TakesOff}
 use Rattle.crsm_node.proofs.Disks.{has_more, left_more, put_more}
-use Rattle.crsm_node.proofs.Fates.{AreFates, fates_for, gone_more, missing_more, with_group}
-use Rattle.crsm_node.proofs.Ports.{both_then, gives_more, passes_then, raised_none, raised_then, raised_within, sent_passes}
+use Rattle.crsm_node.proofs.Fates.{AreFates, gone_more, missing_more, with_group}
+use Rattle.crsm_node.proofs.Ports.{both_then, gives_more, passes_then, raised_then, sent_passes}
 use Rattle.crsm_node.proofs.Turns.{bodies_more, empty_more, kept_more, wished_more}
 
 -- ---- one turn more

@@ -1,16 +1,15 @@
 -- What a turn takes off a port, in the words of a node.
-use Rattle.std.proofs.Common.{◌≡◌, ◌⊎◌, inl, inr, ⊎_elim, ℕ, ◌+◌, ◌≤◌, ◌↔◌, List, [], ◌∷◌, ◌++◌, length, map, take, refl, sym, ◌∙◌, ap, subst, arith, true, false, Bool}
+use Rattle.std.proofs.Common.{◌≡◌, inr, ℕ, ◌≤◌, ◌↔◌, List, [], ◌∷◌, ◌++◌, take, refl, sym, ◌∙◌, ap, subst, arith}
 use Rattle.std.proofs.lemmas.List.{append-nil}
-use Rattle.std.specs.Prelude.{Option, Some, None, IsSome, IfErr, Result, Ok, Err}
+use Rattle.std.specs.Prelude.{Option, Some, None, IsSome, Result, Ok, Err}
 use Rattle.crsm_clock.specs.Readings.{Gives, Readings}
 use Rattle.crsm_disk.specs.Meaning.{Meaning as DiskMeaning}
-use Rattle.crsm_faults.specs.Counts.{Rose}
 use Rattle.crsm_port.specs.Meaning.{Coat, Meaning as PortMeaning, Packet, Traffic}
 use Rattle.crsm_spec.specs.Draft.{Draft}
 use Rattle.crsm_spec.specs.Log.{Log}
-use Rattle.crsm_spec.specs.Node.{Turn, turn}
+use Rattle.crsm_spec.specs.Node.{Turn}
 use Rattle.crsm_spec.specs.Replica.{Replica}
-use Rattle.crsm_turns.specs.Input.{CountsTick, IsFirst, Receives, TakesInput}
+use Rattle.crsm_turns.specs.Input.{CountsTick, IsFirst, TakesInput}
 use Rattle.crsm_turns.specs.Outgoing.{raised_by}
 use Rattle.crsm_turns.specs.declared.input.Taken.{Taken}
 use Rattle.crsm_turns.specs.declared.input.Taken.TheVariants as taken
@@ -27,10 +26,9 @@ use Rattle.crsm_shell.specs.Taking.{Reads, Takes, most_received, turn_of}
 use Rattle.crsm_shell.specs.declared.errors.TurnError.{TurnError}
 use Rattle.crsm_shell.specs.declared.errors.TurnError.TheVariants as errors
 use Rattle.crsm_shell.specs.declared.shell.Shell.{Shell}
-use Rattle.crsm_shell.specs.declared.turned.Turned.{Turned}
 use Rattle.crsm_node.specs.Errors.{turn_failure}
-use Rattle.crsm_node.specs.Received.{BothTell, Passes, datagram_in, received}
-use Rattle.crsm_node.specs.Steps.{FailsToReceive, FailsToTake, IsIdle, TakesOff, Took}
+use Rattle.crsm_node.specs.Received.{BothTell, Passes, datagram_in}
+use Rattle.crsm_node.specs.Steps.{FailsToReceive, FailsToTake, TakesOff, Took}
 use Rattle.crsm_node.proofs.Ports.{both_same, passes_none, raised_none}
 
 -- ---- what is told

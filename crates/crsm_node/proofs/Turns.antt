@@ -1,6 +1,6 @@
 -- Turns that stand behind others.
 use Rattle.std.proofs.Common.{◌≡◌, ℕ, suc, ◌+◌, List, [], ◌∷◌, ◌++◌, length, map, refl, sym, ◌∙◌, ap, arith, append_assoc, length-append}
-use Rattle.std.proofs.lemmas.List.{append-nil, map-append}
+use Rattle.std.proofs.lemmas.List.{append-nil}
 use Rattle.std.proofs.lemmas.Grind.{flat_map-append}
 use Rattle.std.specs.List.{flat_map}
 use Rattle.crsm_spec.specs.Draft.{Draft}
@@ -9,7 +9,6 @@ use Rattle.crsm_spec.specs.Replica.{Replica}
 use Rattle.crsm_lives.specs.Lives.{Group, kept_turns}
 use Rattle.crsm_detector.specs.Watching.{Watch, watched}
 use Rattle.crsm_detector.specs.Wished.{AreWished, Fulfils, empty_receive, empty_receives, replica_after, watch_after, wish_of}
-use Rattle.crsm_shell.specs.Shell.{group_body, records_of, sends_of}
 use Rattle.crsm_node.specs.Kept.{bodies_in_log, body_in_log}
 use Rattle.crsm_node.specs.Sent.{steps_by_group}
 

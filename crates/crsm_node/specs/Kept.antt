@@ -1,11 +1,10 @@
 -- What groups of turns leave on a disk.
-use Rattle.std.specs.Prelude.{◌≡◌, ◌⊎◌, ℕ, List, [], ◌∷◌, ◌++◌}
+use Rattle.std.specs.Prelude.{◌≡◌, ℕ, List, [], ◌∷◌, ◌++◌}
 use Rattle.std.specs.List.{flat_map}
 use Rattle.crsm_spec.specs.Draft.{Draft}
 use Rattle.crsm_spec.specs.Node.{Turn}
 use Rattle.crsm_spec.specs.Replica.{Replica}
 use Rattle.crsm_spec.specs.Lists.{IsPrefixOf}
-use Rattle.crsm_disk.specs.Meaning.{Meaning}
 use Rattle.crsm_log.specs.Format.{bodies_of, found, reading}
 use Rattle.crsm_shell.specs.Flushing.{IsFull}
 use Rattle.crsm_shell.specs.Shell.{group_body}

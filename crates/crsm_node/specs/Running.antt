@@ -3,11 +3,10 @@ use Rattle.std.specs.Prelude.{◌≡◌, ◌≢◌, ◌⊎◌, ℕ, ◌+◌, ◌
 use Rattle.crsm_base.specs.declared.limits.TheConstants.{MAX_LOG_BYTES}
 use Rattle.crsm_faults.specs.Counts.{Rose}
 use Rattle.crsm_spec.specs.Log.{Log}
-use Rattle.crsm_spec.specs.Node.{Turn}
 use Rattle.crsm_spec.specs.Replica.{Replica}
 use Rattle.crsm_spec.specs.Step.{boot}
 use Rattle.crsm_lives.specs.Groups.{AreGroups}
-use Rattle.crsm_lives.specs.Lives.{Group, Life, kept_turns}
+use Rattle.crsm_lives.specs.Lives.{Life, kept_turns}
 use Rattle.crsm_clock.specs.Readings.{Readings}
 use Rattle.crsm_io.specs.Streams.{Puts, PutsPrefix}
 use Rattle.crsm_sheet.specs.Sheets.{sheet_of, sheet_text}
@@ -18,7 +17,6 @@ use Rattle.crsm_log.specs.Format.{bodies_of, cluster_of, found, gate_in, reading
 use Rattle.crsm_log.specs.Log.{Goes}
 use Rattle.crsm_port.specs.Cluster.{clustered, over}
 use Rattle.crsm_port.specs.Meaning.{Coat, Meaning as PortMeaning}
-use Rattle.crsm_detector.specs.Detector.{DetectorStands}
 use Rattle.crsm_detector.specs.Watching.{unwatched}
 use Rattle.crsm_detector.specs.Wished.{replica_after}
 use Rattle.crsm_detector.specs.declared.detector.Detector.{Detector}

@@ -1,5 +1,5 @@
 -- What groups of turns hand out, and which of it goes out.
-use Rattle.std.specs.Prelude.{◌≡◌, ℕ, Bool, true, false, List, [], ◌∷◌, ◌++◌, length, IsSome, if◌then◌else◌}
+use Rattle.std.specs.Prelude.{◌≡◌, ℕ, Bool, List, [], ◌∷◌, length, IsSome, if◌then◌else◌}
 use Rattle.std.specs.List.{AllByRecursion, flat_map}
 use Rattle.crsm_base.specs.declared.send.Send.{Send}
 use Rattle.crsm_spec.specs.Draft.{Draft}

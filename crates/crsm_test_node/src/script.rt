@@ -66,17 +66,9 @@ fn read_order<'a, I: Iterator<Item = &'a str>>(
     let turns = number(word(words)?)?;
     let peers = numbers(alloc, word(words)?)?;
     let cluster = number(word(words)?)?;
-    let count = peers.len() as u64;
-    if me >= count || n == 0 || n > count || count > 15 {
-        return Err(Fault::Unreadable);
-    }
-    Ok(NodeOrder {
-        me: me as u32,
-        n: n as u32,
-        turns,
-        peers,
-        cluster,
-    })
+    let me = u32::try_from(me).map_err(|_| Fault::Unreadable)?;
+    let n = u32::try_from(n).map_err(|_| Fault::Unreadable)?;
+    NodeOrder::new(me, n, turns, peers, cluster).ok_or(Fault::Unreadable)
 }
 
 fn read_devices<'a, I: Iterator<Item = &'a str>>(

@@ -1,15 +1,14 @@
-use Rattle.std.proofs.Common.{◌≡◌, ◌∙◌, ℕ, List, Bool, true, false, Err, refl, sym, ap, subst}
+use Rattle.std.proofs.Common.{◌≡◌, ◌∙◌, Bool, true, false, Err, refl, sym, ap, subst}
 use Rattle.std.proofs.lemmas.Result.{err_from_is_err_and}
-use Rattle.std.specs.Prelude.{Option, Result}
+use Rattle.std.specs.Prelude.{Result}
 use Rattle.crsm_shell.specs.Shell.{ShellStands}
 use Rattle.crsm_shell.specs.Words.{disk_of, has_failed}
 use Rattle.crsm_shell.specs.declared.errors.TurnError.{TurnError}
 use Rattle.crsm_shell.specs.declared.errors.TurnError.TheVariants as errors
 use Rattle.crsm_shell.specs.declared.shell.Shell.{Shell}
-use Rattle.crsm_node.specs.Errors.{turn_failure}
 use Rattle.crsm_node.specs.Steps.{KeepsGroup}
 use Rattle.crsm_node.specs.declared.errors.NodeError.{NodeError}
-use Rattle.crsm_node.proofs.Keepings.{FlushFails, flush_fails}
+use Rattle.crsm_node.proofs.Keepings.{flush_fails}
 use Rattle.crsm_node.proofs.keep.keep_group.Goals as goal
 
 both : (b : Bool) → b ≡ true → b ≡ false → ⊥

@@ -1,4 +1,4 @@
-use Rattle.std.proofs.Common.{◌≡◌, ◌≤◌, length}
+use Rattle.std.proofs.Common.{◌≤◌}
 use Rattle.crsm_io.specs.Streams.{Puts}
 use Rattle.crsm_node.proofs.Openings.{entries_text}
 use Rattle.crsm_node.proofs.opening.write_opening.Given as goal

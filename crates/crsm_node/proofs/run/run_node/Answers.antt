@@ -1,7 +1,7 @@
-use Rattle.std.proofs.Common.{◌≡◌, ◌∙◌, ℕ, inl, refl, sym, ap, subst}
+use Rattle.std.proofs.Common.{◌≡◌, ◌∙◌, ℕ, inl, sym, ap, subst}
 use Rattle.std.specs.Borrow.{MutBor}
 use Rattle.std.specs.Prelude.{Option, Some}
-use Rattle.crsm_node.specs.Running.{Runs, RunsOverCluster, devices_of, unlent_disk, unlent_port}
+use Rattle.crsm_node.specs.Running.{RunsOverCluster, devices_of, unlent_disk, unlent_port}
 use Rattle.crsm_node.proofs.Clustered.{over_port}
 use Rattle.crsm_node.proofs.run.run_node.Goals as goal
 

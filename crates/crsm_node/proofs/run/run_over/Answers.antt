@@ -1,4 +1,4 @@
-use Rattle.std.proofs.Common.{◌≡◌, inl, inr, IsTrue, false, List, [], ◌++◌, ◌∙◌, ◌≤◌, refl, sym, ap, subst, arith}
+use Rattle.std.proofs.Common.{◌≡◌, inl, inr, IsTrue, false, List, [], ◌++◌, ◌∙◌, refl, sym, ap, subst, arith}
 use Rattle.std.specs.Prelude.{Option, Some, ℕ, Result, Err}
 use Rattle.crsm_log.specs.declared.errors.ClaimError.{ClaimError}
 use Rattle.std.specs.Borrow.{MutBor}
@@ -19,12 +19,12 @@ use Rattle.crsm_node.specs.Order.{peers_in}
 use Rattle.crsm_node.specs.Sent.{AreAddressed}
 use Rattle.crsm_node.specs.Serving.{Carries}
 use Rattle.crsm_log.specs.Claim.{Claims, IsClaimedOrBefore}
-use Rattle.crsm_node.specs.Errors.{boot_end, claim_end}
-use Rattle.crsm_node.specs.Running.{Devices, Runs, booted, devices_of, end_of, unlent_disk, unlent_port}
+use Rattle.crsm_node.specs.Errors.{boot_end}
+use Rattle.crsm_node.specs.Running.{Runs, booted, devices_of, end_of, unlent_disk, unlent_port}
 use Rattle.crsm_node.specs.Devices.{node_of}
 use Rattle.crsm_node.specs.declared.errors.NodeError.TheVariants as node_errors
 use Rattle.crsm_node.specs.declared.errors.NodeEnd.{NodeEnd}
-use Rattle.crsm_node.proofs.Starts.{StaysDown, boot_mine, boot_refused, claim_refused, claims_lent, run_lent}
+use Rattle.crsm_node.proofs.Starts.{boot_mine, boot_refused, claim_refused, claims_lent, run_lent}
 use Rattle.crsm_node.proofs.Lived.{life_ends, life_of, life_writes, lived_still, opening_memory, opening_prefix, runs_life}
 use Rattle.crsm_node.proofs.run.run_over.Goals as goal
 

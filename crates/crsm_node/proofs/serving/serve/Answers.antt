@@ -1,8 +1,8 @@
-use Rattle.std.proofs.Common.{◌≡◌, ◌≢◌, ◌⊎◌, ◌↔◌, ◌+◌, ◌-◌, ◌<◌, ◌≤◌, ◌++◌, ◌∷◌, [], ◌∙◌, inl, inr, ⊎_elim, IsTrue, ℕ, List, Bool, true, false, refl, sym, ap, subst, arith, length, Err, append_assoc}
+use Rattle.std.proofs.Common.{◌≡◌, ◌≢◌, ◌⊎◌, ◌↔◌, ◌+◌, ◌-◌, ◌<◌, ◌≤◌, ◌++◌, ◌∷◌, [], ◌∙◌, inl, inr, IsTrue, ℕ, List, Bool, true, false, refl, sym, ap, subst, arith, length, Err, append_assoc}
 use Rattle.std.proofs.lemmas.List.{append-nil}
 use Rattle.std.proofs.lemmas.Result.{err_from_is_err_and}
 use Rattle.std.specs.Prelude.{Result, Ok}
-use Rattle.crsm_disk.specs.Meaning.{Meaning as DiskMeaning, Only}
+use Rattle.crsm_disk.specs.Meaning.{Meaning as DiskMeaning}
 use Rattle.crsm_lives.specs.Groups.{IsDatagram}
 use Rattle.crsm_lives.specs.Lives.{kept_turns}
 use Rattle.crsm_log.specs.Format.{bodies_of, found}

@@ -1,4 +1,4 @@
-use Rattle.std.proofs.Common.{◌≡◌, ◌∷◌, [], ◌++◌, ◌∙◌, ℕ, List, Bool, true, false, IfErr, Err, refl, sym, ap, subst, inl, inr}
+use Rattle.std.proofs.Common.{◌≡◌, ◌++◌, ◌∙◌, ℕ, List, Bool, true, false, IfErr, Err, sym, ap, subst, inr}
 use Rattle.std.proofs.lemmas.Result.{err_from_is_err_and}
 use Rattle.std.specs.Prelude.{Option, Result}
 use Rattle.crsm_detector.specs.Detector.{DetectorStands}
@@ -6,14 +6,13 @@ use Rattle.crsm_detector.specs.Watching.{Watch, heard_at, watched}
 use Rattle.crsm_detector.specs.Wished.{chosen, with_turn}
 use Rattle.crsm_shell.specs.Shell.{ShellStands}
 use Rattle.crsm_shell.specs.Taking.{turn_of}
-use Rattle.crsm_shell.specs.Words.{buffer_of, disk_of, has_failed, peers_of}
+use Rattle.crsm_shell.specs.Words.{buffer_of, disk_of, has_failed}
 use Rattle.crsm_shell.specs.declared.shell.Shell.{Shell}
 use Rattle.crsm_shell.specs.declared.errors.TurnError.{TurnError}
 use Rattle.crsm_shell.specs.declared.errors.TurnError.TheVariants as errors
 use Rattle.crsm_shell.specs.declared.turned.Turned.{Turned}
-use Rattle.crsm_spec.specs.Node.{turn}
 use Rattle.crsm_node.specs.Errors.{turn_failure}
-use Rattle.crsm_node.specs.Steps.{FailsToTake, TakesTurn, turn_text}
+use Rattle.crsm_node.specs.Steps.{FailsToTake, turn_text}
 use Rattle.crsm_node.specs.declared.errors.NodeError.{NodeError}
 use Rattle.crsm_node.specs.declared.errors.NodeError.TheVariants as node_errors
 use Rattle.crsm_shell.specs.Errors.{is_lasting}
