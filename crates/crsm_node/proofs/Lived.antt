@@ -156,7 +156,8 @@ life_ends order life r w groups lost start now old new (Err errors.Failed) g l e
 abbrev pub life_of : NodeOrder → Log → List Group → List (Turn × ℕ) → Life
 life_of order log groups lost = record { me = order.me; found = log; groups = groups; lost = lost; ended = true }
 
--- a life behind a claim and a boot; the disk is m at first, n once it is claimed, o once the boot is kept, and p at the end
+-- a life behind a claim and a boot; the disk is m at first, n once it is claimed, o once the boot is kept, and p at the
+-- end
 pub runs_life : (order : NodeOrder) (log : Log) (groups : List Group) (lost : List (Turn × ℕ)) (m n o p : Meaning) (a b : PortMeaning) (before after : Option Readings) (had has : Option (List ℕ)) (faults more : ℕ)
     (result : Result (Unit {0}) NodeError) (end : NodeEnd) (bodies : List (List ℕ)) → LogsAreOne → n.honest ≡ m.honest → n.fill ≡ m.fill → m.faults ≤ n.faults → Goes n o →
     (IsTrue m.honest → Claims m n order.cluster) → (IsTrue m.honest → LeavesOnly m n (IsClaimedOrBefore m order.cluster)) → (IsTrue n.honest → reading n.seen ≡ found bodies) → AreKept order.me order.n [] bodies log →

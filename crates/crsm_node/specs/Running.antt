@@ -122,13 +122,14 @@ abbrev pub end_of : Result (Unit {0}) NodeError → NodeEnd
 end_of (Ok _) = ends.Done
 end_of (Err why) = serve_end why
 
--- what a crash leaves: what it might have left before, or the bodies that were found, with a prefix of the life's behind them
+-- what a crash leaves: what it might have left before, or the bodies that were found, with a prefix of the life's
+-- behind them
 abbrev pub IsLeftInLife : NodeOrder → Life → DiskMeaning → Result (Unit {0}) NodeError → List ℕ → Type 0
 IsLeftInLife order life old result file =
     ReadsAsBefore old file ⊎ IsLeftOf old.seen (boot_body order.me order.n life.found ∷ bodies_in_log (booted order life.found) (maybe_kept life.groups life.lost result)) file
 
--- What is on the disk: behind the bodies that were found the boot's, and then one for each group that has a record, each put
--- where the log was not full; and a crash at any moment leaves a prefix of these.
+-- What is on the disk: behind the bodies that were found the boot's, and then one for each group that has a record,
+-- each put where the log was not full; and a crash at any moment leaves a prefix of these.
 pub record KeepsLife (order : NodeOrder) (life : Life) (old new : DiskMeaning) (result : Result (Unit {0}) NodeError) : Type 0 where
   pub begun : List ℕ
   pub file : List ℕ

@@ -43,8 +43,8 @@ pub record Takes (r : Replica) (w : Watch) (turns : List (Turn × ℕ)) (before 
   pub wished : AreWished w r turns
   pub readings : GivesAll (readings_of turns) before after
 
--- The port gave the datagrams among these turns, and sent what went out of the groups. A turn that wanted to receive took
--- a tick only where a receive was empty, and no more is missing than the count of losses rose by.
+-- The port gave the datagrams among these turns, and sent what went out of the groups. A turn that wanted to receive
+-- took a tick only where a receive was empty, and no more is missing than the count of losses rose by.
 pub record Carries (peers : List ℕ) (r : Replica) (w : Watch) (turns : List (Turn × ℕ)) (groups : List Group) (old new : PortMeaning) : Type 0 where
   pub traffic : BothTell (Passes old.coat (datagrams_in turns) (packets_gone peers r groups)) old.traffic new.traffic
   pub empties : raised_by (empty_receives w r turns) old.empties ≤ new.empties
@@ -66,8 +66,8 @@ maybe_kept groups lost (Err DiskFault) = with_lost (turns_by_group groups) lost
 maybe_kept groups lost (Err _) = turns_by_group groups
 maybe_kept groups lost (Ok _) = turns_by_group groups
 
--- Where the disk is honest it has one body for each group that has a record, behind those that it had, each put where the
--- log was not full; and a crash at any moment leaves a prefix of these.
+-- Where the disk is honest it has one body for each group that has a record, behind those that it had, each put where
+-- the log was not full; and a crash at any moment leaves a prefix of these.
 pub record Keeps (r : Replica) (groups : List Group) (lost : List (Turn × ℕ)) (old new : DiskMeaning) (result : Result (Unit {0}) NodeError) : Type 0 where
   pub file : List ℕ
   pub put : PutInTurn (bodies_in_log r (turns_by_group groups)) old.seen file
@@ -100,8 +100,9 @@ Ends r w turns groups lost old new (Err LogFull) = Unit {0}
 Ends r w turns groups lost old new (Err Failed) = ⊥
 Ends r w turns groups lost old new (Err NoMemory) = Unit {0}
 
--- The groups that a node kept over at most so many turns, and the last turns, which it took and did not keep: it took them
--- off its port and clock as they were wanted, kept each group, and then sent what that hands out, and wrote its lines.
+-- The groups that a node kept over at most so many turns, and the last turns, which it took and did not keep: it took
+-- them off its port and clock as they were wanted, kept each group, and then sent what that hands out, and wrote its
+-- lines.
 pub record Serves (r : Replica) (w : Watch) (turns : ℕ) (old new : Node) (result : Result (Unit {0}) NodeError) : Type 0 where
   pub groups : List Group
   pub lost : List (Turn × ℕ)

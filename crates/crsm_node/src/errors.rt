@@ -77,8 +77,8 @@ pub enum NodeEnd {
     LogFull,
     /// The sheet cannot be written.
     WriteFault,
-    /// The body of this number is no list of records (0), its record of this kind does not fit, or no entry stands behind an
-    /// open gate behind so many bodies (10).
+    /// The body of this number is no list of records (0), its record of this kind does not fit, or no entry stands
+    /// behind an open gate behind so many bodies (10).
     BadLog { entry: u64, why: u32 },
     /// The log belongs to the cluster of this number.
     OtherCluster { found: u64 },

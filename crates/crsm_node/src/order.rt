@@ -24,9 +24,9 @@ pub struct NodeOrder {
 }
 
 impl NodeOrder {
-    /// Replica `me` of a cluster that began with `n`, where replica `k` has the address `peers[k]`, takes so many turns over
-    /// the log and the network of the cluster of this number; 0 stands for none. `None` comes where `n` is not from 1 to
-    /// 15, there are fewer than `n` or more than 15 addresses, or `me` has none.
+    /// Replica `me` of a cluster that began with `n`, where replica `k` has the address `peers[k]`, takes so many turns
+    /// over the log and the network of the cluster of this number; 0 stands for none. `None` comes where `n` is not
+    /// from 1 to 15, there are fewer than `n` or more than 15 addresses, or `me` has none.
     pub fn new(me: u32, n: u32, turns: u64, peers: Vec<u64>, cluster: u64) -> Option<NodeOrder>
         ensures value { IfSome result (λ order. (order.me ≡ me) × (order.n ≡ n) × (order.turns ≡ turns) × (order.peers ≡ peers) × (order.cluster ≡ cluster)) }
         ensures some { 1 ≤ n → n ≤ length peers.items → length peers.items ≤ 15 → me < length peers.items → IsSome result }

@@ -32,8 +32,8 @@ impl Pending {
         }
     }
 
-    /// One turn more, whose datagram is a prefix of the buffer. Its line is printed at once, so that once the turn is kept
-    /// no memory is needed any more.
+    /// One turn more, whose datagram is a prefix of the buffer. Its line is printed at once, so that once the turn is
+    /// kept no memory is needed any more.
     #[tactic(auto, unfolding(crsm_shell::specs::Taking::turn_of))]
     pub(crate) fn add(&mut self, turned: Turned, buffer: &[u8]) -> Result<(), NoMemory>
         requires { IsWithin (length buffer.now) turned.taken }

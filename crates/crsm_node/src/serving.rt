@@ -22,9 +22,9 @@ use std::alloc::Global;
 /// written. Nothing is to be pending, and the detector is that of the same replica.
 ///
 /// # Errors
-/// After `PortFault` and `WriteFault` the shell and the detector may serve on: all turns that were taken are kept. After
-/// the others the turns of the last group are lost, but for a `DiskFault`, which leaves all of them or none, and nothing
-/// of them was sent. `Failed` comes of a shell that had failed before, and nothing is done.
+/// After `PortFault` and `WriteFault` the shell and the detector may serve on: all turns that were taken are kept.
+/// After the others the turns of the last group are lost, but for a `DiskFault`, which leaves all of them or none, and
+/// nothing of them was sent. `Failed` comes of a shell that had failed before, and nothing is done.
 pub fn serve<C: Clock, P: Port, D: Disk, O: Sink>(
     alloc: Global,
     shell: &mut Shell<D>,

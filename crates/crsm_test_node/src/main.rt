@@ -1,9 +1,9 @@
 //! Runs nodes over devices in memory, one for each line of the standard input, and writes what comes of them.
 //!
-//! A line is `ME N TURNS PEERS CLUSTER READINGS DATAGRAMS PORT DISK SHEET FILE`: the addresses of the replicas, the readings
-//! of the clock, what comes to the port (each as ADDRESS:HEX), the calls of the port, of the disk and of the sheet that
-//! fail, and the bytes of the log file, or `same` for what a crash leaves of the one before. Parts of a word stand between
-//! commas, and `-` is none. Behind the status stand the sheet, what was sent, and the file.
+//! A line is `ME N TURNS PEERS CLUSTER READINGS DATAGRAMS PORT DISK SHEET FILE`: the addresses of the replicas, the
+//! readings of the clock, what comes to the port (each as ADDRESS:HEX), the calls of the port, of the disk and of the
+//! sheet that fail, and the bytes of the log file, or `same` for what a crash leaves of the one before. Parts of a word
+//! stand between commas, and `-` is none. Behind the status stand the sheet, what was sent, and the file.
 #![tactic(auto)]
 
 mod fault;
