@@ -54,8 +54,8 @@ log_files_agree n h most l few c d a b j k =
     let t = short_logs_are_spelt n w most s.last.reached (shown_short n (last_cluster n h) w s.last few) in
     let p = among_place (clusters n h) c a in
     let q = among_place (clusters n h) d b in
-    let u = s.before p.0 c p.1 in
-    let v = s.before q.0 d q.1 in
-    subst (λ x. IsPrefixOf x (executed (log_in d k)) ⊎ IsPrefixOf (executed (log_in d k)) x) (sym (list_is n c u.0 u.1 j))
-    (subst (λ x. IsPrefixOf (executed (log_at u.0 j)) x ⊎ IsPrefixOf x (executed (log_at u.0 j))) (sym (list_is n d v.0 v.1 k))
-    (lists_agree n w s.last.reached t.few t.messages j k (log_at u.0 j) (log_at v.0 k) (u.2 j) (v.2 k)))
+    let u = s.between p.0 p.0 c c (omega arith) p.1 p.1 in
+    let v = s.between q.0 q.0 d d (omega arith) q.1 q.1 in
+    subst (λ x. IsPrefixOf x (executed (log_in d k)) ⊎ IsPrefixOf (executed (log_in d k)) x) (sym (list_is n c u.next u.next_shown j))
+    (subst (λ x. IsPrefixOf (executed (log_at u.next j)) x ⊎ IsPrefixOf x (executed (log_at u.next j))) (sym (list_is n d v.next v.next_shown k))
+    (lists_agree n w s.last.reached t.few t.messages j k (log_at u.next j) (log_at v.next k) (u.goes_on j) (v.goes_on k)))

@@ -4,7 +4,6 @@ use Rattle.std.specs.Prelude.{nat_lt, Option, Some, None, slice_get}
 use Rattle.std.specs.Option.{option_map_or}
 use Rattle.std.proofs.lemmas.Bool.{lt-ltb, ne_eqb}
 use Rattle.crsm_spec.specs.Choice.{when◌then◌otherwise◌}
-use Rattle.crsm_spec.specs.Lists.{Among}
 use Rattle.crsm_spec.specs.Log.{Log}
 use Rattle.crsm_spec.specs.Replica.{Replica, fresh}
 use Rattle.crsm_spec.specs.Draft.{Draft, begun, keep}
@@ -14,16 +13,15 @@ use Rattle.crsm_spec.specs.Moments.{begun_at, with_room, start_at}
 use Rattle.crsm_log_facts.specs.Logs.{same}
 use Rattle.crsm_log_facts.proofs.Lists.{among_left}
 use Rattle.crsm_law_steps.specs.Laws.{LogsGoOn}
-use Rattle.crsm_law_steps.specs.Happenings.{IsReached}
 use Rattle.crsm_law_steps.specs.Happenings.Happens.{Starts, Stops}
-use Rattle.crsm_law_steps.specs.Happenings.IsReached.{next}
 use Rattle.crsm_law_steps.proofs.Moments.{moment_goes_on}
 use Rattle.crsm_law_epoch.proofs.LogWorlds.{all_held}
-use Rattle.crsm_law_histories.specs.Clusters.{Outgoing, outgoing_of, Process, Host, started}
+use Rattle.crsm_law_histories.specs.Clusters.{outgoing_of, Process, Host, started}
 use Rattle.crsm_law_histories.proofs.Lists.{got_set, got_other, set_length, below}
 use Rattle.crsm_law_histories.proofs.Pending.Pending.{nothing}
-use Rattle.crsm_law_histories.proofs.Shown.{Shown, Moved, stay}
+use Rattle.crsm_law_histories.proofs.Shown.{none_out, Shown, Moved, stay}
 use Rattle.crsm_law_histories.proofs.Shown.Shown.{absent, unstarted, of_down, of_up}
+use Rattle.crsm_law_histories.proofs.Witnesses.{IsWitnessed, then_by, quietly, reached_by}
 
 boot_silent : (k n : ℕ) (log : Log) → outgoing_of (boot k n log) ≡ []
 unfolding outgoing_of boot first_boot founding_boot boot_again keep begun fresh when◌then◌otherwise◌
@@ -55,22 +53,22 @@ unfolding start_at begun_at
 start_is w k m log e is =
     ap (λ v. (whole_step v k (boot k v.n (log_at v k))).after) (same_room w k (Site.Down log) e) ∙ ap (λ z. (whole_step w k (boot k w.n z)).after) (log_there w k log e) ∙ ap (λ z. (whole_step w k (boot k z log)).after) is
 
-pub start_down : (n m : ℕ) (w : World) (k : ℕ) (log : Log) → IsReached n w → m ≡ n → length w.sites ≤ 15 → slice_get w.sites k ≡ Some (Site.Down log) → Moved n w k (started k m log None)
+pub start_down : (n m : ℕ) (w : World) (k : ℕ) (log : Log) → IsWitnessed n w → m ≡ n → length w.sites ≤ 15 → slice_get w.sites k ≡ Some (Site.Down log) → Moved n w k (started k m log None)
 unfolding started start_at begun_at whole_step after_step
 start_down n m w k log g is few e =
     let x = boot k m log in
     let u = (whole_step w k x).after in
-    let here = start_is w k m log e ((all_held n w g).size ∙ sym is) in
+    let here = start_is w k m log e ((all_held n w (reached_by n w g)).size ∙ sym is) in
     let happens = Starts k (down_there w k log e) (inl (below w.sites k (Site.Down log) e)) in
     record {
       world = u;
-      reached = subst (IsReached n) here (next g happens);
+      reached = subst (IsWitnessed n) here (then_by g quietly happens tt);
       goes_on = subst (LogsGoOn w) here (moment_goes_on w (start_at w k) happens);
       few = (let l = set_length w.sites k (Site.Up x.replica) in omega (arith, l, few));
       later = λ from to d s. (s.0, among_left w.packets (map (packet_of k) x.sends) _ s.1);
       others = λ j ne. got_other w.sites k j (Site.Up x.replica) ne;
       there = subst (Shown n u k (started k m log None)) (sym (got_set w.sites k (Site.Down log) (Site.Up x.replica) e))
-          (of_up x.replica (record { replica = x.replica; pending = []; outbox = outgoing_of x }) nothing (λ j d a. absurd (subst (λ ps. Among ps (Outgoing.ToReplica j d)) (boot_silent k m log) a)));
+          (of_up x.replica (record { replica = x.replica; pending = []; outbox = outgoing_of x }) nothing (none_out n u k (outgoing_of x) (boot_silent k m log)));
     }
 
 founding_is : (k n : ℕ) → k < n → boot k n [] ≡ founding_boot k n
@@ -78,7 +76,7 @@ unfolding boot first_boot when◌then◌otherwise◌
 founding_is k n lt = ap (λ b. when b then founding_boot k n otherwise boot_again k n []) (lt-ltb k n lt)
 
 -- the first boot of a founder is its being up without steps
-pub start_founder : (n m : ℕ) (w : World) (k : ℕ) → IsReached n w → m ≡ n → length w.sites ≤ 15 → k < n → slice_get w.sites k ≡ Some (Site.Up (founding_boot k n).replica) → Moved n w k (started k m [] None)
+pub start_founder : (n m : ℕ) (w : World) (k : ℕ) → IsWitnessed n w → m ≡ n → length w.sites ≤ 15 → k < n → slice_get w.sites k ≡ Some (Site.Up (founding_boot k n).replica) → Moved n w k (started k m [] None)
 unfolding started
 start_founder n m w k g is few lt e =
     let x = boot k m [] in
@@ -91,18 +89,18 @@ start_founder n m w k g is few lt e =
       goes_on = λ j. same;
       others = λ j ne. refl;
       there = subst (Shown n w k (started k m [] None)) (ap (λ (y : Draft). Some (Site.Up y.replica)) same_boot ∙ sym e)
-          (of_up x.replica (record { replica = x.replica; pending = []; outbox = outgoing_of x }) nothing (λ j d a. absurd (subst (λ ps. Among ps (Outgoing.ToReplica j d)) (boot_silent k m []) a)));
+          (of_up x.replica (record { replica = x.replica; pending = []; outbox = outgoing_of x }) nothing (none_out n w k (outgoing_of x) (boot_silent k m [])));
     }
 
 -- ---- stops
 
-down_moved : (n : ℕ) (w : World) (k : ℕ) (r : Replica) (log : Log) → IsReached n w → length w.sites ≤ 15 → slice_get w.sites k ≡ Some (Site.Up r) → r.log ≡ log → Moved n w k (record { log = log; process = None })
+down_moved : (n : ℕ) (w : World) (k : ℕ) (r : Replica) (log : Log) → IsWitnessed n w → length w.sites ≤ 15 → slice_get w.sites k ≡ Some (Site.Up r) → r.log ≡ log → Moved n w k (record { log = log; process = None })
 unfolding down with_site
 down_moved n w k r log g few e is =
     let u = (down w k).after in
     record {
       world = u;
-      reached = next g (Stops k);
+      reached = then_by g quietly (Stops k) tt;
       goes_on = moment_goes_on w (down w k) (Stops k);
       few = (let l = set_length w.sites k (Site.Down (log_at w k)) in omega (arith, l, few));
       later = λ from to d s. s;
@@ -110,7 +108,7 @@ down_moved n w k r log g few e is =
       there = subst (Shown n u k (record { log = log; process = None })) (ap (λ z. Some (Site.Down z)) (sym (up_log w k r e ∙ is)) ∙ sym (got_set w.sites k (Site.Up r) (Site.Down (log_at w k)) e)) (of_down log);
     }
 
-pub stop_moved : (n : ℕ) (w : World) (k : ℕ) (p : Host) (s : Option Site) → slice_get w.sites k ≡ s → IsReached n w → length w.sites ≤ 15 → Shown n w k p s → Moved n w k (record p { process = None })
+pub stop_moved : (n : ℕ) (w : World) (k : ℕ) (p : Host) (s : Option Site) → slice_get w.sites k ≡ s → IsWitnessed n w → length w.sites ≤ 15 → Shown n w k p s → Moved n w k (record p { process = None })
 stop_moved n w k _ _ e g few absent = stay n w k (record { log = []; process = None }) g few (subst (Shown n w k (record { log = []; process = None })) (sym e) absent)
 stop_moved n w k _ _ e g few (unstarted lt) = stay n w k (record { log = []; process = None }) g few (subst (Shown n w k (record { log = []; process = None })) (sym e) (unstarted lt))
 stop_moved n w k _ _ e g few (of_down log) = stay n w k (record { log = log; process = None }) g few (subst (Shown n w k (record { log = log; process = None })) (sym e) (of_down log))

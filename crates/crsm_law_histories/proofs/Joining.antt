@@ -6,14 +6,13 @@ use Rattle.std.proofs.lemmas.Option.{none-some}
 use Rattle.crsm_spec.specs.World.{Site, World}
 use Rattle.crsm_spec.specs.Moments.{silent, with_room}
 use Rattle.crsm_law_steps.specs.Laws.{LogsGoOn}
-use Rattle.crsm_law_steps.specs.Happenings.{IsReached}
 use Rattle.crsm_law_steps.specs.Happenings.Happens.{Joins}
-use Rattle.crsm_law_steps.specs.Happenings.IsReached.{next}
 use Rattle.crsm_law_steps.proofs.Moments.{moment_goes_on, on_then}
 use Rattle.crsm_law_histories.specs.Clusters.{Host, Cluster, host_at}
 use Rattle.crsm_law_histories.proofs.Lists.{added, at_end}
 use Rattle.crsm_law_histories.proofs.Shown.{Shown, Shows, shown_later}
 use Rattle.crsm_law_histories.proofs.Shown.Shown.{absent, unstarted, of_down, of_up}
+use Rattle.crsm_law_histories.proofs.Witnesses.{IsWitnessed, then_by, quietly}
 
 room_full : (w : World) → with_room w (length w.sites) ≡ record w { sites = w.sites ++ Site.Down [] ∷ [] }
 unfolding with_room
@@ -25,26 +24,26 @@ none_shown n w u k _ _ e (unstarted lt) = absurd (none-some _ (sym e))
 none_shown n w u k _ _ e (of_down log) = absurd (none-some _ (sym e))
 none_shown n w u k _ _ e (of_up r x p o) = absurd (none-some _ (sym e))
 
+joins_on : (w : World) → length w.sites < 15 → LogsGoOn w (record w { sites = w.sites ++ Site.Down [] ∷ [] })
+unfolding silent
+joins_on w lt = subst (LogsGoOn w) (room_full w) (moment_goes_on w (silent w (with_room w (length w.sites))) (Joins lt))
+
 join_one : (n : ℕ) (c : Cluster) (w : World) → length w.sites < 15 → Shows n c w → Shows n c (record w { sites = w.sites ++ Site.Down [] ∷ [] })
 unfolding silent
 join_one n c w lt h =
     let u = record w { sites = w.sites ++ Site.Down [] ∷ [] } in
     let longer = length-append w.sites (Site.Down [] ∷ []) in
     record {
-      reached = subst (IsReached n) (room_full w) (next h.reached (Joins lt));
+      reached = subst (IsWitnessed n) (room_full w) (then_by h.reached quietly (Joins lt) tt);
       size = h.size;
       few = omega (arith, longer, lt);
       wide = h.wide;
       all = λ k. elim (added w.sites (Site.Down []) k) [
-        | inl e ↦ subst (Shown n u k (host_at c k)) (sym e) (shown_later n w u k (host_at c k) (slice_get w.sites k) (λ from to d s. s) (h.all k))
+        | inl e ↦ subst (Shown n u k (host_at c k)) (sym e) (shown_later n w u k (host_at c k) (slice_get w.sites k) (λ from to d s. s) (joins_on w lt) (h.all k))
         | inr t ↦ subst (Shown n u k (host_at c k)) (sym t.1) (none_shown n w u k (host_at c k) (slice_get w.sites k) t.0 (h.all k))
       ];
       sent = h.sent;
     }
-
-joins_on : (w : World) → length w.sites < 15 → LogsGoOn w (record w { sites = w.sites ++ Site.Down [] ∷ [] })
-unfolding silent
-joins_on w lt = subst (LogsGoOn w) (room_full w) (moment_goes_on w (silent w (with_room w (length w.sites))) (Joins lt))
 
 -- a world in which number k has a site
 pub record Joined (n : ℕ) (c : Cluster) (w : World) (k : ℕ) : Type 0 where

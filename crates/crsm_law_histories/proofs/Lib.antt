@@ -1,4 +1,6 @@
 pub mod Lists
+pub mod Replies
+pub mod Witnesses
 pub mod Pending
 pub mod Same
 pub mod Came

@@ -8,18 +8,18 @@ use Rattle.std.proofs.lemmas.Option.{none-some, same_Some}
 use Rattle.crsm_spec.specs.Types.{Datagram}
 use Rattle.crsm_spec.specs.Lists.{Among, first_of, numbers_below}
 use Rattle.crsm_spec.specs.Replica.{Replica}
+use Rattle.crsm_spec.specs.Draft.{Reply}
 use Rattle.crsm_spec.specs.Step.{founding_boot}
 use Rattle.crsm_spec.specs.World.{Site, World, begin, log_of, log_at}
 use Rattle.crsm_log_facts.specs.Logs.{same}
 use Rattle.crsm_log_facts.proofs.Lists.{among_either}
 use Rattle.crsm_law_steps.specs.Laws.{LogsGoOn}
 use Rattle.crsm_law_steps.specs.Happenings.{WasSent}
-use Rattle.crsm_law_steps.specs.Happenings.IsReached.{first}
 use Rattle.crsm_law_steps.proofs.Moments.{on_then}
-use Rattle.crsm_law_histories.specs.Clusters.{Event, Process, Host, Cluster, log_in, empty_host, host_at, with_host, started, while_up, with_process, posted, sent_of, next_out, after, unborn}
+use Rattle.crsm_law_histories.specs.Clusters.{Event, Outgoing, Process, Host, Cluster, log_in, empty_host, host_at, with_host, started, while_up, with_process, posted, sent_of, next_out, after, unborn}
 use Rattle.crsm_law_histories.specs.Histories.{last_from, last_cluster, clusters_from, clusters}
 use Rattle.crsm_law_histories.specs.Lawful.{MayHappen, IsLawfulFrom}
-use Rattle.crsm_law_histories.specs.Showing.{IsShownBy}
+use Rattle.crsm_law_histories.specs.Showing.{IsShownBy, AreShownBy}
 use Rattle.crsm_law_histories.specs.Laws.{HistoriesAreShown}
 use Rattle.crsm_law_histories.proofs.Lists.{below, set_none, none_above, got_range, none_in_range, range_length}
 use Rattle.crsm_law_histories.proofs.Pending.{Pending}
@@ -28,6 +28,8 @@ use Rattle.crsm_law_histories.proofs.Shown.Shown.{absent, unstarted, of_down, of
 use Rattle.crsm_law_histories.proofs.Joining.{join_to}
 use Rattle.crsm_law_histories.proofs.Booting.{start_down, start_founder, started_still, stop_moved}
 use Rattle.crsm_law_histories.proofs.Turning.{keep_moved, take_moved, post_moved, out_sent}
+use Rattle.crsm_law_histories.specs.Told.{IsTold}
+use Rattle.crsm_law_histories.proofs.Witnesses.{first_witnessed, reached_by}
 
 -- ---- every event
 
@@ -62,7 +64,7 @@ module _ (n : ℕ) (c : Cluster) (w : World) (h : Shows n c w) (k : ℕ) where
       let m = stay n w k (started k c.n r.log (Some x)) h.reached h.few (subst (Shown n w k (started k c.n r.log (Some x))) (sym e) (running_still r x p o)) in
       record { world = m.world; shows = moved n c w k (started k c.n r.log (Some x)) q there h m; goes_on = m.goes_on }
     where
-      running_still : (r : Replica) (x : Process) → Pending w k r x.pending x.replica → Out w k x.outbox → Shown n w k (started k c.n r.log (Some x)) (Some (Site.Up r))
+      running_still : (r : Replica) (x : Process) → Pending w k r x.pending x.replica → Out n w k x.outbox → Shown n w k (started k c.n r.log (Some x)) (Some (Site.Up r))
       running_still r x p o = subst (λ z. Shown n w k z (Some (Site.Up r))) (sym (started_still k c.n r.log x)) (of_up r x p o)
 
   boots : Next n w (with_host c k (started k c.n (host_at c k).log (host_at c k).process))
@@ -129,7 +131,7 @@ empty_is = refl
 unborn_shown : (n : ℕ) → n ≤ 15 → Shows n (unborn n) (begin n)
 unfolding unborn begin host_at numbers_below
 unborn_shown n most = record {
-  reached = first;
+  reached = first_witnessed n;
   size = refl;
   few = (let l = range_length (λ k. Site.Up (founding_boot k n).replica) 0 n in omega (arith, l, most));
   wide = (let l = range_length (λ (k : ℕ). empty_host) 0 15 in omega (arith, l));
@@ -150,34 +152,63 @@ log_shown n w k _ _ (unstarted lt) = inr (lt, refl, refl)
 log_shown n w k _ _ (of_down log) = inl refl
 log_shown n w k _ _ (of_up r x p o) = inl refl
 
+-- what waits to go out to clients was told
+told_there : (n : ℕ) (w : World) (k : ℕ) (p : Host) (s : Option Site) → Shown n w k p s → (x : Process) (a : Reply) → p.process ≡ Some x → Among x.outbox (Outgoing.ToClient a) → IsTold n w a
+told_there n w k _ _ absent x a is m = absurd (none-some x is)
+told_there n w k _ _ (unstarted lt) x a is m = absurd (none-some x is)
+told_there n w k _ _ (of_down log) x a is m = absurd (none-some x is)
+told_there n w k _ _ (of_up r y p o) x a is m = o.told a (subst (λ (z : Process). Among z.outbox (Outgoing.ToClient a)) (sym (same_Some y x is)) m)
+
 shown_by : (n : ℕ) (c : Cluster) (w : World) → Shows n c w → IsShownBy n c w
 unfolding log_in log_at
-shown_by n c w h = record { reached = h.reached; logs = λ k. log_shown n w k (host_at c k) (slice_get w.sites k) (h.all k); sent = h.sent }
+shown_by n c w h = record {
+  size = h.size;
+  reached = reached_by n w h.reached;
+  logs = λ k. log_shown n w k (host_at c k) (slice_get w.sites k) (h.all k);
+  sent = h.sent;
+  told = λ k x a is m. told_there n w k (host_at c k) (slice_get w.sites k) (h.all k) x a is m;
+}
 
 -- what follows a cluster that a world shows
 record Followed (n : ℕ) (c : Cluster) (w : World) (h : List Event) : Type 0 where
   end : World
   last : IsShownBy n (last_from c h) end
   goes_on : LogsGoOn w end
-  before : (i : ℕ) (b : Cluster) → slice_get (clusters_from c h) i ≡ Some b → (v : World) × IsShownBy n b v × LogsGoOn v end
+  each : (i : ℕ) (b : Cluster) → slice_get (clusters_from c h) i ≡ Some b → (v : World) × IsShownBy n b v × LogsGoOn w v × LogsGoOn v end
+  between : (i j : ℕ) (b d : Cluster) → i ≤ j → slice_get (clusters_from c h) i ≡ Some b → slice_get (clusters_from c h) j ≡ Some d → AreShownBy n b d end
 
 shown_from : (n : ℕ) (c : Cluster) (w : World) (h : List Event) → IsLawfulFrom c h → Shows n c w → Followed n c w h
 unfolding last_from clusters_from
-shown_from n c w [] l g = record { end = w; last = shown_by n c w g; goes_on = λ j. same; before = at }
+shown_from n c w [] l g = record { end = w; last = shown_by n c w g; goes_on = λ j. same; each = at; between = both }
   where
-    at : (i : ℕ) (b : Cluster) → slice_get (c ∷ []) i ≡ Some b → (v : World) × IsShownBy n b v × LogsGoOn v w
-    at zero b e = (w, subst (λ z. IsShownBy n z w) (same_Some c b e) (shown_by n c w g), λ j. same)
+    at : (i : ℕ) (b : Cluster) → slice_get (c ∷ []) i ≡ Some b → (v : World) × IsShownBy n b v × LogsGoOn w v × LogsGoOn v w
+    at zero b e = (w, subst (λ z. IsShownBy n z w) (same_Some c b e) (shown_by n c w g), λ j. same, λ j. same)
     at (suc i) b e = absurd (none-some b e)
+
+    both : (i j : ℕ) (b d : Cluster) → i ≤ j → slice_get (c ∷ []) i ≡ Some b → slice_get (c ∷ []) j ≡ Some d → AreShownBy n b d w
+    both i j b d le p q = record { world = w; shown = shown_is i b p; next = w; next_shown = shown_is j d q; later = λ j. same; goes_on = λ j. same }
+      where
+        shown_is : (i : ℕ) (b : Cluster) → slice_get (c ∷ []) i ≡ Some b → IsShownBy n b w
+        shown_is zero b e = subst (λ z. IsShownBy n z w) (same_Some c b e) (shown_by n c w g)
+        shown_is (suc i) b e = absurd (none-some b e)
 shown_from n c w (e ∷ h) l g =
     let m = happens n c w e l.0 g in
     let f = shown_from n (after c e) m.world h l.1 m.shows in
-    record { end = f.end; last = f.last; goes_on = on_then w m.world f.end m.goes_on f.goes_on; before = at m f }
+    record { end = f.end; last = f.last; goes_on = on_then w m.world f.end m.goes_on f.goes_on; each = at m f; between = both m f }
   where
-    at : (m : Next n w (after c e)) (f : Followed n (after c e) m.world h) (i : ℕ) (b : Cluster) → slice_get (c ∷ clusters_from (after c e) h) i ≡ Some b → (v : World) × IsShownBy n b v × LogsGoOn v f.end
-    at m f zero b q = (w, subst (λ z. IsShownBy n z w) (same_Some c b q) (shown_by n c w g), on_then w m.world f.end m.goes_on f.goes_on)
-    at m f (suc i) b q = f.before i b q
+    here : (b : Cluster) → c ≡ b → IsShownBy n b w
+    here b q = subst (λ z. IsShownBy n z w) q (shown_by n c w g)
+
+    at : (m : Next n w (after c e)) (f : Followed n (after c e) m.world h) (i : ℕ) (b : Cluster) → slice_get (c ∷ clusters_from (after c e) h) i ≡ Some b → (v : World) × IsShownBy n b v × LogsGoOn w v × LogsGoOn v f.end
+    at m f zero b q = (w, here b (same_Some c b q), λ j. same, on_then w m.world f.end m.goes_on f.goes_on)
+    at m f (suc i) b q = let t = f.each i b q in (t.0, t.1, on_then w m.world t.0 m.goes_on t.2, t.3)
+
+    both : (m : Next n w (after c e)) (f : Followed n (after c e) m.world h) (i j : ℕ) (b d : Cluster) → i ≤ j → slice_get (c ∷ clusters_from (after c e) h) i ≡ Some b → slice_get (c ∷ clusters_from (after c e) h) j ≡ Some d → AreShownBy n b d f.end
+    both m f zero j b d le p q = let t = at m f j d q in record { world = w; shown = here b (same_Some c b p); next = t.0; next_shown = t.1; later = t.2; goes_on = t.3 }
+    both m f (suc i) zero b d le p q = absurd (omega (arith, le))
+    both m f (suc i) (suc j) b d le p q = f.between i j b d (omega (arith, le)) p q
 
 pub histories_are_shown : HistoriesAreShown
 unfolding last_cluster clusters
 histories_are_shown n h most l =
-    let f = shown_from n (unborn n) (begin n) h l (unborn_shown n most) in record { end = f.end; last = f.last; before = f.before }
+    let f = shown_from n (unborn n) (begin n) h l (unborn_shown n most) in record { end = f.end; last = f.last; between = f.between }

@@ -7,38 +7,49 @@ use Rattle.crsm_spec.specs.Types.{Datagram}
 use Rattle.crsm_spec.specs.Lists.{Among}
 use Rattle.crsm_spec.specs.Log.{Log}
 use Rattle.crsm_spec.specs.Replica.{Replica}
+use Rattle.crsm_spec.specs.Draft.{Reply}
 use Rattle.crsm_spec.specs.Step.{founding_boot}
 use Rattle.crsm_spec.specs.World.{Site, World}
 use Rattle.crsm_log_facts.specs.Logs.{same}
 use Rattle.crsm_law_steps.specs.Laws.{LogsGoOn}
-use Rattle.crsm_law_steps.specs.Happenings.{WasSent, IsReached}
+use Rattle.crsm_law_steps.specs.Happenings.{WasSent}
 use Rattle.crsm_law_histories.specs.Clusters.{Outgoing, Process, Host, Cluster, empty_host, host_at, with_host}
 use Rattle.crsm_law_histories.proofs.Lists.{got_set, got_other, set_length}
 use Rattle.crsm_law_histories.proofs.Pending.{Pending, Later, pending_later}
 use Rattle.crsm_law_histories.proofs.Came.{ShowsSent}
+use Rattle.crsm_law_histories.specs.Told.{IsTold}
+use Rattle.crsm_law_histories.proofs.Witnesses.{IsWitnessed, told_later}
 
-abbrev pub Out : World → ℕ → List Outgoing → Type 0
-Out w k ps = (j : ℕ) (d : Datagram) → Among ps (Outgoing.ToReplica j d) → WasSent w k j d
+-- what waits to go out was sent or told in the world
+pub record Out (n : ℕ) (w : World) (k : ℕ) (ps : List Outgoing) : Type 0 where
+  pub sent : (j : ℕ) (d : Datagram) → Among ps (Outgoing.ToReplica j d) → WasSent w k j d
+  pub told : (a : Reply) → Among ps (Outgoing.ToClient a) → IsTold n w a
+
+pub none_out : (n : ℕ) (w : World) (k : ℕ) (ps : List Outgoing) → ps ≡ [] → Out n w k ps
+none_out n w k ps e = record {
+  sent = λ j d a. absurd (subst (λ qs. Among qs (Outgoing.ToReplica j d)) e a);
+  told = λ b a. absurd (subst (λ qs. Among qs (Outgoing.ToClient b)) e a);
+}
 
 pub data Shown (n : ℕ) (w : World) (k : ℕ) : Host → Option Site → Type 0 where
   absent : Shown n w k (record { log = []; process = None }) None
   unstarted : k < n → Shown n w k (record { log = []; process = None }) (Some (Site.Up (founding_boot k n).replica))
   of_down : (log : Log) → Shown n w k (record { log = log; process = None }) (Some (Site.Down log))
-  of_up : (r : Replica) (x : Process) → Pending w k r x.pending x.replica → Out w k x.outbox → Shown n w k (record { log = r.log; process = Some x }) (Some (Site.Up r))
+  of_up : (r : Replica) (x : Process) → Pending w k r x.pending x.replica → Out n w k x.outbox → Shown n w k (record { log = r.log; process = Some x }) (Some (Site.Up r))
 
 pub record Shows (n : ℕ) (c : Cluster) (w : World) : Type 0 where
-  pub reached : IsReached n w
+  pub reached : IsWitnessed n w
   pub size : c.n ≡ n
   pub few : length w.sites ≤ 15
   pub wide : length c.hosts ≤ 15
   pub all : (k : ℕ) → Shown n w k (host_at c k) (slice_get w.sites k)
   pub sent : ShowsSent c w
 
-pub shown_later : (n : ℕ) (w u : World) (k : ℕ) (p : Host) (s : Option Site) → Later w u → Shown n w k p s → Shown n u k p s
-shown_later n w u k _ _ l absent = absent
-shown_later n w u k _ _ l (unstarted lt) = unstarted lt
-shown_later n w u k _ _ l (of_down log) = of_down log
-shown_later n w u k _ _ l (of_up r x p o) = of_up r x (pending_later w u k r x.replica x.pending l p) (λ j d a. l k j d (o j d a))
+pub shown_later : (n : ℕ) (w u : World) (k : ℕ) (p : Host) (s : Option Site) → Later w u → LogsGoOn w u → Shown n w k p s → Shown n u k p s
+shown_later n w u k _ _ l on absent = absent
+shown_later n w u k _ _ l on (unstarted lt) = unstarted lt
+shown_later n w u k _ _ l on (of_down log) = of_down log
+shown_later n w u k _ _ l on (of_up r x p o) = of_up r x (pending_later w u k r x.replica x.pending l p) (record { sent = λ j d a. l k j d (o.sent j d a); told = λ b a. told_later n w u b on (o.told b a) })
 
 -- ---- hosts of a cluster
 
@@ -53,7 +64,7 @@ host_other c k j p ne = ap (λ o. option_map_or (λ z. z) o empty_host) (got_oth
 -- the world of a cluster of which one place is changed, where it shows that place and what it showed before elsewhere
 pub record Moved (n : ℕ) (w : World) (k : ℕ) (p : Host) : Type 0 where
   pub world : World
-  pub reached : IsReached n world
+  pub reached : IsWitnessed n world
   pub few : length world.sites ≤ 15
   pub later : Later w world
   pub goes_on : LogsGoOn w world
@@ -69,10 +80,10 @@ moved n c w k p q e h m = record {
   wide = (let l = set_length c.hosts k p in let t = h.wide in omega (arith, l, t));
   all = λ j. elim (cases_eq j k) [
     | inl is ↦ subst (λ i. Shown n m.world i (host_at (with_host c k p) i) (slice_get m.world.sites i)) (sym is) (subst (λ z. Shown n m.world k z (slice_get m.world.sites k)) (sym (host_is c k p q e)) m.there)
-    | inr ne ↦ subst (λ z. Shown n m.world j z (slice_get m.world.sites j)) (sym (host_other c k j p ne)) (subst (Shown n m.world j (host_at c j)) (sym (m.others j ne)) (shown_later n w m.world j (host_at c j) (slice_get w.sites j) m.later (h.all j)))
+    | inr ne ↦ subst (λ z. Shown n m.world j z (slice_get m.world.sites j)) (sym (host_other c k j p ne)) (subst (Shown n m.world j (host_at c j)) (sym (m.others j ne)) (shown_later n w m.world j (host_at c j) (slice_get w.sites j) m.later m.goes_on (h.all j)))
   ];
   sent = λ j d a. let s = h.sent j d a in (s.0, m.later s.0 j d s.1);
 }
 
-pub stay : (n : ℕ) (w : World) (k : ℕ) (p : Host) → IsReached n w → length w.sites ≤ 15 → Shown n w k p (slice_get w.sites k) → Moved n w k p
+pub stay : (n : ℕ) (w : World) (k : ℕ) (p : Host) → IsWitnessed n w → length w.sites ≤ 15 → Shown n w k p (slice_get w.sites k) → Moved n w k p
 stay n w k p g few h = record { world = w; reached = g; few = few; later = λ from to d s. s; goes_on = λ j. same; others = λ j ne. refl; there = h }

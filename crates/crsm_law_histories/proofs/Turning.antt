@@ -15,7 +15,7 @@ use Rattle.crsm_spec.specs.Node.{Turn, turn, input_of}
 use Rattle.crsm_spec.specs.Step.{Input, step}
 use Rattle.crsm_spec.specs.World.{Site, World}
 use Rattle.crsm_log_facts.proofs.Lists.{among_either}
-use Rattle.crsm_law_steps.specs.Happenings.{WasSent, IsReached}
+use Rattle.crsm_law_steps.specs.Happenings.{WasSent}
 use Rattle.crsm_law_steps.specs.Happenings.CanCome.{IsTick, IsSuspicion}
 use Rattle.crsm_law_epoch.proofs.LogWorlds.{all_held}
 use Rattle.crsm_law_histories.specs.Clusters.{Outgoing, outgoing_of, Process, Host, Cluster, while_up, kept, with_process, with_turn, posted, sent_of}
@@ -25,10 +25,11 @@ use Rattle.crsm_law_histories.proofs.Pending.Pending.{nothing, one_more}
 use Rattle.crsm_law_histories.proofs.Came.{ShowsSent, comes_as}
 use Rattle.crsm_law_histories.proofs.Shown.{Out, Shown, Moved, stay}
 use Rattle.crsm_law_histories.proofs.Shown.Shown.{absent, unstarted, of_down, of_up}
+use Rattle.crsm_law_histories.proofs.Witnesses.{IsWitnessed, reached_by, told_later}
 
 -- ---- a group is kept
 
-pub keep_moved : (n : ℕ) (w : World) (k : ℕ) (p : Host) (s : Option Site) → slice_get w.sites k ≡ s → IsReached n w → length w.sites ≤ 15 → Shown n w k p s → Moved n w k (while_up p (kept p))
+pub keep_moved : (n : ℕ) (w : World) (k : ℕ) (p : Host) (s : Option Site) → slice_get w.sites k ≡ s → IsWitnessed n w → length w.sites ≤ 15 → Shown n w k p s → Moved n w k (while_up p (kept p))
 unfolding while_up kept
 keep_moved n w k _ _ e g few absent = stay n w k (record { log = []; process = None }) g few (subst (Shown n w k (record { log = []; process = None })) (sym e) absent)
 keep_moved n w k _ _ e g few (unstarted lt) = stay n w k (record { log = []; process = None }) g few (subst (Shown n w k (record { log = []; process = None })) (sym e) (unstarted lt))
@@ -42,10 +43,10 @@ keep_moved n w k _ _ e g few (of_up r x p o) =
       later = v.later;
       goes_on = v.goes_on;
       others = v.others;
-      there = subst (Shown n v.world k _) (sym v.up) (of_up x.replica (record x { pending = []; outbox = x.outbox ++ x.pending }) nothing (λ j d a. elim (among_either x.outbox x.pending (Outgoing.ToReplica j d) a) [
-        | inl b ↦ v.later k j d (o j d b)
-        | inr b ↦ v.out j d b
-      ]));
+      there = subst (Shown n v.world k _) (sym v.up) (of_up x.replica (record x { pending = []; outbox = x.outbox ++ x.pending }) nothing (record {
+        sent = λ j d a. elim (among_either x.outbox x.pending (Outgoing.ToReplica j d) a) [ inl b ↦ v.later k j d (o.sent j d b) | inr b ↦ v.out j d b ];
+        told = λ y a. elim (among_either x.outbox x.pending (Outgoing.ToClient y) a) [ inl b ↦ told_later n w v.world y v.goes_on (o.told y b) | inr b ↦ v.told y b ];
+      }));
     }
 
 -- ---- turns
@@ -55,10 +56,10 @@ are_bytes [] h i = omega arith
 are_bytes (b ∷ bytes) h zero = h.0
 are_bytes (b ∷ bytes) h (suc i) = are_bytes bytes h.1 i
 
-module _ (n : ℕ) (c : Cluster) (w : World) (k : ℕ) (g : IsReached n w) (shows : ShowsSent c w) (r : Replica) (e : slice_get w.sites k ≡ Some (Site.Up r)) (x : Process) (p : Pending w k r x.pending x.replica)
+module _ (n : ℕ) (c : Cluster) (w : World) (k : ℕ) (g : IsWitnessed n w) (shows : ShowsSent c w) (r : Replica) (e : slice_get w.sites k ≡ Some (Site.Up r)) (x : Process) (p : Pending w k r x.pending x.replica)
     (reading : ℕ) (lt : reading < 2 ^ 64) where
   number : x.replica.me ≡ k
-  number = let v = keep_all n w k r x.replica x.pending g e p in ((all_held n v.world v.reached).sites k (Site.Up x.replica) v.up).number
+  number = let v = keep_all n w k r x.replica x.pending g e p in ((all_held n v.world (reached_by n v.world v.reached)).sites k (Site.Up x.replica) v.up).number
 
   abbrev Goes : Draft → Type 0
   Goes y = Pending w k r (x.pending ++ outgoing_of y) y.replica
@@ -79,11 +80,11 @@ module _ (n : ℕ) (c : Cluster) (w : World) (k : ℕ) (g : IsReached n w) (show
   turned Turn.Tick can = one_more p Input.Ticked reading lt IsTick
   turned (Turn.Suspect ms) can = one_more p (Input.Suspected ms) reading lt (IsSuspicion ms can)
 
-  turn_out : (t : Turn) → Out w k x.outbox → Out w k (with_turn t reading x).outbox
+  turn_out : (t : Turn) → Out n w k x.outbox → Out n w k (with_turn t reading x).outbox
   unfolding with_turn
   turn_out t o = o
 
-pub take_moved : (n : ℕ) (c : Cluster) (w : World) (k : ℕ) (p : Host) (s : Option Site) (t : Turn) (reading : ℕ) → slice_get w.sites k ≡ s → IsReached n w → length w.sites ≤ 15 → ShowsSent c w → reading < 2 ^ 64 → CanTake c k t →
+pub take_moved : (n : ℕ) (c : Cluster) (w : World) (k : ℕ) (p : Host) (s : Option Site) (t : Turn) (reading : ℕ) → slice_get w.sites k ≡ s → IsWitnessed n w → length w.sites ≤ 15 → ShowsSent c w → reading < 2 ^ 64 → CanTake c k t →
     Shown n w k p s → Moved n w k (while_up p (λ x. with_process p (with_turn t reading x)))
 unfolding while_up with_process
 take_moved n c w k _ _ t reading e g few shows lt can absent = stay n w k (record { log = []; process = None }) g few (subst (Shown n w k (record { log = []; process = None })) (sym e) absent)
@@ -99,13 +100,13 @@ among_dropped : (ps : List Outgoing) (y : Outgoing) → Among (drop 1 ps) y → 
 among_dropped [] y a = a
 among_dropped (q ∷ ps) y a = inr a
 
-pub post_moved : (n : ℕ) (w : World) (k : ℕ) (p : Host) (s : Option Site) → slice_get w.sites k ≡ s → IsReached n w → length w.sites ≤ 15 → Shown n w k p s → Moved n w k (while_up p (λ x. with_process p (posted x)))
+pub post_moved : (n : ℕ) (w : World) (k : ℕ) (p : Host) (s : Option Site) → slice_get w.sites k ≡ s → IsWitnessed n w → length w.sites ≤ 15 → Shown n w k p s → Moved n w k (while_up p (λ x. with_process p (posted x)))
 unfolding while_up with_process posted
 post_moved n w k _ _ e g few absent = stay n w k (record { log = []; process = None }) g few (subst (Shown n w k (record { log = []; process = None })) (sym e) absent)
 post_moved n w k _ _ e g few (unstarted f) = stay n w k (record { log = []; process = None }) g few (subst (Shown n w k (record { log = []; process = None })) (sym e) (unstarted f))
 post_moved n w k _ _ e g few (of_down log) = stay n w k (record { log = log; process = None }) g few (subst (Shown n w k (record { log = log; process = None })) (sym e) (of_down log))
 post_moved n w k _ _ e g few (of_up r x p o) =
-    stay n w k _ g few (subst (Shown n w k (record { log = r.log; process = Some (posted x) })) (sym e) (of_up r (posted x) p (λ j d a. o j d (among_dropped x.outbox (Outgoing.ToReplica j d) a))))
+    stay n w k _ g few (subst (Shown n w k (record { log = r.log; process = Some (posted x) })) (sym e) (of_up r (posted x) p (record { sent = λ j d a. o.sent j d (among_dropped x.outbox (Outgoing.ToReplica j d) a); told = λ y a. o.told y (among_dropped x.outbox (Outgoing.ToClient y) a) })))
 
 -- what goes out next had been sent in the world
 pub out_sent : (n : ℕ) (w : World) (k : ℕ) (p : Host) (s : Option Site) → Shown n w k p s → (j : ℕ) (d : Datagram) → Among (sent_of (option_map_or (λ (x : Process). first_of x.outbox) p.process None)) (j, d) → WasSent w k j d
@@ -115,10 +116,10 @@ out_sent n w k _ _ (unstarted f) j d a = absurd a
 out_sent n w k _ _ (of_down log) j d a = absurd a
 out_sent n w k _ _ (of_up r x p o) j d a = go x.outbox o a
   where
-    go : (ps : List Outgoing) → Out w k ps → Among (sent_of (first_of ps)) (j, d) → WasSent w k j d
+    go : (ps : List Outgoing) → Out n w k ps → Among (sent_of (first_of ps)) (j, d) → WasSent w k j d
     go [] h b = absurd b
     go (Outgoing.ToClient y ∷ ps) h b = absurd b
-    go (Outgoing.ToReplica i y ∷ ps) h (inl q) = h j d (inl (same_outgoing i y q))
+    go (Outgoing.ToReplica i y ∷ ps) h (inl q) = h.sent j d (inl (same_outgoing i y q))
       where
         same_outgoing : (i : ℕ) (y : Datagram) → ◌≡◌ {A = ℕ × Datagram} (i, y) (j, d) → Outgoing.ToReplica i y ≡ Outgoing.ToReplica j d
         same_outgoing i y q = ap (λ (z : ℕ × Datagram). Outgoing.ToReplica z.0 z.1) q

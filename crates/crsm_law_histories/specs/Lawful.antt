@@ -8,8 +8,8 @@ use Rattle.crsm_spec.specs.Lists.{Among}
 use Rattle.crsm_spec.specs.Node.{Turn}
 use Rattle.crsm_law_histories.specs.Clusters.{Event, Cluster, after, unborn}
 
--- Where the datagram names k as its receiver and another as its sender, it had gone out to k. From which address it comes,
--- how often and in which order does not matter.
+-- Where the datagram names k as its receiver and another as its sender, it had gone out to k. From which address it
+-- comes, how often and in which order does not matter.
 abbrev pub WasSentTo : Cluster → ℕ → ℕ → ℕ → Datagram → Type 0
 WasSentTo c k from to d = to ≡ k → (from ≡ k → ⊥) → Among c.sent (k, d)
 

@@ -1,5 +1,6 @@
 pub mod Clusters
 pub mod Histories
 pub mod Lawful
+pub mod Told
 pub mod Showing
 pub mod Laws

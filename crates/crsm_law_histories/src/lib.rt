@@ -1,5 +1,5 @@
-//! Histories of running nodes: whatever their processes and the network did, a world of the definitions shows it, and so
-//! the log files agree.
+//! Histories of running nodes: whatever their processes and the network did, a world of the definitions shows it, and
+//! so the log files agree.
 #![tactic(auto)]
 
 ghost use Rattle.crsm_law_histories.specs.Laws.{HistoriesAreShown, LogFilesAgree};
