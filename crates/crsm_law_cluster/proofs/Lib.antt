@@ -1,0 +1,4 @@
+pub mod Last
+pub mod Views
+pub mod Durable
+pub mod Answers
