@@ -1,61 +1,24 @@
 -- What words ask for.
-use Rattle.std.proofs.Common.{◌≡◌, ◌==◌, ℕ, zero, suc, ◌<◌, List, [], ◌∷◌, Bool, true, false, Option, Result, Ok, Err, codes, decimal, refl, ap, sym, ◌∙◌, subst, arith}
-use Rattle.std.specs.List.{All}
+use Rattle.std.proofs.Common.{◌≡◌, ℕ, List, Result, Ok, Err, refl, sym, ◌∙◌, subst}
 use Rattle.clap.specs.Words.{Text}
-use Rattle.crsm_text.specs.Words.{Lacks}
-use Rattle.crsm_text.proofs.WordsLemmas.{Lacks-decimal}
 use Rattle.crsm_words.specs.Answers.{IsShown, OrderMade, Reads, order, text}
-use Rattle.crsm_words.specs.Orders.{Asks, AsksFor, IsClusterSize}
-use Rattle.crsm_words.specs.Split.{IsPlain}
+use Rattle.crsm_words.specs.Orders.{Asks}
 use Rattle.crsm_words.specs.declared.order.Order.{Order}
 use Rattle.crsm_words.specs.declared.order.Task.{Task}
 use Rattle.crsm_words.specs.declared.order.Task.TheVariants.{Show, Replay, ReplayNode, Node, Client, Operate, Soak, Audit, Lock, Delay, DelayTimes, ReplayMp}
 use Rattle.crsm_words.specs.declared.read.Refusal.{Refusal}
+use Rattle.crsm_client.specs.declared.command.ClientEnd.{ClientEnd}
+use Rattle.crsm_client.specs.declared.error.OperateError.{OperateError}
+use Rattle.crsm_app.specs.Devices.{Devices}
 use Rattle.crsm_app.specs.Did.{Did, DidReplay, DidSheet, Shows}
-use Rattle.crsm_app.specs.Run.{IsThere, IsWithinLimits}
+use Rattle.crsm_app.specs.Statuses.{status_of_client, status_of_operate}
+use Rattle.crsm_app.specs.Tasks.{IsThere, IsWithinLimits}
 use Rattle.crsm_app.specs.declared.status.Status.{Status}
-
--- ---- words that do not begin with a hyphen
-
-plain_none : All IsPlain []
-plain_none k d lt = absurd (omega arith)
-
-plain_more : (word : Text) (words : List Text) → IsPlain word → All IsPlain words → All IsPlain (word ∷ words)
-plain_more word words p q zero d lt = p
-plain_more word words p q (suc k) d lt = q k d (omega arith)
-
-plain_lacks : (word : Text) → Lacks 45 word → IsPlain word
-plain_lacks [] lacks = refl
-plain_lacks (x ∷ xs) lacks = go (x == 45) refl
-  where
-    go : (b : Bool) → (x == 45) ≡ b → IsPlain (x ∷ xs)
-    go false e = rw e refl
-    go true e = absurd (lacks.0 (grind (arith, e)))
-
--- ---- what two commands are asked by
-
--- an order that names no cluster
-abbrev pub asked : Task → Order
-asked task = record { cluster = 0; task = task }
-
-pub replay_asked : (words : List Text) → words ≡ codes "replay" ∷ [] → All IsPlain words × AsksFor (asked Replay) words
-replay_asked words is = rw is (plain_more (codes "replay") [] refl plain_none, (refl, refl))
-
-pub sheet_asked : (me n : ℕ) (words : List Text) → me < 15 → IsClusterSize n → words ≡ codes "replay-node" ∷ decimal me ∷ decimal n ∷ []
-    → All IsPlain words × AsksFor (asked (ReplayNode me n)) words
-sheet_asked me n words below size is =
-    let most = size.1 in
-    let me_plain : IsPlain (decimal me) = plain_lacks (decimal me) (Lacks-decimal 45 me (omega arith) (omega (arith, below))) in
-    let n_plain : IsPlain (decimal n) = plain_lacks (decimal n) (Lacks-decimal 45 n (omega arith) (omega (arith, most))) in
-    rw is (
-      plain_more (codes "replay-node") (decimal me ∷ decimal n ∷ []) refl (plain_more (decimal me) (decimal n ∷ []) me_plain (plain_more (decimal n) [] n_plain plain_none)),
-      (refl, (below, size, refl)),
-    )
 
 -- ---- what was read
 
-pub read_so : (result : Result Order Refusal) (read o : Order) → result ≡ Ok read → Reads result o → read.task ≡ o.task
-read_so (Ok r) read o is reads = let same : r ≡ read = cc in ap (λ (x : Order). x.task) (sym same ∙ reads)
+pub read_so : (result : Result Order Refusal) (read o : Order) → result ≡ Ok read → Reads result o → read ≡ o
+read_so (Ok r) read o is reads = let same : r ≡ read = cc in sym same ∙ reads
 read_so (Err r) read o is reads = absurd (cc)
 
 pub not_usage : (result : Result Order Refusal) (o : Order) → result ≡ Err Refusal.Usage → Reads result o → ⊥
@@ -83,7 +46,7 @@ asked_within (Show t) words asks = absurd asks
 asked_within Replay words asks = tt
 asked_within (ReplayNode me n) words asks = (asks.0, asks.1)
 asked_within (Node t) words asks = tt
-asked_within (Client to turns command) words asks = tt
+asked_within (Client to turns command) words asks = asks.limits.fits
 asked_within (Operate to members) words asks = tt
 asked_within (Soak number n steps) words asks = tt
 asked_within (Audit n) words asks = tt
@@ -98,18 +61,33 @@ within_limits words made (order none front asks) = asked_within made.task _ asks
 
 -- ---- what is there
 
--- what is there is not refused
-pub not_there : (task : Task) (result : Status) (b a d w : Option (List ℕ)) → Did task result b a d w → result ≡ Status.Usage → IsThere task → ⊥
+client_not_usage : (e : ClientEnd) → Status.Usage ≡ status_of_client e → ⊥
+client_not_usage ClientEnd.Done is = cc is
+client_not_usage ClientEnd.PortFault is = cc is
+client_not_usage ClientEnd.NoAnswer is = cc is
+client_not_usage ClientEnd.WriteFault is = cc is
+client_not_usage ClientEnd.NoMemory is = cc is
+
+operate_not_usage : (e : Result (Unit {0}) OperateError) → Status.Usage ≡ status_of_operate e → ⊥
+operate_not_usage (Ok u) is = cc is
+operate_not_usage (Err OperateError.PortFault) is = cc is
+operate_not_usage (Err OperateError.NoMemory) is = cc is
+
+not_refused : (cluster : ℕ) (task : Task) (old new : Devices) → Did cluster task Status.Usage old new → IsThere task → ⊥
 unfolding DidReplay DidSheet
-not_there (Show t) result b a d w did is there = let shows : Shows t Status.Usage d w = subst (λ (s : Status). Shows t s d w) is did.1 in shows
-not_there Replay result b a d w did is there = let ran : DidReplay Status.Usage b a d w = subst (λ (s : Status). DidReplay s b a d w) is did in ran
-not_there (ReplayNode me n) result b a d w did is there = let ran : DidSheet me n Status.Usage b a d w = subst (λ (s : Status). DidSheet me n s b a d w) is did in ran
-not_there (Node t) result b a d w did is there = there
-not_there (Client to turns command) result b a d w did is there = there
-not_there (Operate to members) result b a d w did is there = there
-not_there (Soak number n steps) result b a d w did is there = there
-not_there (Audit n) result b a d w did is there = there
-not_there (Lock t) result b a d w did is there = there
-not_there Delay result b a d w did is there = there
-not_there DelayTimes result b a d w did is there = there
-not_there ReplayMp result b a d w did is there = there
+not_refused cluster (Show t) old new did there = did.1
+not_refused cluster Replay old new did there = did
+not_refused cluster (ReplayNode me n) old new did there = did
+not_refused cluster (Client to turns command) old new did there = client_not_usage did.1.ended did.1.status
+not_refused cluster (Operate to members) old new did there = operate_not_usage did.2.ended did.2.status
+not_refused cluster (Node t) old new did there = there
+not_refused cluster (Soak number n steps) old new did there = there
+not_refused cluster (Audit n) old new did there = there
+not_refused cluster (Lock t) old new did there = there
+not_refused cluster Delay old new did there = there
+not_refused cluster DelayTimes old new did there = there
+not_refused cluster ReplayMp old new did there = there
+
+-- what is there is not refused
+pub not_there : (made : Order) (result : Status) (old new : Devices) → Did made.cluster made.task result old new → result ≡ Status.Usage → IsThere made.task → ⊥
+not_there made result old new did is = not_refused made.cluster made.task old new (subst (λ (s : Status). Did made.cluster made.task s old new) is did)

@@ -1,3 +1,6 @@
 pub mod Schedules
 pub mod Sheets
+pub mod Asking
 pub mod Asked
+pub mod Scarce
+pub mod Planned

@@ -1,10 +1,11 @@
 -- A schedule by its status.
-use Rattle.std.proofs.Common.{◌≡◌, ℕ, inl, inr, List, Option, refl, ap, sym, ◌∙◌, subst}
+use Rattle.std.proofs.Common.{◌≡◌, ◌≢◌, ℕ, inl, inr, List, Option, refl, ap, sym, ◌∙◌, subst}
 use Rattle.crsm_input.specs.Exact as loop
 use Rattle.crsm_input.specs.declared.Ending.{Ending}
 use Rattle.crsm_replay.specs.Run as schedule
 use Rattle.crsm_replay.specs.declared.cause.Cause.{Cause}
-use Rattle.crsm_app.specs.Did.{DidReplay, IsDone, IsRefused, IsTooLong}
+use Rattle.crsm_app.specs.Did.{DidReplay}
+use Rattle.crsm_app.specs.Exact.{IsDone, IsRefused, IsTooLong}
 use Rattle.crsm_app.specs.Statuses.{status_of_replay}
 use Rattle.crsm_app.specs.declared.status.Status.{Status}
 
@@ -49,6 +50,14 @@ long Ending.WriteFault is = absurd (cc is)
 long Ending.NoMemory is = absurd (cc is)
 long Ending.InputTooLong is = refl
 
+no_port : (e : Ending Cause) → status_of_replay e ≡ Status.PortFault → ⊥
+no_port Ending.Done is = cc is
+no_port (Ending.BadLine line why) is = cc is
+no_port Ending.ReadFault is = cc is
+no_port Ending.WriteFault is = cc is
+no_port Ending.NoMemory is = cc is
+no_port Ending.InputTooLong is = cc is
+
 module _ (e : Ending Cause) (result : Status) (is : result ≡ status_of_replay e) where
   pub did_so : (b a d w : Option (List ℕ)) → schedule.Ran e b a d w → DidReplay result b a d w
   did_so b a d w ran = subst (λ (s : Status). DidReplay s b a d w) (sym is) (did e b a d w ran)
@@ -64,6 +73,9 @@ module _ (e : Ending Cause) (result : Status) (is : result ≡ status_of_replay 
 
   pub is_long : result ≡ Status.InputTooLong → e ≡ Ending.InputTooLong
   is_long too_long = long e (sym is ∙ too_long)
+
+  pub is_no_port : result ≢ Status.PortFault
+  is_no_port fault = no_port e (sym is ∙ fault)
 
   pub completes : loop.IsDone e → IsDone result
   completes (inl p) = inl (is ∙ ap status_of_replay p)

@@ -5,7 +5,8 @@ use Rattle.crsm_input.specs.declared.Ending.{Ending}
 use Rattle.crsm_replay_node.specs.Causes.{cause_in}
 use Rattle.crsm_replay_node.specs.Run as sheet
 use Rattle.crsm_replay_node.specs.declared.cause.SheetCause.{SheetCause}
-use Rattle.crsm_app.specs.Did.{DidSheet, IsDone, IsRefusedSheet, IsTooLong}
+use Rattle.crsm_app.specs.Did.{DidSheet}
+use Rattle.crsm_app.specs.Exact.{IsDone, IsRefusedSheet, IsTooLong}
 use Rattle.crsm_app.specs.Statuses.{status_of_refused, status_of_sheet}
 use Rattle.crsm_app.specs.declared.status.Status.{Status}
 
@@ -61,6 +62,18 @@ long Ending.WriteFault is = absurd (cc is)
 long Ending.NoMemory is = absurd (cc is)
 long Ending.InputTooLong is = refl
 
+refused_over_no_port : (line : ℕ) (cause : SheetCause) → status_of_refused line cause ≢ Status.PortFault
+refused_over_no_port line SheetCause.Unreadable is = cc is
+refused_over_no_port line (SheetCause.BadLog entry why) is = cc is
+
+no_port : (e : Ending SheetCause) → status_of_sheet e ≡ Status.PortFault → ⊥
+no_port Ending.Done is = cc is
+no_port (Ending.BadLine line why) is = refused_over_no_port line (cause_in why) is
+no_port Ending.ReadFault is = cc is
+no_port Ending.WriteFault is = cc is
+no_port Ending.NoMemory is = cc is
+no_port Ending.InputTooLong is = cc is
+
 told : (line : ℕ) (cause : SheetCause) (result : Status) → result ≡ status_of_refused line cause → IsRefusedSheet line cause result
 told line SheetCause.Unreadable result is = inl is
 told line (SheetCause.BadLog entry why) result is = inl is
@@ -84,6 +97,9 @@ module _ (e : Ending SheetCause) (result : Status) (is : result ≡ status_of_sh
 
   pub is_long : result ≡ Status.InputTooLong → e ≡ Ending.InputTooLong
   is_long too_long = long e (sym is ∙ too_long)
+
+  pub is_no_port : result ≢ Status.PortFault
+  is_no_port fault = no_port e (sym is ∙ fault)
 
   pub completes : loop.IsDone e → IsDone result
   completes (inl p) = inl (is ∙ ap status_of_sheet p)

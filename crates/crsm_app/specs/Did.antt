@@ -1,22 +1,23 @@
 -- What a command did, by its status.
-use Rattle.std.specs.Prelude.{◌≡◌, ◌⊎◌, ℕ, ◌+◌, List, Option}
+use Rattle.std.specs.Prelude.{◌≡◌, ℕ, List, Option, Result}
+use Rattle.crsm_client.specs.Commands.{ClientRan}
+use Rattle.crsm_client.specs.Operating.{Operates}
+use Rattle.crsm_client.specs.declared.command.ClientEnd.{ClientEnd}
+use Rattle.crsm_client.specs.declared.command.ClientOrder.{ClientOrder}
+use Rattle.crsm_client.specs.declared.error.OperateError.{OperateError}
 use Rattle.crsm_io.specs.Streams.{Puts, PutsPrefix}
+use Rattle.crsm_port.specs.Meaning.{Meaning}
 use Rattle.crsm_replay.specs.Run as schedule
-use Rattle.crsm_replay.specs.State.{count_of}
 use Rattle.crsm_replay.specs.declared.cause.Cause.{Cause}
 use Rattle.crsm_replay_node.specs.Run as sheet
 use Rattle.crsm_replay_node.specs.declared.cause.SheetCause.{SheetCause}
 use Rattle.crsm_words.specs.declared.order.Task.{Task}
-use Rattle.crsm_words.specs.declared.order.Task.TheVariants.{Show, Replay, ReplayNode}
+use Rattle.crsm_words.specs.declared.order.Task.TheVariants.{Show, Replay, ReplayNode, Client, Operate}
+use Rattle.crsm_app.specs.Devices.{Devices}
+use Rattle.crsm_app.specs.Statuses.{status_of_client, status_of_operate}
 use Rattle.crsm_app.specs.declared.status.Status.{Status}
 
--- In each of these the source had `before` and has `after` left, and the sink had `had` and has `has` written.
-
--- ---- by the status
-
--- nothing was taken or written
-abbrev pub Untouched : (before after had has : Option (List ℕ)) → Type 0
-Untouched before after had has = (after ≡ before) × (has ≡ had)
+-- In these the source had `before` and has `after` left, and the sink had `had` and has `has` written.
 
 -- a text was written, or a prefix of it where the output failed
 abbrev pub Shows : List ℕ → Status → (had has : Option (List ℕ)) → Type 0
@@ -45,38 +46,24 @@ DidSheet me n Status.NoMemory before after had has = sheet.RanPartly me n before
 DidSheet me n Status.InputTooLong before after had has = sheet.RanTooLong me n before after had has
 DidSheet me n _ before after had has = ⊥
 
--- a task was done, or it is none that is there
-abbrev pub Did : Task → Status → (before after had has : Option (List ℕ)) → Type 0
-Did (Show text) result before after had has = (after ≡ before) × Shows text result had has
-Did Replay result before after had has = DidReplay result before after had has
-Did (ReplayNode me n) result before after had has = DidSheet me n result before after had has
-Did _ result before after had has = (result ≡ Status.Usage) × Untouched before after had has
+-- a replica was asked for a command, over a port on which the datagrams of a cluster stand behind its mark
+pub record DidClient (cluster : ℕ) (order : ClientOrder) (result : Status) (old new : Meaning) (had has : Option (List ℕ)) : Type 0 where
+  pub ended : ClientEnd
+  pub status : result ≡ status_of_client ended
+  pub ran : ClientRan cluster order old new had has ended
 
--- ---- answers that are exact, unless memory ran out
+-- a replica was asked for another membership, over such a port
+pub record DidOperate (cluster to : ℕ) (members : List ℕ) (result : Status) (old new : Meaning) : Type 0 where
+  pub ended : Result (Unit {0}) OperateError
+  pub status : result ≡ status_of_operate ended
+  pub operates : Operates cluster to members old new ended
 
-abbrev pub IsDone : Status → Type 0
-IsDone result = (result ≡ Status.Ok) ⊎ (result ≡ Status.NoMemory)
-
--- refused for this line and cause
-abbrev pub IsRefused : ℕ → Cause → Status → Type 0
-IsRefused line cause result = (result ≡ Status.BadInput line cause) ⊎ (result ≡ Status.NoMemory)
-
--- refused for this line of a sheet as no line, or at `open` for a body that is no log
-abbrev pub IsRefusedSheet : ℕ → SheetCause → Status → Type 0
-IsRefusedSheet line SheetCause.Unreadable result = IsRefused line Cause.Unreadable result
-IsRefusedSheet line (SheetCause.BadLog entry why) result = (result ≡ Status.BadLog entry why) ⊎ (result ≡ Status.NoMemory)
-
-abbrev pub IsTooLong : Status → Type 0
-IsTooLong result = (result ≡ Status.InputTooLong) ⊎ (result ≡ Status.NoMemory)
-
--- of what is left: a schedule within the limit is done, a bad line is refused, more than the limit is too long
-pub record ReplaysExactly (left : Option (List ℕ)) (result : Status) : Type 0 where
-  pub complete : schedule.WhereSchedule left (λ s. IsDone result)
-  pub refused : schedule.WhereBad left (λ read cause. IsRefused (count_of read + 1) cause result)
-  pub too_long : schedule.WhereTooLong left (IsTooLong result)
-
--- the same of a sheet
-pub record SheetsExactly (me n : ℕ) (left : Option (List ℕ)) (result : Status) : Type 0 where
-  pub complete : sheet.WhereSheet me n left (IsDone result)
-  pub refused : sheet.WhereBad me n left (λ line cause. IsRefusedSheet line cause result)
-  pub too_long : sheet.WhereTooLong me n left (IsTooLong result)
+-- a task was done in a cluster, or it is none that is there
+abbrev pub Did : (cluster : ℕ) → Task → Status → (old new : Devices) → Type 0
+Did cluster (Show text) result old new = (new.left ≡ old.left) × Shows text result old.written new.written
+Did cluster Replay result old new = DidReplay result old.left new.left old.written new.written
+Did cluster (ReplayNode me n) result old new = DidSheet me n result old.left new.left old.written new.written
+Did cluster (Client to turns command) result old new =
+    (new.left ≡ old.left) × DidClient cluster (record { to = to; turns = turns; command = command }) result old.port new.port old.written new.written
+Did cluster (Operate to members) result old new = (new.left ≡ old.left) × (new.written ≡ old.written) × DidOperate cluster to members result old.port new.port
+Did cluster _ result old new = (result ≡ Status.Usage) × (new ≡ old)

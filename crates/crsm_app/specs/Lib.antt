@@ -1,3 +1,6 @@
+pub mod Devices
 pub mod Statuses
+pub mod Tasks
 pub mod Did
+pub mod Exact
 pub mod Run

@@ -1,5 +1,7 @@
 -- The number of a status, and the status of a command that ended so.
-use Rattle.std.specs.Prelude.{ℕ}
+use Rattle.std.specs.Prelude.{ℕ, Result, Ok, Err}
+use Rattle.crsm_client.specs.declared.command.ClientEnd.{ClientEnd}
+use Rattle.crsm_client.specs.declared.error.OperateError.{OperateError}
 use Rattle.crsm_input.specs.declared.Ending.{Ending}
 use Rattle.crsm_replay.specs.Causes as schedule
 use Rattle.crsm_replay.specs.declared.cause.Cause.{Cause}
@@ -14,7 +16,9 @@ number_of Status.Usage = 2
 number_of (Status.BadInput line cause) = 3
 number_of Status.ReadFault = 4
 number_of Status.WriteFault = 5
+number_of Status.PortFault = 6
 number_of Status.NoMemory = 8
+number_of Status.NoAnswer = 9
 number_of (Status.BadLog entry why) = 10
 number_of Status.InputTooLong = 12
 
@@ -40,3 +44,17 @@ status_of_sheet Ending.ReadFault = Status.ReadFault
 status_of_sheet Ending.WriteFault = Status.WriteFault
 status_of_sheet Ending.NoMemory = Status.NoMemory
 status_of_sheet Ending.InputTooLong = Status.InputTooLong
+
+-- the status of a client that ended so
+abbrev pub status_of_client : ClientEnd → Status
+status_of_client ClientEnd.Done = Status.Ok
+status_of_client ClientEnd.PortFault = Status.PortFault
+status_of_client ClientEnd.NoAnswer = Status.NoAnswer
+status_of_client ClientEnd.WriteFault = Status.WriteFault
+status_of_client ClientEnd.NoMemory = Status.NoMemory
+
+-- the status of an operator who ended so
+abbrev pub status_of_operate : {T : Type 0} → Result T OperateError → Status
+status_of_operate (Ok _) = Status.Ok
+status_of_operate (Err OperateError.PortFault) = Status.PortFault
+status_of_operate (Err OperateError.NoMemory) = Status.NoMemory

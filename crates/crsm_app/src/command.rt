@@ -1,94 +1,68 @@
 //! What is done, by the words.
 
-ghost use Rattle.std.specs.Prelude.{◌≡◌, ◌≢◌, ◌<◌, ◌≤◌, ◌+◌, ℕ, List, Some, length, map, string_bytes};
-ghost use Rattle.crsm_faults.specs.Counts.{Rose};
-ghost use Rattle.crsm_input.specs.Exact.{WhereFaultless};
+ghost use Rattle.std.specs.Prelude.{◌≡◌, ◌≢◌, ◌↔◌, ◌⊎◌, ◌<◌, ◌≤◌, ℕ, IfErr, IfOk, IsTrue, List, MatchResult, Some, length, map, string_bytes};
 ghost use Rattle.crsm_spec.specs.Calm.{IsBounded};
 ghost use Rattle.crsm_spec.specs.Run.{last_world};
 ghost use Rattle.crsm_spec.specs.Safe.{Agreed, Answered, RealTime};
 ghost use Rattle.crsm_spec.specs.Decided.{DecisionsAgree};
 ghost use Rattle.crsm_spec.specs.Durable.{KeepsAnswered};
 ghost use Rattle.crsm_world.specs.Schedule.{Schedule, IsSchedule, ShowsAll, acts_of};
-ghost use Rattle.crsm_replay.specs.Run.{WhereBad, WhereSchedule, WhereTooLong};
-ghost use Rattle.crsm_replay.specs.State.{count_of};
-ghost use Rattle.crsm_replay_node.specs.Run as sheet;
-ghost use Rattle.crsm_words.specs.declared.order.Task.{Task as Asked};
-ghost use Rattle.crsm_app.specs.Did.{Did, DidReplay, DidSheet, IsDone, IsRefused, IsRefusedSheet, IsTooLong, ReplaysExactly, SheetsExactly, Shows};
-ghost use Rattle.crsm_app.specs.Run.{AskForNothing, IsReader, IsWithinLimits, Ran, ReadsInput, WhereReplayed, WhereSheetReplayed, WhereThere};
+ghost use Rattle.crsm_words.specs.Plans.{HasOwnPeer, plan_of};
+ghost use Rattle.crsm_app.specs.Devices.{devices_of};
+ghost use Rattle.crsm_app.specs.Exact.{Exactly};
+ghost use Rattle.crsm_app.specs.Run.{AskForNothing, AskForTask, FaultsAreCounted, Ran, WhereAsked};
+ghost use Rattle.crsm_app.specs.Tasks.{IsAsker, IsReader, IsThere};
 
-use crate::status::{Status, replay_status, sheet_status};
+use crate::doing::do_order;
+use crate::status::Status;
 use crsm_clock::Clock;
 use crsm_disk::Disk;
 use crsm_input::MAX_INPUT_BYTES;
-use crsm_io::{Sink, Source, put_all};
+use crsm_io::{Sink, Source};
 use crsm_law_rounds::rounds_are_bounded;
 use crsm_law_runs::{answered_are_kept, decisions_always_agree, runs_are_safe};
 use crsm_port::Port;
-use crsm_replay::replay;
-use crsm_replay_node::replay_node;
-use crsm_words::{Refusal, Task, read_words};
+use crsm_words::{Plan, Refusal, Task, read_words};
 use std::alloc::Global;
 
-/// Runs a schedule.
-fn run_replay<I: Source, O: Sink>(alloc: Global, input: &mut I, output: &mut O) -> Status
-    ensures did { DidReplay result (I.left input.old) (I.left input.new) (O.written output.old) (O.written output.new) }
-    ensures read_fault { result ≡ Status.ReadFault → Rose (I.faults input.old) (I.faults input.new) }
-    ensures write_fault { result ≡ Status.WriteFault → Rose (O.faults output.old) (O.faults output.new) }
-    ensures exact { WhereFaultless (I.faults input.old) (I.faults input.new) (O.faults output.old) (O.faults output.new) (ReplaysExactly (I.left input.old) result) }
-    ensures limit { (bytes : List ℕ) → I.left input.old ≡ Some bytes → MAX_INPUT_BYTES < length bytes → result ≢ Status.Ok }
-    ensures within { (bytes : List ℕ) → I.left input.old ≡ Some bytes → length bytes ≤ MAX_INPUT_BYTES → result ≢ Status.InputTooLong }
+/// Whether a task is there.
+fn is_there(task: &Task) -> bool
+    ensures { IsTrue result ↔ IsThere task.now }
 {
-    replay_status(replay(alloc, input, output))
+    matches!(
+        task,
+        Task::Show(_)
+            | Task::Replay
+            | Task::ReplayNode { .. }
+            | Task::Client { .. }
+            | Task::Operate { .. }
+    )
 }
 
-/// Runs the sheet of replica `me` of a cluster that began with `n`.
-fn run_sheet<I: Source, O: Sink>(
-    alloc: Global,
-    me: u32,
-    n: u32,
-    input: &mut I,
-    output: &mut O,
-) -> Status
-    requires me_below { me < 15 }
-    requires some { 1 ≤ n }
-    requires few { n ≤ 15 }
-    ensures did { DidSheet me n result (I.left input.old) (I.left input.new) (O.written output.old) (O.written output.new) }
-    ensures read_fault { result ≡ Status.ReadFault → Rose (I.faults input.old) (I.faults input.new) }
-    ensures write_fault { result ≡ Status.WriteFault → Rose (O.faults output.old) (O.faults output.new) }
-    ensures exact { WhereFaultless (I.faults input.old) (I.faults input.new) (O.faults output.old) (O.faults output.new) (SheetsExactly me n (I.left input.old) result) }
-    ensures limit { (bytes : List ℕ) → I.left input.old ≡ Some bytes → MAX_INPUT_BYTES < length bytes → result ≢ Status.Ok }
-    ensures within { (bytes : List ℕ) → I.left input.old ≡ Some bytes → length bytes ≤ MAX_INPUT_BYTES → result ≢ Status.InputTooLong }
+/// The devices of a task that is there.
+fn plan_for(task: &Task) -> Result<Plan, Status>
+    requires { HasOwnPeer task.now }
+    ensures plan { IfOk result (λ plan. IsThere task.now × (plan ≡ plan_of task.now)) }
+    ensures refused { IfErr result (λ status. (status ≡ Status.Usage) × ¬ (IsThere task.now)) }
 {
-    sheet_status(replay_node(alloc, me, n, input, output))
-}
-
-/// Writes a text that was asked for.
-fn show<O: Sink>(text: &[u8], output: &mut O) -> Status
-    ensures shows { Shows text.now result (O.written output.old) (O.written output.new) }
-    ensures write_fault { result ≡ Status.WriteFault → Rose (O.faults output.old) (O.faults output.new) }
-{
-    match put_all(output, text) {
-        Ok(()) => Status::Ok,
-        Err(_) => Status::WriteFault,
+    if is_there(task) {
+        Ok(task.plan())
+    } else {
+        Err(Status::Usage)
     }
 }
 
-/// Does a task. One that is not there is refused.
-fn do_task<I: Source, O: Sink>(alloc: Global, task: &Task, input: &mut I, output: &mut O) -> Status
-    requires { IsWithinLimits task.now }
-    ensures did { Did task.now result (I.left input.old) (I.left input.new) (O.written output.old) (O.written output.new) }
-    ensures read_fault { result ≡ Status.ReadFault → Rose (I.faults input.old) (I.faults input.new) }
-    ensures write_fault { result ≡ Status.WriteFault → Rose (O.faults output.old) (O.faults output.new) }
-    ensures replay { task.now ≡ Asked.Replay → WhereFaultless (I.faults input.old) (I.faults input.new) (O.faults output.old) (O.faults output.new) (ReplaysExactly (I.left input.old) result) }
-    ensures sheet { (me n : ℕ) → task.now ≡ Asked.ReplayNode me n → WhereFaultless (I.faults input.old) (I.faults input.new) (O.faults output.old) (O.faults output.new) (SheetsExactly me n (I.left input.old) result) }
-    ensures limit { IsReader task.now → (bytes : List ℕ) → I.left input.old ≡ Some bytes → MAX_INPUT_BYTES < length bytes → result ≢ Status.Ok }
-    ensures within { (bytes : List ℕ) → I.left input.old ≡ Some bytes → length bytes ≤ MAX_INPUT_BYTES → result ≢ Status.InputTooLong }
+/// Which real devices the words want, or why `run` refuses them. Memory may run out.
+pub fn plan(alloc: Global, words: &[String]) -> Result<Plan, Status>
+    ensures planned { IfOk result (λ plan. AskForTask (λ task. IsThere task × (plan ≡ plan_of task)) (map string_bytes words.now)) }
+    ensures refused { IfErr result (λ status. (status ≡ Status.NoMemory) ⊎ ((status ≡ Status.Usage) × AskForNothing (map string_bytes words.now))) }
+    ensures asked { WhereAsked (map string_bytes words.now) (λ order. IsThere order.task →
+        MatchResult result (λ plan. plan ≡ plan_of order.task) (λ status. status ≡ Status.NoMemory)) }
 {
-    match task {
-        Task::Show(text) => show(text.as_slice(), output),
-        Task::Replay => run_replay(alloc, input, output),
-        Task::ReplayNode { me, n } => run_sheet(alloc, *me, *n, input, output),
-        _ => Status::Usage,
+    match read_words(alloc, words) {
+        Ok(order) => plan_for(&order.task),
+        Err(Refusal::Usage) => Err(Status::Usage),
+        Err(Refusal::NoMemory) => Err(Status::NoMemory),
     }
 }
 
@@ -109,7 +83,9 @@ fn schedules_are_safe()
 }
 
 /// Does what the words say: `replay` reads a schedule and writes its transcript, `replay-node ME N` reads the sheet of a
-/// replica and writes what it did, and `--help` and `--version` write a text. The other commands are not there yet.
+/// replica and writes what it did, `client TO TURNS CLIENT NUMBER OP` asks a replica for a command over the port and
+/// writes its outcome, `operate TO MEMBERS` asks one for another membership, and `--help` and `--version` write a text.
+/// The other commands are not there yet.
 pub fn run<I: Source, O: Sink, P: Port, D: Disk, C: Clock>(
     alloc: Global,
     words: &[String],
@@ -119,37 +95,31 @@ pub fn run<I: Source, O: Sink, P: Port, D: Disk, C: Clock>(
     disk: &mut D,
     clock: &mut C,
 ) -> Status
-    // What was taken and what was written, by what the words ask for and by the status.
-    ensures ran { Ran (map string_bytes words.now) result (I.left input.old) (I.left input.new) (O.written output.old) (O.written output.new) }
+    // What was taken, sent and written, by what the words ask for and by the status.
+    ensures ran { let at = devices_of I.left I.faults O.written O.faults P.meaning in
+        Ran (map string_bytes words.now) result (at input.old output.old port.old) (at input.new output.new port.new) }
 
     // A fault is answered only where it was counted.
-    ensures read_fault { result ≡ Status.ReadFault → Rose (I.faults input.old) (I.faults input.new) }
-    ensures write_fault { result ≡ Status.WriteFault → Rose (O.faults output.old) (O.faults output.new) }
+    ensures faults { let at = devices_of I.left I.faults O.written O.faults P.meaning in
+        FaultsAreCounted (map string_bytes words.now) result (at input.old output.old port.old) (at input.new output.new port.new) }
 
     // The words are refused only where they ask for nothing or for what is not there, and not where they ask for what is.
     ensures usage { result ≡ Status.Usage → AskForNothing (map string_bytes words.now) }
-    ensures asked { WhereThere (map string_bytes words.now) (result ≢ Status.Usage) }
+    ensures asked { WhereAsked (map string_bytes words.now) (λ order. IsThere order.task → result ≢ Status.Usage) }
 
-    // A schedule within the limit is done, where no fault was counted.
-    ensures complete { WhereSchedule (I.left input.old) (λ s. WhereReplayed words.now (I.faults input.old) (I.faults input.new) (O.faults output.old) (O.faults output.new) (IsDone result)) }
-
-    // An input that has a bad line within the limit is refused for the first one, where no fault was counted.
-    ensures refused { WhereBad (I.left input.old) (λ read cause. WhereReplayed words.now (I.faults input.old) (I.faults input.new) (O.faults output.old) (O.faults output.new) (IsRefused (count_of read + 1) cause result)) }
-
-    // An input whose lines are good up to the limit and that has more bytes is too long, where no fault was counted.
-    ensures too_long { WhereTooLong (I.left input.old) (WhereReplayed words.now (I.faults input.old) (I.faults input.new) (O.faults output.old) (O.faults output.new) (IsTooLong result)) }
-
-    // The same of a sheet. One whose bodies are no log is refused for the first bad one.
-    ensures sheet_complete { (me n : ℕ) → sheet.WhereSheet me n (I.left input.old) (WhereSheetReplayed me n words.now (I.faults input.old) (I.faults input.new) (O.faults output.old) (O.faults output.new) (IsDone result)) }
-    ensures sheet_refused { (me n : ℕ) → sheet.WhereBad me n (I.left input.old) (λ line cause. WhereSheetReplayed me n words.now (I.faults input.old) (I.faults input.new) (O.faults output.old) (O.faults output.new) (IsRefusedSheet line cause result)) }
-    ensures sheet_too_long { (me n : ℕ) → sheet.WhereTooLong me n (I.left input.old) (WhereSheetReplayed me n words.now (I.faults input.old) (I.faults input.new) (O.faults output.old) (O.faults output.new) (IsTooLong result)) }
+    // Where no fault was counted and memory sufficed, what is there is done, but for an input that has a bad line, which is
+    // refused for the first one, or more bytes than the limit, and for a replica whose reply was not taken.
+    ensures exactly { let at = devices_of I.left I.faults O.written O.faults P.meaning in WhereAsked (map string_bytes words.now)
+        (λ order. Exactly order.cluster order.task result (at input.old output.old port.old) (at input.new output.new port.new)) }
 
     // An input beyond the limit is never done, and one within it is never too long.
-    ensures limit { ReadsInput words.now → (bytes : List ℕ) → I.left input.old ≡ Some bytes → MAX_INPUT_BYTES < length bytes → result ≢ Status.Ok }
+    ensures limit { WhereAsked (map string_bytes words.now) (λ order. IsReader order.task →
+        (bytes : List ℕ) → I.left input.old ≡ Some bytes → MAX_INPUT_BYTES < length bytes → result ≢ Status.Ok) }
     ensures within { (bytes : List ℕ) → I.left input.old ≡ Some bytes → length bytes ≤ MAX_INPUT_BYTES → result ≢ Status.InputTooLong }
 
-    // No command that is there calls the port, the disk or the clock: they stand as they stood.
-    ensures port { port.new ≡ port.old }
+    // A device that the command does not use stands as it stood.
+    ensures input { ¬ (AskForTask IsReader (map string_bytes words.now)) → input.new ≡ input.old }
+    ensures port { ¬ (AskForTask IsAsker (map string_bytes words.now)) → port.new ≡ port.old }
     ensures disk { disk.new ≡ disk.old }
     ensures clock { clock.new ≡ clock.old }
 
@@ -170,7 +140,7 @@ pub fn run<I: Source, O: Sink, P: Port, D: Disk, C: Clock>(
 {
     schedules_are_safe();
     match read_words(alloc, words) {
-        Ok(order) => do_task(alloc, &order.task, input, output),
+        Ok(order) => do_order(alloc, order, input, output, port),
         Err(Refusal::Usage) => Status::Usage,
         Err(Refusal::NoMemory) => Status::NoMemory,
     }

@@ -1,16 +1,21 @@
 //! What the program does over the real streams.
 
-use crate::command::run;
+use crate::command::{plan, run};
 use crate::status::Status;
+use crsm_base::NoMemory;
 use crsm_clock::SystemClock;
 use crsm_disk::MemDisk;
 use crsm_io::{StdSink, StdSource};
-use crsm_port::MemPort;
-use crsm_words::{read_words, usage_text};
+use crsm_port::{MemPort, Port, UdpPort};
+use crsm_words::{Plan, read_words, usage_text};
 use std::env::{self, Env};
 use std::io::{self, Eprint, ErrorKind, Input, Print};
+use std::net::Net;
 use std::process::ExitCode;
 use std::time::Clock;
+
+/// The address of a socket that the system may bind at any free port.
+const ANY_FREE_PORT: u64 = 0;
 
 /// The words after the program's name. One that is no text makes a faulty command line.
 fn words_of<R: AllocGlobal + Env>(rt: &R) -> Result<Vec<String>, Status> {
@@ -28,13 +33,14 @@ fn words_of<R: AllocGlobal + Env>(rt: &R) -> Result<Vec<String>, Status> {
     Ok(words)
 }
 
-/// The status of what the words say, over standard input and output. The commands that are there need no other device:
-/// they are handed a port and a disk in memory.
-fn status_over<R: AllocGlobal + Clock + Input + Print>(rt: &R, words: &[String]) -> Status {
+/// The status of what the words say, over standard input and output and this port. No command that is there calls the
+/// disk: it is one in memory.
+fn status_over<R: AllocGlobal + Clock + Input + Print, P: Port>(
+    rt: &R,
+    words: &[String],
+    port: &mut P,
+) -> Status {
     let alloc = rt.alloc();
-    let Ok(mut port) = MemPort::new(alloc, &[]) else {
-        return Status::NoMemory;
-    };
     let Ok(mut disk) = MemDisk::new(alloc, &[], None, 0) else {
         return Status::NoMemory;
     };
@@ -46,10 +52,41 @@ fn status_over<R: AllocGlobal + Clock + Input + Print>(rt: &R, words: &[String])
         words,
         &mut input,
         &mut output,
-        &mut port,
+        port,
         &mut disk,
         &mut clock,
     )
+}
+
+/// The status of what the words say, over a socket at any free port.
+fn status_over_socket<R: AllocGlobal + Clock + Input + Net + Print>(
+    rt: &R,
+    words: &[String],
+) -> io::Result<Status> {
+    let mut port = UdpPort::bind(rt.alloc(), rt, ANY_FREE_PORT)?;
+    Ok(status_over(rt, words, &mut port))
+}
+
+/// The status of what the words say, over a port that has nothing.
+fn status_over_nothing<R: AllocGlobal + Clock + Input + Print>(rt: &R, words: &[String]) -> Status {
+    match MemPort::new(rt.alloc(), &[]) {
+        Ok(mut port) => status_over(rt, words, &mut port),
+        Err(NoMemory) => Status::NoMemory,
+    }
+}
+
+/// The status of what the words say, over the devices that they want. An error is that of a device that cannot be made.
+fn status_of<R: AllocGlobal + Clock + Input + Net + Print>(
+    rt: &R,
+    words: &[String],
+) -> io::Result<Status> {
+    match plan(rt.alloc(), words) {
+        Ok(Plan::Socket) => status_over_socket(rt, words),
+        Ok(Plan::Plain) => Ok(status_over_nothing(rt, words)),
+        // A node is not there yet.
+        Ok(Plan::Node { .. }) => Ok(Status::Usage),
+        Err(status) => Ok(status),
+    }
 }
 
 /// Tells on standard error why not all was done: what is wrong with the words, or the status on one line. Where standard
@@ -67,18 +104,24 @@ fn tell<R: AllocGlobal + Eprint>(rt: &R, words: &[String], status: Status) {
     }
 }
 
-/// Does what the words of the process say, over standard input and output, and answers the number that the process ends
-/// with. A number other than 0 comes with words on standard error.
-pub fn start<R: AllocGlobal + Clock + Env + Eprint + Input + Print>(rt: &R) -> ExitCode {
-    match words_of(rt) {
-        Ok(words) => {
-            let status = status_over(rt, words.as_slice());
+/// Does what the words of the process say, over standard input and output and a socket where they want one, and answers
+/// the number that the process ends with. A number other than 0 comes with words on standard error.
+pub fn start<R: AllocGlobal + Clock + Env + Eprint + Input + Net + Print>(rt: &R) -> ExitCode {
+    let words = match words_of(rt) {
+        Ok(words) => words,
+        Err(status) => {
+            let _ = rt.eprintln(status);
+            return ExitCode::from(status.number());
+        }
+    };
+    match status_of(rt, words.as_slice()) {
+        Ok(status) => {
             tell(rt, words.as_slice(), status);
             ExitCode::from(status.number())
         }
-        Err(status) => {
-            let _ = rt.eprintln(status);
-            ExitCode::from(status.number())
+        Err(error) => {
+            let _ = rt.eprintln(format_args!("no socket can be opened: {error}"));
+            ExitCode::from(Status::PortFault.number())
         }
     }
 }

@@ -2,10 +2,12 @@
 #![tactic(auto)]
 
 mod command;
+mod doing;
 mod entry;
 mod status;
 
-pub use command::run;
+pub use command::{plan, run};
 pub use crsm_replay::Cause;
+pub use crsm_words::Plan;
 pub use entry::start;
 pub use status::Status;

@@ -1,8 +1,9 @@
 //! How a run ends.
 
 ghost use Rattle.std.specs.Prelude.{◌≡◌};
-ghost use Rattle.crsm_app.specs.Statuses.{number_of, status_of_refused, status_of_replay, status_of_sheet};
+ghost use Rattle.crsm_app.specs.Statuses.{number_of, status_of_client, status_of_operate, status_of_refused, status_of_replay, status_of_sheet};
 
+use crsm_client::{ClientEnd, OperateError};
 use crsm_input::Ending;
 use crsm_replay::{Cause, told_cause as cause_in_schedule};
 use crsm_replay_node::{SheetCause, told_cause as cause_in_sheet};
@@ -21,8 +22,12 @@ pub enum Status {
     ReadFault,
     /// The output failed.
     WriteFault,
+    /// The port failed in a receive or in a send.
+    PortFault,
     /// Memory ran out.
     NoMemory,
+    /// All turns are over, and the replica has not answered.
+    NoAnswer,
     /// This entry of the log, counted from 0, is the first that is no list of records (0), or whose first record that
     /// does not fit is of this kind (1 to 9).
     BadLog { entry: u64, why: u32 },
@@ -41,7 +46,9 @@ impl Status {
             Status::BadInput { .. } => 3,
             Status::ReadFault => 4,
             Status::WriteFault => 5,
+            Status::PortFault => 6,
             Status::NoMemory => 8,
+            Status::NoAnswer => 9,
             Status::BadLog { .. } => 10,
             Status::InputTooLong => 12,
         }
@@ -92,6 +99,30 @@ pub(crate) fn sheet_status(ending: Ending<SheetCause>) -> Status
     }
 }
 
+/// The status of a client that ended so.
+pub(crate) fn client_status(ended: ClientEnd) -> Status
+    ensures { result ≡ status_of_client ended }
+{
+    match ended {
+        ClientEnd::Done => Status::Ok,
+        ClientEnd::PortFault => Status::PortFault,
+        ClientEnd::NoAnswer => Status::NoAnswer,
+        ClientEnd::WriteFault => Status::WriteFault,
+        ClientEnd::NoMemory => Status::NoMemory,
+    }
+}
+
+/// The status of an operator who ended so.
+pub(crate) fn operate_status(ended: Result<(), OperateError>) -> Status
+    ensures { result ≡ status_of_operate ended }
+{
+    match ended {
+        Ok(()) => Status::Ok,
+        Err(OperateError::PortFault) => Status::PortFault,
+        Err(OperateError::NoMemory) => Status::NoMemory,
+    }
+}
+
 /// The name of a kind of records, by their first byte.
 fn kind_name(kind: u32) -> &'static str {
     match kind {
@@ -117,7 +148,9 @@ impl Display for Status {
             Status::BadInput { line, cause } => write!(f, "line {line}: {cause}"),
             Status::ReadFault => f.write_str("the input failed"),
             Status::WriteFault => f.write_str("the output failed"),
+            Status::PortFault => f.write_str("the port failed"),
             Status::NoMemory => f.write_str("memory ran out"),
+            Status::NoAnswer => f.write_str("the replica has not answered"),
             Status::BadLog { entry, why: 0 } => {
                 write!(f, "log entry {entry}: it is no list of records")
             }

@@ -1,5 +1,5 @@
-use Rattle.crsm_app.proofs.Sheets.{completes, did_so, is_done, is_long, is_read_fault, is_too_long, is_write_fault, refuses}
-use Rattle.crsm_app.proofs.command.run_sheet.Goals as goal
+use Rattle.crsm_app.proofs.Sheets.{completes, did_so, is_done, is_long, is_no_port, is_read_fault, is_too_long, is_write_fault, refuses}
+use Rattle.crsm_app.proofs.doing.run_sheet.Goals as goal
 
 pub returns-clause-did : goal.returns-clause-did
 returns-clause-did g c = did_so c.replay_node.result c.sheet_status.result c.sheet_status.ensures c.args.me c.args.n _ _ _ _ c.replay_node.ensures.ran
@@ -25,3 +25,6 @@ returns-clause-limit g c = λ bytes is long e. c.replay_node.ensures.limit bytes
 
 pub returns-clause-within : goal.returns-clause-within
 returns-clause-within g c = λ bytes is short e. c.replay_node.ensures.within bytes is short (is_long c.replay_node.result c.sheet_status.result c.sheet_status.ensures e)
+
+pub returns-clause-no_port : goal.returns-clause-no_port
+returns-clause-no_port g c = is_no_port c.replay_node.result c.sheet_status.result c.sheet_status.ensures

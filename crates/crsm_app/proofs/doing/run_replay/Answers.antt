@@ -1,5 +1,5 @@
-use Rattle.crsm_app.proofs.Schedules.{completes, did_so, is_done, is_long, is_read_fault, is_too_long, is_write_fault, refuses}
-use Rattle.crsm_app.proofs.command.run_replay.Goals as goal
+use Rattle.crsm_app.proofs.Schedules.{completes, did_so, is_done, is_long, is_no_port, is_read_fault, is_too_long, is_write_fault, refuses}
+use Rattle.crsm_app.proofs.doing.run_replay.Goals as goal
 
 pub returns-clause-did : goal.returns-clause-did
 returns-clause-did g c = did_so c.replay.result c.replay_status.result c.replay_status.ensures _ _ _ _ c.replay.ensures.ran
@@ -24,3 +24,6 @@ returns-clause-limit g c = λ bytes is long e. c.replay.ensures.limit bytes is l
 
 pub returns-clause-within : goal.returns-clause-within
 returns-clause-within g c = λ bytes is short e. c.replay.ensures.within bytes is short (is_long c.replay.result c.replay_status.result c.replay_status.ensures e)
+
+pub returns-clause-no_port : goal.returns-clause-no_port
+returns-clause-no_port g c = is_no_port c.replay.result c.replay_status.result c.replay_status.ensures

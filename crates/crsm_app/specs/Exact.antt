@@ -1,0 +1,63 @@
+-- Answers that are exact, unless memory ran out.
+use Rattle.std.specs.Prelude.{◌≡◌, ◌⊎◌, ℕ, ◌+◌, List, Option}
+use Rattle.crsm_base.specs.declared.Command.{Command}
+use Rattle.crsm_client.specs.Asking.{WhereNotReplied, WhereReplied}
+use Rattle.crsm_faults.specs.Counts.{Rose}
+use Rattle.crsm_port.specs.Meaning.{Meaning}
+use Rattle.crsm_replay.specs.Run as schedule
+use Rattle.crsm_replay.specs.State.{count_of}
+use Rattle.crsm_replay.specs.declared.cause.Cause.{Cause}
+use Rattle.crsm_replay_node.specs.Run as sheet
+use Rattle.crsm_replay_node.specs.declared.cause.SheetCause.{SheetCause}
+use Rattle.crsm_words.specs.declared.order.Task.{Task}
+use Rattle.crsm_words.specs.declared.order.Task.TheVariants.{Show, Replay, ReplayNode, Client, Operate}
+use Rattle.crsm_app.specs.Devices.{Devices}
+use Rattle.crsm_app.specs.declared.status.Status.{Status}
+
+abbrev pub IsDone : Status → Type 0
+IsDone result = (result ≡ Status.Ok) ⊎ (result ≡ Status.NoMemory)
+
+-- refused for this line and cause
+abbrev pub IsRefused : ℕ → Cause → Status → Type 0
+IsRefused line cause result = (result ≡ Status.BadInput line cause) ⊎ (result ≡ Status.NoMemory)
+
+-- refused for this line of a sheet as no line, or at `open` for a body that is no log
+abbrev pub IsRefusedSheet : ℕ → SheetCause → Status → Type 0
+IsRefusedSheet line SheetCause.Unreadable result = IsRefused line Cause.Unreadable result
+IsRefusedSheet line (SheetCause.BadLog entry why) result = (result ≡ Status.BadLog entry why) ⊎ (result ≡ Status.NoMemory)
+
+abbrev pub IsTooLong : Status → Type 0
+IsTooLong result = (result ≡ Status.InputTooLong) ⊎ (result ≡ Status.NoMemory)
+
+abbrev pub IsUnanswered : Status → Type 0
+IsUnanswered result = (result ≡ Status.NoAnswer) ⊎ (result ≡ Status.NoMemory)
+
+-- of what is left: a schedule within the limit is done, a bad line is refused, more than the limit is too long
+pub record ReplaysExactly (left : Option (List ℕ)) (result : Status) : Type 0 where
+  pub complete : schedule.WhereSchedule left (λ s. IsDone result)
+  pub refused : schedule.WhereBad left (λ read cause. IsRefused (count_of read + 1) cause result)
+  pub too_long : schedule.WhereTooLong left (IsTooLong result)
+
+-- the same of a sheet
+pub record SheetsExactly (me n : ℕ) (left : Option (List ℕ)) (result : Status) : Type 0 where
+  pub complete : sheet.WhereSheet me n left (IsDone result)
+  pub refused : sheet.WhereBad me n left (λ line cause. IsRefusedSheet line cause result)
+  pub too_long : sheet.WhereTooLong me n left (IsTooLong result)
+
+-- of what was taken: it is done where the reply is among it, and not answered where it is not
+pub record AsksExactly (cluster to : ℕ) (command : Command) (result : Status) (old new : Meaning) (out_old out_new : ℕ) : Type 0 where
+  pub complete : WhereReplied cluster to command old new (¬ (Rose out_old out_new) → IsDone result)
+  pub no_answer : WhereNotReplied cluster to command old new (IsUnanswered result)
+
+-- where no fault of the input or of the output was counted
+abbrev pub WhereFaultless : (old new : Devices) → Type 0 → Type 0
+WhereFaultless old new P = ¬ (Rose old.read_faults new.read_faults) → ¬ (Rose old.write_faults new.write_faults) → P
+
+-- how a task that is there is answered
+abbrev pub Exactly : (cluster : ℕ) → Task → Status → (old new : Devices) → Type 0
+Exactly cluster (Show text) result old new = ¬ (Rose old.write_faults new.write_faults) → IsDone result
+Exactly cluster Replay result old new = WhereFaultless old new (ReplaysExactly old.left result)
+Exactly cluster (ReplayNode me n) result old new = WhereFaultless old new (SheetsExactly me n old.left result)
+Exactly cluster (Client to turns command) result old new = AsksExactly cluster to command result old.port new.port old.write_faults new.write_faults
+Exactly cluster (Operate to members) result old new = ¬ (Rose old.port.losses new.port.losses) → IsDone result
+Exactly cluster _ result old new = Unit {0}

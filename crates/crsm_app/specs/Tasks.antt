@@ -1,0 +1,33 @@
+-- Kinds of tasks.
+use Rattle.std.specs.Prelude.{◌<◌}
+use Rattle.crsm_base.specs.Spelling.{FitsCommand}
+use Rattle.crsm_words.specs.Orders.{IsClusterSize}
+use Rattle.crsm_words.specs.declared.order.Task.{Task}
+use Rattle.crsm_words.specs.declared.order.Task.TheVariants.{Show, Replay, ReplayNode, Client, Operate}
+
+-- the tasks that are there
+abbrev pub IsThere : Task → Type 0
+IsThere (Show text) = Unit {0}
+IsThere Replay = Unit {0}
+IsThere (ReplayNode me n) = Unit {0}
+IsThere (Client to turns command) = Unit {0}
+IsThere (Operate to members) = Unit {0}
+IsThere _ = ⊥
+
+-- the tasks that read an input
+abbrev pub IsReader : Task → Type 0
+IsReader Replay = Unit {0}
+IsReader (ReplayNode me n) = Unit {0}
+IsReader _ = ⊥
+
+-- the tasks that ask a replica over the port
+abbrev pub IsAsker : Task → Type 0
+IsAsker (Client to turns command) = Unit {0}
+IsAsker (Operate to members) = Unit {0}
+IsAsker _ = ⊥
+
+-- its values are within the limits
+abbrev pub IsWithinLimits : Task → Type 0
+IsWithinLimits (ReplayNode me n) = (me < 15) × IsClusterSize n
+IsWithinLimits (Client to turns command) = FitsCommand command
+IsWithinLimits _ = Unit {0}

@@ -1,0 +1,144 @@
+//! Does the task of an order.
+
+ghost use Rattle.std.specs.Prelude.{◌≡◌, ◌≢◌, ◌<◌, ◌≤◌, ◌⊎◌, ℕ, List, Some, length};
+ghost use Rattle.crsm_base.specs.Spelling.{FitsCommand};
+ghost use Rattle.crsm_faults.specs.Counts.{Rose};
+ghost use Rattle.crsm_input.specs.Exact as loop_exact;
+ghost use Rattle.crsm_app.specs.Devices.{devices_of};
+ghost use Rattle.crsm_app.specs.Did.{Did, DidClient, DidOperate, DidReplay, DidSheet, Shows};
+ghost use Rattle.crsm_app.specs.Exact.{AsksExactly, Exactly, IsDone, ReplaysExactly, SheetsExactly};
+ghost use Rattle.crsm_app.specs.Run.{PortFailed};
+ghost use Rattle.crsm_app.specs.Tasks.{IsAsker, IsReader, IsThere, IsWithinLimits};
+
+use crate::status::{Status, client_status, operate_status, replay_status, sheet_status};
+use crsm_base::Members;
+use crsm_client::{ClientOrder, client, operate_command};
+use crsm_input::MAX_INPUT_BYTES;
+use crsm_io::{Sink, Source, put_all};
+use crsm_port::Port;
+use crsm_replay::replay;
+use crsm_replay_node::replay_node;
+use crsm_words::{Order, Task};
+use std::alloc::Global;
+
+/// Runs a schedule.
+fn run_replay<I: Source, O: Sink>(alloc: Global, input: &mut I, output: &mut O) -> Status
+    ensures did { DidReplay result (I.left input.old) (I.left input.new) (O.written output.old) (O.written output.new) }
+    ensures read_fault { result ≡ Status.ReadFault → Rose (I.faults input.old) (I.faults input.new) }
+    ensures write_fault { result ≡ Status.WriteFault → Rose (O.faults output.old) (O.faults output.new) }
+    ensures exact { loop_exact.WhereFaultless (I.faults input.old) (I.faults input.new) (O.faults output.old) (O.faults output.new) (ReplaysExactly (I.left input.old) result) }
+    ensures limit { (bytes : List ℕ) → I.left input.old ≡ Some bytes → MAX_INPUT_BYTES < length bytes → result ≢ Status.Ok }
+    ensures within { (bytes : List ℕ) → I.left input.old ≡ Some bytes → length bytes ≤ MAX_INPUT_BYTES → result ≢ Status.InputTooLong }
+    ensures no_port { result ≢ Status.PortFault }
+{
+    replay_status(replay(alloc, input, output))
+}
+
+/// Runs the sheet of replica `me` of a cluster that began with `n`.
+fn run_sheet<I: Source, O: Sink>(
+    alloc: Global,
+    me: u32,
+    n: u32,
+    input: &mut I,
+    output: &mut O,
+) -> Status
+    requires me_below { me < 15 }
+    requires some { 1 ≤ n }
+    requires few { n ≤ 15 }
+    ensures did { DidSheet me n result (I.left input.old) (I.left input.new) (O.written output.old) (O.written output.new) }
+    ensures read_fault { result ≡ Status.ReadFault → Rose (I.faults input.old) (I.faults input.new) }
+    ensures write_fault { result ≡ Status.WriteFault → Rose (O.faults output.old) (O.faults output.new) }
+    ensures exact { loop_exact.WhereFaultless (I.faults input.old) (I.faults input.new) (O.faults output.old) (O.faults output.new) (SheetsExactly me n (I.left input.old) result) }
+    ensures limit { (bytes : List ℕ) → I.left input.old ≡ Some bytes → MAX_INPUT_BYTES < length bytes → result ≢ Status.Ok }
+    ensures within { (bytes : List ℕ) → I.left input.old ≡ Some bytes → length bytes ≤ MAX_INPUT_BYTES → result ≢ Status.InputTooLong }
+    ensures no_port { result ≢ Status.PortFault }
+{
+    sheet_status(replay_node(alloc, me, n, input, output))
+}
+
+/// Writes a text that was asked for.
+fn show<O: Sink>(text: &[u8], output: &mut O) -> Status
+    ensures shows { Shows text.now result (O.written output.old) (O.written output.new) }
+    ensures write_fault { result ≡ Status.WriteFault → Rose (O.faults output.old) (O.faults output.new) }
+    ensures exact { ¬ (Rose (O.faults output.old) (O.faults output.new)) → IsDone result }
+{
+    match put_all(output, text) {
+        Ok(()) => Status::Ok,
+        Err(_) => Status::WriteFault,
+    }
+}
+
+/// Asks a replica for a command.
+fn run_client<O: Sink, P: Port>(
+    alloc: Global,
+    order: &ClientOrder,
+    cluster: u64,
+    output: &mut O,
+    port: &mut P,
+) -> Status
+    requires { FitsCommand order.now.command }
+    ensures did { DidClient cluster order.now result (P.meaning port.old) (P.meaning port.new) (O.written output.old) (O.written output.new) }
+    ensures exact { AsksExactly cluster order.now.to order.now.command result (P.meaning port.old) (P.meaning port.new) (O.faults output.old) (O.faults output.new) }
+    ensures write_fault { result ≡ Status.WriteFault → Rose (O.faults output.old) (O.faults output.new) }
+    ensures port_fault { let old = P.meaning port.old in let new = P.meaning port.new in result ≡ Status.PortFault → Rose old.faults new.faults ⊎ Rose old.losses new.losses }
+{
+    client_status(client(alloc, order, cluster, port, output))
+}
+
+/// Asks a replica for another membership.
+fn run_operate<P: Port>(
+    alloc: Global,
+    to: u64,
+    members: &Members,
+    cluster: u64,
+    port: &mut P,
+) -> Status
+    ensures did { DidOperate cluster to members.now result (P.meaning port.old) (P.meaning port.new) }
+    ensures exact { let old = P.meaning port.old in let new = P.meaning port.new in ¬ (Rose old.losses new.losses) → IsDone result }
+    ensures port_fault { let old = P.meaning port.old in let new = P.meaning port.new in result ≡ Status.PortFault → Rose old.losses new.losses }
+{
+    operate_status(operate_command(alloc, to, members, cluster, port))
+}
+
+/// Refuses a task that is not there.
+fn refuse(_task: Task) -> Status
+    ensures { result ≡ Status.Usage }
+{
+    Status::Usage
+}
+
+/// Does the task of an order. One that is not there is refused.
+pub(crate) fn do_order<I: Source, O: Sink, P: Port>(
+    alloc: Global,
+    order: Order,
+    input: &mut I,
+    output: &mut O,
+    port: &mut P,
+) -> Status
+    requires { IsWithinLimits order.task }
+    ensures did { let at = devices_of I.left I.faults O.written O.faults P.meaning in
+        Did order.cluster order.task result (at input.old output.old port.old) (at input.new output.new port.new) }
+    ensures exact { let at = devices_of I.left I.faults O.written O.faults P.meaning in
+        Exactly order.cluster order.task result (at input.old output.old port.old) (at input.new output.new port.new) }
+    ensures read_fault { result ≡ Status.ReadFault → Rose (I.faults input.old) (I.faults input.new) }
+    ensures write_fault { result ≡ Status.WriteFault → Rose (O.faults output.old) (O.faults output.new) }
+    ensures port_fault { let at = devices_of I.left I.faults O.written O.faults P.meaning in
+        result ≡ Status.PortFault → PortFailed (at input.old output.old port.old) (at input.new output.new port.new) order.task }
+    ensures limit { IsReader order.task → (bytes : List ℕ) → I.left input.old ≡ Some bytes → MAX_INPUT_BYTES < length bytes → result ≢ Status.Ok }
+    ensures within { (bytes : List ℕ) → I.left input.old ≡ Some bytes → length bytes ≤ MAX_INPUT_BYTES → result ≢ Status.InputTooLong }
+    ensures input { ¬ (IsReader order.task) → input.new ≡ input.old }
+    ensures port { ¬ (IsAsker order.task) → port.new ≡ port.old }
+{
+    let Order { cluster, task } = order;
+    match task {
+        Task::Show(text) => show(text.as_slice(), output),
+        Task::Replay => run_replay(alloc, input, output),
+        Task::ReplayNode { me, n } => run_sheet(alloc, me, n, input, output),
+        Task::Client { to, turns, command } => {
+            let order = ClientOrder { to, turns, command };
+            run_client(alloc, &order, cluster, output, port)
+        }
+        Task::Operate { to, members } => run_operate(alloc, to, &members, cluster, port),
+        task => refuse(task),
+    }
+}
