@@ -2,3 +2,5 @@ pub mod Last
 pub mod Views
 pub mod Durable
 pub mod Answers
+mod Opened
+mod Worked

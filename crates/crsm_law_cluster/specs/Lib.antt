@@ -1,3 +1,4 @@
 pub mod OneList
 pub mod Going
 pub mod Laws
+pub mod Examples
