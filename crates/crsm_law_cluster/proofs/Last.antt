@@ -12,7 +12,7 @@ use Rattle.crsm_spec.specs.Run.{longest}
 use Rattle.crsm_spec.specs.World.{World, Site, log_of, log_at}
 use Rattle.crsm_log_facts.specs.Logs.{Extends, same, more, AreSpelt}
 use Rattle.crsm_log_facts.proofs.Lists.{flat_from, flat_in}
-use Rattle.crsm_log_facts.proofs.Logged.{end_fits}
+use Rattle.crsm_log_facts.proofs.Logged.{end_fits, extends_trans}
 use Rattle.crsm_log_facts.proofs.LogsFit.{executed_rises}
 use Rattle.crsm_law_epoch.proofs.Words.{among_map, among_unmap, is_range}
 use Rattle.crsm_law_epoch.proofs.LogWorlds.{logs_fit}
@@ -29,7 +29,7 @@ use Rattle.crsm_law_histories.specs.Showing.{IsShown}
 use Rattle.crsm_law_histories.proofs.Showing.{histories_are_shown}
 use Rattle.crsm_law_histories.proofs.Agree.{shown_short, list_is}
 use Rattle.crsm_law_cluster.specs.OneList.{lists, one_list}
-use Rattle.crsm_law_cluster.specs.Laws.{IsHistory, ListsAreOne}
+use Rattle.crsm_law_cluster.specs.Laws.{IsHistory, ListsAreOne, ExecutedListsGrow}
 
 -- the last cluster is one of all
 last_of : (c : Cluster) (h : List Event) → Among (clusters_from c h) (last_from c h)
@@ -143,3 +143,12 @@ module _ (n : ℕ) (h : List Event) (q : IsHistory n h) where
 
 pub lists_are_one : ListsAreOne
 lists_are_one n h q = record { prefixes = prefixes n h q; ascending = rises n h q }
+
+pub executed_lists_grow : ExecutedListsGrow
+executed_lists_grow n h q i j c d le p r k =
+    let t = (shown n h q).between i j c d le p r in
+    let a = log_at t.world k in
+    let b = log_at t.next k in
+    subst (λ z. IsPrefixOf z (executed (log_in d k))) (sym (list_is n c t.world t.shown k))
+    (subst (IsPrefixOf (executed a)) (sym (list_is n d t.next t.next_shown k))
+    (shorter_prefix (executed a) (executed b) (agree n h q k k a b (extends_trans (t.later k) (t.goes_on k)) (t.goes_on k)) (executed_longer a b (t.later k))))

@@ -31,6 +31,13 @@ pub record IsOneList (n : ℕ) (h : List Event) : Type 0 where
 abbrev pub ListsAreOne : Type 0
 ListsAreOne = (n : ℕ) (h : List Event) → IsHistory n h → IsOneList n h
 
+-- What a log file has as executed stays at its place there, whoever is killed and started again.
+abbrev pub ExecutedListsGrow : Type 0
+ExecutedListsGrow =
+    (n : ℕ) (h : List Event) → IsHistory n h → (i j : ℕ) (c d : Cluster) → i ≤ j →
+    slice_get (clusters n h) i ≡ Some c → slice_get (clusters n h) j ≡ Some d → (k : ℕ) →
+    IsPrefixOf (executed (log_in c k)) (executed (log_in d k))
+
 -- Decisions in log files are equal where their epochs are, and what each begins its epoch with agrees with the one
 -- list.
 abbrev pub DecisionsAgree : Type 0

@@ -2,11 +2,16 @@
 #![tactic(auto)]
 
 ghost use Rattle.crsm_law_cluster.specs.Examples.{AnswersAndDecides};
-ghost use Rattle.crsm_law_cluster.specs.Laws.{ListsAreOne, DecisionsAgree, ExecutedAreDurable, AnswersAreRight, AnsweredAreDurable};
+ghost use Rattle.crsm_law_cluster.specs.Laws.{ListsAreOne, ExecutedListsGrow, DecisionsAgree, ExecutedAreDurable, AnswersAreRight, AnsweredAreDurable};
 
 /// The executed lists of all log files, at all moments, are prefixes of one list, which rises by epoch and stamp.
 pub fn lists_are_one()
     ensures { ListsAreOne }
+{}
+
+/// What a log file has as executed stays at its place there, whoever is killed and started again.
+pub fn executed_lists_grow()
+    ensures { ExecutedListsGrow }
 {}
 
 /// Decisions of one epoch are equal, and what each begins its epoch with agrees with the one list.
