@@ -1,0 +1,11 @@
+-- Clusters of the replicas that they began with.
+use Rattle.std.specs.Prelude.{◌≡◌, ◌≤◌, ℕ, length}
+use Rattle.crsm_base.specs.Replicas.{numbers_below}
+use Rattle.crsm_spec.specs.Log.{spec}
+use Rattle.crsm_spec.specs.World.{World, log_at}
+
+-- The replicas are the n that the cluster began with, and each counts majorities over them.
+pub record HasFoundersAlone (n : ℕ) (w : World) : Type 0 where
+  pub some : 1 ≤ n
+  pub replicas : length w.sites ≡ n
+  pub specs : (k : ℕ) → spec w.n (log_at w k) ≡ numbers_below n
