@@ -7,6 +7,7 @@ use crsm_io::MemSink;
 use crsm_node::NodeOrder;
 use crsm_port::MemPort;
 use std::alloc::Global;
+use std::str::Split;
 
 /// The most bytes of a sheet.
 const SHEET_BYTES: u64 = 4_194_304;
@@ -37,7 +38,7 @@ impl Script {
     }
 }
 
-fn word<'a, I: Iterator<Item = &'a str>>(words: &mut I) -> Result<&'a str, Fault> {
+fn word<'a>(words: &mut Split<'a, char>) -> Result<&'a str, Fault> {
     words.next().ok_or(Fault::Unreadable)
 }
 
@@ -57,10 +58,7 @@ fn numbers(alloc: Global, text: &str) -> Result<Vec<u64>, Fault> {
     Ok(found)
 }
 
-fn read_order<'a, I: Iterator<Item = &'a str>>(
-    alloc: Global,
-    words: &mut I,
-) -> Result<NodeOrder, Fault> {
+fn read_order(alloc: Global, words: &mut Split<'_, char>) -> Result<NodeOrder, Fault> {
     let me = number(word(words)?)?;
     let n = number(word(words)?)?;
     let turns = number(word(words)?)?;
@@ -71,9 +69,9 @@ fn read_order<'a, I: Iterator<Item = &'a str>>(
     NodeOrder::new(me, n, turns, peers, cluster).ok_or(Fault::Unreadable)
 }
 
-fn read_devices<'a, I: Iterator<Item = &'a str>>(
+fn read_devices(
     alloc: Global,
-    words: &mut I,
+    words: &mut Split<'_, char>,
     before: Option<MemDisk>,
 ) -> Result<Devices, Fault> {
     let clock = ListClock::new(alloc, &numbers(alloc, word(words)?)?)?;
