@@ -1,4 +1,4 @@
-//! One case: a header that says how it is run, and an input.
+//! One case: a header that says how it is run, the datagrams that wait at its port, and an input.
 
 use crsm_app::{Status, run};
 use crsm_base::NoMemory;
@@ -6,6 +6,7 @@ use crsm_clock::ListClock;
 use crsm_disk::MemDisk;
 use crsm_io::{MemSink, MemSource};
 use crsm_port::MemPort;
+use crsm_text::{LineError, hex_of, read_number};
 use std::alloc::Global;
 
 /// How a case is run: the words of a header after its name.
@@ -19,13 +20,16 @@ enum Manner {
     Read(u64),
     /// `write K`: the K-th write fails.
     Write(u64),
+    /// `port K`: the K-th call of the port fails.
+    Port(u64),
 }
 
-/// What a run answered, and what it wrote.
+/// What a run answered, what it wrote, and the port that it sent over.
 #[derive(Drop)]
 pub struct Ran {
     pub status: Status,
     pub output: MemSink,
+    pub port: MemPort,
 }
 
 fn manner_of(header: &str) -> Manner {
@@ -36,6 +40,7 @@ fn manner_of(header: &str) -> Manner {
         (Some("cut"), _) => Manner::Cut,
         (Some("read"), Some(call)) => Manner::Read(call),
         (Some("write"), Some(call)) => Manner::Write(call),
+        (Some("port"), Some(call)) => Manner::Port(call),
         _ => Manner::Plain,
     }
 }
@@ -76,27 +81,68 @@ fn sink_of(alloc: Global, manner: Manner) -> Result<MemSink, NoMemory> {
     Ok(output)
 }
 
-/// Runs an input over memory in the manner that the header names.
-pub fn run_case(alloc: Global, header: &str, text: &str) -> Result<Ran, NoMemory> {
-    let (front, words) = match header.split_once(" words") {
-        Some((front, words)) => (front, Some(words)),
-        None => (header, None),
+/// Puts the datagram of a line `FROM HEX` into the port.
+fn put_datagram(alloc: Global, port: &mut MemPort, line: &str) -> Result<(), LineError> {
+    let Some((from, hex)) = line.split_once(' ') else {
+        return Err(LineError::Unreadable);
     };
-    let manner = manner_of(front);
-    let words = words_of(alloc, words)?;
-    let mut input = source_of(alloc, manner, text)?;
-    let mut output = sink_of(alloc, manner)?;
-    let mut port = MemPort::new(alloc, &[])?;
+    let Some(from) = read_number(from.as_bytes()) else {
+        return Err(LineError::Unreadable);
+    };
+    let bytes = hex_of(alloc, hex.as_bytes())?;
+    port.put(from, bytes.as_slice())?;
+    Ok(())
+}
+
+/// The port of a case, at which these datagrams wait, one a line.
+fn port_of(alloc: Global, manner: Manner, datagrams: &str) -> Result<MemPort, LineError> {
+    let mut port = match manner {
+        Manner::Port(call) => MemPort::new(alloc, &[call])?,
+        _ => MemPort::new(alloc, &[])?,
+    };
+    for line in datagrams.lines() {
+        put_datagram(alloc, &mut port, line)?;
+    }
+    Ok(port)
+}
+
+/// Does what the words say over memory.
+fn run_over(
+    alloc: Global,
+    words: &[String],
+    mut input: MemSource,
+    mut output: MemSink,
+    mut port: MemPort,
+) -> Result<Ran, NoMemory> {
     let mut disk = MemDisk::new(alloc, &[], None, 0)?;
     let mut clock = ListClock::new(alloc, &[])?;
     let status = run(
         alloc,
-        &words,
+        words,
         &mut input,
         &mut output,
         &mut port,
         &mut disk,
         &mut clock,
     );
-    Ok(Ran { status, output })
+    Ok(Ran {
+        status,
+        output,
+        port,
+    })
+}
+
+/// Runs an input over memory in the manner that the header names. Datagrams stand in front of the input, before a line `--`.
+pub fn run_case(alloc: Global, header: &str, text: &str) -> Result<Ran, LineError> {
+    let (front, words) = match header.split_once(" words") {
+        Some((front, words)) => (front, Some(words)),
+        None => (header, None),
+    };
+    let (datagrams, text) = text.split_once("--\n").unwrap_or(("", text));
+    let manner = manner_of(front);
+    let port = port_of(alloc, manner, datagrams)?;
+    let input = source_of(alloc, manner, text)?;
+    let output = sink_of(alloc, manner)?;
+    let words = words_of(alloc, words)?;
+    Ok(run_over(alloc, &words, input, output, port)?)
 }
