@@ -1,1 +1,5 @@
 pub mod Possibly
+pub mod Decisions
+pub mod Happenings
+pub mod Worlds
+pub mod Runs

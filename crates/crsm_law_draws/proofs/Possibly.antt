@@ -3,7 +3,7 @@ use Rattle.std.proofs.Common.{◌≡◌, ◌<◌, ◌≤◌, ◌+◌, ℕ, zero,
 use Rattle.std.specs.Prelude.{filter, nat_le, slice_get}
 use Rattle.std.specs.List.{enumerate_from, list_all, list_any}
 use Rattle.std.specs.Option.{option_map_or}
-use Rattle.std.proofs.lemmas.Bool.{lt-leb, le-ltb, and_parts}
+use Rattle.std.proofs.lemmas.Bool.{lt-leb, le-ltb, leb-false, and_parts}
 use Rattle.std.proofs.lemmas.List.FromFn.{length-range_with_len}
 use Rattle.crsm_base.specs.Replicas.{has, majority, numbers_below}
 use Rattle.crsm_generator.specs.Possible.{CanHappen, CanStart, IsAmong, SingleCanHappen}
@@ -15,7 +15,7 @@ use Rattle.crsm_spec.specs.Possible.{are_too_few, causes_at, causes_of, causes_o
 use Rattle.crsm_spec.specs.World.{Packet, Site, World, is_full, is_up, is_up_at}
 use Rattle.crsm_world.specs.Doing.{act_of, single_of}
 use Rattle.crsm_world.specs.Seen.{mark_of, view_of}
-use Rattle.crsm_law_draws.specs.Founders.{HasFoundersAlone}
+use Rattle.crsm_law_draws.specs.Founders.{HasFoundersAlone, IsNext, StartsAFounder}
 
 -- ---- places of a list
 
@@ -255,3 +255,25 @@ event_can n w (Event.CutAt calls fill single) founders can = absurd can
 pub possible_in : (n : ℕ) (w : World) (e : Event) → HasFoundersAlone n w → is_full w ≡ false → CanHappen n (view_of w) e → possible w (act_of e) ≡ None
 unfolding possible
 possible_in n w e founders room can = past _ (Bad.Full w.bytes) _ room (event_can n w e founders can)
+
+-- ---- what starts
+
+below : (w : World) (k : ℕ) → is_none_of w k ≡ false → k < length w.sites
+unfolding is_none_of
+below w k e = leb-false (length w.sites) k e
+
+starts_founder : (n : ℕ) (w : World) (e : Event) → HasFoundersAlone n w → CanHappen n (view_of w) e → StartsAFounder n (act_of e)
+unfolding act_of
+starts_founder n w (Event.One single) founders can = tt
+starts_founder n w (Event.Lose i) founders can = tt
+starts_founder n w (Event.Crash r) founders can = tt
+starts_founder n w (Event.Start k) founders can = subst (λ size. k < size) founders.replicas (below w k (start_can n w k founders can).here)
+starts_founder n w (Event.Settle reading) founders can = tt
+starts_founder n w (Event.CutLost single) founders can = tt
+starts_founder n w (Event.CutKept sends single) founders can = tt
+starts_founder n w (Event.Batch reading is) founders can = tt
+starts_founder n w (Event.CutLostBatch reading is) founders can = tt
+starts_founder n w (Event.CutAt calls fill single) founders can = tt
+
+pub next_in : (n : ℕ) (w : World) (e : Event) → HasFoundersAlone n w → is_full w ≡ false → CanHappen n (view_of w) e → IsNext n w (act_of e)
+next_in n w e founders room can = record { possible_here = possible_in n w e founders room can; founder = starts_founder n w e founders can }

@@ -1,14 +1,30 @@
 -- The laws of what is drawn.
-use Rattle.std.specs.Prelude.{◌≡◌, ℕ, false, None}
+use Rattle.std.specs.Prelude.{◌≡◌, ◌≤◌, ℕ, false, List, None}
+use Rattle.std.specs.List.{AllByRecursion}
 use Rattle.crsm_generator.specs.Drawing.{drawn_next}
 use Rattle.crsm_generator.specs.declared.drawing.Drawing.{Drawing}
+use Rattle.crsm_spec.specs.Acts.{Act}
 use Rattle.crsm_spec.specs.Possible.{possible}
-use Rattle.crsm_spec.specs.World.{World, is_full}
+use Rattle.crsm_spec.specs.Run.{ArePossible, last_world}
+use Rattle.crsm_spec.specs.World.{World, begin, is_full}
 use Rattle.crsm_world.specs.Doing.{act_of}
 use Rattle.crsm_world.specs.Seen.{view_of}
-use Rattle.crsm_law_draws.specs.Founders.{HasFoundersAlone}
+use Rattle.crsm_law_draws.specs.Founders.{HasFoundersAlone, IsNext, StartsAFounder}
 
 -- What is drawn for a world of its founders alone is possible there, if the world is not full.
 abbrev pub DrawnArePossible : Type 0
 DrawnArePossible =
     (n : ℕ) (w : World) (s : Drawing) → HasFoundersAlone n w → is_full w ≡ false → possible w (act_of (drawn_next n (view_of w) s).0) ≡ None
+
+-- A possible run that starts no replica but the first n comes to a world of these alone, which count majorities over
+-- all n.
+abbrev pub FoundersStay : Type 0
+FoundersStay =
+    (n : ℕ) (acts : List Act) → 1 ≤ n → n ≤ 15 → ArePossible (begin n) acts → AllByRecursion (StartsAFounder n) acts → HasFoundersAlone n (last_world n acts)
+
+-- Where such a run has come to, what is drawn next is possible if the world is not full, and starts no other replica.
+-- So by induction each event of a run that is drawn is possible where it is done, if lines can spell those before it.
+abbrev pub DrawnRunsGoOn : Type 0
+DrawnRunsGoOn =
+    (n : ℕ) (acts : List Act) (s : Drawing) → 1 ≤ n → n ≤ 15 → ArePossible (begin n) acts → AllByRecursion (StartsAFounder n) acts →
+    is_full (last_world n acts) ≡ false → IsNext n (last_world n acts) (act_of (drawn_next n (view_of (last_world n acts)) s).0)

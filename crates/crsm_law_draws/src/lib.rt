@@ -1,14 +1,32 @@
 //! What a generator draws is possible where it is done.
 #![tactic(auto)]
 
-ghost use Rattle.crsm_law_draws.specs.Laws.{DrawnArePossible};
+ghost use Rattle.crsm_law_draws.specs.Laws.{DrawnArePossible, DrawnRunsGoOn, FoundersStay};
 
 use crsm_generator::drawn_can_happen;
+use crsm_law_runs::worlds_are_on_the_way;
 
-/// An event that is drawn is possible in a world that is not full, where the replicas are those that the cluster began with
-/// and majorities are counted over all of them.
+/// An event that is drawn is possible in a world that is not full, where the replicas are those that the cluster began
+/// with and majorities are counted over all of them.
 pub fn drawn_are_possible()
     ensures { DrawnArePossible }
 {
     drawn_can_happen();
+}
+
+/// In a possible run of 1 to 15 replicas that starts no new one, the replica set stays that of the beginning: no
+/// decision names another.
+pub fn founders_stay()
+    ensures { FoundersStay }
+{
+    worlds_are_on_the_way();
+}
+
+/// After a possible run of 1 to 15 replicas that started no new one, what is drawn next is possible too unless the
+/// world is full, and starts no new replica: so a run can be drawn event by event.
+pub fn drawn_runs_go_on()
+    ensures { DrawnRunsGoOn }
+{
+    drawn_can_happen();
+    founders_stay();
 }
