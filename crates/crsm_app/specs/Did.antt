@@ -11,8 +11,12 @@ use Rattle.crsm_replay.specs.Run as schedule
 use Rattle.crsm_replay.specs.declared.cause.Cause.{Cause}
 use Rattle.crsm_replay_node.specs.Run as sheet
 use Rattle.crsm_replay_node.specs.declared.cause.SheetCause.{SheetCause}
+use Rattle.crsm_soak.specs.Soak.{drawn}
+use Rattle.crsm_soak.specs.Text.{soak_text}
 use Rattle.crsm_words.specs.declared.order.Task.{Task}
-use Rattle.crsm_words.specs.declared.order.Task.TheVariants.{Show, Replay, ReplayNode, Client, Operate}
+use Rattle.crsm_words.specs.declared.order.Task.TheVariants.{Show, Replay, ReplayNode, Client, Operate, Soak}
+use Rattle.crsm_world.specs.Laws.{IsLawful}
+use Rattle.crsm_world.specs.Schedule.{acts_of}
 use Rattle.crsm_app.specs.Devices.{Devices}
 use Rattle.crsm_app.specs.Statuses.{status_of_client, status_of_operate}
 use Rattle.crsm_app.specs.declared.status.Status.{Status}
@@ -58,6 +62,13 @@ pub record DidOperate (cluster to : ℕ) (members : List ℕ) (result : Status) 
   pub status : result ≡ status_of_operate ended
   pub operates : Operates cluster to members old new ended
 
+-- What a number draws was run, and all laws hold of it: its summary was written, or a prefix where the output failed.
+abbrev pub DidSoak : (number n steps : ℕ) → Status → (had has : Option (List ℕ)) → Type 0
+DidSoak number n steps Status.Ok had has = IsLawful n (acts_of (drawn number n steps)) × Puts had has (soak_text (drawn number n steps))
+DidSoak number n steps Status.WriteFault had has = IsLawful n (acts_of (drawn number n steps)) × PutsPrefix had has (soak_text (drawn number n steps))
+DidSoak number n steps Status.NoMemory had has = PutsPrefix had has (soak_text (drawn number n steps))
+DidSoak number n steps _ had has = ⊥
+
 -- a task was done in a cluster, or it is none that is there
 abbrev pub Did : (cluster : ℕ) → Task → Status → (old new : Devices) → Type 0
 Did cluster (Show text) result old new = (new.left ≡ old.left) × Shows text result old.written new.written
@@ -66,4 +77,5 @@ Did cluster (ReplayNode me n) result old new = DidSheet me n result old.left new
 Did cluster (Client to turns command) result old new =
     (new.left ≡ old.left) × DidClient cluster (record { to = to; turns = turns; command = command }) result old.port new.port old.written new.written
 Did cluster (Operate to members) result old new = (new.left ≡ old.left) × (new.written ≡ old.written) × DidOperate cluster to members result old.port new.port
+Did cluster (Soak number n steps) result old new = (new.left ≡ old.left) × DidSoak number n steps result old.written new.written
 Did cluster _ result old new = (result ≡ Status.Usage) × (new ≡ old)

@@ -10,7 +10,7 @@ use Rattle.crsm_replay.specs.declared.cause.Cause.{Cause}
 use Rattle.crsm_replay_node.specs.Run as sheet
 use Rattle.crsm_replay_node.specs.declared.cause.SheetCause.{SheetCause}
 use Rattle.crsm_words.specs.declared.order.Task.{Task}
-use Rattle.crsm_words.specs.declared.order.Task.TheVariants.{Show, Replay, ReplayNode, Client, Operate}
+use Rattle.crsm_words.specs.declared.order.Task.TheVariants.{Show, Replay, ReplayNode, Client, Operate, Soak}
 use Rattle.crsm_app.specs.Devices.{Devices}
 use Rattle.crsm_app.specs.declared.status.Status.{Status}
 
@@ -60,4 +60,5 @@ Exactly cluster Replay result old new = WhereFaultless old new (ReplaysExactly o
 Exactly cluster (ReplayNode me n) result old new = WhereFaultless old new (SheetsExactly me n old.left result)
 Exactly cluster (Client to turns command) result old new = AsksExactly cluster to command result old.port new.port old.write_faults new.write_faults
 Exactly cluster (Operate to members) result old new = ¬ (Rose old.port.losses new.port.losses) → IsDone result
+Exactly cluster (Soak number n steps) result old new = ¬ (Rose old.write_faults new.write_faults) → IsDone result
 Exactly cluster _ result old new = Unit {0}

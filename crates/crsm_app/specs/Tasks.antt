@@ -3,7 +3,7 @@ use Rattle.std.specs.Prelude.{◌<◌}
 use Rattle.crsm_base.specs.Spelling.{FitsCommand}
 use Rattle.crsm_words.specs.Orders.{IsClusterSize}
 use Rattle.crsm_words.specs.declared.order.Task.{Task}
-use Rattle.crsm_words.specs.declared.order.Task.TheVariants.{Show, Replay, ReplayNode, Client, Operate}
+use Rattle.crsm_words.specs.declared.order.Task.TheVariants.{Show, Replay, ReplayNode, Client, Operate, Soak}
 
 -- the tasks that are there
 abbrev pub IsThere : Task → Type 0
@@ -12,6 +12,7 @@ IsThere Replay = Unit {0}
 IsThere (ReplayNode me n) = Unit {0}
 IsThere (Client to turns command) = Unit {0}
 IsThere (Operate to members) = Unit {0}
+IsThere (Soak number n steps) = Unit {0}
 IsThere _ = ⊥
 
 -- the tasks that read an input
@@ -30,4 +31,5 @@ IsAsker _ = ⊥
 abbrev pub IsWithinLimits : Task → Type 0
 IsWithinLimits (ReplayNode me n) = (me < 15) × IsClusterSize n
 IsWithinLimits (Client to turns command) = FitsCommand command
+IsWithinLimits (Soak number n steps) = IsClusterSize n
 IsWithinLimits _ = Unit {0}

@@ -36,6 +36,7 @@ fn is_there(task: &Task) -> bool
             | Task::ReplayNode { .. }
             | Task::Client { .. }
             | Task::Operate { .. }
+            | Task::Soak { .. }
     )
 }
 
@@ -83,9 +84,9 @@ fn schedules_are_safe()
 }
 
 /// Does what the words say: `replay` reads a schedule and writes its transcript, `replay-node ME N` reads the sheet of a
-/// replica and writes what it did, `client TO TURNS CLIENT NUMBER OP` asks a replica for a command over the port and
-/// writes its outcome, `operate TO MEMBERS` asks one for another membership, and `--help` and `--version` write a text.
-/// The other commands are not there yet.
+/// replica and writes what it did, `soak NUMBER N STEPS` runs what a number draws and writes a summary, `client TO TURNS
+/// CLIENT NUMBER OP` asks a replica for a command over the port and writes its outcome, `operate TO MEMBERS` asks one for
+/// another membership, and `--help` and `--version` write a text. The other commands are not there yet.
 pub fn run<I: Source, O: Sink, P: Port, D: Disk, C: Clock>(
     alloc: Global,
     words: &[String],

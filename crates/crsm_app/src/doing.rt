@@ -5,7 +5,7 @@ ghost use Rattle.crsm_base.specs.Spelling.{FitsCommand};
 ghost use Rattle.crsm_faults.specs.Counts.{Rose};
 ghost use Rattle.crsm_input.specs.Exact as loop_exact;
 ghost use Rattle.crsm_app.specs.Devices.{devices_of};
-ghost use Rattle.crsm_app.specs.Did.{Did, DidClient, DidOperate, DidReplay, DidSheet, Shows};
+ghost use Rattle.crsm_app.specs.Did.{Did, DidClient, DidOperate, DidReplay, DidSheet, DidSoak, Shows};
 ghost use Rattle.crsm_app.specs.Exact.{AsksExactly, Exactly, IsDone, ReplaysExactly, SheetsExactly};
 ghost use Rattle.crsm_app.specs.Run.{PortFailed};
 ghost use Rattle.crsm_app.specs.Tasks.{IsAsker, IsReader, IsThere, IsWithinLimits};
@@ -18,6 +18,7 @@ use crsm_io::{Sink, Source, put_all};
 use crsm_port::Port;
 use crsm_replay::replay;
 use crsm_replay_node::replay_node;
+use crsm_soak::{SoakEnd, soak};
 use crsm_words::{Order, Task};
 use std::alloc::Global;
 
@@ -65,6 +66,21 @@ fn show<O: Sink>(text: &[u8], output: &mut O) -> Status
     match put_all(output, text) {
         Ok(()) => Status::Ok,
         Err(_) => Status::WriteFault,
+    }
+}
+
+/// Runs what a number draws.
+fn run_soak<O: Sink>(alloc: Global, number: u64, n: u32, steps: u64, output: &mut O) -> Status
+    requires some { 1 ≤ n }
+    requires few { n ≤ 15 }
+    ensures did { DidSoak number n steps result (O.written output.old) (O.written output.new) }
+    ensures write_fault { result ≡ Status.WriteFault → Rose (O.faults output.old) (O.faults output.new) }
+    ensures exact { ¬ (Rose (O.faults output.old) (O.faults output.new)) → IsDone result }
+{
+    match soak(alloc, number, n, steps, output) {
+        SoakEnd::Done => Status::Ok,
+        SoakEnd::WriteFault => Status::WriteFault,
+        SoakEnd::NoMemory => Status::NoMemory,
     }
 }
 
@@ -139,6 +155,7 @@ pub(crate) fn do_order<I: Source, O: Sink, P: Port>(
             run_client(alloc, &order, cluster, output, port)
         }
         Task::Operate { to, members } => run_operate(alloc, to, &members, cluster, port),
+        Task::Soak { number, n, steps } => run_soak(alloc, number, n, steps, output),
         task => refuse(task),
     }
 }
