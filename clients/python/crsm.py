@@ -98,7 +98,7 @@ class _Unreadable(Exception):
 
 
 class _Reader:
-    """Takes fields off the front of bytes."""
+    """Takes fields off the beginning of bytes."""
 
     def __init__(self, data: bytes):
         self.data = data

@@ -1,4 +1,4 @@
--- The mark of a cluster, as the client puts it in front of a datagram and takes it off.
+-- The mark of a cluster, as the client puts it before a datagram and takes it off.
 use Rattle.std.specs.Prelude.{ℕ, zero, suc, List, [], length, drop, eqb, if◌then◌else◌}
 use Rattle.std.specs.List.{starts_with}
 use Rattle.crsm_port.specs.Cluster.{mark_of}

@@ -16,7 +16,7 @@ use std::alloc::Global;
 /// What a mark begins with.
 const MARK_BYTE: u8 = 16;
 
-/// What stands in front of a datagram of this cluster: nothing for cluster 0.
+/// What stands before a datagram of this cluster: nothing for cluster 0.
 pub(crate) fn mark(alloc: Global, cluster: u64) -> Result<Bytes, NoMemory>
     ensures { IfOk result (λ mark. mark ≡ mark_in cluster) }
 {

@@ -35,7 +35,7 @@ holding first listed stop fill = record {
 abbrev pub left_by_crash : Memory → Memory
 left_by_crash m = holding (image_of m.first m.calls m.fill) [] None m.fill
 
--- the room that a write of so many bytes takes: the hole in front of it, and its bytes
+-- the room that a write of so many bytes takes: the hole before it, and its bytes
 abbrev pub room_for_write : ℕ → ℕ → Memory → ℕ
 room_for_write at count m = (at - length (contents m.first m.calls)) + count
 

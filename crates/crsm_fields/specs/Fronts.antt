@@ -1,4 +1,4 @@
--- What stands in front of the values of a command's operation.
+-- What stands before the values of a command's operation.
 use Rattle.std.specs.Prelude.{ℕ, List, ◌∷◌, ◌++◌}
 use Rattle.crsm_base.specs.declared.Command.{Command}
 use Rattle.crsm_base.specs.declared.Entry.{Entry}

@@ -49,7 +49,7 @@ later_member e count k ms v w r m s =
       counts = ap (λ i. members i s.replica.log) l.n ∙ grows_members r.me r.n l.log ∙ m.counts;
     }
 
--- numbers in front of what was dropped
+-- numbers before what was dropped
 drop_numbers : {A : Type 0} (a b : ℕ) (xs : List A) → drop a (enumerate_from b xs) ≡ enumerate_from (b + a) (drop a xs)
 drop_numbers zero b xs = ap (λ i. enumerate_from i xs) (omega arith)
 drop_numbers (suc a) b [] = refl

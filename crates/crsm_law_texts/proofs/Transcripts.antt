@@ -453,7 +453,7 @@ spaced_told (v ∷ u ∷ vs) (w ∷ x ∷ ws) p q some some_too e =
     let rest : u ∷ vs ≡ x ∷ ws = spaced_told (u ∷ vs) (x ∷ ws) p.1 q.1 (omega arith) (omega arith) s.1 in
     cc
 
--- the number in front of a line
+-- the number before a line
 abbrev front : ℕ → Line → List (List ℕ)
 front at (Final r s k x) = []
 front at line = decimal at ∷ []

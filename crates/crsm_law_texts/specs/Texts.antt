@@ -90,16 +90,16 @@ pub record FitsPrinted (p : Printed) : Type 0 where
 abbrev pub printed_text : List Printed → List ℕ
 printed_text ps = flat_map (λ p. line_text p.at p.line) ps
 
--- the number in front of a line; a final line has none
+-- the number before a line; a final line has none
 abbrev pub number_before : ℕ → Line → Option ℕ
 number_before at (Final replica state known executed) = None
 number_before at line = Some at
 
--- the lines, each with the number in front of it
+-- the lines, each with the number before it
 abbrev pub lines_of : List Printed → List (Option ℕ × Line)
 lines_of ps = map (λ p. (number_before p.at p.line, p.line)) ps
 
--- two transcripts with one text have the same lines, with the same numbers in front of them
+-- two transcripts with one text have the same lines, with the same numbers before them
 abbrev pub TranscriptsAreOne : Type 0
 TranscriptsAreOne =
     (ps qs : List Printed) → AllByRecursion FitsPrinted ps → AllByRecursion FitsPrinted qs → printed_text ps ≡ printed_text qs → lines_of ps ≡ lines_of qs

@@ -19,7 +19,7 @@ pub fn spelt_are_lines()
     ensures first { FirstLinesAreLines }
 {}
 
-/// A text is the transcript of one list of lines, with the numbers in front of them.
+/// A text is the transcript of one list of lines, with the numbers before them.
 pub fn transcripts_are_one()
     ensures { TranscriptsAreOne }
 {}

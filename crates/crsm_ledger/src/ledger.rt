@@ -20,7 +20,7 @@ use crsm_base::{
 };
 use std::alloc::Global;
 
-/// What the records of a replica's log say. After an error for want of memory it is spent, and says nothing.
+/// What the records of a replica's log say. Once memory ran out it is spent, and says nothing.
 #[derive(Drop)]
 pub struct Ledger {
     pub(crate) alloc: Global,
@@ -214,7 +214,7 @@ impl Ledger {
         Ok(members)
     }
 
-    /// Keeps a record and gives its lines. `NotFit` comes exactly where the record may not come next, with its kind,
+    /// Keeps a record and gives its lines. It is `NotFit` exactly if the record may not come next, with its kind,
     /// and changes nothing. After `NoMemory` the ledger is spent.
     pub fn apply(&mut self, rec: &Rec) -> Result<Lines, LedgerError>
         requires { FitsRec rec.now }

@@ -7,7 +7,7 @@ ghost use Rattle.crsm_peer_port.specs.Senders.{IsOwn, SpeaksForItself, behind_ma
 use crsm_base::{Failed, NoMemory};
 use crsm_port::{Got, Port};
 
-// The byte 16 and the number of a cluster stand in front of its datagrams.
+// The byte 16 and the number of a cluster stand before its datagrams.
 const MARK: u8 = 16;
 
 const MARK_BYTES: usize = 9;

@@ -10,7 +10,7 @@ use crsm_base::{Failed, NoMemory};
 use crsm_faults::raise;
 use std::alloc::Global;
 
-// The byte 16 and the number stand in front of a datagram.
+// The byte 16 and the number stand before a datagram.
 const MARK: usize = 9;
 
 const MOST_SENT: usize = 8_183;

@@ -86,7 +86,7 @@ pub first_line : (line : List ℕ) (n : ℕ) (held : Held) (lines : List Line) �
 unfolding BeginsWorld
 first_line line n held lines size text stands is = record { replicas = n; size = size; text = text; stands = stands; lines_are = is }
 
--- want of memory is no refusal
+-- running out of memory is no refusal
 pub first_no_memory : (line : List ℕ) → StopsFirst Stop.NoMemory line
 unfolding StopsFirst
 first_no_memory line = tt

@@ -20,7 +20,7 @@ use std::alloc::Global;
 /// The room that is made for the text of a line, in bytes: few lines take more.
 const LINE_ROOM: usize = 96;
 
-/// The cause that the world names. Want of memory is none.
+/// The cause that the world names. Running out of memory is none.
 #[tactic(auto, unfolding(crate::specs::Causes::cause_of, crsm_world::specs::Doing::bad_of))]
 fn named_cause(bad: Bad) -> Option<Cause>
     ensures { result ≡ option_map cause_of (bad_of bad) }

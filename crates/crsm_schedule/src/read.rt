@@ -113,7 +113,7 @@ fn cut_of(alloc: Global, text: &[u8]) -> Result<Event, LineError>
     cut_kept_of(alloc, text)
 }
 
-/// The event that a line spells. Unreadable comes exactly where no event is spelt so.
+/// The event that a line spells. It is Unreadable exactly if no event is spelt so.
 pub fn read_event(alloc: Global, line: &[u8]) -> Result<Event, LineError>
     ensures found { IfOk result (λ e. FitsEvent e × (line.now ≡ event_text e)) }
     ensures only { (e : Event) → FitsEvent e → line.now ≡ event_text e → ReadsAs result e }

@@ -83,7 +83,7 @@ fn suspect_of(alloc: Global, text: &[u8]) -> Result<SheetLine, LineError>
     Ok(SheetLine::Suspect { reading, members })
 }
 
-/// What a line of a sheet says. Unreadable comes exactly where no line of a sheet is spelt so.
+/// What a line of a sheet says. It is Unreadable exactly if no line of a sheet is spelt so.
 pub fn read_sheet(alloc: Global, line: &[u8]) -> Result<SheetLine, LineError>
     ensures found { IfOk result (λ l. FitsSheetLine l × (line.now ≡ sheet_line_text l)) }
     ensures only { (l : SheetLine) → FitsSheetLine l → line.now ≡ sheet_line_text l → ReadsAs result l }

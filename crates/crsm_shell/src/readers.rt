@@ -24,7 +24,7 @@ impl<D: Disk> Shell<D> {
         self.pending
     }
 
-    /// Whether a fault of the disk, a full log or want of memory came.
+    /// Whether the disk failed, the log was full or memory ran out.
     #[tactic(auto, unfolding(crate::specs::Shell::ShellStands))]
     pub fn failed(&self) -> bool
         ensures value { result ≡ has_failed self.now }

@@ -11,7 +11,7 @@ use crsm_log::Log;
 use crsm_turns::Outbox;
 use std::alloc::Global;
 
-/// One running replica over its disk. After a fault of the disk, a full log or want of memory it has failed for good,
+/// One running replica over its disk. Once the disk failed, the log was full or memory ran out, it has failed for good,
 /// and a new one is booted on the disk.
 #[derive(Drop)]
 pub struct Shell<D: Disk> {

@@ -132,7 +132,7 @@ fn run_over(
     })
 }
 
-/// Runs an input over memory in the manner that the header names. Datagrams stand in front of the input, before a line `--`.
+/// Runs an input over memory in the manner that the header names. Datagrams come first, then a line `--` and the input.
 pub fn run_case(alloc: Global, header: &str, text: &str) -> Result<Ran, LineError> {
     let (front, words) = match header.split_once(" words") {
         Some((front, words)) => (front, Some(words)),

@@ -28,13 +28,13 @@ is_usage DisplayHelp = false
 is_usage DisplayVersion = false
 is_usage _ = true
 
--- of any words: a split comes only where `clap` finds no fault, and an error is want of memory or a fault that it finds
+-- of any words: a split comes only where `clap` finds no fault; an error is a fault that it finds, or memory ran out
 abbrev pub SplitsBy : List Text → Result ArgMatches Error → Type 0
 SplitsBy words result =
     FailsBy (fault_of product_app words) result × MatchResult result (λ m. parts (subcommand_rows_of m) ≡ taken words) (λ e. Unit {0})
 
 -- of words that do not begin with a hyphen: a split comes only where they are a command's name and as many values as its
--- row allows, and has these words; an error is want of memory, or is their fault where they are not
+-- row allows, and has these words; an error says that memory ran out, or that they are not
 abbrev pub SplitsExactly : List Text → Result ArgMatches Error → Type 0
 SplitsExactly words result = MatchResult result
     (λ m. (fits words ≡ true) × (parts (subcommand_rows_of m) ≡ words))

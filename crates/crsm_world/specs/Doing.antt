@@ -27,7 +27,7 @@ act_of (Event.Batch reading numbers) = Act.Batch reading numbers
 act_of (Event.CutLostBatch reading numbers) = Act.CutLostBatch reading numbers
 act_of (Event.CutAt calls fill single) = Act.CutAt calls fill (single_of single)
 
--- the cause that a refusal names; want of memory is none
+-- the cause that a refusal names; running out of memory is none
 unfoldable pub bad_of : Bad → Option Cause
 bad_of (Bad.Full bytes) = Some (Cause.Full bytes)
 bad_of Bad.NoSuchReplica = Some Cause.NoSuchReplica
