@@ -1,5 +1,5 @@
 -- What words ask for.
-use Rattle.std.proofs.Common.{◌≡◌, ℕ, List, Result, Ok, Err, refl, sym, ◌∙◌, subst}
+use Rattle.std.proofs.Common.{◌≡◌, ℕ, List, Result, Ok, Err, inl, inr, refl, sym, ◌∙◌, subst}
 use Rattle.clap.specs.Words.{Text}
 use Rattle.crsm_words.specs.Answers.{IsShown, OrderMade, Reads, order, text}
 use Rattle.crsm_words.specs.Orders.{Asks}
@@ -9,9 +9,10 @@ use Rattle.crsm_words.specs.declared.order.Task.TheVariants.{Show, Replay, Repla
 use Rattle.crsm_words.specs.declared.read.Refusal.{Refusal}
 use Rattle.crsm_client.specs.declared.command.ClientEnd.{ClientEnd}
 use Rattle.crsm_client.specs.declared.error.OperateError.{OperateError}
+use Rattle.crsm_node.specs.declared.errors.NodeEnd.{NodeEnd}
 use Rattle.crsm_app.specs.Devices.{Devices}
 use Rattle.crsm_app.specs.Did.{Did, DidReplay, DidSheet, Shows}
-use Rattle.crsm_app.specs.Statuses.{status_of_client, status_of_operate}
+use Rattle.crsm_app.specs.Statuses.{status_of_client, status_of_node, status_of_operate}
 use Rattle.crsm_app.specs.Tasks.{IsThere, IsWithinLimits}
 use Rattle.crsm_app.specs.declared.status.Status.{Status}
 
@@ -45,7 +46,7 @@ asked_within : (task : Task) (words : List Text) → Asks task words → IsWithi
 asked_within (Show t) words asks = absurd asks
 asked_within Replay words asks = tt
 asked_within (ReplayNode me n) words asks = (asks.0, asks.1)
-asked_within (Node t) words asks = tt
+asked_within (Node t) words asks = asks.0
 asked_within (Client to turns command) words asks = asks.limits.fits
 asked_within (Operate to members) words asks = tt
 asked_within (Soak number n steps) words asks = asks.1
@@ -73,6 +74,19 @@ operate_not_usage (Ok u) is = cc is
 operate_not_usage (Err OperateError.PortFault) is = cc is
 operate_not_usage (Err OperateError.NoMemory) is = cc is
 
+node_not_usage : (e : NodeEnd) → Status.Usage ≡ status_of_node e → ⊥
+node_not_usage NodeEnd.Done is = cc is
+node_not_usage NodeEnd.PortFault is = cc is
+node_not_usage NodeEnd.DiskFault is = cc is
+node_not_usage NodeEnd.LogFull is = cc is
+node_not_usage NodeEnd.WriteFault is = cc is
+node_not_usage (NodeEnd.BadLog entry why) is = cc is
+node_not_usage (NodeEnd.OtherCluster found) is = cc is
+node_not_usage NodeEnd.NoMemory is = cc is
+
+usage_not_no_memory : Status.Usage ≡ Status.NoMemory → ⊥
+usage_not_no_memory is = cc is
+
 not_refused : (cluster : ℕ) (task : Task) (old new : Devices) → Did cluster task Status.Usage old new → IsThere task → ⊥
 unfolding DidReplay DidSheet
 not_refused cluster (Show t) old new did there = did.1
@@ -80,7 +94,10 @@ not_refused cluster Replay old new did there = did
 not_refused cluster (ReplayNode me n) old new did there = did
 not_refused cluster (Client to turns command) old new did there = client_not_usage did.1.ended did.1.status
 not_refused cluster (Operate to members) old new did there = operate_not_usage did.2.ended did.2.status
-not_refused cluster (Node t) old new did there = there
+not_refused cluster (Node t) old new did there = elim did.1 [
+  | inl ran ↦ node_not_usage ran.ended ran.status
+  | inr none ↦ usage_not_no_memory none.status
+]
 not_refused cluster (Soak number n steps) old new did there = did.1
 not_refused cluster (Audit n) old new did there = there
 not_refused cluster (Lock t) old new did there = there

@@ -24,7 +24,7 @@ without_memory cluster (Client to turns command) old new = record {
   no_answer = λ t u is at none no_fault no_loss. inr refl;
 }
 without_memory cluster (Operate to members) old new = λ no_loss. inr refl
-without_memory cluster (Node t) old new = tt
+without_memory cluster (Node t) old new = λ no_port no_disk no_write. tt
 without_memory cluster (Soak number n steps) old new = λ no_write. inr refl
 without_memory cluster (Audit n) old new = tt
 without_memory cluster (Lock t) old new = tt

@@ -58,6 +58,14 @@ no_port Ending.WriteFault is = cc is
 no_port Ending.NoMemory is = cc is
 no_port Ending.InputTooLong is = cc is
 
+no_disk : (e : Ending Cause) → status_of_replay e ≡ Status.DiskFault → ⊥
+no_disk Ending.Done is = cc is
+no_disk (Ending.BadLine line why) is = cc is
+no_disk Ending.ReadFault is = cc is
+no_disk Ending.WriteFault is = cc is
+no_disk Ending.NoMemory is = cc is
+no_disk Ending.InputTooLong is = cc is
+
 module _ (e : Ending Cause) (result : Status) (is : result ≡ status_of_replay e) where
   pub did_so : (b a d w : Option (List ℕ)) → schedule.Ran e b a d w → DidReplay result b a d w
   did_so b a d w ran = subst (λ (s : Status). DidReplay s b a d w) (sym is) (did e b a d w ran)
@@ -76,6 +84,9 @@ module _ (e : Ending Cause) (result : Status) (is : result ≡ status_of_replay 
 
   pub is_no_port : result ≢ Status.PortFault
   is_no_port fault = no_port e (sym is ∙ fault)
+
+  pub is_no_disk : result ≢ Status.DiskFault
+  is_no_disk fault = no_disk e (sym is ∙ fault)
 
   pub completes : loop.IsDone e → IsDone result
   completes (inl p) = inl (is ∙ ap status_of_replay p)

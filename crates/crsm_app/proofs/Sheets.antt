@@ -74,6 +74,18 @@ no_port Ending.WriteFault is = cc is
 no_port Ending.NoMemory is = cc is
 no_port Ending.InputTooLong is = cc is
 
+refused_over_no_disk : (line : ℕ) (cause : SheetCause) → status_of_refused line cause ≢ Status.DiskFault
+refused_over_no_disk line SheetCause.Unreadable is = cc is
+refused_over_no_disk line (SheetCause.BadLog entry why) is = cc is
+
+no_disk : (e : Ending SheetCause) → status_of_sheet e ≡ Status.DiskFault → ⊥
+no_disk Ending.Done is = cc is
+no_disk (Ending.BadLine line why) is = refused_over_no_disk line (cause_in why) is
+no_disk Ending.ReadFault is = cc is
+no_disk Ending.WriteFault is = cc is
+no_disk Ending.NoMemory is = cc is
+no_disk Ending.InputTooLong is = cc is
+
 told : (line : ℕ) (cause : SheetCause) (result : Status) → result ≡ status_of_refused line cause → IsRefusedSheet line cause result
 told line SheetCause.Unreadable result is = inl is
 told line (SheetCause.BadLog entry why) result is = inl is
@@ -100,6 +112,9 @@ module _ (e : Ending SheetCause) (result : Status) (is : result ≡ status_of_sh
 
   pub is_no_port : result ≢ Status.PortFault
   is_no_port fault = no_port e (sym is ∙ fault)
+
+  pub is_no_disk : result ≢ Status.DiskFault
+  is_no_disk fault = no_disk e (sym is ∙ fault)
 
   pub completes : loop.IsDone e → IsDone result
   completes (inl p) = inl (is ∙ ap status_of_sheet p)

@@ -1,8 +1,11 @@
 -- What the devices of a run tell.
-use Rattle.std.specs.Prelude.{ℕ, List, Option}
+use Rattle.std.specs.Prelude.{◌≡◌, ℕ, List, Option}
+use Rattle.crsm_clock.specs.Readings.{Readings}
+use Rattle.crsm_disk.specs.Meaning.{Meaning as DiskMeaning}
+use Rattle.crsm_node.specs.Running.{Devices as NodeDevices, unlent_disk, unlent_port}
 use Rattle.crsm_port.specs.Meaning.{Meaning}
 
-pub record Devices : Type 0 where
+pub record Devices : Type 1 where
   -- what the input has left, and what the output has written, where that is told
   pub left : Option (List ℕ)
   pub written : Option (List ℕ)
@@ -10,13 +13,32 @@ pub record Devices : Type 0 where
   pub read_faults : ℕ
   pub write_faults : ℕ
   pub port : Meaning
+  pub disk : DiskMeaning
+  -- the readings still to come, where they are told
+  pub clock : Option Readings
+
+-- the streams, the port and the clock stand as they stood
+pub record Untouched (old new : Devices) : Type 0 where
+  pub left : new.left ≡ old.left
+  pub written : new.written ≡ old.written
+  pub read_faults : new.read_faults ≡ old.read_faults
+  pub write_faults : new.write_faults ≡ old.write_faults
+  pub port : new.port ≡ old.port
+  pub clock : new.clock ≡ old.clock
+
+-- what a node runs over
+abbrev pub node_devices : Devices → NodeDevices
+node_devices d = record { disk = unlent_disk d.disk; port = unlent_port d.port; clock = d.clock; sheet = d.written; faults = d.write_faults }
 
 -- what these values tell
-abbrev pub devices_of : {I O P : Type 0} → (I → Option (List ℕ)) → (I → ℕ) → (O → Option (List ℕ)) → (O → ℕ) → (P → Meaning) → I → O → P → Devices
-devices_of left read_faults written write_faults meaning input output port = record {
+abbrev pub devices_of : {I O P D C : Type 0} → (I → Option (List ℕ)) → (I → ℕ) → (O → Option (List ℕ)) → (O → ℕ) → (P → Meaning) → (D → DiskMeaning) → (C → Option Readings) →
+    I → O → P → D → C → Devices
+devices_of left read_faults written write_faults port_of disk_of readings input output port disk clock = record {
   left = left input;
   written = written output;
   read_faults = read_faults input;
   write_faults = write_faults output;
-  port = meaning port;
+  port = port_of port;
+  disk = disk_of disk;
+  clock = readings clock;
 }

@@ -1,11 +1,15 @@
 -- What a command did, by its status.
-use Rattle.std.specs.Prelude.{◌≡◌, ℕ, List, Option, Result}
+use Rattle.std.specs.Prelude.{◌≡◌, ◌⊎◌, ℕ, List, Option, Result}
 use Rattle.crsm_client.specs.Commands.{ClientRan}
 use Rattle.crsm_client.specs.Operating.{Operates}
 use Rattle.crsm_client.specs.declared.command.ClientEnd.{ClientEnd}
 use Rattle.crsm_client.specs.declared.command.ClientOrder.{ClientOrder}
 use Rattle.crsm_client.specs.declared.error.OperateError.{OperateError}
 use Rattle.crsm_io.specs.Streams.{Puts, PutsPrefix}
+use Rattle.crsm_node.specs.Order.{peers_in}
+use Rattle.crsm_node.specs.Running.{Devices as NodeDevices, RunsOverCluster}
+use Rattle.crsm_node.specs.declared.errors.NodeEnd.{NodeEnd}
+use Rattle.crsm_node.specs.declared.order.NodeOrder.{NodeOrder}
 use Rattle.crsm_port.specs.Meaning.{Meaning}
 use Rattle.crsm_replay.specs.Run as schedule
 use Rattle.crsm_replay.specs.declared.cause.Cause.{Cause}
@@ -13,12 +17,13 @@ use Rattle.crsm_replay_node.specs.Run as sheet
 use Rattle.crsm_replay_node.specs.declared.cause.SheetCause.{SheetCause}
 use Rattle.crsm_soak.specs.Soak.{drawn}
 use Rattle.crsm_soak.specs.Text.{soak_text}
+use Rattle.crsm_words.specs.declared.order.NodeTask.{NodeTask}
 use Rattle.crsm_words.specs.declared.order.Task.{Task}
-use Rattle.crsm_words.specs.declared.order.Task.TheVariants.{Show, Replay, ReplayNode, Client, Operate, Soak}
+use Rattle.crsm_words.specs.declared.order.Task.TheVariants.{Show, Replay, ReplayNode, Client, Operate, Soak, Node}
 use Rattle.crsm_world.specs.Laws.{IsLawful}
 use Rattle.crsm_world.specs.Schedule.{acts_of}
-use Rattle.crsm_app.specs.Devices.{Devices}
-use Rattle.crsm_app.specs.Statuses.{status_of_client, status_of_operate}
+use Rattle.crsm_app.specs.Devices.{Devices, Untouched, node_devices}
+use Rattle.crsm_app.specs.Statuses.{status_of_client, status_of_node, status_of_operate}
 use Rattle.crsm_app.specs.declared.status.Status.{Status}
 
 -- In these the source had `before` and has `after` left, and the sink had `had` and has `has` written.
@@ -69,6 +74,32 @@ DidSoak number n steps Status.WriteFault had has = IsLawful n (acts_of (drawn nu
 DidSoak number n steps Status.NoMemory had has = PutsPrefix had has (soak_text (drawn number n steps))
 DidSoak number n steps _ had has = ⊥
 
+-- a node is told what the words say
+pub record IsNodeOrder (cluster : ℕ) (t : NodeTask) (order : NodeOrder) : Type 0 where
+  pub me : order.me ≡ t.me
+  pub n : order.n ≡ t.n
+  pub turns : order.turns ≡ t.turns
+  pub peers : peers_in order ≡ t.peers
+  pub cluster_is : order.cluster ≡ cluster
+
+-- a node ran, from its start to its end
+pub record RanNode (cluster : ℕ) (t : NodeTask) (result : Status) (old new : NodeDevices) : Type 0 where
+  pub order : NodeOrder
+  pub is_order : IsNodeOrder cluster t order
+  pub ended : NodeEnd
+  pub status : result ≡ status_of_node ended
+  pub ran : RunsOverCluster order old new ended
+
+-- or memory ran out before it began, and nothing was taken, sent or written
+pub record NodeHasNoMemory (result : Status) (old new : NodeDevices) : Type 0 where
+  pub status : result ≡ Status.NoMemory
+  pub port : new.port ≡ old.port
+  pub clock : new.clock ≡ old.clock
+  pub sheet : new.sheet ≡ old.sheet
+
+abbrev pub DidNode : (cluster : ℕ) → NodeTask → Status → (old new : NodeDevices) → Type 0
+DidNode cluster t result old new = RanNode cluster t result old new ⊎ NodeHasNoMemory result old new
+
 -- a task was done in a cluster, or it is none that is there
 abbrev pub Did : (cluster : ℕ) → Task → Status → (old new : Devices) → Type 0
 Did cluster (Show text) result old new = (new.left ≡ old.left) × Shows text result old.written new.written
@@ -78,4 +109,5 @@ Did cluster (Client to turns command) result old new =
     (new.left ≡ old.left) × DidClient cluster (record { to = to; turns = turns; command = command }) result old.port new.port old.written new.written
 Did cluster (Operate to members) result old new = (new.left ≡ old.left) × (new.written ≡ old.written) × DidOperate cluster to members result old.port new.port
 Did cluster (Soak number n steps) result old new = (new.left ≡ old.left) × DidSoak number n steps result old.written new.written
-Did cluster _ result old new = (result ≡ Status.Usage) × (new ≡ old)
+Did cluster (Node t) result old new = (new.left ≡ old.left) × DidNode cluster t result (node_devices old) (node_devices new)
+Did cluster _ result old new = (result ≡ Status.Usage) × Untouched old new

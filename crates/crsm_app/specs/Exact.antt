@@ -10,7 +10,7 @@ use Rattle.crsm_replay.specs.declared.cause.Cause.{Cause}
 use Rattle.crsm_replay_node.specs.Run as sheet
 use Rattle.crsm_replay_node.specs.declared.cause.SheetCause.{SheetCause}
 use Rattle.crsm_words.specs.declared.order.Task.{Task}
-use Rattle.crsm_words.specs.declared.order.Task.TheVariants.{Show, Replay, ReplayNode, Client, Operate, Soak}
+use Rattle.crsm_words.specs.declared.order.Task.TheVariants.{Show, Replay, ReplayNode, Client, Operate, Soak, Node}
 use Rattle.crsm_app.specs.Devices.{Devices}
 use Rattle.crsm_app.specs.declared.status.Status.{Status}
 
@@ -31,6 +31,19 @@ IsTooLong result = (result ≡ Status.InputTooLong) ⊎ (result ≡ Status.NoMem
 
 abbrev pub IsUnanswered : Status → Type 0
 IsUnanswered result = (result ≡ Status.NoAnswer) ⊎ (result ≡ Status.NoMemory)
+
+-- all turns were taken, or the log that was found is not this replica's, or is full
+abbrev pub IsNodeDone : Status → Type 0
+IsNodeDone Status.Ok = Unit {0}
+IsNodeDone (Status.BadLog entry why) = Unit {0}
+IsNodeDone Status.LogFull = Unit {0}
+IsNodeDone (Status.OtherCluster found) = Unit {0}
+IsNodeDone Status.NoMemory = Unit {0}
+IsNodeDone _ = ⊥
+
+-- where no fault of a node's devices was counted
+abbrev pub WhereNodeFaultless : (port more_port disk more_disk sheet more_sheet : ℕ) → Type 0 → Type 0
+WhereNodeFaultless port more_port disk more_disk sheet more_sheet P = ¬ (Rose port more_port) → ¬ (Rose disk more_disk) → ¬ (Rose sheet more_sheet) → P
 
 -- of what is left: a schedule within the limit is done, a bad line is refused, more than the limit is too long
 pub record ReplaysExactly (left : Option (List ℕ)) (result : Status) : Type 0 where
@@ -61,4 +74,6 @@ Exactly cluster (ReplayNode me n) result old new = WhereFaultless old new (Sheet
 Exactly cluster (Client to turns command) result old new = AsksExactly cluster to command result old.port new.port old.write_faults new.write_faults
 Exactly cluster (Operate to members) result old new = ¬ (Rose old.port.losses new.port.losses) → IsDone result
 Exactly cluster (Soak number n steps) result old new = ¬ (Rose old.write_faults new.write_faults) → IsDone result
+Exactly cluster (Node t) result old new =
+    WhereNodeFaultless old.port.faults new.port.faults old.disk.faults new.disk.faults old.write_faults new.write_faults (IsNodeDone result)
 Exactly cluster _ result old new = Unit {0}

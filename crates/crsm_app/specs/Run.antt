@@ -9,7 +9,7 @@ use Rattle.crsm_words.specs.Split.{IsPlain}
 use Rattle.crsm_words.specs.declared.order.Order.{Order}
 use Rattle.crsm_words.specs.declared.order.Task.{Task}
 use Rattle.crsm_words.specs.declared.read.Refusal.{Refusal}
-use Rattle.crsm_app.specs.Devices.{Devices}
+use Rattle.crsm_app.specs.Devices.{Devices, Untouched}
 use Rattle.crsm_app.specs.Did.{Did}
 use Rattle.crsm_app.specs.Tasks.{IsAsker, IsThere}
 use Rattle.crsm_app.specs.declared.status.Status.{Status}
@@ -36,8 +36,8 @@ WhereAsked words P = All IsPlain words → (order : Order) → AsksFor order wor
 -- Words were read as those of an order, which was done; or they are at fault or memory ran out, and nothing was done.
 pub data Ran (words : List Text) (result : Status) (old new : Devices) : Type 0 where
   did : (order : Order) → OrderMade words order → Did order.cluster order.task result old new → Ran words result old new
-  at_fault : OrderRefused words Refusal.Usage → result ≡ Status.Usage → new ≡ old → Ran words result old new
-  no_memory : result ≡ Status.NoMemory → new ≡ old → Ran words result old new
+  at_fault : OrderRefused words Refusal.Usage → result ≡ Status.Usage → Untouched old new → Ran words result old new
+  no_memory : result ≡ Status.NoMemory → Untouched old new → Ran words result old new
 
 -- the port failed in a receive or, where the task asks a replica, in a send
 abbrev pub PortFailed : (old new : Devices) → Task → Type 0
@@ -48,3 +48,4 @@ pub record FaultsAreCounted (words : List Text) (result : Status) (old new : Dev
   pub read : result ≡ Status.ReadFault → Rose old.read_faults new.read_faults
   pub write : result ≡ Status.WriteFault → Rose old.write_faults new.write_faults
   pub port : result ≡ Status.PortFault → AskForTask (PortFailed old new) words
+  pub disk : result ≡ Status.DiskFault → Rose old.disk.faults new.disk.faults

@@ -3,6 +3,7 @@ use Rattle.std.specs.Prelude.{ℕ, Result, Ok, Err}
 use Rattle.crsm_client.specs.declared.command.ClientEnd.{ClientEnd}
 use Rattle.crsm_client.specs.declared.error.OperateError.{OperateError}
 use Rattle.crsm_input.specs.declared.Ending.{Ending}
+use Rattle.crsm_node.specs.declared.errors.NodeEnd.{NodeEnd}
 use Rattle.crsm_replay.specs.Causes as schedule
 use Rattle.crsm_replay.specs.declared.cause.Cause.{Cause}
 use Rattle.crsm_replay_node.specs.Causes as sheet
@@ -17,10 +18,13 @@ number_of (Status.BadInput line cause) = 3
 number_of Status.ReadFault = 4
 number_of Status.WriteFault = 5
 number_of Status.PortFault = 6
+number_of Status.DiskFault = 7
 number_of Status.NoMemory = 8
 number_of Status.NoAnswer = 9
 number_of (Status.BadLog entry why) = 10
+number_of Status.LogFull = 11
 number_of Status.InputTooLong = 12
+number_of (Status.OtherCluster found) = 13
 
 -- the status of a schedule that ended so
 abbrev pub status_of_replay : Ending Cause → Status
@@ -58,3 +62,14 @@ abbrev pub status_of_operate : {T : Type 0} → Result T OperateError → Status
 status_of_operate (Ok _) = Status.Ok
 status_of_operate (Err OperateError.PortFault) = Status.PortFault
 status_of_operate (Err OperateError.NoMemory) = Status.NoMemory
+
+-- the status of a node that ended so
+abbrev pub status_of_node : NodeEnd → Status
+status_of_node NodeEnd.Done = Status.Ok
+status_of_node NodeEnd.PortFault = Status.PortFault
+status_of_node NodeEnd.DiskFault = Status.DiskFault
+status_of_node NodeEnd.LogFull = Status.LogFull
+status_of_node NodeEnd.WriteFault = Status.WriteFault
+status_of_node (NodeEnd.BadLog entry why) = Status.BadLog entry why
+status_of_node (NodeEnd.OtherCluster found) = Status.OtherCluster found
+status_of_node NodeEnd.NoMemory = Status.NoMemory

@@ -11,7 +11,8 @@ ghost use Rattle.crsm_words.specs.Plans.{HasOwnPeer, plan_of};
 ghost use Rattle.crsm_app.specs.Devices.{devices_of};
 ghost use Rattle.crsm_app.specs.Exact.{Exactly};
 ghost use Rattle.crsm_app.specs.Run.{AskForNothing, AskForTask, FaultsAreCounted, Ran, WhereAsked};
-ghost use Rattle.crsm_app.specs.Tasks.{IsAsker, IsReader, IsThere};
+ghost use Rattle.crsm_app.specs.Tasks.{IsReader, IsRunner, IsThere};
+ghost use Rattle.crsm_words.specs.Orders.{NamesCluster};
 
 use crate::doing::do_order;
 use crate::status::Status;
@@ -37,6 +38,7 @@ fn is_there(task: &Task) -> bool
             | Task::Client { .. }
             | Task::Operate { .. }
             | Task::Soak { .. }
+            | Task::Node(_)
     )
 }
 
@@ -84,7 +86,7 @@ fn schedules_are_safe()
 }
 
 /// Does what the words say: `replay` reads a schedule and writes its transcript, `replay-node ME N` reads the sheet of a
-/// replica and writes what it did, `soak NUMBER N STEPS` runs what a number draws and writes a summary, `client TO TURNS
+/// replica and writes what it did, `soak NUMBER N STEPS` runs what a number draws and writes a summary, `node ME N TURNS PEERS` runs a replica and writes its sheet, `client TO TURNS
 /// CLIENT NUMBER OP` asks a replica for a command over the port and writes its outcome, `operate TO MEMBERS` asks one for
 /// another membership, and `--help` and `--version` write a text. The other commands are not there yet.
 pub fn run<I: Source, O: Sink, P: Port, D: Disk, C: Clock>(
@@ -97,12 +99,12 @@ pub fn run<I: Source, O: Sink, P: Port, D: Disk, C: Clock>(
     clock: &mut C,
 ) -> Status
     // What was taken, sent and written, by what the words ask for and by the status.
-    ensures ran { let at = devices_of I.left I.faults O.written O.faults P.meaning in
-        Ran (map string_bytes words.now) result (at input.old output.old port.old) (at input.new output.new port.new) }
+    ensures ran { let at = devices_of I.left I.faults O.written O.faults P.meaning D.meaning C.readings in
+        Ran (map string_bytes words.now) result (at input.old output.old port.old disk.old clock.old) (at input.new output.new port.new disk.new clock.new) }
 
     // A fault is answered only where it was counted.
-    ensures faults { let at = devices_of I.left I.faults O.written O.faults P.meaning in
-        FaultsAreCounted (map string_bytes words.now) result (at input.old output.old port.old) (at input.new output.new port.new) }
+    ensures faults { let at = devices_of I.left I.faults O.written O.faults P.meaning D.meaning C.readings in
+        FaultsAreCounted (map string_bytes words.now) result (at input.old output.old port.old disk.old clock.old) (at input.new output.new port.new disk.new clock.new) }
 
     // The words are refused only where they ask for nothing or for what is not there, and not where they ask for what is.
     ensures usage { result ≡ Status.Usage → AskForNothing (map string_bytes words.now) }
@@ -110,8 +112,8 @@ pub fn run<I: Source, O: Sink, P: Port, D: Disk, C: Clock>(
 
     // Where no fault was counted and memory sufficed, what is there is done, but for an input that has a bad line, which is
     // refused for the first one, or more bytes than the limit, and for a replica whose reply was not taken.
-    ensures exactly { let at = devices_of I.left I.faults O.written O.faults P.meaning in WhereAsked (map string_bytes words.now)
-        (λ order. Exactly order.cluster order.task result (at input.old output.old port.old) (at input.new output.new port.new)) }
+    ensures exactly { let at = devices_of I.left I.faults O.written O.faults P.meaning D.meaning C.readings in WhereAsked (map string_bytes words.now)
+        (λ order. Exactly order.cluster order.task result (at input.old output.old port.old disk.old clock.old) (at input.new output.new port.new disk.new clock.new)) }
 
     // An input beyond the limit is never done, and one within it is never too long.
     ensures limit { WhereAsked (map string_bytes words.now) (λ order. IsReader order.task →
@@ -120,9 +122,9 @@ pub fn run<I: Source, O: Sink, P: Port, D: Disk, C: Clock>(
 
     // A device that the command does not use stands as it stood.
     ensures input { ¬ (AskForTask IsReader (map string_bytes words.now)) → input.new ≡ input.old }
-    ensures port { ¬ (AskForTask IsAsker (map string_bytes words.now)) → port.new ≡ port.old }
-    ensures disk { disk.new ≡ disk.old }
-    ensures clock { clock.new ≡ clock.old }
+    ensures port { ¬ (AskForTask NamesCluster (map string_bytes words.now)) → port.new ≡ port.old }
+    ensures disk { ¬ (AskForTask IsRunner (map string_bytes words.now)) → disk.new ≡ disk.old }
+    ensures clock { ¬ (AskForTask IsRunner (map string_bytes words.now)) → clock.new ≡ clock.old }
 
     // A transcript has all lines of the protocol's run, in order, and no other.
     ensures shows { (s : Schedule) → ShowsAll s }
@@ -141,7 +143,7 @@ pub fn run<I: Source, O: Sink, P: Port, D: Disk, C: Clock>(
 {
     schedules_are_safe();
     match read_words(alloc, words) {
-        Ok(order) => do_order(alloc, order, input, output, port),
+        Ok(order) => do_order(alloc, order, input, output, port, disk, clock),
         Err(Refusal::Usage) => Status::Usage,
         Err(Refusal::NoMemory) => Status::NoMemory,
     }

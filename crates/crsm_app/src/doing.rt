@@ -5,21 +5,28 @@ ghost use Rattle.crsm_base.specs.Spelling.{FitsCommand};
 ghost use Rattle.crsm_faults.specs.Counts.{Rose};
 ghost use Rattle.crsm_input.specs.Exact as loop_exact;
 ghost use Rattle.crsm_app.specs.Devices.{devices_of};
-ghost use Rattle.crsm_app.specs.Did.{Did, DidClient, DidOperate, DidReplay, DidSheet, DidSoak, Shows};
-ghost use Rattle.crsm_app.specs.Exact.{AsksExactly, Exactly, IsDone, ReplaysExactly, SheetsExactly};
+ghost use Rattle.crsm_app.specs.Did.{Did, DidClient, DidNode, DidOperate, DidReplay, DidSheet, DidSoak, Shows};
+ghost use Rattle.crsm_app.specs.Exact.{AsksExactly, Exactly, IsDone, IsNodeDone, WhereNodeFaultless, ReplaysExactly, SheetsExactly};
 ghost use Rattle.crsm_app.specs.Run.{PortFailed};
-ghost use Rattle.crsm_app.specs.Tasks.{IsAsker, IsReader, IsThere, IsWithinLimits};
+ghost use Rattle.crsm_app.specs.Tasks.{IsReader, IsRunner, IsThere, IsWithinLimits};
+ghost use Rattle.crsm_node.specs.Running.{devices_of as node_over};
+ghost use Rattle.crsm_words.specs.Orders.{IsNode, NamesCluster};
 
-use crate::status::{Status, client_status, operate_status, replay_status, sheet_status};
+use crate::status::{
+    Status, client_status, node_status, operate_status, replay_status, sheet_status,
+};
 use crsm_base::Members;
 use crsm_client::{ClientOrder, client, operate_command};
+use crsm_clock::Clock;
+use crsm_disk::Disk;
 use crsm_input::MAX_INPUT_BYTES;
 use crsm_io::{Sink, Source, put_all};
+use crsm_node::{NodeOrder, run_node};
 use crsm_port::Port;
 use crsm_replay::replay;
 use crsm_replay_node::replay_node;
 use crsm_soak::{SoakEnd, soak};
-use crsm_words::{Order, Task};
+use crsm_words::{NodeTask, Order, Task};
 use std::alloc::Global;
 
 /// Runs a schedule.
@@ -31,6 +38,7 @@ fn run_replay<I: Source, O: Sink>(alloc: Global, input: &mut I, output: &mut O) 
     ensures limit { (bytes : List ℕ) → I.left input.old ≡ Some bytes → MAX_INPUT_BYTES < length bytes → result ≢ Status.Ok }
     ensures within { (bytes : List ℕ) → I.left input.old ≡ Some bytes → length bytes ≤ MAX_INPUT_BYTES → result ≢ Status.InputTooLong }
     ensures no_port { result ≢ Status.PortFault }
+    ensures no_disk { result ≢ Status.DiskFault }
 {
     replay_status(replay(alloc, input, output))
 }
@@ -53,6 +61,7 @@ fn run_sheet<I: Source, O: Sink>(
     ensures limit { (bytes : List ℕ) → I.left input.old ≡ Some bytes → MAX_INPUT_BYTES < length bytes → result ≢ Status.Ok }
     ensures within { (bytes : List ℕ) → I.left input.old ≡ Some bytes → length bytes ≤ MAX_INPUT_BYTES → result ≢ Status.InputTooLong }
     ensures no_port { result ≢ Status.PortFault }
+    ensures no_disk { result ≢ Status.DiskFault }
 {
     sheet_status(replay_node(alloc, me, n, input, output))
 }
@@ -116,6 +125,35 @@ fn run_operate<P: Port>(
     operate_status(operate_command(alloc, to, members, cluster, port))
 }
 
+/// Runs a replica.
+fn run_replica<O: Sink, P: Port, D: Disk, C: Clock>(
+    alloc: Global,
+    task: &NodeTask,
+    cluster: u64,
+    output: &mut O,
+    port: &mut P,
+    disk: &mut D,
+    clock: &mut C,
+) -> Status
+    requires { IsNode task.now }
+    ensures did { let at = node_over D.meaning P.meaning C.readings O.written O.faults in
+        DidNode cluster task.now result (at disk.old port.old clock.old output.old) (at disk.new port.new clock.new output.new) }
+    ensures write_fault { result ≡ Status.WriteFault → Rose (O.faults output.old) (O.faults output.new) }
+    ensures port_fault { let old = P.meaning port.old in let new = P.meaning port.new in result ≡ Status.PortFault → Rose old.faults new.faults }
+    ensures disk_fault { let old = D.meaning disk.old in let new = D.meaning disk.new in result ≡ Status.DiskFault → Rose old.faults new.faults }
+    ensures exact { let p = P.meaning port.old in let q = P.meaning port.new in let d = D.meaning disk.old in let e = D.meaning disk.new in
+        WhereNodeFaultless p.faults q.faults d.faults e.faults (O.faults output.old) (O.faults output.new) (IsNodeDone result) }
+    ensures no_input { (result ≢ Status.ReadFault) × (result ≢ Status.InputTooLong) }
+{
+    let Ok(peers) = Vec::from_slice(alloc, task.peers.as_slice()) else {
+        return Status::NoMemory;
+    };
+    match NodeOrder::new(task.me, task.n, task.turns, peers, cluster) {
+        Some(order) => node_status(run_node(alloc, &order, port, disk, clock, output)),
+        None => Status::NoMemory,
+    }
+}
+
 /// Refuses a task that is not there.
 fn refuse(_task: Task) -> Status
     ensures { result ≡ Status.Usage }
@@ -124,26 +162,31 @@ fn refuse(_task: Task) -> Status
 }
 
 /// Does the task of an order. One that is not there is refused.
-pub(crate) fn do_order<I: Source, O: Sink, P: Port>(
+pub(crate) fn do_order<I: Source, O: Sink, P: Port, D: Disk, C: Clock>(
     alloc: Global,
     order: Order,
     input: &mut I,
     output: &mut O,
     port: &mut P,
+    disk: &mut D,
+    clock: &mut C,
 ) -> Status
     requires { IsWithinLimits order.task }
-    ensures did { let at = devices_of I.left I.faults O.written O.faults P.meaning in
-        Did order.cluster order.task result (at input.old output.old port.old) (at input.new output.new port.new) }
-    ensures exact { let at = devices_of I.left I.faults O.written O.faults P.meaning in
-        Exactly order.cluster order.task result (at input.old output.old port.old) (at input.new output.new port.new) }
+    ensures did { let at = devices_of I.left I.faults O.written O.faults P.meaning D.meaning C.readings in
+        Did order.cluster order.task result (at input.old output.old port.old disk.old clock.old) (at input.new output.new port.new disk.new clock.new) }
+    ensures exact { let at = devices_of I.left I.faults O.written O.faults P.meaning D.meaning C.readings in
+        Exactly order.cluster order.task result (at input.old output.old port.old disk.old clock.old) (at input.new output.new port.new disk.new clock.new) }
     ensures read_fault { result ≡ Status.ReadFault → Rose (I.faults input.old) (I.faults input.new) }
     ensures write_fault { result ≡ Status.WriteFault → Rose (O.faults output.old) (O.faults output.new) }
-    ensures port_fault { let at = devices_of I.left I.faults O.written O.faults P.meaning in
-        result ≡ Status.PortFault → PortFailed (at input.old output.old port.old) (at input.new output.new port.new) order.task }
+    ensures port_fault { let at = devices_of I.left I.faults O.written O.faults P.meaning D.meaning C.readings in
+        result ≡ Status.PortFault → PortFailed (at input.old output.old port.old disk.old clock.old) (at input.new output.new port.new disk.new clock.new) order.task }
+    ensures disk_fault { let old = D.meaning disk.old in let new = D.meaning disk.new in result ≡ Status.DiskFault → Rose old.faults new.faults }
     ensures limit { IsReader order.task → (bytes : List ℕ) → I.left input.old ≡ Some bytes → MAX_INPUT_BYTES < length bytes → result ≢ Status.Ok }
     ensures within { (bytes : List ℕ) → I.left input.old ≡ Some bytes → length bytes ≤ MAX_INPUT_BYTES → result ≢ Status.InputTooLong }
     ensures input { ¬ (IsReader order.task) → input.new ≡ input.old }
-    ensures port { ¬ (IsAsker order.task) → port.new ≡ port.old }
+    ensures port { ¬ (NamesCluster order.task) → port.new ≡ port.old }
+    ensures disk { ¬ (IsRunner order.task) → disk.new ≡ disk.old }
+    ensures clock { ¬ (IsRunner order.task) → clock.new ≡ clock.old }
 {
     let Order { cluster, task } = order;
     match task {
@@ -156,6 +199,7 @@ pub(crate) fn do_order<I: Source, O: Sink, P: Port>(
         }
         Task::Operate { to, members } => run_operate(alloc, to, &members, cluster, port),
         Task::Soak { number, n, steps } => run_soak(alloc, number, n, steps, output),
+        Task::Node(node) => run_replica(alloc, &node, cluster, output, port, disk, clock),
         task => refuse(task),
     }
 }

@@ -1,10 +1,11 @@
 //! How a run ends.
 
 ghost use Rattle.std.specs.Prelude.{◌≡◌};
-ghost use Rattle.crsm_app.specs.Statuses.{number_of, status_of_client, status_of_operate, status_of_refused, status_of_replay, status_of_sheet};
+ghost use Rattle.crsm_app.specs.Statuses.{number_of, status_of_client, status_of_node, status_of_operate, status_of_refused, status_of_replay, status_of_sheet};
 
 use crsm_client::{ClientEnd, OperateError};
 use crsm_input::Ending;
+use crsm_node::NodeEnd;
 use crsm_replay::{Cause, told_cause as cause_in_schedule};
 use crsm_replay_node::{SheetCause, told_cause as cause_in_sheet};
 use std::fmt::{self, Display, Formatter, Write};
@@ -24,15 +25,21 @@ pub enum Status {
     WriteFault,
     /// The port failed in a receive or in a send.
     PortFault,
+    /// The disk failed, or the log file could not be opened.
+    DiskFault,
     /// Memory ran out.
     NoMemory,
     /// All turns are over, and the replica has not answered.
     NoAnswer,
     /// This entry of the log, counted from 0, is the first that is no list of records (0), or whose first record that
-    /// does not fit is of this kind (1 to 9).
+    /// does not fit is of this kind (1 to 9); or no entry stands behind the open gate there (10).
     BadLog { entry: u64, why: u32 },
+    /// The next entry would pass the limit of a log file.
+    LogFull,
     /// The input has more than 1,073,741,824 bytes.
     InputTooLong,
+    /// The log belongs to the cluster of this number.
+    OtherCluster { found: u64 },
 }
 
 impl Status {
@@ -47,10 +54,13 @@ impl Status {
             Status::ReadFault => 4,
             Status::WriteFault => 5,
             Status::PortFault => 6,
+            Status::DiskFault => 7,
             Status::NoMemory => 8,
             Status::NoAnswer => 9,
             Status::BadLog { .. } => 10,
+            Status::LogFull => 11,
             Status::InputTooLong => 12,
+            Status::OtherCluster { .. } => 13,
         }
     }
 }
@@ -123,6 +133,22 @@ pub(crate) fn operate_status(ended: Result<(), OperateError>) -> Status
     }
 }
 
+/// The status of a node that ended so.
+pub(crate) fn node_status(ended: NodeEnd) -> Status
+    ensures { result ≡ status_of_node ended }
+{
+    match ended {
+        NodeEnd::Done => Status::Ok,
+        NodeEnd::PortFault => Status::PortFault,
+        NodeEnd::DiskFault => Status::DiskFault,
+        NodeEnd::LogFull => Status::LogFull,
+        NodeEnd::WriteFault => Status::WriteFault,
+        NodeEnd::BadLog { entry, why } => Status::BadLog { entry, why },
+        NodeEnd::OtherCluster { found } => Status::OtherCluster { found },
+        NodeEnd::NoMemory => Status::NoMemory,
+    }
+}
+
 /// The name of a kind of records, by their first byte.
 fn kind_name(kind: u32) -> &'static str {
     match kind {
@@ -149,15 +175,21 @@ impl Display for Status {
             Status::ReadFault => f.write_str("the input failed"),
             Status::WriteFault => f.write_str("the output failed"),
             Status::PortFault => f.write_str("the port failed"),
+            Status::DiskFault => f.write_str("the disk failed"),
             Status::NoMemory => f.write_str("memory ran out"),
             Status::NoAnswer => f.write_str("the replica has not answered"),
             Status::BadLog { entry, why: 0 } => {
                 write!(f, "log entry {entry}: it is no list of records")
             }
+            Status::BadLog { entry, why: 10 } => {
+                write!(f, "log entry {entry}: its end is missing")
+            }
             Status::BadLog { entry, why } => {
                 let kind = kind_name(*why);
                 write!(f, "log entry {entry}: a record of kind {kind} does not fit")
             }
+            Status::LogFull => f.write_str("the log is full"),
+            Status::OtherCluster { found } => write!(f, "the log is one of cluster {found}"),
             Status::InputTooLong => f.write_str("the input has more than 1073741824 bytes"),
         }
     }

@@ -1,4 +1,4 @@
-//! Runs the inputs of the standard input one after another over memory, and writes what each run wrote, sent and
+//! Runs the inputs of the standard input one after another over memory, and writes what each run wrote, sent, kept and
 //! answered.
 #![tactic(auto)]
 
@@ -6,6 +6,7 @@ mod case;
 
 use case::{Ran, run_case};
 use crsm_base::{Bytes, NoMemory};
+use crsm_disk::MemDisk;
 use crsm_port::MemPort;
 use crsm_text::{push_hex, push_number};
 use std::alloc::Global;
@@ -27,13 +28,25 @@ fn sent(alloc: Global, port: &MemPort) -> Result<Bytes, NoMemory> {
     Ok(text)
 }
 
-/// Writes what a run wrote, sent and answered.
+/// The log file, on a line `file HEX`, if it has a byte.
+fn file(alloc: Global, disk: &MemDisk) -> Result<Bytes, NoMemory> {
+    let mut text = Bytes::new(alloc);
+    if !disk.bytes().is_empty() {
+        text.append(b"file ")?;
+        push_hex(&mut text, disk.bytes())?;
+        text.push(b'\n')?;
+    }
+    Ok(text)
+}
+
+/// Writes what a run wrote, sent, kept and answered.
 fn show<R: AllocGlobal + Print>(rt: &R, ran: &Ran) -> io::Result<()> {
-    let Ok(sent) = sent(rt.alloc(), &ran.port) else {
+    let (Ok(sent), Ok(file)) = (sent(rt.alloc(), &ran.port), file(rt.alloc(), &ran.disk)) else {
         return Err(io::Error::from(ErrorKind::OutOfMemory));
     };
     io::writer(rt).write_all(ran.output.as_slice())?;
     io::writer(rt).write_all(sent.as_slice())?;
+    io::writer(rt).write_all(file.as_slice())?;
     let status = ran.status;
     println!(rt; "status {}, {status}", status.number())
 }

@@ -21,6 +21,7 @@ returns-in-Ok-clause-faults g c = record {
   read = c.do_order.ensures.read_fault;
   write = c.do_order.ensures.write_fault;
   port = λ fault. record { order = c.in-Ok.order; made = c.in-Ok.ensures.any; kind = c.do_order.ensures.port_fault fault };
+  disk = c.do_order.ensures.disk_fault;
 }
 
 pub returns-in-Ok-clause-usage : goal.returns-in-Ok-clause-usage
@@ -51,14 +52,21 @@ returns-in-Ok-clause-input g c = λ not_reading. c.do_order.ensures.input (λ re
 pub returns-in-Ok-clause-port : goal.returns-in-Ok-clause-port
 returns-in-Ok-clause-port g c = λ not_asking. c.do_order.ensures.port (λ asks. not_asking (record { order = c.in-Ok.order; made = c.in-Ok.ensures.any; kind = asks }))
 
+pub returns-in-Ok-clause-disk : goal.returns-in-Ok-clause-disk
+returns-in-Ok-clause-disk g c = λ not_running. c.do_order.ensures.disk (λ runs. not_running (record { order = c.in-Ok.order; made = c.in-Ok.ensures.any; kind = runs }))
+
+pub returns-in-Ok-clause-clock : goal.returns-in-Ok-clause-clock
+returns-in-Ok-clause-clock g c = λ not_running. c.do_order.ensures.clock (λ runs. not_running (record { order = c.in-Ok.order; made = c.in-Ok.ensures.any; kind = runs }))
+
 -- ---- the words are at fault
 
 pub returns-in-Err-Usage-clause-ran : goal.returns-in-Err-Usage-clause-ran
 returns-in-Err-Usage-clause-ran g c =
-    let words = map string_bytes c.args.words.now in at_fault (subst (λ (r : Refusal). OrderRefused words r) c.in-Err-Usage.field-0-is c.in-Err-Usage.ensures.any) refl refl
+    let words = map string_bytes c.args.words.now in at_fault (subst (λ (r : Refusal). OrderRefused words r) c.in-Err-Usage.field-0-is c.in-Err-Usage.ensures.any) refl
+    (record { left = refl; written = refl; read_faults = refl; write_faults = refl; port = refl; clock = refl })
 
 pub returns-in-Err-Usage-clause-faults : goal.returns-in-Err-Usage-clause-faults
-returns-in-Err-Usage-clause-faults g c = record { read = λ is. absurd (cc is); write = λ is. absurd (cc is); port = λ is. absurd (cc is) }
+returns-in-Err-Usage-clause-faults g c = record { read = λ is. absurd (cc is); write = λ is. absurd (cc is); port = λ is. absurd (cc is); disk = λ is. absurd (cc is) }
 
 pub returns-in-Err-Usage-clause-usage : goal.returns-in-Err-Usage-clause-usage
 returns-in-Err-Usage-clause-usage g c = λ is.
@@ -75,10 +83,10 @@ returns-in-Err-Usage-clause-exactly g c = λ plain order asks.
 -- ---- memory ran out
 
 pub returns-in-Err-NoMemory-clause-ran : goal.returns-in-Err-NoMemory-clause-ran
-returns-in-Err-NoMemory-clause-ran g c = no_memory refl refl
+returns-in-Err-NoMemory-clause-ran g c = no_memory refl (record { left = refl; written = refl; read_faults = refl; write_faults = refl; port = refl; clock = refl })
 
 pub returns-in-Err-NoMemory-clause-faults : goal.returns-in-Err-NoMemory-clause-faults
-returns-in-Err-NoMemory-clause-faults g c = record { read = λ is. absurd (cc is); write = λ is. absurd (cc is); port = λ is. absurd (cc is) }
+returns-in-Err-NoMemory-clause-faults g c = record { read = λ is. absurd (cc is); write = λ is. absurd (cc is); port = λ is. absurd (cc is); disk = λ is. absurd (cc is) }
 
 pub returns-in-Err-NoMemory-clause-exactly : goal.returns-in-Err-NoMemory-clause-exactly
 returns-in-Err-NoMemory-clause-exactly g c = λ plain order asks. without_memory order.cluster order.task _ _

@@ -1,4 +1,4 @@
-use Rattle.crsm_app.proofs.Schedules.{completes, did_so, is_done, is_long, is_no_port, is_read_fault, is_too_long, is_write_fault, refuses}
+use Rattle.crsm_app.proofs.Schedules.{completes, did_so, is_done, is_long, is_no_disk, is_no_port, is_read_fault, is_too_long, is_write_fault, refuses}
 use Rattle.crsm_app.proofs.doing.run_replay.Goals as goal
 
 pub returns-clause-did : goal.returns-clause-did
@@ -27,3 +27,6 @@ returns-clause-within g c = λ bytes is short e. c.replay.ensures.within bytes i
 
 pub returns-clause-no_port : goal.returns-clause-no_port
 returns-clause-no_port g c = is_no_port c.replay.result c.replay_status.result c.replay_status.ensures
+
+pub returns-clause-no_disk : goal.returns-clause-no_disk
+returns-clause-no_disk g c = is_no_disk c.replay.result c.replay_status.result c.replay_status.ensures

@@ -1,4 +1,4 @@
-use Rattle.crsm_app.proofs.Sheets.{completes, did_so, is_done, is_long, is_no_port, is_read_fault, is_too_long, is_write_fault, refuses}
+use Rattle.crsm_app.proofs.Sheets.{completes, did_so, is_done, is_long, is_no_disk, is_no_port, is_read_fault, is_too_long, is_write_fault, refuses}
 use Rattle.crsm_app.proofs.doing.run_sheet.Goals as goal
 
 pub returns-clause-did : goal.returns-clause-did
@@ -28,3 +28,6 @@ returns-clause-within g c = λ bytes is short e. c.replay_node.ensures.within by
 
 pub returns-clause-no_port : goal.returns-clause-no_port
 returns-clause-no_port g c = is_no_port c.replay_node.result c.sheet_status.result c.sheet_status.ensures
+
+pub returns-clause-no_disk : goal.returns-clause-no_disk
+returns-clause-no_disk g c = is_no_disk c.replay_node.result c.sheet_status.result c.sheet_status.ensures
