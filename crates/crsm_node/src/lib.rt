@@ -6,11 +6,13 @@ mod keep;
 mod opening;
 mod order;
 mod pending;
+mod report;
 mod run;
 mod serving;
 mod take;
 
 pub use errors::{NodeEnd, NodeError};
 pub use order::NodeOrder;
+pub use report::{Held, Reporter, Silent};
 pub use run::run_node;
 pub use serving::serve;

@@ -9,6 +9,7 @@ ghost use Rattle.crsm_node.specs.Running.{Runs, RunsOverCluster, RunsShell, devi
 use crate::errors::{NodeEnd, NodeError};
 use crate::opening::write_opening;
 use crate::order::NodeOrder;
+use crate::report::{Reporter, held_in};
 use crate::serving::serve;
 use crsm_base::Bodies;
 use crsm_clock::Clock;
@@ -21,14 +22,16 @@ use crsm_shell::{Booted, Shell, logs_are_one};
 use std::alloc::Global;
 
 /// Runs a node: claims its log for the cluster, boots the replica on it, writes the first lines of the sheet, and takes
-/// all turns. Datagrams go over the port of the cluster.
-pub fn run_node<P: Port, D: Disk, C: Clock, O: Sink>(
+/// all turns. Datagrams go over the port of the cluster. Once the replica is booted the reporter is told what the log
+/// held.
+pub fn run_node<P: Port, D: Disk, C: Clock, O: Sink, R: Reporter>(
     alloc: Global,
     order: &NodeOrder,
     port: &mut P,
     disk: &mut D,
     clock: &mut C,
     sheet: &mut O,
+    reporter: &mut R,
 ) -> NodeEnd
     ensures { let at = devices_of D.meaning P.meaning C.readings O.written O.faults in
         RunsOverCluster order.now (at disk.old port.old clock.old sheet.old) (at disk.new port.new clock.new sheet.new) result }
@@ -37,19 +40,20 @@ pub fn run_node<P: Port, D: Disk, C: Clock, O: Sink>(
         Ok(over) => over,
         Err(why) => return NodeEnd::from(why),
     };
-    let end = run_over(alloc, order, &mut over, disk, clock, sheet);
+    let end = run_over(alloc, order, &mut over, disk, clock, sheet, reporter);
     let _port = over.into_inner();
     end
 }
 
 /// The same over the port of the cluster.
-fn run_over<P: Port, D: Disk, C: Clock, O: Sink>(
+fn run_over<P: Port, D: Disk, C: Clock, O: Sink, R: Reporter>(
     alloc: Global,
     order: &NodeOrder,
     port: &mut P,
     disk: &mut D,
     clock: &mut C,
     sheet: &mut O,
+    reporter: &mut R,
 ) -> NodeEnd
     ensures runs { let at = devices_of D.meaning P.meaning C.readings O.written O.faults in
         Runs order.now (at disk.old port.old clock.old sheet.old) (at disk.new port.new clock.new sheet.new) result }
@@ -68,6 +72,7 @@ fn run_over<P: Port, D: Disk, C: Clock, O: Sink>(
                 lines: _lines,
                 size: _,
             } = booted;
+            reporter.booted(held_in(&bodies, &shell));
             let ended = run_shell(alloc, order, &bodies, &mut shell, port, clock, sheet);
             let _disk = shell.into_disk();
             end_of(ended)

@@ -15,7 +15,7 @@ use crate::script::{Devices, Script};
 use crate::text::{push_end, push_file, push_sent};
 use crsm_base::Bytes;
 use crsm_disk::MemDisk;
-use crsm_node::run_node;
+use crsm_node::{Silent, run_node};
 use std::alloc::Global;
 use std::io::{self, Write};
 
@@ -41,7 +41,15 @@ fn run(alloc: Global, script: Script, out: &mut Bytes) -> Result<MemDisk, Fault>
         mut clock,
         mut sheet,
     } = devices;
-    let end = run_node(alloc, &order, &mut port, &mut disk, &mut clock, &mut sheet);
+    let end = run_node(
+        alloc,
+        &order,
+        &mut port,
+        &mut disk,
+        &mut clock,
+        &mut sheet,
+        &mut Silent,
+    );
     push_end(out, end)?;
     out.append(sheet.as_slice())?;
     push_sent(out, port.sent())?;
