@@ -22,6 +22,7 @@ use crsm_input::MAX_INPUT_BYTES;
 use crsm_io::{Sink, Source};
 use crsm_law_rounds::rounds_are_bounded;
 use crsm_law_runs::{answered_are_kept, decisions_always_agree, runs_are_safe};
+use crsm_node::Reporter;
 use crsm_port::Port;
 use crsm_words::{Plan, Refusal, Task, read_words};
 use std::alloc::Global;
@@ -86,10 +87,11 @@ fn schedules_are_safe()
 }
 
 /// Does what the words say: `replay` reads a schedule and writes its transcript, `replay-node ME N` reads the sheet of a
-/// replica and writes what it did, `soak NUMBER N STEPS` runs what a number draws and writes a summary, `node ME N TURNS PEERS` runs a replica and writes its sheet, `client TO TURNS
-/// CLIENT NUMBER OP` asks a replica for a command over the port and writes its outcome, `operate TO MEMBERS` asks one for
-/// another membership, and `--help` and `--version` write a text. The other commands are not there yet.
-pub fn run<I: Source, O: Sink, P: Port, D: Disk, C: Clock>(
+/// replica and writes what it did, `soak NUMBER N STEPS` runs what a number draws and writes a summary, `node ME N TURNS
+/// PEERS` runs a replica and writes its sheet, `client TO TURNS CLIENT NUMBER OP` asks a replica for a command over the
+/// port and writes its outcome, `operate TO MEMBERS` asks one for another membership, and `--help` and `--version` write
+/// a text. The other commands are not there yet. The reporter is told what a node's log held.
+pub fn run<I: Source, O: Sink, P: Port, D: Disk, C: Clock, R: Reporter>(
     alloc: Global,
     words: &[String],
     input: &mut I,
@@ -97,6 +99,7 @@ pub fn run<I: Source, O: Sink, P: Port, D: Disk, C: Clock>(
     port: &mut P,
     disk: &mut D,
     clock: &mut C,
+    reporter: &mut R,
 ) -> Status
     // What was taken, sent and written, by what the words ask for and by the status.
     ensures ran { let at = devices_of I.left I.faults O.written O.faults P.meaning D.meaning C.readings in
@@ -143,7 +146,7 @@ pub fn run<I: Source, O: Sink, P: Port, D: Disk, C: Clock>(
 {
     schedules_are_safe();
     match read_words(alloc, words) {
-        Ok(order) => do_order(alloc, order, input, output, port, disk, clock),
+        Ok(order) => do_order(alloc, order, input, output, port, disk, clock, reporter),
         Err(Refusal::Usage) => Status::Usage,
         Err(Refusal::NoMemory) => Status::NoMemory,
     }

@@ -21,7 +21,7 @@ use crsm_clock::Clock;
 use crsm_disk::Disk;
 use crsm_input::MAX_INPUT_BYTES;
 use crsm_io::{Sink, Source, put_all};
-use crsm_node::{NodeOrder, run_node};
+use crsm_node::{NodeOrder, Reporter, run_node};
 use crsm_port::Port;
 use crsm_replay::replay;
 use crsm_replay_node::replay_node;
@@ -126,7 +126,7 @@ fn run_operate<P: Port>(
 }
 
 /// Runs a replica.
-fn run_replica<O: Sink, P: Port, D: Disk, C: Clock>(
+fn run_replica<O: Sink, P: Port, D: Disk, C: Clock, R: Reporter>(
     alloc: Global,
     task: &NodeTask,
     cluster: u64,
@@ -134,6 +134,7 @@ fn run_replica<O: Sink, P: Port, D: Disk, C: Clock>(
     port: &mut P,
     disk: &mut D,
     clock: &mut C,
+    reporter: &mut R,
 ) -> Status
     requires { IsNode task.now }
     ensures did { let at = node_over D.meaning P.meaning C.readings O.written O.faults in
@@ -149,7 +150,10 @@ fn run_replica<O: Sink, P: Port, D: Disk, C: Clock>(
         return Status::NoMemory;
     };
     match NodeOrder::new(task.me, task.n, task.turns, peers, cluster) {
-        Some(order) => node_status(run_node(alloc, &order, port, disk, clock, output)),
+        Some(order) => {
+            let end = run_node(alloc, &order, port, disk, clock, output, reporter);
+            node_status(end)
+        }
         None => Status::NoMemory,
     }
 }
@@ -162,7 +166,7 @@ fn refuse(_task: Task) -> Status
 }
 
 /// Does the task of an order. One that is not there is refused.
-pub(crate) fn do_order<I: Source, O: Sink, P: Port, D: Disk, C: Clock>(
+pub(crate) fn do_order<I: Source, O: Sink, P: Port, D: Disk, C: Clock, R: Reporter>(
     alloc: Global,
     order: Order,
     input: &mut I,
@@ -170,6 +174,7 @@ pub(crate) fn do_order<I: Source, O: Sink, P: Port, D: Disk, C: Clock>(
     port: &mut P,
     disk: &mut D,
     clock: &mut C,
+    reporter: &mut R,
 ) -> Status
     requires { IsWithinLimits order.task }
     ensures did { let at = devices_of I.left I.faults O.written O.faults P.meaning D.meaning C.readings in
@@ -199,7 +204,7 @@ pub(crate) fn do_order<I: Source, O: Sink, P: Port, D: Disk, C: Clock>(
         }
         Task::Operate { to, members } => run_operate(alloc, to, &members, cluster, port),
         Task::Soak { number, n, steps } => run_soak(alloc, number, n, steps, output),
-        Task::Node(node) => run_replica(alloc, &node, cluster, output, port, disk, clock),
+        Task::Node(node) => run_replica(alloc, &node, cluster, output, port, disk, clock, reporter),
         task => refuse(task),
     }
 }

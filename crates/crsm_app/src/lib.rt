@@ -2,11 +2,14 @@
 #![tactic(auto)]
 
 mod command;
+mod devices;
 mod doing;
 mod entry;
+mod replica;
 mod status;
 
 pub use command::{plan, run};
+pub use crsm_node::{Held, Reporter, Silent};
 pub use crsm_replay::Cause;
 pub use crsm_words::Plan;
 pub use entry::start;

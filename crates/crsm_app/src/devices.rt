@@ -1,0 +1,99 @@
+//! What is done over the real streams and clock, and over a port and a disk.
+
+use crate::command::run;
+use crate::status::Status;
+use crsm_clock::SystemClock;
+use crsm_disk::{Disk, MemDisk, OpenError};
+use crsm_io::{StdSink, StdSource};
+use crsm_node::{Reporter, Silent};
+use crsm_port::{MemPort, Port, UdpPort};
+use std::fmt::{self, Display, Formatter, Write};
+use std::io::{self, ErrorKind, Input, Print};
+use std::net::Net;
+use std::time::Clock;
+
+/// The address of a socket that the system may bind at any free port.
+const ANY_FREE_PORT: u64 = 0;
+
+/// A device that could not be made.
+#[derive(Drop)]
+pub(crate) enum NoDevice {
+    Socket(io::Error),
+    Log(OpenError),
+}
+
+impl NoDevice {
+    /// The status that the program ends with.
+    pub(crate) fn status(&self) -> Status {
+        match self {
+            NoDevice::Socket(_) => Status::PortFault,
+            NoDevice::Log(_) => Status::DiskFault,
+        }
+    }
+}
+
+impl Display for NoDevice {
+    fn fmt<W: Write>(&self, f: &mut Formatter<W>) -> fmt::Result {
+        match self {
+            NoDevice::Socket(error) => write!(f, "no socket can be opened: {error}"),
+            NoDevice::Log(error) => write!(f, "the log file cannot be opened: {error}"),
+        }
+    }
+}
+
+/// The status of what the words say, over standard input and output, the system's clock, and these devices.
+pub(crate) fn status_over<R: AllocGlobal + Clock + Input + Print, P: Port, D: Disk, T: Reporter>(
+    rt: &R,
+    words: &[String],
+    port: &mut P,
+    disk: &mut D,
+    reporter: &mut T,
+) -> Status {
+    let mut clock = SystemClock::new(rt);
+    let mut input = StdSource::new(rt.reader());
+    let mut output = StdSink::new(io::writer(rt));
+    run(
+        rt.alloc(),
+        words,
+        &mut input,
+        &mut output,
+        port,
+        disk,
+        &mut clock,
+        reporter,
+    )
+}
+
+/// A socket as a port.
+pub(crate) fn socket_at<R: AllocGlobal + Net>(rt: &R, address: u64) -> Result<UdpPort, NoDevice> {
+    if address >= 1 << 48 {
+        return Err(NoDevice::Socket(io::Error::from(ErrorKind::InvalidInput)));
+    }
+    UdpPort::bind(rt.alloc(), rt, address).map_err(NoDevice::Socket)
+}
+
+/// The status of what the words say, over a port and a disk that have nothing.
+pub(crate) fn status_over_nothing<R: AllocGlobal + Clock + Input + Print>(
+    rt: &R,
+    words: &[String],
+) -> Status {
+    let Ok(mut port) = MemPort::new(rt.alloc(), &[]) else {
+        return Status::NoMemory;
+    };
+    let Ok(mut disk) = MemDisk::new(rt.alloc(), &[], None, 0) else {
+        return Status::NoMemory;
+    };
+    status_over(rt, words, &mut port, &mut disk, &mut Silent)
+}
+
+/// The status of what the words say, over a socket at any free port.
+pub(crate) fn status_over_socket<R: AllocGlobal + Clock + Input + Net + Print>(
+    rt: &R,
+    words: &[String],
+) -> Result<Status, NoDevice> {
+    let mut port = socket_at(rt, ANY_FREE_PORT)?;
+    let Ok(mut disk) = MemDisk::new(rt.alloc(), &[], None, 0) else {
+        return Ok(Status::NoMemory);
+    };
+    Ok(status_over(rt, words, &mut port, &mut disk, &mut Silent))
+}

@@ -1,0 +1,148 @@
+//! A replica over a socket and a log file, and what it tells on standard error: a line once it is booted, and a line why
+//! it ends.
+
+use crate::devices::{NoDevice, socket_at, status_over};
+use crate::status::Status;
+use crsm_disk::FileDisk;
+use crsm_node::{Held, Reporter};
+use crsm_peer_port::PeerPort;
+use crsm_words::{NodeTask, Order, Task, read_words};
+use std::alloc::Global;
+use std::fmt::{self, Display, Formatter, Write};
+use std::fs::{File, Files};
+use std::io::{Eprint, Input, Print};
+use std::net::Net;
+use std::time::Clock;
+
+/// Which replica it is, and where it listens.
+#[derive(Clone, Copy, Debug)]
+struct Place {
+    me: u32,
+    /// How many replicas the cluster began with.
+    n: u32,
+    /// The number of the cluster, 0 for none.
+    cluster: u64,
+    address: u64,
+}
+
+impl Display for Place {
+    fn fmt<W: Write>(&self, f: &mut Formatter<W>) -> fmt::Result {
+        write!(f, "replica {} of {}", self.me, self.n)?;
+        if self.cluster != 0 {
+            write!(f, ", cluster {}", self.cluster)?;
+        }
+        Ok(())
+    }
+}
+
+/// The line of a replica that was booted.
+#[derive(Clone, Copy, Debug)]
+struct Begun {
+    place: Place,
+    held: Held,
+}
+
+impl Display for Begun {
+    fn fmt<W: Write>(&self, f: &mut Formatter<W>) -> fmt::Result {
+        let Begun { place, held } = self;
+        let [_, _, a, b, c, d, high, low] = place.address.to_be_bytes();
+        let port = u16::from_be_bytes([high, low]);
+        write!(f, "{place}: listens at {a}.{b}.{c}.{d}:{port}; ")?;
+        let Held {
+            bodies,
+            epoch,
+            executed,
+        } = held;
+        write!(
+            f,
+            "its log held {bodies} bodies, epoch {epoch}, {executed} executed"
+        )
+    }
+}
+
+/// The line of a replica that ends.
+#[derive(Drop)]
+struct Ended<Why> {
+    place: Place,
+    why: Why,
+}
+
+impl<Why: Display> Display for Ended<Why> {
+    fn fmt<W: Write>(&self, f: &mut Formatter<W>) -> fmt::Result {
+        write!(f, "{}: ended: {}", self.place, self.why)
+    }
+}
+
+/// Tells on standard error what a log held. Where that fails, nothing is told.
+#[derive(Drop)]
+struct Voice<'a, R> {
+    rt: &'a R,
+    place: Place,
+}
+
+impl<R: Eprint> Reporter for Voice<'_, R> {
+    fn booted(&mut self, held: Held) {
+        let place = self.place;
+        let _ = self.rt.eprintln(Begun { place, held });
+    }
+}
+
+/// The node that the words ask for, and the number of its cluster.
+fn node_in(alloc: Global, words: &[String]) -> Result<(u64, NodeTask), Status> {
+    match read_words(alloc, words) {
+        Ok(
+            Order {
+                cluster,
+                task: Task::Node(node),
+            },
+        ) => Ok((cluster, node)),
+        Ok(_) => Err(Status::Usage),
+        Err(_) => Err(Status::NoMemory),
+    }
+}
+
+/// Runs a replica over a socket at its address and its log file. Nobody speaks in another replica's name.
+fn run_at<R: AllocGlobal + Clock + Eprint + Files<File = File> + Input + Net + Print>(
+    rt: &R,
+    words: &[String],
+    place: Place,
+    peers: &[u64],
+) -> Result<Status, NoDevice> {
+    let Ok(name) = format!(in rt.alloc(); "crsm-{}.log", place.me) else {
+        return Ok(Status::NoMemory);
+    };
+    let Ok(peers) = Vec::from_slice(rt.alloc(), peers) else {
+        return Ok(Status::NoMemory);
+    };
+    let mut disk = FileDisk::open(rt, name.as_str()).map_err(NoDevice::Log)?;
+    let mut port = PeerPort::new(socket_at(rt, place.address)?, peers);
+    let mut voice = Voice { rt, place };
+    Ok(status_over(rt, words, &mut port, &mut disk, &mut voice))
+}
+
+/// Runs the replica that the words ask for, tells on standard error why it ends, and answers its status.
+pub(crate) fn run_replica_of<
+    R: AllocGlobal + Clock + Eprint + Files<File = File> + Input + Net + Print,
+>(rt: &R, words: &[String], me: u32, address: u64) -> Status {
+    let (cluster, node) = match node_in(rt.alloc(), words) {
+        Ok(found) => found,
+        Err(status) => return status,
+    };
+    let place = Place {
+        me,
+        n: node.n,
+        cluster,
+        address,
+    };
+    match run_at(rt, words, place, node.peers.as_slice()) {
+        Ok(status) => {
+            let _ = rt.eprintln(Ended { place, why: status });
+            status
+        }
+        Err(error) => {
+            let status = error.status();
+            let _ = rt.eprintln(Ended { place, why: error });
+            status
+        }
+    }
+}
