@@ -1,6 +1,6 @@
 //! One case: a header that says how it is run, the datagrams that wait at its port, and an input.
 
-use crsm_app::{Status, run};
+use crsm_app::{Silent, Status, run};
 use crsm_base::NoMemory;
 use crsm_clock::ListClock;
 use crsm_disk::{Disk, MemDisk};
@@ -149,6 +149,7 @@ fn run_over(alloc: Global, words: &[String], devices: Devices) -> Ran {
         &mut port,
         &mut disk,
         &mut clock,
+        &mut Silent,
     );
     Ran {
         status,
