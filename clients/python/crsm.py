@@ -7,17 +7,34 @@
         store.get("colour")                       # b"blue"
         store.cas("colour", "blue", "green")      # true: it was blue, and is green now
 
+        with store.lock("leader") as fence:       # waits while another client holds it
+            ...                                   # each request to what it guards carries the fence
+
 Every command is done once at most, however often its request had to be sent.
 """
 
+import random
 import secrets
 import socket
 import struct
 import threading
 import time
-from typing import Iterable, List, NamedTuple, Optional, Sequence, Set, Tuple, Union
+from typing import Dict, Iterable, List, NamedTuple, Optional, Sequence, Set, Tuple, Union
 
-__all__ = ["Cas", "Client", "CrsmError", "NoAnswer", "NoRoom", "Refused", "Stale", "Unsafe"]
+__all__ = [
+    "Cas",
+    "Client",
+    "CrsmError",
+    "Lock",
+    "LockHeld",
+    "LockLost",
+    "NoAnswer",
+    "NoRoom",
+    "NotALock",
+    "Refused",
+    "Stale",
+    "Unsafe",
+]
 
 Bytes = Union[bytes, str]
 Address = Tuple[str, int]
@@ -30,6 +47,9 @@ LAST_NUMBER = 2**64 - 1
 
 # A replica takes each copy of a request for an entry of its own, so copies do not follow one another faster.
 LEAST_RESEND = 0.1
+
+# The pauses between two looks at a lock that another holds: each is twice the one before, up to the last.
+FIRST_PAUSE, LAST_PAUSE = 0.05, 1.0
 
 REFUSALS = {
     1: "the node is not part of the current epoch",
@@ -75,6 +95,23 @@ class NoRoom(CrsmError):
 
 class Unsafe(CrsmError):
     """The new members are no majority of the nodes, and the caller did not say that it is sure."""
+
+
+class LockHeld(CrsmError):
+    """The lock is held by the client `owner`, by the grant whose fence is `fence`."""
+
+    def __init__(self, owner: int, fence: int):
+        super().__init__(f"client {owner} holds the lock with fence {fence}")
+        self.owner = owner
+        self.fence = fence
+
+
+class LockLost(CrsmError):
+    """The lock was taken from this client before it was given back: what it did last may have been done too late."""
+
+
+class NotALock(CrsmError):
+    """The key has a value that is no lock's."""
 
 
 class Cas(NamedTuple):
@@ -195,6 +232,117 @@ def _address(node: Union[str, Address]) -> Address:
     return socket.gethostbyname(host), number
 
 
+_FREE, _HELD = 0, 1
+_LOCK_VALUE = struct.Struct(">BQQ")
+
+
+class _LockState(NamedTuple):
+    """A lock as its key has it: the fence of the last grant, and who holds it by that grant, if anyone does."""
+
+    fence: int
+    owner: Optional[int]
+
+    @classmethod
+    def of(cls, value: Optional[bytes]) -> "_LockState":
+        """The lock with this value. A key without one is a free lock that was never granted."""
+        if value is None:
+            return cls(0, None)
+        if len(value) != _LOCK_VALUE.size:
+            raise NotALock(f"a lock has {_LOCK_VALUE.size} bytes, this value {len(value)}")
+        state, fence, owner = _LOCK_VALUE.unpack(value)
+        if state == _HELD:
+            return cls(fence, owner)
+        if state == _FREE and owner == 0:
+            return cls(fence, None)
+        raise NotALock("the value is neither a free lock nor a held one")
+
+    def value(self) -> bytes:
+        """The value of this lock."""
+        if self.owner is None:
+            return _LOCK_VALUE.pack(_FREE, self.fence, 0)
+        return _LOCK_VALUE.pack(_HELD, self.fence, self.owner)
+
+
+class Lock:
+    """A lock of the store, as `Client.lock` and `Client.break_lock` make it: held while a `with` statement runs."""
+
+    def __init__(self, client: "Client", key: Bytes, wait: Optional[float], breaks: bool, of: Optional[int]):
+        self._client, self._key = client, _bytes_of(key)
+        _key(self._key)
+        self._wait, self._breaks, self._of = wait, breaks, of
+        self.fence: Optional[int] = None
+
+    def __enter__(self) -> int:
+        return self.take()
+
+    def __exit__(self, kind: object, *_: object) -> None:
+        try:
+            self.give()
+        except CrsmError:
+            # An error of the statement's own tells more than that the lock could not be given back.
+            if kind is None:
+                raise
+
+    def take(self) -> int:
+        """Takes the lock and answers its fence. Waits while another holds it, and then raises `LockHeld`."""
+        if self.fence is not None:
+            raise RuntimeError("this lock is taken already")
+        deadline = None if self._wait is None else time.monotonic() + self._wait
+        pause = FIRST_PAUSE
+        while True:
+            try:
+                self.fence = self._try_to_take()
+                return self.fence
+            except LockHeld:
+                if deadline is not None and time.monotonic() >= deadline:
+                    raise
+            left = pause if deadline is None else min(pause, max(0.0, deadline - time.monotonic()))
+            time.sleep(random.uniform(left / 2, left))
+            pause = min(2 * pause, LAST_PAUSE)
+
+    def give(self) -> None:
+        """Gives the lock back. Raises `LockLost` if it is no longer held by this grant."""
+        if self.fence is None:
+            raise RuntimeError("this lock is not taken")
+        held, free = _LockState(self.fence, self._client.client), _LockState(self.fence, None)
+        self.fence = None
+        try:
+            swap = self._client.cas(self._key, held.value(), free.value())
+        finally:
+            self._client._let_go(self._key)
+        if not swap:
+            raise LockLost(f"the lock was taken from client {self._client.client}, which had fence {held.fence}")
+
+    def _try_to_take(self) -> int:
+        """The fence of a grant to this client, which no other thread of it may have."""
+        self._client._claim(self._key)
+        try:
+            fence = self._granted()
+        except BaseException:
+            self._client._let_go(self._key)
+            raise
+        self._client._claim_by(self._key, fence)
+        return fence
+
+    def _granted(self) -> int:
+        """Has the lock granted to this client, and answers the fence."""
+        while True:
+            found = self._client.get(self._key)
+            lock = _LockState.of(found)
+            if lock.owner == self._client.client:
+                return lock.fence
+            if lock.owner is not None and not self._may_break(lock):
+                raise LockHeld(lock.owner, lock.fence)
+            if lock.fence == LAST_NUMBER:
+                raise CrsmError("the lock has no greater fence")
+            wanted = _LockState(lock.fence + 1, self._client.client)
+            if self._client.cas(self._key, found, wanted.value()):
+                return wanted.fence
+
+    def _may_break(self, lock: _LockState) -> bool:
+        return self._breaks and self._of in (None, lock.fence)
+
+
 class Client:
     """A client of the cluster whose nodes have these addresses, the i-th that of replica i.
 
@@ -232,6 +380,8 @@ class Client:
         self._number = 0
         self._at = 0
         self._lock = threading.Lock()
+        self._claimed: Dict[bytes, int] = {}
+        self._claims = threading.Lock()
         self._socket = socket.socket(socket.AF_INET, socket.SOCK_DGRAM)
 
     def close(self) -> None:
@@ -289,6 +439,39 @@ class Client:
             raise ValueError(f"replica {to} has no address here")
         datagram = bytes([_OPERATE, len(chosen)]) + bytes(chosen)
         self._socket.sendto(self._mark + datagram, self._nodes[to])
+
+    # ---- locks
+
+    def lock(self, key: Bytes, *, wait: Optional[float] = None) -> Lock:
+        """The lock at the key, for a `with` statement, whose value is the fence of the grant.
+
+        It is taken when the statement begins, at the latest after `wait` seconds, and else `LockHeld` is raised; by
+        default the client waits as long as it takes. It is given back when the statement ends.
+        """
+        return Lock(self, key, wait, False, None)
+
+    def break_lock(self, key: Bytes, *, fence: Optional[int] = None) -> Lock:
+        """The same lock, which is taken from whoever holds it. With `fence` only from the holder by that grant.
+
+        The holder is not asked, and may still act on what the lock guards: that is what fences are for.
+        """
+        return Lock(self, key, 0.0, True, fence)
+
+    def _claim(self, key: bytes) -> None:
+        """Keeps the lock at the key from other threads of this client: the store knows the client alone."""
+        with self._claims:
+            if key in self._claimed:
+                raise LockHeld(self.client, self._claimed[key])
+            self._claimed[key] = 0
+
+    def _claim_by(self, key: bytes, fence: int) -> None:
+        """The fence of the claim, once it is granted."""
+        with self._claims:
+            self._claimed[key] = fence
+
+    def _let_go(self, key: bytes) -> None:
+        with self._claims:
+            self._claimed.pop(key, None)
 
     # ---- one command
 

@@ -6,7 +6,18 @@ import threading
 import time
 import unittest
 
-from crsm import Client, CrsmError, NoAnswer, NoRoom, Refused, Stale, Unsafe
+from crsm import (
+    Client,
+    CrsmError,
+    LockHeld,
+    LockLost,
+    NoAnswer,
+    NoRoom,
+    NotALock,
+    Refused,
+    Stale,
+    Unsafe,
+)
 
 FAST = {"timeout": 3.0, "node_timeout": 0.25, "resend": 0.1}
 
@@ -114,7 +125,7 @@ class Node(threading.Thread):
         self.join()
 
 
-class ClientTest(unittest.TestCase):
+class ClusterTest(unittest.TestCase):
     def setUp(self):
         self.store = Store()
 
@@ -137,6 +148,8 @@ class ClientTest(unittest.TestCase):
         self.addCleanup(quiet.close)
         return quiet
 
+
+class ClientTest(ClusterTest):
     def test_commands(self):
         client = self.client(self.node())
         self.assertIsNone(client.get("a"))
@@ -341,6 +354,155 @@ class ClientTest(unittest.TestCase):
         for thread in threads:
             thread.join()
         self.assertEqual(client.get("n"), b"40")
+
+
+def lock_value(state, fence, owner):
+    return struct.pack(">BQQ", state, fence, owner)
+
+
+class LockTest(ClusterTest):
+    def test_value_of_a_lock(self):
+        client = self.client(self.node(), client=5)
+        with client.lock("a") as fence:
+            self.assertEqual(fence, 1)
+            self.assertEqual(self.store.rows, {b"a": lock_value(1, 1, 5)})
+        self.assertEqual(self.store.rows, {b"a": lock_value(0, 1, 0)})
+        with client.lock("a") as fence:
+            self.assertEqual(fence, 2)
+        self.assertEqual(self.store.done, 6)
+
+    def test_held_by_another(self):
+        node = self.node()
+        first, second = self.client(node, client=5), self.client(node, client=6)
+        with first.lock("a"):
+            for wait in (0, 0.3):
+                with self.assertRaises(LockHeld) as caught:
+                    second.lock("a", wait=wait).take()
+                self.assertEqual((caught.exception.owner, caught.exception.fence), (5, 1))
+        self.assertEqual(second.lock("a", wait=0).take(), 2)
+
+    def test_waits_until_it_is_given_back(self):
+        node = self.node()
+        first, second = self.client(node), self.client(node)
+        held, taken = first.lock("a"), []
+        held.take()
+        waiter = threading.Thread(target=lambda: taken.append(second.lock("a").take()))
+        waiter.start()
+        time.sleep(0.3)
+        self.assertEqual(taken, [])
+        held.give()
+        waiter.join(timeout=3.0)
+        self.assertEqual(taken, [2])
+
+    def test_looks_seldom_while_it_waits(self):
+        node = self.node()
+        self.client(node).lock("a").take()
+        done = self.store.done
+        with self.assertRaises(LockHeld):
+            self.client(node).lock("a", wait=1.0).take()
+        self.assertLess(self.store.done - done, 12)
+
+    def test_clients_contend(self):
+        node = self.node()
+        inside, fences, most = [], [], []
+
+        def work(client):
+            for _ in range(5):
+                with client.lock("a") as fence:
+                    inside.append(fence)
+                    most.append(len(inside))
+                    fences.append(fence)
+                    time.sleep(0.005)
+                    inside.remove(fence)
+
+        clients = [self.client(node, timeout=10.0) for _ in range(3)]
+        # Threads of one client exclude each other, too.
+        threads = [threading.Thread(target=work, args=(client,)) for client in clients + clients[:1]]
+        for thread in threads:
+            thread.start()
+        for thread in threads:
+            thread.join()
+        self.assertEqual(most, [1] * 20)
+        self.assertEqual(fences, sorted(fences))
+        self.assertEqual(len(set(fences)), 20)
+
+    def test_broken(self):
+        node = self.node()
+        gone, heir = self.client(node, client=5), self.client(node, client=6)
+        lost = gone.lock("a")
+        self.assertEqual(lost.take(), 1)
+        with self.assertRaises(LockHeld):
+            heir.break_lock("a", fence=7).take()
+        with heir.break_lock("a", fence=1) as fence:
+            self.assertEqual(fence, 2)
+            self.assertEqual(self.store.rows, {b"a": lock_value(1, 2, 6)})
+            with self.assertRaises(LockLost):
+                lost.give()
+        with heir.break_lock("a") as fence:
+            self.assertEqual(fence, 3)
+
+    def test_lost_while_the_statement_runs(self):
+        node = self.node()
+        first, second = self.client(node), self.client(node)
+        with self.assertRaises(LockLost):
+            with first.lock("a"):
+                second.break_lock("a").take()
+        with self.assertRaises(KeyError):
+            with first.lock("b"):
+                second.break_lock("b", fence=1).take()
+                raise KeyError("of the statement's own")
+
+    def test_given_back_after_an_error(self):
+        client = self.client(self.node())
+        with self.assertRaises(KeyError):
+            with client.lock("a"):
+                raise KeyError("of the statement's own")
+        self.assertEqual(self.store.rows, {b"a": lock_value(0, 1, 0)})
+
+    def test_no_answer_to_the_take(self):
+        # The look is answered. The compare and set is done, and its answers are lost.
+        node = self.node()
+        client = self.client(node, client=5, timeout=0.4)
+        asked = client._ask
+
+        def lossy(op, kinds):
+            node.mute = 99 if op[0] == 4 else 0
+            return asked(op, kinds)
+
+        client._ask = lossy
+        with self.assertRaises(NoAnswer):
+            client.lock("a").take()
+        self.assertEqual(self.store.rows, {b"a": lock_value(1, 1, 5)})
+        client._ask, node.mute = asked, 0
+        with client.lock("a", wait=0) as fence:
+            self.assertEqual(fence, 1)
+
+    def test_no_locks(self):
+        client = self.client(self.node(), client=5)
+        for value in (b"", bytes(16), bytes(18), lock_value(0, 1, 5), lock_value(2, 1, 5)):
+            client.put("a", value)
+            with self.assertRaises(NotALock):
+                client.lock("a").take()
+        client.put("a", lock_value(0, 2**64 - 1, 0))
+        with self.assertRaises(CrsmError):
+            client.lock("a").take()
+        client.put("a", lock_value(0, 2**64 - 2, 0))
+        self.assertEqual(client.lock("a").take(), 2**64 - 1)
+
+    def test_wrong_use(self):
+        client = self.client(self.node())
+        for key in ("", "k" * 65):
+            with self.assertRaises(ValueError):
+                client.lock(key)
+        lock = client.lock("a")
+        with self.assertRaises(RuntimeError):
+            lock.give()
+        lock.take()
+        with self.assertRaises(RuntimeError):
+            lock.take()
+        with self.assertRaises(LockHeld):
+            client.lock("a", wait=0).take()
+        lock.give()
 
 
 if __name__ == "__main__":
