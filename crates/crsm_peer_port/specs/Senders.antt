@@ -1,6 +1,6 @@
 -- Who sends a datagram by its own bytes, and by the address that it came from.
-use Rattle.std.specs.Prelude.{◌≡◌, ℕ, Bool, List, [], ◌∷◌, drop, length, take, Option, Some, None, nat_lt, ◌&&◌, if◌then◌else◌, slice_get, nat_eq, nat_le}
-use Rattle.crsm_port.specs.Meaning.{Meaning}
+use Rattle.std.specs.Prelude.{◌≡◌, ◌↔◌, ℕ, min, List, [], ◌∷◌, ◌++◌, drop, length, take, Option, Some, None, IsSome, ◌&&◌, if◌then◌else◌, slice_get, nat_eq, nat_le}
+use Rattle.crsm_port.specs.Meaning.{Coat, Meaning, Packet, Traffic}
 use Rattle.crsm_port.specs.Unknown.{unknown}
 use Rattle.crsm_port.specs.declared.port.Got.{Got}
 use Rattle.crsm_port.specs.declared.port.Got.TheVariants.{Nothing, Datagram}
@@ -28,6 +28,26 @@ SpeaksForItself peers address bytes = (k : ℕ) → named_sender (behind_mark by
 abbrev pub IsOwn : List ℕ → List ℕ → Got → Type 0
 IsOwn peers buffer Nothing = Unit {0}
 IsOwn peers buffer (Datagram from len) = SpeaksForItself peers from (take len buffer)
+
+-- ---- what is handed up
+
+-- Of a datagram all is handed up that the room holds, if that may come from the datagram's address, and else no bytes.
+pub record HandsUp (peers : List ℕ) (d : Packet) (room : ℕ) (buffer : List ℕ) (from len : ℕ) : Type 0 where
+  pub address : from ≡ d.address
+  pub own : SpeaksForItself peers d.address (take room d.bytes) → (len ≡ min room (length d.bytes)) × (take len buffer ≡ take room d.bytes)
+  pub foreign : (SpeaksForItself peers d.address (take room d.bytes) → ⊥) → len ≡ 0
+
+-- The port below takes the first datagram that waits, and that is what is handed up; or none waits.
+abbrev pub IsFirst : List ℕ → Coat → ℕ → Traffic → Traffic → List ℕ → Got → Type 0
+IsFirst peers coat room t u buffer Nothing = (t.waiting ≡ []) × (u ≡ t)
+IsFirst peers coat room t u buffer (Datagram from len) = (d : Packet) × (rest : List Packet) × (t.waiting ≡ d ∷ rest)
+    × (u ≡ record t { waiting = rest; taken = t.taken ++ d ∷ [] })
+    × HandsUp peers (coat.unwrap d) room buffer from len
+
+-- the same, where the port below tells its traffic, as it does after the receive if it did before
+pub record IsOfFirst (peers : List ℕ) (old new : Meaning) (room : ℕ) (buffer : List ℕ) (got : Got) : Type 0 where
+  pub told : IsSome old.traffic ↔ IsSome new.traffic
+  pub first : (t u : Traffic) → old.traffic ≡ Some t → new.traffic ≡ Some u → IsFirst peers old.coat room t u buffer got
 
 -- the counts of a port, and nothing else that it tells
 abbrev pub counts_of : Meaning → Meaning

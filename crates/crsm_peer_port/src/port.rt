@@ -1,8 +1,8 @@
 //! The port.
 
-ghost use Rattle.std.specs.Prelude.{◌≡◌, ◌↔◌, IsTrue, IfOk, map};
+ghost use Rattle.std.specs.Prelude.{◌≡◌, ◌↔◌, IsTrue, IfOk, Some, length, slice_get};
 ghost use Rattle.crsm_port.specs.Meaning.{Receives};
-ghost use Rattle.crsm_peer_port.specs.Senders.{IsOwn, SpeaksForItself, behind_mark, counts_of, named_sender};
+ghost use Rattle.crsm_peer_port.specs.Senders.{IsOfFirst, IsOwn, SpeaksForItself, behind_mark, counts_of, named_sender};
 
 use crsm_base::{Failed, NoMemory};
 use crsm_port::{Got, Port};
@@ -14,7 +14,7 @@ const MARK_BYTES: usize = 9;
 
 /// A port over a port, for a replica whose peers have these addresses. A datagram that names the replica that it comes
 /// from (a frame, an acknowledgement or a part) is handed up only from that replica's address, and with no bytes from any
-/// other. All other datagrams are handed up as they are. It counts what the port below counts, and tells nothing else.
+/// other. All other datagrams are handed up as they are. Of its own it tells its counts alone, those of the port below.
 #[derive(Drop)]
 pub struct PeerPort<P> {
     inner: P,
@@ -50,12 +50,19 @@ fn sender_in(bytes: &[u8]) -> Option<u8>
     }
 }
 
+// Whether the replica has this address.
+fn has_address(peers: &[u64], replica: u8, address: u64) -> bool
+    ensures { IsTrue result ↔ (slice_get peers.now replica ≡ Some address) }
+{
+    peers.get(replica as usize) == Some(&address)
+}
+
 // Whether bytes that came from this address may name the sender that they name.
 fn speaks_for_itself(peers: &[u64], address: u64, bytes: &[u8]) -> bool
-    ensures { IsTrue result → SpeaksForItself peers.now address bytes.now }
+    ensures { IsTrue result ↔ SpeaksForItself peers.now address bytes.now }
 {
     match sender_in(unmarked(bytes)) {
-        Some(from) => peers.get(from as usize) == Some(&address),
+        Some(from) => has_address(peers, from, address),
         None => true,
     }
 }
@@ -66,6 +73,7 @@ impl<P: Port> Port for PeerPort<P> {
     fn recv(&mut self, buf: &mut [u8]) -> Result<Got, Failed>
         ensures tells { Receives (counts_of (P.meaning self.old.inner)) (counts_of (P.meaning self.new.inner)) buf.old buf.new result }
         ensures own { IfOk result (IsOwn self.old.peers.items buf.new) }
+        ensures first { IfOk result (IsOfFirst self.old.peers.items (P.meaning self.old.inner) (P.meaning self.new.inner) (length buf.old) buf.new) }
     {
         match self.inner.recv(buf)? {
             Got::Datagram { from, len } if !speaks_for_itself(&self.peers, from, &buf[..len]) => {

@@ -1,8 +1,8 @@
-use Rattle.std.proofs.Common.{◌≡◌, ℕ, List, Some, None, refl, sym, subst, ap, ◌∙◌}
+use Rattle.std.proofs.Common.{◌≡◌, ℕ, Some, ap, ◌∙◌}
 use Rattle.crsm_base.specs.declared.datagram.Datagram.{Datagram}
 use Rattle.crsm_base.specs.declared.datagram.Datagram.TheVariants as datagram
-use Rattle.crsm_base.specs.Messages.{datagram_bytes, SpeltDatagram}
-use Rattle.crsm_peer_port.specs.Laws.{SendersAreNamed, sender_of}
+use Rattle.crsm_base.specs.Messages.{datagram_bytes}
+use Rattle.crsm_peer_port.specs.Laws.{sender_of}
 use Rattle.crsm_peer_port.specs.Senders.{named_sender}
 use Rattle.crsm_peer_port.proofs.laws.senders_are_named.Goals as goal
 
