@@ -1,0 +1,10 @@
+pub mod Executed
+pub mod Effects
+pub mod Logging
+pub mod Replying
+pub mod Balance
+pub mod Turns
+pub mod Along
+pub mod Hosts
+pub mod Laws
+pub mod Once
