@@ -1,0 +1,5 @@
+mod Prefixes
+mod Effects
+mod Drafts
+mod Runs
+mod Agreeing

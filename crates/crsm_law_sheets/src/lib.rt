@@ -1,0 +1,15 @@
+//! Sheets of several nodes of one cluster: what agrees with one list, and the law of sheets that agree. It speaks of what each
+//! node found and took alone, so it holds of forged sheets as of honest ones.
+#![tactic(auto)]
+
+ghost use Rattle.crsm_law_sheets.specs.Laws.{AgreeingSheetsAreSafe};
+
+use crsm_step_facts::steps_are_changes;
+
+/// Where lists agree, none is a stranger and nothing that is executed was called dropped: executed lists at all moments are
+/// prefixes of one list, each reply is right by it, and each node keeps real time.
+pub fn agreeing_sheets_are_safe()
+    ensures { AgreeingSheetsAreSafe }
+{
+    steps_are_changes();
+}
