@@ -1,0 +1,17 @@
+-- When a command commits.
+use Rattle.std.specs.Prelude.{◌≡◌, ℕ, ◌<◌, List, [], ◌∷◌}
+use Rattle.crsm_spec.specs.World.{begin}
+use Rattle.crsm_spec.specs.Run.{ArePossible}
+use Rattle.crsm_timing.specs.Plans.{Plan, FitsPlan, commit_at}
+use Rattle.crsm_timing.specs.Timelines.{Timed, IsTimeline, acts_of, exec_moments}
+
+-- Each timeline of a plan is possible.
+abbrev pub TimelinesArePossible : Type 0
+TimelinesArePossible =
+    (plan : Plan) (es : List Timed) → FitsPlan plan → IsTimeline plan es → ArePossible (begin plan.n) (acts_of es)
+
+-- In each timeline of a plan each replica executes one entry, at the moment that the plan gives.
+abbrev pub CommandsCommitInTime : Type 0
+CommandsCommitInTime =
+    (plan : Plan) (es : List Timed) → FitsPlan plan → IsTimeline plan es → (i : ℕ) → i < plan.n →
+    exec_moments plan i es ≡ commit_at plan i ∷ []
