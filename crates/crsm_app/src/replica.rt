@@ -3,8 +3,10 @@
 
 use crate::devices::{NoDevice, socket_at, status_over};
 use crate::status::Status;
+use crsm_clock::SystemClock;
 use crsm_disk::FileDisk;
 use crsm_node::{Held, Reporter};
+use crsm_paced_port::PacedPort;
 use crsm_peer_port::PeerPort;
 use crsm_words::{NodeTask, Order, Task, read_words};
 use std::alloc::Global;
@@ -115,7 +117,11 @@ fn run_at<R: AllocGlobal + Clock + Eprint + Files<File = File> + Input + Net + P
         return Ok(Status::NoMemory);
     };
     let mut disk = FileDisk::open(rt, name.as_str()).map_err(NoDevice::Log)?;
-    let mut port = PeerPort::new(socket_at(rt, place.address)?, peers);
+    let socket = socket_at(rt, place.address)?;
+    let Ok(paced) = PacedPort::new(rt.alloc(), socket, SystemClock::new(rt)) else {
+        return Ok(Status::NoMemory);
+    };
+    let mut port = PeerPort::new(paced, peers);
     let mut voice = Voice { rt, place };
     Ok(status_over(rt, words, &mut port, &mut disk, &mut voice))
 }

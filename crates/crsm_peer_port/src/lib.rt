@@ -5,4 +5,4 @@ mod laws;
 mod port;
 
 pub use laws::senders_are_named;
-pub use port::PeerPort;
+pub use port::{PeerPort, unmarked};

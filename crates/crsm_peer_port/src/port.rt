@@ -30,8 +30,8 @@ impl<P: Drop> PeerPort<P> {
     }
 }
 
-// The bytes without the mark of a cluster.
-fn unmarked(bytes: &[u8]) -> &[u8]
+/// The bytes of a datagram without the mark of a cluster, where they have one.
+pub fn unmarked(bytes: &[u8]) -> &[u8]
     ensures { result.now ≡ behind_mark bytes.now }
 {
     match bytes.first() {

@@ -1,0 +1,87 @@
+//! Runs three nodes and a client of theirs as processes of its own over the loopback network, replays the sheet of each
+//! node, and says whether what each took from another is what that one's replayed sheet sends.
+#![tactic(auto)]
+
+mod fault;
+mod processes;
+mod sheets;
+
+use crate::fault::Fault;
+use crate::processes::{NODES, ask, end_nodes, free_addresses, start_nodes};
+use crate::sheets::{Took, replayed, taken_from};
+use std::env::{self, Env};
+use std::fs::{self, File};
+use std::io::Print;
+use std::net::Net;
+use std::process::{ExitCode, Processes};
+use std::rt::Files;
+
+/// Whether words were given: then this process is one of the nodes, or the client.
+fn has_words<R: AllocGlobal + Env>(rt: &R) -> bool {
+    match env::args(rt) {
+        Ok(words) => words.count() > 1,
+        Err(_) => false,
+    }
+}
+
+/// Says of each node how its sheet is replayed, and what it took from the others.
+fn compare<R: AllocGlobal + Files + Print>(rt: &R, peers: &[u64]) -> Result<(), Fault> {
+    let alloc = rt.alloc();
+    let mut sheets = Vec::new(alloc);
+    let mut texts = Vec::new(alloc);
+    for me in 0..NODES {
+        let name = format!(in alloc; "sheet-{me}")?;
+        let sheet = fs::read_to_string(rt, name.as_str())?;
+        let (status, text) = replayed(alloc, me, sheet.as_str())?;
+        println!(rt; "node {me} is replayed: {status:?}")?;
+        sheets.push(sheet)?;
+        texts.push(text)?;
+    }
+    for me in 0..NODES {
+        for from in 0..NODES {
+            if from == me {
+                continue;
+            }
+            let said = match taken_from(
+                alloc,
+                sheets[me].as_str(),
+                peers[from],
+                texts[from].as_str(),
+                me,
+            )? {
+                Took::Nothing => "nothing",
+                Took::Sent => "what it sent",
+                Took::More => "more than it sent",
+            };
+            println!(rt; "node {me} took from {from}: {said}")?;
+        }
+    }
+    Ok(())
+}
+
+/// The whole trial.
+fn trial<R: AllocGlobal + Env + Files<File = File> + Net + Print + Processes>(
+    rt: &R,
+) -> Result<(), Fault> {
+    let peers = free_addresses(rt)?;
+    let nodes = start_nodes(rt, &peers)?;
+    let answer = ask(rt, peers[0])?;
+    print!(rt; "client: {}", answer.as_str())?;
+    for (me, status) in end_nodes(rt, nodes)?.into_iter().enumerate() {
+        println!(rt; "node {me}: {}", status.success())?;
+    }
+    compare(rt, &peers)
+}
+
+fn main(rt: HostRuntime) -> ExitCode {
+    if has_words(&rt) {
+        return crsm_app::start(&rt);
+    }
+    match trial(&rt) {
+        Ok(()) => ExitCode::SUCCESS,
+        Err(fault) => {
+            let _ = rt.eprintln(fault);
+            ExitCode::FAILURE
+        }
+    }
+}

@@ -1,0 +1,106 @@
+//! Datagrams that were read before anybody asked for them.
+
+ghost use Rattle.std.specs.Prelude.{IfSome, length};
+ghost use Rattle.crsm_port.specs.Meaning.{IsWithin};
+
+use crsm_base::NoMemory;
+use crsm_port::{Got, Port};
+use std::alloc::Global;
+
+/// How many datagrams are read ahead at most, and how many bytes one has.
+const MOST_AHEAD: usize = 1024;
+
+const MOST_BYTES: usize = 8201;
+
+/// Where a datagram that was read ahead came from, and where its bytes stand.
+#[derive(Clone, Copy)]
+struct Place {
+    from: u64,
+    start: usize,
+    len: usize,
+}
+
+/// Datagrams that were read ahead, the oldest first, and whether a receive failed behind them.
+#[derive(Drop)]
+pub(crate) struct Ahead {
+    places: Vec<Place>,
+    next: usize,
+    bytes: Vec<u8>,
+    room: Vec<u8>,
+    has_failed: bool,
+}
+
+impl Ahead {
+    /// None.
+    pub(crate) fn new(alloc: Global) -> Result<Ahead, NoMemory> {
+        Ok(Ahead {
+            places: Vec::new(alloc),
+            next: 0,
+            bytes: Vec::new(alloc),
+            room: Vec::from_elem(alloc, 0u8, MOST_BYTES)?,
+            has_failed: false,
+        })
+    }
+
+    /// Reads what waits at the port, so that its buffer is empty while the node is busy. What no memory is left for
+    /// waits on.
+    pub(crate) fn read<P: Port>(&mut self, port: &mut P) {
+        self.forget_taken();
+        for _ in self.places.len()..MOST_AHEAD {
+            if self.has_failed
+                || self.places.reserve(1).is_err()
+                || self.bytes.reserve(MOST_BYTES).is_err()
+            {
+                return;
+            }
+            port.hurry();
+            match port.recv(&mut self.room) {
+                Ok(Got::Datagram { from, len }) => self.keep(from, len),
+                Ok(Got::Nothing) => return,
+                Err(_) => self.has_failed = true,
+            }
+        }
+    }
+
+    /// Lets all go once all were taken.
+    fn forget_taken(&mut self) {
+        if self.next >= self.places.len() {
+            self.places.clear();
+            self.bytes.clear();
+            self.next = 0;
+        }
+    }
+
+    /// Keeps a datagram that was received. Where no memory is left it is lost, as datagrams may be.
+    fn keep(&mut self, from: u64, len: usize) {
+        let start = self.bytes.len();
+        let Some(bytes) = self.room.get(..len) else {
+            return;
+        };
+        if self.bytes.extend_from_slice(bytes).is_ok() {
+            let _ = self.places.push(Place { from, start, len });
+        }
+    }
+
+    /// The oldest one, cut to the buffer.
+    pub(crate) fn take(&mut self, buf: &mut [u8]) -> Option<Got>
+        ensures { IfSome result (IsWithin (length buf.old)) }
+    {
+        let place = *self.places.get(self.next)?;
+        self.next += 1;
+        let bytes = self.bytes.get(place.start..)?.get(..place.len)?;
+        let len = bytes.len().min(buf.len());
+        buf[..len].copy_from_slice(&bytes[..len]);
+        Some(Got::Datagram {
+            from: place.from,
+            len,
+        })
+    }
+
+    /// Whether a receive failed behind those that were read ahead, which is told once.
+    pub(crate) fn take_failure(&mut self) -> bool {
+        let has_failed = self.has_failed;
+        self.has_failed = false;
+        has_failed
+    }
+}

@@ -1,0 +1,11 @@
+//! A port that keeps a node from drowning in what it and its peers send again and again.
+#![tactic(auto)]
+
+mod ahead;
+mod head;
+mod held;
+mod pacer;
+mod port;
+mod repeats;
+
+pub use port::PacedPort;

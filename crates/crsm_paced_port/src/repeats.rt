@@ -1,0 +1,102 @@
+//! Frames that were sent a moment ago.
+
+use crsm_base::NoMemory;
+use std::alloc::Global;
+
+/// How many replicas there are at most, and how many frames of a link may be on their way.
+const REPLICAS: usize = 15;
+
+const WINDOW: usize = 4096;
+
+/// A frame goes out again after so many microseconds: after the second where its receiver has said twice that it expects
+/// the same frame, so that one is missing there.
+const PACE: u64 = 20_000;
+
+const HASTE: u64 = 1_000;
+
+/// A frame, and the reading at which it went out last.
+#[derive(Clone, Copy)]
+struct Last {
+    epoch: u64,
+    number: u64,
+    at: u64,
+}
+
+/// The frame that a replica expects next, and whether it has said so twice.
+#[derive(Clone, Copy)]
+struct Expected {
+    epoch: u64,
+    next: u64,
+    is_repeated: bool,
+}
+
+/// What went out to each replica a moment ago, and what each expects.
+#[derive(Drop)]
+pub(crate) struct Repeats {
+    last: Vec<Last>,
+    expected: Vec<Expected>,
+}
+
+/// Where a frame to this replica stands among the frames that went out.
+fn place_of(to: u8, number: u64) -> usize {
+    usize::from(to) % REPLICAS * WINDOW + (number % WINDOW as u64) as usize
+}
+
+impl Repeats {
+    /// Nothing went out.
+    pub(crate) fn new(alloc: Global) -> Result<Repeats, NoMemory> {
+        let never = Last {
+            epoch: u64::MAX,
+            number: u64::MAX,
+            at: 0,
+        };
+        let nothing = Expected {
+            epoch: u64::MAX,
+            next: 0,
+            is_repeated: false,
+        };
+        Ok(Repeats {
+            last: Vec::from_elem(alloc, never, REPLICAS * WINDOW)?,
+            expected: Vec::from_elem(alloc, nothing, REPLICAS)?,
+        })
+    }
+
+    /// Notes which frame a replica expects.
+    pub(crate) fn note_expected(&mut self, from: u8, epoch: u64, next: u64) {
+        if let Some(expected) = self.expected.get_mut(usize::from(from)) {
+            let is_repeated = expected.epoch == epoch && expected.next == next;
+            *expected = Expected {
+                epoch,
+                next,
+                is_repeated,
+            };
+        }
+    }
+
+    /// How long after a frame went out to a replica it may go again.
+    fn pace_to(&self, to: u8) -> u64 {
+        match self.expected.get(usize::from(to)) {
+            Some(expected) if expected.is_repeated => HASTE,
+            _ => PACE,
+        }
+    }
+
+    /// Whether a frame to this replica may go out at this reading; it is noted if it may. A clock that went back holds
+    /// nothing.
+    pub(crate) fn may_go(&mut self, to: u8, epoch: u64, number: u64, now: u64) -> bool {
+        let pace = self.pace_to(to);
+        let Some(last) = self.last.get_mut(place_of(to, number)) else {
+            return true;
+        };
+        let is_same = last.epoch == epoch && last.number == number;
+        if is_same && last.at <= now && now - last.at < pace {
+            return false;
+        }
+        *last = Last {
+            epoch,
+            number,
+            at: now,
+        };
+        true
+    }
+}
