@@ -1,0 +1,92 @@
+#!/usr/bin/env bash
+# A cluster of three nodes on this machine, each in a folder of its own.
+#
+#   cluster.sh start PROGRAM FOLDER [PORT]   starts nodes 0, 1 and 2 at 127.0.0.1:PORT and the two ports above it (7000
+#                                            where no port is given), and waits until each has answered
+#   cluster.sh kill FOLDER NODE              ends one of them
+#   cluster.sh restart PROGRAM FOLDER NODE   starts one of them again on its log, and has it taken in
+#   cluster.sh replace PROGRAM FOLDER OLD NEW  starts number NEW, 3 or 4, in the place of a node that is gone for good
+#   cluster.sh stop FOLDER                   ends all of them
+#
+# A node's folder has its log (crsm-N.log), its sheets (sheet-K, one for each start) and what it says on standard error.
+# Nothing is lost when a node is ended, however that is done: what it has answered is in the logs.
+set -u
+
+# Three nodes, and two more addresses for those that take the place of one that is lost.
+BEGAN_WITH=3
+ADDRESSES=5
+
+usage() { sed -n '2,13s/^# \{0,1\}//p' "$0" >&2; exit 2; }
+
+# The address of node $1 of the cluster in folder $2.
+address() { cut -d, -f$(($1 + 1)) "$2/peers"; }
+
+# Starts node $1; the program is $2 and the cluster's folder $3.
+start_node() {
+  local peers folder=$3/$1 boot=0
+  peers=$(cat "$3/peers") || exit 1
+  mkdir -p "$folder"
+  while [ -e "$folder/sheet-$boot" ]; do boot=$((boot + 1)); done
+  (cd "$folder" && exec "$2" node "$1" $BEGAN_WITH 1000000000000 "$peers" >"sheet-$boot" 2>>errors </dev/null) &
+  echo $! >"$folder/pid"
+}
+
+# Waits until node $1 has answered a command; the program is $2 and the folder $3.
+await_node() {
+  "$2" client "$(address "$1" "$3")" 20000 "$((1000 + $1))" "$(date +%s%N)" get 00 >/dev/null && return
+  echo "cluster.sh: node $1 has not answered; see $3/$1/errors" >&2
+  exit 1
+}
+
+kill_node() { [ -e "$2/$1/pid" ] && kill -9 "$(cat "$2/$1/pid")" 2>/dev/null; rm -f "$2/$1/pid"; }
+
+# The members, with commas: all nodes that run.
+members() {
+  local node list=
+  for node in $(seq 0 $((ADDRESSES - 1))); do [ -e "$1/$node/pid" ] && list=$list,$node; done
+  echo "${list#,}"
+}
+
+# Has node $1 taken in by another one, which is asked for all that run; the program is $2 and the folder $3.
+take_in() {
+  local via all
+  all=$(members "$3")
+  for via in ${all//,/ }; do [ "$via" != "$1" ] && break; done
+  sleep 1
+  "$2" operate "$(address "$via" "$3")" "$all"
+  await_node "$1" "$2" "$3"
+}
+
+[ $# -ge 2 ] || usage
+case $1 in
+start)
+  [ $# -ge 3 ] || usage
+  program=$(realpath "$2") port=${4:-7000}
+  mkdir -p "$3"
+  folder=$(realpath "$3")
+  seq -s, -f "127.0.0.1:%.0f" "$port" $((port + ADDRESSES - 1)) >"$folder/peers"
+  for node in 0 1 2; do start_node $node "$program" "$folder"; done
+  for node in 0 1 2; do await_node $node "$program" "$folder"; done
+  echo "nodes 0, 1 and 2 listen at $(cut -d, -f1-3 "$folder/peers"); to ask one of them:"
+  echo "  $2 client $(address 0 "$folder") 5000 7 1 put 61 62"
+  echo "  $2 client $(address 1 "$folder") 5000 7 2 get 61"
+  echo "to end them: $0 stop $3"
+  ;;
+kill) [ $# = 3 ] || usage; kill_node "$3" "$(realpath "$2")" ;;
+restart)
+  [ $# = 4 ] || usage
+  program=$(realpath "$2") folder=$(realpath "$3")
+  kill_node "$4" "$folder"
+  start_node "$4" "$program" "$folder"
+  take_in "$4" "$program" "$folder"
+  ;;
+replace)
+  [ $# = 5 ] || usage
+  program=$(realpath "$2") folder=$(realpath "$3")
+  kill_node "$4" "$folder"
+  start_node "$5" "$program" "$folder"
+  take_in "$5" "$program" "$folder"
+  ;;
+stop) folder=$(realpath "$2"); for node in $(seq 0 $((ADDRESSES - 1))); do kill_node "$node" "$folder"; done ;;
+*) usage ;;
+esac
