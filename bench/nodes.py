@@ -1,0 +1,216 @@
+"""Nodes of a cluster as processes on this machine, and a network between them that can be made to fail.
+
+A node's PEERS names, for each other node, a socket of the network in that node's place: what it sends there, the network
+hands on from the socket that stands for the sender at the receiver. So each node sees one address for each peer, as it
+does without a network between them, and every packet passes through here.
+"""
+
+import heapq
+import os
+import random
+import selectors
+import signal
+import socket
+import subprocess
+import threading
+import time
+from dataclasses import dataclass, field
+from typing import Dict, List, Optional, Set, Tuple
+
+Address = Tuple[str, int]
+
+HOST = "127.0.0.1"
+FOR_EVER = 1_000_000_000_000
+LARGEST_PACKET = 65_536
+
+
+def text_of(address: Address) -> str:
+    """An address as the program reads it."""
+    return f"{address[0]}:{address[1]}"
+
+
+def free_addresses(count: int) -> List[Address]:
+    """So many addresses of this machine that no socket has."""
+    sockets = [socket.socket(socket.AF_INET, socket.SOCK_DGRAM) for _ in range(count)]
+    for it in sockets:
+        it.bind((HOST, 0))
+    addresses = [it.getsockname() for it in sockets]
+    for it in sockets:
+        it.close()
+    return addresses
+
+
+@dataclass
+class Weather:
+    """What the network does to a packet: how likely each is, and how late the late ones are, in seconds at most."""
+
+    loss: float = 0.0
+    repeat: float = 0.0
+    late: float = 0.0
+    delay: float = 0.0
+
+
+@dataclass
+class Passed:
+    """How many packets the network has seen, and what became of them."""
+
+    taken: int = 0
+    lost: int = 0
+    repeated: int = 0
+    late: int = 0
+
+
+class Network(threading.Thread):
+    """Hands packets on between nodes, and loses, repeats and delays them; links can be cut."""
+
+    def __init__(self, addresses: List[Address], weather: Weather, chance: random.Random):
+        super().__init__(daemon=True)
+        self.addresses, self.weather, self.passed = addresses, weather, Passed()
+        self._chance = chance
+        self._cut: Set[Tuple[int, int]] = set()
+        self._due: List[Tuple[float, int, int, int, bytes]] = []
+        self._count = 0
+        self._over = False
+        self._selector = selectors.DefaultSelector()
+        self._sockets: Dict[Tuple[int, int], socket.socket] = {}
+        for at in range(len(addresses)):
+            for of in range(len(addresses)):
+                if at != of:
+                    self._sockets[at, of] = self._open(at, of)
+
+    def _open(self, at: int, of: int) -> socket.socket:
+        """The socket that stands for node `of` at node `at`."""
+        made = socket.socket(socket.AF_INET, socket.SOCK_DGRAM)
+        made.setsockopt(socket.SOL_SOCKET, socket.SO_RCVBUF, 1 << 22)
+        made.bind((HOST, 0))
+        made.setblocking(False)
+        self._selector.register(made, selectors.EVENT_READ, (at, of))
+        return made
+
+    def peers_of(self, me: int) -> str:
+        """PEERS for node `me`."""
+        return ",".join(
+            text_of(address if of == me else self._sockets[me, of].getsockname())
+            for of, address in enumerate(self.addresses)
+        )
+
+    def cut(self, one: int, other: int) -> None:
+        """Lets nothing pass between two nodes."""
+        self._cut |= {(one, other), (other, one)}
+
+    def mend(self, one: int, other: int) -> None:
+        """Lets packets pass between two nodes again."""
+        self._cut -= {(one, other), (other, one)}
+
+    def stop(self) -> None:
+        """Ends the network."""
+        self._over = True
+        self.join()
+        for it in self._sockets.values():
+            it.close()
+
+    def run(self) -> None:
+        """Hands on what comes, each packet at its time."""
+        while not self._over:
+            wait = min(0.05, max(0.0, self._due[0][0] - time.monotonic())) if self._due else 0.05
+            for key, _ in self._selector.select(wait):
+                self._take(key.fileobj, *key.data)
+            while self._due and self._due[0][0] <= time.monotonic():
+                _, _, sender, receiver, packet = heapq.heappop(self._due)
+                self._hand_on(sender, receiver, packet)
+
+    def _take(self, from_socket: socket.socket, sender: int, receiver: int) -> None:
+        """Takes what waits at a socket."""
+        for _ in range(64):
+            try:
+                packet = from_socket.recv(LARGEST_PACKET)
+            except (BlockingIOError, ConnectionError):
+                return
+            self.passed.taken += 1
+            if (sender, receiver) in self._cut or self._chance.random() < self.weather.loss:
+                self.passed.lost += 1
+                continue
+            self._plan(sender, receiver, packet)
+            if self._chance.random() < self.weather.repeat:
+                self.passed.repeated += 1
+                self._plan(sender, receiver, packet)
+
+    def _plan(self, sender: int, receiver: int, packet: bytes) -> None:
+        """Hands a packet on at once, or later."""
+        if self._chance.random() >= self.weather.late:
+            self._hand_on(sender, receiver, packet)
+            return
+        self.passed.late += 1
+        self._count += 1
+        due = time.monotonic() + self._chance.random() * self.weather.delay
+        heapq.heappush(self._due, (due, self._count, sender, receiver, packet))
+
+    def _hand_on(self, sender: int, receiver: int, packet: bytes) -> None:
+        """Sends a packet to its receiver, in the sender's name."""
+        try:
+            self._sockets[receiver, sender].sendto(packet, self.addresses[receiver])
+        except OSError:
+            # (nobody listens there, or its buffer is full: the packet is lost)
+            self.passed.lost += 1
+
+
+@dataclass
+class Node:
+    """One node, in a folder of its own: each boot writes a sheet of its own."""
+
+    program: str
+    folder: str
+    number: int
+    began_with: int
+    peers: str
+    boots: int = 0
+    process: Optional[subprocess.Popen] = field(default=None, repr=False)
+
+    def sheet(self, boot: int) -> str:
+        """The file with the sheet of a boot, counted from 0."""
+        return f"{self.folder}/sheet-{boot}"
+
+    @property
+    def log(self) -> str:
+        """The node's log file."""
+        return f"{self.folder}/crsm-{self.number}.log"
+
+    def start(self, turns: int = FOR_EVER) -> None:
+        """Boots the node on its log."""
+        os.makedirs(self.folder, exist_ok=True)
+        words = [self.program, "node", str(self.number), str(self.began_with), str(turns), self.peers]
+        with open(self.sheet(self.boots), "wb") as sheet, open(f"{self.folder}/errors", "ab") as errors:
+            self.process = subprocess.Popen(
+                words, cwd=self.folder, stdin=subprocess.DEVNULL, stdout=sheet, stderr=errors
+            )
+        self.boots += 1
+
+    def is_up(self) -> bool:
+        """Whether its process runs."""
+        return self.process is not None and self.process.poll() is None
+
+    def kill(self) -> None:
+        """Ends the process as a crash does."""
+        if self.process is not None:
+            self.process.kill()
+            self.process.wait()
+            self.process = None
+
+    def pause(self) -> None:
+        """Stops the process without ending it."""
+        self.process.send_signal(signal.SIGSTOP)
+
+    def go_on(self) -> None:
+        """Lets a process that was stopped go on."""
+        self.process.send_signal(signal.SIGCONT)
+
+    def wait(self, seconds: float) -> int:
+        """Waits until the process ends by itself, and answers its status."""
+        status = self.process.wait(seconds)
+        self.process = None
+        return status
+
+    def tear(self, chance: random.Random) -> None:
+        """Leaves bytes behind the log's last entry, as a write that was not synced may."""
+        with open(self.log, "ab") as log:
+            log.write(chance.randbytes(chance.randrange(1, 200)))
