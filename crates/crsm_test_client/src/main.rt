@@ -2,12 +2,15 @@
 //! written, and what was sent.
 //!
 //! `client CLUSTER TO TURNS PORT OUTPUT CLIENT NUMBER OP / DATAGRAMS` is the command of a client,
-//! `ask TO TURNS RESEND PORT CLIENT NUMBER OP / DATAGRAMS` the call below it, and
-//! `operate CLUSTER TO PORT MEMBERS / DATAGRAMS` the command of an operator. PORT and OUTPUT are the calls of the port
-//! and of the output that fail (`-`: none); each of DATAGRAMS waits at the port, as `FROM:HEX`.
+//! `ask TO TURNS RESEND PORT CLIENT NUMBER OP / DATAGRAMS` the call below it,
+//! `operate CLUSTER TO PORT MEMBERS / DATAGRAMS` the command of an operator, and
+//! `lock TO TURNS PORT OUTPUT ACTION CLIENT NUMBER get KEY / DATAGRAMS` that of a client about a lock. PORT and OUTPUT
+//! are the calls of the port and of the output that fail (`-`: none); each of DATAGRAMS waits at the port, as
+//! `FROM:HEX`.
 #![tactic(auto)]
 
 mod fault;
+mod locks;
 mod trial;
 mod words;
 

@@ -3,6 +3,7 @@
 ghost use Rattle.crsm_base.specs.Spelling.{FitsCommand};
 
 use crate::fault::Fault;
+use crate::locks::tell_lock;
 use crate::words::{command, fails, number, parted, port};
 use crsm_base::{Bytes, Outcome};
 use crsm_client::{AskError, ClientOrder, ask, client, operate, operate_command};
@@ -17,7 +18,7 @@ use std::str::from_utf8;
 const ROOM: u64 = 4_096;
 
 /// How it ended, and what was sent, each datagram as `TO:HEX`.
-fn with_sent(alloc: Global, end: &str, port: &MemPort) -> Result<String, Fault> {
+pub fn with_sent(alloc: Global, end: &str, port: &MemPort) -> Result<String, Fault> {
     let mut text = Bytes::new(alloc);
     let packets = port.sent();
     for i in 0..packets.len() {
@@ -120,6 +121,7 @@ pub fn tell(alloc: Global, line: &str) -> Result<String, Fault> {
         ("client", words) => tell_client(alloc, words, datagrams),
         ("ask", words) => tell_ask(alloc, words, datagrams),
         ("operate", words) => tell_operate(alloc, words, datagrams),
+        ("lock", words) => tell_lock(alloc, words, datagrams),
         _ => Err(Fault::Unreadable),
     }
 }
