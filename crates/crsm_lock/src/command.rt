@@ -2,16 +2,15 @@
 
 ghost use Rattle.std.specs.Prelude.{◌≡◌, ◌<◌, ◌≤◌, ◌-◌, ◌^◌};
 ghost use Rattle.crsm_base.specs.Spelling.{FitsKey};
-ghost use Rattle.crsm_client.specs.Asking.{WhereNotReplied};
 ghost use Rattle.crsm_faults.specs.Counts.{Rose};
-ghost use Rattle.crsm_lock.specs.Commands.{IsNoAnswer, LockRan, WritesTold};
-ghost use Rattle.crsm_lock.specs.Learning.{look_of};
+ghost use Rattle.crsm_lock.specs.Answers.{WhereAnswered, WhereNotAnswered};
+ghost use Rattle.crsm_lock.specs.Commands.{IsDone, IsNoAnswer, LockRan, WritesTold};
 
 use crate::learning::learn;
 use crsm_base::{Bytes, Key};
 use crsm_client::AskError;
 use crsm_io::{Sink, put_all};
-use crsm_lease::{Action, Told, print_told};
+use crsm_lease::{Action, Told, locks_have_one_value, print_told};
 use crsm_port::Port;
 use std::alloc::Global;
 
@@ -73,7 +72,11 @@ pub fn lock<P: Port, O: Sink>(
     ensures ran { LockRan order.now (P.meaning port.old) (P.meaning port.new) (O.written output.old) (O.written output.new) result }
     ensures write { result ≡ LockEnd.WriteFault → Rose (O.faults output.old) (O.faults output.new) }
     ensures later { O.faults output.old ≤ O.faults output.new }
+    ensures complete { WhereAnswered order.now (P.meaning port.old) (P.meaning port.new)
+        (¬ (Rose (O.faults output.old) (O.faults output.new)) → IsDone result) }
+    ensures no_answer { WhereNotAnswered order.now (P.meaning port.old) (P.meaning port.new) (IsNoAnswer result) }
 {
+    locks_have_one_value();
     match learn(alloc, order, port) {
         Ok(told) => write_told(alloc, told, output),
         Err(AskError::NoAnswer) => LockEnd::NoAnswer,
