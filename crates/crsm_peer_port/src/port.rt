@@ -1,7 +1,7 @@
 //! The port.
 
 ghost use Rattle.std.specs.Prelude.{◌≡◌, ◌↔◌, IsTrue, IfOk, Some, length, slice_get};
-ghost use Rattle.crsm_port.specs.Meaning.{Receives};
+ghost use Rattle.crsm_port.specs.Meaning.{Receives, Reserves, Sends};
 ghost use Rattle.crsm_peer_port.specs.Senders.{IsOfFirst, IsOwn, SpeaksForItself, behind_mark, counts_of, named_sender};
 
 use crsm_base::{Failed, NoMemory};
@@ -74,6 +74,7 @@ impl<P: Port> Port for PeerPort<P> {
         ensures tells { Receives (counts_of (P.meaning self.old.inner)) (counts_of (P.meaning self.new.inner)) buf.old buf.new result }
         ensures own { IfOk result (IsOwn self.old.peers.items buf.new) }
         ensures first { IfOk result (IsOfFirst self.old.peers.items (P.meaning self.old.inner) (P.meaning self.new.inner) (length buf.old) buf.new) }
+        ensures peers { self.new.peers ≡ self.old.peers }
     {
         match self.inner.recv(buf)? {
             Got::Datagram { from, len } if !speaks_for_itself(&self.peers, from, &buf[..len]) => {
@@ -83,15 +84,27 @@ impl<P: Port> Port for PeerPort<P> {
         }
     }
 
-    fn send(&mut self, to: u64, bytes: &[u8]) -> Result<(), Failed> {
+    fn send(&mut self, to: u64, bytes: &[u8]) -> Result<(), Failed>
+        ensures tells { Sends to bytes.now (counts_of (P.meaning self.old.inner)) (counts_of (P.meaning self.new.inner)) result }
+        ensures below { Sends to bytes.now (P.meaning self.old.inner) (P.meaning self.new.inner) result }
+        ensures peers { self.new.peers ≡ self.old.peers }
+    {
         self.inner.send(to, bytes)
     }
 
-    fn reserve(&mut self, sends: u64, bytes: u64) -> Result<(), NoMemory> {
+    fn reserve(&mut self, sends: u64, bytes: u64) -> Result<(), NoMemory>
+        ensures tells { Reserves sends bytes (counts_of (P.meaning self.old.inner)) (counts_of (P.meaning self.new.inner)) result }
+        ensures below { Reserves sends bytes (P.meaning self.old.inner) (P.meaning self.new.inner) result }
+        ensures peers { self.new.peers ≡ self.old.peers }
+    {
         self.inner.reserve(sends, bytes)
     }
 
-    fn hurry(&mut self) {
+    fn hurry(&mut self)
+        ensures tells { counts_of (P.meaning self.new.inner) ≡ counts_of (P.meaning self.old.inner) }
+        ensures below { P.meaning self.new.inner ≡ P.meaning self.old.inner }
+        ensures peers { self.new.peers ≡ self.old.peers }
+    {
         self.inner.hurry()
     }
 }
