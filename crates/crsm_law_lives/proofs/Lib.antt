@@ -1,0 +1,4 @@
+pub mod Hosts
+pub mod Processes
+pub mod Laws
+pub mod Agree

@@ -1,0 +1,16 @@
+//! The processes of a cluster's nodes, each as `node` names it, make a lawful history, under two premises: on the network
+//! and on the disks.
+#![tactic(auto)]
+
+ghost use Rattle.crsm_law_lives.specs.Laws.{LivesAreLawful, LivesAgree};
+
+/// The processes of nodes make a lawful history, if what was synced is there at the next boot, and nobody sends in a
+/// replica's name.
+pub fn lives_are_lawful()
+    ensures { LivesAreLawful }
+{}
+
+/// Whatever processes of nodes have as executed is a prefix of one list.
+pub fn lives_agree()
+    ensures { LivesAgree }
+{}
