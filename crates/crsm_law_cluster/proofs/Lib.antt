@@ -2,5 +2,3 @@ pub mod Last
 pub mod Views
 pub mod Durable
 pub mod Answers
-mod Opened
-mod Worked

@@ -1,4 +1,3 @@
 pub mod OneList
 pub mod Going
 pub mod Laws
-pub mod Examples

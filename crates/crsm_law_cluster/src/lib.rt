@@ -1,7 +1,6 @@
 //! Running nodes agree: the laws of every lawful history of a cluster's nodes, over its log files and what goes out.
 #![tactic(auto)]
 
-ghost use Rattle.crsm_law_cluster.specs.Examples.{AnswersAndDecides};
 ghost use Rattle.crsm_law_cluster.specs.Laws.{ListsAreOne, ExecutedListsGrow, DecisionsAgree, ExecutedAreDurable, AnswersAreRight, AnsweredAreDurable};
 
 /// The executed lists of all log files, at all moments, are prefixes of one list, which rises by epoch and stamp.
@@ -33,10 +32,4 @@ pub fn answers_are_right()
 /// From the moment that an answer goes out its entry is kept by a majority, and each later epoch begins with it.
 pub fn answered_are_durable()
     ensures { AnsweredAreDurable }
-{}
-
-/// There is a lawful history in which an answer goes out, an epoch is decided, and a process stops and starts again:
-/// the premises of these laws can be met.
-pub fn histories_happen()
-    ensures { AnswersAndDecides }
 {}

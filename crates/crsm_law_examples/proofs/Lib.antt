@@ -1,4 +1,4 @@
-mod Opened
+pub mod Opened
 mod OneReplicaBegins
 mod OneReplica
 mod ThreeReplicas
