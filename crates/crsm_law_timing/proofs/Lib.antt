@@ -3,3 +3,9 @@ pub mod Closing
 pub mod Paying
 pub mod Turns
 pub mod MoreTurns
+pub mod Order
+pub mod Worlds
+pub mod Letters
+pub mod Weights
+pub mod Quiet
+pub mod Standing

@@ -1,0 +1,70 @@
+-- The order of a timeline.
+use Rattle.std.proofs.Common.{◌≡◌, ℕ, ◌+◌, ◌<◌, ◌≤◌, List, [], ◌∷◌, ◌++◌, refl, sym, ◌∙◌, ap, subst, inl, inr, arith}
+use Rattle.std.specs.Prelude.{◌⊎◌}
+use Rattle.std.specs.List.{AllByRecursion}
+use Rattle.crsm_spec.specs.Lists.{Among}
+use Rattle.crsm_spec.specs.Acts.{Single}
+use Rattle.crsm_log_facts.proofs.Lists.{all_at, among_either}
+use Rattle.crsm_timing.specs.Timelines.{Timed, IsBefore, Precedes, InOrder}
+
+before_not : (a b : Single) → IsBefore a b → IsBefore b a → ⊥
+before_not (Single.Request k t c) (Single.Request j u d) p q = p
+before_not (Single.Request k t c) (Single.Tick j u) p q = q
+before_not (Single.Request k t c) (Single.Go i u) p q = q
+before_not (Single.Request k t c) (Single.Again i u) p q = p
+before_not (Single.Request k t c) (Single.Suspect j u ms) p q = p
+before_not (Single.Request k t c) (Single.Junk j u bs) p q = p
+before_not (Single.Tick k t) (Single.Request j u d) p q = p
+before_not (Single.Tick k t) (Single.Tick j u) p q = absurd (omega (arith, p, q))
+before_not (Single.Tick k t) (Single.Go i u) p q = q
+before_not (Single.Tick k t) (Single.Again i u) p q = p
+before_not (Single.Tick k t) (Single.Suspect j u ms) p q = p
+before_not (Single.Tick k t) (Single.Junk j u bs) p q = p
+before_not (Single.Go i t) (Single.Request j u d) p q = p
+before_not (Single.Go i t) (Single.Tick j u) p q = p
+before_not (Single.Go i t) (Single.Go j u) p q = absurd (omega (arith, p, q))
+before_not (Single.Go i t) (Single.Again j u) p q = p
+before_not (Single.Go i t) (Single.Suspect j u ms) p q = p
+before_not (Single.Go i t) (Single.Junk j u bs) p q = p
+before_not (Single.Again i t) b p q = p
+before_not (Single.Suspect k t ms) b p q = p
+before_not (Single.Junk k t bs) b p q = p
+
+pub asymmetric : (e f : Timed) → Precedes e f → Precedes f e → ⊥
+asymmetric e f (inl p) (inl q) = absurd (omega (arith, p, q))
+asymmetric e f (inl p) (inr q) = let s = q.0 in absurd (omega (arith, p, s))
+asymmetric e f (inr p) (inl q) = let s = p.0 in absurd (omega (arith, q, s))
+asymmetric e f (inr p) (inr q) = before_not e.does f.does p.1 q.1
+
+pub not_itself : (e : Timed) → Precedes e e → ⊥
+not_itself e p = asymmetric e e p p
+
+pub no_later : (e f : Timed) → Precedes e f → e.moment ≤ f.moment
+no_later e f (inl p) = omega (arith, p)
+no_later e f (inr p) = let s = p.0 in omega (arith, s)
+
+module _ (e : Timed) (after : List Timed) where
+  -- what stands before it happens before it
+  pub comes_before : (before : List Timed) → InOrder (before ++ e ∷ after) → (f : Timed) → Among before f → Precedes f e
+  comes_before [] o f a = absurd a
+  comes_before (g ∷ gs) o f (inl q) = subst (λ h. Precedes h e) q (all_at (Precedes g) (gs ++ e ∷ after) e o.0 (here gs))
+    where
+      here : (gs : List Timed) → Among (gs ++ e ∷ after) e
+      here [] = inl refl
+      here (g ∷ gs) = inr (here gs)
+  comes_before (g ∷ gs) o f (inr a) = comes_before gs o.1 f a
+
+  after_it : (before : List Timed) → InOrder (before ++ e ∷ after) → (f : Timed) → Among after f → Precedes e f
+  after_it [] o f a = all_at (Precedes e) after f o.0 a
+  after_it (g ∷ gs) o f a = after_it gs o.1 f a
+
+  -- what happens before it stands before it
+  pub earlier : (before : List Timed) → InOrder (before ++ e ∷ after) → (f : Timed) → Among (before ++ e ∷ after) f → Precedes f e → Among before f
+  earlier before o f a p = elim (among_either before (e ∷ after) f a) [
+    | inl b ↦ b
+    | inr b ↦ absurd (go b)
+  ]
+    where
+      go : Among (e ∷ after) f → ⊥
+      go (inl q) = not_itself e (subst (λ h. Precedes h e) (sym q) p)
+      go (inr b) = asymmetric e f (after_it before o f b) p
