@@ -1,13 +1,13 @@
 -- The end of each step of a timeline: the command is executed where it is ready, and who waits is answered.
-use Rattle.std.proofs.Common.{◌≡◌, ℕ, ◌≤◌, ◌<◌, List, [], ◌∷◌, ◌++◌, refl, sym, ◌∙◌, ap, subst, inl, inr, Bool, true, false, cond, map}
+use Rattle.std.proofs.Common.{◌≡◌, ℕ, ◌≤◌, ◌<◌, List, [], ◌∷◌, ◌++◌, refl, sym, ◌∙◌, ap, subst, Bool, true, false, map}
 use Rattle.std.specs.Prelude.{IsTrue, Option, Some, None, filter, option_to_list}
 use Rattle.std.proofs.lemmas.Bool.{false≢true}
 use Rattle.std.proofs.lemmas.List.{append-nil}
 use Rattle.crsm_spec.specs.Choice.{when◌then◌otherwise◌}
-use Rattle.crsm_spec.specs.Types.{Stamp, Entry, Rec, Line}
+use Rattle.crsm_spec.specs.Types.{Stamp, Entry, Rec}
 use Rattle.crsm_spec.specs.Lists.{Among}
 use Rattle.crsm_spec.specs.Lines.{exec_line, exec_lines, lines_of}
-use Rattle.crsm_spec.specs.Log.{Log, active, unexecuted, executed, entry_of}
+use Rattle.crsm_spec.specs.Log.{active, unexecuted, executed}
 use Rattle.crsm_spec.specs.Replica.{Replica, Waiting}
 use Rattle.crsm_spec.specs.Ready.{is_ready}
 use Rattle.crsm_spec.specs.Draft.{Draft, keep, reply}
@@ -16,7 +16,7 @@ use Rattle.crsm_log_facts.proofs.Lists.{filter-push}
 use Rattle.crsm_law_active.proofs.Ending.{on_true, on_false, by_when}
 use Rattle.crsm_timing.specs.Plans.{Plan}
 use Rattle.crsm_timing.specs.Timelines.{is_exec}
-use Rattle.crsm_law_timing.proofs.Local.{Part, Plays, IsComplete, IsFirst, the_stamp, the_entry, log_in, left_in, is_active, is_left, finds_it, is_ready_then, complete_if_ready}
+use Rattle.crsm_law_timing.proofs.Local.{Part, Plays, IsComplete, the_stamp, the_entry, left_in, is_active, is_left, finds_it, is_ready_then, complete_if_ready}
 
 -- ---- all that a part in a timeline speaks of
 

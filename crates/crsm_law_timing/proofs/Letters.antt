@@ -1,15 +1,14 @@
 -- What replicas of a timeline have sent to each other, what came, and when a replica executes by it.
-use Rattle.std.proofs.Common.{◌≡◌, ◌≢◌, ℕ, zero, suc, ◌+◌, ◌-◌, ◌<◌, ◌≤◌, List, [], ◌∷◌, ◌++◌, length, refl, sym, ◌∙◌, ap, subst, inl, inr, Bool, true, false, cond, arith, map, max}
-use Rattle.std.specs.Prelude.{◌⊎◌, Option, Some, None, slice_get, filter, not, ◌==◌}
+use Rattle.std.proofs.Common.{◌≡◌, ◌≢◌, ℕ, zero, suc, ◌+◌, ◌-◌, ◌<◌, ◌≤◌, List, [], ◌∷◌, ◌++◌, length, refl, sym, ◌∙◌, ap, subst, inl, inr, Bool, true, false, cond, arith, map}
+use Rattle.std.specs.Prelude.{◌⊎◌, Some, slice_get, not, ◌==◌}
 use Rattle.std.proofs.lemmas.Bool.{cases_eq, eq-eqb, ne_eqb, false≢true}
 use Rattle.std.proofs.lemmas.Option.{none-some, same_Some}
 use Rattle.crsm_spec.specs.Types.{InEpoch, Datagram}
 use Rattle.crsm_spec.specs.Lists.{Among, greatest, numbers_below}
-use Rattle.crsm_spec.specs.World.{Packet}
 use Rattle.crsm_spec.specs.Acts.{Single}
-use Rattle.crsm_log_facts.proofs.Lists.{among_left, among_right, among_either, kept_from, kept_in, get_left, get_inside}
+use Rattle.crsm_log_facts.proofs.Lists.{among_left, among_right, among_either, kept_from, kept_in, get_left}
 use Rattle.crsm_law_epoch.proofs.Words.{among_map, among_unmap}
-use Rattle.crsm_timing.specs.Plans.{Plan, FitsPlan, delay_of, offset_of, reading, stamped, others, arrival, ok_at, commit_at, most_moment, most_delay}
+use Rattle.crsm_timing.specs.Plans.{Plan, delay_of, offset_of, reading, stamped, others, arrival, ok_at, commit_at}
 use Rattle.crsm_timing.specs.Timelines.{Timed, Sent, sent, request, tick, delivery}
 use Rattle.crsm_law_timing.proofs.Local.{Part, HasLogged, IsFirst, the_stamp, the_entry, below_is, is_below}
 
@@ -82,7 +81,7 @@ among_get (x ∷ xs) a (inr m) = let t = among_get xs a m in (suc t.0, t.1)
 -- ---- what a replica has sent and taken
 
 -- the tick of k
-pub tick_of : Plan → ℕ → Timed
+unfoldable pub tick_of : Plan → ℕ → Timed
 tick_of plan k = tick plan k (stamped plan + 1 - offset_of plan k)
 
 -- How far k is, by what has happened: the origin has logged the command if it came; another has if it took the frame of it, and has
@@ -248,8 +247,8 @@ commits_at plan before k moment p tk below logged later h all letters until why 
     ok_comes j lt ne = elim (cases_eq j k) [
       | inl e ↦ (let le = own (λ q. ne (e ∙ q)) in let z : delay_of plan j k ≡ 0 = ap (λ i. delay_of plan i k) e ∙ no_delay plan k in let s : ok_at plan j ≡ ok_at plan k = ap (ok_at plan) e in omega (arith, le, z, s))
       | inr nk ↦ (let c = h.came j (all j lt nk) in let le = until _ c.4 in
-      let m = ok_moment plan j k c.1 (letters c.0 c.1 c.2) c.3 ne in
-      let d : delay_of plan c.1.packet.from c.1.packet.to ≡ delay_of plan j k = ap (λ i. delay_of plan i c.1.packet.to) c.3.from ∙ ap (delay_of plan j) c.3.to in omega (arith, le, m, d))
+          let m = ok_moment plan j k c.1 (letters c.0 c.1 c.2) c.3 ne in
+          let d : delay_of plan c.1.packet.from c.1.packet.to ≡ delay_of plan j k = ap (λ i. delay_of plan i c.1.packet.to) c.3.from ∙ ap (delay_of plan j) c.3.to in omega (arith, le, m, d))
     ]
 
     first : plan.at ≤ moment

@@ -9,3 +9,13 @@ pub mod Letters
 pub mod Weights
 pub mod Quiet
 pub mod Standing
+pub mod Pushed
+pub mod Possible
+pub mod Cases
+pub mod Deliveries
+pub mod Staying
+pub mod Acks
+pub mod Oks
+pub mod Commands
+pub mod Beginning
+pub mod Timing

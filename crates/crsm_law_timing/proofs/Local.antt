@@ -1,13 +1,13 @@
 -- A replica of a timeline, by how far it is with the command.
-use Rattle.std.proofs.Common.{◌≡◌, ◌≢◌, ℕ, zero, suc, ◌+◌, ◌<◌, ◌≤◌, ◌/◌, List, [], ◌∷◌, ◌++◌, length, refl, sym, ◌∙◌, ap, subst, inl, inr, Bool, true, false, cond, arith, map}
-use Rattle.std.specs.Prelude.{IsTrue, ◌⊎◌, Option, Some, None, nat_le, ◌==◌, ◌&&◌, ◌||◌, count_by, filter, option_map, option_to_list}
+use Rattle.std.proofs.Common.{◌≡◌, ◌≢◌, ℕ, zero, suc, ◌+◌, ◌<◌, ◌≤◌, List, [], ◌∷◌, ◌++◌, length, refl, sym, ◌∙◌, ap, subst, inl, inr, Bool, true, false, cond, arith, map}
+use Rattle.std.specs.Prelude.{IsTrue, ◌⊎◌, Some, None, nat_le, ◌==◌, ◌&&◌, ◌||◌, count_by, filter, option_map, option_to_list}
 use Rattle.std.specs.List.{list_all, list_any, range_with_len}
 use Rattle.std.proofs.lemmas.Bool.{false≢true, eq-eqb, eqb-true, and_parts, cases_eq}
 use Rattle.std.proofs.lemmas.Bool.Decides.{nat_tests}
 use Rattle.std.proofs.lemmas.List.Sums.{sum_by-cons}
 use Rattle.crsm_base.specs.Order.{stamp_eq, stamp_lt}
 use Rattle.crsm_spec.specs.Types.{Stamp, Entry, Rec}
-use Rattle.crsm_spec.specs.Lists.{Among, has, first_of, last_of, numbers_below}
+use Rattle.crsm_spec.specs.Lists.{Among, first_of, last_of, numbers_below}
 use Rattle.crsm_spec.specs.Paxos.{majority}
 use Rattle.crsm_spec.specs.Quorum.{spec_decided}
 use Rattle.crsm_spec.specs.Log.{Log, known, decision, members, spec, active, live, suspended, logged, logged_in, with_entry, unexecuted, executed, entry_of, last_stamp, above}
@@ -290,10 +290,10 @@ pub complete_if_ready : (plan : Plan) (k : ℕ) (p : Part) (r : Replica) → k <
 unfolding is_ready is_stable members_of
 complete_if_ready plan k p r lt h ready =
     let all : IsTrue (list_all (reached (all_received r) (stamped plan)) (members r.n r.log)) = (and_parts _ _ (and_parts _ _ ready).0).1 in
-    let here = subst (λ l. IsTrue (list_all (reached (all_received r) (stamped plan)) l)) members_are all in
-    (λ m below ne. reached_from plan k p r h m ne (list_all_at _ (numbers_below plan.n) m here (is_below plan.n m below)),
-    λ f. not_heard plan k p r f h (list_all_at _ (numbers_below plan.n) k here (is_below plan.n k lt)))
+    let here = subst (λ l. IsTrue (list_all (reached (all_received r) (stamped plan)) l)) members_are all in (
+      λ m below ne. reached_from plan k p r h m ne (list_all_at _ (numbers_below plan.n) m here (is_below plan.n m below)),
+      λ f. not_heard plan k p r f h (list_all_at _ (numbers_below plan.n) k here (is_below plan.n k lt)),
+    )
   where
     members_are : members r.n r.log ≡ numbers_below plan.n
     members_are = ap (λ n. members n r.log) h.n ∙ ap (members plan.n) h.log ∙ are_members plan k p
-

@@ -1,31 +1,29 @@
 -- Further steps of a timeline: the request, the command at another replica, an Ack, a tick.
 use Rattle.std.proofs.Common.{◌≡◌, ◌≢◌, ℕ, zero, suc, ◌+◌, ◌<◌, ◌≤◌, List, [], ◌∷◌, ◌++◌, length, refl, sym, ◌∙◌, ap, subst, inl, inr, Bool, true, false, cond, arith, map, max, drop, take}
-use Rattle.std.specs.Prelude.{IsTrue, Option, Some, None, filter, not, ◌==◌, ◌||◌, ◌&&◌, nat_lt, nat_le, count_by, fold, unwrap_or}
-use Rattle.std.specs.List.{enumerate_from, list_any, list_all}
-use Rattle.std.proofs.lemmas.Bool.{false≢true, ne_eqb, eq-eqb}
+use Rattle.std.specs.Prelude.{Some, None, filter, not, ◌==◌, ◌||◌, ◌&&◌, nat_lt, nat_le, count_by, fold, unwrap_or}
+use Rattle.std.specs.List.{enumerate_from, list_any}
+use Rattle.std.proofs.lemmas.Bool.{eq-eqb}
 use Rattle.std.proofs.lemmas.Bool.Decides.{nat_tests}
 use Rattle.crsm_base.specs.Limits.{idle_after, most_own, most_frames, most_again}
 use Rattle.crsm_spec.specs.Choice.{when◌then◌otherwise◌}
-use Rattle.crsm_spec.specs.Types.{Stamp, Entry, Command, Refusal, Rec, InEpoch, Datagram, Line}
-use Rattle.crsm_spec.specs.Lists.{Among, has, greatest, first_of, numbers_below}
+use Rattle.crsm_spec.specs.Types.{Stamp, Entry, Rec, InEpoch, Datagram, Line}
+use Rattle.crsm_spec.specs.Lists.{Among, first_of, numbers_below}
 use Rattle.crsm_spec.specs.Clock.{u64_max, issue}
 use Rattle.crsm_spec.specs.Lines.{lines_of}
 use Rattle.crsm_spec.specs.Fits.{fits, is_newest}
 use Rattle.crsm_spec.specs.Log.{Log, known, active, live, suspended, members, logged, logged_in, decision, unexecuted}
-use Rattle.crsm_spec.specs.Replica.{Replica, members_of, other_members, frames_to, acked_by, unacked, next_from, latest_from, last_issued, is_congested}
-use Rattle.crsm_spec.specs.Draft.{Draft, Reply, begun, keep, send, count_vote, issued_at, push_to_members, push_to, would}
+use Rattle.crsm_spec.specs.Replica.{Replica, other_members, frames_to, acked_by, unacked, next_from, last_issued, is_congested}
+use Rattle.crsm_spec.specs.Draft.{Draft, begun, keep, send, count_vote, issued_at, push_to_members, push_to, would}
 use Rattle.crsm_spec.specs.Clients.{on_request, take_or_refuse, refusal, submit_at, submit, await, own_unexecuted, commits, replies}
-use Rattle.crsm_spec.specs.Frames.{time_of, is_astray, is_wrong, is_odd_frame, with_stamp, owe, ack, receive, take_frame, on_frame, on_ack, owed_oks, idle, is_idle, again_frame, again_to, send_again}
+use Rattle.crsm_spec.specs.Frames.{time_of, is_astray, is_wrong, with_stamp, owe, ack, receive, take_frame, on_ack, owed_oks, idle, is_idle, again_frame, again_to, send_again}
 use Rattle.crsm_spec.specs.Step.{Input, if_fitting, on_input, on_datagram, on_tick, idle_at, step}
 use Rattle.crsm_log_facts.proofs.Lists.{has_in}
-use Rattle.crsm_law_epoch.proofs.Words.{count_same, count_other}
 use Rattle.crsm_law_active.proofs.Ending.{on_true, on_false, by_when}
 use Rattle.crsm_timing.specs.Plans.{Plan, FitsPlan, stamped}
 use Rattle.crsm_timing.specs.Timelines.{the_command, is_exec}
-use Rattle.crsm_law_timing.proofs.Local.{Part, Plays, IsComplete, IsFirst, the_stamp, the_entry, log_in, left_in, is_active, is_known, is_left, are_members, is_below}
-use Rattle.crsm_law_timing.proofs.Closing.{IsAlike, alike_then, plays_alike, Ended, ends}
-use Rattle.crsm_law_timing.proofs.Paying.{peers, frames, pushes, IsSilent, NotPaid, HasPaid, pays_not, pays}
-
+use Rattle.crsm_law_timing.proofs.Local.{Part, Plays, the_stamp, the_entry, is_active, is_known, is_left, is_below}
+use Rattle.crsm_law_timing.proofs.Closing.{plays_alike}
+use Rattle.crsm_law_timing.proofs.Paying.{frames, pushes, pays}
 use Rattle.crsm_law_timing.proofs.Turns.{Turned, Ruled, then_not_paid, then_paid, steps_to, not_astray, takes, IsRight, ack_of}
 
 -- ---- the command at another replica
@@ -75,7 +73,7 @@ command_ruled plan k r h ne = record {
   taken = refl;
   batch = refl;
   sends = ap (λ j. (plan.origin, Datagram.Ack j plan.origin (known r.log) (count_by (λ j. j == plan.origin) (plan.origin ∷ r.taken))) ∷ []) h.me
-  ∙ ap (λ e. (plan.origin, Datagram.Ack k plan.origin e (count_by (λ j. j == plan.origin) (plan.origin ∷ r.taken))) ∷ []) (ap known h.log ∙ is_known plan k Part.Bare);
+      ∙ ap (λ e. (plan.origin, Datagram.Ack k plan.origin e (count_by (λ j. j == plan.origin) (plan.origin ∷ r.taken))) ∷ []) (ap known h.log ∙ is_known plan k Part.Bare);
   quiet = λ i. quiet_line i r.me r.log (the_entry plan);
   excess = refl;
   replies = refl;
@@ -107,9 +105,11 @@ pub turn_early : (plan : Plan) (k t : ℕ) (r : Replica) → FitsPlan plan → P
     (step r (Input.Came plan.origin (Datagram.Frame plan.origin k 0 0 (InEpoch.Prepare (the_entry plan)))) t)
 turn_early plan k t r fit h ne new early =
     let payload = InEpoch.Prepare (the_entry plan) in
-    let is = takes plan k plan.origin t Part.Bare payload r h fit.origin fit.most ne new (command_right plan fit.reads) in
-    (ack_of r plan.origin, then_not_paid plan k t Part.Owing _ _ _ _ (take_frame plan.origin payload (begun r)) fit.reads (λ e. early)
-    (steps_to r plan.origin t (Datagram.Frame plan.origin k 0 0 payload) _ is (take_fits plan.origin (the_entry plan) r (command_fits plan k r fit.origin h))) (command_ruled plan k r h ne))
+    let is = takes plan k plan.origin t Part.Bare payload r h fit.origin fit.most ne new (command_right plan fit.reads) in (
+      ack_of r plan.origin,
+      then_not_paid plan k t Part.Owing _ _ _ _ (take_frame plan.origin payload (begun r)) fit.reads (λ e. early)
+          (steps_to r plan.origin t (Datagram.Frame plan.origin k 0 0 payload) _ is (take_fits plan.origin (the_entry plan) r (command_fits plan k r fit.origin h))) (command_ruled plan k r h ne),
+    )
 
 -- it comes when the clock is
 pub turn_late : (plan : Plan) (k t : ℕ) (r : Replica) → FitsPlan plan → Plays plan k Part.Bare r → plan.origin ≢ k → (Among r.taken plan.origin → ⊥) → stamped plan < t →
@@ -118,9 +118,11 @@ pub turn_late : (plan : Plan) (k t : ℕ) (r : Replica) → FitsPlan plan → Pl
     (step r (Input.Came plan.origin (Datagram.Frame plan.origin k 0 0 (InEpoch.Prepare (the_entry plan)))) t)
 turn_late plan k t r fit h ne new late =
     let payload = InEpoch.Prepare (the_entry plan) in
-    let is = takes plan k plan.origin t Part.Bare payload r h fit.origin fit.most ne new (command_right plan fit.reads) in
-    (ack_of r plan.origin, then_paid plan k t _ _ _ _ (take_frame plan.origin payload (begun r)) fit.reads late
-    (steps_to r plan.origin t (Datagram.Frame plan.origin k 0 0 payload) _ is (take_fits plan.origin (the_entry plan) r (command_fits plan k r fit.origin h))) (command_ruled plan k r h ne))
+    let is = takes plan k plan.origin t Part.Bare payload r h fit.origin fit.most ne new (command_right plan fit.reads) in (
+      ack_of r plan.origin,
+      then_paid plan k t _ _ _ _ (take_frame plan.origin payload (begun r)) fit.reads late
+          (steps_to r plan.origin t (Datagram.Frame plan.origin k 0 0 payload) _ is (take_fits plan.origin (the_entry plan) r (command_fits plan k r fit.origin h))) (command_ruled plan k r h ne),
+    )
 
 -- ---- an Ack
 
@@ -131,15 +133,18 @@ as_begun plan k p r h = (record { plays = h; taken = refl; batch = refl; sends =
 acked_also : (plan : Plan) (k : ℕ) (p : Part) (r : Replica) (l : List (ℕ × ℕ)) → Plays plan k p r →
     Ruled plan k p r.taken [] [] (record (begun r) { replica = record r { acked = l } }) × ((record (begun r) { replica = record r { acked = l } }).fitting ≡ true)
 unfolding begun
-acked_also plan k p r l h = (record {
-  plays = plays_alike plan k p (record { me = refl; n = refl; log = refl; issued = refl; received = refl; votes = refl; owed = refl; pushed = refl; taken = refl }) h;
-  taken = refl;
-  batch = refl;
-  sends = refl;
-  quiet = λ i. refl;
-  excess = refl;
-  replies = refl;
-}, refl)
+acked_also plan k p r l h = (
+  record {
+    plays = plays_alike plan k p (record { me = refl; n = refl; log = refl; issued = refl; received = refl; votes = refl; owed = refl; pushed = refl; taken = refl }) h;
+    taken = refl;
+    batch = refl;
+    sends = refl;
+    quiet = λ i. refl;
+    excess = refl;
+    replies = refl;
+  },
+  refl,
+)
 
 ack_ruled : (plan : Plan) (k m a : ℕ) (p : Part) (r : Replica) → Plays plan k p r → Ruled plan k p r.taken [] [] (on_ack m 0 a (begun r)) × ((on_ack m 0 a (begun r)).fitting ≡ true)
 unfolding on_ack begun
@@ -259,29 +264,31 @@ request_ruled : (plan : Plan) (r : Replica) → FitsPlan plan → Plays plan pla
     × ((submitted plan (stamped plan) r).fitting ≡ true)
 unfolding submitted push_to_members push_to await count_vote keep issued_at begun
 request_ruled plan r fit h =
-    let log = ap (λ l. Rec.Prepare (the_entry plan) ∷ l) h.log in
-    (record {
-      plays = record {
-        me = h.me;
-        n = h.n;
-        log = log;
-        issued = ap (λ l. stamped plan ∷ l) h.issued;
-        owed = h.owed;
-        past = omega arith;
-        pushed = λ f. absurd f;
-        took = h.took;
-        heard = h.heard;
-        votes = λ m a ne. inr (h.votes m a ne);
-        own = λ l. (inl (ap (λ (z : ℕ). (the_stamp plan, z)) h.me), inl (ap (λ (z : ℕ). (the_stamp plan, z)) h.me));
-        apart = h.apart;
-      };
-      taken = refl;
-      batch = refl;
-      sends = pushes plan plan.origin (Part.Passed (stamped plan)) (InEpoch.Prepare (the_entry plan)) (await 7 (the_entry plan) (count_vote (the_stamp plan) r.me (keep (Rec.Prepare (the_entry plan)) (issued_at (stamped plan) (begun r))))) h.me h.n log (h.pushed tt);
-      quiet = λ i. quiet_line i r.me r.log (the_entry plan);
-      excess = refl;
-      replies = refl;
-    }, command_fits plan plan.origin r fit.origin h)
+    let log = ap (λ l. Rec.Prepare (the_entry plan) ∷ l) h.log in (
+      record {
+        plays = record {
+          me = h.me;
+          n = h.n;
+          log = log;
+          issued = ap (λ l. stamped plan ∷ l) h.issued;
+          owed = h.owed;
+          past = omega arith;
+          pushed = λ f. absurd f;
+          took = h.took;
+          heard = h.heard;
+          votes = λ m a ne. inr (h.votes m a ne);
+          own = λ l. (inl (ap (λ (z : ℕ). (the_stamp plan, z)) h.me), inl (ap (λ (z : ℕ). (the_stamp plan, z)) h.me));
+          apart = h.apart;
+        };
+        taken = refl;
+        batch = refl;
+        sends = pushes plan plan.origin (Part.Passed (stamped plan)) (InEpoch.Prepare (the_entry plan)) (await 7 (the_entry plan) (count_vote (the_stamp plan) r.me (keep (Rec.Prepare (the_entry plan)) (issued_at (stamped plan) (begun r))))) h.me h.n log (h.pushed tt);
+        quiet = λ i. quiet_line i r.me r.log (the_entry plan);
+        excess = refl;
+        replies = refl;
+      },
+      command_fits plan plan.origin r fit.origin h,
+    )
 
 pub turn_request : (plan : Plan) (r : Replica) → FitsPlan plan → Plays plan plan.origin Part.Bare r →
     Turned plan plan.origin (Part.Passed (stamped plan)) r.taken (Rec.Prepare (the_entry plan) ∷ []) (frames plan plan.origin (InEpoch.Prepare (the_entry plan)))

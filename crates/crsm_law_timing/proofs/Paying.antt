@@ -1,21 +1,20 @@
 -- How a replica of a timeline pays what it owes.
-use Rattle.std.proofs.Common.{◌≡◌, ◌≢◌, ℕ, ◌+◌, ◌<◌, ◌≤◌, List, [], ◌∷◌, ◌++◌, length, refl, sym, ◌∙◌, ap, subst, inl, inr, Bool, true, false, cond, arith, map, max}
-use Rattle.std.specs.Prelude.{IsTrue, Option, Some, None, filter, not, ◌==◌, nat_lt, nat_le, unwrap_or}
+use Rattle.std.proofs.Common.{◌≡◌, ℕ, ◌<◌, ◌≤◌, List, [], ◌∷◌, ◌++◌, length, refl, sym, ◌∙◌, ap, subst, arith, map, max}
+use Rattle.std.specs.Prelude.{IsTrue, Option, Some, filter, not, ◌==◌, nat_lt, unwrap_or}
 use Rattle.std.specs.Option.{option_map_or}
-use Rattle.std.proofs.lemmas.Bool.{false≢true, ne_eqb}
 use Rattle.std.proofs.lemmas.Bool.Decides.{nat_tests}
 use Rattle.crsm_spec.specs.Choice.{when◌then◌otherwise◌}
-use Rattle.crsm_spec.specs.Types.{Stamp, Entry, Rec, InEpoch, Datagram, Line}
-use Rattle.crsm_spec.specs.Lists.{Among, first_of, numbers_below}
-use Rattle.crsm_spec.specs.Clock.{u64_max, issue}
-use Rattle.crsm_spec.specs.Log.{Log, known, active, members}
+use Rattle.crsm_spec.specs.Types.{Stamp, InEpoch, Datagram}
+use Rattle.crsm_spec.specs.Lists.{first_of, numbers_below}
+use Rattle.crsm_spec.specs.Clock.{issue}
+use Rattle.crsm_spec.specs.Log.{known, active, members}
 use Rattle.crsm_spec.specs.Replica.{Replica, frames_to, other_members, members_of, last_issued}
-use Rattle.crsm_spec.specs.Draft.{Draft, Reply, issued_at, push_to_members, push_to, next_frame, would}
+use Rattle.crsm_spec.specs.Draft.{Draft, issued_at, push_to_members, push_to, next_frame, would}
 use Rattle.crsm_spec.specs.Frames.{pay, owing, pay_run, owed_oks}
 use Rattle.crsm_law_active.proofs.Ending.{on_true, on_false}
 use Rattle.crsm_timing.specs.Plans.{Plan, stamped}
-use Rattle.crsm_law_timing.proofs.Local.{Part, Plays, IsComplete, IsFirst, the_stamp, the_entry, log_in, issued_in, owed_in, is_active, is_known, are_members}
-use Rattle.crsm_law_timing.proofs.Closing.{IsAlike, alike_then, plays_alike}
+use Rattle.crsm_law_timing.proofs.Local.{Part, Plays, IsFirst, the_stamp, log_in, owed_in, is_active, is_known, are_members}
+use Rattle.crsm_law_timing.proofs.Closing.{IsAlike, plays_alike}
 
 -- ---- frames
 

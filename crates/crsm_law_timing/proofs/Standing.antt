@@ -1,29 +1,28 @@
 -- How a timeline stands after some events, and that it does so after one more.
 use Rattle.std.proofs.Common.{◌≡◌, ◌≢◌, ℕ, zero, suc, ◌+◌, ◌<◌, ◌≤◌, List, [], ◌∷◌, ◌++◌, length, refl, sym, ◌∙◌, ap, subst, inl, inr, Bool, true, false, cond, arith, map, drop, length-append}
-use Rattle.std.specs.Prelude.{◌⊎◌, Option, Some, None, slice_get, slice_set, filter, ◌==◌}
+use Rattle.std.specs.Prelude.{◌⊎◌, Some, slice_get, slice_set, filter, ◌==◌}
 use Rattle.std.proofs.lemmas.Bool.{cases_eq, eq-eqb, ne_eqb, false≢true}
 use Rattle.std.proofs.lemmas.Option.{none-some, same_Some}
-use Rattle.std.proofs.lemmas.List.{append-nil, map-append}
-use Rattle.crsm_base.specs.Limits.{most_world}
-use Rattle.crsm_spec.specs.Types.{Rec, InEpoch, Datagram, Line}
+use Rattle.std.proofs.lemmas.List.{append-nil}
+use Rattle.crsm_spec.specs.Types.{Rec, Datagram, Line}
 use Rattle.crsm_spec.specs.Lists.{Among}
 use Rattle.crsm_spec.specs.Lines.{exec_line}
 use Rattle.crsm_spec.specs.Replica.{Replica}
 use Rattle.crsm_spec.specs.Draft.{Draft}
 use Rattle.crsm_spec.specs.Clients.{commits, replies}
-use Rattle.crsm_spec.specs.World.{Site, Packet, World, Moment, packet_of, whole_step, after_step, body_size, packets_size}
+use Rattle.crsm_spec.specs.World.{Site, Packet, World, packet_of, whole_step, after_step, body_size, packets_size}
 use Rattle.crsm_spec.specs.Acts.{Single}
-use Rattle.crsm_log_facts.proofs.Lists.{among_left, among_right, among_either, get_left, get_inside}
+use Rattle.crsm_log_facts.proofs.Lists.{among_left, among_either, get_left}
 use Rattle.crsm_law_epoch.proofs.Words.{among_unmap, get_among, set_same, set_other}
 use Rattle.crsm_law_active.proofs.Ending.{ends_before}
 use Rattle.crsm_timing.specs.Plans.{Plan, FitsPlan, commit_at}
-use Rattle.crsm_timing.specs.Timelines.{Timed, Sent, sent, exec_moments, request, tick, delivery, is_exec}
+use Rattle.crsm_timing.specs.Timelines.{Timed, Sent, sent, exec_moments, request, delivery, is_exec}
 use Rattle.crsm_law_timing.proofs.Local.{Part, Plays, IsComplete, HasLogged, IsFirst, the_stamp, the_entry, issued_in}
 use Rattle.crsm_law_timing.proofs.Closing.{Ended, ends}
 use Rattle.crsm_law_timing.proofs.Turns.{Turned}
-use Rattle.crsm_law_timing.proofs.Worlds.{at, done, at_more, sends_by, sent_more, execs_by, execs_more, IsStep, set_length}
-use Rattle.crsm_law_timing.proofs.Letters.{IsFrame, letter, IsLetter, IsFrom, Facts, AreNumbered, tick_of, get_parts, get_right, go_of, facts_more, facts_done, still, old_new, Reason, commits_at}
-use Rattle.crsm_law_timing.proofs.Weights.{site_weight, weight_issued, sites_weight, packets_weight, out_weight, set_site, weight_more, commit_kept, packets_few}
+use Rattle.crsm_law_timing.proofs.Worlds.{at, done, sends_by, sent_more, execs_by, execs_more, IsStep}
+use Rattle.crsm_law_timing.proofs.Letters.{IsFrame, letter, IsLetter, IsFrom, Facts, AreNumbered, tick_of, get_parts, get_right, facts_more, facts_done, old_new, Reason, commits_at}
+use Rattle.crsm_law_timing.proofs.Weights.{weight_issued, sites_weight, packets_weight, out_weight, set_site, weight_more, commit_kept, packets_few}
 use Rattle.crsm_law_timing.proofs.Quiet.{quiet_end, exec_line_of}
 
 -- the moments at which a replica of this part has executed
@@ -132,7 +131,7 @@ drop_front {A} xs ys n e = ap (λ m. drop m (xs ++ ys)) e ∙ go xs
 sends_are : (x : Draft) (y : Draft) → x ≡ replies (commits y) → x.sends ≡ y.sends
 sends_are x y e = ap (λ (d : Draft). d.sends) e ∙ (ends_before y).sends
 
-taken_are : (x : Draft) (y : Draft) → x ≡ replies (commits y) → x.replica.taken ≡ y.replica.taken
+pub taken_are : (x : Draft) (y : Draft) → x ≡ replies (commits y) → x.replica.taken ≡ y.replica.taken
 taken_are x y e = ap (λ (d : Draft). d.replica.taken) e ∙ (ends_before y).taken
 
 packets_after : (v : World) (k : ℕ) (x : Draft) → (whole_step v k x).after.packets ≡ v.packets ++ map (packet_of k) x.sends
@@ -217,10 +216,11 @@ module _ (plan : Plan) (fit : FitsPlan plan) (before : List Timed) (e : Timed) (
       let y' = shows.step.size in
       let place : i ≡ length v.packets + j = omega (arith, e', z, y') in
       let fresh : record m.0 { used = false } ≡ m.0 = ap (λ (c : Packet). record c { used = false }) (sym d.2) ∙ d.2 in
-      let same_packet : record s.packet { used = false } ≡ m.0 = ap (λ (c : Sent). record c.packet { used = false }) (sym m.2) ∙ fresh in
-      (false,
-      ap (λ ps. slice_get ps i) packets_now ∙ ap (λ c. slice_get (v.packets ++ map (packet_of k) out) c) place ∙ get_right v.packets (map (packet_of k) out) j m.0 m.1 ∙ ap Some (sym same_packet),
-      λ h. absurd (false≢true h))
+      let same_packet : record s.packet { used = false } ≡ m.0 = ap (λ (c : Sent). record c.packet { used = false }) (sym m.2) ∙ fresh in (
+        false,
+        ap (λ ps. slice_get ps i) packets_now ∙ ap (λ c. slice_get (v.packets ++ map (packet_of k) out) c) place ∙ get_right v.packets (map (packet_of k) out) j m.0 m.1 ∙ ap Some (sym same_packet),
+        λ h. absurd (false≢true h),
+      )
 
   there_now : (i : ℕ) (s : Sent) → slice_get (sent plan then) i ≡ Some s → IsThere plan then u.packets i s
   there_now i s g = elim (get_parts (sent plan before) new i s (sym (ap (λ l. slice_get l i) sent_now) ∙ g)) [
@@ -325,7 +325,7 @@ module _ (plan : Plan) (fit : FitsPlan plan) (before : List Timed) (e : Timed) (
     plays = plays;
     unfinished = λ s z. absurd (cc);
     execs = execs_then k (exec_line k [] (the_entry plan) ∷ []) (exec_lines_now lines k ∙ ap (λ (b : Bool). cond b (exec_line k [] (the_entry plan) ∷ []) []) (eq-eqb k k refl))
-    ∙ ap (λ l. l ++ e.moment ∷ []) (a.execs ∙ shows.same ∙ ap (execs_in plan k) eq) ∙ ap (λ m. m ∷ []) (sym (commit_now t eq c));
+        ∙ ap (λ l. l ++ e.moment ∷ []) (a.execs ∙ shows.same ∙ ap (execs_in plan k) eq) ∙ ap (λ m. m ∷ []) (sym (commit_now t eq c));
     facts = subst (Facts plan then k (Part.Done t)) (sym taken_now) (facts_done plan then k t now (subst (λ p. Facts plan then k p now) eq facts_now));
   }
 

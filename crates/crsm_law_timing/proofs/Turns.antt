@@ -1,30 +1,24 @@
 -- Each step of a timeline.
-use Rattle.std.proofs.Common.{◌≡◌, ◌≢◌, ℕ, zero, suc, ◌+◌, ◌<◌, ◌≤◌, List, [], ◌∷◌, ◌++◌, length, refl, sym, ◌∙◌, ap, subst, inl, inr, Bool, true, false, cond, arith, map, max, drop, take}
-use Rattle.std.specs.Prelude.{IsTrue, Option, Some, None, filter, not, ◌==◌, ◌||◌, ◌&&◌, nat_lt, nat_le, count_by, fold, unwrap_or}
-use Rattle.std.specs.List.{enumerate_from, list_any, list_all}
-use Rattle.std.proofs.lemmas.Bool.{false≢true, ne_eqb, eq-eqb}
+use Rattle.std.proofs.Common.{◌≡◌, ◌≢◌, ℕ, ◌<◌, ◌≤◌, List, [], ◌∷◌, ◌++◌, refl, ◌∙◌, ap, inl, inr, Bool, true, false, cond, arith, map}
+use Rattle.std.specs.Prelude.{filter, not, ◌==◌, ◌||◌, nat_lt, nat_le, count_by}
+use Rattle.std.proofs.lemmas.Bool.{ne_eqb, eq-eqb}
 use Rattle.std.proofs.lemmas.Bool.Decides.{nat_tests}
-use Rattle.crsm_base.specs.Limits.{idle_after, most_own, most_frames, most_again}
 use Rattle.crsm_spec.specs.Choice.{when◌then◌otherwise◌}
-use Rattle.crsm_spec.specs.Types.{Stamp, Entry, Command, Refusal, Rec, InEpoch, Datagram, Line}
-use Rattle.crsm_spec.specs.Lists.{Among, has, greatest, first_of, numbers_below}
-use Rattle.crsm_spec.specs.Clock.{u64_max, issue}
-use Rattle.crsm_spec.specs.Lines.{lines_of}
-use Rattle.crsm_spec.specs.Fits.{fits, is_newest}
-use Rattle.crsm_spec.specs.Log.{Log, known, active, live, suspended, members, logged, logged_in, decision, unexecuted}
-use Rattle.crsm_spec.specs.Replica.{Replica, members_of, other_members, frames_to, acked_by, unacked, next_from, latest_from, last_issued, is_congested}
-use Rattle.crsm_spec.specs.Draft.{Draft, Reply, begun, keep, send, count_vote, issued_at, push_to_members, push_to, would}
-use Rattle.crsm_spec.specs.Clients.{on_request, take_or_refuse, refusal, submit_at, submit, await, own_unexecuted, commits, replies}
-use Rattle.crsm_spec.specs.Frames.{time_of, is_astray, is_wrong, is_odd_frame, with_stamp, owe, ack, receive, take_frame, on_frame, on_ack, owed_oks, idle, is_idle, again_frame, again_to, send_again}
-use Rattle.crsm_spec.specs.Step.{Input, if_fitting, on_input, on_datagram, on_tick, idle_at, step}
+use Rattle.crsm_spec.specs.Types.{Stamp, Rec, InEpoch, Datagram}
+use Rattle.crsm_spec.specs.Lists.{Among, has, greatest, numbers_below}
+use Rattle.crsm_spec.specs.Log.{known, active, members}
+use Rattle.crsm_spec.specs.Replica.{Replica, members_of, next_from, latest_from}
+use Rattle.crsm_spec.specs.Draft.{Draft, begun, send, count_vote}
+use Rattle.crsm_spec.specs.Clients.{commits, replies}
+use Rattle.crsm_spec.specs.Frames.{time_of, is_astray, is_wrong, is_odd_frame, ack, receive, take_frame, on_frame, owed_oks}
+use Rattle.crsm_spec.specs.Step.{Input, if_fitting, on_input, on_datagram, idle_at, step}
 use Rattle.crsm_log_facts.proofs.Lists.{has_in}
-use Rattle.crsm_law_epoch.proofs.Words.{count_same, count_other}
-use Rattle.crsm_law_active.proofs.Ending.{on_true, on_false, by_when}
+use Rattle.crsm_law_epoch.proofs.Words.{count_other}
+use Rattle.crsm_law_active.proofs.Ending.{on_true, on_false}
 use Rattle.crsm_timing.specs.Plans.{Plan, FitsPlan, stamped}
-use Rattle.crsm_timing.specs.Timelines.{the_command, is_exec}
-use Rattle.crsm_law_timing.proofs.Local.{Part, Plays, IsComplete, IsFirst, the_stamp, the_entry, log_in, left_in, is_active, is_known, is_left, are_members, is_below}
-use Rattle.crsm_law_timing.proofs.Closing.{IsAlike, alike_then, plays_alike, Ended, ends}
-use Rattle.crsm_law_timing.proofs.Paying.{peers, frames, pushes, IsSilent, NotPaid, HasPaid, pays_not, pays}
+use Rattle.crsm_timing.specs.Timelines.{is_exec}
+use Rattle.crsm_law_timing.proofs.Local.{Part, Plays, the_stamp, is_active, is_known, are_members, is_below}
+use Rattle.crsm_law_timing.proofs.Paying.{frames, pays_not, pays}
 
 -- What a step comes to before its end: the part that the replica plays, whom it has heard, what it keeps and sends.
 pub record Turned (plan : Plan) (k : ℕ) (p : Part) (heard : List ℕ) (kept : List Rec) (out : List (ℕ × Datagram)) (x : Draft) : Type 0 where

@@ -1,6 +1,6 @@
 -- A timeline does not fill the world: what a replica has still to send, and what comes of a datagram, takes few bytes.
-use Rattle.std.proofs.Common.{◌≡◌, ◌≢◌, ℕ, zero, suc, ◌+◌, ◌*◌, ◌<◌, ◌≤◌, List, [], ◌∷◌, ◌++◌, length, refl, sym, ◌∙◌, ap, subst, inl, inr, Bool, true, false, cond, arith, map}
-use Rattle.std.specs.Prelude.{Option, Some, None, slice_get, slice_set, sum_by, filter, flat_map, not, ◌==◌}
+use Rattle.std.proofs.Common.{◌≡◌, ℕ, zero, suc, ◌+◌, ◌*◌, ◌≤◌, List, [], ◌∷◌, ◌++◌, length, refl, ap, Bool, true, false, cond, arith, map}
+use Rattle.std.specs.Prelude.{Some, slice_get, slice_set, sum_by, filter, flat_map, not, ◌==◌}
 use Rattle.std.proofs.lemmas.Option.{none-some, same_Some}
 use Rattle.std.proofs.lemmas.List.{length-append}
 use Rattle.std.proofs.lemmas.Grind.{flat_map-append}
@@ -8,14 +8,13 @@ use Rattle.std.proofs.lemmas.List.Sums.{sum_by-cons, sum_by-append}
 use Rattle.crsm_base.specs.Messages.{datagram_bytes, payload_bytes}
 use Rattle.crsm_base.specs.Records.{rec_bytes, body_bytes}
 use Rattle.crsm_base.specs.Spelling.{u64_bytes, u16_bytes, stamp_bytes, entry_bytes, command_bytes, op_bytes, key_bytes, val_bytes}
-use Rattle.crsm_base.proofs.Sizes.{u64_long}
-use Rattle.crsm_spec.specs.Types.{Stamp, Entry, Rec, InEpoch, Datagram}
-use Rattle.crsm_spec.specs.Lists.{Among, numbers_below}
+use Rattle.crsm_spec.specs.Types.{Rec, InEpoch, Datagram}
+use Rattle.crsm_spec.specs.Lists.{numbers_below}
 use Rattle.crsm_spec.specs.Replica.{Replica}
-use Rattle.crsm_spec.specs.World.{Site, Packet, World, packet_of, body_size, packets_size}
+use Rattle.crsm_spec.specs.World.{Site, Packet, packet_of, body_size, packets_size}
 use Rattle.crsm_timing.specs.Plans.{Plan}
 use Rattle.crsm_timing.specs.Timelines.{the_command}
-use Rattle.crsm_law_timing.proofs.Local.{Part, the_stamp, the_entry, issued_in, many_below}
+use Rattle.crsm_law_timing.proofs.Local.{the_stamp, the_entry, many_below}
 use Rattle.crsm_law_timing.proofs.Paying.{peers, frames}
 
 -- ---- what is to come
@@ -35,10 +34,10 @@ datagram_weight _ = 100
 abbrev pub packet_weight : Packet → ℕ
 packet_weight m = cond m.used 0 (datagram_weight m.datagram)
 
-pub sites_weight : List Site → ℕ
+unfoldable pub sites_weight : List Site → ℕ
 sites_weight ss = sum_by site_weight ss
 
-pub packets_weight : List Packet → ℕ
+unfoldable pub packets_weight : List Packet → ℕ
 packets_weight ms = sum_by packet_weight ms
 
 -- ---- sums

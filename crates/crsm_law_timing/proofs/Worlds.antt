@@ -1,16 +1,13 @@
 -- One event more of a timeline: the world after it, what it sends, and who executes.
-use Rattle.std.proofs.Common.{◌≡◌, ℕ, zero, suc, ◌+◌, ◌<◌, ◌≤◌, List, [], ◌∷◌, ◌++◌, length, refl, sym, ◌∙◌, ap, subst, inl, inr, Bool, true, false, cond, arith, map, drop, append_assoc}
-use Rattle.std.specs.Prelude.{Option, Some, None, filter, slice_get, slice_set, ◌==◌}
-use Rattle.std.specs.List.{enumerate_from}
+use Rattle.std.proofs.Common.{◌≡◌, ℕ, zero, suc, List, [], ◌∷◌, ◌++◌, length, refl, sym, ◌∙◌, ap, true, map, drop, append_assoc}
+use Rattle.std.specs.Prelude.{Some, filter, slice_get, slice_set}
 use Rattle.std.specs.Option.{option_map_or}
 use Rattle.std.proofs.lemmas.List.{append-nil}
-use Rattle.crsm_spec.specs.Types.{Datagram, Line, Entry, Rec}
-use Rattle.crsm_spec.specs.Lines.{exec_line}
+use Rattle.crsm_spec.specs.Types.{Datagram, Line}
 use Rattle.crsm_spec.specs.Replica.{Replica}
-use Rattle.crsm_spec.specs.Draft.{Draft, Reply}
+use Rattle.crsm_spec.specs.Draft.{Draft}
 use Rattle.crsm_spec.specs.Step.{Input, step}
-use Rattle.crsm_spec.specs.Clients.{commits, replies}
-use Rattle.crsm_spec.specs.World.{Site, Packet, World, Moment, begin, packet_of, send_line, send_lines, whole_step, after_step}
+use Rattle.crsm_spec.specs.World.{Site, Packet, World, Moment, begin, whole_step}
 use Rattle.crsm_spec.specs.Acts.{Single, Act}
 use Rattle.crsm_spec.specs.Moments.{use_up, begun_at, step_at_site, step_at, come, single, moments_of, world_after, lines_of, act}
 use Rattle.crsm_spec.specs.Run.{after_acts}
@@ -25,7 +22,7 @@ at plan es = after_acts (begin plan.n) (acts_of es)
 unfoldable pub done : World → Timed → Moment
 done w e = single whole_step w e.does
 
-act_is : (w : World) (e : Timed) → (act w (Act.One e.does)).after ≡ (done w e).after
+pub act_is : (w : World) (e : Timed) → (act w (Act.One e.does)).after ≡ (done w e).after
 unfolding act moments_of world_after done
 act_is w e = refl
 

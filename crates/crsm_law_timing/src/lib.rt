@@ -1,2 +1,15 @@
-//! When a command commits, by a plan of delays and clocks: each replica executes it once, at the moment that the plan gives.
+//! When a command commits, by the delays between replicas and the offsets of their clocks.
 #![tactic(auto)]
+
+ghost use Rattle.crsm_law_timing.specs.Commits.{CommandsCommitInTime, TimelinesArePossible};
+
+/// Each timeline of a plan is possible: no event of it is refused.
+pub fn timelines_are_possible()
+    ensures { TimelinesArePossible }
+{}
+
+/// In each timeline of a plan each replica executes one entry, at the moment that the plan gives: when the last acknowledgement has
+/// come.
+pub fn commands_commit_in_time()
+    ensures { CommandsCommitInTime }
+{}
