@@ -19,3 +19,5 @@ pub mod Oks
 pub mod Commands
 pub mod Beginning
 pub mod Timing
+pub mod Opened
+pub mod Happening

@@ -1,9 +1,10 @@
 -- When a command commits.
 use Rattle.std.specs.Prelude.{◌≡◌, ℕ, ◌<◌, List, [], ◌∷◌}
+use Rattle.crsm_spec.specs.Lists.{Among}
 use Rattle.crsm_spec.specs.World.{begin}
 use Rattle.crsm_spec.specs.Run.{ArePossible}
 use Rattle.crsm_timing.specs.Plans.{Plan, FitsPlan, commit_at}
-use Rattle.crsm_timing.specs.Timelines.{Timed, IsTimeline, acts_of, exec_moments}
+use Rattle.crsm_timing.specs.Timelines.{Timed, IsTimeline, acts_of, exec_moments, tick}
 
 -- Each timeline of a plan is possible.
 abbrev pub TimelinesArePossible : Type 0
@@ -15,3 +16,13 @@ abbrev pub CommandsCommitInTime : Type 0
 CommandsCommitInTime =
     (plan : Plan) (es : List Timed) → FitsPlan plan → IsTimeline plan es → (i : ℕ) → i < plan.n →
     exec_moments plan i es ≡ commit_at plan i ∷ []
+
+-- There is a timeline, and in it a replica waits for its clock.
+pub record WaitsForClock : Type 0 where
+  pub plan : Plan
+  pub events : List Timed
+  pub fits : FitsPlan plan
+  pub timeline : IsTimeline plan events
+  pub replica : ℕ
+  pub moment : ℕ
+  pub waits : Among events (tick plan replica moment)

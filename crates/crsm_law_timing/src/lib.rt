@@ -1,7 +1,7 @@
 //! When a command commits, by the delays between replicas and the offsets of their clocks.
 #![tactic(auto)]
 
-ghost use Rattle.crsm_law_timing.specs.Commits.{CommandsCommitInTime, TimelinesArePossible};
+ghost use Rattle.crsm_law_timing.specs.Commits.{CommandsCommitInTime, TimelinesArePossible, WaitsForClock};
 
 /// Each timeline of a plan is possible: no event of it is refused.
 pub fn timelines_are_possible()
@@ -12,4 +12,9 @@ pub fn timelines_are_possible()
 /// come.
 pub fn commands_commit_in_time()
     ensures { CommandsCommitInTime }
+{}
+
+/// There is a timeline in which a replica waits for its clock: the premises of these laws can be met.
+pub fn timelines_happen()
+    ensures { WaitsForClock }
 {}

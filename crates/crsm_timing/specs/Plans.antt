@@ -1,7 +1,6 @@
 -- Plans: one command, the delays between replicas, and how far their clocks are ahead.
-use Rattle.std.specs.Prelude.{ℕ, ◌+◌, ◌-◌, ◌*◌, ◌^◌, ◌<◌, ◌≤◌, ◌==◌, ◌&&◌, not, max, if◌then◌else◌, List, [], ◌∷◌, map, filter, find}
+use Rattle.std.specs.Prelude.{ℕ, ◌+◌, ◌-◌, ◌<◌, ◌≤◌, ◌==◌, ◌&&◌, not, max, if◌then◌else◌, List, ◌∷◌, map, filter, find}
 use Rattle.std.specs.Option.{option_map_or}
-use Rattle.crsm_spec.specs.Types.{Op, Command}
 use Rattle.crsm_spec.specs.Lists.{greatest, numbers_below}
 
 -- so far the clock of a replica is ahead
