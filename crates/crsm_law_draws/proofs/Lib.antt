@@ -3,3 +3,6 @@ pub mod Decisions
 pub mod Happenings
 pub mod Worlds
 pub mod Runs
+pub mod Fitting
+pub mod Packets
+pub mod Drawn

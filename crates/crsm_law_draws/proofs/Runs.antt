@@ -51,14 +51,14 @@ unfolding world_after
 gone_count n w [] g e = e
 gone_count n w (m ∷ ms) g e = gone_count n m.after ms g.1 (happened_count n w m g.0.0 g.0.1 e)
 
-first_count : (n : ℕ) → length (begin n).sites ≡ n
+pub first_count : (n : ℕ) → length (begin n).sites ≡ n
 unfolding begin numbers_below
 first_count n = length-map (range_with_len 0 n) (λ k. Site.Up (founding_boot k n).replica) ∙ length-range_with_len 0 n
 
 -- ---- histories
 
 -- the world is reached among the first replicas
-abbrev IsReachedAlone : ℕ → World → Type 0
+abbrev pub IsReachedAlone : ℕ → World → Type 0
 IsReachedAlone n w = (q : IsReached n w) × HasHistory q
 
 carried : (n : ℕ) (w : World) (ms : List Moment) (q : IsReached n w) → HasHistory q → GoOn n w ms → IsReachedAlone n (world_after w ms)
@@ -66,7 +66,7 @@ unfolding world_after
 carried n w [] q b g = (q, b)
 carried n w (m ∷ ms) q b g = carried n m.after ms (next q g.0.0) (b, g.0.1) g.1
 
-run_on : (n : ℕ) (w : World) (acts : List Act) → IsReachedAlone n w → length w.sites ≡ n → ArePossible w acts → AllByRecursion (StartsAFounder n) acts → IsReachedAlone n (after_acts w acts)
+pub run_on : (n : ℕ) (w : World) (acts : List Act) → IsReachedAlone n w → length w.sites ≡ n → ArePossible w acts → AllByRecursion (StartsAFounder n) acts → IsReachedAlone n (after_acts w acts)
 unfolding after_acts act
 run_on n w [] r e p s = r
 run_on n w (a ∷ acts) r e p s =

@@ -1,13 +1,15 @@
 -- The laws of what is drawn.
-use Rattle.std.specs.Prelude.{◌≡◌, ◌≤◌, ℕ, false, List, None}
+use Rattle.std.specs.Prelude.{◌≡◌, ◌≤◌, ◌<◌, ◌^◌, ℕ, false, List, None}
 use Rattle.std.specs.List.{AllByRecursion}
 use Rattle.crsm_generator.specs.Drawing.{drawn_next}
 use Rattle.crsm_generator.specs.declared.drawing.Drawing.{Drawing}
-use Rattle.crsm_spec.specs.Acts.{Act}
+use Rattle.crsm_spec.specs.Acts.{Act, FitsAct}
 use Rattle.crsm_spec.specs.Possible.{possible}
 use Rattle.crsm_spec.specs.Run.{ArePossible, last_world}
 use Rattle.crsm_spec.specs.World.{World, begin, is_full}
+use Rattle.crsm_soak.specs.Soak.{drawn}
 use Rattle.crsm_world.specs.Doing.{act_of}
+use Rattle.crsm_world.specs.Schedule.{acts_of}
 use Rattle.crsm_world.specs.Seen.{view_of}
 use Rattle.crsm_law_draws.specs.Founders.{HasFoundersAlone, IsNext, StartsAFounder}
 
@@ -23,8 +25,22 @@ FoundersStay =
     (n : ℕ) (acts : List Act) → 1 ≤ n → n ≤ 15 → ArePossible (begin n) acts → AllByRecursion (StartsAFounder n) acts → HasFoundersAlone n (last_world n acts)
 
 -- Where such a run has come to, what is drawn next is possible if the world is not full, and starts no other replica.
--- So by induction each event of a run that is drawn is possible where it is done, if lines can spell those before it.
 abbrev pub DrawnRunsGoOn : Type 0
 DrawnRunsGoOn =
     (n : ℕ) (acts : List Act) (s : Drawing) → 1 ≤ n → n ≤ 15 → ArePossible (begin n) acts → AllByRecursion (StartsAFounder n) acts →
     is_full (last_world n acts) ≡ false → IsNext n (last_world n acts) (act_of (drawn_next n (view_of (last_world n acts)) s).0)
+
+-- the clients' numbers that a generator goes on from have 64 bits
+abbrev pub HasSmallNumbers : Drawing → Type 0
+HasSmallNumbers s = AllByRecursion (λ number. number < 2 ^ 64) s.numbers
+
+-- There a line spells what is drawn next too, and the generator's numbers stay small.
+abbrev pub DrawnFitLines : Type 0
+DrawnFitLines =
+    (n : ℕ) (acts : List Act) (s : Drawing) → 1 ≤ n → n ≤ 15 → ArePossible (begin n) acts → AllByRecursion (StartsAFounder n) acts →
+    is_full (last_world n acts) ≡ false → HasSmallNumbers s →
+    FitsAct (act_of (drawn_next n (view_of (last_world n acts)) s).0) × HasSmallNumbers (drawn_next n (view_of (last_world n acts)) s).1
+
+-- A whole run that a number draws is possible: a line spells each event, and it is possible where it is done.
+abbrev pub DrawnRunsArePossible : Type 0
+DrawnRunsArePossible = (number n steps : ℕ) → 1 ≤ n → n ≤ 15 → ArePossible (begin n) (acts_of (drawn number n steps))

@@ -1,7 +1,7 @@
 //! What a generator draws is possible where it is done.
 #![tactic(auto)]
 
-ghost use Rattle.crsm_law_draws.specs.Laws.{DrawnArePossible, DrawnRunsGoOn, FoundersStay};
+ghost use Rattle.crsm_law_draws.specs.Laws.{DrawnArePossible, DrawnFitLines, DrawnRunsArePossible, DrawnRunsGoOn, FoundersStay};
 
 use crsm_generator::drawn_can_happen;
 use crsm_law_runs::worlds_are_on_the_way;
@@ -29,4 +29,19 @@ pub fn drawn_runs_go_on()
 {
     drawn_can_happen();
     founders_stay();
+}
+
+/// After such a run a line can spell what is drawn next.
+pub fn drawn_fit_lines()
+    ensures { DrawnFitLines }
+{
+    founders_stay();
+}
+
+/// A whole run that a number draws for 1 to 15 replicas is possible: a schedule can spell it, and no event is refused.
+pub fn drawn_runs_are_possible()
+    ensures { DrawnRunsArePossible }
+{
+    drawn_runs_go_on();
+    drawn_fit_lines();
 }
