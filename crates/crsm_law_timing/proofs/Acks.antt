@@ -6,7 +6,8 @@ use Rattle.crsm_spec.specs.Lists.{Among}
 use Rattle.crsm_spec.specs.Draft.{Draft}
 use Rattle.crsm_spec.specs.Step.{Input, step}
 use Rattle.crsm_spec.specs.World.{World}
-use Rattle.crsm_timing.specs.Plans.{Plan, delay_of, reading}
+use Rattle.crsm_timing.specs.declared.Plan.{Plan}
+use Rattle.crsm_timing.specs.Plans.{delay_of, reading}
 use Rattle.crsm_timing.specs.Timelines.{Timed, Sent, sent, delivery}
 use Rattle.crsm_law_timing.proofs.Local.{Part, IsComplete}
 use Rattle.crsm_law_timing.proofs.Turns.{Turned}

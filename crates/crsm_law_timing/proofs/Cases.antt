@@ -10,7 +10,8 @@ use Rattle.crsm_spec.specs.World.{Site, World, body_size}
 use Rattle.crsm_spec.specs.Acts.{Single, Act, FitsAct}
 use Rattle.crsm_spec.specs.Possible.{possible}
 use Rattle.crsm_log_facts.proofs.Lists.{among_left, among_right, get_left}
-use Rattle.crsm_timing.specs.Plans.{Plan, FitsPlan, delay_of, offset_of, reading, stamped, arrival, ok_at}
+use Rattle.crsm_timing.specs.declared.Plan.{Plan}
+use Rattle.crsm_timing.specs.Plans.{FitsPlan, delay_of, offset_of, reading, stamped, arrival, ok_at}
 use Rattle.crsm_timing.specs.Timelines.{Timed, Sent, sent, the_command, request, tick, delivery, IsDue, Precedes, InOrder, IsTimeline}
 use Rattle.crsm_law_timing.proofs.Local.{Part, Plays, HasLogged, IsFirst, the_stamp, the_entry, issued_in}
 use Rattle.crsm_law_timing.proofs.Paying.{frames}

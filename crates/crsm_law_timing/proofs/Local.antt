@@ -16,7 +16,8 @@ use Rattle.crsm_spec.specs.Ready.{is_ready, is_replicated, is_stable, is_next, a
 use Rattle.crsm_log_facts.proofs.Lists.{list_all_at, among_left, among_right, among_either}
 use Rattle.crsm_log_facts.proofs.Sorted.{eq_self}
 use Rattle.crsm_law_epoch.proofs.Words.{among_map, among_unmap, any_is, range_is, is_range}
-use Rattle.crsm_timing.specs.Plans.{Plan, stamped}
+use Rattle.crsm_timing.specs.declared.Plan.{Plan}
+use Rattle.crsm_timing.specs.Plans.{stamped}
 use Rattle.crsm_timing.specs.Timelines.{the_command}
 
 abbrev pub the_stamp : Plan → Stamp

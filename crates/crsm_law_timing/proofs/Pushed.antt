@@ -9,7 +9,7 @@ use Rattle.crsm_spec.specs.World.{packet_of}
 use Rattle.crsm_log_facts.proofs.Lists.{kept_from, kept_in}
 use Rattle.crsm_law_epoch.specs.Numbers.{Distinct}
 use Rattle.crsm_law_epoch.proofs.Words.{among_map, among_unmap, get_among, distinct_range, distinct_filter}
-use Rattle.crsm_timing.specs.Plans.{Plan}
+use Rattle.crsm_timing.specs.declared.Plan.{Plan}
 use Rattle.crsm_timing.specs.Timelines.{Sent}
 use Rattle.crsm_law_timing.proofs.Local.{below_is, is_below}
 use Rattle.crsm_law_timing.proofs.Paying.{peers, frames}

@@ -15,7 +15,8 @@ use Rattle.crsm_spec.specs.Acts.{Single}
 use Rattle.crsm_log_facts.proofs.Lists.{among_left, among_either, get_left}
 use Rattle.crsm_law_epoch.proofs.Words.{among_unmap, get_among, set_same, set_other}
 use Rattle.crsm_law_active.proofs.Ending.{ends_before}
-use Rattle.crsm_timing.specs.Plans.{Plan, FitsPlan, commit_at}
+use Rattle.crsm_timing.specs.declared.Plan.{Plan}
+use Rattle.crsm_timing.specs.Plans.{FitsPlan, commit_at}
 use Rattle.crsm_timing.specs.Timelines.{Timed, Sent, sent, exec_moments, request, delivery, is_exec}
 use Rattle.crsm_law_timing.proofs.Local.{Part, Plays, IsComplete, HasLogged, IsFirst, the_stamp, the_entry, issued_in}
 use Rattle.crsm_law_timing.proofs.Closing.{Ended, ends}

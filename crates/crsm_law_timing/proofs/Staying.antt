@@ -2,7 +2,7 @@
 use Rattle.std.proofs.Common.{ℕ, List, [], ◌∷◌, ◌++◌}
 use Rattle.crsm_spec.specs.Lists.{Among}
 use Rattle.crsm_log_facts.proofs.Lists.{among_left}
-use Rattle.crsm_timing.specs.Plans.{Plan}
+use Rattle.crsm_timing.specs.declared.Plan.{Plan}
 use Rattle.crsm_timing.specs.Timelines.{Timed, Sent, delivery}
 use Rattle.crsm_law_timing.proofs.Local.{Part}
 use Rattle.crsm_law_timing.proofs.Letters.{AtOrigin, Elsewhere}

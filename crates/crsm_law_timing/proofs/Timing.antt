@@ -6,7 +6,8 @@ use Rattle.std.proofs.lemmas.List.{append-nil}
 use Rattle.crsm_spec.specs.Lists.{Among}
 use Rattle.crsm_spec.specs.World.{World, begin}
 use Rattle.crsm_spec.specs.Run.{ArePossible}
-use Rattle.crsm_timing.specs.Plans.{Plan, FitsPlan, commit_at}
+use Rattle.crsm_timing.specs.declared.Plan.{Plan}
+use Rattle.crsm_timing.specs.Plans.{FitsPlan, commit_at}
 use Rattle.crsm_timing.specs.Timelines.{Timed, Sent, sent, acts_of, exec_moments, request, delivery, IsDue, IsTimeline}
 use Rattle.crsm_law_timing.specs.Commits.{TimelinesArePossible, CommandsCommitInTime}
 use Rattle.crsm_law_timing.proofs.Local.{Part, IsComplete, IsFirst}

@@ -3,7 +3,8 @@ use Rattle.std.specs.Prelude.{◌≡◌, ℕ, ◌<◌, List, [], ◌∷◌}
 use Rattle.crsm_spec.specs.Lists.{Among}
 use Rattle.crsm_spec.specs.World.{begin}
 use Rattle.crsm_spec.specs.Run.{ArePossible}
-use Rattle.crsm_timing.specs.Plans.{Plan, FitsPlan, commit_at}
+use Rattle.crsm_timing.specs.declared.Plan.{Plan}
+use Rattle.crsm_timing.specs.Plans.{FitsPlan, commit_at}
 use Rattle.crsm_timing.specs.Timelines.{Timed, IsTimeline, acts_of, exec_moments, tick}
 
 -- Each timeline of a plan is possible.

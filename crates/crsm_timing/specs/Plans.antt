@@ -1,26 +1,8 @@
--- Plans: one command, the delays between replicas, and how far their clocks are ahead.
+-- When a command commits by a plan.
 use Rattle.std.specs.Prelude.{ℕ, ◌+◌, ◌-◌, ◌<◌, ◌≤◌, ◌==◌, ◌&&◌, not, max, if◌then◌else◌, List, ◌∷◌, map, filter, find}
 use Rattle.std.specs.Option.{option_map_or}
 use Rattle.crsm_spec.specs.Lists.{greatest, numbers_below}
-
--- so far the clock of a replica is ahead
-pub record Offset : Type 0 where
-  pub replica : ℕ
-  pub by : ℕ
-
--- so long a datagram takes from one replica to another
-pub record Delay : Type 0 where
-  pub from : ℕ
-  pub to : ℕ
-  pub by : ℕ
-
--- A command reaches the origin at a moment. What no offset and no delay names is 0.
-pub record Plan : Type 0 where
-  pub n : ℕ  -- how many replicas there are
-  pub offsets : List Offset
-  pub delays : List Delay
-  pub origin : ℕ
-  pub at : ℕ
+use Rattle.crsm_timing.specs.declared.plan.Plan.{Plan}
 
 -- ---- delays and clocks
 

@@ -6,7 +6,8 @@ use Rattle.crsm_spec.specs.Lists.{Among}
 use Rattle.crsm_spec.specs.World.{Packet, World, begin}
 use Rattle.crsm_spec.specs.Acts.{Single, Act}
 use Rattle.crsm_spec.specs.Moments.{act}
-use Rattle.crsm_timing.specs.Plans.{Plan, delay_of, reading, stamped, arrival}
+use Rattle.crsm_timing.specs.declared.plan.Plan.{Plan}
+use Rattle.crsm_timing.specs.Plans.{delay_of, reading, stamped, arrival}
 
 -- an event of one step, and its moment
 pub record Timed : Type 0 where

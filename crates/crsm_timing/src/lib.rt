@@ -1,3 +1,7 @@
-//! Definitions, in `specs/`, of plans of delays between replicas and of offsets of their clocks: what happens when, and when
-//! a command commits; no code.
+//! Plans of delays between replicas and of offsets of their clocks, as values; and in `specs/` what happens when if all goes by
+//! a plan, and when a command commits.
 #![tactic(auto)]
+
+mod plan;
+
+pub use plan::{Delay, Delays, Offset, Offsets, Plan};

@@ -1,0 +1,60 @@
+//! The lines of a plan behind its first one, each without its line feed.
+
+ghost use Rattle.std.specs.Prelude.{◌≡◌, ◌++◌, IfSome, codes};
+ghost use Rattle.crsm_delay.specs.Grammar.{FitsLine, line_text};
+ghost use Rattle.crsm_delay.specs.declared.line.PlanLine.{PlanLine as Spelt};
+
+use crsm_text::{two_fields, two_numbers, read_number};
+
+/// A line of a plan.
+#[derive(Clone, Copy, Debug, PartialEq, Eq)]
+pub enum PlanLine {
+    /// The clock of a replica is ahead.
+    Offset { replica: u64, by: u64 },
+    /// Datagrams take a time from one replica to another.
+    Delay { from: u64, to: u64, by: u64 },
+    /// The command reaches a replica at a moment.
+    Command { replica: u64, at: u64 },
+}
+
+fn offset_of(text: &[u8]) -> Option<PlanLine>
+    ensures found { IfSome result (λ l. FitsLine l × (codes "offset " ++ text.now ≡ line_text l)) }
+    ensures only { (l : Spelt) → FitsLine l → codes "offset " ++ text.now ≡ line_text l → result ≡ Some l }
+{
+    let (replica, by) = two_numbers(text)?;
+    Some(PlanLine::Offset { replica, by })
+}
+
+fn delay_of(text: &[u8]) -> Option<PlanLine>
+    ensures found { IfSome result (λ l. FitsLine l × (codes "delay " ++ text.now ≡ line_text l)) }
+    ensures only { (l : Spelt) → FitsLine l → codes "delay " ++ text.now ≡ line_text l → result ≡ Some l }
+{
+    let (from, to, rest) = two_fields(text)?;
+    let by = read_number(rest)?;
+    Some(PlanLine::Delay { from, to, by })
+}
+
+fn command_of(text: &[u8]) -> Option<PlanLine>
+    ensures found { IfSome result (λ l. FitsLine l × (codes "command " ++ text.now ≡ line_text l)) }
+    ensures only { (l : Spelt) → FitsLine l → codes "command " ++ text.now ≡ line_text l → result ≡ Some l }
+{
+    let (replica, at) = two_numbers(text)?;
+    Some(PlanLine::Command { replica, at })
+}
+
+/// The line that a text spells, if there is one.
+pub fn read_line(text: &[u8]) -> Option<PlanLine>
+    ensures found { IfSome result (λ l. FitsLine l × (text.now ≡ line_text l)) }
+    ensures only { (l : Spelt) → FitsLine l → text.now ≡ line_text l → result ≡ Some l }
+{
+    if let Some(rest) = text.strip_prefix(b"offset ") {
+        return offset_of(rest);
+    }
+    if let Some(rest) = text.strip_prefix(b"delay ") {
+        return delay_of(rest);
+    }
+    if let Some(rest) = text.strip_prefix(b"command ") {
+        return command_of(rest);
+    }
+    None
+}
