@@ -1,16 +1,13 @@
 -- What processes of nodes have as executed is of one list.
-use Rattle.std.proofs.Common.{ℕ, ◌≤◌, List, [], ◌∷◌, ◌++◌, refl, sym, ◌∙◌, ap, subst, inl, inr, arith, append_assoc}
-use Rattle.std.specs.Prelude.{option_to_list}
-use Rattle.std.proofs.lemmas.List.{append-nil}
-use Rattle.crsm_spec.specs.Types.{Rec}
+use Rattle.std.proofs.Common.{ℕ, ◌≤◌, List, [], ◌∷◌, sym, ◌∙◌, ap, subst, inl, inr, arith}
 use Rattle.crsm_spec.specs.Lists.{Among, IsPrefixOf}
-use Rattle.crsm_spec.specs.Log.{Log, executed, entry_of}
+use Rattle.crsm_spec.specs.Log.{executed}
 use Rattle.crsm_spec.specs.Replica.{Replica}
 use Rattle.crsm_spec.specs.Draft.{Draft}
 use Rattle.crsm_spec.specs.Step.{boot}
 use Rattle.crsm_spec.specs.Node.{Turn, turn, outputs_from, outputs}
 use Rattle.crsm_spec.specs.World.{log_at}
-use Rattle.crsm_log_facts.specs.Logs.{Extends, same, more}
+use Rattle.crsm_log_facts.specs.Logs.{Extends, same}
 use Rattle.crsm_log_facts.proofs.Logged.{extends_trans}
 use Rattle.crsm_lives.specs.Lives.{Life, kept_turns, kept_steps}
 use Rattle.crsm_law_histories.specs.Clusters.{Event}
@@ -20,18 +17,18 @@ use Rattle.crsm_law_histories.proofs.Agree.{list_is}
 use Rattle.crsm_law_cluster.specs.OneList.{one_list}
 use Rattle.crsm_law_cluster.specs.Laws.{IsHistory}
 use Rattle.crsm_law_cluster.proofs.Last.{shown, last}
+use Rattle.crsm_law_requests.proofs.Executed.{prefix_then, executed_prefix}
 use Rattle.crsm_law_requests.proofs.Turns.{turn_logs}
 use Rattle.crsm_law_lives.specs.Events.{after_turns, left_by}
 use Rattle.crsm_law_lives.specs.Premises.{Ran}
-use Rattle.crsm_law_lives.specs.Laws.{LivesAgree}
 use Rattle.crsm_law_lives.proofs.Laws.{lives_are_lawful}
 
 -- ---- steps and the log that they lead to
 
-turn_grows : (r : Replica) (t : Turn × ℕ) → Extends r.log (turn r t).replica.log
+pub turn_grows : (r : Replica) (t : Turn × ℕ) → Extends r.log (turn r t).replica.log
 turn_grows r t = (turn_logs r t.0 t.1).grows
 
-turns_grow : (r : Replica) (ts : List (Turn × ℕ)) → Extends r.log (after_turns r ts).log
+pub turns_grow : (r : Replica) (ts : List (Turn × ℕ)) → Extends r.log (after_turns r ts).log
 unfolding after_turns
 turns_grow r [] = same
 turns_grow r (t ∷ ts) = extends_trans (turn_grows r t) (turns_grow (turn r t).replica ts)
@@ -47,27 +44,6 @@ pub steps_grow : (n : ℕ) (l : Life) (x : Draft) → Among (kept_steps n l) x �
 unfolding kept_steps outputs left_by
 steps_grow n l x (inl e) = subst (λ (y : Draft). Extends y.replica.log (after_turns (boot l.me n l.found).replica (kept_turns l.groups)).log) e (turns_grow (boot l.me n l.found).replica (kept_turns l.groups))
 steps_grow n l x (inr a) = outputs_grow (boot l.me n l.found).replica (kept_turns l.groups) x a
-
--- ---- executed lists
-
-one_prefix : (rec : Rec) (log : Log) → IsPrefixOf (executed log) (executed (rec ∷ log))
-unfolding executed
-one_prefix (Rec.Boot me n) log = ([], append-nil (executed log))
-one_prefix (Rec.Prepare e) log = ([], append-nil (executed log))
-one_prefix (Rec.Commit s) log = (option_to_list (entry_of log s), refl)
-one_prefix (Rec.Adopt place es) log = (es, refl)
-one_prefix (Rec.Suspend x) log = ([], append-nil (executed log))
-one_prefix (Rec.Promise i b) log = ([], append-nil (executed log))
-one_prefix (Rec.Accept i b d) log = ([], append-nil (executed log))
-one_prefix (Rec.Decide d) log = ([], append-nil (executed log))
-one_prefix (Rec.Enter x) log = ([], append-nil (executed log))
-
-prefix_then : {A : Type 0} (xs ys zs : List A) → IsPrefixOf xs ys → IsPrefixOf ys zs → IsPrefixOf xs zs
-prefix_then xs ys zs p q = (p.0 ++ q.0, sym (append_assoc xs p.0 q.0) ∙ ap (λ l. l ++ q.0) p.1 ∙ q.1)
-
-pub executed_prefix : (a b : Log) → Extends a b → IsPrefixOf (executed a) (executed b)
-executed_prefix a b same = ([], append-nil (executed a))
-executed_prefix a b (more {new = c} rec x) = prefix_then (executed a) (executed c) (executed (rec ∷ c)) (executed_prefix a c x) (one_prefix rec c)
 
 -- ---- lives
 
@@ -85,6 +61,3 @@ module _ (n : ℕ) (ls : List Life) (h : List Event) (few : n ≤ 15) (r : Ran n
 
   pub agree : (l : Life) → Among ls l → (x : Draft) → Among (kept_steps n l) x → IsPrefixOf (executed x.replica.log) (one_list n h)
   agree l a x m = prefix_then (executed x.replica.log) (executed (left_by n l)) (one_list n h) (executed_prefix x.replica.log (left_by n l) (steps_grow n l x m)) (left_prefix l a)
-
-pub lives_agree : LivesAgree
-lives_agree n ls h few r short l a x m = agree n ls h few r short l a x m

@@ -1,8 +1,10 @@
 -- The laws of processes of nodes.
 use Rattle.std.specs.Prelude.{◌≡◌, ℕ, ◌≤◌, List, None, Some, slice_get}
+use Rattle.crsm_spec.specs.Types.{Stamp, Entry, Answer, Line}
 use Rattle.crsm_spec.specs.Lists.{Among, IsPrefixOf}
 use Rattle.crsm_spec.specs.Log.{executed}
-use Rattle.crsm_spec.specs.Draft.{Draft}
+use Rattle.crsm_spec.specs.Draft.{Draft, Reply}
+use Rattle.crsm_spec.specs.Safe.{AnswersAt}
 use Rattle.crsm_lives.specs.Lives.{Life, kept_steps}
 use Rattle.crsm_law_histories.specs.Clusters.{Event, Cluster, host_at, log_in}
 use Rattle.crsm_law_histories.specs.Histories.{clusters, last_cluster}
@@ -10,6 +12,7 @@ use Rattle.crsm_law_histories.specs.Lawful.{IsLawful}
 use Rattle.crsm_law_histories.specs.Laws.{HasShortLogs}
 use Rattle.crsm_law_cluster.specs.OneList.{one_list}
 use Rattle.crsm_law_cluster.specs.Going.{IsAt}
+use Rattle.crsm_law_cluster.specs.Laws.{IsRightAnswer, IsRightDrop}
 use Rattle.crsm_law_lives.specs.Events.{left_by}
 use Rattle.crsm_law_lives.specs.Premises.{Ran}
 
@@ -33,8 +36,22 @@ pub record AreLawful (n : ℕ) (ls : List Life) (h : List Event) : Type 0 where
 abbrev pub LivesAreLawful : Type 0
 LivesAreLawful = (n : ℕ) (ls : List Life) (h : List Event) → n ≤ 15 → Ran n ls h → AreLawful n ls h
 
--- So what each step of each process that was kept has as executed is a prefix of the one list.
-abbrev pub LivesAgree : Type 0
-LivesAgree =
+-- ---- steps
+
+-- The step is right: it executed a prefix of the one list; each line of it that tells of an execution has the entry of
+-- its place, and the sequential store's answer there; so has each answer to a client, on an entry of its client and number
+-- from this replica; and what it says to be dropped is in no list.
+pub record IsRightStep (n : ℕ) (h : List Event) (me : ℕ) (x : Draft) : Type 0 where
+  pub executed : IsPrefixOf (executed x.replica.log) (one_list n h)
+  pub executes : (k place epoch client number : ℕ) (s : Stamp) (a : Answer) → Among x.lines (Line.Exec k place epoch s client number a) →
+      (e : Entry) × AnswersAt (one_list n h) place e a × (e.epoch ≡ epoch) × (e.stamp ≡ s) × (e.command.client ≡ client) × (e.command.number ≡ number)
+  pub answers : (k client number place : ℕ) (a : Answer) (reply : Reply) → Among x.replies reply →
+      reply.line ≡ Line.ReplyOk k client number place a → IsRightAnswer n h me place a reply
+  pub drops : (k client number epoch : ℕ) (s : Stamp) (reply : Reply) → Among x.replies reply →
+      reply.line ≡ Line.ReplyDropped k client number epoch s → IsRightDrop n h me epoch s reply
+
+-- Each step of each process that was kept is right: all that is told of its sheet by a replay.
+abbrev pub StepsAreRight : Type 0
+StepsAreRight =
     (n : ℕ) (ls : List Life) (h : List Event) → n ≤ 15 → Ran n ls h → HasShortLogs (last_cluster n h) →
-    (l : Life) → Among ls l → (x : Draft) → Among (kept_steps n l) x → IsPrefixOf (executed x.replica.log) (one_list n h)
+    (l : Life) → Among ls l → (x : Draft) → Among (kept_steps n l) x → IsRightStep n h l.me x

@@ -2,7 +2,7 @@
 //! and on the disks.
 #![tactic(auto)]
 
-ghost use Rattle.crsm_law_lives.specs.Laws.{LivesAreLawful, LivesAgree};
+ghost use Rattle.crsm_law_lives.specs.Laws.{LivesAreLawful, StepsAreRight};
 
 /// The processes of nodes make a lawful history, if what was synced is there at the next boot, and nobody sends in a
 /// replica's name.
@@ -10,7 +10,7 @@ pub fn lives_are_lawful()
     ensures { LivesAreLawful }
 {}
 
-/// Whatever processes of nodes have as executed is a prefix of one list.
-pub fn lives_agree()
-    ensures { LivesAgree }
+/// Whatever processes of nodes executed is a prefix of one list, and all that they told of it is right.
+pub fn steps_are_right()
+    ensures { StepsAreRight }
 {}

@@ -1,29 +1,30 @@
 -- In a step the clients that wait are those before it and those whose requests it logs, and each is answered once.
-use Rattle.std.proofs.Common.{◌≡◌, ℕ, ◌+◌, ◌≤◌, List, [], ◌∷◌, ◌++◌, take, refl, sym, ◌∙◌, ap, subst, inl, inr, Bool, true, false, arith}
-use Rattle.std.specs.Prelude.{◌⊎◌, ◌==◌, ◌&&◌, IsTrue, Option, Some, None, slice_get}
-use Rattle.std.proofs.lemmas.Bool.{and_parts, eqb-true, cases_lt}
+use Rattle.std.proofs.Common.{◌≡◌, ℕ, ◌+◌, ◌≤◌, List, [], ◌∷◌, ◌++◌, length, take, refl, sym, ◌∙◌, ap, subst, inl, inr, Bool, true, false, arith}
+use Rattle.std.specs.Prelude.{◌⊎◌, ◌==◌, ◌&&◌, nat_le, nat_lt, IsTrue, Option, Some, None, slice_get}
+use Rattle.std.proofs.lemmas.Bool.{and_parts, eqb-true, eq-eqb, leb-true, ltb-true, false≢true, cases_lt}
 use Rattle.crsm_base.specs.Order.{stamp_eq}
 use Rattle.crsm_base.specs.Spelling.{refusal_number}
 use Rattle.crsm_base.specs.Store.{answer_after}
 use Rattle.crsm_spec.specs.Choice.{when◌then◌otherwise◌}
 use Rattle.crsm_spec.specs.Types.{Stamp, Entry, Command, Refusal, Outcome, Rec, Datagram, Line}
 use Rattle.crsm_spec.specs.Lists.{Among}
-use Rattle.crsm_spec.specs.Log.{Log, executed}
+use Rattle.crsm_spec.specs.Log.{Log, known, start, executed}
 use Rattle.crsm_spec.specs.Replica.{Replica, Waiting}
 use Rattle.crsm_spec.specs.Draft.{Draft, Reply, begun, keep, reply, count_vote, issued_at, push_to, push_to_members}
 use Rattle.crsm_spec.specs.Clients.{submit, await, refuse, replies, answer_each, answer_found, reply_ok, reply_dropped, find_executed, is_dropped}
 use Rattle.crsm_spec.specs.Step.{Input, step}
-use Rattle.crsm_log_facts.specs.Logs.{Logged}
+use Rattle.crsm_log_facts.specs.Logs.{same, Logged}
 use Rattle.crsm_log_facts.proofs.Lists.{among_right, among_either}
+use Rattle.crsm_log_facts.proofs.Sorted.{eq_self}
 use Rattle.crsm_log_facts.proofs.Tests.{same_stamp}
 use Rattle.crsm_step_facts.specs.Changes.{Changes, stay, and_then}
 use Rattle.crsm_step_facts.proofs.Fitted.{step_changes}
 use Rattle.crsm_law_decisions.proofs.Coordinators.{extends_among}
-use Rattle.crsm_law_runs.proofs.Drafts.{find_at}
+use Rattle.crsm_law_runs.proofs.Drafts.{find_at, find_none}
 use Rattle.crsm_law_requests.proofs.Effects.{Effect, effect}
 use Rattle.crsm_law_requests.proofs.Effects.Effect.{Submitted, Refused, Answered, Quiet}
 use Rattle.crsm_law_requests.proofs.Logging.{HasKey, key_later, fits_new, the_entry, Goes, is_stamped, goes, changes_log}
-use Rattle.crsm_law_requests.proofs.Replying.{IsOn, Told, told_then, told_later, count, count_none, count_then, count_one, count_is}
+use Rattle.crsm_law_requests.proofs.Replying.{IsDropped, IsOn, Told, told_then, told_later, count, count_none, count_then, count_one, count_is}
 use Rattle.crsm_law_requests.proofs.Replying.IsLineOn.{Answers, Drops}
 use Rattle.crsm_law_requests.proofs.Replying.Told.{nothing, refuses, answers}
 
@@ -36,6 +37,22 @@ is_found f log p h =
     let is = t.1 in
     let place : t.0 ≡ p.0 = omega (arith, is) in
     (subst (λ j. slice_get (executed log) j ≡ Some p.1) place t.2, eqb-true p.1.epoch f.entry.epoch b.0, same_stamp p.1.stamp f.entry.stamp b.1)
+
+dropped_here : (r : Replica) (e : Entry) → IsTrue (is_dropped r e) → find_executed (executed r.log) e ≡ None → IsDropped r.log e
+unfolding is_dropped find_executed
+dropped_here r e h none =
+    let t = and_parts (nat_le (start r.log) (length (executed r.log))) (nat_lt e.epoch (known r.log)) h in
+    record {
+      begun = leb-true _ _ t.0;
+      later = ltb-true _ _ t.1;
+      none = λ p f at ep st.
+          let u = find_none (λ q. q.1.epoch == e.epoch && stamp_eq q.1.stamp e.stamp) 0 (executed r.log) none p f at in
+          false≢true (sym u.1 ∙ both (f.epoch == e.epoch) (stamp_eq f.stamp e.stamp) (eq-eqb f.epoch e.epoch ep) (subst (λ z. IsTrue (stamp_eq f.stamp z)) st (eq_self f.stamp)));
+    }
+  where
+    both : (a b : Bool) → a ≡ true → b ≡ true → (a && b) ≡ true
+    both true b i j = j
+    both false b i j = i
 
 -- who waits after a submission, and what it keeps of before
 record IsAwaited (a : ℕ) (c : Command) (t : ℕ) (x : Draft) : Type 0 where
@@ -183,18 +200,24 @@ module _ (r : Replica) (Req : ℕ → Command → Type 0) (epoch : ℕ) (stamp :
   unfolding answer_found reply_ok reply_dropped when◌then◌otherwise◌
   found f rest x h = go (find_executed (executed x.replica.log) f.entry) refl
     where
-      pick : (b : Bool) → Balanced (when b then reply_dropped f x otherwise record x { replica = record x.replica { waiting = x.replica.waiting ++ f ∷ [] } }) rest
-      pick true = replied f rest x _ (record { address = refl; client = refl; number = refl; line = Drops x.replica.me f.entry.command.client f.entry.command.number }) h
-      pick false = waits_on f rest x h
+      pick : (b : Bool) → is_dropped x.replica f.entry ≡ b → find_executed (executed x.replica.log) f.entry ≡ None →
+          Balanced (when b then reply_dropped f x otherwise record x { replica = record x.replica { waiting = x.replica.waiting ++ f ∷ [] } }) rest
+      pick true is none = replied f rest x _ (record {
+        address = refl;
+        client = refl;
+        number = refl;
+        line = Drops x.replica.me f.entry.command.client f.entry.command.number x.replica.log same (dropped_here x.replica f.entry is none);
+      }) h
+      pick false is none = waits_on f rest x h
 
       go : (o : Option (ℕ × Entry)) → find_executed (executed x.replica.log) f.entry ≡ o → Balanced (answer_found f o x) rest
-      go None e = pick (is_dropped x.replica f.entry)
+      go None e = pick (is_dropped x.replica f.entry) refl e
       go (Some p) e = let t = is_found f x.replica.log p e in
           replied f rest x _ (record {
             address = refl;
             client = refl;
             number = refl;
-            line = Answers x.replica.me f.entry.command.client f.entry.command.number p.0 (answer_after (take p.0 (executed x.replica.log)) p.1) p.1 t.0 t.1 t.2;
+            line = Answers x.replica.me f.entry.command.client f.entry.command.number p.0 (answer_after (take p.0 (executed x.replica.log)) p.1) p.1 (t.0, refl) t.1 t.2;
           }) h
 
   each : (fs : List Waiting) (x : Draft) → Balanced x fs → Balanced (answer_each fs x) []

@@ -120,7 +120,7 @@ module _ (n : ℕ) (h : List Event) (q : IsHistory n h) where
       prefix_get (executed (log_at t.next k)) list ((last n h q).prefix k (log_at t.next k) (t.goes_on k)) place e (subst (λ z. slice_get z place ≡ Some e) (list_is n c t.next t.next_shown k) g)
 
   -- and it is logged at its origin
-  executed_there : (i : ℕ) (c : Cluster) → IsThere n h i c → (k place : ℕ) (e : Entry) → slice_get (executed (log_in c k)) place ≡ Some e → Logged (log_in c e.stamp.origin) e
+  pub executed_there : (i : ℕ) (c : Cluster) → IsThere n h i c → (k place : ℕ) (e : Entry) → slice_get (executed (log_in c k)) place ≡ Some e → Logged (log_in c e.stamp.origin) e
   executed_there i c at k place e g =
       let t = here i c at in
       logged_there n c t.next t.next_shown e.stamp.origin e
@@ -133,7 +133,7 @@ module _ (n : ℕ) (h : List Event) (q : IsHistory n h) where
       logged_there n d t.next t.next_shown k e (extends_among (t.later k) (Rec.Prepare e) (logged_back n c t.world t.shown k e l))
 
   -- of one epoch and stamp there is one entry
-  one : (i : ℕ) (c : Cluster) → IsThere n h i c → (j k : ℕ) (e f : Entry) → Logged (log_in c j) e → Logged (log_in c k) f → e.epoch ≡ f.epoch → e.stamp ≡ f.stamp → e ≡ f
+  pub one : (i : ℕ) (c : Cluster) → IsThere n h i c → (j k : ℕ) (e f : Entry) → Logged (log_in c j) e → Logged (log_in c k) f → e.epoch ≡ f.epoch → e.stamp ≡ f.stamp → e ≡ f
   one i c at j k e f a b ep st =
       let t = here i c at in
       one_entry n t.next t.next_shown.reached (spelt i c at).few j k e f (logged_back n c t.next t.next_shown j e a) (logged_back n c t.next t.next_shown k f b) ep st
@@ -195,11 +195,11 @@ module _ (n : ℕ) (h : List Event) (q : IsHistory n h) where
       log = log_in s.0 k
 
       by_line : (f : Waiting) (l : Line) → IsLineOn log f l → l ≡ Line.ReplyOk m client number place v → (g : Entry) × (slice_get (executed log) place ≡ Some g)
-      by_line f _ (Answers k2 c2 m2 place2 v2 g at ep st) e = (g, subst (λ p. slice_get (executed log) p ≡ Some g) (same_place k2 c2 m2 place2 v2 e) at)
+      by_line f _ (Answers k2 c2 m2 place2 v2 g at ep st) e = (g, subst (λ p. slice_get (executed log) p ≡ Some g) (same_place k2 c2 m2 place2 v2 e) at.0)
         where
           same_place : (k2 c2 m2 place2 : ℕ) (v2 : Answer) → Line.ReplyOk k2 c2 m2 place2 v2 ≡ Line.ReplyOk m client number place v → place2 ≡ place
           same_place k2 c2 m2 place2 v2 e = cc
-      by_line f _ (Drops k2 c2 m2) e = absurd (cc)
+      by_line f _ (Drops k2 c2 m2 old x d) e = absurd (cc)
 
       go : Goes n h i k log a → (g : Entry) × (slice_get (executed log) place ≡ Some g)
       go (Refusal r) = absurd (not_ok r.by a.client a.number r.why (sym r.line ∙ is))
@@ -243,13 +243,13 @@ module _ (n : ℕ) (h : List Event) (q : IsHistory n h) where
 
       by_line : (f : Waiting) → Logged log f.entry → (l : Line) → IsLineOn log f l → l ≡ Line.ReplyOk m client number place v → f.entry ≡ e
       by_line f logged _ (Answers k2 c2 m2 place2 v2 g there ep st) q =
-          let g_at : slice_get (executed log) place ≡ Some g = subst (λ p. slice_get (executed log) p ≡ Some g) (same_place k2 c2 m2 place2 v2 q) there in
+          let g_at : slice_get (executed log) place ≡ Some g = subst (λ p. slice_get (executed log) p ≡ Some g) (same_place k2 c2 m2 place2 v2 q) there.0 in
           let g_is : g ≡ e = same_Some g e (sym (in_list i s.0 s.1.cluster k place g g_at) ∙ at) in
           sym (one i s.0 s.1.cluster g.stamp.origin k g f.entry (executed_there i s.0 s.1.cluster k place g g_at) logged ep st) ∙ g_is
         where
           same_place : (k2 c2 m2 place2 : ℕ) (v2 : Answer) → Line.ReplyOk k2 c2 m2 place2 v2 ≡ Line.ReplyOk m client number place v → place2 ≡ place
           same_place k2 c2 m2 place2 v2 e = cc
-      by_line f logged _ (Drops k2 c2 m2) q = absurd (cc)
+      by_line f logged _ (Drops k2 c2 m2 old x d) q = absurd (cc)
 
       go : Goes n h i k log a → WasSubmitted n h i a.address e
       go (Refusal r) = absurd (not_ok r.by a.client a.number r.why (sym r.line ∙ is))
@@ -263,7 +263,7 @@ module _ (n : ℕ) (h : List Event) (q : IsHistory n h) where
     where
       by_line : (f : Waiting) (l : Line) → IsLineOn (log_in said.0 k) f l → l ≡ Line.ReplyDropped m client number epoch s → (f.entry.epoch ≡ epoch) × (f.entry.stamp ≡ s)
       by_line f _ (Answers k2 c2 m2 place2 v2 g there ep st) q = absurd (cc)
-      by_line f _ (Drops k2 c2 m2) q = (same_epoch f.entry.epoch f.entry.stamp k2 c2 m2 q, same_stamp f.entry.epoch f.entry.stamp k2 c2 m2 q)
+      by_line f _ (Drops k2 c2 m2 old x d) q = (same_epoch f.entry.epoch f.entry.stamp k2 c2 m2 q, same_stamp f.entry.epoch f.entry.stamp k2 c2 m2 q)
         where
           same_epoch : (x : ℕ) (y : Stamp) (k2 c2 m2 : ℕ) → Line.ReplyDropped k2 c2 m2 x y ≡ Line.ReplyDropped m client number epoch s → x ≡ epoch
           same_epoch x y k2 c2 m2 q = cc

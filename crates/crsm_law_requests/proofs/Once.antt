@@ -45,13 +45,13 @@ module _ (n : ℕ) (h : List Event) (q : IsHistory n h) where
     where
       go : (x y : Line) → IsLineOn (log_in c k) f x → IsLineOn (log_in d l) g y → AreOnOneEntry x y → (f.entry.epoch ≡ g.entry.epoch) × (f.entry.stamp ≡ g.entry.stamp)
       go _ _ (Answers k1 c1 m1 place v1 e1 at1 ep1 st1) (Answers k2 c2 m2 other v2 e2 at2 ep2 st2) is =
-          let first = in_list n h q i c at k place e1 at1 in
-          let second = in_list n h q j d there l other e2 at2 in
+          let first = in_list n h q i c at k place e1 at1.0 in
+          let second = in_list n h q j d there l other e2 at2.0 in
           let e : e1 ≡ e2 = same_Some e1 e2 (sym first ∙ ap (slice_get _) is ∙ second) in
           (sym ep1 ∙ ap (λ (z : Entry). z.epoch) e ∙ ep2, sym st1 ∙ ap (λ (z : Entry). z.stamp) e ∙ st2)
-      go _ _ (Answers k1 c1 m1 place v1 e1 at1 ep1 st1) (Drops k2 c2 m2) is = absurd is
-      go _ _ (Drops k1 c1 m1) (Answers k2 c2 m2 other v2 e2 at2 ep2 st2) is = absurd is
-      go _ _ (Drops k1 c1 m1) (Drops k2 c2 m2) is = is
+      go _ _ (Answers k1 c1 m1 place v1 e1 at1 ep1 st1) (Drops k2 c2 m2 old2 x2 d2) is = absurd is
+      go _ _ (Drops k1 c1 m1 old1 x1 d1) (Answers k2 c2 m2 other v2 e2 at2 ep2 st2) is = absurd is
+      go _ _ (Drops k1 c1 m1 old1 x1 d1) (Drops k2 c2 m2 old2 x2 d2) is = is
 
   -- a reply on an entry is one on its own
   with_itself : (log : Log) (f : Waiting) (a : Reply) → IsOn log f a → AreOnOneEntry a.line a.line
@@ -59,7 +59,7 @@ module _ (n : ℕ) (h : List Event) (q : IsHistory n h) where
     where
       go : (x : Line) → IsLineOn log f x → AreOnOneEntry x x
       go _ (Answers k1 c1 m1 place v1 e1 at1 ep1 st1) = refl
-      go _ (Drops k1 c1 m1) = (refl, refl)
+      go _ (Drops k1 c1 m1 old1 x1 d1) = (refl, refl)
 
   -- ---- behind a reply nobody waits for its entry, and no reply on it is left
 

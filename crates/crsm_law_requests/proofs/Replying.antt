@@ -1,23 +1,32 @@
 -- To whom a step replies: each answer is on an entry for which a client waits, who then waits no longer.
-use Rattle.std.proofs.Common.{◌≡◌, ℕ, ◌+◌, List, [], ◌∷◌, ◌++◌, refl, ap, subst, inl, inr, Bool, true, false, arith}
+use Rattle.std.proofs.Common.{◌≡◌, ℕ, ◌+◌, ◌<◌, ◌≤◌, List, [], ◌∷◌, ◌++◌, length, refl, ap, subst, inl, inr, Bool, true, false, arith}
 use Rattle.std.specs.Prelude.{◌⊎◌, ◌==◌, ◌&&◌, Some, slice_get}
 use Rattle.std.proofs.lemmas.Bool.{and_parts, eqb-true, eq-eqb}
 use Rattle.crsm_base.specs.Order.{stamp_eq}
 use Rattle.crsm_spec.specs.Types.{Stamp, Entry, Command, Answer, Line}
-use Rattle.crsm_spec.specs.Log.{Log, executed}
+use Rattle.crsm_spec.specs.Lists.{Among}
+use Rattle.crsm_spec.specs.Log.{Log, known, start, executed}
 use Rattle.crsm_spec.specs.Replica.{Waiting}
 use Rattle.crsm_spec.specs.Draft.{Reply}
+use Rattle.crsm_spec.specs.Safe.{AnswersAt}
 use Rattle.crsm_log_facts.specs.Logs.{Extends}
+use Rattle.crsm_log_facts.proofs.Logged.{extends_trans}
 use Rattle.crsm_log_facts.proofs.Tests.{same_stamp}
 use Rattle.crsm_log_facts.proofs.Sorted.{eq_self}
-use Rattle.crsm_law_requests.proofs.Executed.{executed_get}
+use Rattle.crsm_law_requests.proofs.Executed.{executed_prefix, answers_prefix}
 
 -- ---- a reply on an entry
 
--- the line replies on the entry for which a client waits: it is executed at the place here, or said to be dropped
+-- a later epoch has begun in the log, with all that it begins with, and has not executed the entry
+pub record IsDropped (log : Log) (e : Entry) : Type 0 where
+  pub begun : start log ≤ length (executed log)
+  pub later : e.epoch < known log
+  pub none : (p : ℕ) (f : Entry) → slice_get (executed log) p ≡ Some f → f.epoch ≡ e.epoch → f.stamp ≡ e.stamp → ⊥
+
+-- the line replies on the entry for which a client waits: it is executed at the place here, or it was dropped
 pub data IsLineOn (log : Log) (f : Waiting) : Line → Type 0 where
-  Answers : (k c m place : ℕ) (a : Answer) (g : Entry) → slice_get (executed log) place ≡ Some g → g.epoch ≡ f.entry.epoch → g.stamp ≡ f.entry.stamp → IsLineOn log f (Line.ReplyOk k c m place a)
-  Drops : (k c m : ℕ) → IsLineOn log f (Line.ReplyDropped k c m f.entry.epoch f.entry.stamp)
+  Answers : (k c m place : ℕ) (a : Answer) (g : Entry) → AnswersAt (executed log) place g a → g.epoch ≡ f.entry.epoch → g.stamp ≡ f.entry.stamp → IsLineOn log f (Line.ReplyOk k c m place a)
+  Drops : (k c m : ℕ) (old : Log) → Extends old log → IsDropped old f.entry → IsLineOn log f (Line.ReplyDropped k c m f.entry.epoch f.entry.stamp)
 
 pub record IsOn (log : Log) (f : Waiting) (a : Reply) : Type 0 where
   pub address : a.address ≡ f.address
@@ -29,8 +38,8 @@ pub on_later : {a b : Log} → Extends a b → (f : Waiting) (y : Reply) → IsO
 on_later {a} {b} x f y h = record { address = h.address; client = h.client; number = h.number; line = go y.line h.line }
   where
     go : (l : Line) → IsLineOn a f l → IsLineOn b f l
-    go _ (Answers k c m place v g at ep st) = Answers k c m place v g (executed_get a b x place g at) ep st
-    go _ (Drops k c m) = Drops k c m
+    go _ (Answers k c m place v g at ep st) = Answers k c m place v g (answers_prefix (executed a) (executed b) (executed_prefix a b x) place g v at) ep st
+    go _ (Drops k c m old y d) = Drops k c m old (extends_trans y x) d
 
 -- a request was refused
 pub record IsRefusal (Req : ℕ → Command → Type 0) (a : Reply) : Type 0 where
@@ -107,3 +116,11 @@ module _ (epoch : ℕ) (stamp : Stamp) where
       both : {a b : Bool} → a ≡ true → b ≡ true → (a && b) ≡ true
       both {a = true} p q = q
       both {a = false} p q = p
+
+-- one of the replies
+pub told_one : {R : ℕ → Command → Type 0} {log : Log} {us : List Reply} {fs : List Waiting} → Told R log us fs → (a : Reply) → Among us a → IsRefusal R a ⊎ ((f : Waiting) × Among fs f × IsOn log f a)
+told_one nothing a m = absurd m
+told_one (refuses b r p) a (inl e) = inl (subst (IsRefusal _) e r)
+told_one (refuses b r p) a (inr m) = told_one p a m
+told_one (answers b f o p) a (inl e) = inr (f, inl refl, subst (IsOn _ f) e o)
+told_one (answers b f o p) a (inr m) = elim (told_one p a m) [ inl r ↦ inl r | inr t ↦ inr (t.0, inr t.1, t.2) ]
