@@ -1,5 +1,5 @@
 -- What words ask for.
-use Rattle.std.proofs.Common.{◌≡◌, ℕ, List, Result, Ok, Err, inl, inr, refl, sym, ◌∙◌, subst}
+use Rattle.std.proofs.Common.{◌≡◌, ℕ, List, Result, Ok, Err, inl, inr, sym, ◌∙◌, subst}
 use Rattle.clap.specs.Words.{Text}
 use Rattle.crsm_words.specs.Answers.{IsShown, OrderMade, Reads, order, text}
 use Rattle.crsm_words.specs.Orders.{Asks}
@@ -11,7 +11,7 @@ use Rattle.crsm_client.specs.declared.command.ClientEnd.{ClientEnd}
 use Rattle.crsm_client.specs.declared.error.OperateError.{OperateError}
 use Rattle.crsm_node.specs.declared.errors.NodeEnd.{NodeEnd}
 use Rattle.crsm_app.specs.Devices.{Devices}
-use Rattle.crsm_app.specs.Did.{Did, DidReplay, DidSheet, Shows}
+use Rattle.crsm_app.specs.Did.{Did, DidReplay, DidSheet}
 use Rattle.crsm_app.specs.Statuses.{status_of_client, status_of_node, status_of_operate}
 use Rattle.crsm_app.specs.Tasks.{IsThere, IsWithinLimits}
 use Rattle.crsm_app.specs.declared.status.Status.{Status}

@@ -4,4 +4,3 @@ pub mod Asking
 pub mod Asked
 pub mod Scarce
 pub mod Planned
-pub mod Nodes

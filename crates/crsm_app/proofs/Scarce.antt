@@ -1,5 +1,5 @@
 -- Out of memory before anything was done: that is exact of every task.
-use Rattle.std.proofs.Common.{◌≡◌, ℕ, inr, refl}
+use Rattle.std.proofs.Common.{ℕ, inr, refl}
 use Rattle.crsm_words.specs.declared.order.Task.{Task}
 use Rattle.crsm_words.specs.declared.order.Task.TheVariants.{Show, Replay, ReplayNode, Node, Client, Operate, Soak, Audit, Lock, Delay, DelayTimes, ReplayMp}
 use Rattle.crsm_app.specs.Devices.{Devices}

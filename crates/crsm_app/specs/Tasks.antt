@@ -1,7 +1,7 @@
 -- Kinds of tasks.
 use Rattle.std.specs.Prelude.{◌<◌}
 use Rattle.crsm_base.specs.Spelling.{FitsCommand}
-use Rattle.crsm_words.specs.Orders.{IsClusterSize, IsNode, NamesCluster}
+use Rattle.crsm_words.specs.Orders.{IsClusterSize, IsNode}
 use Rattle.crsm_words.specs.declared.order.Task.{Task}
 use Rattle.crsm_words.specs.declared.order.Task.TheVariants.{Show, Replay, ReplayNode, Client, Operate, Soak, Node}
 
