@@ -1,0 +1,149 @@
+"""Faults of the system: one call of a real node fails, and what it had acknowledged is there after a restart.
+
+    python3 bench/faults.py PROGRAM [--most M]
+
+runs a node that is a cluster of its own under `strace`, which lets the k-th write, sync, send or receive fail, for each
+k up to M, while a client asks it for commands. The node ends with the status that this fault has, or counts a loss and
+goes on; started again without faults on the same log, it has each command that was answered. It also looks at the order
+of calls of a run without faults: before a reply goes out, a write, a sync, a write and a sync have kept the command.
+
+Ends with 0 where all holds, with 1 and the reason where it does not, and with 0 and a word where there is no `strace`.
+"""
+
+import argparse
+import os
+import re
+import shutil
+import subprocess
+import sys
+import tempfile
+from typing import List, Tuple
+
+from nodes import free_addresses, text_of
+
+TURNS = 250
+COMMANDS = 3
+
+# The calls that fail, with the error, and the statuses that a node may end with.
+FAULTS = [
+    ("pwrite64", "EIO", {0, 7}),
+    ("fdatasync", "EIO", {0, 7}),
+    ("fsync", "EIO", {0, 7}),
+    ("pread64", "EIO", {0, 7}),
+    ("write", "ENOSPC", {0, 5}),
+    ("sendto", "EPERM", {0}),
+    ("recvfrom", "EIO", {0, 6}),
+]
+
+# Of these, those of the log file alone fail.
+DISK_CALLS = ("pwrite64", "fdatasync", "fsync", "pread64")
+
+
+class Broken(Exception):
+    """A promise that was not kept."""
+
+
+def node_words(program: str, address: str, turns: int) -> List[str]:
+    """The words of a node that is a cluster of its own."""
+    return [program, "node", "0", "1", str(turns), address]
+
+
+def ask(program: str, address: str, number: int, op: List[str]) -> str:
+    """What a client is told."""
+    words = [program, "client", address, "150", "7", str(number), *op]
+    return subprocess.run(words, capture_output=True, text=True, check=False).stdout.strip()
+
+
+def run_node(folder: str, words: List[str], program: str, address: str) -> Tuple[int, List[int]]:
+    """Runs a node under strace and asks it; answers its status and the numbers of the commands that were answered."""
+    with open(f"{folder}/sheet", "wb") as sheet:
+        node = subprocess.Popen(words, cwd=folder, stdin=subprocess.DEVNULL, stdout=sheet, stderr=subprocess.DEVNULL)
+    answered = []
+    for number in range(1, COMMANDS + 1):
+        if node.poll() is None and ask(program, address, number, ["put", f"{number:02x}", "aa"]) == "ok done":
+            answered.append(number)
+    return node.wait(60), answered
+
+
+def check_kept(program: str, folder: str, answered: List[int], what: str) -> None:
+    """Started again without faults, the node has what it answered."""
+    address = text_of(free_addresses(1)[0])
+    sheet = subprocess.run(node_words(program, address, 1), cwd=folder, capture_output=True, check=False)
+    if sheet.returncode != 0:
+        raise Broken(f"{what}: the node does not boot again: {sheet.stderr.decode()}")
+    words = [program, "replay-node", "0", "1"]
+    final = subprocess.run(words, input=sheet.stdout, capture_output=True, check=False).stdout.decode().splitlines()[-1]
+    if int(final.split()[-1]) < len(answered):
+        raise Broken(f"{what}: {answered} were answered, and the log has {final}")
+
+
+def one_fault(program: str, call: str, error: str, at: int, statuses: set) -> bool:
+    """Lets one call fail; answers whether the run had so many calls."""
+    folder = tempfile.mkdtemp(prefix="crsm-faults-")
+    try:
+        address = text_of(free_addresses(1)[0])
+        # (strace writes a line for the call alone: whether it came is told by that)
+        words = ["strace", "-f", "-qq", "-o", f"{folder}/trace", "-e", f"trace={call}"]
+        words += ["-P", f"{folder}/crsm-0.log"] if call in DISK_CALLS else []
+        words += ["-e", f"inject={call}:error={error}:when={at}", *node_words(program, address, TURNS)]
+        status, answered = run_node(folder, words, program, address)
+        if status not in statuses:
+            raise Broken(f"{call} {at} fails with {error}: the node ends with {status}")
+        check_kept(program, folder, answered, f"{call} {at} fails with {error}")
+        with open(f"{folder}/trace", encoding="utf-8", errors="replace") as trace:
+            return "(INJECTED)" in trace.read()
+    finally:
+        shutil.rmtree(folder)
+
+
+def check_order(program: str) -> None:
+    """Before each reply goes out, the log was written and synced twice since the command came."""
+    folder = tempfile.mkdtemp(prefix="crsm-faults-")
+    try:
+        address = text_of(free_addresses(1)[0])
+        words = ["strace", "-f", "-qq", "-o", f"{folder}/trace", "-e", "trace=pwrite64,fdatasync,sendto,recvfrom"]
+        status, answered = run_node(folder, [*words, *node_words(program, address, TURNS)], program, address)
+        if status != 0 or len(answered) != COMMANDS:
+            raise Broken(f"a run without faults ends with {status} and has answered {answered}")
+        with open(f"{folder}/trace", encoding="utf-8", errors="replace") as trace:
+            calls = [line.split(None, 1)[1] for line in trace]
+        replies = 0
+        for at, line in enumerate(calls):
+            if line.startswith("sendto("):
+                names = [re.match(r"\w+", it)[0] for it in calls[:at]]
+                kept = [it for it in names if it in ("pwrite64", "fdatasync", "sendto")][-4:]
+                if kept != ["pwrite64", "fdatasync", "pwrite64", "fdatasync"]:
+                    raise Broken(f"a reply went out behind {kept}")
+                replies += 1
+        if replies < COMMANDS:
+            raise Broken(f"{replies} replies went out")
+    finally:
+        shutil.rmtree(folder)
+
+
+def main() -> int:
+    """All faults."""
+    reader = argparse.ArgumentParser(description=__doc__, formatter_class=argparse.RawDescriptionHelpFormatter)
+    reader.add_argument("program", type=os.path.abspath)
+    reader.add_argument("--most", type=int, default=30)
+    words = reader.parse_args()
+    if shutil.which("strace") is None:
+        print("faults: no strace here, so nothing was tried")
+        return 0
+    try:
+        check_order(words.program)
+        tried = []
+        for call, error, statuses in FAULTS:
+            count = 0
+            while count < words.most and one_fault(words.program, call, error, count + 1, statuses):
+                count += 1
+            tried.append(f"{call} {count}")
+    except Broken as broken:
+        print(f"faults: {broken}", file=sys.stderr)
+        return 1
+    print(f"faults: ok ({', '.join(tried)})")
+    return 0
+
+
+if __name__ == "__main__":
+    sys.exit(main())
