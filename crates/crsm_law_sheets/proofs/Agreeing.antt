@@ -1,5 +1,5 @@
 -- Sheets that agree are safe.
-use Rattle.std.proofs.Common.{◌≡◌, ◌≢◌, ◌⊎◌, ℕ, zero, suc, ◌+◌, ◌<◌, ◌≤◌, List, [], ◌∷◌, map, refl, sym, ◌∙◌, ap, subst, inl, inr, Bool, true, false, cond, arith}
+use Rattle.std.proofs.Common.{◌≡◌, ◌≢◌, ◌⊎◌, ℕ, zero, suc, ◌+◌, ◌<◌, ◌≤◌, List, [], ◌∷◌, ◌++◌, map, refl, sym, ◌∙◌, ap, subst, inl, inr, Bool, true, false, cond, arith}
 use Rattle.std.specs.Prelude.{◌⊎◌, Some, slice_get, IsTrue, ◌==◌, nat_lt, not, ◌||◌, length, fold, if◌then◌else◌}
 use Rattle.std.specs.List.{AllByRecursion}
 use Rattle.std.proofs.lemmas.Bool.{cases_lt, eq-eqb, ltb-true, false≢true}
@@ -19,7 +19,7 @@ use Rattle.crsm_log_facts.proofs.Lists.{all_at, list_all_at}
 use Rattle.crsm_step_facts.specs.Changes.{StepsAreChanges}
 use Rattle.crsm_law_sheets.specs.Laws.{AreSafe, IsRightBy, IsSound, KeepsRealTime}
 use Rattle.crsm_law_sheets.specs.Sheets.{Sheet, last_log, list_of, one_list, steps_of}
-use Rattle.crsm_law_sheets.specs.Verdicts.{Agree, DropsExecuted}
+use Rattle.crsm_law_sheets.specs.Verdicts.{Agree, DropsExecuted, lines_told}
 use Rattle.crsm_law_sheets.proofs.Drafts.{Denied, IsAnswer, IsSubmitted, IsTold, Lost, Told, logged_in_more}
 use Rattle.crsm_law_sheets.proofs.Prefixes.{executed_prefix, get_in, placed, prefix_trans, take_in}
 use Rattle.crsm_law_sheets.proofs.Runs.{sheet_along, step_at, two_steps}
@@ -196,6 +196,19 @@ denied one me a Refusal.Congested ne = tt
 denied one me a Refusal.ClockSpent ne = tt
 denied one me a Refusal.Dropped ne = absurd (ne refl)
 
+-- the line of a reply is one of its step
+told_in : (x : Draft) (a : Reply) → Among x.replies a → Among (lines_told x) a.line
+told_in x a h = behind (x.lines ++ x.excess) (map (λ (b : Reply). b.line) x.replies) a.line (mapped x.replies h)
+  where
+    behind : (xs ys : List Line) (l : Line) → Among ys l → Among (xs ++ ys) l
+    behind [] ys l h = h
+    behind (x ∷ xs) ys l h = inr (behind xs ys l h)
+
+    mapped : (bs : List Reply) → Among bs a → Among (map (λ (b : Reply). b.line) bs) a.line
+    mapped [] h = absurd h
+    mapped (b ∷ bs) (inl e) = inl (ap (λ (b : Reply). b.line) e)
+    mapped (b ∷ bs) (inr h) = inr (mapped bs h)
+
 module _ (law : StepsAreChanges) (n : ℕ) (sheets : List Sheet) (sound : AllByRecursion (IsSound n) sheets) (agree : Agree n sheets) where
   abbrev one : List Entry
   one = one_list n sheets
@@ -226,7 +239,7 @@ module _ (law : StepsAreChanges) (n : ℕ) (sheets : List Sheet) (sound : AllByR
             line,
             λ named.
                 all_at (λ t. (l : ℕ) → DropsExecuted n sheets t l → ⊥) sheets s agree.dropped m (s.opened + i)
-                (epoch, stamp, record { i = i; step = x; there = there; line_is = refl; reply = a; replied = r; client = a.client; number = a.number; says = line }, named),
+                (epoch, stamp, record { i = i; step = x; there = there; line_is = refl; replica = s.me; client = a.client; number = a.number; told = subst (Among (lines_told x)) line (told_in x a r) }, named),
           )
 
   real_time : (s : Sheet) → Among sheets s → KeepsRealTime one (steps_of n s)

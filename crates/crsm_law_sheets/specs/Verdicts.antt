@@ -1,9 +1,9 @@
 -- What may be wrong with sheets, in the order in which it is looked for.
-use Rattle.std.specs.Prelude.{◌≡◌, ◌≢◌, ℕ, ◌+◌, ◌<◌, List, ◌∷◌, ◌++◌, Some, slice_get, take}
+use Rattle.std.specs.Prelude.{◌≡◌, ◌≢◌, ℕ, ◌+◌, ◌<◌, List, ◌++◌, Some, map, slice_get, take}
 use Rattle.std.specs.List.{AllByRecursion}
 use Rattle.crsm_spec.specs.Types.{Stamp, Entry, Line}
 use Rattle.crsm_spec.specs.Lists.{Among, IsPrefixOf}
-use Rattle.crsm_spec.specs.Draft.{Draft, Reply}
+use Rattle.crsm_spec.specs.Draft.{Draft}
 use Rattle.crsm_log_facts.specs.Logs.{Logged}
 use Rattle.crsm_law_sheets.specs.Sheets.{Sheet, list_of, last_log, one_list, steps_of}
 
@@ -16,6 +16,10 @@ DiffersAt es one p = (e : Entry) × (slice_get es p ≡ Some e) × (slice_get on
 -- the list has an entry with this epoch and stamp
 abbrev pub HasNamed : List Entry → ℕ → Stamp → Type 0
 HasNamed es epoch stamp = (p : ℕ) × (e : Entry) × (slice_get es p ≡ Some e) × (e.epoch ≡ epoch) × (e.stamp ≡ stamp)
+
+-- all lines of a step: of its records, of refused collections and of its replies
+abbrev pub lines_told : Draft → List Line
+lines_told x = (x.lines ++ x.excess) ++ map (λ a. a.line) x.replies
 
 module _ (n : ℕ) (sheets : List Sheet) where
   -- each list is a prefix of the one list
@@ -30,11 +34,10 @@ module _ (n : ℕ) (sheets : List Sheet) where
 
   -- the last sheet of node k
   pub record IsLastOf (k : ℕ) (s : Sheet) : Type 0 where
-    pub before : List Sheet
-    pub after : List Sheet
-    pub are : sheets ≡ before ++ s ∷ after
+    pub i : ℕ
+    pub there : slice_get sheets i ≡ Some s
     pub me : s.me ≡ k
-    pub none : AllByRecursion (λ t. t.me ≢ k) after
+    pub last : (j : ℕ) (t : Sheet) → i < j → slice_get sheets j ≡ Some t → t.me ≢ k
 
   -- an entry of the one list whose origin has a sheet, and never logged it by its last one
   abbrev pub IsStrange : ℕ → Type 0
@@ -46,17 +49,16 @@ module _ (n : ℕ) (sheets : List Sheet) where
 
   -- ---- dropped commands
 
-  -- At this line of the sheet a client is told that the entry of this epoch and stamp was dropped.
+  -- At this line of the sheet its step tells that the entry of this epoch and stamp was dropped.
   pub record Drops (s : Sheet) (line epoch : ℕ) (stamp : Stamp) : Type 0 where
     pub i : ℕ
     pub step : Draft
     pub there : slice_get (steps_of n s) i ≡ Some step
     pub line_is : line ≡ s.opened + i
-    pub reply : Reply
-    pub replied : Among step.replies reply
+    pub replica : ℕ
     pub client : ℕ
     pub number : ℕ
-    pub says : reply.line ≡ Line.ReplyDropped s.me client number epoch stamp
+    pub told : Among (lines_told step) (Line.ReplyDropped replica client number epoch stamp)
 
   -- and yet the one list has it
   abbrev pub DropsExecuted : Sheet → ℕ → Type 0

@@ -1,0 +1,4 @@
+mod Searching
+mod Longest
+mod Verdicts
+mod Drops

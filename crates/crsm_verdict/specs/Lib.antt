@@ -1,0 +1,4 @@
+pub mod Accounts
+pub mod Lists
+pub mod Judging
+pub mod Verdict
