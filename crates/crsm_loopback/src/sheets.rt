@@ -1,7 +1,7 @@
 //! What the sheets of nodes say of each other.
 
 use crate::fault::Fault;
-use crsm_app::{Status, run};
+use crsm_app::{Silent, Status, run};
 use crsm_clock::ListClock;
 use crsm_disk::MemDisk;
 use crsm_io::{MemSink, MemSource};
@@ -47,6 +47,7 @@ pub(crate) fn replayed(alloc: Global, me: usize, sheet: &str) -> Result<(Status,
         &mut port,
         &mut disk,
         &mut clock,
+        &mut Silent,
     );
     let text = from_utf8(output.as_slice()).map_err(|_| Fault::NoText)?;
     Ok((status, format!(in alloc; "{text}")?))
