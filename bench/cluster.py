@@ -1,0 +1,380 @@
+"""Commands a second of a store, by closed-loop clients: three nodes of crsm beside other stores on the same machine.
+
+    python3 bench/cluster.py PROGRAM [--stores crsm,etcd,redis] [--clients 1,16,64,256] [--seconds S] [--rounds R]
+
+starts each store in a folder of its own, three members of `crsm` and of `etcd` and one `redis-server` that syncs each
+command, and has clients put 100 bytes each, one command after another, at all members in turn. Prints the median of the
+rounds: commands a second and their ratio to crsm, the time to an answer in the middle and of the slowest hundredth, and
+the servers' processor time for a command. Every store syncs a command before it answers. A store that is not installed
+is left out with a word; as root, `apt-get install etcd-server redis-server` gets both. What it starts, it stops.
+"""
+
+import argparse
+import multiprocessing
+import os
+import selectors
+import shutil
+import signal
+import socket
+import statistics
+import struct
+import subprocess
+import sys
+import tempfile
+import time
+from typing import Dict, List, NamedTuple, Optional, Tuple
+
+from nodes import HOST, free_addresses, text_of
+
+VALUE = b"v" * 100
+GENERATORS = 2
+WARM_UP = 1.0
+RESEND = 0.1
+BUSY_PAUSE = 0.001
+TICKS = os.sysconf("SC_CLK_TCK")
+
+Address = Tuple[str, int]
+
+
+def key_of(client: int, number: int) -> bytes:
+    """The key of a command: some hundred for each client."""
+    return b"key-%d-%d" % (client, number % 100)
+
+
+# ---- how a client speaks to each store
+
+
+class Crsm:
+    """A client of crsm: a request in a packet of its own, sent again until it is answered."""
+
+    def __init__(self, address: Address, client: int):
+        self.socket = socket.socket(socket.AF_INET, socket.SOCK_DGRAM)
+        self.socket.connect(address)
+        self.client, self.number, self.request = client + 1, time.time_ns() // 1000, b""
+
+    def ask(self) -> None:
+        """Sends the next command."""
+        self.number += 1
+        key = key_of(self.client, self.number)
+        put = bytes([2, len(key)]) + key + struct.pack(">H", len(VALUE)) + VALUE
+        self.request = struct.pack(">BQQ", 4, self.client, self.number) + put
+        self.again()
+
+    def again(self) -> None:
+        """Sends it once more."""
+        self.socket.send(self.request)
+
+    def take(self) -> Optional[bool]:
+        """Whether what came answers the command: None where it does not, false where the node refuses it for now."""
+        reply = self.socket.recv(9000)
+        if len(reply) < 18 or reply[0] != 5 or struct.unpack(">QQ", reply[1:17]) != (self.client, self.number):
+            return None
+        return reply[17] == 0
+
+
+class Stream:
+    """A client over a connection, which is not asked twice."""
+
+    def __init__(self, address: Address, client: int):
+        self.socket = socket.create_connection(address)
+        self.socket.setsockopt(socket.IPPROTO_TCP, socket.TCP_NODELAY, 1)
+        self.client, self.number, self.came = client, 0, b""
+
+    def again(self) -> None:
+        """Nothing: a connection loses nothing."""
+
+    def receive(self) -> None:
+        """Takes what came."""
+        more = self.socket.recv(65536)
+        if not more:
+            raise ConnectionError("the server closed the connection")
+        self.came += more
+
+
+class Redis(Stream):
+    """A client of redis."""
+
+    def ask(self) -> None:
+        """Sends the next command."""
+        self.number += 1
+        key = key_of(self.client, self.number)
+        self.socket.sendall(b"*3\r\n$3\r\nSET\r\n$%d\r\n%s\r\n$%d\r\n%s\r\n" % (len(key), key, len(VALUE), VALUE))
+
+    def take(self) -> Optional[bool]:
+        """Whether the answer came."""
+        self.receive()
+        if b"\r\n" not in self.came:
+            return None
+        if self.came != b"+OK\r\n":
+            raise ConnectionError(f"redis answers {self.came!r}")
+        self.came = b""
+        return True
+
+
+class Etcd(Stream):
+    """A client of etcd: calls of gRPC, each a stream of HTTP/2."""
+
+    HEADERS = (
+        b"\x83\x86\x04\x14/etcdserverpb.KV/Put\x01\x09127.0.0.1"
+        b"\x0f\x10\x10application/grpc\x00\x02te\x08trailers"
+    )
+
+    def __init__(self, address: Address, client: int):
+        super().__init__(address, client)
+        self.stream, self.has_answer = -1, False
+        # (the largest windows, so that nothing has to be given back)
+        settings = self.frame(4, 0, 0, struct.pack(">HI", 4, 2**31 - 1))
+        window = self.frame(8, 0, 0, struct.pack(">I", 2**31 - 1 - 65535))
+        self.socket.sendall(b"PRI * HTTP/2.0\r\n\r\nSM\r\n\r\n" + settings + window)
+
+    @staticmethod
+    def frame(kind: int, flags: int, stream: int, payload: bytes) -> bytes:
+        """A frame of HTTP/2."""
+        return struct.pack(">I", len(payload))[1:] + struct.pack(">BBI", kind, flags, stream) + payload
+
+    def ask(self) -> None:
+        """Sends the next command."""
+        self.number += 1
+        self.stream += 2
+        self.has_answer = False
+        key = key_of(self.client, self.number)
+        put = b"\x0a" + bytes([len(key)]) + key + b"\x12" + bytes([len(VALUE)]) + VALUE
+        data = b"\0" + struct.pack(">I", len(put)) + put
+        self.socket.sendall(self.frame(1, 4, self.stream, self.HEADERS) + self.frame(0, 1, self.stream, data))
+
+    def take(self) -> Optional[bool]:
+        """Whether the answer came."""
+        self.receive()
+        is_over = None
+        while len(self.came) >= 9:
+            size = int.from_bytes(self.came[:3], "big")
+            if len(self.came) < 9 + size:
+                break
+            kind, flags, stream = struct.unpack(">BBI", self.came[3:9])
+            payload, self.came = self.came[9 : 9 + size], self.came[9 + size :]
+            if kind == 4 and not flags & 1:
+                self.socket.sendall(self.frame(4, 1, 0, b""))
+            elif kind == 6 and not flags & 1:
+                self.socket.sendall(self.frame(6, 1, 0, payload))
+            elif kind in (3, 7):
+                raise ConnectionError("etcd ends the call")
+            elif kind == 0 and stream == self.stream and size > 5:
+                self.has_answer = True
+            elif kind == 1 and stream == self.stream and flags & 1:
+                if not self.has_answer:
+                    raise ConnectionError("etcd refuses the call")
+                is_over = True
+        return is_over
+
+
+# ---- the load
+
+
+def generate(kind, addresses: List[Address], numbers: List[int], seconds: float, out) -> None:
+    """Runs some clients in this process, and puts out how long each answered command took, in seconds."""
+    clients = [kind(addresses[at % len(addresses)], at) for at in numbers]
+    selector = selectors.DefaultSelector()
+    for it in clients:
+        selector.register(it.socket, selectors.EVENT_READ, it)
+    now = time.monotonic()
+    begin, end = now + WARM_UP, now + WARM_UP + seconds
+    began: Dict[object, float] = {}
+    due: Dict[object, float] = {}
+    for it in clients:
+        it.ask()
+        began[it], due[it] = now, now + RESEND
+    took: List[float] = []
+    looked = now
+    while now < end:
+        for ready, _ in selector.select(BUSY_PAUSE):
+            it = ready.data
+            answer = it.take()
+            now = time.monotonic()
+            if answer:
+                if began[it] >= begin:
+                    took.append(now - began[it])
+                it.ask()
+                began[it], due[it] = now, now + RESEND
+            elif answer is False:
+                due[it] = now + BUSY_PAUSE
+        now = time.monotonic()
+        if now > looked + BUSY_PAUSE:
+            looked = now
+            for it in clients:
+                if due[it] <= now:
+                    it.again()
+                    due[it] = now + RESEND
+    out.put(took)
+
+
+def load(kind, addresses: List[Address], count: int, seconds: float) -> List[float]:
+    """How long each answered command of so many clients took."""
+    out = multiprocessing.Queue()
+    groups = [list(range(at, count, GENERATORS)) for at in range(GENERATORS)]
+    processes = [
+        multiprocessing.Process(target=generate, args=(kind, addresses, group, seconds, out)) for group in groups if group
+    ]
+    for it in processes:
+        it.start()
+    took = [it for _ in processes for it in out.get(timeout=seconds + 60)]
+    for it in processes:
+        it.join()
+    return took
+
+
+# ---- the stores
+
+
+class Store:
+    """The servers of a store, which run in folders of their own."""
+
+    def __init__(self, folder: str):
+        self.folder, self.processes = folder, []
+
+    def start(self, name: str, words: List[str]) -> None:
+        """Starts a server."""
+        folder = f"{self.folder}/{name}"
+        os.makedirs(folder)
+        with open(f"{folder}/log", "wb") as log:
+            started = subprocess.Popen(words, cwd=folder, stdin=subprocess.DEVNULL, stdout=subprocess.DEVNULL, stderr=log)
+        self.processes.append(started)
+
+    def processor_seconds(self) -> float:
+        """What all servers have taken so far."""
+        total = 0
+        for it in self.processes:
+            with open(f"/proc/{it.pid}/stat", encoding="ascii") as file:
+                fields = file.read().rpartition(")")[2].split()
+            total += int(fields[11]) + int(fields[12])
+        return total / TICKS
+
+    def stop(self) -> None:
+        """Ends all servers."""
+        for it in self.processes:
+            it.send_signal(signal.SIGKILL)
+            it.wait()
+
+
+def start_crsm(program: str, folder: str) -> Tuple[Store, List[Address]]:
+    """Three nodes of crsm."""
+    store, addresses = Store(folder), free_addresses(3)
+    peers = ",".join(text_of(it) for it in addresses)
+    for at in range(3):
+        store.start(f"crsm-{at}", [program, "node", str(at), "3", "1000000000000", peers])
+    return store, addresses
+
+
+def start_etcd(_: str, folder: str) -> Tuple[Store, List[Address]]:
+    """Three members of etcd."""
+    store, addresses = Store(folder), free_addresses(6)
+    clients, peers = addresses[:3], addresses[3:]
+    all_peers = ",".join(f"m{at}=http://{text_of(it)}" for at, it in enumerate(peers))
+    for at in range(3):
+        peer, client = f"http://{text_of(peers[at])}", f"http://{text_of(clients[at])}"
+        words = ["etcd", "--name", f"m{at}", "--data-dir", "data", "--log-level", "error", "--initial-cluster", all_peers]
+        words += ["--listen-peer-urls", peer, "--initial-advertise-peer-urls", peer]
+        words += ["--listen-client-urls", client, "--advertise-client-urls", client]
+        store.start(f"etcd-{at}", words)
+    return store, clients
+
+
+def start_redis(_: str, folder: str) -> Tuple[Store, List[Address]]:
+    """One server of redis."""
+    store, addresses = Store(folder), free_addresses(1)
+    words = ["redis-server", "--port", str(addresses[0][1]), "--bind", HOST, "--save", ""]
+    store.start("redis", [*words, "--appendonly", "yes", "--appendfsync", "always"])
+    return store, addresses
+
+
+STORES = {
+    "crsm": (Crsm, start_crsm, None),
+    "etcd": (Etcd, start_etcd, "etcd"),
+    "redis": (Redis, start_redis, "redis-server"),
+}
+
+
+class Figure(NamedTuple):
+    """What a run gave: commands a second, seconds in the middle and of the slowest hundredth, processor seconds each."""
+
+    rate: float
+    middle: float
+    slow: float
+    processor: float
+
+
+def await_store(kind, addresses: List[Address]) -> None:
+    """Waits until every member answers."""
+    for address in addresses:
+        end = time.monotonic() + 30
+        while True:
+            try:
+                if load(kind, [address], 1, 0.2):
+                    break
+            except (ConnectionError, OSError):
+                pass
+            if time.monotonic() > end:
+                raise SystemExit(f"cluster: {kind.__name__} does not answer at {text_of(address)}")
+
+
+def measure(name: str, program: str, folder: str, counts: List[int], seconds: float) -> List[Figure]:
+    """A figure for each number of clients."""
+    kind, start, _ = STORES[name]
+    store, addresses = start(program, folder)
+    try:
+        time.sleep(2.0)
+        await_store(kind, addresses)
+        figures = []
+        for count in counts:
+            before = store.processor_seconds()
+            took = sorted(load(kind, addresses, count, seconds))
+            spent = store.processor_seconds() - before
+            each = spent * seconds / (seconds + WARM_UP) / len(took)
+            figures.append(Figure(len(took) / seconds, took[len(took) // 2], took[len(took) * 99 // 100], each))
+        return figures
+    finally:
+        store.stop()
+
+
+def median_of(figures: List[Figure]) -> Figure:
+    """The median of each number."""
+    return Figure(*(statistics.median(it) for it in zip(*figures)))
+
+
+def main() -> int:
+    """All stores in each round, then the table."""
+    reader = argparse.ArgumentParser(description=__doc__, formatter_class=argparse.RawDescriptionHelpFormatter)
+    reader.add_argument("program", type=os.path.abspath)
+    reader.add_argument("--stores", default="crsm,etcd,redis", type=lambda text: text.split(","))
+    reader.add_argument("--clients", default=[1, 16, 64, 256], type=lambda text: [int(it) for it in text.split(",")])
+    reader.add_argument("--seconds", type=float, default=3.0)
+    reader.add_argument("--rounds", type=int, default=3)
+    words = reader.parse_args()
+    stores = []
+    for name in words.stores:
+        if STORES[name][2] and shutil.which(STORES[name][2]) is None:
+            print(f"{name} is not installed, and is left out", file=sys.stderr)
+        else:
+            stores.append(name)
+    found: Dict[Tuple[str, int], List[Figure]] = {}
+    for _ in range(words.rounds):
+        for name in stores:
+            folder = tempfile.mkdtemp(prefix=f"crsm-{name}-")
+            try:
+                for count, figure in zip(words.clients, measure(name, words.program, folder, words.clients, words.seconds)):
+                    found.setdefault((name, count), []).append(figure)
+            finally:
+                shutil.rmtree(folder, ignore_errors=True)
+    print("| clients | store | commands/s | crsm's are times | middle, ms | slowest 1 %, ms | processor us each |")
+    print("|---|---|---|---|---|---|---|")
+    for count in words.clients:
+        for name in stores:
+            it = median_of(found[name, count])
+            ratio = median_of(found[stores[0], count]).rate / it.rate
+            print(
+                f"| {count} | {name} | {it.rate:,.0f} | {ratio:.2f} | {it.middle * 1e3:.2f} | {it.slow * 1e3:.1f} | {it.processor * 1e6:.0f} |"
+            )
+    return 0
+
+
+if __name__ == "__main__":
+    sys.exit(main())
