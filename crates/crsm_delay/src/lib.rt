@@ -5,3 +5,4 @@ mod line;
 mod moments;
 
 pub use line::{PlanLine, read_line};
+pub use moments::commit_at;
