@@ -1,2 +1,4 @@
 pub mod Grammar
 pub mod Times
+pub mod Drafts
+pub mod Reading

@@ -1,0 +1,179 @@
+-- What a reader makes of one line more, and of the end.
+use Rattle.std.proofs.Common.{◌≡◌, ◌≢◌, ℕ, ◌+◌, ◌<◌, ◌≤◌, List, [], ◌∷◌, ◌++◌, length, refl, sym, ◌∙◌, ap, subst, inl, inr, Bool, true, false, cond, arith}
+use Rattle.std.specs.Prelude.{Option, Some, None, Result, Ok, Err, IfOk, IfErr, OnOk, find, nat_le, nat_lt, not, ◌==◌, ◌&&◌, ◌||◌, ◌⊎◌}
+use Rattle.std.specs.Option.{option_map_or}
+use Rattle.std.specs.List.{AllByRecursion}
+use Rattle.std.proofs.lemmas.Bool.{false≢true, and_parts, or_cases}
+use Rattle.std.proofs.lemmas.Bool.Decides.{nat_tests}
+use Rattle.std.proofs.lemmas.List.{append-nil}
+use Rattle.std.proofs.lemmas.Option.{none-some, same_Some}
+use Rattle.crsm_input.specs.Handling.{Text, Handles, EndsWell, StopsAt}
+use Rattle.crsm_input.specs.declared.Stop.{Stop}
+use Rattle.crsm_schedule.specs.Grammar.{IsSize, first_text}
+use Rattle.crsm_log_facts.proofs.Lists.{all-push}
+use Rattle.crsm_timing.specs.declared.Plan.{Plan}
+use Rattle.crsm_timing.specs.declared.Offset.{Offset as Ahead}
+use Rattle.crsm_timing.specs.declared.Delay.{Delay as Takes}
+use Rattle.crsm_timing.specs.Plans.{FitsPlan, most_delay, most_moment, offset_of, delay_of, stamped, reading}
+use Rattle.crsm_delay.specs.Grammar.{FitsLine, line_text}
+use Rattle.crsm_delay.specs.Drafts.{can_follow, empty, with_line}
+use Rattle.crsm_delay.specs.Times.{times_text}
+use Rattle.crsm_delay.specs.Reading.{Advanced, Advances, RefusedAfter, StopsUnread, Reads, ReadsSo, RefusedBehind, EndsBehind, NoEnd, times_of}
+use Rattle.crsm_delay.specs.declared.line.PlanLine.{PlanLine}
+use Rattle.crsm_delay.specs.declared.line.PlanLine.TheVariants.{Offset, Delay, Command}
+use Rattle.crsm_delay.specs.declared.draft.Draft.{Draft}
+use Rattle.crsm_delay.specs.declared.handling.PlanCause.{PlanCause}
+use Rattle.crsm_delay.specs.declared.handling.PlanReader.{PlanReader}
+
+-- ---- one line
+
+pub first_reads : (text : Text) (n : ℕ) (d : Draft) → IsSize n → text ≡ first_text n → d ≡ empty n → Advances None text (Some d)
+unfolding Advances
+first_reads text n d size t e = subst (λ x. Advanced None x (Some d)) (sym t) (subst (λ x. Advanced None (first_text n) (Some x)) (sym e) (Advanced.IsFirst n size))
+
+pub next_reads : (d new : Draft) (line : PlanLine) (text : Text) → FitsLine line → text ≡ line_text line → can_follow d line ≡ true → new ≡ with_line d line → Advances (Some d) text (Some new)
+unfolding Advances
+next_reads d new line text fits t can e =
+    subst (λ x. Advanced (Some d) x (Some new)) (sym t) (subst (λ x. Advanced (Some d) (line_text line) (Some x)) (sym e) (Advanced.IsNext d line fits can))
+
+pub unread : (d : Draft) (text : Text) (result : Option PlanLine) → ((l : PlanLine) → FitsLine l → text ≡ line_text l → result ≡ Some l) → result ≡ None → StopsUnread (Stop.Refused PlanCause.Unreadable) (Some d) text
+unfolding StopsUnread
+unread d text result only none = (refl, λ line fits can t. none-some line (sym none ∙ only line fits t))
+
+pub not_allowed : (d : Draft) (line : PlanLine) (text : Text) (result : Option PlanLine) → ((l : PlanLine) → FitsLine l → text ≡ line_text l → result ≡ Some l) → result ≡ Some line → can_follow d line ≡ false →
+    StopsUnread (Stop.Refused PlanCause.Unreadable) (Some d) text
+unfolding StopsUnread
+not_allowed d line text result only is refused = (refl, λ other fits can t. false≢true (sym refused ∙ ap (can_follow d) (same_Some line other (sym is ∙ only other fits t)) ∙ can))
+
+pub no_memory : (old : Option Draft) (text : Text) → StopsUnread Stop.NoMemory old text
+unfolding StopsUnread
+no_memory old text = tt
+
+pub no_first : (old : Option Draft) (text : Text) → old ≡ None → RefusedAfter None text → StopsUnread (Stop.Refused PlanCause.Unreadable) old text
+unfolding StopsUnread
+no_first old text e r = (refl, subst (λ o. RefusedAfter o text) (sym e) r)
+
+-- ---- the handler
+
+handled : (old : Option Draft) (new : PlanReader) (lines : List Text) (shown text before : Text) → Advances old text new.draft → ReadsSo old lines shown → Handles times_of new lines shown text before before
+unfolding Advances
+handled old new lines shown text before a so = record { more = []; added = sym (append-nil before); now = record { reads = Reads.more text so.reads a; none = append-nil shown ∙ so.none } }
+
+pub line_ok : {D : Type 0} (result : Result D (Stop PlanCause)) (old : Option Draft) (new : PlanReader) (lines : List Text) (shown text before : Text) →
+    IfOk result (λ d. Advances old text new.draft) → ReadsSo old lines shown → OnOk result (Handles times_of new lines shown text before before)
+line_ok (Ok d) old new lines shown text before a so = handled old new lines shown text before a so
+line_ok (Err e) old new lines shown text before a so = tt
+
+stops : (stop : Stop PlanCause) (old : Option Draft) (lines : List Text) (shown text before after : Text) → after ≡ before → StopsUnread stop old text → ReadsSo old lines shown → StopsAt times_of lines shown text before after stop
+unfolding StopsUnread
+stops (Stop.Refused cause) old lines shown text before after e s so = (record { draft = old; so = so; refused = s.1; unreadable = s.0 }, e)
+stops Stop.NoMemory old lines shown text before after e s so = ([], sym (append-nil after ∙ e))
+
+pub line_err : {D : Type 0} (result : Result D (Stop PlanCause)) (old : Option Draft) (lines : List Text) (shown text before after : Text) → after ≡ before →
+    IfErr result (λ stop. StopsUnread stop old text) → ReadsSo old lines shown → IfErr result (λ stop. StopsAt times_of lines shown text before after stop)
+line_err (Ok d) old lines shown text before after e s so = tt
+line_err (Err stop) old lines shown text before after e s so = stops stop old lines shown text before after e s so
+
+-- ---- what is read fits
+
+record IsGood (d : Draft) : Type 0 where
+  pub some : 1 ≤ d.plan.n
+  pub most : d.plan.n ≤ 15
+  pub offsets : AllByRecursion (λ (o : Ahead). o.by ≤ most_moment) d.plan.offsets
+  pub delays : AllByRecursion (λ (x : Takes). x.by ≤ most_delay) d.plan.delays
+  pub origin : d.is_whole ≡ true → (d.plan.origin < d.plan.n) × (d.plan.at ≤ most_moment) × (1 ≤ stamped d.plan)
+
+IsGoodYet : Option Draft → Type 0
+IsGoodYet None = Unit {0}
+IsGoodYet (Some d) = IsGood d
+
+lt_of : (a b : ℕ) → nat_lt a b ≡ true → a < b
+lt_of a b e = grind (arith, nat_tests, e)
+
+le_of : (a b : ℕ) → nat_le a b ≡ true → a ≤ b
+le_of a b e = grind (arith, nat_tests, e)
+
+not_true : (b : Bool) → not b ≡ true → b ≡ false
+not_true true e = absurd (false≢true e)
+not_true false e = refl
+
+found_small : {A : Type 0} (p : A → Bool) (v : A → ℕ) (m : ℕ) (xs : List A) → AllByRecursion (λ x. v x ≤ m) xs → option_map_or v (find p xs) 0 ≤ m
+found_small p v m [] h = omega arith
+found_small p v m (x ∷ xs) h = go (p x) h.0 (found_small p v m xs h.1)
+  where
+    go : (b : Bool) → v x ≤ m → option_map_or v (find p xs) 0 ≤ m → option_map_or v (cond b (Some x) (find p xs)) 0 ≤ m
+    go true a b = a
+    go false a b = b
+
+offsets_small : (plan : Plan) (k : ℕ) → AllByRecursion (λ (o : Ahead). o.by ≤ most_moment) plan.offsets → offset_of plan k ≤ most_moment
+unfolding offset_of
+offsets_small plan k h = found_small (λ o. o.replica == k) (λ (o : Ahead). o.by) most_moment plan.offsets h
+
+delays_small : (plan : Plan) (a b : ℕ) → AllByRecursion (λ (x : Takes). x.by ≤ most_delay) plan.delays → delay_of plan a b ≤ most_delay
+unfolding delay_of
+delays_small plan a b h = go (a == b) (found_small (λ d. d.from == a && d.to == b) (λ (x : Takes). x.by) most_delay plan.delays h)
+  where
+    go : (c : Bool) → option_map_or (λ (x : Takes). x.by) (find (λ d. d.from == a && d.to == b) plan.delays) 0 ≤ most_delay →
+        cond c 0 (option_map_or (λ (x : Takes). x.by) (find (λ d. d.from == a && d.to == b) plan.delays) 0) ≤ most_delay
+    go true h = omega arith
+    go false h = h
+
+good_command : (d : Draft) (r at : ℕ) → IsGood d → (nat_lt r d.plan.n && nat_le at most_moment) ≡ true → (nat_lt 0 at || nat_lt 0 (offset_of d.plan r)) ≡ true → IsGood (with_line d (Command r at))
+unfolding stamped reading offset_of
+good_command d r at g fit some =
+    let parts = and_parts (nat_lt r d.plan.n) (nat_le at most_moment) fit in
+    record {
+      some = g.some;
+      most = g.most;
+      offsets = g.offsets;
+      delays = g.delays;
+      origin = λ w. (lt_of r d.plan.n parts.0, le_of at most_moment parts.1, reads (or_cases (nat_lt 0 at) (nat_lt 0 (offset_of d.plan r)) some));
+    }
+  where
+    reads : ((nat_lt 0 at ≡ true) ⊎ (nat_lt 0 (offset_of d.plan r) ≡ true)) → 1 ≤ at + offset_of d.plan r
+    reads (inl e) = let lt = lt_of 0 at e in omega (arith, lt)
+    reads (inr e) = let lt = lt_of 0 (offset_of d.plan r) e in omega (arith, lt)
+
+good_next : (d : Draft) (line : PlanLine) → can_follow d line ≡ true → IsGood d → IsGood (with_line d line)
+good_next d (Offset r by) can g =
+    let p = and_parts (not d.is_whole) _ can in
+    let q = and_parts (nat_lt r d.plan.n && nat_le by most_moment) _ p.1 in
+    let b = and_parts (nat_lt r d.plan.n) (nat_le by most_moment) q.0 in
+    record { some = g.some; most = g.most; offsets = all-push _ d.plan.offsets _ g.offsets (le_of by most_moment b.1); delays = g.delays; origin = λ w. absurd (false≢true (sym (not_true d.is_whole p.0) ∙ w)) }
+good_next d (Delay from to by) can g =
+    let p = and_parts (not d.is_whole) _ can in
+    let q = and_parts ((nat_lt from d.plan.n && nat_lt to d.plan.n) && not (from == to)) _ p.1 in
+    let b = and_parts (nat_le by most_delay) _ q.1 in
+    record { some = g.some; most = g.most; offsets = g.offsets; delays = all-push _ d.plan.delays _ g.delays (le_of by most_delay b.0); origin = λ w. absurd (false≢true (sym (not_true d.is_whole p.0) ∙ w)) }
+good_next d (Command r at) can g =
+    let p = and_parts (not d.is_whole) _ can in
+    let q = and_parts (nat_lt r d.plan.n && nat_le at most_moment) _ p.1 in
+    good_command d r at g q.0 q.1
+
+good_more : (old new : Option Draft) (text : Text) → Advanced old text new → IsGoodYet old → IsGoodYet new
+unfolding IsGoodYet
+good_more old new text (Advanced.IsFirst n size) g = record { some = size.0; most = size.1; offsets = tt; delays = tt; origin = λ w. absurd (false≢true w) }
+good_more old new text (Advanced.IsNext d line fits can) g = good_next d line can g
+
+good_reads : (texts : List Text) (o : Option Draft) → Reads texts o → IsGoodYet o
+unfolding IsGoodYet
+good_reads texts o Reads.nothing = tt
+good_reads texts o (Reads.more {old = old} text r a) = good_more old o text a (good_reads _ old r)
+
+fits_plan : (texts : List Text) (d : Draft) → Reads texts (Some d) → d.is_whole ≡ true → FitsPlan d.plan
+unfolding IsGoodYet
+fits_plan texts d r w =
+    let g = good_reads texts (Some d) r in
+    let o = g.origin w in
+    record { some = g.some; most = g.most; origin = o.0; at = o.1; offsets = λ k. offsets_small d.plan k g.offsets; delays = λ a b. delays_small d.plan a b g.delays; reads = o.2 }
+
+pub ends_well : (r : PlanReader) (d : Draft) (lines : List Text) (shown before after : Text) → r.draft ≡ Some d → d.is_whole ≡ true →
+    (FitsPlan d.plan → after ≡ before ++ times_text d.plan) → ReadsSo r.draft lines shown → EndsWell times_of lines shown before after
+ends_well r d lines shown before after is whole made so =
+    let reads = subst (λ o. Reads lines o) is so.reads in
+    let fits = fits_plan lines d reads whole in
+    record {
+      last = times_text d.plan;
+      added = made fits;
+      may = record { draft = d; so = record { reads = reads; none = so.none }; whole = whole; fits = fits; last_is = refl };
+    }
