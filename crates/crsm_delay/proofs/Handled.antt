@@ -177,3 +177,6 @@ ends_well r d lines shown before after is whole made so =
       added = made fits;
       may = record { draft = d; so = record { reads = reads; none = so.none }; whole = whole; fits = fits; last_is = refl };
     }
+
+pub begins : (r : PlanReader) → r.draft ≡ None → ReadsSo r.draft [] []
+begins r e = subst (λ o. ReadsSo o [] []) (sym e) (record { reads = Reads.nothing; none = refl })

@@ -1,3 +1,4 @@
 pub mod Found
 pub mod Last
 pub mod Handled
+pub mod Exact

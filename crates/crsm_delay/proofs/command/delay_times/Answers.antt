@@ -1,0 +1,5 @@
+use Rattle.crsm_delay.proofs.Handled.{begins}
+use Rattle.crsm_delay.proofs.command.delay_times.Goals as goal
+
+pub run_lines-requires : goal.run_lines-requires
+run_lines-requires g c = begins c.new.result c.new.ensures

@@ -1,0 +1,43 @@
+//! A plan from its beginning to its end.
+
+ghost use Rattle.std.specs.Prelude.{◌≡◌, ◌≢◌, ◌<◌, ◌≤◌, ◌+◌, ℕ, List, Some, length};
+ghost use Rattle.crsm_faults.specs.Counts.{Rose};
+ghost use Rattle.crsm_input.specs.Exact.{Exact, IsDone, IsRefused, IsTooLong, WhereBad, WhereFaultless, WhereTooLong, WhereWhole};
+ghost use Rattle.crsm_input.specs.Run.{Ran};
+ghost use Rattle.crsm_delay.specs.Reading.{times_of};
+
+use crate::handling::{PlanCause, PlanReader};
+use crsm_input::{Ending, MAX_INPUT_BYTES, run_lines};
+use crsm_io::{Sink, Source};
+use std::alloc::Global;
+
+/// Reads a plan to its end, and writes the moment at which each replica executes the command.
+pub fn delay_times<I: Source, O: Sink>(
+    alloc: Global,
+    input: &mut I,
+    output: &mut O,
+) -> Ending<PlanCause>
+    // What was taken and what was written, by how it ended.
+    ensures ran { Ran times_of result (I.left input.old) (I.left input.new) (O.written output.old) (O.written output.new) }
+
+    // A fault is answered only where it was counted.
+    ensures read_fault { result ≡ Ending.ReadFault → Rose (I.faults input.old) (I.faults input.new) }
+    ensures write_fault { result ≡ Ending.WriteFault → Rose (O.faults output.old) (O.faults output.new) }
+
+    // Where no fault was counted: a whole plan is done, the first bad line is refused, and a plan up to the limit is too long
+    // where more bytes follow.
+    ensures complete { (x : Exact times_of) → WhereWhole times_of x (I.left input.old) (WhereFaultless (I.faults input.old) (I.faults input.new) (O.faults output.old) (O.faults output.new) (IsDone result)) }
+    ensures refused { (x : Exact times_of) → WhereBad times_of x (I.left input.old) (λ line why. WhereFaultless (I.faults input.old) (I.faults input.new) (O.faults output.old) (O.faults output.new) (IsRefused times_of x line why result)) }
+    ensures too_long { (x : Exact times_of) → WhereTooLong times_of x (I.left input.old) (WhereFaultless (I.faults input.old) (I.faults input.new) (O.faults output.old) (O.faults output.new) (IsTooLong result)) }
+
+    // An input beyond the limit is never done, and one within it is never too long.
+    ensures limit { (bytes : List ℕ) → I.left input.old ≡ Some bytes → MAX_INPUT_BYTES < length bytes → result ≢ Ending.Done }
+    ensures within { (bytes : List ℕ) → I.left input.old ≡ Some bytes → length bytes ≤ MAX_INPUT_BYTES → result ≢ Ending.InputTooLong }
+{
+    run_lines(alloc, PlanReader::new(alloc), input, output)
+}
+
+/// What lines alone say decides what is read and what is refused, so that a plan is done and a bad line is refused exactly.
+pub fn plans_are_exact()
+    ensures { Exact times_of }
+{}
