@@ -381,7 +381,7 @@ class Client:
         self._at = 0
         self._lock = threading.Lock()
         self._claimed: Dict[bytes, int] = {}
-        self._claims = threading.Lock()
+        self._claims = threading.Condition()
         self._socket = socket.socket(socket.AF_INET, socket.SOCK_DGRAM)
 
     def close(self) -> None:
@@ -460,6 +460,9 @@ class Client:
     def _claim(self, key: bytes) -> None:
         """Keeps the lock at the key from other threads of this client: the store knows the client alone."""
         with self._claims:
+            # A thread that asks for the lock now has the claim, without a fence.
+            while self._claimed.get(key) == 0:
+                self._claims.wait()
             if key in self._claimed:
                 raise LockHeld(self.client, self._claimed[key])
             self._claimed[key] = 0
@@ -468,10 +471,13 @@ class Client:
         """The fence of the claim, once it is granted."""
         with self._claims:
             self._claimed[key] = fence
+            self._claims.notify_all()
 
     def _let_go(self, key: bytes) -> None:
+        """Ends the claim."""
         with self._claims:
             self._claimed.pop(key, None)
+            self._claims.notify_all()
 
     # ---- one command
 

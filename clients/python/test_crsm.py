@@ -361,6 +361,9 @@ def lock_value(state, fence, owner):
 
 
 class LockTest(ClusterTest):
+    def client(self, *nodes, **how):
+        return super().client(*nodes, **{"timeout": 10.0, **how})
+
     def test_value_of_a_lock(self):
         client = self.client(self.node(), client=5)
         with client.lock("a") as fence:
@@ -391,7 +394,7 @@ class LockTest(ClusterTest):
         time.sleep(0.3)
         self.assertEqual(taken, [])
         held.give()
-        waiter.join(timeout=3.0)
+        waiter.join(timeout=10.0)
         self.assertEqual(taken, [2])
 
     def test_looks_seldom_while_it_waits(self):
@@ -415,7 +418,7 @@ class LockTest(ClusterTest):
                     time.sleep(0.005)
                     inside.remove(fence)
 
-        clients = [self.client(node, timeout=10.0) for _ in range(3)]
+        clients = [self.client(node) for _ in range(3)]
         # Threads of one client exclude each other, too.
         threads = [threading.Thread(target=work, args=(client,)) for client in clients + clients[:1]]
         for thread in threads:
@@ -425,6 +428,19 @@ class LockTest(ClusterTest):
         self.assertEqual(most, [1] * 20)
         self.assertEqual(fences, sorted(fences))
         self.assertEqual(len(set(fences)), 20)
+
+    def test_broken_while_a_thread_waits(self):
+        node = self.node()
+        self.client(node).lock("a").take()
+        client, taken = self.client(node), []
+        waiter = threading.Thread(target=lambda: taken.append(client.lock("a").take()))
+        waiter.start()
+        time.sleep(0.3)
+        lock = client.break_lock("a", fence=1)
+        self.assertEqual(lock.take(), 2)
+        lock.give()
+        waiter.join(timeout=10.0)
+        self.assertEqual(taken, [3])
 
     def test_broken(self):
         node = self.node()
@@ -462,7 +478,7 @@ class LockTest(ClusterTest):
     def test_no_answer_to_the_take(self):
         # The look is answered. The compare and set is done, and its answers are lost.
         node = self.node()
-        client = self.client(node, client=5, timeout=0.4)
+        client = self.client(node, client=5, timeout=1.0)
         asked = client._ask
 
         def lossy(op, kinds):
@@ -473,7 +489,7 @@ class LockTest(ClusterTest):
         with self.assertRaises(NoAnswer):
             client.lock("a").take()
         self.assertEqual(self.store.rows, {b"a": lock_value(1, 1, 5)})
-        client._ask, node.mute = asked, 0
+        client._ask, client._timeout, node.mute = asked, 10.0, 0
         with client.lock("a", wait=0) as fence:
             self.assertEqual(fence, 1)
 
