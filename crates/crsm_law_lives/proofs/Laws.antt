@@ -1,7 +1,7 @@
 -- Processes of nodes make a lawful history.
 use Rattle.std.proofs.Common.{◌≡◌, ℕ, zero, suc, ◌<◌, List, [], ◌∷◌, ◌++◌, length, refl, sym, ◌∙◌, ap, subst, inl, inr, Bool, true, false, cond, map, append_assoc}
 use Rattle.std.specs.Prelude.{◌==◌, filter, Some, None, slice_get}
-use Rattle.std.specs.List.{flat_map}
+use Rattle.std.specs.List.{AllByRecursion, flat_map}
 use Rattle.std.specs.Option.{option_map_or}
 use Rattle.std.proofs.lemmas.Bool.{cases_eq, eq-eqb, ne_eqb}
 use Rattle.std.proofs.lemmas.Option.{none-some, same_Some}
@@ -17,7 +17,7 @@ use Rattle.crsm_law_histories.proofs.Lists.{got_range}
 use Rattle.crsm_law_epoch.proofs.Words.{among_unmap}
 use Rattle.crsm_law_cluster.specs.Going.{IsAt}
 use Rattle.crsm_law_requests.proofs.Along.{IsThere, from_then, next_there}
-use Rattle.crsm_law_lives.specs.Events.{take_events, fate_events, group_events, life_events, node_of, events_of, lives_of}
+use Rattle.crsm_law_lives.specs.Events.{AreEventsOf, take_events, fate_events, group_events, life_events, node_of, events_of, lives_of}
 use Rattle.crsm_law_lives.specs.Premises.{CanBeTaken, IsProcess, WasSentBy, SpeaksTrue, NobodyForges, Ran}
 use Rattle.crsm_law_lives.specs.Laws.{IsIn, LivesAreLawful}
 use Rattle.crsm_law_lives.proofs.Hosts.{own_run, own_then, host_run, IsCut, cut_at, IsBefore, before_next, own_first, other_first}
@@ -76,7 +76,7 @@ unfolding clusters_from
 lawful_from c [] h = tt
 lawful_from c (e ∷ es) h = (h 0 c e refl refl, lawful_from (after c e) es (λ i b f at is. h (suc i) b f at is))
 
-got_among : {A : Type 0} (xs : List A) (i : ℕ) (x : A) → slice_get xs i ≡ Some x → Among xs x
+pub got_among : {A : Type 0} (xs : List A) (i : ℕ) (x : A) → slice_get xs i ≡ Some x → Among xs x
 got_among [] i x e = absurd (none-some x e)
 got_among (y ∷ xs) zero x e = inl (same_Some y x e)
 got_among (y ∷ xs) (suc i) x e = inr (got_among xs i x e)
@@ -166,18 +166,19 @@ unborn_size : (n : ℕ) → (unborn n).n ≡ n
 unfolding unborn
 unborn_size n = refl
 
-module _ (n : ℕ) (ls : List Life) (h : List Event) (r : Ran n ls h) where
-  turns : (k : ℕ) (t : Turn) (reading : ℕ) → Among h (Event.Takes k t reading) → CanBeTaken (t, reading)
-  unfolding node_of IsHis
-  turns k t reading a =
-      let own = subst (λ es. Among es (Event.Takes k t reading)) (r.are k) (own_among h (Event.Takes k t reading) a) in
-      let s = flat_from life_events (lives_of k ls) (Event.Takes k t reading) own in
-      let l = life_own k ls s.0 s.1 in
-      all_at CanBeTaken (kept_turns s.0.groups ++ s.0.lost) (t, reading) (all_at IsProcess ls s.0 r.processes l.1).turns (is_his s.0 (Event.Takes k t reading) s.2)
+-- each turn among the events is one of a process
+pub turns_of : (ls : List Life) (h : List Event) → AreEventsOf ls h → AllByRecursion IsProcess ls → (k : ℕ) (t : Turn) (reading : ℕ) → Among h (Event.Takes k t reading) → CanBeTaken (t, reading)
+unfolding node_of IsHis
+turns_of ls h are ps k t reading a =
+    let own = subst (λ es. Among es (Event.Takes k t reading)) (are k) (own_among h (Event.Takes k t reading) a) in
+    let s = flat_from life_events (lives_of k ls) (Event.Takes k t reading) own in
+    let l = life_own k ls s.0 s.1 in
+    all_at CanBeTaken (kept_turns s.0.groups ++ s.0.lost) (t, reading) (all_at IsProcess ls s.0 ps l.1).turns (is_his s.0 (Event.Takes k t reading) s.2)
 
+module _ (n : ℕ) (ls : List Life) (h : List Event) (r : Ran n ls h) where
   lawful : IsLawful n h
   unfolding clusters
-  lawful = lawful_from (unborn n) h (λ i b e at is. may_happen n h r.network turns i b e (record { cluster = at; event = is }) (got_among h i e is))
+  lawful = lawful_from (unborn n) h (λ i b e at is. may_happen n h r.network (turns_of ls h r.are r.processes) i b e (record { cluster = at; event = is }) (got_among h i e is))
 
   module _ (l : Life) (a : Among ls l) where
     small : l.me < 15
