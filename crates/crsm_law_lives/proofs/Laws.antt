@@ -84,7 +84,7 @@ got_among (y ∷ xs) (suc i) x e = inr (got_among xs i x e)
 -- ---- one node
 
 -- its processes are among all
-life_own : (k : ℕ) (ls : List Life) (l : Life) → Among (lives_of k ls) l → (l.me ≡ k) × Among ls l
+pub life_own : (k : ℕ) (ls : List Life) (l : Life) → Among (lives_of k ls) l → (l.me ≡ k) × Among ls l
 unfolding lives_of
 life_own k [] l a = absurd a
 life_own k (m ∷ ls) l a = elim (cases_eq m.me k) [
@@ -158,11 +158,11 @@ next_at : (es : List Event) (e : Event) (fs : List Event) → slice_get (es ++ e
 next_at [] e fs = refl
 next_at (f ∷ es) e fs = next_at es e fs
 
-unborn_there : (n k : ℕ) → k < 15 → (p : Host) × (slice_get (unborn n).hosts k ≡ Some p) × (host_at (unborn n) k ≡ record { log = []; process = None })
+pub unborn_there : (n k : ℕ) → k < 15 → (p : Host) × (slice_get (unborn n).hosts k ≡ Some p) × (host_at (unborn n) k ≡ record { log = []; process = None })
 unfolding unborn host_at empty_host numbers_below
 unborn_there n k lt = let t = got_range (λ (i : ℕ). record { log = []; process = None }) 0 15 k lt in (_, t, ap (λ o. option_map_or (λ (p : Host). p) o (record { log = []; process = None })) t)
 
-unborn_size : (n : ℕ) → (unborn n).n ≡ n
+pub unborn_size : (n : ℕ) → (unborn n).n ≡ n
 unfolding unborn
 unborn_size n = refl
 

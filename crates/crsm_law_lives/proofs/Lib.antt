@@ -4,3 +4,4 @@ pub mod Laws
 pub mod Agree
 pub mod Lines
 pub mod Right
+pub mod Sending

@@ -1,20 +1,22 @@
 -- The laws of processes of nodes.
-use Rattle.std.specs.Prelude.{◌≡◌, ℕ, ◌≤◌, List, None, Some, slice_get}
+use Rattle.std.specs.Prelude.{◌≡◌, ℕ, ◌<◌, ◌≤◌, List, None, Some, slice_get}
+use Rattle.std.specs.List.{AllByRecursion, flat_map}
 use Rattle.crsm_spec.specs.Types.{Stamp, Entry, Answer, Line}
 use Rattle.crsm_spec.specs.Lists.{Among, IsPrefixOf}
 use Rattle.crsm_spec.specs.Log.{executed}
 use Rattle.crsm_spec.specs.Draft.{Draft, Reply}
 use Rattle.crsm_spec.specs.Safe.{AnswersAt}
 use Rattle.crsm_lives.specs.Lives.{Life, kept_steps}
-use Rattle.crsm_law_histories.specs.Clusters.{Event, Cluster, host_at, log_in}
+use Rattle.crsm_law_histories.specs.Clusters.{Event, Cluster, host_at, log_in, unborn}
 use Rattle.crsm_law_histories.specs.Histories.{clusters, last_cluster}
 use Rattle.crsm_law_histories.specs.Lawful.{IsLawful}
 use Rattle.crsm_law_histories.specs.Laws.{HasShortLogs}
 use Rattle.crsm_law_cluster.specs.OneList.{one_list}
 use Rattle.crsm_law_cluster.specs.Going.{IsAt}
 use Rattle.crsm_law_cluster.specs.Laws.{IsRightAnswer, IsRightDrop}
-use Rattle.crsm_law_lives.specs.Events.{left_by}
+use Rattle.crsm_law_lives.specs.Events.{left_by, lives_of}
 use Rattle.crsm_law_lives.specs.Premises.{Ran}
+use Rattle.crsm_law_lives.specs.Sending.{HasFates, outs_from, sent_by}
 
 -- The process boots in the history on the log that it found, and leaves its log there.
 pub record IsIn (n : ℕ) (h : List Event) (l : Life) : Type 0 where
@@ -35,6 +37,14 @@ pub record AreLawful (n : ℕ) (ls : List Life) (h : List Event) : Type 0 where
 
 abbrev pub LivesAreLawful : Type 0
 LivesAreLawful = (n : ℕ) (ls : List Life) (h : List Event) → n ≤ 15 → Ran n ls h → AreLawful n ls h
+
+-- ---- what goes out
+
+-- What goes out at a node in the history is what its processes sent, one behind another.
+abbrev pub SendsAreTheirs : Type 0
+SendsAreTheirs =
+    (n : ℕ) (ls : List Life) (h : List Event) → Ran n ls h → AllByRecursion (HasFates n) ls →
+    (k : ℕ) → k < 15 → outs_from k (unborn n) h ≡ flat_map (sent_by n) (lives_of k ls)
 
 -- ---- steps
 

@@ -1,3 +1,4 @@
 pub mod Events
 pub mod Premises
+pub mod Sending
 pub mod Laws
