@@ -7,6 +7,7 @@ use Rattle.std.proofs.lemmas.Bool.{ltb-true, leb-true, false≢true}
 use Rattle.std.proofs.lemmas.Option.{same_Some}
 use Rattle.crsm_base.specs.MessageReading.{datagram_of}
 use Rattle.crsm_spec.specs.Types.{Command, Datagram}
+use Rattle.crsm_spec.specs.Lists.{Among}
 use Rattle.crsm_spec.specs.Node.{Turn}
 use Rattle.crsm_law_histories.specs.Clusters.{Event, Host, Cluster, empty_host, host_at, log_in}
 use Rattle.crsm_law_histories.specs.Lawful.{IsByte, IsGenuine, MayHappen}
@@ -53,3 +54,15 @@ asks c k address reading bytes command lt small is = (lt, (are_bytes bytes small
   where
     genuine : (d : Datagram) → Datagram.Request command ≡ d → IsGenuine c k d
     genuine d e = subst (IsGenuine c k) e tt
+
+-- what was sent can be taken
+genuine_if_sent : (c : Cluster) (k : ℕ) (d : Datagram) → Among c.sent (k, d) → IsGenuine c k d
+genuine_if_sent c k (Datagram.Frame from to epoch seq payload) a = λ is ne. a
+genuine_if_sent c k (Datagram.Ack from to epoch next) a = λ is ne. a
+genuine_if_sent c k (Datagram.Part from to boot number index count bytes) a = λ is ne. a
+genuine_if_sent c k (Datagram.Request command) a = tt
+genuine_if_sent c k (Datagram.Reply client number told) a = tt
+genuine_if_sent c k (Datagram.Operate members) a = tt
+
+pub comes : (c : Cluster) (k address reading : ℕ) (bytes : List ℕ) (d : Datagram) → reading < 2 ^ 64 → all_bytes bytes ≡ true → datagram_of bytes ≡ Some d → Among c.sent (k, d) → MayHappen c (Event.Takes k (Turn.In address bytes) reading)
+comes c k address reading bytes d lt small is sent = (lt, (are_bytes bytes small, λ e f. subst (IsGenuine c k) (same_Some d e (subst (λ o. o ≡ Some e) is f)) (genuine_if_sent c k d sent)))

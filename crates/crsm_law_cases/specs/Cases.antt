@@ -17,7 +17,7 @@ use Rattle.crsm_law_cluster.specs.Laws.{IsHistory}
 use Rattle.crsm_law_lives.specs.Premises.{DisksKeep}
 
 -- A lawful history that began with one replica: an answer goes out, a group is lost with its process, which starts again,
--- an epoch is decided, and a new number starts.
+-- a new number starts and is a member of the epoch that is decided then, which it enters with what was executed.
 pub record AllHappens : Type 0 where
   pub h : List Event
   pub is : IsHistory 1 h
@@ -33,7 +33,10 @@ pub record AllHappens : Type 0 where
   pub started : slice_get h (suc (suc lost)) ≡ Some (Event.Boots 0)
   pub decision : Decision
   pub decided : Contains (decisions_in (world_of (last_cluster 1 h))) decision
-  pub joined : log_in (last_cluster 1 h) 1 ≡ Rec.Boot 1 1 ∷ []
+  pub entered : Among (log_in (last_cluster 1 h) 1) (Rec.Enter 1)
+  pub entry : Entry
+  pub list : executed (log_in (last_cluster 1 h) 1) ≡ entry ∷ []
+  pub client : entry.command.client ≡ 7
 
 -- ---- what must not happen
 

@@ -3,7 +3,7 @@
 
 ghost use Rattle.crsm_law_cases.specs.Cases.{AllHappens, ForgedFramesBreak, SendsWaitForKeeps, AnswersWaitForKeeps, OldLogsBreak};
 
-/// There is a lawful history with an answer, a lost group, a restart, a decided epoch and a new number.
+/// There is a lawful history with an answer, a lost group, a restart, and a new number that enters a decided epoch.
 pub fn all_happens()
     ensures { AllHappens }
 {}
