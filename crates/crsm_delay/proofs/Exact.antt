@@ -1,6 +1,6 @@
 -- The lines of an input are those of one plan at most, so that what is read and what is refused is exact.
-use Rattle.std.proofs.Common.{◌≡◌, ◌≢◌, ℕ, ◌+◌, ◌<◌, ◌≤◌, List, [], ◌∷◌, ◌++◌, length, get_or, decimal, refl, sym, ◌∙◌, ap, subst, inl, inr, Bool, true, false, arith}
-use Rattle.std.specs.Prelude.{◌⊎◌, Option, Some, None}
+use Rattle.std.proofs.Common.{◌≡◌, ℕ, List, [], ◌∷◌, ◌++◌, get_or, decimal, refl, sym, ◌∙◌, ap, subst, inl, inr, true, arith}
+use Rattle.std.specs.Prelude.{◌⊎◌, Option, Some}
 use Rattle.std.proofs.lemmas.Bool.{false≢true}
 use Rattle.std.proofs.lemmas.Fmt.{decimal_injective}
 use Rattle.std.proofs.lemmas.Option.{none-some, same_Some}
@@ -9,13 +9,12 @@ use Rattle.crsm_input.specs.Handling.{Text}
 use Rattle.crsm_schedule.specs.Grammar.{IsSize, first_text}
 use Rattle.crsm_text.proofs.TextLaws.{decimal_split}
 use Rattle.crsm_delay.specs.Grammar.{FitsLine, line_text}
-use Rattle.crsm_delay.specs.Drafts.{can_follow, empty, with_line}
-use Rattle.crsm_delay.specs.Reading.{Advanced, RefusedAfter, Reads, IsUnfinished, RefusedBehind, EndsBehind, NoEnd, times_of}
+use Rattle.crsm_delay.specs.Drafts.{empty, with_line}
+use Rattle.crsm_delay.specs.Reading.{Advanced, RefusedAfter, Reads, IsUnfinished, times_of}
 use Rattle.crsm_delay.specs.declared.line.PlanLine.{PlanLine}
 use Rattle.crsm_delay.specs.declared.line.PlanLine.TheVariants.{Offset, Delay, Command}
 use Rattle.crsm_delay.specs.declared.draft.Draft.{Draft}
 use Rattle.crsm_delay.specs.declared.handling.PlanCause.{PlanCause}
-use Rattle.crsm_delay.specs.declared.handling.PlanReader.{PlanReader}
 
 -- ---- one line for each text
 
@@ -121,8 +120,8 @@ pub exact : Exact times_of
 exact = record {
   unreadable = PlanCause.Unreadable;
   handled = λ handler lines shown so before more line told why e r.
-  (let p = split_reading lines handler.draft so.reads before line more e in
-  not_refused p.0 p.1 line p.3 (subst (λ o. RefusedAfter o line) (one_reading before before r.draft p.0 r.so.reads p.2 refl) r.refused));
+      (let p = split_reading lines handler.draft so.reads before line more e in
+      not_refused p.0 p.1 line p.3 (subst (λ o. RefusedAfter o line) (one_reading before before r.draft p.0 r.so.reads p.2 refl) r.refused));
   ended = λ lines shown last ends told why no. not_unfinished ends.draft no.draft (one_reading lines lines (Some ends.draft) no.draft ends.so.reads no.so.reads refl) ends.whole no.unfinished;
   one_reason = λ lines shown other line why w r s. r.unreadable ∙ sym s.unreadable;
   long_reason = λ lines shown line why r long. r.unreadable;

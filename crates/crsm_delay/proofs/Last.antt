@@ -1,5 +1,5 @@
 -- The greatest of some moments, replica by replica.
-use Rattle.std.proofs.Common.{◌≡◌, ◌≢◌, ℕ, zero, suc, ◌+◌, ◌<◌, ◌≤◌, List, [], ◌∷◌, ◌++◌, length, refl, sym, ◌∙◌, ap, Bool, true, false, cond, arith, map, max, min, ◌-◌, append_assoc}
+use Rattle.std.proofs.Common.{◌≡◌, ◌≢◌, ℕ, zero, suc, ◌+◌, ◌<◌, List, [], ◌∷◌, ◌++◌, refl, sym, ◌∙◌, ap, Bool, true, false, cond, arith, map, max, min, ◌-◌, append_assoc}
 use Rattle.std.specs.Prelude.{filter, not, ◌==◌}
 use Rattle.std.specs.List.{range_with_len, flat_map}
 use Rattle.std.proofs.lemmas.Grind.{flat_map-append}
@@ -8,7 +8,7 @@ use Rattle.std.proofs.lemmas.List.{append-nil}
 use Rattle.std.proofs.lemmas.Bool.{eq-eqb, ne_eqb}
 use Rattle.crsm_spec.specs.Lists.{greatest, numbers_below}
 use Rattle.crsm_timing.specs.declared.Plan.{Plan}
-use Rattle.crsm_timing.specs.Plans.{FitsPlan, ok_at, delay_of, offset_of, reading, stamped, arrival, others, commit_at, most_moment, most_delay}
+use Rattle.crsm_timing.specs.Plans.{FitsPlan, ok_at, delay_of, offset_of, reading, stamped, arrival, others, commit_at}
 
 -- the greatest over the replicas below k, and the command's own
 pub last_below : Plan → ℕ → ℕ → ℕ

@@ -1,5 +1,5 @@
 -- Plans that are read line by line: which line can follow, and what it adds.
-use Rattle.std.specs.Prelude.{ℕ, Bool, true, false, ◌==◌, ◌&&◌, ◌||◌, not, nat_lt, nat_le, List, [], ◌∷◌, ◌++◌}
+use Rattle.std.specs.Prelude.{ℕ, Bool, true, false, ◌==◌, ◌&&◌, ◌||◌, not, nat_lt, nat_le, [], ◌∷◌, ◌++◌}
 use Rattle.std.specs.List.{list_any}
 use Rattle.crsm_timing.specs.declared.Plan.{Plan}
 use Rattle.crsm_timing.specs.Plans.{most_delay, most_moment, offset_of}

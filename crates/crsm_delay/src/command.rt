@@ -5,10 +5,12 @@ ghost use Rattle.crsm_faults.specs.Counts.{Rose};
 ghost use Rattle.crsm_input.specs.Exact.{Exact, IsDone, IsRefused, IsTooLong, WhereBad, WhereFaultless, WhereTooLong, WhereWhole};
 ghost use Rattle.crsm_input.specs.Run.{Ran};
 ghost use Rattle.crsm_delay.specs.Reading.{times_of};
+ghost use Rattle.crsm_law_timing.specs.Commits.{CommandsCommitInTime, TimelinesArePossible};
 
 use crate::handling::{PlanCause, PlanReader};
 use crsm_input::{Ending, MAX_INPUT_BYTES, run_lines};
 use crsm_io::{Sink, Source};
+use crsm_law_timing::{commands_commit_in_time, timelines_are_possible};
 use std::alloc::Global;
 
 /// Reads a plan to its end, and writes the moment at which each replica executes the command.
@@ -33,7 +35,14 @@ pub fn delay_times<I: Source, O: Sink>(
     // An input beyond the limit is never done, and one within it is never too long.
     ensures limit { (bytes : List ℕ) → I.left input.old ≡ Some bytes → MAX_INPUT_BYTES < length bytes → result ≢ Ending.Done }
     ensures within { (bytes : List ℕ) → I.left input.old ≡ Some bytes → length bytes ≤ MAX_INPUT_BYTES → result ≢ Ending.InputTooLong }
+
+    // The moments that are written are those of the protocol: each timeline of a plan is possible, and in it each replica executes
+    // the command once, at its moment.
+    ensures possible { TimelinesArePossible }
+    ensures moments { CommandsCommitInTime }
 {
+    timelines_are_possible();
+    commands_commit_in_time();
     run_lines(alloc, PlanReader::new(alloc), input, output)
 }
 

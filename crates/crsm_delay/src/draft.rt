@@ -28,10 +28,7 @@ pub struct Draft {
 fn has_offset_of(plan: &Plan, replica: u64) -> bool
     ensures { result ≡ has_offset plan.now replica }
 {
-    plan.offsets
-        .as_slice()
-        .iter()
-        .any(|o| o.replica == replica)
+    plan.offsets.as_slice().iter().any(|o| o.replica == replica)
 }
 
 /// Whether a delay between the two replicas is named.

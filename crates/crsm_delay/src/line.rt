@@ -4,7 +4,7 @@ ghost use Rattle.std.specs.Prelude.{◌≡◌, ◌++◌, IfSome, codes};
 ghost use Rattle.crsm_delay.specs.Grammar.{FitsLine, line_text};
 ghost use Rattle.crsm_delay.specs.declared.line.PlanLine.{PlanLine as Spelt};
 
-use crsm_text::{two_fields, two_numbers, read_number};
+use crsm_text::{read_number, two_fields, two_numbers};
 
 /// A line of a plan.
 #[derive(Clone, Copy, Debug, PartialEq, Eq)]

@@ -1,4 +1,4 @@
-use Rattle.std.proofs.Common.{◌≡◌, ◌∙◌, ℕ, ap, arith}
+use Rattle.std.proofs.Common.{◌≡◌, ◌∙◌, ap, arith}
 use Rattle.crsm_delay.proofs.Last.{last_below, all_below, none_below, another, the_origin}
 use Rattle.crsm_delay.proofs.moments.commit_at.Goals as goal
 use Rattle.crsm_delay.proofs.moments.commit_at.Goals.{then-k-plan, else-k-plan}

@@ -1,4 +1,4 @@
-use Rattle.std.proofs.Common.{◌≡◌, ◌∙◌, ◌++◌, ℕ, ap, arith}
+use Rattle.std.proofs.Common.{◌≡◌, ◌∙◌, ◌++◌, ap, arith}
 use Rattle.std.specs.List.{flat_map}
 use Rattle.crsm_spec.specs.Lists.{numbers_below}
 use Rattle.crsm_delay.specs.Times.{row}
