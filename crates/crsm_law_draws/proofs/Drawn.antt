@@ -8,7 +8,7 @@ use Rattle.crsm_generator.specs.Drawing.{begun, drawn_next}
 use Rattle.crsm_generator.specs.declared.drawing.Drawing.{Drawing}
 use Rattle.crsm_schedule.specs.declared.Event.{Event}
 use Rattle.crsm_schedule.specs.declared.Single.{Single}
-use Rattle.crsm_soak.specs.Soak.{drawn, drawn_from}
+use Rattle.crsm_law_draws.specs.Drawn.{drawn, drawn_from}
 use Rattle.crsm_spec.specs.Acts.{Act, FitsAct, FitsSingle}
 use Rattle.crsm_spec.specs.Moments.{act}
 use Rattle.crsm_spec.specs.Possible.{possible}

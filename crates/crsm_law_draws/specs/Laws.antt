@@ -7,7 +7,7 @@ use Rattle.crsm_spec.specs.Acts.{Act, FitsAct}
 use Rattle.crsm_spec.specs.Possible.{possible}
 use Rattle.crsm_spec.specs.Run.{ArePossible, last_world}
 use Rattle.crsm_spec.specs.World.{World, begin, is_full}
-use Rattle.crsm_soak.specs.Soak.{drawn}
+use Rattle.crsm_law_draws.specs.Drawn.{drawn}
 use Rattle.crsm_world.specs.Doing.{act_of}
 use Rattle.crsm_world.specs.Schedule.{acts_of}
 use Rattle.crsm_world.specs.Seen.{view_of}

@@ -1,2 +1,3 @@
+pub mod Drawn
 pub mod Founders
 pub mod Laws

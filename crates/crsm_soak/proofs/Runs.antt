@@ -1,12 +1,13 @@
 -- A run, event by event: what has been drawn and done, and what is still ahead.
-use Rattle.std.proofs.Common.{◌≡◌, ◌≤◌, ◌+◌, ◌-◌, ℕ, zero, suc, Bool, true, false, cond, List, [], ◌∷◌, ◌++◌, length, map, refl, ap, sym, ◌∙◌, subst, arith, append_assoc, append-nil, Option, None, Some}
+use Rattle.std.proofs.Common.{◌≡◌, ◌+◌, ℕ, zero, suc, true, false, List, [], ◌∷◌, ◌++◌, length, map, refl, ap, sym, ◌∙◌, subst, arith, append_assoc, append-nil, Option, None, Some}
 use Rattle.std.proofs.lemmas.List.{map-append}
 use Rattle.crsm_generator.specs.Drawing.{begun, drawn_next}
 use Rattle.crsm_generator.specs.declared.drawing.Drawing.{Drawing}
 use Rattle.crsm_schedule.specs.declared.Event.{Event}
 use Rattle.crsm_spec.specs.Acts.{Act}
 use Rattle.crsm_spec.specs.Moments.{act}
-use Rattle.crsm_spec.specs.Run.{TraceLine, traced, told, seen}
+use Rattle.crsm_spec.specs.Possible.{possible}
+use Rattle.crsm_spec.specs.Run.{ArePossible, TraceLine, after_acts, traced, told, seen}
 use Rattle.crsm_spec.specs.Types.{Line}
 use Rattle.crsm_spec.specs.World.{World, begin, first_lines, is_full}
 use Rattle.crsm_world.specs.Doing.{act_of}
@@ -14,7 +15,7 @@ use Rattle.crsm_world.specs.Laws.{HasDone}
 use Rattle.crsm_world.specs.Schedule.{acts_of}
 use Rattle.crsm_world.specs.Seen.{view_of}
 use Rattle.crsm_world.specs.World.{WorldStands}
-use Rattle.crsm_soak.specs.Running.{Begins, HasRun, StepsOn}
+use Rattle.crsm_soak.specs.Running.{Begins, CanGoOn, HasRun, StepsOn}
 use Rattle.crsm_soak.specs.Soak.{drawn, drawn_from, lines_of, more, nothing}
 use Rattle.crsm_soak.specs.declared.running.Run.{Run}
 use Rattle.crsm_soak.proofs.Sums.{more_more, none_more}
@@ -44,6 +45,7 @@ pub record Runs (run : Run) (number n steps left : ℕ) : Type 0 where
   pub cluster : World
   pub acts : List Act
   pub stands : WorldStands run.world cluster
+  pub reached : cluster ≡ after_acts (begin n) acts
   pub done : HasDone run.world n acts
   pub replicas : run.generator.replicas ≡ n
   pub ahead : acts ++ map act_of (drawn_from left n cluster run.generator.drawing) ≡ acts_of (drawn number n steps)
@@ -51,13 +53,14 @@ pub record Runs (run : Run) (number n steps left : ℕ) : Type 0 where
       ≡ more nothing (length (drawn number n steps).events) (lines_of (drawn number n steps))
 
 pub runs_first : (run : Run) (number n steps : ℕ) → Begins run number n → Runs run number n steps steps
-unfolding drawn acts_of lines_of seen
+unfolding drawn acts_of lines_of seen after_acts
 runs_first run number n steps b =
     let es = drawn_from steps n (begin n) (begun number) in
     record {
       cluster = begin n;
       acts = [];
       stands = b.stands;
+      reached = refl;
       done = b.done;
       replicas = b.replicas;
       ahead = ap (λ s. map act_of (drawn_from steps n (begin n) s)) b.drawing;
@@ -83,6 +86,28 @@ unfolding drawn_from
 none_drawn zero n w s f = refl
 none_drawn (suc left) n w s f = rw f refl
 
+after_more : (w : World) (acts : List Act) (a : Act) → after_acts w (acts ++ a ∷ []) ≡ (act (after_acts w acts) a).after
+unfolding after_acts
+after_more w [] a = refl
+after_more w (b ∷ acts) a = after_more (act w b).after acts a
+
+possible_at : (w : World) (acts : List Act) (a : Act) (rest : List Act) → ArePossible w (acts ++ a ∷ rest) → possible (after_acts w acts) a ≡ None
+unfolding after_acts
+possible_at w [] a rest p = p.1
+possible_at w (b ∷ acts) a rest p = possible_at (act w b).after acts a rest p.2
+
+-- what is drawn next is possible, since all that is drawn is
+pub can_go_on : (run : Run) (number n steps left : ℕ) → (h : Runs run number n steps (suc left)) → is_full h.cluster ≡ false → ArePossible (begin n) (acts_of (drawn number n steps)) → CanGoOn run
+can_go_on run number n steps left h f all =
+    let w = h.cluster in
+    let d = run.generator.drawing in
+    let next = drawn_next n (view_of w) d in
+    let rest = map act_of (drawn_from left n (act w (act_of next.0)).after next.1) in
+    let list : h.acts ++ act_of next.0 ∷ rest ≡ acts_of (drawn number n steps) = ap (λ es. h.acts ++ map act_of es) (sym (next_drawn left n w d f)) ∙ h.ahead in
+    let can = possible_at (begin n) h.acts (act_of next.0) rest (subst (ArePossible (begin n)) (sym list) all) in
+    let here = subst (λ v. possible v (act_of next.0) ≡ None) (sym h.reached) can in
+    record { cluster = w; stands = h.stands; can = subst (λ k. possible w (act_of (drawn_next k (view_of w) d).0) ≡ None) (sym h.replicas) here }
+
 pub runs_next : (old new : Run) (number n steps left : ℕ) → (h : Runs old number n steps (suc left)) → is_full h.cluster ≡ false → StepsOn h.cluster n h.acts old new → Runs new number n steps left
 runs_next old new number n steps left h f s =
     let w = h.cluster in
@@ -99,6 +124,7 @@ runs_next old new number n steps left h f s =
       cluster = m.after;
       acts = h.acts ++ act_of e ∷ [];
       stands = s.stands;
+      reached = ap (λ v. (act v (act_of e)).after) h.reached ∙ sym (after_more (begin n) h.acts (act_of e));
       done = s.done;
       replicas = s.replicas ∙ h.replicas;
       ahead = append_assoc h.acts (act_of e ∷ []) (map act_of rest) ∙ ap (λ es. h.acts ++ map act_of es) (sym list) ∙ h.ahead;

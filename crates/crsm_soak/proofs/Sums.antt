@@ -1,12 +1,12 @@
 -- Counts of more lines, and the greatest number of one line more.
-use Rattle.std.proofs.Common.{◌≡◌, ◌<◌, ◌+◌, ℕ, Bool, cond, List, [], ◌∷◌, ◌++◌, length, get_or, take, refl, ap, sym, ◌∙◌, arith}
+use Rattle.std.proofs.Common.{◌≡◌, ◌<◌, ◌+◌, ℕ, Bool, cond, List, [], ◌∷◌, ◌++◌, length, get_or, take, ap, sym, ◌∙◌, arith}
 use Rattle.std.specs.Prelude.{fold, max}
 use Rattle.std.specs.List.{count_by}
 use Rattle.std.proofs.lemmas.List.{take_more}
 use Rattle.std.proofs.lemmas.List.Sums.{fold-append, sum_by-append}
 use Rattle.crsm_spec.specs.Types.{Line}
 use Rattle.crsm_soak.specs.Counting.{greatest, is_answer, is_drop, is_refusal, is_send, is_submission}
-use Rattle.crsm_soak.specs.Soak.{more, nothing}
+use Rattle.crsm_soak.specs.Soak.{more}
 use Rattle.crsm_soak.specs.declared.summary.Summary.{Summary}
 
 add_counts : (test : Line → Bool) (n : ℕ) (xs ys : List Line) → n + count_by test xs + count_by test ys ≡ n + count_by test (xs ++ ys)

@@ -1,8 +1,9 @@
 -- A run in memory that has come so far.
-use Rattle.std.specs.Prelude.{◌≡◌, ℕ, List, [], ◌∷◌, ◌++◌, length}
+use Rattle.std.specs.Prelude.{◌≡◌, ℕ, List, [], ◌∷◌, ◌++◌, length, None}
 use Rattle.crsm_generator.specs.Drawing.{begun, drawn_next}
 use Rattle.crsm_spec.specs.Acts.{Act}
 use Rattle.crsm_spec.specs.Moments.{act}
+use Rattle.crsm_spec.specs.Possible.{possible}
 use Rattle.crsm_spec.specs.World.{World, begin, first_lines}
 use Rattle.crsm_world.specs.Doing.{act_of}
 use Rattle.crsm_world.specs.Laws.{HasDone}
@@ -19,6 +20,12 @@ pub record Begins (run : Run) (number n : ℕ) : Type 0 where
   pub replicas : run.generator.replicas ≡ n
   pub drawing : run.generator.drawing ≡ begun number
   pub told : run.summary ≡ more nothing 0 (first_lines n)
+
+-- The next event is drawn, and it is possible in a world that this one stands for.
+pub record CanGoOn (run : Run) : Type 0 where
+  pub cluster : World
+  pub stands : WorldStands run.world cluster
+  pub can : possible cluster (act_of (drawn_next run.generator.replicas (view_of cluster) run.generator.drawing).0) ≡ None
 
 -- where the world was v and had done these acts, the next event was drawn and done
 pub record StepsOn (v : World) (n : ℕ) (acts : List Act) (old new : Run) : Type 0 where

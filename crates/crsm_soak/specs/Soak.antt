@@ -1,31 +1,13 @@
 -- Runs that a number draws, and their summary.
-use Rattle.std.specs.Prelude.{◌≡◌, ℕ, zero, suc, ◌+◌, if◌then◌else◌, List, [], ◌∷◌, ◌++◌, length, map}
+use Rattle.std.specs.Prelude.{ℕ, ◌+◌, List, length, map}
 use Rattle.std.specs.List.{count_by}
-use Rattle.crsm_generator.specs.Drawing.{begun, drawn_next}
-use Rattle.crsm_generator.specs.declared.drawing.Drawing.{Drawing}
-use Rattle.crsm_schedule.specs.declared.Event.{Event}
-use Rattle.crsm_spec.specs.Acts.{Act}
-use Rattle.crsm_spec.specs.Moments.{act}
 use Rattle.crsm_spec.specs.Run.{seen}
 use Rattle.crsm_spec.specs.Types.{Line}
-use Rattle.crsm_spec.specs.World.{World, begin, finals, is_full}
-use Rattle.crsm_world.specs.Doing.{act_of}
+use Rattle.crsm_spec.specs.World.{finals}
 use Rattle.crsm_world.specs.Schedule.{Schedule, acts_of, last_world}
-use Rattle.crsm_world.specs.Seen.{view_of}
+unfoldable pub use Rattle.crsm_law_draws.specs.Drawn.{drawn, drawn_from}
 use Rattle.crsm_soak.specs.Counting.{executed_in, greatest, is_answer, is_drop, is_refusal, is_send, is_submission, known_in}
 use Rattle.crsm_soak.specs.declared.summary.Summary.{Summary}
-
--- The events that are drawn for n replicas from this world and state on, so many at most: they end where the world is full.
-unfoldable pub drawn_from : (steps n : ℕ) → World → Drawing → List Event
-drawn_from zero n w s = []
-drawn_from (suc steps) n w s =
-    let next = drawn_next n (view_of w) s in
-    let more = next.0 ∷ drawn_from steps n (act w (act_of next.0)).after next.1 in
-    if is_full w then [] else more
-
--- the schedule that a number draws for n replicas
-unfoldable pub drawn : (number n steps : ℕ) → Schedule
-drawn number n steps = record { replicas = n; events = drawn_from steps n (begin n) (begun number) }
 
 -- ---- the summary
 

@@ -1,6 +1,5 @@
 -- What is written of a run.
 use Rattle.std.specs.Prelude.{ℕ, List, [], ◌∷◌, ◌++◌, codes}
-use Rattle.crsm_schedule.specs.Transcript.{lines_text}
 use Rattle.crsm_text.specs.Words.{named}
 use Rattle.crsm_world.specs.Schedule.{Schedule, finals_text}
 use Rattle.crsm_soak.specs.Soak.{summary_of}

@@ -1,21 +1,36 @@
 //! One generated event after another.
 
-ghost use Rattle.std.specs.Prelude.{◌≤◌, ℕ, IfOk, List, OnOk};
+ghost use Rattle.std.specs.Prelude.{◌≡◌, ◌≤◌, ℕ, IfErr, IfOk, List, Ok, OnOk};
 ghost use Rattle.crsm_spec.specs.Acts.{Act};
 ghost use Rattle.crsm_spec.specs.World as on_paper;
-ghost use Rattle.crsm_soak.specs.Running.{Begins, HasRun, StepsOn};
+ghost use Rattle.crsm_soak.specs.Running.{Begins, CanGoOn, HasRun, StepsOn};
 ghost use Rattle.crsm_world.specs.Laws.{HasDone};
 ghost use Rattle.crsm_world.specs.World.{WorldStands};
 
 use crate::summary::Summary;
 use crsm_base::{Lines, NoMemory};
 use crsm_generator::Generator;
+use crsm_law_draws::drawn_runs_are_possible;
 use crsm_schedule::Event;
-use crsm_world::World;
+use crsm_world::{Bad, World};
 use std::alloc::Global;
 
 /// Lets an event go, in a function of its own, which keeps the cases of an event out of its callers' proofs.
 fn discard(_event: Event) {}
+
+/// What an event led to that was not refused.
+fn unless_refused(stepped: Result<Lines, Bad>) -> Result<Lines, NoMemory>
+    requires { IfErr stepped (λ bad. bad ≡ Bad.NoMemory) }
+    ensures { IfOk result (λ lines. stepped ≡ Ok lines) }
+{
+    match stepped {
+        Ok(lines) => Ok(lines),
+        Err(bad) => {
+            prove!(bad == Bad::NoMemory);
+            Err(NoMemory)
+        }
+    }
+}
 
 /// A run as far as it has come.
 #[derive(Drop)]
@@ -43,16 +58,15 @@ impl Run {
         })
     }
 
-    /// Draws an event and does it. The world is not full, so that the event is possible.
+    /// Draws an event and does it. The event is possible, so it is not refused.
     fn step(&mut self) -> Result<(), NoMemory>
+        requires { CanGoOn self.old }
         ensures { (v : on_paper.World) (n : ℕ) (acts : List Act) → WorldStands self.old.world v → HasDone self.old.world n acts → OnOk result (StepsOn v n acts self.old self.new) }
     {
         let event = self.generator.next(&self.world)?;
         let stepped = self.world.step(&event);
         discard(event);
-        let Ok(lines) = stepped else {
-            return Err(NoMemory);
-        };
+        let lines = unless_refused(stepped)?;
         self.summary.add(1, lines.as_slice())?;
         self.world.take_back(lines);
         Ok(())
@@ -65,6 +79,7 @@ pub(crate) fn run_all(alloc: Global, number: u64, n: u32, steps: u64) -> Result<
     requires most { n ≤ 15 }
     ensures { IfOk result (λ run. HasRun run number n steps) }
 {
+    drawn_runs_are_possible();
     let mut run = Run::begin(alloc, number, n)?;
     for _ in 0..steps {
         if run.world.is_full() {

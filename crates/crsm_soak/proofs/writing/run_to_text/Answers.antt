@@ -1,12 +1,10 @@
-use Rattle.std.proofs.Common.{◌≡◌, ◌∙◌, ◌++◌, ap, List}
+use Rattle.std.proofs.Common.{◌≡◌, ◌∙◌, ◌++◌, ap}
 use Rattle.crsm_schedule.specs.Transcript.{lines_text}
-use Rattle.crsm_spec.specs.Types.{Line}
 use Rattle.crsm_spec.specs.World.{finals}
 use Rattle.crsm_world.specs.Schedule.{finals_text, last_world}
 use Rattle.crsm_soak.specs.Counting.{executed_in, greatest, known_in}
 use Rattle.crsm_soak.specs.Soak.{drawn, summary_of}
 use Rattle.crsm_soak.specs.Text.{soak_text, summary_text}
-use Rattle.crsm_soak.specs.declared.summary.Summary.{Summary}
 use Rattle.crsm_soak.proofs.writing.run_to_text.Goals as goal
 
 pub returns-clause-text : goal.returns-clause-text
