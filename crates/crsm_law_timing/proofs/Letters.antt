@@ -198,7 +198,7 @@ most_is (x ∷ xs) m h =
     let b = most_is xs m (λ y i. h y (inr i)) in
     omega (arith, a, b)
 
-no_less : (xs : List ℕ) (m : ℕ) → Among xs m → m ≤ greatest xs
+pub no_less : (xs : List ℕ) (m : ℕ) → Among xs m → m ≤ greatest xs
 unfolding greatest
 no_less [] m a = absurd a
 no_less (x ∷ xs) m (inl e) = omega (arith, e)
@@ -216,7 +216,7 @@ pub at_ok : (plan : Plan) (k : ℕ) → plan.at ≤ ok_at plan k
 unfolding ok_at arrival
 at_ok plan k = omega arith
 
-is_other : (plan : Plan) (j : ℕ) → Among (others plan) j → (j < plan.n) × (j ≢ plan.origin)
+pub is_other : (plan : Plan) (j : ℕ) → Among (others plan) j → (j < plan.n) × (j ≢ plan.origin)
 unfolding others
 is_other plan j a =
     let t = kept_from (λ k. not (k == plan.origin)) (numbers_below plan.n) j a in

@@ -21,3 +21,4 @@ pub mod Beginning
 pub mod Timing
 pub mod Opened
 pub mod Happening
+pub mod Moments

@@ -2,6 +2,7 @@
 #![tactic(auto)]
 
 ghost use Rattle.crsm_law_timing.specs.Commits.{CommandsCommitInTime, TimelinesArePossible, WaitsForClock};
+ghost use Rattle.crsm_law_timing.specs.Moments.{MomentsAreSo};
 
 /// Each timeline of a plan is possible: no event of it is refused.
 pub fn timelines_are_possible()
@@ -17,4 +18,10 @@ pub fn commands_commit_in_time()
 /// There is a timeline in which a replica waits for its clock: the premises of these laws can be met.
 pub fn timelines_happen()
     ensures { WaitsForClock }
+{}
+
+/// One replica executes the command when it comes, and of several each when the last acknowledgement has come, which a replica whose
+/// clock is not past the timestamp puts off until it is.
+pub fn moments_are_so()
+    ensures { MomentsAreSo }
 {}
