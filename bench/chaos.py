@@ -7,7 +7,7 @@ kills nodes and starts them again, pauses them, cuts links, leaves torn bytes be
 number. What happens is drawn from the seed; when the system runs what is not. Then it lets the cluster settle and
 judges what the sheets and the clients say:
 
-- each sheet replays with status 0, and the audit of all of them agrees;
+- each sheet replays with status 0, and the audit of all of them agrees, where the program has it;
 - the lists of all nodes are prefixes of one list, and what a command is answered is what a store of its own in Python
   answers at that place;
 - each command that a client was answered stands in that list, with that answer;
@@ -38,6 +38,7 @@ from nodes import Network, Node, Weather, free_addresses, text_of  # noqa: E402
 FAULTS = ["kill", "pause", "cut", "tear", "replace"]
 SETTLED_WITHIN = 15.0
 KEYS = [f"k{at}" for at in range(8)]
+NO_COMMAND = 2
 
 
 class Broken(Exception):
@@ -418,6 +419,8 @@ def audit(cluster: Cluster) -> str:
                 text += f"node {node.number}\n".encode() + sheet
     words = [cluster.words.program, "audit", str(cluster.words.nodes)]
     ran = subprocess.run(words, input=text, capture_output=True, check=False)
+    if ran.returncode == NO_COMMAND:
+        return "not in this program"
     verdict = ran.stdout.decode().strip().splitlines()
     if ran.returncode != 0 or not verdict or not verdict[-1].startswith("agree"):
         raise Broken(f"audit ends with {ran.returncode}: {verdict[-3:]} {ran.stderr.decode()}")
