@@ -1,0 +1,46 @@
+#!/usr/bin/env bash
+# Packs the proved program for Debian 12 on x86-64: `bash tools/release.sh FOLDER` writes FOLDER/crsm-VERSION.tar.gz with
+# the program, one built for processors with AVX2, a unit for systemd, the operator's page and the client in Python, and
+# tries the program where nothing else is there.
+set -eu
+cd "$(dirname "$0")/.."
+[ $# = 1 ] || { sed -n '2,4s/^# \{0,1\}//p' "$0" >&2; exit 2; }
+mkdir -p "$1"
+folder=$(realpath "$1")
+scratch=$(mktemp -d)
+trap 'rm -rf "$scratch"' EXIT
+
+(cd crates/crsm && rt run --cpu=x86-64-v3 >/dev/null)
+cp crates/crsm/out/crsm "$scratch/crsm-avx2"
+(cd crates/crsm && rt run >/dev/null)
+cp crates/crsm/out/crsm "$scratch/crsm"
+
+version=$("$scratch/crsm" --version | cut -d' ' -f2)
+name=crsm-$version
+mkdir -p "$scratch/$name/python"
+mv "$scratch/crsm" "$scratch/crsm-avx2" "$scratch/$name/"
+cp tools/crsm@.service docs/OPERATING.md "$scratch/$name/"
+cp clients/python/crsm.py clients/python/README.md "$scratch/$name/python/"
+cat > "$scratch/$name/README" <<END
+crsm $version, a replicated key-value store, from commit $(git rev-parse HEAD).
+
+crsm runs on any x86-64 processor of the last fifteen years, crsm-avx2 on one with AVX2. Both are static and need no
+library. OPERATING.md says how to start nodes; crsm@.service runs one under systemd; python/ has a client.
+
+What was proved, of the sources at this commit: that the output, the log, the packets and the answers of each command are
+those of the protocol, and that replicas agree in every schedule; the sources' README says it clause by clause. The proofs
+were checked, and the program built, by $(rt version 2>/dev/null | head -1).
+
+sha256sum -c SHA256SUMS checks the files.
+END
+(cd "$scratch/$name" && find . -type f ! -name SHA256SUMS | sort | xargs sha256sum > SHA256SUMS)
+
+# In a root that has the program and nothing else: a schedule is replayed.
+mkdir "$scratch/root"
+for program in crsm crsm-avx2; do
+  cp "$scratch/$name/$program" "$scratch/root/"
+  [ "$program" = crsm-avx2 ] && ! grep -qw avx2 /proc/cpuinfo && continue
+  unshare -r chroot "$scratch/root" "/$program" replay < examples/first.schedule | cmp - examples/first.transcript
+done
+tar -C "$scratch" -czf "$folder/$name.tar.gz" --owner=0 --group=0 --sort=name "$name"
+echo "release: $folder/$name.tar.gz"
