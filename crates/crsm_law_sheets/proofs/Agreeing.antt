@@ -50,7 +50,7 @@ rest_rises e [] h = tt
 rest_rises e (f ∷ es) h = h.1
 
 -- of two places of a list that rises
-rises_at : (es : List Entry) (p q : ℕ) (a b : Entry) → Rises es → slice_get es p ≡ Some a → slice_get es q ≡ Some b → q < p → IsBefore b a
+pub rises_at : (es : List Entry) (p q : ℕ) (a b : Entry) → Rises es → slice_get es p ≡ Some a → slice_get es q ≡ Some b → q < p → IsBefore b a
 rises_at [] p q a b h g k lt = absurd (none-some a g)
 rises_at (e ∷ es) zero q a b h g k lt = absurd (omega (arith, lt))
 rises_at (e ∷ es) (suc p) zero a b h g k lt = subst (λ z. IsBefore z a) (same_Some e b k) (after_at e es p a h g)
@@ -171,7 +171,7 @@ listed n [] es h = absurd h
 listed n (s ∷ sheets) es (inl e) = (s, inl refl, e)
 listed n (s ∷ sheets) es (inr h) = let t = listed n sheets es h in (t.0, inr t.1, t.2)
 
-ascending : (n : ℕ) (sheets : List Sheet) → AllByRecursion (IsSound n) sheets → Rises (one_list n sheets)
+pub ascending : (n : ℕ) (sheets : List Sheet) → AllByRecursion (IsSound n) sheets → Rises (one_list n sheets)
 ascending n sheets sound = subst Rises (sym (longest_is (map (list_of n) sheets))) (elim (picked (map (list_of n) sheets) []) [
   | inl e ↦ subst Rises (sym e) tt
   | inr m ↦ (let t = listed n sheets _ m in let s = all_at (IsSound n) sheets t.0 sound t.1 in subst Rises t.2 (executed_rises t.0.me n (last_log n t.0) s.fit s.spelt))

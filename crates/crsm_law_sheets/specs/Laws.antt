@@ -1,7 +1,7 @@
 -- The law of sheets that agree.
 use Rattle.std.specs.Prelude.{◌≡◌, ℕ, ◌<◌, List, Some, slice_get}
 use Rattle.std.specs.List.{AllByRecursion}
-use Rattle.crsm_base.specs.Spelling.{Rises}
+use Rattle.crsm_base.specs.Spelling.{IsBefore, Rises}
 use Rattle.crsm_spec.specs.Types.{Stamp, Entry, Answer, Refusal, Outcome, Line}
 use Rattle.crsm_spec.specs.Lists.{Among, IsPrefixOf}
 use Rattle.crsm_spec.specs.Log.{Log, executed}
@@ -45,3 +45,12 @@ pub record AreSafe (n : ℕ) (sheets : List Sheet) : Type 0 where
 -- Sheets that agree are safe, whatever bytes the nodes took.
 abbrev pub AgreeingSheetsAreSafe : Type 0
 AgreeingSheetsAreSafe = (n : ℕ) (sheets : List Sheet) → AllByRecursion (IsSound n) sheets → Agree n sheets → AreSafe n sheets
+
+-- the one list of sound sheets rises by epoch and stamp
+abbrev pub OneListRises : Type 0
+OneListRises = (n : ℕ) (sheets : List Sheet) → AllByRecursion (IsSound n) sheets → Rises (one_list n sheets)
+
+-- in a list that rises an entry is before each that has a greater place
+abbrev pub EntriesStandInOrder : Type 0
+EntriesStandInOrder =
+    (es : List Entry) (p q : ℕ) (a b : Entry) → Rises es → slice_get es p ≡ Some a → slice_get es q ≡ Some b → q < p → IsBefore b a

@@ -2,7 +2,7 @@
 //! node found and took alone, so it holds of forged sheets as of honest ones.
 #![tactic(auto)]
 
-ghost use Rattle.crsm_law_sheets.specs.Laws.{AgreeingSheetsAreSafe};
+ghost use Rattle.crsm_law_sheets.specs.Laws.{AgreeingSheetsAreSafe, EntriesStandInOrder, OneListRises};
 
 use crsm_step_facts::steps_are_changes;
 
@@ -13,3 +13,13 @@ pub fn agreeing_sheets_are_safe()
 {
     steps_are_changes();
 }
+
+/// The one list of sheets rises by epoch and stamp, whether they agree or not.
+pub fn one_list_rises()
+    ensures { OneListRises }
+{}
+
+/// In a list that rises, of two entries the one with the lesser place is before the other.
+pub fn entries_stand_in_order()
+    ensures { EntriesStandInOrder }
+{}

@@ -7,12 +7,13 @@ use Rattle.std.proofs.lemmas.Option.{none-some, same_Some}
 use Rattle.crsm_spec.specs.Types.{Stamp, Line}
 use Rattle.crsm_spec.specs.Lists.{Among}
 use Rattle.crsm_spec.specs.Draft.{Draft}
+use Rattle.crsm_law_sheets.specs.Laws.{EntriesStandInOrder, IsSound, OneListRises}
 use Rattle.crsm_law_sheets.specs.Sheets.{Sheet, one_list, steps_of}
 use Rattle.crsm_law_sheets.specs.Verdicts as sheets_are
 use Rattle.crsm_law_sheets.specs.Verdicts.{Drops, DropsExecuted, DropsNone, HasNamed, lines_told}
 use Rattle.crsm_verdict.specs.Accounts.{AccountStands, AccountsStand, dropped_from, dropped_in, dropped_of}
 use Rattle.crsm_verdict.specs.Judging.{IsFirstDropped, IsNamed, NoneDropped, NoneNamed}
-use Rattle.crsm_verdict.specs.Lists.{place_of, places_of}
+use Rattle.crsm_verdict.specs.Lists.{IsAscending, IsBeforeName, place_of, places_of}
 use Rattle.crsm_verdict.specs.declared.account.Account.{Account}
 use Rattle.crsm_verdict.specs.declared.place.Dropped.{Dropped}
 use Rattle.crsm_verdict.specs.declared.place.Place.{Place}
@@ -202,3 +203,20 @@ module _ (n : ℕ) (accounts : List Account) (sheets : List Sheet) (stand : Acco
                   absurd (omega (arith, le, line_is, other_is, less)))
             ],
       )
+
+-- ---- the order of names
+
+all_sound : (n : ℕ) (accounts : List Account) (sheets : List Sheet) → AccountsStand n accounts sheets → AllByRecursion (IsSound n) sheets
+all_sound n [] [] h = tt
+all_sound n [] (s ∷ sheets) h = absurd h
+all_sound n (a ∷ accounts) [] h = absurd h
+all_sound n (a ∷ accounts) (s ∷ sheets) h = (h.0.sound, all_sound n accounts sheets h.1)
+
+-- the names of the one list ascend
+pub names_ascend : OneListRises → EntriesStandInOrder → (n : ℕ) (accounts : List Account) (sheets : List Sheet) → AccountsStand n accounts sheets → (names : List Place)
+    → names ≡ places_of (one_list n sheets) → IsAscending names
+names_ascend rises order n accounts sheets stand names are = λ p q a b at_p at_q less.
+    let e = unmapped place_of (one_list n sheets) p a (subst (λ l. slice_get l p ≡ Some a) are at_p) in
+    let f = unmapped place_of (one_list n sheets) q b (subst (λ l. slice_get l q ≡ Some b) are at_q) in
+    let before = order (one_list n sheets) p q e.0 f.0 (rises n sheets (all_sound n accounts sheets stand)) e.1 f.1 less in
+    subst (λ (z : Place). IsBeforeName z.epoch z.stamp a.epoch a.stamp) f.2 (subst (λ (z : Place). IsBeforeName f.0.epoch f.0.stamp z.epoch z.stamp) e.2 before)

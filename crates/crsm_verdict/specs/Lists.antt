@@ -1,7 +1,8 @@
 -- Lists of entries as bytes, and their names.
-use Rattle.std.specs.Prelude.{◌≡◌, ◌≢◌, ℕ, ◌<◌, nat_lt, if◌then◌else◌, List, [], fold, length, map, Some, slice_get}
-use Rattle.crsm_spec.specs.Types.{Entry}
+use Rattle.std.specs.Prelude.{◌≡◌, ◌≢◌, ◌⊎◌, ℕ, ◌<◌, ◌≤◌, nat_lt, if◌then◌else◌, List, [], fold, length, map, Some, slice_get}
+use Rattle.crsm_spec.specs.Types.{Stamp, Entry}
 use Rattle.crsm_verdict.specs.declared.account.Account.{Account}
+use Rattle.crsm_verdict.specs.declared.place.Dropped.{Dropped}
 use Rattle.crsm_verdict.specs.declared.place.Place.{Place}
 
 -- the longer of two lists, the first where they are equally long
@@ -30,3 +31,19 @@ place_of e = record { epoch = e.epoch; stamp = e.stamp; client = e.command.clien
 -- of these entries
 abbrev pub places_of : List Entry → List Place
 places_of es = map place_of es
+
+-- ---- names
+
+-- the first name is before the second: by epoch, then by stamp
+abbrev pub IsBeforeName : ℕ → Stamp → ℕ → Stamp → Type 0
+IsBeforeName x s y t = x < y ⊎ ((x ≡ y) × (s.time < t.time ⊎ ((s.time ≡ t.time) × (s.origin < t.origin))))
+
+-- each entry is before those behind it
+abbrev pub IsAscending : List Place → Type 0
+IsAscending places =
+    (p q : ℕ) (a b : Place) → slice_get places p ≡ Some a → slice_get places q ≡ Some b → q < p → IsBeforeName b.epoch b.stamp a.epoch a.stamp
+
+-- each entry below `low` is before the name, and none from `high` on is
+pub record IsBetween (places : List Place) (name : Dropped) (low high : ℕ) : Type 0 where
+  pub below : (q : ℕ) (a : Place) → q < low → slice_get places q ≡ Some a → IsBeforeName a.epoch a.stamp name.epoch name.stamp
+  pub above : (q : ℕ) (a : Place) → high ≤ q → slice_get places q ≡ Some a → IsBeforeName a.epoch a.stamp name.epoch name.stamp → ⊥

@@ -1,20 +1,22 @@
 //! The verdict on the accounts of sheets.
 
-ghost use Rattle.std.specs.Prelude.{◌≡◌, ℕ, [], false, IsTrue, List, IfOk, IfSome, IfNone};
+ghost use Rattle.std.specs.Prelude.{◌≡◌, ℕ, [], List, IfOk, IfSome, IfNone};
 ghost use Rattle.crsm_law_sheets.specs.Sheets.{Sheet};
 ghost use Rattle.crsm_verdict.specs.Accounts.{AccountsStand};
-ghost use Rattle.crsm_verdict.specs.Judging.{AreWithin, IsFirstDropped, IsFirstNamed, IsFirstStrange, IsNamed, IsOdd, NoneDropped, NoneNamed, StrangeAt};
-ghost use Rattle.crsm_verdict.specs.Lists.{longest_of};
+ghost use Rattle.crsm_verdict.specs.Judging.{AreWithin, IsFirstDropped, IsFirstNamed, IsFirstStrange, IsOdd, NoneDropped, NoneNamed, StrangeAt};
+ghost use Rattle.crsm_verdict.specs.Lists.{IsAscending, longest_of};
 ghost use Rattle.crsm_verdict.specs.Lists as on_paper;
 ghost use Rattle.crsm_verdict.specs.Verdict.{IsVerdict};
 
 use crate::account::Account;
 use crate::list::{first_difference, places_of};
+use crate::naming::is_named;
 use crate::origins::Origins;
-use crate::place::{Dropped, Place};
+use crate::place::Place;
 use crate::verdict::Verdict;
 use crsm_base::{Bodies, NoMemory};
 use crsm_codec::one_spelling_each;
+use crsm_law_sheets::{entries_stand_in_order, one_list_rises};
 use std::alloc::Global;
 
 /// The longer of two lists, the first where they are equally long.
@@ -68,23 +70,10 @@ fn stranger(accounts: &[Account], one: &Bodies, places: &[Place]) -> Option<usiz
     None
 }
 
-/// Whether one of the places has this name.
-fn is_named(places: &[Place], dropped: &Dropped) -> bool
-    ensures yes { IsTrue result → IsNamed places.now dropped.now }
-    ensures no { result ≡ false → IsNamed places.now dropped.now → ⊥ }
-{
-    for place in places {
-        if place.epoch == dropped.epoch && place.stamp == dropped.stamp {
-            return true;
-        }
-    }
-    false
-}
-
 /// The line of the first command that an account calls dropped and that is named.
 fn first_named(account: &Account, places: &[Place]) -> Option<u64>
-    ensures found { IfSome result (IsFirstNamed places.now account.now.dropped.items) }
-    ensures none { IfNone result (NoneNamed places.now account.now.dropped.items) }
+    ensures found { IsAscending places.now → IfSome result (IsFirstNamed places.now account.now.dropped.items) }
+    ensures none { IsAscending places.now → IfNone result (NoneNamed places.now account.now.dropped.items) }
 {
     for name in account.dropped.as_slice() {
         if is_named(places, name) {
@@ -96,8 +85,8 @@ fn first_named(account: &Account, places: &[Place]) -> Option<u64>
 
 /// The first account that calls an entry of the one list dropped, and at which line.
 fn first_dropped(accounts: &[Account], places: &[Place]) -> Option<(usize, u64)>
-    ensures found { IfSome result (λ first. IsFirstDropped accounts.now places.now first.0 first.1) }
-    ensures none { IfNone result (NoneDropped accounts.now places.now) }
+    ensures found { IsAscending places.now → IfSome result (λ first. IsFirstDropped accounts.now places.now first.0 first.1) }
+    ensures none { IsAscending places.now → IfNone result (NoneDropped accounts.now places.now) }
 {
     for (index, account) in accounts.iter().enumerate() {
         if let Some(line) = first_named(account, places) {
@@ -112,6 +101,8 @@ pub fn judge(alloc: Global, accounts: &[Account]) -> Result<Verdict, NoMemory>
     ensures { (n : ℕ) (sheets : List Sheet) → AccountsStand n accounts.now sheets → IfOk result (IsVerdict n sheets) }
 {
     one_spelling_each();
+    one_list_rises();
+    entries_stand_in_order();
     let none = Bodies::new(alloc);
     let one = longest(accounts, &none);
     if let Some((sheet, place)) = odd_list(accounts, one) {

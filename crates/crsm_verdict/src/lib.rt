@@ -5,6 +5,7 @@ mod account;
 mod judging;
 mod keeping;
 mod list;
+mod naming;
 mod origins;
 mod place;
 mod verdict;
