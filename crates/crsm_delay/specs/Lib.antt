@@ -2,3 +2,4 @@ pub mod Grammar
 pub mod Times
 pub mod Drafts
 pub mod Reading
+pub mod Exactly

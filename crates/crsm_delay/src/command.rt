@@ -2,8 +2,9 @@
 
 ghost use Rattle.std.specs.Prelude.{◌≡◌, ◌≢◌, ◌<◌, ◌≤◌, ◌+◌, ℕ, List, Some, length};
 ghost use Rattle.crsm_faults.specs.Counts.{Rose};
-ghost use Rattle.crsm_input.specs.Exact.{Exact, IsDone, IsRefused, IsTooLong, WhereBad, WhereFaultless, WhereTooLong, WhereWhole};
+ghost use Rattle.crsm_input.specs.Exact.{Exact};
 ghost use Rattle.crsm_input.specs.Run.{Ran};
+ghost use Rattle.crsm_delay.specs.Exactly.{EndsExactly};
 ghost use Rattle.crsm_delay.specs.Reading.{times_of};
 ghost use Rattle.crsm_law_timing.specs.Commits.{CommandsCommitInTime, TimelinesArePossible};
 
@@ -26,11 +27,8 @@ pub fn delay_times<I: Source, O: Sink>(
     ensures read_fault { result ≡ Ending.ReadFault → Rose (I.faults input.old) (I.faults input.new) }
     ensures write_fault { result ≡ Ending.WriteFault → Rose (O.faults output.old) (O.faults output.new) }
 
-    // Where no fault was counted: a whole plan is done, the first bad line is refused, and a plan up to the limit is too long
-    // where more bytes follow.
-    ensures complete { (x : Exact times_of) → WhereWhole times_of x (I.left input.old) (WhereFaultless (I.faults input.old) (I.faults input.new) (O.faults output.old) (O.faults output.new) (IsDone result)) }
-    ensures refused { (x : Exact times_of) → WhereBad times_of x (I.left input.old) (λ line why. WhereFaultless (I.faults input.old) (I.faults input.new) (O.faults output.old) (O.faults output.new) (IsRefused times_of x line why result)) }
-    ensures too_long { (x : Exact times_of) → WhereTooLong times_of x (I.left input.old) (WhereFaultless (I.faults input.old) (I.faults input.new) (O.faults output.old) (O.faults output.new) (IsTooLong result)) }
+    // Where no fault was counted, a whole plan is done, the first bad line is refused, and more than the limit is too long.
+    ensures exactly { EndsExactly (I.left input.old) (I.faults input.old) (I.faults input.new) (O.faults output.old) (O.faults output.new) result }
 
     // An input beyond the limit is never done, and one within it is never too long.
     ensures limit { (bytes : List ℕ) → I.left input.old ≡ Some bytes → MAX_INPUT_BYTES < length bytes → result ≢ Ending.Done }

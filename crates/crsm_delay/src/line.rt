@@ -1,4 +1,4 @@
-//! The lines of a plan behind its first one, each without its line feed.
+//! The lines of a plan after its first one, each without its line feed.
 
 ghost use Rattle.std.specs.Prelude.{◌≡◌, ◌++◌, IfSome, codes};
 ghost use Rattle.crsm_delay.specs.Grammar.{FitsLine, line_text};

@@ -44,7 +44,7 @@ not_first Part.Owing l h f = h refl
 not_first (Part.Passed t) l h f = f
 not_first (Part.Done t) l h f = f
 
--- ---- where the event stands
+-- ---- the place of the event
 
 -- the events so far, the event, and those to come
 pub record Here (plan : Plan) (es before : List Timed) (e : Timed) (after : List Timed) (w : World) : Type 0 where

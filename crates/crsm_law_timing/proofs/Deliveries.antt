@@ -53,7 +53,7 @@ no_tick plan i j s q = other _ _ _ _ (ap (λ (f : Timed). f.does) q)
 pub same_sent : (out : List Sent) (i j : ℕ) (s z : Sent) → slice_get out i ≡ Some s → slice_get out j ≡ Some z → j ≡ i → z ≡ s
 same_sent out i j s z g h e = same_Some z s (sym h ∙ ap (λ n. slice_get out n) e ∙ g)
 
--- what stood before stands, what has not come has not come
+-- what has not happened so far has not happened by another event, and what has happened by then has happened before it
 pub not_then : (before : List Timed) (e f : Timed) → (Among before f → ⊥) → (e ≡ f → ⊥) → Among (before ++ e ∷ []) f → ⊥
 not_then before e f p q a = elim (among_either before (e ∷ []) f a) [ inl b ↦ p b | inr b ↦ here b ]
   where

@@ -42,7 +42,7 @@ no_later e f (inl p) = omega (arith, p)
 no_later e f (inr p) = let s = p.0 in omega (arith, s)
 
 module _ (e : Timed) (after : List Timed) where
-  -- what stands before it happens before it
+  -- what precedes it in the list happens before it
   pub comes_before : (before : List Timed) → InOrder (before ++ e ∷ after) → (f : Timed) → Among before f → Precedes f e
   comes_before [] o f a = absurd a
   comes_before (g ∷ gs) o f (inl q) = subst (λ h. Precedes h e) q (all_at (Precedes g) (gs ++ e ∷ after) e o.0 (here gs))
@@ -56,7 +56,7 @@ module _ (e : Timed) (after : List Timed) where
   after_it [] o f a = all_at (Precedes e) after f o.0 a
   after_it (g ∷ gs) o f a = after_it gs o.1 f a
 
-  -- what happens before it stands before it
+  -- what happens before it precedes it in the list
   pub earlier : (before : List Timed) → InOrder (before ++ e ∷ after) → (f : Timed) → Among (before ++ e ∷ after) f → Precedes f e → Among before f
   earlier before o f a p = elim (among_either before (e ∷ after) f a) [
     | inl b ↦ b
