@@ -9,10 +9,11 @@ use Rattle.crsm_words.specs.declared.order.Task.TheVariants.{Show, Replay, Repla
 use Rattle.crsm_words.specs.declared.read.Refusal.{Refusal}
 use Rattle.crsm_client.specs.declared.command.ClientEnd.{ClientEnd}
 use Rattle.crsm_client.specs.declared.error.OperateError.{OperateError}
+use Rattle.crsm_lock.specs.declared.command.LockEnd.{LockEnd}
 use Rattle.crsm_node.specs.declared.errors.NodeEnd.{NodeEnd}
 use Rattle.crsm_app.specs.Devices.{Devices}
 use Rattle.crsm_app.specs.Did.{Did, DidReplay, DidSheet}
-use Rattle.crsm_app.specs.Statuses.{status_of_client, status_of_node, status_of_operate}
+use Rattle.crsm_app.specs.Statuses.{status_of_client, status_of_lock, status_of_node, status_of_operate}
 use Rattle.crsm_app.specs.Tasks.{IsThere, IsWithinLimits}
 use Rattle.crsm_app.specs.declared.status.Status.{Status}
 
@@ -51,7 +52,7 @@ asked_within (Client to turns command) words asks = asks.limits.fits
 asked_within (Operate to members) words asks = tt
 asked_within (Soak number n steps) words asks = asks.1
 asked_within (Audit n) words asks = tt
-asked_within (Lock t) words asks = tt
+asked_within (Lock t) words asks = asks.0
 asked_within Delay words asks = tt
 asked_within DelayTimes words asks = tt
 asked_within ReplayMp words asks = tt
@@ -73,6 +74,13 @@ operate_not_usage : (e : Result (Unit {0}) OperateError) → Status.Usage ≡ st
 operate_not_usage (Ok u) is = cc is
 operate_not_usage (Err OperateError.PortFault) is = cc is
 operate_not_usage (Err OperateError.NoMemory) is = cc is
+
+lock_not_usage : (e : LockEnd) → Status.Usage ≡ status_of_lock e → ⊥
+lock_not_usage LockEnd.Done is = cc is
+lock_not_usage LockEnd.PortFault is = cc is
+lock_not_usage LockEnd.NoAnswer is = cc is
+lock_not_usage LockEnd.WriteFault is = cc is
+lock_not_usage LockEnd.NoMemory is = cc is
 
 node_not_usage : (e : NodeEnd) → Status.Usage ≡ status_of_node e → ⊥
 node_not_usage NodeEnd.Done is = cc is
@@ -100,7 +108,7 @@ not_refused cluster (Node t) old new did there = elim did.1 [
 ]
 not_refused cluster (Soak number n steps) old new did there = did.1
 not_refused cluster (Audit n) old new did there = there
-not_refused cluster (Lock t) old new did there = there
+not_refused cluster (Lock t) old new did there = lock_not_usage did.1.ended did.1.status
 not_refused cluster Delay old new did there = there
 not_refused cluster DelayTimes old new did there = there
 not_refused cluster ReplayMp old new did there = there

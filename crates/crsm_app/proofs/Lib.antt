@@ -1,6 +1,7 @@
 pub mod Schedules
 pub mod Sheets
 pub mod Asking
+pub mod LockEnds
 pub mod Asked
 pub mod Scarce
 pub mod Planned

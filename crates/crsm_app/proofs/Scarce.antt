@@ -27,7 +27,10 @@ without_memory cluster (Operate to members) old new = λ no_loss. inr refl
 without_memory cluster (Node t) old new = λ no_port no_disk no_write. tt
 without_memory cluster (Soak number n steps) old new = λ no_write. inr refl
 without_memory cluster (Audit n) old new = tt
-without_memory cluster (Lock t) old new = tt
+without_memory cluster (Lock t) old new = record {
+  complete = λ t u is at all no_fault no_loss no_write. inr refl;
+  no_answer = λ t u is at none no_fault no_loss. inr refl;
+}
 without_memory cluster Delay old new = tt
 without_memory cluster DelayTimes old new = tt
 without_memory cluster ReplayMp old new = tt

@@ -6,6 +6,8 @@ use Rattle.crsm_client.specs.declared.command.ClientEnd.{ClientEnd}
 use Rattle.crsm_client.specs.declared.command.ClientOrder.{ClientOrder}
 use Rattle.crsm_client.specs.declared.error.OperateError.{OperateError}
 use Rattle.crsm_io.specs.Streams.{Puts, PutsPrefix}
+use Rattle.crsm_lock.specs.Commands.{LockRan}
+use Rattle.crsm_lock.specs.declared.command.LockEnd.{LockEnd}
 use Rattle.crsm_node.specs.Order.{peers_in}
 use Rattle.crsm_node.specs.Running.{Devices as NodeDevices, RunsOverCluster}
 use Rattle.crsm_node.specs.declared.errors.NodeEnd.{NodeEnd}
@@ -17,13 +19,15 @@ use Rattle.crsm_replay_node.specs.Run as sheet
 use Rattle.crsm_replay_node.specs.declared.cause.SheetCause.{SheetCause}
 use Rattle.crsm_soak.specs.Soak.{drawn}
 use Rattle.crsm_soak.specs.Text.{soak_text}
+use Rattle.crsm_words.specs.declared.order.LockTask.{LockTask}
 use Rattle.crsm_words.specs.declared.order.NodeTask.{NodeTask}
 use Rattle.crsm_words.specs.declared.order.Task.{Task}
-use Rattle.crsm_words.specs.declared.order.Task.TheVariants.{Show, Replay, ReplayNode, Client, Operate, Soak, Node}
+use Rattle.crsm_words.specs.declared.order.Task.TheVariants.{Show, Replay, ReplayNode, Client, Operate, Soak, Node, Lock}
 use Rattle.crsm_world.specs.Laws.{IsLawful}
 use Rattle.crsm_world.specs.Schedule.{acts_of}
 use Rattle.crsm_app.specs.Devices.{Devices, Untouched, node_devices}
-use Rattle.crsm_app.specs.Statuses.{status_of_client, status_of_node, status_of_operate}
+use Rattle.crsm_app.specs.Locks.{lock_order}
+use Rattle.crsm_app.specs.Statuses.{status_of_client, status_of_lock, status_of_node, status_of_operate}
 use Rattle.crsm_app.specs.declared.status.Status.{Status}
 
 -- In these the source had `before` and has `after` left, and the sink had `had` and has `has` written.
@@ -66,6 +70,12 @@ pub record DidOperate (cluster to : ℕ) (members : List ℕ) (result : Status) 
   pub ended : Result (Unit {0}) OperateError
   pub status : result ≡ status_of_operate ended
   pub operates : Operates cluster to members old new ended
+
+-- a replica was asked about a lock
+pub record DidLock (t : LockTask) (result : Status) (old new : Meaning) (had has : Option (List ℕ)) : Type 0 where
+  pub ended : LockEnd
+  pub status : result ≡ status_of_lock ended
+  pub ran : LockRan (lock_order t) old new had has ended
 
 -- What a number draws was run, and all laws hold of it: its summary was written, or a prefix where the output failed.
 abbrev pub DidSoak : (number n steps : ℕ) → Status → (had has : Option (List ℕ)) → Type 0
@@ -110,4 +120,5 @@ Did cluster (Client to turns command) result old new =
 Did cluster (Operate to members) result old new = (new.left ≡ old.left) × (new.written ≡ old.written) × DidOperate cluster to members result old.port new.port
 Did cluster (Soak number n steps) result old new = (new.left ≡ old.left) × DidSoak number n steps result old.written new.written
 Did cluster (Node t) result old new = (new.left ≡ old.left) × DidNode cluster t result (node_devices old) (node_devices new)
+Did cluster (Lock t) result old new = (new.left ≡ old.left) × DidLock t result old.port new.port old.written new.written
 Did cluster _ result old new = (result ≡ Status.Usage) × Untouched old new

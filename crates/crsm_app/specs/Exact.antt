@@ -3,15 +3,18 @@ use Rattle.std.specs.Prelude.{◌≡◌, ◌⊎◌, ℕ, ◌+◌, List, Option}
 use Rattle.crsm_base.specs.declared.Command.{Command}
 use Rattle.crsm_client.specs.Asking.{WhereNotReplied, WhereReplied}
 use Rattle.crsm_faults.specs.Counts.{Rose}
+use Rattle.crsm_lock.specs.Answers.{WhereAnswered, WhereNotAnswered}
 use Rattle.crsm_port.specs.Meaning.{Meaning}
 use Rattle.crsm_replay.specs.Run as schedule
 use Rattle.crsm_replay.specs.State.{count_of}
 use Rattle.crsm_replay.specs.declared.cause.Cause.{Cause}
 use Rattle.crsm_replay_node.specs.Run as sheet
 use Rattle.crsm_replay_node.specs.declared.cause.SheetCause.{SheetCause}
+use Rattle.crsm_words.specs.declared.order.LockTask.{LockTask}
 use Rattle.crsm_words.specs.declared.order.Task.{Task}
-use Rattle.crsm_words.specs.declared.order.Task.TheVariants.{Show, Replay, ReplayNode, Client, Operate, Soak, Node}
+use Rattle.crsm_words.specs.declared.order.Task.TheVariants.{Show, Replay, ReplayNode, Client, Operate, Soak, Node, Lock}
 use Rattle.crsm_app.specs.Devices.{Devices}
+use Rattle.crsm_app.specs.Locks.{lock_order}
 use Rattle.crsm_app.specs.declared.status.Status.{Status}
 
 abbrev pub IsDone : Status → Type 0
@@ -62,6 +65,11 @@ pub record AsksExactly (cluster to : ℕ) (command : Command) (result : Status) 
   pub complete : WhereReplied cluster to command old new (¬ (Rose out_old out_new) → IsDone result)
   pub no_answer : WhereNotReplied cluster to command old new (IsUnanswered result)
 
+-- of what was taken: it is done where all answers are among it, and not answered where they are not
+pub record LocksExactly (t : LockTask) (result : Status) (old new : Meaning) (out_old out_new : ℕ) : Type 0 where
+  pub complete : WhereAnswered (lock_order t) old new (¬ (Rose out_old out_new) → IsDone result)
+  pub no_answer : WhereNotAnswered (lock_order t) old new (IsUnanswered result)
+
 -- where no fault of the input or of the output was counted
 abbrev pub WhereFaultless : (old new : Devices) → Type 0 → Type 0
 WhereFaultless old new P = ¬ (Rose old.read_faults new.read_faults) → ¬ (Rose old.write_faults new.write_faults) → P
@@ -76,4 +84,5 @@ Exactly cluster (Operate to members) result old new = ¬ (Rose old.port.losses n
 Exactly cluster (Soak number n steps) result old new = ¬ (Rose old.write_faults new.write_faults) → IsDone result
 Exactly cluster (Node t) result old new =
     WhereNodeFaultless old.port.faults new.port.faults old.disk.faults new.disk.faults old.write_faults new.write_faults (IsNodeDone result)
+Exactly cluster (Lock t) result old new = LocksExactly t result old.port new.port old.write_faults new.write_faults
 Exactly cluster _ result old new = Unit {0}

@@ -1,6 +1,7 @@
 pub mod Devices
 pub mod Statuses
 pub mod Tasks
+pub mod Locks
 pub mod Did
 pub mod Exact
 pub mod Run

@@ -3,6 +3,7 @@ use Rattle.std.specs.Prelude.{ℕ, Result, Ok, Err}
 use Rattle.crsm_client.specs.declared.command.ClientEnd.{ClientEnd}
 use Rattle.crsm_client.specs.declared.error.OperateError.{OperateError}
 use Rattle.crsm_input.specs.declared.Ending.{Ending}
+use Rattle.crsm_lock.specs.declared.command.LockEnd.{LockEnd}
 use Rattle.crsm_node.specs.declared.errors.NodeEnd.{NodeEnd}
 use Rattle.crsm_replay.specs.Causes as schedule
 use Rattle.crsm_replay.specs.declared.cause.Cause.{Cause}
@@ -62,6 +63,14 @@ abbrev pub status_of_operate : {T : Type 0} → Result T OperateError → Status
 status_of_operate (Ok _) = Status.Ok
 status_of_operate (Err OperateError.PortFault) = Status.PortFault
 status_of_operate (Err OperateError.NoMemory) = Status.NoMemory
+
+-- the status of a client at a lock who ended so
+abbrev pub status_of_lock : LockEnd → Status
+status_of_lock LockEnd.Done = Status.Ok
+status_of_lock LockEnd.PortFault = Status.PortFault
+status_of_lock LockEnd.NoAnswer = Status.NoAnswer
+status_of_lock LockEnd.WriteFault = Status.WriteFault
+status_of_lock LockEnd.NoMemory = Status.NoMemory
 
 -- the status of a node that ended so
 abbrev pub status_of_node : NodeEnd → Status

@@ -1,9 +1,9 @@
 -- Kinds of tasks.
-use Rattle.std.specs.Prelude.{◌<◌}
+use Rattle.std.specs.Prelude.{◌<◌, ◌⊎◌}
 use Rattle.crsm_base.specs.Spelling.{FitsCommand}
-use Rattle.crsm_words.specs.Orders.{IsClusterSize, IsNode}
+use Rattle.crsm_words.specs.Orders.{IsClusterSize, IsLock, IsNode}
 use Rattle.crsm_words.specs.declared.order.Task.{Task}
-use Rattle.crsm_words.specs.declared.order.Task.TheVariants.{Show, Replay, ReplayNode, Client, Operate, Soak, Node}
+use Rattle.crsm_words.specs.declared.order.Task.TheVariants.{Show, Replay, ReplayNode, Client, Operate, Soak, Node, Lock}
 
 -- the tasks that are there
 abbrev pub IsThere : Task → Type 0
@@ -14,6 +14,7 @@ IsThere (Client to turns command) = Unit {0}
 IsThere (Operate to members) = Unit {0}
 IsThere (Soak number n steps) = Unit {0}
 IsThere (Node t) = Unit {0}
+IsThere (Lock t) = Unit {0}
 IsThere _ = ⊥
 
 -- the tasks that read an input
@@ -26,6 +27,7 @@ IsReader _ = ⊥
 abbrev pub IsAsker : Task → Type 0
 IsAsker (Client to turns command) = Unit {0}
 IsAsker (Operate to members) = Unit {0}
+IsAsker (Lock t) = Unit {0}
 IsAsker _ = ⊥
 
 -- the tasks that run a replica over a disk and by a clock
@@ -33,10 +35,15 @@ abbrev pub IsRunner : Task → Type 0
 IsRunner (Node t) = Unit {0}
 IsRunner _ = ⊥
 
+-- the tasks that are done over the port
+abbrev pub IsOverPort : Task → Type 0
+IsOverPort task = IsAsker task ⊎ IsRunner task
+
 -- its values are within the limits
 abbrev pub IsWithinLimits : Task → Type 0
 IsWithinLimits (ReplayNode me n) = (me < 15) × IsClusterSize n
 IsWithinLimits (Client to turns command) = FitsCommand command
 IsWithinLimits (Soak number n steps) = IsClusterSize n
 IsWithinLimits (Node t) = IsNode t
+IsWithinLimits (Lock t) = IsLock t
 IsWithinLimits _ = Unit {0}

@@ -11,8 +11,7 @@ ghost use Rattle.crsm_words.specs.Plans.{HasOwnPeer, plan_of};
 ghost use Rattle.crsm_app.specs.Devices.{devices_of};
 ghost use Rattle.crsm_app.specs.Exact.{Exactly};
 ghost use Rattle.crsm_app.specs.Run.{AskForNothing, AskForTask, FaultsAreCounted, Ran, WhereAsked};
-ghost use Rattle.crsm_app.specs.Tasks.{IsReader, IsRunner, IsThere};
-ghost use Rattle.crsm_words.specs.Orders.{NamesCluster};
+ghost use Rattle.crsm_app.specs.Tasks.{IsOverPort, IsReader, IsRunner, IsThere};
 
 use crate::doing::do_order;
 use crate::status::Status;
@@ -40,6 +39,7 @@ fn is_there(task: &Task) -> bool
             | Task::Operate { .. }
             | Task::Soak { .. }
             | Task::Node(_)
+            | Task::Lock(_)
     )
 }
 
@@ -89,8 +89,8 @@ fn schedules_are_safe()
 /// Does what the words say: `replay` reads a schedule and writes its transcript, `replay-node ME N` reads the sheet of a
 /// replica and writes what it did, `soak NUMBER N STEPS` runs what a number draws and writes a summary, `node ME N TURNS
 /// PEERS` runs a replica and writes its sheet, `client TO TURNS CLIENT NUMBER OP` asks a replica for a command over the
-/// port and writes its outcome, `operate TO MEMBERS` asks one for another membership, and `--help` and `--version` write
-/// a text. The other commands are not there yet. The reporter is told what a node's log held.
+/// port and writes its outcome, `operate TO MEMBERS` asks one for another membership, `lock TO TURNS CLIENT NUMBER KEY
+/// ACTION` asks one about a lock and writes what it is told, and `--help` and `--version` write a text. The other commands are not there yet. The reporter is told what a node's log held.
 pub fn run<I: Source, O: Sink, P: Port, D: Disk, C: Clock, R: Reporter>(
     alloc: Global,
     words: &[String],
@@ -125,7 +125,7 @@ pub fn run<I: Source, O: Sink, P: Port, D: Disk, C: Clock, R: Reporter>(
 
     // A device that the command does not use stands as it stood.
     ensures input { ¬ (AskForTask IsReader (map string_bytes words.now)) → input.new ≡ input.old }
-    ensures port { ¬ (AskForTask NamesCluster (map string_bytes words.now)) → port.new ≡ port.old }
+    ensures port { ¬ (AskForTask IsOverPort (map string_bytes words.now)) → port.new ≡ port.old }
     ensures disk { ¬ (AskForTask IsRunner (map string_bytes words.now)) → disk.new ≡ disk.old }
     ensures clock { ¬ (AskForTask IsRunner (map string_bytes words.now)) → clock.new ≡ clock.old }
 

@@ -8,10 +8,11 @@ ghost use Rattle.crsm_app.specs.Devices.{devices_of};
 ghost use Rattle.crsm_app.specs.Did.{Did, DidClient, DidNode, DidOperate, DidReplay, DidSheet, DidSoak, Shows};
 ghost use Rattle.crsm_app.specs.Exact.{AsksExactly, Exactly, IsDone, IsNodeDone, WhereNodeFaultless, ReplaysExactly, SheetsExactly};
 ghost use Rattle.crsm_app.specs.Run.{PortFailed};
-ghost use Rattle.crsm_app.specs.Tasks.{IsReader, IsRunner, IsThere, IsWithinLimits};
+ghost use Rattle.crsm_app.specs.Tasks.{IsOverPort, IsReader, IsRunner, IsThere, IsWithinLimits};
 ghost use Rattle.crsm_node.specs.Running.{devices_of as node_over};
-ghost use Rattle.crsm_words.specs.Orders.{IsNode, NamesCluster};
+ghost use Rattle.crsm_words.specs.Orders.{IsNode};
 
+use crate::locking::run_lock;
 use crate::status::{
     Status, client_status, node_status, operate_status, replay_status, sheet_status,
 };
@@ -189,7 +190,7 @@ pub(crate) fn do_order<I: Source, O: Sink, P: Port, D: Disk, C: Clock, R: Report
     ensures limit { IsReader order.task → (bytes : List ℕ) → I.left input.old ≡ Some bytes → MAX_INPUT_BYTES < length bytes → result ≢ Status.Ok }
     ensures within { (bytes : List ℕ) → I.left input.old ≡ Some bytes → length bytes ≤ MAX_INPUT_BYTES → result ≢ Status.InputTooLong }
     ensures input { ¬ (IsReader order.task) → input.new ≡ input.old }
-    ensures port { ¬ (NamesCluster order.task) → port.new ≡ port.old }
+    ensures port { ¬ (IsOverPort order.task) → port.new ≡ port.old }
     ensures disk { ¬ (IsRunner order.task) → disk.new ≡ disk.old }
     ensures clock { ¬ (IsRunner order.task) → clock.new ≡ clock.old }
 {
@@ -205,6 +206,7 @@ pub(crate) fn do_order<I: Source, O: Sink, P: Port, D: Disk, C: Clock, R: Report
         Task::Operate { to, members } => run_operate(alloc, to, &members, cluster, port),
         Task::Soak { number, n, steps } => run_soak(alloc, number, n, steps, output),
         Task::Node(node) => run_replica(alloc, &node, cluster, output, port, disk, clock, reporter),
+        Task::Lock(task) => run_lock(alloc, task, output, port),
         task => refuse(task),
     }
 }

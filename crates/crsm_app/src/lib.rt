@@ -5,6 +5,7 @@ mod command;
 mod devices;
 mod doing;
 mod entry;
+mod locking;
 mod replica;
 mod status;
 

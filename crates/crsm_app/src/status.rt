@@ -1,10 +1,11 @@
 //! How a run ends.
 
 ghost use Rattle.std.specs.Prelude.{◌≡◌};
-ghost use Rattle.crsm_app.specs.Statuses.{number_of, status_of_client, status_of_node, status_of_operate, status_of_refused, status_of_replay, status_of_sheet};
+ghost use Rattle.crsm_app.specs.Statuses.{number_of, status_of_client, status_of_lock, status_of_node, status_of_operate, status_of_refused, status_of_replay, status_of_sheet};
 
 use crsm_client::{ClientEnd, OperateError};
 use crsm_input::Ending;
+use crsm_lock::LockEnd;
 use crsm_node::NodeEnd;
 use crsm_replay::{Cause, told_cause as cause_in_schedule};
 use crsm_replay_node::{SheetCause, told_cause as cause_in_sheet};
@@ -130,6 +131,19 @@ pub(crate) fn operate_status(ended: Result<(), OperateError>) -> Status
         Ok(()) => Status::Ok,
         Err(OperateError::PortFault) => Status::PortFault,
         Err(OperateError::NoMemory) => Status::NoMemory,
+    }
+}
+
+/// The status of a client at a lock who ended so.
+pub(crate) fn lock_status(ended: LockEnd) -> Status
+    ensures { result ≡ status_of_lock ended }
+{
+    match ended {
+        LockEnd::Done => Status::Ok,
+        LockEnd::PortFault => Status::PortFault,
+        LockEnd::NoAnswer => Status::NoAnswer,
+        LockEnd::WriteFault => Status::WriteFault,
+        LockEnd::NoMemory => Status::NoMemory,
     }
 }
 
