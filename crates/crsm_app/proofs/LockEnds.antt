@@ -1,5 +1,5 @@
 -- A client at a lock by its status.
-use Rattle.std.proofs.Common.{◌≡◌, ◌⊎◌, ℕ, inl, inr, List, Option, Err, refl, sym, ◌∙◌, subst}
+use Rattle.std.proofs.Common.{◌≡◌, ◌⊎◌, ℕ, inl, inr, List, Option, refl, sym, ◌∙◌, subst}
 use Rattle.crsm_client.specs.declared.error.AskError.TheVariants.{PortFault}
 use Rattle.crsm_faults.specs.Counts.{Rose}
 use Rattle.crsm_lock.specs.Commands.{IsDone as EndsDone, IsNoAnswer, LockRan}
