@@ -124,7 +124,7 @@ known_of me n (rec ∷ log) f h (inr m) = let p = known_of me n log f h.1 m in l
 known_of me n (rec ∷ log) f h (inl e) =
     let p = (prepare_known me n log f (subst (λ r. IsTrue (fits me n log r)) e h.0)).0 in let q = known_more me n log rec h.0 in omega (arith, p, q)
 
--- what a replica logs under its own number is behind all that it has logged so
+-- what a replica logs under its own number comes after all that it has logged so
 newer : (me n : ℕ) (log : Log) (e f : Entry) → AllFit me n (Rec.Prepare e ∷ log) → Logged log f → f.stamp.origin ≡ e.stamp.origin → IsBefore f e
 unfolding logged is_newest
 newer me n log e f h m o =
@@ -198,11 +198,11 @@ denied one me a Refusal.Dropped ne = absurd (ne refl)
 
 -- the line of a reply is one of its step
 told_in : (x : Draft) (a : Reply) → Among x.replies a → Among (lines_told x) a.line
-told_in x a h = behind (x.lines ++ x.excess) (map (λ (b : Reply). b.line) x.replies) a.line (mapped x.replies h)
+told_in x a h = after (x.lines ++ x.excess) (map (λ (b : Reply). b.line) x.replies) a.line (mapped x.replies h)
   where
-    behind : (xs ys : List Line) (l : Line) → Among ys l → Among (xs ++ ys) l
-    behind [] ys l h = h
-    behind (x ∷ xs) ys l h = inr (behind xs ys l h)
+    after : (xs ys : List Line) (l : Line) → Among ys l → Among (xs ++ ys) l
+    after [] ys l h = h
+    after (x ∷ xs) ys l h = inr (after xs ys l h)
 
     mapped : (bs : List Reply) → Among bs a → Among (map (λ (b : Reply). b.line) bs) a.line
     mapped [] h = absurd h

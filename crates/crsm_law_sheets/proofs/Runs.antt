@@ -83,7 +83,7 @@ step_at me log (y ∷ xs) (suc i) x h e =
     let s = step_at me y.replica.log xs i x h.1 e in
     record { before = s.before; grows = extends_trans h.0.grows s.grows; good = s.good; ends = s.ends }
 
--- two steps, the later one behind what the earlier one left
+-- two steps, the later one on what the earlier one left
 pub record TwoSteps (me : ℕ) (end : Log) (x y : Draft) : Type 0 where
   pub first : Log
   pub earlier : Good me first x

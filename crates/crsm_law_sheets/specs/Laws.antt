@@ -25,7 +25,7 @@ IsRightBy one me a (Outcome.Refused Refusal.Dropped) =
     (epoch : ℕ) × (stamp : Stamp) × (a.line ≡ Line.ReplyDropped me a.client a.number epoch stamp) × (HasNamed one epoch stamp → ⊥)
 IsRightBy one me a (Outcome.Refused _) = Unit {0}
 
--- What node me submits in a later step than one that answered a client stands behind the answered command.
+-- What node me submits in a later step than one that answered a client comes after the answered command in the list.
 abbrev pub KeepsRealTime : List Entry → List Draft → Type 0
 KeepsRealTime one steps =
     (i j k client number place k' epoch time client' number' q : ℕ) (x y : Draft) (a : Reply) (v : Answer) (e : Entry) → i < j →

@@ -107,21 +107,21 @@ abbrev Ascends : List Dropped → Type 0
 Ascends [] = Unit {0}
 Ascends (d ∷ ds) = AllByRecursion (λ e. d.line ≤ e.line) ds × Ascends ds
 
-front_ascends : (at : ℕ) (xs ys : List Dropped) → ((d : Dropped) → Among xs d → d.line ≡ at) → ((d : Dropped) → Among ys d → at ≤ d.line) → Ascends ys → Ascends (xs ++ ys)
-front_ascends at [] ys f g h = h
-front_ascends at (x ∷ xs) ys f g h = (
+append_ascends : (at : ℕ) (xs ys : List Dropped) → ((d : Dropped) → Among xs d → d.line ≡ at) → ((d : Dropped) → Among ys d → at ≤ d.line) → Ascends ys → Ascends (xs ++ ys)
+append_ascends at [] ys f g h = h
+append_ascends at (x ∷ xs) ys f g h = (
   all_from (λ e. x.line ≤ e.line) (xs ++ ys) (λ e m. elim (two xs ys e m) [
     | inl a ↦ (let p = f x (inl refl) in let q = f e (inr a) in omega (arith, p, q))
     | inr b ↦ (let p = f x (inl refl) in let q = g e b in omega (arith, p, q))
   ]),
-  front_ascends at xs ys (λ d m. f d (inr m)) g h,
+  append_ascends at xs ys (λ d m. f d (inr m)) g h,
 )
 
 steps_ascend : (at : ℕ) (steps : List Draft) → Ascends (dropped_from at steps)
 unfolding dropped_from
 steps_ascend at [] = tt
 steps_ascend at (x ∷ steps) =
-    front_ascends at (dropped_in at (lines_told x)) (dropped_from (at + 1) steps) (λ d m. (told_by at (lines_told x) d m).at_is)
+    append_ascends at (dropped_in at (lines_told x)) (dropped_from (at + 1) steps) (λ d m. (told_by at (lines_told x) d m).at_is)
     (λ d m. let t = told_at (at + 1) steps d m in let is = t.told.at_is in omega (arith, is)) (steps_ascend (at + 1) steps)
 
 ascends_at : (ds : List Dropped) (k q : ℕ) (d e : Dropped) → Ascends ds → slice_get ds k ≡ Some d → slice_get ds q ≡ Some e → k ≤ q → d.line ≤ e.line

@@ -184,14 +184,14 @@ module _ (law : OneSpelling SpeltEntry) where
       let rest = within_prefix xs ys f.1 g.1 (λ q z k. h (suc q) z k) in
       (rest.0, ap (λ l. x ∷ l) rest.1 ∙ ap (λ z. z ∷ ys) same)
 
-  same_front : (xs ys : List Entry) (p : ℕ) → AllByRecursion FitsEntry xs → AllByRecursion FitsEntry ys → p ≤ length xs
+  same_prefix : (xs ys : List Entry) (p : ℕ) → AllByRecursion FitsEntry xs → AllByRecursion FitsEntry ys → p ≤ length xs
       → ((q : ℕ) → q < p → slice_get (spelt ys) q ≡ slice_get (spelt xs) q) → take p xs ≡ take p ys
-  same_front xs ys zero f g le h = refl
-  same_front [] ys (suc p) f g le h = absurd (omega (arith, le))
-  same_front (x ∷ xs) [] (suc p) f g le h = absurd (none-some (entry_bytes x) (h 0 (omega arith)))
-  same_front (x ∷ xs) (y ∷ ys) (suc p) f g le h =
+  same_prefix xs ys zero f g le h = refl
+  same_prefix [] ys (suc p) f g le h = absurd (omega (arith, le))
+  same_prefix (x ∷ xs) [] (suc p) f g le h = absurd (none-some (entry_bytes x) (h 0 (omega arith)))
+  same_prefix (x ∷ xs) (y ∷ ys) (suc p) f g le h =
       let same : x ≡ y = one_entry x y f.0 g.0 (sym (same_Some (entry_bytes y) (entry_bytes x) (h 0 (omega arith)))) in
-      ap (λ z. z ∷ take p xs) same ∙ ap (λ l. y ∷ l) (same_front xs ys p f.1 g.1 (omega (arith, le)) (λ q lt. h (suc q) (omega (arith, lt))))
+      ap (λ z. z ∷ take p xs) same ∙ ap (λ l. y ∷ l) (same_prefix xs ys p f.1 g.1 (omega (arith, le)) (λ q lt. h (suc q) (omega (arith, lt))))
 
   module _ (n : ℕ) (accounts : List Account) (sheets : List Sheet) (stand : AccountsStand n accounts sheets) (one : List (List ℕ)) (one_is : one ≡ spelt (one_list n sheets)) where
     in_one : (a : Account) (s : Sheet) → AccountStands n a s → IsWithin a.list one → IsPrefixOf (list_of n s) (one_list n sheets)
@@ -211,7 +211,7 @@ module _ (law : OneSpelling SpeltEntry) where
             e.0,
             e.1,
             (λ h. d.not_there (subst (λ l. slice_get l p ≡ Some d.element) (sym one_is) (mapped entry_bytes (one_list n sheets) p e.0 h ∙ ap (λ z. Some z) e.2))),
-            same_front (list_of n t.0) (one_list n sheets) p (fits_of n t.0 t.2.sound) (one_fits n accounts sheets stand) (omega (arith, lt))
+            same_prefix (list_of n t.0) (one_list n sheets) p (fits_of n t.0 t.2.sound) (one_fits n accounts sheets stand) (omega (arith, lt))
                 (λ q less. subst (λ l. slice_get l q ≡ slice_get (spelt (list_of n t.0)) q) one_is (subst (λ l. slice_get one q ≡ slice_get l q) t.2.list (d.same q less))),
           ),
           all_first (λ s. IsPrefixOf (list_of n s) (one_list n sheets)) sheets i (λ j s less there.

@@ -38,7 +38,7 @@ places_of es = map place_of es
 abbrev pub IsBeforeName : ℕ → Stamp → ℕ → Stamp → Type 0
 IsBeforeName x s y t = x < y ⊎ ((x ≡ y) × (s.time < t.time ⊎ ((s.time ≡ t.time) × (s.origin < t.origin))))
 
--- each entry is before those behind it
+-- each entry is before those that follow
 abbrev pub IsAscending : List Place → Type 0
 IsAscending places =
     (p q : ℕ) (a b : Place) → slice_get places p ≡ Some a → slice_get places q ≡ Some b → q < p → IsBeforeName b.epoch b.stamp a.epoch a.stamp

@@ -41,7 +41,7 @@ pub(crate) fn first_difference(list: &Bodies, one: &Bodies) -> Option<usize>
 }
 
 /// A place from this one on at which the list has these bytes.
-fn find_behind(list: &Bodies, from: usize, bytes: &[u8]) -> Option<usize>
+fn find_from(list: &Bodies, from: usize, bytes: &[u8]) -> Option<usize>
     ensures found { IfSome result (λ p. slice_get list.now p ≡ Some bytes.now) }
     ensures none { IfNone result ((p : ℕ) → from ≤ p → slice_get list.now p ≢ Some bytes.now) }
 {
@@ -58,9 +58,9 @@ pub(crate) fn find(list: &Bodies, from: usize, bytes: &[u8]) -> Option<usize>
     ensures found { IfSome result (λ p. slice_get list.now p ≡ Some bytes.now) }
     ensures none { IfNone result ((p : ℕ) → slice_get list.now p ≢ Some bytes.now) }
 {
-    match find_behind(list, from, bytes) {
+    match find_from(list, from, bytes) {
         Some(place) => Some(place),
-        None => find_behind(list, 0, bytes),
+        None => find_from(list, 0, bytes),
     }
 }
 

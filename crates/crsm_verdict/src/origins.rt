@@ -46,7 +46,7 @@ impl Origins {
     }
 
     /// Whether this node has a sheet, and never logged these bytes by its last one. Entries stand in the order in which they are
-    /// asked for, so each is looked for behind the one before it.
+    /// asked for, so each is looked for after the one before it.
     pub(crate) fn is_strange(&mut self, accounts: &[Account], node: u32, bytes: &[u8]) -> bool
         ensures yes { OriginsStand accounts.now self.old → IsTrue result → HasNever accounts.now node bytes.now }
         ensures no { OriginsStand accounts.now self.old → result ≡ false → HasNever accounts.now node bytes.now → ⊥ }

@@ -1,6 +1,6 @@
 use Rattle.std.proofs.Common.{ℕ, ◌<◌, ◌≤◌}
 use Rattle.std.specs.Prelude.{◌≢◌, Some, slice_get}
-use Rattle.crsm_verdict.proofs.list.find_behind.Given as goal
+use Rattle.crsm_verdict.proofs.list.find_from.Given as goal
 
 -- none from the first one up to this place has the bytes
 abbrev pub invariant-loop-place : goal.invariant-loop-place
