@@ -90,7 +90,8 @@ fn schedules_are_safe()
 /// replica and writes what it did, `soak NUMBER N STEPS` runs what a number draws and writes a summary, `node ME N TURNS
 /// PEERS` runs a replica and writes its sheet, `client TO TURNS CLIENT NUMBER OP` asks a replica for a command over the
 /// port and writes its outcome, `operate TO MEMBERS` asks one for another membership, `lock TO TURNS CLIENT NUMBER KEY
-/// ACTION` asks one about a lock and writes what it is told, and `--help` and `--version` write a text. The other commands are not there yet. The reporter is told what a node's log held.
+/// ACTION` asks one about a lock and writes what it is told, and `--help` and `--version` write a text. The other
+/// commands are not there yet. The reporter is told what a node's log held.
 pub fn run<I: Source, O: Sink, P: Port, D: Disk, C: Clock, R: Reporter>(
     alloc: Global,
     words: &[String],
