@@ -37,23 +37,19 @@ fn compare<R: AllocGlobal + Files + Print>(rt: &R, peers: &[u64]) -> Result<(), 
         sheets.push(sheet)?;
         texts.push(text)?;
     }
-    for me in 0..NODES {
-        for from in 0..NODES {
-            if from == me {
+    for (me, sheet) in sheets.iter().enumerate() {
+        for (from, text) in texts.iter().enumerate() {
+            let Some(address) = peers.get(from) else {
                 continue;
-            }
-            let said = match taken_from(
-                alloc,
-                sheets[me].as_str(),
-                peers[from],
-                texts[from].as_str(),
-                me,
-            )? {
-                Took::Nothing => "nothing",
-                Took::Sent => "what it sent",
-                Took::More => "more than it sent",
             };
-            println!(rt; "node {me} took from {from}: {said}")?;
+            if from != me {
+                let said = match taken_from(alloc, sheet.as_str(), *address, text.as_str(), me)? {
+                    Took::Nothing => "nothing",
+                    Took::Sent => "what it sent",
+                    Took::More => "more than it sent",
+                };
+                println!(rt; "node {me} took from {from}: {said}")?;
+            }
         }
     }
     Ok(())
