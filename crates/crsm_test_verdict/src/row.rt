@@ -1,5 +1,7 @@
 //! One row.
 
+ghost use Rattle.std.specs.Prelude.{◌≤◌, IfOk};
+
 use crate::fault::Fault;
 use crsm_base::{Bodies, Line, Lines, Recs, Sends, Stamp};
 use crsm_ledger::Ledger;
@@ -15,12 +17,13 @@ fn number_of(word: Option<&str>) -> Result<u64, Fault> {
 }
 
 /// The number of a replica, or of replicas.
-fn replica_of(word: Option<&str>, most: u64) -> Result<u32, Fault> {
-    let number = number_of(word)?;
-    if number > most {
-        return Err(Fault::Unreadable);
+fn replica_of(word: Option<&str>, most: u32) -> Result<u32, Fault>
+    ensures { IfOk result (λ number. number ≤ most) }
+{
+    match u32::try_from(number_of(word)?) {
+        Ok(number) if number <= most => Ok(number),
+        _ => Err(Fault::Unreadable),
     }
-    Ok(number as u32)
 }
 
 /// What a client is told at a line, by the numbers of `LINE:EPOCH:TIME:ORIGIN`.
