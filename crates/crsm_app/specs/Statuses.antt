@@ -2,6 +2,7 @@
 use Rattle.std.specs.Prelude.{ℕ, Result, Ok, Err}
 use Rattle.crsm_client.specs.declared.command.ClientEnd.{ClientEnd}
 use Rattle.crsm_client.specs.declared.error.OperateError.{OperateError}
+use Rattle.crsm_delay.specs.declared.handling.PlanCause.{PlanCause}
 use Rattle.crsm_input.specs.declared.Ending.{Ending}
 use Rattle.crsm_lock.specs.declared.command.LockEnd.{LockEnd}
 use Rattle.crsm_node.specs.declared.errors.NodeEnd.{NodeEnd}
@@ -49,6 +50,15 @@ status_of_sheet Ending.ReadFault = Status.ReadFault
 status_of_sheet Ending.WriteFault = Status.WriteFault
 status_of_sheet Ending.NoMemory = Status.NoMemory
 status_of_sheet Ending.InputTooLong = Status.InputTooLong
+
+-- the status of a plan that ended so
+abbrev pub status_of_delay : Ending PlanCause → Status
+status_of_delay Ending.Done = Status.Ok
+status_of_delay (Ending.BadLine line why) = Status.BadInput line Cause.Unreadable
+status_of_delay Ending.ReadFault = Status.ReadFault
+status_of_delay Ending.WriteFault = Status.WriteFault
+status_of_delay Ending.NoMemory = Status.NoMemory
+status_of_delay Ending.InputTooLong = Status.InputTooLong
 
 -- the status of a client that ended so
 abbrev pub status_of_client : ClientEnd → Status

@@ -3,7 +3,7 @@ use Rattle.std.specs.Prelude.{◌<◌, ◌⊎◌}
 use Rattle.crsm_base.specs.Spelling.{FitsCommand}
 use Rattle.crsm_words.specs.Orders.{IsClusterSize, IsLock, IsNode}
 use Rattle.crsm_words.specs.declared.order.Task.{Task}
-use Rattle.crsm_words.specs.declared.order.Task.TheVariants.{Show, Replay, ReplayNode, Client, Operate, Soak, Node, Lock}
+use Rattle.crsm_words.specs.declared.order.Task.TheVariants.{Show, Replay, ReplayNode, Client, Operate, Soak, Node, Lock, DelayTimes}
 
 -- the tasks that are there
 abbrev pub IsThere : Task → Type 0
@@ -15,12 +15,14 @@ IsThere (Operate to members) = Unit {0}
 IsThere (Soak number n steps) = Unit {0}
 IsThere (Node t) = Unit {0}
 IsThere (Lock t) = Unit {0}
+IsThere DelayTimes = Unit {0}
 IsThere _ = ⊥
 
 -- the tasks that read an input
 abbrev pub IsReader : Task → Type 0
 IsReader Replay = Unit {0}
 IsReader (ReplayNode me n) = Unit {0}
+IsReader DelayTimes = Unit {0}
 IsReader _ = ⊥
 
 -- the tasks that ask a replica over the port

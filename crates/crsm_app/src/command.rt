@@ -6,6 +6,9 @@ ghost use Rattle.crsm_spec.specs.Run.{last_world};
 ghost use Rattle.crsm_spec.specs.Safe.{Agreed, Answered, RealTime};
 ghost use Rattle.crsm_spec.specs.Decided.{DecisionsAgree};
 ghost use Rattle.crsm_spec.specs.Durable.{KeepsAnswered};
+ghost use Rattle.crsm_delay.specs.Reading.{times_of};
+ghost use Rattle.crsm_input.specs.Exact.{Exact as IsDecided};
+ghost use Rattle.crsm_law_timing.specs.Commits.{CommandsCommitInTime, TimelinesArePossible};
 ghost use Rattle.crsm_world.specs.Schedule.{Schedule, IsSchedule, ShowsAll, acts_of};
 ghost use Rattle.crsm_words.specs.Plans.{HasOwnPeer, plan_of};
 ghost use Rattle.crsm_app.specs.Devices.{devices_of};
@@ -16,11 +19,13 @@ ghost use Rattle.crsm_app.specs.Tasks.{IsOverPort, IsReader, IsRunner, IsThere};
 use crate::doing::do_order;
 use crate::status::Status;
 use crsm_clock::Clock;
+use crsm_delay::plans_are_exact;
 use crsm_disk::Disk;
 use crsm_input::MAX_INPUT_BYTES;
 use crsm_io::{Sink, Source};
 use crsm_law_rounds::rounds_are_bounded;
 use crsm_law_runs::{answered_are_kept, decisions_always_agree, runs_are_safe};
+use crsm_law_timing::{commands_commit_in_time, timelines_are_possible};
 use crsm_node::Reporter;
 use crsm_port::Port;
 use crsm_words::{Plan, Refusal, Task, read_words};
@@ -40,6 +45,7 @@ fn is_there(task: &Task) -> bool
             | Task::Soak { .. }
             | Task::Node(_)
             | Task::Lock(_)
+            | Task::DelayTimes
     )
 }
 
@@ -86,12 +92,24 @@ fn schedules_are_safe()
     rounds_are_bounded();
 }
 
+/// What is known of every plan of delays and clocks.
+fn plans_are_in_time()
+    ensures exact { IsDecided times_of }
+    ensures possible { TimelinesArePossible }
+    ensures moments { CommandsCommitInTime }
+{
+    plans_are_exact();
+    timelines_are_possible();
+    commands_commit_in_time();
+}
+
 /// Does what the words say: `replay` reads a schedule and writes its transcript, `replay-node ME N` reads the sheet of a
 /// replica and writes what it did, `soak NUMBER N STEPS` runs what a number draws and writes a summary, `node ME N TURNS
 /// PEERS` runs a replica and writes its sheet, `client TO TURNS CLIENT NUMBER OP` asks a replica for a command over the
 /// port and writes its outcome, `operate TO MEMBERS` asks one for another membership, `lock TO TURNS CLIENT NUMBER KEY
-/// ACTION` asks one about a lock and writes what it is told, and `--help` and `--version` write a text. The other
-/// commands are not there yet. The reporter is told what a node's log held.
+/// ACTION` asks one about a lock and writes what it is told, `delay times` reads a plan of delays and clocks and writes
+/// when its command commits, and `--help` and `--version` write a text. The other commands are not there yet. The
+/// reporter is told what a node's log held.
 pub fn run<I: Source, O: Sink, P: Port, D: Disk, C: Clock, R: Reporter>(
     alloc: Global,
     words: &[String],
@@ -144,8 +162,14 @@ pub fn run<I: Source, O: Sink, P: Port, D: Disk, C: Clock, R: Reporter>(
 
     // Where a schedule has led to a calm state, two calm rounds more do all that was submitted.
     ensures bounded { (s : Schedule) → IsSchedule s → IsBounded (last_world s.replicas (acts_of s)) }
+
+    // The moments that are written of a plan are those of the protocol: each timeline of a plan is possible, and in it
+    // each replica executes the command once, at its moment.
+    ensures possible { TimelinesArePossible }
+    ensures moments { CommandsCommitInTime }
 {
     schedules_are_safe();
+    plans_are_in_time();
     match read_words(alloc, words) {
         Ok(order) => do_order(alloc, order, input, output, port, disk, clock, reporter),
         Err(Refusal::Usage) => Status::Usage,

@@ -1,9 +1,10 @@
 //! How a run ends.
 
 ghost use Rattle.std.specs.Prelude.{◌≡◌};
-ghost use Rattle.crsm_app.specs.Statuses.{number_of, status_of_client, status_of_lock, status_of_node, status_of_operate, status_of_refused, status_of_replay, status_of_sheet};
+ghost use Rattle.crsm_app.specs.Statuses.{number_of, status_of_client, status_of_delay, status_of_lock, status_of_node, status_of_operate, status_of_refused, status_of_replay, status_of_sheet};
 
 use crsm_client::{ClientEnd, OperateError};
+use crsm_delay::PlanCause;
 use crsm_input::Ending;
 use crsm_lock::LockEnd;
 use crsm_node::NodeEnd;
@@ -103,6 +104,23 @@ pub(crate) fn sheet_status(ending: Ending<SheetCause>) -> Status
     match ending {
         Ending::Done => Status::Ok,
         Ending::BadLine { line, why } => refused_status(line, cause_in_sheet(why)),
+        Ending::ReadFault => Status::ReadFault,
+        Ending::WriteFault => Status::WriteFault,
+        Ending::NoMemory => Status::NoMemory,
+        Ending::InputTooLong => Status::InputTooLong,
+    }
+}
+
+/// The status of a plan that ended so.
+pub(crate) fn delay_status(ending: Ending<PlanCause>) -> Status
+    ensures { result ≡ status_of_delay ending }
+{
+    match ending {
+        Ending::Done => Status::Ok,
+        Ending::BadLine { line, .. } => Status::BadInput {
+            line,
+            cause: Cause::Unreadable,
+        },
         Ending::ReadFault => Status::ReadFault,
         Ending::WriteFault => Status::WriteFault,
         Ending::NoMemory => Status::NoMemory,
