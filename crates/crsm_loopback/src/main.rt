@@ -7,8 +7,8 @@ mod processes;
 mod sheets;
 
 use crate::fault::Fault;
-use crate::processes::{NODES, ask, end_nodes, free_addresses, start_nodes};
-use crate::sheets::{Took, replayed, taken_from};
+use crate::processes::{NODES, ask, end_nodes, free_addresses, replay, start_nodes};
+use crate::sheets::{Took, taken_from};
 use std::env::{self, Env};
 use std::fs::{self, File};
 use std::io::Print;
@@ -24,26 +24,45 @@ fn has_words<R: AllocGlobal + Env>(rt: &R) -> bool {
     }
 }
 
-/// Says of each node how its sheet is replayed, and what it took from the others.
-fn compare<R: AllocGlobal + Files + Print>(rt: &R, peers: &[u64]) -> Result<(), Fault> {
+/// The sheets of all nodes, and what each is replayed to.
+#[derive(Drop)]
+struct Replayed {
+    sheets: Vec<String>,
+    texts: Vec<String>,
+}
+
+/// Replays the sheet of each node, and says how that ended.
+fn replay_all<R: AllocGlobal + Files<File = File> + Print + Processes>(
+    rt: &R,
+) -> Result<Replayed, Fault> {
     let alloc = rt.alloc();
     let mut sheets = Vec::new(alloc);
     let mut texts = Vec::new(alloc);
     for me in 0..NODES {
         let name = format!(in alloc; "sheet-{me}")?;
-        let sheet = fs::read_to_string(rt, name.as_str())?;
-        let (status, text) = replayed(alloc, me, sheet.as_str())?;
-        println!(rt; "node {me} is replayed: {status:?}")?;
-        sheets.push(sheet)?;
+        sheets.push(fs::read_to_string(rt, name.as_str())?)?;
+        let (went_well, text) = replay(rt, me, name.as_str())?;
+        println!(rt; "node {me} is replayed: {went_well}")?;
         texts.push(text)?;
     }
-    for (me, sheet) in sheets.iter().enumerate() {
-        for (from, text) in texts.iter().enumerate() {
+    Ok(Replayed { sheets, texts })
+}
+
+/// Says what each node took from the others.
+fn compare<R: AllocGlobal + Print>(rt: &R, peers: &[u64], all: &Replayed) -> Result<(), Fault> {
+    for (me, sheet) in all.sheets.iter().enumerate() {
+        for (from, text) in all.texts.iter().enumerate() {
             let Some(address) = peers.get(from) else {
                 continue;
             };
             if from != me {
-                let said = match taken_from(alloc, sheet.as_str(), *address, text.as_str(), me)? {
+                let said = match taken_from(
+                    rt.alloc(),
+                    sheet.as_str(),
+                    *address,
+                    text.as_str(),
+                    me,
+                )? {
                     Took::Nothing => "nothing",
                     Took::Sent => "what it sent",
                     Took::More => "more than it sent",
@@ -66,7 +85,8 @@ fn trial<R: AllocGlobal + Env + Files<File = File> + Net + Print + Processes>(
     for (me, status) in end_nodes(rt, nodes)?.into_iter().enumerate() {
         println!(rt; "node {me}: {}", status.success())?;
     }
-    compare(rt, &peers)
+    let all = replay_all(rt)?;
+    compare(rt, &peers, &all)
 }
 
 fn main(rt: HostRuntime) -> ExitCode {

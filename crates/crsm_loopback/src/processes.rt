@@ -1,4 +1,4 @@
-//! The nodes and the client, each a process of this program.
+//! The nodes, the client and what replays a sheet, each a process of this program.
 
 use crate::fault::Fault;
 use crsm_port::UdpPort;
@@ -109,6 +109,27 @@ pub(crate) fn ask<R: AllocGlobal + Files + Processes>(
         .spawn(rt)?
         .wait_with_output(rt.alloc())?;
     Ok(String::from_utf8_lossy(rt.alloc(), output.stdout.as_slice())?)
+}
+
+/// Replays the sheet of a node, and gives whether that ended well and what is written.
+pub(crate) fn replay<R: AllocGlobal + Files<File = File> + Processes>(
+    rt: &R,
+    me: usize,
+    sheet: &str,
+) -> Result<(bool, String), Fault> {
+    let alloc = rt.alloc();
+    let program = env::current_exe(rt)?;
+    let mut command = Command::new(alloc, program.as_path())?;
+    let number = format!(in alloc; "{me}")?;
+    let size = format!(in alloc; "{NODES}")?;
+    command.arg("replay-node")?.arg(number.as_str())?;
+    command.arg(size.as_str())?.stdin(File::open(rt, sheet)?);
+    let output = command
+        .stdout(Stdio::piped())
+        .spawn(rt)?
+        .wait_with_output(alloc)?;
+    let text = String::from_utf8_lossy(alloc, output.stdout.as_slice())?;
+    Ok((output.status.success(), text))
 }
 
 /// Waits until all nodes have ended, and gives their statuses.
