@@ -80,7 +80,8 @@ fn trial<R: AllocGlobal + Env + Files<File = File> + Net + Print + Processes>(
 ) -> Result<(), Fault> {
     let peers = free_addresses(rt)?;
     let nodes = start_nodes(rt, &peers)?;
-    let answer = ask(rt, peers[0])?;
+    let first = peers.first().ok_or(Fault::NoAddress)?;
+    let answer = ask(rt, *first)?;
     print!(rt; "client: {}", answer.as_str())?;
     for (me, status) in end_nodes(rt, nodes)?.into_iter().enumerate() {
         println!(rt; "node {me}: {}", status.success())?;

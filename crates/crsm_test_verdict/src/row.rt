@@ -1,6 +1,6 @@
 //! One row.
 
-ghost use Rattle.std.specs.Prelude.{◌≤◌, IfOk};
+ghost use Rattle.std.specs.Prelude.{◌≡◌, ◌≤◌, [], IfOk};
 
 use crate::fault::Fault;
 use crsm_base::{Bodies, Line, Lines, Recs, Sends, Stamp};
@@ -46,7 +46,9 @@ fn dropped_of(word: &str) -> Result<(u64, Line), Fault> {
 }
 
 /// What a replica made that told a client this and did nothing else.
-fn batch_of(alloc: Global, line: Line) -> Result<Batch, Fault> {
+fn batch_of(alloc: Global, line: Line) -> Result<Batch, Fault>
+    ensures { IfOk result (λ batch. batch.records ≡ []) }
+{
     let mut lines = Lines::new(alloc);
     lines.push(line)?;
     Ok(Batch {
