@@ -17,13 +17,21 @@ pub record Devices : Type 1 where
   -- the readings still to come, where they are told
   pub clock : Option Readings
 
--- the streams, the port and the clock stand as they stood
+-- nothing was written to the disk, and nothing that it holds has changed
+pub record SameDisk (old new : DiskMeaning) : Type 0 where
+  pub seen : new.seen ≡ old.seen
+  pub may_leave : (c : List ℕ) → new.may_leave c → old.may_leave c
+  pub history : new.history ≡ old.history
+  pub faults : new.faults ≡ old.faults
+
+-- all stand as they stood
 pub record Untouched (old new : Devices) : Type 0 where
   pub left : new.left ≡ old.left
   pub written : new.written ≡ old.written
   pub read_faults : new.read_faults ≡ old.read_faults
   pub write_faults : new.write_faults ≡ old.write_faults
   pub port : new.port ≡ old.port
+  pub disk : SameDisk old.disk new.disk
   pub clock : new.clock ≡ old.clock
 
 -- what a node runs over

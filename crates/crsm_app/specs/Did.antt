@@ -29,7 +29,7 @@ use Rattle.crsm_words.specs.declared.order.Task.{Task}
 use Rattle.crsm_words.specs.declared.order.Task.TheVariants.{Show, Replay, ReplayNode, Client, Operate, Soak, Node, Lock, DelayTimes}
 use Rattle.crsm_world.specs.Laws.{IsLawful}
 use Rattle.crsm_world.specs.Schedule.{acts_of}
-use Rattle.crsm_app.specs.Devices.{Devices, Untouched, node_devices}
+use Rattle.crsm_app.specs.Devices.{Devices, SameDisk, Untouched, node_devices}
 use Rattle.crsm_app.specs.Locks.{lock_order}
 use Rattle.crsm_app.specs.Statuses.{status_of_client, status_of_lock, status_of_node, status_of_operate}
 use Rattle.crsm_app.specs.declared.status.Status.{Status}
@@ -115,9 +115,10 @@ pub record RanNode (cluster : ℕ) (t : NodeTask) (result : Status) (old new : N
   pub status : result ≡ status_of_node ended
   pub ran : RunsOverCluster order old new ended
 
--- or memory ran out before it began, and nothing was taken, sent or written
+-- or memory ran out before it began, and all stand as they stood
 pub record NodeHasNoMemory (result : Status) (old new : NodeDevices) : Type 0 where
   pub status : result ≡ Status.NoMemory
+  pub disk : SameDisk old.disk new.disk
   pub port : new.port ≡ old.port
   pub clock : new.clock ≡ old.clock
   pub sheet : new.sheet ≡ old.sheet

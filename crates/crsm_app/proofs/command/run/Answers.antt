@@ -63,7 +63,7 @@ returns-in-Ok-clause-clock g c = λ not_running. c.do_order.ensures.clock (λ ru
 pub returns-in-Err-Usage-clause-ran : goal.returns-in-Err-Usage-clause-ran
 returns-in-Err-Usage-clause-ran g c =
     let words = map string_bytes c.args.words.now in at_fault (subst (λ (r : Refusal). OrderRefused words r) c.in-Err-Usage.field-0-is c.in-Err-Usage.ensures.any) refl
-    (record { left = refl; written = refl; read_faults = refl; write_faults = refl; port = refl; clock = refl })
+    (record { left = refl; written = refl; read_faults = refl; write_faults = refl; port = refl; disk = record { seen = refl; may_leave = λ bytes left. left; history = refl; faults = refl }; clock = refl })
 
 pub returns-in-Err-Usage-clause-faults : goal.returns-in-Err-Usage-clause-faults
 returns-in-Err-Usage-clause-faults g c = record { read = λ is. absurd (cc is); write = λ is. absurd (cc is); port = λ is. absurd (cc is); disk = λ is. absurd (cc is) }
@@ -83,7 +83,7 @@ returns-in-Err-Usage-clause-exactly g c = λ plain order asks.
 -- ---- memory ran out
 
 pub returns-in-Err-NoMemory-clause-ran : goal.returns-in-Err-NoMemory-clause-ran
-returns-in-Err-NoMemory-clause-ran g c = no_memory refl (record { left = refl; written = refl; read_faults = refl; write_faults = refl; port = refl; clock = refl })
+returns-in-Err-NoMemory-clause-ran g c = no_memory refl (record { left = refl; written = refl; read_faults = refl; write_faults = refl; port = refl; disk = record { seen = refl; may_leave = λ bytes left. left; history = refl; faults = refl }; clock = refl })
 
 pub returns-in-Err-NoMemory-clause-faults : goal.returns-in-Err-NoMemory-clause-faults
 returns-in-Err-NoMemory-clause-faults g c = record { read = λ is. absurd (cc is); write = λ is. absurd (cc is); port = λ is. absurd (cc is); disk = λ is. absurd (cc is) }
