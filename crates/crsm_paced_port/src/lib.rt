@@ -2,10 +2,12 @@
 #![tactic(auto)]
 
 mod ahead;
+mod early;
 mod head;
 mod held;
 mod pacer;
 mod port;
 mod repeats;
+mod requests;
 
 pub use port::PacedPort;

@@ -1,12 +1,14 @@
 //! What is held back at a port, and what is read ahead.
 
-ghost use Rattle.std.specs.Prelude.{IfOk, length};
+ghost use Rattle.std.specs.Prelude.{IfOk, IfSome, length};
 ghost use Rattle.crsm_port.specs.Meaning.{IsWithin};
 
 use crate::ahead::Ahead;
+use crate::early::Early;
 use crate::head::{Head, head_of};
 use crate::held::Held;
 use crate::repeats::Repeats;
+use crate::requests::{MOST_WAITING, Requests};
 use crsm_base::{Failed, NoMemory};
 use crsm_clock::Clock;
 use crsm_port::{Got, Port};
@@ -22,6 +24,10 @@ pub(crate) struct Pacer<P, C> {
     ahead: Ahead,
     held: Held,
     repeats: Repeats,
+    requests: Requests,
+    early: Early,
+    // the receive does not wait
+    is_hurried: bool,
 }
 
 impl<P: Drop, C: Drop> Pacer<P, C> {
@@ -34,25 +40,53 @@ impl<P: Drop, C: Drop> Pacer<P, C> {
             ahead: Ahead::new(alloc)?,
             held: Held::new(alloc)?,
             repeats: Repeats::new(alloc)?,
+            requests: Requests::new(alloc)?,
+            early: Early::new(alloc)?,
+            is_hurried: false,
         })
     }
 }
 
 impl<P: Port, C: Clock> Pacer<P, C> {
-    /// Lets go what is held back, and gives the next datagram: one that was read ahead, or what the port gives.
+    /// Lets go what is held back, and gives the next datagram: a frame that is missed no longer, a request that has waited,
+    /// one that was read ahead, or what the port gives.
     pub(crate) fn recv(&mut self, buf: &mut [u8]) -> Result<Got, Failed>
         ensures { IfOk result (IsWithin (length buf.old)) }
     {
         self.held.let_go(&mut self.port);
-        let got = self.next(buf)?;
-        if let Got::Datagram { len, .. } = got {
-            self.note(&buf[..len]);
-        }
-        Ok(got)
+        let got = match self.kept(buf) {
+            Some(got) => Ok(got),
+            None => self.next(buf),
+        };
+        self.is_hurried = false;
+        got
     }
 
-    /// The next datagram.
+    /// One that was kept, and whose turn has come.
+    fn kept(&mut self, buf: &mut [u8]) -> Option<Got>
+        ensures { IfSome result (IsWithin (length buf.old)) }
+    {
+        match self.early.take(buf) {
+            Some(got) => Some(got),
+            None => self.requests.take(buf, self.now),
+        }
+    }
+
+    /// The next datagram that is not held back.
     fn next(&mut self, buf: &mut [u8]) -> Result<Got, Failed>
+        ensures { IfOk result (IsWithin (length buf.old)) }
+    {
+        for _ in 0..=MOST_WAITING {
+            match self.arrived(buf)? {
+                Got::Datagram { from, len } if self.is_held(from, &buf[..len]) => {}
+                got => return Ok(got),
+            }
+        }
+        Ok(Got::Nothing)
+    }
+
+    /// The next datagram, read ahead or not.
+    fn arrived(&mut self, buf: &mut [u8]) -> Result<Got, Failed>
         ensures { IfOk result (IsWithin (length buf.old)) }
     {
         if let Some(got) = self.ahead.take(buf) {
@@ -61,13 +95,35 @@ impl<P: Port, C: Clock> Pacer<P, C> {
         if self.ahead.take_failure() {
             return Err(Failed);
         }
+        if self.is_hurried {
+            self.port.hurry();
+        }
         self.port.recv(buf)
     }
 
-    /// Notes which frame the sender of a datagram expects.
-    fn note(&mut self, bytes: &[u8]) {
-        if let Head::Ack { from, epoch, next } = head_of(bytes) {
-            self.repeats.note_expected(from, epoch, next);
+    /// Whether a datagram is held back; notes frames, and which frame its sender expects.
+    fn is_held(&mut self, from: u64, bytes: &[u8]) -> bool {
+        match head_of(bytes) {
+            Head::Ack {
+                from: sender,
+                epoch,
+                next,
+                ..
+            } => {
+                self.repeats.note_expected(sender, epoch, next);
+                false
+            }
+            Head::Frame {
+                from: sender,
+                epoch,
+                number,
+                ..
+            } => {
+                self.early.note(sender, epoch, number, from, bytes);
+                false
+            }
+            Head::Request(command) => self.requests.hold(from, command, bytes, self.now),
+            _ => false,
         }
     }
 
@@ -87,9 +143,22 @@ impl<P: Port, C: Clock> Pacer<P, C> {
                 to: receiver,
                 epoch,
                 number,
+                ..
             } => self.repeats.may_go(receiver, epoch, number, self.now),
-            Head::Ack { .. } => !self.held.hold(to, bytes),
-            Head::Other => true,
+            Head::Ack {
+                to: sender,
+                epoch,
+                next,
+                ..
+            } => {
+                self.early.note_expected(sender, epoch, next);
+                !self.held.hold(to, bytes)
+            }
+            Head::Reply(command) => {
+                self.requests.note_answered(command);
+                true
+            }
+            Head::Request(_) | Head::Other => true,
         }
     }
 
@@ -103,6 +172,6 @@ impl<P: Port, C: Clock> Pacer<P, C> {
 
     /// The next receive does not wait.
     pub(crate) fn hurry(&mut self) {
-        self.port.hurry()
+        self.is_hurried = true;
     }
 }

@@ -10,12 +10,16 @@ use crsm_port::{Got, Port};
 use std::alloc::Global;
 
 /// A port over a port, for a replica. A link sends its frames again at each tick until they are acknowledged, and a
-/// receiver acknowledges each frame; over a socket with a short buffer both drown what is new. So
+/// receiver acknowledges each frame and takes none behind one that is missing; over a socket with a short buffer this drowns
+/// what is new. So
 ///
 /// - a frame that went out less than 20 milliseconds ago does not go out again, or 1 millisecond ago where its receiver
-///   has said twice that it expects the same frame;
+///   has said twice that it expects the same frame and this is one of the 32 from that frame on;
 /// - acknowledgements wait for the next receive, and of those to one address only the last goes out;
-/// - what waits at the port below is read ahead before the replica keeps its records, up to 1,024 datagrams.
+/// - what waits at the port below is read ahead before the replica keeps its records, up to 1,024 datagrams;
+/// - a frame that comes before one that is missing is kept, up to 1,024 of a link, and comes once more behind that one;
+/// - a request waits, one of up to 1,024, while the replica has 64 that it has not answered, as it would refuse it. One that
+///   has no answer for a second counts no longer.
 ///
 /// A send that is held back counts as a loss, whether it goes out later or not. It tells its counts and nothing else.
 #[derive(Drop)]

@@ -9,10 +9,12 @@ const REPLICAS: usize = 15;
 const WINDOW: usize = 4096;
 
 /// A frame goes out again after so many microseconds: after the second where its receiver has said twice that it expects
-/// the same frame, so that one is missing there.
+/// the same frame, so that one is missing there, and this is one of so many from that frame on.
 const PACE: u64 = 20_000;
 
 const HASTE: u64 = 1_000;
+
+const MISSED: u64 = 32;
 
 /// A frame, and the reading at which it went out last.
 #[derive(Clone, Copy)]
@@ -28,6 +30,16 @@ struct Expected {
     epoch: u64,
     next: u64,
     is_repeated: bool,
+}
+
+impl Expected {
+    /// Whether the frame is one that seems to be missing.
+    fn seems_to_miss(&self, epoch: u64, number: u64) -> bool {
+        self.is_repeated
+            && self.epoch == epoch
+            && self.next <= number
+            && number - self.next < MISSED
+    }
 }
 
 /// What went out to each replica a moment ago, and what each expects.
@@ -74,9 +86,9 @@ impl Repeats {
     }
 
     /// How long after a frame went out to a replica it may go again.
-    fn pace_to(&self, to: u8) -> u64 {
+    fn pace_of(&self, to: u8, epoch: u64, number: u64) -> u64 {
         match self.expected.get(usize::from(to)) {
-            Some(expected) if expected.is_repeated => HASTE,
+            Some(expected) if expected.seems_to_miss(epoch, number) => HASTE,
             _ => PACE,
         }
     }
@@ -84,7 +96,7 @@ impl Repeats {
     /// Whether a frame to this replica may go out at this reading; it is noted if it may. A clock that went back holds
     /// nothing.
     pub(crate) fn may_go(&mut self, to: u8, epoch: u64, number: u64, now: u64) -> bool {
-        let pace = self.pace_to(to);
+        let pace = self.pace_of(to, epoch, number);
         let Some(last) = self.last.get_mut(place_of(to, number)) else {
             return true;
         };
