@@ -26,10 +26,17 @@ impl NoDevice {
     /// The status that the program ends with.
     pub(crate) fn status(&self) -> Status {
         match self {
+            NoDevice::Socket(error) if is_of_memory(error) => Status::NoMemory,
+            NoDevice::Log(OpenError::Io(error)) if is_of_memory(error) => Status::NoMemory,
             NoDevice::Socket(_) => Status::PortFault,
             NoDevice::Log(_) => Status::DiskFault,
         }
     }
+}
+
+/// Whether there was no memory for it.
+fn is_of_memory(error: &io::Error) -> bool {
+    error.kind() == ErrorKind::OutOfMemory
 }
 
 impl Display for NoDevice {
