@@ -1,12 +1,13 @@
 """Commands a second of a store, by closed-loop clients: three nodes of crsm beside other stores on the same machine.
 
-    python3 bench/cluster.py PROGRAM [--stores crsm,etcd,redis] [--clients 1,16,64,256] [--seconds S] [--rounds R]
+    python3 bench/cluster.py PROGRAM [--stores crsm,etcd,zookeeper,redis] [--clients 1,16,64,256] [--seconds S]
+                             [--rounds R] [--install]
 
-starts each store in a folder of its own, three members of `crsm` and of `etcd` and one `redis-server` that syncs each
-command, and has clients put 100 bytes each, one command after another, at all members in turn. Prints the median of the
-rounds: commands a second and their ratio to crsm, the time to an answer in the middle and of the slowest hundredth, and
-the servers' processor time for a command. Every store syncs a command before it answers. A store that is not installed
-is left out with a word; as root, `apt-get install etcd-server redis-server` gets both. What it starts, it stops.
+starts each store in a folder of its own, three members of `crsm`, `etcd` and ZooKeeper and one `redis-server` that syncs
+each command, and has clients put 100 bytes each, one command after another, at all members in turn. Prints the median
+of the rounds: commands a second and their ratio to crsm, the time to an answer in the middle and of the slowest
+hundredth, and the servers' processor time for a command. Every store syncs a command before it answers. A store that is
+not installed is left out with a word; as root, `--install` gets them. What it starts, it stops.
 """
 
 import argparse
@@ -32,6 +33,8 @@ WARM_UP = 1.0
 RESEND = 0.1
 BUSY_PAUSE = 0.001
 TICKS = os.sysconf("SC_CLK_TCK")
+PACKAGES = ["etcd-server", "redis-server", "zookeeperd"]
+ZOOKEEPER = "/usr/share/java/zookeeper.jar"
 
 Address = Tuple[str, int]
 
@@ -167,6 +170,66 @@ class Etcd(Stream):
         return is_over
 
 
+class ZooKeeper(Stream):
+    """A client of ZooKeeper: each command sets the bytes of a node of its tree, which is made where it is missing."""
+
+    SET, CREATE = 5, 1
+    NO_NODE = -101
+
+    def __init__(self, address: Address, client: int):
+        super().__init__(address, client)
+        self.send(struct.pack(">iqiq", 0, 0, 30_000, 0) + self.buffer(bytes(16)))
+        while not self.packet():
+            self.receive()
+
+    @staticmethod
+    def buffer(data: bytes) -> bytes:
+        """Bytes behind their length."""
+        return struct.pack(">i", len(data)) + data
+
+    def send(self, payload: bytes) -> None:
+        """Sends a packet."""
+        self.socket.sendall(self.buffer(payload))
+
+    def packet(self) -> bytes:
+        """The next packet that came whole, or nothing."""
+        if len(self.came) < 4 or len(self.came) < 4 + int.from_bytes(self.came[:4], "big"):
+            return b""
+        size = int.from_bytes(self.came[:4], "big")
+        packet, self.came = self.came[4 : 4 + size], self.came[4 + size :]
+        return packet
+
+    def node(self) -> bytes:
+        """The name and the bytes of the command's node."""
+        return self.buffer(b"/" + key_of(self.client, self.number)) + self.buffer(VALUE)
+
+    def ask(self) -> None:
+        """Sends the next command."""
+        self.number += 1
+        self.send(struct.pack(">ii", self.number, self.SET) + self.node() + struct.pack(">i", -1))
+
+    def create(self) -> None:
+        """Makes the node, open to all."""
+        rights = struct.pack(">ii", 1, 31) + self.buffer(b"world") + self.buffer(b"anyone") + struct.pack(">i", 0)
+        self.send(struct.pack(">ii", self.number, self.CREATE) + self.node() + rights)
+
+    def take(self) -> Optional[bool]:
+        """Whether the answer came."""
+        self.receive()
+        packet = self.packet()
+        if not packet:
+            return None
+        number, _, error = struct.unpack(">iqi", packet[:16])
+        if number != self.number:
+            return None
+        if error == self.NO_NODE:
+            self.create()
+            return None
+        if error != 0:
+            raise ConnectionError(f"ZooKeeper answers {error}")
+        return True
+
+
 # ---- the load
 
 
@@ -286,9 +349,28 @@ def start_redis(_: str, folder: str) -> Tuple[Store, List[Address]]:
     return store, addresses
 
 
+def start_zookeeper(_: str, folder: str) -> Tuple[Store, List[Address]]:
+    """Three members of ZooKeeper, that sync each command as they do by default."""
+    store, addresses = Store(folder), free_addresses(9)
+    clients = addresses[:3]
+    members = "".join(f"server.{at}={HOST}:{addresses[3 + at][1]}:{addresses[6 + at][1]}\n" for at in range(3))
+    for at in range(3):
+        data = f"{folder}/data-{at}"
+        os.makedirs(data)
+        with open(f"{data}/myid", "w", encoding="ascii") as file:
+            file.write(str(at))
+        with open(f"{data}/zoo.cfg", "w", encoding="ascii") as file:
+            file.write(f"tickTime=2000\ninitLimit=10\nsyncLimit=5\ndataDir={data}\nclientPort={clients[at][1]}\n")
+            file.write(f"maxClientCnxns=0\nadmin.enableServer=false\n{members}")
+        main = "org.apache.zookeeper.server.quorum.QuorumPeerMain"
+        store.start(f"zookeeper-{at}", ["java", "-cp", ZOOKEEPER, main, f"{data}/zoo.cfg"])
+    return store, clients
+
+
 STORES = {
     "crsm": (Crsm, start_crsm, None),
     "etcd": (Etcd, start_etcd, "etcd"),
+    "zookeeper": (ZooKeeper, start_zookeeper, ZOOKEEPER),
     "redis": (Redis, start_redis, "redis-server"),
 }
 
@@ -308,10 +390,11 @@ def await_store(kind, addresses: List[Address]) -> None:
         end = time.monotonic() + 30
         while True:
             try:
+                kind(address, 0).socket.close()
                 if load(kind, [address], 1, 0.2):
                     break
             except (ConnectionError, OSError):
-                pass
+                time.sleep(0.1)
             if time.monotonic() > end:
                 raise SystemExit(f"cluster: {kind.__name__} does not answer at {text_of(address)}")
 
@@ -344,14 +427,17 @@ def main() -> int:
     """All stores in each round, then the table."""
     reader = argparse.ArgumentParser(description=__doc__, formatter_class=argparse.RawDescriptionHelpFormatter)
     reader.add_argument("program", type=os.path.abspath)
-    reader.add_argument("--stores", default="crsm,etcd,redis", type=lambda text: text.split(","))
+    reader.add_argument("--stores", default="crsm,etcd,zookeeper,redis", type=lambda text: text.split(","))
     reader.add_argument("--clients", default=[1, 16, 64, 256], type=lambda text: [int(it) for it in text.split(",")])
     reader.add_argument("--seconds", type=float, default=3.0)
     reader.add_argument("--rounds", type=int, default=3)
+    reader.add_argument("--install", action="store_true", help="installs the stores that are missing, as root")
     words = reader.parse_args()
+    if words.install and os.geteuid() == 0:
+        subprocess.run(["apt-get", "install", "-y", "-q", "--no-install-recommends", *PACKAGES], check=False)
     stores = []
     for name in words.stores:
-        if STORES[name][2] and shutil.which(STORES[name][2]) is None:
+        if STORES[name][2] and shutil.which(STORES[name][2], os.F_OK) is None:
             print(f"{name} is not installed, and is left out", file=sys.stderr)
         else:
             stores.append(name)

@@ -7,7 +7,8 @@ k up to M, while a client asks it for commands. The node ends with the status th
 goes on; started again without faults on the same log, it has each command that was answered. It also looks at the order
 of calls of a run without faults: before a reply goes out, a write, a sync, a write and a sync have kept the command.
 
-Ends with 0 where all holds, with 1 and the reason where it does not, and with 0 and a word where there is no `strace`.
+Ends with 0 where all holds, with 1 and the reason where it does not, and with 0 and a word where there is no `strace`. Where there is a `cc`, reads and writes
+are cut to half of their bytes, too, one in each run: the node goes on as if nothing had been.
 """
 
 import argparse
@@ -17,9 +18,10 @@ import shutil
 import subprocess
 import sys
 import tempfile
-from typing import List, Tuple
+from typing import Dict, List, Optional, Tuple
 
 from nodes import free_addresses, text_of
+from shim import Shim, built, has_come
 
 TURNS = 250
 COMMANDS = 3
@@ -35,7 +37,10 @@ FAULTS = [
     ("recvfrom", "EIO", {0, 6}),
 ]
 
-# Of these, those of the log file alone fail.
+# The calls that are cut short.
+CUTS = ["pwrite", "pread", "write"]
+
+# Of those that fail, those of the log file do so alone.
 DISK_CALLS = ("pwrite64", "fdatasync", "fsync", "pread64")
 
 
@@ -54,10 +59,13 @@ def ask(program: str, address: str, number: int, op: List[str]) -> str:
     return subprocess.run(words, capture_output=True, text=True, check=False).stdout.strip()
 
 
-def run_node(folder: str, words: List[str], program: str, address: str) -> Tuple[int, List[int]]:
-    """Runs a node under strace and asks it; answers its status and the numbers of the commands that were answered."""
+def run_node(
+    folder: str, words: List[str], program: str, address: str, environment: Optional[Dict[str, str]] = None
+) -> Tuple[int, List[int]]:
+    """Runs a node and asks it; answers its status and the numbers of the commands that were answered."""
+    quiet = subprocess.DEVNULL
     with open(f"{folder}/sheet", "wb") as sheet:
-        node = subprocess.Popen(words, cwd=folder, stdin=subprocess.DEVNULL, stdout=sheet, stderr=subprocess.DEVNULL)
+        node = subprocess.Popen(words, cwd=folder, stdin=quiet, stdout=sheet, stderr=quiet, env=environment)
     answered = []
     for number in range(1, COMMANDS + 1):
         if node.poll() is None and ask(program, address, number, ["put", f"{number:02x}", "aa"]) == "ok done":
@@ -77,6 +85,14 @@ def check_kept(program: str, folder: str, answered: List[int], what: str) -> Non
         raise Broken(f"{what}: {answered} were answered, and the log has {final}")
 
 
+def check_sheet(program: str, folder: str, what: str) -> None:
+    """The sheet of a node that ended replays, where it has one."""
+    with open(f"{folder}/sheet", "rb") as sheet:
+        again = subprocess.run([program, "replay-node", "0", "1"], stdin=sheet, capture_output=True, check=False)
+    if again.returncode != 0 and os.path.getsize(f"{folder}/sheet") > 0:
+        raise Broken(f"{what}: its sheet does not replay: {again.stderr.decode()}")
+
+
 def one_fault(program: str, call: str, error: str, at: int, statuses: set) -> bool:
     """Lets one call fail; answers whether the run had so many calls."""
     folder = tempfile.mkdtemp(prefix="crsm-faults-")
@@ -92,6 +108,43 @@ def one_fault(program: str, call: str, error: str, at: int, statuses: set) -> bo
         check_kept(program, folder, answered, f"{call} {at} fails with {error}")
         with open(f"{folder}/trace", encoding="utf-8", errors="replace") as trace:
             return "(INJECTED)" in trace.read()
+    finally:
+        shutil.rmtree(folder)
+
+
+def one_cut(shim: Shim, call: str, at: int) -> bool:
+    """Cuts one call short, a read where a node begins on a log that has something; answers whether there were so many."""
+    folder, what = tempfile.mkdtemp(prefix="crsm-faults-"), f"{call} {at} is cut short"
+    try:
+        address = text_of(free_addresses(1)[0])
+        words = node_words(shim.program, address, TURNS)
+        environment = shim.environment(call, at, f"{folder}/mark")
+        first = None if call == "pread" else environment
+        status, answered = run_node(folder, words, shim.program, address, first)
+        if status == 0 and call == "pread":
+            status, _ = run_node(folder, words, shim.program, address, environment)
+        if status != 0 or len(answered) != COMMANDS:
+            raise Broken(f"{what}: the node ends with {status} and has answered {answered}")
+        check_sheet(shim.program, folder, what)
+        check_kept(shim.program, folder, answered, what)
+        return has_come(f"{folder}/mark")
+    finally:
+        shutil.rmtree(folder)
+
+
+def cut_all(program: str, most: int) -> List[str]:
+    """Cuts each call short in turn; says how many there were."""
+    if shutil.which("cc") is None:
+        return ["no cc here, so none was cut short"]
+    folder = tempfile.mkdtemp(prefix="crsm-faults-")
+    try:
+        shim, tried = Shim(built(folder), program), []
+        for call in CUTS:
+            count = 0
+            while count < most and one_cut(shim, call, count + 1):
+                count += 1
+            tried.append(f"{call} cut short {count}")
+        return tried
     finally:
         shutil.rmtree(folder)
 
@@ -138,6 +191,7 @@ def main() -> int:
             while count < words.most and one_fault(words.program, call, error, count + 1, statuses):
                 count += 1
             tried.append(f"{call} {count}")
+        tried += cut_all(words.program, words.most)
     except Broken as broken:
         print(f"faults: {broken}", file=sys.stderr)
         return 1
