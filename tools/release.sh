@@ -24,8 +24,9 @@ cp clients/python/crsm.py clients/python/README.md "$scratch/$name/python/"
 cat > "$scratch/$name/README" <<END
 crsm $version, a replicated key-value store, from commit $(git rev-parse HEAD).
 
-crsm runs on any x86-64 processor of the last fifteen years, crsm-avx2 on one with AVX2. Both are static and need no
-library. OPERATING.md says how to start nodes; crsm@.service runs one under systemd; python/ has a client.
+crsm runs on any x86-64 processor of the last fifteen years, crsm-avx2 on one with AVX2. Both need the system's C library,
+of version 2.34 or later, and nothing else. OPERATING.md says how to start nodes; crsm@.service runs one under systemd;
+python/ has a client.
 
 What was proved, of the sources at this commit: that the output, the log, the packets and the answers of each command are
 those of the protocol, and that replicas agree in every schedule; the sources' README says it clause by clause. The proofs
@@ -35,12 +36,16 @@ sha256sum -c SHA256SUMS checks the files.
 END
 (cd "$scratch/$name" && find . -type f ! -name SHA256SUMS | sort | xargs sha256sum > SHA256SUMS)
 
-# In a root that has the program and nothing else: a schedule is replayed.
-mkdir "$scratch/root"
+# In a root that has the program, the C library and nothing else: a schedule is replayed.
 for program in crsm crsm-avx2; do
-  cp "$scratch/$name/$program" "$scratch/root/"
   [ "$program" = crsm-avx2 ] && ! grep -qw avx2 /proc/cpuinfo && continue
-  unshare -r chroot "$scratch/root" "/$program" replay < examples/first.schedule | cmp - examples/first.transcript
+  root=$scratch/root-$program
+  for file in $(ldd "$scratch/$name/$program" | grep -o '/[^ ]*'); do
+    mkdir -p "$root/$(dirname "$file")"
+    cp -L "$file" "$root/$file"
+  done
+  cp "$scratch/$name/$program" "$root/"
+  unshare -r chroot "$root" "/$program" replay < examples/first.schedule | cmp - examples/first.transcript
 done
 tar -C "$scratch" -czf "$folder/$name.tar.gz" --owner=0 --group=0 --sort=name "$name"
 echo "release: $folder/$name.tar.gz"
