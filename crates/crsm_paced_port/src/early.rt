@@ -115,7 +115,9 @@ impl Early {
         if link.epoch == epoch && link.next == number {
             link.next = link.next.saturating_add(1);
             self.see(place);
-        } else if link.is_early(epoch, number) && self.bytes.saturating_add(bytes.len()) <= MOST_BYTES {
+        } else if link.is_early(epoch, number)
+            && self.bytes.saturating_add(bytes.len()) <= MOST_BYTES
+        {
             let _ = self.keep(place, number, from, bytes);
         }
     }

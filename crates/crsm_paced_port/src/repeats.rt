@@ -8,20 +8,24 @@ const REPLICAS: usize = 15;
 
 const WINDOW: usize = 4096;
 
-/// A frame goes out again after so many microseconds: after the second where its receiver has said twice that it expects
-/// the same frame, so that one is missing there, and this is one of so many from that frame on.
+/// A frame goes out again after so many microseconds, and after twice as many each time that follows, three times: its
+/// receiver may be busy. It does after the second number where its receiver has said twice that it expects the same frame,
+/// so that one is missing there, and this is one of so many from that frame on.
 const PACE: u64 = 20_000;
+
+const MOST_DOUBLED: u32 = 3;
 
 const HASTE: u64 = 1_000;
 
 const MISSED: u64 = 32;
 
-/// A frame, and the reading at which it went out last.
+/// A frame, the reading at which it went out last, and how often it went out again.
 #[derive(Clone, Copy)]
 struct Last {
     epoch: u64,
     number: u64,
     at: u64,
+    again: u32,
 }
 
 /// The frame that a replica expects next, and whether it has said so twice.
@@ -30,6 +34,17 @@ struct Expected {
     epoch: u64,
     next: u64,
     is_repeated: bool,
+}
+
+impl Last {
+    /// How long after it went out it may go again.
+    fn pace(&self, is_missed: bool) -> u64 {
+        if is_missed {
+            HASTE
+        } else {
+            PACE << self.again.min(MOST_DOUBLED)
+        }
+    }
 }
 
 impl Expected {
@@ -61,6 +76,7 @@ impl Repeats {
             epoch: u64::MAX,
             number: u64::MAX,
             at: 0,
+            again: 0,
         };
         let nothing = Expected {
             epoch: u64::MAX,
@@ -85,29 +101,34 @@ impl Repeats {
         }
     }
 
-    /// How long after a frame went out to a replica it may go again.
-    fn pace_of(&self, to: u8, epoch: u64, number: u64) -> u64 {
-        match self.expected.get(usize::from(to)) {
-            Some(expected) if expected.seems_to_miss(epoch, number) => HASTE,
-            _ => PACE,
-        }
+    /// Whether a replica seems to miss a frame.
+    fn is_missed(&self, to: u8, epoch: u64, number: u64) -> bool {
+        self.expected
+            .get(usize::from(to))
+            .is_some_and(|e| e.seems_to_miss(epoch, number))
     }
 
     /// Whether a frame to this replica may go out at this reading; it is noted if it may. A clock that went back holds
     /// nothing.
     pub(crate) fn may_go(&mut self, to: u8, epoch: u64, number: u64, now: u64) -> bool {
-        let pace = self.pace_of(to, epoch, number);
+        let is_missed = self.is_missed(to, epoch, number);
         let Some(last) = self.last.get_mut(place_of(to, number)) else {
             return true;
         };
         let is_same = last.epoch == epoch && last.number == number;
-        if is_same && last.at <= now && now - last.at < pace {
+        if is_same && last.at <= now && now - last.at < last.pace(is_missed) {
             return false;
         }
+        let again = if is_same {
+            last.again.saturating_add(1)
+        } else {
+            0
+        };
         *last = Last {
             epoch,
             number,
             at: now,
+            again,
         };
         true
     }
