@@ -38,6 +38,7 @@ from nodes import Network, Node, Weather, free_addresses, text_of  # noqa: E402
 FAULTS = ["kill", "pause", "cut", "tear", "replace"]
 SETTLED_WITHIN = 15.0
 KEYS = [f"k{at}" for at in range(8)]
+MOST_AUDITED = 1 << 30
 NO_COMMAND = 2
 
 
@@ -409,14 +410,24 @@ def check_answers(entries: List[Entry], notes: List[Asked], first: Dict[Tuple[in
             raise Broken(f"command {(it.client, it.number)} is at {place}, and place {latest} was answered before")
 
 
+def audited_sheets(cluster: Cluster) -> bytes:
+    """The sheets that an audit is given: of each node the last ones, and of all nodes as many as an input may have."""
+    sheets = [(node, boot) for node in cluster.nodes for boot in range(node.boots)]
+    sheets.sort(key=lambda it: it[0].boots - it[1])
+    chosen, size = [], 0
+    for node, boot in sheets:
+        size += os.path.getsize(node.sheet(boot)) + 8
+        if size > MOST_AUDITED:
+            break
+        chosen.append((node, boot))
+    chosen.sort(key=lambda it: (it[0].number, it[1]))
+    texts = [(node, whole_lines(node.sheet(boot))) for node, boot in chosen]
+    return b"".join(b"node %d\n" % node.number + text for node, text in texts if b"open\n" in text)
+
+
 def audit(cluster: Cluster) -> str:
-    """What the program's own audit says of all sheets."""
-    text = b""
-    for node in cluster.nodes:
-        for boot in range(node.boots):
-            sheet = whole_lines(node.sheet(boot))
-            if b"open\n" in sheet:
-                text += f"node {node.number}\n".encode() + sheet
+    """What the program's own audit says of the sheets."""
+    text = audited_sheets(cluster)
     words = [cluster.words.program, "audit", str(cluster.words.nodes)]
     ran = subprocess.run(words, input=text, capture_output=True, check=False)
     if ran.returncode == NO_COMMAND:

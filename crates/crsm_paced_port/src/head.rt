@@ -10,9 +10,12 @@ pub(crate) struct Command {
     number: u64,
 }
 
+/// How many bytes of a part number its message.
+const NUMBER_BYTES: usize = 16;
+
 /// The kinds of datagrams that are paced, and where they belong.
 #[derive(Clone, Copy)]
-pub(crate) enum Head {
+pub(crate) enum Head<'a> {
     /// A frame of a link.
     Frame {
         from: u8,
@@ -27,6 +30,8 @@ pub(crate) enum Head {
         epoch: u64,
         next: u64,
     },
+    /// A part of a message: what stands behind its message's number.
+    Part(&'a [u8]),
     /// A client asks for a command.
     Request(Command),
     /// A replica answers a command.
@@ -49,7 +54,7 @@ fn command_of(bytes: &[u8]) -> Option<Command> {
 }
 
 /// What the bytes of a datagram say first, whatever cluster it belongs to.
-pub(crate) fn head_of(bytes: &[u8]) -> Head {
+pub(crate) fn head_of(bytes: &[u8]) -> Head<'_> {
     match unmarked(bytes) {
         [1, from, to, rest @ ..] => match two_numbers(rest) {
             Some((epoch, number)) => Head::Frame {
@@ -69,8 +74,15 @@ pub(crate) fn head_of(bytes: &[u8]) -> Head {
             },
             None => Head::Other,
         },
-        [4, rest @ ..] => command_of(rest).map_or(Head::Other, Head::Request),
-        [5, rest @ ..] => command_of(rest).map_or(Head::Other, Head::Reply),
+        [3, _, _, rest @ ..] if rest.len() >= NUMBER_BYTES => Head::Part(&rest[NUMBER_BYTES..]),
+        [4, rest @ ..] => match command_of(rest) {
+            Some(command) => Head::Request(command),
+            None => Head::Other,
+        },
+        [5, rest @ ..] => match command_of(rest) {
+            Some(command) => Head::Reply(command),
+            None => Head::Other,
+        },
         _ => Head::Other,
     }
 }

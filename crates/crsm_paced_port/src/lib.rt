@@ -6,6 +6,7 @@ mod early;
 mod head;
 mod held;
 mod pacer;
+mod parts;
 mod port;
 mod repeats;
 mod requests;

@@ -7,6 +7,7 @@ use crate::ahead::Ahead;
 use crate::early::Early;
 use crate::head::{Head, head_of};
 use crate::held::Held;
+use crate::parts::Parts;
 use crate::repeats::Repeats;
 use crate::requests::{MOST_WAITING, Requests};
 use crsm_base::{Failed, NoMemory};
@@ -24,6 +25,7 @@ pub(crate) struct Pacer<P, C> {
     ahead: Ahead,
     held: Held,
     repeats: Repeats,
+    parts: Parts,
     requests: Requests,
     early: Early,
     // the receive does not wait
@@ -40,6 +42,7 @@ impl<P: Drop, C: Drop> Pacer<P, C> {
             ahead: Ahead::new(alloc)?,
             held: Held::new(alloc)?,
             repeats: Repeats::new(alloc)?,
+            parts: Parts::new(alloc)?,
             requests: Requests::new(alloc)?,
             early: Early::new(alloc)?,
             is_hurried: false,
@@ -154,6 +157,7 @@ impl<P: Port, C: Clock> Pacer<P, C> {
                 self.early.note_expected(sender, epoch, next);
                 !self.held.hold(to, bytes)
             }
+            Head::Part(part) => self.parts.may_go(to, part, self.now),
             Head::Reply(command) => {
                 self.requests.note_answered(command);
                 true
