@@ -1,5 +1,5 @@
 -- How a list of classes is counted, whole and by blocks.
-use Rattle.std.specs.Prelude.{◌≡◌, ◌<◌, ◌≤◌, ◌*◌, ◌^◌, ℕ, Bool, false, List, Some, drop, length, nat_eq, slice_get, slice_index, take}
+use Rattle.std.specs.Prelude.{◌≡◌, ◌<◌, ◌≤◌, ◌*◌, ℕ, Bool, false, List, Some, drop, length, nat_eq, slice_get, slice_index, take}
 use Rattle.std.specs.List.{AllByRecursion, count_by}
 use Rattle.std.specs.Option.{option_map_or}
 use Rattle.crsm_tally.specs.declared.counts.Counts.{Counts}
@@ -31,8 +31,9 @@ pub record TallyStands (tally : Tally) (classes : List ℕ) : Type 0 where
   pub held : tally.classes.items ≡ classes
   pub small : AllByRecursion IsClass classes
   pub all : IsCount tally.all.each classes
-  pub blocks : AreBlocks 256 tally.blocks.items classes
-  pub spans : AreBlocks 65536 tally.spans.items classes
+  pub blocks : AreBlocks 64 tally.blocks.items classes
+  pub groups : AreBlocks 1024 tally.groups.items classes
+  pub spans : AreBlocks 16384 tally.spans.items classes
 
 -- for the list that the tally has
 abbrev pub WhereTally : Tally → (List ℕ → Type 0) → Type 0

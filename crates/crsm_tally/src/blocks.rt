@@ -1,6 +1,6 @@
 //! Counts of the blocks of a list.
 
-ghost use Rattle.std.specs.Prelude.{◌≡◌, ◌<◌, ◌^◌, ◌+◌, ◌*◌, [], ◌∷◌, ◌++◌, ℕ, List, Some, OnOk, drop, length, slice_get, slice_set};
+ghost use Rattle.std.specs.Prelude.{◌≡◌, ◌<◌, ◌≤◌, ◌^◌, ◌+◌, ◌*◌, [], ◌∷◌, ◌++◌, ℕ, List, Some, OnOk, drop, length, slice_get, slice_set};
 ghost use Rattle.std.specs.List.{AllByRecursion, count_by};
 ghost use Rattle.crsm_tally.specs.Tally.{AreBlocks, IsClass, is_wanted};
 
@@ -70,4 +70,19 @@ pub(crate) fn find(blocks: &[Counts], first: usize, wanted: &[bool], j: u64) -> 
         block += 1;
     }
     (block, before)
+}
+
+/// The same from the first of the `fan` blocks on that a block of the level above is made of. What is said of that one is its
+/// number, and how many there are in it before the one that is sought.
+pub(crate) fn find_within(
+    blocks: &[Counts],
+    above: (usize, u64),
+    fan: usize,
+    wanted: &[bool],
+) -> (usize, u64)
+    ensures { (size : ℕ) (xs : List ℕ) → 1 ≤ size → length xs < 2 ^ 63 → AllByRecursion IsClass xs → AreBlocks size blocks.now xs
+        → above.1 + count_by (is_wanted wanted.now) (drop (result.0 * size) xs) ≡ result.1 + count_by (is_wanted wanted.now) (drop (above.0 * fan * size) xs) }
+{
+    let (block, before) = above;
+    find(blocks, block.saturating_mul(fan), wanted, before)
 }

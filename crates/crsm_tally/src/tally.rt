@@ -5,7 +5,7 @@ ghost use Rattle.std.specs.List.{count_by};
 ghost use Rattle.crsm_tally.specs.Nth.{IsFrom, IsNth};
 ghost use Rattle.crsm_tally.specs.Tally.{TallyStands, WhereTally, is_wanted};
 
-use crate::blocks::{add, change, find};
+use crate::blocks::{add, change, find, find_within};
 use crate::counts::{Counts, is_among};
 use crsm_base::{NoMemory, never};
 use std::alloc::Global;
@@ -13,10 +13,15 @@ use std::alloc::Global;
 /// Classes are numbers below this.
 pub const CLASSES: usize = 32;
 
-/// So many stand in a block, and so many in a span of blocks.
-const BLOCK: usize = 256;
+/// So many stand in a block.
+const BLOCK: usize = 64;
 
-const SPAN: usize = 65_536;
+/// So many blocks are a group, and so many groups a span.
+const FAN: usize = 16;
+
+const GROUP: usize = 1_024;
+
+const SPAN: usize = 16_384;
 
 /// A list of classes.
 #[derive(Drop)]
@@ -24,6 +29,7 @@ pub struct Tally {
     classes: Vec<u8>,
     all: Counts,
     blocks: Vec<Counts>,
+    groups: Vec<Counts>,
     spans: Vec<Counts>,
 }
 
@@ -36,6 +42,7 @@ impl Tally {
             classes: Vec::new(alloc),
             all: Counts::new(),
             blocks: Vec::new(alloc),
+            groups: Vec::new(alloc),
             spans: Vec::new(alloc),
         }
     }
@@ -47,6 +54,7 @@ impl Tally {
     {
         let place = self.classes.len();
         add(&mut self.blocks, BLOCK, place, class)?;
+        add(&mut self.groups, GROUP, place, class)?;
         add(&mut self.spans, SPAN, place, class)?;
         self.all.add(class);
         self.classes.push(class)?;
@@ -62,6 +70,7 @@ impl Tally {
             let from = self.classes[place];
             if from < CLASSES as u8 {
                 change(&mut self.blocks, BLOCK, place, from, class);
+                change(&mut self.groups, GROUP, place, from, class);
                 change(&mut self.spans, SPAN, place, from, class);
                 self.all.change(from, class);
                 self.classes[place] = class;
@@ -80,15 +89,11 @@ impl Tally {
     pub fn nth(&self, j: u64, wanted: &[bool]) -> usize
         ensures { WhereTally self.now (λ xs. j < count_by (is_wanted wanted.now) xs → IsNth (is_wanted wanted.now) xs j result) }
     {
-        let (span, in_span) = find(self.spans.as_slice(), 0, wanted, j);
-        let first = span.saturating_mul(SPAN / BLOCK);
-        let (block, in_block) = find(self.blocks.as_slice(), first, wanted, in_span);
-        walk(
-            self.classes.as_slice(),
-            block.saturating_mul(BLOCK),
-            wanted,
-            in_block,
-        )
+        let span = find(self.spans.as_slice(), 0, wanted, j);
+        let group = find_within(self.groups.as_slice(), span, FAN, wanted);
+        let (block, before) = find_within(self.blocks.as_slice(), group, FAN, wanted);
+        let first = block.saturating_mul(BLOCK);
+        walk(self.classes.as_slice(), first, wanted, before)
     }
 }
 

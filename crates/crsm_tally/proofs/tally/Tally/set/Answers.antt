@@ -15,7 +15,8 @@ returns-then-from c xs h =
     record {
       held = ap (λ ys. set ys c.args.place c.args.class) h.held;
       small = all_set IsClass xs c.args.place c.args.class c.requires h.small;
-      all = c.change-then-from-2.ensures xs c.args.place few got h.all;
+      all = c.change-then-from-3.ensures xs c.args.place few got h.all;
       blocks = c.change.ensures xs few got h.blocks;
-      spans = c.change-then-from.ensures xs few got h.spans;
+      groups = c.change-then-from.ensures xs few got h.groups;
+      spans = c.change-then-from-2.ensures xs few got h.spans;
     }
