@@ -1,10 +1,10 @@
 -- One record more is one call more.
-use Rattle.std.proofs.Common.{◌≡◌, ℕ, zero, suc, Bool, true, false, ◌+◌, ◌-◌, ◌≤◌, ◌<◌, List, [], ◌∷◌, ◌++◌, length, take, drop, refl, ◌∙◌, ap, sym, subst, arith, length-drop, length-take}
+use Rattle.std.proofs.Common.{◌≡◌, ℕ, zero, suc, true, false, ◌+◌, ◌-◌, ◌≤◌, ◌<◌, List, [], ◌∷◌, ◌++◌, length, take, drop, refl, ◌∙◌, ap, sym, subst, arith, length-drop, length-take}
 use Rattle.std.proofs.Math.ListN.{get_or}
 use Rattle.std.proofs.lemmas.List.{drop_more, take_all, nil_from_length, take-append-le, drop-append-le}
 use Rattle.crsm_image.specs.Calls.{Call, wrote, cut, synced, contents}
 use Rattle.crsm_image.specs.Image.{painted, ranged, image_of}
-use Rattle.crsm_disk.specs.Records.{told, total, painted_by, painted_on, syncs}
+use Rattle.crsm_disk.specs.Records.{told, total, painted_by, painted_on, redone, syncs}
 use Rattle.crsm_disk.specs.declared.record.Record.{Record}
 use Rattle.crsm_disk.specs.declared.record.Record.TheVariants.{Write, Cut, Sync}
 
@@ -114,3 +114,20 @@ painted_all rs i none behind fill bytes =
 pub painted_is_image : (rs : List Record) (ws first bytes : List ℕ) (fill : ℕ) → length ws ≡ total rs → bytes ≡ contents first (told rs ws []) → painted_by rs fill bytes bytes ≡ image_of first (told rs ws []) fill
 painted_is_image rs ws first bytes fill sizes made =
     painted_told rs ws [] fill bytes (omega (arith, sizes)) ∙ ap (painted (told rs ws []) fill) made
+
+-- done again, the calls make the bytes of those before them
+pub redone_is : (rs : List Record) (ws first : List ℕ) (calls : List Call) → redone rs ws (contents first calls) ≡ contents first (told rs ws calls)
+redone_is [] ws first calls = refl
+redone_is (Write a k ∷ rs) ws first calls = redone_is rs (drop k ws) first (wrote a (take k ws) ∷ calls)
+redone_is (Cut m ∷ rs) ws first calls = redone_is rs ws first (cut m ∷ calls)
+redone_is (Sync ∷ rs) ws first calls = redone_is rs ws first (synced ∷ calls)
+
+-- the records of a disk, done again on what it held at first, make its bytes
+pub redone_bytes : (rs given : List Record) (ws told_bytes first bytes new : List ℕ) → given ≡ rs → told_bytes ≡ ws → new ≡ redone given told_bytes first → bytes ≡ contents first (told rs ws []) → new ≡ bytes
+redone_bytes rs given ws told_bytes first bytes new same_records same_bytes is made =
+    is ∙ ap (λ l. redone l told_bytes first) same_records ∙ ap (λ (l : List ℕ). redone rs l first) same_bytes ∙ redone_is rs ws first [] ∙ sym made
+
+-- equal bytes are painted alike by equal records
+pub painted_alike : (rs given : List Record) (bytes old image : List ℕ) (fill : ℕ) → given ≡ rs → old ≡ bytes → image ≡ painted_by given fill old old → image ≡ painted_by rs fill bytes bytes
+painted_alike rs given bytes old image fill same_records same_bytes is =
+    is ∙ ap (λ (l : List ℕ). painted_by given fill l l) same_bytes ∙ ap (λ l. painted_by l fill bytes bytes) same_records

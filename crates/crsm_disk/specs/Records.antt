@@ -1,5 +1,6 @@
 -- How a disk in memory keeps its calls.
 use Rattle.std.specs.Prelude.{ℕ, ◌+◌, List, [], ◌∷◌, take, drop, Bool, true, false}
+use Rattle.crsm_image.specs.Bytes.{overwritten}
 use Rattle.crsm_image.specs.Calls.{Call, wrote, cut, synced}
 use Rattle.crsm_image.specs.Image.{ranged}
 use Rattle.crsm_disk.specs.declared.record.Record.{Record}
@@ -18,6 +19,13 @@ total [] = 0
 total (Write at count ∷ records) = count + total records
 total (Cut len ∷ records) = total records
 total (Sync ∷ records) = total records
+
+-- what the calls of these records make of bytes
+abbrev pub redone : List Record → List ℕ → List ℕ → List ℕ
+redone [] written bytes = bytes
+redone (Write at count ∷ records) written bytes = redone records (drop count written) (overwritten bytes at (take count written))
+redone (Cut len ∷ records) written bytes = redone records written (take len bytes)
+redone (Sync ∷ records) written bytes = redone records written bytes
 
 -- bytes with the fill in the ranges that were written since the last sync
 abbrev pub painted_by : List Record → ℕ → List ℕ → List ℕ → List ℕ

@@ -1,11 +1,13 @@
 //! What the calls of a disk in memory make of its bytes.
 
-ghost use Rattle.std.specs.Prelude.{◌≡◌, ◌+◌, ◌-◌, ◌≤◌, ℕ, List, length, vec_len, vec_capacity};
+ghost use Rattle.std.specs.Prelude.{◌≡◌, ◌+◌, ◌-◌, ◌≤◌, ◌∷◌, ℕ, List, length, vec_len, vec_capacity, IfOk, OnOk};
 ghost use Rattle.crsm_image.specs.Bytes.{overwritten, ReadsAt};
 ghost use Rattle.crsm_image.specs.Image.{ranged};
-ghost use Rattle.crsm_disk.specs.Records.{painted_by, painted_on};
+ghost use Rattle.crsm_disk.specs.Records.{painted_by, painted_on, redone};
+ghost use Rattle.crsm_disk.specs.declared.record.Record.{Record};
 
 use crate::record::{Record, is_sync};
+use crsm_base::NoMemory;
 
 // As many bytes from a place on as there are and fit.
 pub(crate) fn copy(bytes: &[u8], at: u64, buf: &mut [u8]) -> usize
@@ -31,6 +33,45 @@ pub(crate) fn overwrite(bytes: &mut Vec<u8>, at: usize, piece: &[u8])
         let _ = bytes.resize(at, 0);
         let _ = bytes.extend_from_slice(piece);
     }
+}
+
+// The same where room is still to be made.
+fn write_over(bytes: &mut Vec<u8>, at: usize, piece: &[u8]) -> Result<(), NoMemory>
+    ensures { OnOk result (bytes.new.items ≡ overwritten bytes.old.items at piece.now) }
+{
+    let hole = at.saturating_sub(bytes.len());
+    bytes.reserve(hole.saturating_add(piece.len()))?;
+    overwrite(bytes, at, piece);
+    Ok(())
+}
+
+// Does the call of a record again, and gives what was written by those behind it.
+fn redo_one<'a>(bytes: &mut Vec<u8>, call: Record, written: &'a [u8]) -> Result<&'a [u8], NoMemory>
+    ensures { IfOk result (λ behind. (records : List Record) → redone records behind.now bytes.new.items ≡ redone (call ∷ records) written.now bytes.old.items) }
+{
+    match call {
+        Record::Write { at, count } => {
+            let (piece, behind) = written.split_at(count.min(written.len()));
+            write_over(bytes, at as usize, piece)?;
+            Ok(behind)
+        }
+        Record::Cut { len } => {
+            bytes.truncate(len as usize);
+            Ok(written)
+        }
+        Record::Sync => Ok(written),
+    }
+}
+
+// Does the calls of these records again, on bytes as they were before them.
+pub(crate) fn redo(bytes: &mut Vec<u8>, records: &[Record], written: &[u8]) -> Result<(), NoMemory>
+    ensures { OnOk result (bytes.new.items ≡ redone records.now written.now bytes.old.items) }
+{
+    let mut rest = written;
+    for record in records {
+        rest = redo_one(bytes, *record, rest)?;
+    }
+    Ok(())
 }
 
 // Puts the fill in the ranges that were written since the last sync.

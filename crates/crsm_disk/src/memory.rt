@@ -9,7 +9,7 @@ ghost use Rattle.crsm_image.specs.Image.{IsImage};
 ghost use Rattle.crsm_disk.specs.Memory.{good_left, holding, left_by_crash, meaning_of, room_for_write, with_call};
 
 use crate::Disk;
-use crate::content::{copy, overwrite, paint_unsynced};
+use crate::content::{copy, overwrite, paint_unsynced, redo};
 use crate::record::{Record, coordinator_write};
 use crsm_base::{Failed, NoMemory};
 use crsm_faults::{Failures, raise};
@@ -108,15 +108,16 @@ impl MemDisk {
         })
     }
 
-    /// The disk as a crash leaves it: what `image` makes, of this disk's own memory.
+    /// The disk as a crash leaves it: what `image` makes, of this disk's own memory, in the time of what was written.
     pub fn into_image(self) -> Result<MemDisk, NoMemory>
         ensures one { IfOk result (λ d. IsImage self.first self.calls d.first) }
         ensures exact { IfOk result (λ d. d ≡ left_by_crash self) }
     {
         let mut disk = self;
+        // Done again, the calls make the bytes of what was held at first.
+        redo(&mut disk.first, &disk.records, &disk.written)?;
+        paint_unsynced(&mut disk.first, &disk.records, disk.fill);
         paint_unsynced(&mut disk.bytes, &disk.records, disk.fill);
-        disk.first.clear();
-        disk.first.extend_from_slice(&disk.bytes)?;
         disk.records.clear();
         disk.written.clear();
         disk.failures = Failures::new(disk.alloc, &[])?;

@@ -1,4 +1,4 @@
-use Rattle.std.proofs.Common.{◌≡◌, drop, length}
+use Rattle.std.proofs.Common.{◌≡◌, drop}
 use Rattle.crsm_disk.specs.Records.{painted_on}
 use Rattle.crsm_disk.proofs.content.paint_unsynced.Given as goal
 

@@ -1,4 +1,4 @@
-use Rattle.std.proofs.Common.{◌≡◌, ◌∙◌, sym, arith}
+use Rattle.std.proofs.Common.{◌∙◌, sym, arith}
 use Rattle.crsm_disk.proofs.Told.{no_sync_back, painted_behind, painted_all}
 use Rattle.crsm_disk.proofs.content.unsynced.Goals.{then-loop-from-test+else-not-is_sync, else-loop-from-test}
 use Rattle.crsm_disk.proofs.content.unsynced.Goals as goal
