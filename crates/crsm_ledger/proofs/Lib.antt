@@ -7,3 +7,4 @@ pub mod StepLemmas
 pub mod KeepLemmas
 pub mod RecoverLemmas
 pub mod TakenLemmas
+pub mod TakenRecords

@@ -1,14 +1,11 @@
 -- What each field says of the log.
-use Rattle.std.proofs.Common.{◌≡◌, ℕ, refl, ap}
-use Rattle.std.specs.Prelude.{List, Option, None, Some, unwrap_or}
-use Rattle.std.specs.Option.{option_map_or}
-use Rattle.crsm_spec.specs.Types.{Decision}
+use Rattle.std.proofs.Common.{◌≡◌, ℕ, ap}
+use Rattle.std.specs.Prelude.{unwrap_or}
 use Rattle.crsm_spec.specs.Lists.{numbers_below}
-use Rattle.crsm_spec.specs.Quorum.{spec_decided}
-use Rattle.crsm_spec.specs.Log.{Log, decision, known, start, members, spec, boots, live, suspended, has_entered, promised, accepted, logged}
+use Rattle.crsm_spec.specs.Log.{Log, known, start, spec, boots, live, suspended, has_entered, promised, accepted, logged}
 use Rattle.crsm_ledger.specs.declared.ledger.Ledger.{Ledger}
 use Rattle.crsm_log_facts.proofs.Known.{known-spec}
-use Rattle.crsm_ledger.specs.Ledger.{FieldsStand, facts_of, known_decision, founding}
+use Rattle.crsm_ledger.specs.Ledger.{FieldsStand, facts_of, known_decision}
 
 pub me-is : {me n : ℕ} {l : Ledger} {log : Log} → FieldsStand me n l log → l.me ≡ me
 unfolding facts_of

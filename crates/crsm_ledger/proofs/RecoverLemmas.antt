@@ -1,5 +1,5 @@
 -- One record more, and one body more.
-use Rattle.std.proofs.Common.{◌≡◌, ℕ, true, false, ◌<◌, ◌+◌, List, [], ◌∷◌, ◌++◌, refl, ap, sym, ◌∙◌, subst, length, take, drop, append_assoc}
+use Rattle.std.proofs.Common.{◌≡◌, ℕ, true, false, ◌<◌, ◌+◌, List, [], ◌∷◌, ◌++◌, ap, sym, ◌∙◌, subst, length, take, drop, append_assoc}
 use Rattle.std.specs.Prelude.{slice_get, Result, Ok, Err, MatchResult}
 use Rattle.crsm_base.specs.Records.{SpeltBody}
 use Rattle.crsm_spec.specs.Types.{Rec}

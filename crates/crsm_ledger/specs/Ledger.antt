@@ -1,10 +1,10 @@
 -- What a ledger's fields say: what its log says.
-use Rattle.std.specs.Prelude.{◌≡◌, ℕ, ◌<◌, ◌≤◌, Bool, true, false, List, [], ◌∷◌, Option, None, unwrap_or, Result, IfOk}
+use Rattle.std.specs.Prelude.{◌≡◌, ℕ, ◌<◌, ◌≤◌, Bool, true, false, List, [], ◌∷◌, Option, Result, IfOk}
 use Rattle.std.specs.List.{AllByRecursion}
 use Rattle.crsm_base.specs.declared.NoMemory.{NoMemory}
 use Rattle.crsm_spec.specs.Types.{Ballot, Entry, Decision, Rec, Line}
 use Rattle.crsm_spec.specs.Lists.{numbers_below}
-use Rattle.crsm_spec.specs.Log.{Log, decision, known, start, boots, live, suspended, has_entered, promised, accepted, logged_in, logged, executed}
+use Rattle.crsm_spec.specs.Log.{Log, known, start, boots, live, suspended, has_entered, promised, accepted, logged_in, logged, executed}
 use Rattle.crsm_spec.specs.Fits.{fits}
 use Rattle.crsm_spec.specs.Lines.{lines_of}
 pub use Rattle.crsm_log_facts.specs.Known.{founding}

@@ -3,3 +3,4 @@ pub mod Pieces
 pub mod Recovered
 pub mod Sorted
 pub mod Ledger
+pub mod Taken

@@ -64,7 +64,7 @@ TakesRecords entry recs old result new =
     MatchResult result (λ _. FitInTurn me n log recs × LedgerStands me n new (with_records log recs))
     (λ e. IfBadLog e (λ at why. (at ≡ entry) × Misfit me n log recs why))
 
-abbrev pub TakesBody : ℕ → List ℕ → Ledger → Result (Unit {0}) LedgerError → Ledger → Type 0
+abbrev pub TakesBody : {T : Type 0} → ℕ → List ℕ → Ledger → Result T LedgerError → Ledger → Type 0
 TakesBody entry body old result new =
     (me n : ℕ) (log : Log) → LedgerStands me n old log →
     MatchResult result (λ _. (recs : List Rec) × SpeltBody recs body × FitInTurn me n log recs × LedgerStands me n new (with_records log recs))

@@ -39,13 +39,13 @@ impl Ledger {
         }
     }
 
-    fn fits_boot(&self, me: u32, n: u32) -> bool
+    pub(crate) fn fits_boot(&self, me: u32, n: u32) -> bool
         ensures { (own cluster : ℕ) (log : List Rec) → FieldsStand own cluster self.now log → result ≡ fits own cluster log (Rec.Boot me n) }
     {
         (me == self.me) & (n == self.n) & (self.boots < u64::MAX)
     }
 
-    fn fits_prepare(&self, entry: &Entry) -> bool
+    pub(crate) fn fits_prepare(&self, entry: &Entry) -> bool
         ensures { WhereFieldsStand self.now (λ me n log. result ≡ fits me n log (Rec.Prepare entry.now)) }
     {
         let is_member = is_among(self.known.members.as_slice(), entry.stamp.origin);
@@ -57,7 +57,7 @@ impl Ledger {
             & is_newest
     }
 
-    fn fits_commit(&self, stamp: Stamp) -> bool
+    pub(crate) fn fits_commit(&self, stamp: Stamp) -> bool
         ensures { WhereFieldsStand self.now (λ me n log. result ≡ fits me n log (Rec.Commit stamp)) }
     {
         let is_next = begins_with(self.logged.above(self.history.last_stamp()), stamp);
@@ -73,13 +73,13 @@ impl Ledger {
         (0 < self.boots) & is_place & are_known & are_behind & (!self.is_live | self.is_suspended)
     }
 
-    fn fits_suspend(&self, epoch: u64) -> bool
+    pub(crate) fn fits_suspend(&self, epoch: u64) -> bool
         ensures { WhereFieldsStand self.now (λ me n log. result ≡ fits me n log (Rec.Suspend epoch)) }
     {
         (0 < self.boots) & (epoch == self.known.epoch) & !self.is_suspended
     }
 
-    fn fits_promise(&self, instance: u64, ballot: Ballot) -> bool
+    pub(crate) fn fits_promise(&self, instance: u64, ballot: Ballot) -> bool
         ensures { WhereFieldsStand self.now (λ me n log. result ≡ fits me n log (Rec.Promise instance ballot)) }
     {
         let is_next = is_after(instance, self.known.epoch);
@@ -87,7 +87,7 @@ impl Ledger {
         (0 < self.boots) & is_next & is_above
     }
 
-    fn fits_accept(&self, instance: u64, ballot: Ballot, decision: &Decision) -> bool
+    pub(crate) fn fits_accept(&self, instance: u64, ballot: Ballot, decision: &Decision) -> bool
         ensures { WhereFieldsStand self.now (λ me n log. result ≡ fits me n log (Rec.Accept instance ballot decision.now)) }
     {
         let is_next = is_after(instance, self.known.epoch);
@@ -98,14 +98,14 @@ impl Ledger {
         (0 < self.boots) & is_next & decides_next & !is_below_promise & is_above_accepted & has_base
     }
 
-    fn fits_decide(&self, decision: &Decision) -> bool
+    pub(crate) fn fits_decide(&self, decision: &Decision) -> bool
         ensures { WhereFieldsStand self.now (λ me n log. result ≡ fits me n log (Rec.Decide decision.now)) }
     {
         let has_members = has_members(self.n, decision);
         (0 < self.boots) & (self.known.epoch < decision.epoch) & has_members
     }
 
-    fn fits_enter(&self, epoch: u64) -> bool
+    pub(crate) fn fits_enter(&self, epoch: u64) -> bool
         ensures { WhereFieldsStand self.now (λ me n log. result ≡ fits me n log (Rec.Enter epoch)) }
     {
         let is_member = is_among(self.known.members.as_slice(), self.me);

@@ -1,6 +1,7 @@
 //! What a record changes, where its lines are made elsewhere or nobody asks for them.
 
-ghost use Rattle.std.specs.Prelude.{◌≡◌, ℕ, OnOk};
+ghost use Rattle.std.specs.Prelude.{◌≡◌, ℕ, None, OnOk, Option, Some};
+ghost use Rattle.crsm_spec.specs.Types.{Ballot as BallotOnPaper, Decision as DecisionOnPaper};
 ghost use Rattle.crsm_base.specs.declared.Rec.{Rec};
 ghost use Rattle.crsm_base.specs.declared.Stamp.{Stamp};
 ghost use Rattle.crsm_base.specs.Records.{FitsRec};
@@ -37,6 +38,7 @@ impl Ledger {
 
     pub(crate) fn follow_boot(&mut self)
         ensures kept { (me n : ℕ) → Follows self.old (Rec.Boot me n) self.new }
+        ensures accepted { self.new.accepted ≡ self.old.accepted }
         ensures mark { self.new.is_spent ≡ self.old.is_spent }
     {
         self.boots = self.boots.saturating_add(1);
@@ -46,14 +48,16 @@ impl Ledger {
     pub(crate) fn follow_prepare(&mut self, entry: Entry) -> Result<(), NoMemory>
         requires { FitsEntry entry }
         ensures kept { OnOk result (Follows self.old (Rec.Prepare entry) self.new) }
+        ensures accepted { self.new.accepted ≡ self.old.accepted }
         ensures mark { self.new.is_spent ≡ self.old.is_spent }
     {
         self.logged.insert(entry)?;
         Ok(())
     }
 
-    fn follow_commit(&mut self) -> Result<(), NoMemory>
+    pub(crate) fn follow_commit(&mut self) -> Result<(), NoMemory>
         ensures kept { (stamp : Stamp) → OnOk result (Follows self.old (Rec.Commit stamp) self.new) }
+        ensures accepted { self.new.accepted ≡ self.old.accepted }
         ensures mark { self.new.is_spent ≡ self.old.is_spent }
     {
         let Some(entry) = self.logged.first_above(self.history.last_stamp()) else {
@@ -74,6 +78,7 @@ impl Ledger {
 
     pub(crate) fn follow_suspend(&mut self)
         ensures kept { (epoch : ℕ) → Follows self.old (Rec.Suspend epoch) self.new }
+        ensures accepted { self.new.accepted ≡ self.old.accepted }
         ensures mark { self.new.is_spent ≡ self.old.is_spent }
     {
         self.is_suspended = true;
@@ -81,6 +86,7 @@ impl Ledger {
 
     pub(crate) fn follow_promise(&mut self, ballot: Ballot)
         ensures kept { (instance : ℕ) → Follows self.old (Rec.Promise instance ballot) self.new }
+        ensures accepted { self.new.accepted ≡ self.old.accepted }
         ensures mark { self.new.is_spent ≡ self.old.is_spent }
     {
         self.promised = ballot;
@@ -88,6 +94,8 @@ impl Ledger {
 
     pub(crate) fn follow_accept(&mut self, ballot: Ballot, decision: Decision)
         ensures kept { (instance : ℕ) → Follows self.old (Rec.Accept instance ballot decision) self.new }
+        ensures anew { (a : Option (BallotOnPaper × DecisionOnPaper)) (instance : ℕ) → Follows (record self.old { accepted = a }) (Rec.Accept instance ballot decision) self.new }
+        ensures accepted { self.new.accepted ≡ Some (ballot, decision) }
         ensures mark { self.new.is_spent ≡ self.old.is_spent }
     {
         self.promised = ballot;
@@ -97,6 +105,8 @@ impl Ledger {
     pub(crate) fn follow_decide(&mut self, decision: Decision)
         requires { FitsDecision decision }
         ensures kept { Follows self.old (Rec.Decide decision) self.new }
+        ensures anew { (a : Option (BallotOnPaper × DecisionOnPaper)) → Follows (record self.old { accepted = a }) (Rec.Decide decision) self.new }
+        ensures accepted { self.new.accepted ≡ None }
         ensures mark { self.new.is_spent ≡ self.old.is_spent }
     {
         self.start = decision.base_len + decision.tail.as_slice().len() as u64;
@@ -112,6 +122,7 @@ impl Ledger {
 
     pub(crate) fn follow_enter(&mut self)
         ensures kept { (epoch : ℕ) → Follows self.old (Rec.Enter epoch) self.new }
+        ensures accepted { self.new.accepted ≡ self.old.accepted }
         ensures mark { self.new.is_spent ≡ self.old.is_spent }
     {
         self.is_live = true;

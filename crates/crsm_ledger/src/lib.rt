@@ -12,6 +12,7 @@ mod owner;
 mod recover;
 mod spelt;
 mod steps;
+mod taken;
 
 pub use error::LedgerError;
 pub use ledger::Ledger;

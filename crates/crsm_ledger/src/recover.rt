@@ -1,13 +1,16 @@
 //! A ledger from the bodies of a log.
 
-ghost use Rattle.std.specs.Prelude.{◌≡◌, ◌<◌, ◌≤◌, ℕ, [], List, IfOk, IfErr};
+ghost use Rattle.std.specs.Prelude.{◌≡◌, ◌<◌, ◌≤◌, ℕ, [], List, length, IfOk, IfErr};
 ghost use Rattle.crsm_base.specs.declared.Rec.{Rec};
+ghost use Rattle.crsm_base.specs.RecordReading.{rec_at};
 ghost use Rattle.crsm_base.specs.Records.{FitsRec};
 ghost use Rattle.crsm_ledger.specs.Ledger.{LedgerStands};
 ghost use Rattle.crsm_ledger.specs.Recovered.{AreKept, IfBadLog, IsBadAt, TakesBody, TakesRecord};
+ghost use Rattle.crsm_ledger.specs.Taken.{IsAtHand, IsNext, IsRefused};
 
 use crate::error::LedgerError;
 use crate::ledger::{Ledger, kind_of};
+use crate::taken::Next;
 use crsm_base::{Bodies, Rec};
 use crsm_codec::read_recs;
 use crsm_fields::take_rec;
@@ -24,38 +27,75 @@ impl Ledger {
         ensures bad { IfErr result (λ e. IfBadLog e (IsBadAt me n bodies.now)) }
     {
         let mut ledger = Ledger::new(alloc, me, n)?;
+        let mut accepted: &[u8] = &[];
         for index in 0..bodies.len() {
             let Some(body) = bodies.get(index) else {
                 unreachable!();
             };
-            if let Err(error) = ledger.take_body(index as u64, body) {
-                return Err(error);
+            match ledger.take_body(index as u64, accepted, body) {
+                Ok(at_hand) => accepted = at_hand,
+                Err(error) => return Err(error),
             }
         }
         Ok(ledger)
     }
 
-    fn take_body(&mut self, entry: u64, body: &[u8]) -> Result<(), LedgerError>
-        ensures { TakesBody entry body.now self.old result self.new }
+    fn take_body<'a>(
+        &mut self,
+        entry: u64,
+        accepted: &'a [u8],
+        body: &'a [u8],
+    ) -> Result<&'a [u8], LedgerError>
+        requires { IsAtHand accepted.now self.old.accepted }
+        ensures taken { TakesBody entry body.now self.old result self.new }
+        ensures at_hand { IfOk result (λ at_hand. IsAtHand at_hand.now self.new.accepted) }
     {
         if body.is_empty() {
             return Err(LedgerError::BadLog { entry, why: 0 });
         }
-        let mut rest = body;
-        while !rest.is_empty() {
-            let Some((rec, after)) = take_rec(self.alloc, rest)? else {
-                return Err(LedgerError::BadLog { entry, why: 0 });
-            };
-            if let Err(error) = self.take_record(entry, rec) {
-                // Whether it is a list of records comes before whether they fit.
-                return match read_recs(self.alloc, body)? {
-                    Some(_) => Err(error),
-                    None => Err(LedgerError::BadLog { entry, why: 0 }),
-                };
+        let mut next = Next {
+            rest: body,
+            accepted,
+        };
+        while !next.rest.is_empty() {
+            match self.take_one(entry, body, next.accepted, next.rest) {
+                Ok(behind) => next = behind,
+                Err(error) => return Err(error),
             }
-            rest = after;
         }
-        Ok(())
+        Ok(next.accepted)
+    }
+
+    /// Keeps the next record of a body, and tells where the one behind it begins.
+    fn take_one<'a>(
+        &mut self,
+        entry: u64,
+        body: &[u8],
+        accepted: &'a [u8],
+        bytes: &'a [u8],
+    ) -> Result<Next<'a>, LedgerError>
+        requires some { 0 < length bytes.now }
+        requires at_hand { IsAtHand accepted.now self.old.accepted }
+        ensures taken { IfOk result (λ next. IsNext (rec_at bytes.now) next.accepted.now next.rest.now self.old self.new) }
+        ensures bad { IfErr result (IsRefused entry body.now bytes.now self.old) }
+    {
+        if let Some(next) = self.take_next(accepted, bytes)? {
+            return Ok(next);
+        }
+        let Some((rec, rest)) = take_rec(self.alloc, bytes)? else {
+            return Err(LedgerError::BadLog { entry, why: 0 });
+        };
+        if let Err(error) = self.take_record(entry, rec) {
+            // Whether it is a list of records comes before whether they fit.
+            return match read_recs(self.alloc, body)? {
+                Some(_) => Err(error),
+                None => Err(LedgerError::BadLog { entry, why: 0 }),
+            };
+        }
+        Ok(Next {
+            rest,
+            accepted: &[],
+        })
     }
 
     fn take_record(&mut self, entry: u64, rec: Rec) -> Result<(), LedgerError>

@@ -12,3 +12,12 @@ returns-clause-kept c = λ me n log s fit.
     decides s d d (d.base_len + length c.as_slice.result.now) c.clear.new.self c.begin_epoch.new.self
     fit refl (ap (λ (k : ℕ). d.base_len + k) count) c.clear.ensures
     (c.begin_epoch.ensures (known log) (executed log) s.executed (all_earlier s d fit))
+
+pub returns-clause-anew : goal.returns-clause-anew
+unfolding no_ballot
+returns-clause-anew c = λ a me n log s fit.
+    let d = c.args.decision in
+    let count : length c.as_slice.result.now ≡ length d.tail = ap length c.as_slice.ensures in
+    decides s d d (d.base_len + length c.as_slice.result.now) c.clear.new.self c.begin_epoch.new.self
+    fit refl (ap (λ (k : ℕ). d.base_len + k) count) c.clear.ensures
+    (c.begin_epoch.ensures (known log) (executed log) s.executed (all_earlier s d fit))

@@ -1,4 +1,4 @@
-use Rattle.std.proofs.Common.{◌∷◌, ◌∙◌, subst}
+use Rattle.std.proofs.Common.{◌∙◌, subst}
 use Rattle.crsm_spec.specs.Types.{Decision, Rec}
 use Rattle.crsm_ledger.specs.Ledger.{Follows}
 use Rattle.crsm_ledger.proofs.KeepLemmas.{lines-accept}

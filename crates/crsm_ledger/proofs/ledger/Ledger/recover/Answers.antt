@@ -7,15 +7,18 @@ use Rattle.crsm_ledger.proofs.ledger.Ledger.recover.Goals as goal
 
 pub loop-index-preserved : goal.loop-index-preserved
 loop-index-preserved c =
-    let so_far = c.loop-index.invariant in
+    let so_far = c.loop-index.invariant.0 in
     let bodies : List (List ℕ) = c.args.bodies.now in
     let body : List ℕ = c.in-Some.body.now in
     let there : slice_get bodies c.loop-index.index ≡ Some body = c.in-Some.ensures in
     let within : c.loop-index.index < length bodies = slice_get_within bodies c.loop-index.index body there in
     let more : take (c.loop-index.index + 1) bodies ≡ take c.loop-index.index bodies ++ body ∷ [] =
     take_more bodies c.loop-index.index [] within ∙ ap (λ (b : List ℕ). take c.loop-index.index bodies ++ b ∷ []) (get_or_from_slice_get bodies c.loop-index.index body [] there) in
-    let step = c.in_default-take_body.ensures c.args.me c.args.n so_far.0 so_far.2 in (
-      with_records so_far.0 step.0,
-      kept-more c.args.me c.args.n bodies c.loop-index.index body body so_far.0 step.0 more refl so_far.1 step.1 step.2,
-      step.3,
+    let step = c.in-Ok.ensures.taken c.args.me c.args.n so_far.0 so_far.2 in (
+      (
+        with_records so_far.0 step.0,
+        kept-more c.args.me c.args.n bodies c.loop-index.index body body so_far.0 step.0 more refl so_far.1 step.1 step.2,
+        step.3,
+      ),
+      c.in-Ok.ensures.at_hand,
     )

@@ -1,0 +1,55 @@
+-- A record that is taken off the prefix of bytes and kept.
+use Rattle.std.specs.Prelude.{◌≡◌, ℕ, ◌<◌, true, List, ◌∷◌, ◌++◌, length, Option, None, Some}
+use Rattle.std.specs.List.{AllByRecursion, flat_map}
+use Rattle.crsm_base.specs.Spelling.{FitsDecision, decision_bytes}
+use Rattle.crsm_base.specs.Records.{FitsRec, rec_bytes}
+use Rattle.crsm_base.specs.Reading.{decision_at}
+use Rattle.crsm_spec.specs.Types.{Ballot, Decision, Rec}
+use Rattle.crsm_spec.specs.Log.{Log}
+use Rattle.crsm_spec.specs.Fits.{fits}
+use Rattle.crsm_ledger.specs.declared.ledger.Ledger.{Ledger}
+use Rattle.crsm_ledger.specs.declared.error.LedgerError.{LedgerError}
+use Rattle.crsm_ledger.specs.Ledger.{LedgerStands}
+use Rattle.crsm_ledger.specs.Recovered.{FitInTurn, IfBadLog, IsBad, with_records}
+
+-- the record fits behind whatever the old ledger stands for, and the new one stands for that with the record
+abbrev pub KeepsRecord : Rec → Ledger → Ledger → Type 0
+KeepsRecord rec old new = (me n : ℕ) (log : Log) → LedgerStands me n old log → (fits me n log rec ≡ true) × LedgerStands me n new (rec ∷ log)
+
+-- what was read is a record, with these bytes behind it, that is kept, and nothing is accepted anew
+pub record IsTaken (read : Option (Rec × List ℕ)) (rest : List ℕ) (old new : Ledger) : Type 0 where
+  pub rec : Rec
+  pub is : read ≡ Some (rec, rest)
+  pub keeps : KeepsRecord rec old new
+  pub same : new.accepted ≡ old.accepted
+
+-- these are the bytes of the decision that was accepted, unless they are none
+abbrev pub IsAtHand : List ℕ → Option (Ballot × Decision) → Type 0
+IsAtHand bytes None = Unit {0}
+IsAtHand bytes (Some a) = 0 < length bytes → FitsDecision a.1 × (bytes ≡ decision_bytes a.1)
+
+-- what was read is a record, with these bytes behind it, that is kept, and the bytes at hand are those of what is
+-- accepted then
+pub record IsNext (read : Option (Rec × List ℕ)) (at_hand rest : List ℕ) (old new : Ledger) : Type 0 where
+  pub rec : Rec
+  pub is : read ≡ Some (rec, rest)
+  pub keeps : KeepsRecord rec old new
+  pub at_hand_is : IsAtHand at_hand new.accepted
+
+-- the bytes are those of a decision with these behind it, which is accepted again by this ballot
+pub record IsAgain (at_hand : List ℕ) (instance : ℕ) (ballot : Ballot) (bytes rest : List ℕ) (old new : Ledger) : Type 0 where
+  pub decision : Decision
+  pub is : decision_at bytes ≡ Some (decision, rest)
+  pub keeps : KeepsRecord (Rec.Accept instance ballot decision) old new
+  pub at_hand_is : IsAtHand at_hand new.accepted
+
+-- these records were read of a body, up to the rest
+pub record HasRead (body : List ℕ) (recs : List Rec) (rest : List ℕ) : Type 0 where
+  pub fit : AllByRecursion FitsRec recs
+  pub is : body ≡ flat_map rec_bytes recs ++ rest
+
+-- where such records were read of a body and fit, the error names the body and says why the record behind them is bad
+abbrev pub IsRefused : ℕ → (body rest : List ℕ) → Ledger → LedgerError → Type 0
+IsRefused entry body rest old e =
+    (recs : List Rec) → HasRead body recs rest → (me n : ℕ) (log : Log) → FitInTurn me n log recs → LedgerStands me n old (with_records log recs) →
+    IfBadLog e (λ at why. (at ≡ entry) × IsBad me n log body why)

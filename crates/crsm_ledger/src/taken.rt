@@ -1,0 +1,236 @@
+//! Records that are taken off the bytes of a body one by one, each as the fields of its kind: as a `Rec`, each would be moved
+//! several times. What does not fit, or is rare, is left to whoever reads it as a `Rec`.
+
+ghost use Rattle.std.specs.Prelude.{◌≡◌, ◌<◌, ◌++◌, ℕ, None, Some, length, IfOk, IfSome, MatchOption};
+ghost use Rattle.crsm_base.specs.RecordReading.{accept_at, boot_at, commit_at, decide_rec_at, enter_at, prepare_rec_at, promise_at, rec_at, suspend_rec_at};
+ghost use Rattle.crsm_base.specs.Spelling.{FitsDecision};
+ghost use Rattle.crsm_base.specs.declared.Rec.{Rec};
+ghost use Rattle.crsm_spec.specs.Types.{Ballot as BallotOnPaper, Decision};
+ghost use Rattle.crsm_ledger.specs.Ledger.{Follows};
+ghost use Rattle.crsm_ledger.specs.Taken.{IsAgain, IsAtHand, IsNext, IsTaken};
+
+use crate::ledger::Ledger;
+use crsm_base::{Ballot, NoMemory};
+use crsm_fields::{
+    take_ballot, take_decision, take_entry, take_replica, take_stamp, take_u8, take_u64,
+};
+use std::mem;
+
+/// Where the next record begins, and the bytes of the decision that was accepted last, if they are at hand: a log mostly has
+/// them again.
+#[derive(Clone, Copy)]
+pub(crate) struct Next<'a> {
+    pub rest: &'a [u8],
+    pub accepted: &'a [u8],
+}
+
+impl Ledger {
+    #[tactic(auto, unfolding(crsm_base::specs::RecordReading::rec_at))]
+    /// Keeps the record that these bytes begin with, and tells where the next one begins. At `None` nothing has changed.
+    pub(crate) fn take_next<'a>(
+        &mut self,
+        accepted: &'a [u8],
+        bytes: &'a [u8],
+    ) -> Result<Option<Next<'a>>, NoMemory>
+        requires { IsAtHand accepted.now self.old.accepted }
+        ensures { IfOk result (λ r. MatchOption r (self.new ≡ self.old) (λ next. IsNext (rec_at bytes.now) next.accepted.now next.rest.now self.old self.new)) }
+    {
+        let Some((tag, text)) = take_u8(bytes) else {
+            return Ok(None);
+        };
+        let behind = match tag {
+            1 => self.take_boot(text),
+            2 => self.take_prepare(text)?,
+            3 => self.take_commit(text)?,
+            5 => self.take_suspend(text),
+            6 => self.take_promise(text),
+            7 => return self.take_accept(accepted, text),
+            8 => self.take_decide(accepted, text),
+            9 => self.take_enter(text),
+            _ => None,
+        };
+        match behind {
+            Some(rest) => Ok(Some(Next { rest, accepted })),
+            None => Ok(None),
+        }
+    }
+
+    #[tactic(auto, unfolding(crsm_base::specs::RecordReading::boot_at))]
+    fn take_boot<'a>(&mut self, bytes: &'a [u8]) -> Option<&'a [u8]>
+        ensures { MatchOption result (self.new ≡ self.old) (λ rest. IsTaken (boot_at bytes.now) rest.now self.old self.new) }
+    {
+        let (me, rest) = take_replica(bytes)?;
+        let (n, rest) = take_u8(rest)?;
+        if !self.fits_boot(me, u32::from(n)) {
+            return None;
+        }
+        self.follow_boot();
+        Some(rest)
+    }
+
+    #[tactic(auto, unfolding(crsm_base::specs::RecordReading::prepare_rec_at))]
+    fn take_prepare<'a>(&mut self, bytes: &'a [u8]) -> Result<Option<&'a [u8]>, NoMemory>
+        ensures { IfOk result (λ r. MatchOption r (self.new ≡ self.old) (λ rest. IsTaken (prepare_rec_at bytes.now) rest.now self.old self.new)) }
+    {
+        let Some((entry, rest)) = take_entry(self.alloc, bytes)? else {
+            return Ok(None);
+        };
+        if !self.fits_prepare(&entry) {
+            return Ok(None);
+        }
+        self.follow_prepare(entry)?;
+        Ok(Some(rest))
+    }
+
+    #[tactic(auto, unfolding(crsm_base::specs::RecordReading::commit_at))]
+    fn take_commit<'a>(&mut self, bytes: &'a [u8]) -> Result<Option<&'a [u8]>, NoMemory>
+        ensures { IfOk result (λ r. MatchOption r (self.new ≡ self.old) (λ rest. IsTaken (commit_at bytes.now) rest.now self.old self.new)) }
+    {
+        let Some((stamp, rest)) = take_stamp(bytes) else {
+            return Ok(None);
+        };
+        if !self.fits_commit(stamp) {
+            return Ok(None);
+        }
+        self.follow_commit()?;
+        Ok(Some(rest))
+    }
+
+    #[tactic(auto, unfolding(crsm_base::specs::RecordReading::suspend_rec_at))]
+    fn take_suspend<'a>(&mut self, bytes: &'a [u8]) -> Option<&'a [u8]>
+        ensures { MatchOption result (self.new ≡ self.old) (λ rest. IsTaken (suspend_rec_at bytes.now) rest.now self.old self.new) }
+    {
+        let (epoch, rest) = take_u64(bytes)?;
+        if !self.fits_suspend(epoch) {
+            return None;
+        }
+        self.follow_suspend();
+        Some(rest)
+    }
+
+    #[tactic(auto, unfolding(crsm_base::specs::RecordReading::promise_at))]
+    fn take_promise<'a>(&mut self, bytes: &'a [u8]) -> Option<&'a [u8]>
+        ensures { MatchOption result (self.new ≡ self.old) (λ rest. IsTaken (promise_at bytes.now) rest.now self.old self.new) }
+    {
+        let (instance, rest) = take_u64(bytes)?;
+        let (ballot, rest) = take_ballot(rest)?;
+        if !self.fits_promise(instance, ballot) {
+            return None;
+        }
+        self.follow_promise(ballot);
+        Some(rest)
+    }
+
+    #[tactic(auto, unfolding(crsm_base::specs::RecordReading::enter_at))]
+    fn take_enter<'a>(&mut self, bytes: &'a [u8]) -> Option<&'a [u8]>
+        ensures { MatchOption result (self.new ≡ self.old) (λ rest. IsTaken (enter_at bytes.now) rest.now self.old self.new) }
+    {
+        let (epoch, rest) = take_u64(bytes)?;
+        if !self.fits_enter(epoch) {
+            return None;
+        }
+        self.follow_enter();
+        Some(rest)
+    }
+
+    #[tactic(auto, unfolding(crsm_base::specs::RecordReading::accept_at))]
+    fn take_accept<'a>(
+        &mut self,
+        accepted: &'a [u8],
+        bytes: &'a [u8],
+    ) -> Result<Option<Next<'a>>, NoMemory>
+        requires { IsAtHand accepted.now self.old.accepted }
+        ensures { IfOk result (λ r. MatchOption r (self.new ≡ self.old) (λ next. IsNext (accept_at bytes.now) next.accepted.now next.rest.now self.old self.new)) }
+    {
+        let Some((instance, rest)) = take_u64(bytes) else {
+            return Ok(None);
+        };
+        let Some((ballot, text)) = take_ballot(rest) else {
+            return Ok(None);
+        };
+        if let Some(rest) = self.accept_again(accepted, instance, ballot, text) {
+            return Ok(Some(Next { rest, accepted }));
+        }
+        let Some((decision, rest)) = take_decision(self.alloc, text)? else {
+            return Ok(None);
+        };
+        if !self.fits_accept(instance, ballot, &decision) {
+            return Ok(None);
+        }
+        self.follow_accept(ballot, decision);
+        let accepted = &text[..text.len() - rest.len()];
+        Ok(Some(Next { rest, accepted }))
+    }
+
+    /// Accepts what was accepted last, where these are the bytes of it.
+    fn accept_again<'a>(
+        &mut self,
+        accepted: &[u8],
+        instance: u64,
+        ballot: Ballot,
+        bytes: &'a [u8],
+    ) -> Option<&'a [u8]>
+        requires { IsAtHand accepted.now self.old.accepted }
+        ensures { MatchOption result (self.new ≡ self.old) (λ rest. IsAgain accepted.now instance ballot bytes.now rest.now self.old self.new) }
+    {
+        let rest = behind(accepted, bytes)?;
+        let Some((_, decision)) = &self.accepted else {
+            return None;
+        };
+        if !self.fits_accept(instance, ballot, decision) {
+            return None;
+        }
+        self.follow_again(ballot);
+        Some(rest)
+    }
+
+    #[tactic(auto, unfolding(crsm_base::specs::RecordReading::decide_rec_at))]
+    fn take_decide<'a>(&mut self, accepted: &[u8], bytes: &'a [u8]) -> Option<&'a [u8]>
+        requires { IsAtHand accepted.now self.old.accepted }
+        ensures { MatchOption result (self.new ≡ self.old) (λ rest. IsNext (decide_rec_at bytes.now) accepted.now rest.now self.old self.new) }
+    {
+        let rest = behind(accepted, bytes)?;
+        let Some((_, decision)) = &self.accepted else {
+            return None;
+        };
+        if !self.fits_decide(decision) {
+            return None;
+        }
+        self.follow_accepted();
+        Some(rest)
+    }
+
+    /// The decision that was accepted last is accepted again, by this ballot.
+    fn follow_again(&mut self, ballot: Ballot)
+        ensures kept { (i : ℕ) (b : BallotOnPaper) (d : Decision) → self.old.accepted ≡ Some (b, d) → Follows self.old (Rec.Accept i ballot d) self.new }
+        ensures accepted { (b : BallotOnPaper) (d : Decision) → self.old.accepted ≡ Some (b, d) → self.new.accepted ≡ Some (ballot, d) }
+        ensures mark { self.new.is_spent ≡ self.old.is_spent }
+    {
+        if let Some((_, decision)) = mem::replace(&mut self.accepted, None) {
+            self.follow_accept(ballot, decision);
+        }
+    }
+
+    /// The decision that was accepted last is decided.
+    fn follow_accepted(&mut self)
+        requires { IfSome self.old.accepted (λ a. FitsDecision a.1) }
+        ensures kept { (b : BallotOnPaper) (d : Decision) → self.old.accepted ≡ Some (b, d) → Follows self.old (Rec.Decide d) self.new }
+        ensures accepted { self.new.accepted ≡ None }
+        ensures mark { self.new.is_spent ≡ self.old.is_spent }
+    {
+        if let Some((_, decision)) = mem::replace(&mut self.accepted, None) {
+            self.follow_decide(decision);
+        }
+    }
+}
+
+/// What is behind the first of these bytes, if they are these.
+fn behind<'a>(first: &[u8], bytes: &'a [u8]) -> Option<&'a [u8]>
+    ensures { IfSome result (λ rest. (0 < length first.now) × (bytes.now ≡ first.now ++ rest.now)) }
+{
+    if first.is_empty() || first.len() > bytes.len() {
+        return None;
+    }
+    let (start, rest) = bytes.split_at(first.len());
+    if start == first { Some(rest) } else { None }
+}
