@@ -1,21 +1,23 @@
 -- Records whose bytes are at hand.
-use Rattle.std.proofs.Common.{◌≡◌, ℕ, ◌<◌, ◌-◌, ◌≤◌, List, [], ◌++◌, length, take, Option, None, Some, Result, Err, refl, sym, ap, ◌∙◌, subst, arith, length-append}
-use Rattle.std.proofs.lemmas.List.{take-append-le, take_all}
+use Rattle.std.proofs.Common.{◌≡◌, ℕ, ◌<◌, ◌+◌, ◌-◌, ◌≤◌, List, [], ◌++◌, length, take, Option, None, Some, Result, Err, refl, sym, ap, ◌∙◌, subst, arith, length-append, append_assoc, drop}
+use Rattle.std.proofs.lemmas.List.{drop_at, take-append-le, take_all}
 use Rattle.std.specs.Prelude.{IfErr}
-use Rattle.crsm_base.specs.Spelling.{FitsDecision, FitsEntry, ballot_bytes, decision_bytes, u64_bytes}
+use Rattle.crsm_base.specs.Spelling.{FitsDecision, FitsEntries, FitsEntry, ballot_bytes, decision_bytes, entries_bytes, members_bytes, spec_bytes, u64_bytes}
 use Rattle.crsm_base.specs.Parser.{◌>>=◌}
-use Rattle.crsm_base.specs.Reading.{ballot_at, decision_at, entry_at, u64_at}
+use Rattle.crsm_base.specs.Reading.{ballot_at, decision_at, entries_at, entry_at, u64_at}
 use Rattle.crsm_base.specs.Records.{FitsRec, rec_bytes}
-use Rattle.crsm_base.specs.RecordReading.{accept_at, decide_rec_at, rec_at}
+use Rattle.crsm_base.specs.RecordReading.{accept_at, adopt_at, decide_rec_at, rec_at}
 use Rattle.crsm_base.proofs.RecordLaws.{rec_parses}
 use Rattle.crsm_base.proofs.BodyLaws.{HasRead as HasReadAny}
 use Rattle.crsm_base.proofs.Numbers.{u64_parses}
 use Rattle.crsm_base.proofs.Parsers.{IsBytes, IsBytes-back}
 use Rattle.crsm_base.proofs.Decisions.{decision_parses}
+use Rattle.crsm_base.proofs.EntriesLemmas.{entries_parse}
+use Rattle.crsm_base.proofs.Sizes.{u64_long}
 use Rattle.crsm_base.proofs.Fields.{ballot_parses, entry_parses}
 use Rattle.crsm_spec.specs.Types.{Ballot, Decision, Entry, Rec}
 use Rattle.crsm_ledger.specs.declared.error.LedgerError.{LedgerError}
-use Rattle.crsm_ledger.specs.Taken.{HasRead, IsAtHand}
+use Rattle.crsm_ledger.specs.Taken.{HasRead, IsAtHand, IsTail}
 
 -- no bytes are at hand of whatever was accepted
 pub none_at_hand : (a : Option (Ballot × Decision)) → IsAtHand [] a
@@ -72,3 +74,34 @@ read_so_far h = record { fit = h.fit; is = h.is }
 -- what is said of an answer that is this error
 pub is_error : {T : Type 0} (r : Result T LedgerError) (e : LedgerError) (P : LedgerError → Type 0) → r ≡ Err e → P e → IfErr r P
 is_error {T = T} r e P is bad = subst (λ (a : Result T LedgerError). IfErr a P) (sym is) bad
+
+-- no bytes are at hand of a tail
+pub none_of_tail : (d : Decision) → IsTail [] d
+none_of_tail d some = absurd (let no : 0 < length {A = ℕ} [] = some in omega (arith, no))
+
+-- the bytes that spell the tail, with others behind them, are read as it
+pub tail_at : (tail bytes rest : List ℕ) (d : Decision) → IsTail tail d → (0 < length tail) × (bytes ≡ tail ++ rest) → FitsEntries d.tail × (entries_at bytes ≡ Some (d.tail, rest))
+tail_at tail bytes rest d spelt starts =
+    let known = spelt starts.0 in
+    (known.0, ap entries_at (starts.1 ∙ ap (λ (s : List ℕ). s ++ rest) known.1) ∙ entries_parse.again d.tail rest known.0)
+
+-- entries behind a place are read as the record that adopts them
+pub adopt_is : (bytes text rest : List ℕ) (place : ℕ) (es : List Entry) → u64_at bytes ≡ Some (place, text) → entries_at text ≡ Some (es, rest) → adopt_at bytes ≡ Some (Rec.Adopt place es, rest)
+unfolding adopt_at
+adopt_is bytes text rest place es number entries = rw (number, entries) refl
+
+-- the tail comes last in a decision
+pub tail_last : (d : Decision) (k : ℕ) → k ≡ 8 + (length (spec_bytes d.spec) + (length (members_bytes d.members) + 8)) → (k ≤ length (decision_bytes d)) × (drop k (decision_bytes d) ≡ entries_bytes d.tail)
+unfolding decision_bytes
+tail_last d k is =
+    let e = u64_bytes d.epoch in
+    let s = spec_bytes d.spec in
+    let m = members_bytes d.members in
+    let b = u64_bytes d.base_len in
+    let t = entries_bytes d.tail in
+    let grouped : e ++ (s ++ (m ++ (b ++ t))) ≡ (e ++ (s ++ (m ++ b))) ++ t =
+    ap (λ (x : List ℕ). e ++ (s ++ x)) (sym (append_assoc m b t)) ∙ ap (λ (x : List ℕ). e ++ x) (sym (append_assoc s (m ++ b) t)) ∙ sym (append_assoc e (s ++ (m ++ b)) t) in
+    let front : k ≡ length (e ++ (s ++ (m ++ b))) =
+    omega (arith, is, u64_long d.epoch, u64_long d.base_len, length-append e (s ++ (m ++ b)), length-append s (m ++ b), length-append m b) in
+    let within : k ≤ length (e ++ (s ++ (m ++ (b ++ t)))) = omega (arith, front, ap length grouped, length-append (e ++ (s ++ (m ++ b))) t) in
+    (within, ap (drop k) grouped ∙ drop_at (e ++ (s ++ (m ++ b))) t k (sym front))

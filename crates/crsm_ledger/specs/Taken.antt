@@ -1,7 +1,7 @@
 -- A record that is taken off the prefix of bytes and kept.
 use Rattle.std.specs.Prelude.{◌≡◌, ℕ, ◌<◌, true, List, ◌∷◌, ◌++◌, length, Option, None, Some}
 use Rattle.std.specs.List.{AllByRecursion, flat_map}
-use Rattle.crsm_base.specs.Spelling.{FitsDecision, decision_bytes}
+use Rattle.crsm_base.specs.Spelling.{FitsDecision, FitsEntries, decision_bytes, entries_bytes}
 use Rattle.crsm_base.specs.Records.{FitsRec, rec_bytes}
 use Rattle.crsm_base.specs.Reading.{decision_at}
 use Rattle.crsm_spec.specs.Types.{Ballot, Decision, Rec}
@@ -16,25 +16,31 @@ use Rattle.crsm_ledger.specs.Recovered.{FitInTurn, IfBadLog, IsBad, with_records
 abbrev pub KeepsRecord : Rec → Ledger → Ledger → Type 0
 KeepsRecord rec old new = (me n : ℕ) (log : Log) → LedgerStands me n old log → (fits me n log rec ≡ true) × LedgerStands me n new (rec ∷ log)
 
--- what was read is a record, with these bytes behind it, that is kept, and nothing is accepted anew
+-- what was read is a record, with these bytes behind it, that is kept, and nothing is accepted or decided
 pub record IsTaken (read : Option (Rec × List ℕ)) (rest : List ℕ) (old new : Ledger) : Type 0 where
   pub rec : Rec
   pub is : read ≡ Some (rec, rest)
   pub keeps : KeepsRecord rec old new
   pub same : new.accepted ≡ old.accepted
+  pub known : new.known ≡ old.known
 
 -- these are the bytes of the decision that was accepted, unless they are none
 abbrev pub IsAtHand : List ℕ → Option (Ballot × Decision) → Type 0
 IsAtHand bytes None = Unit {0}
 IsAtHand bytes (Some a) = 0 < length bytes → FitsDecision a.1 × (bytes ≡ decision_bytes a.1)
 
+-- these are the bytes of the tail of the decision, unless they are none
+abbrev pub IsTail : List ℕ → Decision → Type 0
+IsTail bytes d = 0 < length bytes → FitsEntries d.tail × (bytes ≡ entries_bytes d.tail)
+
 -- what was read is a record, with these bytes behind it, that is kept, and the bytes at hand are those of what is
--- accepted then
-pub record IsNext (read : Option (Rec × List ℕ)) (at_hand rest : List ℕ) (old new : Ledger) : Type 0 where
+-- accepted and known then
+pub record IsNext (read : Option (Rec × List ℕ)) (at_hand tail rest : List ℕ) (old new : Ledger) : Type 0 where
   pub rec : Rec
   pub is : read ≡ Some (rec, rest)
   pub keeps : KeepsRecord rec old new
   pub at_hand_is : IsAtHand at_hand new.accepted
+  pub tail_is : IsTail tail new.known
 
 -- the bytes are those of a decision with these behind it, which is accepted again by this ballot
 pub record IsAgain (at_hand : List ℕ) (instance : ℕ) (ballot : Ballot) (bytes rest : List ℕ) (old new : Ledger) : Type 0 where
@@ -42,6 +48,7 @@ pub record IsAgain (at_hand : List ℕ) (instance : ℕ) (ballot : Ballot) (byte
   pub is : decision_at bytes ≡ Some (decision, rest)
   pub keeps : KeepsRecord (Rec.Accept instance ballot decision) old new
   pub at_hand_is : IsAtHand at_hand new.accepted
+  pub known : new.known ≡ old.known
 
 -- these records were read of a body, up to the rest
 pub record HasRead (body : List ℕ) (recs : List Rec) (rest : List ℕ) : Type 0 where

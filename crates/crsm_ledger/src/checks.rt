@@ -64,7 +64,7 @@ impl Ledger {
         self.is_live & !self.is_suspended & is_next
     }
 
-    fn fits_adopt(&self, place: u64, entries: &[Entry]) -> bool
+    pub(crate) fn fits_adopt(&self, place: u64, entries: &[Entry]) -> bool
         ensures { WhereFieldsStand self.now (λ me n log. result ≡ fits me n log (Rec.Adopt place entries.now)) }
     {
         let is_place = place == self.history.len();

@@ -39,6 +39,7 @@ impl Ledger {
     pub(crate) fn follow_boot(&mut self)
         ensures kept { (me n : ℕ) → Follows self.old (Rec.Boot me n) self.new }
         ensures accepted { self.new.accepted ≡ self.old.accepted }
+        ensures known { self.new.known ≡ self.old.known }
         ensures mark { self.new.is_spent ≡ self.old.is_spent }
     {
         self.boots = self.boots.saturating_add(1);
@@ -49,6 +50,7 @@ impl Ledger {
         requires { FitsEntry entry }
         ensures kept { OnOk result (Follows self.old (Rec.Prepare entry) self.new) }
         ensures accepted { self.new.accepted ≡ self.old.accepted }
+        ensures known { self.new.known ≡ self.old.known }
         ensures mark { self.new.is_spent ≡ self.old.is_spent }
     {
         self.logged.insert(entry)?;
@@ -58,6 +60,7 @@ impl Ledger {
     pub(crate) fn follow_commit(&mut self) -> Result<(), NoMemory>
         ensures kept { (stamp : Stamp) → OnOk result (Follows self.old (Rec.Commit stamp) self.new) }
         ensures accepted { self.new.accepted ≡ self.old.accepted }
+        ensures known { self.new.known ≡ self.old.known }
         ensures mark { self.new.is_spent ≡ self.old.is_spent }
     {
         let Some(entry) = self.logged.first_above(self.history.last_stamp()) else {
@@ -79,6 +82,7 @@ impl Ledger {
     pub(crate) fn follow_suspend(&mut self)
         ensures kept { (epoch : ℕ) → Follows self.old (Rec.Suspend epoch) self.new }
         ensures accepted { self.new.accepted ≡ self.old.accepted }
+        ensures known { self.new.known ≡ self.old.known }
         ensures mark { self.new.is_spent ≡ self.old.is_spent }
     {
         self.is_suspended = true;
@@ -87,6 +91,7 @@ impl Ledger {
     pub(crate) fn follow_promise(&mut self, ballot: Ballot)
         ensures kept { (instance : ℕ) → Follows self.old (Rec.Promise instance ballot) self.new }
         ensures accepted { self.new.accepted ≡ self.old.accepted }
+        ensures known { self.new.known ≡ self.old.known }
         ensures mark { self.new.is_spent ≡ self.old.is_spent }
     {
         self.promised = ballot;
@@ -96,6 +101,7 @@ impl Ledger {
         ensures kept { (instance : ℕ) → Follows self.old (Rec.Accept instance ballot decision) self.new }
         ensures anew { (a : Option (BallotOnPaper × DecisionOnPaper)) (instance : ℕ) → Follows (record self.old { accepted = a }) (Rec.Accept instance ballot decision) self.new }
         ensures accepted { self.new.accepted ≡ Some (ballot, decision) }
+        ensures known { self.new.known ≡ self.old.known }
         ensures mark { self.new.is_spent ≡ self.old.is_spent }
     {
         self.promised = ballot;
@@ -107,6 +113,7 @@ impl Ledger {
         ensures kept { Follows self.old (Rec.Decide decision) self.new }
         ensures anew { (a : Option (BallotOnPaper × DecisionOnPaper)) → Follows (record self.old { accepted = a }) (Rec.Decide decision) self.new }
         ensures accepted { self.new.accepted ≡ None }
+        ensures known { self.new.known ≡ decision }
         ensures mark { self.new.is_spent ≡ self.old.is_spent }
     {
         self.start = decision.base_len + decision.tail.as_slice().len() as u64;
@@ -123,6 +130,7 @@ impl Ledger {
     pub(crate) fn follow_enter(&mut self)
         ensures kept { (epoch : ℕ) → Follows self.old (Rec.Enter epoch) self.new }
         ensures accepted { self.new.accepted ≡ self.old.accepted }
+        ensures known { self.new.known ≡ self.old.known }
         ensures mark { self.new.is_spent ≡ self.old.is_spent }
     {
         self.is_live = true;

@@ -6,7 +6,7 @@ ghost use Rattle.crsm_base.specs.RecordReading.{rec_at};
 ghost use Rattle.crsm_base.specs.Records.{FitsRec};
 ghost use Rattle.crsm_ledger.specs.Ledger.{LedgerStands};
 ghost use Rattle.crsm_ledger.specs.Recovered.{AreKept, IfBadLog, IsBadAt, TakesBody, TakesRecord};
-ghost use Rattle.crsm_ledger.specs.Taken.{IsAtHand, IsNext, IsRefused};
+ghost use Rattle.crsm_ledger.specs.Taken.{IsAtHand, IsNext, IsRefused, IsTail};
 
 use crate::error::LedgerError;
 use crate::ledger::{Ledger, kind_of};
@@ -27,13 +27,17 @@ impl Ledger {
         ensures bad { IfErr result (λ e. IfBadLog e (IsBadAt me n bodies.now)) }
     {
         let mut ledger = Ledger::new(alloc, me, n)?;
-        let mut accepted: &[u8] = &[];
+        let mut next = Next {
+            rest: &[],
+            accepted: &[],
+            tail: &[],
+        };
         for index in 0..bodies.len() {
             let Some(body) = bodies.get(index) else {
                 unreachable!();
             };
-            match ledger.take_body(index as u64, accepted, body) {
-                Ok(at_hand) => accepted = at_hand,
+            match ledger.take_body(index as u64, next.accepted, next.tail, body) {
+                Ok(behind) => next = behind,
                 Err(error) => return Err(error),
             }
         }
@@ -44,11 +48,14 @@ impl Ledger {
         &mut self,
         entry: u64,
         accepted: &'a [u8],
+        tail: &'a [u8],
         body: &'a [u8],
-    ) -> Result<&'a [u8], LedgerError>
-        requires { IsAtHand accepted.now self.old.accepted }
+    ) -> Result<Next<'a>, LedgerError>
+        requires accepted { IsAtHand accepted.now self.old.accepted }
+        requires tail { IsTail tail.now self.old.known }
         ensures taken { TakesBody entry body.now self.old result self.new }
-        ensures at_hand { IfOk result (λ at_hand. IsAtHand at_hand.now self.new.accepted) }
+        ensures accepted { IfOk result (λ next. IsAtHand next.accepted.now self.new.accepted) }
+        ensures tail { IfOk result (λ next. IsTail next.tail.now self.new.known) }
     {
         if body.is_empty() {
             return Err(LedgerError::BadLog { entry, why: 0 });
@@ -56,14 +63,15 @@ impl Ledger {
         let mut next = Next {
             rest: body,
             accepted,
+            tail,
         };
         while !next.rest.is_empty() {
-            match self.take_one(entry, body, next.accepted, next.rest) {
+            match self.take_one(entry, body, next.accepted, next.tail, next.rest) {
                 Ok(behind) => next = behind,
                 Err(error) => return Err(error),
             }
         }
-        Ok(next.accepted)
+        Ok(next)
     }
 
     /// Keeps the next record of a body, and tells where the one behind it begins.
@@ -72,14 +80,16 @@ impl Ledger {
         entry: u64,
         body: &[u8],
         accepted: &'a [u8],
+        tail: &'a [u8],
         bytes: &'a [u8],
     ) -> Result<Next<'a>, LedgerError>
         requires some { 0 < length bytes.now }
-        requires at_hand { IsAtHand accepted.now self.old.accepted }
-        ensures taken { IfOk result (λ next. IsNext (rec_at bytes.now) next.accepted.now next.rest.now self.old self.new) }
+        requires accepted { IsAtHand accepted.now self.old.accepted }
+        requires tail { IsTail tail.now self.old.known }
+        ensures taken { IfOk result (λ next. IsNext (rec_at bytes.now) next.accepted.now next.tail.now next.rest.now self.old self.new) }
         ensures bad { IfErr result (IsRefused entry body.now bytes.now self.old) }
     {
-        if let Some(next) = self.take_next(accepted, bytes)? {
+        if let Some(next) = self.take_next(accepted, tail, bytes)? {
             return Ok(next);
         }
         let Some((rec, rest)) = take_rec(self.alloc, bytes)? else {
@@ -95,6 +105,7 @@ impl Ledger {
         Ok(Next {
             rest,
             accepted: &[],
+            tail: &[],
         })
     }
 

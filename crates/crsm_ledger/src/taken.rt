@@ -1,27 +1,29 @@
 //! Records that are taken off the bytes of a body one by one, each as the fields of its kind: as a `Rec`, each would be moved
 //! several times. What does not fit, or is rare, is left to whoever reads it as a `Rec`.
 
-ghost use Rattle.std.specs.Prelude.{◌≡◌, ◌<◌, ◌++◌, ℕ, None, Some, length, IfOk, IfSome, MatchOption};
-ghost use Rattle.crsm_base.specs.RecordReading.{accept_at, boot_at, commit_at, decide_rec_at, enter_at, prepare_rec_at, promise_at, rec_at, suspend_rec_at};
-ghost use Rattle.crsm_base.specs.Spelling.{FitsDecision};
+ghost use Rattle.std.specs.Prelude.{◌≡◌, ◌<◌, ◌≤◌, ◌+◌, ◌++◌, ℕ, None, Some, length, IfOk, IfSome, MatchOption, OnOk};
+ghost use Rattle.std.specs.List.{AllByRecursion};
+ghost use Rattle.crsm_base.specs.RecordReading.{accept_at, adopt_at, boot_at, commit_at, decide_rec_at, enter_at, prepare_rec_at, promise_at, rec_at, suspend_rec_at};
+ghost use Rattle.crsm_base.specs.Spelling.{FitsDecision, FitsEntry, decision_bytes, entries_bytes, members_bytes, spec_bytes};
 ghost use Rattle.crsm_base.specs.declared.Rec.{Rec};
-ghost use Rattle.crsm_spec.specs.Types.{Ballot as BallotOnPaper, Decision};
+ghost use Rattle.crsm_spec.specs.Types.{Ballot as BallotOnPaper, Decision as DecisionOnPaper};
 ghost use Rattle.crsm_ledger.specs.Ledger.{Follows};
-ghost use Rattle.crsm_ledger.specs.Taken.{IsAgain, IsAtHand, IsNext, IsTaken};
+ghost use Rattle.crsm_ledger.specs.Taken.{IsAgain, IsAtHand, IsNext, IsTail, IsTaken};
 
 use crate::ledger::Ledger;
-use crsm_base::{Ballot, NoMemory};
+use crsm_base::{Ballot, Decision, Members, NoMemory};
 use crsm_fields::{
     take_ballot, take_decision, take_entry, take_replica, take_stamp, take_u8, take_u64,
 };
 use std::mem;
 
-/// Where the next record begins, and the bytes of the decision that was accepted last, if they are at hand: a log mostly has
-/// them again.
+/// Where the next record begins, and the bytes of the decision that was accepted last and of the tail of the known one, if
+/// they are at hand: a log mostly has them again.
 #[derive(Clone, Copy)]
 pub(crate) struct Next<'a> {
     pub rest: &'a [u8],
     pub accepted: &'a [u8],
+    pub tail: &'a [u8],
 }
 
 impl Ledger {
@@ -30,10 +32,12 @@ impl Ledger {
     pub(crate) fn take_next<'a>(
         &mut self,
         accepted: &'a [u8],
+        tail: &'a [u8],
         bytes: &'a [u8],
     ) -> Result<Option<Next<'a>>, NoMemory>
-        requires { IsAtHand accepted.now self.old.accepted }
-        ensures { IfOk result (λ r. MatchOption r (self.new ≡ self.old) (λ next. IsNext (rec_at bytes.now) next.accepted.now next.rest.now self.old self.new)) }
+        requires accepted { IsAtHand accepted.now self.old.accepted }
+        requires tail { IsTail tail.now self.old.known }
+        ensures { IfOk result (λ r. MatchOption r (self.new ≡ self.old) (λ next. IsNext (rec_at bytes.now) next.accepted.now next.tail.now next.rest.now self.old self.new)) }
     {
         let Some((tag, text)) = take_u8(bytes) else {
             return Ok(None);
@@ -42,15 +46,20 @@ impl Ledger {
             1 => self.take_boot(text),
             2 => self.take_prepare(text)?,
             3 => self.take_commit(text)?,
+            4 => self.take_adopt(tail, text)?,
             5 => self.take_suspend(text),
             6 => self.take_promise(text),
-            7 => return self.take_accept(accepted, text),
-            8 => self.take_decide(accepted, text),
+            7 => return self.take_accept(accepted, tail, text),
+            8 => return Ok(self.take_decide(accepted, text)),
             9 => self.take_enter(text),
             _ => None,
         };
         match behind {
-            Some(rest) => Ok(Some(Next { rest, accepted })),
+            Some(rest) => Ok(Some(Next {
+                rest,
+                accepted,
+                tail,
+            })),
             None => Ok(None),
         }
     }
@@ -137,10 +146,12 @@ impl Ledger {
     fn take_accept<'a>(
         &mut self,
         accepted: &'a [u8],
+        tail: &'a [u8],
         bytes: &'a [u8],
     ) -> Result<Option<Next<'a>>, NoMemory>
-        requires { IsAtHand accepted.now self.old.accepted }
-        ensures { IfOk result (λ r. MatchOption r (self.new ≡ self.old) (λ next. IsNext (accept_at bytes.now) next.accepted.now next.rest.now self.old self.new)) }
+        requires accepted { IsAtHand accepted.now self.old.accepted }
+        requires tail { IsTail tail.now self.old.known }
+        ensures { IfOk result (λ r. MatchOption r (self.new ≡ self.old) (λ next. IsNext (accept_at bytes.now) next.accepted.now next.tail.now next.rest.now self.old self.new)) }
     {
         let Some((instance, rest)) = take_u64(bytes) else {
             return Ok(None);
@@ -149,7 +160,11 @@ impl Ledger {
             return Ok(None);
         };
         if let Some(rest) = self.accept_again(accepted, instance, ballot, text) {
-            return Ok(Some(Next { rest, accepted }));
+            return Ok(Some(Next {
+                rest,
+                accepted,
+                tail,
+            }));
         }
         let Some((decision, rest)) = take_decision(self.alloc, text)? else {
             return Ok(None);
@@ -159,7 +174,11 @@ impl Ledger {
         }
         self.follow_accept(ballot, decision);
         let accepted = &text[..text.len() - rest.len()];
-        Ok(Some(Next { rest, accepted }))
+        Ok(Some(Next {
+            rest,
+            accepted,
+            tail,
+        }))
     }
 
     /// Accepts what was accepted last, where these are the bytes of it.
@@ -185,9 +204,9 @@ impl Ledger {
     }
 
     #[tactic(auto, unfolding(crsm_base::specs::RecordReading::decide_rec_at))]
-    fn take_decide<'a>(&mut self, accepted: &[u8], bytes: &'a [u8]) -> Option<&'a [u8]>
+    fn take_decide<'a>(&mut self, accepted: &'a [u8], bytes: &'a [u8]) -> Option<Next<'a>>
         requires { IsAtHand accepted.now self.old.accepted }
-        ensures { MatchOption result (self.new ≡ self.old) (λ rest. IsNext (decide_rec_at bytes.now) accepted.now rest.now self.old self.new) }
+        ensures { MatchOption result (self.new ≡ self.old) (λ next. IsNext (decide_rec_at bytes.now) next.accepted.now next.tail.now next.rest.now self.old self.new) }
     {
         let rest = behind(accepted, bytes)?;
         let Some((_, decision)) = &self.accepted else {
@@ -196,14 +215,51 @@ impl Ledger {
         if !self.fits_decide(decision) {
             return None;
         }
+        let tail = tail_of(decision, accepted);
         self.follow_accepted();
-        Some(rest)
+        Some(Next {
+            rest,
+            accepted,
+            tail,
+        })
+    }
+
+    /// Executes the tail of the known decision, where the bytes are those of it.
+    #[tactic(auto, unfolding(crsm_base::specs::RecordReading::adopt_at))]
+    fn take_adopt<'a>(&mut self, tail: &[u8], bytes: &'a [u8]) -> Result<Option<&'a [u8]>, NoMemory>
+        requires { IsTail tail.now self.old.known }
+        ensures { IfOk result (λ r. MatchOption r (self.new ≡ self.old) (λ rest. IsTaken (adopt_at bytes.now) rest.now self.old self.new)) }
+    {
+        let Some((place, text)) = take_u64(bytes) else {
+            return Ok(None);
+        };
+        let Some(rest) = behind(tail, text) else {
+            return Ok(None);
+        };
+        if !self.fits_adopt(place, self.known.tail.as_slice()) {
+            return Ok(None);
+        }
+        self.follow_tail()?;
+        Ok(Some(rest))
+    }
+
+    /// The entries of the tail of the known decision are executed.
+    fn follow_tail(&mut self) -> Result<(), NoMemory>
+        requires { AllByRecursion FitsEntry self.old.known.tail }
+        ensures kept { (place : ℕ) → OnOk result (Follows self.old (Rec.Adopt place self.old.known.tail) self.new) }
+        ensures accepted { self.new.accepted ≡ self.old.accepted }
+        ensures known { self.new.known ≡ self.old.known }
+        ensures mark { self.new.is_spent ≡ self.old.is_spent }
+    {
+        self.history.run_all(self.known.tail.as_slice())?;
+        Ok(())
     }
 
     /// The decision that was accepted last is accepted again, by this ballot.
     fn follow_again(&mut self, ballot: Ballot)
-        ensures kept { (i : ℕ) (b : BallotOnPaper) (d : Decision) → self.old.accepted ≡ Some (b, d) → Follows self.old (Rec.Accept i ballot d) self.new }
-        ensures accepted { (b : BallotOnPaper) (d : Decision) → self.old.accepted ≡ Some (b, d) → self.new.accepted ≡ Some (ballot, d) }
+        ensures kept { (i : ℕ) (b : BallotOnPaper) (d : DecisionOnPaper) → self.old.accepted ≡ Some (b, d) → Follows self.old (Rec.Accept i ballot d) self.new }
+        ensures accepted { (b : BallotOnPaper) (d : DecisionOnPaper) → self.old.accepted ≡ Some (b, d) → self.new.accepted ≡ Some (ballot, d) }
+        ensures known { self.new.known ≡ self.old.known }
         ensures mark { self.new.is_spent ≡ self.old.is_spent }
     {
         if let Some((_, decision)) = mem::replace(&mut self.accepted, None) {
@@ -214,8 +270,9 @@ impl Ledger {
     /// The decision that was accepted last is decided.
     fn follow_accepted(&mut self)
         requires { IfSome self.old.accepted (λ a. FitsDecision a.1) }
-        ensures kept { (b : BallotOnPaper) (d : Decision) → self.old.accepted ≡ Some (b, d) → Follows self.old (Rec.Decide d) self.new }
+        ensures kept { (b : BallotOnPaper) (d : DecisionOnPaper) → self.old.accepted ≡ Some (b, d) → Follows self.old (Rec.Decide d) self.new }
         ensures accepted { self.new.accepted ≡ None }
+        ensures known { (b : BallotOnPaper) (d : DecisionOnPaper) → self.old.accepted ≡ Some (b, d) → self.new.known ≡ d }
         ensures mark { self.new.is_spent ≡ self.old.is_spent }
     {
         if let Some((_, decision)) = mem::replace(&mut self.accepted, None) {
@@ -233,4 +290,40 @@ fn behind<'a>(first: &[u8], bytes: &'a [u8]) -> Option<&'a [u8]>
     }
     let (start, rest) = bytes.split_at(first.len());
     if start == first { Some(rest) } else { None }
+}
+
+/// How many bytes spell a set of replicas that a decision may name.
+#[tactic(auto, unfolding(crsm_base::specs::Spelling::spec_bytes))]
+fn spec_len(spec: &Option<Members>) -> usize
+    ensures len { result ≡ length (spec_bytes spec.now) }
+    ensures most { result ≤ 16 }
+{
+    match spec {
+        Some(replicas) => 1 + replicas.count() as usize,
+        None => 0,
+    }
+}
+
+/// How many bytes spell members.
+#[tactic(auto, unfolding(crsm_base::specs::Spelling::members_bytes))]
+fn members_len(members: &Members) -> usize
+    ensures len { result ≡ length (members_bytes members.now) }
+    ensures most { result ≤ 16 }
+{
+    1 + members.count() as usize
+}
+
+/// How many bytes of a decision come before its tail.
+fn head_of(decision: &Decision) -> usize
+    ensures { result ≡ 8 + (length (spec_bytes decision.now.spec) + (length (members_bytes decision.now.members) + 8)) }
+{
+    8 + spec_len(&decision.spec) + members_len(&decision.members) + 8
+}
+
+/// Of the bytes of a decision those of its tail.
+fn tail_of<'a>(decision: &Decision, bytes: &'a [u8]) -> &'a [u8]
+    requires { bytes.now ≡ decision_bytes decision.now }
+    ensures { result.now ≡ entries_bytes decision.now.tail }
+{
+    &bytes[head_of(decision)..]
 }

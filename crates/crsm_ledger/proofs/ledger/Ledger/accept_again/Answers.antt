@@ -15,4 +15,5 @@ returns c =
           let fit = sym (c.fits_accept.ensures me n log s.says) ∙ c.if-not-fits_accept.false in
           (fit, record { unspent = c.follow_again.ensures.mark ∙ s.unspent; says = c.follow_again.ensures.kept c.args.instance b d c.in-Some.is me n log s.says fit });
       at_hand_is = subst (IsAtHand c.args.accepted.now) (sym (c.follow_again.ensures.accepted b d c.in-Some.is)) (λ _. (again.0, again.2));
+      known = c.follow_again.ensures.known;
     }

@@ -20,5 +20,6 @@ loop-index-preserved c =
         kept-more c.args.me c.args.n bodies c.loop-index.index body body so_far.0 step.0 more refl so_far.1 step.1 step.2,
         step.3,
       ),
-      c.in-Ok.ensures.at_hand,
+      c.in-Ok.ensures.accepted,
+      c.in-Ok.ensures.tail,
     )

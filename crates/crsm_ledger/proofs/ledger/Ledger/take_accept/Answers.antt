@@ -1,8 +1,8 @@
-use Rattle.std.proofs.Common.{◌∙◌, arith, subst, sym}
+use Rattle.std.proofs.Common.{◌∙◌, ap, arith, subst, sym}
 use Rattle.crsm_spec.specs.Types.{Rec}
 use Rattle.crsm_ledger.specs.declared.ledger.Ledger.{Ledger}
 use Rattle.crsm_ledger.specs.Ledger.{LedgerStands}
-use Rattle.crsm_ledger.specs.Taken.{IsAtHand}
+use Rattle.crsm_ledger.specs.Taken.{IsAtHand, IsTail}
 use Rattle.crsm_ledger.proofs.TakenRecords.{accept_is, before_rest, rest_short, text_bytes}
 use Rattle.crsm_ledger.proofs.ledger.Ledger.take_accept.Goals as goal
 
@@ -28,4 +28,5 @@ returns c =
           let fit = sym (c.fits_accept.ensures me n log same.says) ∙ c.if-not-fits_accept.false in
           (fit, record { unspent = c.follow_accept.ensures.mark ∙ same.unspent; says = c.follow_accept.ensures.kept c.in-Some.instance me n log same.says fit });
       at_hand_is = subst (IsAtHand _) (sym c.follow_accept.ensures.accepted) (λ _. before_rest c.in-Some-take_ballot.text.now c.in-Some-2.rest.now c.in-Some-2.decision ok (sym d));
+      tail_is = subst (IsTail c.args.tail.now) (sym (c.follow_accept.ensures.known ∙ ap (λ (l : Ledger). l.known) c.in_default-accept_again.ensures)) c.requires.tail;
     }

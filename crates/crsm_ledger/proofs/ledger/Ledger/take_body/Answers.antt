@@ -32,6 +32,7 @@ loop-self-preserved c =
             subst (λ (l : Log). LedgerStands me n c.take_one.new.self l) (sym (with_records-push log h.0 t.rec)) step.1,
           )),
       t.at_hand_is,
+      t.tail_is,
     )
 
 pub returns-clause-taken : goal.returns-clause-taken

@@ -1,6 +1,6 @@
 use Rattle.std.proofs.Common.{◌∙◌, subst, sym}
 use Rattle.crsm_spec.specs.Types.{Rec}
-use Rattle.crsm_ledger.specs.Taken.{IsAtHand}
+use Rattle.crsm_ledger.specs.Taken.{IsAtHand, IsTail}
 use Rattle.crsm_ledger.proofs.TakenRecords.{again_at, decide_is}
 use Rattle.crsm_ledger.proofs.ledger.Ledger.take_decide.Goals as goal
 
@@ -16,4 +16,5 @@ returns c =
           let fit = sym (c.fits_decide.ensures me n log s.says) ∙ c.if-not-fits_decide.false in
           (fit, record { unspent = c.follow_accepted.ensures.mark ∙ s.unspent; says = c.follow_accepted.ensures.kept b d c.in-Some.is me n log s.says fit });
       at_hand_is = subst (IsAtHand c.args.accepted.now) (sym c.follow_accepted.ensures.accepted) tt;
+      tail_is = subst (IsTail c.tail_of-tail.result.now) (sym (c.follow_accepted.ensures.known b d c.in-Some.is)) (λ _. (again.0.tail, c.tail_of-tail.ensures));
     }
