@@ -125,5 +125,5 @@ exact = record {
   ended = λ lines shown last ends told why no. not_unfinished ends.draft no.draft (one_reading lines lines (Some ends.draft) no.draft ends.so.reads no.so.reads refl) ends.whole no.unfinished;
   one_reason = λ lines shown other line why w r s. r.unreadable ∙ sym s.unreadable;
   long_reason = λ lines shown line why r long. r.unreadable;
-  end_reason = λ lines shown why no. no.unreadable;
+  one_end = λ lines shown other why w r s. r.unreadable ∙ sym s.unreadable;
 }

@@ -77,6 +77,15 @@ module _ {H R : Type 0} (h : Handling H R) (x : Exact h) where
   reasons : (c d : Bad R) → c ≡ d → reason_of h x c ≡ reason_of h x d
   reasons c d is = ap (λ (b : Bad R). reason_of h x b) is
 
+  -- where nothing stands on one side, nothing does on the other
+  none_in_front : (y u z v : Text) → y ++ u ≡ z ++ v → z ≡ [] → v ≡ [] → y ≡ []
+  none_in_front [] u z v e p q = refl
+  none_in_front (a ∷ y) u z v e p q = let none : a ∷ (y ++ u) ≡ [] = e ∙ ap (λ k. k ++ v) p ∙ q in absurd (cc)
+
+  long_not_empty : (line rest y : Text) → y ≡ line ++ rest → length line ≡ 16777217 → y ≡ [] → ⊥
+  long_not_empty line rest y is long none =
+      let len = length-append line rest in let zero : length (line ++ rest) ≡ 0 = ap length (sym is ∙ none) in omega (arith, len, zero, long)
+
   same_reason : (lines : List Text) (shown other : Text) (left : Option Text) (c d : Bad R) (y z u v : Text) → y ++ u ≡ z ++ v → left ≡ Some u
       → BeginsBad h lines shown left c y → BeginsBad h lines other (Some v) d z → reason_of h x c ≡ reason_of h x d
   same_reason lines shown other left c d y z u v text is (bad_line r c_is b) (bad_line s d_is o) =
@@ -107,7 +116,7 @@ module _ {H R : Type 0} (h : Handling H R) (x : Exact h) where
   same_reason lines shown other left c d y z u v text is (long_line c_is b) (cut_line d_is o) =
       reasons c _ c_is ∙ reasons _ d (sym d_is)
   same_reason lines shown other left c d y z u v text is (long_line c_is b) (bad_end s d_is o) =
-      reasons c _ c_is ∙ sym (x.end_reason lines other s o.refused) ∙ reasons _ d (sym d_is)
+      absurd (long_not_empty b.line b.rest y b.text_is b.long (none_in_front y u z v text o.none o.ended))
   same_reason lines shown other left c d y z u v text is (cut_line c_is b) (bad_line s d_is o) =
       let none : u ≡ [] = rw is at b.ended in
       let whole = sym (append-nil y) ∙ ap (λ k. y ++ k) (sym none) ∙ text ∙ line_first o.line o.rest v z o.text_is in
@@ -117,17 +126,19 @@ module _ {H R : Type 0} (h : Handling H R) (x : Exact h) where
   same_reason lines shown other left c d y z u v text is (cut_line c_is b) (cut_line d_is o) =
       reasons c _ c_is ∙ reasons _ d (sym d_is)
   same_reason lines shown other left c d y z u v text is (cut_line c_is b) (bad_end s d_is o) =
-      reasons c _ c_is ∙ sym (x.end_reason lines other s o.refused) ∙ reasons _ d (sym d_is)
+      absurd (b.some (none_in_front y u z v text o.none o.ended))
   same_reason lines shown other left c d y z u v text is (bad_end r c_is b) (bad_line s d_is o) =
       let none : u ≡ [] = rw is at b.ended in
       let whole : [] ≡ o.line ++ 10 ∷ (o.rest ++ v) = ap (λ k. k ++ []) (sym b.none) ∙ ap (λ k. y ++ k) (sym none) ∙ text ∙ line_first o.line o.rest v z o.text_is in
       absurd (lacks_not 10 [] o.line (o.rest ++ v) tt whole)
   same_reason lines shown other left c d y z u v text is (bad_end r c_is b) (long_line d_is o) =
-      reasons c _ c_is ∙ x.end_reason lines shown r b.refused ∙ reasons _ d (sym d_is)
+      let none : u ≡ [] = rw is at b.ended in
+      absurd (long_not_empty o.line o.rest z o.text_is o.long (none_in_front z v y u (sym text) b.none none))
   same_reason lines shown other left c d y z u v text is (bad_end r c_is b) (cut_line d_is o) =
-      reasons c _ c_is ∙ x.end_reason lines shown r b.refused ∙ reasons _ d (sym d_is)
+      let none : u ≡ [] = rw is at b.ended in
+      absurd (o.some (none_in_front z v y u (sym text) b.none none))
   same_reason lines shown other left c d y z u v text is (bad_end r c_is b) (bad_end s d_is o) =
-      reasons c _ c_is ∙ x.end_reason lines shown r b.refused ∙ sym (x.end_reason lines other s o.refused) ∙ reasons _ d (sym d_is)
+      reasons c _ c_is ∙ x.one_end lines shown other r s b.refused o.refused ∙ reasons _ d (sym d_is)
 
   pub record Same (ls ms : List Text) (c d : Bad R) : Type 0 where
     pub count : length ls ≡ length ms

@@ -18,15 +18,15 @@ module _ {H R : Type 0} (h : Handling H R) where
   abbrev pub MayEnd : List Text → Type 0
   MayEnd lines = (shown : Text) (why : R) → h.refuses_end lines shown why → ⊥
 
-  -- A handling is exact where nothing that is handled is refused, and nothing is refused for two reasons. A line that is too
-  -- long, or an end that may not be, is refused as unreadable.
+  -- A handling is exact where nothing that is handled is refused, and neither a line nor the end is refused for two reasons. A
+  -- line that is too long is refused as unreadable.
   pub record Exact : Type 0 where
     pub unreadable : R
     pub handled : (handler : H) (lines : List Text) (shown : Text) → h.after handler lines shown → Fits lines
     pub ended : (lines : List Text) (shown last : Text) → h.ends lines shown last → MayEnd lines
     pub one_reason : (lines : List Text) (shown other line : Text) (why w : R) → h.refuses lines shown why line → h.refuses lines other w line → why ≡ w
     pub long_reason : (lines : List Text) (shown line : Text) (why : R) → h.refuses lines shown why line → 16777216 < length line → why ≡ unreadable
-    pub end_reason : (lines : List Text) (shown : Text) (why : R) → h.refuses_end lines shown why → why ≡ unreadable
+    pub one_end : (lines : List Text) (shown other : Text) (why w : R) → h.refuses_end lines shown why → h.refuses_end lines other w → why ≡ w
 
 module _ {H R : Type 0} (h : Handling H R) (x : Exact h) where
   -- the reason that a bad line is told with

@@ -41,7 +41,7 @@ module _ (laws : TextLaws) where
         let same = same_read laws p.read q.read p.is.good q.is.good (sym p.is.lines_are ∙ q.is.lines_are) in
         one_cause laws q.read c d line (subst (λ (r : Option Schedule). Refused r c line) same p.refused) q.refused;
     long_reason = λ lines shown line cause p long. long_unreadable laws p.read cause line p.refused long;
-    end_reason = λ lines shown cause p. p.unreadable;
+    one_end = λ lines shown other c d p q. p.unreadable ∙ sym q.unreadable;
   }
 
   events_are_lines : (es : List Event) → AllByRecursion FitsEvent es → AllByRecursion IsLine (map event_text es)

@@ -92,7 +92,7 @@ module _ (laws : Laws) (me n : ℕ) where
         let same : p.spells.lines ≡ q.spells.lines = one_lines laws.one_text p.spells.lines q.spells.lines p.spells.is.fit q.spells.is.fit (sym p.spells.texts_are ∙ q.spells.texts_are) in
         one_cause q.spells.lines text c d (subst (λ (ls : List SheetLine). Refused me n ls text c) same p.refused) q.refused;
     long_reason = λ texts shown text cause p long. long_cause p.spells.lines text cause p.refused long;
-    end_reason = λ texts shown cause p. p.unreadable;
+    one_end = λ texts shown other c d p q. p.unreadable ∙ sym q.unreadable;
   }
 
   -- ---- bad lines
