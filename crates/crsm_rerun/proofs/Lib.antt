@@ -5,3 +5,4 @@ pub mod Stages
 pub mod StepTexts
 pub mod Spelt
 pub mod BadLogs
+mod Ledgers

@@ -1,5 +1,5 @@
--- That datagrams have spellings has one proof at most.
-use Rattle.std.proofs.Common.{◌+◌, ℕ, List, [], ◌∷◌}
+-- That records and datagrams have spellings has one proof at most.
+use Rattle.std.proofs.Common.{◌≡◌, ◌⊎◌, ◌+◌, ◌<◌, ℕ, List, [], ◌∷◌, ap, inl, inr, arith}
 use Rattle.std.specs.Prelude.{Option, Some, None}
 use Rattle.std.specs.List.{AllByRecursion}
 use Rattle.std.specs.Coded.{×_prop, Unit-prop}
@@ -18,9 +18,13 @@ use Rattle.crsm_base.specs.declared.datagram.Datagram.TheVariants as datagram
 use Rattle.crsm_base.specs.declared.send.Send.{Send}
 use Rattle.crsm_base.specs.declared.send.To.{To}
 use Rattle.crsm_base.specs.declared.send.To.TheVariants as to_whom
+use Rattle.crsm_base.specs.declared.decision.Decision.{Decision}
+use Rattle.crsm_base.specs.declared.rec.Rec.{Rec}
+use Rattle.crsm_base.specs.declared.rec.Rec.TheVariants as rec
 use Rattle.crsm_base.specs.Members.{IsMembers, RisesWithin}
 use Rattle.crsm_base.specs.Messages.{FitsDatagram, FitsPayload}
-use Rattle.crsm_base.specs.Spelling.{FitsCommand, FitsEntry, FitsOp, FitsOption, FitsOutcome, FitsVal}
+use Rattle.crsm_base.specs.Records.{FitsRec}
+use Rattle.crsm_base.specs.Spelling.{FitsCommand, FitsDecision, FitsEntries, FitsEntry, FitsOp, FitsOption, FitsOutcome, FitsVal, IsBefore, Rises, RisesAfter}
 use Rattle.crsm_core.specs.Core.{FitsSent, FitsTo}
 
 val_prop : (o : Option (List ℕ)) → IsProp (FitsOption FitsVal o)
@@ -73,6 +77,66 @@ to_prop : (to : To) → IsProp (FitsTo to)
 to_prop (to_whom.Replica k) = hlevel props
 to_prop (to_whom.Address address) = Unit-prop
 
+-- ---- records
+
+either_prop : {A B : Type 0} → IsProp A → IsProp B → (A → B → ⊥) → IsProp (A ⊎ B)
+either_prop p q apart (inl a) (inl b) = ap inl (p a b)
+either_prop p q apart (inl a) (inr b) = absurd (apart a b)
+either_prop p q apart (inr a) (inl b) = absurd (apart b a)
+either_prop p q apart (inr a) (inr b) = ap inr (q a b)
+
+-- the first number is less, or it is the same and the rest holds
+less_prop : (a b : ℕ) (P : Type 0) → IsProp P → IsProp (a < b ⊎ ((a ≡ b) × P))
+less_prop a b P p = either_prop (hlevel props) (hlevel (props, p)) (λ lt same. omega (arith, lt, same.0))
+
+before_prop : (a b : Entry) → IsProp (IsBefore a b)
+before_prop a b = less_prop a.epoch b.epoch _ (less_prop a.stamp.time b.stamp.time _ (hlevel props))
+
+after_prop : (e : Entry) (es : List Entry) → IsProp (RisesAfter e es)
+after_prop e [] = Unit-prop
+after_prop e (f ∷ es) = ×_prop (before_prop e f) (after_prop f es)
+
+rises_prop : (es : List Entry) → IsProp (Rises es)
+rises_prop [] = Unit-prop
+rises_prop (e ∷ es) = after_prop e es
+
+all_prop : {A : Type 0} (P : A → Type 0) → ((a : A) → IsProp (P a)) → (xs : List A) → IsProp (AllByRecursion P xs)
+all_prop P p [] = Unit-prop
+all_prop P p (x ∷ xs) = ×_prop (p x) (all_prop P p xs)
+
+entries_prop : (es : List Entry) → IsProp (FitsEntries es)
+entries_prop es = let fit = all_prop FitsEntry entry_prop es in let rises = rises_prop es in hlevel (props, fit, rises)
+
+spec_prop : (o : Option (List ℕ)) → IsProp (FitsOption IsMembers o)
+spec_prop None = Unit-prop
+spec_prop (Some ms) = members_prop ms
+
+decision_prop : (d : Decision) → IsProp (FitsDecision d)
+decision_prop d =
+    let spec = spec_prop d.spec in
+    let members = members_prop d.members in
+    let tail = entries_prop d.tail in
+    let before = all_prop (λ (e : Entry). e.epoch + 1 ≡ d.epoch) (λ e. hlevel props) d.tail in
+    hlevel (props, spec, members, tail, before)
+
+rec_prop : (r : Rec) → IsProp (FitsRec r)
+rec_prop (rec.Boot me n) = hlevel props
+rec_prop (rec.Prepare entry) = entry_prop entry
+rec_prop (rec.Commit stamp) = hlevel props
+rec_prop (rec.Adopt place entries) = let e = entries_prop entries in hlevel (props, e)
+rec_prop (rec.Suspend epoch) = hlevel props
+rec_prop (rec.Promise instance ballot) = hlevel props
+rec_prop (rec.Accept instance ballot decision) = let d = decision_prop decision in hlevel (props, d)
+rec_prop (rec.Decide decision) = decision_prop decision
+rec_prop (rec.Enter epoch) = hlevel props
+
+pub records_prop : (recs : List Rec) → IsProp (AllByRecursion FitsRec recs)
+records_prop recs = all_prop FitsRec rec_prop recs
+
+-- ---- datagrams
+
+sent_prop : (s : Send) → IsProp (FitsSent s)
+sent_prop s = ×_prop (to_prop s.to) (datagram_prop s.datagram)
+
 pub sends_prop : (sends : List Send) → IsProp (AllByRecursion FitsSent sends)
-sends_prop [] = Unit-prop
-sends_prop (s ∷ sends) = ×_prop (×_prop (to_prop s.to) (datagram_prop s.datagram)) (sends_prop sends)
+sends_prop sends = all_prop FitsSent sent_prop sends

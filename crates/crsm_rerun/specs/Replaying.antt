@@ -1,14 +1,17 @@
 -- What a replay in memory stands for.
 use Rattle.std.specs.Prelude.{◌≡◌, ℕ, ◌+◌, List, [], ◌∷◌, ◌++◌, length}
 use Rattle.crsm_base.specs.declared.Line.{Line}
+use Rattle.crsm_log_facts.specs.Logs.{AllFit, AreSpelt}
 use Rattle.crsm_spec.specs.Draft.{Draft}
 use Rattle.crsm_spec.specs.Node.{Turn}
+use Rattle.crsm_ledger.specs.declared.ledger.Ledger.{Ledger}
+use Rattle.crsm_ledger.specs.Ledger.{LedgerStands}
 use Rattle.crsm_output.specs.declared.batch.Batch.{Batch}
 use Rattle.crsm_schedule.specs.Transcript.{line_text}
 use Rattle.crsm_sheet.specs.declared.line.SheetLine.{SheetLine}
 use Rattle.crsm_sheet.specs.Sheets.{sheet_of}
 use Rattle.crsm_rerun.specs.declared.rerun.Rerun.{Rerun}
-use Rattle.crsm_rerun.specs.Sheets.{IsSheet, LeadTo, steps_of}
+use Rattle.crsm_rerun.specs.Sheets.{IsSheet, LeadTo, replica_of, steps_of}
 use Rattle.crsm_rerun.specs.Stages.{AnswersAll, StageStands}
 use Rattle.crsm_rerun.specs.Texts.{IsNodeText, ending_of, shown_text}
 
@@ -57,3 +60,14 @@ pub record Ends (me n first : ℕ) (lines : List SheetLine) (steps : List Draft)
   pub are : steps ≡ steps_of sheet
   pub is : line ≡ ending_of sheet
   pub text : IsNodeText me n first lines (shown_text first lines steps ++ line_text 0 line)
+
+-- ---- the log
+
+-- The lines are a sheet, these are its steps, and the ledger says what its log says, each record of which fits and has a
+-- spelling.
+pub record SaysLog (me n : ℕ) (lines : List SheetLine) (steps : List Draft) (ledger : Ledger) : Type 0 where
+  pub sheet : IsSheet me n lines
+  pub are : steps ≡ steps_of sheet
+  pub says : LedgerStands (replica_of sheet).me (replica_of sheet).n ledger (replica_of sheet).log
+  pub fit : AllFit (replica_of sheet).me (replica_of sheet).n (replica_of sheet).log
+  pub spelt : AreSpelt (replica_of sheet).log

@@ -1,6 +1,8 @@
 -- What a line does to a replica in memory.
 use Rattle.std.specs.Prelude.{◌≡◌, ℕ, List, [], ◌∷◌, ◌++◌, map, Result, MatchResult, IfOk}
+use Rattle.std.specs.List.{AllByRecursion}
 use Rattle.crsm_base.specs.declared.NoMemory.{NoMemory}
+use Rattle.crsm_base.specs.Records.{FitsRec}
 use Rattle.crsm_spec.specs.Log.{Log}
 use Rattle.crsm_spec.specs.Replica.{Replica}
 use Rattle.crsm_spec.specs.Draft.{Draft}
@@ -8,7 +10,7 @@ use Rattle.crsm_spec.specs.Step.{boot}
 use Rattle.crsm_spec.specs.Node.{Turn, turn}
 use Rattle.crsm_output.specs.declared.batch.Batch.{Batch}
 use Rattle.crsm_core.specs.declared.replica.Core.{Core}
-use Rattle.crsm_core.specs.Core.{Answers, CoreStands, IsSpent}
+use Rattle.crsm_core.specs.Core.{Answers, CoreStands, FitsSent, IsSpent}
 use Rattle.crsm_sheet.specs.declared.line.SheetLine.{SheetLine}
 use Rattle.crsm_sheet.specs.declared.line.SheetLine.TheVariants.{Open}
 use Rattle.crsm_sheet.specs.Sheets.{entry_line}
@@ -41,6 +43,10 @@ TakesTurn old t result new =
     IfOk result (λ batch. (r : Replica) → CoreStands old r → Answers batch (turn r t) × CoreStands new (turn r t).replica)
 
 -- ---- what a line leads to
+
+-- each record and each datagram of the batch has a spelling
+abbrev pub IsSpelt : Batch → Type 0
+IsSpelt batch = AllByRecursion FitsRec batch.records × AllByRecursion FitsSent batch.sends
 
 -- the batch is nothing
 pub record IsNothing (batch : Batch) : Type 0 where

@@ -2,9 +2,10 @@
 
 ghost use Rattle.std.specs.Prelude.{◌≡◌, ◌≢◌, ◌<◌, ◌≤◌, ◌+◌, ◌-◌, ◌^◌, ℕ, [], List, IfOk, IfErr, OnOk, MatchOption};
 ghost use Rattle.std.specs.List.{AllByRecursion};
+ghost use Rattle.crsm_base.specs.Records.{FitsRec};
 ghost use Rattle.crsm_core.specs.Core.{FitsSent};
 ghost use Rattle.crsm_rerun.specs.Stages.{IsRefusal};
-ghost use Rattle.crsm_rerun.specs.Replaying.{AddsText, Advances, Ends, IsNoSheet, RerunStands, WhereStands, next_of};
+ghost use Rattle.crsm_rerun.specs.Replaying.{AddsText, Advances, Ends, IsNoSheet, RerunStands, SaysLog, WhereStands, next_of};
 
 use crate::ending::ending;
 use crate::error::RerunError;
@@ -13,6 +14,7 @@ use crate::stage::Stage;
 use crate::text::push_step;
 use crsm_base::{Bodies, Bytes, Line};
 use crsm_core::Batch;
+use crsm_ledger::Ledger;
 use crsm_sheet::SheetLine;
 use std::alloc::Global;
 
@@ -48,6 +50,7 @@ impl Rerun {
         requires { next_of self.old < 2 ^ 64 - 1 }
         ensures advances { WhereStands self.old (λ me n first lines steps. IfOk result (Advances me n first self.new lines steps line.now)) }
         ensures refused { WhereStands self.old (λ me n first lines steps. IfErr result (IsRefusal me n lines line.now)) }
+        ensures records { IfOk result (λ batch. AllByRecursion FitsRec batch.records) }
         ensures spelt { IfOk result (λ batch. AllByRecursion FitsSent batch.sends) }
         ensures next { OnOk result (next_of self.new ≡ next_of self.old + 1) }
     {
@@ -78,6 +81,16 @@ impl Rerun {
         match &self.stage {
             Stage::Finding { .. } => None,
             Stage::Running { core } => Some(ending(self.me, core.ledger())),
+        }
+    }
+
+    /// What the log of the replica says: `None` exactly where the lines so far are no sheet.
+    pub fn ledger(&self) -> Option<&Ledger>
+        ensures { WhereStands self.now (λ me n first lines steps. MatchOption result (IsNoSheet lines) (λ ledger. SaysLog me n lines steps ledger.now)) }
+    {
+        match &self.stage {
+            Stage::Finding { .. } => None,
+            Stage::Running { core } => Some(core.ledger()),
         }
     }
 }

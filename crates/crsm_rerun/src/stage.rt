@@ -1,10 +1,8 @@
 //! What has come of a sheet so far.
 
 ghost use Rattle.std.specs.Prelude.{◌≡◌, ◌<◌, ◌≤◌, ℕ, IfOk};
-ghost use Rattle.std.specs.List.{AllByRecursion};
-ghost use Rattle.crsm_core.specs.Core.{FitsSent};
 ghost use Rattle.crsm_sheet.specs.declared.line.SheetLine.{SheetLine};
-ghost use Rattle.crsm_rerun.specs.Stages.{IsSound, TakesLine};
+ghost use Rattle.crsm_rerun.specs.Stages.{IsSound, IsSpelt, TakesLine};
 
 use crate::boot::boot;
 use crate::error::RerunError;
@@ -35,7 +33,7 @@ impl Stage {
         requires few { n ≤ 15 }
         ensures takes { TakesLine me n self.old line.now result self.new }
         ensures sound { IsSound self.old → IsSound self.new }
-        ensures spelt { IsSound self.old → IfOk result (λ batch. AllByRecursion FitsSent batch.sends) }
+        ensures spelt { IsSound self.old → IfOk result IsSpelt }
     {
         match line {
             SheetLine::Entry { bytes } => self.find(alloc, bytes.as_slice()),
@@ -54,7 +52,7 @@ impl Stage {
     fn find(&mut self, alloc: Global, body: &[u8]) -> Result<Batch, RerunError>
         ensures takes { (me n : ℕ) → TakesLine me n self.old (SheetLine.Entry body.now) result self.new }
         ensures sound { IsSound self.old → IsSound self.new }
-        ensures spelt { IfOk result (λ batch. AllByRecursion FitsSent batch.sends) }
+        ensures spelt { IfOk result IsSpelt }
     {
         let Stage::Finding { bodies } = self else {
             return Err(RerunError::Misplaced);
@@ -70,7 +68,7 @@ impl Stage {
         requires few { n ≤ 15 }
         ensures takes { TakesLine me n self.old SheetLine.Open result self.new }
         ensures sound { IsSound self.old → IsSound self.new }
-        ensures spelt { IfOk result (λ batch. AllByRecursion FitsSent batch.sends) }
+        ensures spelt { IfOk result IsSpelt }
     {
         let Stage::Finding { bodies } = &*self else {
             return Err(RerunError::Misplaced);
@@ -90,7 +88,7 @@ impl Stage {
     ) -> Result<Batch, RerunError>
         ensures takes { (me n : ℕ) → TakesLine me n self.old (SheetLine.In reading address bytes.now) result self.new }
         ensures sound { IsSound self.old → IsSound self.new }
-        ensures spelt { IsSound self.old → IfOk result (λ batch. AllByRecursion FitsSent batch.sends) }
+        ensures spelt { IsSound self.old → IfOk result IsSpelt }
     {
         let Stage::Running { core } = self else {
             return Err(RerunError::Misplaced);
@@ -103,7 +101,7 @@ impl Stage {
     fn tick(&mut self, reading: u64) -> Result<Batch, RerunError>
         ensures takes { (me n : ℕ) → TakesLine me n self.old (SheetLine.Tick reading) result self.new }
         ensures sound { IsSound self.old → IsSound self.new }
-        ensures spelt { IsSound self.old → IfOk result (λ batch. AllByRecursion FitsSent batch.sends) }
+        ensures spelt { IsSound self.old → IfOk result IsSpelt }
     {
         let Stage::Running { core } = self else {
             return Err(RerunError::Misplaced);
@@ -121,7 +119,7 @@ impl Stage {
     ) -> Result<Batch, RerunError>
         ensures takes { (me n : ℕ) → TakesLine me n self.old (SheetLine.Suspect reading members.now) result self.new }
         ensures sound { IsSound self.old → IsSound self.new }
-        ensures spelt { IsSound self.old → IfOk result (λ batch. AllByRecursion FitsSent batch.sends) }
+        ensures spelt { IsSound self.old → IfOk result IsSpelt }
     {
         let Stage::Running { core } = self else {
             return Err(RerunError::Misplaced);

@@ -1,14 +1,13 @@
 //! The step of a turn.
 
 ghost use Rattle.std.specs.Prelude.{IfOk};
-ghost use Rattle.std.specs.List.{AllByRecursion};
-ghost use Rattle.crsm_core.specs.Core.{Answers, CoreStands, FitsSent};
+ghost use Rattle.crsm_core.specs.Core.{Answers, CoreStands};
 ghost use Rattle.crsm_core.specs.Inputs.{FitsInput, input_of};
 ghost use Rattle.crsm_spec.specs.Draft.{begun};
 ghost use Rattle.crsm_spec.specs.Node.{Turn};
 ghost use Rattle.crsm_spec.specs.Replica.{Replica};
 ghost use Rattle.crsm_spec.specs.Step as rules;
-ghost use Rattle.crsm_rerun.specs.Stages.{IsNothing, IsUsable, TakesTurn};
+ghost use Rattle.crsm_rerun.specs.Stages.{IsNothing, IsSpelt, IsUsable, TakesTurn};
 
 use crsm_base::{Lines, Members, NoMemory, Recs, Sends};
 use crsm_core::{Batch, Core, Input};
@@ -20,7 +19,7 @@ use std::alloc::Global;
 pub(crate) fn nothing(alloc: Global) -> Batch
     ensures nothing { IsNothing result }
     ensures answers { (r : Replica) → Answers result (begun r) }
-    ensures spelt { AllByRecursion FitsSent result.sends }
+    ensures spelt { IsSpelt result }
 {
     Batch {
         records: Recs::new(alloc),
@@ -35,7 +34,7 @@ fn step(core: &mut Core, input: &Input, reading: u64) -> Result<Batch, NoMemory>
     ensures ruled { IfOk result (λ batch. (r : Replica) → CoreStands core.old r →
         Answers batch (rules.step r (input_of input.now) reading) × CoreStands core.new (rules.step r (input_of input.now) reading).replica) }
     ensures usable { IsUsable core.old → IsUsable core.new }
-    ensures spelt { IsUsable core.old → IfOk result (λ batch. AllByRecursion FitsSent batch.sends) }
+    ensures spelt { IsUsable core.old → IfOk result IsSpelt }
 {
     let batch = core.step(input, reading)?;
     Ok(batch)
@@ -52,7 +51,7 @@ pub(crate) fn come(
 ) -> Result<Batch, NoMemory>
     ensures turn { TakesTurn core.old (Turn.In address bytes.now, reading) result core.new }
     ensures usable { IsUsable core.old → IsUsable core.new }
-    ensures spelt { IsUsable core.old → IfOk result (λ batch. AllByRecursion FitsSent batch.sends) }
+    ensures spelt { IsUsable core.old → IfOk result IsSpelt }
 {
     match read_datagram(alloc, bytes) {
         Ok(datagram) => {
@@ -70,7 +69,7 @@ pub(crate) fn come(
 pub(crate) fn tick(core: &mut Core, reading: u64) -> Result<Batch, NoMemory>
     ensures turn { TakesTurn core.old (Turn.Tick, reading) result core.new }
     ensures usable { IsUsable core.old → IsUsable core.new }
-    ensures spelt { IsUsable core.old → IfOk result (λ batch. AllByRecursion FitsSent batch.sends) }
+    ensures spelt { IsUsable core.old → IfOk result IsSpelt }
 {
     step(core, &Input::Tick, reading)
 }
@@ -85,7 +84,7 @@ pub(crate) fn suspect(
 ) -> Result<Batch, NoMemory>
     ensures turn { TakesTurn core.old (Turn.Suspect members.now, reading) result core.new }
     ensures usable { IsUsable core.old → IsUsable core.new }
-    ensures spelt { IsUsable core.old → IfOk result (λ batch. AllByRecursion FitsSent batch.sends) }
+    ensures spelt { IsUsable core.old → IfOk result IsSpelt }
 {
     let members = members.copy(alloc)?;
     step(core, &Input::Suspect { members }, reading)
