@@ -6,7 +6,7 @@ use Rattle.std.proofs.lemmas.Option.{none-some, same_Some}
 use Rattle.crsm_spec.specs.Types.{Rec}
 use Rattle.crsm_spec.specs.Lists.{Among, IsPrefixOf}
 use Rattle.crsm_spec.specs.Log.{Log, executed, entry_of}
-use Rattle.crsm_log_facts.specs.Logs.{Extends, same, more}
+use Rattle.crsm_log_facts.specs.Logs.{Extends, same, more, with_records}
 
 pub prefix_self : {A : Type 0} (xs : List A) → IsPrefixOf xs xs
 prefix_self xs = ([], append-nil xs)
@@ -29,6 +29,11 @@ one_more (Rec.Enter x) log = prefix_self (executed log)
 pub executed_prefix : (a b : Log) → Extends a b → IsPrefixOf (executed a) (executed b)
 executed_prefix a b same = prefix_self (executed a)
 executed_prefix a b (more {new = c} rec p) = prefix_trans (executed a) (executed c) (executed b) (executed_prefix a c p) (one_more rec c)
+
+pub records_prefix : (log : Log) (recs : List Rec) → IsPrefixOf (executed log) (executed (with_records log recs))
+records_prefix log [] = prefix_self (executed log)
+records_prefix log (rec ∷ recs) =
+    prefix_trans (executed log) (executed (rec ∷ log)) (executed (with_records (rec ∷ log) recs)) (one_more rec log) (records_prefix (rec ∷ log) recs)
 
 -- ---- places
 

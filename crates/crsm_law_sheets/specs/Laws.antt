@@ -2,12 +2,12 @@
 use Rattle.std.specs.Prelude.{◌≡◌, ℕ, ◌<◌, List, Some, slice_get}
 use Rattle.std.specs.List.{AllByRecursion}
 use Rattle.crsm_base.specs.Spelling.{IsBefore, Rises}
-use Rattle.crsm_spec.specs.Types.{Stamp, Entry, Answer, Refusal, Outcome, Line}
+use Rattle.crsm_spec.specs.Types.{Stamp, Entry, Rec, Answer, Refusal, Outcome, Line}
 use Rattle.crsm_spec.specs.Lists.{Among, IsPrefixOf}
 use Rattle.crsm_spec.specs.Log.{Log, executed}
 use Rattle.crsm_spec.specs.Draft.{Draft, Reply}
 use Rattle.crsm_spec.specs.Safe.{AnswersAt}
-use Rattle.crsm_log_facts.specs.Logs.{AllFit, AreSpelt, Extends}
+use Rattle.crsm_log_facts.specs.Logs.{AllFit, AreSpelt, Extends, with_records}
 use Rattle.crsm_law_sheets.specs.Sheets.{Sheet, last_log, one_list, steps_of}
 use Rattle.crsm_law_sheets.specs.Verdicts.{Agree, HasNamed}
 
@@ -54,3 +54,7 @@ OneListRises = (n : ℕ) (sheets : List Sheet) → AllByRecursion (IsSound n) sh
 abbrev pub EntriesStandInOrder : Type 0
 EntriesStandInOrder =
     (es : List Entry) (p q : ℕ) (a b : Entry) → Rises es → slice_get es p ≡ Some a → slice_get es q ≡ Some b → q < p → IsBefore b a
+
+-- what is executed stays so, at its place, whatever is logged behind it
+abbrev pub ExecutedListsGrow : Type 0
+ExecutedListsGrow = (log : Log) (recs : List Rec) → IsPrefixOf (executed log) (executed (with_records log recs))

@@ -2,7 +2,7 @@
 //! node found and took alone, so it holds of forged sheets as of honest ones.
 #![tactic(auto)]
 
-ghost use Rattle.crsm_law_sheets.specs.Laws.{AgreeingSheetsAreSafe, EntriesStandInOrder, OneListRises};
+ghost use Rattle.crsm_law_sheets.specs.Laws.{AgreeingSheetsAreSafe, EntriesStandInOrder, ExecutedListsGrow, OneListRises};
 
 use crsm_step_facts::steps_are_changes;
 
@@ -22,4 +22,9 @@ pub fn one_list_rises()
 /// In a list that rises, of two entries the one with the lesser place is before the other.
 pub fn entries_stand_in_order()
     ensures { EntriesStandInOrder }
+{}
+
+/// The executed list of a log is a prefix of that of the log with more records behind it.
+pub fn executed_lists_grow()
+    ensures { ExecutedListsGrow }
 {}
