@@ -1,0 +1,11 @@
+mod Places
+mod Parts
+mod Bodies
+mod Logs
+mod Advancing
+mod Spelling
+mod BadLogs
+mod Exact
+mod PlaceTexts
+mod Taking
+mod Handled

@@ -1,0 +1,90 @@
+-- What an audit in memory stands for.
+use Rattle.std.specs.Prelude.{◌≡◌, ℕ, ◌+◌, ◌-◌, List, [], ◌∷◌, ◌++◌, Option, Some, None, length, map}
+use Rattle.crsm_ledger.specs.Recovered.{AreKept}
+use Rattle.crsm_law_sheets.specs.Sheets.{Sheet, log_after}
+use Rattle.crsm_log_facts.specs.Logs.{AllFit, AreSpelt}
+use Rattle.crsm_rerun.specs.declared.rerun.Rerun.{Rerun}
+use Rattle.crsm_rerun.specs.Replaying.{RerunStands}
+use Rattle.crsm_sheet.specs.declared.line.SheetLine.{SheetLine}
+use Rattle.crsm_sheet.specs.Sheets.{entry_line}
+use Rattle.crsm_spec.specs.Draft.{Draft}
+use Rattle.crsm_spec.specs.Log.{Log, executed}
+use Rattle.crsm_verdict.specs.Accounts.{AccountsStand, dropped_from, own_logged, spelt}
+use Rattle.crsm_verdict.specs.declared.account.Account.{Account}
+use Rattle.crsm_audit.specs.Sheets.{AreSheetsOf, HoldBadLog, sheets_in}
+use Rattle.crsm_audit.specs.declared.state.BadLog.{BadLog}
+use Rattle.crsm_audit.specs.declared.line.AuditLine.{AuditLine}
+use Rattle.crsm_audit.specs.declared.line.AuditLine.TheVariants as lines
+use Rattle.crsm_audit.specs.declared.line.Progress.{Progress}
+use Rattle.crsm_audit.specs.declared.line.Progress.TheVariants.{Before, Finding, Running}
+
+-- ---- one sheet
+
+-- The account of node me has the own entries of whatever log these bodies hold, and no more.
+pub record FoundAccount (me n : ℕ) (bodies : List (List ℕ)) (a : Account) : Type 0 where
+  pub me_is : a.me ≡ me
+  pub list : a.list ≡ []
+  pub held : (log : Log) → AreKept me n [] bodies log → a.held ≡ spelt (own_logged me log)
+  pub dropped : a.dropped.items ≡ []
+
+-- the log that steps leave
+abbrev pub left_by : List Draft → Log
+left_by steps = log_after [] steps
+
+-- The account of node me has what these steps left and told, the first of which is that of the line with this number.
+pub record StepsAccount (me n opened : ℕ) (steps : List Draft) (a : Account) : Type 0 where
+  pub me_is : a.me ≡ me
+  pub list : a.list ≡ spelt (executed (left_by steps))
+  pub held : a.held ≡ spelt (own_logged me (left_by steps))
+  pub dropped : a.dropped.items ≡ dropped_from opened steps
+  pub fit : AllFit me n (left_by steps)
+  pub are_spelt : AreSpelt (left_by steps)
+
+-- before `open`, and behind it
+abbrev pub AccountOf : (me n first : ℕ) → List SheetLine → List Draft → Account → Type 0
+AccountOf me n first own [] a = (bodies : List (List ℕ)) → own ≡ map entry_line bodies → FoundAccount me n bodies a
+AccountOf me n first own (x ∷ xs) a = StepsAccount me n (first + (length own - length (x ∷ xs))) (x ∷ xs) a
+
+-- The replay and the account are those of the sheet of node me, of which these lines have come and have led to these steps.
+pub record SheetStands (me n first : ℕ) (rerun : Rerun) (a : Account) (own : List SheetLine) (steps : List Draft) : Type 0 where
+  pub replayed : RerunStands me n first rerun own steps
+  pub account : AccountOf me n first own steps a
+
+-- for each sheet that they are those of
+abbrev pub WhereSheetStands : Rerun → Account → ((me n first : ℕ) → List SheetLine → List Draft → Type 0) → Type 0
+WhereSheetStands rerun a P = (me n first : ℕ) (own : List SheetLine) (steps : List Draft) → SheetStands me n first rerun a own steps → P me n first own steps
+
+-- the same with the line, which has led to these further steps
+pub record SheetAdvances (me n first : ℕ) (rerun : Rerun) (a : Account) (own : List SheetLine) (steps : List Draft) (line : SheetLine) : Type 0 where
+  pub more : List Draft
+  pub stands : SheetStands me n first rerun a (own ++ line ∷ []) (steps ++ more)
+
+-- ---- all sheets
+
+-- The lines are those of sheets, whose accounts are kept, and behind them those of the sheet at hand.
+pub record AtHand (n : ℕ) (replay : Option Rerun) (accounts : List Account) (ls : List AuditLine) : Type 0 where
+  pub before : List AuditLine
+  pub sheets : List Sheet
+  pub are : AreSheetsOf n (sheets_in before) sheets
+  pub done : List Account
+  pub stand : AccountsStand n done sheets
+  pub me : ℕ
+  pub own : List SheetLine
+  pub lines_are : ls ≡ before ++ lines.Node me ∷ map lines.Sheet own
+  pub rerun : Rerun
+  pub rerun_is : replay ≡ Some rerun
+  pub account : Account
+  pub accounts_are : accounts ≡ done ++ account ∷ []
+  pub steps : List Draft
+  pub stands : SheetStands me n (length before + 2) rerun account own steps
+
+-- nothing has come, or a sheet is at hand
+abbrev pub Replayed : ℕ → Progress → Option Rerun → List Account → List AuditLine → Type 0
+Replayed n Before replay accounts ls = (ls ≡ []) × (accounts ≡ [])
+Replayed n Finding replay accounts ls = AtHand n replay accounts ls
+Replayed n Running replay accounts ls = AtHand n replay accounts ls
+
+-- what is known of the lines: all sheets are replayed, or one holds a bad log
+abbrev pub IsKnown : ℕ → Option BadLog → Progress → Option Rerun → List Account → List AuditLine → Type 0
+IsKnown n None progress replay accounts ls = Replayed n progress replay accounts ls
+IsKnown n (Some bad) progress replay accounts ls = HoldBadLog n ls bad.entry bad.why

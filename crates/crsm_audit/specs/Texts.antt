@@ -1,0 +1,24 @@
+-- The text of a verdict.
+use Rattle.std.specs.Prelude.{ℕ, ◌+◌, List, [], ◌∷◌, ◌++◌, codes, length}
+use Rattle.crsm_text.specs.Words.{named}
+use Rattle.crsm_verdict.specs.declared.place.Place.{Place}
+use Rattle.crsm_verdict.specs.declared.verdict.Verdict.{Verdict}
+
+-- a word and numbers, and the end of the line
+abbrev pub row : List ℕ → List ℕ → List ℕ
+row name numbers = named name numbers ++ 10 ∷ []
+
+-- an entry at its place
+abbrev pub place_text : ℕ → Place → List ℕ
+place_text at p = row (codes "place") (at ∷ p.epoch ∷ p.stamp.time ∷ p.stamp.origin ∷ p.client ∷ p.number ∷ [])
+
+-- entries, the first of which has this place
+unfoldable pub places_text : ℕ → List Place → List ℕ
+places_text at [] = []
+places_text at (p ∷ places) = place_text at p ++ places_text (at + 1) places
+
+unfoldable pub verdict_text : Verdict → List ℕ
+verdict_text (Verdict.List sheet place) = row (codes "list") (sheet ∷ place ∷ [])
+verdict_text (Verdict.Stranger place) = row (codes "stranger") (place ∷ [])
+verdict_text (Verdict.Dropped sheet line) = row (codes "dropped") (sheet ∷ line ∷ [])
+verdict_text (Verdict.Agree places) = places_text 0 places.items ++ row (codes "agree") (length places.items ∷ [])

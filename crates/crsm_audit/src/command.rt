@@ -1,0 +1,51 @@
+//! The sheets of several nodes, from the first to the last.
+
+ghost use Rattle.std.specs.Prelude.{◌≡◌, ◌≢◌, ◌<◌, ◌≤◌, ℕ, List, Some, length};
+ghost use Rattle.crsm_faults.specs.Counts.{Rose};
+ghost use Rattle.crsm_input.specs.Run.{Ran};
+ghost use Rattle.crsm_audit.specs.Exactly.{EndsExactly, IsDecided};
+ghost use Rattle.crsm_audit.specs.Handled.{audited};
+
+use crate::state::Audit;
+use crsm_input::{Ending, MAX_INPUT_BYTES, run_lines};
+use crsm_io::{Sink, Source};
+use crsm_replay_node::SheetCause;
+use crsm_rerun::bad_logs_are_one;
+use crsm_sheet::lines_have_one_text;
+use std::alloc::Global;
+
+/// Reads the sheets of nodes of a cluster that began with `n` to their end, and writes what they come to: the one list
+/// and that they agree, or the first that is wrong with them. A bad log is refused at the end of the input.
+pub fn audit<I: Source, O: Sink>(
+    alloc: Global,
+    n: u32,
+    input: &mut I,
+    output: &mut O,
+) -> Ending<SheetCause>
+    requires some { 1 ≤ n }
+    requires few { n ≤ 15 }
+
+    // What was taken and what was written, by how it ended.
+    ensures ran { Ran (audited n) result (I.left input.old) (I.left input.new) (O.written output.old) (O.written output.new) }
+
+    // A fault is answered only where it was counted.
+    ensures read_fault { result ≡ Ending.ReadFault → Rose (I.faults input.old) (I.faults input.new) }
+    ensures write_fault { result ≡ Ending.WriteFault → Rose (O.faults output.old) (O.faults output.new) }
+
+    // Where no fault was counted, an audit of good logs is done, the first bad line is refused, and more than the limit is too long.
+    ensures exactly { EndsExactly n (I.left input.old) (I.faults input.old) (I.faults input.new) (O.faults output.old) (O.faults output.new) result }
+
+    // An input beyond the limit is never done, and one within it is never too long.
+    ensures limit { (bytes : List ℕ) → I.left input.old ≡ Some bytes → MAX_INPUT_BYTES < length bytes → result ≢ Ending.Done }
+    ensures within { (bytes : List ℕ) → I.left input.old ≡ Some bytes → length bytes ≤ MAX_INPUT_BYTES → result ≢ Ending.InputTooLong }
+{
+    run_lines(alloc, Audit::new(alloc, n), input, output)
+}
+
+/// What lines alone say decides what is read and what is refused, so that an audit is done and a bad line is refused exactly.
+pub fn audits_are_exact()
+    ensures { (n : ℕ) → IsDecided n }
+{
+    lines_have_one_text();
+    bad_logs_are_one();
+}

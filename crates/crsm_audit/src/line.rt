@@ -1,0 +1,87 @@
+//! The lines of an audit, and which may follow which.
+
+ghost use Rattle.std.specs.Prelude.{◌≡◌, ◌<◌, IfOk, IfSome, Some};
+ghost use Rattle.std.specs.Prelude.{ℕ, decimal};
+ghost use Rattle.crsm_text.specs.Reads.{ReadsAs};
+ghost use Rattle.crsm_audit.specs.declared.line.AuditLine.{AuditLine as Spelt};
+ghost use Rattle.crsm_audit.specs.Lines.{FitsLine, line_text};
+ghost use Rattle.crsm_audit.specs.Lines as on_paper;
+
+use crsm_sheet::{LineError, SheetLine, read_sheet};
+use crsm_text::read_number;
+use std::alloc::Global;
+
+/// A line of the input.
+#[derive(Drop)]
+pub(crate) enum AuditLine {
+    /// The sheet of this node begins.
+    Node { me: u32 },
+    /// A line of the sheet.
+    Sheet { line: SheetLine },
+}
+
+/// How far the sheet at hand has come.
+#[derive(Clone, Copy, Debug, PartialEq, Eq)]
+pub(crate) enum Progress {
+    /// There is none yet.
+    Before,
+    /// Bodies of its log may come.
+    Finding,
+    /// Its log was read to its end, and turns may come.
+    Running,
+}
+
+/// The number of a node.
+fn node_of(word: &[u8]) -> Option<u32>
+    ensures found { IfSome result (λ me. (me < 15) × (word.now ≡ decimal me)) }
+    ensures only { (me : ℕ) → me < 15 → word.now ≡ decimal me → result ≡ Some me }
+{
+    let number = read_number(word)?;
+    if number < 15 {
+        Some(number as u32)
+    } else {
+        None
+    }
+}
+
+/// What a line says.
+pub(crate) fn read_line(alloc: Global, text: &[u8]) -> Result<AuditLine, LineError>
+    ensures found { IfOk result (λ line. FitsLine line × (text.now ≡ line_text line)) }
+    ensures only { (line : Spelt) → FitsLine line → text.now ≡ line_text line → ReadsAs result line }
+{
+    if let Some(word) = text.strip_prefix(b"node ") {
+        let Some(me) = node_of(word) else {
+            return Err(LineError::Unreadable);
+        };
+        return Ok(AuditLine::Node { me });
+    }
+    let line = read_sheet(alloc, text)?;
+    Ok(AuditLine::Sheet { line })
+}
+
+/// How far a sheet has come behind a line of it: `None` exactly where no sheet has the line there.
+fn behind(progress: Progress, line: &SheetLine) -> Option<Progress>
+    ensures { result ≡ on_paper.behind progress line.now }
+{
+    match (progress, line) {
+        (Progress::Finding, SheetLine::Entry { .. }) => Some(Progress::Finding),
+        (Progress::Finding, SheetLine::Open) => Some(Progress::Running),
+        (Progress::Running, SheetLine::In { .. }) => Some(Progress::Running),
+        (Progress::Running, SheetLine::Tick { .. }) => Some(Progress::Running),
+        (Progress::Running, SheetLine::Suspect { .. }) => Some(Progress::Running),
+        _ => None,
+    }
+}
+
+/// How far the sheet at hand has come behind a line: `None` exactly where no audit has the line there.
+pub(crate) fn follows(progress: Progress, line: &AuditLine) -> Option<Progress>
+    ensures { result ≡ on_paper.follows progress line.now }
+{
+    match line {
+        AuditLine::Node { .. } => match progress {
+            Progress::Finding => None,
+            Progress::Before | Progress::Running => Some(Progress::Finding),
+        },
+        AuditLine::Sheet { line } => behind(progress, line),
+    }
+}

@@ -1,0 +1,41 @@
+//! One sheet: each line is replayed, and what the replica makes at it is added to the account.
+
+ghost use Rattle.std.specs.Prelude.{◌<◌, ◌^◌, ◌-◌, ℕ, List, IfErr, OnOk};
+ghost use Rattle.crsm_rerun.specs.Replaying.{next_of};
+ghost use Rattle.crsm_rerun.specs.Stages.{IsRefusal};
+ghost use Rattle.crsm_audit.specs.State.{SheetAdvances, WhereSheetStands};
+
+use crsm_base::never;
+use crsm_law_sheets::executed_lists_grow;
+use crsm_rerun::{Rerun, RerunError};
+use crsm_sheet::SheetLine;
+use crsm_step_facts::batches_are_logged;
+use crsm_verdict::Account;
+
+/// Takes a line of a sheet. After an error neither the replay nor the account is of use any more.
+pub(crate) fn advance(
+    rerun: &mut Rerun,
+    account: &mut Account,
+    line: &SheetLine,
+) -> Result<(), RerunError>
+    ensures ok { WhereSheetStands rerun.old account.old (λ me n first own steps. OnOk result (SheetAdvances me n first rerun.new account.new own steps line.now)) }
+    ensures err { WhereSheetStands rerun.old account.old (λ me n first own steps. IfErr result (IsRefusal me n own line.now)) }
+{
+    executed_lists_grow();
+    batches_are_logged();
+    let at = rerun.next_line();
+    if at == u64::MAX {
+        return Err(RerunError::NoMemory);
+    }
+    let batch = rerun.feed(line)?;
+    if let SheetLine::Entry { bytes } = line {
+        account.find(bytes.as_slice())?;
+        return Ok(());
+    }
+    // Behind a line that is no body the replica has a log.
+    let Some(ledger) = rerun.ledger() else {
+        return Err(RerunError::from(never()));
+    };
+    account.take(at, &batch, ledger)?;
+    Ok(())
+}
