@@ -12,7 +12,7 @@ use Rattle.crsm_client.specs.declared.error.OperateError.{OperateError}
 use Rattle.crsm_lock.specs.declared.command.LockEnd.{LockEnd}
 use Rattle.crsm_node.specs.declared.errors.NodeEnd.{NodeEnd}
 use Rattle.crsm_app.specs.Devices.{Devices}
-use Rattle.crsm_app.specs.Did.{Did, DidReplay, DidSheet, DidTimes}
+use Rattle.crsm_app.specs.Did.{Did, DidAudit, DidReplay, DidSheet, DidTimes}
 use Rattle.crsm_app.specs.Statuses.{status_of_client, status_of_lock, status_of_node, status_of_operate}
 use Rattle.crsm_app.specs.Tasks.{IsThere, IsWithinLimits}
 use Rattle.crsm_app.specs.declared.status.Status.{Status}
@@ -51,7 +51,7 @@ asked_within (Node t) words asks = asks.0
 asked_within (Client to turns command) words asks = asks.limits.fits
 asked_within (Operate to members) words asks = tt
 asked_within (Soak number n steps) words asks = asks.1
-asked_within (Audit n) words asks = tt
+asked_within (Audit n) words asks = asks.0
 asked_within (Lock t) words asks = asks.0
 asked_within Delay words asks = tt
 asked_within DelayTimes words asks = tt
@@ -96,7 +96,7 @@ usage_not_no_memory : Status.Usage ≡ Status.NoMemory → ⊥
 usage_not_no_memory is = cc is
 
 not_refused : (cluster : ℕ) (task : Task) (old new : Devices) → Did cluster task Status.Usage old new → IsThere task → ⊥
-unfolding DidReplay DidSheet DidTimes
+unfolding DidAudit DidReplay DidSheet DidTimes
 not_refused cluster (Show t) old new did there = did.1
 not_refused cluster Replay old new did there = did
 not_refused cluster (ReplayNode me n) old new did there = did
@@ -107,7 +107,7 @@ not_refused cluster (Node t) old new did there = elim did.1 [
   | inr none ↦ usage_not_no_memory none.status
 ]
 not_refused cluster (Soak number n steps) old new did there = did.1
-not_refused cluster (Audit n) old new did there = there
+not_refused cluster (Audit n) old new did there = did
 not_refused cluster (Lock t) old new did there = lock_not_usage did.1.ended did.1.status
 not_refused cluster Delay old new did there = there
 not_refused cluster DelayTimes old new did there = did

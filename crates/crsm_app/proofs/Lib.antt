@@ -1,5 +1,6 @@
 pub mod Schedules
 pub mod Sheets
+pub mod Audits
 pub mod PlanEnds
 pub mod Asking
 pub mod LockEnds

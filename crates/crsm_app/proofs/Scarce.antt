@@ -1,5 +1,6 @@
 -- Out of memory before anything was done: that is exact of every task.
 use Rattle.std.proofs.Common.{ℕ, inr, refl}
+use Rattle.crsm_audit.specs.Exactly.{IsDecided}
 use Rattle.crsm_delay.specs.Reading.{times_of}
 use Rattle.crsm_input.specs.Exact.{Exact}
 use Rattle.crsm_words.specs.declared.order.Task.{Task}
@@ -9,7 +10,7 @@ use Rattle.crsm_app.specs.Exact.{Exactly}
 use Rattle.crsm_app.specs.declared.status.Status.{Status}
 use Rattle.crsm_app.proofs.Sheets.{no_memory}
 
-module _ (decided : Exact times_of) where
+module _ (decided : Exact times_of) (audits : (n : ℕ) → IsDecided n) where
   pub without_memory : (cluster : ℕ) (task : Task) (old new : Devices) → Exactly cluster task Status.NoMemory old new
   without_memory cluster (Show text) old new = λ no_write. inr refl
   without_memory cluster Replay old new = λ no_read no_write. record {
@@ -29,7 +30,13 @@ module _ (decided : Exact times_of) where
   without_memory cluster (Operate to members) old new = λ no_loss. inr refl
   without_memory cluster (Node t) old new = λ no_port no_disk no_write. tt
   without_memory cluster (Soak number n steps) old new = λ no_write. inr refl
-  without_memory cluster (Audit n) old new = tt
+  without_memory cluster (Audit n) old new = λ no_read no_write. record {
+    decided = (audits n).exact;
+    unreadable = (audits n).unreadable;
+    complete = λ lines fit may are is short. inr refl;
+    refused = λ lines shown text more why fit are is bad short. no_memory _ _ _ refl;
+    too_long = λ lines rest more fit are part long some is. inr refl;
+  }
   without_memory cluster (Lock t) old new = record {
     complete = λ t u is at all no_fault no_loss no_write. inr refl;
     no_answer = λ t u is at none no_fault no_loss. inr refl;

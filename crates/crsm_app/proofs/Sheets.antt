@@ -86,7 +86,7 @@ no_disk Ending.WriteFault is = cc is
 no_disk Ending.NoMemory is = cc is
 no_disk Ending.InputTooLong is = cc is
 
-told : (line : ℕ) (cause : SheetCause) (result : Status) → result ≡ status_of_refused line cause → IsRefusedSheet line cause result
+pub told : (line : ℕ) (cause : SheetCause) (result : Status) → result ≡ status_of_refused line cause → IsRefusedSheet line cause result
 told line SheetCause.Unreadable result is = inl is
 told line (SheetCause.BadLog entry why) result is = inl is
 

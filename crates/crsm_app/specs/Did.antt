@@ -1,5 +1,6 @@
 -- What a command did, by its status.
 use Rattle.std.specs.Prelude.{◌≡◌, ◌⊎◌, ℕ, List, Option, Result}
+use Rattle.crsm_audit.specs.Handled.{audited}
 use Rattle.crsm_client.specs.Commands.{ClientRan}
 use Rattle.crsm_client.specs.Operating.{Operates}
 use Rattle.crsm_client.specs.declared.command.ClientEnd.{ClientEnd}
@@ -19,6 +20,7 @@ use Rattle.crsm_node.specs.declared.order.NodeOrder.{NodeOrder}
 use Rattle.crsm_port.specs.Meaning.{Meaning}
 use Rattle.crsm_replay.specs.Run as schedule
 use Rattle.crsm_replay.specs.declared.cause.Cause.{Cause}
+use Rattle.crsm_replay_node.specs.Causes.{cause_in}
 use Rattle.crsm_replay_node.specs.Run as sheet
 use Rattle.crsm_replay_node.specs.declared.cause.SheetCause.{SheetCause}
 use Rattle.crsm_soak.specs.Soak.{drawn}
@@ -26,7 +28,7 @@ use Rattle.crsm_soak.specs.Text.{soak_text}
 use Rattle.crsm_words.specs.declared.order.LockTask.{LockTask}
 use Rattle.crsm_words.specs.declared.order.NodeTask.{NodeTask}
 use Rattle.crsm_words.specs.declared.order.Task.{Task}
-use Rattle.crsm_words.specs.declared.order.Task.TheVariants.{Show, Replay, ReplayNode, Client, Operate, Soak, Node, Lock, DelayTimes}
+use Rattle.crsm_words.specs.declared.order.Task.TheVariants.{Show, Replay, ReplayNode, Client, Operate, Soak, Node, Audit, Lock, DelayTimes}
 use Rattle.crsm_world.specs.Laws.{IsLawful}
 use Rattle.crsm_world.specs.Schedule.{acts_of}
 use Rattle.crsm_app.specs.Devices.{Devices, SameDisk, Untouched, node_devices}
@@ -62,6 +64,18 @@ DidSheet me n Status.WriteFault before after had has = sheet.RanPartly me n befo
 DidSheet me n Status.NoMemory before after had has = sheet.RanPartly me n before after had has
 DidSheet me n Status.InputTooLong before after had has = sheet.RanTooLong me n before after had has
 DidSheet me n _ before after had has = ⊥
+
+-- The sheets of nodes of a cluster that began with n were audited, and what they come to was written.
+unfoldable pub DidAudit : (n : ℕ) → Status → (before after had has : Option (List ℕ)) → Type 0
+DidAudit n Status.Ok before after had has = lines.RanToEnd (audited n) before after had has
+DidAudit n (Status.BadInput line cause) before after had has =
+    (cause ≡ Cause.Unreadable) × (why : Bad SheetCause) × (cause_in why ≡ SheetCause.Unreadable) × lines.RanToBad (audited n) before after had has line why
+DidAudit n (Status.BadLog entry why) before after had has = (line : ℕ) × lines.RanToBad (audited n) before after had has line (Bad.Refused (SheetCause.BadLog entry why))
+DidAudit n Status.ReadFault before after had has = lines.RanSoFar (audited n) before after had has
+DidAudit n Status.WriteFault before after had has = lines.RanPartly (audited n) before after had has
+DidAudit n Status.NoMemory before after had has = lines.RanPartly (audited n) before after had has
+DidAudit n Status.InputTooLong before after had has = lines.RanTooLong (audited n) before after had has
+DidAudit n _ before after had has = ⊥
 
 -- a plan was read, and the moments at which its command commits were written
 unfoldable pub DidTimes : Status → (before after had has : Option (List ℕ)) → Type 0
@@ -136,6 +150,7 @@ Did cluster (Client to turns command) result old new =
 Did cluster (Operate to members) result old new = (new.left ≡ old.left) × (new.written ≡ old.written) × DidOperate cluster to members result old.port new.port
 Did cluster (Soak number n steps) result old new = (new.left ≡ old.left) × DidSoak number n steps result old.written new.written
 Did cluster (Node t) result old new = (new.left ≡ old.left) × DidNode cluster t result (node_devices old) (node_devices new)
+Did cluster (Audit n) result old new = DidAudit n result old.left new.left old.written new.written
 Did cluster (Lock t) result old new = (new.left ≡ old.left) × DidLock t result old.port new.port old.written new.written
 Did cluster DelayTimes result old new = DidTimes result old.left new.left old.written new.written
 Did cluster _ result old new = (result ≡ Status.Usage) × Untouched old new

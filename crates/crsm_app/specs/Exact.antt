@@ -1,5 +1,6 @@
 -- Answers that are exact, unless memory ran out.
 use Rattle.std.specs.Prelude.{◌≡◌, ◌⊎◌, ℕ, ◌+◌, List, Option}
+use Rattle.crsm_audit.specs.Handled.{audited}
 use Rattle.crsm_base.specs.declared.Command.{Command}
 use Rattle.crsm_client.specs.Asking.{WhereNotReplied, WhereReplied}
 use Rattle.crsm_delay.specs.Reading.{times_of}
@@ -14,7 +15,7 @@ use Rattle.crsm_replay_node.specs.Run as sheet
 use Rattle.crsm_replay_node.specs.declared.cause.SheetCause.{SheetCause}
 use Rattle.crsm_words.specs.declared.order.LockTask.{LockTask}
 use Rattle.crsm_words.specs.declared.order.Task.{Task}
-use Rattle.crsm_words.specs.declared.order.Task.TheVariants.{Show, Replay, ReplayNode, Client, Operate, Soak, Node, Lock, DelayTimes}
+use Rattle.crsm_words.specs.declared.order.Task.TheVariants.{Show, Replay, ReplayNode, Client, Operate, Soak, Node, Audit, Lock, DelayTimes}
 use Rattle.crsm_app.specs.Devices.{Devices}
 use Rattle.crsm_app.specs.Locks.{lock_order}
 use Rattle.crsm_app.specs.declared.status.Status.{Status}
@@ -62,6 +63,14 @@ pub record SheetsExactly (me n : ℕ) (left : Option (List ℕ)) (result : Statu
   pub refused : sheet.WhereBad me n left (λ line cause. IsRefusedSheet line cause result)
   pub too_long : sheet.WhereTooLong me n left (IsTooLong result)
 
+-- The same of sheets that are audited, a bad log among them at the end. Their lines alone decide what is read and what is refused.
+pub record AuditsExactly (n : ℕ) (left : Option (List ℕ)) (result : Status) : Type 0 where
+  pub decided : lines.Exact (audited n)
+  pub unreadable : decided.unreadable ≡ SheetCause.Unreadable
+  pub complete : lines.WhereWhole (audited n) decided left (IsDone result)
+  pub refused : lines.WhereBad (audited n) decided left (λ line cause. IsRefusedSheet line cause result)
+  pub too_long : lines.WhereTooLong (audited n) decided left (IsTooLong result)
+
 -- The same of a plan. Its lines alone decide what is read and what is refused.
 pub record TimesExactly (left : Option (List ℕ)) (result : Status) : Type 0 where
   pub decided : lines.Exact times_of
@@ -93,6 +102,7 @@ Exactly cluster (Operate to members) result old new = ¬ (Rose old.port.losses n
 Exactly cluster (Soak number n steps) result old new = ¬ (Rose old.write_faults new.write_faults) → IsDone result
 Exactly cluster (Node t) result old new =
     WhereNodeFaultless old.port.faults new.port.faults old.disk.faults new.disk.faults old.write_faults new.write_faults (IsNodeDone result)
+Exactly cluster (Audit n) result old new = WhereFaultless old new (AuditsExactly n old.left result)
 Exactly cluster (Lock t) result old new = LocksExactly t result old.port new.port old.write_faults new.write_faults
 Exactly cluster DelayTimes result old new = WhereFaultless old new (TimesExactly old.left result)
 Exactly cluster _ result old new = Unit {0}

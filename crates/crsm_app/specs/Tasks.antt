@@ -3,7 +3,7 @@ use Rattle.std.specs.Prelude.{◌<◌, ◌⊎◌}
 use Rattle.crsm_base.specs.Spelling.{FitsCommand}
 use Rattle.crsm_words.specs.Orders.{IsClusterSize, IsLock, IsNode}
 use Rattle.crsm_words.specs.declared.order.Task.{Task}
-use Rattle.crsm_words.specs.declared.order.Task.TheVariants.{Show, Replay, ReplayNode, Client, Operate, Soak, Node, Lock, DelayTimes}
+use Rattle.crsm_words.specs.declared.order.Task.TheVariants.{Show, Replay, ReplayNode, Client, Operate, Soak, Node, Audit, Lock, DelayTimes}
 
 -- the tasks that are there
 abbrev pub IsThere : Task → Type 0
@@ -14,6 +14,7 @@ IsThere (Client to turns command) = Unit {0}
 IsThere (Operate to members) = Unit {0}
 IsThere (Soak number n steps) = Unit {0}
 IsThere (Node t) = Unit {0}
+IsThere (Audit n) = Unit {0}
 IsThere (Lock t) = Unit {0}
 IsThere DelayTimes = Unit {0}
 IsThere _ = ⊥
@@ -22,6 +23,7 @@ IsThere _ = ⊥
 abbrev pub IsReader : Task → Type 0
 IsReader Replay = Unit {0}
 IsReader (ReplayNode me n) = Unit {0}
+IsReader (Audit n) = Unit {0}
 IsReader DelayTimes = Unit {0}
 IsReader _ = ⊥
 
@@ -47,5 +49,6 @@ IsWithinLimits (ReplayNode me n) = (me < 15) × IsClusterSize n
 IsWithinLimits (Client to turns command) = FitsCommand command
 IsWithinLimits (Soak number n steps) = IsClusterSize n
 IsWithinLimits (Node t) = IsNode t
+IsWithinLimits (Audit n) = IsClusterSize n
 IsWithinLimits (Lock t) = IsLock t
 IsWithinLimits _ = Unit {0}

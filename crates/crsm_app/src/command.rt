@@ -18,6 +18,7 @@ ghost use Rattle.crsm_app.specs.Tasks.{IsOverPort, IsReader, IsRunner, IsThere};
 
 use crate::doing::do_order;
 use crate::status::Status;
+use crsm_audit::audits_are_exact;
 use crsm_clock::Clock;
 use crsm_delay::plans_are_exact;
 use crsm_disk::Disk;
@@ -44,6 +45,7 @@ fn is_there(task: &Task) -> bool
             | Task::Operate { .. }
             | Task::Soak { .. }
             | Task::Node(_)
+            | Task::Audit { .. }
             | Task::Lock(_)
             | Task::DelayTimes
     )
@@ -107,8 +109,8 @@ fn plans_are_in_time()
 /// replica and writes what it did, `soak NUMBER N STEPS` runs what a number draws and writes a summary, `node ME N TURNS
 /// PEERS` runs a replica and writes its sheet, `client TO TURNS CLIENT NUMBER OP` asks a replica for a command over the
 /// port and writes its outcome, `operate TO MEMBERS` asks one for another membership, `lock TO TURNS CLIENT NUMBER KEY
-/// ACTION` asks one about a lock and writes what it is told, `delay times` reads a plan of delays and clocks and writes
-/// when its command commits, and `--help` and `--version` write a text. The other commands are not there yet. The
+/// ACTION` asks one about a lock and writes what it is told, `audit N` reads the sheets of several nodes and writes what
+/// they come to, `delay times` reads a plan of delays and clocks and writes when its command commits, and `--help` and `--version` write a text. The other commands are not there yet. The
 /// reporter is told what a node's log held.
 pub fn run<I: Source, O: Sink, P: Port, D: Disk, C: Clock, R: Reporter>(
     alloc: Global,
@@ -170,6 +172,7 @@ pub fn run<I: Source, O: Sink, P: Port, D: Disk, C: Clock, R: Reporter>(
 {
     schedules_are_safe();
     plans_are_in_time();
+    audits_are_exact();
     match read_words(alloc, words) {
         Ok(order) => do_order(alloc, order, input, output, port, disk, clock, reporter),
         Err(Refusal::Usage) => Status::Usage,

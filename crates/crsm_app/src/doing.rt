@@ -5,8 +5,8 @@ ghost use Rattle.crsm_base.specs.Spelling.{FitsCommand};
 ghost use Rattle.crsm_faults.specs.Counts.{Rose};
 ghost use Rattle.crsm_input.specs.Exact as loop_exact;
 ghost use Rattle.crsm_app.specs.Devices.{devices_of};
-ghost use Rattle.crsm_app.specs.Did.{Did, DidClient, DidNode, DidOperate, DidReplay, DidSheet, DidSoak, DidTimes, Shows};
-ghost use Rattle.crsm_app.specs.Exact.{AsksExactly, Exactly, IsDone, IsNodeDone, WhereNodeFaultless, ReplaysExactly, SheetsExactly, TimesExactly};
+ghost use Rattle.crsm_app.specs.Did.{Did, DidAudit, DidClient, DidNode, DidOperate, DidReplay, DidSheet, DidSoak, DidTimes, Shows};
+ghost use Rattle.crsm_app.specs.Exact.{AsksExactly, AuditsExactly, Exactly, IsDone, IsNodeDone, WhereNodeFaultless, ReplaysExactly, SheetsExactly, TimesExactly};
 ghost use Rattle.crsm_app.specs.Run.{PortFailed};
 ghost use Rattle.crsm_app.specs.Tasks.{IsOverPort, IsReader, IsRunner, IsThere, IsWithinLimits};
 ghost use Rattle.crsm_node.specs.Running.{devices_of as node_over};
@@ -16,6 +16,7 @@ use crate::locking::run_lock;
 use crate::status::{
     Status, client_status, delay_status, node_status, operate_status, replay_status, sheet_status,
 };
+use crsm_audit::{audit, audits_are_exact};
 use crsm_base::Members;
 use crsm_client::{ClientOrder, client, operate_command};
 use crsm_clock::Clock;
@@ -66,6 +67,23 @@ fn run_sheet<I: Source, O: Sink>(
     ensures no_disk { result ≢ Status.DiskFault }
 {
     sheet_status(replay_node(alloc, me, n, input, output))
+}
+
+/// Writes what the sheets of nodes of a cluster that began with `n` come to.
+fn run_audit<I: Source, O: Sink>(alloc: Global, n: u32, input: &mut I, output: &mut O) -> Status
+    requires some { 1 ≤ n }
+    requires few { n ≤ 15 }
+    ensures did { DidAudit n result (I.left input.old) (I.left input.new) (O.written output.old) (O.written output.new) }
+    ensures read_fault { result ≡ Status.ReadFault → Rose (I.faults input.old) (I.faults input.new) }
+    ensures write_fault { result ≡ Status.WriteFault → Rose (O.faults output.old) (O.faults output.new) }
+    ensures exact { loop_exact.WhereFaultless (I.faults input.old) (I.faults input.new) (O.faults output.old) (O.faults output.new) (AuditsExactly n (I.left input.old) result) }
+    ensures limit { (bytes : List ℕ) → I.left input.old ≡ Some bytes → MAX_INPUT_BYTES < length bytes → result ≢ Status.Ok }
+    ensures within { (bytes : List ℕ) → I.left input.old ≡ Some bytes → length bytes ≤ MAX_INPUT_BYTES → result ≢ Status.InputTooLong }
+    ensures no_port { result ≢ Status.PortFault }
+    ensures no_disk { result ≢ Status.DiskFault }
+{
+    audits_are_exact();
+    sheet_status(audit(alloc, n, input, output))
 }
 
 /// Writes the moments at which the command of a plan commits.
@@ -223,6 +241,7 @@ pub(crate) fn do_order<I: Source, O: Sink, P: Port, D: Disk, C: Clock, R: Report
         Task::Soak { number, n, steps } => run_soak(alloc, number, n, steps, output),
         Task::Node(node) => run_replica(alloc, &node, cluster, output, port, disk, clock, reporter),
         Task::Lock(task) => run_lock(alloc, task, output, port),
+        Task::Audit { n } => run_audit(alloc, n, input, output),
         Task::DelayTimes => run_delay_times(alloc, input, output),
         task => refuse(task),
     }

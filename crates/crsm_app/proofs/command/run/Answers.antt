@@ -89,4 +89,4 @@ pub returns-in-Err-NoMemory-clause-faults : goal.returns-in-Err-NoMemory-clause-
 returns-in-Err-NoMemory-clause-faults g c = record { read = λ is. absurd (cc is); write = λ is. absurd (cc is); port = λ is. absurd (cc is); disk = λ is. absurd (cc is) }
 
 pub returns-in-Err-NoMemory-clause-exactly : goal.returns-in-Err-NoMemory-clause-exactly
-returns-in-Err-NoMemory-clause-exactly g c = λ plain order asks. without_memory c.plans_are_in_time.ensures.exact order.cluster order.task _ _
+returns-in-Err-NoMemory-clause-exactly g c = λ plain order asks. without_memory c.plans_are_in_time.ensures.exact c.audits_are_exact.ensures order.cluster order.task _ _
