@@ -9,15 +9,16 @@ use Rattle.crsm_spec.specs.Step.{Input, step}
 use Rattle.crsm_spec.specs.World.{Site, World, body_size}
 use Rattle.crsm_spec.specs.Acts.{Single, Act, FitsAct}
 use Rattle.crsm_spec.specs.Possible.{possible}
-use Rattle.crsm_log_facts.proofs.Lists.{among_left, among_right, get_left}
+use Rattle.crsm_log_facts.proofs.Lists.{among_left, among_right}
 use Rattle.crsm_timing.specs.declared.Plan.{Plan}
 use Rattle.crsm_timing.specs.Plans.{FitsPlan, delay_of, offset_of, reading, stamped, arrival, ok_at}
-use Rattle.crsm_timing.specs.Timelines.{Timed, Sent, sent, the_command, request, tick, delivery, IsDue, Precedes, InOrder, IsTimeline}
+use Rattle.crsm_timing.specs.Timelines.{Timed, Sent, sent, the_command, request, tick, delivery, IsDue, Precedes}
+use Rattle.crsm_law_timing.specs.SoFar.{IsNext}
 use Rattle.crsm_law_timing.proofs.Local.{Part, Plays, HasLogged, IsFirst, the_stamp, the_entry, issued_in}
 use Rattle.crsm_law_timing.proofs.Paying.{frames}
 use Rattle.crsm_law_timing.proofs.MoreTurns.{turn_request, turn_tick}
-use Rattle.crsm_law_timing.proofs.Order.{asymmetric, not_itself, no_later, comes_before, earlier}
-use Rattle.crsm_law_timing.proofs.Worlds.{at, done, sent_split, IsStep, request_is, tick_is}
+use Rattle.crsm_law_timing.proofs.Order.{asymmetric, no_later}
+use Rattle.crsm_law_timing.proofs.Worlds.{at, done, IsStep, request_is, tick_is}
 use Rattle.crsm_law_timing.proofs.Letters.{letter, IsLetter, Elsewhere, tick_of, facts_more, Reason, no_delay, command_moment}
 use Rattle.crsm_law_timing.proofs.Weights.{weight_issued, frames_out, command_short, ok_short, entry_kept}
 use Rattle.crsm_law_timing.proofs.Standing.{execs_in, Actor, IsThere, Stands, Acts, Shows, stands_now}
@@ -46,11 +47,11 @@ not_first (Part.Done t) l h f = f
 
 -- ---- the place of the event
 
--- the events so far, the event, and those to come
-pub record Here (plan : Plan) (es before : List Timed) (e : Timed) (after : List Timed) (w : World) : Type 0 where
+-- the events so far, and the next one
+pub record Here (plan : Plan) (before : List Timed) (e : Timed) (w : World) : Type 0 where
   pub fit : FitsPlan plan
-  pub line : IsTimeline plan es
-  pub is : es ≡ before ++ e ∷ after
+  pub next : IsNext plan before e
+  pub behind : (f : Timed) → Among before f → Precedes f e
   pub w_is : w ≡ at plan before
   pub stands : Stands plan before w
 
@@ -60,29 +61,19 @@ pub record Goes (plan : Plan) (before : List Timed) (e : Timed) (w : World) : Ty
   pub may : possible w (Act.One e.does) ≡ None
   pub stands : Stands plan (before ++ e ∷ []) (done w e).after
 
-module _ (plan : Plan) (es before : List Timed) (e : Timed) (after : List Timed) (w : World) (here : Here plan es before e after w) where
-  pub ordered : InOrder (before ++ e ∷ after)
-  ordered = subst InOrder here.is here.line.ordered
-
+module _ (plan : Plan) (before : List Timed) (e : Timed) (w : World) (here : Here plan before e w) where
   pub until : (f : Timed) → Among before f → f.moment ≤ e.moment
-  until f m = no_later f e (comes_before e after before ordered f m)
+  until f m = no_later f e (here.behind f m)
 
   pub not_yet : Among before e → ⊥
-  not_yet m = not_itself e (comes_before e after before ordered e m)
+  not_yet = here.next.not_yet
 
   pub not_after : (f : Timed) → Precedes e f → Among before f → ⊥
-  not_after f p m = asymmetric e f p (comes_before e after before ordered f m)
-
-  pub due_in : (f : Timed) → IsDue plan before f → IsDue plan es f
-  due_in f IsDue.Comes = IsDue.Comes
-  due_in f (IsDue.Ticks k moment lt ne reads late) = IsDue.Ticks k moment lt ne reads late
-  due_in f (IsDue.Arrives i s g) =
-      let t = sent_split plan before (e ∷ after) in
-      IsDue.Arrives i s (ap (λ l. slice_get (sent plan l) i) here.is ∙ ap (λ l. slice_get l i) t.1 ∙ get_left (sent plan before) t.0 i s g)
+  not_after f p m = asymmetric e f p (here.behind f m)
 
   -- what had to happen before it has happened
   pub has_been : (f : Timed) → IsDue plan before f → Precedes f e → Among before f
-  has_been f d p = earlier e after before ordered f (subst (λ l. Among l f) here.is (here.line.complete f (due_in f d))) p
+  has_been f d p = here.next.earliest f d p
 
   pub small : w.bytes ≤ 200000
   small = let h = here.stands.weight in omega (arith, h)
@@ -162,16 +153,16 @@ request_may : (plan : Plan) (w : World) (r : Replica) → w.bytes ≤ 200000 →
 unfolding request
 request_may plan w r le e = request_possible w plan.origin (stamped plan) the_command r le e
 
-pub comes : (plan : Plan) (es before after : List Timed) (w : World) → Here plan es before (request plan) after w → Goes plan before (request plan) w
-comes plan es before after w here =
+pub comes : (plan : Plan) (before : List Timed) (w : World) → Here plan before (request plan) w → Goes plan before (request plan) w
+comes plan before w here =
     let fit = here.fit in
     let a = here.stands.actors plan.origin fit.origin in
-    let bare = is_bare a.part (λ l. not_yet plan es before (request plan) after w here ((a.facts.origin refl).begun l)) in
+    let bare = is_bare a.part (λ l. not_yet plan before (request plan) w here ((a.facts.origin refl).begun l)) in
     let shows = shows_it a bare in
     record {
       fits = request_fits plan fit;
-      may = request_may plan w a.replica (small plan es before (request plan) after w here) a.up;
-      stands = stands_now plan fit before (request plan) w w here.w_is here.stands (until plan es before (request plan) after w here) plan.origin fit.origin a _ _ _ _ _ shows;
+      may = request_may plan w a.replica (small plan before (request plan) w here) a.up;
+      stands = stands_now plan fit before (request plan) w w here.w_is here.stands (until plan before (request plan) w here) plan.origin fit.origin a _ _ _ _ _ shows;
     }
   where
     shows_it : (a : Actor plan before w plan.origin) → a.part ≡ Part.Bare →
@@ -279,8 +270,8 @@ tick_may plan w k moment r le e = tick_possible w k (reading plan k moment) r le
 pub sooner : (e f : Timed) → e.moment < f.moment → Precedes e f
 sooner e f lt = inl lt
 
-module _ (plan : Plan) (es before after : List Timed) (w : World) (k moment : ℕ) (lt : k < plan.n) (ne : k ≢ plan.origin)
-    (reads : reading plan k moment ≡ stamped plan + 1) (late : arrival plan k < moment) (here : Here plan es before (tick plan k moment) after w) where
+module _ (plan : Plan) (before : List Timed) (w : World) (k moment : ℕ) (lt : k < plan.n) (ne : k ≢ plan.origin)
+    (reads : reading plan k moment ≡ stamped plan + 1) (late : arrival plan k < moment) (here : Here plan before (tick plan k moment) w) where
   a : Actor plan before w k
   a = here.stands.actors k lt
 
@@ -291,7 +282,7 @@ module _ (plan : Plan) (es before after : List Timed) (w : World) (k moment : �
   place = a.facts.other ne
 
   come_already : Among before (request plan)
-  come_already = has_been plan es before (tick plan k moment) after w here (request plan) IsDue.Comes
+  come_already = has_been plan before (tick plan k moment) w here (request plan) IsDue.Comes
       (sooner (request plan) (tick plan k moment) (let m = request_moment plan in let n = tick_moment plan k moment in let p = at_arrival plan k in omega (arith, m, n, p, late)))
 
   has_logged : HasLogged a.part
@@ -305,7 +296,7 @@ module _ (plan : Plan) (es before after : List Timed) (w : World) (k moment : �
       let m = command_moment plan k s (here.stands.letters i s g) f in
       let d : delay_of plan s.packet.from s.packet.to ≡ delay_of plan plan.origin k = ap (λ j. delay_of plan j s.packet.to) f.from ∙ ap (delay_of plan plan.origin) f.to in
       let came : (delivery plan i s).moment ≡ arrival plan k = delivery_moment plan i s ∙ arrives_then m d in
-      let b = has_been plan es before (tick plan k moment) after w here (delivery plan i s) (IsDue.Arrives i s g)
+      let b = has_been plan before (tick plan k moment) w here (delivery plan i s) (IsDue.Arrives i s g)
       (sooner (delivery plan i s) (tick plan k moment) (let n = tick_moment plan k moment in omega (arith, came, n, late))) in
       place.had (subst (λ j. Among a.replica.taken j) f.from (a.facts.took i s g f.to f.frame b))
     where
@@ -313,7 +304,7 @@ module _ (plan : Plan) (es before after : List Timed) (w : World) (k moment : �
       arrives_then {x} {y} p q = the_arrival plan k x y p q
 
   owing : a.part ≡ Part.Owing
-  owing = is_owing a.part has_logged (λ nf. not_yet plan es before (tick plan k moment) after w here
+  owing = is_owing a.part has_logged (λ nf. not_yet plan before (tick plan k moment) w here
       (subst (λ f. Among before f) (sym (its_tick plan k moment reads)) (place.paid nf (late_before plan k moment reads late))))
 
   passes : stamped plan < reading plan k moment
@@ -353,6 +344,6 @@ module _ (plan : Plan) (es before after : List Timed) (w : World) (k moment : �
   pub ticks : Goes plan before (tick plan k moment) w
   ticks = record {
     fits = tick_fits plan k moment here.fit lt reads;
-    may = tick_may plan w k moment a.replica (small plan es before (tick plan k moment) after w here) a.up;
-    stands = stands_now plan here.fit before (tick plan k moment) w w here.w_is here.stands (until plan es before (tick plan k moment) after w here) k lt a _ _ _ _ _ shown;
+    may = tick_may plan w k moment a.replica (small plan before (tick plan k moment) w here) a.up;
+    stands = stands_now plan here.fit before (tick plan k moment) w w here.w_is here.stands (until plan before (tick plan k moment) w here) k lt a _ _ _ _ _ shown;
   }

@@ -27,9 +27,9 @@ ok_late : (plan : Plan) (k : ℕ) → stamped plan < reading plan k (arrival pla
 unfolding reading ok_at
 ok_late plan k lt = omega (arith, lt)
 
-module _ (plan : Plan) (es before after : List Timed) (w : World) (i k : ℕ) (k_lt : k < plan.n) (apart : k ≢ plan.origin) (t_le : plan.at ≤ latest)
+module _ (plan : Plan) (before : List Timed) (w : World) (i k : ℕ) (k_lt : k < plan.n) (apart : k ≢ plan.origin) (t_le : plan.at ≤ latest)
     (g : slice_get (sent plan before) i ≡ Some (letter plan.at plan.origin k (Datagram.Frame plan.origin k 0 0 (InEpoch.Prepare (the_entry plan)))))
-    (here : Here plan es before (delivery plan i (letter plan.at plan.origin k (Datagram.Frame plan.origin k 0 0 (InEpoch.Prepare (the_entry plan))))) after w) where
+    (here : Here plan before (delivery plan i (letter plan.at plan.origin k (Datagram.Frame plan.origin k 0 0 (InEpoch.Prepare (the_entry plan))))) w) where
   abbrev d : Datagram
   d = Datagram.Frame plan.origin k 0 0 (InEpoch.Prepare (the_entry plan))
 
@@ -43,7 +43,7 @@ module _ (plan : Plan) (es before after : List Timed) (w : World) (i k : ℕ) (k
   turned_away q = apart (sym q)
 
   abbrev who : Actor plan before w k
-  who = actor plan es before after w i plan.at plan.origin k d here.fit.origin k_lt turned_away t_le g here
+  who = actor plan before w i plan.at plan.origin k d here.fit.origin k_lt turned_away t_le g here
 
   abbrev t : ℕ
   t = reading plan k (plan.at + delay_of plan plan.origin k)
@@ -64,7 +64,7 @@ module _ (plan : Plan) (es before after : List Timed) (w : World) (i k : ℕ) (k
   t_is = ap (reading plan k) (the_arrival plan k plan.at (delay_of plan plan.origin k) refl refl)
 
   new_here : Among who.replica.taken plan.origin → ⊥
-  new_here = not_taken plan es before after w i plan.at plan.origin k d here.fit.origin k_lt turned_away t_le g here tt
+  new_here = not_taken plan before w i plan.at plan.origin k d here.fit.origin k_lt turned_away t_le g here tt
 
   place : Elsewhere plan before k who.part who.replica.taken
   place = who.facts.other apart
@@ -82,10 +82,10 @@ module _ (plan : Plan) (es before after : List Timed) (w : World) (i k : ℕ) (k
   -- the tick is still to come
   tick_later : reading plan k (arrival plan k) ≤ stamped plan → Among (before ++ e ∷ []) (tick_of plan k) → ⊥
   tick_later late = not_then before e (tick_of plan k)
-      (λ m. not_after plan es before e after w here (tick_of plan k) (inl (let a = later plan k late in let b = tick_moment_of plan k in let c = moment_is in omega (arith, a, b, c))) m) (no_tick plan i k s)
+      (λ m. not_after plan before e w here (tick_of plan k) (inl (let a = later plan k late in let b = tick_moment_of plan k in let c = moment_is in omega (arith, a, b, c))) m) (no_tick plan i k s)
 
   number : (j u : ℕ) → e.does ≡ Single.Go j u → j < length (sent plan before)
-  number = (acts plan es before after w i plan.at plan.origin k d here.fit.origin k_lt turned_away t_le g here).number
+  number = (acts plan before w i plan.at plan.origin k d here.fit.origin k_lt turned_away t_le g here).number
 
   from_it : (j : ℕ) (z : Sent) → slice_get (sent plan before) j ≡ Some z → z.packet.to ≡ k → IsFrame z.packet.datagram → e ≡ delivery plan j z → Among now z.packet.from
   from_it j z h to f q = inl (sym (ap (λ (c : Sent). c.packet.from) (same_sent (sent plan before) i j s z g h (same_number plan i j s z q))))
@@ -97,10 +97,10 @@ module _ (plan : Plan) (es before after : List Timed) (w : World) (i k : ℕ) (k
 
   early_shown : (le : t ≤ stamped plan) → Shows plan before e w v k who x Part.Owing now (Rec.Prepare (the_entry plan) ∷ []) ((plan.origin, Datagram.Ack k plan.origin 0 (early_turn le).0) ∷ [])
   early_shown le = record {
-    acts = acts plan es before after w i plan.at plan.origin k d here.fit.origin k_lt turned_away t_le g here;
-    step = step_is plan es before after w i plan.at plan.origin k d here.fit.origin k_lt turned_away t_le g here who.replica who.up;
+    acts = acts plan before w i plan.at plan.origin k d here.fit.origin k_lt turned_away t_le g here;
+    step = step_is plan before w i plan.at plan.origin k d here.fit.origin k_lt turned_away t_le g here who.replica who.up;
     turned = (early_turn le).1;
-    there = there_then plan es before after w i plan.at plan.origin k d here.fit.origin k_lt turned_away t_le g here;
+    there = there_then plan before w i plan.at plan.origin k d here.fit.origin k_lt turned_away t_le g here;
     facts = λ is. facts_more plan before e _ is k who.part Part.Owing who.replica.taken now who.facts here.stands.numbered number (λ j a. inr a) came_or_comes from_it
         (λ f. (subst IsFirst (sym bare) tt, λ z n q r. no_frame e.moment k plan.origin (early_turn le).0 z (one_ack e.moment k (early_turn le).0 plan.origin z n) r)) (λ nf. absurd (nf tt))
         (λ q. absurd (apart q)) (λ q. record {
@@ -116,7 +116,7 @@ module _ (plan : Plan) (es before after : List Timed) (w : World) (i k : ℕ) (k
     same = ap (execs_in plan k) bare;
     why = λ u q c. absurd (cc);
     credit = 400;
-    gained = gained plan es before after w i plan.at plan.origin k d here.fit.origin k_lt turned_away t_le g here;
+    gained = gained plan before w i plan.at plan.origin k d here.fit.origin k_lt turned_away t_le g here;
     spent = (let z = entry_kept plan in let n = nothing_out k in let o = ack_out k plan.origin (early_turn le).0 [] in let b = ap (λ p. weight_issued (issued_in p)) bare in omega (arith, z, n, o, b));
   }
 
@@ -146,10 +146,10 @@ module _ (plan : Plan) (es before after : List Timed) (w : World) (i k : ℕ) (k
 
   late_shown : (lt : stamped plan < t) → Shows plan before e w v k who x (Part.Passed t) now (Rec.Prepare (the_entry plan) ∷ []) (late_out (late_turn lt).0)
   late_shown lt = record {
-    acts = acts plan es before after w i plan.at plan.origin k d here.fit.origin k_lt turned_away t_le g here;
-    step = step_is plan es before after w i plan.at plan.origin k d here.fit.origin k_lt turned_away t_le g here who.replica who.up;
+    acts = acts plan before w i plan.at plan.origin k d here.fit.origin k_lt turned_away t_le g here;
+    step = step_is plan before w i plan.at plan.origin k d here.fit.origin k_lt turned_away t_le g here who.replica who.up;
     turned = (late_turn lt).1;
-    there = there_then plan es before after w i plan.at plan.origin k d here.fit.origin k_lt turned_away t_le g here;
+    there = there_then plan before w i plan.at plan.origin k d here.fit.origin k_lt turned_away t_le g here;
     facts = λ is. facts_more plan before e _ is k who.part (Part.Passed t) who.replica.taken now who.facts here.stands.numbered number (λ j a. inr a) came_or_comes from_it
         (λ f. absurd f) (λ nf. inr (is_made (late_turn lt).0))
         (λ q. absurd (apart q)) (λ q. record {
@@ -165,7 +165,7 @@ module _ (plan : Plan) (es before after : List Timed) (w : World) (i k : ℕ) (k
     same = ap (execs_in plan k) bare;
     why = λ u q c. Reason.ByOk k k_lt apart (let p = ok_now lt in let z = no_delay plan k in omega (arith, p, z));
     credit = 400;
-    gained = gained plan es before after w i plan.at plan.origin k d here.fit.origin k_lt turned_away t_le g here;
+    gained = gained plan before w i plan.at plan.origin k d here.fit.origin k_lt turned_away t_le g here;
     spent = (let z = entry_kept plan in
         let o = ack_out k plan.origin (late_turn lt).0 (frames plan k ok) in
         let f = frames_out plan k ok here.fit.most (λ j. ok_short plan k j t) in
@@ -175,9 +175,9 @@ module _ (plan : Plan) (es before after : List Timed) (w : World) (i k : ℕ) (k
 
   goes_by : (q : Part) (kept : List Rec) (out : List (ℕ × Datagram)) → Shows plan before e w v k who x q now kept out → Goes plan before e w
   goes_by q kept out shown = record {
-    fits = fits plan es before after w i plan.at plan.origin k d here.fit.origin k_lt turned_away t_le g here;
-    may = may plan es before after w i plan.at plan.origin k d here.fit.origin k_lt turned_away t_le g here;
-    stands = stands_now plan here.fit before e w v here.w_is here.stands (until plan es before e after w here) k k_lt who x q now kept out shown;
+    fits = fits plan before w i plan.at plan.origin k d here.fit.origin k_lt turned_away t_le g here;
+    may = may plan before w i plan.at plan.origin k d here.fit.origin k_lt turned_away t_le g here;
+    stands = stands_now plan here.fit before e w v here.w_is here.stands (until plan before e w here) k k_lt who x q now kept out shown;
   }
 
   pub command_arrives : Goes plan before e w

@@ -99,8 +99,8 @@ beyond : (plan : Plan) (k moment : ℕ) → reading plan k (arrival plan k) ≤ 
 unfolding reading
 beyond plan k moment late lt = omega (arith, late, lt)
 
-module _ (plan : Plan) (es before after : List Timed) (w : World) (i t m k : ℕ) (d : Datagram) (m_lt : m < plan.n) (k_lt : k < plan.n) (apart : m ≢ k) (t_le : t ≤ latest)
-    (g : slice_get (sent plan before) i ≡ Some (letter t m k d)) (here : Here plan es before (delivery plan i (letter t m k d)) after w) where
+module _ (plan : Plan) (before : List Timed) (w : World) (i t m k : ℕ) (d : Datagram) (m_lt : m < plan.n) (k_lt : k < plan.n) (apart : m ≢ k) (t_le : t ≤ latest)
+    (g : slice_get (sent plan before) i ≡ Some (letter t m k d)) (here : Here plan before (delivery plan i (letter t m k d)) w) where
   abbrev s : Sent
   s = letter t m k d
 
@@ -120,7 +120,7 @@ module _ (plan : Plan) (es before after : List Timed) (w : World) (i t m k : ℕ
   slot = go (here.stands.there i s g)
     where
       go : IsThere plan before w.packets i s → slice_get w.packets i ≡ Some packet
-      go (true, at, used) = absurd (not_yet plan es before e after w here (used refl))
+      go (true, at, used) = absurd (not_yet plan before e w here (used refl))
       go (false, at, used) = at
 
   abbrev v : World
@@ -160,7 +160,7 @@ module _ (plan : Plan) (es before after : List Timed) (w : World) (i t m k : ℕ
     where
       go : k ≢ plan.origin → reading plan k (arrival plan k) ≤ stamped plan → (Among before (tick_of plan k) → ⊥) → reading plan k moment ≤ stamped plan
       go ne late none = elim (cases_lt (stamped plan) (reading plan k moment)) [
-        | inl lt ↦ absurd (none (has_been plan es before e after w here (tick_of plan k) (tick_due plan before k k_lt ne late)
+        | inl lt ↦ absurd (none (has_been plan before e w here (tick_of plan k) (tick_due plan before k k_lt ne late)
             (tick_first plan k i s (let a = beyond plan k moment late lt in let b = tick_moment_of plan k in let c = delivery_moment plan i s in omega (arith, a, b, c)))))
         | inr le ↦ le
       ]
@@ -173,7 +173,7 @@ module _ (plan : Plan) (es before after : List Timed) (w : World) (i t m k : ℕ
       let s' = c.1 in
       let q : i' ≡ i = here.stands.alone i' i m k s' s c.2 g c.3 (record { frame = frame; from = refl; to = refl }) in
       let z : s' ≡ s = same_sent (sent plan before) i i' s s' g c.2 q in
-      not_yet plan es before e after w here (subst (λ n. Among before (delivery plan n s)) q (subst (λ c. Among before (delivery plan i' c)) z c.4))
+      not_yet plan before e w here (subst (λ n. Among before (delivery plan n s)) q (subst (λ c. Among before (delivery plan i' c)) z c.4))
 
   moment_le : moment ≤ 2002000000001
   moment_le = let h = here.fit.delays m k in omega (arith, h, t_le)
@@ -182,11 +182,11 @@ module _ (plan : Plan) (es before after : List Timed) (w : World) (i t m k : ℕ
   number_le =
       let h = get_inside w.packets i packet slot in
       let f = here.stands.few in
-      let b = small plan es before e after w here in
+      let b = small plan before e w here in
       small_power i (omega (arith, h, f, b))
 
   pub fits : FitsAct (Act.One e.does)
   fits = subst (λ (f : Timed). FitsAct (Act.One f.does)) (sym (delivery_is plan i t m k d)) (number_le, reading_small plan k moment here.fit (let h = moment_le in omega (arith, h)))
 
   pub may : possible w (Act.One e.does) ≡ None
-  may = subst (λ (f : Timed). possible w (Act.One f.does) ≡ None) (sym (delivery_is plan i t m k d)) (go_possible w i (reading plan k moment) packet actor.replica (small plan es before e after w here) slot refl actor.up)
+  may = subst (λ (f : Timed). possible w (Act.One f.does) ≡ None) (sym (delivery_is plan i t m k d)) (go_possible w i (reading plan k moment) packet actor.replica (small plan before e w here) slot refl actor.up)

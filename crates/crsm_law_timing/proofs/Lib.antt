@@ -18,6 +18,9 @@ pub mod Acks
 pub mod Oks
 pub mod Commands
 pub mod Beginning
+pub mod Behind
+pub mod Goes
+pub mod SoFar
 pub mod Timing
 pub mod Opened
 pub mod Happening

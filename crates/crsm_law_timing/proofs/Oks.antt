@@ -20,9 +20,9 @@ use Rattle.crsm_law_epoch.proofs.Words.{get_among}
 use Rattle.crsm_law_timing.proofs.Deliveries.{same_number, same_sent, actor, step_is, acts, there_then, gained, early, not_taken, fits, may}
 use Rattle.crsm_law_timing.proofs.Staying.{origin_stays, elsewhere_stays}
 
-module _ (plan : Plan) (es before after : List Timed) (w : World) (i m k u : ℕ) (m_lt : m < plan.n) (k_lt : k < plan.n) (not_origin : m ≢ plan.origin) (apart : m ≢ k) (u_le : stamped plan ≤ u) (t_le : ok_at plan m ≤ latest)
+module _ (plan : Plan) (before : List Timed) (w : World) (i m k u : ℕ) (m_lt : m < plan.n) (k_lt : k < plan.n) (not_origin : m ≢ plan.origin) (apart : m ≢ k) (u_le : stamped plan ≤ u) (t_le : ok_at plan m ≤ latest)
     (g : slice_get (sent plan before) i ≡ Some (letter (ok_at plan m) m k (Datagram.Frame m k 0 0 (InEpoch.PrepareOk (the_stamp plan) u))))
-    (here : Here plan es before (delivery plan i (letter (ok_at plan m) m k (Datagram.Frame m k 0 0 (InEpoch.PrepareOk (the_stamp plan) u)))) after w) where
+    (here : Here plan before (delivery plan i (letter (ok_at plan m) m k (Datagram.Frame m k 0 0 (InEpoch.PrepareOk (the_stamp plan) u)))) w) where
   abbrev d : Datagram
   d = Datagram.Frame m k 0 0 (InEpoch.PrepareOk (the_stamp plan) u)
 
@@ -33,14 +33,14 @@ module _ (plan : Plan) (es before after : List Timed) (w : World) (i m k u : ℕ
   e = delivery plan i s
 
   abbrev who : Actor plan before w k
-  who = actor plan es before after w i (ok_at plan m) m k d m_lt k_lt apart t_le g here
+  who = actor plan before w i (ok_at plan m) m k d m_lt k_lt apart t_le g here
 
   abbrev x : Draft
   x = step who.replica (Input.Came m d) (reading plan k (ok_at plan m + delay_of plan m k))
 
   turned : (a : ℕ) × Turned plan k who.part (m ∷ who.replica.taken) [] ((m, Datagram.Ack k m 0 a) ∷ []) x
   turned = turn_ok plan k m (reading plan k (ok_at plan m + delay_of plan m k)) u who.part who.replica here.fit who.plays m_lt apart
-      (not_taken plan es before after w i (ok_at plan m) m k d m_lt k_lt apart t_le g here tt) u_le (early plan es before after w i (ok_at plan m) m k d m_lt k_lt apart t_le g here)
+      (not_taken plan before w i (ok_at plan m) m k d m_lt k_lt apart t_le g here tt) u_le (early plan before w i (ok_at plan m) m k d m_lt k_lt apart t_le g here)
 
   moment_is : e.moment ≡ ok_at plan m + delay_of plan m k
   moment_is = delivery_moment plan i s
@@ -55,12 +55,12 @@ module _ (plan : Plan) (es before after : List Timed) (w : World) (i m k u : ℕ
 
   ok_shown : Shows plan before e w (record w { packets = slice_set w.packets i (record s.packet { used = true }) }) k who x who.part (m ∷ who.replica.taken) [] ((m, Datagram.Ack k m 0 turned.0) ∷ [])
   ok_shown = record {
-    acts = acts plan es before after w i (ok_at plan m) m k d m_lt k_lt apart t_le g here;
-    step = step_is plan es before after w i (ok_at plan m) m k d m_lt k_lt apart t_le g here who.replica who.up;
+    acts = acts plan before w i (ok_at plan m) m k d m_lt k_lt apart t_le g here;
+    step = step_is plan before w i (ok_at plan m) m k d m_lt k_lt apart t_le g here who.replica who.up;
     turned = turned.1;
-    there = there_then plan es before after w i (ok_at plan m) m k d m_lt k_lt apart t_le g here;
+    there = there_then plan before w i (ok_at plan m) m k d m_lt k_lt apart t_le g here;
     facts = λ is. facts_more plan before e _ is k who.part who.part who.replica.taken (m ∷ who.replica.taken) who.facts here.stands.numbered
-        (acts plan es before after w i (ok_at plan m) m k d m_lt k_lt apart t_le g here).number (λ j a. inr a) came_or_comes
+        (acts plan before w i (ok_at plan m) m k d m_lt k_lt apart t_le g here).number (λ j a. inr a) came_or_comes
         (λ j z h to f q. inl (sym (ap (λ (c : Sent). c.packet.from) (same_sent (sent plan before) i j s z g h (same_number plan i j s z q)))))
         (λ f. (f, λ z n q r. no_frame e.moment k m turned.0 z (one_ack e.moment k turned.0 m z n) r)) (λ nf. inl nf)
         (λ q. origin_stays plan before i s who.part (who.facts.origin q)) (λ q. elsewhere_stays plan before i s k who.part _ _ (λ j a. inr a) from_before (who.facts.other q));
@@ -70,13 +70,13 @@ module _ (plan : Plan) (es before after : List Timed) (w : World) (i m k u : ℕ
     same = refl;
     why = λ v q c. Reason.ByOk m m_lt not_origin moment_is;
     credit = 400;
-    gained = gained plan es before after w i (ok_at plan m) m k d m_lt k_lt apart t_le g here;
+    gained = gained plan before w i (ok_at plan m) m k d m_lt k_lt apart t_le g here;
     spent = (let z = none_kept in let n = nothing_out k in let o = ack_out k m turned.0 [] in omega (arith, z, n, o));
   }
 
   pub ok_arrives : Goes plan before e w
   ok_arrives = record {
-    fits = fits plan es before after w i (ok_at plan m) m k d m_lt k_lt apart t_le g here;
-    may = may plan es before after w i (ok_at plan m) m k d m_lt k_lt apart t_le g here;
-    stands = stands_now plan here.fit before e w _ here.w_is here.stands (until plan es before e after w here) k k_lt who _ _ _ _ _ ok_shown;
+    fits = fits plan before w i (ok_at plan m) m k d m_lt k_lt apart t_le g here;
+    may = may plan before w i (ok_at plan m) m k d m_lt k_lt apart t_le g here;
+    stands = stands_now plan here.fit before e w _ here.w_is here.stands (until plan before e w here) k k_lt who _ _ _ _ _ ok_shown;
   }

@@ -1,8 +1,9 @@
 -- The order of a timeline.
-use Rattle.std.proofs.Common.{◌≤◌, List, [], ◌∷◌, ◌++◌, refl, sym, subst, inl, inr, arith}
+use Rattle.std.proofs.Common.{ℕ, ◌≤◌, List, [], ◌∷◌, ◌++◌, refl, sym, ◌∙◌, subst, inl, inr, arith}
+use Rattle.crsm_spec.specs.Types.{Command}
 use Rattle.crsm_spec.specs.Lists.{Among}
 use Rattle.crsm_spec.specs.Acts.{Single}
-use Rattle.crsm_log_facts.proofs.Lists.{all_at, among_either}
+use Rattle.crsm_log_facts.proofs.Lists.{all_at, all-push, among_either}
 use Rattle.crsm_timing.specs.Timelines.{Timed, IsBefore, Precedes, InOrder}
 
 before_not : (a b : Single) → IsBefore a b → IsBefore b a → ⊥
@@ -66,3 +67,69 @@ module _ (e : Timed) (after : List Timed) where
       go : Among (e ∷ after) f → ⊥
       go (inl q) = not_itself e (subst (λ h. Precedes h e) (sym q) p)
       go (inr b) = asymmetric e f (after_it before o f b) p
+
+-- ---- one after another
+
+-- the kinds of events of a timeline
+data Kind : Single → Type 0 where
+  IsRequest : (k t : ℕ) (c : Command) → Kind (Single.Request k t c)
+  IsTick : (k t : ℕ) → Kind (Single.Tick k t)
+  IsGo : (i t : ℕ) → Kind (Single.Go i t)
+
+kinds_of : (a b : Single) → IsBefore a b → Kind a × Kind b
+kinds_of (Single.Request k t c) (Single.Request k' t' c') p = absurd p
+kinds_of (Single.Request k t c) (Single.Tick k' t') p = (Kind.IsRequest k t c, Kind.IsTick k' t')
+kinds_of (Single.Request k t c) (Single.Go i' t') p = (Kind.IsRequest k t c, Kind.IsGo i' t')
+kinds_of (Single.Request k t c) (Single.Again i' t') p = absurd p
+kinds_of (Single.Request k t c) (Single.Suspect k' t' ms') p = absurd p
+kinds_of (Single.Request k t c) (Single.Junk k' t' bs') p = absurd p
+kinds_of (Single.Tick k t) (Single.Request k' t' c') p = absurd p
+kinds_of (Single.Tick k t) (Single.Tick k' t') p = (Kind.IsTick k t, Kind.IsTick k' t')
+kinds_of (Single.Tick k t) (Single.Go i' t') p = (Kind.IsTick k t, Kind.IsGo i' t')
+kinds_of (Single.Tick k t) (Single.Again i' t') p = absurd p
+kinds_of (Single.Tick k t) (Single.Suspect k' t' ms') p = absurd p
+kinds_of (Single.Tick k t) (Single.Junk k' t' bs') p = absurd p
+kinds_of (Single.Go i t) (Single.Request k' t' c') p = absurd p
+kinds_of (Single.Go i t) (Single.Tick k' t') p = absurd p
+kinds_of (Single.Go i t) (Single.Go i' t') p = (Kind.IsGo i t, Kind.IsGo i' t')
+kinds_of (Single.Go i t) (Single.Again i' t') p = absurd p
+kinds_of (Single.Go i t) (Single.Suspect k' t' ms') p = absurd p
+kinds_of (Single.Go i t) (Single.Junk k' t' bs') p = absurd p
+kinds_of (Single.Again i t) b p = absurd p
+kinds_of (Single.Suspect k t ms) b p = absurd p
+kinds_of (Single.Junk k t bs) b p = absurd p
+
+before_then : {a b c : Single} → Kind a → Kind b → Kind c → IsBefore a b → IsBefore b c → IsBefore a c
+before_then (Kind.IsRequest k t c) (Kind.IsRequest k' t' c') z p r = absurd p
+before_then (Kind.IsRequest k t c) (Kind.IsTick k' t') (Kind.IsRequest k'' t'' c'') p r = absurd r
+before_then (Kind.IsRequest k t c) (Kind.IsTick k' t') (Kind.IsTick k'' t'') p r = tt
+before_then (Kind.IsRequest k t c) (Kind.IsTick k' t') (Kind.IsGo i'' t'') p r = tt
+before_then (Kind.IsRequest k t c) (Kind.IsGo i' t') (Kind.IsRequest k'' t'' c'') p r = absurd r
+before_then (Kind.IsRequest k t c) (Kind.IsGo i' t') (Kind.IsTick k'' t'') p r = absurd r
+before_then (Kind.IsRequest k t c) (Kind.IsGo i' t') (Kind.IsGo i'' t'') p r = tt
+before_then (Kind.IsTick k t) (Kind.IsRequest k' t' c') z p r = absurd p
+before_then (Kind.IsTick k t) (Kind.IsTick k' t') (Kind.IsRequest k'' t'' c'') p r = absurd r
+before_then (Kind.IsTick k t) (Kind.IsTick k' t') (Kind.IsTick k'' t'') p r = omega (arith, p, r)
+before_then (Kind.IsTick k t) (Kind.IsTick k' t') (Kind.IsGo i'' t'') p r = tt
+before_then (Kind.IsTick k t) (Kind.IsGo i' t') (Kind.IsRequest k'' t'' c'') p r = absurd r
+before_then (Kind.IsTick k t) (Kind.IsGo i' t') (Kind.IsTick k'' t'') p r = absurd r
+before_then (Kind.IsTick k t) (Kind.IsGo i' t') (Kind.IsGo i'' t'') p r = tt
+before_then (Kind.IsGo i t) (Kind.IsRequest k' t' c') z p r = absurd p
+before_then (Kind.IsGo i t) (Kind.IsTick k' t') z p r = absurd p
+before_then (Kind.IsGo i t) (Kind.IsGo i' t') (Kind.IsRequest k'' t'' c'') p r = absurd r
+before_then (Kind.IsGo i t) (Kind.IsGo i' t') (Kind.IsTick k'' t'') p r = absurd r
+before_then (Kind.IsGo i t) (Kind.IsGo i' t') (Kind.IsGo i'' t'') p r = omega (arith, p, r)
+
+pub precedes_then : (e f g : Timed) → Precedes e f → Precedes f g → Precedes e g
+precedes_then e f g (inl p) (inl q) = inl (omega (arith, p, q))
+precedes_then e f g (inl p) (inr q) = let s = q.0 in inl (omega (arith, p, s))
+precedes_then e f g (inr p) (inl q) = let s = p.0 in inl (omega (arith, q, s))
+precedes_then e f g (inr p) (inr q) =
+    let a = kinds_of e.does f.does p.1 in
+    let b = kinds_of f.does g.does q.1 in
+    inr (p.0 ∙ q.0, before_then a.0 a.1 b.1 p.1 q.1)
+
+-- a list with one behind all of it
+pub in_order_more : (es : List Timed) (e : Timed) → InOrder es → ((f : Timed) → Among es f → Precedes f e) → InOrder (es ++ e ∷ [])
+in_order_more [] e o h = (tt, tt)
+in_order_more (f ∷ fs) e o h = (all-push (Precedes f) fs e o.0 (h f (inl refl)), in_order_more fs e o.1 (λ g a. h g (inr a)))

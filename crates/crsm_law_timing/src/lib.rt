@@ -3,10 +3,21 @@
 
 ghost use Rattle.crsm_law_timing.specs.Commits.{CommandsCommitInTime, TimelinesArePossible, WaitsForClock};
 ghost use Rattle.crsm_law_timing.specs.Moments.{MomentsAreSo};
+ghost use Rattle.crsm_law_timing.specs.SoFar.{EventsCanHappen, EventsEndWhole};
 
 /// Each timeline of a plan is possible: no event of it is refused.
 pub fn timelines_are_possible()
     ensures { TimelinesArePossible }
+{}
+
+/// What has happened by a plan so far was possible, and the next event is.
+pub fn events_can_happen()
+    ensures { EventsCanHappen }
+{}
+
+/// Events that come one after another, each the next one, end as a timeline, and each timeline comes about so.
+pub fn events_end_whole()
+    ensures { EventsEndWhole }
 {}
 
 /// In each timeline of a plan each replica executes one entry, at the moment that the plan gives: when the last acknowledgement has
