@@ -1,0 +1,4 @@
+mod Puts
+mod Numbers
+mod Agendas
+mod Counting

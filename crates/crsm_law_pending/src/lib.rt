@@ -1,0 +1,28 @@
+//! What is still to happen by a plan: how a list of it is kept while the plan is followed event by event, and that it becomes
+//! empty.
+#![tactic(auto)]
+
+ghost use Rattle.crsm_law_pending.specs.Following.{AgendasBegin, AgendasEnd, AgendasGoOn};
+
+use crsm_law_sends::sends_are_told;
+use crsm_law_timing::events_end_whole;
+
+/// Before anything was sent, the command and the ticks are to happen.
+pub fn agendas_begin()
+    ensures { AgendasBegin }
+{}
+
+/// The first event of an agenda is the next one. The rest is an agenda after it, once the deliveries of what it sends are put in,
+/// and its lines tell of these.
+pub fn agendas_go_on()
+    ensures { AgendasGoOn }
+{
+    sends_are_told();
+}
+
+/// Where nothing is to happen any more, what has happened is a timeline; and this comes after few events.
+pub fn agendas_end()
+    ensures { AgendasEnd }
+{
+    events_end_whole();
+}
