@@ -10,11 +10,12 @@ use Rattle.crsm_schedule.specs.Grammar.{IsSize, first_text}
 use Rattle.crsm_text.proofs.TextLaws.{decimal_split}
 use Rattle.crsm_delay.specs.Grammar.{FitsLine, line_text}
 use Rattle.crsm_delay.specs.Drafts.{empty, with_line}
-use Rattle.crsm_delay.specs.Reading.{Advanced, RefusedAfter, Reads, IsUnfinished, times_of}
+use Rattle.crsm_delay.specs.Reading.{Advanced, RefusedAfter, Reads, IsUnfinished, plans_of}
 use Rattle.crsm_delay.specs.declared.line.PlanLine.{PlanLine}
 use Rattle.crsm_delay.specs.declared.line.PlanLine.TheVariants.{Offset, Delay, Command}
 use Rattle.crsm_delay.specs.declared.draft.Draft.{Draft}
 use Rattle.crsm_delay.specs.declared.handling.PlanCause.{PlanCause}
+use Rattle.crsm_delay.specs.declared.handling.Wanted.{Wanted}
 
 -- ---- one line for each text
 
@@ -116,11 +117,11 @@ not_refused old new line (Advanced.IsNext d l fits can) r = r l fits can refl
 not_unfinished : (d : Draft) (o : Option Draft) → Some d ≡ o → d.is_whole ≡ true → IsUnfinished o → ⊥
 not_unfinished d o e w u = false≢true (sym (subst IsUnfinished (sym e) u) ∙ w)
 
-pub exact : Exact times_of
-exact = record {
+pub exact : (wanted : Wanted) → Exact (plans_of wanted)
+exact wanted = record {
   unreadable = PlanCause.Unreadable;
-  handled = λ handler lines shown so before more line told why e r.
-      (let p = split_reading lines handler.draft so.reads before line more e in
+  handled = λ handler lines shown has before more line told why e r.
+      (let p = split_reading lines handler.draft has.so.reads before line more e in
       not_refused p.0 p.1 line p.3 (subst (λ o. RefusedAfter o line) (one_reading before before r.draft p.0 r.so.reads p.2 refl) r.refused));
   ended = λ lines shown last ends told why no. not_unfinished ends.draft no.draft (one_reading lines lines (Some ends.draft) no.draft ends.so.reads no.so.reads refl) ends.whole no.unfinished;
   one_reason = λ lines shown other line why w r s. r.unreadable ∙ sym s.unreadable;

@@ -1,13 +1,14 @@
 -- What a reader makes of one line more, and of the end.
-use Rattle.std.proofs.Common.{◌≡◌, ℕ, ◌+◌, ◌<◌, ◌≤◌, List, [], ◌∷◌, ◌++◌, refl, sym, ◌∙◌, ap, subst, inl, inr, Bool, true, false, cond, arith}
+use Rattle.std.proofs.Common.{◌≡◌, ℕ, ◌+◌, ◌<◌, ◌≤◌, List, [], ◌∷◌, refl, sym, ◌∙◌, ap, subst, inl, inr, Bool, true, false, cond, arith}
 use Rattle.std.specs.Prelude.{Option, Some, None, Result, Ok, Err, IfOk, IfErr, OnOk, find, nat_le, nat_lt, not, ◌==◌, ◌&&◌, ◌||◌, ◌⊎◌}
 use Rattle.std.specs.Option.{option_map_or}
-use Rattle.std.specs.List.{AllByRecursion}
+use Rattle.std.specs.List.{AllByRecursion, list_all}
 use Rattle.std.proofs.lemmas.Bool.{false≢true, and_parts, or_cases}
 use Rattle.std.proofs.lemmas.Bool.Decides.{nat_tests}
 use Rattle.std.proofs.lemmas.List.{append-nil}
 use Rattle.std.proofs.lemmas.Option.{none-some, same_Some}
 use Rattle.crsm_input.specs.Handling.{Text, Handles, EndsWell, StopsAt}
+use Rattle.crsm_input.specs.declared.Ending.{Ending}
 use Rattle.crsm_input.specs.declared.Stop.{Stop}
 use Rattle.crsm_schedule.specs.Grammar.{IsSize, first_text}
 use Rattle.crsm_log_facts.proofs.Lists.{all-push}
@@ -15,15 +16,16 @@ use Rattle.crsm_timing.specs.declared.Plan.{Plan}
 use Rattle.crsm_timing.specs.declared.Offset.{Offset as Ahead}
 use Rattle.crsm_timing.specs.declared.Delay.{Delay as Takes}
 use Rattle.crsm_timing.specs.Plans.{FitsPlan, most_delay, most_moment, offset_of, delay_of, stamped, reading}
+use Rattle.crsm_delay.specs.Exactly.{EndsExactly}
 use Rattle.crsm_delay.specs.Grammar.{FitsLine, line_text}
 use Rattle.crsm_delay.specs.Drafts.{can_follow, empty, with_line}
-use Rattle.crsm_delay.specs.Times.{times_text}
-use Rattle.crsm_delay.specs.Reading.{Advanced, Advances, RefusedAfter, StopsUnread, Reads, ReadsSo, times_of}
+use Rattle.crsm_delay.specs.Reading.{AddsWritten, Advanced, Advances, HasRead, IsWritten, RefusedAfter, StopsUnread, Reads, ReadsSo, plans_of}
 use Rattle.crsm_delay.specs.declared.line.PlanLine.{PlanLine}
 use Rattle.crsm_delay.specs.declared.line.PlanLine.TheVariants.{Offset, Delay, Command}
 use Rattle.crsm_delay.specs.declared.draft.Draft.{Draft}
 use Rattle.crsm_delay.specs.declared.handling.PlanCause.{PlanCause}
 use Rattle.crsm_delay.specs.declared.handling.PlanReader.{PlanReader}
+use Rattle.crsm_delay.specs.declared.handling.Wanted.{Wanted}
 
 -- ---- one line
 
@@ -55,24 +57,24 @@ no_first old text e r = (refl, subst (λ o. RefusedAfter o text) (sym e) r)
 
 -- ---- the handler
 
-handled : (old : Option Draft) (new : PlanReader) (lines : List Text) (shown text before : Text) → Advances old text new.draft → ReadsSo old lines shown → Handles times_of new lines shown text before before
+handled : (wanted : Wanted) (old : Option Draft) (new : PlanReader) (lines : List Text) (shown text before : Text) → Advances old text new.draft → new.wanted ≡ wanted → ReadsSo old lines shown → Handles (plans_of wanted) new lines shown text before before
 unfolding Advances
-handled old new lines shown text before a so = record { more = []; added = sym (append-nil before); now = record { reads = Reads.more text so.reads a; none = append-nil shown ∙ so.none } }
+handled wanted old new lines shown text before a same so = record { more = []; added = sym (append-nil before); now = record { so = record { reads = Reads.more text so.reads a; none = append-nil shown ∙ so.none }; same = same } }
 
-pub line_ok : {D : Type 0} (result : Result D (Stop PlanCause)) (old : Option Draft) (new : PlanReader) (lines : List Text) (shown text before : Text) →
-    IfOk result (λ d. Advances old text new.draft) → ReadsSo old lines shown → OnOk result (Handles times_of new lines shown text before before)
-line_ok (Ok d) old new lines shown text before a so = handled old new lines shown text before a so
-line_ok (Err e) old new lines shown text before a so = tt
+pub line_ok : {D : Type 0} (result : Result D (Stop PlanCause)) (wanted : Wanted) (old new : PlanReader) (lines : List Text) (shown text before : Text) →
+    IfOk result (λ d. Advances old.draft text new.draft) → new.wanted ≡ old.wanted → HasRead wanted old lines shown → OnOk result (Handles (plans_of wanted) new lines shown text before before)
+line_ok (Ok d) wanted old new lines shown text before a same has = handled wanted old.draft new lines shown text before a (same ∙ has.same) has.so
+line_ok (Err e) wanted old new lines shown text before a same has = tt
 
-stops : (stop : Stop PlanCause) (old : Option Draft) (lines : List Text) (shown text before after : Text) → after ≡ before → StopsUnread stop old text → ReadsSo old lines shown → StopsAt times_of lines shown text before after stop
+stops : (stop : Stop PlanCause) (wanted : Wanted) (old : Option Draft) (lines : List Text) (shown text before after : Text) → after ≡ before → StopsUnread stop old text → ReadsSo old lines shown → StopsAt (plans_of wanted) lines shown text before after stop
 unfolding StopsUnread
-stops (Stop.Refused cause) old lines shown text before after e s so = (record { draft = old; so = so; refused = s.1; unreadable = s.0 }, e)
-stops Stop.NoMemory old lines shown text before after e s so = ([], sym (append-nil after ∙ e))
+stops (Stop.Refused cause) wanted old lines shown text before after e s so = (record { draft = old; so = so; refused = s.1; unreadable = s.0 }, e)
+stops Stop.NoMemory wanted old lines shown text before after e s so = ([], sym (append-nil after ∙ e))
 
-pub line_err : {D : Type 0} (result : Result D (Stop PlanCause)) (old : Option Draft) (lines : List Text) (shown text before after : Text) → after ≡ before →
-    IfErr result (λ stop. StopsUnread stop old text) → ReadsSo old lines shown → IfErr result (λ stop. StopsAt times_of lines shown text before after stop)
-line_err (Ok d) old lines shown text before after e s so = tt
-line_err (Err stop) old lines shown text before after e s so = stops stop old lines shown text before after e s so
+pub line_err : {D : Type 0} (result : Result D (Stop PlanCause)) (wanted : Wanted) (old : PlanReader) (lines : List Text) (shown text before after : Text) → after ≡ before →
+    IfErr result (λ stop. StopsUnread stop old.draft text) → HasRead wanted old lines shown → IfErr result (λ stop. StopsAt (plans_of wanted) lines shown text before after stop)
+line_err (Ok d) wanted old lines shown text before after e s has = tt
+line_err (Err stop) wanted old lines shown text before after e s has = stops stop wanted old.draft lines shown text before after e s has.so
 
 -- ---- what is read fits
 
@@ -117,6 +119,24 @@ delays_small plan a b h = go (a == b) (found_small (λ d. d.from == a && d.to ==
         cond c 0 (option_map_or (λ (x : Takes). x.by) (find (λ d. d.from == a && d.to == b) plan.delays) 0) ≤ most_delay
     go true h = omega arith
     go false h = h
+
+all_small : {A : Type 0} (v : A → ℕ) (m : ℕ) (xs : List A) → list_all (λ x. nat_le (v x) m) xs ≡ true → AllByRecursion (λ x. v x ≤ m) xs
+all_small v m [] h = tt
+all_small v m (x ∷ xs) h = let p = and_parts (nat_le (v x) m) (list_all (λ y. nat_le (v y) m) xs) h in (le_of (v x) m p.0, all_small v m xs p.1)
+
+-- a plan whose numbers are tested
+pub within : (plan : Plan) (ahead : ℕ) → 1 ≤ plan.n → plan.n ≤ 15 → plan.origin < plan.n → plan.at ≤ most_moment → ahead ≡ offset_of plan plan.origin → 1 ≤ plan.at + ahead →
+    list_all (λ (o : Ahead). nat_le o.by most_moment) plan.offsets ≡ true → list_all (λ (x : Takes). nat_le x.by most_delay) plan.delays ≡ true → FitsPlan plan
+unfolding stamped reading
+within plan ahead some most origin at is reads offsets delays = record {
+  some = some;
+  most = most;
+  origin = origin;
+  at = at;
+  offsets = λ k. offsets_small plan k (all_small (λ (o : Ahead). o.by) most_moment plan.offsets offsets);
+  delays = λ a b. delays_small plan a b (all_small (λ (x : Takes). x.by) most_delay plan.delays delays);
+  reads = omega (arith, is, reads);
+}
 
 good_command : (d : Draft) (r at : ℕ) → IsGood d → (nat_lt r d.plan.n && nat_le at most_moment) ≡ true → (nat_lt 0 at || nat_lt 0 (offset_of d.plan r)) ≡ true → IsGood (with_line d (Command r at))
 unfolding stamped reading offset_of
@@ -167,16 +187,20 @@ fits_plan texts d r w =
     let o = g.origin w in
     record { some = g.some; most = g.most; origin = o.0; at = o.1; offsets = λ k. offsets_small d.plan k g.offsets; delays = λ a b. delays_small d.plan a b g.delays; reads = o.2 }
 
-pub ends_well : (r : PlanReader) (d : Draft) (lines : List Text) (shown before after : Text) → r.draft ≡ Some d → d.is_whole ≡ true →
-    (FitsPlan d.plan → after ≡ before ++ times_text d.plan) → ReadsSo r.draft lines shown → EndsWell times_of lines shown before after
-ends_well r d lines shown before after is whole made so =
-    let reads = subst (λ o. Reads lines o) is so.reads in
+pub ends_well : (wanted : Wanted) (r : PlanReader) (d : Draft) (lines : List Text) (shown before after : Text) → r.draft ≡ Some d → d.is_whole ≡ true →
+    (FitsPlan d.plan → AddsWritten r.wanted d.plan before after) → HasRead wanted r lines shown → EndsWell (plans_of wanted) lines shown before after
+ends_well wanted r d lines shown before after is whole made has =
+    let reads = subst (λ o. Reads lines o) is has.so.reads in
     let fits = fits_plan lines d reads whole in
+    let adds = made fits in
     record {
-      last = times_text d.plan;
-      added = made fits;
-      may = record { draft = d; so = record { reads = reads; none = so.none }; whole = whole; fits = fits; last_is = refl };
+      last = adds.more;
+      added = adds.added;
+      may = record { draft = d; so = record { reads = reads; none = has.so.none }; whole = whole; fits = fits; last_is = subst (λ w. IsWritten w d.plan adds.more) has.same adds.written };
     }
 
-pub begins : (r : PlanReader) → r.draft ≡ None → ReadsSo r.draft [] []
-begins r e = subst (λ o. ReadsSo o [] []) (sym e) (record { reads = Reads.nothing; none = refl })
+pub begins : (r : PlanReader) (wanted : Wanted) → r.draft ≡ None → r.wanted ≡ wanted → HasRead wanted r [] []
+begins r wanted e same = record { so = subst (λ o. ReadsSo o [] []) (sym e) (record { reads = Reads.nothing; none = refl }); same = same }
+
+pub exactly_so : (w v : Wanted) (left : Option Text) (in_old in_new out_old out_new : ℕ) (result : Ending PlanCause) → w ≡ v → EndsExactly w left in_old in_new out_old out_new result → EndsExactly v left in_old in_new out_old out_new result
+exactly_so w v left in_old in_new out_old out_new result e h = subst (λ (x : Wanted). EndsExactly x left in_old in_new out_old out_new result) e h

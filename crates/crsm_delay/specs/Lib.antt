@@ -3,3 +3,5 @@ pub mod Times
 pub mod Drafts
 pub mod Reading
 pub mod Exactly
+pub mod Upcoming
+pub mod Following

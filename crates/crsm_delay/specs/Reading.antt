@@ -3,14 +3,17 @@ use Rattle.std.specs.Prelude.{◌≡◌, ◌≢◌, ℕ, true, false, List, [], 
 use Rattle.crsm_input.specs.Handling.{Handling, Text}
 use Rattle.crsm_input.specs.declared.Stop.{Stop}
 use Rattle.crsm_schedule.specs.Grammar.{IsSize, first_text}
+use Rattle.crsm_timing.specs.declared.Plan.{Plan}
 use Rattle.crsm_timing.specs.Plans.{FitsPlan}
 use Rattle.crsm_delay.specs.Grammar.{FitsLine, line_text}
 use Rattle.crsm_delay.specs.Drafts.{can_follow, empty, with_line}
+use Rattle.crsm_delay.specs.Following.{WritesTimeline}
 use Rattle.crsm_delay.specs.Times.{times_text}
 use Rattle.crsm_delay.specs.declared.line.PlanLine.{PlanLine}
 use Rattle.crsm_delay.specs.declared.draft.Draft.{Draft}
 use Rattle.crsm_delay.specs.declared.handling.PlanCause.{PlanCause}
 use Rattle.crsm_delay.specs.declared.handling.PlanReader.{PlanReader}
+use Rattle.crsm_delay.specs.declared.handling.Wanted.{Wanted}
 
 -- ---- one line
 
@@ -56,13 +59,24 @@ pub record RefusedBehind (texts : List Text) (shown : Text) (cause : PlanCause) 
   pub refused : RefusedAfter draft text
   pub unreadable : cause ≡ PlanCause.Unreadable
 
--- the lines are a whole plan, and the text of the end has its moments
-pub record EndsBehind (texts : List Text) (shown last : Text) : Type 0 where
+-- what is written of a plan
+abbrev pub IsWritten : Wanted → Plan → Text → Type 0
+IsWritten Wanted.Times plan last = last ≡ times_text plan
+IsWritten Wanted.Schedule plan last = WritesTimeline plan last
+
+-- it is added to a text
+pub record AddsWritten (wanted : Wanted) (plan : Plan) (old new : Text) : Type 0 where
+  pub more : Text
+  pub added : new ≡ old ++ more
+  pub written : IsWritten wanted plan more
+
+-- the lines are a whole plan, and the text of the end is what is wanted of it
+pub record EndsBehind (wanted : Wanted) (texts : List Text) (shown last : Text) : Type 0 where
   pub draft : Draft
   pub so : ReadsSo (Some draft) texts shown
   pub whole : draft.is_whole ≡ true
   pub fits : FitsPlan draft.plan
-  pub last_is : last ≡ times_text draft.plan
+  pub last_is : IsWritten wanted draft.plan last
 
 -- an input may not end before the command
 pub record NoEnd (texts : List Text) (shown : Text) (cause : PlanCause) : Type 0 where
@@ -71,10 +85,23 @@ pub record NoEnd (texts : List Text) (shown : Text) (cause : PlanCause) : Type 0
   pub unfinished : IsUnfinished draft
   pub unreadable : cause ≡ PlanCause.Unreadable
 
-abbrev pub times_of : Handling PlanReader PlanCause
-times_of = record {
-  after = λ r texts shown. ReadsSo r.draft texts shown;
+-- the reader has read these lines, and this is wanted of the plan
+pub record HasRead (wanted : Wanted) (r : PlanReader) (texts : List Text) (shown : Text) : Type 0 where
+  pub so : ReadsSo r.draft texts shown
+  pub same : r.wanted ≡ wanted
+
+abbrev pub plans_of : Wanted → Handling PlanReader PlanCause
+plans_of wanted = record {
+  after = HasRead wanted;
   refuses = RefusedBehind;
-  ends = EndsBehind;
+  ends = EndsBehind wanted;
   refuses_end = NoEnd;
 }
+
+-- the moments of a plan
+abbrev pub times_of : Handling PlanReader PlanCause
+times_of = plans_of Wanted.Times
+
+-- the schedule of a timeline of it
+abbrev pub schedule_of : Handling PlanReader PlanCause
+schedule_of = plans_of Wanted.Schedule

@@ -5,14 +5,39 @@ ghost use Rattle.crsm_faults.specs.Counts.{Rose};
 ghost use Rattle.crsm_input.specs.Exact.{Exact};
 ghost use Rattle.crsm_input.specs.Run.{Ran};
 ghost use Rattle.crsm_delay.specs.Exactly.{EndsExactly};
-ghost use Rattle.crsm_delay.specs.Reading.{times_of};
+ghost use Rattle.crsm_delay.specs.declared.handling.Wanted.{Wanted as Asked};
+ghost use Rattle.crsm_delay.specs.Reading.{plans_of, schedule_of, times_of};
 ghost use Rattle.crsm_law_timing.specs.Commits.{CommandsCommitInTime, TimelinesArePossible};
 
-use crate::handling::{PlanCause, PlanReader};
+use crate::handling::{PlanCause, PlanReader, Wanted};
 use crsm_input::{Ending, MAX_INPUT_BYTES, run_lines};
 use crsm_io::{Sink, Source};
 use crsm_law_timing::{commands_commit_in_time, timelines_are_possible};
 use std::alloc::Global;
+
+/// Reads a plan to its end, and writes what is wanted of it.
+fn run_plan<I: Source, O: Sink>(
+    alloc: Global,
+    wanted: Wanted,
+    input: &mut I,
+    output: &mut O,
+) -> Ending<PlanCause>
+    // What was taken and what was written, by how it ended.
+    ensures ran { Ran (plans_of wanted) result (I.left input.old) (I.left input.new) (O.written output.old) (O.written output.new) }
+
+    // A fault is answered only where it was counted.
+    ensures read_fault { result ≡ Ending.ReadFault → Rose (I.faults input.old) (I.faults input.new) }
+    ensures write_fault { result ≡ Ending.WriteFault → Rose (O.faults output.old) (O.faults output.new) }
+
+    // Where no fault was counted, a whole plan is done, the first bad line is refused, and more than the limit is too long.
+    ensures exactly { EndsExactly wanted (I.left input.old) (I.faults input.old) (I.faults input.new) (O.faults output.old) (O.faults output.new) result }
+
+    // An input beyond the limit is never done, and one within it is never too long.
+    ensures limit { (bytes : List ℕ) → I.left input.old ≡ Some bytes → MAX_INPUT_BYTES < length bytes → result ≢ Ending.Done }
+    ensures within { (bytes : List ℕ) → I.left input.old ≡ Some bytes → length bytes ≤ MAX_INPUT_BYTES → result ≢ Ending.InputTooLong }
+{
+    run_lines(alloc, PlanReader::new(alloc, wanted), input, output)
+}
 
 /// Reads a plan to its end, and writes the moment at which each replica executes the command.
 pub fn delay_times<I: Source, O: Sink>(
@@ -28,7 +53,7 @@ pub fn delay_times<I: Source, O: Sink>(
     ensures write_fault { result ≡ Ending.WriteFault → Rose (O.faults output.old) (O.faults output.new) }
 
     // Where no fault was counted, a whole plan is done, the first bad line is refused, and more than the limit is too long.
-    ensures exactly { EndsExactly (I.left input.old) (I.faults input.old) (I.faults input.new) (O.faults output.old) (O.faults output.new) result }
+    ensures exactly { EndsExactly Wanted.Times (I.left input.old) (I.faults input.old) (I.faults input.new) (O.faults output.old) (O.faults output.new) result }
 
     // An input beyond the limit is never done, and one within it is never too long.
     ensures limit { (bytes : List ℕ) → I.left input.old ≡ Some bytes → MAX_INPUT_BYTES < length bytes → result ≢ Ending.Done }
@@ -41,10 +66,33 @@ pub fn delay_times<I: Source, O: Sink>(
 {
     timelines_are_possible();
     commands_commit_in_time();
-    run_lines(alloc, PlanReader::new(alloc), input, output)
+    run_plan(alloc, Wanted::Times, input, output)
+}
+
+/// Reads a plan to its end, and writes the schedule of its timeline: all goes by the plan. It can be run.
+pub fn delay<I: Source, O: Sink>(alloc: Global, input: &mut I, output: &mut O) -> Ending<PlanCause>
+    // What was taken and what was written, by how it ended.
+    ensures ran { Ran schedule_of result (I.left input.old) (I.left input.new) (O.written output.old) (O.written output.new) }
+
+    // A fault is answered only where it was counted.
+    ensures read_fault { result ≡ Ending.ReadFault → Rose (I.faults input.old) (I.faults input.new) }
+    ensures write_fault { result ≡ Ending.WriteFault → Rose (O.faults output.old) (O.faults output.new) }
+
+    // Where no fault was counted, a whole plan is done, the first bad line is refused, and more than the limit is too long.
+    ensures exactly { EndsExactly Wanted.Schedule (I.left input.old) (I.faults input.old) (I.faults input.new) (O.faults output.old) (O.faults output.new) result }
+
+    // An input beyond the limit is never done, and one within it is never too long.
+    ensures limit { (bytes : List ℕ) → I.left input.old ≡ Some bytes → MAX_INPUT_BYTES < length bytes → result ≢ Ending.Done }
+    ensures within { (bytes : List ℕ) → I.left input.old ≡ Some bytes → length bytes ≤ MAX_INPUT_BYTES → result ≢ Ending.InputTooLong }
+
+    // In the timeline that is written each replica executes the command once, at the moment that the plan gives.
+    ensures moments { CommandsCommitInTime }
+{
+    commands_commit_in_time();
+    run_plan(alloc, Wanted::Schedule, input, output)
 }
 
 /// What lines alone say decides what is read and what is refused, so that a plan is done and a bad line is refused exactly.
 pub fn plans_are_exact()
-    ensures { Exact times_of }
+    ensures { (wanted : Asked) → Exact (plans_of wanted) }
 {}

@@ -1,15 +1,28 @@
 //! The lines of a plan: each is added to what has been read.
 
-ghost use Rattle.std.specs.Prelude.{◌≡◌, None, Some, IfErr, IfOk, IfSome};
-ghost use Rattle.crsm_delay.specs.Reading.{Advances, RefusedAfter, StopsUnread};
+ghost use Rattle.std.specs.Prelude.{◌≡◌, None, Some, IfErr, IfOk, IfSome, OnOk};
+ghost use Rattle.crsm_delay.specs.Following.{AddsTimeline};
+ghost use Rattle.crsm_delay.specs.Reading.{AddsWritten, Advances, RefusedAfter, StopsUnread};
+ghost use Rattle.crsm_timing.specs.Plans.{FitsPlan};
 
-use crate::draft::Draft;
+use crate::draft::{Draft, is_within};
 use crate::line::read_line;
 use crate::moments::push_times;
-use crsm_base::Bytes;
+use crate::timeline::push_timeline;
+use crsm_base::{Bytes, NoMemory, never};
 use crsm_input::{Handler, Stop};
 use crsm_schedule::read_first;
+use crsm_timing::Plan;
 use std::alloc::Global;
+
+/// What is written of a plan.
+#[derive(Clone, Copy, Debug, PartialEq, Eq)]
+pub enum Wanted {
+    /// The moment at which each replica executes the command.
+    Times,
+    /// The schedule of a timeline.
+    Schedule,
+}
 
 /// What is wrong with a line of a plan.
 #[derive(Clone, Copy, Debug, PartialEq, Eq)]
@@ -44,24 +57,42 @@ fn first_line(alloc: Global, text: &[u8]) -> Option<Draft>
     Some(Draft::new(alloc, u64::from(n)))
 }
 
+/// Adds the schedule of a plan's timeline.
+fn push_schedule(alloc: Global, text: &mut Bytes, plan: &Plan) -> Result<(), NoMemory>
+    ensures { OnOk result (AddsTimeline plan.now text.old text.new) }
+{
+    if !is_within(plan) {
+        // Each plan that was read to its end is within the bounds.
+        return Err(never());
+    }
+    push_timeline(alloc, text, plan)
+}
+
 /// A plan that is read.
 #[derive(Drop)]
 pub(crate) struct PlanReader {
     alloc: Global,
+    wanted: Wanted,
     draft: Option<Draft>,
 }
 
 impl PlanReader {
-    pub(crate) fn new(alloc: Global) -> PlanReader
-        ensures { result.draft ≡ None }
+    pub(crate) fn new(alloc: Global, wanted: Wanted) -> PlanReader
+        ensures none { result.draft ≡ None }
+        ensures wanted { result.wanted ≡ wanted }
     {
-        PlanReader { alloc, draft: None }
+        PlanReader {
+            alloc,
+            wanted,
+            draft: None,
+        }
     }
 
     /// Adds a line, which is the first where there is none yet.
     fn advance(&mut self, text: &[u8]) -> Result<(), Stop<PlanCause>>
         ensures ok { IfOk result (λ done. Advances self.old.draft text.now self.new.draft) }
         ensures err { IfErr result (λ stop. StopsUnread stop self.old.draft text.now) }
+        ensures wanted { self.new.wanted ≡ self.old.wanted }
     {
         match &mut self.draft {
             Some(draft) => add_line(draft, text),
@@ -74,14 +105,24 @@ impl PlanReader {
             }
         }
     }
+
+    /// Adds what is wanted of a plan.
+    fn push_wanted(&self, text: &mut Bytes, plan: &Plan) -> Result<(), NoMemory>
+        ensures { OnOk result (FitsPlan plan.now → AddsWritten self.now.wanted plan.now text.old text.new) }
+    {
+        match self.wanted {
+            Wanted::Times => push_times(text, plan),
+            Wanted::Schedule => push_schedule(self.alloc, text, plan),
+        }
+    }
 }
 
 impl Handler for PlanReader {
     type Refusal = PlanCause;
 
-    ghost use Rattle.crsm_delay.specs.Reading.{times_of};
+    ghost use Rattle.crsm_delay.specs.Reading.{plans_of};
 
-    ghost handling = { λ _. times_of };
+    ghost handling = { λ r. plans_of r.wanted };
 
     fn line(&mut self, _at: u64, line: &[u8], _text: &mut Bytes) -> Result<(), Stop<PlanCause>> {
         self.advance(line)
@@ -94,7 +135,7 @@ impl Handler for PlanReader {
         if !draft.is_whole {
             return Err(Stop::Refused(PlanCause::Unreadable));
         }
-        let Ok(()) = push_times(text, &draft.plan) else {
+        let Ok(()) = self.push_wanted(text, &draft.plan) else {
             return Err(Stop::NoMemory);
         };
         Ok(())

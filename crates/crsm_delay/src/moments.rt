@@ -23,7 +23,7 @@ pub(crate) fn offset_of(plan: &Plan, k: u64) -> u64
 
 /// How long a datagram takes from one replica to another.
 #[tactic(auto, unfolding(crsm_timing::specs::Plans::delay_of))]
-fn delay_of(plan: &Plan, a: u64, b: u64) -> u64
+pub(crate) fn delay_of(plan: &Plan, a: u64, b: u64) -> u64
     ensures { result ≡ timing.delay_of plan.now a b }
 {
     if a == b {
@@ -35,6 +35,16 @@ fn delay_of(plan: &Plan, a: u64, b: u64) -> u64
         }
     }
     0
+}
+
+/// What the clock of a replica reads at a moment.
+#[tactic(auto, unfolding(crsm_timing::specs::Plans::reading))]
+pub(crate) fn reading_of(plan: &Plan, k: u64, moment: u64) -> u64
+    requires fits { timing.FitsPlan plan.now }
+    requires soon { moment ≤ 4000000000000 }
+    ensures { result ≡ timing.reading plan.now k moment }
+{
+    moment + offset_of(plan, k)
 }
 
 /// When replica `k` acknowledges the command.

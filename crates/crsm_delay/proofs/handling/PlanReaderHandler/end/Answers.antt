@@ -2,4 +2,5 @@ use Rattle.crsm_delay.proofs.Handled.{ends_well}
 use Rattle.crsm_delay.proofs.handling.PlanReaderHandler.end.Goals as goal
 
 pub returns-clause-ok : goal.returns-clause-ok
-returns-clause-ok c = λ first lines shown so. ends_well c.args.self.now c.in-Some.draft lines shown c.args.text.now c.push_times.new.text c.in-Some.is c.if-not-draft.false c.in-Ok.ensures so
+returns-clause-ok c = λ first lines shown has.
+    ends_well first.wanted c.args.self.now c.in-Some.draft lines shown c.args.text.now c.push_wanted.new.text c.in-Some.is c.if-not-draft.false c.in-Ok.ensures has

@@ -1,0 +1,51 @@
+-- Events that are still to happen, as a timeline and as a schedule have them.
+use Rattle.std.specs.Prelude.{◌≡◌, ℕ, ◌+◌, ◌<◌, List, [], ◌∷◌, map}
+use Rattle.crsm_schedule.specs.declared.Event.{Event}
+use Rattle.crsm_schedule.specs.declared.Single.{Single as Spelt}
+use Rattle.crsm_spec.specs.Acts.{Single}
+use Rattle.crsm_timing.specs.declared.Plan.{Plan}
+use Rattle.crsm_timing.specs.Plans.{arrival, reading, stamped}
+use Rattle.crsm_timing.specs.Timelines.{Timed, Precedes, the_command, tick}
+use Rattle.crsm_law_sends.specs.Posts.{Post}
+use Rattle.crsm_delay.specs.declared.upcoming.Kind.{Kind}
+use Rattle.crsm_delay.specs.declared.upcoming.Upcoming.{Upcoming}
+use Rattle.crsm_delay.specs.declared.agenda.Agenda.{Agenda}
+use Rattle.crsm_delay.specs.declared.agenda.Post.{Post as Told}
+
+-- what happens
+abbrev pub does_of : Kind → Single
+does_of (Kind.Request replica reading) = Single.Request replica reading the_command
+does_of (Kind.Tick replica reading) = Single.Tick replica reading
+does_of (Kind.Go number reading) = Single.Go number reading
+
+-- the event of a timeline
+abbrev pub timed_of : Upcoming → Timed
+timed_of u = record { moment = u.moment; does = does_of u.kind }
+
+-- the same in a schedule
+abbrev pub spelt_of : Kind → Spelt
+spelt_of (Kind.Request replica reading) = Spelt.Request replica reading the_command
+spelt_of (Kind.Tick replica reading) = Spelt.Tick replica reading
+spelt_of (Kind.Go number reading) = Spelt.Go number reading
+
+abbrev pub event_of : Upcoming → Event
+event_of u = Event.One (spelt_of u.kind)
+
+-- what is still to happen
+abbrev pub listed : Agenda → List Timed
+listed a = map timed_of a.events.items
+
+-- the event happens before all of a list in order
+abbrev pub IsAheadOf : Upcoming → List Upcoming → Type 0
+IsAheadOf u [] = Unit {0}
+IsAheadOf u (g ∷ gs) = Precedes (timed_of u) (timed_of g)
+
+-- the datagram that is told of
+abbrev pub on_paper : Told → Post
+on_paper p = record { number = p.number; from = p.from; to = p.to }
+
+-- the tick of k, when its clock reads one more than the timestamp, which it did not when the command came
+pub record IsTick (plan : Plan) (k : ℕ) (u : Upcoming) : Type 0 where
+  pub is : timed_of u ≡ tick plan k u.moment
+  pub reads : reading plan k u.moment ≡ stamped plan + 1
+  pub late : arrival plan k < u.moment

@@ -1,0 +1,104 @@
+//! The timeline of a plan: a world is driven by the plan, and each datagram that it sends is delivered in time.
+
+ghost use Rattle.std.specs.Prelude.{◌≡◌, ◌∷◌, ◌++◌, [], List, IfErr, IfOk, MatchOption, Ok, OnOk};
+ghost use Rattle.crsm_timing.specs.Plans.{FitsPlan};
+ghost use Rattle.crsm_delay.specs.Following.{AddsTimeline, Follows, IsFollowed};
+ghost use Rattle.crsm_delay.specs.Upcoming.{listed};
+ghost use Rattle.crsm_delay.specs.declared.upcoming.Upcoming.{Upcoming as Done};
+
+use crate::agenda::Agenda;
+use crate::upcoming::Upcoming;
+use crsm_base::{Bytes, Lines, NoMemory};
+use crsm_law_pending::{agendas_end, agendas_go_on};
+use crsm_law_timing::events_can_happen;
+use crsm_schedule::Event;
+use crsm_text::push_named;
+use crsm_timing::Plan;
+use crsm_world::{Bad, World};
+use std::alloc::Global;
+
+/// More events than a timeline has.
+const MORE_EVENTS: u64 = 1_000_000;
+
+/// Lets an event go, in a function of its own, which keeps the cases of an event out of its callers' proofs.
+fn discard(_event: Event) {}
+
+/// What an event led to that was not refused.
+fn unless_refused(stepped: Result<Lines, Bad>) -> Result<Lines, NoMemory>
+    requires { IfErr stepped (λ bad. bad ≡ Bad.NoMemory) }
+    ensures { IfOk result (λ lines. stepped ≡ Ok lines) }
+{
+    match stepped {
+        Ok(lines) => Ok(lines),
+        Err(bad) => {
+            prove!(bad == Bad::NoMemory);
+            Err(NoMemory)
+        }
+    }
+}
+
+/// A plan as far as it has been followed.
+#[derive(Drop)]
+pub(crate) struct Run {
+    alloc: Global,
+    world: World,
+    agenda: Agenda,
+}
+
+impl Run {
+    /// The replicas have booted.
+    fn new(alloc: Global, plan: &Plan) -> Result<Run, NoMemory>
+        requires { FitsPlan plan.now }
+        ensures { IfOk result (λ run. Follows plan.now [] run) }
+    {
+        let (mut world, lines) = World::new(alloc, plan.n as u32)?;
+        world.take_back(lines);
+        let agenda = Agenda::new(alloc, plan)?;
+        Ok(Run {
+            alloc,
+            world,
+            agenda,
+        })
+    }
+
+    /// Does the event that comes next, which is possible, and gives it, if there is one.
+    fn step(&mut self, plan: &Plan) -> Result<Option<Upcoming>, NoMemory>
+        requires fits { FitsPlan plan.now }
+        requires followed { IsFollowed plan.now self.old }
+        ensures { (done : List Done) → Follows plan.now done self.old →
+            IfOk result (λ next. MatchOption next (listed self.old.agenda ≡ []) (λ u. Follows plan.now (done ++ u ∷ []) self.new)) }
+    {
+        events_can_happen();
+        agendas_go_on();
+        let Some(next) = self.agenda.next() else {
+            return Ok(None);
+        };
+        let event = next.event(self.alloc)?;
+        let stepped = self.world.step(&event);
+        discard(event);
+        let lines = unless_refused(stepped)?;
+        self.agenda.add_sent(plan, next.moment, lines.as_slice())?;
+        self.world.take_back(lines);
+        Ok(Some(next))
+    }
+}
+
+/// Adds the schedule of a plan's timeline: how many replicas there are, and each event.
+pub(crate) fn push_timeline(alloc: Global, text: &mut Bytes, plan: &Plan) -> Result<(), NoMemory>
+    requires { FitsPlan plan.now }
+    ensures { OnOk result (AddsTimeline plan.now text.old text.new) }
+{
+    events_can_happen();
+    agendas_end();
+    let mut run = Run::new(alloc, plan)?;
+    push_named(text, b"replicas", &[plan.n])?;
+    text.push(b'\n')?;
+    for _ in 0..MORE_EVENTS {
+        let Some(next) = run.step(plan)? else {
+            return Ok(());
+        };
+        next.push_to(text)?;
+    }
+    // A timeline has fewer events.
+    Ok(())
+}

@@ -1,0 +1,156 @@
+//! Events that a plan has still ahead.
+
+ghost use Rattle.std.specs.Prelude.{◌≡◌, ◌≤◌, ◌<◌, ◌++◌, ◌∷◌, [], IsTrue, ◌↔◌, None, IfOk, IfSome, OnOk};
+ghost use Rattle.crsm_schedule.specs.Grammar.{event_text};
+ghost use Rattle.crsm_timing.specs.Plans.{FitsPlan, arrival, reading, stamped};
+ghost use Rattle.crsm_timing.specs.Timelines.{IsBefore, Precedes, the_command};
+ghost use Rattle.crsm_timing.specs.Timelines as timing;
+ghost use Rattle.crsm_delay.specs.Upcoming.{IsTick, does_of, event_of, timed_of};
+
+use crate::moments::{delay_of, offset_of, reading_of};
+use crsm_base::{Bytes, Command, Key, NoMemory, Op, Val};
+use crsm_schedule::{Event, Single};
+use crsm_text::push_named;
+use crsm_timing::Plan;
+use std::alloc::Global;
+
+/// What happens at a replica. A reading is that of its clock.
+#[derive(Clone, Copy, Debug, PartialEq, Eq)]
+pub(crate) enum Kind {
+    /// The command comes.
+    Request { replica: u64, reading: u64 },
+    /// The clock has passed the command's timestamp.
+    Tick { replica: u64, reading: u64 },
+    /// A datagram is delivered.
+    Go { number: u64, reading: u64 },
+}
+
+impl Kind {
+    /// Whether it happens before another at the same moment: the command is the first, then come ticks by replica, and then
+    /// deliveries by number.
+    fn precedes(self, other: Kind) -> bool
+        ensures { IsTrue result ↔ IsBefore (does_of self) (does_of other) }
+    {
+        match self {
+            Kind::Request { .. } => match other {
+                Kind::Request { .. } => false,
+                Kind::Tick { .. } | Kind::Go { .. } => true,
+            },
+            Kind::Tick { replica, .. } => match other {
+                Kind::Request { .. } => false,
+                Kind::Tick { replica: k, .. } => replica < k,
+                Kind::Go { .. } => true,
+            },
+            Kind::Go { number, .. } => match other {
+                Kind::Request { .. } | Kind::Tick { .. } => false,
+                Kind::Go { number: i, .. } => number < i,
+            },
+        }
+    }
+}
+
+/// An event, and its moment.
+#[derive(Clone, Copy, Debug, PartialEq, Eq)]
+pub(crate) struct Upcoming {
+    pub moment: u64,
+    pub kind: Kind,
+}
+
+impl Upcoming {
+    /// Whether it happens before another.
+    pub(crate) fn precedes(self, other: Upcoming) -> bool
+        ensures { IsTrue result ↔ Precedes (timed_of self) (timed_of other) }
+    {
+        if self.moment == other.moment {
+            self.kind.precedes(other.kind)
+        } else {
+            self.moment < other.moment
+        }
+    }
+
+    /// The event of a schedule.
+    pub(crate) fn event(self, alloc: Global) -> Result<Event, NoMemory>
+        ensures { IfOk result (λ event. event ≡ event_of self) }
+    {
+        let single = match self.kind {
+            Kind::Request { replica, reading } => Single::Request {
+                replica,
+                reading,
+                command: command(alloc)?,
+            },
+            Kind::Tick { replica, reading } => Single::Tick { replica, reading },
+            Kind::Go { number, reading } => Single::Go { number, reading },
+        };
+        Ok(Event::One { single })
+    }
+
+    /// Adds the line of the event.
+    pub(crate) fn push_to(self, text: &mut Bytes) -> Result<(), NoMemory>
+        ensures { OnOk result (text.new ≡ text.old ++ (event_text (event_of self) ++ 10 ∷ [])) }
+    {
+        match self.kind {
+            Kind::Request { replica, reading } => {
+                push_named(text, b"request", &[replica, reading, 7, 1])?;
+                text.append(b" put 61 62\n")?;
+            }
+            Kind::Tick { replica, reading } => {
+                push_named(text, b"tick", &[replica, reading])?;
+                text.push(b'\n')?;
+            }
+            Kind::Go { number, reading } => {
+                push_named(text, b"go", &[number, reading])?;
+                text.push(b'\n')?;
+            }
+        }
+        Ok(())
+    }
+}
+
+/// The command of a plan: client 7 puts a value, as its command 1.
+#[tactic(auto, unfolding(crsm_timing::specs::Timelines::the_command))]
+fn command(alloc: Global) -> Result<Command, NoMemory>
+    ensures { IfOk result (λ c. c ≡ the_command) }
+{
+    let key = Key::from_slice(alloc, b"a")?;
+    let val = Val::from_slice(alloc, b"b")?;
+    Ok(Command {
+        client: 7,
+        number: 1,
+        op: Op::Put(key, val),
+    })
+}
+
+/// The command comes to the origin.
+#[tactic(auto, unfolding(crsm_timing::specs::Timelines::request, crsm_timing::specs::Plans::stamped))]
+pub(crate) fn request(plan: &Plan) -> Upcoming
+    requires { FitsPlan plan.now }
+    ensures { timed_of result ≡ timing.request plan.now }
+{
+    Upcoming {
+        moment: plan.at,
+        kind: Kind::Request {
+            replica: plan.origin,
+            reading: reading_of(plan, plan.origin, plan.at),
+        },
+    }
+}
+
+/// The tick of another replica, if its clock is not past the timestamp when the command comes: as soon as it is.
+pub(crate) fn tick(plan: &Plan, k: u64) -> Option<Upcoming>
+    requires { FitsPlan plan.now }
+    ensures some { IfSome result (λ u. IsTick plan.now k u) }
+    ensures none { result ≡ None → stamped plan.now < reading plan.now k (arrival plan.now k) }
+{
+    let past = reading_of(plan, plan.origin, plan.at) + 1;
+    let arrival = plan.at + delay_of(plan, plan.origin, k);
+    if reading_of(plan, k, arrival) >= past {
+        return None;
+    }
+    Some(Upcoming {
+        moment: past - offset_of(plan, k),
+        kind: Kind::Tick {
+            replica: k,
+            reading: past,
+        },
+    })
+}
