@@ -12,7 +12,7 @@ use Rattle.crsm_client.specs.declared.error.OperateError.{OperateError}
 use Rattle.crsm_lock.specs.declared.command.LockEnd.{LockEnd}
 use Rattle.crsm_node.specs.declared.errors.NodeEnd.{NodeEnd}
 use Rattle.crsm_app.specs.Devices.{Devices}
-use Rattle.crsm_app.specs.Did.{Did, DidAudit, DidReplay, DidSheet, DidTimes}
+use Rattle.crsm_app.specs.Did.{Did, DidAudit, DidPlan, DidReplay, DidSheet}
 use Rattle.crsm_app.specs.Statuses.{status_of_client, status_of_lock, status_of_node, status_of_operate}
 use Rattle.crsm_app.specs.Tasks.{IsThere, IsWithinLimits}
 use Rattle.crsm_app.specs.declared.status.Status.{Status}
@@ -96,7 +96,7 @@ usage_not_no_memory : Status.Usage ≡ Status.NoMemory → ⊥
 usage_not_no_memory is = cc is
 
 not_refused : (cluster : ℕ) (task : Task) (old new : Devices) → Did cluster task Status.Usage old new → IsThere task → ⊥
-unfolding DidAudit DidReplay DidSheet DidTimes
+unfolding DidAudit DidReplay DidSheet DidPlan
 not_refused cluster (Show t) old new did there = did.1
 not_refused cluster Replay old new did there = did
 not_refused cluster (ReplayNode me n) old new did there = did
@@ -109,7 +109,7 @@ not_refused cluster (Node t) old new did there = elim did.1 [
 not_refused cluster (Soak number n steps) old new did there = did.1
 not_refused cluster (Audit n) old new did there = did
 not_refused cluster (Lock t) old new did there = lock_not_usage did.1.ended did.1.status
-not_refused cluster Delay old new did there = there
+not_refused cluster Delay old new did there = did
 not_refused cluster DelayTimes old new did there = did
 not_refused cluster ReplayMp old new did there = there
 

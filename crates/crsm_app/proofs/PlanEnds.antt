@@ -1,24 +1,25 @@
 -- A plan by its status.
 use Rattle.std.proofs.Common.{◌≡◌, ◌≢◌, ℕ, inl, inr, List, Option, refl, ap, sym, ◌∙◌, subst}
-use Rattle.crsm_delay.specs.Reading.{times_of}
+use Rattle.crsm_delay.specs.Reading.{plans_of}
 use Rattle.crsm_delay.specs.declared.handling.PlanCause.{PlanCause}
+use Rattle.crsm_delay.specs.declared.handling.Wanted.{Wanted}
 use Rattle.crsm_input.specs.Exact as loop
 use Rattle.crsm_input.specs.Run as lines
 use Rattle.crsm_input.specs.declared.Ending.{Ending}
 use Rattle.crsm_replay.specs.declared.cause.Cause.{Cause}
-use Rattle.crsm_app.specs.Did.{DidTimes}
+use Rattle.crsm_app.specs.Did.{DidPlan}
 use Rattle.crsm_app.specs.Exact.{IsDone, IsRefused, IsTooLong}
 use Rattle.crsm_app.specs.Statuses.{status_of_delay}
 use Rattle.crsm_app.specs.declared.status.Status.{Status}
 
-did : (e : Ending PlanCause) (b a d w : Option (List ℕ)) → lines.Ran times_of e b a d w → DidTimes (status_of_delay e) b a d w
-unfolding lines.Ran DidTimes
-did Ending.Done b a d w ran = ran
-did (Ending.BadLine line why) b a d w ran = (refl, why, ran)
-did Ending.ReadFault b a d w ran = ran
-did Ending.WriteFault b a d w ran = ran
-did Ending.NoMemory b a d w ran = ran
-did Ending.InputTooLong b a d w ran = ran
+did : (wanted : Wanted) (e : Ending PlanCause) (b a d w : Option (List ℕ)) → lines.Ran (plans_of wanted) e b a d w → DidPlan wanted (status_of_delay e) b a d w
+unfolding lines.Ran DidPlan
+did wanted Ending.Done b a d w ran = ran
+did wanted (Ending.BadLine line why) b a d w ran = (refl, why, ran)
+did wanted Ending.ReadFault b a d w ran = ran
+did wanted Ending.WriteFault b a d w ran = ran
+did wanted Ending.NoMemory b a d w ran = ran
+did wanted Ending.InputTooLong b a d w ran = ran
 
 read_fault : (e : Ending PlanCause) → status_of_delay e ≡ Status.ReadFault → e ≡ Ending.ReadFault
 read_fault Ending.Done is = absurd (cc is)
@@ -68,9 +69,9 @@ no_disk Ending.WriteFault is = cc is
 no_disk Ending.NoMemory is = cc is
 no_disk Ending.InputTooLong is = cc is
 
-module _ (e : Ending PlanCause) (result : Status) (is : result ≡ status_of_delay e) where
-  pub did_so : (b a d w : Option (List ℕ)) → lines.Ran times_of e b a d w → DidTimes result b a d w
-  did_so b a d w ran = subst (λ (s : Status). DidTimes s b a d w) (sym is) (did e b a d w ran)
+module _ (wanted : Wanted) (e : Ending PlanCause) (result : Status) (is : result ≡ status_of_delay e) where
+  pub did_so : (b a d w : Option (List ℕ)) → lines.Ran (plans_of wanted) e b a d w → DidPlan wanted result b a d w
+  did_so b a d w ran = subst (λ (s : Status). DidPlan wanted s b a d w) (sym is) (did wanted e b a d w ran)
 
   pub is_read_fault : result ≡ Status.ReadFault → e ≡ Ending.ReadFault
   is_read_fault fault = read_fault e (sym is ∙ fault)
@@ -94,7 +95,7 @@ module _ (e : Ending PlanCause) (result : Status) (is : result ≡ status_of_del
   completes (inl p) = inl (is ∙ ap status_of_delay p)
   completes (inr p) = inr (is ∙ ap status_of_delay p)
 
-  pub refuses : (x : loop.Exact times_of) (line : ℕ) (why : PlanCause) → loop.IsRefused times_of x line why e → IsRefused line Cause.Unreadable result
+  pub refuses : (x : loop.Exact (plans_of wanted)) (line : ℕ) (why : PlanCause) → loop.IsRefused (plans_of wanted) x line why e → IsRefused line Cause.Unreadable result
   refuses x line why (inl p) = inl (is ∙ ap status_of_delay p.is)
   refuses x line why (inr p) = inr (is ∙ ap status_of_delay p)
 

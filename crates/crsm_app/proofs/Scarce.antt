@@ -1,16 +1,25 @@
 -- Out of memory before anything was done: that is exact of every task.
-use Rattle.std.proofs.Common.{ℕ, inr, refl}
+use Rattle.std.proofs.Common.{ℕ, List, Option, inr, refl}
 use Rattle.crsm_audit.specs.Exactly.{IsDecided}
-use Rattle.crsm_delay.specs.Reading.{times_of}
+use Rattle.crsm_delay.specs.Reading.{plans_of}
+use Rattle.crsm_delay.specs.declared.handling.Wanted.{Wanted}
 use Rattle.crsm_input.specs.Exact.{Exact}
 use Rattle.crsm_words.specs.declared.order.Task.{Task}
 use Rattle.crsm_words.specs.declared.order.Task.TheVariants.{Show, Replay, ReplayNode, Node, Client, Operate, Soak, Audit, Lock, Delay, DelayTimes, ReplayMp}
 use Rattle.crsm_app.specs.Devices.{Devices}
-use Rattle.crsm_app.specs.Exact.{Exactly}
+use Rattle.crsm_app.specs.Exact.{Exactly, PlansExactly}
 use Rattle.crsm_app.specs.declared.status.Status.{Status}
 use Rattle.crsm_app.proofs.Sheets.{no_memory}
 
-module _ (decided : Exact times_of) (audits : (n : ℕ) → IsDecided n) where
+module _ (decided : (wanted : Wanted) → Exact (plans_of wanted)) (audits : (n : ℕ) → IsDecided n) where
+  plan_unread : (wanted : Wanted) (left : Option (List ℕ)) → PlansExactly wanted left Status.NoMemory
+  plan_unread wanted left = record {
+    decided = decided wanted;
+    complete = λ lines fit may are is short. inr refl;
+    refused = λ lines shown text more why fit are is bad short. inr refl;
+    too_long = λ lines rest more fit are part long some is. inr refl;
+  }
+
   pub without_memory : (cluster : ℕ) (task : Task) (old new : Devices) → Exactly cluster task Status.NoMemory old new
   without_memory cluster (Show text) old new = λ no_write. inr refl
   without_memory cluster Replay old new = λ no_read no_write. record {
@@ -41,11 +50,6 @@ module _ (decided : Exact times_of) (audits : (n : ℕ) → IsDecided n) where
     complete = λ t u is at all no_fault no_loss no_write. inr refl;
     no_answer = λ t u is at none no_fault no_loss. inr refl;
   }
-  without_memory cluster Delay old new = tt
-  without_memory cluster DelayTimes old new = λ no_read no_write. record {
-    decided = decided;
-    complete = λ lines fit may are is short. inr refl;
-    refused = λ lines shown text more why fit are is bad short. inr refl;
-    too_long = λ lines rest more fit are part long some is. inr refl;
-  }
+  without_memory cluster Delay old new = λ no_read no_write. plan_unread Wanted.Schedule old.left
+  without_memory cluster DelayTimes old new = λ no_read no_write. plan_unread Wanted.Times old.left
   without_memory cluster ReplayMp old new = tt

@@ -6,8 +6,9 @@ use Rattle.crsm_client.specs.Operating.{Operates}
 use Rattle.crsm_client.specs.declared.command.ClientEnd.{ClientEnd}
 use Rattle.crsm_client.specs.declared.command.ClientOrder.{ClientOrder}
 use Rattle.crsm_client.specs.declared.error.OperateError.{OperateError}
-use Rattle.crsm_delay.specs.Reading.{times_of}
+use Rattle.crsm_delay.specs.Reading.{plans_of}
 use Rattle.crsm_delay.specs.declared.handling.PlanCause.{PlanCause}
+use Rattle.crsm_delay.specs.declared.handling.Wanted.{Wanted}
 use Rattle.crsm_input.specs.Run as lines
 use Rattle.crsm_input.specs.declared.Bad.{Bad}
 use Rattle.crsm_io.specs.Streams.{Puts, PutsPrefix}
@@ -28,7 +29,7 @@ use Rattle.crsm_soak.specs.Text.{soak_text}
 use Rattle.crsm_words.specs.declared.order.LockTask.{LockTask}
 use Rattle.crsm_words.specs.declared.order.NodeTask.{NodeTask}
 use Rattle.crsm_words.specs.declared.order.Task.{Task}
-use Rattle.crsm_words.specs.declared.order.Task.TheVariants.{Show, Replay, ReplayNode, Client, Operate, Soak, Node, Audit, Lock, DelayTimes}
+use Rattle.crsm_words.specs.declared.order.Task.TheVariants.{Show, Replay, ReplayNode, Client, Operate, Soak, Node, Audit, Lock, Delay, DelayTimes}
 use Rattle.crsm_world.specs.Laws.{IsLawful}
 use Rattle.crsm_world.specs.Schedule.{acts_of}
 use Rattle.crsm_app.specs.Devices.{Devices, SameDisk, Untouched, node_devices}
@@ -77,16 +78,16 @@ DidAudit n Status.NoMemory before after had has = lines.RanPartly (audited n) be
 DidAudit n Status.InputTooLong before after had has = lines.RanTooLong (audited n) before after had has
 DidAudit n _ before after had has = ⊥
 
--- a plan was read, and the moments at which its command commits were written
-unfoldable pub DidTimes : Status → (before after had has : Option (List ℕ)) → Type 0
-DidTimes Status.Ok before after had has = lines.RanToEnd times_of before after had has
-DidTimes (Status.BadInput line cause) before after had has =
-    (cause ≡ Cause.Unreadable) × (why : Bad PlanCause) × lines.RanToBad times_of before after had has line why
-DidTimes Status.ReadFault before after had has = lines.RanSoFar times_of before after had has
-DidTimes Status.WriteFault before after had has = lines.RanPartly times_of before after had has
-DidTimes Status.NoMemory before after had has = lines.RanPartly times_of before after had has
-DidTimes Status.InputTooLong before after had has = lines.RanTooLong times_of before after had has
-DidTimes _ before after had has = ⊥
+-- a plan was read, and what is wanted of it was written: the schedule of a timeline, or the moments at which its command commits
+unfoldable pub DidPlan : Wanted → Status → (before after had has : Option (List ℕ)) → Type 0
+DidPlan wanted Status.Ok before after had has = lines.RanToEnd (plans_of wanted) before after had has
+DidPlan wanted (Status.BadInput line cause) before after had has =
+    (cause ≡ Cause.Unreadable) × (why : Bad PlanCause) × lines.RanToBad (plans_of wanted) before after had has line why
+DidPlan wanted Status.ReadFault before after had has = lines.RanSoFar (plans_of wanted) before after had has
+DidPlan wanted Status.WriteFault before after had has = lines.RanPartly (plans_of wanted) before after had has
+DidPlan wanted Status.NoMemory before after had has = lines.RanPartly (plans_of wanted) before after had has
+DidPlan wanted Status.InputTooLong before after had has = lines.RanTooLong (plans_of wanted) before after had has
+DidPlan wanted _ before after had has = ⊥
 
 -- a replica was asked for a command, over a port on which the datagrams of a cluster stand behind its mark
 pub record DidClient (cluster : ℕ) (order : ClientOrder) (result : Status) (old new : Meaning) (had has : Option (List ℕ)) : Type 0 where
@@ -152,5 +153,6 @@ Did cluster (Soak number n steps) result old new = (new.left ≡ old.left) × Di
 Did cluster (Node t) result old new = (new.left ≡ old.left) × DidNode cluster t result (node_devices old) (node_devices new)
 Did cluster (Audit n) result old new = DidAudit n result old.left new.left old.written new.written
 Did cluster (Lock t) result old new = (new.left ≡ old.left) × DidLock t result old.port new.port old.written new.written
-Did cluster DelayTimes result old new = DidTimes result old.left new.left old.written new.written
+Did cluster Delay result old new = DidPlan Wanted.Schedule result old.left new.left old.written new.written
+Did cluster DelayTimes result old new = DidPlan Wanted.Times result old.left new.left old.written new.written
 Did cluster _ result old new = (result ≡ Status.Usage) × Untouched old new

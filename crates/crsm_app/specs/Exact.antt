@@ -3,7 +3,8 @@ use Rattle.std.specs.Prelude.{◌≡◌, ◌⊎◌, ℕ, ◌+◌, List, Option}
 use Rattle.crsm_audit.specs.Handled.{audited}
 use Rattle.crsm_base.specs.declared.Command.{Command}
 use Rattle.crsm_client.specs.Asking.{WhereNotReplied, WhereReplied}
-use Rattle.crsm_delay.specs.Reading.{times_of}
+use Rattle.crsm_delay.specs.Reading.{plans_of}
+use Rattle.crsm_delay.specs.declared.handling.Wanted.{Wanted}
 use Rattle.crsm_faults.specs.Counts.{Rose}
 use Rattle.crsm_input.specs.Exact as lines
 use Rattle.crsm_lock.specs.Answers.{WhereAnswered, WhereNotAnswered}
@@ -15,7 +16,7 @@ use Rattle.crsm_replay_node.specs.Run as sheet
 use Rattle.crsm_replay_node.specs.declared.cause.SheetCause.{SheetCause}
 use Rattle.crsm_words.specs.declared.order.LockTask.{LockTask}
 use Rattle.crsm_words.specs.declared.order.Task.{Task}
-use Rattle.crsm_words.specs.declared.order.Task.TheVariants.{Show, Replay, ReplayNode, Client, Operate, Soak, Node, Audit, Lock, DelayTimes}
+use Rattle.crsm_words.specs.declared.order.Task.TheVariants.{Show, Replay, ReplayNode, Client, Operate, Soak, Node, Audit, Lock, Delay, DelayTimes}
 use Rattle.crsm_app.specs.Devices.{Devices}
 use Rattle.crsm_app.specs.Locks.{lock_order}
 use Rattle.crsm_app.specs.declared.status.Status.{Status}
@@ -72,11 +73,11 @@ pub record AuditsExactly (n : ℕ) (left : Option (List ℕ)) (result : Status) 
   pub too_long : lines.WhereTooLong (audited n) decided left (IsTooLong result)
 
 -- The same of a plan. Its lines alone decide what is read and what is refused.
-pub record TimesExactly (left : Option (List ℕ)) (result : Status) : Type 0 where
-  pub decided : lines.Exact times_of
-  pub complete : lines.WhereWhole times_of decided left (IsDone result)
-  pub refused : lines.WhereBad times_of decided left (λ line why. IsRefused line Cause.Unreadable result)
-  pub too_long : lines.WhereTooLong times_of decided left (IsTooLong result)
+pub record PlansExactly (wanted : Wanted) (left : Option (List ℕ)) (result : Status) : Type 0 where
+  pub decided : lines.Exact (plans_of wanted)
+  pub complete : lines.WhereWhole (plans_of wanted) decided left (IsDone result)
+  pub refused : lines.WhereBad (plans_of wanted) decided left (λ line why. IsRefused line Cause.Unreadable result)
+  pub too_long : lines.WhereTooLong (plans_of wanted) decided left (IsTooLong result)
 
 -- of what was taken: it is done where the reply is among it, and not answered where it is not
 pub record AsksExactly (cluster to : ℕ) (command : Command) (result : Status) (old new : Meaning) (out_old out_new : ℕ) : Type 0 where
@@ -104,5 +105,6 @@ Exactly cluster (Node t) result old new =
     WhereNodeFaultless old.port.faults new.port.faults old.disk.faults new.disk.faults old.write_faults new.write_faults (IsNodeDone result)
 Exactly cluster (Audit n) result old new = WhereFaultless old new (AuditsExactly n old.left result)
 Exactly cluster (Lock t) result old new = LocksExactly t result old.port new.port old.write_faults new.write_faults
-Exactly cluster DelayTimes result old new = WhereFaultless old new (TimesExactly old.left result)
+Exactly cluster Delay result old new = WhereFaultless old new (PlansExactly Wanted.Schedule old.left result)
+Exactly cluster DelayTimes result old new = WhereFaultless old new (PlansExactly Wanted.Times old.left result)
 Exactly cluster _ result old new = Unit {0}

@@ -3,7 +3,7 @@ use Rattle.std.specs.Prelude.{◌<◌, ◌⊎◌}
 use Rattle.crsm_base.specs.Spelling.{FitsCommand}
 use Rattle.crsm_words.specs.Orders.{IsClusterSize, IsLock, IsNode}
 use Rattle.crsm_words.specs.declared.order.Task.{Task}
-use Rattle.crsm_words.specs.declared.order.Task.TheVariants.{Show, Replay, ReplayNode, Client, Operate, Soak, Node, Audit, Lock, DelayTimes}
+use Rattle.crsm_words.specs.declared.order.Task.TheVariants.{Show, Replay, ReplayNode, Client, Operate, Soak, Node, Audit, Lock, Delay, DelayTimes}
 
 -- the tasks that are there
 abbrev pub IsThere : Task → Type 0
@@ -16,6 +16,7 @@ IsThere (Soak number n steps) = Unit {0}
 IsThere (Node t) = Unit {0}
 IsThere (Audit n) = Unit {0}
 IsThere (Lock t) = Unit {0}
+IsThere Delay = Unit {0}
 IsThere DelayTimes = Unit {0}
 IsThere _ = ⊥
 
@@ -24,6 +25,7 @@ abbrev pub IsReader : Task → Type 0
 IsReader Replay = Unit {0}
 IsReader (ReplayNode me n) = Unit {0}
 IsReader (Audit n) = Unit {0}
+IsReader Delay = Unit {0}
 IsReader DelayTimes = Unit {0}
 IsReader _ = ⊥
 

@@ -6,7 +6,8 @@ ghost use Rattle.crsm_spec.specs.Run.{last_world};
 ghost use Rattle.crsm_spec.specs.Safe.{Agreed, Answered, RealTime};
 ghost use Rattle.crsm_spec.specs.Decided.{DecisionsAgree};
 ghost use Rattle.crsm_spec.specs.Durable.{KeepsAnswered};
-ghost use Rattle.crsm_delay.specs.Reading.{times_of};
+ghost use Rattle.crsm_delay.specs.Reading.{plans_of};
+ghost use Rattle.crsm_delay.specs.declared.handling.Wanted.{Wanted};
 ghost use Rattle.crsm_input.specs.Exact.{Exact as IsDecided};
 ghost use Rattle.crsm_law_timing.specs.Commits.{CommandsCommitInTime, TimelinesArePossible};
 ghost use Rattle.crsm_world.specs.Schedule.{Schedule, IsSchedule, ShowsAll, acts_of};
@@ -47,6 +48,7 @@ fn is_there(task: &Task) -> bool
             | Task::Node(_)
             | Task::Audit { .. }
             | Task::Lock(_)
+            | Task::Delay
             | Task::DelayTimes
     )
 }
@@ -96,7 +98,7 @@ fn schedules_are_safe()
 
 /// What is known of every plan of delays and clocks.
 fn plans_are_in_time()
-    ensures exact { IsDecided times_of }
+    ensures exact { (wanted : Wanted) → IsDecided (plans_of wanted) }
     ensures possible { TimelinesArePossible }
     ensures moments { CommandsCommitInTime }
 {
@@ -110,7 +112,8 @@ fn plans_are_in_time()
 /// PEERS` runs a replica and writes its sheet, `client TO TURNS CLIENT NUMBER OP` asks a replica for a command over the
 /// port and writes its outcome, `operate TO MEMBERS` asks one for another membership, `lock TO TURNS CLIENT NUMBER KEY
 /// ACTION` asks one about a lock and writes what it is told, `audit N` reads the sheets of several nodes and writes what
-/// they come to, `delay times` reads a plan of delays and clocks and writes when its command commits, and `--help` and `--version` write a text. The other commands are not there yet. The
+/// they come to, `delay` reads a plan of delays and clocks and writes the schedule of its timeline, `delay times` writes
+/// when its command commits, and `--help` and `--version` write a text. `replay-mp` is not there yet. The
 /// reporter is told what a node's log held.
 pub fn run<I: Source, O: Sink, P: Port, D: Disk, C: Clock, R: Reporter>(
     alloc: Global,

@@ -5,8 +5,8 @@ ghost use Rattle.crsm_base.specs.Spelling.{FitsCommand};
 ghost use Rattle.crsm_faults.specs.Counts.{Rose};
 ghost use Rattle.crsm_input.specs.Exact as loop_exact;
 ghost use Rattle.crsm_app.specs.Devices.{devices_of};
-ghost use Rattle.crsm_app.specs.Did.{Did, DidAudit, DidClient, DidNode, DidOperate, DidReplay, DidSheet, DidSoak, DidTimes, Shows};
-ghost use Rattle.crsm_app.specs.Exact.{AsksExactly, AuditsExactly, Exactly, IsDone, IsNodeDone, WhereNodeFaultless, ReplaysExactly, SheetsExactly, TimesExactly};
+ghost use Rattle.crsm_app.specs.Did.{Did, DidAudit, DidClient, DidNode, DidOperate, DidPlan, DidReplay, DidSheet, DidSoak, Shows};
+ghost use Rattle.crsm_app.specs.Exact.{AsksExactly, AuditsExactly, Exactly, IsDone, IsNodeDone, WhereNodeFaultless, ReplaysExactly, SheetsExactly, PlansExactly};
 ghost use Rattle.crsm_app.specs.Run.{PortFailed};
 ghost use Rattle.crsm_app.specs.Tasks.{IsOverPort, IsReader, IsRunner, IsThere, IsWithinLimits};
 ghost use Rattle.crsm_node.specs.Running.{devices_of as node_over};
@@ -20,7 +20,7 @@ use crsm_audit::{audit, audits_are_exact};
 use crsm_base::Members;
 use crsm_client::{ClientOrder, client, operate_command};
 use crsm_clock::Clock;
-use crsm_delay::{delay_times, plans_are_exact};
+use crsm_delay::{Wanted, delay, delay_times, plans_are_exact};
 use crsm_disk::Disk;
 use crsm_input::MAX_INPUT_BYTES;
 use crsm_io::{Sink, Source, put_all};
@@ -86,12 +86,27 @@ fn run_audit<I: Source, O: Sink>(alloc: Global, n: u32, input: &mut I, output: &
     sheet_status(audit(alloc, n, input, output))
 }
 
-/// Writes the moments at which the command of a plan commits.
-fn run_delay_times<I: Source, O: Sink>(alloc: Global, input: &mut I, output: &mut O) -> Status
-    ensures did { DidTimes result (I.left input.old) (I.left input.new) (O.written output.old) (O.written output.new) }
+/// Writes the schedule of a plan's timeline.
+fn run_delay<I: Source, O: Sink>(alloc: Global, input: &mut I, output: &mut O) -> Status
+    ensures did { DidPlan Wanted.Schedule result (I.left input.old) (I.left input.new) (O.written output.old) (O.written output.new) }
     ensures read_fault { result ≡ Status.ReadFault → Rose (I.faults input.old) (I.faults input.new) }
     ensures write_fault { result ≡ Status.WriteFault → Rose (O.faults output.old) (O.faults output.new) }
-    ensures exact { loop_exact.WhereFaultless (I.faults input.old) (I.faults input.new) (O.faults output.old) (O.faults output.new) (TimesExactly (I.left input.old) result) }
+    ensures exact { loop_exact.WhereFaultless (I.faults input.old) (I.faults input.new) (O.faults output.old) (O.faults output.new) (PlansExactly Wanted.Schedule (I.left input.old) result) }
+    ensures limit { (bytes : List ℕ) → I.left input.old ≡ Some bytes → MAX_INPUT_BYTES < length bytes → result ≢ Status.Ok }
+    ensures within { (bytes : List ℕ) → I.left input.old ≡ Some bytes → length bytes ≤ MAX_INPUT_BYTES → result ≢ Status.InputTooLong }
+    ensures no_port { result ≢ Status.PortFault }
+    ensures no_disk { result ≢ Status.DiskFault }
+{
+    plans_are_exact();
+    delay_status(delay(alloc, input, output))
+}
+
+/// Writes the moments at which the command of a plan commits.
+fn run_delay_times<I: Source, O: Sink>(alloc: Global, input: &mut I, output: &mut O) -> Status
+    ensures did { DidPlan Wanted.Times result (I.left input.old) (I.left input.new) (O.written output.old) (O.written output.new) }
+    ensures read_fault { result ≡ Status.ReadFault → Rose (I.faults input.old) (I.faults input.new) }
+    ensures write_fault { result ≡ Status.WriteFault → Rose (O.faults output.old) (O.faults output.new) }
+    ensures exact { loop_exact.WhereFaultless (I.faults input.old) (I.faults input.new) (O.faults output.old) (O.faults output.new) (PlansExactly Wanted.Times (I.left input.old) result) }
     ensures limit { (bytes : List ℕ) → I.left input.old ≡ Some bytes → MAX_INPUT_BYTES < length bytes → result ≢ Status.Ok }
     ensures within { (bytes : List ℕ) → I.left input.old ≡ Some bytes → length bytes ≤ MAX_INPUT_BYTES → result ≢ Status.InputTooLong }
     ensures no_port { result ≢ Status.PortFault }
@@ -242,6 +257,7 @@ pub(crate) fn do_order<I: Source, O: Sink, P: Port, D: Disk, C: Clock, R: Report
         Task::Node(node) => run_replica(alloc, &node, cluster, output, port, disk, clock, reporter),
         Task::Lock(task) => run_lock(alloc, task, output, port),
         Task::Audit { n } => run_audit(alloc, n, input, output),
+        Task::Delay => run_delay(alloc, input, output),
         Task::DelayTimes => run_delay_times(alloc, input, output),
         task => refuse(task),
     }
