@@ -1,0 +1,16 @@
+//! What a step hands out.
+
+use crate::lines::MpLines;
+use crate::recs::MpRecs;
+use crate::sends::MpSends;
+
+/// What a step hands out.
+#[derive(Debug, Drop)]
+pub struct MpBatch {
+    /// The records to be kept.
+    pub records: MpRecs,
+    /// The messages to be sent, once the records are kept.
+    pub sends: MpSends,
+    /// The lines of the records, and behind them those of the replies to clients.
+    pub lines: MpLines,
+}

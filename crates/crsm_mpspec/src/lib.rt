@@ -1,0 +1,31 @@
+//! A store with a leader, for comparison: replicas that decide one slot after another, in ballots of a leader. Its plain values;
+//! and in `specs/` the rules of a replica, the world, what may happen in it, and what must hold.
+#![tactic(auto)]
+
+mod accepts;
+mod bad;
+mod batch;
+mod choices;
+mod input;
+mod line;
+mod lines;
+mod message;
+mod rec;
+mod recs;
+mod send;
+mod sends;
+mod value;
+
+pub use accepts::{MpAccepted, MpAccepts};
+pub use bad::MpBad;
+pub use batch::MpBatch;
+pub use choices::{MpChoices, MpChosen};
+pub use input::MpInput;
+pub use line::{MpKind, MpLine};
+pub use lines::MpLines;
+pub use message::MpMessage;
+pub use rec::MpRec;
+pub use recs::MpRecs;
+pub use send::MpSend;
+pub use sends::MpSends;
+pub use value::copy_value;

@@ -1,0 +1,104 @@
+//! The lines of a transcript.
+
+use crsm_base::Answer;
+
+/// The kind of a message.
+#[derive(Clone, Copy, Debug, PartialEq, Eq)]
+pub enum MpKind {
+    Prep,
+    Prom,
+    No,
+    Acc,
+    Accd,
+    Learn,
+    Ask,
+}
+
+/// A line of the transcript, without its number.
+#[derive(Debug, Drop)]
+pub enum MpLine {
+    /// A boot, with how many there were.
+    Boot {
+        replica: u32,
+        count: u64,
+    },
+    /// A client's command is accepted by its leader, at a slot in a ballot.
+    Submit {
+        replica: u32,
+        slot: u64,
+        round: u64,
+        by: u32,
+        client: u64,
+        number: u64,
+    },
+    /// Another value is accepted, at a slot in a ballot.
+    Accept {
+        replica: u32,
+        slot: u64,
+        round: u64,
+        by: u32,
+    },
+    /// A ballot is promised.
+    Promise {
+        replica: u32,
+        round: u64,
+        by: u32,
+    },
+    /// The value of a slot is known to be chosen.
+    Choose {
+        replica: u32,
+        slot: u64,
+    },
+    /// A command is executed at its slot.
+    Exec {
+        replica: u32,
+        slot: u64,
+        client: u64,
+        number: u64,
+        answer: Answer,
+    },
+    /// A noop is executed at its slot.
+    ExecNoop {
+        replica: u32,
+        slot: u64,
+    },
+    /// A message, with its number.
+    Send {
+        index: u64,
+        from: u32,
+        to: u32,
+        kind: MpKind,
+    },
+    /// A client gets its answer.
+    ReplyOk {
+        replica: u32,
+        client: u64,
+        number: u64,
+        place: u64,
+        answer: Answer,
+    },
+    /// A client is refused: 1 where the replica does not lead, 5 where it has no slot left.
+    ReplyNo {
+        replica: u32,
+        client: u64,
+        number: u64,
+        code: u32,
+    },
+    /// Another value was chosen at the slot of a client's command.
+    ReplyDropped {
+        replica: u32,
+        client: u64,
+        number: u64,
+        slot: u64,
+    },
+    /// The replica goes down.
+    Down {
+        replica: u32,
+    },
+    /// How a replica stands at the end, and how many slots it has executed.
+    Final {
+        replica: u32,
+        up: bool,
+        executed: u64,
+    },
+}

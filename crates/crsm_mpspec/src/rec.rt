@@ -1,0 +1,25 @@
+//! The records of a log.
+
+use crsm_base::{Ballot, Command};
+
+/// A record of a replica's log.
+#[derive(Debug, Drop)]
+pub enum MpRec {
+    /// The replica boots.
+    Boot,
+    /// The replica promises a ballot.
+    Promise {
+        ballot: Ballot,
+    },
+    /// The replica accepts a value at a slot in a ballot, which it promises with it.
+    Accept {
+        slot: u64,
+        ballot: Ballot,
+        value: Option<Command>,
+    },
+    /// The value of a slot is known to be chosen.
+    Choose {
+        slot: u64,
+        value: Option<Command>,
+    },
+}

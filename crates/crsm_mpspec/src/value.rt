@@ -1,0 +1,16 @@
+//! The value of a slot: a command, or nothing where the slot is a noop.
+
+ghost use Rattle.std.specs.Prelude.{◌≡◌, IfOk};
+
+use crsm_base::{Command, NoMemory};
+use std::alloc::Global;
+
+/// An equal value of a slot.
+pub fn copy_value(alloc: Global, value: &Option<Command>) -> Result<Option<Command>, NoMemory>
+    ensures { IfOk result (λ copy. copy ≡ value.now) }
+{
+    match value {
+        None => Ok(None),
+        Some(command) => Ok(Some(command.copy(alloc)?)),
+    }
+}
