@@ -1,0 +1,14 @@
+pub mod Types
+pub mod Log
+pub mod Values
+pub mod Replica
+pub mod Draft
+pub mod Electing
+pub mod Deciding
+pub mod Step
+pub mod Records
+pub mod World
+pub mod Moments
+pub mod Possible
+pub mod Run
+pub mod Safe
