@@ -1,0 +1,141 @@
+-- The changes that a replica makes in a step, one by one: all still holds.
+use Rattle.std.proofs.Common.{◌≡◌, ◌≢◌, ℕ, ◌≤◌, ◌⊎◌, Bool, true, false, cond, nat_eq, List, [], ◌∷◌, ◌++◌, map, inl, inr, refl, sym, subst, ap, ◌∙◌, Option, Some, None}
+use Rattle.std.specs.List.{Contains}
+use Rattle.std.specs.Option.{ForSome}
+use Rattle.std.proofs.lemmas.List.Elements.{Contains-append_left, Contains-push_cases}
+use Rattle.crsm_base.specs.Order.{ballot_lt}
+use Rattle.crsm_base.proofs.Orders.{below-irrefl, below_not_back, le_below}
+use Rattle.crsm_spec.specs.Paxos.{Held, Acceptance, Answer, Proposal, Promise, Vote, Instance, PaxosStep, MayTake, MayPropose, after_step, after_promise, after_accept, with_acceptor, value_of, IsChosen}
+use Rattle.crsm_spec.specs.Paxos.PaxosStep.{Promises, Accepts, Proposes}
+use Rattle.crsm_spec.specs.Following.{IsReached, IsUnused, IsUsed, lowest}
+use Rattle.crsm_safety.proofs.Paxos.Majority.{nat_eq_is, nat_eq_itself}
+use Rattle.crsm_safety.proofs.Paxos.Basics.{changed, changed_at, changed_cases, nat_eq_not, more_promises, more_votes, more_proposals}
+use Rattle.crsm_safety.proofs.Paxos.Instances.{with_cases, with_same}
+use Rattle.crsm_safety.proofs.Paxos.Repeats.{reached_more, chosen_more}
+use Rattle.crsm_mpspec.specs.declared.MpMessage.{MpMessage}
+use Rattle.crsm_mpspec.specs.Types.{Ballot, Command, Value}
+use Rattle.crsm_mpspec.specs.Replica.{Report, Note}
+use Rattle.crsm_law_mp_slots.specs.Slots.{Seat, Sent, Slots, HasAsked, HasReported, HasPromised, HasVoted, HasProposed, IsAsking, NoteHolds, IsTrueMessage, Holds}
+use Rattle.crsm_law_mp_slots.proofs.Turns.{Grows, IsOldOrBy, AsksAsSent, turn}
+
+-- what was sent before, and these messages of replica r
+abbrev pub with_sends : Sent → ℕ → List (ℕ × MpMessage) → Sent
+with_sends sent r sends k m = sent k m ⊎ ((k ≡ r) × (to : ℕ) × Contains sends (to, m))
+
+module _ (spec : List ℕ) (Own : Command → Type 0) (base : ℕ → Seat) (sent : Sent) (r : ℕ) where
+  -- all holds in the middle of a step of replica r
+  abbrev pub Stands : Seat → List (ℕ × MpMessage) → Slots → Type 0
+  Stands x sends slots = Holds spec Own (changed base r x) (with_sends sent r sends) slots
+
+  -- what a message of r would say is true in the middle of a step
+  abbrev pub IsTrueNow : Seat → List (ℕ × MpMessage) → Slots → MpMessage → Type 0
+  IsTrueNow x sends slots m = IsTrueMessage spec (changed base r x) (with_sends sent r sends) slots r m
+
+  -- so many messages more
+  abbrev pub MoreSends : List (ℕ × MpMessage) → List (ℕ × MpMessage) → Type 0
+  MoreSends sends sends' = (p : ℕ × MpMessage) → Contains sends p → Contains sends' p
+
+  -- the seat of r
+  pub seat : (x : Seat) → changed base r x r ≡ x
+  seat x = changed_at base r x (λ y. y ≡ x) refl
+
+  pub holds_here : (x : Seat) (P : Seat → Type 0) → P (changed base r x r) → P x
+  holds_here x P h = subst P (seat x) h
+
+  -- a change of r, where it is known which messages are new
+  module _ (x x' : Seat) (sends sends' : List (ℕ × MpMessage)) (slots more : Slots) (h : Stands x sends slots) (g : Grows spec slots more)
+      (raised : ballot_lt x'.promised x.promised ≡ false)
+      (same_here : (s : ℕ) → (more s).acceptor r ≡ record { promised = x'.promised; accepted = x'.accepted s })
+      (same_elsewhere : (s k : ℕ) → k ≢ r → (more s).acceptor k ≡ (slots s).acceptor k)
+      (proposed : (s : ℕ) (q : Proposal Value) → Contains (more s).proposals q → IsOldOrBy Own r x' (slots s) q)
+      (chosen : (s : ℕ) (v : Value) → x'.chosen s ≡ Some v → IsChosen spec (more s) v)
+      (noted : NoteHolds spec more r x' x'.note)
+      (asks : AsksAsSent (with_sends sent r sends) x')
+      (kept : MoreSends sends sends')
+      (new : (p : ℕ × MpMessage) → Contains sends' p → Contains sends p ⊎ IsTrueNow x' sends' more p.1) where
+    pub change : Stands x' sends' more
+    change =
+        turn spec Own (changed base r x) (changed base r x') (with_sends sent r sends) (with_sends sent r sends') slots more h g
+        r x' (seat x')
+        (λ k apart. changed_cases base r x' k (λ y. y ≡ changed base r x k) (λ is. absurd (apart is))
+        (λ other. changed_cases base r x k (λ y. base k ≡ y) (λ is. absurd (apart is)) (λ also. refl)))
+        (subst (λ y. ballot_lt x'.promised y.promised ≡ false) (sym (seat x)) raised)
+        same_here same_elsewhere proposed chosen noted asks
+        (λ k m there. elim there [ inl before ↦ inl before | inr now ↦ inr (now.0, now.1, kept (now.1, m) now.2) ])
+        (λ k m there. elim there [
+          | inl before ↦ inl (inl before)
+          | inr now ↦ elim (new (now.1, m) now.2) [
+            | inl old ↦ inl (inr (now.0, now.1, old))
+            | inr is ↦ inr (subst (λ j. IsTrueMessage spec (changed base r x') (with_sends sent r sends') more j m) (sym now.0) is)
+          ]
+        ])
+
+  -- ---- what is known of r itself
+
+  module _ (x : Seat) (sends : List (ℕ × MpMessage)) (slots : Slots) (h : Stands x sends slots) where
+    pub acceptor_is : (s : ℕ) → (slots s).acceptor r ≡ record { promised = x.promised; accepted = x.accepted s }
+    acceptor_is s = holds_here x (λ y. (slots s).acceptor r ≡ record { promised = y.promised; accepted = y.accepted s }) (h.same s r)
+
+    pub note_holds : NoteHolds spec slots r x x.note
+    note_holds = holds_here x (λ y. NoteHolds spec slots r y y.note) (h.notes r)
+
+    pub chosen_here : (s : ℕ) (v : Value) → x.chosen s ≡ Some v → IsChosen spec (slots s) v
+    chosen_here s v is = h.chosen s r v (subst (λ y. y.chosen s ≡ Some v) (sym (seat x)) is)
+
+    -- a ballot of r above its promise proposed nothing, and was asked for in no message
+    pub not_proposed : (b : Ballot) → b.by ≡ r → ballot_lt x.promised b ≡ true → (s : ℕ) → IsUnused (slots s) b
+    not_proposed b by above s q there is =
+        let owner : ballot_lt (changed base r x q.ballot.by).promised q.ballot ≡ false = h.owners s q there in
+        let mine : q.ballot.by ≡ r = subst (λ z. z.by ≡ r) (sym is) by in
+        let low : ballot_lt x.promised q.ballot ≡ false =
+        subst (λ y. ballot_lt y.promised q.ballot ≡ false) (seat x) (subst (λ k. ballot_lt (changed base r x k).promised q.ballot ≡ false) mine owner) in
+        let high : ballot_lt x.promised q.ballot ≡ true = subst (λ z. ballot_lt x.promised z ≡ true) (sym is) above in
+        cc
+
+    pub not_asked : (b : Ballot) → b.by ≡ r → ballot_lt x.promised b ≡ true → (k start : ℕ) → with_sends sent r sends k (MpMessage.Prep b start) → ⊥
+    not_asked b by above k start there =
+        let asked : HasAsked (changed base r x b.by) b start = (h.sound k (MpMessage.Prep b start) there).1 in
+        let low : ballot_lt x.promised b ≡ false =
+        subst (λ y. ballot_lt y.promised b ≡ false) (seat x) (subst (λ j. ballot_lt (changed base r x j).promised b ≡ false) by asked.promised) in
+        cc
+
+    -- a replica that asks has asked so in its messages
+    pub asks_as_sent : AsksAsSent (with_sends sent r sends) x
+    asks_as_sent b start reports is k from there =
+        let holds : IsAsking spec slots r x b start reports = subst (λ n. NoteHolds spec slots r x n) is note_holds in
+        let asked : HasAsked (changed base r x b.by) b from = (h.sound k (MpMessage.Prep b from) there).1 in
+        let here : HasAsked x b from = subst (λ y. HasAsked y b from) (seat x) (subst (λ j. HasAsked (changed base r x j) b from) holds.by asked) in
+        here.same start reports is
+
+    pub grows_not : Grows spec slots slots
+    grows_not = record {
+      reached = h.reached;
+      promises = λ s p c. c;
+      votes = λ s v c. c;
+      proposals = λ s q c. c;
+      chosen = λ s v c. c;
+    }
+
+    -- ---- changes with no step of an instance
+
+    -- what r knows and what it is at
+    pub noted : (x' : Seat) → x'.promised ≡ x.promised → ((s : ℕ) → x'.accepted s ≡ x.accepted s) →
+        ((s : ℕ) (v : Value) → x'.chosen s ≡ Some v → IsChosen spec (slots s) v) → NoteHolds spec slots r x' x'.note →
+        AsksAsSent (with_sends sent r sends) x' → Stands x' sends slots
+    noted x' same_promise same_accepted chosen holds asks =
+        change x x' sends sends slots slots h grows_not
+        (subst (λ b. ballot_lt b x.promised ≡ false) (sym same_promise) (below-irrefl x.promised))
+        (λ s. acceptor_is s ∙ subst (λ b. Path (Acceptance Value) (record { promised = x.promised; accepted = x.accepted s }) (record { promised = b; accepted = x'.accepted s })) (sym same_promise)
+        (ap (λ a. record { promised = x.promised; accepted = a }) (sym (same_accepted s))))
+        (λ s k apart. refl) (λ s q c. inl c) chosen holds asks (λ p c. c) (λ p c. inl c)
+
+    -- a message
+    pub sent_too : (to : ℕ) (m : MpMessage) → IsTrueNow x (sends ++ (to, m) ∷ []) slots m → Stands x (sends ++ (to, m) ∷ []) slots
+    sent_too to m is =
+        change x x sends (sends ++ (to, m) ∷ []) slots slots h grows_not (below-irrefl x.promised) acceptor_is
+        (λ s k apart. refl) (λ s q c. inl c) chosen_here note_holds asks_as_sent
+        (λ p c. Contains-append_left sends _ p c)
+        (λ p c. elim (Contains-push_cases sends (to, m) p c) [
+          | inl old ↦ inl old
+          | inr now ↦ inr (subst (λ z. IsTrueNow x (sends ++ (to, m) ∷ []) slots z.1) now is)
+        ])
