@@ -139,3 +139,87 @@ module _ (spec : List ℕ) (Own : Command → Type 0) (base : ℕ → Seat) (sen
           | inl old ↦ inl old
           | inr now ↦ inr (subst (λ z. IsTrueNow x (sends ++ (to, m) ∷ []) slots z.1) now is)
         ])
+
+    -- ---- a promise of a greater ballot
+
+    module _ (b : Ballot) (above : ballot_lt x.promised b ≡ true) where
+      pub promised_more : Slots
+      promised_more s = after_step (slots s) (Promises r b)
+
+      may_promise : (s : ℕ) → MayTake spec (slots s) (Promises r b)
+      may_promise s = subst (λ a. ballot_lt a.promised b ≡ true) (sym (acceptor_is s)) above
+
+      grows-promised : Grows spec slots promised_more
+      unfolding promised_more
+      grows-promised = record {
+        reached = λ s. reached_more Value spec (slots s) (Promises r b) (h.reached s) (may_promise s);
+        promises = λ s p c. more_promises (slots s) (Promises r b) p c;
+        votes = λ s v c. c;
+        proposals = λ s q c. c;
+        chosen = λ s v c. chosen_more Value spec (slots s) (Promises r b) v c;
+      }
+
+      -- the seat with the promise; what is under way in a lesser ballot ends
+      pub promising : Seat
+      promising = record { promised = b; accepted = x.accepted; chosen = x.chosen; note = Note.Idle }
+
+      pub promise : Stands promising sends promised_more
+      unfolding promised_more promising
+      promise =
+          change x promising sends sends slots promised_more h grows-promised (below_not_back x.promised b above)
+          (λ s. with_same Value (λ a. a ≡ record { promised = b; accepted = x.accepted s }) (slots s).acceptor r (after_promise ((slots s).acceptor r) b)
+          (ap (λ a. after_promise a b) (acceptor_is s)))
+          (λ s k apart. with_cases Value (λ a. a ≡ (slots s).acceptor k) (slots s).acceptor r (after_promise ((slots s).acceptor r) b) k (λ is. absurd (apart is)) refl)
+          (λ s q c. inl c) (λ s v is. chosen_more Value spec (slots s) (Promises r b) v (chosen_here s v is))
+          tt (λ c start reports is. absurd (no_note is)) (λ p c. c) (λ p c. inl c)
+        where
+          no_note : {c : Ballot} {start : ℕ} {reports : List Report} → Note.Idle ≡ Note.Asking c start reports → ⊥
+          no_note e = cc
+
+    -- ---- steps at one slot
+
+    module _ (s : ℕ) (z : Instance Value) (x' : Seat) (reached : IsReached spec z)
+        (promises : (p : Promise Value) → Contains (slots s).promises p → Contains z.promises p)
+        (votes : (v : Vote Value) → Contains (slots s).votes v → Contains z.votes v)
+        (proposals : (q : Proposal Value) → Contains (slots s).proposals q → Contains z.proposals q)
+        (choices : (v : Value) → IsChosen spec (slots s) v → IsChosen spec z v) where
+      pub grows-slot : Grows spec slots (changed slots s z)
+      grows-slot = record {
+        reached = λ t. changed_cases slots s z t (λ y. IsReached spec y) (λ is. reached) (λ other. h.reached t);
+        promises = λ t p. changed_cases slots s z t (λ y. Contains (slots t).promises p → Contains y.promises p)
+            (λ is c. promises p (subst (λ j. Contains (slots j).promises p) is c)) (λ other c. c);
+        votes = λ t v. changed_cases slots s z t (λ y. Contains (slots t).votes v → Contains y.votes v)
+            (λ is c. votes v (subst (λ j. Contains (slots j).votes v) is c)) (λ other c. c);
+        proposals = λ t q. changed_cases slots s z t (λ y. Contains (slots t).proposals q → Contains y.proposals q)
+            (λ is c. proposals q (subst (λ j. Contains (slots j).proposals q) is c)) (λ other c. c);
+        chosen = λ t v. changed_cases slots s z t (λ y. IsChosen spec (slots t) v → IsChosen spec y v)
+            (λ is c. choices v (subst (λ j. IsChosen spec (slots j) v) is c)) (λ other c. c);
+      }
+
+      module _ (same_promise : x'.promised ≡ x.promised)
+          (acceptor_here : z.acceptor r ≡ record { promised = x'.promised; accepted = x'.accepted s })
+          (acceptor_elsewhere : (k : ℕ) → k ≢ r → z.acceptor k ≡ (slots s).acceptor k)
+          (accepted_elsewhere : (t : ℕ) → t ≢ s → x'.accepted t ≡ x.accepted t)
+          (proposed : (q : Proposal Value) → Contains z.proposals q → IsOldOrBy Own r x' (slots s) q)
+          (chosen : (t : ℕ) (v : Value) → x'.chosen t ≡ Some v → x.chosen t ≡ Some v)
+          (holds : NoteHolds spec (changed slots s z) r x' x'.note)
+          (asks : AsksAsSent (with_sends sent r sends) x') where
+        elsewhere_is : (t : ℕ) → t ≢ s → (slots t).acceptor r ≡ record { promised = x'.promised; accepted = x'.accepted t }
+        elsewhere_is t other =
+            acceptor_is t
+            ∙ subst (λ b. Path (Acceptance Value) (record { promised = x.promised; accepted = x.accepted t }) (record { promised = b; accepted = x'.accepted t })) (sym same_promise)
+            (ap (λ a. record { promised = x.promised; accepted = a }) (sym (accepted_elsewhere t other)))
+
+        pub stepped : Stands x' sends (changed slots s z)
+        stepped =
+            change x x' sends sends slots (changed slots s z) h grows-slot
+            (subst (λ b. ballot_lt b x.promised ≡ false) (sym same_promise) (below-irrefl x.promised))
+            (λ t. changed_cases slots s z t (λ y. y.acceptor r ≡ record { promised = x'.promised; accepted = x'.accepted t })
+            (λ is. subst (λ j. z.acceptor r ≡ record { promised = x'.promised; accepted = x'.accepted j }) (sym is) acceptor_here)
+            (λ other. elsewhere_is t other))
+            (λ t k apart. changed_cases slots s z t (λ y. y.acceptor k ≡ (slots t).acceptor k)
+            (λ is. subst (λ j. z.acceptor k ≡ (slots j).acceptor k) (sym is) (acceptor_elsewhere k apart)) (λ other. refl))
+            (λ t q. changed_cases slots s z t (λ y. Contains y.proposals q → IsOldOrBy Own r x' (slots t) q)
+            (λ is c. subst (λ j. IsOldOrBy Own r x' (slots j) q) (sym is) (proposed q c)) (λ other c. inl c))
+            (λ t v is. grows-slot.chosen t v (chosen_here t v (chosen t v is)))
+            holds asks (λ p c. c) (λ p c. inl c)
