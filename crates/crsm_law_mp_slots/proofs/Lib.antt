@@ -4,3 +4,4 @@ pub mod Lists
 pub mod Changes
 pub mod Held
 pub mod Voting
+pub mod Reports

@@ -44,7 +44,7 @@ acceptor_of p q a c same_p same_a =
     (ap (λ z. record { promised = p; accepted = z }) same_a)
 
 -- an accepted value is one alone
-same_some : {X : Type 0} (x y : X) → Some x ≡ Some y → x ≡ y
+pub same_some : {X : Type 0} (x y : X) → Some x ≡ Some y → x ≡ y
 same_some x y e = cc
 
 module _ (spec : List ℕ) (Own : Command → Type 0) (base : ℕ → Seat) (sent : Sent) (r : ℕ) (x : Seat) (sends : List (ℕ × MpMessage)) (slots : Slots)
