@@ -143,7 +143,7 @@ module _ (spec : List ℕ) (Own : Command → Type 0) (base : ℕ → Seat) (sen
     -- ---- a promise of a greater ballot
 
     module _ (b : Ballot) (above : ballot_lt x.promised b ≡ true) where
-      pub promised_more : Slots
+      unfoldable pub promised_more : Slots
       promised_more s = after_step (slots s) (Promises r b)
 
       may_promise : (s : ℕ) → MayTake spec (slots s) (Promises r b)
@@ -160,11 +160,11 @@ module _ (spec : List ℕ) (Own : Command → Type 0) (base : ℕ → Seat) (sen
       }
 
       -- the seat with the promise; what is under way in a lesser ballot ends
-      pub promising : Seat
+      abbrev pub promising : Seat
       promising = record { promised = b; accepted = x.accepted; chosen = x.chosen; note = Note.Idle }
 
       pub promise : Stands promising sends promised_more
-      unfolding promised_more promising
+      unfolding promised_more
       promise =
           change x promising sends sends slots promised_more h grows-promised (below_not_back x.promised b above)
           (λ s. with_same Value (λ a. a ≡ record { promised = b; accepted = x.accepted s }) (slots s).acceptor r (after_promise ((slots s).acceptor r) b)

@@ -1,0 +1,3 @@
+pub mod BySlot
+pub mod Telling
+pub mod Drafts

@@ -1,0 +1,37 @@
+-- The world as the instances of its slots see it.
+use Rattle.std.specs.Prelude.{◌≡◌, ℕ, List, [], Contains, Option, None, Some, slice_get, length}
+use Rattle.std.specs.Option.{option_map_or}
+use Rattle.crsm_spec.specs.Lists.{numbers_below}
+use Rattle.crsm_mpspec.specs.declared.MpMessage.{MpMessage}
+use Rattle.crsm_mpspec.specs.Types.{Command}
+use Rattle.crsm_mpspec.specs.Log.{Log, promised, accepted_at, chosen_at}
+use Rattle.crsm_mpspec.specs.Replica.{Replica, Note}
+use Rattle.crsm_mpspec.specs.World.{Site, Packet, World}
+use Rattle.crsm_law_mp_slots.specs.Slots.{Seat, Sent, Slots, Holds}
+
+-- what a replica of this log holds, which is at this
+unfoldable pub seat_of : Log → Note → Seat
+seat_of log note =
+    record { promised = promised log; accepted = λ s. accepted_at s log; chosen = λ s. chosen_at s log; note = note }
+
+-- what a replica holds, up or down
+unfoldable pub seat_in : Site → Seat
+seat_in (Site.Up r) = seat_of r.log r.note
+seat_in (Site.Down log) = seat_of log Note.Idle
+
+-- what replica k holds
+unfoldable pub seat_at : World → ℕ → Seat
+seat_at w k = option_map_or seat_in (slice_get w.sites k) (seat_of [] Note.Idle)
+
+-- replica k has sent the message
+abbrev pub WasSent : World → Sent
+WasSent w k m = (i : ℕ) × (p : Packet) × (slice_get w.packets i ≡ Some p) × (p.from ≡ k) × (p.message ≡ m)
+
+-- A world of n replicas, each at its place, which is one instance for each slot; each command that was proposed is one of these.
+pub record IsSound (n : ℕ) (own : List Command) (w : World) : Type 0 where
+  pub size : w.n ≡ n
+  pub places : length w.sites ≡ n
+  pub me : (k : ℕ) (r : Replica) → slice_get w.sites k ≡ Some (Site.Up r) → r.me ≡ k
+  pub count : (k : ℕ) (r : Replica) → slice_get w.sites k ≡ Some (Site.Up r) → r.n ≡ n
+  pub slots : Slots
+  pub holds : Holds (numbers_below n) (λ c. Contains own c) (seat_at w) (WasSent w) slots
