@@ -19,7 +19,7 @@ use Rattle.crsm_mpspec.specs.Draft.{Draft, keep_as, keep, send, send_to_each, no
 use Rattle.crsm_law_mp_slots.specs.Slots.{Seat, Sent, Slots, HasVoted, HasProposed, IsAsking, IsLeading, NoteHolds}
 use Rattle.crsm_law_mp_slots.proofs.Turns.{AsksAsSent}
 use Rattle.crsm_law_mp_slots.proofs.Changes.{Stands, IsTrueNow, noted, sent_too, note_holds, chosen_here, asks_as_sent, promise, promised_more, promising, not_proposed, not_asked}
-use Rattle.crsm_law_mp_slots.proofs.Voting.{held_below, vote, voted_more, has_voted, voted_proposed, held_voted}
+use Rattle.crsm_law_mp_slots.proofs.Voting.{held_below, vote, voted_more, has_voted, voted_proposed, held_voted, idle_asks}
 use Rattle.crsm_law_mp_steps.specs.Seats.{seat_of}
 
 -- what the replica of a draft holds
@@ -92,6 +92,10 @@ module _ (n : ℕ) (Own : Command → Type 0) (base : ℕ → Seat) (sent : Sent
     pub count : x.replica.n ≡ n
     pub stands : Stands (numbers_below n) Own base sent k (seat_now x) x.sends slots
 
+  -- it holds with some instances
+  abbrev pub Good : Draft → Type 0
+  Good x = (slots : Slots) × At x slots
+
   -- a message is true in the middle of a step
   abbrev pub IsTrueAt : Draft → List (ℕ × MpMessage) → Slots → MpMessage → Type 0
   IsTrueAt x sends slots m = IsTrueNow (numbers_below n) Own base sent k (seat_now x) sends slots m
@@ -150,6 +154,17 @@ module _ (n : ℕ) (Own : Command → Type 0) (base : ℕ → Seat) (sent : Sent
         asks;
   }
 
+  -- it is at this already
+  pub same_asks : (x : Draft) (slots : Slots) → At x slots → (note : Note) → x.replica.note ≡ note →
+      AsksAsSent (λ j m. sent j m ⊎ ((j ≡ k) × (to : ℕ) × Contains x.sends (to, m))) (seat_of x.replica.log note)
+  unfolding seat_of
+  same_asks x slots a note same b start reports is =
+      asks_as_sent (numbers_below n) Own base sent k (seat_now x) x.sends slots a.stands b start reports (same ∙ is)
+
+  pub note_idle : (x : Draft) (slots : Slots) → At x slots → At (noting Note.Idle x) slots
+  unfolding seat_of
+  note_idle x slots a = note_as x slots a Note.Idle tt (idle_asks (λ j m. sent j m ⊎ ((j ≡ k) × (to : ℕ) × Contains x.sends (to, m))) (seat_of x.replica.log Note.Idle) refl)
+
   -- ---- promises
 
   module _ (x : Draft) (slots : Slots) (a : At x slots) (b : Ballot) (above : ballot_lt (promised x.replica.log) b ≡ true) where
@@ -157,7 +172,7 @@ module _ (n : ℕ) (Own : Command → Type 0) (base : ℕ → Seat) (sent : Sent
     unfolding seat_of
     ends_at = ends (numbers_below n) slots k (seat_now x) b above x.replica.note (note_at x slots a)
 
-    pub promised_slots : Slots
+    unfoldable pub promised_slots : Slots
     unfolding seat_of
     promised_slots = promised_more (numbers_below n) Own base sent k (seat_now x) x.sends slots a.stands b above
 

@@ -1,3 +1,5 @@
 pub mod BySlot
 pub mod Telling
 pub mod Drafts
+pub mod Accepting
+pub mod Leading
