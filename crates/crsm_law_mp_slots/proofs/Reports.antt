@@ -5,19 +5,21 @@ use Rattle.std.proofs.lemmas.Bool.Decides.{nat_tests}
 use Rattle.std.proofs.lemmas.List.{length-map}
 use Rattle.std.proofs.lemmas.List.Elements.{Contains-append_left, Contains-push_cases}
 use Rattle.crsm_base.specs.Order.{ballot_lt}
-use Rattle.crsm_spec.specs.Paxos.{Held, Instance, majority, IsMajority, IsChosen}
+use Rattle.crsm_spec.specs.Paxos.{Held, Instance, Answer, Found, best_of, value_of, value_of_best, majority, IsMajority, IsChosen}
 use Rattle.crsm_spec.specs.Following.{IsReached, IsUnused, IsUsed, lowest}
 use Rattle.crsm_safety.proofs.Paxos.Majority.{nat_eq_is, nat_eq_itself}
 use Rattle.crsm_safety.proofs.Paxos.Repeats.{repeated}
+use Rattle.crsm_safety.proofs.Paxos.Best.{IsBest, best_is}
 use Rattle.crsm_mpspec.specs.declared.MpMessage.{MpMessage}
 use Rattle.crsm_mpspec.specs.declared.MpChosen.{MpChosen}
 use Rattle.crsm_mpspec.specs.Types.{Ballot, Command, Value}
 use Rattle.crsm_mpspec.specs.Replica.{Report, Note, with_report, voters_at}
-use Rattle.crsm_mpspec.specs.Electing.{held_at, next_slot}
+use Rattle.crsm_mpspec.specs.Electing.{held_at, next_slot, answers_at}
 use Rattle.crsm_law_mp_slots.specs.Slots.{Seat, Sent, Slots, HasPromised, HasVoted, HasProposed, AreChosen, HasReported, IsAsking, IsLeading, NoteHolds, Holds}
+use Rattle.crsm_law_mp_slots.proofs.Agree.{invariant}
 use Rattle.crsm_law_mp_slots.proofs.Changes.{Stands, acceptor_is, chosen_here}
 use Rattle.crsm_law_mp_slots.proofs.Voting.{held_voted, voted_proposed, one_proposed, same_some}
-use Rattle.crsm_law_mp_slots.proofs.Lists.{cons_cases, first_in, later_in, none_in, voter_in, voters_push}
+use Rattle.crsm_law_mp_slots.proofs.Lists.{cons_cases, first_in, later_in, none_in, voter_in, voters_push, answer_of_report}
 
 -- ---- the list of reports
 
@@ -227,3 +229,20 @@ module _ (spec : List ℕ) (Own : Command → Type 0) (base : ℕ → Seat) (sen
           let same : (b, w) ≡ a = same_some (b, w) a (sym accepted ∙ is) in
           subst (λ u. HasVoted (slots s) b k u.1) same vote;
     }
+
+    -- what the reports leave to propose at a slot is a noop or an own command
+    pub owned_answers : (s : ℕ) → start ≤ s → (c : Command) → value_of None (answers_at s reports) ≡ Some c → Own c
+    owned_answers s late c is = go (best_of (answers_at s reports)) (best_is Value (answers_at s reports)) is
+      where
+        none : {X : Type 0} (y : X) → None ≡ Some y → ⊥
+        none y e = cc
+
+        go : (best : Option (Found Value)) → IsBest Value (answers_at s reports) best → value_of_best None best ≡ Some c → Own c
+        go None g e = absurd (none c e)
+        go (Some f) g e =
+            let (y, there, of_it) = answer_of_report s reports (record { replica = f.replica; accepted = Some (f.ballot, f.value) }) g.named in
+            let answered : Contains (slots s).promises (record { ballot = b; answer = record { replica = f.replica; accepted = Some (f.ballot, f.value) } }) =
+            subst (λ z. Contains (slots s).promises (record { ballot = b; answer = z })) of_it (leads.answered s late y there) in
+            let proposed : HasProposed (slots s) f.ballot f.value =
+            (invariant spec (slots s) (h.reached s)).answer_proposed (record { ballot = b; answer = record { replica = f.replica; accepted = Some (f.ballot, f.value) } }) answered (f.ballot, f.value) refl in
+            h.owned s (record { ballot = f.ballot; value = f.value }) c proposed e

@@ -3,3 +3,4 @@ pub mod Telling
 pub mod Drafts
 pub mod Accepting
 pub mod Leading
+pub mod Electing
