@@ -166,3 +166,117 @@ module _ (n : ℕ) (Own : Command → Type 0) (base : ℕ → Seat) (sent : Sent
           by_tests true same false new = counted (ballot_eq_is c b same) new
           by_tests true same true new = (slots, a)
           by_tests false same u new = (slots, a)
+
+  -- ---- asking
+
+  module _ (x : Draft) (slots : Slots) (a : At n Own base sent k x slots) (b : Ballot) (by : b.by ≡ k) (above : ballot_lt (promised x.replica.log) b ≡ true)
+      (high : ballot_lt lowest b ≡ true) where
+    promised_draft : Draft
+    promised_draft = keep (MpRec.Promise b) x
+
+    begin : ℕ
+    begin = length (executed promised_draft.replica.log)
+
+    more : Slots
+    more = promised_slots n Own base sent k x slots a b above
+
+    at_promise : At n Own base sent k promised_draft more
+    unfolding promised_draft more
+    at_promise = promise_at n Own base sent k x slots a b above
+
+    not_used : (s : ℕ) → IsUnused (more s) b
+    unfolding more promised_slots promised_more seat_of
+    not_used s = not_proposed (numbers_below n) Own base sent k (seat_now x) x.sends slots a.stands b by above s
+
+    not_sent : (i from : ℕ) → (sent i (MpMessage.Prep b from) ⊎ ((i ≡ k) × (to : ℕ) × Contains promised_draft.sends (to, MpMessage.Prep b from))) → ⊥
+    unfolding promised_draft keep keep_as seat_of
+    not_sent i from there = not_asked (numbers_below n) Own base sent k (seat_now x) x.sends slots a.stands b by above i from there
+
+    promised_now : promised promised_draft.replica.log ≡ b
+    unfolding promised_draft keep keep_as promised
+    promised_now = refl
+
+    own_report : Report
+    own_report = report begin promised_draft.replica
+
+    asking : Note
+    asking = Note.Asking b begin (own_report ∷ [])
+
+    reported_true : HasReported (numbers_below n) more b begin own_report
+    unfolding own_report report seat_of
+    reported_true =
+        report_true (numbers_below n) Own base sent k (seat_now promised_draft) promised_draft.sends more at_promise.stands b promised_now high begin
+        (report begin promised_draft.replica) at_promise.me
+        (λ s late. accepted_told begin s late promised_draft.replica.log) (λ c there. chosen_told begin promised_draft.replica.log c there)
+
+    asks_now : IsAsking (numbers_below n) more k (seat_now promised_draft) b begin (own_report ∷ [])
+    unfolding seat_of own_report report
+    asks_now =
+        begins_to_ask (numbers_below n) Own base sent k (seat_now promised_draft) promised_draft.sends more at_promise.stands member b by promised_now not_used begin own_report
+        at_promise.me reported_true
+
+    asks_same : {c : Ballot} {first : ℕ} {others : List Report} → asking ≡ Note.Asking c first others → (b ≡ c) × (begin ≡ first)
+    unfolding asking
+    asks_same e = (cc, cc)
+
+    asker : Draft
+    asker = noting asking promised_draft
+
+    at_asker : At n Own base sent k asker more
+    unfolding asker asking seat_of
+    at_asker = note_as n Own base sent k promised_draft more at_promise (Note.Asking b begin (own_report ∷ [])) asks_now (λ c first others e i at there.
+        absurd (not_sent i at (subst (λ z. sent i (MpMessage.Prep z at) ⊎ ((i ≡ k) × (to : ℕ) × Contains promised_draft.sends (to, MpMessage.Prep z at))) (sym (asks_same e).0) there)))
+
+    has_asked : HasAsked (seat_now asker) b begin
+    unfolding asker asking noting seat_of
+    has_asked = record {
+      promised = subst (λ c. ballot_lt c b ≡ false) (sym promised_now) (below-irrefl b);
+      same = λ from others e. sym (asks_same e).1;
+    }
+
+    told : Draft
+    told = send_to_others (MpMessage.Prep b begin) asker
+
+    at_told : At n Own base sent k told more
+    unfolding told
+    at_told = send_others_at n Own base sent k asker more at_asker (MpMessage.Prep b begin) (λ sends. (
+      high,
+      subst (λ j. HasAsked (changed base k (seat_now asker) j) b begin) (sym by)
+          (subst (λ y. HasAsked y b begin) (sym (seat (numbers_below n) Own base sent k (seat_now asker))) has_asked),
+    ))
+
+    told_note : told.replica.note ≡ asking
+    unfolding told send_to_others asker noting
+    told_note = ap (λ r. r.note) (sends_replica (others asker.replica) (MpMessage.Prep b begin) asker)
+
+    pub ask_at : Good n Own base sent k (ask b x)
+    unfolding ask lead_at_majority told asker asking own_report begin promised_draft
+    ask_at = lead_by_at told more at_told told.replica.note refl
+
+  pub on_lead_at : (x : Draft) (slots : Slots) → At n Own base sent k x slots → Good n Own base sent k (on_lead x)
+  unfolding on_lead when◌then◌otherwise◌ noting without_lead ballot_lt
+  on_lead_at x slots a = go ((promised x.replica.log).round == u64_max)
+    where
+      y : Draft
+      y = noting (without_lead x.replica.note) x
+
+      by_note : (note : Note) → x.replica.note ≡ note → At n Own base sent k (noting (without_lead note) x) slots
+      by_note Note.Idle is = note_idle n Own base sent k x slots a
+      by_note (Note.Asking b start reports) is =
+          note_as n Own base sent k x slots a (Note.Asking b start reports)
+          (subst (λ z. NoteHolds (numbers_below n) slots k (seat_now x) z) is (note_at n Own base sent k x slots a))
+          (same_asks n Own base sent k x slots a (Note.Asking b start reports) is)
+      by_note (Note.Leading b start next reports votes) is = note_idle n Own base sent k x slots a
+
+      next : Ballot
+      next = record { round = (promised x.replica.log).round + 1; by = x.replica.me }
+
+      above : ballot_lt (promised x.replica.log) next ≡ true
+      above = grind (arith, nat_tests)
+
+      high : ballot_lt lowest next ≡ true
+      high = grind (arith, nat_tests)
+
+      go : (t : Bool) → Good n Own base sent k (when t then y otherwise ask next y)
+      go true = (slots, by_note x.replica.note refl)
+      go false = ask_at y slots (by_note x.replica.note refl) next a.me above high
