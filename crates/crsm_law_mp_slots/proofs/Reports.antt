@@ -108,11 +108,12 @@ module _ (spec : List ℕ) (Own : Command → Type 0) (base : ℕ → Seat) (sen
   }
 
   -- a replica begins to ask in a ballot of its own that it promised, with its own report
-  pub begins_to_ask : Contains spec r → (b : Ballot) → b.by ≡ r → x.promised ≡ b → ((s : ℕ) → IsUnused (slots s) b) → (start : ℕ) (y : Report) → y.from ≡ r →
+  pub begins_to_ask : Contains spec r → (b : Ballot) → b.by ≡ r → ballot_lt lowest b ≡ true → x.promised ≡ b → ((s : ℕ) → IsUnused (slots s) b) → (start : ℕ) (y : Report) → y.from ≡ r →
       HasReported spec slots b start y → IsAsking spec slots r x b start (y ∷ [])
   unfolding IsDistinct
-  begins_to_ask member b by current unused start y from true_one = record {
+  begins_to_ask member b by high current unused start y from true_one = record {
     by = by;
+    high = high;
     current = current;
     unused = unused;
     answered = λ s late z c. elim (cons_cases y [] z c) [
@@ -139,6 +140,7 @@ module _ (spec : List ℕ) (Own : Command → Type 0) (base : ℕ → Seat) (sen
         IsAsking spec slots r x b start (with_report y reports)
     counts_report y member true_one new = record {
       by = asks.by;
+      high = asks.high;
       current = asks.current;
       unused = asks.unused;
       answered = λ s late z c. elim (in_with_report y reports z c) [

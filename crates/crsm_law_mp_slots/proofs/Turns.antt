@@ -46,6 +46,7 @@ module _ (spec : List ℕ) (Own : Command → Type 0) where
     other_note k apart x Note.Idle h = tt
     other_note k apart x (Note.Asking b start reports) h = record {
       by = h.by;
+      high = h.high;
       current = h.current;
       unused = λ s q c same. elim (proposed s q c) [
         | inl old ↦ h.unused s q old same

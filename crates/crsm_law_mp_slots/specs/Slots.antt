@@ -45,6 +45,7 @@ AreChosen spec slots y = (c : MpChosen) → Contains y.chosen c → IsChosen spe
 -- is what replicas answered with their promises from the slot on that it asked for.
 pub record IsAsking (spec : List ℕ) (slots : Slots) (k : ℕ) (x : Seat) (b : Ballot) (start : ℕ) (reports : List Report) : Type 0 where
   pub by : b.by ≡ k
+  pub high : ballot_lt lowest b ≡ true
   pub current : x.promised ≡ b
   pub unused : (s : ℕ) → IsUnused (slots s) b
   pub answered : (s : ℕ) → start ≤ s → (y : Report) → Contains reports y → HasPromised (slots s) b y.from (held_at s y.accepted)

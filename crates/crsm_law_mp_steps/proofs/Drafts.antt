@@ -57,6 +57,7 @@ pub note_of_same : (spec : List ℕ) (slots : Slots) (k : ℕ) (x y : Seat) → 
 note_of_same spec slots k x y raised accepted Note.Idle h = tt
 note_of_same spec slots k x y raised accepted (Note.Asking b start reports) h = record {
   by = h.by;
+  high = h.high;
   current = raised ∙ h.current;
   unused = h.unused;
   answered = h.answered;

@@ -212,7 +212,7 @@ module _ (n : ℕ) (Own : Command → Type 0) (base : ℕ → Seat) (sent : Sent
     asks_now : IsAsking (numbers_below n) more k (seat_now promised_draft) b begin (own_report ∷ [])
     unfolding seat_of own_report report
     asks_now =
-        begins_to_ask (numbers_below n) Own base sent k (seat_now promised_draft) promised_draft.sends more at_promise.stands member b by promised_now not_used begin own_report
+        begins_to_ask (numbers_below n) Own base sent k (seat_now promised_draft) promised_draft.sends more at_promise.stands member b by high promised_now not_used begin own_report
         at_promise.me reported_true
 
     asks_same : {c : Ballot} {first : ℕ} {others : List Report} → asking ≡ Note.Asking c first others → (b ≡ c) × (begin ≡ first)

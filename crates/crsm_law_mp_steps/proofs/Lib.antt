@@ -4,3 +4,4 @@ pub mod Drafts
 pub mod Accepting
 pub mod Leading
 pub mod Electing
+pub mod Steps

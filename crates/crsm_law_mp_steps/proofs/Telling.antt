@@ -35,7 +35,7 @@ in_flat_map f (x ∷ xs) y c =
       | inr rest ↦ let (z, there, is) = in_flat_map f xs y rest in (z, later_in x xs z there, is)
     ]
 
-in_take : {X : Type 0} (n : ℕ) (xs : List X) (x : X) → Contains (take n xs) x → Contains xs x
+pub in_take : {X : Type 0} (n : ℕ) (xs : List X) (x : X) → Contains (take n xs) x → Contains xs x
 in_take zero xs x c = absurd (none_in x c)
 in_take (suc n) [] x c = c
 in_take (suc n) (y ∷ xs) x c =
