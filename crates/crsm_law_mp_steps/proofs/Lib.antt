@@ -5,3 +5,4 @@ pub mod Accepting
 pub mod Leading
 pub mod Electing
 pub mod Steps
+pub mod Worlds

@@ -21,6 +21,7 @@ use Rattle.crsm_mpspec.specs.Log.{Log, accepted_at, is_chosen, executed}
 use Rattle.crsm_mpspec.specs.Values.{is_command}
 use Rattle.crsm_mpspec.specs.Replica.{Replica, Report, Note, Waiting, others, slots_of}
 use Rattle.crsm_mpspec.specs.Draft.{Draft, begun, send, send_to_each, send_to_others, reply}
+use Rattle.crsm_mpspec.specs.Deciding.{on_request, refuse}
 use Rattle.crsm_mpspec.specs.Step.{teach, on_ask, unreported, open_slots, unvoted, propose_again, renew, on_tick, on_message, on_input, reply_line, answer, answer_each, replies, step}
 use Rattle.crsm_law_mp_slots.specs.Slots.{Seat, Sent, Slots, HasAsked, HasProposed, IsAsking, IsLeading, NoteHolds, IsTrueMessage}
 use Rattle.crsm_law_mp_slots.proofs.Changes.{Stands, with_sends, seat, asks_as_sent}
@@ -40,6 +41,10 @@ in_slots k votes s c =
     let passes : (v.1 == k) ≡ true = All-contains (λ w. (w.1 == k) ≡ true) (filter (λ w. w.1 == k) votes) v (filter_passes (λ w. w.1 == k) votes) kept in
     let there : Contains votes v = in_filter (λ w. w.1 == k) votes v kept in
     subst (λ j. Contains votes (s, j)) (nat_eq_is v.1 k passes) (subst (λ t. Contains votes (t, v.1)) is there)
+
+-- the command is refused
+abbrev pub IsRefused : Command → Draft → Type 0
+IsRefused c x = (code : ℕ) × (on_request c x ≡ refuse code c x)
 
 module _ (n : ℕ) (Own : Command → Type 0) (base : ℕ → Seat) (sent : Sent) (k : ℕ) (member : Contains (numbers_below n) k) where
   -- ---- who asks for executed values is told
@@ -112,6 +117,10 @@ module _ (n : ℕ) (Own : Command → Type 0) (base : ℕ → Seat) (sent : Sent
   on_tick_at x slots a =
       send_others_at n Own base sent k (renew x.replica.note x) slots (renew_at x slots a x.replica.note refl) (MpMessage.Ask (length (executed x.replica.log))) (λ sends. tt)
 
+  refused_at : (x : Draft) (slots : Slots) → At n Own base sent k x slots → (code : ℕ) (c : Command) → At n Own base sent k (refuse code c x) slots
+  unfolding refuse
+  refused_at x slots a code c = reply_at n Own base sent k x slots a (MpLine.ReplyNo x.replica.me c.client c.number code)
+
   -- ---- any input
 
   on_message_at : (x : Draft) (slots : Slots) → At n Own base sent k x slots → x.sends ≡ [] → (from : ℕ) (m : MpMessage) → sent from m → Good n Own base sent k (on_message from m x)
@@ -135,16 +144,20 @@ module _ (n : ℕ) (Own : Command → Type 0) (base : ℕ → Seat) (sent : Sent
       go (MpMessage.Learn s v) there t = (slots, learn_at n Own base sent k member x slots a s v t)
       go (MpMessage.Ask start) there t = (slots, on_ask_at x slots a from start)
 
-  -- an input that can come: a message that was sent, or a command of these
-  abbrev pub CanCome : MpInput → ℕ → Type 0
-  CanCome (MpInput.Request c) from = Own c
-  CanCome (MpInput.Message m) from = sent from m
-  CanCome MpInput.Tick from = Unit {0}
-  CanCome MpInput.Lead from = Unit {0}
+  -- an input that can come: a message that was sent, or a command that is one of these or is refused
+  abbrev pub CanCome : Draft → MpInput → ℕ → Type 0
+  CanCome x (MpInput.Request c) from = Own c ⊎ IsRefused c x
+  CanCome x (MpInput.Message m) from = sent from m
+  CanCome x MpInput.Tick from = Unit {0}
+  CanCome x MpInput.Lead from = Unit {0}
 
-  on_input_at : (x : Draft) (slots : Slots) → At n Own base sent k x slots → x.sends ≡ [] → (input : MpInput) (from : ℕ) → CanCome input from → Good n Own base sent k (on_input input from x)
+  on_input_at : (x : Draft) (slots : Slots) → At n Own base sent k x slots → x.sends ≡ [] → (input : MpInput) (from : ℕ) → CanCome x input from → Good n Own base sent k (on_input input from x)
   unfolding on_input
-  on_input_at x slots a none (MpInput.Request c) from can = on_request_at n Own base sent k member c can x slots a
+  on_input_at x slots a none (MpInput.Request c) from can =
+      elim can [
+        | inl owned ↦ on_request_at n Own base sent k member c owned x slots a
+        | inr refused ↦ (slots, subst (λ y. At n Own base sent k y slots) (sym refused.1) (refused_at x slots a refused.0 c))
+      ]
   on_input_at x slots a none (MpInput.Message m) from can = on_message_at x slots a none from m can
   on_input_at x slots a none MpInput.Tick from can = (slots, on_tick_at x slots a)
   on_input_at x slots a none MpInput.Lead from can = on_lead_at n Own base sent k member x slots a
@@ -162,7 +175,7 @@ module _ (n : ℕ) (Own : Command → Type 0) (base : ℕ → Seat) (sent : Sent
 
   -- A step keeps what holds.
   pub step_at : (r : Replica) (slots : Slots) → r.me ≡ k → r.n ≡ n → Stands (numbers_below n) Own base sent k (seat_of r.log r.note) [] slots →
-      (input : MpInput) (from : ℕ) → CanCome input from → Good n Own base sent k (step r input from)
+      (input : MpInput) (from : ℕ) → CanCome (begun r) input from → Good n Own base sent k (step r input from)
   unfolding step replies begun
   step_at r slots me count stands input from can =
       let (more, at) = on_input_at (begun r) slots (record { me = me; count = count; stands = stands }) refl input from can in

@@ -23,15 +23,14 @@ seat_in (Site.Down log) = seat_of log Note.Idle
 unfoldable pub seat_at : World → ℕ → Seat
 seat_at w k = option_map_or seat_in (slice_get w.sites k) (seat_of [] Note.Idle)
 
--- replica k has sent the message
-abbrev pub WasSent : World → Sent
-WasSent w k m = (i : ℕ) × (p : Packet) × (slice_get w.packets i ≡ Some p) × (p.from ≡ k) × (p.message ≡ m)
-
--- A world of n replicas, each at its place, which is one instance for each slot; each command that was proposed is one of these.
+-- A world of n replicas, each at its place, which is one instance for each slot. Each command that was proposed is one of `own`, and
+-- each message that was sent is one that was made; those that a stop kept back were made, too.
 pub record IsSound (n : ℕ) (own : List Command) (w : World) : Type 0 where
   pub size : w.n ≡ n
   pub places : length w.sites ≡ n
   pub me : (k : ℕ) (r : Replica) → slice_get w.sites k ≡ Some (Site.Up r) → r.me ≡ k
   pub count : (k : ℕ) (r : Replica) → slice_get w.sites k ≡ Some (Site.Up r) → r.n ≡ n
+  pub made : List (ℕ × MpMessage)
+  pub sent : (p : Packet) → Contains w.packets p → Contains made (p.from, p.message)
   pub slots : Slots
-  pub holds : Holds (numbers_below n) (λ c. Contains own c) (seat_at w) (WasSent w) slots
+  pub holds : Holds (numbers_below n) (λ c. Contains own c) (seat_at w) (λ k m. Contains made (k, m)) slots
