@@ -15,17 +15,17 @@ use Rattle.crsm_safety.proofs.Paxos.Repeats.{reached_more, chosen_more}
 use Rattle.crsm_mpspec.specs.declared.MpMessage.{MpMessage}
 use Rattle.crsm_mpspec.specs.Types.{Ballot, Command, Value}
 use Rattle.crsm_mpspec.specs.Replica.{Report, Note}
-use Rattle.crsm_law_mp_slots.specs.Slots.{Seat, Sent, Slots, HasAsked, HasReported, HasPromised, HasVoted, HasProposed, IsAsking, NoteHolds, IsTrueMessage, Holds}
+use Rattle.crsm_law_mp_slots.specs.Slots.{Seat, Sent, Slots, HasAsked, HasReported, HasPromised, HasVoted, HasProposed, IsAsking, NoteHolds, IsTrueMessage, Holds, Past}
 use Rattle.crsm_law_mp_slots.proofs.Turns.{Grows, IsOldOrBy, AsksAsSent, turn}
 
 -- what was sent before, and these messages of replica r
 abbrev pub with_sends : Sent → ℕ → List (ℕ × MpMessage) → Sent
 with_sends sent r sends k m = sent k m ⊎ ((k ≡ r) × (to : ℕ) × Contains sends (to, m))
 
-module _ (spec : List ℕ) (Own : Command → Type 0) (base : ℕ → Seat) (sent : Sent) (r : ℕ) where
+module _ (spec : List ℕ) (past : Past) (base : ℕ → Seat) (sent : Sent) (r : ℕ) where
   -- all holds in the middle of a step of replica r
   abbrev pub Stands : Seat → List (ℕ × MpMessage) → Slots → Type 0
-  Stands x sends slots = Holds spec Own (changed base r x) (with_sends sent r sends) slots
+  Stands x sends slots = Holds spec past (changed base r x) (with_sends sent r sends) slots
 
   -- what a message of r would say is true in the middle of a step
   abbrev pub IsTrueNow : Seat → List (ℕ × MpMessage) → Slots → MpMessage → Type 0
@@ -47,7 +47,7 @@ module _ (spec : List ℕ) (Own : Command → Type 0) (base : ℕ → Seat) (sen
       (raised : ballot_lt x'.promised x.promised ≡ false)
       (same_here : (s : ℕ) → (more s).acceptor r ≡ record { promised = x'.promised; accepted = x'.accepted s })
       (same_elsewhere : (s k : ℕ) → k ≢ r → (more s).acceptor k ≡ (slots s).acceptor k)
-      (proposed : (s : ℕ) (q : Proposal Value) → Contains (more s).proposals q → IsOldOrBy Own r x' (slots s) q)
+      (proposed : (s : ℕ) (q : Proposal Value) → Contains (more s).proposals q → IsOldOrBy past r x' (slots s) q)
       (chosen : (s : ℕ) (v : Value) → x'.chosen s ≡ Some v → IsChosen spec (more s) v)
       (noted : NoteHolds spec more r x' x'.note)
       (asks : AsksAsSent (with_sends sent r sends) x')
@@ -55,7 +55,7 @@ module _ (spec : List ℕ) (Own : Command → Type 0) (base : ℕ → Seat) (sen
       (new : (p : ℕ × MpMessage) → Contains sends' p → Contains sends p ⊎ IsTrueNow x' sends' more p.1) where
     pub change : Stands x' sends' more
     change =
-        turn spec Own (changed base r x) (changed base r x') (with_sends sent r sends) (with_sends sent r sends') slots more h g
+        turn spec past (changed base r x) (changed base r x') (with_sends sent r sends) (with_sends sent r sends') slots more h g
         r x' (seat x')
         (λ k apart. changed_cases base r x' k (λ y. y ≡ changed base r x k) (λ is. absurd (apart is))
         (λ other. changed_cases base r x k (λ y. base k ≡ y) (λ is. absurd (apart is)) (λ also. refl)))
@@ -200,7 +200,7 @@ module _ (spec : List ℕ) (Own : Command → Type 0) (base : ℕ → Seat) (sen
           (acceptor_here : z.acceptor r ≡ record { promised = x'.promised; accepted = x'.accepted s })
           (acceptor_elsewhere : (k : ℕ) → k ≢ r → z.acceptor k ≡ (slots s).acceptor k)
           (accepted_elsewhere : (t : ℕ) → t ≢ s → x'.accepted t ≡ x.accepted t)
-          (proposed : (q : Proposal Value) → Contains z.proposals q → IsOldOrBy Own r x' (slots s) q)
+          (proposed : (q : Proposal Value) → Contains z.proposals q → IsOldOrBy past r x' (slots s) q)
           (chosen : (t : ℕ) (v : Value) → x'.chosen t ≡ Some v → x.chosen t ≡ Some v)
           (holds : NoteHolds spec (changed slots s z) r x' x'.note)
           (asks : AsksAsSent (with_sends sent r sends) x') where
@@ -219,7 +219,7 @@ module _ (spec : List ℕ) (Own : Command → Type 0) (base : ℕ → Seat) (sen
             (λ other. elsewhere_is t other))
             (λ t k apart. changed_cases slots s z t (λ y. y.acceptor k ≡ (slots t).acceptor k)
             (λ is. subst (λ j. z.acceptor k ≡ (slots j).acceptor k) (sym is) (acceptor_elsewhere k apart)) (λ other. refl))
-            (λ t q. changed_cases slots s z t (λ y. Contains y.proposals q → IsOldOrBy Own r x' (slots t) q)
-            (λ is c. subst (λ j. IsOldOrBy Own r x' (slots j) q) (sym is) (proposed q c)) (λ other c. inl c))
+            (λ t q. changed_cases slots s z t (λ y. Contains y.proposals q → IsOldOrBy past r x' (slots t) q)
+            (λ is c. subst (λ j. IsOldOrBy past r x' (slots j) q) (sym is) (proposed q c)) (λ other c. inl c))
             (λ t v is. grows-slot.chosen t v (chosen_here t v (chosen t v is)))
             holds asks (λ p c. c) (λ p c. inl c)

@@ -15,7 +15,7 @@ use Rattle.crsm_mpspec.specs.declared.MpChosen.{MpChosen}
 use Rattle.crsm_mpspec.specs.Types.{Ballot, Command, Value}
 use Rattle.crsm_mpspec.specs.Replica.{Report, Note, with_report, voters_at}
 use Rattle.crsm_mpspec.specs.Electing.{held_at, next_slot, answers_at}
-use Rattle.crsm_law_mp_slots.specs.Slots.{Seat, Sent, Slots, HasPromised, HasVoted, HasProposed, AreChosen, HasReported, IsAsking, IsLeading, NoteHolds, Holds}
+use Rattle.crsm_law_mp_slots.specs.Slots.{Seat, Sent, Slots, HasPromised, HasVoted, HasProposed, AreChosen, HasReported, IsAsking, IsLeading, NoteHolds, Holds, Past}
 use Rattle.crsm_law_mp_slots.proofs.Agree.{invariant}
 use Rattle.crsm_law_mp_slots.proofs.Changes.{Stands, acceptor_is, chosen_here}
 use Rattle.crsm_law_mp_slots.proofs.Voting.{held_voted, voted_proposed, one_proposed, same_some}
@@ -85,8 +85,8 @@ distinct_with y (s ∷ reports) none d =
     go true more = (apart_from y.from (map (λ z. z.from) (s ∷ reports)) none, d)
     go false more = (all_with (λ k. nat_eq s.from k ≡ false) y reports not_first d.0, more)
 
-module _ (spec : List ℕ) (Own : Command → Type 0) (base : ℕ → Seat) (sent : Sent) (r : ℕ) (x : Seat) (sends : List (ℕ × MpMessage)) (slots : Slots)
-    (h : Stands spec Own base sent r x sends slots) where
+module _ (spec : List ℕ) (past : Past) (base : ℕ → Seat) (sent : Sent) (r : ℕ) (x : Seat) (sends : List (ℕ × MpMessage)) (slots : Slots)
+    (h : Stands spec past base sent r x sends slots) where
   -- ---- asking
 
   -- a promise that was answered with what the acceptor holds, or that of a ballot which has proposed
@@ -94,7 +94,7 @@ module _ (spec : List ℕ) (Own : Command → Type 0) (base : ℕ → Seat) (sen
   answered_now b current high s =
       subst (λ c. HasPromised (slots s) c r (x.accepted s) ⊎ IsUsed (slots s) c) current
       (subst (λ a. ballot_lt lowest a.promised ≡ true → HasPromised (slots s) a.promised r a.accepted ⊎ IsUsed (slots s) a.promised)
-      (acceptor_is spec Own base sent r x sends slots h s) (repeated Value spec (slots s) r (h.reached s))
+      (acceptor_is spec past base sent r x sends slots h s) (repeated Value spec (slots s) r (h.reached s))
       (subst (λ c. ballot_lt lowest c ≡ true) (sym current) high))
 
   -- what r reports of itself is true
@@ -104,7 +104,7 @@ module _ (spec : List ℕ) (Own : Command → Type 0) (base : ℕ → Seat) (sen
   report_true b current high start y from accepted chosen = record {
     answered = λ s late. subst (λ k. HasPromised (slots s) b k (held_at s y.accepted) ⊎ IsUsed (slots s) b) (sym from)
         (subst (λ a. HasPromised (slots s) b r a ⊎ IsUsed (slots s) b) (sym (accepted s late)) (answered_now b current high s));
-    chosen = λ c there. chosen_here spec Own base sent r x sends slots h c.slot c.value (chosen c there);
+    chosen = λ c there. chosen_here spec past base sent r x sends slots h c.slot c.value (chosen c there);
   }
 
   -- a replica begins to ask in a ballot of its own that it promised, with its own report
@@ -181,8 +181,8 @@ module _ (spec : List ℕ) (Own : Command → Type 0) (base : ℕ → Seat) (sen
         IsLeading spec slots r x b start next reports (votes ++ (s, k) ∷ [])
     counts_vote s k member v vote own new =
         let (of_spec, w, accepted, own_vote) = leads.voted s r own in
-        let same : v ≡ w = one_proposed spec Own base sent r x sends slots h s b v w
-        (voted_proposed spec Own base sent r x sends slots h s b k v vote) (voted_proposed spec Own base sent r x sends slots h s b r w own_vote) in
+        let same : v ≡ w = one_proposed spec past base sent r x sends slots h s b v w
+        (voted_proposed spec past base sent r x sends slots h s b k v vote) (voted_proposed spec past base sent r x sends slots h s b r w own_vote) in
         record {
           by = leads.by;
           current = leads.current;
@@ -233,13 +233,13 @@ module _ (spec : List ℕ) (Own : Command → Type 0) (base : ℕ → Seat) (sen
     }
 
     -- what the reports leave to propose at a slot is a noop or an own command
-    pub owned_answers : (s : ℕ) → start ≤ s → (c : Command) → value_of None (answers_at s reports) ≡ Some c → Own c
+    pub owned_answers : (s : ℕ) → start ≤ s → (c : Command) → value_of None (answers_at s reports) ≡ Some c → Contains past.submitted c
     owned_answers s late c is = go (best_of (answers_at s reports)) (best_is Value (answers_at s reports)) is
       where
         none : {X : Type 0} (y : X) → None ≡ Some y → ⊥
         none y e = cc
 
-        go : (best : Option (Found Value)) → IsBest Value (answers_at s reports) best → value_of_best None best ≡ Some c → Own c
+        go : (best : Option (Found Value)) → IsBest Value (answers_at s reports) best → value_of_best None best ≡ Some c → Contains past.submitted c
         go None g e = absurd (none c e)
         go (Some f) g e =
             let (y, there, of_it) = answer_of_report s reports (record { replica = f.replica; accepted = Some (f.ballot, f.value) }) g.named in

@@ -10,7 +10,7 @@ use Rattle.crsm_safety.proofs.Paxos.Basics.{nat_eq_not}
 use Rattle.crsm_mpspec.specs.declared.MpMessage.{MpMessage}
 use Rattle.crsm_mpspec.specs.Types.{Ballot, Command, Value}
 use Rattle.crsm_mpspec.specs.Replica.{Report, Note}
-use Rattle.crsm_law_mp_slots.specs.Slots.{Seat, Sent, Slots, HasPromised, HasVoted, HasProposed, AreChosen, IsAsking, IsLeading, NoteHolds, HasAsked, HasReported, IsTrueMessage, Holds}
+use Rattle.crsm_law_mp_slots.specs.Slots.{Seat, Sent, Slots, HasPromised, HasVoted, HasProposed, AreChosen, IsAsking, IsLeading, NoteHolds, HasAsked, HasReported, IsTrueMessage, Holds, Past}
 
 -- Instances with more steps: what was said of them stays so.
 pub record Grows (spec : List ℕ) (slots more : Slots) : Type 0 where
@@ -27,12 +27,12 @@ AsksAsSent sent x =
     (k from : ℕ) → sent k (MpMessage.Prep b from) → start ≡ from
 
 -- a proposal is one of these, or was made by replica r in a ballot that is not above its promise, of an own command
-abbrev pub IsOldOrBy : (Command → Type 0) → ℕ → Seat → Instance Value → Proposal Value → Type 0
-IsOldOrBy Own r x s q =
+abbrev pub IsOldOrBy : Past → ℕ → Seat → Instance Value → Proposal Value → Type 0
+IsOldOrBy past r x s q =
     Contains s.proposals q
-    ⊎ ((q.ballot.by ≡ r) × (ballot_lt x.promised q.ballot ≡ false) × ((c : Command) → q.value ≡ Some c → Own c))
+    ⊎ ((q.ballot.by ≡ r) × (ballot_lt x.promised q.ballot ≡ false) × ((c : Command) → q.value ≡ Some c → Contains past.submitted c))
 
-module _ (spec : List ℕ) (Own : Command → Type 0) where
+module _ (spec : List ℕ) (past : Past) where
   pub used_grows : (slots more : Slots) → Grows spec slots more → (s : ℕ) (b : Ballot) → IsUsed (slots s) b → IsUsed (more s) b
   used_grows slots more g s b u = (u.0, g.proposals s u.0 u.1, u.2)
 
@@ -40,7 +40,7 @@ module _ (spec : List ℕ) (Own : Command → Type 0) where
   chosen_grow slots more g y are c there = g.chosen c.slot c.value (are c there)
 
   module _ (slots more : Slots) (g : Grows spec slots more) (r : ℕ) (x' : Seat)
-      (proposed : (s : ℕ) (q : Proposal Value) → Contains (more s).proposals q → IsOldOrBy Own r x' (slots s) q) where
+      (proposed : (s : ℕ) (q : Proposal Value) → Contains (more s).proposals q → IsOldOrBy past r x' (slots s) q) where
     -- what another replica is at stays true
     pub other_note : (k : ℕ) → k ≢ r → (x : Seat) (note : Note) → NoteHolds spec slots k x note → NoteHolds spec more k x note
     other_note k apart x Note.Idle h = tt
@@ -72,12 +72,12 @@ module _ (spec : List ℕ) (Own : Command → Type 0) where
       once = h.once;
     }
 
-  module _ (seats seats' : ℕ → Seat) (sent sent' : Sent) (slots more : Slots) (h : Holds spec Own seats sent slots) (g : Grows spec slots more)
+  module _ (seats seats' : ℕ → Seat) (sent sent' : Sent) (slots more : Slots) (h : Holds spec past seats sent slots) (g : Grows spec slots more)
       (r : ℕ) (x' : Seat) (here : seats' r ≡ x') (elsewhere : (k : ℕ) → k ≢ r → seats' k ≡ seats k)
       (raised : ballot_lt x'.promised (seats r).promised ≡ false)
       (same_here : (s : ℕ) → (more s).acceptor r ≡ record { promised = x'.promised; accepted = x'.accepted s })
       (same_elsewhere : (s k : ℕ) → k ≢ r → (more s).acceptor k ≡ (slots s).acceptor k)
-      (proposed : (s : ℕ) (q : Proposal Value) → Contains (more s).proposals q → IsOldOrBy Own r x' (slots s) q)
+      (proposed : (s : ℕ) (q : Proposal Value) → Contains (more s).proposals q → IsOldOrBy past r x' (slots s) q)
       (chosen : (s : ℕ) (v : Value) → x'.chosen s ≡ Some v → IsChosen spec (more s) v)
       (noted : NoteHolds spec more r x' x'.note)
       (asks : AsksAsSent sent x')
@@ -127,7 +127,7 @@ module _ (spec : List ℕ) (Own : Command → Type 0) where
     old_message k (MpMessage.Learn s v) there t = g.chosen s v t
     old_message k (MpMessage.Ask start) there t = tt
 
-    pub turn : Holds spec Own seats' sent' more
+    pub turn : Holds spec past seats' sent' more
     turn = record {
       reached = g.reached;
       same = λ s. by_seat (λ k x. (more s).acceptor k ≡ record { promised = x.promised; accepted = x.accepted s })
@@ -141,6 +141,7 @@ module _ (spec : List ℕ) (Own : Command → Type 0) where
         | inl old ↦ h.owned s q c old is
         | inr new ↦ new.2 c is
       ];
+      stays = λ s v c. g.chosen s v (h.stays s v c);
       chosen = λ s. by_seat (λ k x. (v : Value) → x.chosen s ≡ Some v → IsChosen spec (more s) v)
           (chosen s) (λ k apart v is. g.chosen s v (h.chosen s k v is));
       notes = by_seat (λ k x. NoteHolds spec more k x x.note) noted

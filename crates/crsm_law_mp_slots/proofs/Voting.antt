@@ -16,7 +16,7 @@ use Rattle.crsm_mpspec.specs.declared.MpMessage.{MpMessage}
 use Rattle.crsm_mpspec.specs.Types.{Ballot, Command, Value}
 use Rattle.crsm_mpspec.specs.Replica.{Report, Note, voters_at}
 use Rattle.crsm_mpspec.specs.Electing.{answers_at, held_at, next_slot}
-use Rattle.crsm_law_mp_slots.specs.Slots.{Seat, Sent, Slots, HasPromised, HasVoted, HasProposed, IsAsking, IsLeading, NoteHolds, Holds}
+use Rattle.crsm_law_mp_slots.specs.Slots.{Seat, Sent, Slots, HasPromised, HasVoted, HasProposed, IsAsking, IsLeading, NoteHolds, Holds, Past}
 use Rattle.crsm_law_mp_slots.proofs.Turns.{Grows, IsOldOrBy, AsksAsSent}
 use Rattle.crsm_law_mp_slots.proofs.Changes.{Stands, acceptor_is, noted, stepped, grows-slot}
 use Rattle.crsm_law_mp_slots.proofs.Agree.{invariant}
@@ -47,16 +47,16 @@ acceptor_of p q a c same_p same_a =
 pub same_some : {X : Type 0} (x y : X) → Some x ≡ Some y → x ≡ y
 same_some x y e = cc
 
-module _ (spec : List ℕ) (Own : Command → Type 0) (base : ℕ → Seat) (sent : Sent) (r : ℕ) (x : Seat) (sends : List (ℕ × MpMessage)) (slots : Slots)
-    (h : Stands spec Own base sent r x sends slots) where
+module _ (spec : List ℕ) (past : Past) (base : ℕ → Seat) (sent : Sent) (r : ℕ) (x : Seat) (sends : List (ℕ × MpMessage)) (slots : Slots)
+    (h : Stands spec past base sent r x sends slots) where
   -- what r accepted at a slot is its vote
   pub held_voted : (s : ℕ) (b : Ballot) (v : Value) → x.accepted s ≡ Some (b, v) → HasVoted (slots s) b r v
   held_voted s b v is =
-      held_is_vote Value spec (slots s) r (h.reached s) (b, v) (ap (λ a. a.accepted) (acceptor_is spec Own base sent r x sends slots h s) ∙ is)
+      held_is_vote Value spec (slots s) r (h.reached s) (b, v) (ap (λ a. a.accepted) (acceptor_is spec past base sent r x sends slots h s) ∙ is)
 
   -- it is in no greater ballot than its promise
   pub held_below : (s : ℕ) (held : Ballot × Value) → x.accepted s ≡ Some held → ballot_lt x.promised held.0 ≡ false
-  held_below s = subst (λ a. IsLow Value spec a) (acceptor_is spec Own base sent r x sends slots h s) (held_low Value spec (slots s) r (h.reached s))
+  held_below s = subst (λ a. IsLow Value spec a) (acceptor_is spec past base sent r x sends slots h s) (held_low Value spec (slots s) r (h.reached s))
 
   -- a ballot with a vote has proposed its value, and no other
   pub voted_proposed : (s : ℕ) (b : Ballot) (k : ℕ) (v : Value) → HasVoted (slots s) b k v → HasProposed (slots s) b v
@@ -71,7 +71,7 @@ module _ (spec : List ℕ) (Own : Command → Type 0) (base : ℕ → Seat) (sen
       (above : ForSome (x.accepted s) (λ held. ballot_lt held.0 b ≡ true)) where
     may_accept : MayTake spec (slots s) (Accepts r b v)
     may_accept =
-        subst (λ a. MayAccept a (slots s).proposals b v) (sym (acceptor_is spec Own base sent r x sends slots h s)) (record {
+        subst (λ a. MayAccept a (slots s).proposals b v) (sym (acceptor_is spec past base sent r x sends slots h s)) (record {
           takes = record { not_below = subst (λ c. ballot_lt b c ≡ false) (sym current) (below-irrefl b); above = above };
           proposed = proposed;
         })
@@ -86,10 +86,10 @@ module _ (spec : List ℕ) (Own : Command → Type 0) (base : ℕ → Seat) (sen
 
     -- a replica that is at nothing accepts
     pub vote : (x' : Seat) → x'.promised ≡ b → x'.accepted s ≡ Some (b, v) → ((t : ℕ) → t ≢ s → x'.accepted t ≡ x.accepted t) →
-        ((t : ℕ) (w : Value) → x'.chosen t ≡ Some w → x.chosen t ≡ Some w) → x'.note ≡ Note.Idle → Stands spec Own base sent r x' sends voted_more
+        ((t : ℕ) (w : Value) → x'.chosen t ≡ Some w → x.chosen t ≡ Some w) → x'.note ≡ Note.Idle → Stands spec past base sent r x' sends voted_more
     unfolding voted_more
     vote x' promise here elsewhere chosen idle =
-        stepped spec Own base sent r x sends slots h s (after_step (slots s) (Accepts r b v)) x'
+        stepped spec past base sent r x sends slots h s (after_step (slots s) (Accepts r b v)) x'
         (reached_more Value spec (slots s) (Accepts r b v) (h.reached s) may_accept)
         (λ p c. c) (λ w c. Contains-append_left (slots s).votes _ _ c) (λ q c. c)
         (λ w c. chosen_more Value spec (slots s) (Accepts r b v) w c)
@@ -105,7 +105,7 @@ module _ (spec : List ℕ) (Own : Command → Type 0) (base : ℕ → Seat) (sen
 
   module _ (member : Contains spec r) (b : Ballot) (start next : ℕ) (reports : List Report) (votes : List (ℕ × ℕ))
       (leads : IsLeading spec slots r x b start next reports votes) (s : ℕ) (late : start ≤ s) (below : s < next)
-      (unvoted : Contains votes (s, r) → ⊥) (own : Value) (owned : (c : Command) → value_of own (answers_at s reports) ≡ Some c → Own c) where
+      (unvoted : Contains votes (s, r) → ⊥) (own : Value) (owned : (c : Command) → value_of own (answers_at s reports) ≡ Some c → Contains past.submitted c) where
     -- what the ballot proposes at the slot
     abbrev v : Value
     v = value_of own (answers_at s reports)
@@ -144,7 +144,7 @@ module _ (spec : List ℕ) (Own : Command → Type 0) (base : ℕ → Seat) (sen
     may_vote : MayTake spec offered (Accepts r b v)
     unfolding offered
     may_vote =
-        subst (λ a. MayAccept a offered.proposals b v) (sym (acceptor_is spec Own base sent r x sends slots h s)) (record {
+        subst (λ a. MayAccept a offered.proposals b v) (sym (acceptor_is spec past base sent r x sends slots h s)) (record {
           takes = record { not_below = subst (λ c. ballot_lt b c ≡ false) (sym leads.current) (below-irrefl b); above = lesser };
           proposed = Contains-push (slots s).proposals _;
         })
@@ -163,7 +163,7 @@ module _ (spec : List ℕ) (Own : Command → Type 0) (base : ℕ → Seat) (sen
     grows-proposed : Grows spec slots proposed_more
     unfolding proposed_more voted offered
     grows-proposed =
-        grows-slot spec Own base sent r x sends slots h s voted x
+        grows-slot spec past base sent r x sends slots h s voted x
         (reached_more Value spec offered (Accepts r b v) reached-offered may_vote)
         (λ p c. c) (λ w c. Contains-append_left (slots s).votes _ _ c) (λ q c. Contains-append_left (slots s).proposals _ _ c)
         (λ w c. chosen_more Value spec offered (Accepts r b v) w (chosen_more Value spec (slots s) (Proposes b own (answers_at s reports)) w c))
@@ -213,10 +213,10 @@ module _ (spec : List ℕ) (Own : Command → Type 0) (base : ℕ → Seat) (sen
 
       -- a leader proposes and accepts its own proposal
       pub propose : ((t : ℕ) (w : Value) → x'.chosen t ≡ Some w → x.chosen t ≡ Some w) →
-          x'.note ≡ Note.Leading b start next reports (votes ++ (s, r) ∷ []) → Stands spec Own base sent r x' sends proposed_more
+          x'.note ≡ Note.Leading b start next reports (votes ++ (s, r) ∷ []) → Stands spec past base sent r x' sends proposed_more
       unfolding proposed_more voted offered
       propose chosen note =
-          stepped spec Own base sent r x sends slots h s voted x'
+          stepped spec past base sent r x sends slots h s voted x'
           (reached_more Value spec offered (Accepts r b v) reached-offered may_vote)
           (λ p c. c) (λ w c. Contains-append_left (slots s).votes _ _ c) (λ q c. Contains-append_left (slots s).proposals _ _ c)
           (λ w c. chosen_more Value spec offered (Accepts r b v) w (chosen_more Value spec (slots s) (Proposes b own (answers_at s reports)) w c))

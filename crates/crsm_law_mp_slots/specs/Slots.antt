@@ -94,12 +94,19 @@ IsTrueMessage spec seats sent slots k (MpMessage.Accd b s) = Contains spec k × 
 IsTrueMessage spec seats sent slots k (MpMessage.Learn s v) = IsChosen spec (slots s) v
 IsTrueMessage spec seats sent slots k (MpMessage.Ask start) = Unit {0}
 
--- What replicas hold and have sent is one instance for each slot. Each command that is proposed is one of these.
-pub record Holds (spec : List ℕ) (Own : Command → Type 0) (seats : ℕ → Seat) (sent : Sent) (slots : Slots) : Type 0 where
+-- what was submitted so far, and which values of slots were known
+pub record Past : Type 0 where
+  pub submitted : List Command
+  pub known : List (ℕ × Value)
+
+-- What replicas hold and have sent is one instance for each slot. Each command that is proposed was submitted, and what was known is
+-- chosen.
+pub record Holds (spec : List ℕ) (past : Past) (seats : ℕ → Seat) (sent : Sent) (slots : Slots) : Type 0 where
   pub reached : (s : ℕ) → IsReached spec (slots s)
   pub same : (s k : ℕ) → (slots s).acceptor k ≡ record { promised = (seats k).promised; accepted = (seats k).accepted s }
   pub owners : (s : ℕ) (q : Proposal Value) → Contains (slots s).proposals q → ballot_lt (seats q.ballot.by).promised q.ballot ≡ false
-  pub owned : (s : ℕ) (q : Proposal Value) (c : Command) → Contains (slots s).proposals q → q.value ≡ Some c → Own c
+  pub owned : (s : ℕ) (q : Proposal Value) (c : Command) → Contains (slots s).proposals q → q.value ≡ Some c → Contains past.submitted c
+  pub stays : (s : ℕ) (v : Value) → Contains past.known (s, v) → IsChosen spec (slots s) v
   pub chosen : (s k : ℕ) (v : Value) → (seats k).chosen s ≡ Some v → IsChosen spec (slots s) v
   pub notes : (k : ℕ) → NoteHolds spec slots k (seats k) (seats k).note
   pub sound : (k : ℕ) (m : MpMessage) → sent k m → IsTrueMessage spec seats sent slots k m
@@ -107,6 +114,6 @@ pub record Holds (spec : List ℕ) (Own : Command → Type 0) (seats : ℕ → S
 -- no two seats know different values of a slot
 abbrev pub SlotsAgree : Type 0
 SlotsAgree =
-    (spec : List ℕ) (own : List Command) (seats : ℕ → Seat) (sent : List (ℕ × MpMessage)) (slots : Slots) →
-    Holds spec (λ c. Contains own c) seats (λ k m. Contains sent (k, m)) slots →
+    (spec : List ℕ) (past : Past) (seats : ℕ → Seat) (sent : List (ℕ × MpMessage)) (slots : Slots) →
+    Holds spec past seats (λ k m. Contains sent (k, m)) slots →
     (s j k : ℕ) (v w : Value) → (seats j).chosen s ≡ Some v → (seats k).chosen s ≡ Some w → v ≡ w

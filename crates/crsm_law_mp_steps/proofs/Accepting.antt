@@ -18,7 +18,7 @@ use Rattle.crsm_mpspec.specs.Replica.{Replica, Report, Note, note_after, ended_b
 use Rattle.crsm_mpspec.specs.Draft.{Draft, keep_as, keep, send, noting}
 use Rattle.crsm_mpspec.specs.Deciding.{choose, has_accepted, on_acc}
 use Rattle.crsm_mpspec.specs.Electing.{on_prep, on_no}
-use Rattle.crsm_law_mp_slots.specs.Slots.{Seat, Sent, Slots, HasVoted, HasProposed, HasAsked, HasReported, IsAsking, IsLeading, NoteHolds, IsTrueMessage}
+use Rattle.crsm_law_mp_slots.specs.Slots.{Seat, Sent, Slots, HasVoted, HasProposed, HasAsked, HasReported, IsAsking, IsLeading, NoteHolds, IsTrueMessage, Past}
 use Rattle.crsm_law_mp_slots.proofs.Turns.{AsksAsSent}
 use Rattle.crsm_law_mp_slots.proofs.Changes.{Stands, with_sends, asks_as_sent, promised_more}
 use Rattle.crsm_law_mp_slots.proofs.Voting.{held_below, held_voted, vote, voted_more, has_voted, idle_asks, same_some}
@@ -47,26 +47,26 @@ not_accepted_in b s log is held e same =
     let here : option_map_or (λ a. ballot_eq a.0 b) (Some held) false ≡ false = subst (λ o. option_map_or (λ a. ballot_eq a.0 b) o false ≡ false) e is in
     clash (ballot_eq b b) (ballot_eq_itself b) (subst (λ c. ballot_eq c b ≡ false) same here)
 
-module _ (n : ℕ) (Own : Command → Type 0) (base : ℕ → Seat) (sent : Sent) (k : ℕ) where
+module _ (n : ℕ) (past : Past) (base : ℕ → Seat) (sent : Sent) (k : ℕ) where
   -- ---- votes
 
   -- a replica that is at nothing accepts in the ballot that it promised
-  voted_at : (x : Draft) (slots : Slots) → At n Own base sent k x slots → (b : Ballot) (s : ℕ) (v : Value) → promised x.replica.log ≡ b → x.replica.note ≡ Note.Idle →
+  voted_at : (x : Draft) (slots : Slots) → At n past base sent k x slots → (b : Ballot) (s : ℕ) (v : Value) → promised x.replica.log ≡ b → x.replica.note ≡ Note.Idle →
       HasProposed (slots s) b v → ForSome (accepted_at s x.replica.log) (λ held. ballot_lt held.0 b ≡ true) →
-      (more : Slots) × Stands (numbers_below n) Own base sent k (seat_of (MpRec.Accept s b v ∷ x.replica.log) Note.Idle) x.sends more × HasVoted (more s) b k v
+      (more : Slots) × Stands (numbers_below n) past base sent k (seat_of (MpRec.Accept s b v ∷ x.replica.log) Note.Idle) x.sends more × HasVoted (more s) b k v
   unfolding seat_of promised chosen_at choices
   voted_at x slots a b s v current idle proposed above = (
-    voted_more (numbers_below n) Own base sent k (seat_now x) x.sends slots a.stands s b v current proposed above,
-    vote (numbers_below n) Own base sent k (seat_now x) x.sends slots a.stands s b v current proposed above
+    voted_more (numbers_below n) past base sent k (seat_now x) x.sends slots a.stands s b v current proposed above,
+    vote (numbers_below n) past base sent k (seat_now x) x.sends slots a.stands s b v current proposed above
         (seat_of (MpRec.Accept s b v ∷ x.replica.log) Note.Idle) refl (accepted_here s b v x.replica.log) (accepted_elsewhere s b v x.replica.log) (λ t w e. e) refl,
-    has_voted (numbers_below n) Own base sent k (seat_now x) x.sends slots a.stands s b v current proposed above,
+    has_voted (numbers_below n) past base sent k (seat_now x) x.sends slots a.stands s b v current proposed above,
   )
 
-  module _ (x : Draft) (slots : Slots) (a : At n Own base sent k x slots) (b : Ballot) (s : ℕ) (v : Value) (not_low : ballot_lt b (promised x.replica.log) ≡ false)
+  module _ (x : Draft) (slots : Slots) (a : At n past base sent k x slots) (b : Ballot) (s : ℕ) (v : Value) (not_low : ballot_lt b (promised x.replica.log) ≡ false)
       (proposed : HasProposed (slots s) b v) (new : has_accepted b s x.replica.log ≡ false) where
     low_held : (held : Ballot × Value) → accepted_at s x.replica.log ≡ Some held → ballot_lt (promised x.replica.log) held.0 ≡ false
     unfolding seat_of
-    low_held = held_below (numbers_below n) Own base sent k (seat_now x) x.sends slots a.stands s
+    low_held = held_below (numbers_below n) past base sent k (seat_now x) x.sends slots a.stands s
 
     -- it is not at anything in this ballot
     at_nothing : promised x.replica.log ≡ b → (note : Note) → NoteHolds (numbers_below n) slots k (seat_now x) note → note ≡ Note.Idle
@@ -80,26 +80,26 @@ module _ (n : ℕ) (Own : Command → Type 0) (base : ℕ → Seat) (sent : Sent
         absurd (not_accepted_in b s x.replica.log new (c, w) is (sym same))
 
     as_kept : (note : Note) → note ≡ Note.Idle → (more : Slots) →
-        Stands (numbers_below n) Own base sent k (seat_of (MpRec.Accept s b v ∷ x.replica.log) Note.Idle) x.sends more →
-        Stands (numbers_below n) Own base sent k (seat_of (MpRec.Accept s b v ∷ x.replica.log) note) x.sends more
-    as_kept note idle more st = subst (λ z. Stands (numbers_below n) Own base sent k (seat_of (MpRec.Accept s b v ∷ x.replica.log) z) x.sends more) (sym idle) st
+        Stands (numbers_below n) past base sent k (seat_of (MpRec.Accept s b v ∷ x.replica.log) Note.Idle) x.sends more →
+        Stands (numbers_below n) past base sent k (seat_of (MpRec.Accept s b v ∷ x.replica.log) note) x.sends more
+    as_kept note idle more st = subst (λ z. Stands (numbers_below n) past base sent k (seat_of (MpRec.Accept s b v ∷ x.replica.log) z) x.sends more) (sym idle) st
 
-    higher : ballot_lt (promised x.replica.log) b ≡ true → (more : Slots) × At n Own base sent k (keep (MpRec.Accept s b v) x) more × HasVoted (more s) b k v
+    higher : ballot_lt (promised x.replica.log) b ≡ true → (more : Slots) × At n past base sent k (keep (MpRec.Accept s b v) x) more × HasVoted (more s) b k v
     unfolding keep keep_as note_after seat_of promised accepted_at accepts chosen_at choices promised_slots promised_more
     higher above =
         let y : Draft = keep (MpRec.Promise b) x in
-        let idle : ended_by b x.replica.note ≡ Note.Idle = ends (numbers_below n) slots k (seat_now x) b above x.replica.note (note_at n Own base sent k x slots a) in
-        let (more, st, cast) = voted_at y (promised_slots n Own base sent k x slots a b above) (promise_at n Own base sent k x slots a b above) b s v refl
-        (idle_at n Own base sent k x slots a b above) proposed (λ held is. le_below held.0 (promised x.replica.log) b (low_held held is) above) in (
+        let idle : ended_by b x.replica.note ≡ Note.Idle = ends (numbers_below n) slots k (seat_now x) b above x.replica.note (note_at n past base sent k x slots a) in
+        let (more, st, cast) = voted_at y (promised_slots n past base sent k x slots a b above) (promise_at n past base sent k x slots a b above) b s v refl
+        (idle_at n past base sent k x slots a b above) proposed (λ held is. le_below held.0 (promised x.replica.log) b (low_held held is) above) in (
           more,
           record { me = a.me; count = a.count; stands = as_kept (ended_by b x.replica.note) idle more st },
           cast,
         )
 
-    equal : promised x.replica.log ≡ b → (more : Slots) × At n Own base sent k (keep (MpRec.Accept s b v) x) more × HasVoted (more s) b k v
+    equal : promised x.replica.log ≡ b → (more : Slots) × At n past base sent k (keep (MpRec.Accept s b v) x) more × HasVoted (more s) b k v
     unfolding keep keep_as note_after ended_by
     equal current =
-        let idle : x.replica.note ≡ Note.Idle = at_nothing current x.replica.note (note_at n Own base sent k x slots a) in
+        let idle : x.replica.note ≡ Note.Idle = at_nothing current x.replica.note (note_at n past base sent k x slots a) in
         let lesser : ForSome (accepted_at s x.replica.log) (λ held. ballot_lt held.0 b ≡ true) = λ held is.
         elim (compare held.0 b) [
           | inl lower ↦ lower
@@ -117,7 +117,7 @@ module _ (n : ℕ) (Own : Command → Type 0) (base : ℕ → Seat) (sent : Sent
         ended_nothing = refl
 
     -- a replica accepts what was proposed in a ballot that is not below its promise
-    pub accept_at : (more : Slots) × At n Own base sent k (keep (MpRec.Accept s b v) x) more × HasVoted (more s) b k v
+    pub accept_at : (more : Slots) × At n past base sent k (keep (MpRec.Accept s b v) x) more × HasVoted (more s) b k v
     accept_at = elim (compare (promised x.replica.log) b) [
       | inl above ↦ higher above
       | inr (inl current) ↦ equal current
@@ -131,52 +131,52 @@ module _ (n : ℕ) (Own : Command → Type 0) (base : ℕ → Seat) (sent : Sent
   promised_now b x = refl
 
   module _ (member : Contains (numbers_below n) k) where
-    pub learn_at : (x : Draft) (slots : Slots) → At n Own base sent k x slots → (s : ℕ) (v : Value) → IsChosen (numbers_below n) (slots s) v → At n Own base sent k (choose s v x) slots
+    pub learn_at : (x : Draft) (slots : Slots) → At n past base sent k x slots → (s : ℕ) (v : Value) → IsChosen (numbers_below n) (slots s) v → At n past base sent k (choose s v x) slots
     unfolding choose when◌then◌otherwise◌ keep
     learn_at x slots a s v is = go (is_chosen s x.replica.log)
       where
-        go : (t : Bool) → At n Own base sent k (when t then x otherwise keep (MpRec.Choose s v) x) slots
+        go : (t : Bool) → At n past base sent k (when t then x otherwise keep (MpRec.Choose s v) x) slots
         go true = a
-        go false = choose_at n Own base sent k x slots a _ s v is
+        go false = choose_at n past base sent k x slots a _ s v is
 
-    pub on_acc_at : (x : Draft) (slots : Slots) → At n Own base sent k x slots → (from : ℕ) (b : Ballot) (s : ℕ) (v : Value) → HasProposed (slots s) b v → Good n Own base sent k (on_acc from b s v x)
+    pub on_acc_at : (x : Draft) (slots : Slots) → At n past base sent k x slots → (from : ℕ) (b : Ballot) (s : ℕ) (v : Value) → HasProposed (slots s) b v → Good n past base sent k (on_acc from b s v x)
     unfolding on_acc when◌then◌otherwise◌ seat_of
     on_acc_at x slots a from b s v proposed = go (ballot_lt b (promised x.replica.log)) refl
       where
         accepted : (t : Bool) → has_accepted b s x.replica.log ≡ t → ballot_lt b (promised x.replica.log) ≡ false →
-            Good n Own base sent k (send (MpMessage.Accd b s) (when t then x otherwise keep (MpRec.Accept s b v) x) from)
+            Good n past base sent k (send (MpMessage.Accd b s) (when t then x otherwise keep (MpRec.Accept s b v) x) from)
         accepted true is low =
             let (w, held) = accepted_in b s x.replica.log is in (
               slots,
-              send_at n Own base sent k x slots a (MpMessage.Accd b s) from
-                  (member, w, held_voted (numbers_below n) Own base sent k (seat_now x) x.sends slots a.stands s b w held),
+              send_at n past base sent k x slots a (MpMessage.Accd b s) from
+                  (member, w, held_voted (numbers_below n) past base sent k (seat_now x) x.sends slots a.stands s b w held),
             )
         accepted false is low =
             let (more, at, cast) = accept_at x slots a b s v low proposed is in
-            (more, send_at n Own base sent k (keep (MpRec.Accept s b v) x) more at (MpMessage.Accd b s) from (member, v, cast))
+            (more, send_at n past base sent k (keep (MpRec.Accept s b v) x) more at (MpMessage.Accd b s) from (member, v, cast))
 
         go : (t : Bool) → ballot_lt b (promised x.replica.log) ≡ t →
-            Good n Own base sent k (when t then send (MpMessage.No (promised x.replica.log)) x from otherwise send (MpMessage.Accd b s) (when has_accepted b s x.replica.log then x otherwise keep (MpRec.Accept s b v) x) from)
-        go true low = (slots, send_at n Own base sent k x slots a (MpMessage.No (promised x.replica.log)) from tt)
+            Good n past base sent k (when t then send (MpMessage.No (promised x.replica.log)) x from otherwise send (MpMessage.Accd b s) (when has_accepted b s x.replica.log then x otherwise keep (MpRec.Accept s b v) x) from)
+        go true low = (slots, send_at n past base sent k x slots a (MpMessage.No (promised x.replica.log)) from tt)
         go false low = accepted (has_accepted b s x.replica.log) refl low
 
     -- a promise of the ballot that is promised, with its report
-    tells : (x : Draft) (slots : Slots) → At n Own base sent k x slots → (from : ℕ) (b : Ballot) (start : ℕ) → promised x.replica.log ≡ b → ballot_lt lowest b ≡ true →
-        sent from (MpMessage.Prep b start) → At n Own base sent k (send (MpMessage.Prom b (accepted_from start x.replica.log) (chosen_from start x.replica.log)) x from) slots
+    tells : (x : Draft) (slots : Slots) → At n past base sent k x slots → (from : ℕ) (b : Ballot) (start : ℕ) → promised x.replica.log ≡ b → ballot_lt lowest b ≡ true →
+        sent from (MpMessage.Prep b start) → At n past base sent k (send (MpMessage.Prom b (accepted_from start x.replica.log) (chosen_from start x.replica.log)) x from) slots
     unfolding seat_of
     tells x slots a from b start current high asked =
-        send_at n Own base sent k x slots a (MpMessage.Prom b (accepted_from start x.replica.log) (chosen_from start x.replica.log)) from (
+        send_at n past base sent k x slots a (MpMessage.Prom b (accepted_from start x.replica.log) (chosen_from start x.replica.log)) from (
           member,
           from,
           start,
           inl asked,
-          report_true (numbers_below n) Own base sent k (seat_now x) x.sends slots a.stands b current high start
+          report_true (numbers_below n) past base sent k (seat_now x) x.sends slots a.stands b current high start
               (record { from = k; accepted = accepted_from start x.replica.log; chosen = chosen_from start x.replica.log }) refl
               (λ s late. accepted_told start s late x.replica.log) (λ c there. chosen_told start x.replica.log c there),
         )
 
-    pub on_prep_at : (x : Draft) (slots : Slots) → At n Own base sent k x slots → (from : ℕ) (b : Ballot) (start : ℕ) → ballot_lt lowest b ≡ true →
-        sent from (MpMessage.Prep b start) → Good n Own base sent k (on_prep from b start x)
+    pub on_prep_at : (x : Draft) (slots : Slots) → At n past base sent k x slots → (from : ℕ) (b : Ballot) (start : ℕ) → ballot_lt lowest b ≡ true →
+        sent from (MpMessage.Prep b start) → Good n past base sent k (on_prep from b start x)
     unfolding on_prep when◌then◌otherwise◌
     on_prep_at x slots a from b start high asked = go (compare (promised x.replica.log) b)
       where
@@ -187,26 +187,26 @@ module _ (n : ℕ) (Own : Command → Type 0) (base : ℕ → Seat) (sent : Sent
         answer t u = when t then send (MpMessage.No (promised x.replica.log)) x from otherwise refused (when u then keep (MpRec.Promise b) x otherwise x)
 
         go : (ballot_lt (promised x.replica.log) b ≡ true) ⊎ ((promised x.replica.log ≡ b) ⊎ (ballot_lt b (promised x.replica.log) ≡ true)) →
-            Good n Own base sent k (answer (ballot_lt b (promised x.replica.log)) (ballot_lt (promised x.replica.log) b))
+            Good n past base sent k (answer (ballot_lt b (promised x.replica.log)) (ballot_lt (promised x.replica.log) b))
         go (inl above) = rw (above, below_not_back (promised x.replica.log) b above) (
-          promised_slots n Own base sent k x slots a b above,
-          tells (keep (MpRec.Promise b) x) (promised_slots n Own base sent k x slots a b above) (promise_at n Own base sent k x slots a b above) from b start (promised_now b x) high asked,
+          promised_slots n past base sent k x slots a b above,
+          tells (keep (MpRec.Promise b) x) (promised_slots n past base sent k x slots a b above) (promise_at n past base sent k x slots a b above) from b start (promised_now b x) high asked,
         )
         go (inr (inl same)) = rw (same, below-irrefl b) (slots, tells x slots a from b start same high asked)
-        go (inr (inr over)) = rw over (slots, send_at n Own base sent k x slots a (MpMessage.No (promised x.replica.log)) from tt)
+        go (inr (inr over)) = rw over (slots, send_at n past base sent k x slots a (MpMessage.No (promised x.replica.log)) from tt)
 
-    pub on_no_at : (x : Draft) (slots : Slots) → At n Own base sent k x slots → (p : Ballot) → At n Own base sent k (on_no p x) slots
+    pub on_no_at : (x : Draft) (slots : Slots) → At n past base sent k x slots → (p : Ballot) → At n past base sent k (on_no p x) slots
     unfolding on_no refused_by ended_by when◌then◌otherwise◌
-    on_no_at x slots a p = go x.replica.note refl (note_at n Own base sent k x slots a)
+    on_no_at x slots a p = go x.replica.note refl (note_at n past base sent k x slots a)
       where
-        as_before : (note : Note) → x.replica.note ≡ note → NoteHolds (numbers_below n) slots k (seat_now x) note → At n Own base sent k (noting note x) slots
-        as_before note is h = note_as n Own base sent k x slots a note h (same_asks n Own base sent k x slots a note is)
+        as_before : (note : Note) → x.replica.note ≡ note → NoteHolds (numbers_below n) slots k (seat_now x) note → At n past base sent k (noting note x) slots
+        as_before note is h = note_as n past base sent k x slots a note h (same_asks n past base sent k x slots a note is)
 
-        go : (note : Note) → x.replica.note ≡ note → NoteHolds (numbers_below n) slots k (seat_now x) note → At n Own base sent k (noting (refused_by p note) x) slots
+        go : (note : Note) → x.replica.note ≡ note → NoteHolds (numbers_below n) slots k (seat_now x) note → At n past base sent k (noting (refused_by p note) x) slots
         go Note.Idle is h = as_before Note.Idle is h
         go (Note.Asking b start reports) is h = as_before (Note.Asking b start reports) is h
         go (Note.Leading b start next reports votes) is h = by_ballot (ballot_lt b p)
           where
-            by_ballot : (t : Bool) → At n Own base sent k (noting (when t then Note.Idle otherwise Note.Leading b start next reports votes) x) slots
-            by_ballot true = note_idle n Own base sent k x slots a
+            by_ballot : (t : Bool) → At n past base sent k (noting (when t then Note.Idle otherwise Note.Leading b start next reports votes) x) slots
+            by_ballot true = note_idle n past base sent k x slots a
             by_ballot false = as_before (Note.Leading b start next reports votes) is h

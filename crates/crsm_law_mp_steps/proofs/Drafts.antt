@@ -16,7 +16,7 @@ use Rattle.crsm_mpspec.specs.Types.{Ballot, Command, Value}
 use Rattle.crsm_mpspec.specs.Log.{Log, at_slot, promised, accepts, choices, accepted_at, chosen_at}
 use Rattle.crsm_mpspec.specs.Replica.{Replica, Report, Note, note_after, ended_by}
 use Rattle.crsm_mpspec.specs.Draft.{Draft, keep_as, keep, send, send_to_each, noting}
-use Rattle.crsm_law_mp_slots.specs.Slots.{Seat, Sent, Slots, HasVoted, HasProposed, IsAsking, IsLeading, NoteHolds}
+use Rattle.crsm_law_mp_slots.specs.Slots.{Seat, Sent, Slots, HasVoted, HasProposed, IsAsking, IsLeading, NoteHolds, Past}
 use Rattle.crsm_law_mp_slots.proofs.Turns.{AsksAsSent}
 use Rattle.crsm_law_mp_slots.proofs.Changes.{Stands, IsTrueNow, noted, sent_too, note_holds, chosen_here, asks_as_sent, promise, promised_more, promising, not_proposed, not_asked}
 use Rattle.crsm_law_mp_slots.proofs.Voting.{held_below, vote, voted_more, has_voted, voted_proposed, held_voted, idle_asks}
@@ -86,12 +86,12 @@ ends spec slots k x b above (Note.Asking a start reports) h =
 ends spec slots k x b above (Note.Leading a start next reports votes) h =
     let low : ballot_lt a b ≡ true = subst (λ c. ballot_lt c b ≡ true) h.current above in rw low refl
 
-module _ (n : ℕ) (Own : Command → Type 0) (base : ℕ → Seat) (sent : Sent) (k : ℕ) where
+module _ (n : ℕ) (past : Past) (base : ℕ → Seat) (sent : Sent) (k : ℕ) where
   -- In the middle of a step of replica k all holds.
   pub record At (x : Draft) (slots : Slots) : Type 0 where
     pub me : x.replica.me ≡ k
     pub count : x.replica.n ≡ n
-    pub stands : Stands (numbers_below n) Own base sent k (seat_now x) x.sends slots
+    pub stands : Stands (numbers_below n) past base sent k (seat_now x) x.sends slots
 
   -- it holds with some instances
   abbrev pub Good : Draft → Type 0
@@ -99,15 +99,15 @@ module _ (n : ℕ) (Own : Command → Type 0) (base : ℕ → Seat) (sent : Sent
 
   -- a message is true in the middle of a step
   abbrev pub IsTrueAt : Draft → List (ℕ × MpMessage) → Slots → MpMessage → Type 0
-  IsTrueAt x sends slots m = IsTrueNow (numbers_below n) Own base sent k (seat_now x) sends slots m
+  IsTrueAt x sends slots m = IsTrueNow (numbers_below n) past base sent k (seat_now x) sends slots m
 
   pub note_at : (x : Draft) (slots : Slots) → At x slots → NoteHolds (numbers_below n) slots k (seat_now x) x.replica.note
   unfolding seat_of
-  note_at x slots a = note_holds (numbers_below n) Own base sent k (seat_now x) x.sends slots a.stands
+  note_at x slots a = note_holds (numbers_below n) past base sent k (seat_now x) x.sends slots a.stands
 
   pub known_at : (x : Draft) (slots : Slots) → At x slots → (s : ℕ) (v : Value) → chosen_at s x.replica.log ≡ Some v → IsChosen (numbers_below n) (slots s) v
   unfolding seat_of
-  known_at x slots a s v is = chosen_here (numbers_below n) Own base sent k (seat_now x) x.sends slots a.stands s v is
+  known_at x slots a s v is = chosen_here (numbers_below n) past base sent k (seat_now x) x.sends slots a.stands s v is
 
   -- ---- messages
 
@@ -116,7 +116,7 @@ module _ (n : ℕ) (Own : Command → Type 0) (base : ℕ → Seat) (sent : Sent
   send_at x slots a m to is = record {
     me = a.me;
     count = a.count;
-    stands = sent_too (numbers_below n) Own base sent k (seat_now x) x.sends slots a.stands to m is;
+    stands = sent_too (numbers_below n) past base sent k (seat_now x) x.sends slots a.stands to m is;
   }
 
   pub send_each_at : (ks : List ℕ) (x : Draft) (slots : Slots) → At x slots → (m : MpMessage) → ((sends : List (ℕ × MpMessage)) → IsTrueAt x sends slots m) → At (send_to_each ks m x) slots
@@ -132,14 +132,14 @@ module _ (n : ℕ) (Own : Command → Type 0) (base : ℕ → Seat) (sent : Sent
     me = a.me;
     count = a.count;
     stands =
-        noted (numbers_below n) Own base sent k (seat_now x) x.sends slots a.stands (seat_of (MpRec.Choose s v ∷ x.replica.log) x.replica.note)
+        noted (numbers_below n) past base sent k (seat_now x) x.sends slots a.stands (seat_of (MpRec.Choose s v ∷ x.replica.log) x.replica.note)
         refl (λ t. refl)
         (λ t w e. elim (chosen_with s v x.replica.log t w e) [
           | inl new ↦ subst (λ j. IsChosen (numbers_below n) (slots j) w) new.0 (subst (λ u. IsChosen (numbers_below n) (slots s) u) new.1 is)
           | inr old ↦ known_at x slots a t w old
         ])
         (note_of_same (numbers_below n) slots k (seat_now x) (seat_of (MpRec.Choose s v ∷ x.replica.log) x.replica.note) refl (λ t. refl) x.replica.note (note_at x slots a))
-        (asks_as_sent (numbers_below n) Own base sent k (seat_now x) x.sends slots a.stands);
+        (asks_as_sent (numbers_below n) past base sent k (seat_now x) x.sends slots a.stands);
   }
 
   pub note_as : (x : Draft) (slots : Slots) → At x slots → (note : Note) → NoteHolds (numbers_below n) slots k (seat_now x) note →
@@ -149,7 +149,7 @@ module _ (n : ℕ) (Own : Command → Type 0) (base : ℕ → Seat) (sent : Sent
     me = a.me;
     count = a.count;
     stands =
-        noted (numbers_below n) Own base sent k (seat_now x) x.sends slots a.stands (seat_of x.replica.log note) refl (λ t. refl)
+        noted (numbers_below n) past base sent k (seat_now x) x.sends slots a.stands (seat_of x.replica.log note) refl (λ t. refl)
         (λ t w e. known_at x slots a t w e)
         (note_of_same (numbers_below n) slots k (seat_now x) (seat_of x.replica.log note) refl (λ t. refl) note holds)
         asks;
@@ -160,7 +160,7 @@ module _ (n : ℕ) (Own : Command → Type 0) (base : ℕ → Seat) (sent : Sent
       AsksAsSent (λ j m. sent j m ⊎ ((j ≡ k) × (to : ℕ) × Contains x.sends (to, m))) (seat_of x.replica.log note)
   unfolding seat_of
   same_asks x slots a note same b start reports is =
-      asks_as_sent (numbers_below n) Own base sent k (seat_now x) x.sends slots a.stands b start reports (same ∙ is)
+      asks_as_sent (numbers_below n) past base sent k (seat_now x) x.sends slots a.stands b start reports (same ∙ is)
 
   pub note_idle : (x : Draft) (slots : Slots) → At x slots → At (noting Note.Idle x) slots
   unfolding seat_of
@@ -175,15 +175,15 @@ module _ (n : ℕ) (Own : Command → Type 0) (base : ℕ → Seat) (sent : Sent
 
     unfoldable pub promised_slots : Slots
     unfolding seat_of
-    promised_slots = promised_more (numbers_below n) Own base sent k (seat_now x) x.sends slots a.stands b above
+    promised_slots = promised_more (numbers_below n) past base sent k (seat_now x) x.sends slots a.stands b above
 
     pub promise_at : At (keep (MpRec.Promise b) x) promised_slots
     unfolding keep keep_as note_after seat_of promised accepted_at accepts chosen_at choices promised_slots
     promise_at = record {
       me = a.me;
       count = a.count;
-      stands = subst (λ note. Stands (numbers_below n) Own base sent k (seat_of (MpRec.Promise b ∷ x.replica.log) note) x.sends promised_slots) (sym ends_at)
-          (promise (numbers_below n) Own base sent k (seat_now x) x.sends slots a.stands b above);
+      stands = subst (λ note. Stands (numbers_below n) past base sent k (seat_of (MpRec.Promise b ∷ x.replica.log) note) x.sends promised_slots) (sym ends_at)
+          (promise (numbers_below n) past base sent k (seat_now x) x.sends slots a.stands b above);
     }
 
     pub idle_at : (keep (MpRec.Promise b) x).replica.note ≡ Note.Idle

@@ -22,7 +22,7 @@ use Rattle.crsm_mpspec.specs.Replica.{Replica, Report, Note, note_after, ended_b
 use Rattle.crsm_mpspec.specs.Draft.{Draft, keep_as, keep, send, send_to_each, send_to_others, reply, noting, count_vote, await}
 use Rattle.crsm_mpspec.specs.Deciding.{choose_accepted, is_voted, choose_voted, propose_as, propose, refuse, submit, take_request, on_request, counts, take_vote, on_accd}
 use Rattle.crsm_mpspec.specs.Electing.{answers_at, next_slot}
-use Rattle.crsm_law_mp_slots.specs.Slots.{Seat, Sent, Slots, HasVoted, HasProposed, IsLeading, NoteHolds}
+use Rattle.crsm_law_mp_slots.specs.Slots.{Seat, Sent, Slots, HasVoted, HasProposed, IsLeading, NoteHolds, Past}
 use Rattle.crsm_law_mp_slots.proofs.Changes.{Stands}
 use Rattle.crsm_law_mp_slots.proofs.Voting.{proposed_more, has_proposed, leader_asks, held_voted}
 use Rattle.crsm_law_mp_slots.proofs.Voting as voting
@@ -40,21 +40,21 @@ unfolding send_to_each send
 sends_replica [] m x = refl
 sends_replica (k ∷ ks) m x = sends_replica ks m (send m x k)
 
-module _ (n : ℕ) (Own : Command → Type 0) (base : ℕ → Seat) (sent : Sent) (k : ℕ) where
-  pub send_others_at : (x : Draft) (slots : Slots) → At n Own base sent k x slots → (m : MpMessage) →
-      ((sends : List (ℕ × MpMessage)) → IsTrueAt n Own base sent k x sends slots m) → At n Own base sent k (send_to_others m x) slots
+module _ (n : ℕ) (past : Past) (base : ℕ → Seat) (sent : Sent) (k : ℕ) where
+  pub send_others_at : (x : Draft) (slots : Slots) → At n past base sent k x slots → (m : MpMessage) →
+      ((sends : List (ℕ × MpMessage)) → IsTrueAt n past base sent k x sends slots m) → At n past base sent k (send_to_others m x) slots
   unfolding send_to_others
-  send_others_at x slots a m is = send_each_at n Own base sent k (others x.replica) x slots a m is
+  send_others_at x slots a m is = send_each_at n past base sent k (others x.replica) x slots a m is
 
   -- ---- choosing
 
-  module _ (x : Draft) (slots : Slots) (a : At n Own base sent k x slots) (b : Ballot) (start next : ℕ) (reports : List Report) (votes : List (ℕ × ℕ))
+  module _ (x : Draft) (slots : Slots) (a : At n past base sent k x slots) (b : Ballot) (start next : ℕ) (reports : List Report) (votes : List (ℕ × ℕ))
       (is : x.replica.note ≡ Note.Leading b start next reports votes) where
     pub leads_at : IsLeading (numbers_below n) slots k (seat_now x) b start next reports votes
-    leads_at = subst (λ note. NoteHolds (numbers_below n) slots k (seat_now x) note) is (note_at n Own base sent k x slots a)
+    leads_at = subst (λ note. NoteHolds (numbers_below n) slots k (seat_now x) note) is (note_at n past base sent k x slots a)
 
     chooses : (s : ℕ) → leb (majority x.replica.n) (length (voters_at s (votes_of x.replica.note))) ≡ true → (o : Held Value) → accepted_at s x.replica.log ≡ o →
-        At n Own base sent k (choose_accepted s o x) slots
+        At n past base sent k (choose_accepted s o x) slots
     unfolding choose_accepted keep seat_of votes_of
     chooses s enough None e = a
     chooses s enough (Some v) e =
@@ -64,18 +64,18 @@ module _ (n : ℕ) (Own : Command → Type 0) (base : ℕ → Seat) (sent : Sent
         let most : majority (length (numbers_below n)) ≤ length (voters_at s votes) =
         subst (λ c. c ≤ length (voters_at s votes)) (sym (majority_of n)) (le_from _ _ counted) in
         let chosen : IsChosen (numbers_below n) (slots s) v.1 =
-        votes_choose (numbers_below n) Own base sent k (seat_now x) x.sends slots a.stands b start next reports votes leads_at s v e most in
-        send_others_at (keep (MpRec.Choose s v.1) x) slots (choose_at n Own base sent k x slots a _ s v.1 chosen) (MpMessage.Learn s v.1) (λ sends. chosen)
+        votes_choose (numbers_below n) past base sent k (seat_now x) x.sends slots a.stands b start next reports votes leads_at s v e most in
+        send_others_at (keep (MpRec.Choose s v.1) x) slots (choose_at n past base sent k x slots a _ s v.1 chosen) (MpMessage.Learn s v.1) (λ sends. chosen)
       where
         leader_votes : votes_of (Note.Leading b start next reports votes) ≡ votes
         leader_votes = refl
 
-    pub choose_voted_at : (s : ℕ) → At n Own base sent k (choose_voted s x) slots
+    pub choose_voted_at : (s : ℕ) → At n past base sent k (choose_voted s x) slots
     unfolding choose_voted is_voted when◌then◌otherwise◌
     choose_voted_at s = go (leb (majority x.replica.n) (length (voters_at s (votes_of x.replica.note)))) refl (not (is_chosen s x.replica.log))
       where
         go : (t : Bool) → leb (majority x.replica.n) (length (voters_at s (votes_of x.replica.note))) ≡ t → (u : Bool) →
-            At n Own base sent k (when t && u then choose_accepted s (accepted_at s x.replica.log) x otherwise x) slots
+            At n past base sent k (when t && u then choose_accepted s (accepted_at s x.replica.log) x otherwise x) slots
         go true enough true = chooses s enough (accepted_at s x.replica.log) refl
         go true enough false = a
         go false few u = a
@@ -91,9 +91,9 @@ module _ (n : ℕ) (Own : Command → Type 0) (base : ℕ → Seat) (sent : Sent
 
   -- ---- proposing
 
-  module _ (member : Contains (numbers_below n) k) (x : Draft) (slots : Slots) (a : At n Own base sent k x slots) (b : Ballot) (start next : ℕ) (reports : List Report) (votes : List (ℕ × ℕ))
+  module _ (member : Contains (numbers_below n) k) (x : Draft) (slots : Slots) (a : At n past base sent k x slots) (b : Ballot) (start next : ℕ) (reports : List Report) (votes : List (ℕ × ℕ))
       (is : x.replica.note ≡ Note.Leading b start next reports votes) (s : ℕ) (late : start ≤ s) (below : s < next) (unvoted : Contains votes (s, k) → ⊥)
-      (own : Value) (owned : (c : Command) → value_of own (answers_at s reports) ≡ Some c → Own c) (line : MpLine) where
+      (own : Value) (owned : (c : Command) → value_of own (answers_at s reports) ≡ Some c → Contains past.submitted c) (line : MpLine) where
     abbrev v : Value
     v = value_of own (answers_at s reports)
 
@@ -111,23 +111,23 @@ module _ (n : ℕ) (Own : Command → Type 0) (base : ℕ → Seat) (sent : Sent
         (subst (λ note. with_vote s k (ended_by b note) ≡ after) (sym is) (rw (below-irrefl b) refl))
 
     more : Slots
-    more = proposed_more (numbers_below n) Own base sent k (seat_now x) x.sends slots a.stands member b start next reports votes
+    more = proposed_more (numbers_below n) past base sent k (seat_now x) x.sends slots a.stands member b start next reports votes
         (leads_at x slots a b start next reports votes is) s late below unvoted own owned
 
-    kept_at : At n Own base sent k kept more
+    kept_at : At n past base sent k kept more
     unfolding kept count_vote noting keep_as note_after seat_of promised chosen_at choices more
     kept_at = record {
       me = a.me;
       count = a.count;
-      stands = subst (λ note. Stands (numbers_below n) Own base sent k (seat_of (MpRec.Accept s b v ∷ x.replica.log) note) x.sends more) (sym note_then)
-          (voting.propose (numbers_below n) Own base sent k (seat_now x) x.sends slots a.stands member b start next reports votes
+      stands = subst (λ note. Stands (numbers_below n) past base sent k (seat_of (MpRec.Accept s b v ∷ x.replica.log) note) x.sends more) (sym note_then)
+          (voting.propose (numbers_below n) past base sent k (seat_now x) x.sends slots a.stands member b start next reports votes
           (leads_at x slots a b start next reports votes is) s late below unvoted own owned (seat_of (MpRec.Accept s b v ∷ x.replica.log) after)
           refl (accepted_here s b v x.replica.log) (accepted_elsewhere s b v x.replica.log) (λ t w e. e) refl);
     }
 
     offered : HasProposed (more s) b v
     unfolding more
-    offered = has_proposed (numbers_below n) Own base sent k (seat_now x) x.sends slots a.stands member b start next reports votes
+    offered = has_proposed (numbers_below n) past base sent k (seat_now x) x.sends slots a.stands member b start next reports votes
         (leads_at x slots a b start next reports votes is) s late below unvoted own owned
 
     told : Draft
@@ -138,7 +138,7 @@ module _ (n : ℕ) (Own : Command → Type 0) (base : ℕ → Seat) (sent : Sent
     told_note = ap (λ r. r.note) (sends_replica (others kept.replica) (MpMessage.Acc b s v) kept) ∙ note_then
 
     -- a leader proposes, accepts and asks the others to accept
-    pub propose_as_at : Good n Own base sent k (propose_as line b s v x)
+    pub propose_as_at : Good n past base sent k (propose_as line b s v x)
     unfolding propose_as told kept
     propose_as_at = (
       more,
@@ -151,34 +151,34 @@ module _ (n : ℕ) (Own : Command → Type 0) (base : ℕ → Seat) (sent : Sent
 
   -- ---- votes that come
 
-  pub on_accd_at : (x : Draft) (slots : Slots) → At n Own base sent k x slots → (from : ℕ) (b : Ballot) (s : ℕ) → Contains (numbers_below n) from → (v : Value) → HasVoted (slots s) b from v →
-      At n Own base sent k (on_accd from b s x) slots
+  pub on_accd_at : (x : Draft) (slots : Slots) → At n past base sent k x slots → (from : ℕ) (b : Ballot) (s : ℕ) → Contains (numbers_below n) from → (v : Value) → HasVoted (slots s) b from v →
+      At n past base sent k (on_accd from b s x) slots
   unfolding on_accd take_vote when◌then◌otherwise◌ counts count_vote noting with_vote seat_of
   on_accd_at x slots a from b s member v cast = go x.replica.note refl
     where
       counted : (c : Ballot) (start next : ℕ) (reports : List Report) (votes : List (ℕ × ℕ)) → x.replica.note ≡ Note.Leading c start next reports votes →
-          c ≡ b → has (voters_at s votes) x.replica.me ≡ true → has (voters_at s votes) from ≡ false → At n Own base sent k (choose_voted s (count_vote s from x)) slots
+          c ≡ b → has (voters_at s votes) x.replica.me ≡ true → has (voters_at s votes) from ≡ false → At n past base sent k (choose_voted s (count_vote s from x)) slots
       counted c start next reports votes is same own new =
           let note : Note = Note.Leading c start next reports (votes ++ (s, from) ∷ []) in
           let mine : Contains votes (s, k) = voter_in s votes k (has_is (voters_at s votes) k (subst (λ me. has (voters_at s votes) me ≡ true) a.me own)) in
           let leads : IsLeading (numbers_below n) slots k (seat_now x) c start next reports (votes ++ (s, from) ∷ []) =
-          counts_vote (numbers_below n) Own base sent k (seat_now x) x.sends slots a.stands c start next reports votes
+          counts_vote (numbers_below n) past base sent k (seat_now x) x.sends slots a.stands c start next reports votes
           (leads_at x slots a c start next reports votes is) s from member v (subst (λ z. HasVoted (slots s) z from v) (sym same) cast) mine
           (λ there. has_not (voters_at s votes) from new (in_voters s votes from there)) in
-          let at : At n Own base sent k (noting note x) slots =
-          note_as n Own base sent k x slots a note leads (leader_asks (λ j m. sent j m ⊎ ((j ≡ k) × (to : ℕ) × Contains x.sends (to, m))) (seat_of x.replica.log note) c start next reports (votes ++ (s, from) ∷ []) refl) in
+          let at : At n past base sent k (noting note x) slots =
+          note_as n past base sent k x slots a note leads (leader_asks (λ j m. sent j m ⊎ ((j ≡ k) × (to : ℕ) × Contains x.sends (to, m))) (seat_of x.replica.log note) c start next reports (votes ++ (s, from) ∷ []) refl) in
           let same_note : with_vote s from x.replica.note ≡ note = subst (λ z. with_vote s from z ≡ note) (sym is) refl in
-          subst (λ z. At n Own base sent k (choose_voted s (noting z x)) slots) (sym same_note)
+          subst (λ z. At n past base sent k (choose_voted s (noting z x)) slots) (sym same_note)
           (choose_voted_at (noting note x) slots at c start next reports (votes ++ (s, from) ∷ []) refl s)
 
-      go : (note : Note) → x.replica.note ≡ note → At n Own base sent k (take_vote from b s note x) slots
+      go : (note : Note) → x.replica.note ≡ note → At n past base sent k (take_vote from b s note x) slots
       go Note.Idle is = a
       go (Note.Asking c start reports) is = a
       go (Note.Leading c start next reports votes) is =
           by_tests (ballot_eq c b) refl (has (voters_at s votes) x.replica.me) refl (has (voters_at s votes) from) refl (not (is_chosen s x.replica.log))
         where
           by_tests : (t : Bool) → ballot_eq c b ≡ t → (u : Bool) → has (voters_at s votes) x.replica.me ≡ u → (w : Bool) → has (voters_at s votes) from ≡ w → (z : Bool) →
-              At n Own base sent k (when t && ((u && not w) && z) then choose_voted s (count_vote s from x) otherwise x) slots
+              At n past base sent k (when t && ((u && not w) && z) then choose_voted s (count_vote s from x) otherwise x) slots
           by_tests true same true own false new true = counted c start next reports votes is (ballot_eq_is c b same) own new
           by_tests true same true own false new false = a
           by_tests true same true own true new z = a
@@ -187,48 +187,48 @@ module _ (n : ℕ) (Own : Command → Type 0) (base : ℕ → Seat) (sent : Sent
 
   -- ---- requests
 
-  pub reply_at : (x : Draft) (slots : Slots) → At n Own base sent k x slots → (line : MpLine) → At n Own base sent k (reply line x) slots
+  pub reply_at : (x : Draft) (slots : Slots) → At n past base sent k x slots → (line : MpLine) → At n past base sent k (reply line x) slots
   unfolding reply
   reply_at x slots a line = record { me = a.me; count = a.count; stands = a.stands }
 
-  pub await_at : (x : Draft) (slots : Slots) → At n Own base sent k x slots → (s : ℕ) (c : Command) → At n Own base sent k (await s c x) slots
+  pub await_at : (x : Draft) (slots : Slots) → At n past base sent k x slots → (s : ℕ) (c : Command) → At n past base sent k (await s c x) slots
   unfolding await
   await_at x slots a s c = record { me = a.me; count = a.count; stands = a.stands }
 
-  module _ (member : Contains (numbers_below n) k) (c : Command) (owned : Own c) where
-    pub on_request_at : (x : Draft) (slots : Slots) → At n Own base sent k x slots → Good n Own base sent k (on_request c x)
+  module _ (member : Contains (numbers_below n) k) (c : Command) (owned : Contains past.submitted c) where
+    pub on_request_at : (x : Draft) (slots : Slots) → At n past base sent k x slots → Good n past base sent k (on_request c x)
     unfolding on_request take_request refuse when◌then◌otherwise◌ submit await noting seat_of
     on_request_at x slots a = go x.replica.note refl
       where
         submits : (b : Ballot) (start next : ℕ) (reports : List Report) (votes : List (ℕ × ℕ)) → x.replica.note ≡ Note.Leading b start next reports votes →
-            Good n Own base sent k (submit b next c (noting (Note.Leading b start (next + 1) reports votes) x))
+            Good n past base sent k (submit b next c (noting (Note.Leading b start (next + 1) reports votes) x))
         submits b start next reports votes is =
             let leads : IsLeading (numbers_below n) slots k (seat_now x) b start next reports votes = leads_at x slots a b start next reports votes is in
             let note : Note = Note.Leading b start (next + 1) reports votes in
-            let at : At n Own base sent k (noting note x) slots =
-            note_as n Own base sent k x slots a note (leads_on (numbers_below n) Own base sent k (seat_now x) x.sends slots a.stands b start next reports votes leads (next + 1) (omega arith))
+            let at : At n past base sent k (noting note x) slots =
+            note_as n past base sent k x slots a note (leads_on (numbers_below n) past base sent k (seat_now x) x.sends slots a.stands b start next reports votes leads (next + 1) (omega arith))
             (leader_asks (λ j m. sent j m ⊎ ((j ≡ k) × (to : ℕ) × Contains x.sends (to, m))) (seat_of x.replica.log note) b start (next + 1) reports votes refl) in
             let y : Draft = await next c (noting note x) in
             let left : value_of (Some c) (answers_at next reports) ≡ Some c = own_value_left start next reports (Some c) leads.above in
             let line : MpLine = MpLine.Submit y.replica.me next b.round b.by c.client c.number in
-            subst (λ z. Good n Own base sent k (propose_as line b next z y)) left
+            subst (λ z. Good n past base sent k (propose_as line b next z y)) left
             (propose_as_at member y slots (await_at (noting note x) slots at next c) b start (next + 1) reports votes refl next
             (let low = start_below start reports in let high = leads.above in omega arith) (omega arith)
             (λ there. let under = leads.below next k there in omega arith) (Some c)
-            (λ d e. let same : c ≡ d = some_is left e in subst Own same owned) line)
+            (λ d e. let same : c ≡ d = some_is left e in subst (λ z. Contains past.submitted z) same owned) line)
           where
             some_is : {z : Value} {d : Command} → z ≡ Some c → z ≡ Some d → c ≡ d
             some_is e f = cc
 
-        refuses : (code : ℕ) → Good n Own base sent k (refuse code c x)
+        refuses : (code : ℕ) → Good n past base sent k (refuse code c x)
         refuses code = (slots, reply_at x slots a (MpLine.ReplyNo x.replica.me c.client c.number code))
 
-        go : (note : Note) → x.replica.note ≡ note → Good n Own base sent k (take_request c note x)
+        go : (note : Note) → x.replica.note ≡ note → Good n past base sent k (take_request c note x)
         go Note.Idle is = refuses 1
         go (Note.Asking b start reports) is = refuses 1
         go (Note.Leading b start next reports votes) is = by_tests (not (ballot_eq b (promised x.replica.log))) (next == u64_max)
           where
-            by_tests : (t u : Bool) → Good n Own base sent k (when t then refuse 1 c x otherwise when u then refuse 5 c x otherwise submit b next c (noting (Note.Leading b start (next + 1) reports votes) x))
+            by_tests : (t u : Bool) → Good n past base sent k (when t then refuse 1 c x otherwise when u then refuse 5 c x otherwise submit b next c (noting (Note.Leading b start (next + 1) reports votes) x))
             by_tests true u = refuses 1
             by_tests false true = refuses 5
             by_tests false false = submits b start next reports votes is

@@ -24,7 +24,7 @@ use Rattle.crsm_mpspec.specs.Draft.{Draft, begun, noting, keep, keep_as}
 use Rattle.crsm_mpspec.specs.Step.{step, boot}
 use Rattle.crsm_mpspec.specs.World.{Site, Packet, World, Moment, log_of, log_at, with_site, packet_of, after_step, whole_step, then_down, cut_step, lost_step, down}
 use Rattle.crsm_mpspec.specs.Moments.{use_up, silent, begun_at}
-use Rattle.crsm_law_mp_slots.specs.Slots.{Seat, Sent, Slots, HasAsked, NoteHolds, IsTrueMessage, Holds}
+use Rattle.crsm_law_mp_slots.specs.Slots.{Seat, Sent, Slots, HasAsked, NoteHolds, IsTrueMessage, Holds, Past}
 use Rattle.crsm_law_mp_slots.proofs.Turns.{turn}
 use Rattle.crsm_law_mp_slots.proofs.Changes.{Stands, with_sends}
 use Rattle.crsm_law_mp_slots.proofs.Voting.{acceptor_of, idle_asks}
@@ -36,7 +36,7 @@ use Rattle.crsm_law_mp_steps.proofs.Steps.{CanCome, step_at}
 
 -- ---- the same seats and messages, written otherwise
 
-module _ (spec : List ℕ) (Own : Command → Type 0) (seats seats' : ℕ → Seat) (sent sent' : Sent) (slots : Slots)
+module _ (spec : List ℕ) (past : Past) (seats seats' : ℕ → Seat) (sent sent' : Sent) (slots : Slots)
     (same : (k : ℕ) → seats' k ≡ seats k) (to : (k : ℕ) (m : MpMessage) → sent k m → sent' k m) (back : (k : ℕ) (m : MpMessage) → sent' k m → sent k m) where
   message_as : (k : ℕ) (m : MpMessage) → IsTrueMessage spec seats sent slots k m → IsTrueMessage spec seats' sent' slots k m
   message_as k (MpMessage.Prep b start) t = (t.0, subst (λ x. HasAsked x b start) (sym (same b.by)) t.1)
@@ -48,12 +48,13 @@ module _ (spec : List ℕ) (Own : Command → Type 0) (seats seats' : ℕ → Se
   message_as k (MpMessage.Learn s v) t = t
   message_as k (MpMessage.Ask start) t = tt
 
-  pub holds_as : Holds spec Own seats sent slots → Holds spec Own seats' sent' slots
+  pub holds_as : Holds spec past seats sent slots → Holds spec past seats' sent' slots
   holds_as h = record {
     reached = h.reached;
     same = λ s k. subst (λ x. (slots s).acceptor k ≡ record { promised = x.promised; accepted = x.accepted s }) (sym (same k)) (h.same s k);
     owners = λ s q c. subst (λ x. ballot_lt x.promised q.ballot ≡ false) (sym (same q.ballot.by)) (h.owners s q c);
     owned = h.owned;
+    stays = h.stays;
     chosen = λ s k v is. h.chosen s k v (subst (λ x. x.chosen s ≡ Some v) (same k) is);
     notes = λ k. subst (λ x. NoteHolds spec slots k x x.note) (sym (same k)) (h.notes k);
     sound = λ k m there. message_as k m (h.sound k m (back k m there));
@@ -94,10 +95,10 @@ abbrev IsPlaced : ℕ → ℕ → Site → Type 0
 IsPlaced n k (Site.Up r) = (r.me ≡ k) × (r.n ≡ n)
 IsPlaced n k (Site.Down log) = Unit {0}
 
-module _ (n : ℕ) (own : List Command) (w : World) (sound : IsSound n own w) (k : ℕ) (within : k < length w.sites) (site : Site) (placed : IsPlaced n k site)
-    (own' : List Command) (v : World) (size : v.n ≡ w.n) (sites : v.sites ≡ slice_set w.sites k site)
+module _ (n : ℕ) (past : Past) (w : World) (sound : IsSound n past w) (k : ℕ) (within : k < length w.sites) (site : Site) (placed : IsPlaced n k site)
+    (past' : Past) (v : World) (size : v.n ≡ w.n) (sites : v.sites ≡ slice_set w.sites k site)
     (made : List (ℕ × MpMessage)) (sent : (p : Packet) → Contains v.packets p → Contains made (p.from, p.message)) (slots : Slots)
-    (holds : Holds (numbers_below n) (λ c. Contains own' c) (changed (seat_at w) k (seat_in site)) (λ j m. Contains made (j, m)) slots) where
+    (holds : Holds (numbers_below n) past' (changed (seat_at w) k (seat_in site)) (λ j m. Contains made (j, m)) slots) where
   seat_is : (j : ℕ) → seat_at v j ≡ changed (seat_at w) k (seat_in site) j
   unfolding seat_at
   seat_is j =
@@ -123,7 +124,7 @@ module _ (n : ℕ) (own : List Command) (w : World) (sound : IsSound n own w) (k
       now : slice_get (slice_set w.sites k site) j ≡ Some (Site.Up r)
       now = subst (λ ss. slice_get ss j ≡ Some (Site.Up r)) sites is
 
-  pub sound_with_site : IsSound n own' v
+  pub sound_with_site : IsSound n past' v
   sound_with_site = record {
     size = size ∙ sound.size;
     places = ap length sites ∙ (length-set w.sites k site ∙ sound.places);
@@ -132,25 +133,28 @@ module _ (n : ℕ) (own : List Command) (w : World) (sound : IsSound n own w) (k
     made = made;
     sent = sent;
     slots = slots;
-    holds = holds_as (numbers_below n) (λ c. Contains own' c) (changed (seat_at w) k (seat_in site)) (seat_at v) (λ j m. Contains made (j, m)) (λ j m. Contains made (j, m)) slots
+    holds = holds_as (numbers_below n) past' (changed (seat_at w) k (seat_in site)) (seat_at v) (λ j m. Contains made (j, m)) (λ j m. Contains made (j, m)) slots
         seat_is (λ j m c. c) (λ j m c. c) holds;
   }
 
--- ---- more own commands, fewer packets
+-- ---- more past commands, fewer packets
 
-own_more : (spec : List ℕ) (Own More : Command → Type 0) (seats : ℕ → Seat) (sent : Sent) (slots : Slots) → ((c : Command) → Own c → More c) → Holds spec Own seats sent slots → Holds spec More seats sent slots
-own_more spec Own More seats sent slots more h = record {
-  reached = h.reached;
-  same = h.same;
-  owners = h.owners;
-  owned = λ s q c there is. more c (h.owned s q c there is);
-  chosen = h.chosen;
-  notes = h.notes;
-  sound = h.sound;
-}
+-- more commands were submitted, and no more values known but such as a replica knows
+pub record GoesOn (past more : Past) (w : World) : Type 0 where
+  pub submitted : (c : Command) → Contains past.submitted c → Contains more.submitted c
+  pub known : (s : ℕ) (v : Value) → Contains more.known (s, v) → Contains past.known (s, v) ⊎ ((k : ℕ) × (chosen_at s (log_at w k) ≡ Some v))
 
-pub sound_more : (n : ℕ) (own more : List Command) (w : World) → ((c : Command) → Contains own c → Contains more c) → IsSound n own w → IsSound n more w
-sound_more n own more w sub s = record {
+seat_chosen : (w : World) (k s : ℕ) → (seat_at w k).chosen s ≡ chosen_at s (log_at w k)
+unfolding seat_at log_at seat_in log_of seat_of
+seat_chosen w k s = go (slice_get w.sites k)
+  where
+    go : (o : Option Site) → (option_map_or seat_in o (seat_of [] Note.Idle)).chosen s ≡ chosen_at s (option_map_or log_of o [])
+    go None = refl
+    go (Some (Site.Up r)) = refl
+    go (Some (Site.Down log)) = refl
+
+pub sound_more : (n : ℕ) (past more : Past) (w : World) → GoesOn past more w → IsSound n past w → IsSound n more w
+sound_more n past more w on s = record {
   size = s.size;
   places = s.places;
   me = s.me;
@@ -158,7 +162,19 @@ sound_more n own more w sub s = record {
   made = s.made;
   sent = s.sent;
   slots = s.slots;
-  holds = own_more (numbers_below n) (λ c. Contains own c) (λ c. Contains more c) (seat_at w) (λ k m. Contains s.made (k, m)) s.slots sub s.holds;
+  holds = record {
+    reached = s.holds.reached;
+    same = s.holds.same;
+    owners = s.holds.owners;
+    owned = λ t q c there is. on.submitted c (s.holds.owned t q c there is);
+    stays = λ t v c. elim (on.known t v c) [
+      | inl old ↦ s.holds.stays t v old
+      | inr new ↦ s.holds.chosen t new.0 v (seat_chosen w new.0 t ∙ new.1)
+    ];
+    chosen = s.holds.chosen;
+    notes = s.holds.notes;
+    sound = s.holds.sound;
+  };
 }
 
 in_set : {A : Type 0} (xs : List A) (k : ℕ) (y z : A) → Contains (slice_set xs k y) z → (y ≡ z) ⊎ Contains xs z
@@ -183,9 +199,9 @@ used_packet i w p c = go (slice_get w.packets i) refl c
       | inr old ↦ (p, old, refl, refl)
     ]
 
-pub use_up_sound : (n : ℕ) (own : List Command) (i : ℕ) (w : World) → IsSound n own w → IsSound n own (use_up i w)
+pub use_up_sound : (n : ℕ) (past : Past) (i : ℕ) (w : World) → IsSound n past w → IsSound n past (use_up i w)
 unfolding use_up seat_at
-use_up_sound n own i w s = record {
+use_up_sound n past i w s = record {
   size = s.size;
   places = s.places;
   me = s.me;
@@ -200,7 +216,7 @@ use_up_sound n own i w s = record {
 
 -- ---- a replica steps
 
-module _ (n : ℕ) (own own' : List Command) (sub : (c : Command) → Contains own c → Contains own' c) (w : World) (sound : IsSound n own w) (k : ℕ) (r : Replica)
+module _ (n : ℕ) (past : Past) (w : World) (sound : IsSound n past w) (k : ℕ) (r : Replica)
     (is : slice_get w.sites k ≡ Some (Site.Up r)) where
   within : k < length w.sites
   within = slice_get_within w.sites k (Site.Up r) is
@@ -214,20 +230,20 @@ module _ (n : ℕ) (own own' : List Command) (sub : (c : Command) → Contains o
 
   -- in the middle of a step of k
   abbrev pub InStep : Draft → Slots → Type 0
-  InStep x slots = At n (λ c. Contains own' c) (seat_at w) (λ j m. Contains sound.made (j, m)) k x slots
+  InStep x slots = At n past (seat_at w) (λ j m. Contains sound.made (j, m)) k x slots
 
-  begins : Stands (numbers_below n) (λ c. Contains own' c) (seat_at w) (λ j m. Contains sound.made (j, m)) k (seat_of r.log r.note) [] sound.slots
+  begins : Stands (numbers_below n) past (seat_at w) (λ j m. Contains sound.made (j, m)) k (seat_of r.log r.note) [] sound.slots
   begins =
-      holds_as (numbers_below n) (λ c. Contains own' c) (seat_at w) (changed (seat_at w) k (seat_of r.log r.note)) (λ j m. Contains sound.made (j, m))
+      holds_as (numbers_below n) past (seat_at w) (changed (seat_at w) k (seat_of r.log r.note)) (λ j m. Contains sound.made (j, m))
       (with_sends (λ j m. Contains sound.made (j, m)) k []) sound.slots
       (λ j. changed_cases (seat_at w) k (seat_of r.log r.note) j (λ y. y ≡ seat_at w j) (λ same. subst (λ i. seat_of r.log r.note ≡ seat_at w i) (sym same) (sym seat_here)) (λ other. refl))
       (λ j m c. inl c) (λ j m c. elim c [ inl old ↦ old | inr new ↦ absurd (none_in (new.1, m) new.2) ])
-      (own_more (numbers_below n) (λ c. Contains own c) (λ c. Contains own' c) (seat_at w) (λ j m. Contains sound.made (j, m)) sound.slots sub sound.holds)
+      sound.holds
 
-  pub steps : (input : MpInput) (from : ℕ) → CanCome n (λ c. Contains own' c) (seat_at w) (λ j m. Contains sound.made (j, m)) k member (begun r) input from →
+  pub steps : (input : MpInput) (from : ℕ) → CanCome n past (seat_at w) (λ j m. Contains sound.made (j, m)) k member (begun r) input from →
       (slots : Slots) × InStep (step r input from) slots
   steps input from can =
-      step_at n (λ c. Contains own' c) (seat_at w) (λ j m. Contains sound.made (j, m)) k member r sound.slots (sound.me k r is) (sound.count k r is) begins input from can
+      step_at n past (seat_at w) (λ j m. Contains sound.made (j, m)) k member r sound.slots (sound.me k r is) (sound.count k r is) begins input from can
 
   module _ (x : Draft) (slots : Slots) (a : InStep x slots) where
     all_made : List (ℕ × MpMessage)
@@ -244,11 +260,11 @@ module _ (n : ℕ) (own own' : List Command) (sub : (c : Command) → Contains o
               (subst (λ q. Contains {X = ℕ × MpMessage} (map (λ s. (k, s.1)) x.sends) (q.from, q.message)) same (map_in (λ s. (k, s.1)) x.sends s (few s there)))
         ]
 
-    made_holds : (seat : Seat) → Stands (numbers_below n) (λ c. Contains own' c) (seat_at w) (λ j m. Contains sound.made (j, m)) k seat x.sends slots →
-        Holds (numbers_below n) (λ c. Contains own' c) (changed (seat_at w) k seat) (λ j m. Contains all_made (j, m)) slots
+    made_holds : (seat : Seat) → Stands (numbers_below n) past (seat_at w) (λ j m. Contains sound.made (j, m)) k seat x.sends slots →
+        Holds (numbers_below n) past (changed (seat_at w) k seat) (λ j m. Contains all_made (j, m)) slots
     unfolding all_made
     made_holds seat st =
-        holds_as (numbers_below n) (λ c. Contains own' c) (changed (seat_at w) k seat) (changed (seat_at w) k seat) (with_sends (λ j m. Contains sound.made (j, m)) k x.sends)
+        holds_as (numbers_below n) past (changed (seat_at w) k seat) (changed (seat_at w) k seat) (with_sends (λ j m. Contains sound.made (j, m)) k x.sends)
         (λ j m. Contains all_made (j, m)) slots (λ j. refl)
         (λ j m c. elim c [
           | inl old ↦ Contains-append_left sound.made _ _ old
@@ -264,29 +280,29 @@ module _ (n : ℕ) (own own' : List Command) (sub : (c : Command) → Contains o
         st
 
     -- a step that ends whole
-    pub whole_sound : IsSound n own' (whole_step w k x).after
+    pub whole_sound : IsSound n past (whole_step w k x).after
     unfolding whole_step after_step seat_in
     whole_sound =
-        sound_with_site n own w sound k within (Site.Up x.replica) (a.me, a.count) own' (whole_step w k x).after refl refl all_made
+        sound_with_site n past w sound k within (Site.Up x.replica) (a.me, a.count) past (whole_step w k x).after refl refl all_made
         (λ p c. in_made p x.sends (λ s there. there) c) slots (made_holds (seat_now x) a.stands)
 
     -- a step that stops once its batch is kept
-    pub cut_sound : (count : ℕ) → IsSound n own' (cut_step count w k x).after
+    pub cut_sound : (count : ℕ) → IsSound n past (cut_step count w k x).after
     unfolding cut_step then_down after_step seat_in noting
     cut_sound count =
-        sound_with_site n own w sound k within (Site.Down x.replica.log) tt own' (cut_step count w k x).after refl refl all_made
+        sound_with_site n past w sound k within (Site.Down x.replica.log) tt past (cut_step count w k x).after refl refl all_made
         (λ p c. in_made p (take count x.sends) (λ s there. in_take count x.sends s there) c) slots
-        (made_holds (seat_of x.replica.log Note.Idle) (note_idle n (λ c. Contains own' c) (seat_at w) (λ j m. Contains sound.made (j, m)) k x slots a).stands)
+        (made_holds (seat_of x.replica.log Note.Idle) (note_idle n past (seat_at w) (λ j m. Contains sound.made (j, m)) k x slots a).stands)
 
 -- ---- a replica stops or starts
 
 -- a replica that is at nothing, of the same log
-module _ (n : ℕ) (own : List Command) (w : World) (sound : IsSound n own w) (k : ℕ) where
-  rests : Holds (numbers_below n) (λ c. Contains own c) (changed (seat_at w) k (seat_of (log_at w k) Note.Idle)) (λ j m. Contains sound.made (j, m)) sound.slots
+module _ (n : ℕ) (past : Past) (w : World) (sound : IsSound n past w) (k : ℕ) where
+  rests : Holds (numbers_below n) past (changed (seat_at w) k (seat_of (log_at w k) Note.Idle)) (λ j m. Contains sound.made (j, m)) sound.slots
   unfolding seat_at log_at seat_in log_of seat_of
   rests =
-      let h : Holds (numbers_below n) (λ c. Contains own c) (seat_at w) (λ j m. Contains sound.made (j, m)) sound.slots = sound.holds in
-      turn (numbers_below n) (λ c. Contains own c) (seat_at w) (changed (seat_at w) k (seat_of (log_at w k) Note.Idle)) (λ j m. Contains sound.made (j, m)) (λ j m. Contains sound.made (j, m))
+      let h : Holds (numbers_below n) past (seat_at w) (λ j m. Contains sound.made (j, m)) sound.slots = sound.holds in
+      turn (numbers_below n) past (seat_at w) (changed (seat_at w) k (seat_of (log_at w k) Note.Idle)) (λ j m. Contains sound.made (j, m)) (λ j m. Contains sound.made (j, m))
       sound.slots sound.slots h
       (record { reached = h.reached; promises = λ s p c. c; votes = λ s v c. c; proposals = λ s q c. c; chosen = λ s v c. c })
       k (seat_of (log_at w k) Note.Idle) (changed_at (seat_at w) k (seat_of (log_at w k) Note.Idle) (λ y. y ≡ seat_of (log_at w k) Note.Idle) refl)
@@ -312,13 +328,13 @@ module _ (n : ℕ) (own : List Command) (w : World) (sound : IsSound n own w) (k
       same_chosen : (s : ℕ) → (seat_at w k).chosen s ≡ (seat_of (log_at w k) Note.Idle).chosen s
       same_chosen s = by_site (slice_get w.sites k) (λ x y. x.chosen s ≡ y.chosen s) (λ log note. refl)
 
-  pub down_sound : IsSound n own (down w k).after
+  pub down_sound : IsSound n past (down w k).after
   unfolding down with_site seat_in seat_at
   down_sound = go (leb (suc k) (length w.sites)) refl
     where
-      go : (t : Bool) → leb (suc k) (length w.sites) ≡ t → IsSound n own (record w { sites = slice_set w.sites k (Site.Down (log_at w k)) })
+      go : (t : Bool) → leb (suc k) (length w.sites) ≡ t → IsSound n past (record w { sites = slice_set w.sites k (Site.Down (log_at w k)) })
       go true e =
-          sound_with_site n own w sound k (le_from _ _ e) (Site.Down (log_at w k)) tt own (record w { sites = slice_set w.sites k (Site.Down (log_at w k)) }) refl refl
+          sound_with_site n past w sound k (le_from _ _ e) (Site.Down (log_at w k)) tt past (record w { sites = slice_set w.sites k (Site.Down (log_at w k)) }) refl refl
           sound.made sound.sent sound.slots rests
       go false e = record {
         size = sound.size;
@@ -328,15 +344,15 @@ module _ (n : ℕ) (own : List Command) (w : World) (sound : IsSound n own w) (k
         made = sound.made;
         sent = sound.sent;
         slots = sound.slots;
-        holds = subst (λ ss. Holds (numbers_below n) (λ c. Contains own c) (λ j. option_map_or seat_in (slice_get ss j) (seat_of [] Note.Idle)) (λ j m. Contains sound.made (j, m)) sound.slots)
+        holds = subst (λ ss. Holds (numbers_below n) past (λ j. option_map_or seat_in (slice_get ss j) (seat_of [] Note.Idle)) (λ j m. Contains sound.made (j, m)) sound.slots)
             (sym (same_sites e)) sound.holds;
       }
         where
           same_sites : leb (suc k) (length w.sites) ≡ false → slice_set w.sites k (Site.Down (log_at w k)) ≡ w.sites
           same_sites e = let past : length w.sites ≤ k = grind (arith, nat_tests) in set_past w.sites k (Site.Down (log_at w k)) past
 
-  pub start_sound : k < length w.sites → IsSound n own (whole_step w k (boot k w.n (log_at w k))).after
+  pub start_sound : k < length w.sites → IsSound n past (whole_step w k (boot k w.n (log_at w k))).after
   unfolding whole_step after_step boot keep keep_as note_after fresh begun seat_in seat_of promised accepted_at chosen_at accepts choices
   start_sound within =
-      sound_with_site n own w sound k within (Site.Up (boot k w.n (log_at w k)).replica) (refl, sound.size) own (whole_step w k (boot k w.n (log_at w k))).after refl refl
+      sound_with_site n past w sound k within (Site.Up (boot k w.n (log_at w k)).replica) (refl, sound.size) past (whole_step w k (boot k w.n (log_at w k))).after refl refl
       sound.made (λ p c. sound.sent p (subst (λ ps. Contains ps p) (append-nil w.packets) c)) sound.slots rests

@@ -3,11 +3,10 @@ use Rattle.std.specs.Prelude.{◌≡◌, ℕ, List, [], Contains, Option, None, 
 use Rattle.std.specs.Option.{option_map_or}
 use Rattle.crsm_spec.specs.Lists.{numbers_below}
 use Rattle.crsm_mpspec.specs.declared.MpMessage.{MpMessage}
-use Rattle.crsm_mpspec.specs.Types.{Command}
 use Rattle.crsm_mpspec.specs.Log.{Log, promised, accepted_at, chosen_at}
 use Rattle.crsm_mpspec.specs.Replica.{Replica, Note}
 use Rattle.crsm_mpspec.specs.World.{Site, Packet, World}
-use Rattle.crsm_law_mp_slots.specs.Slots.{Seat, Sent, Slots, Holds}
+use Rattle.crsm_law_mp_slots.specs.Slots.{Seat, Slots, Past, Holds}
 
 -- what a replica of this log holds, which is at this
 unfoldable pub seat_of : Log → Note → Seat
@@ -23,9 +22,9 @@ seat_in (Site.Down log) = seat_of log Note.Idle
 unfoldable pub seat_at : World → ℕ → Seat
 seat_at w k = option_map_or seat_in (slice_get w.sites k) (seat_of [] Note.Idle)
 
--- A world of n replicas, each at its place, which is one instance for each slot. Each command that was proposed is one of `own`, and
--- each message that was sent is one that was made; those that a stop kept back were made, too.
-pub record IsSound (n : ℕ) (own : List Command) (w : World) : Type 0 where
+-- A world of n replicas, each at its place, which is one instance for each slot. Each message that was
+-- sent is one that was made; those that a stop kept back were made, too.
+pub record IsSound (n : ℕ) (past : Past) (w : World) : Type 0 where
   pub size : w.n ≡ n
   pub places : length w.sites ≡ n
   pub me : (k : ℕ) (r : Replica) → slice_get w.sites k ≡ Some (Site.Up r) → r.me ≡ k
@@ -33,4 +32,4 @@ pub record IsSound (n : ℕ) (own : List Command) (w : World) : Type 0 where
   pub made : List (ℕ × MpMessage)
   pub sent : (p : Packet) → Contains w.packets p → Contains made (p.from, p.message)
   pub slots : Slots
-  pub holds : Holds (numbers_below n) (λ c. Contains own c) (seat_at w) (λ k m. Contains made (k, m)) slots
+  pub holds : Holds (numbers_below n) past (seat_at w) (λ k m. Contains made (k, m)) slots

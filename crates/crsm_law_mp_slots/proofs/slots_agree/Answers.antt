@@ -3,4 +3,4 @@ use Rattle.crsm_law_mp_slots.proofs.Agree.{one_value}
 use Rattle.crsm_law_mp_slots.proofs.slots_agree.Goals as goal
 
 pub returns : goal.returns
-returns c spec own seats sent = one_value spec (λ d. Contains own d) seats (λ k m. Contains sent (k, m))
+returns c spec past seats sent = one_value spec past seats (λ k m. Contains sent (k, m))
