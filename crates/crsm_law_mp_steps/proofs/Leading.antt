@@ -2,7 +2,7 @@
 use Rattle.std.proofs.Common.{zero, suc, ◌≡◌, ◌≢◌, ℕ, ◌+◌, ◌<◌, ◌≤◌, ◌⊎◌, Bool, true, false, cond, not, ◌&&◌, nat_eq, ◌==◌, leb, List, [], ◌∷◌, ◌++◌, length, arith, inl, inr, refl, sym, subst, ap, ◌∙◌, Option, Some, None}
 use Rattle.std.specs.List.{Contains, fold, range_with_len}
 use Rattle.std.proofs.lemmas.Bool.Decides.{nat_tests}
-use Rattle.std.proofs.lemmas.List.Elements.{Contains-push_cases}
+use Rattle.std.proofs.lemmas.List.Elements.{Contains-push_cases, Contains-append_left, Contains-append_right}
 use Rattle.std.proofs.lemmas.List.FromFn.{length-range_with_len}
 use Rattle.crsm_base.specs.Order.{ballot_lt, ballot_eq}
 use Rattle.crsm_base.specs.Replicas.{has}
@@ -232,3 +232,58 @@ module _ (n : ℕ) (past : Past) (base : ℕ → Seat) (sent : Sent) (k : ℕ) w
             by_tests true u = refuses 1
             by_tests false true = refuses 5
             by_tests false false = submits b start next reports votes is
+
+  -- ---- the line of a request
+
+  pub sends_lines : (ks : List ℕ) (m : MpMessage) (x : Draft) → (send_to_each ks m x).lines ≡ x.lines
+  unfolding send_to_each send
+  sends_lines [] m x = refl
+  sends_lines (j ∷ ks) m x = sends_lines ks m (send m x j)
+
+  chosen_lines : (s : ℕ) (x : Draft) (line : MpLine) → Contains x.lines line → Contains (choose_voted s x).lines line
+  unfolding choose_voted when◌then◌otherwise◌ choose_accepted send_to_others keep keep_as
+  chosen_lines s x line there = go (is_voted s x.replica) (accepted_at s x.replica.log)
+    where
+      go : (t : Bool) (o : Held Value) → Contains (when t then choose_accepted s o x otherwise x).lines line
+      go true None = there
+      go true (Some v) =
+          subst (λ ls. Contains ls line) (sym (sends_lines (others (keep (MpRec.Choose s v.1) x).replica) (MpMessage.Learn s v.1) (keep (MpRec.Choose s v.1) x)))
+          (Contains-append_left x.lines _ line there)
+      go false o = there
+
+  proposed_line : (line : MpLine) (b : Ballot) (s : ℕ) (u : Value) (x : Draft) → Contains (propose_as line b s u x).lines line
+  unfolding propose_as send_to_others count_vote noting keep_as
+  proposed_line line b s u x =
+      let y : Draft = count_vote s x.replica.me (keep_as line (MpRec.Accept s b u) x) in
+      chosen_lines s (send_to_others (MpMessage.Acc b s u) y) line
+      (subst (λ ls. Contains ls line) (sym (sends_lines (others y.replica) (MpMessage.Acc b s u) y)) (Contains-append_right x.lines _ line (0, omega arith, refl)))
+
+  -- a request is refused, or a line tells that its command is submitted
+  pub request_told : (x : Draft) (slots : Slots) → At n past base sent k x slots → (c : Command) →
+      ((code : ℕ) × (on_request c x ≡ refuse code c x)) ⊎ ((s : ℕ) × (round : ℕ) × Contains (on_request c x).lines (MpLine.Submit k s round k c.client c.number))
+  unfolding on_request take_request when◌then◌otherwise◌ submit await noting
+  request_told x slots a c = go x.replica.note refl
+    where
+      go : (note : Note) → x.replica.note ≡ note →
+          ((code : ℕ) × (take_request c note x ≡ refuse code c x)) ⊎ ((s : ℕ) × (round : ℕ) × Contains (take_request c note x).lines (MpLine.Submit k s round k c.client c.number))
+      go Note.Idle is = inl (1, refl)
+      go (Note.Asking b start reports) is = inl (1, refl)
+      go (Note.Leading b start next reports votes) is = by_tests (not (ballot_eq b (promised x.replica.log))) (next == u64_max)
+        where
+          made : Draft
+          made = submit b next c (noting (Note.Leading b start (next + 1) reports votes) x)
+
+          told : Contains made.lines (MpLine.Submit k next b.round k c.client c.number)
+          told =
+              let leads : IsLeading (numbers_below n) slots k (seat_now x) b start next reports votes = leads_at x slots a b start next reports votes is in
+              let line : MpLine = MpLine.Submit x.replica.me next b.round b.by c.client c.number in
+              let there : Contains made.lines line = proposed_line line b next (Some c) (await next c (noting (Note.Leading b start (next + 1) reports votes) x)) in
+              subst (λ j. Contains made.lines (MpLine.Submit k next b.round j c.client c.number)) leads.by
+              (subst (λ j. Contains made.lines (MpLine.Submit j next b.round b.by c.client c.number)) a.me there)
+
+          by_tests : (t u : Bool) →
+              ((code : ℕ) × ((when t then refuse 1 c x otherwise when u then refuse 5 c x otherwise made) ≡ refuse code c x))
+              ⊎ ((s : ℕ) × (round : ℕ) × Contains (when t then refuse 1 c x otherwise when u then refuse 5 c x otherwise made).lines (MpLine.Submit k s round k c.client c.number))
+          by_tests true u = inl (1, refl)
+          by_tests false true = inl (5, refl)
+          by_tests false false = inr (next, b.round, told)

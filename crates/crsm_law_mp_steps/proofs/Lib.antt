@@ -6,3 +6,4 @@ pub mod Leading
 pub mod Electing
 pub mod Steps
 pub mod Worlds
+pub mod Moments

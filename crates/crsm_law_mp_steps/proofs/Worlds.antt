@@ -214,6 +214,10 @@ use_up_sound n past i w s = record {
   holds = s.holds;
 }
 
+pub use_up_made : (n : ℕ) (past : Past) (i : ℕ) (w : World) (s : IsSound n past w) → (use_up_sound n past i w s).made ≡ s.made
+unfolding use_up_sound
+use_up_made n past i w s = refl
+
 -- ---- a replica steps
 
 module _ (n : ℕ) (past : Past) (w : World) (sound : IsSound n past w) (k : ℕ) (r : Replica)
@@ -239,6 +243,10 @@ module _ (n : ℕ) (past : Past) (w : World) (sound : IsSound n past w) (k : ℕ
       (λ j. changed_cases (seat_at w) k (seat_of r.log r.note) j (λ y. y ≡ seat_at w j) (λ same. subst (λ i. seat_of r.log r.note ≡ seat_at w i) (sym same) (sym seat_here)) (λ other. refl))
       (λ j m c. inl c) (λ j m c. elim c [ inl old ↦ old | inr new ↦ absurd (none_in (new.1, m) new.2) ])
       sound.holds
+
+  pub begins_step : InStep (begun r) sound.slots
+  unfolding begun
+  begins_step = record { me = sound.me k r is; count = sound.count k r is; stands = begins }
 
   pub steps : (input : MpInput) (from : ℕ) → CanCome n past (seat_at w) (λ j m. Contains sound.made (j, m)) k member (begun r) input from →
       (slots : Slots) × InStep (step r input from) slots
