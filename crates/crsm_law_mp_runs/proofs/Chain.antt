@@ -28,12 +28,17 @@ abbrev pub IsNew : MpRec → Draft → Type 0
 IsNew (MpRec.Choose s v) x = is_chosen s x.replica.log ≡ false
 IsNew _ x = Unit {0}
 
-module _ (P : Draft → Type 0)
+-- the command of a request is one of these
+abbrev pub AsksFor : (Command → Type 0) → MpInput → Type 0
+AsksFor Requested (MpInput.Request c) = Requested c
+AsksFor Requested _ = Unit {0}
+
+module _ (P : Draft → Type 0) (Requested : Command → Type 0)
     (sends : (x : Draft) (m : MpMessage) (to : ℕ) → P x → P (send m x to))
     (notes : (x : Draft) (note : Note) → P x → P (noting note x))
     (keeps : (x : Draft) (rec : MpRec) → IsNew rec x → P x → P (keep rec x))
     (refuses : (x : Draft) (code : ℕ) (c : Command) → P x → P (refuse code c x))
-    (submits : (x : Draft) (b : Ballot) (s : ℕ) (c : Command) → P x →
+    (submits : (x : Draft) (b : Ballot) (s : ℕ) (c : Command) → Requested c → P x →
     P (keep_as (MpLine.Submit x.replica.me s b.round b.by c.client c.number) (MpRec.Accept s b (Some c)) (await s c x))) where
   each : (ks : List ℕ) (m : MpMessage) (x : Draft) → P x → P (send_to_each ks m x)
   unfolding send_to_each
@@ -71,9 +76,9 @@ module _ (P : Draft → Type 0)
       let z : Draft = noting (with_vote s x.replica.me y.replica.note) y in
       voted s (send_to_others (MpMessage.Acc b s v) z) (all (MpMessage.Acc b s v) z (notes y (with_vote s x.replica.me y.replica.note) p))
 
-  requested : (c : Command) (x : Draft) → P x → P (on_request c x)
+  requested : (c : Command) → Requested c → (x : Draft) → P x → P (on_request c x)
   unfolding on_request take_request when◌then◌otherwise◌ submit noting
-  requested c x p = go x.replica.note
+  requested c ok x p = go x.replica.note
     where
       go : (note : Note) → P (take_request c note x)
       go Note.Idle = refuses x 1 c p
@@ -88,7 +93,7 @@ module _ (P : Draft → Type 0)
           by_tests false true = refuses x 5 c p
           by_tests false false =
               proposed (MpLine.Submit y.replica.me next b.round b.by c.client c.number) b next (Some c) (await next c y)
-              (submits y b next c (notes x (Note.Leading b start (next + 1) reports votes) p))
+              (submits y b next c ok (notes x (Note.Leading b start (next + 1) reports votes) p))
 
   accepted : (from : ℕ) (b : Ballot) (s : ℕ) (v : Value) (x : Draft) → P x → P (on_acc from b s v x)
   unfolding on_acc when◌then◌otherwise◌
@@ -226,15 +231,15 @@ module _ (P : Draft → Type 0)
   renewed (Note.Leading b start next reports votes) x p = again b votes (open_slots votes x.replica) x p
 
   -- any input
-  pub input_keeps : (input : MpInput) (from : ℕ) (x : Draft) → P x → P (on_input input from x)
+  pub input_keeps : (input : MpInput) (from : ℕ) → AsksFor Requested input → (x : Draft) → P x → P (on_input input from x)
   unfolding on_input on_message on_tick on_ask on_no
-  input_keeps (MpInput.Request c) from x p = requested c x p
-  input_keeps (MpInput.Message (MpMessage.Prep b start)) from x p = prepared from b start x p
-  input_keeps (MpInput.Message (MpMessage.Prom b told known)) from x p = reported from b told known x p
-  input_keeps (MpInput.Message (MpMessage.No b)) from x p = notes x (refused_by b x.replica.note) p
-  input_keeps (MpInput.Message (MpMessage.Acc b s v)) from x p = accepted from b s v x p
-  input_keeps (MpInput.Message (MpMessage.Accd b s)) from x p = counted from b s x p
-  input_keeps (MpInput.Message (MpMessage.Learn s v)) from x p = chosen s v x p
-  input_keeps (MpInput.Message (MpMessage.Ask start)) from x p = taught from (take most_again (drop start (enumerate_from 0 (executed x.replica.log)))) x p
-  input_keeps MpInput.Tick from x p = all (MpMessage.Ask (length (executed x.replica.log))) (renew x.replica.note x) (renewed x.replica.note x p)
-  input_keeps MpInput.Lead from x p = wished x p
+  input_keeps (MpInput.Request c) from ok x p = requested c ok x p
+  input_keeps (MpInput.Message (MpMessage.Prep b start)) from ok x p = prepared from b start x p
+  input_keeps (MpInput.Message (MpMessage.Prom b told known)) from ok x p = reported from b told known x p
+  input_keeps (MpInput.Message (MpMessage.No b)) from ok x p = notes x (refused_by b x.replica.note) p
+  input_keeps (MpInput.Message (MpMessage.Acc b s v)) from ok x p = accepted from b s v x p
+  input_keeps (MpInput.Message (MpMessage.Accd b s)) from ok x p = counted from b s x p
+  input_keeps (MpInput.Message (MpMessage.Learn s v)) from ok x p = chosen s v x p
+  input_keeps (MpInput.Message (MpMessage.Ask start)) from ok x p = taught from (take most_again (drop start (enumerate_from 0 (executed x.replica.log)))) x p
+  input_keeps MpInput.Tick from ok x p = all (MpMessage.Ask (length (executed x.replica.log))) (renew x.replica.note x) (renewed x.replica.note x p)
+  input_keeps MpInput.Lead from ok x p = wished x p

@@ -1,2 +1,4 @@
 pub mod Happen
 pub mod Chain
+pub mod Told
+pub mod Replying

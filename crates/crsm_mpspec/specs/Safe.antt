@@ -20,8 +20,8 @@ IsLineAt lines i line = (by : Option Act) × (slice_get lines i ≡ Some (record
 -- the i-th line of a run says that this command was submitted at k, at this slot
 abbrev pub IsSubmitAt : List TraceLine → ℕ → ℕ → ℕ → Command → Type 0
 IsSubmitAt lines i k slot c =
-    (by : Option Act) × (round : ℕ) × (command_of by ≡ Some c)
-    × (slice_get lines i ≡ Some (record { by = by; line = MpLine.Submit k slot round k c.client c.number }))
+    (by : Option Act) × (round proposer : ℕ) × (command_of by ≡ Some c)
+    × (slice_get lines i ≡ Some (record { by = by; line = MpLine.Submit k slot round proposer c.client c.number }))
 
 -- the command at this slot, and the store's answer to it
 abbrev pub AnswersAt : List Value → ℕ → Command → Answer → Type 0
