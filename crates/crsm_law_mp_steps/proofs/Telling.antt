@@ -27,7 +27,7 @@ in_filter test (y ∷ xs) x c = go (test y) c (in_filter test xs x)
     ]
     go false c more = later_in y xs x (more c)
 
-in_flat_map : {X Y : Type 0} (f : X → List Y) (xs : List X) (y : Y) → Contains (flat_map f xs) y → (x : X) × Contains xs x × Contains (f x) y
+pub in_flat_map : {X Y : Type 0} (f : X → List Y) (xs : List X) (y : Y) → Contains (flat_map f xs) y → (x : X) × Contains xs x × Contains (f x) y
 in_flat_map f [] y c = absurd (none_in y c)
 in_flat_map f (x ∷ xs) y c =
     elim (Contains-append_cases (f x) (flat_map f xs) y c) [
@@ -49,7 +49,7 @@ in_drop zero xs x c = c
 in_drop (suc n) [] x c = c
 in_drop (suc n) (y ∷ xs) x c = later_in y xs x (in_drop n xs x c)
 
-in_enumerate : {X : Type 0} (k : ℕ) (xs : List X) (p : ℕ × X) → Contains (enumerate_from k xs) p → (i : ℕ) × (p.0 ≡ k + i) × (slice_get xs i ≡ Some p.1)
+pub in_enumerate : {X : Type 0} (k : ℕ) (xs : List X) (p : ℕ × X) → Contains (enumerate_from k xs) p → (i : ℕ) × (p.0 ≡ k + i) × (slice_get xs i ≡ Some p.1)
 in_enumerate k [] p c = absurd (none_in p c)
 in_enumerate k (x ∷ xs) p c =
     elim (cons_cases (k, x) (enumerate_from (k + 1) xs) p c) [

@@ -144,7 +144,7 @@ pub record GoesOn (past more : Past) (w : World) : Type 0 where
   pub submitted : (c : Command) → Contains past.submitted c → Contains more.submitted c
   pub known : (s : ℕ) (v : Value) → Contains more.known (s, v) → Contains past.known (s, v) ⊎ ((k : ℕ) × (chosen_at s (log_at w k) ≡ Some v))
 
-seat_chosen : (w : World) (k s : ℕ) → (seat_at w k).chosen s ≡ chosen_at s (log_at w k)
+pub seat_chosen : (w : World) (k s : ℕ) → (seat_at w k).chosen s ≡ chosen_at s (log_at w k)
 unfolding seat_at log_at seat_in log_of seat_of
 seat_chosen w k s = go (slice_get w.sites k)
   where
