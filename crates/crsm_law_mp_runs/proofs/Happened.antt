@@ -3,6 +3,7 @@ use Rattle.std.proofs.Common.{zero, suc, ◌≡◌, ◌≢◌, ℕ, ◌+◌, ◌
 use Rattle.std.specs.List.{Contains, slice_get, slice_set, enumerate_from}
 use Rattle.std.specs.Option.{option_map_or}
 use Rattle.std.proofs.lemmas.List.Elements.{Contains-append_cases}
+use Rattle.std.proofs.lemmas.List.{length-set}
 use Rattle.std.proofs.lemmas.Option.{slice_get_within}
 use Rattle.crsm_spec.specs.Acts.{Act}
 use Rattle.crsm_spec.specs.Safe.{command_of}
@@ -90,7 +91,7 @@ module _ (n : ℕ) (lines : List TraceLine) (worlds : List World) (w : World) (k
       (λ k r is. subst (λ ss. slice_get ss k ≡ Some (Site.Up r)) (marked_sites w v marks) is)
 
   quiet_down : (k : ℕ) (line : MpLine) → Contains (MpLine.Down k ∷ []) line → IsQuiet line
-  quiet_down k line c = elim (cons_cases (MpLine.Down k) [] line c) [ inl is ↦ subst IsQuiet is tt | inr none ↦ absurd (none_in line none) ]
+  quiet_down k line c = elim (cons_cases (MpLine.Down k) [] line c) [ inl is ↦ subst IsQuiet is tt | inr nowhere ↦ absurd (none_in line nowhere) ]
 
   stops_keeps : (k : ℕ) → Kept n (lines ++ map (traced (Some a)) (down w k).lines) (worlds ++ (down w k).after ∷ []) (down w k).after
   unfolding down with_site
@@ -108,6 +109,7 @@ module _ (n : ℕ) (lines : List TraceLine) (worlds : List World) (w : World) (k
         others = [];
         tells = append-nil (y.lines ++ []);
         quiet = λ line c. absurd (none_in line c);
+        below = subst (λ l. k < l) (sym (length-set w.sites k (Site.Up y.replica))) below;
         log = ap (λ o. option_map_or log_of o []) (set_there w.sites k (Site.Up y.replica) below);
         olds = λ wt c. absurd (none_in wt c);
         ups = λ j q is. elim (up_after w.sites k y.replica j q is) [
@@ -171,6 +173,7 @@ module _ (n : ℕ) (lines : List TraceLine) (worlds : List World) (w : World) (k
       others = others;
       tells = tells ∙ ap (λ ls. ls ++ others) same_lines;
       quiet = quiet;
+      below = subst (λ ss. k < length ss) (sym sites) (subst (λ l. k < l) (sym (length-set v.sites k site)) below);
       log = subst (λ ss. option_map_or log_of (slice_get ss k) [] ≡ y.replica.log) (sym sites)
           (ap (λ o. option_map_or log_of o []) (set_there v.sites k site below) ∙ (log ∙ same_log));
       olds = λ wt c. was;

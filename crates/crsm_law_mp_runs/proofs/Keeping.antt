@@ -124,7 +124,7 @@ module _ (n : ℕ) (lines : List TraceLine) (worlds : List World) (w : World) (k
   known' es l s u is =
       elim (Contains-push_cases worlds m.after l.world l.of) [
         | inl old ↦
-            let before : Contains kept.past.known (s, u) = kept.known es (record { world = l.world; of = old; replica = l.replica; is = l.is }) s u is in
+            let before : Contains kept.past.known (s, u) = kept.known es (record { world = l.world; of = old; replica = l.replica; below = l.below; is = l.is }) s u is in
             Contains-append_left next.0.known _ _ (subst (λ z. Contains z (s, u)) (sym next.2.known) before)
         | inr now ↦
             let here : slice_get (executed (log_at m.after l.replica)) s ≡ Some u = subst (λ z. slice_get (executed (log_at z l.replica)) s ≡ Some u) (sym now) (subst (λ z. slice_get z s ≡ Some u) l.is is) in
@@ -155,6 +155,7 @@ module _ (n : ℕ) (lines : List TraceLine) (worlds : List World) (w : World) (k
   goes_on waits right = record {
     past = past';
     sound = sound';
+    sizes = λ v c. elim (Contains-push_cases worlds m.after v c) [ inl old ↦ kept.sizes v old | inr now ↦ subst (λ z. length z.sites ≡ n) now next.1.places ];
     known = known';
     submitted = submitted';
     waits = waits;
@@ -202,6 +203,7 @@ module _ (n : ℕ) (lines : List TraceLine) (worlds : List World) (w : World) (k
     pub others : List MpLine
     pub tells : m.lines ≡ y.lines ++ others
     pub quiet : (line : MpLine) → Contains others line → IsQuiet line ⊎ IsAnswer y line
+    pub below : k < length m.after.sites
     pub log : log_at m.after k ≡ y.replica.log
     pub olds : (wt : Waiting) → Contains r.waiting wt → slice_get w.sites k ≡ Some (Site.Up r)
     pub ups : (j : ℕ) (q : Replica) → slice_get m.after.sites j ≡ Some (Site.Up q) →
@@ -219,7 +221,7 @@ module _ (n : ℕ) (lines : List TraceLine) (worlds : List World) (w : World) (k
 
     listed : IsList after es
     unfolding es
-    listed = record { world = m.after; of = Contains-push worlds m.after; replica = k; is = ap executed (sym st.log) }
+    listed = record { world = m.after; of = Contains-push worlds m.after; replica = k; below = st.below; is = ap executed (sym st.log) }
 
     -- who waits was told before the replies
     told_at : (wt : Waiting) → Contains y.replica.waiting wt → (i : ℕ) → length lines + length y.lines ≤ i → WasSubmitted run i k wt.slot wt.command.client wt.command.number wt.command

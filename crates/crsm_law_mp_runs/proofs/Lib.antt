@@ -5,3 +5,5 @@ pub mod Replying
 pub mod Places
 pub mod Keeping
 pub mod Happened
+pub mod Begin
+pub mod Safe

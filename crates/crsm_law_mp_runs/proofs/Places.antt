@@ -105,7 +105,7 @@ module _ (lines more : List TraceLine) where
 
   module _ (worlds later : List World) where
     pub list_more : (es : List Value) → IsList worlds es → IsList (worlds ++ later) es
-    list_more es l = record { world = l.world; of = Contains-append_left worlds later l.world l.of; replica = l.replica; is = l.is }
+    list_more es l = record { world = l.world; of = Contains-append_left worlds later l.world l.of; replica = l.replica; below = l.below; is = l.is }
 
     answered_more : (slot client number : ℕ) (a : Answer) → IsAnswered worlds slot client number a → IsAnswered (worlds ++ later) slot client number a
     answered_more slot client number a r = record {

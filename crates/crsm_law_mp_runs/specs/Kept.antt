@@ -16,6 +16,7 @@ pub record IsList (worlds : List World) (es : List Value) : Type 0 where
   pub world : World
   pub of : Contains worlds world
   pub replica : ℕ
+  pub below : replica < length world.sites
   pub is : es ≡ executed (log_at world replica)
 
 -- the command stands at the slot of such a list, and this is the answer to it
@@ -60,11 +61,12 @@ IsRightLine lines worlds i (MpLine.ReplyOk k client number slot a) = IsReplied l
 IsRightLine lines worlds i (MpLine.ReplyDropped k client number slot) = IsDropped lines worlds i k slot client number
 IsRightLine lines worlds i _ = Unit {0}
 
--- What holds of the run so far: its world is sound, what was executed in any of its worlds is known, what was submitted was told, as
+-- What holds of the run so far: its world is sound, each world has n replicas, what was executed in any of its worlds is known, what was submitted was told, as
 -- was what each client waits for, and each line is right.
 pub record Kept (n : ℕ) (lines : List TraceLine) (worlds : List World) (w : World) : Type 0 where
   pub past : Past
   pub sound : IsSound n past w
+  pub sizes : (v : World) → Contains worlds v → length v.sites ≡ n
   pub known : (es : List Value) → IsList worlds es → (s : ℕ) (u : Value) → slice_get es s ≡ Some u → Contains past.known (s, u)
   pub submitted : (c : Command) → Contains past.submitted c → IsEarlier lines (length lines) c
   pub waits : (k : ℕ) (r : Replica) → slice_get w.sites k ≡ Some (Site.Up r) → (wt : Waiting) → Contains r.waiting wt →
