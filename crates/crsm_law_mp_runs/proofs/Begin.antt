@@ -1,35 +1,29 @@
 -- What holds of a run holds at its beginning.
-use Rattle.std.proofs.Common.{zero, suc, ◌≡◌, ℕ, ◌+◌, ◌<◌, ◌≤◌, ◌⊎◌, List, [], ◌∷◌, ◌++◌, map, length, arith, inl, inr, refl, sym, subst, ap, ◌∙◌, Option, Some, None}
-use Rattle.std.specs.List.{Contains, slice_get, flat_map, range_with_len}
+use Rattle.std.proofs.Common.{◌≡◌, ℕ, [], ◌∷◌, map, length, arith, inl, inr, refl, sym, subst, ◌∙◌, Option, Some, None}
+use Rattle.std.specs.List.{Contains, slice_get, range_with_len}
 use Rattle.std.specs.Option.{option_map_or}
 use Rattle.std.proofs.lemmas.List.{length-map}
 use Rattle.std.proofs.lemmas.List.FromFn.{length-range_with_len}
 use Rattle.crsm_spec.specs.Lists.{greatest, numbers_below}
 use Rattle.crsm_spec.specs.Paxos.{fresh}
-use Rattle.crsm_mpspec.specs.declared.MpRec.{MpRec}
+use Rattle.crsm_safety.proofs.Paxos.Basics.{got}
 use Rattle.crsm_mpspec.specs.declared.MpMessage.{MpMessage}
 use Rattle.crsm_mpspec.specs.declared.MpLine.{MpLine}
 use Rattle.crsm_mpspec.specs.Types.{Value}
-use Rattle.crsm_mpspec.specs.Log.{Log, no_ballot, promised, accepts, accepted_at, at_slot, choices, chosen_at, end, run_from, boots, executed}
-use Rattle.crsm_mpspec.specs.Replica.{Replica, Note, Waiting, note_after}
+use Rattle.crsm_mpspec.specs.Log.{no_ballot, promised, accepts, accepted_at, at_slot, choices, chosen_at, end, run_from, boots, executed}
+use Rattle.crsm_mpspec.specs.Replica.{Replica, Note, note_after}
 use Rattle.crsm_mpspec.specs.Replica.{fresh as fresh_replica}
-use Rattle.crsm_mpspec.specs.Draft.{Draft, begun, exec_lines, executions, line_of, keep_as, keep}
+use Rattle.crsm_mpspec.specs.Draft.{begun, exec_lines, executions, line_of, keep_as, keep}
 use Rattle.crsm_mpspec.specs.Step.{boot}
-use Rattle.crsm_mpspec.specs.World.{Site, Packet, World, log_of, log_at, first_boot, begin, first_lines}
-use Rattle.crsm_mpspec.specs.Run.{TraceLine, traced}
-use Rattle.crsm_law_mp_slots.specs.Slots.{Seat, Slots, Past, NoteHolds, Holds}
+use Rattle.crsm_mpspec.specs.World.{Site, log_at, first_boot, begin, first_lines}
+use Rattle.crsm_mpspec.specs.Run.{traced}
+use Rattle.crsm_law_mp_slots.specs.Slots.{Past, NoteHolds, Holds}
 use Rattle.crsm_law_mp_slots.proofs.Lists.{cons_cases, none_in}
 use Rattle.crsm_law_mp_steps.specs.Seats.{seat_of, seat_in, seat_at, IsSound}
 use Rattle.crsm_law_mp_steps.proofs.Telling.{executed_chosen, in_flat_map}
-use Rattle.crsm_law_mp_steps.proofs.Worlds.{seat_chosen}
-use Rattle.crsm_law_mp_runs.specs.Kept.{IsList, IsRightLine, Kept}
-use Rattle.crsm_law_mp_runs.proofs.Places.{none_some, got, get_map, get_range}
-
-site_is : (s t : Site) → Some s ≡ Some t → s ≡ t
-site_is s t e = cc
-
-up_is : (r q : Replica) → Site.Up r ≡ Site.Up q → r ≡ q
-up_is r q e = cc
+use Rattle.crsm_law_mp_steps.proofs.Worlds.{seat_chosen, up_is}
+use Rattle.crsm_law_mp_runs.specs.Kept.{IsRightLine, Kept}
+use Rattle.crsm_law_mp_runs.proofs.Places.{none_some, get_map, get_range}
 
 module _ (n : ℕ) where
   seat_first : (k : ℕ) → seat_at (begin n) k ≡ seat_of [] Note.Idle

@@ -1,14 +1,13 @@
 -- A step is a chain of few kinds of changes: what each of them keeps, the step keeps.
-use Rattle.std.proofs.Common.{zero, suc, ◌≡◌, ℕ, ◌+◌, ◌-◌, Bool, true, false, not, ◌&&◌, ◌==◌, leb, nat_eq, List, [], ◌∷◌, ◌++◌, length, take, drop, inl, inr, refl, sym, subst, ◌∙◌, Option, Some, None}
+use Rattle.std.proofs.Common.{◌≡◌, ℕ, ◌+◌, ◌-◌, Bool, true, false, not, ◌&&◌, ◌==◌, leb, List, [], ◌∷◌, length, take, drop, refl, Some, None}
 use Rattle.std.specs.List.{fold, range_with_len, enumerate_from}
 use Rattle.std.specs.Option.{option_map_or}
 use Rattle.crsm_base.specs.Limits.{most_again}
 use Rattle.crsm_base.specs.Order.{ballot_lt, ballot_eq}
-use Rattle.crsm_base.specs.Replicas.{has}
 use Rattle.crsm_spec.specs.Choice.{when◌then◌otherwise◌}
 use Rattle.crsm_spec.specs.Clock.{u64_max}
 use Rattle.crsm_spec.specs.Paxos.{Held, majority}
-use Rattle.crsm_safety.proofs.Paxos.Basics.{not_true, clash}
+use Rattle.crsm_safety.proofs.Paxos.Basics.{not_true}
 use Rattle.crsm_mpspec.specs.declared.MpRec.{MpRec}
 use Rattle.crsm_mpspec.specs.declared.MpMessage.{MpMessage}
 use Rattle.crsm_mpspec.specs.declared.MpAccepted.{MpAccepted}
@@ -17,7 +16,7 @@ use Rattle.crsm_mpspec.specs.declared.MpInput.{MpInput}
 use Rattle.crsm_mpspec.specs.declared.MpLine.{MpLine}
 use Rattle.crsm_mpspec.specs.Types.{Ballot, Command, Value}
 use Rattle.crsm_mpspec.specs.Log.{promised, accepted_at, accepted_from, chosen_from, is_chosen, executed}
-use Rattle.crsm_mpspec.specs.Replica.{Replica, Report, Note, others, without_lead, refused_by, with_report, has_reported, voters_at, votes_of, with_vote}
+use Rattle.crsm_mpspec.specs.Replica.{Report, Note, others, without_lead, refused_by, with_report, has_reported, voters_at, votes_of, with_vote}
 use Rattle.crsm_mpspec.specs.Draft.{Draft, keep_as, keep, line_of, send, send_to_each, send_to_others, noting, count_vote, await}
 use Rattle.crsm_mpspec.specs.Deciding.{choose, choose_accepted, is_voted, choose_voted, propose_as, propose, refuse, submit, take_request, on_request, has_accepted, on_acc, counts, take_vote, on_accd}
 use Rattle.crsm_mpspec.specs.Electing.{report, reported_at, chosen_among, next_slot, choose_reported, propose_reported, lead, lead_by, lead_at_majority, ask, on_lead, on_prep, take_report, on_prom, on_no}

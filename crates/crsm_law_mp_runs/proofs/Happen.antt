@@ -1,6 +1,6 @@
 -- Possible acts make a run, moment by moment.
-use Rattle.std.proofs.Common.{zero, suc, ◌≡◌, ℕ, ◌<◌, Bool, true, false, cond, leb, List, [], ◌∷◌, ◌++◌, map, length, append_assoc, append-nil, arith, refl, sym, subst, ap, ◌∙◌, Option, Some, None, option_map}
-use Rattle.std.specs.List.{Contains, slice_get, flat_map}
+use Rattle.std.proofs.Common.{◌≡◌, ℕ, ◌<◌, Bool, true, false, cond, leb, List, [], ◌∷◌, ◌++◌, map, length, append_assoc, append-nil, arith, refl, sym, subst, ap, ◌∙◌, Option, Some, None, option_map}
+use Rattle.std.specs.List.{slice_get}
 use Rattle.std.proofs.lemmas.Bool.Decides.{nat_tests}
 use Rattle.crsm_spec.specs.Acts.{Single, Act, Bad}
 use Rattle.crsm_spec.specs.Safe.{command_of, command_of_single}
@@ -8,7 +8,6 @@ use Rattle.crsm_spec.specs.Choice.{when◌then◌otherwise◌}
 use Rattle.crsm_spec.specs.Possible.{first_bad}
 use Rattle.crsm_safety.proofs.Paxos.Basics.{got}
 use Rattle.crsm_mpspec.specs.declared.MpInput.{MpInput}
-use Rattle.crsm_mpspec.specs.declared.MpLine.{MpLine}
 use Rattle.crsm_mpspec.specs.Types.{Command}
 use Rattle.crsm_mpspec.specs.Draft.{Draft}
 use Rattle.crsm_mpspec.specs.Step.{step}
@@ -20,7 +19,9 @@ use Rattle.crsm_law_mp_steps.specs.Happenings.{Marks, CanCome, Ends, Happens}
 use Rattle.crsm_law_mp_steps.specs.Happenings.Marks.{none, mark}
 use Rattle.crsm_law_mp_steps.specs.Happenings.Ends.{IsWhole, IsCut, IsLost}
 use Rattle.crsm_law_mp_steps.specs.Happenings.Happens.{Nothing, Steps, Stops, Starts}
+use Rattle.crsm_law_mp_slots.proofs.Lists.{map_append}
 use Rattle.crsm_law_mp_runs.specs.Traces.{Runs}
+use Rattle.crsm_law_mp_runs.proofs.Places.{none_some}
 use Rattle.crsm_law_mp_runs.specs.Traces.Runs.{first, next}
 
 -- moments that follow one another
@@ -68,9 +69,6 @@ each_happens command t (i ∷ is) w by = go (is_full w) (each_happens command t 
 
 -- ---- acts
 
-none_some : {X : Type 0} (x : X) → None ≡ Some x → ⊥
-none_some x e = cc
-
 -- a replica that starts is there
 there : (w : World) (k : ℕ) → possible w (Act.Start k) ≡ None → k < length w.sites
 unfolding possible is_not_here when◌then◌otherwise◌ first_bad causes_of is_none_of
@@ -97,10 +95,6 @@ act_happens w (Act.CutLostBatch t is) may = no_more
 act_happens w (Act.CutAt calls fill s) may = no_more
 
 -- ---- runs
-
-map_append : {X Y : Type 0} (f : X → Y) (xs ys : List X) → map f (xs ++ ys) ≡ map f xs ++ map f ys
-map_append f [] ys = refl
-map_append f (x ∷ xs) ys = ap (λ zs. f x ∷ zs) (map_append f xs ys)
 
 module _ (n : ℕ) where
   moments_run : (a : Act) (w v : World) (ms : List Moment) (lines : List TraceLine) (worlds : List World) → Runs n lines worlds w → AllHappen (command_of (Some a)) w ms v →

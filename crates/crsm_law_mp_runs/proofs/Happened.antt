@@ -1,5 +1,5 @@
 -- Whatever happens at a moment keeps what holds of a run.
-use Rattle.std.proofs.Common.{zero, suc, ◌≡◌, ◌≢◌, ℕ, ◌+◌, ◌-◌, ◌<◌, ◌≤◌, ◌⊎◌, List, [], ◌∷◌, ◌++◌, map, length, take, append_assoc, append-nil, inl, inr, refl, sym, subst, ap, ◌∙◌, Option, Some, None}
+use Rattle.std.proofs.Common.{◌≡◌, ℕ, ◌-◌, ◌<◌, ◌⊎◌, List, [], ◌∷◌, ◌++◌, map, length, take, append_assoc, append-nil, inl, inr, refl, sym, subst, ap, ◌∙◌, Some}
 use Rattle.std.specs.List.{Contains, slice_get, slice_set, enumerate_from}
 use Rattle.std.specs.Option.{option_map_or}
 use Rattle.std.proofs.lemmas.List.Elements.{Contains-append_cases}
@@ -12,40 +12,31 @@ use Rattle.crsm_mpspec.specs.declared.MpRec.{MpRec}
 use Rattle.crsm_mpspec.specs.declared.MpMessage.{MpMessage}
 use Rattle.crsm_mpspec.specs.declared.MpInput.{MpInput}
 use Rattle.crsm_mpspec.specs.declared.MpLine.{MpLine}
-use Rattle.crsm_mpspec.specs.Types.{Command}
 use Rattle.crsm_mpspec.specs.Log.{Log}
 use Rattle.crsm_mpspec.specs.Replica.{Replica, Waiting, fresh}
 use Rattle.crsm_mpspec.specs.Draft.{Draft, begun, keep, keep_as}
-use Rattle.crsm_mpspec.specs.Step.{on_input, replies, step, boot}
+use Rattle.crsm_mpspec.specs.Step.{on_input, step, boot}
 use Rattle.crsm_mpspec.specs.World.{Site, World, Moment, log_of, log_at, with_site, kind_of, send_line, send_lines, after_step, whole_step, then_down, cut_step, lost_step, down}
 use Rattle.crsm_mpspec.specs.Moments.{use_up, silent, begun_at}
 use Rattle.crsm_mpspec.specs.Run.{TraceLine, traced}
-use Rattle.crsm_law_mp_slots.proofs.Lists.{first_in, cons_cases, none_in, in_map}
+use Rattle.crsm_law_mp_slots.proofs.Lists.{cons_cases, none_in, in_map}
 use Rattle.crsm_law_mp_steps.specs.Happenings.{Marks, CanCome, Ends, Happens}
 use Rattle.crsm_law_mp_steps.specs.Happenings.Marks.{none, mark}
 use Rattle.crsm_law_mp_steps.specs.Happenings.Ends.{IsWhole, IsCut, IsLost}
 use Rattle.crsm_law_mp_steps.specs.Happenings.Happens.{Nothing, Steps, Stops, Starts}
 use Rattle.crsm_law_mp_steps.proofs.Moments.{replied_lines}
 use Rattle.crsm_law_mp_steps.proofs.Telling.{in_take}
+use Rattle.crsm_law_mp_steps.proofs.Worlds.{same_site, up_is, never_up}
 use Rattle.crsm_law_mp_runs.specs.Kept.{Kept}
 use Rattle.crsm_law_mp_runs.proofs.Chain.{AsksFor}
 use Rattle.crsm_law_mp_runs.proofs.Told.{IsRefusal, input_lawful, kept_lawful}
 use Rattle.crsm_law_mp_runs.proofs.Replying.{IsAnswer, replied}
-use Rattle.crsm_law_mp_runs.proofs.Keeping.{IsQuiet, IsStep, run, after, plain, stepped}
+use Rattle.crsm_law_mp_runs.proofs.Keeping.{IsQuiet, IsStep, plain, stepped}
 
 marked_sites : (w v : World) → Marks w v → v.sites ≡ w.sites
 unfolding use_up
 marked_sites w v none = refl
 marked_sites w v (mark i) = refl
-
-same_site : (s t : Site) → Some s ≡ Some t → s ≡ t
-same_site s t e = cc
-
-up_is : (r q : Replica) → Site.Up r ≡ Site.Up q → r ≡ q
-up_is r q e = cc
-
-never_up : (log : Log) (q : Replica) → Site.Down log ≡ Site.Up q → ⊥
-never_up log q e = cc
 
 -- a replica that is up when one has gone down was up
 up_before : (sites : List Site) (k : ℕ) (log : Log) (j : ℕ) (q : Replica) → slice_get (slice_set sites k (Site.Down log)) j ≡ Some (Site.Up q) → slice_get sites j ≡ Some (Site.Up q)

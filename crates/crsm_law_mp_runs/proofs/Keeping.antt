@@ -1,5 +1,5 @@
 -- A moment keeps what holds of a run.
-use Rattle.std.proofs.Common.{zero, suc, ◌≡◌, ◌≢◌, ℕ, ◌+◌, ◌<◌, ◌≤◌, ◌⊎◌, Bool, true, false, cond, List, [], ◌∷◌, ◌++◌, map, length, take, arith, inl, inr, refl, sym, subst, ap, ◌∙◌, Option, Some, None, length-append}
+use Rattle.std.proofs.Common.{◌≡◌, ℕ, ◌+◌, ◌<◌, ◌≤◌, ◌⊎◌, Bool, true, false, List, [], ◌∷◌, ◌++◌, map, length, take, arith, inl, inr, refl, sym, subst, ap, ◌∙◌, Option, Some, None, length-append}
 use Rattle.std.specs.List.{Contains, slice_get, flat_map, enumerate_from}
 use Rattle.std.proofs.lemmas.List.{length-map}
 use Rattle.std.proofs.lemmas.List.Elements.{Contains-append_left, Contains-append_right, Contains-append_cases, Contains-push, Contains-push_cases}
@@ -8,9 +8,10 @@ use Rattle.crsm_spec.specs.Safe.{command_of}
 use Rattle.crsm_spec.specs.Choice.{when◌then◌otherwise◌}
 use Rattle.crsm_spec.specs.Lists.{numbers_below}
 use Rattle.crsm_safety.proofs.Paxos.Instances.{proposed}
+use Rattle.crsm_safety.proofs.Paxos.Basics.{got}
 use Rattle.crsm_mpspec.specs.declared.MpLine.{MpLine}
 use Rattle.crsm_mpspec.specs.Types.{Command, Answer, Value}
-use Rattle.crsm_mpspec.specs.Log.{Log, at_slot, choices, chosen_at, executed}
+use Rattle.crsm_mpspec.specs.Log.{at_slot, choices, chosen_at, executed}
 use Rattle.crsm_mpspec.specs.Values.{answer_after, is_command}
 use Rattle.crsm_mpspec.specs.Replica.{Replica, Waiting}
 use Rattle.crsm_mpspec.specs.Draft.{Draft}
@@ -18,18 +19,18 @@ use Rattle.crsm_mpspec.specs.Step.{reply_line}
 use Rattle.std.specs.Option.{option_map_or}
 use Rattle.crsm_mpspec.specs.World.{Site, World, Moment, log_of, log_at}
 use Rattle.crsm_mpspec.specs.Run.{TraceLine, traced}
-use Rattle.crsm_mpspec.specs.Safe.{IsSubmitAt, WasSubmitted}
+use Rattle.crsm_mpspec.specs.Safe.{WasSubmitted}
 use Rattle.crsm_law_mp_slots.specs.Slots.{Past}
 use Rattle.crsm_law_mp_slots.proofs.Agree.{invariant}
-use Rattle.crsm_law_mp_steps.specs.Seats.{seat_at, IsSound}
-use Rattle.crsm_law_mp_steps.specs.Happenings.{Happens, Tells, IsNext}
+use Rattle.crsm_law_mp_steps.specs.Seats.{IsSound}
+use Rattle.crsm_law_mp_steps.specs.Happenings.{Happens, IsNext}
 use Rattle.crsm_law_mp_steps.proofs.Telling.{executed_chosen, in_flat_map, in_enumerate}
-use Rattle.crsm_law_mp_steps.proofs.Worlds.{GoesOn, sound_more, seat_chosen, is_replica}
+use Rattle.crsm_law_mp_steps.proofs.Worlds.{sound_more, seat_chosen, is_replica}
 use Rattle.crsm_law_mp_steps.proofs.Moments.{keeps}
-use Rattle.crsm_law_mp_runs.specs.Kept.{IsList, IsAnswered, IsEarlier, IsReplied, IsDropped, IsRightLine, Kept}
-use Rattle.crsm_law_mp_runs.proofs.Told.{IsRight, IsRefusal, Lawful}
+use Rattle.crsm_law_mp_runs.specs.Kept.{IsList, IsEarlier, IsRightLine, Kept}
+use Rattle.crsm_law_mp_runs.proofs.Told.{IsRight, Lawful}
 use Rattle.crsm_law_mp_runs.proofs.Replying.{IsAnswer, command_is, command_is_not}
-use Rattle.crsm_law_mp_runs.proofs.Places.{none_some, get_left, get_right, get_cases, got, place_of, get_within, get_map, map_get, in_enumerated, in_flat, submit_more, was_more, earlier_more, list_more, right_more}
+use Rattle.crsm_law_mp_runs.proofs.Places.{none_some, get_left, get_right, get_cases, place_of, get_within, get_map, map_get, in_enumerated, in_flat, was_more, earlier_more, right_more}
 
 -- a line that says nothing that could be wrong, and is not of a submission
 abbrev pub IsQuiet : MpLine → Type 0

@@ -1,15 +1,14 @@
 -- Places in lists, and what stays right when a run goes on.
-use Rattle.std.proofs.Common.{zero, suc, ◌≡◌, ℕ, ◌+◌, ◌<◌, ◌≤◌, ◌⊎◌, List, [], ◌∷◌, ◌++◌, map, length, arith, inl, inr, refl, sym, subst, ap, ◌∙◌, Option, Some, None, length-append}
+use Rattle.std.proofs.Common.{zero, suc, ◌≡◌, ℕ, ◌+◌, ◌<◌, ◌≤◌, ◌⊎◌, List, [], ◌∷◌, ◌++◌, map, length, arith, inl, inr, refl, sym, subst, ap, Some, None}
 use Rattle.std.specs.List.{Contains, slice_get, flat_map, enumerate_from, range_with_len}
 use Rattle.std.proofs.lemmas.List.Elements.{Contains-append_left, Contains-append_right}
-use Rattle.crsm_spec.specs.Acts.{Act}
 use Rattle.crsm_mpspec.specs.declared.MpLine.{MpLine}
 use Rattle.crsm_mpspec.specs.Types.{Command, Answer, Value}
 use Rattle.crsm_mpspec.specs.World.{World}
 use Rattle.crsm_mpspec.specs.Run.{TraceLine}
 use Rattle.crsm_mpspec.specs.Safe.{IsSubmitAt, WasSubmitted}
 use Rattle.crsm_law_mp_slots.proofs.Lists.{cons_cases, first_in, later_in, none_in}
-use Rattle.crsm_law_mp_runs.specs.Kept.{IsList, IsAnswered, IsEarlier, IsReplied, IsDropped, IsRightLine}
+use Rattle.crsm_law_mp_runs.specs.Kept.{IsList, IsAnswered, IsEarlier, IsRightLine}
 
 pub none_some : {X : Type 0} (x : X) → None ≡ Some x → ⊥
 none_some x e = cc
@@ -28,11 +27,6 @@ module _ {A : Type 0} where
   get_cases [] ys i x e = inr (i, omega arith, e)
   get_cases (z ∷ xs) ys zero x e = inl e
   get_cases (z ∷ xs) ys (suc i) x e = elim (get_cases xs ys i x e) [ inl here ↦ inl here | inr later ↦ inr (later.0, (let h = later.1 in omega arith), later.2) ]
-
-  pub got : (xs : List A) (i : ℕ) (x : A) → slice_get xs i ≡ Some x → Contains xs x
-  got [] i x e = absurd (none_some x e)
-  got (z ∷ xs) zero x e = let same : z ≡ x = cc in subst (λ y. Contains (z ∷ xs) y) same (first_in z xs)
-  got (z ∷ xs) (suc i) x e = later_in z xs x (got xs i x e)
 
   pub place_of : (xs : List A) (x : A) → Contains xs x → (i : ℕ) × (i < length xs) × (slice_get xs i ≡ Some x)
   place_of [] x c = absurd (none_in x c)

@@ -1,18 +1,17 @@
 -- The replies of a step are to clients whose slots are executed, and say what stands there.
-use Rattle.std.proofs.Common.{zero, suc, ◌≡◌, ◌≢◌, ℕ, ◌+◌, ◌<◌, ◌≤◌, ◌⊎◌, Bool, true, false, cond, ◌==◌, ◌&&◌, List, [], ◌∷◌, ◌++◌, length, take, inl, inr, refl, sym, subst, ap, ◌∙◌, Option, Some, None}
+use Rattle.std.proofs.Common.{◌≡◌, ◌≢◌, ℕ, ◌⊎◌, true, false, List, [], ◌∷◌, inl, inr, refl, sym, subst, ap, ◌∙◌, Option, Some, None}
 use Rattle.std.specs.List.{Contains, slice_get}
 use Rattle.std.specs.Prelude.{bytes_eq}
-use Rattle.std.specs.Option.{option_eq, option_map_or}
+use Rattle.std.specs.Option.{option_eq}
 use Rattle.std.proofs.lemmas.Slice.Eq.{bytes_eq-Decides}
 use Rattle.std.proofs.lemmas.List.Elements.{Contains-push_cases}
-use Rattle.crsm_spec.specs.Choice.{when◌then◌otherwise◌}
 use Rattle.crsm_safety.proofs.Paxos.Majority.{nat_eq_is, nat_eq_itself}
 use Rattle.crsm_safety.proofs.Paxos.Basics.{both, clash}
 use Rattle.crsm_mpspec.specs.declared.MpLine.{MpLine}
 use Rattle.crsm_mpspec.specs.Types.{Op, Command, Value}
-use Rattle.crsm_mpspec.specs.Log.{Log, executed}
-use Rattle.crsm_mpspec.specs.Values.{answer_after, op_eq, command_eq, is_command}
-use Rattle.crsm_mpspec.specs.Replica.{Replica, Waiting}
+use Rattle.crsm_mpspec.specs.Log.{executed}
+use Rattle.crsm_mpspec.specs.Values.{op_eq, command_eq, is_command}
+use Rattle.crsm_mpspec.specs.Replica.{Waiting}
 use Rattle.crsm_mpspec.specs.Draft.{Draft, reply}
 use Rattle.crsm_mpspec.specs.Step.{reply_line, answer, answer_each, replies}
 use Rattle.crsm_law_mp_slots.proofs.Lists.{first_in, later_in, none_in}
@@ -126,13 +125,13 @@ answered y (w ∷ ws) all x r =
       replies = λ line c. elim (Contains-push_cases x.replies _ line c) [
         | inl old ↦ r.replies line old
         | inr is ↦ inr (record {
-            waiting = w;
-            waited = all w (first_in w ws);
-            value = v;
-            there = subst (λ log. slice_get (executed log) w.slot ≡ Some v) r.log e;
-            told = sym is ∙ subst (λ log. reply_line x.replica.me (executed x.replica.log) w v ≡ reply_line y.replica.me (executed log) w v) r.log
-                (ap (λ me. reply_line me (executed x.replica.log) w v) r.me);
-          })
+          waiting = w;
+          waited = all w (first_in w ws);
+          value = v;
+          there = subst (λ log. slice_get (executed log) w.slot ≡ Some v) r.log e;
+          told = sym is ∙ subst (λ log. reply_line x.replica.me (executed x.replica.log) w v ≡ reply_line y.replica.me (executed log) w v) r.log
+              (ap (λ me. reply_line me (executed x.replica.log) w v) r.me);
+        })
       ];
     })
 

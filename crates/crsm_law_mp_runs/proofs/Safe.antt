@@ -1,27 +1,26 @@
 -- Every possible run is safe.
-use Rattle.std.proofs.Common.{zero, suc, ◌≡◌, ◌≢◌, ℕ, ◌+◌, ◌<◌, ◌≤◌, ◌⊎◌, Bool, true, false, cond, nat_lt, List, [], ◌∷◌, ◌++◌, map, length, take, drop, arith, inl, inr, refl, sym, subst, ap, ◌∙◌, Option, Some, None}
-use Rattle.std.specs.List.{Contains, AllByRecursion, slice_get, flat_map, fold, range_with_len}
+use Rattle.std.proofs.Common.{zero, suc, ◌≡◌, ℕ, ◌+◌, ◌<◌, ◌≤◌, ◌⊎◌, Bool, true, false, cond, nat_lt, List, [], ◌∷◌, map, length, drop, arith, inl, inr, refl, sym, subst, ap, ◌∙◌, Some, None}
+use Rattle.std.specs.List.{Contains, AllByRecursion, slice_get, fold, range_with_len}
 use Rattle.std.proofs.lemmas.Bool.Decides.{nat_tests}
 use Rattle.crsm_spec.specs.Acts.{Act}
 use Rattle.crsm_spec.specs.Lists.{IsPrefixOf, numbers_below}
 use Rattle.crsm_safety.proofs.Paxos.Instances.{agree}
-use Rattle.crsm_mpspec.specs.declared.MpLine.{MpLine}
-use Rattle.crsm_mpspec.specs.Types.{Command, Answer, Value}
+use Rattle.crsm_mpspec.specs.Types.{Answer, Value}
 use Rattle.crsm_mpspec.specs.Log.{executed}
 use Rattle.crsm_mpspec.specs.Values.{answer_after}
 use Rattle.crsm_mpspec.specs.World.{World, begin, log_at}
 use Rattle.crsm_mpspec.specs.Run.{TraceLine, ArePossible, seen, all_worlds, all_lists, longest, the_list, last_world}
-use Rattle.crsm_mpspec.specs.Safe.{IsLineAt, IsSubmitAt, AnswersAt, WasSubmitted, Agreed, Answered, RealTime, IsSafe}
+use Rattle.crsm_mpspec.specs.Safe.{AnswersAt, Agreed, Answered, RealTime, IsSafe}
 use Rattle.crsm_law_mp_slots.proofs.Agree.{invariant}
 use Rattle.crsm_law_mp_slots.proofs.Lists.{cons_cases, first_in, later_in, none_in, in_map, map_in}
 use Rattle.crsm_law_mp_steps.proofs.Telling.{in_flat_map}
 use Rattle.crsm_law_mp_steps.proofs.Worlds.{is_replica}
 use Rattle.crsm_law_mp_runs.specs.Traces.{Runs}
 use Rattle.crsm_law_mp_runs.specs.Traces.Runs.{first, next}
-use Rattle.crsm_law_mp_runs.specs.Kept.{IsList, IsAnswered, IsEarlier, IsReplied, IsDropped, IsRightLine, Kept}
+use Rattle.crsm_law_mp_runs.specs.Kept.{IsList, IsAnswered, IsEarlier, IsReplied, IsDropped, Kept}
 use Rattle.crsm_law_mp_runs.proofs.Happen.{run_of}
 use Rattle.crsm_law_mp_runs.proofs.Told.{Begins, take_same, split_at, within}
-use Rattle.crsm_law_mp_runs.proofs.Places.{none_some, in_flat}
+use Rattle.crsm_law_mp_runs.proofs.Places.{in_flat}
 use Rattle.crsm_law_mp_runs.proofs.Happened.{keeps_on}
 use Rattle.crsm_law_mp_runs.proofs.Begin.{kept_first}
 

@@ -1,5 +1,5 @@
 -- What the lines of a step tell is right, and who waits was told to be submitted.
-use Rattle.std.proofs.Common.{zero, suc, ◌≡◌, ℕ, ◌+◌, ◌<◌, ◌≤◌, ◌⊎◌, Bool, true, false, cond, ◌==◌, List, [], ◌∷◌, ◌++◌, map, length, take, drop, append_assoc, append-nil, arith, inl, inr, refl, sym, subst, ap, ◌∙◌, Option, Some, None}
+use Rattle.std.proofs.Common.{zero, suc, ◌≡◌, ℕ, ◌<◌, ◌≤◌, ◌⊎◌, Bool, true, false, cond, ◌==◌, List, [], ◌∷◌, ◌++◌, length, take, drop, append_assoc, arith, inl, inr, refl, sym, subst, ap, ◌∙◌, Option, Some, None}
 use Rattle.std.specs.List.{Contains, slice_get}
 use Rattle.std.proofs.lemmas.List.Elements.{Contains-append_left, Contains-append_right, Contains-append_cases, Contains-push_cases}
 use Rattle.std.specs.Prelude.{is_some}
@@ -19,10 +19,8 @@ use Rattle.crsm_mpspec.specs.Deciding.{refuse}
 use Rattle.crsm_mpspec.specs.Step.{on_input}
 use Rattle.crsm_mpspec.specs.Safe.{AnswersAt}
 use Rattle.crsm_law_mp_slots.proofs.Lists.{cons_cases, first_in, none_in}
+use Rattle.crsm_law_mp_runs.proofs.Places.{none_some}
 use Rattle.crsm_law_mp_runs.proofs.Chain.{IsNew, AsksFor, input_keeps}
-
-none_some : {X : Type 0} (x : X) → None ≡ Some x → ⊥
-none_some x e = cc
 
 -- each value of the first list stands at its place in the second
 abbrev pub Begins : List Value → List Value → Type 0
@@ -236,14 +234,14 @@ module _ (r : Replica) (command : Option Command) where
     waits = λ w there. elim (Contains-push_cases x.replica.waiting _ w there) [
       | inl old ↦ elim (h.waits w old) [ inl before ↦ inl before | inr told ↦ inr (told.0, still_told x.lines _ w told.1) ]
       | inr is ↦ inr (subst (λ z. (command ≡ Some z.command) × IsToldBy (x.lines ++ MpLine.Submit x.replica.me s b.round b.by c.client c.number ∷ executions x.replica.me x.replica.log (MpRec.Accept s b (Some c))) r.me z) is (
-          asked,
-          (
+        asked,
+        (
           b.round,
           b.by,
           Contains-append_right x.lines _ _ (subst (λ j. Contains (MpLine.Submit x.replica.me s b.round b.by c.client c.number ∷ executions x.replica.me x.replica.log (MpRec.Accept s b (Some c)))
               (MpLine.Submit j s b.round b.by c.client c.number)) h.me (first_in _ _)),
-          ),
-        ))
+        ),
+      ))
     ];
     refusals = h.refusals;
   }

@@ -1,5 +1,5 @@
 -- What holds of a run so far: its lines tell the truth.
-use Rattle.std.specs.Prelude.{◌≡◌, ◌≢◌, ℕ, ◌<◌, ◌≤◌, take, List, length, Contains, Option, None, Some, slice_get}
+use Rattle.std.specs.Prelude.{◌≡◌, ◌≢◌, ℕ, ◌<◌, ◌≤◌, take, List, length, Contains, None, Some, slice_get}
 use Rattle.crsm_mpspec.specs.declared.MpLine.{MpLine}
 use Rattle.crsm_mpspec.specs.Types.{Command, Answer, Value}
 use Rattle.crsm_mpspec.specs.Log.{executed}

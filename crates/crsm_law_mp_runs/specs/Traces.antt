@@ -1,5 +1,5 @@
 -- A run as the list of its moments: the lines that were told, and the worlds that there were.
-use Rattle.std.specs.Prelude.{ℕ, List, [], ◌∷◌, ◌++◌, map, Option, None, Some}
+use Rattle.std.specs.Prelude.{ℕ, List, [], ◌∷◌, ◌++◌, map, None, Some}
 use Rattle.crsm_spec.specs.Acts.{Act}
 use Rattle.crsm_spec.specs.Safe.{command_of}
 use Rattle.crsm_mpspec.specs.World.{World, Moment, begin, first_lines}

@@ -3,7 +3,7 @@ use Rattle.std.proofs.Common.{◌≡◌, ℕ, List, sym, subst, Some}
 use Rattle.crsm_spec.specs.Paxos.{Instance, fresh}
 use Rattle.crsm_spec.specs.Following.{IsReached}
 use Rattle.crsm_safety.proofs.Paxos.Instances.{Invariant, start, along, agree}
-use Rattle.crsm_mpspec.specs.Types.{Command, Value}
+use Rattle.crsm_mpspec.specs.Types.{Value}
 use Rattle.crsm_law_mp_slots.specs.Slots.{Seat, Sent, Slots, Holds, Past}
 
 -- what holds of every instance of Paxos

@@ -1,21 +1,19 @@
 -- The changes that a replica makes in a step, one by one: all still holds.
-use Rattle.std.proofs.Common.{◌≡◌, ◌≢◌, ℕ, ◌≤◌, ◌⊎◌, Bool, true, false, cond, nat_eq, List, [], ◌∷◌, ◌++◌, map, inl, inr, refl, sym, subst, ap, ◌∙◌, Option, Some, None}
+use Rattle.std.proofs.Common.{◌≡◌, ◌≢◌, ℕ, ◌⊎◌, true, false, List, [], ◌∷◌, ◌++◌, inl, inr, refl, sym, subst, ap, ◌∙◌, Some}
 use Rattle.std.specs.List.{Contains}
-use Rattle.std.specs.Option.{ForSome}
 use Rattle.std.proofs.lemmas.List.Elements.{Contains-append_left, Contains-push_cases}
 use Rattle.crsm_base.specs.Order.{ballot_lt}
-use Rattle.crsm_base.proofs.Orders.{below-irrefl, below_not_back, le_below}
-use Rattle.crsm_spec.specs.Paxos.{Held, Acceptance, Answer, Proposal, Promise, Vote, Instance, PaxosStep, MayTake, MayPropose, after_step, after_promise, after_accept, with_acceptor, value_of, IsChosen}
-use Rattle.crsm_spec.specs.Paxos.PaxosStep.{Promises, Accepts, Proposes}
-use Rattle.crsm_spec.specs.Following.{IsReached, IsUnused, IsUsed, lowest}
-use Rattle.crsm_safety.proofs.Paxos.Majority.{nat_eq_is, nat_eq_itself}
-use Rattle.crsm_safety.proofs.Paxos.Basics.{changed, changed_at, changed_cases, nat_eq_not, more_promises, more_votes, more_proposals}
+use Rattle.crsm_base.proofs.Orders.{below-irrefl, below_not_back}
+use Rattle.crsm_spec.specs.Paxos.{Acceptance, Proposal, Promise, Vote, Instance, MayTake, after_step, after_promise, IsChosen}
+use Rattle.crsm_spec.specs.Paxos.PaxosStep.{Promises}
+use Rattle.crsm_spec.specs.Following.{IsReached, IsUnused}
+use Rattle.crsm_safety.proofs.Paxos.Basics.{changed, changed_at, changed_cases, more_promises}
 use Rattle.crsm_safety.proofs.Paxos.Instances.{with_cases, with_same}
 use Rattle.crsm_safety.proofs.Paxos.Repeats.{reached_more, chosen_more}
 use Rattle.crsm_mpspec.specs.declared.MpMessage.{MpMessage}
-use Rattle.crsm_mpspec.specs.Types.{Ballot, Command, Value}
+use Rattle.crsm_mpspec.specs.Types.{Ballot, Value}
 use Rattle.crsm_mpspec.specs.Replica.{Report, Note}
-use Rattle.crsm_law_mp_slots.specs.Slots.{Seat, Sent, Slots, HasAsked, HasReported, HasPromised, HasVoted, HasProposed, IsAsking, NoteHolds, IsTrueMessage, Holds, Past}
+use Rattle.crsm_law_mp_slots.specs.Slots.{Seat, Sent, Slots, HasAsked, IsAsking, NoteHolds, IsTrueMessage, Holds, Past}
 use Rattle.crsm_law_mp_slots.proofs.Turns.{Grows, IsOldOrBy, AsksAsSent, turn}
 
 -- what was sent before, and these messages of replica r

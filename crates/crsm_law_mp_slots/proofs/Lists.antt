@@ -1,19 +1,18 @@
 -- Reports and votes as lists: who is among them, and what they say of a slot.
-use Rattle.std.proofs.Common.{suc, ◌≡◌, ◌≢◌, ℕ, ◌+◌, ◌<◌, ◌≤◌, ◌⊎◌, Bool, true, false, cond, ◌==◌, ◌||◌, nat_eq, List, [], ◌∷◌, ◌++◌, map, filter, arith, inl, inr, refl, sym, subst, ap, ◌∙◌, max, append-nil, append_assoc, Option, Some, None}
+use Rattle.std.proofs.Common.{suc, ◌≡◌, ℕ, ◌≤◌, ◌⊎◌, Bool, true, false, cond, ◌==◌, ◌||◌, nat_eq, List, [], ◌∷◌, ◌++◌, map, filter, arith, inl, inr, refl, sym, subst, ap, ◌∙◌, append-nil, append_assoc, None}
 use Rattle.std.specs.List.{Contains, IsDistinct, list_any, fold, flat_map}
 use Rattle.std.proofs.lemmas.Bool.Decides.{nat_tests}
 use Rattle.std.proofs.lemmas.Cmp.{nat_eq_equiv}
-use Rattle.std.proofs.lemmas.List.Elements.{Contains-append_left, Contains-append_right, Contains-append_cases, Contains-push_cases, filter-append}
+use Rattle.std.proofs.lemmas.List.Elements.{Contains-append_right, Contains-append_cases, Contains-push_cases, filter-append}
 use Rattle.std.proofs.lemmas.Map.Keys.{IsDistinct-push}
 use Rattle.crsm_base.specs.Replicas.{has}
 use Rattle.crsm_spec.specs.Lists.{greatest}
-use Rattle.crsm_spec.specs.Paxos.{Held, Answer, Found, best_of, better_answer, value_of, value_of_best}
+use Rattle.crsm_spec.specs.Paxos.{Answer, better_answer, value_of, value_of_best}
 use Rattle.crsm_safety.proofs.Paxos.Majority.{nat_eq_is, nat_eq_itself}
 use Rattle.crsm_mpspec.specs.declared.MpAccepted.{MpAccepted}
-use Rattle.crsm_mpspec.specs.declared.MpChosen.{MpChosen}
-use Rattle.crsm_mpspec.specs.Types.{Ballot, Value}
+use Rattle.crsm_mpspec.specs.Types.{Value}
 use Rattle.crsm_mpspec.specs.Replica.{Report, voters_at}
-use Rattle.crsm_mpspec.specs.Electing.{greater_held, held_at, answers_at, slots_in, next_slot}
+use Rattle.crsm_mpspec.specs.Electing.{held_at, answers_at, slots_in, next_slot}
 
 -- ---- elements
 
@@ -116,7 +115,7 @@ in_voters s (v ∷ votes) k c = go (v.0 == s) refl (in_voters s votes k)
       | inr rest ↦ more rest
     ]
 
-map_append : {X Y : Type 0} (f : X → Y) (xs ys : List X) → map f (xs ++ ys) ≡ map f xs ++ map f ys
+pub map_append : {X Y : Type 0} (f : X → Y) (xs ys : List X) → map f (xs ++ ys) ≡ map f xs ++ map f ys
 map_append f [] ys = refl
 map_append f (x ∷ xs) ys = ap (λ zs. f x ∷ zs) (map_append f xs ys)
 

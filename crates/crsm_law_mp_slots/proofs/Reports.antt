@@ -1,24 +1,23 @@
 -- Reports and votes that are counted: what a replica is at stays true of it.
-use Rattle.std.proofs.Common.{suc, ◌≡◌, ◌≢◌, ℕ, ◌+◌, ◌<◌, ◌≤◌, ◌⊎◌, Bool, true, false, cond, nat_eq, ltb, List, [], ◌∷◌, ◌++◌, map, length, arith, inl, inr, refl, sym, subst, ap, ◌∙◌, Option, Some, None}
+use Rattle.std.proofs.Common.{◌≡◌, ℕ, ◌<◌, ◌≤◌, ◌⊎◌, Bool, true, false, cond, nat_eq, ltb, List, [], ◌∷◌, ◌++◌, map, length, arith, inl, inr, refl, sym, subst, ap, ◌∙◌, Option, Some, None}
 use Rattle.std.specs.List.{Contains, IsDistinct, AllByRecursion}
-use Rattle.std.proofs.lemmas.Bool.Decides.{nat_tests}
 use Rattle.std.proofs.lemmas.List.{length-map}
 use Rattle.std.proofs.lemmas.List.Elements.{Contains-append_left, Contains-push_cases}
 use Rattle.crsm_base.specs.Order.{ballot_lt}
-use Rattle.crsm_spec.specs.Paxos.{Held, Instance, Answer, Found, best_of, value_of, value_of_best, majority, IsMajority, IsChosen}
-use Rattle.crsm_spec.specs.Following.{IsReached, IsUnused, IsUsed, lowest}
-use Rattle.crsm_safety.proofs.Paxos.Majority.{nat_eq_is, nat_eq_itself}
+use Rattle.crsm_spec.specs.Paxos.{Found, best_of, value_of, value_of_best, majority, IsChosen}
+use Rattle.crsm_spec.specs.Following.{IsUnused, IsUsed, lowest}
+use Rattle.crsm_safety.proofs.Paxos.Majority.{nat_eq_is}
 use Rattle.crsm_safety.proofs.Paxos.Repeats.{repeated}
 use Rattle.crsm_safety.proofs.Paxos.Best.{IsBest, best_is}
 use Rattle.crsm_mpspec.specs.declared.MpMessage.{MpMessage}
 use Rattle.crsm_mpspec.specs.declared.MpChosen.{MpChosen}
 use Rattle.crsm_mpspec.specs.Types.{Ballot, Command, Value}
-use Rattle.crsm_mpspec.specs.Replica.{Report, Note, with_report, voters_at}
+use Rattle.crsm_mpspec.specs.Replica.{Report, with_report, voters_at}
 use Rattle.crsm_mpspec.specs.Electing.{held_at, next_slot, answers_at}
-use Rattle.crsm_law_mp_slots.specs.Slots.{Seat, Sent, Slots, HasPromised, HasVoted, HasProposed, AreChosen, HasReported, IsAsking, IsLeading, NoteHolds, Holds, Past}
+use Rattle.crsm_law_mp_slots.specs.Slots.{Seat, Sent, Slots, HasPromised, HasVoted, HasProposed, AreChosen, HasReported, IsAsking, IsLeading, Past}
 use Rattle.crsm_law_mp_slots.proofs.Agree.{invariant}
 use Rattle.crsm_law_mp_slots.proofs.Changes.{Stands, acceptor_is, chosen_here}
-use Rattle.crsm_law_mp_slots.proofs.Voting.{held_voted, voted_proposed, one_proposed, same_some}
+use Rattle.crsm_law_mp_slots.proofs.Voting.{voted_proposed, one_proposed, same_some}
 use Rattle.crsm_law_mp_slots.proofs.Lists.{cons_cases, first_in, later_in, none_in, voter_in, voters_push, answer_of_report}
 
 -- ---- the list of reports

@@ -1,16 +1,16 @@
 -- A change at one replica: what it needs so that all still holds.
-use Rattle.std.proofs.Common.{◌≡◌, ◌≢◌, ℕ, ◌≤◌, ◌⊎◌, Bool, true, false, cond, nat_eq, List, map, inl, inr, refl, sym, subst, ◌∙◌, Option, Some, None}
+use Rattle.std.proofs.Common.{◌≡◌, ◌≢◌, ℕ, ◌⊎◌, Bool, true, false, nat_eq, List, inl, inr, refl, sym, subst, ◌∙◌, Some}
 use Rattle.std.specs.List.{Contains}
 use Rattle.crsm_base.specs.Order.{ballot_lt}
 use Rattle.crsm_base.proofs.Orders.{le_trans}
-use Rattle.crsm_spec.specs.Paxos.{Held, Proposal, Promise, Vote, Instance, IsChosen}
-use Rattle.crsm_spec.specs.Following.{IsReached, IsUnused, IsUsed}
+use Rattle.crsm_spec.specs.Paxos.{Proposal, Promise, Vote, Instance, IsChosen}
+use Rattle.crsm_spec.specs.Following.{IsReached, IsUsed}
 use Rattle.crsm_safety.proofs.Paxos.Majority.{nat_eq_is}
 use Rattle.crsm_safety.proofs.Paxos.Basics.{nat_eq_not}
 use Rattle.crsm_mpspec.specs.declared.MpMessage.{MpMessage}
 use Rattle.crsm_mpspec.specs.Types.{Ballot, Command, Value}
 use Rattle.crsm_mpspec.specs.Replica.{Report, Note}
-use Rattle.crsm_law_mp_slots.specs.Slots.{Seat, Sent, Slots, HasPromised, HasVoted, HasProposed, AreChosen, IsAsking, IsLeading, NoteHolds, HasAsked, HasReported, IsTrueMessage, Holds, Past}
+use Rattle.crsm_law_mp_slots.specs.Slots.{Seat, Sent, Slots, AreChosen, NoteHolds, HasAsked, IsTrueMessage, Holds, Past}
 
 -- Instances with more steps: what was said of them stays so.
 pub record Grows (spec : List ℕ) (slots more : Slots) : Type 0 where

@@ -1,27 +1,26 @@
 -- Votes: a replica accepts what a leader proposed, a leader proposes and counts votes, and a majority of them chooses.
-use Rattle.std.proofs.Common.{suc, ◌≡◌, ◌≢◌, ℕ, ◌+◌, ◌<◌, ◌≤◌, ◌⊎◌, Bool, true, false, cond, nat_eq, List, [], ◌∷◌, ◌++◌, map, length, arith, inl, inr, refl, sym, subst, ap, ◌∙◌, Option, Some, None}
-use Rattle.std.specs.List.{Contains, IsDistinct}
+use Rattle.std.proofs.Common.{◌≡◌, ◌≢◌, ℕ, ◌<◌, ◌≤◌, ◌⊎◌, true, false, List, [], ◌∷◌, ◌++◌, inl, inr, refl, sym, subst, ap, ◌∙◌, Some}
+use Rattle.std.specs.List.{Contains}
 use Rattle.std.specs.Option.{ForSome}
 use Rattle.std.proofs.lemmas.List.Elements.{Contains-append_left, Contains-push, Contains-push_cases}
 use Rattle.crsm_base.specs.Order.{ballot_lt}
 use Rattle.crsm_base.proofs.Orders.{below-irrefl, compare}
-use Rattle.crsm_spec.specs.Paxos.{Held, Acceptance, Answer, Proposal, Promise, Vote, Instance, MayTake, MayAccept, MayPropose, after_step, after_accept, value_of, majority, IsMajority, IsChosen}
+use Rattle.crsm_spec.specs.Paxos.{Held, Acceptance, Proposal, Instance, MayTake, MayAccept, MayPropose, after_step, after_accept, value_of, IsMajority}
 use Rattle.crsm_spec.specs.Paxos.PaxosStep.{Accepts, Proposes}
 use Rattle.crsm_spec.specs.Following.{IsReached, IsUnused, IsUsed}
-use Rattle.crsm_safety.proofs.Paxos.Majority.{nat_eq_is}
-use Rattle.crsm_safety.proofs.Paxos.Basics.{changed, changed_at, changed_cases, nat_eq_not, clash}
-use Rattle.crsm_safety.proofs.Paxos.Instances.{Invariant, with_cases, with_same}
+use Rattle.crsm_safety.proofs.Paxos.Basics.{changed, changed_at, changed_cases, clash}
+use Rattle.crsm_safety.proofs.Paxos.Instances.{with_cases, with_same}
 use Rattle.crsm_safety.proofs.Paxos.Repeats.{reached_more, chosen_more, held_is_vote}
 use Rattle.crsm_mpspec.specs.declared.MpMessage.{MpMessage}
 use Rattle.crsm_mpspec.specs.Types.{Ballot, Command, Value}
-use Rattle.crsm_mpspec.specs.Replica.{Report, Note, voters_at}
-use Rattle.crsm_mpspec.specs.Electing.{answers_at, held_at, next_slot}
-use Rattle.crsm_law_mp_slots.specs.Slots.{Seat, Sent, Slots, HasPromised, HasVoted, HasProposed, IsAsking, IsLeading, NoteHolds, Holds, Past}
-use Rattle.crsm_law_mp_slots.proofs.Turns.{Grows, IsOldOrBy, AsksAsSent}
-use Rattle.crsm_law_mp_slots.proofs.Changes.{Stands, acceptor_is, noted, stepped, grows-slot}
+use Rattle.crsm_mpspec.specs.Replica.{Report, Note}
+use Rattle.crsm_mpspec.specs.Electing.{answers_at}
+use Rattle.crsm_law_mp_slots.specs.Slots.{Seat, Sent, Slots, HasVoted, HasProposed, IsLeading, NoteHolds, Past}
+use Rattle.crsm_law_mp_slots.proofs.Turns.{Grows, AsksAsSent}
+use Rattle.crsm_law_mp_slots.proofs.Changes.{Stands, acceptor_is, stepped, grows-slot}
 use Rattle.crsm_law_mp_slots.proofs.Agree.{invariant}
 use Rattle.crsm_law_mp_slots.proofs.Held.{IsLow, held_low}
-use Rattle.crsm_law_mp_slots.proofs.Lists.{voter_in, voters_push, replicas_of_answers, answer_of_report, none_in}
+use Rattle.crsm_law_mp_slots.proofs.Lists.{voters_push, replicas_of_answers, answer_of_report}
 
 -- a replica that is at nothing asks for nothing
 pub idle_asks : (sent : Sent) (x : Seat) → x.note ≡ Note.Idle → AsksAsSent sent x
@@ -228,10 +227,10 @@ module _ (spec : List ℕ) (past : Past) (base : ℕ → Seat) (sent : Sent) (r 
           (λ q c. elim (new_proposal q c) [
             | inl old ↦ inl old
             | inr new ↦ inr (
-                subst (λ z. z.ballot.by ≡ r) new leads.by,
-                subst (λ z. ballot_lt x'.promised z.ballot ≡ false) new (subst (λ a. ballot_lt a b ≡ false) (sym promise) (below-irrefl b)),
-                λ d is. owned d (subst (λ z. z.value ≡ Some d) (sym new) is),
-              )
+              subst (λ z. z.ballot.by ≡ r) new leads.by,
+              subst (λ z. ballot_lt x'.promised z.ballot ≡ false) new (subst (λ a. ballot_lt a b ≡ false) (sym promise) (below-irrefl b)),
+              λ d is. owned d (subst (λ z. z.value ≡ Some d) (sym new) is),
+            )
           ])
           chosen
           (subst (λ n. NoteHolds spec (changed slots s voted) r x' n) (sym note) still_leads)

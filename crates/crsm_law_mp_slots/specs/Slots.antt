@@ -1,8 +1,8 @@
 -- What replicas hold and have sent, slot by slot: for each slot they are in one instance of single-decree Paxos.
-use Rattle.std.specs.Prelude.{◌≡◌, ℕ, ◌<◌, ◌≤◌, ◌⊎◌, Bool, false, true, nat_eq, List, map, Contains, Option, None, Some}
+use Rattle.std.specs.Prelude.{◌≡◌, ℕ, ◌<◌, ◌≤◌, ◌⊎◌, false, true, nat_eq, List, map, Contains, Option, Some}
 use Rattle.std.specs.List.{IsDistinct}
 use Rattle.crsm_base.specs.Order.{ballot_lt}
-use Rattle.crsm_spec.specs.Paxos.{Held, Proposal, Promise, Vote, Instance, IsMajority, IsChosen}
+use Rattle.crsm_spec.specs.Paxos.{Held, Proposal, Instance, IsMajority, IsChosen}
 use Rattle.crsm_spec.specs.Following.{IsReached, IsUnused, IsUsed, lowest}
 use Rattle.crsm_mpspec.specs.declared.MpMessage.{MpMessage}
 use Rattle.crsm_mpspec.specs.declared.MpChosen.{MpChosen}

@@ -1,10 +1,10 @@
 -- The rules of a replica that follows a leader keep what holds.
-use Rattle.std.proofs.Common.{◌≡◌, ◌≢◌, ℕ, ◌+◌, ◌<◌, ◌≤◌, ◌⊎◌, Bool, true, false, cond, nat_eq, ◌==◌, List, [], ◌∷◌, ◌++◌, arith, inl, inr, refl, sym, subst, ap, ◌∙◌, Option, Some, None}
+use Rattle.std.proofs.Common.{◌≡◌, ◌≢◌, ℕ, ◌⊎◌, Bool, true, false, ◌∷◌, arith, inl, inr, refl, sym, subst, ◌∙◌, Some, None}
 use Rattle.std.specs.List.{Contains}
 use Rattle.std.specs.Option.{ForSome, option_map_or}
 use Rattle.std.proofs.lemmas.Bool.Decides.{nat_tests}
 use Rattle.crsm_base.specs.Order.{ballot_lt, ballot_eq}
-use Rattle.crsm_base.proofs.Orders.{below-irrefl, compare, le_below, below_le, below_not_back, ballot_eq_is}
+use Rattle.crsm_base.proofs.Orders.{below-irrefl, compare, le_below, below_not_back, ballot_eq_is}
 use Rattle.crsm_spec.specs.Lists.{numbers_below}
 use Rattle.crsm_spec.specs.Choice.{when◌then◌otherwise◌}
 use Rattle.crsm_spec.specs.Paxos.{Held, IsChosen}
@@ -12,20 +12,19 @@ use Rattle.crsm_spec.specs.Following.{lowest}
 use Rattle.crsm_safety.proofs.Paxos.Basics.{clash}
 use Rattle.crsm_mpspec.specs.declared.MpRec.{MpRec}
 use Rattle.crsm_mpspec.specs.declared.MpMessage.{MpMessage}
-use Rattle.crsm_mpspec.specs.Types.{Ballot, Command, Value}
+use Rattle.crsm_mpspec.specs.Types.{Ballot, Value}
 use Rattle.crsm_mpspec.specs.Log.{Log, promised, accepted_at, chosen_at, accepts, choices, accepted_from, chosen_from, is_chosen}
-use Rattle.crsm_mpspec.specs.Replica.{Replica, Report, Note, note_after, ended_by, refused_by}
+use Rattle.crsm_mpspec.specs.Replica.{Note, note_after, ended_by, refused_by}
 use Rattle.crsm_mpspec.specs.Draft.{Draft, keep_as, keep, send, noting}
 use Rattle.crsm_mpspec.specs.Deciding.{choose, has_accepted, on_acc}
 use Rattle.crsm_mpspec.specs.Electing.{on_prep, on_no}
-use Rattle.crsm_law_mp_slots.specs.Slots.{Seat, Sent, Slots, HasVoted, HasProposed, HasAsked, HasReported, IsAsking, IsLeading, NoteHolds, IsTrueMessage, Past}
-use Rattle.crsm_law_mp_slots.proofs.Turns.{AsksAsSent}
-use Rattle.crsm_law_mp_slots.proofs.Changes.{Stands, with_sends, asks_as_sent, promised_more}
-use Rattle.crsm_law_mp_slots.proofs.Voting.{held_below, held_voted, vote, voted_more, has_voted, idle_asks, same_some}
+use Rattle.crsm_law_mp_slots.specs.Slots.{Seat, Sent, Slots, HasVoted, HasProposed, NoteHolds, Past}
+use Rattle.crsm_law_mp_slots.proofs.Changes.{Stands, promised_more}
+use Rattle.crsm_law_mp_slots.proofs.Voting.{held_below, held_voted, vote, voted_more, has_voted}
 use Rattle.crsm_law_mp_slots.proofs.Reports.{report_true}
 use Rattle.crsm_law_mp_steps.specs.Seats.{seat_of}
 use Rattle.crsm_law_mp_steps.proofs.Telling.{accepted_told, chosen_told}
-use Rattle.crsm_law_mp_steps.proofs.Drafts.{seat_now, accepted_here, accepted_elsewhere, ends, At, note_at, known_at, send_at, choose_at, note_as, note_idle, same_asks, Good, promised_slots, promise_at, idle_at}
+use Rattle.crsm_law_mp_steps.proofs.Drafts.{seat_now, accepted_here, accepted_elsewhere, ends, At, note_at, send_at, choose_at, note_as, note_idle, same_asks, Good, promised_slots, promise_at, idle_at}
 
 -- what was accepted last, where it was in this ballot
 pub accepted_in : (b : Ballot) (s : ℕ) (log : Log) → has_accepted b s log ≡ true → (v : Value) × (accepted_at s log ≡ Some (b, v))

@@ -1,22 +1,15 @@
 -- Lists by slot: what stands at a slot, and that a report says what was accepted and chosen.
-use Rattle.std.proofs.Common.{suc, ◌≡◌, ◌≢◌, ℕ, ◌<◌, ◌≤◌, ◌⊎◌, Bool, true, false, cond, nat_eq, ◌==◌, leb, List, [], ◌∷◌, map, filter, arith, inl, inr, refl, sym, subst, ap, ◌∙◌, Option, Some, None}
-use Rattle.std.specs.List.{Contains, AllByRecursion, fold}
-use Rattle.std.specs.Map.{lookup}
+use Rattle.std.proofs.Common.{◌≡◌, ℕ, ◌<◌, ◌⊎◌, Bool, true, false, cond, ◌==◌, List, [], ◌∷◌, arith, inl, inr, refl, sym, subst, ap, ◌∙◌, Some}
+use Rattle.std.specs.List.{Contains, AllByRecursion}
 use Rattle.std.specs.BTreeMap.{insert_entry}
-use Rattle.std.specs.Ordering.{nat_cmp, match_ordering, MatchOrdering}
+use Rattle.std.specs.Ordering.{nat_cmp, match_ordering}
 use Rattle.std.specs.declared.cmp.Ordering.{Ordering}
 use Rattle.std.specs.declared.cmp.Ordering.TheVariants.{Less, Equal, Greater}
 use Rattle.std.proofs.lemmas.Cmp.{ranked}
 use Rattle.std.proofs.lemmas.Bool.Decides.{nat_tests}
-use Rattle.crsm_spec.specs.Paxos.{Held}
 use Rattle.crsm_safety.proofs.Paxos.Majority.{nat_eq_is, nat_eq_itself}
-use Rattle.crsm_mpspec.specs.declared.MpRec.{MpRec}
-use Rattle.crsm_mpspec.specs.declared.MpAccepted.{MpAccepted}
-use Rattle.crsm_mpspec.specs.declared.MpChosen.{MpChosen}
-use Rattle.crsm_mpspec.specs.Types.{Ballot, Value}
-use Rattle.crsm_mpspec.specs.Log.{Log, at_slot, by_slot, from_slot, accepts, choices, accepted_at, accepted_from, chosen_at, chosen_from}
-use Rattle.crsm_mpspec.specs.Electing.{greater_held, held_at}
-use Rattle.crsm_law_mp_slots.proofs.Lists.{cons_cases, first_in, later_in, none_in, in_map}
+use Rattle.crsm_mpspec.specs.Log.{at_slot, by_slot}
+use Rattle.crsm_law_mp_slots.proofs.Lists.{cons_cases, first_in, later_in, none_in}
 
 clash : true ≡ false → ⊥
 clash e = cc

@@ -1,25 +1,22 @@
 -- The single things that a step does: each keeps what holds in the middle of a step.
-use Rattle.std.proofs.Common.{◌≡◌, ◌≢◌, ℕ, ◌+◌, ◌<◌, ◌≤◌, ◌⊎◌, Bool, true, false, cond, nat_eq, ◌==◌, List, [], ◌∷◌, ◌++◌, arith, inl, inr, refl, sym, subst, ap, ◌∙◌, Option, Some, None}
-use Rattle.std.specs.List.{Contains, fold}
-use Rattle.crsm_base.specs.Order.{ballot_lt, ballot_eq}
-use Rattle.crsm_base.proofs.Orders.{below-irrefl, compare, le_below, below_not_back, ballot_eq_is}
+use Rattle.std.proofs.Common.{◌≡◌, ◌≢◌, ℕ, ◌⊎◌, Bool, true, false, cond, ◌==◌, List, [], ◌∷◌, ◌++◌, inl, inr, refl, sym, subst, ◌∙◌, Some}
+use Rattle.std.specs.List.{Contains}
+use Rattle.crsm_base.specs.Order.{ballot_lt}
 use Rattle.crsm_spec.specs.Lists.{numbers_below}
 use Rattle.crsm_spec.specs.Choice.{when◌then◌otherwise◌}
-use Rattle.crsm_spec.specs.Paxos.{Held, IsChosen}
-use Rattle.crsm_spec.specs.Following.{IsUnused}
+use Rattle.crsm_spec.specs.Paxos.{IsChosen}
 use Rattle.crsm_safety.proofs.Paxos.Majority.{nat_eq_is, nat_eq_itself}
-use Rattle.crsm_safety.proofs.Paxos.Basics.{clash}
 use Rattle.crsm_mpspec.specs.declared.MpRec.{MpRec}
 use Rattle.crsm_mpspec.specs.declared.MpMessage.{MpMessage}
 use Rattle.crsm_mpspec.specs.declared.MpLine.{MpLine}
-use Rattle.crsm_mpspec.specs.Types.{Ballot, Command, Value}
+use Rattle.crsm_mpspec.specs.Types.{Ballot, Value}
 use Rattle.crsm_mpspec.specs.Log.{Log, at_slot, promised, accepts, choices, accepted_at, chosen_at}
-use Rattle.crsm_mpspec.specs.Replica.{Replica, Report, Note, note_after, ended_by}
+use Rattle.crsm_mpspec.specs.Replica.{Note, note_after, ended_by}
 use Rattle.crsm_mpspec.specs.Draft.{Draft, keep_as, keep, send, send_to_each, noting}
-use Rattle.crsm_law_mp_slots.specs.Slots.{Seat, Sent, Slots, HasVoted, HasProposed, IsAsking, IsLeading, NoteHolds, Past}
+use Rattle.crsm_law_mp_slots.specs.Slots.{Seat, Sent, Slots, NoteHolds, Past}
 use Rattle.crsm_law_mp_slots.proofs.Turns.{AsksAsSent}
-use Rattle.crsm_law_mp_slots.proofs.Changes.{Stands, IsTrueNow, noted, sent_too, note_holds, chosen_here, asks_as_sent, promise, promised_more, promising, not_proposed, not_asked}
-use Rattle.crsm_law_mp_slots.proofs.Voting.{held_below, vote, voted_more, has_voted, voted_proposed, held_voted, idle_asks}
+use Rattle.crsm_law_mp_slots.proofs.Changes.{Stands, IsTrueNow, noted, sent_too, note_holds, chosen_here, asks_as_sent, promise, promised_more}
+use Rattle.crsm_law_mp_slots.proofs.Voting.{vote, idle_asks}
 use Rattle.crsm_law_mp_steps.specs.Seats.{seat_of}
 
 -- what the replica of a draft holds

@@ -1,5 +1,5 @@
 -- The rules by which a replica comes to lead keep what holds.
-use Rattle.std.proofs.Common.{zero, suc, ◌≡◌, ◌≢◌, ℕ, ◌+◌, ◌-◌, ◌<◌, ◌≤◌, ◌⊎◌, Bool, true, false, cond, not, ◌&&◌, ◌||◌, nat_eq, ◌==◌, leb, List, [], ◌∷◌, ◌++◌, map, length, arith, inl, inr, refl, sym, subst, ap, ◌∙◌, Option, Some, None}
+use Rattle.std.proofs.Common.{zero, suc, ◌≡◌, ℕ, ◌+◌, ◌-◌, ◌<◌, ◌≤◌, ◌⊎◌, Bool, true, false, not, ◌&&◌, ◌==◌, leb, List, [], ◌∷◌, ◌++◌, map, length, arith, inl, inr, refl, sym, subst, ap, ◌∙◌, Some, None}
 use Rattle.std.specs.List.{Contains, fold, range_with_len}
 use Rattle.std.proofs.lemmas.Bool.Decides.{nat_tests}
 use Rattle.std.proofs.lemmas.List.Elements.{Contains-push_cases}
@@ -10,28 +10,28 @@ use Rattle.crsm_spec.specs.Lists.{numbers_below}
 use Rattle.crsm_spec.specs.Choice.{when◌then◌otherwise◌}
 use Rattle.crsm_spec.specs.Clock.{u64_max}
 use Rattle.crsm_spec.specs.Following.{IsUnused, lowest}
-use Rattle.crsm_spec.specs.Paxos.{Held, majority, value_of, IsChosen}
-use Rattle.crsm_safety.proofs.Paxos.Basics.{changed, clash, both, not_true, le_from}
+use Rattle.crsm_spec.specs.Paxos.{majority, value_of, IsChosen}
+use Rattle.crsm_safety.proofs.Paxos.Basics.{changed, le_from}
 use Rattle.crsm_mpspec.specs.declared.MpRec.{MpRec}
 use Rattle.crsm_mpspec.specs.declared.MpMessage.{MpMessage}
 use Rattle.crsm_mpspec.specs.declared.MpLine.{MpLine}
 use Rattle.crsm_mpspec.specs.declared.MpAccepted.{MpAccepted}
 use Rattle.crsm_mpspec.specs.declared.MpChosen.{MpChosen}
 use Rattle.crsm_mpspec.specs.Types.{Ballot, Command, Value}
-use Rattle.crsm_mpspec.specs.Log.{Log, promised, accepted_at, chosen_at, accepts, choices, accepted_from, chosen_from, is_chosen, executed}
-use Rattle.crsm_mpspec.specs.Replica.{Replica, Report, Note, note_after, without_lead, with_report, has_reported, others}
-use Rattle.crsm_mpspec.specs.Draft.{Draft, keep_as, keep, send_to_each, send_to_others, noting}
+use Rattle.crsm_mpspec.specs.Log.{promised, is_chosen, executed}
+use Rattle.crsm_mpspec.specs.Replica.{Report, Note, note_after, without_lead, with_report, has_reported, others}
+use Rattle.crsm_mpspec.specs.Draft.{Draft, keep_as, keep, send_to_others, noting}
 use Rattle.crsm_mpspec.specs.Deciding.{choose, propose}
 use Rattle.crsm_mpspec.specs.Electing.{report, reported_at, answers_at, chosen_among, next_slot, choose_reported, propose_reported, lead, lead_by, lead_at_majority, ask, on_lead, take_report, on_prom}
 use Rattle.crsm_law_mp_slots.specs.Slots.{Seat, Sent, Slots, HasAsked, HasReported, IsAsking, IsLeading, NoteHolds, Past}
 use Rattle.crsm_law_mp_slots.proofs.Turns.{AsksAsSent}
-use Rattle.crsm_law_mp_slots.proofs.Changes.{Stands, seat, asks_as_sent, not_proposed, not_asked, promised_more}
+use Rattle.crsm_law_mp_slots.proofs.Changes.{seat, asks_as_sent, not_proposed, not_asked, promised_more}
 use Rattle.crsm_law_mp_slots.proofs.Voting.{leader_asks}
 use Rattle.crsm_law_mp_slots.proofs.Reports.{report_true, begins_to_ask, counts_report, begins_to_lead, owned_answers}
 use Rattle.crsm_law_mp_slots.proofs.Lists.{first_in, later_in, none_in, has_not, start_below}
 use Rattle.crsm_law_mp_steps.specs.Seats.{seat_of}
 use Rattle.crsm_law_mp_steps.proofs.Telling.{accepted_told, chosen_told, chosen_reported}
-use Rattle.crsm_law_mp_steps.proofs.Drafts.{seat_now, At, Good, note_at, note_as, note_idle, same_asks, promised_slots, promise_at, idle_at}
+use Rattle.crsm_law_mp_steps.proofs.Drafts.{seat_now, At, Good, note_at, note_as, note_idle, same_asks, promised_slots, promise_at}
 use Rattle.crsm_law_mp_steps.proofs.Accepting.{learn_at}
 use Rattle.crsm_law_mp_steps.proofs.Leading.{majority_of, sends_replica, leads_at, send_others_at, propose_as_at, propose_as_note}
 

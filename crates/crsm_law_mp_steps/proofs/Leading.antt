@@ -1,27 +1,25 @@
 -- The rules of a leader keep what holds.
-use Rattle.std.proofs.Common.{zero, suc, ◌≡◌, ◌≢◌, ℕ, ◌+◌, ◌<◌, ◌≤◌, ◌⊎◌, Bool, true, false, cond, not, ◌&&◌, nat_eq, ◌==◌, leb, List, [], ◌∷◌, ◌++◌, length, arith, inl, inr, refl, sym, subst, ap, ◌∙◌, Option, Some, None}
-use Rattle.std.specs.List.{Contains, fold, range_with_len}
-use Rattle.std.proofs.lemmas.Bool.Decides.{nat_tests}
-use Rattle.std.proofs.lemmas.List.Elements.{Contains-push_cases, Contains-append_left, Contains-append_right}
+use Rattle.std.proofs.Common.{◌≡◌, ℕ, ◌+◌, ◌<◌, ◌≤◌, ◌⊎◌, Bool, true, false, not, ◌&&◌, ◌==◌, leb, List, [], ◌∷◌, ◌++◌, length, arith, inl, inr, refl, sym, subst, ap, ◌∙◌, Some, None}
+use Rattle.std.specs.List.{Contains}
+use Rattle.std.proofs.lemmas.List.Elements.{Contains-append_left, Contains-append_right}
 use Rattle.std.proofs.lemmas.List.FromFn.{length-range_with_len}
-use Rattle.crsm_base.specs.Order.{ballot_lt, ballot_eq}
+use Rattle.crsm_base.specs.Order.{ballot_eq}
 use Rattle.crsm_base.specs.Replicas.{has}
 use Rattle.crsm_base.proofs.Orders.{below-irrefl, ballot_eq_is}
 use Rattle.crsm_spec.specs.Lists.{numbers_below}
 use Rattle.crsm_spec.specs.Choice.{when◌then◌otherwise◌}
 use Rattle.crsm_spec.specs.Clock.{u64_max}
 use Rattle.crsm_spec.specs.Paxos.{Held, majority, value_of, IsChosen}
-use Rattle.crsm_safety.proofs.Paxos.Majority.{nat_eq_is, nat_eq_itself}
-use Rattle.crsm_safety.proofs.Paxos.Basics.{clash, both, not_true, le_from}
+use Rattle.crsm_safety.proofs.Paxos.Basics.{le_from}
 use Rattle.crsm_mpspec.specs.declared.MpRec.{MpRec}
 use Rattle.crsm_mpspec.specs.declared.MpMessage.{MpMessage}
 use Rattle.crsm_mpspec.specs.declared.MpLine.{MpLine}
 use Rattle.crsm_mpspec.specs.Types.{Ballot, Command, Value}
-use Rattle.crsm_mpspec.specs.Log.{Log, promised, accepted_at, chosen_at, accepts, choices, is_chosen}
-use Rattle.crsm_mpspec.specs.Replica.{Replica, Report, Note, note_after, ended_by, others, voters_at, votes_of, with_vote}
+use Rattle.crsm_mpspec.specs.Log.{promised, accepted_at, chosen_at, choices, is_chosen}
+use Rattle.crsm_mpspec.specs.Replica.{Report, Note, note_after, ended_by, others, voters_at, votes_of, with_vote}
 use Rattle.crsm_mpspec.specs.Draft.{Draft, keep_as, keep, send, send_to_each, send_to_others, reply, noting, count_vote, await}
-use Rattle.crsm_mpspec.specs.Deciding.{choose_accepted, is_voted, choose_voted, propose_as, propose, refuse, submit, take_request, on_request, counts, take_vote, on_accd}
-use Rattle.crsm_mpspec.specs.Electing.{answers_at, next_slot}
+use Rattle.crsm_mpspec.specs.Deciding.{choose_accepted, is_voted, choose_voted, propose_as, refuse, submit, take_request, on_request, counts, take_vote, on_accd}
+use Rattle.crsm_mpspec.specs.Electing.{answers_at}
 use Rattle.crsm_law_mp_slots.specs.Slots.{Seat, Sent, Slots, HasVoted, HasProposed, IsLeading, NoteHolds, Past}
 use Rattle.crsm_law_mp_slots.proofs.Changes.{Stands}
 use Rattle.crsm_law_mp_slots.proofs.Voting.{proposed_more, has_proposed, leader_asks, held_voted}

@@ -1,26 +1,25 @@
 -- Each moment keeps the world sound.
-use Rattle.std.proofs.Common.{◌≡◌, ℕ, ◌<◌, ◌⊎◌, List, [], ◌∷◌, ◌++◌, inl, inr, refl, sym, subst, ap, ◌∙◌, Option, Some, None}
+use Rattle.std.proofs.Common.{◌≡◌, ℕ, ◌⊎◌, List, [], ◌∷◌, ◌++◌, inl, inr, refl, sym, subst, ap, Option, Some, None}
 use Rattle.std.specs.List.{Contains, slice_get}
 use Rattle.std.proofs.lemmas.List.Elements.{Contains-push, Contains-push_cases, Contains-append_left}
-use Rattle.crsm_mpspec.specs.declared.MpMessage.{MpMessage}
 use Rattle.crsm_mpspec.specs.declared.MpInput.{MpInput}
 use Rattle.crsm_mpspec.specs.declared.MpLine.{MpLine}
 use Rattle.crsm_mpspec.specs.Types.{Command, Value}
 use Rattle.crsm_mpspec.specs.Replica.{Replica, Waiting}
 use Rattle.crsm_mpspec.specs.Draft.{Draft, begun, reply}
-use Rattle.crsm_mpspec.specs.Deciding.{on_request, refuse}
+use Rattle.crsm_mpspec.specs.Deciding.{on_request}
 use Rattle.crsm_mpspec.specs.Log.{executed}
-use Rattle.crsm_mpspec.specs.Step.{reply_line, answer, answer_each, replies, on_input, step}
-use Rattle.crsm_mpspec.specs.World.{Site, Packet, World, Moment, after_step, whole_step, then_down, cut_step, lost_step, down}
-use Rattle.crsm_mpspec.specs.Moments.{use_up, silent, begun_at}
+use Rattle.crsm_mpspec.specs.Step.{answer, answer_each, replies, on_input, step}
+use Rattle.crsm_mpspec.specs.World.{Site, World, Moment, after_step, whole_step, then_down, cut_step, lost_step, down}
+use Rattle.crsm_mpspec.specs.Moments.{silent, begun_at}
 use Rattle.crsm_law_mp_slots.specs.Slots.{Past, Slots}
 use Rattle.crsm_law_mp_steps.specs.Seats.{IsSound}
-use Rattle.crsm_law_mp_steps.specs.Happenings.{Marks, CanCome, Ends, Happens, Tells, IsNext}
+use Rattle.crsm_law_mp_steps.specs.Happenings.{Marks, Ends, Happens, Tells, IsNext}
 use Rattle.crsm_law_mp_steps.specs.Happenings.Marks.{none, mark}
 use Rattle.crsm_law_mp_steps.specs.Happenings.Ends.{IsWhole, IsCut, IsLost}
 use Rattle.crsm_law_mp_steps.specs.Happenings.Happens.{Nothing, Steps, Stops, Starts}
 use Rattle.crsm_law_mp_steps.proofs.Leading.{request_told}
-use Rattle.crsm_law_mp_steps.proofs.Worlds.{GoesOn, sound_more, use_up_sound, use_up_made, InStep, begins_step, steps, whole_sound, cut_sound, down_sound, start_sound}
+use Rattle.crsm_law_mp_steps.proofs.Worlds.{sound_more, use_up_sound, use_up_made, InStep, begins_step, steps, whole_sound, cut_sound, down_sound, start_sound}
 
 -- replies leave the lines of records
 pub answered_lines : (ws : List Waiting) (x : Draft) → (answer_each ws x).lines ≡ x.lines
@@ -88,12 +87,15 @@ module _ (n : ℕ) where
             record {
               submitted = λ d there. elim (Contains-push_cases past.submitted c d there) [
                 | inl old ↦ inl old
-                | inr same ↦ inr (ap (λ z. Some z) same, subst (λ z. Tells m.lines z) same (record {
+                | inr same ↦ inr (
+                  ap (λ z. Some z) same,
+                  subst (λ z. Tells m.lines z) same (record {
                     replica = told.replica;
                     slot = told.slot;
                     round = told.round;
                     told = kept _ (subst (λ ls. Contains ls (MpLine.Submit told.replica told.slot told.round told.replica c.client c.number)) (sym lines_are) told.told);
-                  }))
+                  }),
+                )
               ];
               known = refl;
             },

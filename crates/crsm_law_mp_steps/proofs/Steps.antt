@@ -1,5 +1,5 @@
 -- A whole step of a replica keeps what holds.
-use Rattle.std.proofs.Common.{zero, suc, ◌≡◌, ◌≢◌, ℕ, ◌⊎◌, Bool, true, false, not, ◌==◌, List, [], ◌∷◌, map, filter, take, drop, length, inl, inr, refl, sym, subst, ap, ◌∙◌, Option, Some, None}
+use Rattle.std.proofs.Common.{◌≡◌, ℕ, ◌⊎◌, true, false, not, ◌==◌, List, [], ◌∷◌, filter, take, drop, length, inl, inr, refl, sym, subst, ◌∙◌, Option, Some, None}
 use Rattle.std.specs.List.{Contains, fold, slice_get, enumerate_from}
 use Rattle.std.specs.Option.{option_map_or}
 use Rattle.std.proofs.lemmas.List.Elements.{filter_passes, All-contains}
@@ -7,24 +7,20 @@ use Rattle.crsm_base.specs.Limits.{most_again}
 use Rattle.crsm_base.specs.Order.{ballot_lt}
 use Rattle.crsm_base.proofs.Orders.{below-irrefl}
 use Rattle.crsm_spec.specs.Lists.{numbers_below}
-use Rattle.crsm_spec.specs.Choice.{when◌then◌otherwise◌}
 use Rattle.crsm_spec.specs.Paxos.{Held, IsChosen}
-use Rattle.crsm_spec.specs.Following.{lowest}
 use Rattle.crsm_safety.proofs.Paxos.Majority.{nat_eq_is}
 use Rattle.crsm_safety.proofs.Paxos.Basics.{changed}
-use Rattle.crsm_mpspec.specs.declared.MpRec.{MpRec}
 use Rattle.crsm_mpspec.specs.declared.MpMessage.{MpMessage}
 use Rattle.crsm_mpspec.specs.declared.MpInput.{MpInput}
 use Rattle.crsm_mpspec.specs.declared.MpLine.{MpLine}
 use Rattle.crsm_mpspec.specs.Types.{Ballot, Command, Value}
-use Rattle.crsm_mpspec.specs.Log.{Log, accepted_at, is_chosen, executed}
-use Rattle.crsm_mpspec.specs.Values.{is_command}
+use Rattle.crsm_mpspec.specs.Log.{accepted_at, is_chosen, executed}
 use Rattle.crsm_mpspec.specs.Replica.{Replica, Report, Note, Waiting, others, slots_of}
-use Rattle.crsm_mpspec.specs.Draft.{Draft, begun, send, send_to_each, send_to_others, reply}
+use Rattle.crsm_mpspec.specs.Draft.{Draft, begun, send, send_to_each}
 use Rattle.crsm_mpspec.specs.Deciding.{on_request, refuse}
 use Rattle.crsm_mpspec.specs.Step.{teach, on_ask, unreported, open_slots, unvoted, propose_again, renew, on_tick, on_message, on_input, reply_line, answer, answer_each, replies, step}
 use Rattle.crsm_law_mp_slots.specs.Slots.{Seat, Sent, Slots, HasAsked, HasProposed, IsAsking, IsLeading, NoteHolds, IsTrueMessage, Past}
-use Rattle.crsm_law_mp_slots.proofs.Changes.{Stands, with_sends, seat, asks_as_sent}
+use Rattle.crsm_law_mp_slots.proofs.Changes.{Stands, with_sends, seat}
 use Rattle.crsm_law_mp_slots.proofs.Voting.{voted_proposed, same_some}
 use Rattle.crsm_law_mp_slots.proofs.Lists.{first_in, later_in, none_in, in_map}
 use Rattle.crsm_law_mp_steps.specs.Seats.{seat_of}

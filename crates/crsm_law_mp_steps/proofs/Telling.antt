@@ -1,10 +1,9 @@
 -- What a replica reports, and what it tells of its executed list, is what its log says.
-use Rattle.std.proofs.Common.{zero, suc, ◌≡◌, ◌≢◌, ℕ, ◌+◌, ◌<◌, ◌≤◌, ◌⊎◌, Bool, true, false, cond, nat_eq, ◌==◌, leb, List, [], ◌∷◌, ◌++◌, map, filter, take, drop, arith, inl, inr, refl, sym, subst, ap, ◌∙◌, Option, Some, None, add-zero}
-use Rattle.std.specs.List.{Contains, AllByRecursion, fold, slice_get, enumerate_from, flat_map}
+use Rattle.std.proofs.Common.{zero, suc, ◌≡◌, ℕ, ◌+◌, ◌≤◌, Bool, true, false, cond, ◌==◌, leb, List, [], ◌∷◌, map, filter, take, drop, arith, inl, inr, refl, sym, subst, ap, ◌∙◌, Option, Some, None, add-zero}
+use Rattle.std.specs.List.{Contains, slice_get, enumerate_from, flat_map}
 use Rattle.std.proofs.lemmas.Bool.Decides.{nat_tests}
 use Rattle.std.proofs.lemmas.List.Elements.{Contains-append_cases}
-use Rattle.crsm_spec.specs.Paxos.{Held}
-use Rattle.crsm_safety.proofs.Paxos.Majority.{nat_eq_is, nat_eq_itself}
+use Rattle.crsm_safety.proofs.Paxos.Majority.{nat_eq_is}
 use Rattle.crsm_mpspec.specs.declared.MpAccepted.{MpAccepted}
 use Rattle.crsm_mpspec.specs.declared.MpChosen.{MpChosen}
 use Rattle.crsm_mpspec.specs.Types.{Ballot, Value}

@@ -1,29 +1,26 @@
 -- What happens in a world at one moment keeps it sound.
-use Rattle.std.proofs.Common.{zero, suc, ◌≡◌, ◌≢◌, ℕ, ◌+◌, ◌<◌, ◌≤◌, ◌⊎◌, Bool, true, false, cond, nat_eq, List, [], ◌∷◌, ◌++◌, map, length, take, leb, append-nil, arith, inl, inr, refl, sym, subst, ap, ◌∙◌, Option, Some, None}
+use Rattle.std.proofs.Common.{zero, suc, ◌≡◌, ◌≢◌, ℕ, ◌+◌, ◌<◌, ◌≤◌, ◌⊎◌, Bool, true, false, nat_eq, List, [], ◌∷◌, ◌++◌, map, length, take, leb, append-nil, arith, inl, inr, refl, sym, subst, ap, ◌∙◌, Option, Some, None}
 use Rattle.std.specs.List.{Contains, slice_get, slice_set, range_with_len}
 use Rattle.std.specs.Option.{option_map_or}
 use Rattle.std.proofs.lemmas.Bool.Decides.{nat_tests}
 use Rattle.std.proofs.lemmas.List.{length-set}
-use Rattle.std.proofs.lemmas.Option.{slice_get_within, slice_get_past}
+use Rattle.std.proofs.lemmas.Option.{slice_get_within}
 use Rattle.std.proofs.lemmas.List.Elements.{Contains-append_left, Contains-append_right, Contains-append_cases}
 use Rattle.crsm_base.specs.Order.{ballot_lt}
 use Rattle.crsm_base.proofs.Orders.{below-irrefl}
 use Rattle.crsm_spec.specs.Lists.{numbers_below}
-use Rattle.crsm_spec.specs.Paxos.{IsChosen}
 use Rattle.crsm_safety.proofs.Paxos.Majority.{nat_eq_is}
 use Rattle.crsm_safety.proofs.Paxos.Basics.{changed, changed_at, changed_cases, got, nat_eq_not, le_from}
 use Rattle.crsm_law_steps.proofs.Moments.{set_case, set_there}
-use Rattle.crsm_mpspec.specs.declared.MpRec.{MpRec}
 use Rattle.crsm_mpspec.specs.declared.MpMessage.{MpMessage}
 use Rattle.crsm_mpspec.specs.declared.MpInput.{MpInput}
-use Rattle.crsm_mpspec.specs.declared.MpLine.{MpLine}
-use Rattle.crsm_mpspec.specs.Types.{Ballot, Command, Value}
+use Rattle.crsm_mpspec.specs.Types.{Command, Value}
 use Rattle.crsm_mpspec.specs.Log.{Log, promised, accepted_at, chosen_at, accepts, choices}
 use Rattle.crsm_mpspec.specs.Replica.{Replica, Note, fresh, note_after}
 use Rattle.crsm_mpspec.specs.Draft.{Draft, begun, noting, keep, keep_as}
 use Rattle.crsm_mpspec.specs.Step.{step, boot}
-use Rattle.crsm_mpspec.specs.World.{Site, Packet, World, Moment, log_of, log_at, with_site, packet_of, after_step, whole_step, then_down, cut_step, lost_step, down}
-use Rattle.crsm_mpspec.specs.Moments.{use_up, silent, begun_at}
+use Rattle.crsm_mpspec.specs.World.{Site, Packet, World, log_of, log_at, with_site, packet_of, after_step, whole_step, then_down, cut_step, down}
+use Rattle.crsm_mpspec.specs.Moments.{use_up}
 use Rattle.crsm_law_mp_slots.specs.Slots.{Seat, Sent, Slots, HasAsked, NoteHolds, IsTrueMessage, Holds, Past}
 use Rattle.crsm_law_mp_slots.proofs.Turns.{turn}
 use Rattle.crsm_law_mp_slots.proofs.Changes.{Stands, with_sends}
@@ -31,7 +28,7 @@ use Rattle.crsm_law_mp_slots.proofs.Voting.{acceptor_of, idle_asks}
 use Rattle.crsm_law_mp_slots.proofs.Lists.{cons_cases, first_in, later_in, none_in, in_map, map_in}
 use Rattle.crsm_law_mp_steps.specs.Seats.{seat_of, seat_in, seat_at, IsSound}
 use Rattle.crsm_law_mp_steps.proofs.Telling.{in_take}
-use Rattle.crsm_law_mp_steps.proofs.Drafts.{seat_now, At, Good, note_idle}
+use Rattle.crsm_law_mp_steps.proofs.Drafts.{seat_now, At, note_idle}
 use Rattle.crsm_law_mp_steps.proofs.Steps.{CanCome, step_at}
 
 -- ---- the same seats and messages, written otherwise
@@ -81,13 +78,13 @@ set_past [] k y past = refl
 set_past (x ∷ xs) zero y past = absurd (omega arith)
 set_past (x ∷ xs) (suc k) y past = ap (λ zs. x ∷ zs) (set_past xs k y (omega arith))
 
-same_site : (s t : Site) → Some s ≡ Some t → s ≡ t
+pub same_site : (s t : Site) → Some s ≡ Some t → s ≡ t
 same_site s t e = cc
 
-up_is : (r q : Replica) → Site.Up r ≡ Site.Up q → r ≡ q
+pub up_is : (r q : Replica) → Site.Up r ≡ Site.Up q → r ≡ q
 up_is r q e = cc
 
-never_up : (log : Log) (q : Replica) → Site.Down log ≡ Site.Up q → ⊥
+pub never_up : (log : Log) (q : Replica) → Site.Down log ≡ Site.Up q → ⊥
 never_up log q e = cc
 
 -- a site whose replica, if it is up, is this one

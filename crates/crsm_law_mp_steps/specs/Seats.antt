@@ -1,5 +1,5 @@
 -- The world as the instances of its slots see it.
-use Rattle.std.specs.Prelude.{◌≡◌, ℕ, List, [], Contains, Option, None, Some, slice_get, length}
+use Rattle.std.specs.Prelude.{◌≡◌, ℕ, List, [], Contains, Some, slice_get, length}
 use Rattle.std.specs.Option.{option_map_or}
 use Rattle.crsm_spec.specs.Lists.{numbers_below}
 use Rattle.crsm_mpspec.specs.declared.MpMessage.{MpMessage}
