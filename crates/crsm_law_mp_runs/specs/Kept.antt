@@ -61,8 +61,8 @@ IsRightLine lines worlds i (MpLine.ReplyOk k client number slot a) = IsReplied l
 IsRightLine lines worlds i (MpLine.ReplyDropped k client number slot) = IsDropped lines worlds i k slot client number
 IsRightLine lines worlds i _ = Unit {0}
 
--- What holds of the run so far: its world is sound, each world has n replicas, what was executed in any of its worlds is known, what was submitted was told, as
--- was what each client waits for, and each line is right.
+-- What holds of the run so far: its world is sound, each world has n replicas, what was executed in any of its worlds
+-- is known, what was submitted was told, as was what each client waits for, and each line is right.
 pub record Kept (n : ℕ) (lines : List TraceLine) (worlds : List World) (w : World) : Type 0 where
   pub past : Past
   pub sound : IsSound n past w

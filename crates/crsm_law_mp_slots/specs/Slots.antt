@@ -41,8 +41,8 @@ HasProposed s b v = Contains s.proposals (record { ballot = b; value = v })
 abbrev pub AreChosen : List ℕ → Slots → Report → Type 0
 AreChosen spec slots y = (c : MpChosen) → Contains y.chosen c → IsChosen spec (slots c.slot) c.value
 
--- What is true of a replica that asks in ballot b: the ballot is its promise, is its own and proposed nothing, and what it counted
--- is what replicas answered with their promises from the slot on that it asked for.
+-- What is true of a replica that asks in ballot b: the ballot is its promise, is its own and proposed nothing, and
+-- what it counted is what replicas answered with their promises from the slot on that it asked for.
 pub record IsAsking (spec : List ℕ) (slots : Slots) (k : ℕ) (x : Seat) (b : Ballot) (start : ℕ) (reports : List Report) : Type 0 where
   pub by : b.by ≡ k
   pub high : ballot_lt lowest b ≡ true
@@ -53,8 +53,8 @@ pub record IsAsking (spec : List ℕ) (slots : Slots) (k : ℕ) (x : Seat) (b : 
   pub distinct : IsDistinct nat_eq (map (λ y. y.from) reports)
   pub of_spec : (j : ℕ) → Contains (map (λ y. y.from) reports) j → Contains spec j
 
--- What is true of a leader in ballot b: a majority reported, it voted itself wherever the ballot proposed, and the votes that it
--- counted were cast for what it accepted.
+-- What is true of a leader in ballot b: a majority reported, it voted itself wherever the ballot proposed, and the
+-- votes that it counted were cast for what it accepted.
 pub record IsLeading (spec : List ℕ) (slots : Slots) (k : ℕ) (x : Seat) (b : Ballot) (start next : ℕ) (reports : List Report) (votes : List (ℕ × ℕ)) : Type 0 where
   pub by : b.by ≡ k
   pub current : x.promised ≡ b
@@ -72,7 +72,8 @@ NoteHolds spec slots k x Note.Idle = Unit {0}
 NoteHolds spec slots k x (Note.Asking b start reports) = IsAsking spec slots k x b start reports
 NoteHolds spec slots k x (Note.Leading b start next reports votes) = IsLeading spec slots k x b start next reports votes
 
--- This replica asked in ballot b from a slot on: its promise is not below b, and if it still asks in b, it does so from this slot on.
+-- This replica asked in ballot b from a slot on: its promise is not below b, and if it still asks in b, it does so
+-- from this slot on.
 pub record HasAsked (x : Seat) (b : Ballot) (start : ℕ) : Type 0 where
   pub promised : ballot_lt x.promised b ≡ false
   pub same : (from : ℕ) (reports : List Report) → x.note ≡ Note.Asking b from reports → from ≡ start
@@ -99,8 +100,8 @@ pub record Past : Type 0 where
   pub submitted : List Command
   pub known : List (ℕ × Value)
 
--- What replicas hold and have sent is one instance for each slot. Each command that is proposed was submitted, and what was known is
--- chosen.
+-- What replicas hold and have sent is one instance for each slot. Each command that is proposed was submitted, and
+-- what was known is chosen.
 pub record Holds (spec : List ℕ) (past : Past) (seats : ℕ → Seat) (sent : Sent) (slots : Slots) : Type 0 where
   pub reached : (s : ℕ) → IsReached spec (slots s)
   pub same : (s k : ℕ) → (slots s).acceptor k ≡ record { promised = (seats k).promised; accepted = (seats k).accepted s }

@@ -90,7 +90,8 @@ ask b x =
     let z = noting (Note.Asking b start (report start y.replica ∷ [])) y in
     lead_at_majority (send_to_others (MpMessage.Prep b start) z)
 
--- The replica is to lead: a lead that it has ends, and it asks in a ballot of its own above its promise, if there is one.
+-- The replica is to lead: a lead that it has ends, and it asks in a ballot of its own above its promise, if there is
+-- one.
 unfoldable pub on_lead : Draft → Draft
 on_lead x =
     let p = promised x.replica.log in

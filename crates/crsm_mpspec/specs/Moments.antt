@@ -37,8 +37,8 @@ unfoldable pub come : Ending → World → Option Packet → Moment
 come ends w None = silent w w
 come ends w (Some m) = step_at ends w m.to (MpInput.Message m.message) m.from
 
--- What comes of an act of one step, which ends whole or is stopped. A suspicion makes its replica try to lead. Bytes from
--- nowhere are not possible.
+-- What comes of an act of one step, which ends whole or is stopped. A suspicion makes its replica try to lead. Bytes
+-- from nowhere are not possible.
 unfoldable pub single : Ending → World → Single → Moment
 single ends w (Single.Request k t c) = step_at ends w k (MpInput.Request c) 0
 single ends w (Single.Go i t) = begun_at w (come ends (use_up i w) (slice_get w.packets i))

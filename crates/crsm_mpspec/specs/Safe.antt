@@ -1,5 +1,5 @@
--- What holds of every run: the laws of agreement, of answers and of real time. They speak of one list of values and of the
--- sequential store, and know no ballots, votes or leaders.
+-- What holds of every run: the laws of agreement, of answers and of real time. They speak of one list of values and
+-- of the sequential store, and know no ballots, votes or leaders.
 use Rattle.std.specs.Prelude.{◌≡◌, ◌≢◌, ℕ, ◌<◌, ◌≤◌, take, List, Option, None, Some, slice_get}
 use Rattle.std.specs.List.{AllByRecursion}
 use Rattle.crsm_spec.specs.Lists.{IsPrefixOf}
@@ -43,8 +43,8 @@ Agreed n acts = AllByRecursion (λ vs. IsPrefixOf vs (the_list n acts)) (all_lis
 
 -- ---- answers
 
--- Each executed command, and each answer, is the one list's at its slot. A reply is to a command that was submitted at its
--- replica and slot before. Where a command is said to be dropped, another value was chosen at its slot.
+-- Each executed command, and each answer, is the one list's at its slot. A reply is to a command that was submitted
+-- at its replica and slot before. Where a command is said to be dropped, another value was chosen at its slot.
 pub record Answered (n : ℕ) (acts : List Act) : Type 0 where
   pub executed : (i k slot client number : ℕ) (a : Answer) →
       IsLineAt (seen n acts) i (MpLine.Exec k slot client number a) →
