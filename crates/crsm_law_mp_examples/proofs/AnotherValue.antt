@@ -8,7 +8,7 @@ use Rattle.crsm_mpspec.specs.Types.{Op, Answer}
 use Rattle.crsm_law_mp_examples.specs.Words.{replay, request}
 use Rattle.crsm_law_mp_examples.proofs.Opened.{the_model}
 
-abbrev schedule : List Act
+abbrev pub schedule : List Act
 schedule =
     Act.One (Single.Suspect 0 1 (0 ∷ 1 ∷ 2 ∷ []))
     ∷ Act.Settle 2

@@ -3,7 +3,8 @@ mod LeadsAlone
 mod ThreeReplicas
 mod NotTheLeader
 mod NoopInTheGap
-mod AnotherValue
+pub mod AnotherValue
 mod RivalLeaders
 mod StopsInAStep
 mod Refused
+pub mod Replies
