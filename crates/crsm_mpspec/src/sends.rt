@@ -58,4 +58,10 @@ impl MpSends {
     {
         self.items.as_slice()
     }
+    /// The items in their order, as a vector.
+    pub fn into_items(self) -> Vec<MpSend>
+        ensures { result.items ≡ self }
+    {
+        self.items
+    }
 }
