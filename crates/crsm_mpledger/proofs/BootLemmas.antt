@@ -1,0 +1,57 @@
+-- Boots, and records that are followed one behind the other.
+use Rattle.std.proofs.Common.{◌≡◌, ℕ, zero, suc, ◌+◌, ◌<◌, Bool, List, [], ◌∷◌, ◌++◌, length, Option, Some, refl, ap, sym, subst, ◌∙◌, arith}
+use Rattle.std.specs.Prelude.{fold, slice_get, get_or, take, drop, if◌then◌else◌}
+use Rattle.std.proofs.lemmas.List.{take-append-drop, take_more}
+use Rattle.crsm_mpspec.specs.declared.rec.MpRec.{MpRec}
+use Rattle.crsm_mpspec.specs.Log.{Log, boots, is_boot}
+use Rattle.crsm_mpledger.specs.Sound.{IsSound, with_records, AreBodies}
+
+counted : {X : Type 0} (p : X → Bool) (n : ℕ) (xs : List X) → fold (λ a x. a + (if p x then 1 else 0)) (n + 1) xs ≡ fold (λ a x. a + (if p x then 1 else 0)) n xs + 1
+counted p n [] = refl
+counted p n (x ∷ xs) = ap (λ (m : ℕ). fold (λ a y. a + (if p y then 1 else 0)) m xs) (omega arith) ∙ counted p (n + (if p x then 1 else 0)) xs
+
+-- one boot more
+pub boots-boot : (log : Log) → boots (MpRec.Boot ∷ log) ≡ boots log + 1
+unfolding boots is_boot
+boots-boot log = counted is_boot 0 log
+
+-- ---- records behind a log
+
+pub with-snoc : (log : Log) (xs : List MpRec) (x : MpRec) → with_records log (xs ++ x ∷ []) ≡ x ∷ with_records log xs
+with-snoc log [] x = refl
+with-snoc log (y ∷ ys) x = with-snoc (y ∷ log) ys x
+
+-- one item more of a list
+pub next_one : {A : Type 0} (xs : List A) (i : ℕ) (x : A) → i < length xs → x ≡ get_or xs i x → take (i + 1) xs ≡ take i xs ++ x ∷ []
+next_one {A = A} xs i x below is = take_more xs i x below ∙ ap (λ (y : A). take i xs ++ y ∷ []) (sym is)
+
+-- a log that more records stand behind is sound where all of it is
+pub sound_before : (log : Log) (xs : List MpRec) → IsSound (with_records log xs) → IsSound log
+sound_before log [] sound = sound
+sound_before log (x ∷ xs) sound = (sound_before (x ∷ log) xs sound).1
+
+sound_part : (log : Log) (xs ys : List MpRec) → IsSound (with_records log (xs ++ ys)) → IsSound (with_records log xs)
+sound_part log [] ys sound = sound_before log ys sound
+sound_part log (x ∷ xs) ys sound = sound_part (x ∷ log) xs ys sound
+
+-- the first records of sound ones
+pub sound_take : (log : Log) (xs : List MpRec) (k : ℕ) → IsSound (with_records log xs) → IsSound (with_records log (take k xs))
+sound_take log xs k sound = sound_part log (take k xs) (drop k xs) (subst (λ zs. IsSound (with_records log zs)) (sym (take-append-drop k xs)) sound)
+
+-- ---- bodies behind a log
+
+-- so is a log that bodies go on from
+pub sound_bodies : (log : Log) (bodies : List (List ℕ)) (whole : Log) → AreBodies log bodies whole → IsSound whole → IsSound log
+sound_bodies log [] whole are sound = subst IsSound (sym are) sound
+sound_bodies log (body ∷ bodies) whole are sound = sound_before log are.0 (sound_bodies (with_records log are.0) bodies whole are.2 sound)
+
+suc_more : (i : ℕ) → suc (i + 1) ≡ suc i + 1
+suc_more i = omega arith
+
+pub drop-get : {A : Type 0} (xs : List A) (i : ℕ) (x : A) → slice_get xs i ≡ Some x → drop i xs ≡ x ∷ drop (i + 1) xs
+drop-get [] i x e = absurd cc
+drop-get {A = A} (y ∷ ys) zero x e = ap (λ (z : A). z ∷ ys) (same e)
+  where
+    same : ◌≡◌ {A = Option A} (Some y) (Some x) → y ≡ x
+    same e = cc
+drop-get (y ∷ ys) (suc i) x e = drop-get ys i x e ∙ ap (λ n. x ∷ drop n (y ∷ ys)) (suc_more i)

@@ -1,0 +1,38 @@
+-- What is executed, one slot more.
+use Rattle.std.proofs.Common.{◌≡◌, suc, List, [], ◌∷◌, ◌++◌, length, refl, ap, sym, ◌∙◌, append_assoc}
+use Rattle.std.specs.Option.{option_map}
+use Rattle.std.proofs.lemmas.Grind.{fold-append}
+use Rattle.std.proofs.lemmas.List.{append-nil}
+use Rattle.crsm_base.specs.Store.{no_rows}
+use Rattle.crsm_mpspec.specs.Types.{Value}
+use Rattle.crsm_mpspec.specs.Values.{answer_after, apply_value, rows_after}
+use Rattle.crsm_mpledger.specs.Executed.{answers_behind, answers_of}
+
+behind-snoc : (done vs : List Value) (v : Value) → answers_behind done (vs ++ v ∷ []) ≡ answers_behind done vs ++ option_map (answer_after (done ++ vs)) v ∷ []
+unfolding answers_behind
+behind-snoc done [] v = ap (λ (ws : List Value). option_map (answer_after ws) v ∷ []) (sym (append-nil done))
+behind-snoc done (w ∷ ws) v =
+    ap (λ rest. option_map (answer_after done) w ∷ rest)
+    (behind-snoc (done ++ w ∷ []) ws v ∙ ap (λ (us : List Value). answers_behind (done ++ w ∷ []) ws ++ option_map (answer_after us) v ∷ []) (append_assoc done (w ∷ []) ws))
+
+-- one answer more
+pub answers-snoc : (vs : List Value) (v : Value) → answers_of (vs ++ v ∷ []) ≡ answers_of vs ++ option_map (answer_after vs) v ∷ []
+unfolding answers_of
+answers-snoc vs v = behind-snoc [] vs v
+
+length-behind : (done vs : List Value) → length (answers_behind done vs) ≡ length vs
+unfolding answers_behind
+length-behind done [] = refl
+length-behind done (v ∷ vs) = ap (λ n. suc n) (length-behind (done ++ v ∷ []) vs)
+
+-- each value has an answer, or its lack
+pub length-answers : (vs : List Value) → length (answers_of vs) ≡ length vs
+unfolding answers_of
+length-answers vs = length-behind [] vs
+
+-- the rows behind one value more
+pub rows-snoc : (vs : List Value) (v : Value) → rows_after (vs ++ v ∷ []) ≡ apply_value (rows_after vs) v
+unfolding rows_after
+rows-snoc vs v = fold-append apply_value no_rows vs (v ∷ [])
+
+pub ruleset executed_rules = (answers-snoc, length-answers, rows-snoc)

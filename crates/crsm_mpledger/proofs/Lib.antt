@@ -1,0 +1,5 @@
+mod SlotLemmas
+mod ExecutedLemmas
+mod RunLemmas
+mod BootLemmas
+mod LedgerLemmas

@@ -1,0 +1,20 @@
+use Rattle.std.proofs.Common.{◌∙◌, ap, sym, arith}
+use Rattle.std.specs.Ordering.{nat_cmp}
+use Rattle.std.specs.Map.{lookup}
+use Rattle.std.specs.BTreeMap.{is_at}
+use Rattle.crsm_mpspec.specs.Log.{chosen_at, choices, executed}
+use Rattle.crsm_mpledger.proofs.SlotLemmas.{get-by_slot}
+use Rattle.crsm_mpledger.proofs.RunLemmas.{executed-get, none_behind}
+use Rattle.crsm_mpledger.proofs.ledger.MpLedger.executed.Goals as goal
+
+pub returns-then-slot-len : goal.returns-then-slot-len
+unfolding chosen_at
+returns-then-slot-len c log s =
+    let len = c.len.ensures (executed log) s.executed in
+    c.get.ensures.value ∙ ap (λ es. lookup (is_at (nat_cmp c.args.slot)) es) s.chosen ∙ get-by_slot c.args.slot (choices log)
+    ∙ executed-get c.args.slot log (omega (arith, len, c.if-slot-len.true))
+
+pub returns-else-slot-len : goal.returns-else-slot-len
+returns-else-slot-len c log s =
+    let len = c.len.ensures (executed log) s.executed in
+    sym (none_behind (executed log) c.args.slot (omega (arith, len, c.if-slot-len.false)))

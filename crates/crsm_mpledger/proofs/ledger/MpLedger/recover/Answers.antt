@@ -1,0 +1,14 @@
+use Rattle.std.proofs.Common.{◌+◌, subst}
+use Rattle.std.specs.Prelude.{drop}
+use Rattle.crsm_mpledger.specs.Sound.{AreBodies, with_records}
+use Rattle.crsm_mpledger.proofs.BootLemmas.{drop-get, sound_bodies}
+use Rattle.crsm_mpledger.proofs.ledger.MpLedger.recover.Goals as goal
+
+pub loop-index-preserved : goal.loop-index-preserved
+loop-index-preserved c log are sound =
+    let bodies = c.args.bodies.now in
+    let k = c.loop-index.index in
+    let i = c.loop-index.invariant log are sound in
+    let more = subst (λ bs. AreBodies i.0 bs log) (drop-get bodies k c.in-Some.body.now c.in-Some.ensures) i.2 in
+    let before = sound_bodies (with_records i.0 more.0) (drop (k + 1) bodies) log more.2 sound in
+    (with_records i.0 more.0, c.in_ok-follow_body.ensures i.0 i.1 more.0 more.1 before, more.2)

@@ -1,0 +1,121 @@
+//! The ledger of a log.
+
+ghost use Rattle.std.specs.Prelude.{◌≡◌, ◌∷◌, [], ℕ, List, length, IfOk, OnOk};
+ghost use Rattle.crsm_mpspec.specs.declared.rec.MpRec.{MpRec as Record};
+ghost use Rattle.crsm_mpspec.specs.Log.{Log, by_slot, choices, executed, run_from};
+ghost use Rattle.crsm_mpledger.specs.Executed.{ExecutionsStand};
+ghost use Rattle.crsm_mpledger.specs.MpLedger.{MpLedgerStands, WhereLedger};
+ghost use Rattle.crsm_mpledger.specs.Sound.{IsSound, MayFollow};
+
+use crate::executions::Executions;
+use crsm_base::{Ballot, Command, NoMemory, never};
+use crsm_mpspec::{MpRec, copy_value};
+use std::alloc::Global;
+use std::collections::BTreeMap;
+
+/// Executes the slots behind the executed ones, up to the first whose value is not known.
+fn execute_known(
+    chosen: &BTreeMap<u64, Option<Command>>,
+    executions: &mut Executions,
+) -> Result<(), NoMemory>
+    ensures { OnOk result ((log : Log) → IsSound log → chosen.now.entries ≡ by_slot (choices log) → (done : ℕ) → length (run_from done 0 log) ≡ done →
+        ExecutionsStand executions.old (run_from done 0 log) → ExecutionsStand executions.new (executed log)) }
+{
+    for slot in executions.len()..u64::MAX {
+        let Some(value) = chosen.get(&slot) else {
+            return Ok(());
+        };
+        executions.execute(value)?;
+    }
+    Ok(())
+}
+
+/// What the records of a log say. After an error it says nothing any more.
+#[derive(Drop)]
+pub struct MpLedger {
+    pub(crate) alloc: Global,
+    pub(crate) boots: u64,
+    pub(crate) promised: Ballot,
+    /// The value that was accepted last at each slot, with its ballot.
+    pub(crate) accepted: BTreeMap<u64, (Ballot, Option<Command>)>,
+    /// The value of each slot that is known to be chosen.
+    pub(crate) chosen: BTreeMap<u64, Option<Command>>,
+    /// All slots up to the first whose value is not known are executed.
+    pub(crate) executions: Executions,
+}
+
+impl MpLedger {
+    /// The ledger of an empty log.
+    pub fn new(alloc: Global) -> Result<MpLedger, NoMemory>
+        ensures { IfOk result (λ ledger. MpLedgerStands ledger []) }
+    {
+        Ok(MpLedger {
+            alloc,
+            boots: 0,
+            promised: Ballot { round: 0, by: 0 },
+            accepted: BTreeMap::new(alloc),
+            chosen: BTreeMap::new(alloc),
+            executions: Executions::new(alloc)?,
+        })
+    }
+
+    /// A boot more.
+    fn boot(&mut self) -> Result<(), NoMemory>
+        ensures { OnOk result (WhereLedger self.old (λ log. MpLedgerStands self.new (Record.Boot ∷ log))) }
+    {
+        if self.boots == u64::MAX {
+            // No log has so many boots.
+            return Err(never());
+        }
+        self.boots += 1;
+        Ok(())
+    }
+
+    /// A value is accepted, and its ballot promised.
+    fn accept(&mut self, slot: u64, ballot: Ballot, value: &Option<Command>) -> Result<(), NoMemory>
+        ensures { OnOk result (WhereLedger self.old (λ log. MayFollow log (Record.Accept slot ballot value.now) → MpLedgerStands self.new (Record.Accept slot ballot value.now ∷ log))) }
+    {
+        let value = copy_value(self.alloc, value)?;
+        self.accepted.insert(slot, (ballot, value))?;
+        self.promised = ballot;
+        Ok(())
+    }
+
+    /// The value of a slot is known. It is executed, and what follows it, once all before it are.
+    fn choose(&mut self, slot: u64, value: &Option<Command>) -> Result<(), NoMemory>
+        ensures { OnOk result (WhereLedger self.old (λ log. MayFollow log (Record.Choose slot value.now) → MpLedgerStands self.new (Record.Choose slot value.now ∷ log))) }
+    {
+        let value = copy_value(self.alloc, value)?;
+        self.chosen.insert(slot, value)?;
+        execute_known(&self.chosen, &mut self.executions)?;
+        Ok(())
+    }
+
+    /// One record more.
+    pub fn follow(&mut self, rec: &MpRec) -> Result<(), NoMemory>
+        ensures { OnOk result (WhereLedger self.old (λ log. MayFollow log rec.now → MpLedgerStands self.new (rec.now ∷ log))) }
+    {
+        match rec {
+            MpRec::Boot => {
+                self.boot()?;
+                Ok(())
+            }
+            MpRec::Promise { ballot } => {
+                self.promised = *ballot;
+                Ok(())
+            }
+            MpRec::Accept {
+                slot,
+                ballot,
+                value,
+            } => {
+                self.accept(*slot, *ballot, value)?;
+                Ok(())
+            }
+            MpRec::Choose { slot, value } => {
+                self.choose(*slot, value)?;
+                Ok(())
+            }
+        }
+    }
+}

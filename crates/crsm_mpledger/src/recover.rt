@@ -1,0 +1,53 @@
+//! The ledger of the bodies of a log.
+
+ghost use Rattle.std.specs.Prelude.{[], List, IfOk, OnOk};
+ghost use Rattle.crsm_mpspec.specs.declared.rec.MpRec.{MpRec as Record};
+ghost use Rattle.crsm_mpspec.specs.Log.{Log};
+ghost use Rattle.crsm_mpspec.specs.Records.{SpeltBody};
+ghost use Rattle.crsm_mpledger.specs.MpLedger.{MpLedgerStands, WhereLedger};
+ghost use Rattle.crsm_mpledger.specs.Sound.{IsSound, AreBodies, with_records};
+
+use crate::ledger::MpLedger;
+use crsm_base::{Bodies, NoMemory, never};
+use crsm_mpcodec::take_body;
+use crsm_mpspec::MpRec;
+use std::alloc::Global;
+
+impl MpLedger {
+    /// The ledger of these bodies, which are those of a replica's own log.
+    pub fn recover(alloc: Global, bodies: &Bodies) -> Result<MpLedger, NoMemory>
+        ensures { IfOk result (λ ledger. (log : Log) → AreBodies [] bodies.now log → IsSound log → MpLedgerStands ledger log) }
+    {
+        let mut ledger = MpLedger::new(alloc)?;
+        for index in 0..bodies.len() {
+            let Some(body) = bodies.get(index) else {
+                return Err(never());
+            };
+            ledger.follow_body(alloc, body)?;
+        }
+        Ok(ledger)
+    }
+
+    /// The records of one body more.
+    fn follow_body(&mut self, alloc: Global, body: &[u8]) -> Result<(), NoMemory>
+        ensures { OnOk result (WhereLedger self.old (λ log. (recs : List Record) → SpeltBody recs body.now → IsSound (with_records log recs) →
+            MpLedgerStands self.new (with_records log recs))) }
+    {
+        // A replica has written each body of its log.
+        let Some(records) = take_body(alloc, body)? else {
+            return Err(never());
+        };
+        self.follow_all(records.as_slice())?;
+        Ok(())
+    }
+
+    /// Records one behind the other.
+    fn follow_all(&mut self, records: &[MpRec]) -> Result<(), NoMemory>
+        ensures { OnOk result (WhereLedger self.old (λ log. IsSound (with_records log records.now) → MpLedgerStands self.new (with_records log records.now))) }
+    {
+        for rec in records {
+            self.follow(rec)?;
+        }
+        Ok(())
+    }
+}

@@ -1,0 +1,42 @@
+//! What a replica reports of its log.
+
+ghost use Rattle.std.specs.Prelude.{◌≡◌, IfOk};
+ghost use Rattle.crsm_mpspec.specs.Log as logs;
+ghost use Rattle.crsm_mpledger.specs.MpLedger.{WhereLedger};
+
+use crate::ledger::MpLedger;
+use crsm_base::NoMemory;
+use crsm_mpspec::{MpAccepted, MpAccepts, MpChoices, MpChosen, copy_value};
+
+impl MpLedger {
+    /// What was accepted last at each slot from this one on, by slot.
+    #[tactic(auto, unfolding(crsm_mpspec::specs::Log::accepted_from))]
+    pub fn accepted_from(&self, start: u64) -> Result<MpAccepts, NoMemory>
+        ensures { IfOk result (λ accepts. WhereLedger self.now (λ log. accepts ≡ logs.accepted_from start log)) }
+    {
+        let mut accepts = MpAccepts::new(self.alloc);
+        for (slot, (ballot, value)) in self.accepted.range(start..) {
+            accepts.push(MpAccepted {
+                slot: *slot,
+                ballot: *ballot,
+                value: copy_value(self.alloc, value)?,
+            })?;
+        }
+        Ok(accepts)
+    }
+
+    /// The values of the slots from this one on that are known to be chosen, by slot.
+    #[tactic(auto, unfolding(crsm_mpspec::specs::Log::chosen_from))]
+    pub fn chosen_from(&self, start: u64) -> Result<MpChoices, NoMemory>
+        ensures { IfOk result (λ choices. WhereLedger self.now (λ log. choices ≡ logs.chosen_from start log)) }
+    {
+        let mut choices = MpChoices::new(self.alloc);
+        for (slot, value) in self.chosen.range(start..) {
+            choices.push(MpChosen {
+                slot: *slot,
+                value: copy_value(self.alloc, value)?,
+            })?;
+        }
+        Ok(choices)
+    }
+}
