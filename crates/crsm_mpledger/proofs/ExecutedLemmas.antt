@@ -1,5 +1,6 @@
 -- What is executed, one slot more.
-use Rattle.std.proofs.Common.{◌≡◌, suc, List, [], ◌∷◌, ◌++◌, length, refl, ap, sym, ◌∙◌, append_assoc}
+use Rattle.std.proofs.Common.{◌≡◌, ℕ, zero, suc, List, [], ◌∷◌, ◌++◌, length, Some, refl, ap, sym, ◌∙◌, append_assoc}
+use Rattle.std.specs.Prelude.{Option, slice_get, take}
 use Rattle.std.specs.Option.{option_map}
 use Rattle.std.proofs.lemmas.Grind.{fold-append}
 use Rattle.std.proofs.lemmas.List.{append-nil}
@@ -36,3 +37,19 @@ unfolding rows_after
 rows-snoc vs v = fold-append apply_value no_rows vs (v ∷ [])
 
 pub ruleset executed_rules = (answers-snoc, length-answers, rows-snoc)
+
+some_same : {A : Type 0} (x y : A) → ◌≡◌ {A = Option A} (Some x) (Some y) → x ≡ y
+some_same x y e = cc
+
+behind-get : (done vs : List Value) (i : ℕ) (v : Value) → slice_get vs i ≡ Some v → slice_get (answers_behind done vs) i ≡ Some (option_map (answer_after (done ++ take i vs)) v)
+unfolding answers_behind
+behind-get done [] i v e = absurd cc
+behind-get done (w ∷ ws) zero v e =
+    ap (λ (u : Value). Some (option_map (answer_after done) u)) (some_same w v e) ∙ ap (λ (us : List Value). Some (option_map (answer_after us) v)) (sym (append-nil done))
+behind-get done (w ∷ ws) (suc i) v e =
+    behind-get (done ++ w ∷ []) ws i v e ∙ ap (λ (us : List Value). Some (option_map (answer_after us) v)) (append_assoc done (w ∷ []) (take i ws))
+
+-- the answer at a slot
+pub answers-get : (vs : List Value) (i : ℕ) (v : Value) → slice_get vs i ≡ Some v → slice_get (answers_of vs) i ≡ Some (option_map (answer_after (take i vs)) v)
+unfolding answers_of
+answers-get vs i v e = behind-get [] vs i v e

@@ -1,6 +1,6 @@
 -- The known values of slots that follow one another.
 use Rattle.std.proofs.Common.{◌≡◌, ℕ, zero, suc, ◌+◌, ◌<◌, ◌≤◌, Bool, true, false, List, [], ◌∷◌, ◌++◌, length, Option, None, Some, refl, ap, sym, subst, ◌∙◌, arith}
-use Rattle.std.specs.Prelude.{◌==◌, max, map, is_some, slice_get, if◌then◌else◌}
+use Rattle.std.specs.Prelude.{◌==◌, max, map, is_some, slice_get, if◌then◌else◌, take}
 use Rattle.std.specs.Map.{lookup}
 use Rattle.std.proofs.lemmas.Bool.{eqb-true}
 use Rattle.std.proofs.lemmas.Bool.Decides.{nat_tests}
@@ -174,3 +174,31 @@ none_behind (x ∷ xs) (suc i) most = none_behind xs i (omega (arith, most))
 pub run-next : (k : ℕ) (v : Value) (log : Log) → length (run_from k 0 log) ≡ k → chosen_at k log ≡ Some v → run_from (k + 1) 0 log ≡ run_from k 0 log ++ v ∷ []
 run-next k v log whole next =
     ap (λ (n : ℕ). run_from n 0 log) (omega arith) ∙ run-snoc k 0 v log whole (subst (λ n. chosen_at n log ≡ Some v) (omega arith) next)
+
+-- ---- the beginning of a run
+
+take_begun : (o : Option Value) (v : Value) (k : ℕ) (rest more : List Value) → o ≡ Some v → take k more ≡ rest → take (suc k) (and_then o more) ≡ and_then o rest
+unfolding and_then
+take_begun o v k rest more e same = rw (e) (ap (λ (vs : List Value). v ∷ vs) same)
+
+run-take : (k m a : ℕ) (log : Log) → k ≤ m → length (run_from k a log) ≡ k → take k (run_from m a log) ≡ run_from k a log
+unfolding run_from
+run-take zero m a log most whole = refl
+run-take (suc k) zero a log most whole = absurd (omega (arith, most))
+run-take (suc k) (suc m) a log most whole =
+    let b = begins (chosen_at a log) (run_from k (suc a) log) k whole in
+    take_begun (chosen_at a log) b.0 k (run_from k (suc a) log) (run_from m (suc a) log) b.1 (run-take k m (suc a) log (omega (arith, most)) b.2)
+
+executed_run : (log : Log) → executed log ≡ run_from (end log) 0 log
+unfolding executed
+executed_run log = refl
+
+-- a choice of a slot that was not known leaves what was executed
+pub executed-grown : (slot : ℕ) (v : Value) (log : Log) → is_chosen slot log ≡ false → take (length (executed log)) (executed (MpRec.Choose slot v ∷ log)) ≡ executed log
+executed-grown slot v log new =
+    let run = run-grown slot v log new in
+    let below = run-below (length (executed log)) 0 (MpRec.Choose slot v ∷ log) (omega arith) (ap length run) in
+    opened (length (executed log)) (MpRec.Choose slot v ∷ log) (omega (arith, below)) (ap length run) ∙ run
+  where
+    opened : (k : ℕ) (l : Log) → k ≤ end l → length (run_from k 0 l) ≡ k → take k (executed l) ≡ run_from k 0 l
+    opened k l most whole = ap (λ (vs : List Value). take k vs) (executed_run l) ∙ run-take k (end l) 0 l most whole

@@ -3,9 +3,11 @@
 #![tactic(auto)]
 
 mod executions;
+mod laws;
 mod ledger;
 mod readers;
 mod recover;
 mod reports;
 
+pub use laws::{answers_are_by_slot, executed_lists_grow};
 pub use ledger::MpLedger;
