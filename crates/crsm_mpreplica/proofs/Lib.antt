@@ -1,0 +1,4 @@
+mod MadeLemmas
+mod SlotMaps
+mod NoteLemmas
+mod StateLemmas

@@ -1,0 +1,39 @@
+-- Which messages and inputs can be kept and sent: ballots and commands have spellings, and no slot is the last number.
+use Rattle.std.specs.Prelude.{◌<◌}
+use Rattle.std.specs.List.{AllByRecursion}
+use Rattle.crsm_base.specs.Spelling.{FitsBallot, FitsCommand, FitsOption}
+use Rattle.crsm_spec.specs.Clock.{u64_max}
+use Rattle.crsm_mpspec.specs.declared.accepts.MpAccepted.{MpAccepted}
+use Rattle.crsm_mpspec.specs.declared.choices.MpChosen.{MpChosen}
+use Rattle.crsm_mpspec.specs.declared.message.MpMessage.{MpMessage}
+use Rattle.crsm_mpspec.specs.declared.input.MpInput.{MpInput}
+use Rattle.crsm_mpspec.specs.Types.{Value}
+use Rattle.crsm_mpspec.specs.Replica.{Report}
+
+-- the value has a spelling
+abbrev pub FitsValue : Value → Type 0
+FitsValue v = FitsOption FitsCommand v
+
+abbrev pub FitsAccepted : MpAccepted → Type 0
+FitsAccepted a = (a.slot < u64_max) × FitsBallot a.ballot × FitsValue a.value
+
+abbrev pub FitsChosen : MpChosen → Type 0
+FitsChosen c = (c.slot < u64_max) × FitsValue c.value
+
+abbrev pub FitsReport : Report → Type 0
+FitsReport r = AllByRecursion FitsAccepted r.accepted × AllByRecursion FitsChosen r.chosen
+
+abbrev pub FitsMessage : MpMessage → Type 0
+FitsMessage (MpMessage.Prep b start) = FitsBallot b
+FitsMessage (MpMessage.Prom b accepted chosen) = FitsBallot b × AllByRecursion FitsAccepted accepted × AllByRecursion FitsChosen chosen
+FitsMessage (MpMessage.No p) = FitsBallot p
+FitsMessage (MpMessage.Acc b slot v) = FitsBallot b × (slot < u64_max) × FitsValue v
+FitsMessage (MpMessage.Accd b slot) = FitsBallot b × (slot < u64_max)
+FitsMessage (MpMessage.Learn slot v) = (slot < u64_max) × FitsValue v
+FitsMessage (MpMessage.Ask start) = Unit {0}
+
+abbrev pub FitsInput : MpInput → Type 0
+FitsInput (MpInput.Request c) = FitsCommand c
+FitsInput (MpInput.Message m) = FitsMessage m
+FitsInput MpInput.Tick = Unit {0}
+FitsInput MpInput.Lead = Unit {0}

@@ -1,0 +1,4 @@
+pub mod Fitting
+pub mod Made
+pub mod Notes
+pub mod State

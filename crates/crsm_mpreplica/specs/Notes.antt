@@ -1,0 +1,60 @@
+-- What a replica is at, in memory.
+use Rattle.std.specs.Prelude.{◌≡◌, ℕ, ◌<◌, Bool, true, false, not, IsTrue, List, [], ◌∷◌, map, filter}
+use Rattle.std.specs.List.{AllByRecursion}
+use Rattle.crsm_base.specs.Order.{ballot_lt}
+use Rattle.crsm_base.specs.Spelling.{FitsBallot}
+use Rattle.crsm_spec.specs.Lists.{has}
+use Rattle.crsm_mpspec.specs.Types.{Ballot}
+use Rattle.crsm_mpspec.specs.Log.{Log, is_chosen}
+use Rattle.crsm_mpspec.specs.Replica.{Note as NoteOnPaper, Report as ReportOnPaper, voters_at, slots_of}
+use Rattle.crsm_mpreplica.specs.declared.note.Asking.{Asking}
+use Rattle.crsm_mpreplica.specs.declared.note.Leading.{Leading}
+use Rattle.crsm_mpreplica.specs.declared.note.Note.{Note}
+use Rattle.crsm_mpreplica.specs.declared.note.Report.{Report}
+use Rattle.crsm_mpreplica.specs.Fitting.{FitsReport}
+
+-- the report of a replica
+unfoldable pub report_of : ℕ × Report → ReportOnPaper
+report_of r = record { from = r.0; accepted = r.1.accepted; chosen = r.1.chosen }
+
+-- the promises that are asked for, with the reports so far
+pub record IsAsking (a : Asking) (b : Ballot) (start : ℕ) (reports : List ReportOnPaper) : Type 0 where
+  pub ballot : a.ballot ≡ b
+  pub start_is : a.start ≡ start
+  pub reports_are : map report_of a.reports.entries ≡ reports
+  pub ballot_fits : FitsBallot b
+  pub reports_fit : AllByRecursion FitsReport reports
+
+-- the slots that replica k proposed at and whose values are not known
+unfoldable pub open_of : ℕ → Log → List (ℕ × ℕ) → List ℕ
+open_of k log votes = filter (λ s. not (is_chosen s log)) (slots_of k votes)
+
+-- a slot with those who voted there
+unfoldable pub with_voters : List (ℕ × ℕ) → ℕ → ℕ × List ℕ
+with_voters votes slot = (slot, voters_at slot votes)
+
+-- The lead of replica me over this log: the open slots with their voters. Each vote is for a slot that the leader proposed at.
+pub record IsLeading (l : Leading) (me : ℕ) (log : Log) (b : Ballot) (next : ℕ) (votes : List (ℕ × ℕ)) : Type 0 where
+  pub ballot : l.ballot ≡ b
+  pub next_is : l.next ≡ next
+  pub open_are : map (λ e. (e.0, e.1.items)) l.open.entries ≡ map (with_voters votes) (open_of me log votes)
+  pub proposed : AllByRecursion (λ v. IsTrue (has (slots_of me votes) v.0)) votes
+  pub ballot_fits : FitsBallot b
+
+-- what replica me of this log is at
+abbrev pub NoteStands : Note → ℕ → Log → NoteOnPaper → Type 0
+NoteStands Note.Idle me log NoteOnPaper.Idle = Unit {0}
+NoteStands (Note.Asking a) me log (NoteOnPaper.Asking b start reports) = IsAsking a b start reports
+NoteStands (Note.Leading l) me log (NoteOnPaper.Leading b start next reports votes) = IsLeading l me log b next votes
+NoteStands _ me log _ = ⊥
+
+-- the replica leads
+abbrev pub is_lead : NoteOnPaper → Bool
+is_lead (NoteOnPaper.Leading b start next reports votes) = true
+is_lead _ = false
+
+-- the replica asks or leads in a ballot below this one
+abbrev pub is_lesser : Ballot → NoteOnPaper → Bool
+is_lesser b NoteOnPaper.Idle = false
+is_lesser b (NoteOnPaper.Asking a start reports) = ballot_lt a b
+is_lesser b (NoteOnPaper.Leading a start next reports votes) = ballot_lt a b

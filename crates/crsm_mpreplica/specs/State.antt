@@ -1,0 +1,31 @@
+-- What the state of a replica stands for.
+use Rattle.std.specs.Prelude.{◌≡◌, ℕ, Bool, List, map, Result, IfOk, if◌then◌else◌}
+use Rattle.crsm_base.specs.declared.memory.NoMemory.{NoMemory}
+use Rattle.crsm_mpspec.specs.Types.{Command}
+use Rattle.crsm_mpspec.specs.Replica.{Waiting}
+use Rattle.crsm_mpspec.specs.Draft.{Draft}
+use Rattle.crsm_mpledger.specs.MpLedger.{MpLedgerStands}
+use Rattle.crsm_mpreplica.specs.declared.state.MpReplica.{MpReplica}
+use Rattle.crsm_mpreplica.specs.Made.{MadeStands, outcome_of}
+use Rattle.crsm_mpreplica.specs.Notes.{NoteStands}
+
+-- a client that waits
+unfoldable pub waiting_of : ℕ × Command → Waiting
+waiting_of w = record { slot = w.0; command = w.1 }
+
+-- The state stands for the draft of a step: what it keeps is what the draft's lists say.
+pub record MpReplicaStands (state : MpReplica) (x : Draft) : Type 0 where
+  pub me : state.me ≡ x.replica.me
+  pub n : state.n ≡ x.replica.n
+  pub ledger : MpLedgerStands state.ledger x.replica.log
+  pub note : NoteStands state.note x.replica.me x.replica.log x.replica.note
+  pub waiting : map waiting_of state.waiting.entries ≡ x.replica.waiting
+  pub made : MadeStands state.made (outcome_of x)
+
+-- for each draft that the state stands for
+abbrev pub WhereStands : MpReplica → (Draft → Type 0) → Type 0
+WhereStands state P = (x : Draft) → MpReplicaStands state x → P x
+
+-- Whatever the old state stood for, the new one stands for what this makes of it; or memory ran out.
+abbrev pub Makes : (Draft → Draft) → MpReplica → Result (Unit {0}) NoMemory → MpReplica → Type 0
+Makes change old result new = IfOk result (λ _. WhereStands old (λ x. MpReplicaStands new (change x)))

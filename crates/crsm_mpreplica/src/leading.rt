@@ -1,0 +1,100 @@
+//! A lead.
+
+ghost use Rattle.std.specs.Prelude.{◌≡◌, ◌+◌, ◌<◌, ℕ, List, []};
+ghost use Rattle.crsm_base.specs.Spelling.{FitsBallot};
+ghost use Rattle.crsm_spec.specs.Clock.{u64_max};
+ghost use Rattle.crsm_mpspec.specs.Draft as drafts;
+ghost use Rattle.crsm_mpspec.specs.Draft.{Draft};
+ghost use Rattle.crsm_mpspec.specs.Types.{Ballot};
+ghost use Rattle.crsm_mpspec.specs.Electing.{on_no};
+ghost use Rattle.crsm_mpspec.specs.Replica.{Note as NoteOnPaper, Report, without_lead};
+ghost use Rattle.crsm_mpreplica.specs.State.{MpReplicaStands, WhereStands};
+
+use crate::note::{self, Leading, Note};
+use crate::slots::push_slot;
+use crate::state::MpReplica;
+use crsm_base::{Ballot, NoMemory, majority};
+use std::collections::BTreeMap;
+
+impl MpReplica {
+    /// From now on the replica leads in a ballot, and `next` is the slot of the next command.
+    pub fn lead(&mut self, ballot: Ballot, next: u64)
+        requires { FitsBallot ballot }
+        ensures { (x : Draft) (start : ℕ) (reports : List Report) → MpReplicaStands self.old x → MpReplicaStands self.new (drafts.noting (NoteOnPaper.Leading ballot start next reports []) x) }
+    {
+        self.note = Note::Leading(Leading {
+            ballot,
+            next,
+            open: BTreeMap::new(self.alloc),
+        });
+    }
+
+    /// The replica leads no more.
+    pub fn end_lead(&mut self)
+        ensures { WhereStands self.old (λ x. MpReplicaStands self.new (drafts.noting (without_lead x.replica.note) x)) }
+    {
+        note::end_lead(&mut self.note);
+    }
+
+    /// A replica has promised a ballot: a lead in a lesser one is over.
+    pub fn end_lead_below(&mut self, promised: Ballot)
+        ensures { WhereStands self.old (λ x. MpReplicaStands self.new (on_no promised x)) }
+    {
+        note::end_lead_below(&mut self.note, promised);
+    }
+
+    /// The slot of the next command of a leader is one further from now on.
+    pub fn pass_slot(&mut self)
+        ensures { (x : Draft) (b : Ballot) (start next : ℕ) (reports : List Report) (votes : List (ℕ × ℕ)) → MpReplicaStands self.old x → x.replica.note ≡ NoteOnPaper.Leading b start next reports votes →
+            next < u64_max → MpReplicaStands self.new (drafts.noting (NoteOnPaper.Leading b start (next + 1) reports votes) x) }
+    {
+        if let Note::Leading(leading) = &mut self.note {
+            leading.next = leading.next.saturating_add(1);
+        }
+    }
+
+    /// The replica itself votes for what it proposes at a slot. One whose value is known needs no votes.
+    pub fn open_slot(&mut self, slot: u64) -> Result<(), NoMemory> {
+        if self.ledger.is_chosen(slot) {
+            return Ok(());
+        }
+        let mut voters = Vec::new(self.alloc);
+        voters.push(self.me)?;
+        if let Note::Leading(leading) = &mut self.note {
+            push_slot(&mut leading.open, slot, voters)?;
+        }
+        Ok(())
+    }
+
+    /// Counts the vote of a replica for an open slot of a lead in this ballot, once for each replica. `false` where it does not
+    /// count.
+    pub fn take_vote(&mut self, from: u32, ballot: Ballot, slot: u64) -> Result<bool, NoMemory> {
+        let Note::Leading(leading) = &mut self.note else {
+            return Ok(false);
+        };
+        if leading.ballot != ballot {
+            return Ok(false);
+        }
+        let Some(voters) = leading.open.get(&slot) else {
+            return Ok(false);
+        };
+        if voters.contains(&from) {
+            return Ok(false);
+        }
+        let mut more = Vec::from_slice(self.alloc, voters.as_slice())?;
+        more.push(from)?;
+        leading.open.insert(slot, more)?;
+        Ok(true)
+    }
+
+    /// A majority has voted for what is proposed at a slot, whose value is not known yet.
+    pub fn is_voted(&self, slot: u64) -> bool {
+        let Note::Leading(leading) = &self.note else {
+            return false;
+        };
+        match leading.open.get(&slot) {
+            Some(voters) => voters.len() >= majority(self.n) as usize,
+            None => false,
+        }
+    }
+}

@@ -1,0 +1,84 @@
+//! What a step has made so far.
+
+ghost use Rattle.std.specs.Prelude.{◌≡◌, ◌++◌, ◌∷◌, [], IfOk, OnOk};
+ghost use Rattle.crsm_mpspec.specs.Records.{FitsRec};
+ghost use Rattle.crsm_mpreplica.specs.Fitting.{FitsMessage};
+
+use crsm_base::NoMemory;
+use crsm_mpspec::{MpBatch, MpLine, MpLines, MpMessage, MpRec, MpRecs, MpSend, MpSends};
+use std::alloc::Global;
+use std::mem;
+
+/// What a step has made so far: records and their lines, messages, and lines of replies.
+#[derive(Drop)]
+pub(crate) struct Made {
+    alloc: Global,
+    records: MpRecs,
+    lines: MpLines,
+    sends: MpSends,
+    replies: MpLines,
+}
+
+impl Made {
+    ghost use Rattle.crsm_mpreplica.specs.Made.{MadeStands, Answers, Outcome, nothing};
+
+    /// Nothing is made.
+    pub(crate) fn new(alloc: Global) -> Made
+        ensures { MadeStands result nothing }
+    {
+        Made {
+            alloc,
+            records: MpRecs::new(alloc),
+            lines: MpLines::new(alloc),
+            sends: MpSends::new(alloc),
+            replies: MpLines::new(alloc),
+        }
+    }
+
+    /// One record more, behind its line.
+    pub(crate) fn record(&mut self, rec: MpRec) -> Result<(), NoMemory>
+        requires { FitsRec rec }
+        ensures { OnOk result ((o : Outcome) → MadeStands self.old o → MadeStands self.new (record o { batch = o.batch ++ rec ∷ [] })) }
+    {
+        self.records.push(rec)?;
+        Ok(())
+    }
+
+    /// One line of a record more.
+    pub(crate) fn tell(&mut self, line: MpLine) -> Result<(), NoMemory>
+        ensures { OnOk result ((o : Outcome) → MadeStands self.old o → MadeStands self.new (record o { lines = o.lines ++ line ∷ [] })) }
+    {
+        self.lines.push(line)?;
+        Ok(())
+    }
+
+    /// One message more.
+    pub(crate) fn send(&mut self, to: u32, message: MpMessage) -> Result<(), NoMemory>
+        requires { FitsMessage message }
+        ensures { OnOk result ((o : Outcome) → MadeStands self.old o → MadeStands self.new (record o { sends = o.sends ++ (to, message) ∷ [] })) }
+    {
+        self.sends.push(MpSend { to, message })?;
+        Ok(())
+    }
+
+    /// One reply more.
+    pub(crate) fn reply(&mut self, line: MpLine) -> Result<(), NoMemory>
+        ensures { OnOk result ((o : Outcome) → MadeStands self.old o → MadeStands self.new (record o { replies = o.replies ++ line ∷ [] })) }
+    {
+        self.replies.push(line)?;
+        Ok(())
+    }
+
+    /// Hands all of it out, so that nothing is made.
+    pub(crate) fn take(&mut self) -> Result<MpBatch, NoMemory>
+        ensures { IfOk result (λ batch. (o : Outcome) → MadeStands self.old o → Answers batch o × MadeStands self.new nothing) }
+    {
+        let mut lines = mem::replace(&mut self.lines, MpLines::new(self.alloc));
+        lines.append(&mut self.replies)?;
+        Ok(MpBatch {
+            records: mem::replace(&mut self.records, MpRecs::new(self.alloc)),
+            sends: mem::replace(&mut self.sends, MpSends::new(self.alloc)),
+            lines,
+        })
+    }
+}

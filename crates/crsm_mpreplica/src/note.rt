@@ -1,0 +1,97 @@
+//! What a replica does about leading.
+
+ghost use Rattle.std.specs.Prelude.{◌≡◌, ℕ};
+ghost use Rattle.crsm_mpspec.specs.Log.{Log};
+ghost use Rattle.crsm_mpreplica.specs.Notes.{NoteStands, is_lead, is_lesser};
+ghost use Rattle.crsm_mpspec.specs.Replica.{Note as NoteOnPaper, ended_by, refused_by, without_lead};
+
+use crsm_base::{Ballot, ballot_precedes};
+use crsm_mpspec::{MpAccepts, MpChoices};
+use std::collections::BTreeMap;
+
+/// What a replica answered with its promise.
+#[derive(Debug, Drop)]
+pub struct Report {
+    pub accepted: MpAccepts,
+    pub chosen: MpChoices,
+}
+
+/// A ballot for which promises are asked, of all slots from a first one on.
+#[derive(Drop)]
+pub struct Asking {
+    pub ballot: Ballot,
+    pub start: u64,
+    /// What was reported so far, by replica.
+    pub reports: BTreeMap<u32, Report>,
+}
+
+/// A ballot in which a replica leads.
+#[derive(Drop)]
+pub struct Leading {
+    pub ballot: Ballot,
+    /// The slot of the next command.
+    pub next: u64,
+    /// The slots that were proposed and are not known to be chosen, with those who have accepted.
+    pub open: BTreeMap<u64, Vec<u32>>,
+}
+
+/// What a replica does about leading.
+#[derive(Drop)]
+pub enum Note {
+    Idle,
+    Asking(Asking),
+    Leading(Leading),
+}
+
+/// The replica leads.
+fn is_leading(note: &Note) -> bool
+    ensures { (me : ℕ) (log : Log) (p : NoteOnPaper) → NoteStands note.now me log p → result ≡ is_lead p }
+{
+    matches!(note, Note::Leading(_))
+}
+
+/// The replica asks or leads in a ballot below this one.
+#[tactic(auto, unfolding(crsm_base::specs::Order::ballot_lt))]
+fn is_below(note: &Note, ballot: Ballot) -> bool
+    ensures { (me : ℕ) (log : Log) (p : NoteOnPaper) → NoteStands note.now me log p → result ≡ is_lesser ballot p }
+{
+    match note {
+        Note::Idle => false,
+        Note::Asking(asking) => ballot_precedes(asking.ballot, ballot),
+        Note::Leading(leading) => ballot_precedes(leading.ballot, ballot),
+    }
+}
+
+/// The replica leads no more.
+pub(crate) fn end_lead(note: &mut Note)
+    ensures { (me : ℕ) (log : Log) (p : NoteOnPaper) → NoteStands note.old me log p → NoteStands note.new me log (without_lead p) }
+{
+    if is_leading(note) {
+        *note = Note::Idle;
+    }
+}
+
+/// A ballot is promised: this ends what is under way in a lesser one.
+pub(crate) fn end_below(note: &mut Note, ballot: Ballot)
+    ensures { (me : ℕ) (log : Log) (p : NoteOnPaper) → NoteStands note.old me log p → NoteStands note.new me log (ended_by ballot p) }
+{
+    if is_below(note, ballot) {
+        *note = Note::Idle;
+    }
+}
+
+/// A ballot is promised elsewhere: this ends a lead in a lesser one.
+pub(crate) fn end_lead_below(note: &mut Note, ballot: Ballot)
+    ensures { (me : ℕ) (log : Log) (p : NoteOnPaper) → NoteStands note.old me log p → NoteStands note.new me log (refused_by ballot p) }
+{
+    if is_leading(note) {
+        end_below(note, ballot);
+    }
+}
+
+/// The value of a slot is known: it is not open any more.
+pub(crate) fn close(note: &mut Note, slot: u64) {
+    if let Note::Leading(leading) = note {
+        leading.open.remove(&slot);
+    }
+}

@@ -1,0 +1,173 @@
+//! Records that are made, and their lines.
+
+ghost use Rattle.std.specs.Prelude.{◌≡◌, ◌<◌, ◌++◌, ◌∷◌, [], OnOk, IfOk};
+ghost use Rattle.crsm_base.specs.Spelling.{FitsBallot, FitsCommand, FitsOption};
+ghost use Rattle.crsm_spec.specs.Clock.{u64_max};
+ghost use Rattle.crsm_mpspec.specs.Deciding as deciding;
+ghost use Rattle.crsm_mpspec.specs.Draft as drafts;
+ghost use Rattle.crsm_mpspec.specs.Records.{FitsRec};
+ghost use Rattle.crsm_mpspec.specs.declared.line.MpLine.{MpLine as Line};
+ghost use Rattle.crsm_mpspec.specs.declared.rec.MpRec.{MpRec as Record};
+ghost use Rattle.crsm_mpledger.specs.MpLedger.{MpLedgerStands, WhereLedger};
+ghost use Rattle.crsm_mpledger.specs.Sound.{MayFollow};
+ghost use Rattle.crsm_mpreplica.specs.Made.{MadeStands, Outcome};
+ghost use Rattle.crsm_mpreplica.specs.State.{Makes};
+
+use crate::made::Made;
+use crate::note::{Note, close, end_below};
+use crate::state::MpReplica;
+use crsm_base::{Ballot, Command, NoMemory, never};
+use crsm_mpledger::MpLedger;
+use crsm_mpspec::{MpLine, MpRec, copy_value};
+
+/// Keeps a record, with its own line.
+fn keep(ledger: &mut MpLedger, made: &mut Made, rec: MpRec, line: MpLine) -> Result<(), NoMemory>
+    requires { FitsRec rec }
+    ensures ledger { OnOk result (WhereLedger ledger.old (λ log. MayFollow log rec → MpLedgerStands ledger.new (rec ∷ log))) }
+    ensures made { OnOk result ((o : Outcome) → MadeStands made.old o → MadeStands made.new (record o { batch = o.batch ++ rec ∷ []; lines = o.lines ++ line ∷ [] })) }
+{
+    made.tell(line)?;
+    ledger.follow(&rec)?;
+    made.record(rec)?;
+    Ok(())
+}
+
+impl MpReplica {
+    /// Promises a ballot.
+    pub fn promise(&mut self, ballot: Ballot) -> Result<(), NoMemory>
+        requires { FitsBallot ballot }
+        ensures { Makes (drafts.keep (Record.Promise ballot)) self.old result self.new }
+    {
+        let line = MpLine::Promise {
+            replica: self.me,
+            round: ballot.round,
+            by: ballot.by,
+        };
+        keep(
+            &mut self.ledger,
+            &mut self.made,
+            MpRec::Promise { ballot },
+            line,
+        )?;
+        end_below(&mut self.note, ballot);
+        Ok(())
+    }
+
+    /// Accepts a value, told by this line.
+    fn accept_as(
+        &mut self,
+        line: MpLine,
+        slot: u64,
+        ballot: Ballot,
+        value: Option<Command>,
+    ) -> Result<(), NoMemory>
+        requires slot { slot < u64_max }
+        requires ballot { FitsBallot ballot }
+        requires value { FitsOption FitsCommand value }
+        ensures { Makes (drafts.keep_as line (Record.Accept slot ballot value)) self.old result self.new }
+    {
+        let rec = MpRec::Accept {
+            slot,
+            ballot,
+            value,
+        };
+        keep(&mut self.ledger, &mut self.made, rec, line)?;
+        end_below(&mut self.note, ballot);
+        Ok(())
+    }
+
+    /// Accepts a value, which no client of this replica has asked for.
+    pub fn accept(
+        &mut self,
+        slot: u64,
+        ballot: Ballot,
+        value: &Option<Command>,
+    ) -> Result<(), NoMemory>
+        requires slot { slot < u64_max }
+        requires ballot { FitsBallot ballot }
+        requires value { FitsOption FitsCommand value.now }
+        ensures { Makes (drafts.keep (Record.Accept slot ballot value.now)) self.old result self.new }
+    {
+        let line = MpLine::Accept {
+            replica: self.me,
+            slot,
+            round: ballot.round,
+            by: ballot.by,
+        };
+        let value = copy_value(self.alloc, value)?;
+        self.accept_as(line, slot, ballot, value)?;
+        Ok(())
+    }
+
+    /// Accepts a client's command.
+    pub fn submit(&mut self, slot: u64, ballot: Ballot, command: &Command) -> Result<(), NoMemory>
+        requires slot { slot < u64_max }
+        requires ballot { FitsBallot ballot }
+        requires command { FitsCommand command.now }
+    {
+        let line = MpLine::Submit {
+            replica: self.me,
+            slot,
+            round: ballot.round,
+            by: ballot.by,
+            client: command.client,
+            number: command.number,
+        };
+        let value = Some(command.copy(self.alloc)?);
+        self.accept_as(line, slot, ballot, value)?;
+        Ok(())
+    }
+
+    /// The value of a slot is known to be chosen, unless it was before: it is executed, and what follows it, once all before it
+    /// are.
+    pub fn choose(&mut self, slot: u64, value: &Option<Command>) -> Result<(), NoMemory>
+        requires slot { slot < u64_max }
+        requires value { FitsOption FitsCommand value.now }
+        ensures { Makes (deciding.choose slot value.now) self.old result self.new }
+    {
+        if self.ledger.is_chosen(slot) {
+            return Ok(());
+        }
+        let before = self.ledger.executed_len();
+        let value = copy_value(self.alloc, value)?;
+        let line = MpLine::Choose {
+            replica: self.me,
+            slot,
+        };
+        keep(
+            &mut self.ledger,
+            &mut self.made,
+            MpRec::Choose { slot, value },
+            line,
+        )?;
+        close(&mut self.note, slot);
+        self.tell_executed(before)?;
+        Ok(())
+    }
+
+    /// Tells of what is executed from a slot on.
+    fn tell_executed(&mut self, first: u64) -> Result<(), NoMemory> {
+        for slot in first..self.ledger.executed_len() {
+            let line = self.exec_line(slot)?;
+            self.made.tell(line)?;
+        }
+        Ok(())
+    }
+
+    /// The line of an executed slot.
+    fn exec_line(&self, slot: u64) -> Result<MpLine, NoMemory> {
+        let replica = self.me;
+        match (self.ledger.executed(slot), self.ledger.answer(slot)) {
+            (Some(Some(command)), Some(Some(answer))) => Ok(MpLine::Exec {
+                replica,
+                slot,
+                client: command.client,
+                number: command.number,
+                answer: answer.copy(self.alloc)?,
+            }),
+            (Some(None), _) => Ok(MpLine::ExecNoop { replica, slot }),
+            // It is executed.
+            _ => Err(never()),
+        }
+    }
+}

@@ -1,0 +1,42 @@
+//! Messages to other replicas, and replies to clients.
+
+ghost use Rattle.crsm_mpspec.specs.Draft as drafts;
+ghost use Rattle.crsm_mpreplica.specs.Fitting.{FitsMessage};
+ghost use Rattle.crsm_mpreplica.specs.State.{Makes};
+
+use crate::state::MpReplica;
+use crsm_base::NoMemory;
+use crsm_mpspec::{MpLine, MpMessage};
+
+impl MpReplica {
+    /// Sends a message to a replica.
+    pub fn send(&mut self, to: u32, message: MpMessage) -> Result<(), NoMemory>
+        requires { FitsMessage message }
+        ensures { Makes (λ x. drafts.send message x to) self.old result self.new }
+    {
+        self.made.send(to, message)?;
+        Ok(())
+    }
+
+    /// Sends a message to each other replica.
+    pub fn send_to_others(&mut self, message: &MpMessage) -> Result<(), NoMemory>
+        requires { FitsMessage message.now }
+        ensures { Makes (drafts.send_to_others message.now) self.old result self.new }
+    {
+        for to in 0..self.n {
+            if to != self.me {
+                let copy = message.copy(self.alloc)?;
+                self.send(to, copy)?;
+            }
+        }
+        Ok(())
+    }
+
+    /// Replies to a client.
+    pub fn reply(&mut self, line: MpLine) -> Result<(), NoMemory>
+        ensures { Makes (drafts.reply line) self.old result self.new }
+    {
+        self.made.reply(line)?;
+        Ok(())
+    }
+}

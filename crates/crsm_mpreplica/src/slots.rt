@@ -1,0 +1,34 @@
+//! Maps to which slots are added in ascending order.
+
+ghost use Rattle.std.specs.Prelude.{◌≡◌, ◌<◌, ◌++◌, ◌∷◌, [], IsTrue, OnOk};
+ghost use Rattle.std.specs.List.{All};
+ghost use Rattle.std.specs.BTreeMap.{keys};
+
+use crsm_base::{NoMemory, never};
+use std::collections::BTreeMap;
+
+/// The slot is behind all of a map.
+fn is_behind<V>(map: &BTreeMap<u64, V>, slot: u64) -> bool
+    ensures { IsTrue result → All (λ other. other < slot) (keys map.now) }
+{
+    match map.last_key_value() {
+        Some((last, _)) => *last < slot,
+        None => true,
+    }
+}
+
+/// Adds a value at a slot behind all others.
+pub(crate) fn push_slot<V: Drop>(
+    map: &mut BTreeMap<u64, V>,
+    slot: u64,
+    value: V,
+) -> Result<(), NoMemory>
+    ensures { OnOk result (map.new.entries ≡ map.old.entries ++ (slot, value) ∷ []) }
+{
+    if !is_behind(map, slot) {
+        // A leader takes one slot after the other.
+        return Err(never());
+    }
+    map.insert(slot, value)?;
+    Ok(())
+}
