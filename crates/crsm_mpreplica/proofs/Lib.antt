@@ -1,4 +1,5 @@
 mod MadeLemmas
 mod SlotMaps
+mod ExecLemmas
 mod NoteLemmas
 mod StateLemmas

@@ -1,10 +1,15 @@
 //! Records that are made, and their lines.
 
-ghost use Rattle.std.specs.Prelude.{◌≡◌, ◌<◌, ◌++◌, ◌∷◌, [], OnOk, IfOk};
+ghost use Rattle.std.specs.Prelude.{◌≡◌, ◌<◌, ◌≤◌, ◌++◌, ◌∷◌, [], List, Some, length, slice_get, take, drop, OnOk, IfOk};
+ghost use Rattle.std.specs.Option.{option_map};
 ghost use Rattle.crsm_base.specs.Spelling.{FitsBallot, FitsCommand, FitsOption};
 ghost use Rattle.crsm_spec.specs.Clock.{u64_max};
 ghost use Rattle.crsm_mpspec.specs.Deciding as deciding;
 ghost use Rattle.crsm_mpspec.specs.Draft as drafts;
+ghost use Rattle.crsm_mpspec.specs.Draft.{exec_lines};
+ghost use Rattle.crsm_mpspec.specs.Log.{Log, executed};
+ghost use Rattle.crsm_mpspec.specs.Types.{Value};
+ghost use Rattle.crsm_mpspec.specs.Values.{answer_after};
 ghost use Rattle.crsm_mpspec.specs.Records.{FitsRec};
 ghost use Rattle.crsm_mpspec.specs.declared.line.MpLine.{MpLine as Line};
 ghost use Rattle.crsm_mpspec.specs.declared.rec.MpRec.{MpRec as Record};
@@ -16,9 +21,10 @@ ghost use Rattle.crsm_mpreplica.specs.State.{Makes};
 use crate::made::Made;
 use crate::note::{Note, close, end_below};
 use crate::state::MpReplica;
-use crsm_base::{Ballot, Command, NoMemory, never};
-use crsm_mpledger::MpLedger;
+use crsm_base::{Answer, Ballot, Command, NoMemory, never};
+use crsm_mpledger::{MpLedger, answers_are_by_slot};
 use crsm_mpspec::{MpLine, MpRec, copy_value};
+use std::alloc::Global;
 
 /// Keeps a record, with its own line.
 fn keep(ledger: &mut MpLedger, made: &mut Made, rec: MpRec, line: MpLine) -> Result<(), NoMemory>
@@ -141,33 +147,67 @@ impl MpReplica {
             line,
         )?;
         close(&mut self.note, slot);
-        self.tell_executed(before)?;
+        tell_executed(self.alloc, self.me, &self.ledger, &mut self.made, before)?;
         Ok(())
     }
+}
 
-    /// Tells of what is executed from a slot on.
-    fn tell_executed(&mut self, first: u64) -> Result<(), NoMemory> {
-        for slot in first..self.ledger.executed_len() {
-            let line = self.exec_line(slot)?;
-            self.made.tell(line)?;
-        }
-        Ok(())
+/// Tells of what is executed from a slot on.
+fn tell_executed(
+    alloc: Global,
+    me: u32,
+    ledger: &MpLedger,
+    made: &mut Made,
+    first: u64,
+) -> Result<(), NoMemory>
+    ensures { OnOk result ((log : Log) (o : Outcome) → MpLedgerStands ledger.now log → first ≤ length (executed log) → MadeStands made.old o →
+        MadeStands made.new (record o { lines = o.lines ++ exec_lines me (take first (executed log)) (drop first (executed log)) })) }
+{
+    for slot in first..ledger.executed_len() {
+        let line = exec_line(alloc, me, ledger, slot)?;
+        made.tell(line)?;
     }
+    Ok(())
+}
 
-    /// The line of an executed slot.
-    fn exec_line(&self, slot: u64) -> Result<MpLine, NoMemory> {
-        let replica = self.me;
-        match (self.ledger.executed(slot), self.ledger.answer(slot)) {
-            (Some(Some(command)), Some(Some(answer))) => Ok(MpLine::Exec {
-                replica,
-                slot,
-                client: command.client,
-                number: command.number,
-                answer: answer.copy(self.alloc)?,
-            }),
-            (Some(None), _) => Ok(MpLine::ExecNoop { replica, slot }),
-            // It is executed.
-            _ => Err(never()),
-        }
-    }
+/// The line of an executed slot.
+fn exec_line(alloc: Global, me: u32, ledger: &MpLedger, slot: u64) -> Result<MpLine, NoMemory>
+    ensures { IfOk result (λ line. (log : Log) (v : Value) → MpLedgerStands ledger.now log → slice_get (executed log) slot ≡ Some v →
+        line ≡ drafts.exec_line me (take slot (executed log)) v) }
+{
+    answers_are_by_slot();
+    let (Some(value), Some(answer)) = (ledger.executed(slot), ledger.answer(slot)) else {
+        // It is executed.
+        return Err(never());
+    };
+    let line = line_of(alloc, me, slot, value, answer)?;
+    Ok(line)
+}
+
+#[tactic(auto, unfolding(crsm_mpspec::specs::Draft::exec_line))]
+/// The line of a value that is executed at a slot, with the answer of the store.
+fn line_of(
+    alloc: Global,
+    replica: u32,
+    slot: u64,
+    value: &Option<Command>,
+    answer: &Option<Answer>,
+) -> Result<MpLine, NoMemory>
+    ensures { IfOk result (λ line. (done : List Value) → slot ≡ length done → answer.now ≡ option_map (answer_after done) value.now →
+        line ≡ drafts.exec_line replica done value.now) }
+{
+    let Some(command) = value else {
+        return Ok(MpLine::ExecNoop { replica, slot });
+    };
+    let Some(answer) = answer else {
+        // A command has an answer.
+        return Err(never());
+    };
+    Ok(MpLine::Exec {
+        replica,
+        slot,
+        client: command.client,
+        number: command.number,
+        answer: answer.copy(alloc)?,
+    })
 }
