@@ -3,3 +3,5 @@ mod SlotMaps
 mod ExecLemmas
 mod NoteLemmas
 mod StateLemmas
+mod CloseLemmas
+mod ChooseLemmas

@@ -1,9 +1,11 @@
 //! What a replica does about leading.
 
-ghost use Rattle.std.specs.Prelude.{◌≡◌, ℕ};
+ghost use Rattle.std.specs.Prelude.{◌≡◌, ℕ, ◌∷◌};
 ghost use Rattle.crsm_mpspec.specs.Log.{Log};
 ghost use Rattle.crsm_mpreplica.specs.Notes.{NoteStands, is_lead, is_lesser};
 ghost use Rattle.crsm_mpspec.specs.Replica.{Note as NoteOnPaper, ended_by, refused_by, without_lead};
+ghost use Rattle.crsm_mpspec.specs.Types.{Value};
+ghost use Rattle.crsm_mpspec.specs.declared.rec.MpRec.{MpRec as Record};
 
 use crsm_base::{Ballot, ballot_precedes};
 use crsm_mpspec::{MpAccepts, MpChoices};
@@ -90,7 +92,9 @@ pub(crate) fn end_lead_below(note: &mut Note, ballot: Ballot)
 }
 
 /// The value of a slot is known: it is not open any more.
-pub(crate) fn close(note: &mut Note, slot: u64) {
+pub(crate) fn close(note: &mut Note, slot: u64)
+    ensures { (me : ℕ) (log : Log) (v : Value) (p : NoteOnPaper) → NoteStands note.old me log p → NoteStands note.new me (Record.Choose slot v ∷ log) p }
+{
     if let Note::Leading(leading) = note {
         leading.open.remove(&slot);
     }

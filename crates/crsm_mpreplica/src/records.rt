@@ -22,7 +22,7 @@ use crate::made::Made;
 use crate::note::{Note, close, end_below};
 use crate::state::MpReplica;
 use crsm_base::{Answer, Ballot, Command, NoMemory, never};
-use crsm_mpledger::{MpLedger, answers_are_by_slot};
+use crsm_mpledger::{MpLedger, answers_are_by_slot, executed_lists_grow};
 use crsm_mpspec::{MpLine, MpRec, copy_value};
 use std::alloc::Global;
 
@@ -134,6 +134,7 @@ impl MpReplica {
         if self.ledger.is_chosen(slot) {
             return Ok(());
         }
+        executed_lists_grow();
         let before = self.ledger.executed_len();
         let value = copy_value(self.alloc, value)?;
         let line = MpLine::Choose {
