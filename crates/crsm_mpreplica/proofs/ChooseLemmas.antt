@@ -1,11 +1,10 @@
 -- A value that gets chosen, and what is executed then.
-use Rattle.std.proofs.Common.{◌≡◌, ℕ, zero, suc, ◌≤◌, List, [], ◌∷◌, ◌++◌, length, take, drop, refl, ap, sym, ◌∙◌, arith}
+use Rattle.std.proofs.Common.{◌≡◌, ℕ, ◌≤◌, List, [], ◌∷◌, ◌++◌, length, take, drop, refl, ap, arith}
 use Rattle.crsm_mpspec.specs.declared.line.MpLine.{MpLine}
 use Rattle.crsm_mpspec.specs.declared.rec.MpRec.{MpRec}
 use Rattle.crsm_mpspec.specs.Types.{Value}
 use Rattle.crsm_mpspec.specs.Draft.{Draft, exec_lines, executions, keep, keep_as, line_of}
-use Rattle.crsm_mpspec.specs.Log.{Log, executed}
-use Rattle.crsm_mpspec.specs.Replica.{Replica}
+use Rattle.crsm_mpspec.specs.Log.{executed}
 use Rattle.crsm_mpreplica.specs.Made.{outcome_of}
 
 tail_of : {X : Type 0} → List X → List X
@@ -30,10 +29,10 @@ joined (x ∷ xs) l ys = ap (λ (zs : List _). x ∷ zs) (joined xs l ys)
 pub choose-tells : (x : Draft) (slot : ℕ) (v : Value) (me before : ℕ) → me ≡ x.replica.me → before ≡ length (executed x.replica.log)
     → take (length (executed x.replica.log)) (executed (MpRec.Choose slot v ∷ x.replica.log)) ≡ executed x.replica.log
     → record (outcome_of x) {
-        batch = x.batch ++ MpRec.Choose slot v ∷ [];
-        lines = (x.lines ++ MpLine.Choose me slot ∷ [])
-          ++ exec_lines me (take before (executed (MpRec.Choose slot v ∷ x.replica.log))) (drop before (executed (MpRec.Choose slot v ∷ x.replica.log)))
-      } ≡ outcome_of (keep (MpRec.Choose slot v) x)
+      batch = x.batch ++ MpRec.Choose slot v ∷ [];
+      lines = (x.lines ++ MpLine.Choose me slot ∷ [])
+          ++ exec_lines me (take before (executed (MpRec.Choose slot v ∷ x.replica.log))) (drop before (executed (MpRec.Choose slot v ∷ x.replica.log)));
+    } ≡ outcome_of (keep (MpRec.Choose slot v) x)
 unfolding keep keep_as line_of executions
 choose-tells x slot v me before is at grows =
     rw (is, at, grows) (ap (λ (ls : List MpLine). record (outcome_of x) { batch = x.batch ++ MpRec.Choose slot v ∷ []; lines = ls }) (joined x.lines (MpLine.Choose x.replica.me slot) _))

@@ -1,5 +1,5 @@
 -- A slot whose value is known is not open.
-use Rattle.std.proofs.Common.{BTreeMap, Vec, Global, ◌≡◌, ℕ, Bool, true, false, List, [], ◌∷◌, None, refl, ap, sym, subst, ◌∙◌, arith}
+use Rattle.std.proofs.Common.{BTreeMap, Vec, Global, ◌≡◌, ℕ, Bool, true, false, List, [], ◌∷◌, None, refl, ap, subst, ◌∙◌, arith}
 use Rattle.std.specs.Prelude.{◌==◌, not, map, filter, Option, Some, is_some, cond}
 use Rattle.std.specs.Map.{lookup, remove_entry}
 use Rattle.std.specs.BTreeMap.{is_at}
@@ -34,9 +34,9 @@ module _ {X Y : Type 0} (test : ℕ → Bool) (g : X → Y) where
       → map (λ (e : ℕ × X). (e.0, g e.1)) (remove_entry test (e ∷ es)) ≡ filter (λ (e : ℕ × Y). not (test e.0)) (map (λ (e : ℕ × X). (e.0, g e.1)) (e ∷ es))
   removed-at e es true is none more = rw (is) (none-others es (subst (λ b. lookup test (cond b es (e ∷ remove_entry test es)) ≡ None) is none))
   removed-at e es false is none more =
-    rw (is)
-    (ap (λ (xs : List (ℕ × Y)). (e.0, g e.1) ∷ xs)
-    (more (subst (λ b. cond b (Some e.1) (lookup test (remove_entry test es)) ≡ None) is (subst (λ b. lookup test (cond b es (e ∷ remove_entry test es)) ≡ None) is none))))
+      rw (is)
+      (ap (λ (xs : List (ℕ × Y)). (e.0, g e.1) ∷ xs)
+      (more (subst (λ b. cond b (Some e.1) (lookup test (remove_entry test es)) ≡ None) is (subst (λ b. lookup test (cond b es (e ∷ remove_entry test es)) ≡ None) is none))))
 
   -- where no key passes after the first one that did is removed, all that do not pass are left
   pub removed-others : (es : List (ℕ × X)) → lookup test (remove_entry test es) ≡ None → map (λ (e : ℕ × X). (e.0, g e.1)) (remove_entry test es) ≡ filter (λ (e : ℕ × Y). not (test e.0)) (map (λ (e : ℕ × X). (e.0, g e.1)) es)
@@ -92,12 +92,12 @@ closed l rest slot me log v (NoteOnPaper.Leading b start next reports votes) rem
       ballot = s.ballot;
       next_is = s.next_is;
       open_are =
-        ap (map (λ (e : ℕ × Vec ℕ Global). (e.0, e.1.items))) removed
-        ∙ removed-others (is_at (nat_cmp slot)) (λ (w : Vec ℕ Global). w.items) l.open.entries (subst (λ es. lookup (is_at (nat_cmp slot)) es ≡ None) removed gone)
-        ∙ ap (filter (λ (e : ℕ × List ℕ). not (is_at (nat_cmp slot) e.0))) s.open_are
-        ∙ open-choose slot v me log votes;
+          ap (map (λ (e : ℕ × Vec ℕ Global). (e.0, e.1.items))) removed
+          ∙ removed-others (is_at (nat_cmp slot)) (λ (w : Vec ℕ Global). w.items) l.open.entries (subst (λ es. lookup (is_at (nat_cmp slot)) es ≡ None) removed gone)
+          ∙ ap (filter (λ (e : ℕ × List ℕ). not (is_at (nat_cmp slot) e.0))) s.open_are
+          ∙ open-choose slot v me log votes;
       proposed = s.proposed;
-      ballot_fits = s.ballot_fits
+      ballot_fits = s.ballot_fits;
     }
 closed l rest slot me log v NoteOnPaper.Idle removed gone s = absurd s
 closed l rest slot me log v (NoteOnPaper.Asking b start reports) removed gone s = absurd s

@@ -1,5 +1,5 @@
 -- The lines of what is executed, one slot more.
-use Rattle.std.proofs.Common.{◌≡◌, ℕ, zero, suc, ◌+◌, ◌-◌, ◌≤◌, List, [], ◌∷◌, ◌++◌, length, Some, refl, ap, sym, ◌∙◌, append_assoc, arith}
+use Rattle.std.proofs.Common.{◌≡◌, ℕ, zero, suc, ◌+◌, ◌-◌, ◌≤◌, List, [], ◌∷◌, ◌++◌, Some, refl, ap, sym, ◌∙◌, append_assoc, arith}
 use Rattle.std.specs.Prelude.{Option, slice_get, take, drop}
 use Rattle.crsm_log_facts.proofs.Lists.{append-none}
 use Rattle.crsm_mpspec.specs.declared.line.MpLine.{MpLine}

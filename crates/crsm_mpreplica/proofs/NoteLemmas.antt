@@ -1,12 +1,9 @@
 -- Notes that end.
-use Rattle.std.proofs.Common.{◌≡◌, ℕ, Bool, true, false, refl, sym}
-use Rattle.crsm_base.specs.Order.{ballot_lt}
+use Rattle.std.proofs.Common.{◌≡◌, Bool, true, false, refl}
 use Rattle.crsm_spec.specs.Choice.{when◌then◌otherwise◌}
 use Rattle.crsm_mpspec.specs.Types.{Ballot}
-use Rattle.crsm_mpspec.specs.Log.{Log}
 use Rattle.crsm_mpspec.specs.Replica.{Note as NoteOnPaper, ended_by, refused_by, without_lead}
-use Rattle.crsm_mpreplica.specs.declared.note.Note.{Note}
-use Rattle.crsm_mpreplica.specs.Notes.{NoteStands, is_lead, is_lesser}
+use Rattle.crsm_mpreplica.specs.Notes.{is_lead, is_lesser}
 
 pub led-over : (p : NoteOnPaper) → is_lead p ≡ true → without_lead p ≡ NoteOnPaper.Idle
 unfolding without_lead

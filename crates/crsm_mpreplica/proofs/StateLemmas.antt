@@ -1,5 +1,5 @@
 -- What a state stands for, one change more.
-use Rattle.std.proofs.Common.{◌≡◌, ℕ, zero, suc, ◌+◌, List, [], ◌∷◌, ◌++◌, length, drop, refl, ap, sym, subst, ◌∙◌, arith}
+use Rattle.std.proofs.Common.{◌≡◌, ℕ, zero, suc, ◌+◌, List, [], ◌∷◌, ◌++◌, length, drop, refl, ap, ◌∙◌}
 use Rattle.std.specs.Prelude.{Bool, true, false, ◌==◌, not, filter, fold, map, if◌then◌else◌}
 use Rattle.std.proofs.lemmas.Grind.{fold-append}
 use Rattle.crsm_log_facts.proofs.Lists.{filter-push}
@@ -9,12 +9,12 @@ use Rattle.crsm_mpreplica.proofs.SlotMaps.{numbers-snoc}
 use Rattle.crsm_mpspec.specs.declared.message.MpMessage.{MpMessage}
 use Rattle.crsm_mpspec.specs.declared.line.MpLine.{MpLine}
 use Rattle.crsm_mpspec.specs.declared.rec.MpRec.{MpRec}
-use Rattle.crsm_mpspec.specs.Log.{Log, choices, chosen_at, is_chosen, at_slot, end, executed, run_from}
+use Rattle.crsm_mpspec.specs.Log.{Log, choices, chosen_at, is_chosen, end, executed, run_from}
 use Rattle.crsm_mpspec.specs.Draft.{Draft, exec_lines, executions, keep, keep_as, line_of, send, send_to_each}
 use Rattle.crsm_mpspec.specs.Replica.{Note as NoteOnPaper, slots_of}
 use Rattle.crsm_mpreplica.specs.declared.note.Note.{Note}
 use Rattle.crsm_mpreplica.specs.Made.{outcome_of}
-use Rattle.crsm_mpreplica.specs.Notes.{NoteStands, IsLeading, open_of, with_voters}
+use Rattle.crsm_mpreplica.specs.Notes.{NoteStands, open_of, with_voters}
 
 -- whatever is open over one log is open over another of the same choices
 open-same : (k : ℕ) (log other : Log) (votes : List (ℕ × ℕ)) → ((s : ℕ) → is_chosen s log ≡ is_chosen s other) → open_of k log votes ≡ open_of k other votes

@@ -1,5 +1,5 @@
 -- What a replica is at, in memory.
-use Rattle.std.specs.Prelude.{◌≡◌, ℕ, ◌<◌, Bool, true, false, not, IsTrue, List, [], ◌∷◌, map, filter}
+use Rattle.std.specs.Prelude.{◌≡◌, ℕ, Bool, true, false, not, IsTrue, List, map, filter}
 use Rattle.std.specs.List.{AllByRecursion}
 use Rattle.crsm_base.specs.Order.{ballot_lt}
 use Rattle.crsm_base.specs.Spelling.{FitsBallot}

@@ -1,5 +1,5 @@
 -- What the state of a replica stands for.
-use Rattle.std.specs.Prelude.{◌≡◌, ℕ, Bool, List, map, Result, IfOk, if◌then◌else◌}
+use Rattle.std.specs.Prelude.{◌≡◌, ℕ, map, Result, IfOk}
 use Rattle.crsm_base.specs.declared.memory.NoMemory.{NoMemory}
 use Rattle.crsm_mpspec.specs.Types.{Command}
 use Rattle.crsm_mpspec.specs.Replica.{Waiting}

@@ -1,5 +1,4 @@
 use Rattle.std.proofs.Common.{◌∙◌, sym}
-use Rattle.crsm_mpreplica.specs.Notes.{NoteStands}
 use Rattle.crsm_mpreplica.proofs.NoteLemmas.{ended, ended-not}
 use Rattle.crsm_mpreplica.proofs.note.end_below.Goals as goal
 

@@ -1,5 +1,4 @@
-use Rattle.std.proofs.Common.{◌∙◌, sym, subst}
-use Rattle.crsm_mpreplica.specs.Notes.{NoteStands}
+use Rattle.std.proofs.Common.{◌∙◌, sym}
 use Rattle.crsm_mpreplica.proofs.NoteLemmas.{led-over, led-on}
 use Rattle.crsm_mpreplica.proofs.note.end_lead.Goals as goal
 

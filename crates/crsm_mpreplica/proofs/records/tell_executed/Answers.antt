@@ -1,4 +1,4 @@
-use Rattle.std.proofs.Common.{◌≡◌, ◌∙◌, ◌++◌, ◌∷◌, [], ◌-◌, List, length, ap, sym, subst, arith}
+use Rattle.std.proofs.Common.{◌≡◌, ◌∙◌, ◌++◌, ◌∷◌, [], ◌-◌, List, length, ap, subst, arith}
 use Rattle.std.specs.Prelude.{take, drop}
 use Rattle.crsm_log_facts.proofs.Lists.{get_some, take-rest}
 use Rattle.crsm_mpspec.specs.declared.line.MpLine.{MpLine}

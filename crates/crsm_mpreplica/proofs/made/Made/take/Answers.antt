@@ -1,4 +1,4 @@
-use Rattle.std.proofs.Common.{◌≡◌, ◌++◌, ◌∙◌, List, refl, ap}
+use Rattle.std.proofs.Common.{◌++◌, ◌∙◌, List, ap}
 use Rattle.crsm_mpspec.specs.declared.line.MpLine.{MpLine}
 use Rattle.crsm_mpreplica.proofs.made.Made.take.Goals as goal
 

@@ -1,15 +1,13 @@
-use Rattle.std.proofs.Common.{◌∙◌, ◌≡◌, ◌∷◌, ◌++◌, [], length, refl, sym, subst, arith}
+use Rattle.std.proofs.Common.{◌∙◌, ◌∷◌, ◌++◌, [], sym, subst, arith}
 use Rattle.crsm_base.specs.Spelling.{FitsCommand, FitsOption}
 use Rattle.crsm_spec.specs.Choice.{when◌then◌otherwise◌}
 use Rattle.crsm_mpspec.specs.declared.line.MpLine.{MpLine}
 use Rattle.crsm_mpspec.specs.declared.rec.MpRec.{MpRec}
-use Rattle.crsm_mpspec.specs.Types.{Value}
 use Rattle.crsm_mpspec.specs.Draft.{keep, keep_as, line_of}
 use Rattle.crsm_mpspec.specs.Deciding.{choose}
 use Rattle.crsm_mpspec.specs.Log.{executed}
 use Rattle.crsm_mpspec.specs.Replica.{note_after}
 use Rattle.crsm_mpreplica.specs.Made.{MadeStands, outcome_of}
-use Rattle.crsm_mpreplica.specs.State.{MpReplicaStands}
 use Rattle.crsm_mpreplica.proofs.ChooseLemmas.{prefix-len, choose-tells}
 use Rattle.crsm_mpreplica.proofs.state.MpReplica.choose.Goals as goal
 
@@ -28,9 +26,9 @@ returns c x s =
     let grows = c.executed_lists_grow.ensures slot w log unchosen in
     let follows = c.in_ok-keep.ensures.ledger log s.ledger (c.requires.slot, subst (FitsOption FitsCommand) (sym c.in_ok-value.ensures) c.requires.value, unchosen) in
     let made =
-      c.in_ok-tell_executed.ensures (MpRec.Choose slot w ∷ log)
-      (record (outcome_of x) { batch = x.batch ++ MpRec.Choose slot w ∷ []; lines = x.lines ++ MpLine.Choose c.args.self.now.me slot ∷ [] })
-      follows (omega (arith, before, prefix-len (executed log) (executed (MpRec.Choose slot w ∷ log)) grows)) (c.in_ok-keep.ensures.made (outcome_of x) s.made) in
+    c.in_ok-tell_executed.ensures (MpRec.Choose slot w ∷ log)
+    (record (outcome_of x) { batch = x.batch ++ MpRec.Choose slot w ∷ []; lines = x.lines ++ MpLine.Choose c.args.self.now.me slot ∷ [] })
+    follows (omega (arith, before, prefix-len (executed log) (executed (MpRec.Choose slot w ∷ log)) grows)) (c.in_ok-keep.ensures.made (outcome_of x) s.made) in
     rw (unchosen, ← c.in_ok-value.ensures)
     (record {
       me = s.me;

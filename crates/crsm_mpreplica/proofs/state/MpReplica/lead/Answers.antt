@@ -1,4 +1,4 @@
-use Rattle.std.proofs.Common.{◌∙◌, ℕ, List, refl, ap}
+use Rattle.std.proofs.Common.{refl, ap}
 use Rattle.std.specs.Prelude.{map}
 use Rattle.crsm_mpspec.specs.Draft.{noting}
 use Rattle.crsm_mpspec.specs.Replica.{slots_of}

@@ -1,4 +1,4 @@
-use Rattle.std.proofs.Common.{◌≡◌, subst, arith}
+use Rattle.std.proofs.Common.{subst, arith}
 use Rattle.crsm_mpspec.specs.Draft.{noting}
 use Rattle.crsm_mpreplica.specs.declared.note.Note.{Note}
 use Rattle.crsm_mpreplica.specs.Notes.{NoteStands, IsLeading}

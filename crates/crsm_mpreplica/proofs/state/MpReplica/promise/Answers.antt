@@ -1,5 +1,4 @@
-use Rattle.std.proofs.Common.{◌++◌, ◌∷◌, [], refl, ap, sym, subst}
-use Rattle.crsm_mpspec.specs.declared.line.MpLine.{MpLine}
+use Rattle.std.proofs.Common.{◌∷◌, refl, subst}
 use Rattle.crsm_mpspec.specs.declared.rec.MpRec.{MpRec}
 use Rattle.crsm_mpspec.specs.Draft.{keep, keep_as, line_of}
 use Rattle.crsm_mpspec.specs.Log.{is_chosen, chosen_at, choices}
