@@ -13,8 +13,9 @@ use std::alloc::Global;
 /// receiver acknowledges each frame and takes none behind one that is missing; over a socket with a short buffer this drowns
 /// what is new. So
 ///
-/// - a frame that went out less than 20 milliseconds ago does not go out again, and then less than 40, 80 and 160; or
-///   1 millisecond where its receiver has said twice that it expects the same frame and this is one of 32 from there on;
+/// - a frame that went out less than 20 milliseconds ago does not go out again, and then less than 40, 80 and 160; the
+///   first time 1 millisecond where its receiver has said twice that it expects the same frame and this is one of 32 from
+///   there on;
 /// - a part does not go out again to the same address within 20 milliseconds, whatever the number of its message: what a
 ///   replica says of epochs it says again at each tick;
 /// - acknowledgements wait for the next receive, and of those to one address only the last goes out;

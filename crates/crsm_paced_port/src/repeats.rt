@@ -9,8 +9,8 @@ const REPLICAS: usize = 15;
 const WINDOW: usize = 4096;
 
 /// A frame goes out again after so many microseconds, and after twice as many each time that follows, three times: its
-/// receiver may be busy. It does after the second number where its receiver has said twice that it expects the same frame,
-/// so that one is missing there, and this is one of so many from that frame on.
+/// receiver may be busy, or far away. The first time it goes after the second number where its receiver has said twice that
+/// it expects the same frame, so that one is missing there, and this is one of so many from that frame on.
 const PACE: u64 = 20_000;
 
 const MOST_DOUBLED: u32 = 3;
@@ -39,7 +39,7 @@ struct Expected {
 impl Last {
     /// How long after it went out it may go again.
     fn pace(&self, is_missed: bool) -> u64 {
-        if is_missed {
+        if is_missed && self.again == 0 {
             HASTE
         } else {
             PACE << self.again.min(MOST_DOUBLED)
