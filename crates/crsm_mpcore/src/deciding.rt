@@ -1,0 +1,106 @@
+//! How a slot is decided: a leader proposes, the others accept, and a majority of votes chooses.
+
+use crsm_base::{Ballot, Command, NoMemory, ballot_precedes};
+use crsm_mpreplica::MpReplica;
+use crsm_mpspec::{MpMessage, copy_value};
+
+/// Proposes what an earlier ballot may have proposed at a slot, or a noop.
+pub(crate) fn propose(
+    state: &mut MpReplica,
+    ballot: Ballot,
+    slot: u64,
+    value: &Option<Command>,
+) -> Result<(), NoMemory> {
+    state.accept(slot, ballot, value)?;
+    ask_to_accept(state, ballot, slot, value)?;
+    Ok(())
+}
+
+/// Proposes a client's command at a slot, at which the client waits from now on.
+pub(crate) fn submit(
+    state: &mut MpReplica,
+    ballot: Ballot,
+    slot: u64,
+    command: &Command,
+) -> Result<(), NoMemory> {
+    let awaited = command.copy(state.alloc())?;
+    state.await_command(slot, awaited)?;
+    state.submit(slot, ballot, command)?;
+    let value = Some(command.copy(state.alloc())?);
+    ask_to_accept(state, ballot, slot, &value)?;
+    Ok(())
+}
+
+/// Counts the leader's own vote for a value that it has accepted, and asks the others to accept it.
+fn ask_to_accept(
+    state: &mut MpReplica,
+    ballot: Ballot,
+    slot: u64,
+    value: &Option<Command>,
+) -> Result<(), NoMemory> {
+    state.open_slot(slot)?;
+    let message = MpMessage::Acc {
+        ballot,
+        slot,
+        value: copy_value(state.alloc(), value)?,
+    };
+    state.send_to_others(&message)?;
+    choose_voted(state, slot)?;
+    Ok(())
+}
+
+/// At a majority of votes the leader's value is chosen, and the others learn it.
+fn choose_voted(state: &mut MpReplica, slot: u64) -> Result<(), NoMemory> {
+    if !state.is_voted(slot) {
+        return Ok(());
+    }
+    let Some((_, accepted)) = state.ledger().accepted(slot) else {
+        return Ok(());
+    };
+    let value = copy_value(state.alloc(), accepted)?;
+    state.choose(slot, &value)?;
+    state.send_to_others(&MpMessage::Learn { slot, value })?;
+    Ok(())
+}
+
+/// A leader asks to accept a value at a slot in a ballot, which is accepted unless a greater ballot is promised. A repeat is
+/// answered again.
+pub(crate) fn on_acc(
+    state: &mut MpReplica,
+    from: u32,
+    ballot: Ballot,
+    slot: u64,
+    value: &Option<Command>,
+) -> Result<(), NoMemory> {
+    let promised = state.ledger().promised();
+    if ballot_precedes(ballot, promised) {
+        state.send(from, MpMessage::No { promised })?;
+        return Ok(());
+    }
+    if !has_accepted(state, ballot, slot) {
+        state.accept(slot, ballot, value)?;
+    }
+    state.send(from, MpMessage::Accd { ballot, slot })?;
+    Ok(())
+}
+
+/// The value that was accepted last at a slot is that of this ballot.
+fn has_accepted(state: &MpReplica, ballot: Ballot, slot: u64) -> bool {
+    match state.ledger().accepted(slot) {
+        Some((accepted, _)) => *accepted == ballot,
+        None => false,
+    }
+}
+
+/// A replica has accepted what is proposed at a slot in a ballot.
+pub(crate) fn on_accd(
+    state: &mut MpReplica,
+    from: u32,
+    ballot: Ballot,
+    slot: u64,
+) -> Result<(), NoMemory> {
+    if state.take_vote(from, ballot, slot)? {
+        choose_voted(state, slot)?;
+    }
+    Ok(())
+}

@@ -1,0 +1,15 @@
+//! One replica of a store with a leader, in memory: each step is the rule of its input, and the replies to clients.
+#![tactic(auto)]
+
+mod deciding;
+mod electing;
+mod findings;
+mod learning;
+mod replica;
+mod replies;
+mod requests;
+mod same;
+mod step;
+mod ticks;
+
+pub use replica::MpCore;

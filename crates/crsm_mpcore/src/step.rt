@@ -1,0 +1,82 @@
+//! One step: the rule of the input, and the replies.
+
+use crate::deciding::{on_acc, on_accd};
+use crate::electing::{on_lead, on_prep, on_prom};
+use crate::learning::on_ask;
+use crate::replies::replies;
+use crate::requests::on_request;
+use crate::ticks::on_tick;
+use crsm_base::NoMemory;
+use crsm_mpreplica::MpReplica;
+use crsm_mpspec::{MpInput, MpMessage};
+
+/// One step: the rule of the input, and the replies to those whose slots are executed at its end.
+pub(crate) fn step(state: &mut MpReplica, input: &MpInput, from: u32) -> Result<(), NoMemory> {
+    on_input(state, input, from)?;
+    replies(state)?;
+    Ok(())
+}
+
+/// The rule of an input.
+fn on_input(state: &mut MpReplica, input: &MpInput, from: u32) -> Result<(), NoMemory> {
+    match input {
+        MpInput::Request { command } => {
+            on_request(state, command)?;
+            Ok(())
+        }
+        MpInput::Message { message } => {
+            on_message(state, from, message)?;
+            Ok(())
+        }
+        MpInput::Tick => {
+            on_tick(state)?;
+            Ok(())
+        }
+        MpInput::Lead => {
+            on_lead(state)?;
+            Ok(())
+        }
+    }
+}
+
+/// The rule of a message of another replica.
+fn on_message(state: &mut MpReplica, from: u32, message: &MpMessage) -> Result<(), NoMemory> {
+    match message {
+        MpMessage::Prep { ballot, start } => {
+            on_prep(state, from, *ballot, *start)?;
+            Ok(())
+        }
+        MpMessage::Prom {
+            ballot,
+            accepted,
+            chosen,
+        } => {
+            on_prom(state, from, *ballot, accepted, chosen)?;
+            Ok(())
+        }
+        MpMessage::No { promised } => {
+            state.end_lead_below(*promised);
+            Ok(())
+        }
+        MpMessage::Acc {
+            ballot,
+            slot,
+            value,
+        } => {
+            on_acc(state, from, *ballot, *slot, value)?;
+            Ok(())
+        }
+        MpMessage::Accd { ballot, slot } => {
+            on_accd(state, from, *ballot, *slot)?;
+            Ok(())
+        }
+        MpMessage::Learn { slot, value } => {
+            state.choose(*slot, value)?;
+            Ok(())
+        }
+        MpMessage::Ask { start } => {
+            on_ask(state, from, *start)?;
+            Ok(())
+        }
+    }
+}
