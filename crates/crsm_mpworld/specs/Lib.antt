@@ -1,0 +1,5 @@
+pub mod Sites
+pub mod Packets
+pub mod World
+pub mod Doing
+pub mod Schedule

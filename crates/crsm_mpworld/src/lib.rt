@@ -1,0 +1,18 @@
+//! A store with a leader that a schedule drives: its replicas, and the messages between them.
+#![tactic(auto)]
+
+mod causes;
+mod deliveries;
+mod ending;
+mod endings;
+mod events;
+mod fresh;
+mod lines;
+mod network;
+mod outgoing;
+mod site;
+mod sites;
+mod stops;
+mod world;
+
+pub use world::MpWorld;

@@ -1,0 +1,110 @@
+//! The messages that were sent, and how many bytes of log bodies were kept.
+
+use crsm_base::{MAX_WORLD_BYTES, NoMemory, never};
+use crsm_mpspec::{MpInput, MpSend};
+use std::alloc::Global;
+
+/// A message that was sent.
+#[derive(Drop)]
+pub(crate) struct Packet {
+    pub(crate) from: u32,
+    pub(crate) to: u32,
+    /// What comes to its receiver.
+    pub(crate) input: MpInput,
+    /// It was delivered or lost.
+    pub(crate) is_used: bool,
+}
+
+/// All messages that were sent, by number, and how many bytes the world has.
+#[derive(Drop)]
+pub(crate) struct MpNetwork {
+    pub(crate) alloc: Global,
+    pub(crate) packets: Vec<Packet>,
+    /// The numbers of the fresh ones, ascending. A used one may stand here too.
+    pub(crate) fresh: Vec<u64>,
+    /// Which replicas were up when those that are due were last asked for.
+    pub(crate) ups: Vec<bool>,
+    /// Of the fresh ones those whose receivers were up then, and some others, ascending.
+    pub(crate) near: Vec<u64>,
+    /// Of all log bodies that were kept.
+    bytes: u64,
+}
+
+impl MpNetwork {
+    /// Nothing is sent.
+    pub(crate) fn new(alloc: Global) -> MpNetwork {
+        MpNetwork {
+            alloc,
+            packets: Vec::new(alloc),
+            fresh: Vec::new(alloc),
+            ups: Vec::new(alloc),
+            near: Vec::new(alloc),
+            bytes: 0,
+        }
+    }
+
+    /// How many bytes the world has.
+    pub(crate) fn bytes(&self) -> u64 {
+        self.bytes
+    }
+
+    /// The world has as many bytes as it may.
+    pub(crate) fn is_full(&self) -> bool {
+        MAX_WORLD_BYTES <= self.bytes
+    }
+
+    /// So many bytes more are kept on a disk.
+    pub(crate) fn keep(&mut self, size: u64) -> Result<(), NoMemory> {
+        // All of them are in memory, so that the sum stays in its range.
+        self.bytes = self.bytes.checked_add(size).ok_or(never())?;
+        Ok(())
+    }
+
+    /// How many messages were sent.
+    pub(crate) fn count(&self) -> u64 {
+        self.packets.len() as u64
+    }
+
+    /// The message of this number.
+    pub(crate) fn get(&self, number: u64) -> Option<&Packet> {
+        self.packets.get(number as usize)
+    }
+
+    /// The message of this number was delivered or lost.
+    pub(crate) fn is_used(&self, number: u64) -> bool {
+        match self.get(number) {
+            Some(packet) => packet.is_used,
+            None => false,
+        }
+    }
+
+    /// The receiver of the message of this number.
+    pub(crate) fn receiver(&self, number: u64) -> Option<u32> {
+        match self.get(number) {
+            Some(packet) => Some(packet.to),
+            None => None,
+        }
+    }
+
+    /// The message of this number is used from now on.
+    pub(crate) fn use_up(&mut self, number: u64) {
+        if let Some(packet) = self.packets.get_mut(number as usize) {
+            packet.is_used = true;
+        }
+    }
+
+    /// A replica sends a message.
+    pub(crate) fn send(&mut self, from: u32, send: MpSend) -> Result<(), NoMemory> {
+        let number = self.count();
+        let MpSend { to, message } = send;
+        self.fresh.push(number)?;
+        self.near.push(number)?;
+        self.packets.push(Packet {
+            from,
+            to,
+            input: MpInput::Message { message },
+            is_used: false,
+        })?;
+        Ok(())
+    }
+}
