@@ -69,6 +69,10 @@ within_above s es k sorted within here j d low high = by_test (not (stamp_lt s (
 pub partitioned_before : (t : ℕ) (es : List Entry) → IsSortedByStamp es → IsPartitionedBy (λ e. nat_lt e.stamp.time t) es
 partitioned_before t = partitioned (λ e. nat_lt e.stamp.time t) (λ e f. time-not_below e.stamp f.stamp t)
 
+-- where the last one has a smaller time, all have
+pub all_before : (t : ℕ) (es : List Entry) (k : ℕ) → IsSortedByStamp es → k < length es → ((d : Entry) → nat_lt (get_or es k d).stamp.time t ≡ true) → AllWithin (λ e. nat_lt e.stamp.time t ≡ true) es 0 (k + 1)
+all_before t es k sorted within here j d low high = partitioned_before t es sorted j k d (omega (arith, high)) within (here d)
+
 -- ---- what stands at a partition point
 
 not-true : (b : Bool) → not b ≡ true → b ≡ false

@@ -179,7 +179,20 @@ fn count_before(entries: &[Entry], time: u64) -> usize
     ensures bound { result ≤ length entries.now }
     ensures point { IsPartitionPoint (λ e. nat_lt e.stamp.time time ≡ true) (λ e. nat_lt e.stamp.time time ≡ false) entries.now result }
 {
+    let count = entries.len();
+    if count > 0 && is_before_at(entries, count - 1, time) {
+        // Mostly all have.
+        return count;
+    }
     entries.partition_point(|entry| entry.stamp.time < time)
+}
+
+/// Whether the entry at this place has a smaller time.
+fn is_before_at(entries: &[Entry], place: usize, time: u64) -> bool
+    requires { place < length entries.now }
+    ensures { (d : Entry) → result ≡ nat_lt (get_or entries.now place d).stamp.time time }
+{
+    entries[place].stamp.time < time
 }
 
 fn is_newest_of(entries: &[Entry], entry: &Entry) -> bool
