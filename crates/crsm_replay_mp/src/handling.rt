@@ -1,0 +1,155 @@
+//! The lines of a schedule: the first begins a world, and each later one is an event of it.
+
+use crate::cause::MpCause;
+use crate::print::push_line;
+use crsm_base::{Bytes, NoMemory};
+use crsm_input::{Handler, Stop};
+use crsm_mpspec::{MpBad, MpLines};
+use crsm_mpworld::MpWorld;
+use crsm_schedule::{Event, LineError, read_event, read_first};
+use std::alloc::Global;
+
+/// The room that is made for the text of a line, in bytes: few lines take more.
+const LINE_ROOM: usize = 32;
+
+/// The cause that the world names. Running out of memory is none, and no event meets the causes of bytes and of groups.
+fn named_cause(bad: MpBad) -> Option<MpCause> {
+    match bad {
+        MpBad::NotHere => Some(MpCause::NotHere),
+        MpBad::Full { bytes } => Some(MpCause::Full { bytes }),
+        MpBad::NoSuchReplica => Some(MpCause::NoSuchReplica),
+        MpBad::NoSuchDatagram => Some(MpCause::NoSuchDatagram),
+        MpBad::Used => Some(MpCause::Used),
+        MpBad::Fresh => Some(MpCause::Fresh),
+        MpBad::IsDown => Some(MpCause::IsDown),
+        MpBad::IsUp => Some(MpCause::IsUp),
+        MpBad::TooFew => Some(MpCause::TooFew),
+        MpBad::Mixed | MpBad::Forged | MpBad::NoMemory => None,
+    }
+}
+
+/// Begins a world by the first line, and gives the lines of its boots.
+fn begin_world(alloc: Global, line: &[u8]) -> Result<(MpWorld, MpLines), Stop<MpCause>> {
+    let Some(replicas) = read_first(line) else {
+        return Err(Stop::Refused(MpCause::Unreadable));
+    };
+    let Ok(made) = MpWorld::new(alloc, replicas) else {
+        return Err(Stop::NoMemory);
+    };
+    Ok(made)
+}
+
+/// Lets an event go, in a function of its own, which keeps the cases of an event out of its callers' proofs.
+fn discard(_event: Event) {}
+
+/// The event that a line spells.
+fn event_of(alloc: Global, line: &[u8]) -> Result<Event, Stop<MpCause>> {
+    match read_event(alloc, line) {
+        Ok(event) => Ok(event),
+        Err(LineError::Unreadable) => Err(Stop::Refused(MpCause::Unreadable)),
+        Err(LineError::NoMemory) => Err(Stop::NoMemory),
+    }
+}
+
+/// Does the event that a line spells, and gives its lines.
+fn do_line(alloc: Global, world: &mut MpWorld, line: &[u8]) -> Result<MpLines, Stop<MpCause>> {
+    let event = match event_of(alloc, line) {
+        Ok(event) => event,
+        Err(stop) => return Err(stop),
+    };
+    let stepped = world.step(&event);
+    discard(event);
+    match stepped {
+        Ok(lines) => Ok(lines),
+        Err(bad) => match named_cause(bad) {
+            Some(cause) => Err(Stop::Refused(cause)),
+            None => Err(Stop::NoMemory),
+        },
+    }
+}
+
+/// Handles a whole line, which is the first where there is no world yet, and gives its lines.
+fn take_line(
+    alloc: Global,
+    world: &mut Option<MpWorld>,
+    line: &[u8],
+) -> Result<MpLines, Stop<MpCause>> {
+    match world {
+        Some(world) => do_line(alloc, world, line),
+        None => {
+            let (begun, lines) = begin_world(alloc, line)?;
+            *world = Some(begun);
+            Ok(lines)
+        }
+    }
+}
+
+/// Adds the text of the lines of a transcript. After an error what is there is of no use.
+fn push_lines(text: &mut Bytes, at: u64, lines: &MpLines) -> Result<(), NoMemory> {
+    for line in lines.as_slice() {
+        push_line(text, at, line)?;
+    }
+    Ok(())
+}
+
+/// Gives the lines back to the world, which uses their room.
+fn give_back(world: &mut Option<MpWorld>, lines: MpLines) {
+    match world {
+        Some(world) => world.take_back(lines),
+        None => {}
+    }
+}
+
+/// A schedule that is replayed: the world, once the first line has begun it.
+#[derive(Drop)]
+pub(crate) struct Replaying {
+    alloc: Global,
+    world: Option<MpWorld>,
+}
+
+impl Replaying {
+    pub(crate) fn new(alloc: Global) -> Replaying {
+        Replaying { alloc, world: None }
+    }
+
+    /// Handles a line, and gives its lines of the transcript with room for their text.
+    fn advance(&mut self, line: &[u8], text: &mut Bytes) -> Result<MpLines, Stop<MpCause>> {
+        let lines = take_line(self.alloc, &mut self.world, line)?;
+        let room = lines.as_slice().len().saturating_mul(LINE_ROOM);
+        let Ok(()) = text.reserve(room) else {
+            return Err(Stop::NoMemory);
+        };
+        Ok(lines)
+    }
+}
+
+impl Handler for Replaying {
+    type Refusal = MpCause;
+
+    ghost use Rattle.crsm_replay_mp.specs.Replayed.{replayed};
+
+    ghost handling = { λ _. replayed };
+
+    fn line(&mut self, at: u64, line: &[u8], text: &mut Bytes) -> Result<(), Stop<MpCause>> {
+        let lines = self.advance(line, text)?;
+        let Ok(()) = push_lines(text, at, &lines) else {
+            text.clear();
+            return Err(Stop::NoMemory);
+        };
+        give_back(&mut self.world, lines);
+        Ok(())
+    }
+
+    fn end(&self, text: &mut Bytes) -> Result<(), Stop<MpCause>> {
+        let Some(world) = &self.world else {
+            return Err(Stop::Refused(MpCause::Unreadable));
+        };
+        let Ok(lines) = world.finals() else {
+            return Err(Stop::NoMemory);
+        };
+        let Ok(()) = push_lines(text, 0, &lines) else {
+            return Err(Stop::NoMemory);
+        };
+        Ok(())
+    }
+}
