@@ -59,7 +59,7 @@ asked_within ReplayMp words asks = tt
 
 pub within_limits : (words : List Text) (made : Order) → OrderMade words made → IsWithinLimits made.task
 within_limits words made (text none shown asks) = shown_within made.task shown
-within_limits words made (order none front asks) = asked_within made.task _ asks
+within_limits words made (order none cluster_words asks) = asked_within made.task _ asks
 
 -- ---- what is there
 

@@ -29,7 +29,7 @@ use Rattle.crsm_verdict.specs.Accounts.{dropped_from, dropped_in, own_in, own_lo
 use Rattle.crsm_verdict.specs.declared.account.Account.{Account}
 use Rattle.crsm_verdict.specs.declared.place.Dropped.{Dropped}
 use Rattle.crsm_audit.specs.State.{AccountOf, FoundAccount, SheetAdvances, SheetStands, StepsAccount, left_by}
-use Rattle.crsm_audit.proofs.Bodies.{last_body, one_front, same_front}
+use Rattle.crsm_audit.proofs.Bodies.{last_body, one_prefix, same_prefix}
 use Rattle.crsm_audit.proofs.Logs.{AreLogged, any_start, dropped_more, kept_more, last_me, lines_count, log_more, logged_more, none_after, none_dropped, own_more, sheet_leaves, sheet_logged, some_steps, steps_count}
 use Rattle.crsm_audit.proofs.Places.{entry_not_last}
 
@@ -144,14 +144,14 @@ module _ (me n : ℕ) (own : List SheetLine) (line : SheetLine) (not_body : (b :
   -- before the first step the lines are bodies, and this one is `open`
   pub first_step : (bodies : List (List ℕ)) (turns : List (Turn × ℕ)) → own ++ line ∷ [] ≡ sheet_of bodies turns → length turns ≡ 0 → own ≡ map entry_line bodies
   unfolding sheet_of
-  first_step bodies [] is none = same_front own (map entry_line bodies) line Open is
+  first_step bodies [] is none = same_prefix own (map entry_line bodies) line Open is
   first_step bodies (t ∷ turns) is none = absurd (omega (arith, none))
 
   -- behind steps there is one more
   pub no_step_less : (bodies others : List (List ℕ)) (turns later : List (Turn × ℕ)) → own ≡ sheet_of bodies turns → own ++ line ∷ [] ≡ sheet_of others later → length turns ≡ length later → ⊥
   unfolding sheet_of
   no_step_less bodies others turns later is more same =
-      let front = one_front bodies others (map turn_line turns ++ line ∷ []) (map turn_line later)
+      let front = one_prefix bodies others (map turn_line turns ++ line ∷ []) (map turn_line later)
       (sym (append_assoc (map entry_line bodies) (Open ∷ map turn_line turns) (line ∷ [])) ∙ ap (λ (ls : List SheetLine). ls ++ line ∷ []) (sym is) ∙ more) in
       let a : length own ≡ length (sheet_of bodies turns) = ap length is in
       let b : length (own ++ line ∷ []) ≡ length (sheet_of others later) = ap length more in

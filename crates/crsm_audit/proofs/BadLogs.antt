@@ -9,7 +9,7 @@ use Rattle.crsm_sheet.specs.Sheets.{entry_line, sheet_of, turn_line}
 use Rattle.crsm_audit.specs.Sheets.{AreSheetsOf, HoldBadLog, IsSheetOf, NodeSheet, own_lines, sheets_from, sheets_in}
 use Rattle.crsm_audit.specs.declared.line.AuditLine.{AuditLine}
 use Rattle.crsm_audit.specs.declared.line.AuditLine.TheVariants as lines
-use Rattle.crsm_audit.proofs.Bodies.{one_front}
+use Rattle.crsm_audit.proofs.Bodies.{one_prefix}
 use Rattle.crsm_audit.proofs.Parts.{among, own_first, parts}
 
 -- the sheet found a bad log: this body of it is the first bad one, for this reason
@@ -54,7 +54,7 @@ module _ (kept : KeptAreNotBad) (one : BadLogsAreOne) (n : ℕ) where
   unfolding sheet_of
   sheet_not_bad node s entry why is bad =
       let sheet = is.sheet in
-      let same : sheet.bodies ≡ bad.bodies = one_front sheet.bodies bad.bodies (map turn_line sheet.turns) bad.rest (sym sheet.is ∙ bad.are) in
+      let same : sheet.bodies ≡ bad.bodies = one_prefix sheet.bodies bad.bodies (map turn_line sheet.turns) bad.rest (sym sheet.is ∙ bad.are) in
       kept node.me n bad.bodies sheet.log entry why (subst (λ (bs : List (List ℕ)). AreKept node.me n [] bs sheet.log) same sheet.kept) bad.bad
 
   pub no_bad_log : (ls : List AuditLine) (sheets : List Sheet) (entry why : ℕ) → AreSheetsOf n (sheets_in ls) sheets → HoldBadLog n ls entry why → ⊥
@@ -65,7 +65,7 @@ module _ (kept : KeptAreNotBad) (one : BadLogsAreOne) (n : ℕ) where
 
   one_bad_sheet : (node : NodeSheet) (e f w v : ℕ) → IsBadSheet n node e w → IsBadSheet n node f v → (e ≡ f) × (w ≡ v)
   one_bad_sheet node e f w v p q =
-      let same : p.bodies ≡ q.bodies = one_front p.bodies q.bodies p.rest q.rest (sym p.are ∙ q.are) in
+      let same : p.bodies ≡ q.bodies = one_prefix p.bodies q.bodies p.rest q.rest (sym p.are ∙ q.are) in
       one node.me n q.bodies e f w v (subst (λ (bs : List (List ℕ)). IsBadAt node.me n bs e w) same p.bad) q.bad
 
   one_first : (xs ys after more : List NodeSheet) (a b : NodeSheet) (ss ts : List Sheet) (e f w v : ℕ) → xs ++ a ∷ after ≡ ys ++ b ∷ more → AreSheetsOf n xs ss → AreSheetsOf n ys ts

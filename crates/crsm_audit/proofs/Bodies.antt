@@ -5,29 +5,29 @@ use Rattle.crsm_sheet.specs.declared.line.SheetLine.TheVariants.{Entry, Open}
 use Rattle.crsm_sheet.specs.Sheets.{entry_line}
 
 -- the bodies before `open` are those of the sheet
-pub one_front : (bodies others : List (List ℕ)) (rest back : List SheetLine) → map entry_line bodies ++ Open ∷ rest ≡ map entry_line others ++ Open ∷ back → bodies ≡ others
-one_front [] [] rest back e = refl
-one_front [] (c ∷ others) rest back e = let heads : Open ≡ Entry c = cc in absurd (cc)
-one_front (b ∷ bodies) [] rest back e = let heads : Entry b ≡ Open = cc in absurd (cc)
-one_front (b ∷ bodies) (c ∷ others) rest back e =
+pub one_prefix : (bodies others : List (List ℕ)) (rest back : List SheetLine) → map entry_line bodies ++ Open ∷ rest ≡ map entry_line others ++ Open ∷ back → bodies ≡ others
+one_prefix [] [] rest back e = refl
+one_prefix [] (c ∷ others) rest back e = let heads : Open ≡ Entry c = cc in absurd (cc)
+one_prefix (b ∷ bodies) [] rest back e = let heads : Entry b ≡ Open = cc in absurd (cc)
+one_prefix (b ∷ bodies) (c ∷ others) rest back e =
     let heads : Entry b ≡ Entry c = cc in
     let body : b ≡ c = cc in
     let tails : map entry_line bodies ++ Open ∷ rest ≡ map entry_line others ++ Open ∷ back = cc in
-    ap (λ (x : List ℕ). x ∷ bodies) body ∙ ap (λ (xs : List (List ℕ)). c ∷ xs) (one_front bodies others rest back tails)
+    ap (λ (x : List ℕ). x ∷ bodies) body ∙ ap (λ (xs : List (List ℕ)). c ∷ xs) (one_prefix bodies others rest back tails)
 
 no_snoc : (xs : List SheetLine) (x : SheetLine) → [] ≢ xs ++ x ∷ []
 no_snoc [] x e = cc
 no_snoc (y ∷ xs) x e = cc
 
 -- what comes before the last of lines
-pub same_front : (xs ys : List SheetLine) (x y : SheetLine) → xs ++ x ∷ [] ≡ ys ++ y ∷ [] → xs ≡ ys
-same_front [] [] x y e = refl
-same_front [] (z ∷ ys) x y e = let tails : [] ≡ ys ++ y ∷ [] = cc in absurd (no_snoc ys y tails)
-same_front (z ∷ xs) [] x y e = let tails : [] ≡ xs ++ x ∷ [] = cc in absurd (no_snoc xs x tails)
-same_front (z ∷ xs) (w ∷ ys) x y e =
+pub same_prefix : (xs ys : List SheetLine) (x y : SheetLine) → xs ++ x ∷ [] ≡ ys ++ y ∷ [] → xs ≡ ys
+same_prefix [] [] x y e = refl
+same_prefix [] (z ∷ ys) x y e = let tails : [] ≡ ys ++ y ∷ [] = cc in absurd (no_snoc ys y tails)
+same_prefix (z ∷ xs) [] x y e = let tails : [] ≡ xs ++ x ∷ [] = cc in absurd (no_snoc xs x tails)
+same_prefix (z ∷ xs) (w ∷ ys) x y e =
     let heads : z ≡ w = cc in
     let tails : xs ++ x ∷ [] ≡ ys ++ y ∷ [] = cc in
-    ap (λ (v : SheetLine). v ∷ xs) heads ∙ ap (λ (vs : List SheetLine). w ∷ vs) (same_front xs ys x y tails)
+    ap (λ (v : SheetLine). v ∷ xs) heads ∙ ap (λ (vs : List SheetLine). w ∷ vs) (same_prefix xs ys x y tails)
 
 -- the last of lines of bodies alone is that of a body
 pub record LastBody (own : List SheetLine) (line : SheetLine) (bodies : List (List ℕ)) : Type 0 where

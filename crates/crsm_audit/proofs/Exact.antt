@@ -18,20 +18,20 @@ module _ (one_text : LinesHaveOneText) (kept : KeptAreNotBad) (one_bad : BadLogs
   same_lines texts a b = one_lines one_text a.lines b.lines a.fit b.fit (sym a.are ∙ b.are)
 
   -- what comes of an audit begins one
-  begins : (ls front back : List AuditLine) (l : AuditLine) → BeginAnAudit ls → ls ≡ front ++ l ∷ back → BeginAnAudit (front ++ l ∷ [])
-  begins ls front back l b is = record {
+  begins : (ls prefix back : List AuditLine) (l : AuditLine) → BeginAnAudit ls → ls ≡ prefix ++ l ∷ back → BeginAnAudit (prefix ++ l ∷ [])
+  begins ls prefix back l b is = record {
     named = b.named;
     more = back ++ b.more;
-    is = append_assoc front (l ∷ []) (back ++ b.more) ∙ sym (append_assoc front (l ∷ back) b.more) ∙ ap (λ (x : List AuditLine). x ++ b.more) (sym is) ∙ b.is;
+    is = append_assoc prefix (l ∷ []) (back ++ b.more) ∙ sym (append_assoc prefix (l ∷ back) b.more) ∙ ap (λ (x : List AuditLine). x ++ b.more) (sym is) ∙ b.is;
   }
 
   fits : (texts : List Text) → Spells texts → Fits (audited n) texts
   fits texts s before more text shown cause texts_are refused =
       let c = cut s.lines before more text s.fit (sym s.are ∙ texts_are) in
       let r = refused.spells in
-      let same : r.lines ≡ c.front = one_lines one_text r.lines c.front r.fit c.front_fit (sym r.are ∙ c.before_is) in
-      let none : NoAuditGoesOn c.front text = subst (λ (ls : List AuditLine). NoAuditGoesOn ls text) same refused.none in
-      none c.line c.line_fits c.text_is (begins s.lines c.front c.back c.line s.begin c.is)
+      let same : r.lines ≡ c.prefix = one_lines one_text r.lines c.prefix r.fit c.prefix_fit (sym r.are ∙ c.before_is) in
+      let none : NoAuditGoesOn c.prefix text = subst (λ (ls : List AuditLine). NoAuditGoesOn ls text) same refused.none in
+      none c.line c.line_fits c.text_is (begins s.lines c.prefix c.back c.line s.begin c.is)
 
   may_end : (texts : List Text) (last : Text) → Ends n texts last → (cause : SheetCause) (t : Spells texts) → MayNotEnd n t.lines cause → ⊥
   may_end texts last e SheetCause.Unreadable t why = why (subst IsAnAudit (same_lines texts e.spells t) e.whole)

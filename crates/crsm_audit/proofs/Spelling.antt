@@ -45,39 +45,39 @@ one_lines law (l ∷ ls) (m ∷ ms) p q e =
 
 -- of the texts of lines, those before one text, it, and those behind it
 pub record Cut (lines : List AuditLine) (before : List Text) (text : Text) : Type 0 where
-  pub front : List AuditLine
+  pub prefix : List AuditLine
   pub line : AuditLine
   pub back : List AuditLine
-  pub is : lines ≡ front ++ line ∷ back
-  pub before_is : before ≡ map line_text front
+  pub is : lines ≡ prefix ++ line ∷ back
+  pub before_is : before ≡ map line_text prefix
   pub text_is : text ≡ line_text line
-  pub front_fit : AllByRecursion FitsLine front
+  pub prefix_fit : AllByRecursion FitsLine prefix
   pub line_fits : FitsLine line
 
 pub cut : (lines : List AuditLine) (before more : List Text) (text : Text) → AllByRecursion FitsLine lines → map line_text lines ≡ before ++ text ∷ more → Cut lines before text
 cut [] [] more text fit e = absurd (cc)
 cut [] (t ∷ before) more text fit e = absurd (cc)
 cut (l ∷ lines) [] more text fit e = record {
-  front = [];
+  prefix = [];
   line = l;
   back = lines;
   is = refl;
   before_is = refl;
   text_is = sym (heads (line_text l) text (map line_text lines) more e);
-  front_fit = tt;
+  prefix_fit = tt;
   line_fits = fit.0;
 }
 cut (l ∷ lines) (t ∷ before) more text fit e =
     let c = cut lines before more text fit.1 (tails (line_text l) t (map line_text lines) (before ++ text ∷ more) e) in
     let head : t ≡ line_text l = sym (heads (line_text l) t (map line_text lines) (before ++ text ∷ more) e) in
     record {
-      front = l ∷ c.front;
+      prefix = l ∷ c.prefix;
       line = c.line;
       back = c.back;
       is = ap (λ (ls : List AuditLine). l ∷ ls) c.is;
       before_is = ap (λ (x : Text). x ∷ before) head ∙ ap (λ (ts : List Text). line_text l ∷ ts) c.before_is;
       text_is = c.text_is;
-      front_fit = (fit.0, c.front_fit);
+      prefix_fit = (fit.0, c.prefix_fit);
       line_fits = c.line_fits;
     }
 

@@ -4,7 +4,7 @@ ghost use Rattle.std.specs.Prelude.{◌≡◌, ◌++◌, IfOk, OnOk};
 ghost use Rattle.std.specs.Option.{option_map};
 ghost use Rattle.crsm_base.specs.Spelling.{FitsStamp, FitsKey, op_bytes, FitsOp, command_bytes, FitsCommand, entry_bytes, FitsEntry};
 ghost use Rattle.crsm_base.specs.Reading.{get_at, put_at, delete_at, cas_at, op_at, command_at, entry_at};
-ghost use Rattle.crsm_fields.specs.Fronts.{command_front, entry_front};
+ghost use Rattle.crsm_fields.specs.Heads.{command_head, entry_head};
 
 use crate::cells::{pair_and_bytes, stamp_and_pair};
 use crate::number::{take_u8, take_u64};
@@ -38,7 +38,7 @@ pub fn put_op(op: &Op, out: &mut Bytes) -> Result<(), NoMemory>
 #[tactic(auto, unfolding(crsm_base::specs::Spelling::key_bytes))]
 fn put_prefix(command: &Command, tag: u8, key: &Key, out: &mut Bytes) -> Result<(), NoMemory>
     requires { FitsKey key.now }
-    ensures { OnOk result (out.new ≡ out.old ++ command_front command.now tag key.now) }
+    ensures { OnOk result (out.new ≡ out.old ++ command_head command.now tag key.now) }
 {
     let bytes = key.as_slice();
     let prefix = pair_and_bytes(command.client, command.number, tag, bytes.len() as u8);
@@ -72,7 +72,7 @@ pub fn put_command(command: &Command, out: &mut Bytes) -> Result<(), NoMemory>
 fn put_entry_prefix(entry: &Entry, tag: u8, key: &Key, out: &mut Bytes) -> Result<(), NoMemory>
     requires stamp { FitsStamp entry.now.stamp }
     requires key { FitsKey key.now }
-    ensures { OnOk result (out.new ≡ out.old ++ entry_front entry.now tag key.now) }
+    ensures { OnOk result (out.new ≡ out.old ++ entry_head entry.now tag key.now) }
 {
     let bytes = key.as_slice();
     let prefix = stamp_and_pair(

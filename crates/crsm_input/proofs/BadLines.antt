@@ -78,9 +78,9 @@ module _ {H R : Type 0} (h : Handling H R) (x : Exact h) where
   reasons c d is = ap (λ (b : Bad R). reason_of h x b) is
 
   -- where nothing stands on one side, nothing does on the other
-  none_in_front : (y u z v : Text) → y ++ u ≡ z ++ v → z ≡ [] → v ≡ [] → y ≡ []
-  none_in_front [] u z v e p q = refl
-  none_in_front (a ∷ y) u z v e p q = let none : a ∷ (y ++ u) ≡ [] = e ∙ ap (λ k. k ++ v) p ∙ q in absurd (cc)
+  none_before : (y u z v : Text) → y ++ u ≡ z ++ v → z ≡ [] → v ≡ [] → y ≡ []
+  none_before [] u z v e p q = refl
+  none_before (a ∷ y) u z v e p q = let none : a ∷ (y ++ u) ≡ [] = e ∙ ap (λ k. k ++ v) p ∙ q in absurd (cc)
 
   long_not_empty : (line rest y : Text) → y ≡ line ++ rest → length line ≡ 16777217 → y ≡ [] → ⊥
   long_not_empty line rest y is long none =
@@ -116,7 +116,7 @@ module _ {H R : Type 0} (h : Handling H R) (x : Exact h) where
   same_reason lines shown other left c d y z u v text is (long_line c_is b) (cut_line d_is o) =
       reasons c _ c_is ∙ reasons _ d (sym d_is)
   same_reason lines shown other left c d y z u v text is (long_line c_is b) (bad_end s d_is o) =
-      absurd (long_not_empty b.line b.rest y b.text_is b.long (none_in_front y u z v text o.none o.ended))
+      absurd (long_not_empty b.line b.rest y b.text_is b.long (none_before y u z v text o.none o.ended))
   same_reason lines shown other left c d y z u v text is (cut_line c_is b) (bad_line s d_is o) =
       let none : u ≡ [] = rw is at b.ended in
       let whole = sym (append-nil y) ∙ ap (λ k. y ++ k) (sym none) ∙ text ∙ line_first o.line o.rest v z o.text_is in
@@ -126,17 +126,17 @@ module _ {H R : Type 0} (h : Handling H R) (x : Exact h) where
   same_reason lines shown other left c d y z u v text is (cut_line c_is b) (cut_line d_is o) =
       reasons c _ c_is ∙ reasons _ d (sym d_is)
   same_reason lines shown other left c d y z u v text is (cut_line c_is b) (bad_end s d_is o) =
-      absurd (b.some (none_in_front y u z v text o.none o.ended))
+      absurd (b.some (none_before y u z v text o.none o.ended))
   same_reason lines shown other left c d y z u v text is (bad_end r c_is b) (bad_line s d_is o) =
       let none : u ≡ [] = rw is at b.ended in
       let whole : [] ≡ o.line ++ 10 ∷ (o.rest ++ v) = ap (λ k. k ++ []) (sym b.none) ∙ ap (λ k. y ++ k) (sym none) ∙ text ∙ line_first o.line o.rest v z o.text_is in
       absurd (lacks_not 10 [] o.line (o.rest ++ v) tt whole)
   same_reason lines shown other left c d y z u v text is (bad_end r c_is b) (long_line d_is o) =
       let none : u ≡ [] = rw is at b.ended in
-      absurd (long_not_empty o.line o.rest z o.text_is o.long (none_in_front z v y u (sym text) b.none none))
+      absurd (long_not_empty o.line o.rest z o.text_is o.long (none_before z v y u (sym text) b.none none))
   same_reason lines shown other left c d y z u v text is (bad_end r c_is b) (cut_line d_is o) =
       let none : u ≡ [] = rw is at b.ended in
-      absurd (o.some (none_in_front z v y u (sym text) b.none none))
+      absurd (o.some (none_before z v y u (sym text) b.none none))
   same_reason lines shown other left c d y z u v text is (bad_end r c_is b) (bad_end s d_is o) =
       reasons c _ c_is ∙ x.one_end lines shown other r s b.refused o.refused ∙ reasons _ d (sym d_is)
 

@@ -68,19 +68,19 @@ module _ (me n : ℕ) (log : Log) (e : Entry) (es : List Entry) (fit : AllFit me
   unfolding logged
   rises = logged_rises me n (known log) log fit
 
-  front : List Entry
-  front = upto (last_stamp log) (logged log) ++ e ∷ []
+  prefix : List Entry
+  prefix = upto (last_stamp log) (logged log) ++ e ∷ []
 
-  parts : logged log ≡ front ++ es
-  unfolding unexecuted front
+  parts : logged log ≡ prefix ++ es
+  unfolding unexecuted prefix
   parts = sym (split (last_stamp log) (logged log) rises) ∙ ap (λ zs. upto (last_stamp log) (logged log) ++ zs) first ∙ sym (append_assoc (upto (last_stamp log) (logged log)) (e ∷ []) es)
 
   here : Among (logged log) e
-  unfolding front
-  here = subst (λ zs. Among zs e) (sym parts) (among_left front es e (among_right (upto (last_stamp log) (logged log)) (e ∷ []) e (inl refl)))
+  unfolding prefix
+  here = subst (λ zs. Among zs e) (sym parts) (among_left prefix es e (among_right (upto (last_stamp log) (logged log)) (e ∷ []) e (inl refl)))
 
-  front_last : last_of front ≡ Some e
-  unfolding front
+  front_last : last_of prefix ≡ Some e
+  unfolding prefix
   front_last = last_end (upto (last_stamp log) (logged log)) e
 
   last_now : last_stamp (Rec.Commit e.stamp ∷ log) ≡ Some e.stamp
@@ -103,8 +103,8 @@ module _ (me n : ℕ) (log : Log) (e : Entry) (es : List Entry) (fit : AllFit me
   unfolding unexecuted
   goes_on =
       ap (λ o. above o (logged (Rec.Commit e.stamp ∷ log))) (last_now ∙ ap (option_map (λ (f : Entry). f.stamp)) (sym front_last))
-      ∙ ap (above (option_map (λ (f : Entry). f.stamp) (last_of front))) (logged_now ∙ parts)
-      ∙ above_last front es (subst Rises parts rises)
+      ∙ ap (above (option_map (λ (f : Entry). f.stamp) (last_of prefix))) (logged_now ∙ parts)
+      ∙ above_last prefix es (subst Rises parts rises)
 
 -- ---- the run of commits
 

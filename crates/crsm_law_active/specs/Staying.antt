@@ -17,7 +17,7 @@ pub data GrowsBy (me : ℕ) (old : Log) : List Entry → Log → Type 0 where
 
 -- xs is what was there before something was put in front
 abbrev pub IsEndOf : {A : Type 0} → List A → List A → Type 0
-IsEndOf {A} xs ys = (front : List A) × (ys ≡ front ++ xs)
+IsEndOf {A} xs ys = (prefix : List A) × (ys ≡ prefix ++ xs)
 
 -- the message changes nothing at a replica that knows epoch e
 abbrev pub IsMild : ℕ → Control → Type 0

@@ -205,33 +205,33 @@ post_tail p q ps qs e = cc
 post_none : (p : Post) (ps : List Post) → [] ≡ p ∷ ps → ⊥
 post_none p ps e = cc
 
-one_longer : (front : List Sent) (s : Sent) → length (front ++ s ∷ []) ≡ length front + 1
-one_longer front s = let e = length-append front (s ∷ []) in omega (arith, e)
+one_longer : (prefix : List Sent) (s : Sent) → length (prefix ++ s ∷ []) ≡ length prefix + 1
+one_longer prefix s = let e = length-append prefix (s ∷ []) in omega (arith, e)
 
 plus_one : (n : ℕ) → (16 + n) + 1 ≡ 16 + (n + 1)
 plus_one n = omega arith
 
-another_of : (plan : Plan) (es old new : List Timed) (p : Post) (left : List Post) (moment : ℕ) → FitsPlan plan → (front rest : List Sent) → sent plan es ≡ front ++ rest →
-    IsPending plan es (16 + length front) old → AllByRecursion (λ s. s.moment ≡ moment) rest → p ∷ left ≡ posts_from (length front) (map (λ s. s.packet) rest) →
+another_of : (plan : Plan) (es old new : List Timed) (p : Post) (left : List Post) (moment : ℕ) → FitsPlan plan → (prefix rest : List Sent) → sent plan es ≡ prefix ++ rest →
+    IsPending plan es (16 + length prefix) old → AllByRecursion (λ s. s.moment ≡ moment) rest → p ∷ left ≡ posts_from (length prefix) (map (λ s. s.packet) rest) →
     IsPut (delivery_of plan moment p) old new → LacksPosts plan es new left moment
 unfolding posts_from
-another_of plan es old new p left moment fit front [] is pends then posts put = absurd (post_none p left (sym posts))
-another_of plan es old new p left moment fit front (s ∷ rest) is pends then posts put =
+another_of plan es old new p left moment fit prefix [] is pends then posts put = absurd (post_none p left (sym posts))
+another_of plan es old new p left moment fit prefix (s ∷ rest) is pends then posts put =
     let head = post_head p _ left _ posts in
-    let number : p.number ≡ length front = ap (λ (x : Post). x.number) head in
+    let number : p.number ≡ length prefix = ap (λ (x : Post). x.number) head in
     let f = delivery_of plan moment p in
     let same : delivery plan p.number s ≡ f = delivery_is plan s moment p then.0 (ap (λ (x : Post). x.from) head) (ap (λ (x : Post). x.to) head) in
     let got : slice_get (sent plan es) p.number ≡ Some s =
-    ap (λ l. slice_get l p.number) is ∙ ap (slice_get (front ++ s ∷ rest)) (number ∙ length_zero (length front)) ∙ get_right front (s ∷ rest) 0 s refl in
+    ap (λ l. slice_get l p.number) is ∙ ap (slice_get (prefix ++ s ∷ rest)) (number ∙ length_zero (length prefix)) ∙ get_right prefix (s ∷ rest) 0 s refl in
     let due : IsDue plan es f = subst (IsDue plan es) same (IsDue.Arrives p.number s got) in
-    let is_number : number_of f.does ≡ 16 + length front = ap (λ (x : Timed). number_of x.does) (sym same) ∙ go_number plan p.number s ∙ ap (λ n. 16 + n) number in
+    let is_number : number_of f.does ≡ 16 + length prefix = ap (λ (x : Timed). number_of x.does) (sym same) ∙ go_number plan p.number s ∙ ap (λ n. 16 + n) number in
     record {
-      front = front ++ s ∷ [];
+      prefix = prefix ++ s ∷ [];
       rest = rest;
-      sent_is = is ∙ sym (append_assoc front (s ∷ []) rest);
-      pends = subst (λ n. IsPending plan es n new) (plus_one (length front) ∙ ap (λ n. 16 + n) (sym (one_longer front s))) (puts plan es (16 + length front) old new f fit pends due is_number put);
+      sent_is = is ∙ sym (append_assoc prefix (s ∷ []) rest);
+      pends = subst (λ n. IsPending plan es n new) (plus_one (length prefix) ∙ ap (λ n. 16 + n) (sym (one_longer prefix s))) (puts plan es (16 + length prefix) old new f fit pends due is_number put);
       then = then.1;
-      posts_are = post_tail p _ left _ posts ∙ ap (λ n. posts_from n (map (λ (s : Sent). s.packet) rest)) (sym (one_longer front s));
+      posts_are = post_tail p _ left _ posts ∙ ap (λ n. posts_from n (map (λ (s : Sent). s.packet) rest)) (sym (one_longer prefix s));
     }
   where
     length_zero : (n : ℕ) → n ≡ n + 0
@@ -239,14 +239,14 @@ another_of plan es old new p left moment fit front (s ∷ rest) is pends then po
 
 another : (plan : Plan) (es old new : List Timed) (p : Post) (left : List Post) (moment : ℕ) → FitsPlan plan → LacksPosts plan es old (p ∷ left) moment → IsPut (delivery_of plan moment p) old new →
     LacksPosts plan es new left moment
-another plan es old new p left moment fit h put = another_of plan es old new p left moment fit h.front h.rest h.sent_is h.pends h.then h.posts_are put
+another plan es old new p left moment fit h put = another_of plan es old new p left moment fit h.prefix h.rest h.sent_is h.pends h.then h.posts_are put
 
 all_told : (plan : Plan) (es pending : List Timed) (moment : ℕ) → LacksPosts plan es pending [] moment → IsAgenda plan es pending
 unfolding posts_from
 all_told plan es pending moment h = go h.rest h.sent_is h.posts_are
   where
-    go : (rest : List Sent) → sent plan es ≡ h.front ++ rest → [] ≡ posts_from (length h.front) (map (λ (s : Sent). s.packet) rest) → IsAgenda plan es pending
-    go [] is none = subst (λ n. IsPending plan es n pending) (ap (λ (l : List Sent). 16 + length l) (sym (is ∙ append-nil h.front))) h.pends
+    go : (rest : List Sent) → sent plan es ≡ h.prefix ++ rest → [] ≡ posts_from (length h.prefix) (map (λ (s : Sent). s.packet) rest) → IsAgenda plan es pending
+    go [] is none = subst (λ n. IsPending plan es n pending) (ap (λ (l : List Sent). 16 + length l) (sym (is ∙ append-nil h.prefix))) h.pends
     go (s ∷ rest) is none = absurd (post_none _ _ none)
 
 module _ (law : SendsAreTold) where
@@ -257,7 +257,7 @@ module _ (law : SendsAreTold) where
       let w = at plan es in
       let ms = drop (length w.packets) (done w e).after.packets in
       record {
-        front = sent plan es;
+        prefix = sent plan es;
         rest = sends_by w e;
         sent_is = sent_more plan es e;
         pends = left_then plan es rest e fit h;

@@ -51,9 +51,9 @@ delivery_of plan sent_at p =
 
 -- all that is still to happen, but for the deliveries of these datagrams, which were sent at this moment
 pub record LacksPosts (plan : Plan) (es pending : List Timed) (posts : List Post) (moment : ℕ) : Type 0 where
-  pub front : List Sent
+  pub prefix : List Sent
   pub rest : List Sent
-  pub sent_is : sent plan es ≡ front ++ rest
-  pub pends : IsPending plan es (16 + length front) pending
+  pub sent_is : sent plan es ≡ prefix ++ rest
+  pub pends : IsPending plan es (16 + length prefix) pending
   pub then : AllByRecursion (λ s. s.moment ≡ moment) rest
-  pub posts_are : posts ≡ posts_from (length front) (map (λ s. s.packet) rest)
+  pub posts_are : posts ≡ posts_from (length prefix) (map (λ s. s.packet) rest)

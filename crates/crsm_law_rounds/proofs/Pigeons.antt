@@ -9,22 +9,22 @@ use Rattle.crsm_law_rounds.proofs.Growing.{IsSet}
 
 module _ {A : Type 0} where
   -- where an element stands
-  parts : (ys : List A) (x : A) → Among ys x → (front : List A) × (back : List A) × (ys ≡ front ++ x ∷ back)
+  parts : (ys : List A) (x : A) → Among ys x → (prefix : List A) × (back : List A) × (ys ≡ prefix ++ x ∷ back)
   parts [] x m = absurd m
   parts (y ∷ ys) x (inl e) = ([], ys, ap (λ z. z ∷ ys) e)
   parts (y ∷ ys) x (inr m) = let t = parts ys x m in (y ∷ t.0, t.1, ap (λ l. y ∷ l) t.2)
 
   -- the other elements stand beside it
-  beside : (front back : List A) (x z : A) → Among (front ++ x ∷ back) z → (x ≡ z → ⊥) → Among (front ++ back) z
-  beside front back x z m ne = elim (among_either front (x ∷ back) z m) [
-    | inl a ↦ among_left front back z a
-    | inr a ↦ elim a [ inl e ↦ absurd (ne e) | inr b ↦ among_right front back z b ]
+  beside : (prefix back : List A) (x z : A) → Among (prefix ++ x ∷ back) z → (x ≡ z → ⊥) → Among (prefix ++ back) z
+  beside prefix back x z m ne = elim (among_either prefix (x ∷ back) z m) [
+    | inl a ↦ among_left prefix back z a
+    | inr a ↦ elim a [ inl e ↦ absurd (ne e) | inr b ↦ among_right prefix back z b ]
   ]
 
-  count_parts : (P : A → Bool) (front back : List A) (x : A) → IsTrue (P x) → count_by P (front ++ x ∷ back) ≡ count_by P (front ++ back) + 1
-  count_parts P front back x p =
-      let a = sum_by-append (λ z. cond (P z) 1 0) front (x ∷ back) in
-      let b = sum_by-append (λ z. cond (P z) 1 0) front back in
+  count_parts : (P : A → Bool) (prefix back : List A) (x : A) → IsTrue (P x) → count_by P (prefix ++ x ∷ back) ≡ count_by P (prefix ++ back) + 1
+  count_parts P prefix back x p =
+      let a = sum_by-append (λ z. cond (P z) 1 0) prefix (x ∷ back) in
+      let b = sum_by-append (λ z. cond (P z) 1 0) prefix back in
       let c = sum_by-cons (λ z. cond (P z) 1 0) x back in
       let one = ap {B = ℕ} (λ (q : Bool). cond q 1 0) p in
       omega (arith, a, b, c, one)

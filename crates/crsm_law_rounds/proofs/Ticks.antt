@@ -231,9 +231,9 @@ passing_at P a (m ∷ ms) i h = go (P m) refl (subst (λ l. Among l i) (one_pass
 -- ---- the frames of a tick are carried in order
 
 module _ (packets : List Packet) (k j e : ℕ) where
-  pub carries_behind : (q : ℕ) (front is : List ℕ) (a : ℕ) → Carries packets k j e q is a → Carries packets k j e q (front ++ is) a
+  pub carries_behind : (q : ℕ) (prefix is : List ℕ) (a : ℕ) → Carries packets k j e q is a → Carries packets k j e q (prefix ++ is) a
   carries_behind q [] is a h = h
-  carries_behind q (i ∷ front) is a h = inr (inr (carries_behind q front is a h))
+  carries_behind q (i ∷ prefix) is a h = inr (inr (carries_behind q prefix is a h))
 
   pub carries_before : (q : ℕ) (is back : List ℕ) (a : ℕ) → Carries packets k j e q is a → Carries packets k j e q (is ++ back) a
   carries_before q [] [] a h = h
@@ -271,13 +271,13 @@ module _ (packets : List Packet) (k j e : ℕ) where
     unfolding sent_to
     none_sent = refl
 
-    at_front : (front rest : List Packet) (m : Packet) → slice_get (front ++ m ∷ rest) (length front) ≡ Some m
-    at_front [] rest m = refl
-    at_front (x ∷ front) rest m = at_front front rest m
+    at_prefix : (prefix rest : List Packet) (m : Packet) → slice_get (prefix ++ m ∷ rest) (length prefix) ≡ Some m
+    at_prefix [] rest m = refl
+    at_prefix (x ∷ prefix) rest m = at_prefix prefix rest m
 
-    front_longer : (front : List Packet) (m : Packet) → length (front ++ m ∷ []) ≡ length front + 1
-    front_longer [] m = omega arith
-    front_longer (x ∷ front) m = let t = front_longer front m in omega (arith, t)
+    prefix_longer : (prefix : List Packet) (m : Packet) → length (prefix ++ m ∷ []) ≡ length prefix + 1
+    prefix_longer [] m = omega arith
+    prefix_longer (x ∷ prefix) m = let t = prefix_longer prefix m in omega (arith, t)
 
     -- the first datagram, and then the others
     step_on : (P : Packet → Bool) (q a : ℕ) (i : ℕ) (m : Packet) (rest : List ℕ) → (P m ≡ true → Carries packets k j e q (i ∷ rest) a) → (P m ≡ false → Carries packets k j e q rest a) →
@@ -299,33 +299,33 @@ module _ (packets : List Packet) (k j e : ℕ) where
     unfolding frame_of
     framed a f = refl
 
-    pub carries_sends : (me : ℕ) (sends : List (ℕ × Datagram)) (front more : List Packet) (a : ℕ) (fs : List InEpoch) →
-        packets ≡ front ++ (map (packet_of me) sends ++ more) → sent_to j sends ≡ map (frame_of k e j) (enumerate_from a fs) →
-        Carries packets k j e (a + length fs) (passing P (length front) (map (packet_of me) sends)) a
+    pub carries_sends : (me : ℕ) (sends : List (ℕ × Datagram)) (prefix more : List Packet) (a : ℕ) (fs : List InEpoch) →
+        packets ≡ prefix ++ (map (packet_of me) sends ++ more) → sent_to j sends ≡ map (frame_of k e j) (enumerate_from a fs) →
+        Carries packets k j e (a + length fs) (passing P (length prefix) (map (packet_of me) sends)) a
     unfolding passing
-    carries_sends me [] front more a fs at is = no_numbers (length front) (nothing_left a fs (no_more a fs (none_sent ∙ is)))
+    carries_sends me [] prefix more a fs at is = no_numbers (length prefix) (nothing_left a fs (no_more a fs (none_sent ∙ is)))
       where
         no_numbers : (i : ℕ) → a + length fs ≤ a → Carries packets k j e (a + length fs) (passing P i []) a
         no_numbers i le = le
-    carries_sends me (s ∷ ss) front more a fs at is =
+    carries_sends me (s ∷ ss) prefix more a fs at is =
         let m = packet_of me s in
         let rest = map (packet_of me) ss in
         let t = to_frames me s in
-        let front2 = front ++ m ∷ [] in
-        let at2 : packets ≡ front2 ++ (rest ++ more) = at ∙ sym (append_assoc front (m ∷ []) (rest ++ more)) in
-        let numbers : passing P (length front2) rest ≡ passing P (length front + 1) rest = ap (λ i. passing P i rest) (front_longer front m) in
+        let prefix2 = prefix ++ m ∷ [] in
+        let at2 : packets ≡ prefix2 ++ (rest ++ more) = at ∙ sym (append_assoc prefix (m ∷ []) (rest ++ more)) in
+        let numbers : passing P (length prefix2) rest ≡ passing P (length prefix + 1) rest = ap (λ i. passing P i rest) (prefix_longer prefix m) in
         elim (cases_eq s.0 j) [
           | inl to ↦ (let o = one_more a s.1 (sent_to j ss) fs (sym (sent_here s ss to) ∙ is) in
-              let h = carries_sends me ss front2 more (a + 1) o.1 at2 o.4 in
+              let h = carries_sends me ss prefix2 more (a + 1) o.1 at2 o.4 in
               let size : a + 1 + length o.1 ≡ a + length fs = (let z = ap (λ (l : List InEpoch). length l) o.2 in omega (arith, z)) in
               let passes = goes m t.0 (t.1 ∙ to) in
-              let found : IsFrameAt packets (length front) k j e a = (m, o.0, ap (λ l. slice_get l (length front)) at ∙ at_front front (rest ++ more) m, t.1 ∙ to, t.2 ∙ o.3 ∙ framed a o.0) in
-              subst (λ l. Carries packets k j e (a + length fs) l a) (sym (one_passing P (length front) m rest))
-              (step_on P (a + length fs) a (length front) m (passing P (length front + 1) rest)
-              (λ w. inr (inl (found, subst (λ z. Carries packets k j e z (passing P (length front + 1) rest) (a + 1)) size (subst (λ l. Carries packets k j e (a + 1 + length o.1) l (a + 1)) numbers h))))
+              let found : IsFrameAt packets (length prefix) k j e a = (m, o.0, ap (λ l. slice_get l (length prefix)) at ∙ at_prefix prefix (rest ++ more) m, t.1 ∙ to, t.2 ∙ o.3 ∙ framed a o.0) in
+              subst (λ l. Carries packets k j e (a + length fs) l a) (sym (one_passing P (length prefix) m rest))
+              (step_on P (a + length fs) a (length prefix) m (passing P (length prefix + 1) rest)
+              (λ w. inr (inl (found, subst (λ z. Carries packets k j e z (passing P (length prefix + 1) rest) (a + 1)) size (subst (λ l. Carries packets k j e (a + 1 + length o.1) l (a + 1)) numbers h))))
               (λ w. absurd (false≢true (sym w ∙ passes)))))
-          | inr other ↦ (let h = carries_sends me ss front2 more a fs at2 (sym (sent_there s ss other) ∙ is) in
+          | inr other ↦ (let h = carries_sends me ss prefix2 more a fs at2 (sym (sent_there s ss other) ∙ is) in
               let h2 = subst (λ l. Carries packets k j e (a + length fs) l a) numbers h in
-              subst (λ l. Carries packets k j e (a + length fs) l a) (sym (one_passing P (length front) m rest))
-              (step_on P (a + length fs) a (length front) m (passing P (length front + 1) rest) (λ w. inr (inr h2)) (λ w. h2)))
+              subst (λ l. Carries packets k j e (a + length fs) l a) (sym (one_passing P (length prefix) m rest))
+              (step_on P (a + length fs) a (length prefix) m (passing P (length prefix + 1) rest) (λ w. inr (inr h2)) (λ w. h2)))
         ]

@@ -23,9 +23,9 @@ unfolding posts post_of posts_from send_lines send_line packet_of
 sends_told k i [] = refl
 sends_told k i (s ∷ sends) = ap (λ ps. record { number = i; from = k; to = s.0 } ∷ ps) (sends_told k (i + 1) sends)
 
-drop_front : {A : Type 0} (xs ys : List A) → drop (length xs) (xs ++ ys) ≡ ys
-drop_front [] ys = refl
-drop_front (x ∷ xs) ys = drop_front xs ys
+drop_prefix : {A : Type 0} (xs ys : List A) → drop (length xs) (xs ++ ys) ≡ ys
+drop_prefix [] ys = refl
+drop_prefix (x ∷ xs) ys = drop_prefix xs ys
 
 drop_all : {A : Type 0} (xs : List A) → drop (length xs) xs ≡ []
 drop_all [] = refl
@@ -46,7 +46,7 @@ whole_told w k x s =
     ∙ posts_then (x.lines ++ x.excess) sent
     ∙ ap (λ ps. ps ++ posts sent) (posts_then x.lines x.excess ∙ ap (λ ps. ps ++ posts x.excess) s.lines ∙ s.excess)
     ∙ sends_told k (length w.packets) x.sends
-    ∙ ap (posts_from (length w.packets)) (sym (drop_front w.packets (map (packet_of k) x.sends)))
+    ∙ ap (posts_from (length w.packets)) (sym (drop_prefix w.packets (map (packet_of k) x.sends)))
 
 begun_silent : (r : Replica) → IsSilent (begun r)
 unfolding begun posts

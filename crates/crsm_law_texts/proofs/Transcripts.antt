@@ -120,9 +120,9 @@ decimals_lack : (c : ℕ) (ns : List ℕ) → c < 44 → Fit ns → AllByRecursi
 decimals_lack c [] low fit = tt
 decimals_lack c (n ∷ ns) low fit = (Lacks-decimal c n (omega (arith, low)) fit.0, decimals_lack c ns low fit.1)
 
-front_fits : (ms ns : List ℕ) → Fit (ms ++ ns) → Fit ms
-front_fits [] ns fit = tt
-front_fits (m ∷ ms) ns fit = (fit.0, front_fits ms ns fit.1)
+prefix_fits : (ms ns : List ℕ) → Fit (ms ++ ns) → Fit ms
+prefix_fits [] ns fit = tt
+prefix_fits (m ∷ ms) ns fit = (fit.0, prefix_fits ms ns fit.1)
 
 rest_fits : (ms ns : List ℕ) → Fit (ms ++ ns) → Fit ns
 rest_fits [] ns fit = fit
@@ -170,7 +170,7 @@ words_lack c (Submit r e t k n) pos low fits = plain_lack c (codes "submit") (r 
 words_lack c (Log r e s) pos low fits = plain_lack c (codes "log") (r ∷ e ∷ s.time ∷ s.origin ∷ []) low refl fits.numbers_fit
 words_lack c (Exec r p e s k n a) pos low fits =
     let ns : List ℕ = r ∷ p ∷ e ∷ s.time ∷ s.origin ∷ k ∷ n ∷ [] in
-    longer_lack c (codes "exec") ns (answer_name a ∷ answer_rest a) low refl (front_fits ns (numbers_in_answer a) fits.numbers_fit)
+    longer_lack c (codes "exec") ns (answer_name a ∷ answer_rest a) low refl (prefix_fits ns (numbers_in_answer a) fits.numbers_fit)
     (answer_lacks c a pos low (rest_fits ns (numbers_in_answer a) fits.numbers_fit))
 words_lack c (Suspend r e) pos low fits = plain_lack c (codes "suspend") (r ∷ e ∷ []) low refl fits.numbers_fit
 words_lack c (Promise r i b k) pos low fits = plain_lack c (codes "promise") (r ∷ i ∷ b ∷ k ∷ []) low refl fits.numbers_fit
@@ -315,7 +315,7 @@ exec_told r p e k n q o f l i s t a b fits gits same =
     let ms : List ℕ = r ∷ p ∷ e ∷ s.time ∷ s.origin ∷ k ∷ n ∷ [] in
     let ns : List ℕ = q ∷ o ∷ f ∷ t.time ∷ t.origin ∷ l ∷ i ∷ [] in
     let u = named_told (codes "exec") ms ns (answer_name a ∷ answer_rest a) (answer_name b ∷ answer_rest b)
-    (front_fits ms (numbers_in_answer a) fits.numbers_fit) (front_fits ns (numbers_in_answer b) gits.numbers_fit) refl same in
+    (prefix_fits ms (numbers_in_answer a) fits.numbers_fit) (prefix_fits ns (numbers_in_answer b) gits.numbers_fit) refl same in
     let all : r ∷ p ∷ e ∷ s.time ∷ s.origin ∷ k ∷ n ∷ [] ≡ q ∷ o ∷ f ∷ t.time ∷ t.origin ∷ l ∷ i ∷ [] = u.0 in
     let stamp : s ≡ t = stamp_same s t (cc) (cc) in
     let answer : a ≡ b = answer_told a b (rest_fits ms (numbers_in_answer a) fits.numbers_fit) (rest_fits ns (numbers_in_answer b) gits.numbers_fit) fits.are_bytes gits.are_bytes u.1 in
@@ -454,17 +454,17 @@ spaced_told (v ∷ u ∷ vs) (w ∷ x ∷ ws) p q some some_too e =
     cc
 
 -- the number before a line
-abbrev front : ℕ → Line → List (List ℕ)
-front at (Final r s k x) = []
-front at line = decimal at ∷ []
+abbrev prefix : ℕ → Line → List (List ℕ)
+prefix at (Final r s k x) = []
+prefix at line = decimal at ∷ []
 
 abbrev printed_words : Printed → List (List ℕ)
-printed_words p = front p.at p.line ++ words_of p.line
+printed_words p = prefix p.at p.line ++ words_of p.line
 
 -- a line with no number is a final line, and any other has one
 data Fronted (at : ℕ) (l : Line) : Type 0 where
-  unnumbered : number_before at l ≡ None → front at l ≡ [] → letter 0 (words_of l) ≡ 102 → Fronted at l
-  numbered_by : number_before at l ≡ Some at → front at l ≡ decimal at ∷ [] → Fronted at l
+  unnumbered : number_before at l ≡ None → prefix at l ≡ [] → letter 0 (words_of l) ≡ 102 → Fronted at l
+  numbered_by : number_before at l ≡ Some at → prefix at l ≡ decimal at ∷ [] → Fronted at l
 
 fronted : (at : ℕ) (l : Line) → Fronted at l
 fronted at (Final r s k x) = unnumbered refl refl refl
@@ -478,16 +478,16 @@ length_then : (xs ys : List (List ℕ)) → 1 ≤ length ys → 1 ≤ length (xs
 length_then [] ys some = some
 length_then (x ∷ xs) ys some = omega arith
 
-line_is : (at : ℕ) (l : Line) → line_text at l ≡ spaced (front at l ++ words_of l) ++ 10 ∷ []
+line_is : (at : ℕ) (l : Line) → line_text at l ≡ spaced (prefix at l ++ words_of l) ++ 10 ∷ []
 line_is at (Final r s k x) = ap (λ (y : List ℕ). y ++ 10 ∷ []) (words_are (Final r s k x))
 line_is at l = ap (λ (y : List ℕ). decimal at ++ 32 ∷ (y ++ 10 ∷ [])) (words_are l) ∙ sym (append_assoc (decimal at) (32 ∷ spaced (words_of l)) (10 ∷ []))
 
-front_lacks : (c at : ℕ) (l : Line) → c < 44 → at < 2 ^ 64 → AllByRecursion (Lacks c) (front at l)
+front_lacks : (c at : ℕ) (l : Line) → c < 44 → at < 2 ^ 64 → AllByRecursion (Lacks c) (prefix at l)
 front_lacks c at (Final r s k x) low fits = tt
 front_lacks c at l low fits = (Lacks-decimal c at (omega (arith, low)) fits, tt)
 
 printed_lacks : (c : ℕ) (p : Printed) → 0 < c → c < 44 → FitsPrinted p → AllByRecursion (Lacks c) (printed_words p)
-printed_lacks c p pos low fits = all_then (Lacks c) (front p.at p.line) (words_of p.line) (front_lacks c p.at p.line low fits.at_fits) (words_lack c p.line pos low fits.line_fits)
+printed_lacks c p pos low fits = all_then (Lacks c) (prefix p.at p.line) (words_of p.line) (front_lacks c p.at p.line low fits.at_fits) (words_lack c p.line pos low fits.line_fits)
 
 no_feed : (p : Printed) → FitsPrinted p → Lacks 10 (spaced (printed_words p))
 no_feed p fits = Lacks-join 10 32 (printed_words p) (λ e. absurd (omega (arith, e))) (printed_lacks 10 p (omega arith) (omega arith) fits)
@@ -546,7 +546,7 @@ transcripts_are_one (p ∷ ps) (q ∷ qs) fit gits e =
     (sym (first_text_is p ps) ∙ e ∙ first_text_is q qs) in
     let words : printed_words p ≡ printed_words q =
     spaced_told (printed_words p) (printed_words q) (printed_lacks 32 p (omega arith) (omega arith) fit.0) (printed_lacks 32 q (omega arith) (omega arith) gits.0)
-    (length_then (front p.at p.line) (words_of p.line) (some_words p.line)) (length_then (front q.at q.line) (words_of q.line) (some_words q.line)) cut.0 in
+    (length_then (prefix p.at p.line) (words_of p.line) (some_words p.line)) (length_then (prefix q.at q.line) (words_of q.line) (some_words q.line)) cut.0 in
     let first : told_of p ≡ told_of q = printed_told p q fit.0 gits.0 words in
     let rest : lines_of ps ≡ lines_of qs = transcripts_are_one ps qs fit.1 gits.1 cut.1 in
     cc

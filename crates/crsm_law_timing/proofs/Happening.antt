@@ -30,15 +30,15 @@ tail_same e f xs ys q = cc
 never_nil : (e : Timed) (xs : List Timed) → [] ≡ e ∷ xs → ⊥
 never_nil e xs q = cc
 
-caused_from : (plan : Plan) (before rest : List Timed) → AllCaused plan before rest → (front after : List Timed) (e : Timed) → rest ≡ front ++ e ∷ after → IsDue plan (before ++ front) e
+caused_from : (plan : Plan) (before rest : List Timed) → AllCaused plan before rest → (prefix after : List Timed) (e : Timed) → rest ≡ prefix ++ e ∷ after → IsDue plan (before ++ prefix) e
 unfolding AllCaused
 caused_from plan before [] c [] after e q = absurd (never_nil e after q)
-caused_from plan before [] c (f ∷ front) after e q = absurd (never_nil f (front ++ e ∷ after) q)
+caused_from plan before [] c (f ∷ prefix) after e q = absurd (never_nil f (prefix ++ e ∷ after) q)
 caused_from plan before (g ∷ rest) c [] after e q = subst (λ l. IsDue plan l e) (sym (append-nil before)) (subst (IsDue plan before) (head_same g e rest after q) c.0)
-caused_from plan before (g ∷ rest) c (f ∷ front) after e q =
-    let h = head_same g f rest (front ++ e ∷ after) q in
-    subst (λ l. IsDue plan l e) (append_assoc before (f ∷ []) front)
-    (caused_from plan (before ++ f ∷ []) rest (subst (λ z. AllCaused plan (before ++ z ∷ []) rest) h c.1) front after e (tail_same g f rest (front ++ e ∷ after) q))
+caused_from plan before (g ∷ rest) c (f ∷ prefix) after e q =
+    let h = head_same g f rest (prefix ++ e ∷ after) q in
+    subst (λ l. IsDue plan l e) (append_assoc before (f ∷ []) prefix)
+    (caused_from plan (before ++ f ∷ []) rest (subst (λ z. AllCaused plan (before ++ z ∷ []) rest) h c.1) prefix after e (tail_same g f rest (prefix ++ e ∷ after) q))
 
 -- ---- the plan and its events
 

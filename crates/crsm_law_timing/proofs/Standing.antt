@@ -122,8 +122,8 @@ pub record Shows (plan : Plan) (before : List Timed) (e : Timed) (w v : World) (
   pub gained : packets_weight v.packets + credit ≤ packets_weight w.packets
   pub spent : body_size kept + 100 + out_weight k out + weight_issued (issued_in q) ≤ weight_issued (issued_in a.part) + credit
 
-drop_front : {A : Type 0} (xs ys : List A) (n : ℕ) → n ≡ length xs → drop n (xs ++ ys) ≡ ys
-drop_front {A} xs ys n e = ap (λ m. drop m (xs ++ ys)) e ∙ go xs
+drop_prefix : {A : Type 0} (xs ys : List A) (n : ℕ) → n ≡ length xs → drop n (xs ++ ys) ≡ ys
+drop_prefix {A} xs ys n e = ap (λ m. drop m (xs ++ ys)) e ∙ go xs
   where
     go : (xs : List A) → drop (length xs) (xs ++ ys) ≡ ys
     go [] = refl
@@ -177,7 +177,7 @@ module _ (plan : Plan) (fit : FitsPlan plan) (before : List Timed) (e : Timed) (
   sent_now =
       sent_more plan before e ∙ ap (λ z. sent plan before ++ sends_by z e) (sym w_is)
       ∙ ap (λ ps. sent plan before ++ map (λ m. record { moment = e.moment; packet = m }) (drop (length w.packets) ps)) packets_now
-      ∙ ap (λ ps. sent plan before ++ map (λ m. record { moment = e.moment; packet = m }) ps) (drop_front v.packets (map (packet_of k) out) (length w.packets) (sym shows.step.size))
+      ∙ ap (λ ps. sent plan before ++ map (λ m. record { moment = e.moment; packet = m }) ps) (drop_prefix v.packets (map (packet_of k) out) (length w.packets) (sym shows.step.size))
 
   from_k : (s : Sent) → Among new s → s.packet.from ≡ k
   from_k s m = let t = letter_is e.moment k out s m in ap (λ (z : Sent). z.packet.from) t.2

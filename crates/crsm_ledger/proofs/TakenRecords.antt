@@ -101,7 +101,7 @@ tail_last d k is =
     let t = entries_bytes d.tail in
     let grouped : e ++ (s ++ (m ++ (b ++ t))) ≡ (e ++ (s ++ (m ++ b))) ++ t =
     ap (λ (x : List ℕ). e ++ (s ++ x)) (sym (append_assoc m b t)) ∙ ap (λ (x : List ℕ). e ++ x) (sym (append_assoc s (m ++ b) t)) ∙ sym (append_assoc e (s ++ (m ++ b)) t) in
-    let front : k ≡ length (e ++ (s ++ (m ++ b))) =
+    let prefix : k ≡ length (e ++ (s ++ (m ++ b))) =
     omega (arith, is, u64_long d.epoch, u64_long d.base_len, length-append e (s ++ (m ++ b)), length-append s (m ++ b), length-append m b) in
-    let within : k ≤ length (e ++ (s ++ (m ++ (b ++ t)))) = omega (arith, front, ap length grouped, length-append (e ++ (s ++ (m ++ b))) t) in
-    (within, ap (drop k) grouped ∙ drop_at (e ++ (s ++ (m ++ b))) t k (sym front))
+    let within : k ≤ length (e ++ (s ++ (m ++ (b ++ t)))) = omega (arith, prefix, ap length grouped, length-append (e ++ (s ++ (m ++ b))) t) in
+    (within, ap (drop k) grouped ∙ drop_at (e ++ (s ++ (m ++ b))) t k (sym prefix))

@@ -22,7 +22,7 @@ use Rattle.crsm_lock.proofs.Firsts.{no_first, one_first, one_next}
 ends_first : (to : ℕ) (command : Command) (outcome : Outcome) (received : List Packet) → EndsWithReply to command outcome received → HasFirstReply to command received outcome []
 ends_first to command outcome received e = record { others = e.others; reply = e.reply; are = e.received_are; none_before = e.none_before; is_reply = e.is_reply }
 
--- and stays it in front of more
+-- and stays it before more
 more_after : (to : ℕ) (command : Command) (outcome : Outcome) (received more : List Packet) → EndsWithReply to command outcome received → HasFirstReply to command (received ++ more) outcome more
 more_after to command outcome received more e = record {
   others = e.others;

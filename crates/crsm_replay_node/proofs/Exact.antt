@@ -31,25 +31,25 @@ module _ (laws : Laws) (me n : ℕ) where
   -- ---- lines
 
   -- a line of what leads to steps is not refused
-  not_refused : (lines front back : List SheetLine) (line : SheetLine) (text : Text) (cause : SheetCause) (steps : List Draft) → LeadTo me n lines steps → lines ≡ front ++ line ∷ back
-      → FitsSheetLine line → text ≡ sheet_line_text line → Refused me n front text cause → ⊥
-  not_refused lines front back line text SheetCause.Unreadable steps leads is fits text_is refused =
-      refused line fits text_is (begins me n lines (front ++ line ∷ []) back steps leads (is ∙ split front))
+  not_refused : (lines prefix back : List SheetLine) (line : SheetLine) (text : Text) (cause : SheetCause) (steps : List Draft) → LeadTo me n lines steps → lines ≡ prefix ++ line ∷ back
+      → FitsSheetLine line → text ≡ sheet_line_text line → Refused me n prefix text cause → ⊥
+  not_refused lines prefix back line text SheetCause.Unreadable steps leads is fits text_is refused =
+      refused line fits text_is (begins me n lines (prefix ++ line ∷ []) back steps leads (is ∙ split prefix))
     where
       split : (ls : List SheetLine) → ls ++ line ∷ back ≡ (ls ++ line ∷ []) ++ back
       split [] = refl
       split (l ∷ ls) = ap (λ (xs : List SheetLine). l ∷ xs) (split ls)
-  not_refused lines front back line text (SheetCause.BadLog entry why) steps leads is fits text_is refused =
+  not_refused lines prefix back line text (SheetCause.BadLog entry why) steps leads is fits text_is refused =
       let is_open : line ≡ Open = laws.one_text line Open fits tt (sym text_is ∙ refused.0) in
-      bad_leads_nowhere laws.kept me n lines front back steps entry why leads (is ∙ ap (λ (l : SheetLine). front ++ l ∷ back) is_open) refused.1
+      bad_leads_nowhere laws.kept me n lines prefix back steps entry why leads (is ∙ ap (λ (l : SheetLine). prefix ++ l ∷ back) is_open) refused.1
 
   -- texts of lines that are replayed fit
   pub fits : (lines : List SheetLine) (shown : Text) → IsReplayed me n lines shown → Fits (sheet_of_node me n) (map sheet_line_text lines)
   fits lines shown is before more text other cause texts_are refused =
       let c = cut lines before more text is.fit texts_are in
       let s = refused.spells in
-      let same : s.lines ≡ c.front = one_lines laws.one_text s.lines c.front s.is.fit c.front_fit (sym s.texts_are ∙ c.before_is) in
-      not_refused lines c.front c.back c.line text cause is.steps is.leads c.is c.line_fits c.text_is
+      let same : s.lines ≡ c.prefix = one_lines laws.one_text s.lines c.prefix s.is.fit c.prefix_fit (sym s.texts_are ∙ c.before_is) in
+      not_refused lines c.prefix c.back c.line text cause is.steps is.leads c.is c.line_fits c.text_is
       (subst (λ (ls : List SheetLine). Refused me n ls text cause) same refused.refused)
 
   -- behind a sheet the input may end

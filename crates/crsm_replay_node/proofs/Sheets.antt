@@ -18,14 +18,14 @@ unfolding sheet_of
 sheet_is bodies turns = refl
 
 -- what leads to steps begins a sheet
-pub begins : (me n : ℕ) (lines front back : List SheetLine) (steps : List Draft) → LeadTo me n lines steps → lines ≡ front ++ back → BeginASheet front
-begins me n lines front back steps (inl p) is = record {
+pub begins : (me n : ℕ) (lines prefix back : List SheetLine) (steps : List Draft) → LeadTo me n lines steps → lines ≡ prefix ++ back → BeginASheet prefix
+begins me n lines prefix back steps (inl p) is = record {
   bodies = p.0.bodies;
   turns = [];
   more = back ++ Open ∷ [];
-  is = sym (append_assoc front back (Open ∷ [])) ∙ ap (λ (ls : List SheetLine). ls ++ Open ∷ []) (sym is ∙ p.0.is) ∙ sym (opened p.0.bodies);
+  is = sym (append_assoc prefix back (Open ∷ [])) ∙ ap (λ (ls : List SheetLine). ls ++ Open ∷ []) (sym is ∙ p.0.is) ∙ sym (opened p.0.bodies);
 }
-begins me n lines front back steps (inr p) is = record { bodies = p.sheet.bodies; turns = p.sheet.turns; more = back; is = sym is ∙ p.sheet.is }
+begins me n lines prefix back steps (inr p) is = record { bodies = p.sheet.bodies; turns = p.sheet.turns; more = back; is = sym is ∙ p.sheet.is }
 
 -- bodies and `open` begin a sheet
 pub open_begins : (lines : List SheetLine) (bodies : List (List ℕ)) → lines ≡ map entry_line bodies → BeginASheet (lines ++ Open ∷ [])
@@ -41,34 +41,34 @@ open_begins lines bodies is = record {
     append_nil_at (l ∷ ls) = ap (λ (xs : List SheetLine). l ∷ xs) (append_nil_at ls)
 
 -- no body's line is `open`
-no_open : (bodies : List (List ℕ)) (front back : List SheetLine) → map entry_line bodies ≡ front ++ Open ∷ back → ⊥
+no_open : (bodies : List (List ℕ)) (prefix back : List SheetLine) → map entry_line bodies ≡ prefix ++ Open ∷ back → ⊥
 no_open [] [] back e = cc
-no_open [] (l ∷ front) back e = cc
+no_open [] (l ∷ prefix) back e = cc
 no_open (b ∷ bodies) [] back e = let heads : Entry b ≡ Open = cc in cc
-no_open (b ∷ bodies) (l ∷ front) back e = let tails : map entry_line bodies ≡ front ++ Open ∷ back = cc in no_open bodies front back tails
+no_open (b ∷ bodies) (l ∷ prefix) back e = let tails : map entry_line bodies ≡ prefix ++ Open ∷ back = cc in no_open bodies prefix back tails
 
 -- the bodies before `open` are those of the sheet
-one_front : (bodies others : List (List ℕ)) (rest back : List SheetLine) → map entry_line bodies ++ Open ∷ rest ≡ map entry_line others ++ Open ∷ back → bodies ≡ others
-one_front [] [] rest back e = refl
-one_front [] (c ∷ others) rest back e = let heads : Open ≡ Entry c = cc in absurd (cc)
-one_front (b ∷ bodies) [] rest back e = let heads : Entry b ≡ Open = cc in absurd (cc)
-one_front (b ∷ bodies) (c ∷ others) rest back e =
+one_prefix : (bodies others : List (List ℕ)) (rest back : List SheetLine) → map entry_line bodies ++ Open ∷ rest ≡ map entry_line others ++ Open ∷ back → bodies ≡ others
+one_prefix [] [] rest back e = refl
+one_prefix [] (c ∷ others) rest back e = let heads : Open ≡ Entry c = cc in absurd (cc)
+one_prefix (b ∷ bodies) [] rest back e = let heads : Entry b ≡ Open = cc in absurd (cc)
+one_prefix (b ∷ bodies) (c ∷ others) rest back e =
     let heads : Entry b ≡ Entry c = cc in
     let body : b ≡ c = cc in
     let tails : map entry_line bodies ++ Open ∷ rest ≡ map entry_line others ++ Open ∷ back = cc in
-    ap (λ (x : List ℕ). x ∷ bodies) body ∙ ap (λ (xs : List (List ℕ)). c ∷ xs) (one_front bodies others rest back tails)
+    ap (λ (x : List ℕ). x ∷ bodies) body ∙ ap (λ (xs : List (List ℕ)). c ∷ xs) (one_prefix bodies others rest back tails)
 
 -- bodies that are no log lead to nothing behind `open`
-pub bad_leads_nowhere : KeptAreNotBad → (me n : ℕ) (lines front back : List SheetLine) (steps : List Draft) (entry why : ℕ) → LeadTo me n lines steps
-    → lines ≡ front ++ Open ∷ back → HoldBadLog me n front entry why → ⊥
-bad_leads_nowhere law me n lines front back steps entry why (inl p) is bad = no_open p.0.bodies front back (sym p.0.is ∙ is)
-bad_leads_nowhere law me n lines front back steps entry why (inr p) is bad =
+pub bad_leads_nowhere : KeptAreNotBad → (me n : ℕ) (lines prefix back : List SheetLine) (steps : List Draft) (entry why : ℕ) → LeadTo me n lines steps
+    → lines ≡ prefix ++ Open ∷ back → HoldBadLog me n prefix entry why → ⊥
+bad_leads_nowhere law me n lines prefix back steps entry why (inl p) is bad = no_open p.0.bodies prefix back (sym p.0.is ∙ is)
+bad_leads_nowhere law me n lines prefix back steps entry why (inr p) is bad =
     let s = p.sheet in
     let whole : map entry_line s.bodies ++ Open ∷ map turn_line s.turns ≡ map entry_line bad.are.bodies ++ Open ∷ back =
     sym (sheet_is s.bodies s.turns) ∙ sym s.is ∙ is ∙ ap (λ (ls : List SheetLine). ls ++ Open ∷ back) bad.are.is in
-    let same : s.bodies ≡ bad.are.bodies = one_front s.bodies bad.are.bodies (map turn_line s.turns) back whole in
+    let same : s.bodies ≡ bad.are.bodies = one_prefix s.bodies bad.are.bodies (map turn_line s.turns) back whole in
     law me n bad.are.bodies s.log entry why (subst (λ (bs : List (List ℕ)). AreKept me n [] bs s.log) same s.kept) bad.bad
 
 -- bodies are those of one list
 pub one_bodies : (bodies others : List (List ℕ)) → map entry_line bodies ≡ map entry_line others → bodies ≡ others
-one_bodies bodies others e = one_front bodies others [] [] (ap (λ (ls : List SheetLine). ls ++ Open ∷ []) e)
+one_bodies bodies others e = one_prefix bodies others [] [] (ap (λ (ls : List SheetLine). ls ++ Open ∷ []) e)

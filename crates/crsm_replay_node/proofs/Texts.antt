@@ -37,13 +37,13 @@ fit_push (l ∷ lines) line fit fits = (fit.0, fit_push lines line fit.1 fits)
 
 -- of the texts of lines, those before one text, it, and those behind it
 pub record Cut (lines : List SheetLine) (before : List Text) (text : Text) : Type 0 where
-  pub front : List SheetLine
+  pub prefix : List SheetLine
   pub line : SheetLine
   pub back : List SheetLine
-  pub is : lines ≡ front ++ line ∷ back
-  pub before_is : before ≡ map sheet_line_text front
+  pub is : lines ≡ prefix ++ line ∷ back
+  pub before_is : before ≡ map sheet_line_text prefix
   pub text_is : text ≡ sheet_line_text line
-  pub front_fit : AllByRecursion FitsSheetLine front
+  pub prefix_fit : AllByRecursion FitsSheetLine prefix
   pub line_fits : FitsSheetLine line
 
 heads : {A : Type 0} (x y : A) (xs ys : List A) → x ∷ xs ≡ y ∷ ys → x ≡ y
@@ -57,26 +57,26 @@ pub cut : (lines : List SheetLine) (before more : List Text) (text : Text) → A
 cut [] [] more text fit e = absurd (cc)
 cut [] (t ∷ before) more text fit e = absurd (cc)
 cut (l ∷ lines) [] more text fit e = record {
-  front = [];
+  prefix = [];
   line = l;
   back = lines;
   is = refl;
   before_is = refl;
   text_is = sym (heads (sheet_line_text l) text (map sheet_line_text lines) more e);
-  front_fit = tt;
+  prefix_fit = tt;
   line_fits = fit.0;
 }
 cut (l ∷ lines) (t ∷ before) more text fit e =
     let c = cut lines before more text fit.1 (tails (sheet_line_text l) t (map sheet_line_text lines) (before ++ text ∷ more) e) in
     let head : t ≡ sheet_line_text l = sym (heads (sheet_line_text l) t (map sheet_line_text lines) (before ++ text ∷ more) e) in
     record {
-      front = l ∷ c.front;
+      prefix = l ∷ c.prefix;
       line = c.line;
       back = c.back;
       is = ap (λ (ls : List SheetLine). l ∷ ls) c.is;
       before_is = ap (λ (x : Text). x ∷ before) head ∙ ap (λ (ts : List Text). sheet_line_text l ∷ ts) c.before_is;
       text_is = c.text_is;
-      front_fit = (fit.0, c.front_fit);
+      prefix_fit = (fit.0, c.prefix_fit);
       line_fits = c.line_fits;
     }
 

@@ -26,7 +26,7 @@ use Rattle.crsm_rerun.specs.Sheets.{BeginASheet, LeadTo, replica_after, replica_
 use Rattle.crsm_rerun.specs.Stages.{AnswersAll, BootsOn, IfBadLog, IsNothing, IsRefusal, Runs, StageAdvances, StageStands, TakesLine}
 use Rattle.crsm_rerun.specs.Texts.{ending_of, shown_text, steps_text}
 use Rattle.crsm_rerun.specs.Replaying.{AddsText, Advances, Ends, IsNoSheet, RerunStands}
-use Rattle.crsm_rerun.proofs.Fronts.{IsNoTurn, bodies_are_no_sheet, bodies_more, not_before_open, not_behind_open, opened, turns_more}
+use Rattle.crsm_rerun.proofs.Prefixes.{IsNoTurn, bodies_are_no_sheet, bodies_more, not_before_open, not_behind_open, opened, turns_more}
 use Rattle.crsm_rerun.proofs.Steps.{after_boot, after_more, outputs_boot, outputs_more}
 use Rattle.crsm_rerun.proofs.StepTexts.{shown_more}
 

@@ -9,7 +9,7 @@ use Rattle.clap.specs.declared.error.Error.{Error}
 use Rattle.clap.specs.declared.error.kind.ErrorKind.{ErrorKind}
 use Rattle.clap.specs.declared.error.kind.ErrorKind.TheVariants.{OutOfMemory}
 use Rattle.crsm_words.specs.Answers.{AnswersError, IsShown, OrderBy, OrderMade, OrderRefused, Reads, RefusedFor, TaskBy, TaskFor, asked, asks_text, at_fault, fault, for_nothing, memory, no_memory, nothing, order, shown, text, text_of_cluster}
-use Rattle.crsm_words.specs.Orders.{Asks, AsksFor, InFront, NamesCluster, behind, front}
+use Rattle.crsm_words.specs.Orders.{Asks, AsksFor, InFront, NamesCluster, task_words, cluster_words}
 use Rattle.crsm_words.specs.Plans.{HasOwnPeer}
 use Rattle.crsm_words.specs.Split.{is_usage, taken}
 use Rattle.crsm_words.specs.Table.{product_app}
@@ -76,7 +76,7 @@ shown_nowhere Delay is names = names
 shown_nowhere DelayTimes is names = names
 shown_nowhere ReplayMp is names = names
 
-some_front : (number : Text) (rest : List Text) → front (codes "cluster" ∷ number ∷ rest) ≡ [] → ⊥
+some_front : (number : Text) (rest : List Text) → cluster_words (codes "cluster" ∷ number ∷ rest) ≡ [] → ⊥
 some_front number rest e = cc e
 
 pub any_in : (result : Result Order Refusal) (cluster : ℕ) (number : Text) (task : Task) (rest : List Text) → 0 < cluster → cluster < 2 ^ 64 → number ≡ decimal cluster
@@ -131,7 +131,7 @@ shown_peer ReplayMp is = tt
 
 made_peer : (words : List Text) (o : Order) → OrderMade words o → HasOwnPeer o.task
 made_peer words o (text no_front is_text why) = shown_peer o.task is_text
-made_peer words o (order none in_front asks) = own_peer o.task (taken (behind words)) asks
+made_peer words o (order none in_front asks) = own_peer o.task (taken (task_words words)) asks
 
 pub peer_by : (words : List Text) (result : Result Order Refusal) → OrderBy words result → IfOk result (λ o. HasOwnPeer o.task)
 peer_by words (Ok o) by = made_peer words o by
@@ -150,11 +150,11 @@ two_words f (w ∷ v ∷ ws) x y some first second =
     let rest : take (length (w ∷ v ∷ ws) - 2) (drop 2 (w ∷ v ∷ ws)) ≡ ws = take_rest (w ∷ v ∷ ws) 2 in
     (λ i. f (sym first i) ∷ f (sym second i) ∷ map f (sym rest i))
 
-pub few_words : (ws : List Text) → length ws < 2 → (front ws ≡ []) × (behind ws ≡ ws)
+pub few_words : (ws : List Text) → length ws < 2 → (cluster_words ws ≡ []) × (task_words ws ≡ ws)
 few_words [] few = (refl, refl)
 few_words (w ∷ []) few = (refl, refl)
 few_words (w ∷ v ∷ ws) few = absurd (omega (arith, few))
 
-pub other_words : (ws rest : List Text) (word number : Text) → ws ≡ word ∷ number ∷ rest → bytes_eq word (codes "cluster") ≡ false → (front ws ≡ []) × (behind ws ≡ ws)
+pub other_words : (ws rest : List Text) (word number : Text) → ws ≡ word ∷ number ∷ rest → bytes_eq word (codes "cluster") ≡ false → (cluster_words ws ≡ []) × (task_words ws ≡ ws)
 other_words ws rest word number is other =
-    (ap front is ∙ ap (λ (b : Bool). cond b (word ∷ number ∷ []) []) other, ap behind is ∙ ap (λ (b : Bool). cond b rest (word ∷ number ∷ rest)) other ∙ sym is)
+    (ap cluster_words is ∙ ap (λ (b : Bool). cond b (word ∷ number ∷ []) []) other, ap task_words is ∙ ap (λ (b : Bool). cond b rest (word ∷ number ∷ rest)) other ∙ sym is)

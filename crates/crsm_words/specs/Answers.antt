@@ -6,7 +6,7 @@ use Rattle.clap.specs.declared.error.kind.ErrorKind.{ErrorKind}
 use Rattle.clap.specs.declared.error.kind.ErrorKind.TheVariants.{DisplayHelp, DisplayVersion}
 use Rattle.crsm_text.specs.declared.error.LineError.{LineError}
 use Rattle.crsm_text.specs.declared.error.LineError.TheVariants.{Unreadable, NoMemory as OutOfMemory}
-use Rattle.crsm_words.specs.Orders.{Asks, InFront, behind, front}
+use Rattle.crsm_words.specs.Orders.{Asks, InFront, task_words, cluster_words}
 use Rattle.crsm_words.specs.Split.{is_usage, taken}
 use Rattle.crsm_words.specs.Table.{product_app}
 use Rattle.crsm_words.specs.declared.order.Order.{Order}
@@ -55,14 +55,14 @@ abbrev pub TaskBy : List Text → Result Task Refusal → Type 0
 TaskBy words result = MatchResult result (TaskFor words) (RefusedFor words)
 
 pub data OrderMade (words : List Text) (made : Order) : Type 0 where
-  text : front words ≡ [] → IsShown made.task → list_any asks_text (fault_of product_app words) ≡ true → OrderMade words made
-  order : fault_of product_app (behind words) ≡ [] → InFront made (front words) → Asks made.task (taken (behind words)) → OrderMade words made
+  text : cluster_words words ≡ [] → IsShown made.task → list_any asks_text (fault_of product_app words) ≡ true → OrderMade words made
+  order : fault_of product_app (task_words words) ≡ [] → InFront made (cluster_words words) → Asks made.task (taken (task_words words)) → OrderMade words made
 
 pub data OrderRefused (words : List Text) (r : Refusal) : Type 0 where
   memory : r ≡ NoMemory → OrderRefused words r
-  fault : r ≡ Usage → list_any is_usage (fault_of product_app (behind words)) ≡ true → OrderRefused words r
-  text_of_cluster : r ≡ Usage → front words ≢ [] → list_any asks_text (fault_of product_app (behind words)) ≡ true → OrderRefused words r
-  nothing : r ≡ Usage → ((order : Order) → InFront order (front words) → Asks order.task (taken (behind words)) → ⊥) → OrderRefused words r
+  fault : r ≡ Usage → list_any is_usage (fault_of product_app (task_words words)) ≡ true → OrderRefused words r
+  text_of_cluster : r ≡ Usage → cluster_words words ≢ [] → list_any asks_text (fault_of product_app (task_words words)) ≡ true → OrderRefused words r
+  nothing : r ≡ Usage → ((order : Order) → InFront order (cluster_words words) → Asks order.task (taken (task_words words)) → ⊥) → OrderRefused words r
 
 abbrev pub OrderBy : List Text → Result Order Refusal → Type 0
 OrderBy words result = MatchResult result (OrderMade words) (OrderRefused words)

@@ -123,16 +123,16 @@ NamesCluster (Operate to members) = Unit {0}
 NamesCluster _ = ⊥
 
 -- the number of a cluster with the word before it, where the words begin with these
-abbrev pub front : List Text → List Text
-front [] = []
-front (word ∷ []) = []
-front (word ∷ number ∷ rest) = if bytes_eq word (codes "cluster") then word ∷ number ∷ [] else []
+abbrev pub cluster_words : List Text → List Text
+cluster_words [] = []
+cluster_words (word ∷ []) = []
+cluster_words (word ∷ number ∷ rest) = if bytes_eq word (codes "cluster") then word ∷ number ∷ [] else []
 
 -- the words behind them
-abbrev pub behind : List Text → List Text
-behind [] = []
-behind (word ∷ []) = word ∷ []
-behind (word ∷ number ∷ rest) = if bytes_eq word (codes "cluster") then rest else word ∷ number ∷ rest
+abbrev pub task_words : List Text → List Text
+task_words [] = []
+task_words (word ∷ []) = word ∷ []
+task_words (word ∷ number ∷ rest) = if bytes_eq word (codes "cluster") then rest else word ∷ number ∷ rest
 
 -- no cluster is named, or this one by who may
 abbrev pub InFront : Order → List Text → Type 0
@@ -142,4 +142,4 @@ InFront order (word ∷ number ∷ rest) = (0 < order.cluster) × (order.cluster
 
 -- the words ask for the order
 abbrev pub AsksFor : Order → List Text → Type 0
-AsksFor order words = InFront order (front words) × Asks order.task (behind words)
+AsksFor order words = InFront order (cluster_words words) × Asks order.task (task_words words)

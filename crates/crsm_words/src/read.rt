@@ -4,7 +4,7 @@ ghost use Rattle.std.specs.Prelude.{◌≡◌, ◌<◌, ◌^◌, ◌↔◌, ◌�
 ghost use Rattle.std.specs.List.{All};
 ghost use Rattle.clap.specs.Words.{kind_of, subcommand_rows_of};
 ghost use Rattle.crsm_words.specs.Answers.{AnswersError, OrderBy, Reads, TaskBy};
-ghost use Rattle.crsm_words.specs.Orders.{Asks, AsksFor, NamesCluster, behind, front, texts};
+ghost use Rattle.crsm_words.specs.Orders.{Asks, AsksFor, NamesCluster, task_words, cluster_words, texts};
 ghost use Rattle.crsm_words.specs.Plans.{HasOwnPeer};
 ghost use Rattle.crsm_words.specs.Split.{IsPlain, parts};
 ghost use Rattle.crsm_words.specs.declared.order.Order.{Order as AskedOrder};
@@ -168,7 +168,7 @@ fn order_in(alloc: Global, number: &str, rest: &[String]) -> Result<Order, Refus
 /// The word behind `cluster`, and those behind that one.
 pub(crate) fn cluster_words<'a>(words: &'a [String]) -> Option<(&'a str, &'a [String])>
     ensures found { IfSome result (λ w. map string_bytes words.now ≡ codes "cluster" ∷ w.0.now ∷ map string_bytes w.1.now) }
-    ensures none { IfNone result ((front (map string_bytes words.now) ≡ []) × (behind (map string_bytes words.now) ≡ map string_bytes words.now)) }
+    ensures none { IfNone result ((cluster_words (map string_bytes words.now) ≡ []) × (task_words (map string_bytes words.now) ≡ map string_bytes words.now)) }
 {
     if words.len() < 2 {
         return None;

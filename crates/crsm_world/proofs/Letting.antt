@@ -70,10 +70,10 @@ got_behind xs zero i = let z : 0 + i ≡ i = omega arith in ap (slice_get xs) z
 got_behind [] (suc n) i = refl
 got_behind (x ∷ xs) (suc n) i = let z : suc n + i ≡ suc (n + i) = omega arith in ap (slice_get (x ∷ xs)) z ∙ got_behind xs n i
 
-got_front : {X : Type 0} (xs ys : List X) (i : ℕ) (x : X) → slice_get xs i ≡ Some x → slice_get (xs ++ ys) i ≡ Some x
-got_front [] ys i x e = cc
-got_front (a ∷ xs) ys zero x e = e
-got_front (a ∷ xs) ys (suc i) x e = got_front xs ys i x e
+got_prefix : {X : Type 0} (xs ys : List X) (i : ℕ) (x : X) → slice_get xs i ≡ Some x → slice_get (xs ++ ys) i ≡ Some x
+got_prefix [] ys i x e = cc
+got_prefix (a ∷ xs) ys zero x e = e
+got_prefix (a ∷ xs) ys (suc i) x e = got_prefix xs ys i x e
 
 abbrev bytes_of : Sent → List ℕ
 bytes_of d = d.bytes
@@ -84,7 +84,7 @@ text_of s = datagram_bytes s.datagram
 pub spelt_here : (sends : List Send) (more : List (List ℕ)) (sent : List Sent) (first : ℕ) → drop first (map bytes_of sent) ≡ map text_of sends ++ more → AreSpelt sends sent first
 spelt_here sends more sent first e i s here =
     got_map bytes_of sent (first + i) ∙ got_behind (map bytes_of sent) first i ∙ ap (λ ts. slice_get ts i) e
-    ∙ got_front (map text_of sends) more i (text_of s) (sym (got_map text_of sends i) ∙ ap (option_map text_of) here)
+    ∙ got_prefix (map text_of sends) more i (text_of s) (sym (got_map text_of sends i) ∙ ap (option_map text_of) here)
 
 -- those of one step alone
 pub spelt_one : (step : Step) (x : Draft) (port : Memory) (first : ℕ) → Makes step x → Sends port first (x ∷ []) → AreSpelt step.batch.sends port.sent first

@@ -1,5 +1,5 @@
 use Rattle.crsm_sheet.specs.declared.line.SheetLine.TheVariants.{Entry}
-use Rattle.crsm_rerun.proofs.Fronts.{entry_is_no_turn}
+use Rattle.crsm_rerun.proofs.Prefixes.{entry_is_no_turn}
 use Rattle.crsm_rerun.proofs.Stages.{refused_late}
 use Rattle.crsm_rerun.proofs.stage.Stage.find.Goals as goal
 

@@ -3,7 +3,7 @@ use Rattle.std.proofs.lemmas.Result.{err_from_is_err_and}
 use Rattle.crsm_sheet.specs.declared.line.SheetLine.TheVariants.{Open}
 use Rattle.crsm_rerun.specs.declared.stage.Stage.{Stage}
 use Rattle.crsm_rerun.specs.Stages.{StageStands}
-use Rattle.crsm_rerun.proofs.Fronts.{open_is_no_turn}
+use Rattle.crsm_rerun.proofs.Prefixes.{open_is_no_turn}
 use Rattle.crsm_rerun.proofs.Stages.{opens, refused_late, refused_log}
 use Rattle.crsm_rerun.proofs.stage.Stage.open.Goals as goal
 

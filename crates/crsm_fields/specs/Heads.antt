@@ -5,9 +5,9 @@ use Rattle.crsm_base.specs.declared.Entry.{Entry}
 use Rattle.crsm_base.specs.Spelling.{key_bytes, stamp_bytes, u64_bytes}
 
 -- the numbers of a command, the tag of its operation and the key
-abbrev pub command_front : Command → ℕ → List ℕ → List ℕ
-command_front command tag key = u64_bytes command.client ++ (u64_bytes command.number ++ tag ∷ key_bytes key)
+abbrev pub command_head : Command → ℕ → List ℕ → List ℕ
+command_head command tag key = u64_bytes command.client ++ (u64_bytes command.number ++ tag ∷ key_bytes key)
 
 -- the same of an entry, behind its epoch and stamp
-abbrev pub entry_front : Entry → ℕ → List ℕ → List ℕ
-entry_front entry tag key = (u64_bytes entry.epoch ++ stamp_bytes entry.stamp) ++ command_front entry.command tag key
+abbrev pub entry_head : Entry → ℕ → List ℕ → List ℕ
+entry_head entry tag key = (u64_bytes entry.epoch ++ stamp_bytes entry.stamp) ++ command_head entry.command tag key
