@@ -13,3 +13,7 @@ IsSpent core = core.is_spent ≡ true
 pub record MpCoreStands (core : MpCore) (r : Replica) : Type 0 where
   pub unspent : core.is_spent ≡ false
   pub stands : MpReplicaStands core.state (begun r)
+
+-- for each replica that the core stands for
+abbrev pub WhereCore : MpCore → (Replica → Type 0) → Type 0
+WhereCore core P = (r : Replica) → MpCoreStands core r → P r

@@ -1,5 +1,15 @@
 //! The core.
 
+ghost use Rattle.std.specs.Prelude.{◌<◌, ◌≤◌, [], IfOk, IsErr};
+ghost use Rattle.crsm_mpspec.specs.Log.{Log};
+ghost use Rattle.crsm_mpspec.specs.Replica.{fresh};
+ghost use Rattle.crsm_mpspec.specs.Step as steps;
+ghost use Rattle.crsm_mpledger.specs.MpLedger.{MpLedgerStands};
+ghost use Rattle.crsm_mpledger.specs.Sound.{AreBodies, IsSound};
+ghost use Rattle.crsm_mpreplica.specs.Fitting.{FitsInput};
+ghost use Rattle.crsm_mpreplica.specs.Made.{Answers, outcome_of};
+ghost use Rattle.crsm_mpcore.specs.Core.{IsSpent, MpCoreStands, WhereCore};
+
 use crate::step;
 use crsm_base::{Bodies, NoMemory};
 use crsm_mpledger::MpLedger;
@@ -16,7 +26,11 @@ pub struct MpCore {
 
 impl MpCore {
     /// Replica `me` of `n`, of the bodies of its own log. Its boot is on record.
-    pub fn recover(alloc: Global, me: u32, n: u32, bodies: &Bodies) -> Result<MpCore, NoMemory> {
+    pub fn recover(alloc: Global, me: u32, n: u32, bodies: &Bodies) -> Result<MpCore, NoMemory>
+        requires mine { me < n }
+        requires most { n ≤ 15 }
+        ensures { IfOk result (λ core. (log : Log) → AreBodies [] bodies.now log → IsSound log → MpCoreStands core (fresh me n log)) }
+    {
         let ledger = MpLedger::recover(alloc, bodies)?;
         Ok(MpCore {
             state: MpReplica::new(alloc, me, n, ledger),
@@ -25,7 +39,13 @@ impl MpCore {
     }
 
     /// One step. A message comes from replica `from`. What it has made is to be kept and then sent.
-    pub fn step(&mut self, input: &MpInput, from: u32) -> Result<MpBatch, NoMemory> {
+    #[tactic(auto, unfolding(crate::specs::Core::IsSpent))]
+    pub fn step(&mut self, input: &MpInput, from: u32) -> Result<MpBatch, NoMemory>
+        requires { FitsInput input.now }
+        ensures made { WhereCore self.old (λ r. IfOk result (λ batch. Answers batch (outcome_of (steps.step r input.now from)))) }
+        ensures stands { WhereCore self.old (λ r. IfOk result (λ batch. MpCoreStands self.new (steps.step r input.now from).replica)) }
+        ensures spent { IsErr result → IsSpent self.new }
+    {
         if self.is_spent {
             return Err(NoMemory);
         }
@@ -38,7 +58,9 @@ impl MpCore {
     }
 
     /// What the records of its log say.
-    pub fn ledger(&self) -> &MpLedger {
+    pub fn ledger(&self) -> &MpLedger
+        ensures { WhereCore self.now (λ r. MpLedgerStands result.now r.log) }
+    {
         self.state.ledger()
     }
 }

@@ -22,3 +22,11 @@ MpWorldStands w v = StandsInside w v
 -- memory ran out in it: nothing is promised any more
 unfoldable pub IsSpent : MpWorld → Type 0
 IsSpent w = w.is_spent ≡ true
+
+-- for each world on paper that the world stands for
+abbrev pub WhereStands : MpWorld → (World → Type 0) → Type 0
+WhereStands w P = (v : World) → MpWorldStands w v → P v
+
+-- for each world on paper whose parts the world holds
+abbrev pub WhereHolds : MpWorld → (World → Type 0) → Type 0
+WhereHolds w P = (v : World) → Holds w v → P v

@@ -1,5 +1,13 @@
 //! The world of a store with a leader.
 
+ghost use Rattle.std.specs.Prelude.{◌≡◌, ◌≢◌, ◌≤◌, None, [], IfOk, IfErr, IsErr, IsErrOf};
+ghost use Rattle.crsm_schedule.specs.Grammar.{FitsEvent};
+ghost use Rattle.crsm_mpspec.specs.Moments.{act};
+ghost use Rattle.crsm_mpspec.specs.Possible.{possible};
+ghost use Rattle.crsm_mpspec.specs.World as on_paper;
+ghost use Rattle.crsm_mpworld.specs.Doing.{act_of, cause_of};
+ghost use Rattle.crsm_mpworld.specs.World.{IsSpent, MpWorldStands, WhereStands, WhereHolds, Holds};
+
 use crate::network::MpNetwork;
 use crate::sites::Sites;
 use crsm_base::NoMemory;
@@ -23,7 +31,12 @@ pub struct MpWorld {
 
 impl MpWorld {
     /// A world of so many replicas, which have just booted, and the lines of their boots.
-    pub fn new(alloc: Global, n: u32) -> Result<(MpWorld, MpLines), NoMemory> {
+    pub fn new(alloc: Global, n: u32) -> Result<(MpWorld, MpLines), NoMemory>
+        requires some { 1 ≤ n }
+        requires most { n ≤ 15 }
+        ensures world { IfOk result (λ made. MpWorldStands made.0 (on_paper.begin n)) }
+        ensures lines { IfOk result (λ made. made.1 ≡ on_paper.first_lines n) }
+    {
         let mut world = MpWorld {
             alloc,
             n,
@@ -41,7 +54,17 @@ impl MpWorld {
     }
 
     /// Does an event, and gives its lines. After a cause other than memory the world is as before.
-    pub fn step(&mut self, event: &Event) -> Result<MpLines, MpBad> {
+    #[tactic(auto, unfolding(crate::specs::World::MpWorldStands, crate::specs::World::IsSpent))]
+    pub fn step(&mut self, event: &Event) -> Result<MpLines, MpBad>
+        requires { FitsEvent event.now }
+        ensures possible { WhereStands self.old (λ v. IfOk result (λ lines. possible v (act_of event.now) ≡ None)) }
+        ensures world { WhereStands self.old (λ v. IfOk result (λ lines. MpWorldStands self.new (act v (act_of event.now)).after)) }
+        ensures lines { WhereStands self.old (λ v. IfOk result (λ lines. lines ≡ (act v (act_of event.now)).lines)) }
+        ensures bad { WhereStands self.old (λ v. IfErr result (λ bad. bad ≢ MpBad.NoMemory → possible v (act_of event.now) ≡ cause_of bad)) }
+        ensures unchanged { WhereStands self.old (λ v. IfErr result (λ bad. bad ≢ MpBad.NoMemory → MpWorldStands self.new v)) }
+        ensures spent { IsErrOf result MpBad.NoMemory → IsSpent self.new }
+        ensures stays_spent { IsSpent self.old → IsErrOf result MpBad.NoMemory }
+    {
         if self.is_spent {
             return Err(MpBad::NoMemory);
         }
@@ -54,19 +77,30 @@ impl MpWorld {
     }
 
     /// Takes back the lines of a step, so that the next step uses their room.
-    pub fn take_back(&mut self, lines: MpLines) {
+    #[tactic(auto, unfolding(crate::specs::World::MpWorldStands, crate::specs::World::IsSpent))]
+    pub fn take_back(&mut self, lines: MpLines)
+        ensures stands { WhereStands self.old (λ v. MpWorldStands self.new v) }
+        ensures stays_spent { IsSpent self.old → IsSpent self.new }
+    {
         self.spare = lines;
     }
 
     /// No lines yet, with the room of those that were taken back.
-    pub(crate) fn no_lines(&mut self) -> MpLines {
+    pub(crate) fn no_lines(&mut self) -> MpLines
+        ensures none { result ≡ [] }
+        ensures holds { WhereHolds self.old (λ v. Holds self.new v) }
+    {
         let mut lines = mem::replace(&mut self.spare, MpLines::new(self.alloc));
         lines.clear();
         lines
     }
 
     /// The last lines.
-    pub fn finals(&self) -> Result<MpLines, NoMemory> {
+    #[tactic(auto, unfolding(crate::specs::World::MpWorldStands, crate::specs::World::IsSpent, crsm_mpspec::specs::World::finals))]
+    pub fn finals(&self) -> Result<MpLines, NoMemory>
+        ensures lines { WhereStands self.now (λ v. IfOk result (λ lines. lines ≡ on_paper.finals v)) }
+        ensures spent { IsSpent self.now → IsErr result }
+    {
         if self.is_spent {
             return Err(NoMemory);
         }
