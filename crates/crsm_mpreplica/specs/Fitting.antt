@@ -1,5 +1,5 @@
 -- Which messages and inputs can be kept and sent: ballots and commands have spellings, and no slot is the last number.
-use Rattle.std.specs.Prelude.{◌<◌}
+use Rattle.std.specs.Prelude.{ℕ, ◌<◌}
 use Rattle.std.specs.List.{AllByRecursion}
 use Rattle.crsm_base.specs.Spelling.{FitsBallot, FitsCommand, FitsOption}
 use Rattle.crsm_spec.specs.Clock.{u64_max}
@@ -7,12 +7,20 @@ use Rattle.crsm_mpspec.specs.declared.accepts.MpAccepted.{MpAccepted}
 use Rattle.crsm_mpspec.specs.declared.choices.MpChosen.{MpChosen}
 use Rattle.crsm_mpspec.specs.declared.message.MpMessage.{MpMessage}
 use Rattle.crsm_mpspec.specs.declared.input.MpInput.{MpInput}
-use Rattle.crsm_mpspec.specs.Types.{Value}
+use Rattle.crsm_mpspec.specs.Types.{Ballot, Value}
 use Rattle.crsm_mpspec.specs.Replica.{Report}
 
 -- the value has a spelling
 abbrev pub FitsValue : Value → Type 0
 FitsValue v = FitsOption FitsCommand v
+
+-- what is accepted at a slot fits
+abbrev pub FitsAccept : ℕ → Ballot → Value → Type 0
+FitsAccept slot b v = (slot < u64_max) × FitsBallot b × FitsValue v
+
+-- what is chosen at a slot fits
+abbrev pub FitsChoice : ℕ → Value → Type 0
+FitsChoice slot v = (slot < u64_max) × FitsValue v
 
 abbrev pub FitsAccepted : MpAccepted → Type 0
 FitsAccepted a = (a.slot < u64_max) × FitsBallot a.ballot × FitsValue a.value

@@ -29,3 +29,7 @@ WhereStands state P = (x : Draft) → MpReplicaStands state x → P x
 -- Whatever the old state stood for, the new one stands for what this makes of it; or memory ran out.
 abbrev pub Makes : (Draft → Draft) → MpReplica → Result (Unit {0}) NoMemory → MpReplica → Type 0
 Makes change old result new = IfOk result (λ _. WhereStands old (λ x. MpReplicaStands new (change x)))
+
+-- The same of the drafts of which this holds.
+abbrev pub MakesWhere : (Draft → Type 0) → (Draft → Draft) → MpReplica → Result (Unit {0}) NoMemory → MpReplica → Type 0
+MakesWhere Premise change old result new = IfOk result (λ _. WhereStands old (λ x. Premise x → MpReplicaStands new (change x)))

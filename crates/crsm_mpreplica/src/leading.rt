@@ -19,8 +19,7 @@ use std::collections::BTreeMap;
 impl MpReplica {
     /// From now on the replica leads in a ballot, and `next` is the slot of the next command.
     pub fn lead(&mut self, ballot: Ballot, next: u64)
-        requires { FitsBallot ballot }
-        ensures { (x : Draft) (start : ℕ) (reports : List Report) → MpReplicaStands self.old x → MpReplicaStands self.new (drafts.noting (NoteOnPaper.Leading ballot start next reports []) x) }
+        ensures { (x : Draft) (start : ℕ) (reports : List Report) → MpReplicaStands self.old x → FitsBallot ballot → MpReplicaStands self.new (drafts.noting (NoteOnPaper.Leading ballot start next reports []) x) }
     {
         self.note = Note::Leading(Leading {
             ballot,

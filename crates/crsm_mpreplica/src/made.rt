@@ -37,8 +37,7 @@ impl Made {
 
     /// One record more, behind its line.
     pub(crate) fn record(&mut self, rec: MpRec) -> Result<(), NoMemory>
-        requires { FitsRec rec }
-        ensures { OnOk result ((o : Outcome) → MadeStands self.old o → MadeStands self.new (record o { batch = o.batch ++ rec ∷ [] })) }
+        ensures { OnOk result ((o : Outcome) → MadeStands self.old o → FitsRec rec → MadeStands self.new (record o { batch = o.batch ++ rec ∷ [] })) }
     {
         self.records.push(rec)?;
         Ok(())
@@ -54,8 +53,7 @@ impl Made {
 
     /// One message more.
     pub(crate) fn send(&mut self, to: u32, message: MpMessage) -> Result<(), NoMemory>
-        requires { FitsMessage message }
-        ensures { OnOk result ((o : Outcome) → MadeStands self.old o → MadeStands self.new (record o { sends = o.sends ++ (to, message) ∷ [] })) }
+        ensures { OnOk result ((o : Outcome) → MadeStands self.old o → FitsMessage message → MadeStands self.new (record o { sends = o.sends ++ (to, message) ∷ [] })) }
     {
         self.sends.push(MpSend { to, message })?;
         Ok(())

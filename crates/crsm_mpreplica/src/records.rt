@@ -15,8 +15,9 @@ ghost use Rattle.crsm_mpspec.specs.declared.line.MpLine.{MpLine as Line};
 ghost use Rattle.crsm_mpspec.specs.declared.rec.MpRec.{MpRec as Record};
 ghost use Rattle.crsm_mpledger.specs.MpLedger.{MpLedgerStands, WhereLedger};
 ghost use Rattle.crsm_mpledger.specs.Sound.{MayFollow};
+ghost use Rattle.crsm_mpreplica.specs.Fitting.{FitsAccept, FitsChoice};
 ghost use Rattle.crsm_mpreplica.specs.Made.{MadeStands, Outcome};
-ghost use Rattle.crsm_mpreplica.specs.State.{Makes};
+ghost use Rattle.crsm_mpreplica.specs.State.{MakesWhere};
 
 use crate::made::Made;
 use crate::note::{Note, close, end_below};
@@ -28,9 +29,8 @@ use std::alloc::Global;
 
 /// Keeps a record, with its own line.
 fn keep(ledger: &mut MpLedger, made: &mut Made, rec: MpRec, line: MpLine) -> Result<(), NoMemory>
-    requires { FitsRec rec }
     ensures ledger { OnOk result (WhereLedger ledger.old (λ log. MayFollow log rec → MpLedgerStands ledger.new (rec ∷ log))) }
-    ensures made { OnOk result ((o : Outcome) → MadeStands made.old o → MadeStands made.new (record o { batch = o.batch ++ rec ∷ []; lines = o.lines ++ line ∷ [] })) }
+    ensures made { OnOk result ((o : Outcome) → MadeStands made.old o → FitsRec rec → MadeStands made.new (record o { batch = o.batch ++ rec ∷ []; lines = o.lines ++ line ∷ [] })) }
 {
     made.tell(line)?;
     ledger.follow(&rec)?;
@@ -41,8 +41,7 @@ fn keep(ledger: &mut MpLedger, made: &mut Made, rec: MpRec, line: MpLine) -> Res
 impl MpReplica {
     /// Promises a ballot.
     pub fn promise(&mut self, ballot: Ballot) -> Result<(), NoMemory>
-        requires { FitsBallot ballot }
-        ensures { Makes (drafts.keep (Record.Promise ballot)) self.old result self.new }
+        ensures { MakesWhere (λ x. FitsBallot ballot) (drafts.keep (Record.Promise ballot)) self.old result self.new }
     {
         let line = MpLine::Promise {
             replica: self.me,
@@ -67,10 +66,7 @@ impl MpReplica {
         ballot: Ballot,
         value: Option<Command>,
     ) -> Result<(), NoMemory>
-        requires slot { slot < u64_max }
-        requires ballot { FitsBallot ballot }
-        requires value { FitsOption FitsCommand value }
-        ensures { Makes (drafts.keep_as line (Record.Accept slot ballot value)) self.old result self.new }
+        ensures { MakesWhere (λ x. FitsAccept slot ballot value) (drafts.keep_as line (Record.Accept slot ballot value)) self.old result self.new }
     {
         let rec = MpRec::Accept {
             slot,
@@ -89,10 +85,7 @@ impl MpReplica {
         ballot: Ballot,
         value: &Option<Command>,
     ) -> Result<(), NoMemory>
-        requires slot { slot < u64_max }
-        requires ballot { FitsBallot ballot }
-        requires value { FitsOption FitsCommand value.now }
-        ensures { Makes (drafts.keep (Record.Accept slot ballot value.now)) self.old result self.new }
+        ensures { MakesWhere (λ x. FitsAccept slot ballot value.now) (drafts.keep (Record.Accept slot ballot value.now)) self.old result self.new }
     {
         let line = MpLine::Accept {
             replica: self.me,
@@ -127,9 +120,7 @@ impl MpReplica {
     /// The value of a slot is known to be chosen, unless it was before: it is executed, and what follows it, once all before it
     /// are.
     pub fn choose(&mut self, slot: u64, value: &Option<Command>) -> Result<(), NoMemory>
-        requires slot { slot < u64_max }
-        requires value { FitsOption FitsCommand value.now }
-        ensures { Makes (deciding.choose slot value.now) self.old result self.new }
+        ensures { MakesWhere (λ x. FitsChoice slot value.now) (deciding.choose slot value.now) self.old result self.new }
     {
         if self.ledger.is_chosen(slot) {
             return Ok(());

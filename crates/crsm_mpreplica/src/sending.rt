@@ -2,7 +2,7 @@
 
 ghost use Rattle.crsm_mpspec.specs.Draft as drafts;
 ghost use Rattle.crsm_mpreplica.specs.Fitting.{FitsMessage};
-ghost use Rattle.crsm_mpreplica.specs.State.{Makes};
+ghost use Rattle.crsm_mpreplica.specs.State.{Makes, MakesWhere};
 
 use crate::state::MpReplica;
 use crsm_base::NoMemory;
@@ -11,8 +11,7 @@ use crsm_mpspec::{MpLine, MpMessage};
 impl MpReplica {
     /// Sends a message to a replica.
     pub fn send(&mut self, to: u32, message: MpMessage) -> Result<(), NoMemory>
-        requires { FitsMessage message }
-        ensures { Makes (λ x. drafts.send message x to) self.old result self.new }
+        ensures { MakesWhere (λ x. FitsMessage message) (λ x. drafts.send message x to) self.old result self.new }
     {
         self.made.send(to, message)?;
         Ok(())
@@ -20,8 +19,7 @@ impl MpReplica {
 
     /// Sends a message to each other replica.
     pub fn send_to_others(&mut self, message: &MpMessage) -> Result<(), NoMemory>
-        requires { FitsMessage message.now }
-        ensures { Makes (drafts.send_to_others message.now) self.old result self.new }
+        ensures { MakesWhere (λ x. FitsMessage message.now) (drafts.send_to_others message.now) self.old result self.new }
     {
         for to in 0..self.n {
             if to != self.me {

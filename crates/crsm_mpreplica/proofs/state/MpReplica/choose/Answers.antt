@@ -1,4 +1,4 @@
-use Rattle.std.proofs.Common.{◌∙◌, ◌∷◌, ◌++◌, [], sym, subst, arith}
+use Rattle.std.proofs.Common.{◌∙◌, ◌<◌, ◌^◌, ◌∷◌, ◌++◌, [], sym, subst, arith}
 use Rattle.crsm_base.specs.Spelling.{FitsCommand, FitsOption}
 use Rattle.crsm_spec.specs.Choice.{when◌then◌otherwise◌}
 use Rattle.crsm_mpspec.specs.declared.line.MpLine.{MpLine}
@@ -13,22 +13,24 @@ use Rattle.crsm_mpreplica.proofs.state.MpReplica.choose.Goals as goal
 
 pub returns-then-is_chosen : goal.returns-then-is_chosen
 unfolding choose when◌then◌otherwise◌
-returns-then-is_chosen c x s = rw (sym (c.is_chosen.ensures x.replica.log s.ledger) ∙ c.if-is_chosen.true) s
+returns-then-is_chosen c x s fits = rw (sym (c.is_chosen.ensures x.replica.log s.ledger) ∙ c.if-is_chosen.true) s
 
 pub returns : goal.returns
 unfolding choose when◌then◌otherwise◌ keep keep_as line_of note_after
-returns c x s =
+returns c x s fits =
     let log = x.replica.log in
     let slot = c.args.slot in
     let w = c.in_ok-value.value in
     let unchosen = sym (c.is_chosen.ensures log s.ledger) ∙ c.if-is_chosen.false in
     let before = c.executed_len-before.ensures log s.ledger in
     let grows = c.executed_lists_grow.ensures slot w log unchosen in
-    let follows = c.in_ok-keep.ensures.ledger log s.ledger (c.requires.slot, subst (FitsOption FitsCommand) (sym c.in_ok-value.ensures) c.requires.value, unchosen) in
+    let spelt = subst (FitsOption FitsCommand) (sym c.in_ok-value.ensures) fits.1 in
+    let below : slot < 2 ^ 64 = omega (arith, fits.0) in
+    let follows = c.in_ok-keep.ensures.ledger log s.ledger (fits.0, spelt, unchosen) in
     let made =
     c.in_ok-tell_executed.ensures (MpRec.Choose slot w ∷ log)
     (record (outcome_of x) { batch = x.batch ++ MpRec.Choose slot w ∷ []; lines = x.lines ++ MpLine.Choose c.args.self.now.me slot ∷ [] })
-    follows (omega (arith, before, prefix-len (executed log) (executed (MpRec.Choose slot w ∷ log)) grows)) (c.in_ok-keep.ensures.made (outcome_of x) s.made) in
+    follows (omega (arith, before, prefix-len (executed log) (executed (MpRec.Choose slot w ∷ log)) grows)) (c.in_ok-keep.ensures.made (outcome_of x) s.made (below, spelt)) in
     rw (unchosen, ← c.in_ok-value.ensures)
     (record {
       me = s.me;

@@ -7,7 +7,7 @@ use Rattle.crsm_mpreplica.proofs.state.MpReplica.lead.Goals as goal
 
 pub returns : goal.returns
 unfolding noting open_of slots_of
-returns c x start reports s = record {
+returns c x start reports s fits = record {
   me = s.me;
   n = s.n;
   ledger = s.ledger;
@@ -16,7 +16,7 @@ returns c x start reports s = record {
     next_is = refl;
     open_are = ap (λ es. map (λ e. (e.0, e.1.items)) es) c.new.ensures.empty;
     proposed = tt;
-    ballot_fits = c.requires;
+    ballot_fits = fits;
   };
   waiting = s.waiting;
   made = s.made;
