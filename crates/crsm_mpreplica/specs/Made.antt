@@ -1,5 +1,5 @@
 -- What a step has made so far, in memory.
-use Rattle.std.specs.Prelude.{◌≡◌, ℕ, List, [], ◌++◌, map}
+use Rattle.std.specs.Prelude.{◌≡◌, ℕ, List, [], map}
 use Rattle.std.specs.List.{AllByRecursion}
 use Rattle.crsm_mpspec.specs.declared.batch.MpBatch.{MpBatch}
 use Rattle.crsm_mpspec.specs.declared.line.MpLine.{MpLine}
@@ -44,6 +44,7 @@ pub record MadeStands (made : Made) (o : Outcome) : Type 0 where
 pub record Answers (batch : MpBatch) (o : Outcome) : Type 0 where
   pub records : batch.records ≡ o.batch
   pub sends : batch.sends ≡ map to_send o.sends
-  pub lines : batch.lines ≡ o.lines ++ o.replies
+  pub lines : batch.lines ≡ o.lines
+  pub replies : batch.replies ≡ o.replies
   pub records_fit : AllByRecursion FitsRec o.batch
   pub sends_fit : AllByRecursion FitsSent o.sends

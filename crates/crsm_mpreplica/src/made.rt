@@ -1,6 +1,6 @@
 //! What a step has made so far.
 
-ghost use Rattle.std.specs.Prelude.{◌≡◌, ◌++◌, ◌∷◌, [], IfOk, OnOk};
+ghost use Rattle.std.specs.Prelude.{◌≡◌, ◌++◌, ◌∷◌, [], OnOk};
 ghost use Rattle.crsm_mpspec.specs.Records.{FitsRec};
 ghost use Rattle.crsm_mpreplica.specs.Fitting.{FitsMessage};
 
@@ -68,15 +68,15 @@ impl Made {
     }
 
     /// Hands all of it out, so that nothing is made.
-    pub(crate) fn take(&mut self) -> Result<MpBatch, NoMemory>
-        ensures { IfOk result (λ batch. (o : Outcome) → MadeStands self.old o → Answers batch o × MadeStands self.new nothing) }
+    pub(crate) fn take(&mut self) -> MpBatch
+        ensures out { (o : Outcome) → MadeStands self.old o → Answers result o }
+        ensures none { (o : Outcome) → MadeStands self.old o → MadeStands self.new nothing }
     {
-        let mut lines = mem::replace(&mut self.lines, MpLines::new(self.alloc));
-        lines.append(&mut self.replies)?;
-        Ok(MpBatch {
+        MpBatch {
             records: mem::replace(&mut self.records, MpRecs::new(self.alloc)),
             sends: mem::replace(&mut self.sends, MpSends::new(self.alloc)),
-            lines,
-        })
+            lines: mem::replace(&mut self.lines, MpLines::new(self.alloc)),
+            replies: mem::replace(&mut self.replies, MpLines::new(self.alloc)),
+        }
     }
 }

@@ -1,6 +1,6 @@
 //! The state of a replica.
 
-ghost use Rattle.std.specs.Prelude.{◌≡◌, ◌<◌, ◌≤◌, IfOk};
+ghost use Rattle.std.specs.Prelude.{◌≡◌, ◌<◌, ◌≤◌};
 ghost use Rattle.crsm_mpspec.specs.Draft as drafts;
 ghost use Rattle.crsm_mpspec.specs.Log.{Log};
 ghost use Rattle.crsm_mpspec.specs.Replica.{fresh};
@@ -8,7 +8,7 @@ ghost use Rattle.crsm_mpledger.specs.MpLedger.{MpLedgerStands};
 
 use crate::made::Made;
 use crate::note::Note;
-use crsm_base::{Command, NoMemory};
+use crsm_base::Command;
 use crsm_mpledger::MpLedger;
 use crsm_mpspec::MpBatch;
 use std::alloc::Global;
@@ -90,10 +90,10 @@ impl MpReplica {
     }
 
     /// Hands out what the step has made, so that nothing is made.
-    pub fn take_batch(&mut self) -> Result<MpBatch, NoMemory>
-        ensures { IfOk result (λ batch. WhereStands self.old (λ x. Answers batch (outcome_of x) × MpReplicaStands self.new (drafts.begun x.replica))) }
+    pub fn take_batch(&mut self) -> MpBatch
+        ensures out { WhereStands self.old (λ x. Answers result (outcome_of x)) }
+        ensures none { WhereStands self.old (λ x. MpReplicaStands self.new (drafts.begun x.replica)) }
     {
-        let batch = self.made.take()?;
-        Ok(batch)
+        self.made.take()
     }
 }

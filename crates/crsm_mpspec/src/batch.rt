@@ -11,6 +11,8 @@ pub struct MpBatch {
     pub records: MpRecs,
     /// The messages to be sent, once the records are kept.
     pub sends: MpSends,
-    /// The lines of the records, and behind them those of the replies to clients.
+    /// The lines of the records.
     pub lines: MpLines,
+    /// The lines of the replies to clients.
+    pub replies: MpLines,
 }

@@ -2,8 +2,10 @@ use Rattle.crsm_mpreplica.specs.Made.{outcome_of}
 use Rattle.crsm_mpspec.specs.Draft.{begun}
 use Rattle.crsm_mpreplica.proofs.state.MpReplica.take_batch.Goals as goal
 
-pub returns : goal.returns
+pub returns-clause-out : goal.returns-clause-out
+returns-clause-out c x s = c.take.ensures.out (outcome_of x) s.made
+
+pub returns-clause-none : goal.returns-clause-none
 unfolding begun
-returns c x s =
-    let t = c.in_ok-batch.ensures (outcome_of x) s.made in
-    (t.0, record { me = s.me; n = s.n; ledger = s.ledger; note = s.note; waiting = s.waiting; made = t.1 })
+returns-clause-none c x s =
+    record { me = s.me; n = s.n; ledger = s.ledger; note = s.note; waiting = s.waiting; made = c.take.ensures.none (outcome_of x) s.made }
