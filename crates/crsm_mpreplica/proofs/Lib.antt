@@ -5,3 +5,7 @@ mod NoteLemmas
 mod StateLemmas
 mod CloseLemmas
 mod ChooseLemmas
+mod KeyLemmas
+mod VoteLemmas
+mod ReportLemmas
+mod WaitLemmas

@@ -1,12 +1,13 @@
 -- What a replica is at, in memory.
-use Rattle.std.specs.Prelude.{◌≡◌, ℕ, Bool, true, false, not, IsTrue, List, map, filter}
+use Rattle.std.specs.Prelude.{◌≡◌, ℕ, Bool, true, false, ◌&&◌, not, IsTrue, List, map, filter}
 use Rattle.std.specs.List.{AllByRecursion}
-use Rattle.crsm_base.specs.Order.{ballot_lt}
+use Rattle.crsm_base.specs.Order.{ballot_lt, ballot_eq}
 use Rattle.crsm_base.specs.Spelling.{FitsBallot}
 use Rattle.crsm_spec.specs.Lists.{has}
 use Rattle.crsm_mpspec.specs.Types.{Ballot}
 use Rattle.crsm_mpspec.specs.Log.{Log, is_chosen}
-use Rattle.crsm_mpspec.specs.Replica.{Note as NoteOnPaper, Report as ReportOnPaper, voters_at, slots_of}
+use Rattle.crsm_mpspec.specs.Deciding.{counts}
+use Rattle.crsm_mpspec.specs.Replica.{Replica, Note as NoteOnPaper, Report as ReportOnPaper, has_reported, with_report, voters_at, slots_of}
 use Rattle.crsm_mpreplica.specs.declared.note.Asking.{Asking}
 use Rattle.crsm_mpreplica.specs.declared.note.Leading.{Leading}
 use Rattle.crsm_mpreplica.specs.declared.note.Note.{Note}
@@ -58,3 +59,20 @@ abbrev pub is_lesser : Ballot → NoteOnPaper → Bool
 is_lesser b NoteOnPaper.Idle = false
 is_lesser b (NoteOnPaper.Asking a start reports) = ballot_lt a b
 is_lesser b (NoteOnPaper.Leading a start next reports votes) = ballot_lt a b
+
+-- ---- reports and votes
+
+-- promises of ballot b are asked for, and replica k has not reported
+unfoldable pub awaits_report : Ballot → ℕ → NoteOnPaper → Bool
+awaits_report b k (NoteOnPaper.Asking a start reports) = ballot_eq a b && not (has_reported reports k)
+awaits_report b k _ = false
+
+-- one report more, where reports are asked for
+unfoldable pub note_report : ReportOnPaper → NoteOnPaper → NoteOnPaper
+note_report r (NoteOnPaper.Asking a start reports) = NoteOnPaper.Asking a start (with_report r reports)
+note_report r note = note
+
+-- the replica, which is at this, leads in ballot b, and the vote of replica k at the slot counts
+unfoldable pub awaits_vote : Ballot → ℕ → ℕ → Replica → NoteOnPaper → Bool
+awaits_vote b slot k r (NoteOnPaper.Leading a start next reports votes) = ballot_eq a b && counts slot k votes r
+awaits_vote b slot k r _ = false

@@ -1,6 +1,9 @@
 -- What the state of a replica stands for.
-use Rattle.std.specs.Prelude.{◌≡◌, ℕ, map, Result, IfOk}
+use Rattle.std.specs.Prelude.{◌≡◌, ℕ, ◌<◌, ◌≤◌, Bool, List, length, map, slice_get, Some, Result, IfOk}
+use Rattle.std.specs.List.{AllByRecursion}
 use Rattle.crsm_base.specs.declared.memory.NoMemory.{NoMemory}
+use Rattle.crsm_spec.specs.Choice.{when◌then◌otherwise◌}
+use Rattle.crsm_mpspec.specs.Log.{executed}
 use Rattle.crsm_mpspec.specs.Types.{Command}
 use Rattle.crsm_mpspec.specs.Replica.{Waiting}
 use Rattle.crsm_mpspec.specs.Draft.{Draft}
@@ -33,3 +36,22 @@ Makes change old result new = IfOk result (λ _. WhereStands old (λ x. MpReplic
 -- The same of the drafts of which this holds.
 abbrev pub MakesWhere : (Draft → Type 0) → (Draft → Draft) → MpReplica → Result (Unit {0}) NoMemory → MpReplica → Type 0
 MakesWhere Premise change old result new = IfOk result (λ _. WhereStands old (λ x. Premise x → MpReplicaStands new (change x)))
+
+-- The same of a change that is made only of a draft that passes a test. The result says whether it was made.
+abbrev pub MakesIf : (Draft → Bool) → (Draft → Draft) → MpReplica → Result Bool NoMemory → MpReplica → Type 0
+MakesIf test change old result new =
+    IfOk result (λ made. WhereStands old (λ x. (made ≡ test x) × MpReplicaStands new (when test x then change x otherwise x)))
+
+-- ---- clients that wait
+
+-- the draft with these that wait
+unfoldable pub with_waiting : List Waiting → Draft → Draft
+with_waiting ws x = record x { replica = record x.replica { waiting = ws } }
+
+-- the slot at which the first client waits is executed
+abbrev pub IsFirstDue : Draft → Type 0
+IsFirstDue x = (w : Waiting) × (slice_get x.replica.waiting 0 ≡ Some w) × (w.slot < length (executed x.replica.log))
+
+-- no slot at which a client waits is executed
+abbrev pub NoneDue : Draft → Type 0
+NoneDue x = AllByRecursion (λ w. length (executed x.replica.log) ≤ w.slot) x.replica.waiting

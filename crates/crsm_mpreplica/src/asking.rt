@@ -1,5 +1,15 @@
 //! Promises that are asked for.
 
+ghost use Rattle.std.specs.Prelude.{◌≡◌, ◌∷◌, [], true};
+ghost use Rattle.crsm_base.specs.Spelling.{FitsBallot};
+ghost use Rattle.crsm_mpspec.specs.Draft as drafts;
+ghost use Rattle.crsm_mpspec.specs.Electing as electing;
+ghost use Rattle.crsm_mpspec.specs.Replica.{Note as NoteOnPaper};
+ghost use Rattle.crsm_mpspec.specs.Types.{Ballot as BallotOnPaper};
+ghost use Rattle.crsm_mpreplica.specs.Fitting.{FitsReport};
+ghost use Rattle.crsm_mpreplica.specs.Notes.{awaits_report, note_report, report_of};
+ghost use Rattle.crsm_mpreplica.specs.State.{MakesIf, MakesWhere, WhereStands};
+
 use crate::note::{Asking, Note, Report};
 use crate::state::MpReplica;
 use crsm_base::{Ballot, NoMemory};
@@ -8,7 +18,9 @@ use std::collections::BTreeMap;
 
 impl MpReplica {
     /// Asks for promises of a ballot, of all slots from a first one on. The replica's own report is the first.
-    pub fn begin_asking(&mut self, ballot: Ballot, start: u64) -> Result<(), NoMemory> {
+    pub fn begin_asking(&mut self, ballot: Ballot, start: u64) -> Result<(), NoMemory>
+        ensures { MakesWhere (λ x. FitsBallot ballot) (λ x. drafts.noting (NoteOnPaper.Asking ballot start (electing.report start x.replica ∷ [])) x) self.old result self.new }
+    {
         let own = Report {
             accepted: self.ledger.accepted_from(start)?,
             chosen: self.ledger.chosen_from(start)?,
@@ -31,18 +43,39 @@ impl MpReplica {
         ballot: Ballot,
         accepted: &MpAccepts,
         chosen: &MpChoices,
-    ) -> Result<bool, NoMemory> {
-        let Note::Asking(asking) = &mut self.note else {
-            return Ok(false);
-        };
-        if asking.ballot != ballot || asking.reports.contains_key(&from) {
+    ) -> Result<bool, NoMemory>
+        ensures { FitsReport (record { from = from; accepted = accepted.now; chosen = chosen.now }) → MakesIf (λ x. awaits_report ballot from x.replica.note)
+            (λ x. drafts.noting (note_report (record { from = from; accepted = accepted.now; chosen = chosen.now }) x.replica.note) x) self.old result self.new }
+    {
+        if !self.awaits_report(from, ballot) {
             return Ok(false);
         }
         let report = Report {
             accepted: accepted.copy(self.alloc)?,
             chosen: chosen.copy(self.alloc)?,
         };
-        asking.reports.insert(from, report)?;
+        self.add_report(from, report)?;
         Ok(true)
+    }
+
+    /// Promises of this ballot are asked for, and that replica has not reported.
+    fn awaits_report(&self, from: u32, ballot: Ballot) -> bool
+        ensures { WhereStands self.now (λ x. result ≡ awaits_report ballot from x.replica.note) }
+    {
+        let Note::Asking(asking) = &self.note else {
+            return false;
+        };
+        asking.ballot == ballot && !asking.reports.contains_key(&from)
+    }
+
+    /// Adds the report of a replica that has not reported.
+    fn add_report(&mut self, from: u32, report: Report) -> Result<(), NoMemory>
+        ensures { (b : BallotOnPaper) → FitsReport (report_of (from, report)) →
+            MakesWhere (λ x. awaits_report b from x.replica.note ≡ true) (λ x. drafts.noting (note_report (report_of (from, report)) x.replica.note) x) self.old result self.new }
+    {
+        if let Note::Asking(asking) = &mut self.note {
+            asking.reports.insert(from, report)?;
+        }
+        Ok(())
     }
 }

@@ -1,14 +1,16 @@
 //! A lead.
 
-ghost use Rattle.std.specs.Prelude.{◌≡◌, ◌+◌, ◌<◌, ℕ, List, []};
+ghost use Rattle.std.specs.Prelude.{◌≡◌, ◌+◌, ◌<◌, ℕ, true, List, []};
 ghost use Rattle.crsm_base.specs.Spelling.{FitsBallot};
 ghost use Rattle.crsm_spec.specs.Clock.{u64_max};
+ghost use Rattle.crsm_mpspec.specs.Deciding as deciding;
 ghost use Rattle.crsm_mpspec.specs.Draft as drafts;
 ghost use Rattle.crsm_mpspec.specs.Draft.{Draft};
 ghost use Rattle.crsm_mpspec.specs.Types.{Ballot};
 ghost use Rattle.crsm_mpspec.specs.Electing.{on_no};
-ghost use Rattle.crsm_mpspec.specs.Replica.{Note as NoteOnPaper, Report, without_lead};
-ghost use Rattle.crsm_mpreplica.specs.State.{MpReplicaStands, WhereStands};
+ghost use Rattle.crsm_mpspec.specs.Replica.{Note as NoteOnPaper, Report, votes_of, without_lead};
+ghost use Rattle.crsm_mpreplica.specs.Notes.{awaits_vote};
+ghost use Rattle.crsm_mpreplica.specs.State.{Makes, MakesIf, MakesWhere, MpReplicaStands, WhereStands};
 
 use crate::note::{self, Leading, Note};
 use crate::slots::push_slot;
@@ -53,7 +55,9 @@ impl MpReplica {
     }
 
     /// The replica itself votes for what it proposes at a slot. One whose value is known needs no votes.
-    pub fn open_slot(&mut self, slot: u64) -> Result<(), NoMemory> {
+    pub fn open_slot(&mut self, slot: u64) -> Result<(), NoMemory>
+        ensures { Makes (λ x. drafts.count_vote slot x.replica.me x) self.old result self.new }
+    {
         if self.ledger.is_chosen(slot) {
             return Ok(());
         }
@@ -67,27 +71,47 @@ impl MpReplica {
 
     /// Counts the vote of a replica for an open slot of a lead in this ballot, once for each replica. `false` where it does not
     /// count.
-    pub fn take_vote(&mut self, from: u32, ballot: Ballot, slot: u64) -> Result<bool, NoMemory> {
-        let Note::Leading(leading) = &mut self.note else {
-            return Ok(false);
-        };
-        if leading.ballot != ballot {
-            return Ok(false);
-        }
-        let Some(voters) = leading.open.get(&slot) else {
-            return Ok(false);
-        };
-        if voters.contains(&from) {
+    pub fn take_vote(&mut self, from: u32, ballot: Ballot, slot: u64) -> Result<bool, NoMemory>
+        ensures { MakesIf (λ x. awaits_vote ballot slot from x.replica x.replica.note) (drafts.count_vote slot from) self.old result self.new }
+    {
+        if !self.awaits_vote(from, ballot, slot) {
             return Ok(false);
         }
-        let mut more = Vec::from_slice(self.alloc, voters.as_slice())?;
-        more.push(from)?;
-        leading.open.insert(slot, more)?;
+        self.add_vote(from, slot)?;
         Ok(true)
     }
 
+    /// The replica leads in this ballot, and the vote of that replica for a slot counts.
+    fn awaits_vote(&self, from: u32, ballot: Ballot, slot: u64) -> bool
+        ensures { WhereStands self.now (λ x. result ≡ awaits_vote ballot slot from x.replica x.replica.note) }
+    {
+        let Note::Leading(leading) = &self.note else {
+            return false;
+        };
+        match leading.open.get(&slot) {
+            Some(voters) => leading.ballot == ballot && !voters.contains(&from),
+            None => false,
+        }
+    }
+
+    /// Adds a replica to the voters at an open slot.
+    fn add_vote(&mut self, from: u32, slot: u64) -> Result<(), NoMemory>
+        ensures { MakesWhere (λ x. deciding.counts slot from (votes_of x.replica.note) x.replica ≡ true) (drafts.count_vote slot from) self.old result self.new }
+    {
+        if let Note::Leading(leading) = &mut self.note {
+            if let Some(voters) = leading.open.get(&slot) {
+                let mut more = Vec::from_slice(self.alloc, voters.as_slice())?;
+                more.push(from)?;
+                leading.open.insert(slot, more)?;
+            }
+        }
+        Ok(())
+    }
+
     /// A majority has voted for what is proposed at a slot, whose value is not known yet.
-    pub fn is_voted(&self, slot: u64) -> bool {
+    pub fn is_voted(&self, slot: u64) -> bool
+        ensures { WhereStands self.now (λ x. result ≡ deciding.is_voted slot x.replica) }
+    {
         let Note::Leading(leading) = &self.note else {
             return false;
         };

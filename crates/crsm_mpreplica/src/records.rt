@@ -100,9 +100,7 @@ impl MpReplica {
 
     /// Accepts a client's command.
     pub fn submit(&mut self, slot: u64, ballot: Ballot, command: &Command) -> Result<(), NoMemory>
-        requires slot { slot < u64_max }
-        requires ballot { FitsBallot ballot }
-        requires command { FitsCommand command.now }
+        ensures { MakesWhere (λ x. FitsAccept slot ballot (Some command.now)) (λ x. drafts.keep_as (Line.Submit x.replica.me slot ballot.round ballot.by command.now.client command.now.number) (Record.Accept slot ballot (Some command.now)) x) self.old result self.new }
     {
         let line = MpLine::Submit {
             replica: self.me,

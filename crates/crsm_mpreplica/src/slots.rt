@@ -23,7 +23,8 @@ pub(crate) fn push_slot<V: Drop>(
     slot: u64,
     value: V,
 ) -> Result<(), NoMemory>
-    ensures { OnOk result (map.new.entries ≡ map.old.entries ++ (slot, value) ∷ []) }
+    ensures entries { OnOk result (map.new.entries ≡ map.old.entries ++ (slot, value) ∷ []) }
+    ensures behind { OnOk result (All (λ other. other < slot) (keys map.old)) }
 {
     if !is_behind(map, slot) {
         // A leader takes one slot after the other.

@@ -1,10 +1,9 @@
 //! Clients that wait.
 
-ghost use Rattle.std.specs.Prelude.{◌≡◌, ◌∷◌, ◌<◌, ◌≤◌, length, IfSome, IfNone};
-ghost use Rattle.std.specs.List.{All};
+ghost use Rattle.std.specs.Prelude.{◌≡◌, ◌∷◌, ◌<◌, true, false, drop, length, IfSome, IfNone};
 ghost use Rattle.crsm_mpspec.specs.Draft as drafts;
 ghost use Rattle.crsm_mpspec.specs.Log.{executed};
-ghost use Rattle.crsm_mpreplica.specs.State.{Makes, WhereStands, MpReplicaStands};
+ghost use Rattle.crsm_mpreplica.specs.State.{IsFirstDue, Makes, MpReplicaStands, NoneDue, WhereStands, waiting_of, with_waiting};
 
 use crate::slots::push_slot;
 use crate::state::MpReplica;
@@ -27,7 +26,12 @@ impl MpReplica {
     }
 
     /// The command of the client that waits first, and its slot, where this is executed. The client waits no more.
-    pub fn next_due(&mut self) -> Option<(u64, Command)> {
+    pub fn next_due(&mut self) -> Option<(u64, Command)>
+        ensures first { IfSome result (λ due. WhereStands self.old (λ x. x.replica.waiting ≡ waiting_of due ∷ drop 1 x.replica.waiting)) }
+        ensures executed { IfSome result (λ due. WhereStands self.old (λ x. due.0 < length (executed x.replica.log))) }
+        ensures rest { IfSome result (λ due. WhereStands self.old (λ x. MpReplicaStands self.new (with_waiting (drop 1 x.replica.waiting) x))) }
+        ensures none { IfNone result (WhereStands self.old (λ x. NoneDue x × MpReplicaStands self.new x)) }
+    {
         if !self.is_one_due() {
             return None;
         }
@@ -35,7 +39,10 @@ impl MpReplica {
     }
 
     /// The slot of the client that waits first is executed.
-    fn is_one_due(&self) -> bool {
+    fn is_one_due(&self) -> bool
+        ensures one { result ≡ true → WhereStands self.now IsFirstDue }
+        ensures none { result ≡ false → WhereStands self.now NoneDue }
+    {
         match self.waiting.first_key_value() {
             Some((slot, _)) => *slot < self.ledger.executed_len(),
             None => false,

@@ -12,7 +12,7 @@ returns c x s = record {
   n = s.n;
   ledger = s.ledger;
   note = s.note;
-  waiting = ap (λ es. map waiting_of es) c.in_ok-push_slot.ensures ∙ map-push waiting_of c.args.self.now.waiting.entries (c.args.slot, c.args.command)
+  waiting = ap (λ es. map waiting_of es) c.in_ok-push_slot.ensures.entries ∙ map-push waiting_of c.args.self.now.waiting.entries (c.args.slot, c.args.command)
       ∙ ap (λ ws. ws ++ record { slot = c.args.slot; command = c.args.command } ∷ []) s.waiting;
   made = s.made;
 }
