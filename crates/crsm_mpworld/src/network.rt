@@ -1,5 +1,11 @@
 //! The messages that were sent, and how many bytes of log bodies were kept.
 
+ghost use Rattle.std.specs.Prelude.{◌≡◌, ◌+◌, ◌++◌, ◌∷◌, [], nat_le, length, slice_get, None, MatchOption, OnOk};
+ghost use Rattle.crsm_base.specs.Limits.{most_world};
+ghost use Rattle.crsm_mpspec.specs.World as on_paper;
+ghost use Rattle.crsm_mpreplica.specs.Fitting.{FitsMessage};
+ghost use Rattle.crsm_mpworld.specs.Packets.{MpNetworkStands, IsPacketAt, WhereNetwork, is_used_at, receiver_of, used_up};
+
 use crsm_base::{MAX_WORLD_BYTES, NoMemory, never};
 use crsm_mpspec::{MpInput, MpSend};
 use std::alloc::Global;
@@ -31,8 +37,10 @@ pub(crate) struct MpNetwork {
 }
 
 impl MpNetwork {
-    /// Nothing is sent.
-    pub(crate) fn new(alloc: Global) -> MpNetwork {
+    /// Nothing is sent, and nothing is kept.
+    pub(crate) fn new(alloc: Global) -> MpNetwork
+        ensures { MpNetworkStands result [] 0 }
+    {
         MpNetwork {
             alloc,
             packets: Vec::new(alloc),
@@ -44,34 +52,48 @@ impl MpNetwork {
     }
 
     /// How many bytes the world has.
-    pub(crate) fn bytes(&self) -> u64 {
+    pub(crate) fn bytes(&self) -> u64
+        ensures { WhereNetwork self.now (λ packets bytes. result ≡ bytes) }
+    {
         self.bytes
     }
 
     /// The world has as many bytes as it may.
-    pub(crate) fn is_full(&self) -> bool {
+    pub(crate) fn is_full(&self) -> bool
+        ensures { WhereNetwork self.now (λ packets bytes. result ≡ nat_le most_world bytes) }
+    {
         MAX_WORLD_BYTES <= self.bytes
     }
 
     /// So many bytes more are kept on a disk.
-    pub(crate) fn keep(&mut self, size: u64) -> Result<(), NoMemory> {
+    pub(crate) fn keep(&mut self, size: u64) -> Result<(), NoMemory>
+        ensures { OnOk result (WhereNetwork self.old (λ packets bytes. MpNetworkStands self.new packets (bytes + size))) }
+    {
         // All of them are in memory, so that the sum stays in its range.
         self.bytes = self.bytes.checked_add(size).ok_or(never())?;
         Ok(())
     }
 
     /// How many messages were sent.
-    pub(crate) fn count(&self) -> u64 {
+    pub(crate) fn count(&self) -> u64
+        ensures { WhereNetwork self.now (λ packets bytes. result ≡ length packets) }
+    {
         self.packets.len() as u64
     }
 
     /// The message of this number.
-    pub(crate) fn get(&self, number: u64) -> Option<&Packet> {
+    pub(crate) fn get(&self, number: u64) -> Option<&Packet>
+        ensures { WhereNetwork self.now (λ packets bytes.
+            MatchOption result (slice_get packets number ≡ None) (λ m. IsPacketAt packets number m.now)) }
+    {
         self.packets.get(number as usize)
     }
 
     /// The message of this number was delivered or lost.
-    pub(crate) fn is_used(&self, number: u64) -> bool {
+    #[tactic(auto, unfolding(crate::specs::Packets::is_used_at))]
+    pub(crate) fn is_used(&self, number: u64) -> bool
+        ensures { WhereNetwork self.now (λ packets bytes. result ≡ is_used_at packets number) }
+    {
         match self.get(number) {
             Some(packet) => packet.is_used,
             None => false,
@@ -79,7 +101,10 @@ impl MpNetwork {
     }
 
     /// The receiver of the message of this number.
-    pub(crate) fn receiver(&self, number: u64) -> Option<u32> {
+    #[tactic(auto, unfolding(crate::specs::Packets::receiver_of))]
+    pub(crate) fn receiver(&self, number: u64) -> Option<u32>
+        ensures { WhereNetwork self.now (λ packets bytes. result ≡ receiver_of packets number) }
+    {
         match self.get(number) {
             Some(packet) => Some(packet.to),
             None => None,
@@ -87,14 +112,20 @@ impl MpNetwork {
     }
 
     /// The message of this number is used from now on.
-    pub(crate) fn use_up(&mut self, number: u64) {
-        if let Some(packet) = self.packets.get_mut(number as usize) {
+    pub(crate) fn use_up(&mut self, number: u64)
+        ensures { WhereNetwork self.old (λ packets bytes. MpNetworkStands self.new (used_up number packets) bytes) }
+    {
+        if number < self.packets.len() as u64 {
+            let packet = &mut self.packets[number as usize];
             packet.is_used = true;
         }
     }
 
     /// A replica sends a message.
-    pub(crate) fn send(&mut self, from: u32, send: MpSend) -> Result<(), NoMemory> {
+    pub(crate) fn send(&mut self, from: u32, send: MpSend) -> Result<(), NoMemory>
+        ensures { OnOk result (WhereNetwork self.old (λ packets bytes. FitsMessage send.message →
+            MpNetworkStands self.new (packets ++ on_paper.packet_of from (send.to, send.message) ∷ []) bytes)) }
+    {
         let number = self.count();
         let MpSend { to, message } = send;
         self.fresh.push(number)?;

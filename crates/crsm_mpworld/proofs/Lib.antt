@@ -1,0 +1,5 @@
+pub mod Gets
+pub mod PacketLists
+pub mod Numbers
+pub mod Marked
+pub mod Due
