@@ -3,3 +3,5 @@ pub mod PacketLists
 pub mod Numbers
 pub mod Marked
 pub mod Due
+pub mod Reasons
+pub mod First

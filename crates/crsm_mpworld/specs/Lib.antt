@@ -2,4 +2,5 @@ pub mod Sites
 pub mod Packets
 pub mod World
 pub mod Doing
+pub mod Refusing
 pub mod Schedule

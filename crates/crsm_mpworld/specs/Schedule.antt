@@ -1,5 +1,5 @@
 -- Schedules: their text, and which of them can be run.
-use Rattle.std.specs.Prelude.{◌≡◌, ℕ, ◌+◌, List, [], ◌∷◌, ◌++◌, length, map, Option, None}
+use Rattle.std.specs.Prelude.{◌≡◌, ℕ, ◌+◌, List, [], ◌∷◌, ◌++◌, length, map, None}
 use Rattle.std.specs.List.{AllByRecursion, flat_map}
 use Rattle.crsm_spec.specs.Acts.{Act}
 use Rattle.crsm_schedule.specs.declared.Event.{Event}

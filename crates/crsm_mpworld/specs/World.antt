@@ -1,15 +1,21 @@
 -- What a world stands for.
-use Rattle.std.specs.Prelude.{◌≡◌, true, false}
-use Rattle.crsm_mpspec.specs.World.{World}
+use Rattle.std.specs.Prelude.{◌≡◌, true, false, List}
+use Rattle.crsm_mpspec.specs.declared.line.MpLine.{MpLine}
+use Rattle.crsm_mpspec.specs.World.{World, Moment}
 use Rattle.crsm_mpworld.specs.declared.world.MpWorld.{MpWorld}
-use Rattle.crsm_mpworld.specs.Sites.{SitesStand}
+use Rattle.crsm_mpworld.specs.Sites.{StandFor}
 use Rattle.crsm_mpworld.specs.Packets.{MpNetworkStands}
 
 -- The world has the sites, the messages and the bytes of this one on paper.
 pub record Holds (w : MpWorld) (v : World) : Type 0 where
   pub n : w.n ≡ v.n
-  pub sites : SitesStand v.n 0 w.sites.items.items v.sites
+  pub sites : StandFor w.sites v.n v.sites
   pub network : MpNetworkStands w.network v.packets v.bytes
+
+-- the world is what the moment leads to, and the lines are its lines
+pub record Leads (m : Moment) (w : MpWorld) (lines : List MpLine) : Type 0 where
+  pub after : Holds w m.after
+  pub told : lines ≡ m.lines
 
 -- The world in memory stands for this one on paper.
 pub record StandsInside (w : MpWorld) (v : World) : Type 0 where

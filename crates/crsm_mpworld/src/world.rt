@@ -37,12 +37,14 @@ impl MpWorld {
         ensures world { IfOk result (λ made. MpWorldStands made.0 (on_paper.begin n)) }
         ensures lines { IfOk result (λ made. made.1 ≡ on_paper.first_lines n) }
     {
+        let sites = Sites::new(alloc, n)?;
         let mut world = MpWorld {
             alloc,
             n,
-            sites: Sites::new(alloc, n)?,
+            sites,
             network: MpNetwork::new(alloc),
-            is_spent: false,
+            // It is none before all have booted.
+            is_spent: true,
             spare: MpLines::new(alloc),
         };
         let mut lines = MpLines::new(alloc);
@@ -50,6 +52,7 @@ impl MpWorld {
             let mut more = world.start(u64::from(k))?;
             lines.append(&mut more)?;
         }
+        world.is_spent = false;
         Ok((world, lines))
     }
 
@@ -68,10 +71,15 @@ impl MpWorld {
         if self.is_spent {
             return Err(MpBad::NoMemory);
         }
-        self.check(event)?;
-        // Nobody is to go on from half an event.
-        self.is_spent = true;
-        let lines = self.happen(event)?;
+        if let Err(bad) = self.check(event) {
+            self.is_spent = bad == MpBad::NoMemory;
+            return Err(bad);
+        }
+        let Ok(lines) = self.happen(event) else {
+            // Nobody is to go on from half an event.
+            self.is_spent = true;
+            return Err(MpBad::NoMemory);
+        };
         self.is_spent = false;
         Ok(lines)
     }
@@ -104,6 +112,7 @@ impl MpWorld {
         if self.is_spent {
             return Err(NoMemory);
         }
-        self.sites.finals()
+        let lines = self.sites.finals()?;
+        Ok(lines)
     }
 }
