@@ -5,3 +5,4 @@ pub mod Marked
 pub mod Due
 pub mod Reasons
 pub mod First
+pub mod Allowed
