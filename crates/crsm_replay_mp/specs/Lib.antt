@@ -2,4 +2,7 @@ pub mod Transcript
 pub mod State
 pub mod Causes
 pub mod Refused
+pub mod Handled
 pub mod Replayed
+pub mod Laws
+pub mod Run

@@ -1,5 +1,8 @@
 //! What is wrong with a line of a schedule.
 
+ghost use Rattle.std.specs.Prelude.{◌≡◌};
+ghost use Rattle.crsm_replay_mp.specs.Causes.{cause_in};
+
 use crsm_input::Bad;
 use std::fmt::{self, Display, Formatter, Write};
 
@@ -29,7 +32,9 @@ pub enum MpCause {
 }
 
 /// The cause that a bad line is told with.
-pub fn told_cause(why: Bad<MpCause>) -> MpCause {
+pub fn told_cause(why: Bad<MpCause>) -> MpCause
+    ensures { result ≡ cause_in why }
+{
     match why {
         Bad::Refused(cause) => cause,
         Bad::TooLong | Bad::Cut => MpCause::Unreadable,

@@ -4,7 +4,9 @@
 mod cause;
 mod command;
 mod handling;
+mod laws;
 mod print;
 
 pub use cause::{MpCause, told_cause};
 pub use command::replay_mp;
+pub use laws::schedules_are_one;

@@ -1,11 +1,18 @@
 //! Prints the lines of a transcript.
 
+ghost use Rattle.std.specs.Prelude.{◌≡◌, ◌≤◌, ◌++◌, ◌∷◌, [], OnOk, codes, decimal, length};
+ghost use Rattle.crsm_text.specs.Words.{named, numbers};
+ghost use Rattle.crsm_replay_mp.specs.Transcript.{kind_text, line_text, state_text};
+
 use crsm_base::{Bytes, NoMemory};
 use crsm_mpspec::{MpKind, MpLine};
-use crsm_text::{push_answer, push_named, push_number, push_numbered};
+use crsm_text::{push_answer, push_named, push_numbered, push_numbers};
 
 /// The kind of a message, behind a space and with a line feed.
-fn ended_kind(kind: MpKind) -> &'static [u8] {
+fn ended_kind(kind: MpKind) -> &'static [u8]
+    ensures text { result.now ≡ 32 ∷ (kind_text kind ++ 10 ∷ []) }
+    ensures short { length result.now ≤ 8 }
+{
     match kind {
         MpKind::Prep => b" prep\n",
         MpKind::Prom => b" prom\n",
@@ -24,21 +31,38 @@ fn push_reply(
     replica: u32,
     client: u64,
     number: u64,
-) -> Result<(), NoMemory> {
+) -> Result<(), NoMemory>
+    ensures { OnOk result (out.new ≡ out.old ++ (decimal at ++ 32 ∷ (named (codes "reply") (replica ∷ client ∷ number ∷ []) ++ 32 ∷ []))) }
+{
     let values = [u64::from(replica), client, number];
     push_numbered(out, at, b"reply", &values, b" ")
 }
 
-fn push_final(out: &mut Bytes, replica: u32, up: bool, executed: u64) -> Result<(), NoMemory> {
+fn push_state(out: &mut Bytes, up: bool) -> Result<(), NoMemory>
+    ensures { OnOk result (out.new ≡ out.old ++ state_text up) }
+{
+    if up {
+        out.append(b"up")
+    } else {
+        out.append(b"down")
+    }
+}
+
+fn push_final(out: &mut Bytes, replica: u32, up: bool, executed: u64) -> Result<(), NoMemory>
+    ensures { OnOk result (out.new ≡ out.old ++ (named (codes "final") (replica ∷ []) ++ 32 ∷ (state_text up ++ numbers (executed ∷ [])) ++ 10 ∷ [])) }
+{
     push_named(out, b"final", &[u64::from(replica)])?;
-    out.append(if up { b" up " } else { b" down " })?;
-    push_number(out, executed)?;
+    out.push(b' ')?;
+    push_state(out, up)?;
+    push_numbers(out, &[executed])?;
     out.push(b'\n')
 }
 
 /// Adds a line of the transcript with its line feed, behind the number of the line of input that caused it. A final line has no
 /// number. After an error a prefix of the line may have been added.
-pub fn push_line(out: &mut Bytes, at: u64, line: &MpLine) -> Result<(), NoMemory> {
+pub fn push_line(out: &mut Bytes, at: u64, line: &MpLine) -> Result<(), NoMemory>
+    ensures { OnOk result (out.new ≡ out.old ++ line_text at line.now) }
+{
     match line {
         MpLine::Boot { replica, count } => {
             let values = [u64::from(*replica), *count];

@@ -1,0 +1,6 @@
+pub mod Schedules
+pub mod Lines
+pub mod LineLemmas
+pub mod Exact
+pub mod OneMore
+pub mod Replayed
