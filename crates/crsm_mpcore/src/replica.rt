@@ -41,9 +41,8 @@ impl MpCore {
     /// One step. A message comes from replica `from`. What it has made is to be kept and then sent.
     #[tactic(auto, unfolding(crate::specs::Core::IsSpent))]
     pub fn step(&mut self, input: &MpInput, from: u32) -> Result<MpBatch, NoMemory>
-        requires { FitsInput input.now }
-        ensures made { WhereCore self.old (λ r. IfOk result (λ batch. Answers batch (outcome_of (steps.step r input.now from)))) }
-        ensures stands { WhereCore self.old (λ r. IfOk result (λ batch. MpCoreStands self.new (steps.step r input.now from).replica)) }
+        ensures made { FitsInput input.now → WhereCore self.old (λ r. IfOk result (λ batch. Answers batch (outcome_of (steps.step r input.now from)))) }
+        ensures stands { FitsInput input.now → WhereCore self.old (λ r. IfOk result (λ batch. MpCoreStands self.new (steps.step r input.now from).replica)) }
         ensures spent { IsErr result → IsSpent self.new }
     {
         if self.is_spent {

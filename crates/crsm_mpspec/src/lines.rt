@@ -1,6 +1,6 @@
 //! Lists of lines.
 
-ghost use Rattle.std.specs.Prelude.{◌≡◌, ◌≤◌, [], ◌∷◌, ◌++◌, length, take, drop, IfOk, OnOk, OnErr};
+ghost use Rattle.std.specs.Prelude.{◌≡◌, [], ◌∷◌, ◌++◌, take, OnOk, OnErr};
 
 use crate::line::MpLine;
 use crsm_base::NoMemory;
@@ -57,16 +57,6 @@ impl MpLines {
         ensures { result.now ≡ self.now }
     {
         self.items.as_slice()
-    }
-    /// Takes off the items behind the first ones, so many of which stay, and gives them. After `NoMemory` the list is as before.
-    pub fn split_off(&mut self, count: usize) -> Result<MpLines, NoMemory>
-        requires { count ≤ length self.old }
-        ensures stay { OnOk result (self.new ≡ take count self.old) }
-        ensures gone { IfOk result (λ gone. gone ≡ drop count self.old) }
-        ensures err { OnErr result (self.new ≡ self.old) }
-    {
-        let items = self.items.split_off(count)?;
-        Ok(MpLines { items })
     }
 
     /// Keeps the first items, so many of them.

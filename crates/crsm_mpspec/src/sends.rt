@@ -1,6 +1,6 @@
 //! Lists of messages to be sent.
 
-ghost use Rattle.std.specs.Prelude.{◌≡◌, [], ◌∷◌, ◌++◌, OnOk, OnErr};
+ghost use Rattle.std.specs.Prelude.{◌≡◌, [], ◌∷◌, ◌++◌, take, OnOk, OnErr};
 
 use crate::send::MpSend;
 use crsm_base::NoMemory;
@@ -58,6 +58,14 @@ impl MpSends {
     {
         self.items.as_slice()
     }
+
+    /// Keeps the first items, so many of them.
+    pub fn truncate(&mut self, count: usize)
+        ensures { self.new ≡ take count self.old }
+    {
+        self.items.truncate(count);
+    }
+
     /// The items in their order, as a vector.
     pub fn into_items(self) -> Vec<MpSend>
         ensures { result.items ≡ self }

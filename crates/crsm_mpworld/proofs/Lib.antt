@@ -6,3 +6,8 @@ pub mod Due
 pub mod Reasons
 pub mod First
 pub mod Allowed
+pub mod Turns
+pub mod Leading
+pub mod Letting
+pub mod Series
+pub mod Booting

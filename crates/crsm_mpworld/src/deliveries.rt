@@ -1,45 +1,80 @@
 //! What comes of an event at a replica.
 
+ghost use Rattle.std.specs.Prelude.{◌≡◌, ℕ, slice_get, IfOk, OnOk};
+ghost use Rattle.crsm_mpreplica.specs.Fitting.{FitsInput};
+ghost use Rattle.crsm_base.specs.Spelling.{FitsCommand};
+ghost use Rattle.crsm_mpspec.specs.Moments as moments;
+ghost use Rattle.crsm_mpspec.specs.declared.input.MpInput.{MpInput as Input};
+ghost use Rattle.crsm_mpworld.specs.Doing.{single_of};
+ghost use Rattle.crsm_mpworld.specs.Effects.{WorldLeadsOn, each_gone, ending_of};
+ghost use Rattle.crsm_mpworld.specs.World.{Leads, WhereHolds};
+ghost use Rattle.crsm_schedule.specs.Grammar.{FitsSingle};
+ghost use Rattle.crsm_spec.specs.Acts.{Act, Single as OneStep};
+
 use crate::ending::Ending;
 use crate::outgoing::leave;
 use crate::world::MpWorld;
-use crsm_base::{NoMemory, never};
+use crsm_base::{Command, NoMemory};
 use crsm_mpspec::{MpInput, MpLines};
 use crsm_schedule::Single;
 
 impl MpWorld {
-    /// Something that is no message comes to a replica, which is up, and whose step ends so.
+    /// Something that is no message comes to a replica, whose step ends so. Nothing happens where it is not up.
     fn arrive(
         &mut self,
         k: u64,
         ending: Ending,
         input: &MpInput,
         lines: &mut MpLines,
-    ) -> Result<(), NoMemory> {
-        // A step is one of a replica that is up.
-        let Some(k) = self.sites.up(k) else {
-            return Err(never());
-        };
-        let effects = self.sites.arrive(k, ending, input, k)?;
-        leave(&mut self.network, effects, lines)
+    ) -> Result<(), NoMemory>
+        ensures { OnOk result (FitsInput input.now → WhereHolds self.old (λ v.
+            WorldLeadsOn (moments.step_at (ending_of ending) v k input.now 0) self.new lines.old lines.new)) }
+    {
+        let effects = self.sites.arrive(k, ending, input, 0)?;
+        leave(&mut self.network, effects, lines)?;
+        Ok(())
     }
 
-    /// The message of this number comes to its receiver, which is up.
-    fn come(&mut self, ending: Ending, number: u64, lines: &mut MpLines) -> Result<(), NoMemory> {
-        // What is delivered was sent.
+    /// The message of this number comes to its receiver. Nothing happens where it is not up.
+    fn come(&mut self, ending: Ending, number: u64, lines: &mut MpLines) -> Result<(), NoMemory>
+        ensures { OnOk result (WhereHolds self.old (λ v.
+            WorldLeadsOn (moments.come (ending_of ending) v (slice_get v.packets number)) self.new lines.old lines.new)) }
+    {
         let Some(packet) = self.network.get(number) else {
-            return Err(never());
+            return Ok(());
         };
         let effects = self
             .sites
-            .arrive(packet.to, ending, &packet.input, packet.from)?;
-        leave(&mut self.network, effects, lines)
+            .arrive(u64::from(packet.to), ending, &packet.input, packet.from)?;
+        leave(&mut self.network, effects, lines)?;
+        Ok(())
     }
 
     /// The message of this number is used, and comes to its receiver.
-    fn go(&mut self, ending: Ending, number: u64, lines: &mut MpLines) -> Result<(), NoMemory> {
+    fn go(&mut self, ending: Ending, number: u64, lines: &mut MpLines) -> Result<(), NoMemory>
+        ensures { OnOk result (WhereHolds self.old (λ v. (reading : ℕ) →
+            WorldLeadsOn (moments.single (ending_of ending) v (OneStep.Go number reading)) self.new lines.old lines.new)) }
+    {
         self.network.use_up(number);
-        self.come(ending, number, lines)
+        self.come(ending, number, lines)?;
+        Ok(())
+    }
+
+    /// A client's command comes to a replica.
+    fn request(
+        &mut self,
+        ending: Ending,
+        k: u64,
+        command: &Command,
+        lines: &mut MpLines,
+    ) -> Result<(), NoMemory>
+        requires { FitsCommand command.now }
+        ensures { OnOk result (WhereHolds self.old (λ v.
+            WorldLeadsOn (moments.step_at (ending_of ending) v k (Input.Request command.now) 0) self.new lines.old lines.new)) }
+    {
+        let command = command.copy(self.alloc)?;
+        self.arrive(k, ending, &MpInput::Request { command }, lines)?;
+        Ok(())
     }
 
     /// One step of one replica, which ends so. Its lines go behind those so far.
@@ -48,49 +83,61 @@ impl MpWorld {
         ending: Ending,
         single: &Single,
         lines: &mut MpLines,
-    ) -> Result<(), NoMemory> {
+    ) -> Result<(), NoMemory>
+        requires { FitsSingle single.now }
+        ensures { OnOk result (WhereHolds self.old (λ v.
+            WorldLeadsOn (moments.single (ending_of ending) v (single_of single.now)) self.new lines.old lines.new)) }
+    {
         match single {
             Single::Request {
                 replica,
                 command,
                 ..
-            } => {
-                let command = command.copy(self.alloc)?;
-                self.arrive(*replica, ending, &MpInput::Request { command }, lines)
+            } => Ok(self.request(ending, *replica, command, lines)?),
+            Single::Go { number, .. } => Ok(self.go(ending, *number, lines)?),
+            Single::Again { number, .. } => Ok(self.come(ending, *number, lines)?),
+            Single::Tick { replica, .. } => {
+                Ok(self.arrive(*replica, ending, &MpInput::Tick, lines)?)
             }
-            Single::Go { number, .. } => self.go(ending, *number, lines),
-            Single::Again { number, .. } => self.come(ending, *number, lines),
-            Single::Tick { replica, .. } => self.arrive(*replica, ending, &MpInput::Tick, lines),
             Single::Suspect { replica, .. } => {
-                self.arrive(*replica, ending, &MpInput::Lead, lines)
+                Ok(self.arrive(*replica, ending, &MpInput::Lead, lines)?)
             }
-            // Bytes from nowhere are refused before.
-            Single::Junk { .. } => Err(never()),
+            // Bytes from nowhere say nothing here.
+            Single::Junk { .. } => Ok(()),
         }
     }
 
     /// One step of one replica, which ends so.
-    pub(crate) fn do_single(
-        &mut self,
-        ending: Ending,
-        single: &Single,
-    ) -> Result<MpLines, NoMemory> {
+    pub(crate) fn do_single(&mut self, ending: Ending, single: &Single) -> Result<MpLines, NoMemory>
+        requires { FitsSingle single.now }
+        ensures { IfOk result (λ lines. WhereHolds self.old (λ v. Leads (moments.single (ending_of ending) v (single_of single.now)) self.new lines)) }
+    {
         let mut lines = self.no_lines();
         self.add_single(ending, single, &mut lines)?;
         Ok(lines)
     }
 
-    /// Delivers all that is fresh now and whose receiver is up, each as a moment of its own, up to where the world is full.
-    pub(crate) fn settle(&mut self) -> Result<MpLines, NoMemory> {
-        let ups = self.sites.ups()?;
-        let due = self.network.due(&ups)?;
+    /// Delivers these in their order, each as a moment of its own, up to where the world is full.
+    fn deliver_each(&mut self, due: &[u64]) -> Result<MpLines, NoMemory>
+        ensures { IfOk result (λ lines. WhereHolds self.old (λ v. (reading : ℕ) → Leads (each_gone reading due.now v) self.new lines)) }
+    {
         let mut lines = self.no_lines();
-        for number in &due {
+        for number in due {
             if self.network.is_full() {
                 return Ok(lines);
             }
             self.go(Ending::Whole, *number, &mut lines)?;
         }
+        Ok(lines)
+    }
+
+    /// Delivers all that is fresh now and whose receiver is up.
+    pub(crate) fn settle(&mut self) -> Result<MpLines, NoMemory>
+        ensures { IfOk result (λ lines. WhereHolds self.old (λ v. (reading : ℕ) → Leads (moments.act v (Act.Settle reading)) self.new lines)) }
+    {
+        let ups = self.sites.ups()?;
+        let due = self.network.due(&ups)?;
+        let lines = self.deliver_each(&due)?;
         Ok(lines)
     }
 }

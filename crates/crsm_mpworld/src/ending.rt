@@ -1,4 +1,4 @@
-//! How a step ends, and what it leaves.
+//! How a step ends, and what it leaves to be let out.
 
 use crate::site::Step;
 
@@ -13,13 +13,15 @@ pub(crate) enum Ending {
     Lost,
 }
 
-/// What is left of a step for the world to do.
+/// What came of a replica where something came to it, before its messages and lines are out.
 #[derive(Drop)]
 pub(crate) enum Effects {
-    /// All of it goes out.
+    /// It was not up.
+    Nothing,
+    /// All of its step goes out.
     Whole { k: u32, step: Step },
-    /// So many of its messages and replies go out. The replica is down.
+    /// So many of the messages and replies of its step go out. It is down.
     Cut { k: u32, step: Step, sends: u64 },
-    /// The replica is down.
+    /// It is down, and nothing goes out.
     Down { k: u32 },
 }

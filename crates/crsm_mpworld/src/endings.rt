@@ -1,4 +1,12 @@
-//! Steps of replicas, by how they end.
+//! Steps of replicas, each with its ending.
+
+ghost use Rattle.std.specs.Prelude.{◌≡◌, Some, slice_get, IfOk};
+ghost use Rattle.crsm_mpreplica.specs.Fitting.{FitsInput};
+ghost use Rattle.crsm_mpspec.specs.Moments.{step_at};
+ghost use Rattle.crsm_mpspec.specs.Step as steps;
+ghost use Rattle.crsm_mpspec.specs.World as on_paper;
+ghost use Rattle.crsm_mpworld.specs.Effects.{Leaves, WhereSites, WhereUpIn, ending_of};
+ghost use Rattle.crsm_mpworld.specs.Sites.{StandFor};
 
 use crate::ending::{Effects, Ending};
 use crate::sites::Sites;
@@ -6,34 +14,67 @@ use crsm_base::NoMemory;
 use crsm_mpspec::MpInput;
 
 impl Sites {
-    /// Something comes to a replica that is up, whose step ends so. A message comes from replica `from`.
-    pub(crate) fn arrive(
+    /// A whole step of a replica that is up.
+    fn step_whole(&mut self, k: u32, input: &MpInput, from: u32) -> Result<Effects, NoMemory>
+        ensures { IfOk result (λ effects. FitsInput input.now → WhereUpIn self.old k (λ v r.
+            Leaves (on_paper.whole_step v k (steps.step r input.now from)) v effects self.new)) }
+    {
+        let step = self.step(k, input, from)?;
+        Ok(Effects::Whole { k, step })
+    }
+
+    /// A step of a replica that is up, which stops when its records are kept and so many of its messages and replies are out.
+    fn step_kept(
         &mut self,
         k: u32,
+        sends: u64,
+        input: &MpInput,
+        from: u32,
+    ) -> Result<Effects, NoMemory>
+        ensures { IfOk result (λ effects. FitsInput input.now → WhereUpIn self.old k (λ v r.
+            Leaves (on_paper.cut_step sends v k (steps.step r input.now from)) v effects self.new)) }
+    {
+        let step = self.step(k, input, from)?;
+        self.crash(k)?;
+        Ok(Effects::Cut { k, step, sends })
+    }
+
+    /// A step of a replica that is up, whose records are lost.
+    fn step_stopped(&mut self, k: u32, input: &MpInput, from: u32) -> Result<Effects, NoMemory>
+        ensures { IfOk result (λ effects. FitsInput input.now → WhereUpIn self.old k (λ v r.
+            Leaves (on_paper.lost_step v k (steps.step r input.now from)) v effects self.new)) }
+    {
+        self.step_lost(k, input, from)?;
+        Ok(Effects::Down { k })
+    }
+
+    /// A replica goes down with what is on its disk.
+    pub(crate) fn go_down(&mut self, k: u32) -> Result<Effects, NoMemory>
+        ensures { IfOk result (λ effects. WhereSites self.old (λ v. (p : on_paper.Site) → slice_get v.sites k ≡ Some p →
+            Leaves (on_paper.down v k) v effects self.new)) }
+    {
+        self.crash(k)?;
+        Ok(Effects::Down { k })
+    }
+
+    /// Something comes to a replica, whose step ends so. A message comes from replica `from`. Nothing happens where it is not up.
+    pub(crate) fn arrive(
+        &mut self,
+        k: u64,
         ending: Ending,
         input: &MpInput,
         from: u32,
-    ) -> Result<Effects, NoMemory> {
+    ) -> Result<Effects, NoMemory>
+        ensures { IfOk result (λ effects. FitsInput input.now → WhereSites self.old (λ v.
+            Leaves (step_at (ending_of ending) v k input.now from) v effects self.new)) }
+    {
+        let Some(k) = self.up(k) else {
+            return Ok(Effects::Nothing);
+        };
         match ending {
-            Ending::Whole => {
-                let step = self.step(k, input, from)?;
-                Ok(Effects::Whole { k, step })
-            }
-            Ending::Kept { sends } => {
-                let step = self.step(k, input, from)?;
-                self.crash(k)?;
-                Ok(Effects::Cut { k, step, sends })
-            }
-            Ending::Lost => {
-                self.step_lost(k, input, from)?;
-                Ok(Effects::Down { k })
-            }
+            Ending::Whole => Ok(self.step_whole(k, input, from)?),
+            Ending::Kept { sends } => Ok(self.step_kept(k, sends, input, from)?),
+            Ending::Lost => Ok(self.step_stopped(k, input, from)?),
         }
-    }
-
-    /// A replica that is up goes down.
-    pub(crate) fn go_down(&mut self, k: u32) -> Result<Effects, NoMemory> {
-        self.crash(k)?;
-        Ok(Effects::Down { k })
     }
 }

@@ -1,5 +1,15 @@
 //! Events, each with its change.
 
+ghost use Rattle.std.specs.Prelude.{◌≡◌, true, None, Some, slice_get, IfOk};
+ghost use Rattle.crsm_mpspec.specs.Log.{Log};
+ghost use Rattle.crsm_mpspec.specs.Moments.{act, start_at};
+ghost use Rattle.crsm_mpspec.specs.Possible.{possible};
+ghost use Rattle.crsm_mpspec.specs.World as on_paper;
+ghost use Rattle.crsm_mpworld.specs.Doing.{act_of};
+ghost use Rattle.crsm_mpworld.specs.World.{Leads, WhereHolds};
+ghost use Rattle.crsm_schedule.specs.Grammar.{FitsEvent};
+ghost use Rattle.crsm_spec.specs.Acts.{Act};
+
 use crate::ending::Ending;
 use crate::outgoing::leave;
 use crate::world::MpWorld;
@@ -9,13 +19,18 @@ use crsm_schedule::Event;
 
 impl MpWorld {
     /// A message is lost.
-    fn lose(&mut self, number: u64) -> MpLines {
+    fn lose(&mut self, number: u64) -> MpLines
+        ensures { WhereHolds self.old (λ v. Leads (act v (Act.Lose number)) self.new result) }
+    {
+        let lines = self.no_lines();
         self.network.use_up(number);
-        self.no_lines()
+        lines
     }
 
     /// A replica that is up goes down.
-    fn crash(&mut self, replica: u64) -> Result<MpLines, NoMemory> {
+    fn crash(&mut self, replica: u64) -> Result<MpLines, NoMemory>
+        ensures { IfOk result (λ lines. WhereHolds self.old (λ v. on_paper.is_up_at v replica ≡ true → Leads (on_paper.down v replica) self.new lines)) }
+    {
         let mut lines = self.no_lines();
         let Some(k) = self.sites.up(replica) else {
             return Ok(lines);
@@ -26,7 +41,10 @@ impl MpWorld {
     }
 
     /// A replica that is down boots.
-    pub(crate) fn start(&mut self, replica: u64) -> Result<MpLines, NoMemory> {
+    pub(crate) fn start(&mut self, replica: u64) -> Result<MpLines, NoMemory>
+        ensures { IfOk result (λ lines. WhereHolds self.old (λ v. (log : Log) → slice_get v.sites replica ≡ Some (on_paper.Site.Down log) →
+            Leads (start_at v replica) self.new lines)) }
+    {
         let mut lines = self.no_lines();
         // There are no more than 15.
         let Ok(k) = u32::try_from(replica) else {
@@ -42,21 +60,24 @@ impl MpWorld {
     }
 
     /// Does an event that is possible.
-    pub(crate) fn happen(&mut self, event: &Event) -> Result<MpLines, NoMemory> {
+    pub(crate) fn happen(&mut self, event: &Event) -> Result<MpLines, NoMemory>
+        requires { FitsEvent event.now }
+        ensures { IfOk result (λ lines. WhereHolds self.old (λ v. possible v (act_of event.now) ≡ None → Leads (act v (act_of event.now)) self.new lines)) }
+    {
         match event {
-            Event::One { single } => self.do_single(Ending::Whole, single),
+            Event::One { single } => Ok(self.do_single(Ending::Whole, single)?),
             Event::Lose { number } => Ok(self.lose(*number)),
-            Event::Crash { replica } => self.crash(*replica),
-            Event::Start { replica } => self.start(*replica),
-            Event::Settle { .. } => self.settle(),
-            Event::CutLost { single } => self.do_single(Ending::Lost, single),
+            Event::Crash { replica } => Ok(self.crash(*replica)?),
+            Event::Start { replica } => Ok(self.start(*replica)?),
+            Event::Settle { .. } => Ok(self.settle()?),
+            Event::CutLost { single } => Ok(self.do_single(Ending::Lost, single)?),
             Event::CutKept { sends, single } => {
-                self.do_single(Ending::Kept { sends: *sends }, single)
+                Ok(self.do_single(Ending::Kept { sends: *sends }, single)?)
             }
-            // Groups of deliveries, and stops at a call of the device, are refused before.
-            Event::Batch { .. } => Err(never()),
-            Event::CutLostBatch { .. } => Err(never()),
-            Event::CutAt { .. } => Err(never()),
+            // Groups of deliveries, and stops at a call of the device, mean nothing here.
+            Event::Batch { .. } => Ok(self.no_lines()),
+            Event::CutLostBatch { .. } => Ok(self.no_lines()),
+            Event::CutAt { .. } => Ok(self.no_lines()),
         }
     }
 }

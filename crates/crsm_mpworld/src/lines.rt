@@ -1,9 +1,15 @@
 //! Lines of a step.
 
-use crsm_mpspec::{MpKind, MpLine, MpMessage};
+ghost use Rattle.std.specs.Prelude.{◌≡◌};
+ghost use Rattle.crsm_mpspec.specs.World as on_paper;
+
+use crsm_mpspec::{MpKind, MpMessage};
 
 /// The kind of a message.
-pub(crate) fn kind_of(message: &MpMessage) -> MpKind {
+#[tactic(auto, unfolding(crsm_mpspec::specs::World::kind_of))]
+pub(crate) fn kind_of(message: &MpMessage) -> MpKind
+    ensures { result ≡ on_paper.kind_of message.now }
+{
     match message {
         MpMessage::Prep { .. } => MpKind::Prep,
         MpMessage::Prom { .. } => MpKind::Prom,
@@ -13,23 +19,4 @@ pub(crate) fn kind_of(message: &MpMessage) -> MpKind {
         MpMessage::Learn { .. } => MpKind::Learn,
         MpMessage::Ask { .. } => MpKind::Ask,
     }
-}
-
-/// The line is that of a reply.
-pub(crate) fn is_reply(line: &MpLine) -> bool {
-    match line {
-        MpLine::ReplyOk { .. } => true,
-        MpLine::ReplyNo { .. } => true,
-        MpLine::ReplyDropped { .. } => true,
-        _ => false,
-    }
-}
-
-/// How many of the lines of a step are those of its records. The lines of replies are behind them.
-pub(crate) fn own_count(lines: &[MpLine]) -> usize {
-    let mut own = lines.len();
-    while own > 0 && is_reply(&lines[own - 1]) {
-        own -= 1;
-    }
-    own
 }

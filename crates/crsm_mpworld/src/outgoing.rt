@@ -1,11 +1,55 @@
 //! What a step lets out.
 
+ghost use Rattle.std.specs.Prelude.{◌≡◌, [], ◌∷◌, ℕ, List, map, OnOk};
+ghost use Rattle.std.specs.List.{AllByRecursion};
+ghost use Rattle.crsm_mpreplica.specs.Fitting.{FitsMessage};
+ghost use Rattle.crsm_mpreplica.specs.Made.{FitsSent, to_send};
+ghost use Rattle.crsm_mpspec.specs.declared.message.MpMessage.{MpMessage as Message};
+ghost use Rattle.crsm_mpworld.specs.Effects.{HasSent, LeadsOn, LetsOut, LetsOutSome, WhereLeft, WhereMade};
+ghost use Rattle.crsm_mpworld.specs.Packets.{WhereNetwork};
+
 use crate::ending::Effects;
-use crate::lines::{kind_of, own_count};
+use crate::lines::kind_of;
 use crate::network::MpNetwork;
 use crate::site::Step;
 use crsm_base::NoMemory;
-use crsm_mpspec::{MpLine, MpLines, MpSends};
+use crsm_mpspec::{MpLine, MpLines, MpSend, MpSends};
+
+/// A message leaves replica `k`, and its line goes behind the lines so far.
+fn send_one(
+    network: &mut MpNetwork,
+    k: u32,
+    send: MpSend,
+    lines: &mut MpLines,
+) -> Result<(), NoMemory>
+    ensures { OnOk result (WhereNetwork network.old (λ packets bytes. FitsMessage send.message →
+        HasSent k ((send.to, send.message) ∷ []) packets bytes lines.old network.new lines.new)) }
+{
+    lines.push(MpLine::Send {
+        index: network.count(),
+        from: k,
+        to: send.to,
+        kind: kind_of(&send.message),
+    })?;
+    network.send(k, send)?;
+    Ok(())
+}
+
+/// Messages leave replica `k` in their order, and their lines go behind the lines so far.
+fn send_all(
+    network: &mut MpNetwork,
+    k: u32,
+    sends: MpSends,
+    lines: &mut MpLines,
+) -> Result<(), NoMemory>
+    ensures { OnOk result (WhereNetwork network.old (λ packets bytes. (out : List (ℕ × Message)) → sends ≡ map to_send out → AllByRecursion FitsSent out →
+        HasSent k out packets bytes lines.old network.new lines.new)) }
+{
+    for send in sends.into_items() {
+        send_one(network, k, send, lines)?;
+    }
+    Ok(())
+}
 
 /// A step of replica `k` is kept, and so many of its messages and replies go out. The lines of its records come first, then
 /// those of the messages, then those of the replies, all behind the lines so far.
@@ -15,55 +59,64 @@ fn let_out(
     step: Step,
     count: u64,
     lines: &mut MpLines,
-) -> Result<(), NoMemory> {
+) -> Result<(), NoMemory>
+    ensures { OnOk result (WhereMade network.old step (λ packets bytes x. LetsOutSome count lines.old packets bytes k x network.new lines.new)) }
+{
     let Step { batch, size } = step;
-    network.keep(size)?;
     let mut own = batch.lines;
-    let mut replies = own.split_off(own_count(own.as_slice()))?;
+    let mut sends = batch.sends;
+    let mut replies = batch.replies;
+    let made = sends.as_slice().len() as u64;
+    network.keep(size)?;
     lines.append(&mut own)?;
-    let left = send_some(network, k, batch.sends, count, lines)?;
-    replies.truncate(left.min(replies.as_slice().len() as u64) as usize);
-    lines.append(&mut replies)
+    sends.truncate(count.min(made) as usize);
+    send_all(network, k, sends, lines)?;
+    replies.truncate(count.saturating_sub(made) as usize);
+    lines.append(&mut replies)?;
+    Ok(())
 }
 
-/// So many messages leave replica `k` in their order, and their lines go behind the lines so far. If there are fewer, all of them
-/// leave; how many more might have left is answered.
-fn send_some(
+/// The same where all of it goes out.
+fn let_all_out(
     network: &mut MpNetwork,
     k: u32,
-    sends: MpSends,
-    count: u64,
+    step: Step,
     lines: &mut MpLines,
-) -> Result<u64, NoMemory> {
-    let mut left = count;
-    for send in sends.into_items() {
-        if left == 0 {
-            return Ok(0);
-        }
-        lines.push(MpLine::Send {
-            index: network.count(),
-            from: k,
-            to: send.to,
-            kind: kind_of(&send.message),
-        })?;
-        network.send(k, send)?;
-        left -= 1;
-    }
-    Ok(left)
+) -> Result<(), NoMemory>
+    ensures { OnOk result (WhereMade network.old step (λ packets bytes x. LetsOut lines.old packets bytes k x x.sends x.replies network.new lines.new)) }
+{
+    let Step { batch, size } = step;
+    let mut own = batch.lines;
+    let mut replies = batch.replies;
+    network.keep(size)?;
+    lines.append(&mut own)?;
+    send_all(network, k, batch.sends, lines)?;
+    lines.append(&mut replies)?;
+    Ok(())
 }
 
-/// What a step leaves goes out, behind the lines so far.
+/// What a replica left goes out, behind the lines so far.
 pub(crate) fn leave(
     network: &mut MpNetwork,
     effects: Effects,
     lines: &mut MpLines,
-) -> Result<(), NoMemory> {
+) -> Result<(), NoMemory>
+    ensures { OnOk result (WhereLeft network.old effects (λ m v sites. LeadsOn m v.n sites network.new lines.old lines.new)) }
+{
     match effects {
-        Effects::Whole { k, step } => let_out(network, k, step, u64::MAX, lines),
+        Effects::Nothing => Ok(()),
+        Effects::Whole { k, step } => {
+            let_all_out(network, k, step, lines)?;
+            Ok(())
+        }
         Effects::Cut { k, step, sends } => {
             let_out(network, k, step, sends, lines)?;
-            lines.push(MpLine::Down { replica: k })
+            lines.push(MpLine::Down { replica: k })?;
+            Ok(())
         }
-        Effects::Down { k } => lines.push(MpLine::Down { replica: k }),
+        Effects::Down { k } => {
+            lines.push(MpLine::Down { replica: k })?;
+            Ok(())
+        }
     }
 }

@@ -1,0 +1,12 @@
+use Rattle.std.proofs.Common.{refl, subst, List}
+use Rattle.crsm_mpspec.specs.World.{Site, lost_step, log_of}
+use Rattle.crsm_mpspec.specs.Step.{step}
+use Rattle.crsm_mpworld.specs.Sites.{StandFor}
+use Rattle.crsm_mpworld.proofs.Turns.{get_set, set_twice}
+use Rattle.crsm_mpworld.proofs.sites.Sites.step_whole.Goals as goal
+
+pub returns : goal.returns
+unfolding lost_step log_of
+returns c fits v r h e =
+    let made = c.in_ok-step.ensures fits v.n v.sites r h e in
+    (step r c.args.input.now c.args.from, refl, made.0, made.1)

@@ -1,0 +1,90 @@
+-- What comes of a replica where something comes to it, and what of that is let out.
+use Rattle.std.specs.Prelude.{◌≡◌, ◌+◌, ◌-◌, ℕ, List, ◌++◌, length, map, take, Some, slice_get, slice_set}
+use Rattle.crsm_mpreplica.specs.Made.{Answers}
+use Rattle.crsm_mpspec.specs.declared.line.MpLine.{MpLine}
+use Rattle.crsm_mpspec.specs.declared.message.MpMessage.{MpMessage}
+use Rattle.crsm_mpspec.specs.Draft.{Draft}
+use Rattle.crsm_mpspec.specs.Moments.{silent, go_each, world_after, lines_of}
+use Rattle.crsm_mpspec.specs.Replica.{Replica}
+use Rattle.crsm_mpspec.specs.World.{Packet, Site, World, Moment, Ending, body_size, packet_of, send_lines, whole_step, cut_step, lost_step, down, log_of}
+use Rattle.crsm_mpworld.specs.declared.ending.Effects.{Effects}
+use Rattle.crsm_mpworld.specs.declared.ending.Effects.TheVariants as effects
+use Rattle.crsm_mpworld.specs.declared.ending.Ending.{Ending as EndingInMemory}
+use Rattle.crsm_mpworld.specs.declared.ending.Ending.TheVariants as endings
+use Rattle.crsm_mpworld.specs.declared.network.MpNetwork.{MpNetwork}
+use Rattle.crsm_mpworld.specs.declared.site.Step.{Step}
+use Rattle.crsm_mpworld.specs.declared.sites.Sites.{Sites}
+use Rattle.crsm_mpworld.specs.declared.world.MpWorld.{MpWorld}
+use Rattle.crsm_mpworld.specs.Packets.{MpNetworkStands}
+use Rattle.crsm_mpworld.specs.Sites.{Makes, StandFor}
+
+-- how the step ends on paper
+unfoldable pub ending_of : EndingInMemory → Ending
+ending_of endings.Whole = whole_step
+ending_of (endings.Kept sends) = cut_step sends
+ending_of endings.Lost = lost_step
+
+-- ---- what goes out
+
+-- Replica k has sent these messages: they stand behind the packets, and their lines behind those before.
+pub record HasSent (k : ℕ) (sends : List (ℕ × MpMessage)) (packets : List Packet) (bytes : ℕ) (before : List MpLine) (network : MpNetwork) (lines : List MpLine) : Type 0 where
+  pub stands : MpNetworkStands network (packets ++ map (packet_of k) sends) bytes
+  pub told : lines ≡ before ++ send_lines k (length packets) sends
+
+-- The step of replica k is kept, and these messages and replies of it are out. Its lines stand behind those before.
+pub record LetsOut (before : List MpLine) (packets : List Packet) (bytes k : ℕ) (x : Draft) (sends : List (ℕ × MpMessage)) (replies : List MpLine) (network : MpNetwork) (lines : List MpLine) : Type 0 where
+  pub stands : MpNetworkStands network (packets ++ map (packet_of k) sends) (bytes + body_size x.batch)
+  pub told : lines ≡ before ++ ((x.lines ++ send_lines k (length packets) sends) ++ replies)
+
+-- the same where so many of the draft's messages and replies are out, the messages first
+abbrev pub LetsOutSome : ℕ → List MpLine → List Packet → (bytes k : ℕ) → Draft → MpNetwork → List MpLine → Type 0
+LetsOutSome count before packets bytes k x network lines =
+    LetsOut before packets bytes k x (take count x.sends) (take (count - length x.sends) x.replies) network lines
+
+-- for the packets and the count of bytes so far, and the draft that made the step
+abbrev pub WhereMade : MpNetwork → Step → (List Packet → ℕ → Draft → Type 0) → Type 0
+WhereMade network step P =
+    (packets : List Packet) (bytes : ℕ) (x : Draft) → MpNetworkStands network packets bytes → Makes step x → P packets bytes x
+
+-- ---- what is left of a step
+
+-- What was left leads to the moment where it goes out, and the sites are already as they are then.
+abbrev pub Leaves : Moment → World → Effects → Sites → Type 0
+Leaves m v effects.Nothing sites = (m ≡ silent v v) × StandFor sites v.n v.sites
+Leaves m v (effects.Whole k step) sites =
+    (x : Draft) × (m ≡ whole_step v k x) × Makes step x × StandFor sites v.n (slice_set v.sites k (Site.Up x.replica))
+Leaves m v (effects.Cut k step count) sites =
+    (x : Draft) × (m ≡ cut_step count v k x) × Makes step x × StandFor sites v.n (slice_set v.sites k (Site.Down x.replica.log))
+Leaves m v (effects.Down k) sites =
+    (p : Site) × (m ≡ down v k) × (slice_get v.sites k ≡ Some p) × StandFor sites v.n (slice_set v.sites k (Site.Down (log_of p)))
+
+-- for a world on paper that has these sites
+abbrev pub WhereSites : Sites → (World → Type 0) → Type 0
+WhereSites sites P = (v : World) → StandFor sites v.n v.sites → P v
+
+-- and in which replica k is up
+abbrev pub WhereUpIn : Sites → ℕ → (World → Replica → Type 0) → Type 0
+WhereUpIn sites k P = (v : World) (r : Replica) → StandFor sites v.n v.sites → slice_get v.sites k ≡ Some (Site.Up r) → P v r
+
+-- for the moment to which the effects lead, from a world with the packets of the network, and for the sites that are as then
+abbrev pub WhereLeft : MpNetwork → Effects → (Moment → World → Sites → Type 0) → Type 0
+WhereLeft network effects P =
+    (m : Moment) (v : World) (sites : Sites) → MpNetworkStands network v.packets v.bytes → Leaves m v effects sites → P m v sites
+
+-- ---- what an event comes to
+
+-- these are delivered, each by itself, up to where the world is full
+unfoldable pub each_gone : ℕ → List ℕ → World → Moment
+each_gone t is w =
+    let ms = go_each t is w in record { before = w; after = world_after w ms; lines = lines_of ms }
+
+-- a world of n replicas with these sites and this network is what the moment leads to, and its lines stand behind those before
+pub record LeadsOn (m : Moment) (n : ℕ) (sites : Sites) (network : MpNetwork) (before lines : List MpLine) : Type 0 where
+  pub count : n ≡ m.after.n
+  pub places : StandFor sites m.after.n m.after.sites
+  pub packets : MpNetworkStands network m.after.packets m.after.bytes
+  pub told : lines ≡ before ++ m.lines
+
+-- the same of a world in memory
+abbrev pub WorldLeadsOn : Moment → MpWorld → (before lines : List MpLine) → Type 0
+WorldLeadsOn m w before lines = LeadsOn m w.n w.sites w.network before lines
