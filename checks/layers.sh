@@ -8,7 +8,7 @@ set -u
 cd "$(dirname "$0")/.." || exit 1
 list=${1:-crates.txt}
 fail=0
-cites_laws=' crsm_safety crsm_world crsm_replay crsm_soak crsm_verdict crsm_audit crsm_delay crsm_app '
+cites_laws=' crsm_safety crsm_world crsm_replay crsm_replay_mp crsm_soak crsm_verdict crsm_audit crsm_delay crsm_app '
 speaks_of_worlds=' crsm_law_draws '
 runs_replicas=' crsm_shell crsm_machine crsm_network crsm_world '
 lines=0
