@@ -1,1 +1,4 @@
 pub mod Core
+pub mod Elections
+pub mod Findings
+pub mod Ticks

@@ -1,13 +1,26 @@
 //! How a replica comes to lead: it asks for promises of a ballot, and a majority of reports leaves it what to propose.
 
+ghost use Rattle.std.specs.Prelude.{◌<◌, IfOk};
+ghost use Rattle.crsm_base.specs.Spelling.{FitsBallot};
+ghost use Rattle.crsm_spec.specs.Clock.{u64_max};
+ghost use Rattle.crsm_mpspec.specs.Electing as electing;
+ghost use Rattle.crsm_mpspec.specs.declared.message.MpMessage.{MpMessage as Message};
+ghost use Rattle.crsm_mpreplica.specs.Fitting.{FitsMessage};
+ghost use Rattle.crsm_mpreplica.specs.State.{Makes, MakesWhere, WhereStands};
+ghost use Rattle.crsm_mpcore.specs.Elections as elections;
+ghost use Rattle.crsm_mpcore.specs.Elections.{AreTheirs, IsElection, MakesBy, send_report, with_promise};
+
 use crate::deciding::propose;
 use crate::findings::Findings;
 use crsm_base::{Ballot, NoMemory, ballot_precedes, majority};
-use crsm_mpreplica::{MpReplica, Note};
+use crsm_mpreplica::{Asking, MpReplica, Note};
 use crsm_mpspec::{MpAccepts, MpChoices, MpMessage};
+use std::alloc::Global;
 
 /// The replica is to lead: a lead that it has ends, and it asks in a ballot of its own above its promise, if there is one.
-pub(crate) fn on_lead(state: &mut MpReplica) -> Result<(), NoMemory> {
+pub(crate) fn on_lead(state: &mut MpReplica) -> Result<(), NoMemory>
+    ensures { Makes electing.on_lead state.old result state.new }
+{
     state.end_lead();
     let promised = state.ledger().promised();
     if promised.round == u64::MAX {
@@ -22,7 +35,9 @@ pub(crate) fn on_lead(state: &mut MpReplica) -> Result<(), NoMemory> {
 }
 
 /// Asks all for promises of the ballot, its own first.
-fn ask(state: &mut MpReplica, ballot: Ballot) -> Result<(), NoMemory> {
+fn ask(state: &mut MpReplica, ballot: Ballot) -> Result<(), NoMemory>
+    ensures { MakesWhere (λ x. FitsBallot ballot) (electing.ask ballot) state.old result state.new }
+{
     state.promise(ballot)?;
     let start = state.ledger().executed_len();
     state.begin_asking(ballot, start)?;
@@ -37,21 +52,40 @@ pub(crate) fn on_prep(
     from: u32,
     ballot: Ballot,
     start: u64,
-) -> Result<(), NoMemory> {
+) -> Result<(), NoMemory>
+    ensures { MakesWhere (λ x. FitsBallot ballot) (electing.on_prep from ballot start) state.old result state.new }
+{
     let promised = state.ledger().promised();
     if ballot_precedes(ballot, promised) {
         state.send(from, MpMessage::No { promised })?;
         return Ok(());
     }
-    if ballot_precedes(promised, ballot) {
-        state.promise(ballot)?;
+    promise_above(state, ballot)?;
+    report_to(state, from, ballot, start)?;
+    Ok(())
+}
+
+/// Promises a ballot that is above the promise.
+fn promise_above(state: &mut MpReplica, ballot: Ballot) -> Result<(), NoMemory>
+    ensures { MakesWhere (λ x. FitsBallot ballot) (with_promise ballot) state.old result state.new }
+{
+    if !ballot_precedes(state.ledger().promised(), ballot) {
+        return Ok(());
     }
+    state.promise(ballot)?;
+    Ok(())
+}
+
+/// Reports to a replica from a slot on, with the promise of a ballot.
+fn report_to(state: &mut MpReplica, to: u32, ballot: Ballot, start: u64) -> Result<(), NoMemory>
+    ensures { MakesWhere (λ x. FitsBallot ballot) (send_report to ballot start) state.old result state.new }
+{
     let message = MpMessage::Prom {
         ballot,
         accepted: state.ledger().accepted_from(start)?,
         chosen: state.ledger().chosen_from(start)?,
     };
-    state.send(from, message)?;
+    state.send(to, message)?;
     Ok(())
 }
 
@@ -62,42 +96,57 @@ pub(crate) fn on_prom(
     ballot: Ballot,
     accepted: &MpAccepts,
     chosen: &MpChoices,
-) -> Result<(), NoMemory> {
-    if state.take_report(from, ballot, accepted, chosen)? {
-        lead_at_majority(state)?;
+) -> Result<(), NoMemory>
+    ensures { MakesWhere (λ x. FitsMessage (Message.Prom ballot accepted.now chosen.now)) (electing.on_prom from ballot accepted.now chosen.now) state.old result state.new }
+{
+    let is_awaited = state.take_report(from, ballot, accepted, chosen)?;
+    if !is_awaited {
+        return Ok(());
     }
+    lead_at_majority(state)?;
     Ok(())
 }
 
 /// What a majority has promised and reported.
 #[derive(Drop)]
-struct Election {
+pub(crate) struct Election {
     ballot: Ballot,
     start: u64,
     findings: Findings,
 }
 
 /// What a majority has promised and reported, where a ballot is asked for.
-fn election_of(state: &MpReplica) -> Result<Option<Election>, NoMemory> {
+fn election_of(state: &MpReplica) -> Result<Option<Election>, NoMemory>
+    ensures { IfOk result (λ election. WhereStands state.now (IsElection election)) }
+{
     let Note::Asking(asking) = state.note() else {
         return Ok(None);
     };
     if asking.reports.len() < majority(state.n()) as usize {
         return Ok(None);
     }
-    let mut findings = Findings::new(state.alloc());
-    for report in asking.reports.values() {
-        findings.add(report)?;
-    }
     Ok(Some(Election {
         ballot: asking.ballot,
         start: asking.start,
-        findings,
+        findings: findings_of(state.alloc(), asking)?,
     }))
 }
 
+/// What all reports say.
+fn findings_of(alloc: Global, asking: &Asking) -> Result<Findings, NoMemory>
+    ensures { IfOk result (λ findings. AreTheirs findings asking.now) }
+{
+    let mut findings = Findings::new(alloc, asking.start);
+    for report in asking.reports.values() {
+        findings.add(report)?;
+    }
+    Ok(findings)
+}
+
 /// A majority of reports makes a leader.
-fn lead_at_majority(state: &mut MpReplica) -> Result<(), NoMemory> {
+fn lead_at_majority(state: &mut MpReplica) -> Result<(), NoMemory>
+    ensures { Makes electing.lead_at_majority state.old result state.new }
+{
     let Some(election) = election_of(state)? else {
         return Ok(());
     };
@@ -106,21 +155,39 @@ fn lead_at_majority(state: &mut MpReplica) -> Result<(), NoMemory> {
 }
 
 /// Leads: keeps what is reported to be chosen, and proposes anew at the other slots up to the last that is reported.
-fn lead(state: &mut MpReplica, election: &Election) -> Result<(), NoMemory> {
-    let findings = &election.findings;
-    for (slot, value) in findings.chosen() {
+fn lead(state: &mut MpReplica, election: &Election) -> Result<(), NoMemory>
+    ensures { MakesBy election.now (electing.lead election.now.ballot election.now.start) state.old result state.new }
+{
+    choose_all(state, election)?;
+    state.lead(election.ballot, election.findings.next());
+    propose_all(state, election)?;
+    Ok(())
+}
+
+/// Keeps what is reported to be chosen.
+fn choose_all(state: &mut MpReplica, election: &Election) -> Result<(), NoMemory>
+    ensures { MakesBy election.now elections.choose_all state.old result state.new }
+{
+    for (slot, value) in election.findings.chosen() {
         state.choose(*slot, value)?;
     }
-    let next = findings.next(election.start)?;
-    state.lead(election.ballot, next);
-    for slot in election.start..next {
+    Ok(())
+}
+
+/// Proposes what the reports leave at each slot up to the last that is reported.
+fn propose_all(state: &mut MpReplica, election: &Election) -> Result<(), NoMemory>
+    ensures { MakesBy election.now (elections.propose_all election.now.ballot election.now.start) state.old result state.new }
+{
+    for slot in election.start..election.findings.next() {
         propose_reported(state, election, slot)?;
     }
     Ok(())
 }
 
 /// Proposes what the reports leave at a slot, unless its value is known.
-fn propose_reported(state: &mut MpReplica, election: &Election, slot: u64) -> Result<(), NoMemory> {
+fn propose_reported(state: &mut MpReplica, election: &Election, slot: u64) -> Result<(), NoMemory>
+    ensures { slot < u64_max → MakesBy election.now (λ reports x. electing.propose_reported election.now.ballot reports x slot) state.old result state.new }
+{
     if state.ledger().is_chosen(slot) {
         return Ok(());
     }

@@ -1,11 +1,21 @@
 //! What is executed, told from one replica to another.
 
-use crsm_base::{MAX_SENT_AGAIN, NoMemory, never};
+ghost use Rattle.std.specs.Prelude.{◌≡◌, Some, slice_get};
+ghost use Rattle.crsm_mpspec.specs.Draft as drafts;
+ghost use Rattle.crsm_mpspec.specs.Log.{executed};
+ghost use Rattle.crsm_mpspec.specs.Step as steps;
+ghost use Rattle.crsm_mpspec.specs.Types.{Value};
+ghost use Rattle.crsm_mpspec.specs.declared.message.MpMessage.{MpMessage as Message};
+ghost use Rattle.crsm_mpreplica.specs.State.{Makes, MakesWhere};
+
+use crsm_base::{MAX_SENT_AGAIN, NoMemory};
 use crsm_mpreplica::MpReplica;
 use crsm_mpspec::{MpMessage, copy_value};
 
 /// A replica asks for executed values from a slot on, and gets the first of them.
-pub(crate) fn on_ask(state: &mut MpReplica, from: u32, start: u64) -> Result<(), NoMemory> {
+pub(crate) fn on_ask(state: &mut MpReplica, from: u32, start: u64) -> Result<(), NoMemory>
+    ensures { Makes (steps.on_ask from start) state.old result state.new }
+{
     let end = start
         .saturating_add(u64::from(MAX_SENT_AGAIN))
         .min(state.ledger().executed_len());
@@ -16,10 +26,12 @@ pub(crate) fn on_ask(state: &mut MpReplica, from: u32, start: u64) -> Result<(),
 }
 
 /// Tells a replica the value of an executed slot.
-fn teach(state: &mut MpReplica, to: u32, slot: u64) -> Result<(), NoMemory> {
+fn teach(state: &mut MpReplica, to: u32, slot: u64) -> Result<(), NoMemory>
+    ensures { (v : Value) → MakesWhere (λ x. slice_get (executed x.replica.log) slot ≡ Some v) (λ x. drafts.send (Message.Learn slot v) x to) state.old result state.new }
+{
     let Some(executed) = state.ledger().executed(slot) else {
-        // It is executed.
-        return Err(never());
+        // Only an executed slot is asked for.
+        return Ok(());
     };
     let value = copy_value(state.alloc(), executed)?;
     state.send(to, MpMessage::Learn { slot, value })?;

@@ -51,7 +51,7 @@ impl MpCore {
         // Whoever sees the error below must not go on from half a step.
         self.is_spent = true;
         step::step(&mut self.state, input, from)?;
-        let batch = self.state.take_batch()?;
+        let batch = self.state.take_batch();
         self.is_spent = false;
         Ok(batch)
     }

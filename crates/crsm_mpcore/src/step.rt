@@ -1,5 +1,12 @@
 //! One step: the rule of the input, and the replies.
 
+ghost use Rattle.std.specs.Prelude.{IfOk};
+ghost use Rattle.crsm_mpspec.specs.Draft.{begun};
+ghost use Rattle.crsm_mpspec.specs.Replica.{Replica};
+ghost use Rattle.crsm_mpspec.specs.Step as steps;
+ghost use Rattle.crsm_mpreplica.specs.Fitting.{FitsInput, FitsMessage};
+ghost use Rattle.crsm_mpreplica.specs.State.{MakesWhere, MpReplicaStands};
+
 use crate::deciding::{on_acc, on_accd};
 use crate::electing::{on_lead, on_prep, on_prom};
 use crate::learning::on_ask;
@@ -11,14 +18,20 @@ use crsm_mpreplica::MpReplica;
 use crsm_mpspec::{MpInput, MpMessage};
 
 /// One step: the rule of the input, and the replies to those whose slots are executed at its end.
-pub(crate) fn step(state: &mut MpReplica, input: &MpInput, from: u32) -> Result<(), NoMemory> {
+#[tactic(auto, unfolding(crsm_mpspec::specs::Step::step))]
+pub(crate) fn step(state: &mut MpReplica, input: &MpInput, from: u32) -> Result<(), NoMemory>
+    ensures { IfOk result (λ _. (r : Replica) → FitsInput input.now → MpReplicaStands state.old (begun r) → MpReplicaStands state.new (steps.step r input.now from)) }
+{
     on_input(state, input, from)?;
     replies(state)?;
     Ok(())
 }
 
 /// The rule of an input.
-fn on_input(state: &mut MpReplica, input: &MpInput, from: u32) -> Result<(), NoMemory> {
+#[tactic(auto, unfolding(crsm_mpspec::specs::Step::on_input))]
+fn on_input(state: &mut MpReplica, input: &MpInput, from: u32) -> Result<(), NoMemory>
+    ensures { MakesWhere (λ x. FitsInput input.now) (steps.on_input input.now from) state.old result state.new }
+{
     match input {
         MpInput::Request { command } => {
             on_request(state, command)?;
@@ -40,7 +53,10 @@ fn on_input(state: &mut MpReplica, input: &MpInput, from: u32) -> Result<(), NoM
 }
 
 /// The rule of a message of another replica.
-fn on_message(state: &mut MpReplica, from: u32, message: &MpMessage) -> Result<(), NoMemory> {
+#[tactic(auto, unfolding(crsm_mpspec::specs::Step::on_message))]
+fn on_message(state: &mut MpReplica, from: u32, message: &MpMessage) -> Result<(), NoMemory>
+    ensures { MakesWhere (λ x. FitsMessage message.now) (steps.on_message from message.now) state.old result state.new }
+{
     match message {
         MpMessage::Prep { ballot, start } => {
             on_prep(state, from, *ballot, *start)?;

@@ -1,22 +1,34 @@
 //! Ticks: what is asked for is sent again.
 
-use crsm_base::{MAX_SENT_AGAIN, NoMemory};
+ghost use Rattle.std.specs.Prelude.{◌≡◌, take, IfOk};
+ghost use Rattle.std.specs.BTreeMap.{keys};
+ghost use Rattle.crsm_base.specs.Limits.{most_again};
+ghost use Rattle.crsm_mpspec.specs.Step as steps;
+ghost use Rattle.crsm_mpreplica.specs.State.{Makes, MakesWhere, WhereStands};
+ghost use Rattle.crsm_mpcore.specs.Ticks as ticks;
+ghost use Rattle.crsm_mpcore.specs.Ticks.{IsOpen, proposal, propose_slot, question, slots_again};
+
+use crsm_base::{MAX_SENT_AGAIN, NoMemory, is_among};
 use crsm_mpreplica::{Leading, MpReplica, Note};
 use crsm_mpspec::{MpMessage, copy_value};
+use std::alloc::Global;
+use std::collections::BTreeMap;
 
 /// A tick: what is asked for is sent again, and all are asked for what is executed beyond here.
-pub(crate) fn on_tick(state: &mut MpReplica) -> Result<(), NoMemory> {
+pub(crate) fn on_tick(state: &mut MpReplica) -> Result<(), NoMemory>
+    ensures { Makes steps.on_tick state.old result state.new }
+{
     ask_again(state)?;
-    for slot in open_slots(state)? {
-        propose_again(state, slot)?;
-    }
+    propose_all_again(state)?;
     let start = state.ledger().executed_len();
     state.send_to_others(&MpMessage::Ask { start })?;
     Ok(())
 }
 
 /// Asks those for promises again who have not reported.
-fn ask_again(state: &mut MpReplica) -> Result<(), NoMemory> {
+fn ask_again(state: &mut MpReplica) -> Result<(), NoMemory>
+    ensures { Makes ticks.ask_again state.old result state.new }
+{
     for to in 0..state.n() {
         if let Some(message) = question_to(state, to) {
             state.send(to, message)?;
@@ -26,30 +38,61 @@ fn ask_again(state: &mut MpReplica) -> Result<(), NoMemory> {
 }
 
 /// What is asked of a replica, where a ballot is asked for that it has not promised.
-fn question_to(state: &MpReplica, to: u32) -> Option<MpMessage> {
-    match state.note() {
-        Note::Asking(asking) if !asking.reports.contains_key(&to) => Some(MpMessage::Prep {
-            ballot: asking.ballot,
-            start: asking.start,
-        }),
-        _ => None,
+fn question_to(state: &MpReplica, to: u32) -> Option<MpMessage>
+    ensures { WhereStands state.now (λ x. result ≡ question x.replica.me x.replica.note to) }
+{
+    if to == state.me() {
+        return None;
     }
+    let Note::Asking(asking) = state.note() else {
+        return None;
+    };
+    if asking.reports.contains_key(&to) {
+        return None;
+    }
+    Some(MpMessage::Prep {
+        ballot: asking.ballot,
+        start: asking.start,
+    })
+}
+
+/// Proposes again at the first slots that are open.
+fn propose_all_again(state: &mut MpReplica) -> Result<(), NoMemory>
+    ensures { Makes ticks.propose_all_again state.old result state.new }
+{
+    let slots = open_slots(state)?;
+    for slot in &slots {
+        propose_again(state, *slot)?;
+    }
+    Ok(())
 }
 
 /// The first slots that this lead proposed at and that are not chosen yet.
-fn open_slots(state: &MpReplica) -> Result<Vec<u64>, NoMemory> {
-    let mut slots = Vec::new(state.alloc());
-    let Note::Leading(leading) = state.note() else {
-        return Ok(slots);
-    };
-    for slot in leading.open.keys().take(MAX_SENT_AGAIN as usize) {
-        slots.push(*slot)?;
+fn open_slots(state: &MpReplica) -> Result<Vec<u64>, NoMemory>
+    ensures { IfOk result (λ slots. WhereStands state.now (λ x. slots.items ≡ slots_again x.replica x.replica.note)) }
+{
+    match state.note() {
+        Note::Leading(leading) => Ok(first_slots(state.alloc(), &leading.open)?),
+        _ => Ok(Vec::new(state.alloc())),
     }
-    Ok(slots)
+}
+
+/// The first slots of a map.
+fn first_slots(alloc: Global, slots: &BTreeMap<u64, Vec<u32>>) -> Result<Vec<u64>, NoMemory>
+    ensures { IfOk result (λ first. first.items ≡ take most_again (keys slots.now)) }
+{
+    let first = slots
+        .keys()
+        .take(MAX_SENT_AGAIN as usize)
+        .copied()
+        .collect(alloc)?;
+    Ok(first)
 }
 
 /// Proposes the accepted value at an open slot once more to those that have not voted.
-fn propose_again(state: &mut MpReplica, slot: u64) -> Result<(), NoMemory> {
+fn propose_again(state: &mut MpReplica, slot: u64) -> Result<(), NoMemory>
+    ensures { MakesWhere (λ x. IsOpen slot x.replica x.replica.note) (propose_slot slot) state.old result state.new }
+{
     for to in 0..state.n() {
         if let Some(message) = proposal_to(state, slot, to)? {
             state.send(to, message)?;
@@ -59,7 +102,12 @@ fn propose_again(state: &mut MpReplica, slot: u64) -> Result<(), NoMemory> {
 }
 
 /// What is proposed at an open slot, to a replica that has not voted there.
-fn proposal_to(state: &MpReplica, slot: u64, to: u32) -> Result<Option<MpMessage>, NoMemory> {
+fn proposal_to(state: &MpReplica, slot: u64, to: u32) -> Result<Option<MpMessage>, NoMemory>
+    ensures { IfOk result (λ message. WhereStands state.now (λ x. IsOpen slot x.replica x.replica.note → message ≡ proposal slot x.replica x.replica.note to)) }
+{
+    if to == state.me() {
+        return Ok(None);
+    }
     let Note::Leading(leading) = state.note() else {
         return Ok(None);
     };
@@ -77,9 +125,11 @@ fn proposal_to(state: &MpReplica, slot: u64, to: u32) -> Result<Option<MpMessage
 }
 
 /// The replica has voted at an open slot.
-fn has_voted(leading: &Leading, slot: u64, replica: u32) -> bool {
+fn has_voted(leading: &Leading, slot: u64, replica: u32) -> bool
+    ensures { result ≡ ticks.is_voter leading.now slot replica }
+{
     match leading.open.get(&slot) {
-        Some(voters) => voters.contains(&replica),
+        Some(voters) => is_among(voters.as_slice(), replica),
         None => false,
     }
 }

@@ -1,0 +1,7 @@
+mod SlotLemmas
+mod FoundLemmas
+mod ReportLemmas
+mod SoundLemmas
+mod ElectionLemmas
+mod LearnLemmas
+mod TickLemmas
