@@ -5,3 +5,6 @@ mod SoundLemmas
 mod ElectionLemmas
 mod LearnLemmas
 mod TickLemmas
+mod DecidingLemmas
+mod RequestLemmas
+mod ReplyLemmas

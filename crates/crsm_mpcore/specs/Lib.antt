@@ -1,4 +1,6 @@
 pub mod Core
 pub mod Elections
 pub mod Findings
+pub mod Parts
+pub mod Requests
 pub mod Ticks

@@ -1,5 +1,12 @@
 //! How a slot is decided: a leader proposes, the others accept, and a majority of votes chooses.
 
+ghost use Rattle.std.specs.Prelude.{◌≡◌, Some};
+ghost use Rattle.crsm_mpspec.specs.Deciding as deciding;
+ghost use Rattle.crsm_mpspec.specs.declared.message.MpMessage.{MpMessage as Message};
+ghost use Rattle.crsm_mpreplica.specs.Fitting.{FitsAccept, FitsMessage};
+ghost use Rattle.crsm_mpreplica.specs.State.{Makes, MakesWhere, WhereStands};
+ghost use Rattle.crsm_mpcore.specs.Parts.{accept_once, ask_to_accept};
+
 use crsm_base::{Ballot, Command, NoMemory, ballot_precedes};
 use crsm_mpreplica::MpReplica;
 use crsm_mpspec::{MpMessage, copy_value};
@@ -10,7 +17,9 @@ pub(crate) fn propose(
     ballot: Ballot,
     slot: u64,
     value: &Option<Command>,
-) -> Result<(), NoMemory> {
+) -> Result<(), NoMemory>
+    ensures { MakesWhere (λ x. FitsAccept slot ballot value.now) (deciding.propose ballot slot value.now) state.old result state.new }
+{
     state.accept(slot, ballot, value)?;
     ask_to_accept(state, ballot, slot, value)?;
     Ok(())
@@ -22,7 +31,9 @@ pub(crate) fn submit(
     ballot: Ballot,
     slot: u64,
     command: &Command,
-) -> Result<(), NoMemory> {
+) -> Result<(), NoMemory>
+    ensures { MakesWhere (λ x. FitsAccept slot ballot (Some command.now)) (deciding.submit ballot slot command.now) state.old result state.new }
+{
     let awaited = command.copy(state.alloc())?;
     state.await_command(slot, awaited)?;
     state.submit(slot, ballot, command)?;
@@ -37,7 +48,9 @@ fn ask_to_accept(
     ballot: Ballot,
     slot: u64,
     value: &Option<Command>,
-) -> Result<(), NoMemory> {
+) -> Result<(), NoMemory>
+    ensures { MakesWhere (λ x. FitsAccept slot ballot value.now) (ask_to_accept ballot slot value.now) state.old result state.new }
+{
     state.open_slot(slot)?;
     let message = MpMessage::Acc {
         ballot,
@@ -50,7 +63,9 @@ fn ask_to_accept(
 }
 
 /// At a majority of votes the leader's value is chosen, and the others learn it.
-fn choose_voted(state: &mut MpReplica, slot: u64) -> Result<(), NoMemory> {
+fn choose_voted(state: &mut MpReplica, slot: u64) -> Result<(), NoMemory>
+    ensures { Makes (deciding.choose_voted slot) state.old result state.new }
+{
     if !state.is_voted(slot) {
         return Ok(());
     }
@@ -71,21 +86,39 @@ pub(crate) fn on_acc(
     ballot: Ballot,
     slot: u64,
     value: &Option<Command>,
-) -> Result<(), NoMemory> {
+) -> Result<(), NoMemory>
+    ensures { MakesWhere (λ x. FitsAccept slot ballot value.now) (deciding.on_acc from ballot slot value.now) state.old result state.new }
+{
     let promised = state.ledger().promised();
     if ballot_precedes(ballot, promised) {
         state.send(from, MpMessage::No { promised })?;
         return Ok(());
     }
-    if !has_accepted(state, ballot, slot) {
-        state.accept(slot, ballot, value)?;
-    }
+    accept_once(state, ballot, slot, value)?;
     state.send(from, MpMessage::Accd { ballot, slot })?;
     Ok(())
 }
 
+/// Accepts a value at a slot in a ballot, unless it was accepted before.
+fn accept_once(
+    state: &mut MpReplica,
+    ballot: Ballot,
+    slot: u64,
+    value: &Option<Command>,
+) -> Result<(), NoMemory>
+    ensures { MakesWhere (λ x. FitsAccept slot ballot value.now) (accept_once ballot slot value.now) state.old result state.new }
+{
+    if has_accepted(state, ballot, slot) {
+        return Ok(());
+    }
+    state.accept(slot, ballot, value)?;
+    Ok(())
+}
+
 /// The value that was accepted last at a slot is that of this ballot.
-fn has_accepted(state: &MpReplica, ballot: Ballot, slot: u64) -> bool {
+fn has_accepted(state: &MpReplica, ballot: Ballot, slot: u64) -> bool
+    ensures { WhereStands state.now (λ x. result ≡ deciding.has_accepted ballot slot x.replica.log) }
+{
     match state.ledger().accepted(slot) {
         Some((accepted, _)) => *accepted == ballot,
         None => false,
@@ -98,7 +131,9 @@ pub(crate) fn on_accd(
     from: u32,
     ballot: Ballot,
     slot: u64,
-) -> Result<(), NoMemory> {
+) -> Result<(), NoMemory>
+    ensures { MakesWhere (λ x. FitsMessage (Message.Accd ballot slot)) (deciding.on_accd from ballot slot) state.old result state.new }
+{
     if state.take_vote(from, ballot, slot)? {
         choose_voted(state, slot)?;
     }

@@ -1,12 +1,25 @@
 //! Replies to clients that wait.
 
-use crate::same::is_same;
-use crsm_base::{Command, NoMemory};
+ghost use Rattle.std.specs.Prelude.{◌≡◌, Some, None, slice_get, take, IfOk};
+ghost use Rattle.crsm_spec.specs.Choice.{when◌then◌otherwise◌};
+ghost use Rattle.crsm_mpspec.specs.Draft.{Draft};
+ghost use Rattle.crsm_mpspec.specs.Log.{executed};
+ghost use Rattle.crsm_mpspec.specs.Step as steps;
+ghost use Rattle.crsm_mpspec.specs.Types.{Value};
+ghost use Rattle.crsm_mpspec.specs.Values as values;
+ghost use Rattle.crsm_mpreplica.specs.State.{Makes, MpReplicaStands, waiting_of};
+
+use crate::same::is_command;
+use crsm_base::{Answer, Command, NoMemory};
+use crsm_mpledger::answers_are_by_slot;
 use crsm_mpreplica::MpReplica;
 use crsm_mpspec::MpLine;
+use std::alloc::Global;
 
 /// Answers each waiting client whose slot is executed. The others wait on.
-pub(crate) fn replies(state: &mut MpReplica) -> Result<(), NoMemory> {
+pub(crate) fn replies(state: &mut MpReplica) -> Result<(), NoMemory>
+    ensures { Makes steps.replies state.old result state.new }
+{
     for _replied in 0..state.waiting_len() {
         let Some((slot, command)) = state.next_due() else {
             return Ok(());
@@ -18,23 +31,56 @@ pub(crate) fn replies(state: &mut MpReplica) -> Result<(), NoMemory> {
 }
 
 /// The reply to a command whose slot is executed: its answer, or that another value was chosen there.
-fn reply_line(state: &MpReplica, slot: u64, command: &Command) -> Result<MpLine, NoMemory> {
+#[tactic(auto, unfolding(crsm_mpspec::specs::Step::reply_line))]
+fn reply_line(state: &MpReplica, slot: u64, command: &Command) -> Result<MpLine, NoMemory>
+    ensures { IfOk result (λ line. (x : Draft) (v : Value) → MpReplicaStands state.now x → slice_get (executed x.replica.log) slot ≡ Some v →
+        line ≡ steps.reply_line x.replica.me (executed x.replica.log) (waiting_of (slot, command.now)) v) }
+{
     let (replica, client, number) = (state.me(), command.client, command.number);
-    match (state.ledger().executed(slot), state.ledger().answer(slot)) {
-        (Some(Some(chosen)), Some(Some(answer))) if is_same(command, chosen) => {
-            Ok(MpLine::ReplyOk {
-                replica,
-                client,
-                number,
-                place: slot,
-                answer: answer.copy(state.alloc())?,
-            })
-        }
-        _ => Ok(MpLine::ReplyDropped {
+    match answer_to(state, slot, command)? {
+        Some(answer) => Ok(MpLine::ReplyOk {
+            replica,
+            client,
+            number,
+            place: slot,
+            answer,
+        }),
+        None => Ok(MpLine::ReplyDropped {
             replica,
             client,
             number,
             slot,
         }),
+    }
+}
+
+/// The answer to a command, where it is what was executed at the slot.
+fn answer_to(state: &MpReplica, slot: u64, command: &Command) -> Result<Option<Answer>, NoMemory>
+    ensures { IfOk result (λ answer. (x : Draft) (v : Value) → MpReplicaStands state.now x → slice_get (executed x.replica.log) slot ≡ Some v →
+        answer ≡ (when values.is_command command.now v then Some (values.answer_after (take slot (executed x.replica.log)) command.now) otherwise None)) }
+{
+    answers_are_by_slot();
+    let Some(value) = state.ledger().executed(slot) else {
+        return Ok(None);
+    };
+    if !is_command(command, value) {
+        return Ok(None);
+    }
+    match state.ledger().answer(slot) {
+        Some(answer) => {
+            let copy = copy_answer(state.alloc(), answer)?;
+            Ok(copy)
+        }
+        None => Ok(None),
+    }
+}
+
+/// An equal answer.
+fn copy_answer(alloc: Global, answer: &Option<Answer>) -> Result<Option<Answer>, NoMemory>
+    ensures { IfOk result (λ copy. copy ≡ answer.now) }
+{
+    match answer {
+        Some(answer) => Ok(Some(answer.copy(alloc)?)),
+        None => Ok(None),
     }
 }

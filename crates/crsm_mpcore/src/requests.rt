@@ -1,5 +1,12 @@
 //! Requests of clients.
 
+ghost use Rattle.std.specs.Prelude.{◌≡◌, IfOk, IfErr};
+ghost use Rattle.crsm_base.specs.Spelling.{FitsCommand};
+ghost use Rattle.crsm_mpspec.specs.Deciding as deciding;
+ghost use Rattle.crsm_mpspec.specs.Types.{Command as CommandOnPaper};
+ghost use Rattle.crsm_mpreplica.specs.State.{Makes, MakesWhere, WhereStands};
+ghost use Rattle.crsm_mpcore.specs.Requests.{IsNext, refusal_code};
+
 use crate::deciding::submit;
 use crsm_base::{Ballot, Command, NoMemory};
 use crsm_mpreplica::{MpReplica, Note};
@@ -13,7 +20,9 @@ enum Refusal {
 }
 
 /// A client's command: only a leader in the promised ballot takes it, at the next slot.
-pub(crate) fn on_request(state: &mut MpReplica, command: &Command) -> Result<(), NoMemory> {
+pub(crate) fn on_request(state: &mut MpReplica, command: &Command) -> Result<(), NoMemory>
+    ensures { MakesWhere (λ x. FitsCommand command.now) (deciding.on_request command.now) state.old result state.new }
+{
     match next_slot(state) {
         Ok((ballot, slot)) => {
             state.pass_slot();
@@ -28,7 +37,10 @@ pub(crate) fn on_request(state: &mut MpReplica, command: &Command) -> Result<(),
 }
 
 /// The ballot in which the replica leads, and the slot of the next command.
-fn next_slot(state: &MpReplica) -> Result<(Ballot, u64), Refusal> {
+fn next_slot(state: &MpReplica) -> Result<(Ballot, u64), Refusal>
+    ensures ok { IfOk result (λ next. WhereStands state.now (λ x. IsNext next.0 next.1 x)) }
+    ensures err { IfErr result (λ why. WhereStands state.now (λ x. (command : CommandOnPaper) → deciding.on_request command x ≡ deciding.refuse (refusal_code why) command x)) }
+{
     let Note::Leading(leading) = state.note() else {
         return Err(Refusal::NotLeading);
     };
@@ -42,13 +54,22 @@ fn next_slot(state: &MpReplica) -> Result<(Ballot, u64), Refusal> {
 }
 
 /// Tells the client why its command is not taken.
-fn refuse(state: &mut MpReplica, command: &Command, why: Refusal) -> Result<(), NoMemory> {
+fn refuse(state: &mut MpReplica, command: &Command, why: Refusal) -> Result<(), NoMemory>
+    ensures { Makes (deciding.refuse (refusal_code why) command.now) state.old result state.new }
+{
     let line = MpLine::ReplyNo {
         replica: state.me(),
         client: command.client,
         number: command.number,
-        code: why as u32,
+        code: code_of(why),
     };
     state.reply(line)?;
     Ok(())
+}
+
+/// The number that stands for a refusal in its line.
+fn code_of(why: Refusal) -> u32
+    ensures { result ≡ refusal_code why }
+{
+    why as u32
 }

@@ -1,13 +1,34 @@
 //! Equal commands.
 
+ghost use Rattle.std.specs.Prelude.{◌≡◌, bytes_eq};
+ghost use Rattle.std.specs.Option.{option_eq};
+ghost use Rattle.crsm_mpspec.specs.Values as values;
+
 use crsm_base::{Command, Key, Op, Val};
 
+/// The value of a slot is this command.
+#[tactic(auto, unfolding(crsm_mpspec::specs::Values::is_command))]
+pub(crate) fn is_command(command: &Command, value: &Option<Command>) -> bool
+    ensures { result ≡ values.is_command command.now value.now }
+{
+    match value {
+        Some(chosen) => is_same(command, chosen),
+        None => false,
+    }
+}
+
 /// Both commands are equal.
-pub(crate) fn is_same(a: &Command, b: &Command) -> bool {
+#[tactic(auto, unfolding(crsm_mpspec::specs::Values::command_eq))]
+fn is_same(a: &Command, b: &Command) -> bool
+    ensures { result ≡ values.command_eq a.now b.now }
+{
     a.client == b.client && a.number == b.number && is_same_op(&a.op, &b.op)
 }
 
-fn is_same_op(a: &Op, b: &Op) -> bool {
+#[tactic(auto, unfolding(crsm_mpspec::specs::Values::op_eq))]
+fn is_same_op(a: &Op, b: &Op) -> bool
+    ensures { result ≡ values.op_eq a.now b.now }
+{
     match (a, b) {
         (Op::Get(a), Op::Get(b)) => is_same_key(a, b),
         (Op::Put(a, x), Op::Put(b, y)) => is_same_key(a, b) && is_same_val(x, y),
@@ -19,15 +40,21 @@ fn is_same_op(a: &Op, b: &Op) -> bool {
     }
 }
 
-fn is_same_key(a: &Key, b: &Key) -> bool {
+fn is_same_key(a: &Key, b: &Key) -> bool
+    ensures { result ≡ bytes_eq a.now b.now }
+{
     a.as_slice() == b.as_slice()
 }
 
-fn is_same_val(a: &Val, b: &Val) -> bool {
+fn is_same_val(a: &Val, b: &Val) -> bool
+    ensures { result ≡ bytes_eq a.now b.now }
+{
     a.as_slice() == b.as_slice()
 }
 
-fn is_same_option(a: &Option<Val>, b: &Option<Val>) -> bool {
+fn is_same_option(a: &Option<Val>, b: &Option<Val>) -> bool
+    ensures { result ≡ option_eq bytes_eq a.now b.now }
+{
     match (a, b) {
         (None, None) => true,
         (Some(a), Some(b)) => is_same_val(a, b),
