@@ -1,13 +1,5 @@
-pub mod Gets
-pub mod PacketLists
-pub mod Numbers
-pub mod Marked
-pub mod Due
-pub mod Reasons
-pub mod First
-pub mod Allowed
-pub mod Turns
-pub mod Leading
-pub mod Letting
-pub mod Series
-pub mod Booting
+mod Growing
+mod Fits
+mod Disks
+mod Places
+mod Boots

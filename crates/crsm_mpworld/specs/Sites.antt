@@ -1,31 +1,26 @@
--- Where a replica is, in memory.
-use Rattle.std.specs.Prelude.{◌≡◌, ℕ, suc, false, List, [], ◌∷◌, length, None}
-use Rattle.crsm_disk.specs.Memory.{Memory, good_left}
-use Rattle.crsm_image.specs.Calls.{contents}
-use Rattle.crsm_log.specs.Format.{reading, found, bodies_of}
-use Rattle.crsm_log.specs.Words.{disk_of, has_failed}
-use Rattle.crsm_mpspec.specs.Log.{Log, executed}
+-- Where a replica is, in memory, and the places of all.
+use Rattle.std.specs.Prelude.{◌≡◌, ℕ, ◌+◌, suc, Bool, false, List, [], ◌∷◌, length, Option, None, Some, if◌then◌else◌, slice_get, slice_set}
+use Rattle.std.specs.Option.{option_map_or}
+use Rattle.crsm_mpspec.specs.Log.{Log, executed, boots}
 use Rattle.crsm_mpspec.specs.Replica.{Replica}
-use Rattle.crsm_mpspec.specs.World.{Site as SiteOnPaper}
-use Rattle.crsm_mpledger.specs.Sound.{IsSound, AreBodies}
-use Rattle.crsm_mpcore.specs.Core.{MpCoreStands}
-use Rattle.crsm_mpworld.specs.declared.site.Place.{Place}
-use Rattle.crsm_mpworld.specs.declared.site.Running.{Running}
-use Rattle.crsm_mpworld.specs.declared.site.Stopped.{Stopped}
-use Rattle.crsm_mpworld.specs.declared.stops.Site.{Site}
+use Rattle.crsm_mpspec.specs.Draft.{Draft}
+use Rattle.crsm_mpspec.specs.Step.{boot}
+use Rattle.crsm_mpspec.specs.World.{Site as SiteOnPaper, is_up, body_size}
+use Rattle.crsm_mpreplica.specs.Made.{Answers, outcome_of}
+use Rattle.crsm_mpworld.specs.Disks.{IsDisk, IsUpOn}
+use Rattle.crsm_mpworld.specs.declared.place.Place.{Place}
+use Rattle.crsm_mpworld.specs.declared.place.Running.{Running}
+use Rattle.crsm_mpworld.specs.declared.place.Site.{Site}
+use Rattle.crsm_mpworld.specs.declared.place.Stopped.{Stopped}
+use Rattle.crsm_mpworld.specs.declared.site.Step.{Step}
+use Rattle.crsm_mpworld.specs.declared.sites.Sites.{Sites}
+use Rattle.crsm_mpworld.specs.declared.stops.Boot.{Boot}
 
--- the disk, all of whose calls go well, holds the bodies of this log
-pub record IsDisk (disk : Memory) (log : Log) : Type 0 where
-  pub sound : IsSound log
-  pub whole : reading (contents disk.first disk.calls) ≡ found (bodies_of (contents disk.first disk.calls))
-  pub bodies : AreBodies [] (bodies_of (contents disk.first disk.calls)) log
-  pub well : good_left disk ≡ None
+-- ---- one replica
 
 -- the replica is up with r, and its log is on its disk
-pub record IsUpAs (running : Running) (r : Replica) : Type 0 where
-  pub core : MpCoreStands running.core r
-  pub disk : IsDisk (disk_of running.log) r.log
-  pub well : has_failed running.log ≡ false
+abbrev pub IsUpAs : Running → Replica → Type 0
+IsUpAs running r = IsUpOn running.core running.log r
 
 -- the replica is down, and left this log
 pub record IsStopped (left : Stopped) (log : Log) : Type 0 where
@@ -34,8 +29,10 @@ pub record IsStopped (left : Stopped) (log : Log) : Type 0 where
 
 abbrev pub IsIn : Place → SiteOnPaper → Type 0
 IsIn (Place.Up running) (SiteOnPaper.Up r) = IsUpAs running r
+IsIn (Place.Up running) (SiteOnPaper.Down log) = ⊥
+IsIn (Place.Down left) (SiteOnPaper.Up r) = ⊥
 IsIn (Place.Down left) (SiteOnPaper.Down log) = IsStopped left log
-IsIn _ _ = ⊥
+IsIn Place.Spent s = ⊥
 
 -- the site of replica me of n is this one on paper
 pub record SiteStands (site : Site) (me n : ℕ) (s : SiteOnPaper) : Type 0 where
@@ -43,8 +40,75 @@ pub record SiteStands (site : Site) (me n : ℕ) (s : SiteOnPaper) : Type 0 wher
   pub n_is : site.n ≡ n
   pub place : IsIn site.place s
 
--- so is each, by number from k on
+-- for each site on paper that the site stands for
+abbrev pub WhereSiteStands : Site → ((me n : ℕ) → SiteOnPaper → Type 0) → Type 0
+WhereSiteStands site P = (me n : ℕ) (s : SiteOnPaper) → SiteStands site me n s → P me n s
+
+-- for each replica that is up there
+abbrev pub WhereSiteIsUp : Site → ((me n : ℕ) → Replica → Type 0) → Type 0
+WhereSiteIsUp site P = (me n : ℕ) (r : Replica) → SiteStands site me n (SiteOnPaper.Up r) → P me n r
+
+-- for each log that it is down with
+abbrev pub WhereSiteIsDown : Site → ((me n : ℕ) → Log → Type 0) → Type 0
+WhereSiteIsDown site P = (me n : ℕ) (log : Log) → SiteStands site me n (SiteOnPaper.Down log) → P me n log
+
+-- ---- what a step and a boot make
+
+-- the step is what the draft has made, and takes as many bytes
+pub record Makes (step : Step) (x : Draft) : Type 0 where
+  pub batch : Answers step.batch (outcome_of x)
+  pub size : step.size ≡ body_size x.batch
+
+-- the boot of replica me on this log
+pub record Boots (made : Boot) (me n : ℕ) (log : Log) : Type 0 where
+  pub count : made.count ≡ boots log + 1
+  pub size : made.size ≡ body_size (boot me n log).batch
+
+-- ---- the places of all
+
+-- each site is this one on paper, by number from k on
 abbrev pub SitesStand : ℕ → ℕ → List Site → List SiteOnPaper → Type 0
 SitesStand n k [] [] = Unit {0}
 SitesStand n k (site ∷ sites) (s ∷ ss) = SiteStands site k n s × SitesStand n (suc k) sites ss
-SitesStand n k _ _ = ⊥
+SitesStand n k [] (s ∷ ss) = ⊥
+SitesStand n k (site ∷ sites) [] = ⊥
+
+-- they stand for these places
+abbrev pub StandFor : Sites → ℕ → List SiteOnPaper → Type 0
+StandFor sites n places = SitesStand n 0 sites.items.items places
+
+-- replica k is up
+unfoldable pub is_up_in : List SiteOnPaper → ℕ → Bool
+is_up_in places k = option_map_or is_up (slice_get places k) false
+
+-- its number, where it is up
+unfoldable pub up_in : List SiteOnPaper → ℕ → Option ℕ
+up_in places k = if is_up_in places k then Some k else None
+
+-- for the places that they stand for
+abbrev pub WhereSitesStand : Sites → (ℕ → List SiteOnPaper → Type 0) → Type 0
+WhereSitesStand sites P = (n : ℕ) (places : List SiteOnPaper) → StandFor sites n places → P n places
+
+-- for these and the one of replica k
+abbrev pub WherePlace : Sites → ℕ → (ℕ → List SiteOnPaper → SiteOnPaper → Type 0) → Type 0
+WherePlace sites k P =
+    (n : ℕ) (places : List SiteOnPaper) (p : SiteOnPaper) → StandFor sites n places → slice_get places k ≡ Some p → P n places p
+
+-- for these, where replica k is up
+abbrev pub WhereUp : Sites → ℕ → (ℕ → List SiteOnPaper → Replica → Type 0) → Type 0
+WhereUp sites k P =
+    (n : ℕ) (places : List SiteOnPaper) (r : Replica) → StandFor sites n places → slice_get places k ≡ Some (SiteOnPaper.Up r) → P n places r
+
+-- for these, where replica k is down
+abbrev pub WhereDown : Sites → ℕ → (ℕ → List SiteOnPaper → Log → Type 0) → Type 0
+WhereDown sites k P =
+    (n : ℕ) (places : List SiteOnPaper) (log : Log) → StandFor sites n places → slice_get places k ≡ Some (SiteOnPaper.Down log) → P n places log
+
+-- the step is what the draft has made, and replica k goes on as it leaves it
+abbrev pub StepsTo : Step → Draft → Sites → ℕ → List SiteOnPaper → ℕ → Type 0
+StepsTo step x sites n places k = Makes step x × StandFor sites n (slice_set places k (SiteOnPaper.Up x.replica))
+
+-- replica k has booted on this log
+abbrev pub BootsTo : Boot → Log → Sites → ℕ → List SiteOnPaper → ℕ → Type 0
+BootsTo made log sites n places k =
+    Boots made k n log × StandFor sites n (slice_set places k (SiteOnPaper.Up (boot k n log).replica))

@@ -1,36 +1,28 @@
-//! One replica's place in a world.
+//! Steps of one replica.
 
+ghost use Rattle.std.specs.Prelude.{◌≡◌, ◌++◌, ◌∷◌, ◌<◌, [], None, false, length, IfOk, OnOk};
+ghost use Rattle.std.specs.List.{AllByRecursion};
+ghost use Rattle.crsm_disk.specs.Memory.{good_left};
+ghost use Rattle.crsm_log.specs.Format.{reading, found, bodies_of};
+ghost use Rattle.crsm_log.specs.Words.{disk_of, has_failed};
+ghost use Rattle.crsm_mpcore.specs.Core.{WhereCore};
+ghost use Rattle.crsm_mpledger.specs.Sound.{IsSound, with_records};
+ghost use Rattle.crsm_mpreplica.specs.Fitting.{FitsInput};
+ghost use Rattle.crsm_mpspec.specs.Log.{Log as LogOnPaper, executed};
+ghost use Rattle.crsm_mpspec.specs.Records.{FitsRec, body_bytes};
+ghost use Rattle.crsm_mpspec.specs.Step as steps;
+ghost use Rattle.crsm_mpspec.specs.World.{body_size};
+ghost use Rattle.crsm_mpworld.specs.Disks.{IsDisk, HasSomeLog, WhereUpOn, bytes_of, image};
+ghost use Rattle.crsm_mpworld.specs.Sites.{IsStopped, IsUpAs, Makes};
+
+use crate::place::{Running, Stopped};
 use crsm_base::{Bytes, NoMemory, never};
 use crsm_disk::MemDisk;
-use crsm_log::{Log, PutError};
+use crsm_log::{Log, PutError, stop_keeps};
 use crsm_mpcodec::put_body;
 use crsm_mpcore::MpCore;
 use crsm_mpspec::{MpBatch, MpInput, MpRec};
 use std::alloc::Global;
-
-/// A replica that is up: its core, and its log on a disk.
-#[derive(Drop)]
-pub(crate) struct Running {
-    pub(crate) alloc: Global,
-    pub(crate) core: MpCore,
-    pub(crate) log: Log<MemDisk>,
-}
-
-/// What is left of a replica that is down: its disk, and how many slots are executed by its log.
-#[derive(Drop)]
-pub(crate) struct Stopped {
-    pub(crate) disk: MemDisk,
-    pub(crate) executed: u64,
-}
-
-/// Where a replica is.
-#[derive(Drop)]
-pub(crate) enum Place {
-    Up(Running),
-    Down(Stopped),
-    /// Memory ran out while it changed.
-    Spent,
-}
 
 /// What a step made, and how many bytes its log body has.
 #[derive(Drop)]
@@ -40,85 +32,141 @@ pub(crate) struct Step {
 }
 
 /// The log body of records.
-pub(crate) fn body_of(alloc: Global, records: &[MpRec]) -> Result<Bytes, NoMemory> {
+pub(crate) fn body_of(alloc: Global, records: &[MpRec]) -> Result<Bytes, NoMemory>
+    requires { AllByRecursion FitsRec records.now }
+    ensures { IfOk result (λ body. body ≡ body_bytes records.now) }
+{
     let mut body = Bytes::new(alloc);
     put_body(records, &mut body)?;
     Ok(body)
 }
 
 /// Puts a body on a log, no call of whose disk fails.
-pub(crate) fn keep(alloc: Global, log: &mut Log<MemDisk>, body: &[u8]) -> Result<(), NoMemory> {
+pub(crate) fn keep(alloc: Global, log: &mut Log<MemDisk>, body: &[u8]) -> Result<(), NoMemory>
+    requires some { 0 < length body.now }
+    requires unfailed { has_failed log.old ≡ false }
+    requires well { good_left (disk_of log.old) ≡ None }
+    ensures unfailed { OnOk result (has_failed log.new ≡ false) }
+    ensures well { OnOk result (good_left (disk_of log.new) ≡ None) }
+    ensures kept { OnOk result (reading (bytes_of (disk_of log.new)) ≡ found (bodies_of (bytes_of (disk_of log.old)) ++ body.now ∷ [])) }
+{
     match log.put(alloc, body) {
         Ok(()) => Ok(()),
-        Err(PutError::DiskFault) => Err(never()),
-        Err(PutError::Failed) => Err(never()),
+        Err(PutError::DiskFault) => unreachable!(),
+        Err(PutError::Failed) => unreachable!(),
         // A world is full long before a log is.
         Err(PutError::Full { .. }) => Err(never()),
         Err(PutError::NoMemory) => Err(NoMemory),
     }
 }
 
+/// Keeps the records of a step, if there are any, and gives how many bytes they have.
+fn keep_records(alloc: Global, log: &mut Log<MemDisk>, records: &[MpRec]) -> Result<u64, NoMemory>
+    requires fit { AllByRecursion FitsRec records.now }
+    requires unfailed { has_failed log.old ≡ false }
+    requires well { good_left (disk_of log.old) ≡ None }
+    ensures unfailed { OnOk result (has_failed log.new ≡ false) }
+    ensures well { OnOk result (good_left (disk_of log.new) ≡ None) }
+    ensures size { IfOk result (λ size. size ≡ body_size records.now) }
+    ensures kept { OnOk result ((kept : LogOnPaper) → IsDisk (disk_of log.old) kept → IsSound (with_records kept records.now) →
+        IsDisk (disk_of log.new) (with_records kept records.now)) }
+{
+    if records.is_empty() {
+        return Ok(0);
+    }
+    let body = body_of(alloc, records)?;
+    keep(alloc, log, body.as_slice())?;
+    Ok(body.as_slice().len() as u64)
+}
+
+/// Puts the records of a step, if there are any, on a disk that stops after one call, with 1 in what was not synced: a crash
+/// then leaves the log without them.
+fn put_in_vain(alloc: Global, log: &mut Log<MemDisk>, records: &[MpRec]) -> Result<(), NoMemory>
+    requires fit { AllByRecursion FitsRec records.now }
+    requires unfailed { has_failed log.old ≡ false }
+    requires well { good_left (disk_of log.old) ≡ None }
+    ensures { OnOk result (reading (image (disk_of log.new)) ≡ found (bodies_of (bytes_of (disk_of log.old)))) }
+{
+    if records.is_empty() {
+        return Ok(());
+    }
+    let body = body_of(alloc, records)?;
+    stop_keeps();
+    log.arm(Some(1), 1);
+    match log.put(alloc, body.as_slice()) {
+        Err(PutError::DiskFault) => Ok(()),
+        Err(PutError::NoMemory) => Err(NoMemory),
+        Ok(()) => unreachable!(),
+        Err(PutError::Failed) => unreachable!(),
+        // A world is full long before a log is.
+        Err(PutError::Full { .. }) => Err(never()),
+    }
+}
+
+/// What a crash leaves on the disk of a log.
+fn left_on(log: Log<MemDisk>) -> Result<MemDisk, NoMemory>
+    ensures well { IfOk result (λ disk. good_left disk ≡ None) }
+    ensures image { IfOk result (λ disk. bytes_of disk ≡ image (disk_of log)) }
+{
+    let disk = log.into_disk();
+    Ok(disk.into_image()?)
+}
+
+/// How many slots are executed.
+fn executed_by(core: &MpCore) -> u64
+    ensures { WhereCore core.now (λ r. result ≡ length (executed r.log)) }
+{
+    core.ledger().executed_len()
+}
+
 impl Running {
     /// How many slots are executed.
-    pub(crate) fn executed_len(&self) -> u64 {
-        self.core.ledger().executed_len()
+    pub(crate) fn executed_len(&self) -> u64
+        ensures { WhereUpOn self.now.core self.now.log (λ r. result ≡ length (executed r.log)) }
+    {
+        executed_by(&self.core)
     }
 
     /// One step, whose records are kept.
-    pub(crate) fn step(&mut self, input: &MpInput, from: u32) -> Result<Step, NoMemory> {
-        let batch = self.core.step(input, from)?;
-        let size = self.keep_records(&batch)?;
-        Ok(Step { batch, size })
-    }
-
-    /// Keeps the records of a step, if there are any, and gives how many bytes they have.
-    fn keep_records(&mut self, batch: &MpBatch) -> Result<u64, NoMemory> {
-        let records = batch.records.as_slice();
-        if records.is_empty() {
-            return Ok(0);
-        }
-        let body = body_of(self.alloc, records)?;
-        keep(self.alloc, &mut self.log, body.as_slice())?;
-        Ok(body.as_slice().len() as u64)
+    pub(crate) fn step(self, input: &MpInput, from: u32) -> Result<(Running, Step), NoMemory>
+        requires { FitsInput input.now }
+        ensures { IfOk result (λ made. WhereUpOn self.core self.log (λ r.
+            Makes made.1 (steps.step r input.now from) × IsUpAs made.0 (steps.step r input.now from).replica)) }
+    {
+        let Running {
+            alloc,
+            mut core,
+            mut log,
+        } = self;
+        let batch = core.step(input, from)?;
+        let size = keep_records(alloc, &mut log, batch.records.as_slice())?;
+        Ok((Running { alloc, core, log }, Step { batch, size }))
     }
 
     /// The replica goes down now.
-    pub(crate) fn stop(self) -> Result<Stopped, NoMemory> {
-        let executed = self.executed_len();
-        let Running { log, .. } = self;
-        Ok(Stopped {
-            disk: log.into_disk().into_image()?,
-            executed,
-        })
+    pub(crate) fn stop(self) -> Result<Stopped, NoMemory>
+        ensures { IfOk result (λ left. WhereUpOn self.core self.log (λ r. IsStopped left r.log)) }
+    {
+        let Running { core, log, .. } = self;
+        let executed = executed_by(&core);
+        let disk = left_on(log)?;
+        Ok(Stopped { disk, executed })
     }
 
-    /// One step that is stopped after one call of its put, with 1 in what was not synced: its records are lost.
-    pub(crate) fn step_lost(self, input: &MpInput, from: u32) -> Result<Stopped, NoMemory> {
-        let mut running = self;
-        let executed = running.executed_len();
-        let batch = running.core.step(input, from)?;
-        running.put_in_vain(&batch)?;
-        let Running { log, .. } = running;
-        Ok(Stopped {
-            disk: log.into_disk().into_image()?,
-            executed,
-        })
-    }
-
-    /// Puts the records of a step, if there are any, on a disk that stops after one call.
-    fn put_in_vain(&mut self, batch: &MpBatch) -> Result<(), NoMemory> {
-        let records = batch.records.as_slice();
-        if records.is_empty() {
-            return Ok(());
-        }
-        let body = body_of(self.alloc, records)?;
-        self.log.arm(Some(1), 1);
-        match self.log.put(self.alloc, body.as_slice()) {
-            Err(PutError::DiskFault) => Ok(()),
-            Err(PutError::NoMemory) => Err(NoMemory),
-            Ok(()) => Err(never()),
-            Err(PutError::Failed) => Err(never()),
-            Err(PutError::Full { .. }) => Err(never()),
-        }
+    /// One step that is stopped after one call of its put: its records are lost.
+    pub(crate) fn step_lost(self, input: &MpInput, from: u32) -> Result<Stopped, NoMemory>
+        requires { FitsInput input.now }
+        ensures { IfOk result (λ left. WhereUpOn self.core self.log (λ r. IsStopped left r.log)) }
+    {
+        let Running {
+            alloc,
+            mut core,
+            mut log,
+        } = self;
+        let executed = executed_by(&core);
+        let batch = core.step(input, from)?;
+        put_in_vain(alloc, &mut log, batch.records.as_slice())?;
+        let disk = left_on(log)?;
+        Ok(Stopped { disk, executed })
     }
 }

@@ -1,22 +1,22 @@
 //! Boots and stops of a replica.
 
-use crate::site::{Place, Running, Step, Stopped, body_of, keep};
+ghost use Rattle.std.specs.Prelude.{◌≡◌, ◌<◌, ◌≤◌, [], length, IfOk, OnOk};
+ghost use Rattle.crsm_mpreplica.specs.Fitting.{FitsInput};
+ghost use Rattle.crsm_mpspec.specs.Log.{Log as LogOnPaper, executed};
+ghost use Rattle.crsm_mpspec.specs.Step as steps;
+ghost use Rattle.crsm_mpspec.specs.World as on_paper;
+ghost use Rattle.crsm_mpworld.specs.Disks.{IsDisk};
+ghost use Rattle.crsm_mpworld.specs.Sites.{Boots, IsUpAs, Makes, SiteStands, WhereSiteStands, WhereSiteIsDown, WhereSiteIsUp};
+
+use crate::place::{Place, Running, Site, Stopped};
+use crate::site::{Step, body_of, keep};
 use crsm_base::{NoMemory, never};
 use crsm_disk::MemDisk;
-use crsm_log::Log;
+use crsm_log::{Log, MountError};
 use crsm_mpcore::MpCore;
 use crsm_mpspec::{MpInput, MpRec};
 use std::alloc::Global;
 use std::mem;
-
-/// One replica's place in a world. After an error it says nothing any more.
-#[derive(Drop)]
-pub(crate) struct Site {
-    alloc: Global,
-    me: u32,
-    n: u32,
-    place: Place,
-}
 
 /// A boot: how many there were, and how many bytes its log body has.
 #[derive(Clone, Copy)]
@@ -27,7 +27,11 @@ pub(crate) struct Boot {
 
 impl Site {
     /// The place of replica `me` of `n`: down, with an empty disk.
-    pub(crate) fn new(alloc: Global, me: u32, n: u32) -> Result<Site, NoMemory> {
+    pub(crate) fn new(alloc: Global, me: u32, n: u32) -> Result<Site, NoMemory>
+        requires mine { me < n }
+        requires most { n ≤ 15 }
+        ensures { IfOk result (λ site. SiteStands site me n (on_paper.Site.Down [])) }
+    {
         let disk = MemDisk::new(alloc, &[], None, 0)?;
         Ok(Site {
             alloc,
@@ -38,12 +42,17 @@ impl Site {
     }
 
     /// The replica is up.
-    pub(crate) fn is_up(&self) -> bool {
+    #[tactic(auto, unfolding(crsm_mpspec::specs::World::is_up))]
+    pub(crate) fn is_up(&self) -> bool
+        ensures { WhereSiteStands self.now (λ me n s. result ≡ on_paper.is_up s) }
+    {
         matches!(&self.place, Place::Up(_))
     }
 
     /// How many slots are executed by its log.
-    pub(crate) fn executed_len(&self) -> u64 {
+    pub(crate) fn executed_len(&self) -> u64
+        ensures { WhereSiteStands self.now (λ me n s. result ≡ length (executed (on_paper.log_of s))) }
+    {
         match &self.place {
             Place::Up(running) => running.executed_len(),
             Place::Down(left) => left.executed,
@@ -51,12 +60,24 @@ impl Site {
         }
     }
 
+    /// From now on the replica is here.
+    fn move_to(&mut self, place: Place)
+        ensures me { self.new.me ≡ self.old.me }
+        ensures n { self.new.n ≡ self.old.n }
+        ensures place { self.new.place ≡ place }
+    {
+        self.place = place;
+    }
+
     /// The replica, which is down, boots on its disk.
-    pub(crate) fn start(&mut self) -> Result<Boot, NoMemory> {
+    pub(crate) fn start(&mut self) -> Result<Boot, NoMemory>
+        ensures { IfOk result (λ made. WhereSiteIsDown self.old (λ me n log.
+            Boots made me n log × SiteStands self.new me n (on_paper.Site.Up (steps.boot me n log).replica))) }
+    {
         match mem::replace(&mut self.place, Place::Spent) {
             Place::Down(left) => {
-                let (running, boot) = boot_on(self.alloc, self.me, self.n, left.disk)?;
-                self.place = Place::Up(running);
+                let (running, boot) = boot_on(self.alloc, self.me, self.n, left)?;
+                self.move_to(Place::Up(running));
                 Ok(boot)
             }
             // A world starts what is down.
@@ -66,14 +87,16 @@ impl Site {
     }
 
     /// The replica goes down. One that is down stays so.
-    pub(crate) fn crash(&mut self) -> Result<(), NoMemory> {
+    pub(crate) fn crash(&mut self) -> Result<(), NoMemory>
+        ensures { OnOk result (WhereSiteStands self.old (λ me n s. SiteStands self.new me n (on_paper.Site.Down (on_paper.log_of s)))) }
+    {
         match mem::replace(&mut self.place, Place::Spent) {
             Place::Up(running) => {
-                self.place = Place::Down(running.stop()?);
+                self.move_to(Place::Down(running.stop()?));
                 Ok(())
             }
             Place::Down(left) => {
-                self.place = Place::Down(left);
+                self.move_to(Place::Down(left));
                 Ok(())
             }
             Place::Spent => Err(NoMemory),
@@ -81,9 +104,17 @@ impl Site {
     }
 
     /// One step of the replica, which is up.
-    pub(crate) fn step(&mut self, input: &MpInput, from: u32) -> Result<Step, NoMemory> {
-        match &mut self.place {
-            Place::Up(running) => running.step(input, from),
+    pub(crate) fn step(&mut self, input: &MpInput, from: u32) -> Result<Step, NoMemory>
+        requires { FitsInput input.now }
+        ensures { IfOk result (λ step. WhereSiteIsUp self.old (λ me n r.
+            Makes step (steps.step r input.now from) × SiteStands self.new me n (on_paper.Site.Up (steps.step r input.now from).replica))) }
+    {
+        match mem::replace(&mut self.place, Place::Spent) {
+            Place::Up(running) => {
+                let (running, step) = running.step(input, from)?;
+                self.move_to(Place::Up(running));
+                Ok(step)
+            }
             // A world steps what is up.
             Place::Down(_) => Err(never()),
             Place::Spent => Err(NoMemory),
@@ -91,10 +122,13 @@ impl Site {
     }
 
     /// One step of the replica, which is up, whose records are lost: it goes down.
-    pub(crate) fn step_lost(&mut self, input: &MpInput, from: u32) -> Result<(), NoMemory> {
+    pub(crate) fn step_lost(&mut self, input: &MpInput, from: u32) -> Result<(), NoMemory>
+        requires { FitsInput input.now }
+        ensures { OnOk result (WhereSiteIsUp self.old (λ me n r. SiteStands self.new me n (on_paper.Site.Down r.log))) }
+    {
         match mem::replace(&mut self.place, Place::Spent) {
             Place::Up(running) => {
-                self.place = Place::Down(running.step_lost(input, from)?);
+                self.move_to(Place::Down(running.step_lost(input, from)?));
                 Ok(())
             }
             // A world stops a step of what is up.
@@ -104,11 +138,18 @@ impl Site {
     }
 }
 
-/// A boot on a disk. The log that was kept is read again, and no call of the disk fails.
-fn boot_on(alloc: Global, me: u32, n: u32, disk: MemDisk) -> Result<(Running, Boot), NoMemory> {
-    let (mut log, mut bodies) = match Log::mount(alloc, disk) {
+/// A boot on what was left. The log that was kept is read again, and no call of the disk fails.
+fn boot_on(alloc: Global, me: u32, n: u32, left: Stopped) -> Result<(Running, Boot), NoMemory>
+    requires mine { me < n }
+    requires most { n ≤ 15 }
+    ensures { IfOk result (λ made. (log : LogOnPaper) → IsDisk left.disk log →
+        Boots made.1 me n log × IsUpAs made.0 (steps.boot me n log).replica) }
+{
+    let (mut log, mut bodies) = match Log::mount(alloc, left.disk) {
         Ok(mounted) => mounted,
-        Err((_, _disk)) => return Err(NoMemory),
+        Err((MountError::DiskFault, _disk)) => unreachable!(),
+        Err((MountError::BadGate { .. }, _disk)) => unreachable!(),
+        Err((MountError::NoMemory, _disk)) => return Err(NoMemory),
     };
     let body = body_of(alloc, &[MpRec::Boot])?;
     keep(alloc, &mut log, body.as_slice())?;

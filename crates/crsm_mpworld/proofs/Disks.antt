@@ -1,0 +1,168 @@
+-- Logs on disks on which nothing fails, and what is left on them.
+use Rattle.std.proofs.Common.{◌≡◌, ℕ, ◌<◌, ◌≤◌, IsTrue, Bool, true, false, List, [], ◌∷◌, ◌++◌, length, take, Option, Some, None, refl, sym, ◌∙◌, ap, subst, arith}
+use Rattle.std.specs.Prelude.{unwrap_or}
+use Rattle.std.specs.List.{AllByRecursion, flat_map}
+use Rattle.std.specs.Option.{option_map_or}
+use Rattle.std.proofs.lemmas.List.{length-append}
+use Rattle.std.proofs.Math.Logic.{∥∥₁_elim}
+use Rattle.crsm_faults.specs.Plan.{Plan}
+use Rattle.crsm_image.specs.Calls.{Call, History, contents, wrote, cut, synced}
+use Rattle.crsm_image.specs.Image.{image_of}
+use Rattle.crsm_disk.specs.Contract.{Arms}
+use Rattle.crsm_disk.specs.Memory.{Memory, meaning_of, good_left, holding}
+use Rattle.crsm_log.specs.Format.{reading, found, bodies_in, bodies_of}
+use Rattle.crsm_log.specs.Log.{IsSettled, StopsAt, Used, is_synced, less, put_calls, recorded}
+use Rattle.crsm_log.specs.Words.{disk_of}
+use Rattle.crsm_log.specs.declared.log.Log.{Log as DiskLog}
+use Rattle.crsm_log.specs.Stop.{IsWhole, StopKeeps}
+use Rattle.crsm_mpspec.specs.declared.rec.MpRec.{MpRec}
+use Rattle.crsm_spec.specs.Lists.{greatest}
+use Rattle.crsm_mpspec.specs.Log.{Log, executed, run_from, end, choices}
+use Rattle.crsm_mpspec.specs.Records.{FitsRec, SpeltBody, body_bytes, rec_bytes}
+use Rattle.crsm_mpspec.specs.Replica.{Replica}
+use Rattle.crsm_mpspec.specs.World.{body_size}
+use Rattle.crsm_mpspec.specs.Draft.{begun}
+use Rattle.crsm_mpspec.specs.Step.{step}
+use Rattle.crsm_mpspec.specs.declared.batch.MpBatch.{MpBatch}
+use Rattle.crsm_mpspec.specs.declared.input.MpInput.{MpInput}
+use Rattle.crsm_mpreplica.specs.Made.{Answers, outcome_of}
+use Rattle.crsm_mpledger.specs.Sound.{IsSound, AreBodies, with_records}
+use Rattle.crsm_mpcore.specs.declared.replica.MpCore.{MpCore}
+use Rattle.crsm_mpcore.specs.Core.{MpCoreStands}
+use Rattle.crsm_mpworld.specs.Disks.{IsDisk, IsSomeUp, IsUpOn, bytes_of, image}
+use Rattle.crsm_mpworld.proofs.Fits.{records_prop}
+use Rattle.crsm_mpworld.proofs.Growing.{step_grows}
+
+-- what cannot be
+pub both : (b : Bool) → b ≡ true → b ≡ false → ⊥
+both b is other = cc
+
+-- ---- calls that go well
+
+-- what a disk in memory tells ahead of its calls
+abbrev pub plan_of : Memory → Plan
+plan_of m = record { calls = m.room_calls; bytes = m.room_bytes; good = good_left m }
+
+-- where all calls went well before, all go well after some of them
+pub well_after : (k : ℕ) (p : Plan) (new : Memory) → p.good ≡ None → Used k p (meaning_of new).plan → good_left new ≡ None
+well_after k p new well used =
+    let told : Some (plan_of new) ≡ Some used.left.0 = used.left.1 in
+    ap (λ (o : Option Plan). option_map_or (λ (q : Plan). q.good) o None) told ∙ used.left.2 ∙ ap (less k) well
+
+-- armed where all its calls went well, so many further ones do
+pub armed_good : (calls : ℕ) (old new : Memory) (fill : ℕ) → good_left old ≡ None → Arms (Some calls) fill (meaning_of old) (meaning_of new) → good_left new ≡ Some calls
+armed_good calls old new fill well arms =
+    let q = arms.stops (plan_of old) refl in
+    let told : Some (plan_of new) ≡ Some q.0 = q.1 in
+    ap (λ (o : Option Plan). option_map_or (λ (p : Plan). p.good) o None) told ∙ q.2.good well
+
+-- ---- bodies
+
+rec_some : (r : MpRec) → 0 < length (rec_bytes r)
+unfolding rec_bytes
+rec_some MpRec.Boot = omega arith
+rec_some (MpRec.Promise b) = omega arith
+rec_some (MpRec.Accept slot b v) = omega arith
+rec_some (MpRec.Choose slot v) = omega arith
+
+-- where there are records there are bytes
+pub body_some : (recs : List MpRec) → 0 < length recs → 0 < length (body_bytes recs)
+unfolding body_bytes
+body_some [] h = absurd (omega (arith, h))
+body_some (r ∷ recs) h = let some = rec_some r in let long = length-append (rec_bytes r) (flat_map rec_bytes recs) in omega (arith, some, long)
+
+-- and without records there are none
+pub no_size : (recs : List MpRec) → length recs ≤ 0 → 0 ≡ body_size recs
+unfolding body_size body_bytes
+no_size [] h = refl
+no_size (r ∷ recs) h = absurd (omega (arith, h))
+
+pub spelt_body : (recs : List MpRec) → AllByRecursion FitsRec recs → 1 ≤ length recs → SpeltBody recs (body_bytes recs)
+spelt_body recs fit some = record { fits = record { some = some; fit = fit }; is = refl }
+
+-- one body more
+pub bodies_push : (log before : Log) (bodies : List (List ℕ)) (body : List ℕ) (recs : List MpRec) → AreBodies log bodies before → SpeltBody recs body →
+    AreBodies log (bodies ++ body ∷ []) (with_records before recs)
+bodies_push log before [] body recs are spelt = (recs, spelt, ap (λ l. with_records l recs) are)
+bodies_push log before (b ∷ bodies) body recs are spelt = (are.0, are.1, bodies_push (with_records log are.0) before bodies body recs are.2 spelt)
+
+pub on_disk : (disk : Memory) (bodies : List (List ℕ)) (log : Log) → reading (bytes_of disk) ≡ found bodies → AreBodies [] bodies log → IsSound log → IsDisk disk log
+on_disk disk bodies log is are sound =
+    let same : bodies_of (bytes_of disk) ≡ bodies = ap bodies_in is in
+    record { sound = sound; whole = is ∙ sym (ap found same); bodies = subst (λ (bs : List (List ℕ)). AreBodies [] bs log) (sym same) are }
+
+-- the disk with a body more
+pub with_body : (old new : Memory) (log : Log) (recs : List MpRec) (body : List ℕ) → IsDisk old log → SpeltBody recs body → IsSound (with_records log recs) →
+    reading (bytes_of new) ≡ found (bodies_of (bytes_of old) ++ body ∷ []) → IsDisk new (with_records log recs)
+with_body old new log recs body h spelt sound is =
+    on_disk new (bodies_of (bytes_of old) ++ body ∷ []) (with_records log recs) is (bodies_push [] log (bodies_of (bytes_of old)) body recs h.bodies spelt) sound
+
+-- an empty disk
+pub empty_disk : IsDisk (holding [] [] None 0) []
+empty_disk = record { sound = tt; whole = refl; bodies = refl }
+
+pub nothing_executed : 0 ≡ length (executed [])
+unfolding executed run_from end greatest choices
+nothing_executed = refl
+
+-- the log of a core is sound
+pub core_sound : (core : MpCore) (r : Replica) → MpCoreStands core r → IsSound r.log
+unfolding begun
+core_sound core r h = h.stands.ledger.sound
+
+-- A core has made a step, whose records are kept.
+pub stepped : {g : _} (core new_core : MpCore) (log new_log : DiskLog Memory g) (r : Replica) (input : MpInput) (from : ℕ) (recs : List MpRec) → IsUpOn core log r →
+    recs ≡ (step r input from).batch → MpCoreStands new_core (step r input from).replica →
+    ((kept : Log) → IsDisk (disk_of log) kept → IsSound (with_records kept recs) → IsDisk (disk_of new_log) (with_records kept recs)) →
+    IsUpOn new_core new_log (step r input from).replica
+stepped core new_core log new_log r input from recs up is stands keeps =
+    let whole : with_records r.log recs ≡ (step r input from).replica.log = ap (with_records r.log) is ∙ sym (step_grows r input from) in
+    let sound = subst IsSound (sym whole) (core_sound new_core (step r input from).replica stands) in
+    record { stands = stands; kept = subst (IsDisk (disk_of new_log)) whole (keeps r.log up.kept sound) }
+
+-- the records of a step fit, whatever replica the core is
+pub batch_fits : {g : _} (core : MpCore) (log : DiskLog Memory g) (input : MpInput) (from : ℕ) (batch : MpBatch) → ∥ IsSomeUp core log ∥₁ →
+    ((r : Replica) → MpCoreStands core r → Answers batch (outcome_of (step r input from))) → AllByRecursion FitsRec batch.records
+batch_fits core log input from batch some made =
+    ∥∥₁_elim some (records_prop batch.records) (λ s.
+    let a = made s.replica s.is.stands in subst (AllByRecursion FitsRec) (sym a.records) a.records_fit)
+
+-- ---- what a crash leaves
+
+-- of a disk that is settled all
+untrue : false ≡ true → ⊥
+untrue e = cc
+
+synced_image : (first : List ℕ) (calls : List Call) (fill : ℕ) → IsTrue (is_synced calls) → image_of first calls fill ≡ contents first calls
+synced_image first [] fill h = refl
+synced_image first (synced ∷ calls) fill h = refl
+synced_image first (wrote at bytes ∷ calls) fill h = absurd (untrue h)
+synced_image first (cut n ∷ calls) fill h = absurd (untrue h)
+
+pub settled_image : (disk : Memory) (end : ℕ) → IsSettled (meaning_of disk) end → reading (image disk) ≡ found (bodies_of (bytes_of disk))
+settled_image disk end s = ap reading (synced_image disk.first disk.calls disk.fill s.quiet) ∙ s.whole
+
+-- what is left reads as this log
+pub left_disk : (disk left : Memory) (log : Log) → bytes_of left ≡ image disk → (bodies : List (List ℕ)) → reading (image disk) ≡ found bodies →
+    AreBodies [] bodies log → IsSound log → IsDisk left log
+left_disk disk left log e bodies is are sound = on_disk left bodies log (ap reading e ∙ is) are sound
+
+same_some : (g h : History) → Some g ≡ Some h → g ≡ h
+same_some g h e = cc
+
+-- A put that stopped after its first call leaves the bodies from before it.
+module _ (law : (h : History) (end : ℕ) (body : List ℕ) (fill made : ℕ) → IsTrue (is_synced h.calls) → IsWhole (contents h.first h.calls) end → made ≤ 4 → length body < 2147483648 → StopKeeps h end body made fill)
+    (old new : Memory) (end : ℕ) (body : List ℕ) where
+  stopped : (made : ℕ) → made ≡ 1 → IsSettled (meaning_of old) end → length body < 2147483648 →
+      (meaning_of new).history ≡ recorded (take made (put_calls end body)) (meaning_of old).history → reading (image new) ≡ found (bodies_of (bytes_of old))
+  stopped made one s small is =
+      let g : History = record { first = old.first; calls = old.calls } in
+      let keeps : StopKeeps g end body 1 new.fill = law g end body new.fill 1 s.quiet (record { whole = s.whole; place = s.place; inside = s.inside; shut = s.shut }) (omega arith) small in
+      let there : (meaning_of new).history ≡ recorded (take 1 (put_calls end body)) (Some g) = subst (λ (k : ℕ). (meaning_of new).history ≡ recorded (take k (put_calls end body)) (Some g)) one is in
+      subst (λ (h : History). reading (image_of h.first h.calls new.fill) ≡ found (bodies_of (bytes_of old))) (sym (same_some _ _ there)) keeps
+
+  pub stopped_image : good_left old ≡ Some 1 → IsSettled (meaning_of old) end → length body < 2147483648 → StopsAt (put_calls end body) (λ _. IsTrue true) (meaning_of old) (meaning_of new) →
+      reading (image new) ≡ found (bodies_of (bytes_of old))
+  stopped_image good s small stops =
+      let one : Some stops.made ≡ Some 1 = sym (stops.good (plan_of old) refl refl) ∙ good in
+      stopped stops.made (ap (λ (o : Option ℕ). unwrap_or o 0) one) s small stops.history

@@ -1,0 +1,46 @@
+-- Logs on disks.
+use Rattle.std.specs.Prelude.{◌≡◌, List, [], ℕ}
+use Rattle.crsm_disk.specs.Memory.{Memory}
+use Rattle.crsm_image.specs.Calls.{contents}
+use Rattle.crsm_image.specs.Image.{image_of}
+use Rattle.crsm_log.specs.Format.{reading, found, bodies_of}
+use Rattle.crsm_log.specs.Words.{disk_of}
+use Rattle.crsm_log.specs.declared.log.Log.{Log as DiskLog}
+use Rattle.crsm_mpspec.specs.Log.{Log}
+use Rattle.crsm_mpspec.specs.Replica.{Replica}
+use Rattle.crsm_mpledger.specs.Sound.{IsSound, AreBodies}
+use Rattle.crsm_mpcore.specs.declared.replica.MpCore.{MpCore}
+use Rattle.crsm_mpcore.specs.Core.{MpCoreStands}
+
+-- the bytes that a read of the disk gives
+abbrev pub bytes_of : Memory → List ℕ
+bytes_of disk = contents disk.first disk.calls
+
+-- those that a crash leaves
+abbrev pub image : Memory → List ℕ
+image disk = image_of disk.first disk.calls disk.fill
+
+-- the disk holds the bodies of this log
+pub record IsDisk (disk : Memory) (log : Log) : Type 0 where
+  pub sound : IsSound log
+  pub whole : reading (bytes_of disk) ≡ found (bodies_of (bytes_of disk))
+  pub bodies : AreBodies [] (bodies_of (bytes_of disk)) log
+
+-- a replica is up with r: its core is that of r, and the log of r is on the disk
+pub record IsUpOn (core : MpCore) {g : _} (on_disk : DiskLog Memory g) (r : Replica) : Type 0 where
+  pub stands : MpCoreStands core r
+  pub kept : IsDisk (disk_of on_disk) r.log
+
+-- for each replica that is up with it
+abbrev pub WhereUpOn : MpCore → {g : _} → DiskLog Memory g → (Replica → Type 0) → Type 0
+WhereUpOn core on_disk P = (r : Replica) → IsUpOn core on_disk r → P r
+
+-- some log is on the disk
+pub record HasSomeLog (disk : Memory) : Type 0 where
+  pub log : Log
+  pub is : IsDisk disk log
+
+-- some replica is up with it
+pub record IsSomeUp (core : MpCore) {g : _} (on_disk : DiskLog Memory g) : Type 0 where
+  pub replica : Replica
+  pub is : IsUpOn core on_disk replica
