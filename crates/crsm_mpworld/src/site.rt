@@ -12,8 +12,7 @@ ghost use Rattle.crsm_mpspec.specs.Log.{Log as LogOnPaper, executed};
 ghost use Rattle.crsm_mpspec.specs.Records.{FitsRec, body_bytes};
 ghost use Rattle.crsm_mpspec.specs.Step as steps;
 ghost use Rattle.crsm_mpspec.specs.World.{body_size};
-ghost use Rattle.crsm_mpworld.specs.Disks.{IsDisk, HasSomeLog, WhereUpOn, bytes_of, image};
-ghost use Rattle.crsm_mpworld.specs.Sites.{IsStopped, IsUpAs, Makes};
+ghost use Rattle.crsm_mpworld.specs.Disks.{IsDisk, WhereUpOn, bytes_of, image};
 
 use crate::place::{Running, Stopped};
 use crsm_base::{Bytes, NoMemory, never};
@@ -120,6 +119,8 @@ fn executed_by(core: &MpCore) -> u64
 }
 
 impl Running {
+    ghost use Rattle.crsm_mpworld.specs.Sites.{IsStopped, IsUpAs, Makes};
+
     /// How many slots are executed.
     pub(crate) fn executed_len(&self) -> u64
         ensures { WhereUpOn self.now.core self.now.log (λ r. result ≡ length (executed r.log)) }

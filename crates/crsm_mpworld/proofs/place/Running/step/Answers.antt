@@ -9,16 +9,16 @@ use Rattle.crsm_mpworld.proofs.place.Running.step.Goals as goal
 pub keep_records-requires-clause-fit : goal.keep_records-requires-clause-fit
 keep_records-requires-clause-fit c =
     let old = c.args.self in
-    subst (AllByRecursion FitsRec) (sym c.as_slice.ensures) (batch_fits old.core old.log c.args.input.now c.args.from c.in_ok-batch.batch old.stands c.in_ok-batch.ensures.made)
+    subst (AllByRecursion FitsRec) (sym c.as_slice.ensures) (batch_fits old.core old.log c.args.input.now c.args.from c.in_ok-batch.batch old.stands (c.in_ok-batch.ensures.made c.requires))
 
 pub returns : goal.returns
 returns c r up =
     let old = c.args.self in
-    let made = c.in_ok-batch.ensures.made r up.stands in
+    let made = c.in_ok-batch.ensures.made c.requires r up.stands in
     let is = c.as_slice.ensures ∙ made.records in (
       record { batch = made; size = c.in_ok-size.ensures.size ∙ ap body_size is },
       stepped old.core c.step.new.self old.log c.keep_records.new.log r c.args.input.now c.args.from c.as_slice.result.now up is
-          (c.in_ok-batch.ensures.stands r up.stands) c.in_ok-size.ensures.kept,
+          (c.in_ok-batch.ensures.stands c.requires r up.stands) c.in_ok-size.ensures.kept,
     )
 
 -- some replica is up
@@ -26,9 +26,9 @@ pub invariant_of-result-clause-stands : goal.invariant_of-result-clause-stands
 invariant_of-result-clause-stands c =
     let old = c.args.self in
     ∥∥₁_map old.stands (λ s.
-    let made = c.in_ok-batch.ensures.made s.replica s.is.stands in
+    let made = c.in_ok-batch.ensures.made c.requires s.replica s.is.stands in
     record {
       replica = _;
       is = stepped old.core c.step.new.self old.log c.keep_records.new.log s.replica c.args.input.now c.args.from c.as_slice.result.now s.is (c.as_slice.ensures ∙ made.records)
-          (c.in_ok-batch.ensures.stands s.replica s.is.stands) c.in_ok-size.ensures.kept;
+          (c.in_ok-batch.ensures.stands c.requires s.replica s.is.stands) c.in_ok-size.ensures.kept;
     })

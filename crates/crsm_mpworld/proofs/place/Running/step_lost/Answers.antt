@@ -9,7 +9,7 @@ use Rattle.crsm_mpworld.proofs.place.Running.step_lost.Goals as goal
 pub put_in_vain-requires-clause-fit : goal.put_in_vain-requires-clause-fit
 put_in_vain-requires-clause-fit c =
     let old = c.args.self in
-    subst (AllByRecursion FitsRec) (sym c.as_slice.ensures) (batch_fits old.core old.log c.args.input.now c.args.from c.in_ok-batch.batch old.stands c.in_ok-batch.ensures.made)
+    subst (AllByRecursion FitsRec) (sym c.as_slice.ensures) (batch_fits old.core old.log c.args.input.now c.args.from c.in_ok-batch.batch old.stands (c.in_ok-batch.ensures.made c.requires))
 
 pub returns : goal.returns
 returns c r up =
