@@ -1,5 +1,5 @@
 -- Logs on disks on which nothing fails, and what is left on them.
-use Rattle.std.proofs.Common.{◌≡◌, ℕ, ◌<◌, ◌≤◌, IsTrue, Bool, true, false, List, [], ◌∷◌, ◌++◌, length, take, Option, Some, None, refl, sym, ◌∙◌, ap, subst, arith}
+use Rattle.std.proofs.Common.{◌≡◌, ℕ, ◌<◌, ◌≤◌, IsTrue, Bool, true, false, List, [], ◌∷◌, ◌++◌, length, map, take, Option, Some, None, refl, sym, ◌∙◌, ap, subst, arith}
 use Rattle.std.specs.Prelude.{unwrap_or}
 use Rattle.std.specs.List.{AllByRecursion, flat_map}
 use Rattle.std.specs.Option.{option_map_or}
@@ -25,12 +25,14 @@ use Rattle.crsm_mpspec.specs.Draft.{begun}
 use Rattle.crsm_mpspec.specs.Step.{step}
 use Rattle.crsm_mpspec.specs.declared.batch.MpBatch.{MpBatch}
 use Rattle.crsm_mpspec.specs.declared.input.MpInput.{MpInput}
-use Rattle.crsm_mpreplica.specs.Made.{Answers, outcome_of}
+use Rattle.crsm_mpspec.specs.declared.message.MpMessage.{MpMessage}
+use Rattle.crsm_mpreplica.specs.Made.{Answers, FitsSent, outcome_of, to_send}
 use Rattle.crsm_mpledger.specs.Sound.{IsSound, AreBodies, with_records}
 use Rattle.crsm_mpcore.specs.declared.replica.MpCore.{MpCore}
 use Rattle.crsm_mpcore.specs.Core.{MpCoreStands}
+use Rattle.crsm_mpworld.specs.Fits.{FitsSend}
 use Rattle.crsm_mpworld.specs.Disks.{IsDisk, IsSomeUp, IsUpOn, bytes_of, image}
-use Rattle.crsm_mpworld.proofs.Fits.{records_prop}
+use Rattle.crsm_mpworld.proofs.Fits.{records_prop, sends_prop}
 use Rattle.crsm_mpworld.proofs.Growing.{step_grows}
 
 -- what cannot be
@@ -126,6 +128,18 @@ pub batch_fits : {g : _} (core : MpCore) (log : DiskLog Memory g) (input : MpInp
 batch_fits core log input from batch some made =
     ∥∥₁_elim some (records_prop batch.records) (λ s.
     let a = made s.replica s.is.stands in subst (AllByRecursion FitsRec) (sym a.records) a.records_fit)
+
+-- so does each message
+fit_mapped : (xs : List (ℕ × MpMessage)) → AllByRecursion FitsSent xs → AllByRecursion FitsSend (map to_send xs)
+unfolding to_send
+fit_mapped [] fit = tt
+fit_mapped (x ∷ xs) fit = (fit.0, fit_mapped xs fit.1)
+
+pub batch_sends : {g : _} (core : MpCore) (log : DiskLog Memory g) (input : MpInput) (from : ℕ) (batch : MpBatch) → ∥ IsSomeUp core log ∥₁ →
+    ((r : Replica) → MpCoreStands core r → Answers batch (outcome_of (step r input from))) → AllByRecursion FitsSend batch.sends
+batch_sends core log input from batch some made =
+    ∥∥₁_elim some (sends_prop batch.sends) (λ s.
+    let a = made s.replica s.is.stands in subst (AllByRecursion FitsSend) (sym a.sends) (fit_mapped _ a.sends_fit))
 
 -- ---- what a crash leaves
 

@@ -2,7 +2,7 @@
 use Rattle.std.proofs.Common.{◌≡◌, ◌≤◌, ◌+◌, ◌-◌, ℕ, zero, suc, min, List, [], ◌∷◌, ◌++◌, length, map, take, refl, sym, ap, ◌∙◌, subst, arith, append_assoc, append-nil, length-append}
 use Rattle.std.specs.List.{AllByRecursion}
 use Rattle.std.proofs.lemmas.List.{take-map, length-map, take_all}
-use Rattle.crsm_mpreplica.specs.Made.{FitsSent, to_send}
+use Rattle.crsm_mpreplica.specs.Made.{to_send}
 use Rattle.crsm_mpspec.specs.declared.line.MpLine.{MpLine}
 use Rattle.crsm_mpspec.specs.declared.message.MpMessage.{MpMessage}
 use Rattle.crsm_mpspec.specs.declared.send.MpSend.{MpSend}
@@ -10,6 +10,7 @@ use Rattle.crsm_mpspec.specs.Draft.{Draft}
 use Rattle.crsm_mpspec.specs.World.{Packet, body_size, packet_of, send_line, send_lines}
 use Rattle.crsm_mpworld.specs.declared.network.MpNetwork.{MpNetwork}
 use Rattle.crsm_mpworld.specs.Effects.{HasSent, LetsOut}
+use Rattle.crsm_mpworld.specs.Fits.{FitsSend}
 use Rattle.crsm_mpworld.specs.Packets.{MpNetworkStands}
 use Rattle.std.specs.List.{enumerate_from}
 
@@ -21,7 +22,6 @@ pub record Going (k : ℕ) (out : List (ℕ × MpMessage)) (left : List MpSend) 
   pub rest : List (ℕ × MpMessage)
   pub are : out ≡ gone ++ rest
   pub left_are : left ≡ map to_send rest
-  pub fit : AllByRecursion FitsSent rest
   pub sent : HasSent k gone packets bytes before network lines
 
 send_more : (k i : ℕ) (xs ys : List (ℕ × MpMessage)) → send_lines k i (xs ++ ys) ≡ send_lines k i xs ++ send_lines k (i + length xs) ys
@@ -36,14 +36,13 @@ map_more f [] ys = refl
 map_more f (x ∷ xs) ys = ap (λ zs. f x ∷ zs) (map_more f xs ys)
 
 pub going_begins : (k : ℕ) (out : List (ℕ × MpMessage)) (left : List MpSend) (packets : List Packet) (bytes : ℕ) (lines : List MpLine) (network : MpNetwork)
-    → left ≡ map to_send out → AllByRecursion FitsSent out → MpNetworkStands network packets bytes → Going k out left packets bytes lines network lines
+    → left ≡ map to_send out → MpNetworkStands network packets bytes → Going k out left packets bytes lines network lines
 unfolding send_lines
-going_begins k out left packets bytes lines network e fit h = record {
+going_begins k out left packets bytes lines network e h = record {
   gone = [];
   rest = out;
   are = refl;
   left_are = e;
-  fit = fit;
   sent = record { stands = subst (λ (ps : List Packet). MpNetworkStands network ps bytes) (sym (append-nil packets)) h; told = sym (append-nil lines) };
 }
 
@@ -60,25 +59,23 @@ sent_next k gone s packets bytes before lines all network new h g = record {
 
 pub going_next : (k : ℕ) (out : List (ℕ × MpMessage)) (send : MpSend) (left : List MpSend) (packets : List Packet) (bytes : ℕ) (before lines all : List MpLine) (network new : MpNetwork)
     → Going k out (send ∷ left) packets bytes before network lines
-    → ((ps : List Packet) (bs : ℕ) → MpNetworkStands network ps bs → FitsSent (send.to, send.message) → HasSent k ((send.to, send.message) ∷ []) ps bs lines new all)
+    → ((ps : List Packet) (bs : ℕ) → MpNetworkStands network ps bs → HasSent k ((send.to, send.message) ∷ []) ps bs lines new all)
     → Going k out left packets bytes before new all
 unfolding to_send
-going_next k out send left packets bytes before lines all network new g step = at g.rest g.are g.left_are g.fit
+going_next k out send left packets bytes before lines all network new g step = at g.rest g.are g.left_are
   where
-    at : (rest : List (ℕ × MpMessage)) → out ≡ g.gone ++ rest → send ∷ left ≡ map to_send rest → AllByRecursion FitsSent rest → Going k out left packets bytes before new all
-    at [] are e fit = cc
-    at (s ∷ rest) are e fit =
+    at : (rest : List (ℕ × MpMessage)) → out ≡ g.gone ++ rest → send ∷ left ≡ map to_send rest → Going k out left packets bytes before new all
+    at [] are e = cc
+    at (s ∷ rest) are e =
         let head : send ≡ record { to = s.0; message = s.1 } = cc in
         let same : (send.to, send.message) ≡ s = ap (λ (x : MpSend). (x.to, x.message)) head in
-        let fits = subst (λ (x : ℕ × MpMessage). FitsSent x) (sym same) fit.0 in
         record {
           gone = g.gone ++ s ∷ [];
           rest = rest;
           are = are ∙ sym (append_assoc g.gone (s ∷ []) rest);
           left_are = cc;
-          fit = fit.1;
           sent = sent_next k g.gone s packets bytes before lines all network new g.sent
-              (subst (λ (x : ℕ × MpMessage). HasSent k (x ∷ []) (packets ++ map (packet_of k) g.gone) bytes lines new all) same (step _ bytes g.sent.stands fits));
+              (subst (λ (x : ℕ × MpMessage). HasSent k (x ∷ []) (packets ++ map (packet_of k) g.gone) bytes lines new all) same (step _ bytes g.sent.stands));
         }
 
 pub going_ends : (k : ℕ) (out : List (ℕ × MpMessage)) (left : List MpSend) (packets : List Packet) (bytes : ℕ) (before lines : List MpLine) (network : MpNetwork)
@@ -105,18 +102,15 @@ take_same (x ∷ xs) zero (suc b) e = absurd (omega arith)
 take_same (x ∷ xs) (suc a) zero e = absurd (omega arith)
 take_same (x ∷ xs) (suc a) (suc b) e = ap (λ ys. x ∷ ys) (take_same xs a b (omega arith))
 
-all_taken : (xs : List (ℕ × MpMessage)) (n : ℕ) → AllByRecursion FitsSent xs → AllByRecursion FitsSent (take n xs)
-all_taken xs zero all = tt
-all_taken [] (suc n) all = tt
-all_taken (x ∷ xs) (suc n) all = (all.0, all_taken xs n all.1)
+pub fit_taken : (n : ℕ) (all : List MpSend) → AllByRecursion FitsSend all → AllByRecursion FitsSend (take n all)
+fit_taken zero all fit = tt
+fit_taken (suc n) [] fit = tt
+fit_taken (suc n) (x ∷ xs) fit = (fit.0, fit_taken n xs fit.1)
 
 pub sends_taken : (count out made : ℕ) (sends : List (ℕ × MpMessage)) (all some : List MpSend) → all ≡ map to_send sends → made ≡ length all → out ≡ min count made → some ≡ take out all → some ≡ map to_send (take count sends)
 sends_taken count out made sends all some e m o s =
     let long : length all ≡ length sends = ap length e ∙ length-map sends to_send in
     s ∙ ap (take out) e ∙ take-map to_send out sends ∙ ap (map to_send) (take_same sends out count (omega (arith, long, m, o)))
-
-pub fit_taken : (count : ℕ) (sends : List (ℕ × MpMessage)) → AllByRecursion FitsSent sends → AllByRecursion FitsSent (take count sends)
-fit_taken count sends fit = all_taken sends count fit
 
 -- ---- the whole
 

@@ -3,3 +3,16 @@ mod Fits
 mod Disks
 mod Places
 mod Boots
+mod Gets
+mod PacketLists
+mod Numbers
+mod Marked
+mod Due
+mod Reasons
+mod First
+mod Allowed
+mod Turns
+mod Leading
+mod Letting
+mod Series
+mod Booting

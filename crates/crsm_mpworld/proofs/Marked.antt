@@ -4,17 +4,20 @@ use Rattle.std.specs.Prelude.{slice_get, filter}
 use Rattle.std.specs.Vec.{with_item}
 use Rattle.std.proofs.lemmas.List.{map-append}
 use Rattle.std.proofs.lemmas.Option.{slice_get_past}
+use Rattle.std.specs.List.{AllByRecursion}
 use Rattle.crsm_mpspec.specs.World.{Packet as PacketOnPaper}
 use Rattle.crsm_mpreplica.specs.Fitting.{FitsMessage}
 use Rattle.crsm_mpworld.specs.declared.network.Packet.{Packet}
 use Rattle.crsm_mpworld.specs.declared.network.MpNetwork.{MpNetwork}
+use Rattle.crsm_mpworld.specs.Fits.{FitsPacket}
 use Rattle.crsm_mpworld.specs.Packets.{HasFresh, IsPacket, MpNetworkStands, in_memory, is_fresh_for, is_up_among, used_up}
 use Rattle.crsm_mpworld.proofs.PacketLists.{packets_length, packets_here, packets_used, fit_used, all_more}
 use Rattle.crsm_mpworld.proofs.Numbers.{has_used, has_sent, has_kept, has_fewer}
 
-pub marks : (old : MpNetwork) (packets : List PacketOnPaper) (bytes i : ℕ) (m : Packet) → MpNetworkStands old packets bytes → slice_get old.packets.items i ≡ Some m
-    → MpNetworkStands (record old { packets = with_item old.packets i (record m { is_used = true }) }) (used_up i packets) bytes
-marks old packets bytes i m h e =
+pub marks : (old : MpNetwork) (packets : List PacketOnPaper) (bytes i : ℕ) (m : Packet) (fits : ∥ AllByRecursion FitsPacket (with_item old.packets i (record m { is_used = true })).items ∥₁)
+    → MpNetworkStands old packets bytes → slice_get old.packets.items i ≡ Some m
+    → MpNetworkStands (record old { packets = with_item old.packets i (record m { is_used = true }); fits = fits }) (used_up i packets) bytes
+marks old packets bytes i m fits h e =
     let at = packets_here old.packets.items packets i m h.held h.fit e in
     record {
       held = packets_used old.packets.items packets i m h.held at;
@@ -31,9 +34,9 @@ unmarked old packets bytes i h l =
     rw none h
 
 -- all that is fresh is near, whoever is up
-pub turned : (old : MpNetwork) (packets : List PacketOnPaper) (bytes : ℕ) (kept near : Vec ℕ Global) (ups : Vec Bool Global) → MpNetworkStands old packets bytes
-    → kept.items ≡ filter (is_fresh_for (λ k. true) packets) old.fresh.items → near.items ≡ kept.items → MpNetworkStands (record old { fresh = kept; near = near; ups = ups }) packets bytes
-turned old packets bytes kept near ups h e f =
+pub turned : (old : MpNetwork) (packets : List PacketOnPaper) (bytes : ℕ) (kept near : Vec ℕ Global) (ups : Vec Bool Global) (fits : ∥ AllByRecursion FitsPacket old.packets.items ∥₁) → MpNetworkStands old packets bytes
+    → kept.items ≡ filter (is_fresh_for (λ k. true) packets) old.fresh.items → near.items ≡ kept.items → MpNetworkStands (record old { fresh = kept; near = near; ups = ups; fits = fits }) packets bytes
+turned old packets bytes kept near ups fits h e f =
     let fresh = has_kept (λ k. true) packets old.fresh.items kept.items h.fresh e in
     record {
       held = h.held;
@@ -44,9 +47,9 @@ turned old packets bytes kept near ups h e f =
     }
 
 -- those that are due stay near
-pub nears : (old : MpNetwork) (packets : List PacketOnPaper) (bytes : ℕ) (near : Vec ℕ Global) → MpNetworkStands old packets bytes
-    → near.items ≡ filter (is_fresh_for (is_up_among old.ups.items) packets) old.near.items → MpNetworkStands (record old { near = near }) packets bytes
-nears old packets bytes near h e = record {
+pub nears : (old : MpNetwork) (packets : List PacketOnPaper) (bytes : ℕ) (near : Vec ℕ Global) (fits : ∥ AllByRecursion FitsPacket old.packets.items ∥₁) → MpNetworkStands old packets bytes
+    → near.items ≡ filter (is_fresh_for (is_up_among old.ups.items) packets) old.near.items → MpNetworkStands (record old { near = near; fits = fits }) packets bytes
+nears old packets bytes near fits h e = record {
   held = h.held;
   fit = h.fit;
   fresh = h.fresh;
@@ -54,10 +57,10 @@ nears old packets bytes near h e = record {
   counted = h.counted;
 }
 
-pub sends : (old : MpNetwork) (packets : List PacketOnPaper) (bytes : ℕ) (items : Vec Packet Global) (fresh near : Vec ℕ Global) (m : Packet) (p : PacketOnPaper) → MpNetworkStands old packets bytes
+pub sends : (old : MpNetwork) (packets : List PacketOnPaper) (bytes : ℕ) (items : Vec Packet Global) (fresh near : Vec ℕ Global) (fits : ∥ AllByRecursion FitsPacket items.items ∥₁) (m : Packet) (p : PacketOnPaper) → MpNetworkStands old packets bytes
     → items.items ≡ old.packets.items ++ m ∷ [] → fresh.items ≡ old.fresh.items ++ length packets ∷ [] → near.items ≡ old.near.items ++ length packets ∷ [] → IsPacket m p
-    → MpNetworkStands (record old { packets = items; fresh = fresh; near = near }) (packets ++ p ∷ []) bytes
-sends old packets bytes items fresh near m p h e f g is = record {
+    → MpNetworkStands (record old { packets = items; fresh = fresh; near = near; fits = fits }) (packets ++ p ∷ []) bytes
+sends old packets bytes items fresh near fits m p h e f g is = record {
   held = e ∙ ap (λ ms. ms ++ m ∷ []) h.held ∙ ap (λ x. map in_memory packets ++ x ∷ []) is.is ∙ sym (map-append in_memory packets (p ∷ []));
   fit = all_more (λ q. FitsMessage q.message) packets p h.fit is.fits;
   fresh = subst (HasFresh (λ k. true) (packets ++ p ∷ [])) (sym f) (has_sent (λ k. true) packets p old.fresh.items h.fresh);

@@ -1,6 +1,6 @@
 -- What comes of a replica where something comes to it, and what of that is let out.
 use Rattle.std.specs.Prelude.{◌≡◌, ◌+◌, ◌-◌, ℕ, List, ◌++◌, length, map, take, Some, slice_get, slice_set}
-use Rattle.crsm_mpreplica.specs.Made.{Answers}
+use Rattle.std.specs.List.{AllByRecursion}
 use Rattle.crsm_mpspec.specs.declared.line.MpLine.{MpLine}
 use Rattle.crsm_mpspec.specs.declared.message.MpMessage.{MpMessage}
 use Rattle.crsm_mpspec.specs.Draft.{Draft}
@@ -15,6 +15,7 @@ use Rattle.crsm_mpworld.specs.declared.network.MpNetwork.{MpNetwork}
 use Rattle.crsm_mpworld.specs.declared.site.Step.{Step}
 use Rattle.crsm_mpworld.specs.declared.sites.Sites.{Sites}
 use Rattle.crsm_mpworld.specs.declared.world.MpWorld.{MpWorld}
+use Rattle.crsm_mpworld.specs.Fits.{FitsSend}
 use Rattle.crsm_mpworld.specs.Packets.{MpNetworkStands}
 use Rattle.crsm_mpworld.specs.Sites.{Makes, StandFor}
 
@@ -57,6 +58,12 @@ Leaves m v (effects.Cut k step count) sites =
     (x : Draft) × (m ≡ cut_step count v k x) × Makes step x × StandFor sites v.n (slice_set v.sites k (Site.Down x.replica.log))
 Leaves m v (effects.Down k) sites =
     (p : Site) × (m ≡ down v k) × (slice_get v.sites k ≡ Some p) × StandFor sites v.n (slice_set v.sites k (Site.Down (log_of p)))
+
+-- each message of the step has a spelling
+abbrev pub FitsEffects : Effects → Type 0
+FitsEffects (effects.Whole k step) = AllByRecursion FitsSend step.batch.sends
+FitsEffects (effects.Cut k step count) = AllByRecursion FitsSend step.batch.sends
+FitsEffects _ = Unit {0}
 
 -- for a world on paper that has these sites
 abbrev pub WhereSites : Sites → (World → Type 0) → Type 0

@@ -1,4 +1,5 @@
 pub mod Disks
+pub mod Fits
 pub mod Sites
 pub mod Packets
 pub mod World

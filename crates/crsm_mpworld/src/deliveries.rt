@@ -27,7 +27,8 @@ impl MpWorld {
         input: &MpInput,
         lines: &mut MpLines,
     ) -> Result<(), NoMemory>
-        ensures { OnOk result (FitsInput input.now → WhereHolds self.old (λ v.
+        requires { FitsInput input.now }
+        ensures { OnOk result (WhereHolds self.old (λ v.
             WorldLeadsOn (moments.step_at (ending_of ending) v k input.now 0) self.new lines.old lines.new)) }
     {
         let effects = self.sites.arrive(k, ending, input, 0)?;

@@ -5,7 +5,7 @@ ghost use Rattle.crsm_mpreplica.specs.Fitting.{FitsInput};
 ghost use Rattle.crsm_mpspec.specs.Moments.{step_at};
 ghost use Rattle.crsm_mpspec.specs.Step as steps;
 ghost use Rattle.crsm_mpspec.specs.World as on_paper;
-ghost use Rattle.crsm_mpworld.specs.Effects.{Leaves, WhereSites, WhereUpIn, ending_of};
+ghost use Rattle.crsm_mpworld.specs.Effects.{FitsEffects, Leaves, WhereSites, WhereUpIn, ending_of};
 ghost use Rattle.crsm_mpworld.specs.Sites.{StandFor};
 
 use crate::ending::{Effects, Ending};
@@ -16,8 +16,10 @@ use crsm_mpspec::MpInput;
 impl Sites {
     /// A whole step of a replica that is up.
     fn step_whole(&mut self, k: u32, input: &MpInput, from: u32) -> Result<Effects, NoMemory>
-        ensures { IfOk result (λ effects. FitsInput input.now → WhereUpIn self.old k (λ v r.
+        requires { FitsInput input.now }
+        ensures leaves { IfOk result (λ effects. WhereUpIn self.old k (λ v r.
             Leaves (on_paper.whole_step v k (steps.step r input.now from)) v effects self.new)) }
+        ensures fits { IfOk result (λ effects. FitsEffects effects) }
     {
         let step = self.step(k, input, from)?;
         Ok(Effects::Whole { k, step })
@@ -31,8 +33,10 @@ impl Sites {
         input: &MpInput,
         from: u32,
     ) -> Result<Effects, NoMemory>
-        ensures { IfOk result (λ effects. FitsInput input.now → WhereUpIn self.old k (λ v r.
+        requires { FitsInput input.now }
+        ensures leaves { IfOk result (λ effects. WhereUpIn self.old k (λ v r.
             Leaves (on_paper.cut_step sends v k (steps.step r input.now from)) v effects self.new)) }
+        ensures fits { IfOk result (λ effects. FitsEffects effects) }
     {
         let step = self.step(k, input, from)?;
         self.crash(k)?;
@@ -41,8 +45,10 @@ impl Sites {
 
     /// A step of a replica that is up, whose records are lost.
     fn step_stopped(&mut self, k: u32, input: &MpInput, from: u32) -> Result<Effects, NoMemory>
-        ensures { IfOk result (λ effects. FitsInput input.now → WhereUpIn self.old k (λ v r.
+        requires { FitsInput input.now }
+        ensures leaves { IfOk result (λ effects. WhereUpIn self.old k (λ v r.
             Leaves (on_paper.lost_step v k (steps.step r input.now from)) v effects self.new)) }
+        ensures fits { IfOk result (λ effects. FitsEffects effects) }
     {
         self.step_lost(k, input, from)?;
         Ok(Effects::Down { k })
@@ -50,8 +56,9 @@ impl Sites {
 
     /// A replica goes down with what is on its disk.
     pub(crate) fn go_down(&mut self, k: u32) -> Result<Effects, NoMemory>
-        ensures { IfOk result (λ effects. WhereSites self.old (λ v. (p : on_paper.Site) → slice_get v.sites k ≡ Some p →
+        ensures leaves { IfOk result (λ effects. WhereSites self.old (λ v. (p : on_paper.Site) → slice_get v.sites k ≡ Some p →
             Leaves (on_paper.down v k) v effects self.new)) }
+        ensures fits { IfOk result (λ effects. FitsEffects effects) }
     {
         self.crash(k)?;
         Ok(Effects::Down { k })
@@ -65,8 +72,10 @@ impl Sites {
         input: &MpInput,
         from: u32,
     ) -> Result<Effects, NoMemory>
-        ensures { IfOk result (λ effects. FitsInput input.now → WhereSites self.old (λ v.
+        requires { FitsInput input.now }
+        ensures leaves { IfOk result (λ effects. WhereSites self.old (λ v.
             Leaves (step_at (ending_of ending) v k input.now from) v effects self.new)) }
+        ensures fits { IfOk result (λ effects. FitsEffects effects) }
     {
         let Some(k) = self.up(k) else {
             return Ok(Effects::Nothing);

@@ -10,6 +10,7 @@ mod fresh;
 mod lines;
 mod network;
 mod outgoing;
+mod packets;
 mod place;
 mod site;
 mod sites;

@@ -2,11 +2,11 @@
 
 ghost use Rattle.std.specs.Prelude.{◌≡◌, [], ◌∷◌, ℕ, List, map, OnOk};
 ghost use Rattle.std.specs.List.{AllByRecursion};
-ghost use Rattle.crsm_mpreplica.specs.Fitting.{FitsMessage};
-ghost use Rattle.crsm_mpreplica.specs.Made.{FitsSent, to_send};
+ghost use Rattle.crsm_mpreplica.specs.Made.{to_send};
 ghost use Rattle.crsm_mpspec.specs.declared.message.MpMessage.{MpMessage as Message};
-ghost use Rattle.crsm_mpworld.specs.Effects.{HasSent, LeadsOn, LetsOut, LetsOutSome, WhereLeft, WhereMade};
+ghost use Rattle.crsm_mpworld.specs.Effects.{FitsEffects, HasSent, LeadsOn, LetsOut, LetsOutSome, WhereLeft, WhereMade};
 ghost use Rattle.crsm_mpworld.specs.Packets.{WhereNetwork};
+ghost use Rattle.crsm_mpworld.specs.Fits.{FitsSend};
 
 use crate::ending::Effects;
 use crate::lines::kind_of;
@@ -22,8 +22,8 @@ fn send_one(
     send: MpSend,
     lines: &mut MpLines,
 ) -> Result<(), NoMemory>
-    ensures { OnOk result (WhereNetwork network.old (λ packets bytes. FitsMessage send.message →
-        HasSent k ((send.to, send.message) ∷ []) packets bytes lines.old network.new lines.new)) }
+    requires { FitsSend send }
+    ensures { OnOk result (WhereNetwork network.old (λ packets bytes. HasSent k ((send.to, send.message) ∷ []) packets bytes lines.old network.new lines.new)) }
 {
     lines.push(MpLine::Send {
         index: network.count(),
@@ -42,7 +42,8 @@ fn send_all(
     sends: MpSends,
     lines: &mut MpLines,
 ) -> Result<(), NoMemory>
-    ensures { OnOk result (WhereNetwork network.old (λ packets bytes. (out : List (ℕ × Message)) → sends ≡ map to_send out → AllByRecursion FitsSent out →
+    requires { AllByRecursion FitsSend sends }
+    ensures { OnOk result (WhereNetwork network.old (λ packets bytes. (out : List (ℕ × Message)) → sends ≡ map to_send out →
         HasSent k out packets bytes lines.old network.new lines.new)) }
 {
     for send in sends.into_items() {
@@ -60,6 +61,7 @@ fn let_out(
     count: u64,
     lines: &mut MpLines,
 ) -> Result<(), NoMemory>
+    requires { AllByRecursion FitsSend step.batch.sends }
     ensures { OnOk result (WhereMade network.old step (λ packets bytes x. LetsOutSome count lines.old packets bytes k x network.new lines.new)) }
 {
     let Step { batch, size } = step;
@@ -83,6 +85,7 @@ fn let_all_out(
     step: Step,
     lines: &mut MpLines,
 ) -> Result<(), NoMemory>
+    requires { AllByRecursion FitsSend step.batch.sends }
     ensures { OnOk result (WhereMade network.old step (λ packets bytes x. LetsOut lines.old packets bytes k x x.sends x.replies network.new lines.new)) }
 {
     let Step { batch, size } = step;
@@ -101,6 +104,7 @@ pub(crate) fn leave(
     effects: Effects,
     lines: &mut MpLines,
 ) -> Result<(), NoMemory>
+    requires { FitsEffects effects }
     ensures { OnOk result (WhereLeft network.old effects (λ m v sites. LeadsOn m v.n sites network.new lines.old lines.new)) }
 {
     match effects {

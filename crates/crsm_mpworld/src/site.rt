@@ -13,6 +13,7 @@ ghost use Rattle.crsm_mpspec.specs.Records.{FitsRec, body_bytes};
 ghost use Rattle.crsm_mpspec.specs.Step as steps;
 ghost use Rattle.crsm_mpspec.specs.World.{body_size};
 ghost use Rattle.crsm_mpworld.specs.Disks.{IsDisk, WhereUpOn, bytes_of, image};
+ghost use Rattle.crsm_mpworld.specs.Fits.{FitsSend};
 
 use crate::place::{Running, Stopped};
 use crsm_base::{Bytes, NoMemory, never};
@@ -131,7 +132,8 @@ impl Running {
     /// One step, whose records are kept.
     pub(crate) fn step(self, input: &MpInput, from: u32) -> Result<(Running, Step), NoMemory>
         requires { FitsInput input.now }
-        ensures { IfOk result (λ made. WhereUpOn self.core self.log (λ r.
+        ensures fits { IfOk result (λ made. AllByRecursion FitsSend made.1.batch.sends) }
+        ensures steps { IfOk result (λ made. WhereUpOn self.core self.log (λ r.
             Makes made.1 (steps.step r input.now from) × IsUpAs made.0 (steps.step r input.now from).replica)) }
     {
         let Running {

@@ -1,10 +1,11 @@
 //! The places of the replicas.
 
 ghost use Rattle.std.specs.Prelude.{◌≡◌, ◌≤◌, ◌<◌, [], length, map, replicate, slice_set, IfOk, IfSome, IsTrue, OnOk};
-ghost use Rattle.std.specs.List.{enumerate_from};
+ghost use Rattle.std.specs.List.{AllByRecursion, enumerate_from};
 ghost use Rattle.crsm_mpreplica.specs.Fitting.{FitsInput};
 ghost use Rattle.crsm_mpspec.specs.Step as steps;
 ghost use Rattle.crsm_mpspec.specs.World as on_paper;
+ghost use Rattle.crsm_mpworld.specs.Fits.{FitsSend};
 ghost use Rattle.crsm_mpworld.specs.Sites.{StandFor, StepsTo, BootsTo, is_up_in, up_in, WhereSiteStands, WhereSitesStand, WherePlace, WhereUp, WhereDown};
 
 use crate::place::Site;
@@ -105,7 +106,8 @@ impl Sites {
     /// One step of a replica that is up.
     pub(crate) fn step(&mut self, k: u32, input: &MpInput, from: u32) -> Result<Step, NoMemory>
         requires { FitsInput input.now }
-        ensures { IfOk result (λ step. WhereUp self.old k (λ n places r. StepsTo step (steps.step r input.now from) self.new n places k)) }
+        ensures fits { IfOk result (λ step. AllByRecursion FitsSend step.batch.sends) }
+        ensures steps { IfOk result (λ step. WhereUp self.old k (λ n places r. StepsTo step (steps.step r input.now from) self.new n places k)) }
     {
         self.check(k)?;
         let step = self.items[k as usize].step(input, from)?;

@@ -1,11 +1,13 @@
 //! Boots and stops of a replica.
 
 ghost use Rattle.std.specs.Prelude.{◌≡◌, ◌<◌, ◌≤◌, [], length, IfOk, OnOk};
+ghost use Rattle.std.specs.List.{AllByRecursion};
 ghost use Rattle.crsm_mpreplica.specs.Fitting.{FitsInput};
 ghost use Rattle.crsm_mpspec.specs.Log.{Log as LogOnPaper, executed};
 ghost use Rattle.crsm_mpspec.specs.Step as steps;
 ghost use Rattle.crsm_mpspec.specs.World as on_paper;
 ghost use Rattle.crsm_mpworld.specs.Disks.{IsDisk};
+ghost use Rattle.crsm_mpworld.specs.Fits.{FitsSend};
 ghost use Rattle.crsm_mpworld.specs.Sites.{Boots, IsUpAs, Makes, SiteStands, WhereSiteStands, WhereSiteIsDown, WhereSiteIsUp};
 
 use crate::place::{Place, Running, Site, Stopped};
@@ -106,7 +108,8 @@ impl Site {
     /// One step of the replica, which is up.
     pub(crate) fn step(&mut self, input: &MpInput, from: u32) -> Result<Step, NoMemory>
         requires { FitsInput input.now }
-        ensures { IfOk result (λ step. WhereSiteIsUp self.old (λ me n r.
+        ensures fits { IfOk result (λ step. AllByRecursion FitsSend step.batch.sends) }
+        ensures steps { IfOk result (λ step. WhereSiteIsUp self.old (λ me n r.
             Makes step (steps.step r input.now from) × SiteStands self.new me n (on_paper.Site.Up (steps.step r input.now from).replica))) }
     {
         match mem::replace(&mut self.place, Place::Spent) {

@@ -7,7 +7,7 @@ use Rattle.crsm_mpworld.proofs.network.MpNetwork.due.Goals as goal
 pub returns-clause-stands : goal.returns-clause-stands
 returns-clause-stands c packets bytes h =
     let seen = c.in_ok-see.ensures.stands packets bytes h in
-    nears c.see.new.self packets bytes c.in_ok-self.field-0 seen (c.in_ok-self.ensures.items ∙ c.as_slice.ensures.value ∙ c.in_ok-due.ensures packets bytes seen)
+    nears c.see.new.self packets bytes c.in_ok-self.field-0 _ seen (c.in_ok-self.ensures.items ∙ c.as_slice.ensures.value ∙ c.in_ok-due.ensures packets bytes seen)
 
 pub returns-clause-due : goal.returns-clause-due
 returns-clause-due c packets bytes h =

@@ -5,8 +5,8 @@ use Rattle.crsm_mpworld.proofs.network.MpNetwork.is_fresh.Goals as goal
 
 pub returns-in-Some : goal.returns-in-Some
 unfolding is_fresh_for in_memory
-returns-in-Some c packets bytes h = let f = c.in-Some.ensures packets bytes h in rw f.1 (ap (λ m. not m.is_used) f.2.is ∙ and_true (not f.0.used))
+returns-in-Some c packets bytes h = let f = c.in-Some.ensures.at packets bytes h in rw f.1 (ap (λ m. not m.is_used) f.2.is ∙ and_true (not f.0.used))
 
 pub returns-in-None : goal.returns-in-None
 unfolding is_fresh_for
-returns-in-None c packets bytes h = let f = c.in-None.ensures packets bytes h in rw f refl
+returns-in-None c packets bytes h = let f = c.in-None.ensures.at packets bytes h in rw f refl

@@ -3,7 +3,7 @@ use Rattle.std.proofs.Math.Logic.{∥∥₁_map}
 use Rattle.std.specs.List.{AllByRecursion}
 use Rattle.crsm_mpspec.specs.Records.{FitsRec}
 use Rattle.crsm_mpspec.specs.World.{body_size}
-use Rattle.crsm_mpworld.proofs.Disks.{batch_fits, stepped}
+use Rattle.crsm_mpworld.proofs.Disks.{batch_fits, batch_sends, stepped}
 use Rattle.crsm_mpworld.proofs.place.Running.step.Goals as goal
 
 pub keep_records-requires-clause-fit : goal.keep_records-requires-clause-fit
@@ -11,8 +11,12 @@ keep_records-requires-clause-fit c =
     let old = c.args.self in
     subst (AllByRecursion FitsRec) (sym c.as_slice.ensures) (batch_fits old.core old.log c.args.input.now c.args.from c.in_ok-batch.batch old.stands (c.in_ok-batch.ensures.made c.requires))
 
-pub returns : goal.returns
-returns c r up =
+pub returns-clause-fits : goal.returns-clause-fits
+returns-clause-fits c =
+    let old = c.args.self in batch_sends old.core old.log c.args.input.now c.args.from c.in_ok-batch.batch old.stands (c.in_ok-batch.ensures.made c.requires)
+
+pub returns-clause-steps : goal.returns-clause-steps
+returns-clause-steps c r up =
     let old = c.args.self in
     let made = c.in_ok-batch.ensures.made c.requires r up.stands in
     let is = c.as_slice.ensures ∙ made.records in (

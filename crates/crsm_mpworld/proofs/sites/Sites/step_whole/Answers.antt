@@ -5,8 +5,8 @@ use Rattle.crsm_mpworld.specs.Sites.{StandFor}
 use Rattle.crsm_mpworld.proofs.Turns.{get_set, set_twice}
 use Rattle.crsm_mpworld.proofs.sites.Sites.step_whole.Goals as goal
 
-pub returns : goal.returns
+pub returns-clause-leaves : goal.returns-clause-leaves
 unfolding lost_step log_of
-returns c fits v r h e =
-    let made = c.in_ok-step.ensures fits v.n v.sites r h e in
+returns-clause-leaves c v r h e =
+    let made = c.in_ok-step.ensures.steps v.n v.sites r h e in
     (step r c.args.input.now c.args.from, refl, made.0, made.1)

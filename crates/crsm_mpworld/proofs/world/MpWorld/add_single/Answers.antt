@@ -17,11 +17,11 @@ returns-in_ok-come-in-Again c v h = rw c.in-Again.is (c.in_ok-come-in-Again.ensu
 
 pub returns-in_ok-arrive-in-Tick : goal.returns-in_ok-arrive-in-Tick
 unfolding single single_of
-returns-in_ok-arrive-in-Tick c v h = rw c.in-Tick.is (c.in_ok-arrive-in-Tick.ensures tt v h)
+returns-in_ok-arrive-in-Tick c v h = rw c.in-Tick.is (c.in_ok-arrive-in-Tick.ensures v h)
 
 pub returns-in_ok-arrive-in-Suspect : goal.returns-in_ok-arrive-in-Suspect
 unfolding single single_of
-returns-in_ok-arrive-in-Suspect c v h = rw c.in-Suspect.is (c.in_ok-arrive-in-Suspect.ensures tt v h)
+returns-in_ok-arrive-in-Suspect c v h = rw c.in-Suspect.is (c.in_ok-arrive-in-Suspect.ensures v h)
 
 pub returns-in-Junk : goal.returns-in-Junk
 unfolding single single_of

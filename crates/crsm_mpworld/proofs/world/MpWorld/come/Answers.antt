@@ -1,26 +1,20 @@
 use Rattle.std.specs.Prelude.{slice_get}
-use Rattle.std.proofs.Common.{◌∙◌, ap, sym, subst}
-use Rattle.crsm_mpreplica.specs.Fitting.{FitsInput}
-use Rattle.crsm_mpspec.specs.declared.input.MpInput.{MpInput}
+use Rattle.std.proofs.Common.{◌∙◌, ap, sym}
 use Rattle.crsm_mpspec.specs.Moments.{step_at}
-use Rattle.crsm_mpworld.specs.declared.network.Packet.{Packet}
 use Rattle.crsm_mpworld.specs.Effects.{ending_of}
-use Rattle.crsm_mpworld.specs.Packets.{in_memory}
 use Rattle.crsm_mpworld.proofs.Turns.{come_missed, come_found}
 use Rattle.crsm_mpworld.proofs.Leading.{on_as, on_count, on_still}
 use Rattle.crsm_mpworld.proofs.world.MpWorld.come.Goals as goal
 
 pub returns-in_default : goal.returns-in_default
 returns-in_default c v h =
-    on_count _ _ v.n _ _ _ _ h.n (on_as _ _ _ _ _ _ _ (come_missed (ending_of c.args.ending) v _ (c.in_default.ensures v.packets v.bytes h.network)) (on_still v _ _ _ h.sites h.network))
+    on_count _ _ v.n _ _ _ _ h.n (on_as _ _ _ _ _ _ _ (come_missed (ending_of c.args.ending) v _ (c.in_default.ensures.at v.packets v.bytes h.network)) (on_still v _ _ _ h.sites h.network))
 
 pub returns : goal.returns
-unfolding in_memory
 returns c v h =
     let ends = ending_of c.args.ending in
     let m = c.in-Some.packet.now in
-    let found = c.in-Some.ensures v.packets v.bytes h.network in
-    let fits = subst (λ (p : Packet). FitsInput p.input) (sym found.2.is) found.2.fits in
+    let found = c.in-Some.ensures.at v.packets v.bytes h.network in
     on_count _ _ v.n _ _ _ _ h.n
     (on_as _ _ _ _ _ _ _ (come_found ends v _ m found.0 found.1 found.2.is ∙ ap (λ k. step_at ends v k m.input m.from) (sym c.from.ensures))
-    (c.in_ok-leave.ensures _ v _ h.network (c.in_ok-effects.ensures fits v h.sites)))
+    (c.in_ok-leave.ensures _ v _ h.network (c.in_ok-effects.ensures.leaves v h.sites)))

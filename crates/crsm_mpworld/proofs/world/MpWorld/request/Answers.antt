@@ -1,6 +1,5 @@
-use Rattle.std.proofs.Common.{ap, sym, subst}
+use Rattle.std.proofs.Common.{ap, sym}
 use Rattle.crsm_base.specs.declared.Command.{Command}
-use Rattle.crsm_base.specs.Spelling.{FitsCommand}
 use Rattle.crsm_mpspec.specs.declared.input.MpInput.{MpInput}
 use Rattle.crsm_mpspec.specs.Moments.{step_at}
 use Rattle.crsm_mpworld.specs.Effects.{ending_of}
@@ -10,5 +9,4 @@ use Rattle.crsm_mpworld.proofs.world.MpWorld.request.Goals as goal
 pub returns : goal.returns
 returns c v h =
     let same = c.in_ok-command.ensures in
-    let fits = subst (λ (x : Command). FitsCommand x) (sym same) c.requires in
-    on_as _ _ _ _ _ _ _ (ap (λ (x : Command). step_at (ending_of c.args.ending) v c.args.k (MpInput.Request x) 0) (sym same)) (c.in_ok-arrive.ensures fits v h)
+    on_as _ _ _ _ _ _ _ (ap (λ (x : Command). step_at (ending_of c.args.ending) v c.args.k (MpInput.Request x) 0) (sym same)) (c.in_ok-arrive.ensures v h)
