@@ -2,15 +2,20 @@
 # Running code stands below the laws, and the laws stand beside it: crates.txt says so.
 #
 # A crate with running code depends on no law crate (crsm_law_*): only laws, the crates named in `cites_laws`, and test
-# programs may. A law crate depends on no crate that runs a replica over its devices or a world of them, but those named
-# in `speaks_of_worlds`, whose laws are of how a world is seen.
+# programs may. A law crate depends on definitions, facts and laws alone, but for what `speaks_of` names: its laws are of
+# what these crates define.
 set -u
 cd "$(dirname "$0")/.." || exit 1
 list=${1:-crates.txt}
 fail=0
 cites_laws=' crsm_safety crsm_world crsm_replay crsm_replay_mp crsm_soak crsm_verdict crsm_audit crsm_delay crsm_app '
-speaks_of_worlds=' crsm_law_draws '
-runs_replicas=' crsm_shell crsm_machine crsm_network crsm_world '
+defines=' crsm_base crsm_spec crsm_lives crsm_timing crsm_mpspec crsm_log_facts crsm_step_facts crsm_safety '
+declare -A speaks_of=(
+  [crsm_law_texts]=' crsm_text crsm_schedule hex '
+  [crsm_law_locks]=' crsm_lease '
+  [crsm_law_draws]=' crsm_generator crsm_schedule crsm_world '
+  [crsm_law_nodes]=' crsm_ledger crsm_schedule crsm_sheet crsm_wire crsm_peer_port crsm_rerun '
+)
 lines=0
 while IFS= read -r line; do
   line=${line%%#*}
@@ -20,10 +25,9 @@ while IFS= read -r line; do
   for used in ${line#*:}; do
     case $crate in
       crsm_law_*)
-        if [[ $runs_replicas == *" $used "* && $speaks_of_worlds != *" $crate "* ]]; then
-          echo "layers: the law crate $crate depends on $used, which has running code" >&2
-          fail=1
-        fi
+        [[ $used == crsm_law_* || "$defines${speaks_of[$crate]:-}" == *" $used "* ]] && continue
+        echo "layers: the law crate $crate depends on $used, which has no definitions, facts or laws" >&2
+        fail=1
         ;;
       crsm_test_*) ;;
       *)
