@@ -5,7 +5,7 @@ use Rattle.crsm_mpspec.specs.Draft.{begun}
 use Rattle.crsm_mpreplica.specs.State.{MpReplicaStands}
 use Rattle.crsm_mpcore.specs.declared.replica.MpCore.{MpCore}
 
--- memory ran out, and the core says nothing any more
+-- memory ran out, and the core is spent
 unfoldable pub IsSpent : MpCore → Type 0
 IsSpent core = core.is_spent ≡ true
 

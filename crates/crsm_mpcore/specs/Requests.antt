@@ -14,7 +14,8 @@ abbrev pub refusal_code : Refusal → ℕ
 refusal_code Refusal.NotLeading = 1
 refusal_code Refusal.NoSlotLeft = 5
 
--- The replica leads in this ballot, which it has promised, and the next command goes to this slot, which is not the last number.
+-- The replica leads in this ballot, which it has promised, and the next command goes to this slot, which is not the
+-- last number.
 pub record IsNext (b : Ballot) (slot : ℕ) (x : Draft) : Type 0 where
   pub start : ℕ
   pub reports : List Report

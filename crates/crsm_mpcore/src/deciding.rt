@@ -78,8 +78,8 @@ fn choose_voted(state: &mut MpReplica, slot: u64) -> Result<(), NoMemory>
     Ok(())
 }
 
-/// A leader asks to accept a value at a slot in a ballot, which is accepted unless a greater ballot is promised. A repeat is
-/// answered again.
+/// A leader asks to accept a value at a slot in a ballot, which is accepted unless a greater ballot is promised. A
+/// repeat is answered again.
 pub(crate) fn on_acc(
     state: &mut MpReplica,
     from: u32,

@@ -17,7 +17,8 @@ use crsm_mpreplica::{Asking, MpReplica, Note};
 use crsm_mpspec::{MpAccepts, MpChoices, MpMessage};
 use std::alloc::Global;
 
-/// The replica is to lead: a lead that it has ends, and it asks in a ballot of its own above its promise, if there is one.
+/// The replica is to lead: a lead that it has ends, and it asks in a ballot of its own above its promise, if there is
+/// one.
 pub(crate) fn on_lead(state: &mut MpReplica) -> Result<(), NoMemory>
     ensures { Makes electing.on_lead state.old result state.new }
 {
@@ -154,7 +155,7 @@ fn lead_at_majority(state: &mut MpReplica) -> Result<(), NoMemory>
     Ok(())
 }
 
-/// Leads: keeps what is reported to be chosen, and proposes anew at the other slots up to the last that is reported.
+/// Leads: keeps what is reported to be chosen, and proposes again at the other slots up to the last that is reported.
 fn lead(state: &mut MpReplica, election: &Election) -> Result<(), NoMemory>
     ensures { MakesBy election.now (electing.lead election.now.ballot election.now.start) state.old result state.new }
 {

@@ -12,8 +12,8 @@ use crsm_mpspec::{MpAccepted, MpChosen, copy_value};
 use std::alloc::Global;
 use std::collections::BTreeMap;
 
-/// What reports say of each slot: the value that is known to be chosen, and the accepted value of the greatest ballot. Of reports
-/// that differ the first one counts.
+/// What reports say of each slot: the value that is known to be chosen, and the accepted value of the greatest ballot.
+/// Of reports that differ the first one counts.
 #[derive(Drop)]
 pub(crate) struct Findings {
     alloc: Global,

@@ -25,7 +25,7 @@ pub struct MpCore {
 }
 
 impl MpCore {
-    /// Replica `me` of `n`, of the bodies of its own log. Its boot is on record.
+    /// Replica `me` of `n`, of the bodies of its own log. Its boot is logged.
     pub fn recover(alloc: Global, me: u32, n: u32, bodies: &Bodies) -> Result<MpCore, NoMemory>
         requires mine { me < n }
         requires most { n ≤ 15 }
