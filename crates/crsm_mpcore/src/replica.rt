@@ -1,4 +1,4 @@
-//! The core.
+//! A replica in memory, as others hold it: an input and its address become a batch. After an error it is spent.
 
 ghost use Rattle.std.specs.Prelude.{◌<◌, ◌≤◌, [], IfOk, IsErr};
 ghost use Rattle.crsm_mpspec.specs.Log.{Log};

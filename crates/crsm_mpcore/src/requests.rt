@@ -1,4 +1,4 @@
-//! Requests of clients.
+//! Requests of clients: refused, or accepted at the next slot of who leads.
 
 ghost use Rattle.std.specs.Prelude.{◌≡◌, IfOk, IfErr};
 ghost use Rattle.crsm_base.specs.Spelling.{FitsCommand};

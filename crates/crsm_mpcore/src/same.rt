@@ -1,4 +1,4 @@
-//! Equal commands.
+//! Whether two commands are equal, byte for byte: of one slot another command may be chosen than was asked for.
 
 ghost use Rattle.std.specs.Prelude.{◌≡◌, bytes_eq};
 ghost use Rattle.std.specs.Option.{option_eq};
