@@ -1,4 +1,4 @@
--- What comes of a replica where something comes to it, and what of that is let out.
+-- The outcome of an input at a replica, and what of that is let out.
 use Rattle.std.specs.Prelude.{◌≡◌, ◌+◌, ◌-◌, ℕ, List, ◌++◌, length, map, take, Some, slice_get, slice_set}
 use Rattle.std.specs.List.{AllByRecursion}
 use Rattle.crsm_mpspec.specs.declared.line.MpLine.{MpLine}
@@ -73,7 +73,8 @@ WhereSites sites P = (v : World) → StandFor sites v.n v.sites → P v
 abbrev pub WhereUpIn : Sites → ℕ → (World → Replica → Type 0) → Type 0
 WhereUpIn sites k P = (v : World) (r : Replica) → StandFor sites v.n v.sites → slice_get v.sites k ≡ Some (Site.Up r) → P v r
 
--- for the moment to which the effects lead, from a world with the packets of the network, and for the sites that are as then
+-- for the moment to which the effects lead, from a world with the packets of the network, and for the sites that are as
+-- then
 abbrev pub WhereLeft : MpNetwork → Effects → (Moment → World → Sites → Type 0) → Type 0
 WhereLeft network effects P =
     (m : Moment) (v : World) (sites : Sites) → MpNetworkStands network v.packets v.bytes → Leaves m v effects sites → P m v sites
@@ -85,7 +86,8 @@ unfoldable pub each_gone : ℕ → List ℕ → World → Moment
 each_gone t is w =
     let ms = go_each t is w in record { before = w; after = world_after w ms; lines = lines_of ms }
 
--- a world of n replicas with these sites and this network is what the moment leads to, and its lines stand behind those before
+-- a world of n replicas with these sites and this network is what the moment leads to, and its lines stand behind those
+-- before
 pub record LeadsOn (m : Moment) (n : ℕ) (sites : Sites) (network : MpNetwork) (before lines : List MpLine) : Type 0 where
   pub count : n ≡ m.after.n
   pub places : StandFor sites m.after.n m.after.sites

@@ -1,4 +1,4 @@
-//! What comes of an event at a replica.
+//! The effect of an event at a replica.
 
 ghost use Rattle.std.specs.Prelude.{◌≡◌, ℕ, slice_get, IfOk, OnOk};
 ghost use Rattle.crsm_mpreplica.specs.Fitting.{FitsInput};

@@ -7,20 +7,20 @@ use crate::site::Step;
 pub(crate) enum Ending {
     /// It is kept, and all that it sends goes out.
     Whole,
-    /// It is kept, and so many of its messages and replies go out; the replica goes down.
+    /// It is kept, and its first `sends` messages and replies go out; the replica goes down.
     Kept { sends: u64 },
     /// It is lost; the replica goes down.
     Lost,
 }
 
-/// What came of a replica where something came to it, before its messages and lines are out.
+/// The outcome of an input at a replica, before its messages and lines are out.
 #[derive(Drop)]
 pub(crate) enum Effects {
     /// It was not up.
     Nothing,
     /// All of its step goes out.
     Whole { k: u32, step: Step },
-    /// So many of the messages and replies of its step go out. It is down.
+    /// The first `sends` of the messages and replies of its step go out. It is down.
     Cut { k: u32, step: Step, sends: u64 },
     /// It is down, and nothing goes out.
     Down { k: u32 },

@@ -25,7 +25,8 @@ impl Sites {
         Ok(Effects::Whole { k, step })
     }
 
-    /// A step of a replica that is up, which stops when its records are kept and so many of its messages and replies are out.
+    /// A step of a replica that is up, which stops when its records are kept and so many of its messages and replies
+    /// are out.
     fn step_kept(
         &mut self,
         k: u32,
@@ -64,7 +65,8 @@ impl Sites {
         Ok(Effects::Down { k })
     }
 
-    /// Something comes to a replica, whose step ends so. A message comes from replica `from`. Nothing happens where it is not up.
+    /// Something comes to a replica, whose step ends so. A message comes from replica `from`. Nothing happens where it
+    /// is not up.
     pub(crate) fn arrive(
         &mut self,
         k: u64,

@@ -1,5 +1,5 @@
-//! Which messages can be delivered. Each time that this is asked costs no more than what was sent and delivered since the last
-//! time, unless other replicas are up now: those for a replica that stays down are not looked at again.
+//! Which messages can be delivered. Each time that this is asked costs no more than what was sent and delivered since
+//! the last time, unless other replicas are up now: those for a replica that stays down are not looked at again.
 
 ghost use Rattle.std.specs.Prelude.{◌≡◌, ◌++◌, ◌∷◌, [], true, filter, IfOk, OnOk};
 ghost use Rattle.crsm_mpworld.specs.Packets.{MpNetworkStands, WhereNetwork, is_fresh_for, is_up_among, numbers_of};

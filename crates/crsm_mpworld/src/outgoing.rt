@@ -52,8 +52,8 @@ fn send_all(
     Ok(())
 }
 
-/// A step of replica `k` is kept, and so many of its messages and replies go out. The lines of its records come first, then
-/// those of the messages, then those of the replies, all behind the lines so far.
+/// A step of replica `k` is kept, and so many of its messages and replies go out. The lines of its records come first,
+/// then those of the messages, then those of the replies, all behind the lines so far.
 fn let_out(
     network: &mut MpNetwork,
     k: u32,
