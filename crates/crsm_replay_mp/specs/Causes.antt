@@ -5,7 +5,8 @@ use Rattle.crsm_replay_mp.specs.declared.cause.MpCause.{MpCause}
 use Rattle.crsm_input.specs.declared.Bad.{Bad as BadLine}
 use Rattle.crsm_input.specs.declared.Bad.TheVariants.{Refused, TooLong, Cut}
 
--- Why an act is not possible. The causes of groups and of bytes are met by no act, since such acts have no meaning here.
+-- Why an act is not possible. The causes of groups and of bytes are met by no act, since such acts have no meaning
+-- here.
 unfoldable pub cause_told : Cause → MpCause
 cause_told Cause.NotHere = MpCause.NotHere
 cause_told (Cause.Met (Bad.Full bytes)) = MpCause.Full bytes

@@ -15,8 +15,8 @@ pub record FitsSchedule (s : Schedule) : Type 0 where
 abbrev pub SchedulesAreOne : Type 0
 SchedulesAreOne = (r s : Schedule) → FitsSchedule r → FitsSchedule s → schedule_text r ≡ schedule_text s → r ≡ s
 
--- Its transcript has all lines of the run of its acts. In that run executed lists agree, answers are the store's, and real
--- time is kept.
+-- Its transcript has all lines of the run of its acts. In that run executed lists agree, answers are the store's, and
+-- real time is kept.
 pub record IsLawful (s : Schedule) : Type 0 where
   pub shows : ShowsAll s
   pub agreement : Agreed s.replicas (acts_of s)

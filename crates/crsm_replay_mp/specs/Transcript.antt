@@ -98,7 +98,8 @@ act_on s zero = None
 act_on s (suc zero) = None
 act_on s (suc (suc i)) = slice_get (acts_of s) i
 
--- The transcript has all lines that are seen, in order, each with the number of the line of the schedule that led to it.
+-- The transcript has all lines that are seen, in order, each with the number of the line of the schedule that led to
+-- it.
 pub record ShowsAll (s : Schedule) : Type 0 where
   pub all : map (λ x. x.told) (shown s) ≡ seen s.replicas (acts_of s)
   pub numbered : AllByRecursion (λ x. x.told.by ≡ act_on s x.at) (shown s)

@@ -22,8 +22,8 @@ use std::alloc::Global;
 /// The room that is made for the text of a line, in bytes: few lines take more.
 const LINE_ROOM: usize = 32;
 
-/// The cause that the world names. Running out of memory is none. No event meets the causes of bytes and of groups, since
-/// such events have no meaning here.
+/// The cause that the world names. Running out of memory is none. No event meets the causes of bytes and of groups,
+/// since such events have no meaning here.
 #[tactic(auto, unfolding(crate::specs::Causes::cause_told, crsm_mpworld::specs::Doing::cause_of))]
 fn named_cause(bad: MpBad) -> Option<MpCause>
     ensures { result ≡ option_map cause_told (cause_of bad) }
@@ -56,7 +56,7 @@ fn begin_world(alloc: Global, line: &[u8]) -> Result<(MpWorld, MpLines), Stop<Mp
     Ok(made)
 }
 
-/// Lets an event go, in a function of its own, which keeps the cases of an event out of its callers' proofs.
+/// Drops an event in its own function, which keeps the cases of an event out of its callers' proofs.
 fn discard(_event: Event) {}
 
 /// The event that a line spells.

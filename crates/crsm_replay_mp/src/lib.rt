@@ -1,4 +1,5 @@
-//! The command `replay-mp`: a schedule of a store with a leader is read, and its transcript and final lines are written.
+//! The command `replay-mp`: a schedule of a store with a leader is read, and its transcript and final lines are
+//! written.
 #![tactic(auto)]
 
 mod cause;

@@ -58,8 +58,8 @@ fn push_final(out: &mut Bytes, replica: u32, up: bool, executed: u64) -> Result<
     out.push(b'\n')
 }
 
-/// Adds a line of the transcript with its line feed, behind the number of the line of input that caused it. A final line has no
-/// number. After an error a prefix of the line may have been added.
+/// Adds a line of the transcript with its line feed, behind the number of the line of input that caused it. A final
+/// line has no number. After an error a prefix of the line may have been added.
 pub fn push_line(out: &mut Bytes, at: u64, line: &MpLine) -> Result<(), NoMemory>
     ensures { OnOk result (out.new ≡ out.old ++ line_text at line.now) }
 {
