@@ -78,7 +78,8 @@ DidAudit n Status.NoMemory before after had has = lines.RanPartly (audited n) be
 DidAudit n Status.InputTooLong before after had has = lines.RanTooLong (audited n) before after had has
 DidAudit n _ before after had has = ⊥
 
--- a plan was read, and what is wanted of it was written: the schedule of a timeline, or the moments at which its command commits
+-- a plan was read, and what is wanted of it was written: the schedule of a timeline, or the moments at which its
+-- command commits
 unfoldable pub DidPlan : Wanted → Status → (before after had has : Option (List ℕ)) → Type 0
 DidPlan wanted Status.Ok before after had has = lines.RanToEnd (plans_of wanted) before after had has
 DidPlan wanted (Status.BadInput line cause) before after had has =

@@ -64,7 +64,8 @@ pub record SheetsExactly (me n : ℕ) (left : Option (List ℕ)) (result : Statu
   pub refused : sheet.WhereBad me n left (λ line cause. IsRefusedSheet line cause result)
   pub too_long : sheet.WhereTooLong me n left (IsTooLong result)
 
--- The same of sheets that are audited, a bad log among them at the end. Their lines alone decide what is read and what is refused.
+-- The same of sheets that are audited, a bad log among them at the end. Their lines alone decide what is read and what
+-- is refused.
 pub record AuditsExactly (n : ℕ) (left : Option (List ℕ)) (result : Status) : Type 0 where
   pub decided : lines.Exact (audited n)
   pub unreadable : decided.unreadable ≡ SheetCause.Unreadable

@@ -28,8 +28,8 @@ fn words_of<R: AllocGlobal + Env>(rt: &R) -> Result<Vec<String>, Status> {
     Ok(words)
 }
 
-/// Tells on standard error why not all was done: what is wrong with the words, or the status on one line. Where standard
-/// error fails, too, nothing is left to tell.
+/// Tells on standard error why not all was done: what is wrong with the words, or the status on one line. Where
+/// standard error fails, too, nothing is left to tell.
 fn tell<R: AllocGlobal + Eprint>(rt: &R, words: &[String], status: Status) {
     if status == Status::Ok {
         return;

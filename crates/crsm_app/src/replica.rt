@@ -1,5 +1,5 @@
-//! A replica over a socket and a log file, and what it tells on standard error: a line once it is booted, and a line why
-//! it ends.
+//! A replica over a socket and a log file, and what it tells on standard error: a line once it is booted, and a line
+//! why it ends.
 
 use crate::devices::{NoDevice, socket_at, status_over};
 use crate::status::Status;
