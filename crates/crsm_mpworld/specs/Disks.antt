@@ -31,10 +31,6 @@ pub record IsUpOn (core : MpCore) {g : _} (on_disk : DiskLog Memory g) (r : Repl
   pub stands : MpCoreStands core r
   pub kept : IsDisk (disk_of on_disk) r.log
 
--- for each replica that is up with it
-abbrev pub WhereUpOn : MpCore → {g : _} → DiskLog Memory g → (Replica → Type 0) → Type 0
-WhereUpOn core on_disk P = (r : Replica) → IsUpOn core on_disk r → P r
-
 -- some log is on the disk
 pub record HasSomeLog (disk : Memory) : Type 0 where
   pub log : Log

@@ -19,8 +19,13 @@ use Rattle.crsm_mpworld.specs.declared.stops.Boot.{Boot}
 -- ---- one replica
 
 -- the replica is up with r, and its log is on its disk
-abbrev pub IsUpAs : Running → Replica → Type 0
-IsUpAs running r = IsUpOn running.core running.log r
+pub record IsUpAs (running : Running) (r : Replica) : Type 0 where
+  pub unspent : running.is_spent ≡ false
+  pub up : IsUpOn running.core running.log r
+
+-- for each replica that is up there
+abbrev pub WhereUpAs : Running → (Replica → Type 0) → Type 0
+WhereUpAs running P = (r : Replica) → IsUpAs running r → P r
 
 -- the replica is down, and left this log
 pub record IsStopped (left : Stopped) (log : Log) : Type 0 where

@@ -10,15 +10,16 @@ use crsm_log::Log;
 use crsm_mpcore::MpCore;
 use std::alloc::Global;
 
-/// A replica that is up: its core, and its log on a disk, no call of which fails.
+/// A replica that is up: its core, and its log on a disk, no call of which fails. After an error it is spent.
 #[derive(Drop)]
 pub(crate) struct Running {
     pub(crate) alloc: Global,
     pub(crate) core: MpCore,
     pub(crate) log: Log<MemDisk>,
-    ghost unfailed: { has_failed log ≡ false },
-    ghost well: { good_left (disk_of log) ≡ None },
-    ghost stands: { ∥ IsSomeUp core log ∥₁ },
+    pub(crate) is_spent: bool,
+    ghost unfailed: { is_spent ≡ false → has_failed log ≡ false },
+    ghost well: { is_spent ≡ false → good_left (disk_of log) ≡ None },
+    ghost stands: { is_spent ≡ false → ∥ IsSomeUp core log ∥₁ },
 }
 
 /// What is left of a replica that is down: its disk, and how many slots are executed by its log.

@@ -12,7 +12,7 @@ ghost use Rattle.crsm_mpspec.specs.Log.{Log as LogOnPaper, executed};
 ghost use Rattle.crsm_mpspec.specs.Records.{FitsRec, body_bytes};
 ghost use Rattle.crsm_mpspec.specs.Step as steps;
 ghost use Rattle.crsm_mpspec.specs.World.{body_size};
-ghost use Rattle.crsm_mpworld.specs.Disks.{IsDisk, WhereUpOn, bytes_of, image};
+ghost use Rattle.crsm_mpworld.specs.Disks.{IsDisk, bytes_of, image};
 ghost use Rattle.crsm_mpworld.specs.Fits.{FitsSend};
 
 use crate::place::{Running, Stopped};
@@ -120,37 +120,46 @@ fn executed_by(core: &MpCore) -> u64
 }
 
 impl Running {
-    ghost use Rattle.crsm_mpworld.specs.Sites.{IsStopped, IsUpAs, Makes};
+    ghost use Rattle.crsm_mpworld.specs.Sites.{IsStopped, IsUpAs, Makes, WhereUpAs};
 
     /// How many slots are executed.
     pub(crate) fn executed_len(&self) -> u64
-        ensures { WhereUpOn self.now.core self.now.log (λ r. result ≡ length (executed r.log)) }
+        ensures { WhereUpAs self.now (λ r. result ≡ length (executed r.log)) }
     {
         executed_by(&self.core)
     }
 
     /// One step, whose records are kept.
-    pub(crate) fn step(self, input: &MpInput, from: u32) -> Result<(Running, Step), NoMemory>
+    pub(crate) fn step(&mut self, input: &MpInput, from: u32) -> Result<Step, NoMemory>
         requires { FitsInput input.now }
-        ensures fits { IfOk result (λ made. AllByRecursion FitsSend made.1.batch.sends) }
-        ensures steps { IfOk result (λ made. WhereUpOn self.core self.log (λ r.
-            Makes made.1 (steps.step r input.now from) × IsUpAs made.0 (steps.step r input.now from).replica)) }
+        ensures fits { IfOk result (λ step. AllByRecursion FitsSend step.batch.sends) }
+        ensures steps { IfOk result (λ step. WhereUpAs self.old (λ r.
+            Makes step (steps.step r input.now from) × IsUpAs self.new (steps.step r input.now from).replica)) }
     {
-        let Running {
-            alloc,
-            mut core,
-            mut log,
-        } = self;
-        let batch = core.step(input, from)?;
-        let size = keep_records(alloc, &mut log, batch.records.as_slice())?;
-        Ok((Running { alloc, core, log }, Step { batch, size }))
+        if self.is_spent {
+            return Err(NoMemory);
+        }
+        // Whoever sees an error below must not go on from half a step.
+        self.is_spent = true;
+        let batch = self.core.step(input, from)?;
+        let size = keep_records(self.alloc, &mut self.log, batch.records.as_slice())?;
+        self.is_spent = false;
+        Ok(Step { batch, size })
     }
 
     /// The replica goes down now.
     pub(crate) fn stop(self) -> Result<Stopped, NoMemory>
-        ensures { IfOk result (λ left. WhereUpOn self.core self.log (λ r. IsStopped left r.log)) }
+        ensures { IfOk result (λ left. WhereUpAs self (λ r. IsStopped left r.log)) }
     {
-        let Running { core, log, .. } = self;
+        let Running {
+            core,
+            log,
+            is_spent,
+            ..
+        } = self;
+        if is_spent {
+            return Err(NoMemory);
+        }
         let executed = executed_by(&core);
         let disk = left_on(log)?;
         Ok(Stopped { disk, executed })
@@ -159,13 +168,17 @@ impl Running {
     /// One step that is stopped after one call of its put: its records are lost.
     pub(crate) fn step_lost(self, input: &MpInput, from: u32) -> Result<Stopped, NoMemory>
         requires { FitsInput input.now }
-        ensures { IfOk result (λ left. WhereUpOn self.core self.log (λ r. IsStopped left r.log)) }
+        ensures { IfOk result (λ left. WhereUpAs self (λ r. IsStopped left r.log)) }
     {
         let Running {
             alloc,
             mut core,
             mut log,
+            is_spent,
         } = self;
+        if is_spent {
+            return Err(NoMemory);
+        }
         let executed = executed_by(&core);
         let batch = core.step(input, from)?;
         put_in_vain(alloc, &mut log, batch.records.as_slice())?;

@@ -112,12 +112,8 @@ impl Site {
         ensures steps { IfOk result (λ step. WhereSiteIsUp self.old (λ me n r.
             Makes step (steps.step r input.now from) × SiteStands self.new me n (on_paper.Site.Up (steps.step r input.now from).replica))) }
     {
-        match mem::replace(&mut self.place, Place::Spent) {
-            Place::Up(running) => {
-                let (running, step) = running.step(input, from)?;
-                self.move_to(Place::Up(running));
-                Ok(step)
-            }
+        match &mut self.place {
+            Place::Up(running) => Ok(running.step(input, from)?),
             // A world steps what is up.
             Place::Down(_) => Err(never()),
             Place::Spent => Err(NoMemory),
@@ -162,5 +158,11 @@ fn boot_on(alloc: Global, me: u32, n: u32, left: Stopped) -> Result<(Running, Bo
         count: core.ledger().boots(),
         size: body.as_slice().len() as u64,
     };
-    Ok((Running { alloc, core, log }, boot))
+    let running = Running {
+        alloc,
+        core,
+        log,
+        is_spent: false,
+    };
+    Ok((running, boot))
 }

@@ -29,12 +29,12 @@ returns c log disk =
     c.in_ok-body.ensures c.as_slice.ensures c.as_slice-2.ensures disk (mounts.read refl) (mounts.kept refl) c.in_ok-keep.ensures.kept c.in_ok-push.ensures.ok c.in_ok-core.ensures in
     let counted = c.boots.ensures (boot me n log).replica.log (c.ledger.ensures (boot me n log).replica up.stands) in (
       record { count = counted ∙ ap boots (fresh_log me n log) ∙ boot_count log; size = ap length (c.as_slice-3.ensures ∙ c.in_ok-body.ensures) ∙ boot_size me n log },
-      up,
+      record { unspent = refl; up = up },
     )
 
 -- some replica is up
-pub invariant_of-result-clause-stands : goal.invariant_of-result-clause-stands
-invariant_of-result-clause-stands c =
+pub invariant_of-running-clause-stands : goal.invariant_of-running-clause-stands
+invariant_of-running-clause-stands c unspent =
     let mounts = c.in-Ok.ensures.ok in
     ∥∥₁_map c.args.left.stands (λ s.
     record {

@@ -1,4 +1,4 @@
-use Rattle.std.proofs.Common.{ap, subst, sym, ◌∙◌}
+use Rattle.std.proofs.Common.{ap, refl, subst, sym, ◌∙◌}
 use Rattle.std.proofs.Math.Logic.{∥∥₁_map}
 use Rattle.std.specs.List.{AllByRecursion}
 use Rattle.crsm_mpspec.specs.Records.{FitsRec}
@@ -8,28 +8,32 @@ use Rattle.crsm_mpworld.proofs.place.Running.step.Goals as goal
 
 pub keep_records-requires-clause-fit : goal.keep_records-requires-clause-fit
 keep_records-requires-clause-fit c =
-    let old = c.args.self in
-    subst (AllByRecursion FitsRec) (sym c.as_slice.ensures) (batch_fits old.core old.log c.args.input.now c.args.from c.in_ok-batch.batch old.stands (c.in_ok-batch.ensures.made c.requires))
+    let old = c.args.self.now in
+    subst (AllByRecursion FitsRec) (sym c.as_slice.ensures) (batch_fits old.core old.log c.args.input.now c.args.from c.in_ok-batch.batch (old.stands c.if-self.false) (c.in_ok-batch.ensures.made c.requires))
 
 pub returns-clause-fits : goal.returns-clause-fits
 returns-clause-fits c =
-    let old = c.args.self in batch_sends old.core old.log c.args.input.now c.args.from c.in_ok-batch.batch old.stands (c.in_ok-batch.ensures.made c.requires)
+    let old = c.args.self.now in
+    batch_sends old.core old.log c.args.input.now c.args.from c.in_ok-batch.batch (old.stands c.if-self.false) (c.in_ok-batch.ensures.made c.requires)
 
 pub returns-clause-steps : goal.returns-clause-steps
 returns-clause-steps c r up =
-    let old = c.args.self in
-    let made = c.in_ok-batch.ensures.made c.requires r up.stands in
+    let old = c.args.self.now in
+    let made = c.in_ok-batch.ensures.made c.requires r up.up.stands in
     let is = c.as_slice.ensures ∙ made.records in (
       record { batch = made; size = c.in_ok-size.ensures.size ∙ ap body_size is },
-      stepped old.core c.step.new.self old.log c.keep_records.new.log r c.args.input.now c.args.from c.as_slice.result.now up is
-          (c.in_ok-batch.ensures.stands c.requires r up.stands) c.in_ok-size.ensures.kept,
+      record {
+        unspent = refl;
+        up = stepped old.core c.step.new.self old.log c.keep_records.new.log r c.args.input.now c.args.from c.as_slice.result.now up.up is
+            (c.in_ok-batch.ensures.stands c.requires r up.up.stands) c.in_ok-size.ensures.kept;
+      },
     )
 
 -- some replica is up
-pub invariant_of-result-clause-stands : goal.invariant_of-result-clause-stands
-invariant_of-result-clause-stands c =
-    let old = c.args.self in
-    ∥∥₁_map old.stands (λ s.
+pub invariant_of-self-2-clause-stands : goal.invariant_of-self-2-clause-stands
+invariant_of-self-2-clause-stands c unspent =
+    let old = c.args.self.now in
+    ∥∥₁_map (old.stands c.if-self.false) (λ s.
     let made = c.in_ok-batch.ensures.made c.requires s.replica s.is.stands in
     record {
       replica = _;
