@@ -12,9 +12,9 @@ use Rattle.crsm_client.specs.declared.error.OperateError.{OperateError}
 use Rattle.crsm_lock.specs.declared.command.LockEnd.{LockEnd}
 use Rattle.crsm_node.specs.declared.errors.NodeEnd.{NodeEnd}
 use Rattle.crsm_app.specs.Devices.{Devices}
-use Rattle.crsm_app.specs.Did.{Did, DidAudit, DidPlan, DidReplay, DidSheet}
+use Rattle.crsm_app.specs.Did.{Did, DidAudit, DidPlan, DidReplay, DidReplayMp, DidSheet}
 use Rattle.crsm_app.specs.Statuses.{status_of_client, status_of_lock, status_of_node, status_of_operate}
-use Rattle.crsm_app.specs.Tasks.{IsThere, IsWithinLimits}
+use Rattle.crsm_app.specs.Tasks.{IsWithinLimits}
 use Rattle.crsm_app.specs.declared.status.Status.{Status}
 
 -- ---- what was read
@@ -61,7 +61,7 @@ pub within_limits : (words : List Text) (made : Order) → OrderMade words made 
 within_limits words made (text none shown asks) = shown_within made.task shown
 within_limits words made (order none cluster_words asks) = asked_within made.task _ asks
 
--- ---- what is there
+-- ---- what was done
 
 client_not_usage : (e : ClientEnd) → Status.Usage ≡ status_of_client e → ⊥
 client_not_usage ClientEnd.Done is = cc is
@@ -95,24 +95,24 @@ node_not_usage NodeEnd.NoMemory is = cc is
 usage_not_no_memory : Status.Usage ≡ Status.NoMemory → ⊥
 usage_not_no_memory is = cc is
 
-not_refused : (cluster : ℕ) (task : Task) (old new : Devices) → Did cluster task Status.Usage old new → IsThere task → ⊥
-unfolding DidAudit DidReplay DidSheet DidPlan
-not_refused cluster (Show t) old new did there = did.1
-not_refused cluster Replay old new did there = did
-not_refused cluster (ReplayNode me n) old new did there = did
-not_refused cluster (Client to turns command) old new did there = client_not_usage did.1.ended did.1.status
-not_refused cluster (Operate to members) old new did there = operate_not_usage did.2.ended did.2.status
-not_refused cluster (Node t) old new did there = elim did.1 [
+not_refused : (cluster : ℕ) (task : Task) (old new : Devices) → Did cluster task Status.Usage old new → ⊥
+unfolding DidAudit DidReplay DidReplayMp DidSheet DidPlan
+not_refused cluster (Show t) old new did = did.1
+not_refused cluster Replay old new did = did
+not_refused cluster (ReplayNode me n) old new did = did
+not_refused cluster (Client to turns command) old new did = client_not_usage did.1.ended did.1.status
+not_refused cluster (Operate to members) old new did = operate_not_usage did.2.ended did.2.status
+not_refused cluster (Node t) old new did = elim did.1 [
   | inl ran ↦ node_not_usage ran.ended ran.status
   | inr none ↦ usage_not_no_memory none.status
 ]
-not_refused cluster (Soak number n steps) old new did there = did.1
-not_refused cluster (Audit n) old new did there = did
-not_refused cluster (Lock t) old new did there = lock_not_usage did.1.ended did.1.status
-not_refused cluster Delay old new did there = did
-not_refused cluster DelayTimes old new did there = did
-not_refused cluster ReplayMp old new did there = there
+not_refused cluster (Soak number n steps) old new did = did.1
+not_refused cluster (Audit n) old new did = did
+not_refused cluster (Lock t) old new did = lock_not_usage did.1.ended did.1.status
+not_refused cluster Delay old new did = did
+not_refused cluster DelayTimes old new did = did
+not_refused cluster ReplayMp old new did = did
 
--- what is there is not refused
-pub not_there : (made : Order) (result : Status) (old new : Devices) → Did made.cluster made.task result old new → result ≡ Status.Usage → IsThere made.task → ⊥
-not_there made result old new did is = not_refused made.cluster made.task old new (subst (λ (s : Status). Did made.cluster made.task s old new) is did)
+-- what was done is not refused
+pub not_idle : (made : Order) (result : Status) (old new : Devices) → Did made.cluster made.task result old new → result ≡ Status.Usage → ⊥
+not_idle made result old new did is = not_refused made.cluster made.task old new (subst (λ (s : Status). Did made.cluster made.task s old new) is did)

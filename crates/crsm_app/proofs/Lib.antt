@@ -1,4 +1,5 @@
 pub mod Schedules
+pub mod MpSchedules
 pub mod Sheets
 pub mod Audits
 pub mod PlanEnds
@@ -6,4 +7,3 @@ pub mod Asking
 pub mod LockEnds
 pub mod Asked
 pub mod Scarce
-pub mod Planned

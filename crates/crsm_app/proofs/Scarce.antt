@@ -52,4 +52,8 @@ module _ (decided : (wanted : Wanted) → Exact (plans_of wanted)) (audits : (n 
   }
   without_memory cluster Delay old new = λ no_read no_write. plan_unread Wanted.Schedule old.left
   without_memory cluster DelayTimes old new = λ no_read no_write. plan_unread Wanted.Times old.left
-  without_memory cluster ReplayMp old new = tt
+  without_memory cluster ReplayMp old new = λ no_read no_write. record {
+    complete = λ s good is short. inr refl;
+    refused = λ read text more cause good is bad short. inr refl;
+    too_long = λ read rest more good lacks short long some is. inr refl;
+  }

@@ -21,6 +21,7 @@ use Rattle.crsm_node.specs.declared.order.NodeOrder.{NodeOrder}
 use Rattle.crsm_port.specs.Meaning.{Meaning}
 use Rattle.crsm_replay.specs.Run as schedule
 use Rattle.crsm_replay.specs.declared.cause.Cause.{Cause}
+use Rattle.crsm_replay_mp.specs.Run as led
 use Rattle.crsm_replay_node.specs.Causes.{cause_in}
 use Rattle.crsm_replay_node.specs.Run as sheet
 use Rattle.crsm_replay_node.specs.declared.cause.SheetCause.{SheetCause}
@@ -29,10 +30,10 @@ use Rattle.crsm_soak.specs.Text.{soak_text}
 use Rattle.crsm_words.specs.declared.order.LockTask.{LockTask}
 use Rattle.crsm_words.specs.declared.order.NodeTask.{NodeTask}
 use Rattle.crsm_words.specs.declared.order.Task.{Task}
-use Rattle.crsm_words.specs.declared.order.Task.TheVariants.{Show, Replay, ReplayNode, Client, Operate, Soak, Node, Audit, Lock, Delay, DelayTimes}
+use Rattle.crsm_words.specs.declared.order.Task.TheVariants.{Show, Replay, ReplayNode, Client, Operate, Soak, Node, Audit, Lock, Delay, DelayTimes, ReplayMp}
 use Rattle.crsm_world.specs.Laws.{IsLawful}
 use Rattle.crsm_world.specs.Schedule.{acts_of}
-use Rattle.crsm_app.specs.Devices.{Devices, SameDisk, Untouched, node_devices}
+use Rattle.crsm_app.specs.Devices.{Devices, SameDisk, node_devices}
 use Rattle.crsm_app.specs.Locks.{lock_order}
 use Rattle.crsm_app.specs.Statuses.{status_of_client, status_of_lock, status_of_node, status_of_operate}
 use Rattle.crsm_app.specs.declared.status.Status.{Status}
@@ -54,6 +55,16 @@ DidReplay Status.WriteFault before after had has = schedule.RanPartly before aft
 DidReplay Status.NoMemory before after had has = schedule.RanPartly before after had has
 DidReplay Status.InputTooLong before after had has = schedule.RanTooLong before after had has
 DidReplay _ before after had has = ⊥
+
+-- A schedule of a store with a leader was run, and its laws hold of what was read.
+unfoldable pub DidReplayMp : Status → (before after had has : Option (List ℕ)) → Type 0
+DidReplayMp Status.Ok before after had has = led.RanToEnd before after had has
+DidReplayMp (Status.BadMpInput line cause) before after had has = led.RanToBad before after had has line cause
+DidReplayMp Status.ReadFault before after had has = led.RanSoFar before after had has
+DidReplayMp Status.WriteFault before after had has = led.RanPartly before after had has
+DidReplayMp Status.NoMemory before after had has = led.RanPartly before after had has
+DidReplayMp Status.InputTooLong before after had has = led.RanTooLong before after had has
+DidReplayMp _ before after had has = ⊥
 
 -- the sheet of replica me was run, in a cluster that began with n
 unfoldable pub DidSheet : (me n : ℕ) → Status → (before after had has : Option (List ℕ)) → Type 0
@@ -142,7 +153,7 @@ pub record NodeHasNoMemory (result : Status) (old new : NodeDevices) : Type 0 wh
 abbrev pub DidNode : (cluster : ℕ) → NodeTask → Status → (old new : NodeDevices) → Type 0
 DidNode cluster t result old new = RanNode cluster t result old new ⊎ NodeHasNoMemory result old new
 
--- a task was done in a cluster, or it is none that is there
+-- a task was done in a cluster
 abbrev pub Did : (cluster : ℕ) → Task → Status → (old new : Devices) → Type 0
 Did cluster (Show text) result old new = (new.left ≡ old.left) × Shows text result old.written new.written
 Did cluster Replay result old new = DidReplay result old.left new.left old.written new.written
@@ -156,4 +167,4 @@ Did cluster (Audit n) result old new = DidAudit n result old.left new.left old.w
 Did cluster (Lock t) result old new = (new.left ≡ old.left) × DidLock t result old.port new.port old.written new.written
 Did cluster Delay result old new = DidPlan Wanted.Schedule result old.left new.left old.written new.written
 Did cluster DelayTimes result old new = DidPlan Wanted.Times result old.left new.left old.written new.written
-Did cluster _ result old new = (result ≡ Status.Usage) × Untouched old new
+Did cluster ReplayMp result old new = DidReplayMp result old.left new.left old.written new.written

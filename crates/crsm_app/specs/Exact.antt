@@ -12,11 +12,14 @@ use Rattle.crsm_port.specs.Meaning.{Meaning}
 use Rattle.crsm_replay.specs.Run as schedule
 use Rattle.crsm_replay.specs.State.{count_of}
 use Rattle.crsm_replay.specs.declared.cause.Cause.{Cause}
+use Rattle.crsm_replay_mp.specs.Run as led
+use Rattle.crsm_replay_mp.specs.State.{count_of as count_of_led}
+use Rattle.crsm_replay_mp.specs.declared.cause.MpCause.{MpCause}
 use Rattle.crsm_replay_node.specs.Run as sheet
 use Rattle.crsm_replay_node.specs.declared.cause.SheetCause.{SheetCause}
 use Rattle.crsm_words.specs.declared.order.LockTask.{LockTask}
 use Rattle.crsm_words.specs.declared.order.Task.{Task}
-use Rattle.crsm_words.specs.declared.order.Task.TheVariants.{Show, Replay, ReplayNode, Client, Operate, Soak, Node, Audit, Lock, Delay, DelayTimes}
+use Rattle.crsm_words.specs.declared.order.Task.TheVariants.{Show, Replay, ReplayNode, Client, Operate, Soak, Node, Audit, Lock, Delay, DelayTimes, ReplayMp}
 use Rattle.crsm_app.specs.Devices.{Devices}
 use Rattle.crsm_app.specs.Locks.{lock_order}
 use Rattle.crsm_app.specs.declared.status.Status.{Status}
@@ -27,6 +30,10 @@ IsDone result = (result ≡ Status.Ok) ⊎ (result ≡ Status.NoMemory)
 -- refused for this line and cause
 abbrev pub IsRefused : ℕ → Cause → Status → Type 0
 IsRefused line cause result = (result ≡ Status.BadInput line cause) ⊎ (result ≡ Status.NoMemory)
+
+-- the same of a schedule of a store with a leader
+abbrev pub IsRefusedMp : ℕ → MpCause → Status → Type 0
+IsRefusedMp line cause result = (result ≡ Status.BadMpInput line cause) ⊎ (result ≡ Status.NoMemory)
 
 -- refused for this line of a sheet as no line, or at `open` for a body that is no log
 abbrev pub IsRefusedSheet : ℕ → SheetCause → Status → Type 0
@@ -57,6 +64,12 @@ pub record ReplaysExactly (left : Option (List ℕ)) (result : Status) : Type 0 
   pub complete : schedule.WhereSchedule left (λ s. IsDone result)
   pub refused : schedule.WhereBad left (λ read cause. IsRefused (count_of read + 1) cause result)
   pub too_long : schedule.WhereTooLong left (IsTooLong result)
+
+-- the same of a schedule of a store with a leader
+pub record ReplaysMpExactly (left : Option (List ℕ)) (result : Status) : Type 0 where
+  pub complete : led.WhereSchedule left (λ s. IsDone result)
+  pub refused : led.WhereBad left (λ read cause. IsRefusedMp (count_of_led read + 1) cause result)
+  pub too_long : led.WhereTooLong left (IsTooLong result)
 
 -- the same of a sheet
 pub record SheetsExactly (me n : ℕ) (left : Option (List ℕ)) (result : Status) : Type 0 where
@@ -94,7 +107,7 @@ pub record LocksExactly (t : LockTask) (result : Status) (old new : Meaning) (ou
 abbrev pub WhereFaultless : (old new : Devices) → Type 0 → Type 0
 WhereFaultless old new P = ¬ (Rose old.read_faults new.read_faults) → ¬ (Rose old.write_faults new.write_faults) → P
 
--- how a task that is there is answered
+-- how a task is answered
 abbrev pub Exactly : (cluster : ℕ) → Task → Status → (old new : Devices) → Type 0
 Exactly cluster (Show text) result old new = ¬ (Rose old.write_faults new.write_faults) → IsDone result
 Exactly cluster Replay result old new = WhereFaultless old new (ReplaysExactly old.left result)
@@ -108,4 +121,4 @@ Exactly cluster (Audit n) result old new = WhereFaultless old new (AuditsExactly
 Exactly cluster (Lock t) result old new = LocksExactly t result old.port new.port old.write_faults new.write_faults
 Exactly cluster Delay result old new = WhereFaultless old new (PlansExactly Wanted.Schedule old.left result)
 Exactly cluster DelayTimes result old new = WhereFaultless old new (PlansExactly Wanted.Times old.left result)
-Exactly cluster _ result old new = Unit {0}
+Exactly cluster ReplayMp result old new = WhereFaultless old new (ReplaysMpExactly old.left result)

@@ -11,7 +11,7 @@ use Rattle.crsm_words.specs.declared.order.Task.{Task}
 use Rattle.crsm_words.specs.declared.read.Refusal.{Refusal}
 use Rattle.crsm_app.specs.Devices.{Devices, Untouched}
 use Rattle.crsm_app.specs.Did.{Did}
-use Rattle.crsm_app.specs.Tasks.{IsAsker, IsThere}
+use Rattle.crsm_app.specs.Tasks.{IsAsker}
 use Rattle.crsm_app.specs.declared.status.Status.{Status}
 
 -- ---- words
@@ -22,10 +22,9 @@ pub record AskForTask (IsKind : Task → Type 0) (words : List Text) : Type 0 wh
   pub made : OrderMade words order
   pub kind : IsKind order.task
 
--- they ask for nothing, or for what is not there
-pub data AskForNothing (words : List Text) : Type 0 where
-  nothing : OrderRefused words Refusal.Usage → AskForNothing words
-  not_there : AskForTask (λ task. ¬ (IsThere task)) words → AskForNothing words
+-- they ask for nothing
+abbrev pub AskForNothing : List Text → Type 0
+AskForNothing words = OrderRefused words Refusal.Usage
 
 -- where they do not begin with a hyphen, and ask for this order
 abbrev pub WhereAsked : List Text → (Order → Type 0) → Type 0

@@ -8,6 +8,8 @@ use Rattle.crsm_lock.specs.declared.command.LockEnd.{LockEnd}
 use Rattle.crsm_node.specs.declared.errors.NodeEnd.{NodeEnd}
 use Rattle.crsm_replay.specs.Causes as schedule
 use Rattle.crsm_replay.specs.declared.cause.Cause.{Cause}
+use Rattle.crsm_replay_mp.specs.Causes as led
+use Rattle.crsm_replay_mp.specs.declared.cause.MpCause.{MpCause}
 use Rattle.crsm_replay_node.specs.Causes as sheet
 use Rattle.crsm_replay_node.specs.declared.cause.SheetCause.{SheetCause}
 use Rattle.crsm_app.specs.declared.status.Status.{Status}
@@ -17,6 +19,7 @@ abbrev pub number_of : Status → ℕ
 number_of Status.Ok = 0
 number_of Status.Usage = 2
 number_of (Status.BadInput line cause) = 3
+number_of (Status.BadMpInput line cause) = 3
 number_of Status.ReadFault = 4
 number_of Status.WriteFault = 5
 number_of Status.PortFault = 6
@@ -36,6 +39,15 @@ status_of_replay Ending.ReadFault = Status.ReadFault
 status_of_replay Ending.WriteFault = Status.WriteFault
 status_of_replay Ending.NoMemory = Status.NoMemory
 status_of_replay Ending.InputTooLong = Status.InputTooLong
+
+-- the status of a schedule of a store with a leader that ended so
+abbrev pub status_of_replay_mp : Ending MpCause → Status
+status_of_replay_mp Ending.Done = Status.Ok
+status_of_replay_mp (Ending.BadLine line why) = Status.BadMpInput line (led.cause_in why)
+status_of_replay_mp Ending.ReadFault = Status.ReadFault
+status_of_replay_mp Ending.WriteFault = Status.WriteFault
+status_of_replay_mp Ending.NoMemory = Status.NoMemory
+status_of_replay_mp Ending.InputTooLong = Status.InputTooLong
 
 -- the status of a line of a sheet that is refused
 abbrev pub status_of_refused : ℕ → SheetCause → Status

@@ -3,22 +3,7 @@ use Rattle.std.specs.Prelude.{◌<◌, ◌⊎◌}
 use Rattle.crsm_base.specs.Spelling.{FitsCommand}
 use Rattle.crsm_words.specs.Orders.{IsClusterSize, IsLock, IsNode}
 use Rattle.crsm_words.specs.declared.order.Task.{Task}
-use Rattle.crsm_words.specs.declared.order.Task.TheVariants.{Show, Replay, ReplayNode, Client, Operate, Soak, Node, Audit, Lock, Delay, DelayTimes}
-
--- the tasks that are there
-abbrev pub IsThere : Task → Type 0
-IsThere (Show text) = Unit {0}
-IsThere Replay = Unit {0}
-IsThere (ReplayNode me n) = Unit {0}
-IsThere (Client to turns command) = Unit {0}
-IsThere (Operate to members) = Unit {0}
-IsThere (Soak number n steps) = Unit {0}
-IsThere (Node t) = Unit {0}
-IsThere (Audit n) = Unit {0}
-IsThere (Lock t) = Unit {0}
-IsThere Delay = Unit {0}
-IsThere DelayTimes = Unit {0}
-IsThere _ = ⊥
+use Rattle.crsm_words.specs.declared.order.Task.TheVariants.{Replay, ReplayNode, Client, Operate, Soak, Node, Audit, Lock, Delay, DelayTimes, ReplayMp}
 
 -- the tasks that read an input
 abbrev pub IsReader : Task → Type 0
@@ -27,6 +12,7 @@ IsReader (ReplayNode me n) = Unit {0}
 IsReader (Audit n) = Unit {0}
 IsReader Delay = Unit {0}
 IsReader DelayTimes = Unit {0}
+IsReader ReplayMp = Unit {0}
 IsReader _ = ⊥
 
 -- the tasks that ask a replica over the port

@@ -1,6 +1,6 @@
 //! What is done, by the words.
 
-ghost use Rattle.std.specs.Prelude.{◌≡◌, ◌≢◌, ◌↔◌, ◌⊎◌, ◌<◌, ◌≤◌, ℕ, IfErr, IfOk, IsTrue, List, MatchResult, Some, length, map, string_bytes};
+ghost use Rattle.std.specs.Prelude.{◌≡◌, ◌≢◌, ◌⊎◌, ◌<◌, ◌≤◌, ℕ, IfErr, IfOk, List, MatchResult, Some, length, map, string_bytes};
 ghost use Rattle.crsm_spec.specs.Calm.{IsBounded};
 ghost use Rattle.crsm_spec.specs.Run.{last_world};
 ghost use Rattle.crsm_spec.specs.Safe.{Agreed, Answered, RealTime};
@@ -11,11 +11,11 @@ ghost use Rattle.crsm_delay.specs.declared.handling.Wanted.{Wanted};
 ghost use Rattle.crsm_input.specs.Exact.{Exact as IsDecided};
 ghost use Rattle.crsm_law_timing.specs.Commits.{CommandsCommitInTime, TimelinesArePossible};
 ghost use Rattle.crsm_world.specs.Schedule.{Schedule, IsSchedule, ShowsAll, acts_of};
-ghost use Rattle.crsm_words.specs.Plans.{HasOwnPeer, plan_of};
+ghost use Rattle.crsm_words.specs.Plans.{plan_of};
 ghost use Rattle.crsm_app.specs.Devices.{devices_of};
 ghost use Rattle.crsm_app.specs.Exact.{Exactly};
 ghost use Rattle.crsm_app.specs.Run.{AskForNothing, AskForTask, FaultsAreCounted, Ran, WhereAsked};
-ghost use Rattle.crsm_app.specs.Tasks.{IsOverPort, IsReader, IsRunner, IsThere};
+ghost use Rattle.crsm_app.specs.Tasks.{IsOverPort, IsReader, IsRunner};
 
 use crate::doing::do_order;
 use crate::status::Status;
@@ -30,51 +30,17 @@ use crsm_law_runs::{answered_are_kept, decisions_always_agree, runs_are_safe};
 use crsm_law_timing::{commands_commit_in_time, timelines_are_possible};
 use crsm_node::Reporter;
 use crsm_port::Port;
-use crsm_words::{Plan, Refusal, Task, read_words};
+use crsm_words::{Plan, Refusal, read_words};
 use std::alloc::Global;
-
-/// Whether a task is there.
-fn is_there(task: &Task) -> bool
-    ensures { IsTrue result ↔ IsThere task.now }
-{
-    matches!(
-        task,
-        Task::Show(_)
-            | Task::Replay
-            | Task::ReplayNode { .. }
-            | Task::Client { .. }
-            | Task::Operate { .. }
-            | Task::Soak { .. }
-            | Task::Node(_)
-            | Task::Audit { .. }
-            | Task::Lock(_)
-            | Task::Delay
-            | Task::DelayTimes
-    )
-}
-
-/// The devices of a task that is there.
-fn plan_for(task: &Task) -> Result<Plan, Status>
-    requires { HasOwnPeer task.now }
-    ensures plan { IfOk result (λ plan. IsThere task.now × (plan ≡ plan_of task.now)) }
-    ensures refused { IfErr result (λ status. (status ≡ Status.Usage) × ¬ (IsThere task.now)) }
-{
-    if is_there(task) {
-        Ok(task.plan())
-    } else {
-        Err(Status::Usage)
-    }
-}
 
 /// Which real devices the words want, or why `run` refuses them. Memory may run out.
 pub fn plan(alloc: Global, words: &[String]) -> Result<Plan, Status>
-    ensures planned { IfOk result (λ plan. AskForTask (λ task. IsThere task × (plan ≡ plan_of task)) (map string_bytes words.now)) }
+    ensures planned { IfOk result (λ plan. AskForTask (λ task. plan ≡ plan_of task) (map string_bytes words.now)) }
     ensures refused { IfErr result (λ status. (status ≡ Status.NoMemory) ⊎ ((status ≡ Status.Usage) × AskForNothing (map string_bytes words.now))) }
-    ensures asked { WhereAsked (map string_bytes words.now) (λ order. IsThere order.task →
-        MatchResult result (λ plan. plan ≡ plan_of order.task) (λ status. status ≡ Status.NoMemory)) }
+    ensures asked { WhereAsked (map string_bytes words.now) (λ order. MatchResult result (λ plan. plan ≡ plan_of order.task) (λ status. status ≡ Status.NoMemory)) }
 {
     match read_words(alloc, words) {
-        Ok(order) => plan_for(&order.task),
+        Ok(order) => Ok(order.task.plan()),
         Err(Refusal::Usage) => Err(Status::Usage),
         Err(Refusal::NoMemory) => Err(Status::NoMemory),
     }
@@ -107,14 +73,14 @@ fn plans_are_in_time()
     commands_commit_in_time();
 }
 
-/// Does what the words say: `replay` reads a schedule and writes its transcript, `replay-node ME N` reads the sheet of a
-/// replica and writes what it did, `soak NUMBER N STEPS` runs what a number draws and writes a summary, `node ME N TURNS
-/// PEERS` runs a replica and writes its sheet, `client TO TURNS CLIENT NUMBER OP` asks a replica for a command over the
-/// port and writes its outcome, `operate TO MEMBERS` asks one for another membership, `lock TO TURNS CLIENT NUMBER KEY
-/// ACTION` asks one about a lock and writes what it is told, `audit N` reads the sheets of several nodes and writes what
-/// they come to, `delay` reads a plan of delays and clocks and writes the schedule of its timeline, `delay times` writes
-/// when its command commits, and `--help` and `--version` write a text. `replay-mp` is not there yet. The
-/// reporter is told what a node's log held.
+/// Does what the words say: `replay` reads a schedule and writes its transcript, `replay-mp` does so for a store with a
+/// leader, `replay-node ME N` reads the sheet of a replica and writes what it did, `soak NUMBER N STEPS` runs what a
+/// number draws and writes a summary, `node ME N TURNS PEERS` runs a replica and writes its sheet, `client TO TURNS
+/// CLIENT NUMBER OP` asks a replica for a command over the port and writes its outcome, `operate TO MEMBERS` asks one
+/// for another membership, `lock TO TURNS CLIENT NUMBER KEY ACTION` asks one about a lock and writes what it is told,
+/// `audit N` reads the sheets of several nodes and writes what they come to, `delay` reads a plan of delays and clocks
+/// and writes the schedule of its timeline, `delay times` writes when its command commits, and `--help` and `--version`
+/// write a text. The reporter is told what a node's log held.
 pub fn run<I: Source, O: Sink, P: Port, D: Disk, C: Clock, R: Reporter>(
     alloc: Global,
     words: &[String],
@@ -133,11 +99,11 @@ pub fn run<I: Source, O: Sink, P: Port, D: Disk, C: Clock, R: Reporter>(
     ensures faults { let at = devices_of I.left I.faults O.written O.faults P.meaning D.meaning C.readings in
         FaultsAreCounted (map string_bytes words.now) result (at input.old output.old port.old disk.old clock.old) (at input.new output.new port.new disk.new clock.new) }
 
-    // The words are refused only where they ask for nothing or for what is not there, and not where they ask for what is.
+    // The words are refused only where they ask for nothing, and not where they ask for something.
     ensures usage { result ≡ Status.Usage → AskForNothing (map string_bytes words.now) }
-    ensures asked { WhereAsked (map string_bytes words.now) (λ order. IsThere order.task → result ≢ Status.Usage) }
+    ensures asked { WhereAsked (map string_bytes words.now) (λ order. result ≢ Status.Usage) }
 
-    // Where no fault was counted and memory sufficed, what is there is done, but for an input that has a bad line, which is
+    // Where no fault was counted and memory sufficed, what is asked is done, but for an input that has a bad line, which is
     // refused for the first one, or more bytes than the limit, and for a replica whose reply was not taken.
     ensures exactly { let at = devices_of I.left I.faults O.written O.faults P.meaning D.meaning C.readings in WhereAsked (map string_bytes words.now)
         (λ order. Exactly order.cluster order.task result (at input.old output.old port.old disk.old clock.old) (at input.new output.new port.new disk.new clock.new)) }

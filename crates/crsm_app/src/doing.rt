@@ -5,16 +5,17 @@ ghost use Rattle.crsm_base.specs.Spelling.{FitsCommand};
 ghost use Rattle.crsm_faults.specs.Counts.{Rose};
 ghost use Rattle.crsm_input.specs.Exact as loop_exact;
 ghost use Rattle.crsm_app.specs.Devices.{devices_of};
-ghost use Rattle.crsm_app.specs.Did.{Did, DidAudit, DidClient, DidNode, DidOperate, DidPlan, DidReplay, DidSheet, DidSoak, Shows};
-ghost use Rattle.crsm_app.specs.Exact.{AsksExactly, AuditsExactly, Exactly, IsDone, IsNodeDone, WhereNodeFaultless, ReplaysExactly, SheetsExactly, PlansExactly};
+ghost use Rattle.crsm_app.specs.Did.{Did, DidAudit, DidClient, DidNode, DidOperate, DidPlan, DidReplay, DidReplayMp, DidSheet, DidSoak, Shows};
+ghost use Rattle.crsm_app.specs.Exact.{AsksExactly, AuditsExactly, Exactly, IsDone, IsNodeDone, WhereNodeFaultless, ReplaysExactly, ReplaysMpExactly, SheetsExactly, PlansExactly};
 ghost use Rattle.crsm_app.specs.Run.{PortFailed};
-ghost use Rattle.crsm_app.specs.Tasks.{IsOverPort, IsReader, IsRunner, IsThere, IsWithinLimits};
+ghost use Rattle.crsm_app.specs.Tasks.{IsOverPort, IsReader, IsRunner, IsWithinLimits};
 ghost use Rattle.crsm_node.specs.Running.{devices_of as node_over};
 ghost use Rattle.crsm_words.specs.Orders.{IsNode};
 
 use crate::locking::run_lock;
 use crate::status::{
-    Status, client_status, delay_status, node_status, operate_status, replay_status, sheet_status,
+    Status, client_status, delay_status, node_status, operate_status, replay_mp_status,
+    replay_status, sheet_status,
 };
 use crsm_audit::{audit, audits_are_exact};
 use crsm_base::Members;
@@ -27,6 +28,7 @@ use crsm_io::{Sink, Source, put_all};
 use crsm_node::{NodeOrder, Reporter, run_node};
 use crsm_port::Port;
 use crsm_replay::replay;
+use crsm_replay_mp::replay_mp;
 use crsm_replay_node::replay_node;
 use crsm_soak::{SoakEnd, soak};
 use crsm_words::{NodeTask, Order, Task};
@@ -44,6 +46,20 @@ fn run_replay<I: Source, O: Sink>(alloc: Global, input: &mut I, output: &mut O) 
     ensures no_disk { result ≢ Status.DiskFault }
 {
     replay_status(replay(alloc, input, output))
+}
+
+/// Runs a schedule of a store with a leader.
+fn run_replay_mp<I: Source, O: Sink>(alloc: Global, input: &mut I, output: &mut O) -> Status
+    ensures did { DidReplayMp result (I.left input.old) (I.left input.new) (O.written output.old) (O.written output.new) }
+    ensures read_fault { result ≡ Status.ReadFault → Rose (I.faults input.old) (I.faults input.new) }
+    ensures write_fault { result ≡ Status.WriteFault → Rose (O.faults output.old) (O.faults output.new) }
+    ensures exact { loop_exact.WhereFaultless (I.faults input.old) (I.faults input.new) (O.faults output.old) (O.faults output.new) (ReplaysMpExactly (I.left input.old) result) }
+    ensures limit { (bytes : List ℕ) → I.left input.old ≡ Some bytes → MAX_INPUT_BYTES < length bytes → result ≢ Status.Ok }
+    ensures within { (bytes : List ℕ) → I.left input.old ≡ Some bytes → length bytes ≤ MAX_INPUT_BYTES → result ≢ Status.InputTooLong }
+    ensures no_port { result ≢ Status.PortFault }
+    ensures no_disk { result ≢ Status.DiskFault }
+{
+    replay_mp_status(replay_mp(alloc, input, output))
 }
 
 /// Runs the sheet of replica `me` of a cluster that began with `n`.
@@ -208,14 +224,7 @@ fn run_replica<O: Sink, P: Port, D: Disk, C: Clock, R: Reporter>(
     }
 }
 
-/// Refuses a task that is not there.
-fn refuse(_task: Task) -> Status
-    ensures { result ≡ Status.Usage }
-{
-    Status::Usage
-}
-
-/// Does the task of an order. One that is not there is refused.
+/// Does the task of an order.
 pub(crate) fn do_order<I: Source, O: Sink, P: Port, D: Disk, C: Clock, R: Reporter>(
     alloc: Global,
     order: Order,
@@ -259,6 +268,6 @@ pub(crate) fn do_order<I: Source, O: Sink, P: Port, D: Disk, C: Clock, R: Report
         Task::Audit { n } => run_audit(alloc, n, input, output),
         Task::Delay => run_delay(alloc, input, output),
         Task::DelayTimes => run_delay_times(alloc, input, output),
-        task => refuse(task),
+        Task::ReplayMp => run_replay_mp(alloc, input, output),
     }
 }

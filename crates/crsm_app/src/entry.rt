@@ -4,7 +4,7 @@ use crate::command::plan;
 use crate::devices::{NoDevice, status_over_nothing, status_over_socket};
 use crate::replica::run_replica_of;
 use crate::status::Status;
-use crsm_words::{Plan, read_words, usage_text};
+use crsm_words::{Plan, usage_text};
 use std::env::{self, Env};
 use std::fs::{File, Files};
 use std::io::{Eprint, ErrorKind, Input, Print};
@@ -36,8 +36,6 @@ fn tell<R: AllocGlobal + Eprint>(rt: &R, words: &[String], status: Status) {
     }
     if status != Status::Usage {
         let _ = rt.eprintln(status);
-    } else if read_words(rt.alloc(), words).is_ok() {
-        let _ = rt.eprintln("the command is not there yet");
     } else if let Ok(text) = usage_text(rt.alloc(), words) {
         let _ = rt.eprint(text);
     }

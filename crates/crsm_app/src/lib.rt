@@ -12,6 +12,7 @@ mod status;
 pub use command::{plan, run};
 pub use crsm_node::{Held, Reporter, Silent};
 pub use crsm_replay::Cause;
+pub use crsm_replay_mp::MpCause;
 pub use crsm_words::Plan;
 pub use entry::start;
 pub use status::Status;

@@ -1,7 +1,7 @@
 //! How a run ends.
 
 ghost use Rattle.std.specs.Prelude.{◌≡◌};
-ghost use Rattle.crsm_app.specs.Statuses.{number_of, status_of_client, status_of_delay, status_of_lock, status_of_node, status_of_operate, status_of_refused, status_of_replay, status_of_sheet};
+ghost use Rattle.crsm_app.specs.Statuses.{number_of, status_of_client, status_of_delay, status_of_lock, status_of_node, status_of_operate, status_of_refused, status_of_replay, status_of_replay_mp, status_of_sheet};
 
 use crsm_client::{ClientEnd, OperateError};
 use crsm_delay::PlanCause;
@@ -9,6 +9,7 @@ use crsm_input::Ending;
 use crsm_lock::LockEnd;
 use crsm_node::NodeEnd;
 use crsm_replay::{Cause, told_cause as cause_in_schedule};
+use crsm_replay_mp::{MpCause, told_cause as cause_in_led};
 use crsm_replay_node::{SheetCause, told_cause as cause_in_sheet};
 use std::fmt::{self, Display, Formatter, Write};
 
@@ -21,6 +22,8 @@ pub enum Status {
     Usage,
     /// This line of the input is the first that is bad, counted from 1.
     BadInput { line: u64, cause: Cause },
+    /// The same, of a schedule of a store with a leader.
+    BadMpInput { line: u64, cause: MpCause },
     /// The input failed.
     ReadFault,
     /// The output failed.
@@ -52,7 +55,7 @@ impl Status {
         match self {
             Status::Ok => 0,
             Status::Usage => 2,
-            Status::BadInput { .. } => 3,
+            Status::BadInput { .. } | Status::BadMpInput { .. } => 3,
             Status::ReadFault => 4,
             Status::WriteFault => 5,
             Status::PortFault => 6,
@@ -76,6 +79,23 @@ pub(crate) fn replay_status(ending: Ending<Cause>) -> Status
         Ending::BadLine { line, why } => Status::BadInput {
             line,
             cause: cause_in_schedule(why),
+        },
+        Ending::ReadFault => Status::ReadFault,
+        Ending::WriteFault => Status::WriteFault,
+        Ending::NoMemory => Status::NoMemory,
+        Ending::InputTooLong => Status::InputTooLong,
+    }
+}
+
+/// The status of a schedule of a store with a leader that ended so.
+pub(crate) fn replay_mp_status(ending: Ending<MpCause>) -> Status
+    ensures { result ≡ status_of_replay_mp ending }
+{
+    match ending {
+        Ending::Done => Status::Ok,
+        Ending::BadLine { line, why } => Status::BadMpInput {
+            line,
+            cause: cause_in_led(why),
         },
         Ending::ReadFault => Status::ReadFault,
         Ending::WriteFault => Status::WriteFault,
@@ -204,6 +224,7 @@ impl Display for Status {
             Status::Ok => f.write_str("done"),
             Status::Usage => f.write_str("the words are no command"),
             Status::BadInput { line, cause } => write!(f, "line {line}: {cause}"),
+            Status::BadMpInput { line, cause } => write!(f, "line {line}: {cause}"),
             Status::ReadFault => f.write_str("the input failed"),
             Status::WriteFault => f.write_str("the output failed"),
             Status::PortFault => f.write_str("the port failed"),

@@ -2,9 +2,9 @@ use Rattle.std.proofs.Common.{Err, ap, refl, sym, ◌∙◌, subst, map, string_
 use Rattle.crsm_words.specs.Answers.{OrderRefused}
 use Rattle.crsm_words.specs.declared.order.Order.{Order}
 use Rattle.crsm_words.specs.declared.read.Refusal.{Refusal}
-use Rattle.crsm_app.specs.Run.{at_fault, did, no_memory, not_there as is_not_there, nothing}
-use Rattle.crsm_app.specs.Tasks.{IsReader, IsThere}
-use Rattle.crsm_app.proofs.Asked.{not_there, not_usage, read_so, within_limits}
+use Rattle.crsm_app.specs.Run.{at_fault, did, no_memory}
+use Rattle.crsm_app.specs.Tasks.{IsReader}
+use Rattle.crsm_app.proofs.Asked.{not_idle, not_usage, read_so, within_limits}
 use Rattle.crsm_app.proofs.Scarce.{without_memory}
 use Rattle.crsm_app.proofs.command.run.Goals as goal
 
@@ -25,16 +25,10 @@ returns-in-Ok-clause-faults g c = record {
 }
 
 pub returns-in-Ok-clause-usage : goal.returns-in-Ok-clause-usage
-returns-in-Ok-clause-usage g c = λ is. is_not_there (record {
-  order = c.in-Ok.order;
-  made = c.in-Ok.ensures.any;
-  kind = not_there c.in-Ok.order _ _ _ c.do_order.ensures.did is;
-})
+returns-in-Ok-clause-usage g c = λ is. absurd (not_idle c.in-Ok.order _ _ _ c.do_order.ensures.did is)
 
 pub returns-in-Ok-clause-asked : goal.returns-in-Ok-clause-asked
-returns-in-Ok-clause-asked g c = λ plain order asks there is.
-    let same = read_so c.read_words.result c.in-Ok.order order c.in-Ok.is (c.read_words.ensures.only plain order asks) in
-    not_there c.in-Ok.order _ _ _ c.do_order.ensures.did is (subst (λ (o : Order). IsThere o.task) (sym same) there)
+returns-in-Ok-clause-asked g c = λ plain order asks is. not_idle c.in-Ok.order _ _ _ c.do_order.ensures.did is
 
 pub returns-in-Ok-clause-exactly : goal.returns-in-Ok-clause-exactly
 returns-in-Ok-clause-exactly g c = λ plain order asks.
@@ -70,10 +64,10 @@ returns-in-Err-Usage-clause-faults g c = record { read = λ is. absurd (cc is); 
 
 pub returns-in-Err-Usage-clause-usage : goal.returns-in-Err-Usage-clause-usage
 returns-in-Err-Usage-clause-usage g c = λ is.
-    let words = map string_bytes c.args.words.now in nothing (subst (λ (r : Refusal). OrderRefused words r) c.in-Err-Usage.field-0-is c.in-Err-Usage.ensures.any)
+    let words = map string_bytes c.args.words.now in subst (λ (r : Refusal). OrderRefused words r) c.in-Err-Usage.field-0-is c.in-Err-Usage.ensures.any
 
 pub returns-in-Err-Usage-clause-asked : goal.returns-in-Err-Usage-clause-asked
-returns-in-Err-Usage-clause-asked g c = λ plain order asks there is.
+returns-in-Err-Usage-clause-asked g c = λ plain order asks is.
     not_usage c.read_words.result order (c.in-Err-Usage.is ∙ ap Err c.in-Err-Usage.field-0-is) (c.read_words.ensures.only plain order asks)
 
 pub returns-in-Err-Usage-clause-exactly : goal.returns-in-Err-Usage-clause-exactly
