@@ -15,7 +15,7 @@ loop-k-preserved c =
     let k = c.loop-k.k in
     let was = c.loop-k.invariant in
     let down = subst (λ (j : ℕ). slice_get (part n k).sites j ≡ Some (Site.Down [])) (sym c.from.ensures) (next_down n k c.loop-k-test.true) in
-    let leads = subst (λ (j : ℕ). Leads (start_at (part n k) j) c.start.new.self c.in_ok-more.more) c.from.ensures (c.in_ok-more.ensures (part n k) [] was.holds down) in
+    let leads = subst (λ (j : ℕ). Leads (start_at (part n k) j) c.start.new.self c.in_ok-more.more) c.from.ensures (c.in_ok-more.ensures (part n k) was.holds [] down) in
     let next = part_next n k c.start.new.self c.in_ok-more.more c.loop-k-test.true leads in
     record {
       holds = next.0;
