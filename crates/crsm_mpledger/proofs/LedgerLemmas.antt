@@ -1,8 +1,6 @@
 -- What a ledger stands for, one record more.
-use Rattle.std.proofs.Common.{◌≡◌, ℕ, List, [], ◌∷◌, ◌++◌, Option, refl, ap, sym, subst, ◌∙◌}
+use Rattle.std.proofs.Common.{◌≡◌, List, [], ◌∷◌, ◌++◌, Option, refl, ap, sym, subst, ◌∙◌}
 use Rattle.std.specs.Option.{option_map}
-use Rattle.std.specs.Ordering.{nat_cmp}
-use Rattle.std.specs.BTreeMap.{insert_entry}
 use Rattle.crsm_base.specs.Spelling.{FitsBallot}
 use Rattle.crsm_mpspec.specs.declared.rec.MpRec.{MpRec}
 use Rattle.crsm_mpspec.specs.Types.{Ballot, Answer, Value}
@@ -26,10 +24,6 @@ executes old new values v s store answers = record {
 -- a record that is no choice executes nothing
 pub stays : (x : Executions) (log other : Log) → choices log ≡ choices other → ExecutionsStand x (executed other) → ExecutionsStand x (executed log)
 stays x log other same s = subst (λ vs. ExecutionsStand x vs) (sym (executed-same log other same)) s
-
--- a map of slots with one more
-pub inserted : {X : Type 0} (slot : ℕ) (given v : X) (old es new : List (ℕ × X)) → new ≡ insert_entry nat_cmp old slot given → given ≡ v → old ≡ es → new ≡ insert_entry nat_cmp es slot v
-inserted {X = X} slot given v old es new e g o = e ∙ ap (λ (w : X). insert_entry nat_cmp old slot w) g ∙ ap (λ (xs : List (ℕ × X)). insert_entry nat_cmp xs slot v) o
 
 -- a ballot was promised
 pub promises : (ledger : MpLedger) (b : Ballot) (log : Log) → MpLedgerStands ledger log → FitsBallot b → MpLedgerStands (record ledger { promised = b }) (MpRec.Promise b ∷ log)

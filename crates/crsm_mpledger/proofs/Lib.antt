@@ -1,4 +1,5 @@
 mod SlotLemmas
+mod NumberedLemmas
 mod ExecutedLemmas
 mod RunLemmas
 mod BootLemmas

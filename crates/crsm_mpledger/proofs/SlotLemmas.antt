@@ -19,10 +19,10 @@ pub data Compared (a b : ℕ) : Type 0 where
   Same : a ≡ b → Compared a b
   Above : nat_cmp a b ≡ Greater → (a == b) ≡ false → Compared a b
 
-below_cmp : (a b : ℕ) → a < b → nat_cmp a b ≡ Less
+pub below_cmp : (a b : ℕ) → a < b → nat_cmp a b ≡ Less
 below_cmp a b l = grind (arith, nat_tests, l)
 
-above_cmp : (a b : ℕ) → b < a → nat_cmp a b ≡ Greater
+pub above_cmp : (a b : ℕ) → b < a → nat_cmp a b ≡ Greater
 above_cmp a b l = grind (arith, nat_tests, l)
 
 below_differs : (a b : ℕ) → a < b → (a == b) ≡ false
@@ -31,7 +31,7 @@ below_differs a b l = grind (arith, nat_tests, l)
 above_differs : (a b : ℕ) → b < a → (a == b) ≡ false
 above_differs a b l = grind (arith, nat_tests, l)
 
-same_cmp : (a : ℕ) → nat_cmp a a ≡ Equal
+pub same_cmp : (a : ℕ) → nat_cmp a a ≡ Equal
 same_cmp a = grind (arith, nat_tests)
 
 pub compared : (a b : ℕ) → Compared a b
@@ -84,8 +84,6 @@ lookup-test t u same (e ∷ es) = rw (same e.0, lookup-test t u same es) refl
 -- a map's value at a slot is what stands first at it
 pub get-by_slot : {X : Type 0} (q : ℕ) (xs : List (ℕ × X)) → lookup (is_at (nat_cmp q)) (by_slot xs) ≡ at_slot q xs
 get-by_slot q xs = lookup-test (is_at (nat_cmp q)) (λ s. s == q) (is_at-cmp q) (by_slot xs) ∙ lookup-by_slot q xs
-
-pub ruleset slot_rules = (get-by_slot)
 
 -- ---- parts of a map
 

@@ -1,3 +1,4 @@
 pub mod Sound
 pub mod Executed
+pub mod BySlot
 pub mod MpLedger

@@ -2,6 +2,7 @@
 use Rattle.std.specs.Prelude.{◌≡◌}
 use Rattle.crsm_mpspec.specs.Log.{Log, by_slot, promised, accepts, choices, executed, boots}
 use Rattle.crsm_mpledger.specs.declared.ledger.MpLedger.{MpLedger}
+use Rattle.crsm_mpledger.specs.BySlot.{SlotsStand}
 use Rattle.crsm_mpledger.specs.Executed.{ExecutionsStand}
 use Rattle.crsm_mpledger.specs.Sound.{IsSound}
 
@@ -10,8 +11,8 @@ pub record MpLedgerStands (ledger : MpLedger) (log : Log) : Type 0 where
   pub sound : IsSound log
   pub boots : ledger.boots ≡ boots log
   pub promised : ledger.promised ≡ promised log
-  pub accepted : ledger.accepted.entries ≡ by_slot (accepts log)
-  pub chosen : ledger.chosen.entries ≡ by_slot (choices log)
+  pub accepted : SlotsStand ledger.accepted (by_slot (accepts log))
+  pub chosen : SlotsStand ledger.chosen (by_slot (choices log))
   pub executed : ExecutionsStand ledger.executions (executed log)
 
 -- for the log that the ledger stands for

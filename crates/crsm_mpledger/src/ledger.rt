@@ -3,26 +3,27 @@
 ghost use Rattle.std.specs.Prelude.{◌≡◌, ◌∷◌, [], ℕ, List, length, IfOk, OnOk};
 ghost use Rattle.crsm_mpspec.specs.declared.rec.MpRec.{MpRec as Record};
 ghost use Rattle.crsm_mpspec.specs.Log.{Log, by_slot, choices, executed, run_from};
+ghost use Rattle.crsm_mpledger.specs.BySlot.{SlotsStand};
 ghost use Rattle.crsm_mpledger.specs.Executed.{ExecutionsStand};
 ghost use Rattle.crsm_mpledger.specs.MpLedger.{MpLedgerStands, WhereLedger};
 ghost use Rattle.crsm_mpledger.specs.Sound.{IsSound, MayFollow};
 
+use crate::by_slot::BySlot;
 use crate::executions::Executions;
 use crsm_base::{Ballot, Command, NoMemory, never};
 use crsm_mpspec::{MpRec, copy_value};
 use std::alloc::Global;
-use std::collections::BTreeMap;
 
 /// Executes the slots behind the executed ones, up to the first whose value is not known.
 fn execute_known(
-    chosen: &BTreeMap<u64, Option<Command>>,
+    chosen: &BySlot<Option<Command>>,
     executions: &mut Executions,
 ) -> Result<(), NoMemory>
-    ensures { OnOk result ((log : Log) → IsSound log → chosen.now.entries ≡ by_slot (choices log) → (done : ℕ) → length (run_from done 0 log) ≡ done →
+    ensures { OnOk result ((log : Log) → IsSound log → SlotsStand chosen.now (by_slot (choices log)) → (done : ℕ) → length (run_from done 0 log) ≡ done →
         ExecutionsStand executions.old (run_from done 0 log) → ExecutionsStand executions.new (executed log)) }
 {
     for slot in executions.len()..u64::MAX {
-        let Some(value) = chosen.get(&slot) else {
+        let Some(value) = chosen.get(slot) else {
             return Ok(());
         };
         executions.execute(value)?;
@@ -37,9 +38,9 @@ pub struct MpLedger {
     pub(crate) boots: u64,
     pub(crate) promised: Ballot,
     /// The value that was accepted last at each slot, with its ballot.
-    pub(crate) accepted: BTreeMap<u64, (Ballot, Option<Command>)>,
+    pub(crate) accepted: BySlot<(Ballot, Option<Command>)>,
     /// The value of each slot that is known to be chosen.
-    pub(crate) chosen: BTreeMap<u64, Option<Command>>,
+    pub(crate) chosen: BySlot<Option<Command>>,
     /// All slots up to the first whose value is not known are executed.
     pub(crate) executions: Executions,
 }
@@ -53,8 +54,8 @@ impl MpLedger {
             alloc,
             boots: 0,
             promised: Ballot { round: 0, by: 0 },
-            accepted: BTreeMap::new(alloc),
-            chosen: BTreeMap::new(alloc),
+            accepted: BySlot::new(alloc),
+            chosen: BySlot::new(alloc),
             executions: Executions::new(alloc)?,
         })
     }

@@ -2,6 +2,7 @@
 //! be chosen at each slot, and the answers of the store to what is executed.
 #![tactic(auto)]
 
+mod by_slot;
 mod executions;
 mod laws;
 mod ledger;

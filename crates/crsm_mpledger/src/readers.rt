@@ -25,19 +25,17 @@ impl MpLedger {
     }
 
     /// The value that was accepted last at a slot, with its ballot.
-    #[tactic(auto, unfolding(crsm_mpspec::specs::Log::accepted_at), using(crate::proofs::SlotLemmas::slot_rules))]
     pub fn accepted(&self, slot: u64) -> Option<&(Ballot, Option<Command>)>
         ensures { WhereLedger self.now (λ log. option_copied result ≡ logs.accepted_at slot log) }
     {
-        self.accepted.get(&slot)
+        self.accepted.get(slot)
     }
 
     /// The value of a slot is known to be chosen.
-    #[tactic(auto, unfolding(crsm_mpspec::specs::Log::is_chosen, crsm_mpspec::specs::Log::chosen_at), using(crate::proofs::SlotLemmas::slot_rules))]
     pub fn is_chosen(&self, slot: u64) -> bool
         ensures { WhereLedger self.now (λ log. result ≡ logs.is_chosen slot log) }
     {
-        self.chosen.contains_key(&slot)
+        self.chosen.has(slot)
     }
 
     /// How many slots are executed.
@@ -52,7 +50,7 @@ impl MpLedger {
         ensures { WhereLedger self.now (λ log. option_copied result ≡ slice_get (logs.executed log) slot) }
     {
         if slot < self.executions.len() {
-            self.chosen.get(&slot)
+            self.chosen.get(slot)
         } else {
             None
         }

@@ -5,7 +5,7 @@ ghost use Rattle.crsm_mpspec.specs.Log as logs;
 ghost use Rattle.crsm_mpledger.specs.MpLedger.{WhereLedger};
 
 use crate::ledger::MpLedger;
-use crsm_base::NoMemory;
+use crsm_base::{NoMemory, never};
 use crsm_mpspec::{MpAccepted, MpAccepts, MpChoices, MpChosen, copy_value};
 
 impl MpLedger {
@@ -15,7 +15,18 @@ impl MpLedger {
         ensures { IfOk result (λ accepts. WhereLedger self.now (λ log. accepts ≡ logs.accepted_from start log)) }
     {
         let mut accepts = MpAccepts::new(self.alloc);
-        for (slot, (ballot, value)) in self.accepted.range(start..) {
+        for slot in start..self.accepted.prefix_len() {
+            let Some((ballot, value)) = self.accepted.get(slot) else {
+                // It is within the prefix.
+                return Err(never());
+            };
+            accepts.push(MpAccepted {
+                slot,
+                ballot: *ballot,
+                value: copy_value(self.alloc, value)?,
+            })?;
+        }
+        for (slot, (ballot, value)) in self.accepted.beyond().range(start..) {
             accepts.push(MpAccepted {
                 slot: *slot,
                 ballot: *ballot,
@@ -31,7 +42,17 @@ impl MpLedger {
         ensures { IfOk result (λ choices. WhereLedger self.now (λ log. choices ≡ logs.chosen_from start log)) }
     {
         let mut choices = MpChoices::new(self.alloc);
-        for (slot, value) in self.chosen.range(start..) {
+        for slot in start..self.chosen.prefix_len() {
+            let Some(value) = self.chosen.get(slot) else {
+                // It is within the prefix.
+                return Err(never());
+            };
+            choices.push(MpChosen {
+                slot,
+                value: copy_value(self.alloc, value)?,
+            })?;
+        }
+        for (slot, value) in self.chosen.beyond().range(start..) {
             choices.push(MpChosen {
                 slot: *slot,
                 value: copy_value(self.alloc, value)?,

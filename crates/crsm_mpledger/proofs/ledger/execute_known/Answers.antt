@@ -1,11 +1,8 @@
 use Rattle.std.proofs.Common.{◌≡◌, ◌∙◌, ◌∷◌, [], ◌+◌, length, None, Some, ap, sym, subst, arith}
 use Rattle.std.specs.Option.{option_copied}
-use Rattle.std.specs.Ordering.{nat_cmp}
-use Rattle.std.specs.Map.{lookup}
-use Rattle.std.specs.BTreeMap.{is_at}
 use Rattle.std.proofs.lemmas.List.{length-append}
 use Rattle.crsm_spec.specs.Clock.{u64_max}
-use Rattle.crsm_mpspec.specs.Log.{chosen_at, choices, run_from}
+use Rattle.crsm_mpspec.specs.Log.{by_slot, chosen_at, choices, run_from}
 use Rattle.crsm_mpledger.specs.Executed.{ExecutionsStand}
 use Rattle.crsm_mpledger.proofs.SlotLemmas.{get-by_slot}
 use Rattle.crsm_mpledger.proofs.RunLemmas.{executed_is, none_at_end, run-next}
@@ -15,9 +12,9 @@ pub loop-slot-preserved : goal.loop-slot-preserved
 unfolding chosen_at
 loop-slot-preserved c log sound entries done whole start =
     let i = c.loop-slot.invariant log sound entries done whole start in
-    let slot = c.loop-slot.slot-counter in
+    let slot = c.loop-slot.slot in
     let is : chosen_at slot log ≡ Some c.in-Some.value.now
-    = sym (c.get.ensures.value ∙ ap (λ es. lookup (is_at (nat_cmp slot)) es) entries ∙ get-by_slot slot (choices log)) ∙ ap option_copied c.in-Some.is in
+    = sym (c.get.ensures.value (by_slot (choices log)) entries ∙ get-by_slot slot (choices log)) ∙ ap option_copied c.in-Some.is in
     let next = run-next slot c.in-Some.value.now log i.1 is in (
       subst (λ vs. ExecutionsStand c.execute.new.self vs) (sym next) (c.in_ok-execute.ensures (run_from slot 0 log) i.0),
       ap length next ∙ length-append (run_from slot 0 log) (c.in-Some.value.now ∷ []) ∙ ap (λ n. n + 1) i.1,
@@ -27,15 +24,15 @@ pub returns-in_default : goal.returns-in_default
 unfolding chosen_at
 returns-in_default c log sound entries done whole start =
     let i = c.loop-slot.invariant log sound entries done whole start in
-    let slot = c.loop-slot.slot-counter in
+    let slot = c.loop-slot.slot in
     let none : chosen_at slot log ≡ None
-    = sym (c.get.ensures.value ∙ ap (λ es. lookup (is_at (nat_cmp slot)) es) entries ∙ get-by_slot slot (choices log)) ∙ ap option_copied c.in_default.is in
+    = sym (c.get.ensures.value (by_slot (choices log)) entries ∙ get-by_slot slot (choices log)) ∙ ap option_copied c.in_default.is in
     subst (λ vs. ExecutionsStand c.loop-slot.executions vs) (sym (executed_is slot log i.1 none)) i.0
 
 pub returns : goal.returns
 returns c log sound entries done whole start =
     let i = c.loop-slot.invariant log sound entries done whole start in
-    let slot = c.loop-slot.slot-counter in
-    let last : u64_max ≡ slot = omega (arith, c.loop-slot-test.false, c.loop-slot.auto.slot-counter) in
+    let slot = c.loop-slot.slot in
+    let last : u64_max ≡ slot = omega (arith, c.loop-slot-test.false, c.loop-slot.auto.slot) in
     let none : chosen_at slot log ≡ None = subst (λ n. chosen_at n log ≡ None) last (none_at_end log sound) in
     subst (λ vs. ExecutionsStand c.loop-slot.executions vs) (sym (executed_is slot log i.1 none)) i.0

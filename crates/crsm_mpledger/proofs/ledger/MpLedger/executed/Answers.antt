@@ -1,8 +1,5 @@
-use Rattle.std.proofs.Common.{◌∙◌, ap, sym, arith}
-use Rattle.std.specs.Ordering.{nat_cmp}
-use Rattle.std.specs.Map.{lookup}
-use Rattle.std.specs.BTreeMap.{is_at}
-use Rattle.crsm_mpspec.specs.Log.{chosen_at, choices, executed}
+use Rattle.std.proofs.Common.{◌∙◌, sym, arith}
+use Rattle.crsm_mpspec.specs.Log.{by_slot, chosen_at, choices, executed}
 use Rattle.crsm_mpledger.proofs.SlotLemmas.{get-by_slot}
 use Rattle.crsm_mpledger.proofs.RunLemmas.{executed-get, none_behind}
 use Rattle.crsm_mpledger.proofs.ledger.MpLedger.executed.Goals as goal
@@ -11,7 +8,7 @@ pub returns-then-slot-len : goal.returns-then-slot-len
 unfolding chosen_at
 returns-then-slot-len c log s =
     let len = c.len.ensures (executed log) s.executed in
-    c.get.ensures.value ∙ ap (λ es. lookup (is_at (nat_cmp c.args.slot)) es) s.chosen ∙ get-by_slot c.args.slot (choices log)
+    c.get.ensures.value (by_slot (choices log)) s.chosen ∙ get-by_slot c.args.slot (choices log)
     ∙ executed-get c.args.slot log (omega (arith, len, c.if-slot-len.true))
 
 pub returns-else-slot-len : goal.returns-else-slot-len

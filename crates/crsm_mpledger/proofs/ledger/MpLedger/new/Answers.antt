@@ -9,7 +9,7 @@ returns c = record {
   sound = tt;
   boots = refl;
   promised = refl;
-  accepted = c.new.ensures.empty;
-  chosen = c.new-2.ensures.empty;
+  accepted = c.new.ensures;
+  chosen = c.new-2.ensures;
   executed = c.in_ok-new.ensures;
 }

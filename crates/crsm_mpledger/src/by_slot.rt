@@ -1,0 +1,109 @@
+//! Values by slot. Most slots are filled one behind the other, and stand in a list; what lies beyond a gap stands in a map.
+
+ghost use Rattle.std.specs.Prelude.{◌≡◌, ◌<◌, [], ◌++◌, suc, length, slice_get, is_some, OnOk, true, false};
+ghost use Rattle.std.specs.Option.{option_copied};
+ghost use Rattle.std.specs.Ordering.{nat_cmp};
+ghost use Rattle.std.specs.Map.{lookup};
+ghost use Rattle.std.specs.BTreeMap.{insert_entry, is_at};
+ghost use Rattle.crsm_mpledger.specs.BySlot.{AreFrom, BeginsAt, SlotsStand, WhereSlots, numbered};
+
+use crsm_base::NoMemory;
+use std::alloc::Global;
+use std::collections::BTreeMap;
+
+/// A value for some slots.
+#[derive(Drop)]
+pub(crate) struct BySlot<V> {
+    /// Those of the first slots, up to the first that has none.
+    prefix: Vec<V>,
+    /// Those of later slots.
+    beyond: BTreeMap<u64, V>,
+}
+
+impl<V: Drop> BySlot<V> {
+    /// No slot has a value.
+    pub(crate) fn new(alloc: Global) -> BySlot<V>
+        ensures { SlotsStand result [] }
+    {
+        BySlot {
+            prefix: Vec::new(alloc),
+            beyond: BTreeMap::new(alloc),
+        }
+    }
+
+    /// The value of a slot.
+    pub(crate) fn get(&self, slot: u64) -> Option<&V>
+        ensures value { WhereSlots self.now (λ entries. option_copied result ≡ lookup (is_at (nat_cmp slot)) entries) }
+        ensures listed { slot < length self.now.prefix.items → option_copied result ≡ slice_get self.now.prefix.items slot }
+    {
+        if slot < self.prefix.len() as u64 {
+            self.prefix.get(slot as usize)
+        } else {
+            self.beyond.get(&slot)
+        }
+    }
+
+    /// The slot has a value.
+    pub(crate) fn has(&self, slot: u64) -> bool
+        ensures { WhereSlots self.now (λ entries. result ≡ is_some (lookup (is_at (nat_cmp slot)) entries)) }
+    {
+        self.get(slot).is_some()
+    }
+
+    /// How many of the first slots have a value: the first slot that has none.
+    pub(crate) fn prefix_len(&self) -> u64
+        ensures { result ≡ length self.now.prefix.items }
+    {
+        self.prefix.len() as u64
+    }
+
+    /// The values beyond the first slot that has none.
+    pub(crate) fn beyond(&self) -> &BTreeMap<u64, V>
+        ensures { result.now.entries ≡ self.now.beyond.entries }
+    {
+        &self.beyond
+    }
+
+    /// The slot has this value from now on.
+    pub(crate) fn insert(&mut self, slot: u64, value: V) -> Result<(), NoMemory>
+        ensures { OnOk result (WhereSlots self.old (λ entries. SlotsStand self.new (insert_entry nat_cmp entries slot value))) }
+    {
+        let len = self.prefix.len() as u64;
+        if slot > len {
+            self.beyond.insert(slot, value)?;
+            return Ok(());
+        }
+        if slot < len {
+            self.prefix[slot as usize] = value;
+            return Ok(());
+        }
+        self.prefix.push(value)?;
+        self.close_gap()?;
+        Ok(())
+    }
+
+    /// What follows the list without a gap goes there.
+    fn close_gap(&mut self) -> Result<(), NoMemory>
+        ensures { OnOk result (AreFrom (length self.old.prefix.items) self.old.beyond.entries →
+            SlotsStand self.new (numbered 0 self.old.prefix.items ++ self.old.beyond.entries)) }
+    {
+        while self.is_next_beyond() {
+            let Some((_, value)) = self.beyond.pop_first() else {
+                return Ok(());
+            };
+            self.prefix.push(value)?;
+        }
+        Ok(())
+    }
+
+    /// The slot behind the list has a value.
+    fn is_next_beyond(&self) -> bool
+        ensures next { result ≡ true → BeginsAt (length self.now.prefix.items) self.now.beyond.entries }
+        ensures apart { result ≡ false → AreFrom (length self.now.prefix.items) self.now.beyond.entries → AreFrom (suc (length self.now.prefix.items)) self.now.beyond.entries }
+    {
+        match self.beyond.first_key_value() {
+            Some((slot, _)) => *slot == self.prefix.len() as u64,
+            None => false,
+        }
+    }
+}
