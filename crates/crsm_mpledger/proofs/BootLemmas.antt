@@ -1,7 +1,6 @@
 -- Boots, and records that are followed one behind the other.
-use Rattle.std.proofs.Common.{◌≡◌, ℕ, zero, suc, ◌+◌, ◌<◌, Bool, List, [], ◌∷◌, ◌++◌, length, Option, Some, refl, ap, sym, subst, ◌∙◌, arith}
-use Rattle.std.specs.Prelude.{fold, slice_get, get_or, take, drop, if◌then◌else◌}
-use Rattle.std.proofs.lemmas.List.{take-append-drop, take_more}
+use Rattle.std.proofs.Common.{◌≡◌, ℕ, zero, suc, ◌+◌, Bool, List, [], ◌∷◌, Option, Some, refl, ap, sym, subst, ◌∙◌, arith}
+use Rattle.std.specs.Prelude.{fold, slice_get, drop, if◌then◌else◌}
 use Rattle.crsm_mpspec.specs.declared.rec.MpRec.{MpRec}
 use Rattle.crsm_mpspec.specs.Log.{Log, boots, is_boot}
 use Rattle.crsm_mpledger.specs.Sound.{IsSound, with_records, AreBodies}
@@ -17,26 +16,10 @@ boots-boot log = counted is_boot 0 log
 
 -- ---- records behind a log
 
-pub with-snoc : (log : Log) (xs : List MpRec) (x : MpRec) → with_records log (xs ++ x ∷ []) ≡ x ∷ with_records log xs
-with-snoc log [] x = refl
-with-snoc log (y ∷ ys) x = with-snoc (y ∷ log) ys x
-
--- one item more of a list
-pub next_one : {A : Type 0} (xs : List A) (i : ℕ) (x : A) → i < length xs → x ≡ get_or xs i x → take (i + 1) xs ≡ take i xs ++ x ∷ []
-next_one {A = A} xs i x below is = take_more xs i x below ∙ ap (λ (y : A). take i xs ++ y ∷ []) (sym is)
-
 -- a log that more records stand behind is sound where all of it is
 pub sound_before : (log : Log) (xs : List MpRec) → IsSound (with_records log xs) → IsSound log
 sound_before log [] sound = sound
 sound_before log (x ∷ xs) sound = (sound_before (x ∷ log) xs sound).1
-
-sound_part : (log : Log) (xs ys : List MpRec) → IsSound (with_records log (xs ++ ys)) → IsSound (with_records log xs)
-sound_part log [] ys sound = sound_before log ys sound
-sound_part log (x ∷ xs) ys sound = sound_part (x ∷ log) xs ys sound
-
--- the first records of sound ones
-pub sound_take : (log : Log) (xs : List MpRec) (k : ℕ) → IsSound (with_records log xs) → IsSound (with_records log (take k xs))
-sound_take log xs k sound = sound_part log (take k xs) (drop k xs) (subst (λ zs. IsSound (with_records log zs)) (sym (take-append-drop k xs)) sound)
 
 -- ---- bodies behind a log
 

@@ -3,4 +3,5 @@ mod NumberedLemmas
 mod ExecutedLemmas
 mod RunLemmas
 mod BootLemmas
+mod TakenLemmas
 mod LedgerLemmas

@@ -73,20 +73,18 @@ impl MpLedger {
     }
 
     /// A value is accepted, and its ballot promised.
-    fn accept(&mut self, slot: u64, ballot: Ballot, value: &Option<Command>) -> Result<(), NoMemory>
-        ensures { OnOk result (WhereLedger self.old (λ log. MayFollow log (Record.Accept slot ballot value.now) → MpLedgerStands self.new (Record.Accept slot ballot value.now ∷ log))) }
+    fn accept(&mut self, slot: u64, ballot: Ballot, value: Option<Command>) -> Result<(), NoMemory>
+        ensures { OnOk result (WhereLedger self.old (λ log. MayFollow log (Record.Accept slot ballot value) → MpLedgerStands self.new (Record.Accept slot ballot value ∷ log))) }
     {
-        let value = copy_value(self.alloc, value)?;
         self.accepted.insert(slot, (ballot, value))?;
         self.promised = ballot;
         Ok(())
     }
 
     /// The value of a slot is known. It is executed, and what follows it, once all before it are.
-    fn choose(&mut self, slot: u64, value: &Option<Command>) -> Result<(), NoMemory>
-        ensures { OnOk result (WhereLedger self.old (λ log. MayFollow log (Record.Choose slot value.now) → MpLedgerStands self.new (Record.Choose slot value.now ∷ log))) }
+    fn choose(&mut self, slot: u64, value: Option<Command>) -> Result<(), NoMemory>
+        ensures { OnOk result (WhereLedger self.old (λ log. MayFollow log (Record.Choose slot value) → MpLedgerStands self.new (Record.Choose slot value ∷ log))) }
     {
-        let value = copy_value(self.alloc, value)?;
         self.chosen.insert(slot, value)?;
         execute_known(&self.chosen, &mut self.executions)?;
         Ok(())
@@ -110,11 +108,41 @@ impl MpLedger {
                 ballot,
                 value,
             } => {
+                let value = copy_value(self.alloc, value)?;
                 self.accept(*slot, *ballot, value)?;
                 Ok(())
             }
             MpRec::Choose { slot, value } => {
+                let value = copy_value(self.alloc, value)?;
                 self.choose(*slot, value)?;
+                Ok(())
+            }
+        }
+    }
+
+    /// One record more, which is not used any further.
+    pub(crate) fn take(&mut self, rec: MpRec) -> Result<(), NoMemory>
+        ensures { OnOk result (WhereLedger self.old (λ log. MayFollow log rec → MpLedgerStands self.new (rec ∷ log))) }
+    {
+        match rec {
+            MpRec::Boot => {
+                self.boot()?;
+                Ok(())
+            }
+            MpRec::Promise { ballot } => {
+                self.promised = ballot;
+                Ok(())
+            }
+            MpRec::Accept {
+                slot,
+                ballot,
+                value,
+            } => {
+                self.accept(slot, ballot, value)?;
+                Ok(())
+            }
+            MpRec::Choose { slot, value } => {
+                self.choose(slot, value)?;
                 Ok(())
             }
         }

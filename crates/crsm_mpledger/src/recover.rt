@@ -9,8 +9,7 @@ ghost use Rattle.crsm_mpledger.specs.Sound.{IsSound, AreBodies, with_records};
 
 use crate::ledger::MpLedger;
 use crsm_base::{Bodies, NoMemory, never};
-use crsm_mpcodec::take_body;
-use crsm_mpspec::MpRec;
+use crsm_mpcodec::take_rec;
 use std::alloc::Global;
 
 impl MpLedger {
@@ -33,20 +32,18 @@ impl MpLedger {
         ensures { OnOk result (WhereLedger self.old (λ log. (recs : List Record) → SpeltBody recs body.now → IsSound (with_records log recs) →
             MpLedgerStands self.new (with_records log recs))) }
     {
-        // A replica has written each body of its log.
-        let Some(records) = take_body(alloc, body)? else {
-            return Err(never());
-        };
-        self.follow_all(records.as_slice())?;
-        Ok(())
-    }
-
-    /// Records one behind the other.
-    fn follow_all(&mut self, records: &[MpRec]) -> Result<(), NoMemory>
-        ensures { OnOk result (WhereLedger self.old (λ log. IsSound (with_records log records.now) → MpLedgerStands self.new (with_records log records.now))) }
-    {
-        for rec in records {
-            self.follow(rec)?;
+        let mut rest = body;
+        // A record has a byte at least: there are no more of them than bytes.
+        for _taken in 0..body.len() {
+            if rest.is_empty() {
+                return Ok(());
+            }
+            // A replica has written each body of its log.
+            let Some((rec, after)) = take_rec(alloc, rest)? else {
+                return Err(never());
+            };
+            self.take(rec)?;
+            rest = after;
         }
         Ok(())
     }

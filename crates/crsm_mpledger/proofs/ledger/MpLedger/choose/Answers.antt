@@ -1,9 +1,6 @@
 use Rattle.std.proofs.Common.{◌∷◌, length, ap, sym, subst}
-use Rattle.std.specs.Ordering.{nat_cmp}
-use Rattle.std.specs.BTreeMap.{insert_entry}
 use Rattle.crsm_mpspec.specs.declared.rec.MpRec.{MpRec}
 use Rattle.crsm_mpspec.specs.Log.{by_slot, boots, is_boot, promised, accepts, choices, executed}
-use Rattle.crsm_mpledger.specs.BySlot.{SlotsStand}
 use Rattle.crsm_mpledger.specs.Executed.{ExecutionsStand}
 use Rattle.crsm_mpledger.proofs.RunLemmas.{run-grown}
 use Rattle.crsm_mpledger.proofs.ledger.MpLedger.choose.Goals as goal
@@ -11,9 +8,9 @@ use Rattle.crsm_mpledger.proofs.ledger.MpLedger.choose.Goals as goal
 pub returns : goal.returns
 unfolding by_slot boots is_boot promised accepts choices
 returns c log s may =
-    let rec = MpRec.Choose c.args.slot c.args.value.now in
-    let entries = subst (λ v. SlotsStand c.insert.new.self (insert_entry nat_cmp (by_slot (choices log)) c.args.slot v)) c.in_ok-value.ensures (c.in_ok-insert.ensures (by_slot (choices log)) s.chosen) in
-    let run = run-grown c.args.slot c.args.value.now log may.2 in
+    let rec = MpRec.Choose c.args.slot c.args.value in
+    let entries = c.in_ok-insert.ensures (by_slot (choices log)) s.chosen in
+    let run = run-grown c.args.slot c.args.value log may.2 in
     record {
       sound = (may, s.sound);
       boots = s.boots;

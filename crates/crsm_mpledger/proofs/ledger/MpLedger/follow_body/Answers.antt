@@ -1,0 +1,31 @@
+use Rattle.std.proofs.Common.{rules, ◌≡◌, ◌∷◌, ◌<◌, length, Some, subst, arith}
+use Rattle.crsm_mpcodec.specs.Reading.{rec_at}
+use Rattle.crsm_mpledger.specs.MpLedger.{MpLedgerStands}
+use Rattle.crsm_mpledger.specs.Sound.{with_records}
+use Rattle.crsm_mpledger.proofs.TakenLemmas.{left_first, left_next, left_last}
+use Rattle.crsm_mpledger.proofs.ledger.MpLedger.follow_body.Goals as goal
+
+pub loop-taken-init : goal.loop-taken-init
+loop-taken-init c log s recs spelt sound = (omega arith, log, s, recs, left_first log recs c.args.body.now spelt)
+
+pub loop-taken-preserved : goal.loop-taken-preserved
+loop-taken-preserved c log s recs spelt sound =
+    let i = c.loop-taken.invariant log s recs spelt sound in
+    let rest = c.loop-taken.rest.now in
+    let some : 0 < length rest = search rules in
+    let read : Some (c.in-Some.rec, c.in-Some.after.now) ≡ rec_at rest = rw c.in-Some.is at c.in_ok-rec.ensures in
+    let next = left_next i.1 i.3 rest (with_records log recs) c.in-Some.rec c.in-Some.after.now i.4 sound some read in
+    (omega (arith, i.0, next.shorter), c.in-Some.rec ∷ i.1, c.in_ok-take.ensures i.1 i.2 next.may, next.more, next.left)
+
+pub returns-then-is_empty : goal.returns-then-is_empty
+returns-then-is_empty c log s recs spelt sound =
+    let i = c.loop-taken.invariant log s recs spelt sound in
+    let none : length c.loop-taken.rest.now ≡ 0 = search rules in
+    subst (MpLedgerStands c.loop-taken.self) (left_last i.1 i.3 c.loop-taken.rest.now (with_records log recs) i.4 none) i.2
+
+pub returns : goal.returns
+returns c log s recs spelt sound =
+    let i = c.loop-taken.invariant log s recs spelt sound in
+    let end : c.loop-taken._taken ≡ length c.args.body.now = search rules in
+    let none : length c.loop-taken.rest.now ≡ 0 = omega (arith, i.0, end) in
+    subst (MpLedgerStands c.loop-taken.self) (left_last i.1 i.3 c.loop-taken.rest.now (with_records log recs) i.4 none) i.2
