@@ -31,6 +31,14 @@ impl<V: Drop> BySlot<V> {
         }
     }
 
+    /// Makes room for so many values more. Nothing else changes.
+    pub(crate) fn reserve(&mut self, additional: usize) -> Result<(), NoMemory>
+        ensures { WhereSlots self.old (λ entries. SlotsStand self.new entries) }
+    {
+        self.prefix.reserve(additional)?;
+        Ok(())
+    }
+
     /// The value of a slot.
     pub(crate) fn get(&self, slot: u64) -> Option<&V>
         ensures value { WhereSlots self.now (λ entries. option_copied result ≡ lookup (is_at (nat_cmp slot)) entries) }

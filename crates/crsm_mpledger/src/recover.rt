@@ -18,6 +18,7 @@ impl MpLedger {
         ensures { IfOk result (λ ledger. (log : Log) → AreBodies [] bodies.now log → IsSound log → MpLedgerStands ledger log) }
     {
         let mut ledger = MpLedger::new(alloc)?;
+        ledger.make_room(bodies.len())?;
         for index in 0..bodies.len() {
             let Some(body) = bodies.get(index) else {
                 return Err(never());
@@ -25,6 +26,15 @@ impl MpLedger {
             ledger.follow_body(alloc, body)?;
         }
         Ok(ledger)
+    }
+
+    /// Makes room for what so many bodies say: mostly a value that is accepted, and then that it is chosen.
+    fn make_room(&mut self, bodies: usize) -> Result<(), NoMemory>
+        ensures { WhereLedger self.old (λ log. MpLedgerStands self.new log) }
+    {
+        self.accepted.reserve(bodies / 2)?;
+        self.chosen.reserve(bodies / 2)?;
+        Ok(())
     }
 
     /// The records of one body more.
