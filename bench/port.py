@@ -20,7 +20,7 @@ RECEIVES = 2_000
 
 def start(work, receives):
     """Starts the program on this work: the process, and the number of its socket."""
-    command = [program("crsm_bench_port"), work, str(receives)]
+    command = [program("crsm_test_bench_port"), work, str(receives)]
     process = subprocess.Popen(command, stdout=subprocess.PIPE, text=True)
     return process, int(process.stdout.readline())
 

@@ -48,7 +48,7 @@ def work(word, size, rounds, runs=RUNS):
 
     Answers the time in seconds and the count that the program prints.
     """
-    bench = program("crsm_bench")
+    bench = program("crsm_test_bench")
     whole, output = fastest([bench, word, str(size), str(rounds)], runs=runs)
     start, _ = fastest([bench, word, str(size), "0"], runs=runs)
     return max(whole - start, 1e-9), int(output)

@@ -8,13 +8,13 @@ set -u
 cd "$(dirname "$0")/.." || exit 1
 list=${1:-crates.txt}
 fail=0
-cites_laws=' crsm_safety crsm_world crsm_replay crsm_replay_mp crsm_soak crsm_verdict crsm_audit crsm_delay crsm_app '
-defines=' crsm_base crsm_spec crsm_lives crsm_timing crsm_mpspec crsm_log_facts crsm_step_facts crsm_safety '
+cites_laws=' crsm_safety crsm_world crsm_cmd_replay crsm_mpreplay crsm_cmd_soak crsm_audit crsm_audit crsm_delay crsm_app '
+defines=' crsm_base crsm_spec crsm_spec_process crsm_spec_plan crsm_mpspec crsm_fact_log crsm_fact_step crsm_safety '
 declare -A speaks_of=(
   [crsm_law_texts]=' crsm_text crsm_schedule hex '
   [crsm_law_locks]=' crsm_lease '
-  [crsm_law_draws]=' crsm_generator crsm_schedule crsm_world '
-  [crsm_law_nodes]=' crsm_ledger crsm_schedule crsm_sheet crsm_wire crsm_peer_port crsm_rerun '
+  [crsm_law_draws]=' crsm_sim_generator crsm_schedule crsm_world '
+  [crsm_law_nodes]=' crsm_ledger crsm_schedule crsm_text_sheet crsm_wire crsm_port_node crsm_replica_rerun '
 )
 lines=0
 while IFS= read -r line; do

@@ -29,6 +29,6 @@ while read -r law crates; do
 done <<'END'
 crsm_law_examples crsm_base crsm_spec
 crsm_law_timing crsm_base crsm_spec
-crsm_law_mp_examples crsm_base crsm_spec crsm_mpspec
+crsm_law_examples crsm_base crsm_spec crsm_mpspec
 END
 echo "opened: ok"

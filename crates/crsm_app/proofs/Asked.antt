@@ -1,15 +1,15 @@
 -- What words ask for.
 use Rattle.std.proofs.Common.{◌≡◌, ℕ, List, Result, Ok, Err, inl, inr, sym, ◌∙◌, subst}
 use Rattle.clap.specs.Words.{Text}
-use Rattle.crsm_words.specs.Answers.{IsShown, OrderMade, Reads, order, text}
-use Rattle.crsm_words.specs.Orders.{Asks}
-use Rattle.crsm_words.specs.declared.order.Order.{Order}
-use Rattle.crsm_words.specs.declared.order.Task.{Task}
-use Rattle.crsm_words.specs.declared.order.Task.TheVariants.{Show, Replay, ReplayNode, Node, Client, Operate, Soak, Audit, Lock, Delay, DelayTimes, ReplayMp}
-use Rattle.crsm_words.specs.declared.read.Refusal.{Refusal}
+use Rattle.crsm_text_words.specs.Answers.{IsShown, OrderMade, Reads, order, text}
+use Rattle.crsm_text_words.specs.Orders.{Asks}
+use Rattle.crsm_text_words.specs.declared.order.Order.{Order}
+use Rattle.crsm_text_words.specs.declared.order.Task.{Task}
+use Rattle.crsm_text_words.specs.declared.order.Task.TheVariants.{Show, Replay, ReplayNode, Node, Client, Operate, Soak, Audit, Lock, Delay, DelayTimes, ReplayMp}
+use Rattle.crsm_text_words.specs.declared.read.Refusal.{Refusal}
 use Rattle.crsm_client.specs.declared.command.ClientEnd.{ClientEnd}
 use Rattle.crsm_client.specs.declared.error.OperateError.{OperateError}
-use Rattle.crsm_lock.specs.declared.command.LockEnd.{LockEnd}
+use Rattle.crsm_cmd_lock.specs.declared.command.LockEnd.{LockEnd}
 use Rattle.crsm_node.specs.declared.errors.NodeEnd.{NodeEnd}
 use Rattle.crsm_app.specs.Devices.{Devices}
 use Rattle.crsm_app.specs.Did.{Did, DidAudit, DidPlan, DidReplay, DidReplayMp, DidSheet}

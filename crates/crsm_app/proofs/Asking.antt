@@ -5,7 +5,7 @@ use Rattle.crsm_client.specs.Operating.{Operates}
 use Rattle.crsm_client.specs.declared.command.ClientEnd.{ClientEnd}
 use Rattle.crsm_client.specs.declared.command.ClientOrder.{ClientOrder}
 use Rattle.crsm_client.specs.declared.error.OperateError.{OperateError}
-use Rattle.crsm_faults.specs.Counts.{Rose}
+use Rattle.crsm_port_faults.specs.Counts.{Rose}
 use Rattle.crsm_port.specs.Meaning.{Meaning}
 use Rattle.crsm_app.specs.Exact.{IsDone, IsUnanswered}
 use Rattle.crsm_app.specs.Statuses.{status_of_client, status_of_operate}

@@ -1,12 +1,12 @@
 -- An audit by its status.
 use Rattle.std.proofs.Common.{◌≡◌, ℕ, inl, inr, List, Option, refl, ap, sym, ◌∙◌, subst}
 use Rattle.crsm_audit.specs.Handled.{audited}
-use Rattle.crsm_input.specs.Exact as loop
-use Rattle.crsm_input.specs.Run as lines
-use Rattle.crsm_input.specs.declared.Bad.{Bad}
-use Rattle.crsm_input.specs.declared.Ending.{Ending}
-use Rattle.crsm_replay_node.specs.Causes.{cause_in}
-use Rattle.crsm_replay_node.specs.declared.cause.SheetCause.{SheetCause}
+use Rattle.crsm_port_lines.specs.Exact as loop
+use Rattle.crsm_port_lines.specs.Run as lines
+use Rattle.crsm_port_lines.specs.declared.Bad.{Bad}
+use Rattle.crsm_port_lines.specs.declared.Ending.{Ending}
+use Rattle.crsm_cmd_replay_node.specs.Causes.{cause_in}
+use Rattle.crsm_cmd_replay_node.specs.declared.cause.SheetCause.{SheetCause}
 use Rattle.crsm_app.specs.Did.{DidAudit}
 use Rattle.crsm_app.specs.Exact.{IsRefusedSheet}
 use Rattle.crsm_app.specs.Statuses.{status_of_refused, status_of_sheet}

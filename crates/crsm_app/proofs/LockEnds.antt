@@ -1,11 +1,11 @@
 -- A client at a lock by its status.
 use Rattle.std.proofs.Common.{◌≡◌, ◌⊎◌, ℕ, inl, inr, List, Option, refl, sym, ◌∙◌, subst}
 use Rattle.crsm_client.specs.declared.error.AskError.TheVariants.{PortFault}
-use Rattle.crsm_faults.specs.Counts.{Rose}
-use Rattle.crsm_lock.specs.Commands.{IsDone as EndsDone, IsNoAnswer, LockRan}
-use Rattle.crsm_lock.specs.Learning.{Fails}
-use Rattle.crsm_lock.specs.declared.command.LockEnd.{LockEnd}
-use Rattle.crsm_lock.specs.declared.command.LockOrder.{LockOrder}
+use Rattle.crsm_port_faults.specs.Counts.{Rose}
+use Rattle.crsm_cmd_lock.specs.Commands.{IsDone as EndsDone, IsNoAnswer, LockRan}
+use Rattle.crsm_cmd_lock.specs.Learning.{Fails}
+use Rattle.crsm_cmd_lock.specs.declared.command.LockEnd.{LockEnd}
+use Rattle.crsm_cmd_lock.specs.declared.command.LockOrder.{LockOrder}
 use Rattle.crsm_port.specs.Meaning.{Meaning}
 use Rattle.crsm_app.specs.Exact.{IsDone, IsUnanswered}
 use Rattle.crsm_app.specs.Statuses.{status_of_lock}

@@ -1,9 +1,9 @@
 -- A schedule of a store with a leader by its status.
 use Rattle.std.proofs.Common.{◌≡◌, ◌≢◌, ℕ, inl, inr, List, Option, refl, ap, sym, ◌∙◌, subst}
-use Rattle.crsm_input.specs.Exact as loop
-use Rattle.crsm_input.specs.declared.Ending.{Ending}
-use Rattle.crsm_replay_mp.specs.Run as led
-use Rattle.crsm_replay_mp.specs.declared.cause.MpCause.{MpCause}
+use Rattle.crsm_port_lines.specs.Exact as loop
+use Rattle.crsm_port_lines.specs.declared.Ending.{Ending}
+use Rattle.crsm_mpreplay.specs.Run as led
+use Rattle.crsm_mpreplay.specs.declared.cause.MpCause.{MpCause}
 use Rattle.crsm_app.specs.Did.{DidReplayMp}
 use Rattle.crsm_app.specs.Exact.{IsDone, IsRefusedMp, IsTooLong}
 use Rattle.crsm_app.specs.Statuses.{status_of_replay_mp}

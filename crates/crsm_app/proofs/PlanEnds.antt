@@ -3,10 +3,10 @@ use Rattle.std.proofs.Common.{◌≡◌, ◌≢◌, ℕ, inl, inr, List, Option,
 use Rattle.crsm_delay.specs.Reading.{plans_of}
 use Rattle.crsm_delay.specs.declared.handling.PlanCause.{PlanCause}
 use Rattle.crsm_delay.specs.declared.handling.Wanted.{Wanted}
-use Rattle.crsm_input.specs.Exact as loop
-use Rattle.crsm_input.specs.Run as lines
-use Rattle.crsm_input.specs.declared.Ending.{Ending}
-use Rattle.crsm_replay.specs.declared.cause.Cause.{Cause}
+use Rattle.crsm_port_lines.specs.Exact as loop
+use Rattle.crsm_port_lines.specs.Run as lines
+use Rattle.crsm_port_lines.specs.declared.Ending.{Ending}
+use Rattle.crsm_cmd_replay.specs.declared.cause.Cause.{Cause}
 use Rattle.crsm_app.specs.Did.{DidPlan}
 use Rattle.crsm_app.specs.Exact.{IsDone, IsRefused, IsTooLong}
 use Rattle.crsm_app.specs.Statuses.{status_of_delay}

@@ -3,9 +3,9 @@ use Rattle.std.proofs.Common.{ℕ, List, Option, inr, refl}
 use Rattle.crsm_audit.specs.Exactly.{IsDecided}
 use Rattle.crsm_delay.specs.Reading.{plans_of}
 use Rattle.crsm_delay.specs.declared.handling.Wanted.{Wanted}
-use Rattle.crsm_input.specs.Exact.{Exact}
-use Rattle.crsm_words.specs.declared.order.Task.{Task}
-use Rattle.crsm_words.specs.declared.order.Task.TheVariants.{Show, Replay, ReplayNode, Node, Client, Operate, Soak, Audit, Lock, Delay, DelayTimes, ReplayMp}
+use Rattle.crsm_port_lines.specs.Exact.{Exact}
+use Rattle.crsm_text_words.specs.declared.order.Task.{Task}
+use Rattle.crsm_text_words.specs.declared.order.Task.TheVariants.{Show, Replay, ReplayNode, Node, Client, Operate, Soak, Audit, Lock, Delay, DelayTimes, ReplayMp}
 use Rattle.crsm_app.specs.Devices.{Devices}
 use Rattle.crsm_app.specs.Exact.{Exactly, PlansExactly}
 use Rattle.crsm_app.specs.declared.status.Status.{Status}

@@ -1,9 +1,9 @@
 -- A schedule by its status.
 use Rattle.std.proofs.Common.{◌≡◌, ◌≢◌, ℕ, inl, inr, List, Option, refl, ap, sym, ◌∙◌, subst}
-use Rattle.crsm_input.specs.Exact as loop
-use Rattle.crsm_input.specs.declared.Ending.{Ending}
-use Rattle.crsm_replay.specs.Run as schedule
-use Rattle.crsm_replay.specs.declared.cause.Cause.{Cause}
+use Rattle.crsm_port_lines.specs.Exact as loop
+use Rattle.crsm_port_lines.specs.declared.Ending.{Ending}
+use Rattle.crsm_cmd_replay.specs.Run as schedule
+use Rattle.crsm_cmd_replay.specs.declared.cause.Cause.{Cause}
 use Rattle.crsm_app.specs.Did.{DidReplay}
 use Rattle.crsm_app.specs.Exact.{IsDone, IsRefused, IsTooLong}
 use Rattle.crsm_app.specs.Statuses.{status_of_replay}

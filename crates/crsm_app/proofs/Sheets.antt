@@ -1,10 +1,10 @@
 -- A sheet by its status.
 use Rattle.std.proofs.Common.{◌≡◌, ◌≢◌, ℕ, inl, inr, List, Option, refl, ap, sym, ◌∙◌, subst}
-use Rattle.crsm_input.specs.Exact as loop
-use Rattle.crsm_input.specs.declared.Ending.{Ending}
-use Rattle.crsm_replay_node.specs.Causes.{cause_in}
-use Rattle.crsm_replay_node.specs.Run as sheet
-use Rattle.crsm_replay_node.specs.declared.cause.SheetCause.{SheetCause}
+use Rattle.crsm_port_lines.specs.Exact as loop
+use Rattle.crsm_port_lines.specs.declared.Ending.{Ending}
+use Rattle.crsm_cmd_replay_node.specs.Causes.{cause_in}
+use Rattle.crsm_cmd_replay_node.specs.Run as sheet
+use Rattle.crsm_cmd_replay_node.specs.declared.cause.SheetCause.{SheetCause}
 use Rattle.crsm_app.specs.Did.{DidSheet}
 use Rattle.crsm_app.specs.Exact.{IsDone, IsRefusedSheet, IsTooLong}
 use Rattle.crsm_app.specs.Statuses.{status_of_refused, status_of_sheet}

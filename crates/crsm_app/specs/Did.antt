@@ -9,28 +9,28 @@ use Rattle.crsm_client.specs.declared.error.OperateError.{OperateError}
 use Rattle.crsm_delay.specs.Reading.{plans_of}
 use Rattle.crsm_delay.specs.declared.handling.PlanCause.{PlanCause}
 use Rattle.crsm_delay.specs.declared.handling.Wanted.{Wanted}
-use Rattle.crsm_input.specs.Run as lines
-use Rattle.crsm_input.specs.declared.Bad.{Bad}
+use Rattle.crsm_port_lines.specs.Run as lines
+use Rattle.crsm_port_lines.specs.declared.Bad.{Bad}
 use Rattle.crsm_io.specs.Streams.{Puts, PutsPrefix}
-use Rattle.crsm_lock.specs.Commands.{LockRan}
-use Rattle.crsm_lock.specs.declared.command.LockEnd.{LockEnd}
+use Rattle.crsm_cmd_lock.specs.Commands.{LockRan}
+use Rattle.crsm_cmd_lock.specs.declared.command.LockEnd.{LockEnd}
 use Rattle.crsm_node.specs.Order.{peers_in}
 use Rattle.crsm_node.specs.Running.{Devices as NodeDevices, RunsOverCluster}
 use Rattle.crsm_node.specs.declared.errors.NodeEnd.{NodeEnd}
 use Rattle.crsm_node.specs.declared.order.NodeOrder.{NodeOrder}
 use Rattle.crsm_port.specs.Meaning.{Meaning}
-use Rattle.crsm_replay.specs.Run as schedule
-use Rattle.crsm_replay.specs.declared.cause.Cause.{Cause}
-use Rattle.crsm_replay_mp.specs.Run as led
-use Rattle.crsm_replay_node.specs.Causes.{cause_in}
-use Rattle.crsm_replay_node.specs.Run as sheet
-use Rattle.crsm_replay_node.specs.declared.cause.SheetCause.{SheetCause}
-use Rattle.crsm_soak.specs.Soak.{drawn}
-use Rattle.crsm_soak.specs.Text.{soak_text}
-use Rattle.crsm_words.specs.declared.order.LockTask.{LockTask}
-use Rattle.crsm_words.specs.declared.order.NodeTask.{NodeTask}
-use Rattle.crsm_words.specs.declared.order.Task.{Task}
-use Rattle.crsm_words.specs.declared.order.Task.TheVariants.{Show, Replay, ReplayNode, Client, Operate, Soak, Node, Audit, Lock, Delay, DelayTimes, ReplayMp}
+use Rattle.crsm_cmd_replay.specs.Run as schedule
+use Rattle.crsm_cmd_replay.specs.declared.cause.Cause.{Cause}
+use Rattle.crsm_mpreplay.specs.Run as led
+use Rattle.crsm_cmd_replay_node.specs.Causes.{cause_in}
+use Rattle.crsm_cmd_replay_node.specs.Run as sheet
+use Rattle.crsm_cmd_replay_node.specs.declared.cause.SheetCause.{SheetCause}
+use Rattle.crsm_cmd_soak.specs.Soak.{drawn}
+use Rattle.crsm_cmd_soak.specs.Text.{soak_text}
+use Rattle.crsm_text_words.specs.declared.order.LockTask.{LockTask}
+use Rattle.crsm_text_words.specs.declared.order.NodeTask.{NodeTask}
+use Rattle.crsm_text_words.specs.declared.order.Task.{Task}
+use Rattle.crsm_text_words.specs.declared.order.Task.TheVariants.{Show, Replay, ReplayNode, Client, Operate, Soak, Node, Audit, Lock, Delay, DelayTimes, ReplayMp}
 use Rattle.crsm_world.specs.Laws.{IsLawful}
 use Rattle.crsm_world.specs.Schedule.{acts_of}
 use Rattle.crsm_app.specs.Devices.{Devices, SameDisk, node_devices}

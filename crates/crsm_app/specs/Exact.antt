@@ -5,21 +5,21 @@ use Rattle.crsm_base.specs.declared.Command.{Command}
 use Rattle.crsm_client.specs.Asking.{WhereNotReplied, WhereReplied}
 use Rattle.crsm_delay.specs.Reading.{plans_of}
 use Rattle.crsm_delay.specs.declared.handling.Wanted.{Wanted}
-use Rattle.crsm_faults.specs.Counts.{Rose}
-use Rattle.crsm_input.specs.Exact as lines
-use Rattle.crsm_lock.specs.Answers.{WhereAnswered, WhereNotAnswered}
+use Rattle.crsm_port_faults.specs.Counts.{Rose}
+use Rattle.crsm_port_lines.specs.Exact as lines
+use Rattle.crsm_cmd_lock.specs.Answers.{WhereAnswered, WhereNotAnswered}
 use Rattle.crsm_port.specs.Meaning.{Meaning}
-use Rattle.crsm_replay.specs.Run as schedule
-use Rattle.crsm_replay.specs.State.{count_of}
-use Rattle.crsm_replay.specs.declared.cause.Cause.{Cause}
-use Rattle.crsm_replay_mp.specs.Run as led
-use Rattle.crsm_replay_mp.specs.State.{count_of as count_of_led}
-use Rattle.crsm_replay_mp.specs.declared.cause.MpCause.{MpCause}
-use Rattle.crsm_replay_node.specs.Run as sheet
-use Rattle.crsm_replay_node.specs.declared.cause.SheetCause.{SheetCause}
-use Rattle.crsm_words.specs.declared.order.LockTask.{LockTask}
-use Rattle.crsm_words.specs.declared.order.Task.{Task}
-use Rattle.crsm_words.specs.declared.order.Task.TheVariants.{Show, Replay, ReplayNode, Client, Operate, Soak, Node, Audit, Lock, Delay, DelayTimes, ReplayMp}
+use Rattle.crsm_cmd_replay.specs.Run as schedule
+use Rattle.crsm_cmd_replay.specs.State.{count_of}
+use Rattle.crsm_cmd_replay.specs.declared.cause.Cause.{Cause}
+use Rattle.crsm_mpreplay.specs.Run as led
+use Rattle.crsm_mpreplay.specs.State.{count_of as count_of_led}
+use Rattle.crsm_mpreplay.specs.declared.cause.MpCause.{MpCause}
+use Rattle.crsm_cmd_replay_node.specs.Run as sheet
+use Rattle.crsm_cmd_replay_node.specs.declared.cause.SheetCause.{SheetCause}
+use Rattle.crsm_text_words.specs.declared.order.LockTask.{LockTask}
+use Rattle.crsm_text_words.specs.declared.order.Task.{Task}
+use Rattle.crsm_text_words.specs.declared.order.Task.TheVariants.{Show, Replay, ReplayNode, Client, Operate, Soak, Node, Audit, Lock, Delay, DelayTimes, ReplayMp}
 use Rattle.crsm_app.specs.Devices.{Devices}
 use Rattle.crsm_app.specs.Locks.{lock_order}
 use Rattle.crsm_app.specs.declared.status.Status.{Status}

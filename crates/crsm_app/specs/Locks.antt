@@ -1,8 +1,8 @@
 -- What a task about a lock asks for.
 use Rattle.crsm_lease.specs.declared.rule.Action.{Action}
-use Rattle.crsm_lock.specs.declared.command.LockOrder.{LockOrder}
-use Rattle.crsm_words.specs.declared.order.LockAction.{LockAction}
-use Rattle.crsm_words.specs.declared.order.LockTask.{LockTask}
+use Rattle.crsm_cmd_lock.specs.declared.command.LockOrder.{LockOrder}
+use Rattle.crsm_text_words.specs.declared.order.LockAction.{LockAction}
+use Rattle.crsm_text_words.specs.declared.order.LockTask.{LockTask}
 
 abbrev pub action_of : LockAction → Action
 action_of LockAction.Take = Action.Take

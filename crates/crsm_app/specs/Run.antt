@@ -2,13 +2,13 @@
 use Rattle.std.specs.Prelude.{◌≡◌, ◌⊎◌, List}
 use Rattle.std.specs.List.{All}
 use Rattle.clap.specs.Words.{Text}
-use Rattle.crsm_faults.specs.Counts.{Rose}
-use Rattle.crsm_words.specs.Answers.{OrderMade, OrderRefused}
-use Rattle.crsm_words.specs.Orders.{AsksFor}
-use Rattle.crsm_words.specs.Split.{IsPlain}
-use Rattle.crsm_words.specs.declared.order.Order.{Order}
-use Rattle.crsm_words.specs.declared.order.Task.{Task}
-use Rattle.crsm_words.specs.declared.read.Refusal.{Refusal}
+use Rattle.crsm_port_faults.specs.Counts.{Rose}
+use Rattle.crsm_text_words.specs.Answers.{OrderMade, OrderRefused}
+use Rattle.crsm_text_words.specs.Orders.{AsksFor}
+use Rattle.crsm_text_words.specs.Split.{IsPlain}
+use Rattle.crsm_text_words.specs.declared.order.Order.{Order}
+use Rattle.crsm_text_words.specs.declared.order.Task.{Task}
+use Rattle.crsm_text_words.specs.declared.read.Refusal.{Refusal}
 use Rattle.crsm_app.specs.Devices.{Devices, Untouched}
 use Rattle.crsm_app.specs.Did.{Did}
 use Rattle.crsm_app.specs.Tasks.{IsAsker}

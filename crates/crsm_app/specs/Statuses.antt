@@ -3,15 +3,15 @@ use Rattle.std.specs.Prelude.{ℕ, Result, Ok, Err}
 use Rattle.crsm_client.specs.declared.command.ClientEnd.{ClientEnd}
 use Rattle.crsm_client.specs.declared.error.OperateError.{OperateError}
 use Rattle.crsm_delay.specs.declared.handling.PlanCause.{PlanCause}
-use Rattle.crsm_input.specs.declared.Ending.{Ending}
-use Rattle.crsm_lock.specs.declared.command.LockEnd.{LockEnd}
+use Rattle.crsm_port_lines.specs.declared.Ending.{Ending}
+use Rattle.crsm_cmd_lock.specs.declared.command.LockEnd.{LockEnd}
 use Rattle.crsm_node.specs.declared.errors.NodeEnd.{NodeEnd}
-use Rattle.crsm_replay.specs.Causes as schedule
-use Rattle.crsm_replay.specs.declared.cause.Cause.{Cause}
-use Rattle.crsm_replay_mp.specs.Causes as led
-use Rattle.crsm_replay_mp.specs.declared.cause.MpCause.{MpCause}
-use Rattle.crsm_replay_node.specs.Causes as sheet
-use Rattle.crsm_replay_node.specs.declared.cause.SheetCause.{SheetCause}
+use Rattle.crsm_cmd_replay.specs.Causes as schedule
+use Rattle.crsm_cmd_replay.specs.declared.cause.Cause.{Cause}
+use Rattle.crsm_mpreplay.specs.Causes as led
+use Rattle.crsm_mpreplay.specs.declared.cause.MpCause.{MpCause}
+use Rattle.crsm_cmd_replay_node.specs.Causes as sheet
+use Rattle.crsm_cmd_replay_node.specs.declared.cause.SheetCause.{SheetCause}
 use Rattle.crsm_app.specs.declared.status.Status.{Status}
 
 -- the number that the program ends with

@@ -1,9 +1,9 @@
 -- Kinds of tasks.
 use Rattle.std.specs.Prelude.{◌<◌, ◌⊎◌}
 use Rattle.crsm_base.specs.Spelling.{FitsCommand}
-use Rattle.crsm_words.specs.Orders.{IsClusterSize, IsLock, IsNode}
-use Rattle.crsm_words.specs.declared.order.Task.{Task}
-use Rattle.crsm_words.specs.declared.order.Task.TheVariants.{Replay, ReplayNode, Client, Operate, Soak, Node, Audit, Lock, Delay, DelayTimes, ReplayMp}
+use Rattle.crsm_text_words.specs.Orders.{IsClusterSize, IsLock, IsNode}
+use Rattle.crsm_text_words.specs.declared.order.Task.{Task}
+use Rattle.crsm_text_words.specs.declared.order.Task.TheVariants.{Replay, ReplayNode, Client, Operate, Soak, Node, Audit, Lock, Delay, DelayTimes, ReplayMp}
 
 -- the tasks that read an input
 abbrev pub IsReader : Task → Type 0

@@ -2,15 +2,15 @@
 
 ghost use Rattle.std.specs.Prelude.{◌≡◌, ◌≢◌, ◌<◌, ◌≤◌, ◌⊎◌, ℕ, List, Some, length};
 ghost use Rattle.crsm_base.specs.Spelling.{FitsCommand};
-ghost use Rattle.crsm_faults.specs.Counts.{Rose};
-ghost use Rattle.crsm_input.specs.Exact as loop_exact;
+ghost use Rattle.crsm_port_faults.specs.Counts.{Rose};
+ghost use Rattle.crsm_port_lines.specs.Exact as loop_exact;
 ghost use Rattle.crsm_app.specs.Devices.{devices_of};
 ghost use Rattle.crsm_app.specs.Did.{Did, DidAudit, DidClient, DidNode, DidOperate, DidPlan, DidReplay, DidReplayMp, DidSheet, DidSoak, Shows};
 ghost use Rattle.crsm_app.specs.Exact.{AsksExactly, AuditsExactly, Exactly, IsDone, IsNodeDone, WhereNodeFaultless, ReplaysExactly, ReplaysMpExactly, SheetsExactly, PlansExactly};
 ghost use Rattle.crsm_app.specs.Run.{PortFailed};
 ghost use Rattle.crsm_app.specs.Tasks.{IsOverPort, IsReader, IsRunner, IsWithinLimits};
 ghost use Rattle.crsm_node.specs.Running.{devices_of as node_over};
-ghost use Rattle.crsm_words.specs.Orders.{IsNode};
+ghost use Rattle.crsm_text_words.specs.Orders.{IsNode};
 
 use crate::locking::run_lock;
 use crate::status::{
@@ -21,17 +21,17 @@ use crsm_audit::{audit, audits_are_exact};
 use crsm_base::Members;
 use crsm_client::{ClientOrder, client, operate_command};
 use crsm_clock::Clock;
+use crsm_cmd_replay::replay;
+use crsm_cmd_replay_node::replay_node;
+use crsm_cmd_soak::{SoakEnd, soak};
 use crsm_delay::{Wanted, delay, delay_times, plans_are_exact};
 use crsm_disk::Disk;
-use crsm_input::MAX_INPUT_BYTES;
 use crsm_io::{Sink, Source, put_all};
+use crsm_mpreplay::replay_mp;
 use crsm_node::{NodeOrder, Reporter, run_node};
 use crsm_port::Port;
-use crsm_replay::replay;
-use crsm_replay_mp::replay_mp;
-use crsm_replay_node::replay_node;
-use crsm_soak::{SoakEnd, soak};
-use crsm_words::{NodeTask, Order, Task};
+use crsm_port_lines::MAX_INPUT_BYTES;
+use crsm_text_words::{NodeTask, Order, Task};
 use std::alloc::Global;
 
 /// Runs a schedule.

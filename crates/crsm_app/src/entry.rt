@@ -4,7 +4,7 @@ use crate::command::plan;
 use crate::devices::{NoDevice, status_over_nothing, status_over_socket};
 use crate::replica::run_replica_of;
 use crate::status::Status;
-use crsm_words::{Plan, usage_text};
+use crsm_text_words::{Plan, usage_text};
 use std::env::{self, Env};
 use std::fs::{File, Files};
 use std::io::{Eprint, ErrorKind, Input, Print};

@@ -10,9 +10,9 @@ mod replica;
 mod status;
 
 pub use command::{plan, run};
+pub use crsm_cmd_replay::Cause;
+pub use crsm_mpreplay::MpCause;
 pub use crsm_node::{Held, Reporter, Silent};
-pub use crsm_replay::Cause;
-pub use crsm_replay_mp::MpCause;
-pub use crsm_words::Plan;
+pub use crsm_text_words::Plan;
 pub use entry::start;
 pub use status::Status;

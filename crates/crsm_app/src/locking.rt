@@ -1,18 +1,18 @@
 //! The task about a lock.
 
 ghost use Rattle.std.specs.Prelude.{◌≡◌, ◌⊎◌};
-ghost use Rattle.crsm_faults.specs.Counts.{Rose};
+ghost use Rattle.crsm_port_faults.specs.Counts.{Rose};
 ghost use Rattle.crsm_app.specs.Did.{DidLock};
 ghost use Rattle.crsm_app.specs.Exact.{LocksExactly};
 ghost use Rattle.crsm_app.specs.Locks.{action_of, lock_order};
-ghost use Rattle.crsm_words.specs.Orders.{IsLock};
+ghost use Rattle.crsm_text_words.specs.Orders.{IsLock};
 
 use crate::status::{Status, lock_status};
+use crsm_cmd_lock::{LockOrder, lock};
 use crsm_io::Sink;
 use crsm_lease::Action;
-use crsm_lock::{LockOrder, lock};
 use crsm_port::Port;
-use crsm_words::{LockAction, LockTask};
+use crsm_text_words::{LockAction, LockTask};
 use std::alloc::Global;
 
 fn action_of(action: LockAction) -> Action

@@ -4,13 +4,13 @@ ghost use Rattle.std.specs.Prelude.{◌≡◌};
 ghost use Rattle.crsm_app.specs.Statuses.{number_of, status_of_client, status_of_delay, status_of_lock, status_of_node, status_of_operate, status_of_refused, status_of_replay, status_of_replay_mp, status_of_sheet};
 
 use crsm_client::{ClientEnd, OperateError};
+use crsm_cmd_lock::LockEnd;
+use crsm_cmd_replay::{Cause, told_cause as cause_in_schedule};
+use crsm_cmd_replay_node::{SheetCause, told_cause as cause_in_sheet};
 use crsm_delay::PlanCause;
-use crsm_input::Ending;
-use crsm_lock::LockEnd;
+use crsm_mpreplay::{MpCause, told_cause as cause_in_led};
 use crsm_node::NodeEnd;
-use crsm_replay::{Cause, told_cause as cause_in_schedule};
-use crsm_replay_mp::{MpCause, told_cause as cause_in_led};
-use crsm_replay_node::{SheetCause, told_cause as cause_in_sheet};
+use crsm_port_lines::Ending;
 use std::fmt::{self, Display, Formatter, Write};
 
 /// How a run ended.

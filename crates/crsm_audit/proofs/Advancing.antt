@@ -9,25 +9,25 @@ use Rattle.crsm_law_sheets.specs.Sheets.{log_after}
 use Rattle.crsm_law_sheets.specs.Verdicts.{lines_told}
 use Rattle.crsm_ledger.specs.declared.ledger.Ledger.{Ledger}
 use Rattle.crsm_ledger.specs.Ledger.{LedgerStands}
-use Rattle.crsm_log_facts.specs.Logs.{AllFit, AreSpelt, with_records}
-use Rattle.crsm_output.specs.declared.batch.Batch.{Batch}
-use Rattle.crsm_output.specs.Made.{line_of}
-use Rattle.crsm_rerun.specs.declared.rerun.Rerun.{Rerun}
-use Rattle.crsm_rerun.specs.Replaying.{Advances, SaysLog}
-use Rattle.crsm_rerun.specs.Sheets.{LeadTo, Replays, replica_of}
-use Rattle.crsm_rerun.specs.Stages.{AnswersAll}
-use Rattle.crsm_sheet.specs.declared.line.SheetLine.{SheetLine}
-use Rattle.crsm_sheet.specs.declared.line.SheetLine.TheVariants.{Entry, Open}
-use Rattle.crsm_sheet.specs.Sheets.{entry_line, sheet_of, turn_line}
+use Rattle.crsm_fact_log.specs.Logs.{AllFit, AreSpelt, with_records}
+use Rattle.crsm_replica_output.specs.declared.batch.Batch.{Batch}
+use Rattle.crsm_replica_output.specs.Made.{line_of}
+use Rattle.crsm_replica_rerun.specs.declared.rerun.Rerun.{Rerun}
+use Rattle.crsm_replica_rerun.specs.Replaying.{Advances, SaysLog}
+use Rattle.crsm_replica_rerun.specs.Sheets.{LeadTo, Replays, replica_of}
+use Rattle.crsm_replica_rerun.specs.Stages.{AnswersAll}
+use Rattle.crsm_text_sheet.specs.declared.line.SheetLine.{SheetLine}
+use Rattle.crsm_text_sheet.specs.declared.line.SheetLine.TheVariants.{Entry, Open}
+use Rattle.crsm_text_sheet.specs.Sheets.{entry_line, sheet_of, turn_line}
 use Rattle.crsm_spec.specs.Draft.{Draft}
 use Rattle.crsm_spec.specs.Lists.{IsPrefixOf}
 use Rattle.crsm_spec.specs.Log.{Log, executed}
 use Rattle.crsm_spec.specs.Node.{Turn, outputs}
 use Rattle.crsm_spec.specs.Types.{Entry as LogEntry, Rec}
-use Rattle.crsm_step_facts.specs.Steps.{BatchesAreLogged}
-use Rattle.crsm_verdict.specs.Accounts.{dropped_from, dropped_in, own_in, own_logged, spelt}
-use Rattle.crsm_verdict.specs.declared.account.Account.{Account}
-use Rattle.crsm_verdict.specs.declared.place.Dropped.{Dropped}
+use Rattle.crsm_fact_step.specs.Steps.{BatchesAreLogged}
+use Rattle.crsm_audit.specs.Accounts.{dropped_from, dropped_in, own_in, own_logged, spelt}
+use Rattle.crsm_audit.specs.declared.account.Account.{Account}
+use Rattle.crsm_audit.specs.declared.place.Dropped.{Dropped}
 use Rattle.crsm_audit.specs.State.{AccountOf, FoundAccount, SheetAdvances, SheetStands, StepsAccount, left_by}
 use Rattle.crsm_audit.proofs.Bodies.{last_body, one_prefix, same_prefix}
 use Rattle.crsm_audit.proofs.Logs.{AreLogged, any_start, dropped_more, kept_more, last_me, lines_count, log_more, logged_more, none_after, none_dropped, own_more, sheet_leaves, sheet_logged, some_steps, steps_count}

@@ -2,10 +2,10 @@
 use Rattle.std.proofs.Common.{◌≡◌, ℕ, ◌+◌, List, [], ◌∷◌, ◌++◌, map, length, ap, sym, ◌∙◌, subst, append_assoc}
 use Rattle.crsm_law_sheets.specs.Sheets.{Sheet}
 use Rattle.crsm_ledger.specs.Recovered.{AreKept, IsBadAt}
-use Rattle.crsm_rerun.specs.Laws.{BadLogsAreOne, KeptAreNotBad}
-use Rattle.crsm_sheet.specs.declared.line.SheetLine.{SheetLine}
-use Rattle.crsm_sheet.specs.declared.line.SheetLine.TheVariants.{Open}
-use Rattle.crsm_sheet.specs.Sheets.{entry_line, sheet_of, turn_line}
+use Rattle.crsm_replica_rerun.specs.Laws.{BadLogsAreOne, KeptAreNotBad}
+use Rattle.crsm_text_sheet.specs.declared.line.SheetLine.{SheetLine}
+use Rattle.crsm_text_sheet.specs.declared.line.SheetLine.TheVariants.{Open}
+use Rattle.crsm_text_sheet.specs.Sheets.{entry_line, sheet_of, turn_line}
 use Rattle.crsm_audit.specs.Sheets.{AreSheetsOf, HoldBadLog, IsSheetOf, NodeSheet, own_lines, sheets_from, sheets_in}
 use Rattle.crsm_audit.specs.declared.line.AuditLine.{AuditLine}
 use Rattle.crsm_audit.specs.declared.line.AuditLine.TheVariants as lines

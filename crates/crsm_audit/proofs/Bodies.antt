@@ -1,8 +1,8 @@
 -- What comes behind the bodies of a sheet.
 use Rattle.std.proofs.Common.{◌≡◌, ◌≢◌, ℕ, List, [], ◌∷◌, ◌++◌, map, refl, ap, ◌∙◌}
-use Rattle.crsm_sheet.specs.declared.line.SheetLine.{SheetLine}
-use Rattle.crsm_sheet.specs.declared.line.SheetLine.TheVariants.{Entry, Open}
-use Rattle.crsm_sheet.specs.Sheets.{entry_line}
+use Rattle.crsm_text_sheet.specs.declared.line.SheetLine.{SheetLine}
+use Rattle.crsm_text_sheet.specs.declared.line.SheetLine.TheVariants.{Entry, Open}
+use Rattle.crsm_text_sheet.specs.Sheets.{entry_line}
 
 -- the bodies before `open` are those of the sheet
 pub one_prefix : (bodies others : List (List ℕ)) (rest back : List SheetLine) → map entry_line bodies ++ Open ∷ rest ≡ map entry_line others ++ Open ∷ back → bodies ≡ others

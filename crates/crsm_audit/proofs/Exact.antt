@@ -1,10 +1,10 @@
 -- Nothing that an audit takes is refused, and nothing is refused for two reasons.
 use Rattle.std.proofs.Common.{◌≡◌, ℕ, List, [], ◌∷◌, ◌++◌, refl, ap, sym, ◌∙◌, subst, append_assoc}
-use Rattle.crsm_input.specs.Exact.{Exact, Fits}
-use Rattle.crsm_input.specs.Handling.{Text}
-use Rattle.crsm_replay_node.specs.declared.cause.SheetCause.{SheetCause}
-use Rattle.crsm_rerun.specs.Laws.{BadLogsAreOne, KeptAreNotBad}
-use Rattle.crsm_sheet.specs.Laws.{LinesHaveOneText}
+use Rattle.crsm_port_lines.specs.Exact.{Exact, Fits}
+use Rattle.crsm_port_lines.specs.Handling.{Text}
+use Rattle.crsm_cmd_replay_node.specs.declared.cause.SheetCause.{SheetCause}
+use Rattle.crsm_replica_rerun.specs.Laws.{BadLogsAreOne, KeptAreNotBad}
+use Rattle.crsm_text_sheet.specs.Laws.{LinesHaveOneText}
 use Rattle.crsm_audit.specs.Exactly.{IsDecided}
 use Rattle.crsm_audit.specs.Handled.{Ends, MayNotEnd, NoAuditGoesOn, Spells, audited}
 use Rattle.crsm_audit.specs.Lines.{BeginAnAudit, IsAnAudit}

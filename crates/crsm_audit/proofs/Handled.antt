@@ -1,9 +1,9 @@
 -- What an audit makes of one line more of an input, and of its end.
 use Rattle.std.proofs.Common.{◌≡◌, ℕ, ◌+◌, List, [], ◌∷◌, ◌++◌, Result, Ok, Err, IfErr, map, length, refl, ap, sym, ◌∙◌, subst}
 use Rattle.std.proofs.lemmas.List.{append-nil, length-map}
-use Rattle.crsm_input.specs.Handling.{EndsWell, Handles, StopsAt, StopsAtEnd, Text}
-use Rattle.crsm_input.specs.declared.Stop.{Stop}
-use Rattle.crsm_replay_node.specs.declared.cause.SheetCause.{SheetCause}
+use Rattle.crsm_port_lines.specs.Handling.{EndsWell, Handles, StopsAt, StopsAtEnd, Text}
+use Rattle.crsm_port_lines.specs.declared.Stop.{Stop}
+use Rattle.crsm_cmd_replay_node.specs.declared.cause.SheetCause.{SheetCause}
 use Rattle.crsm_audit.specs.Handled.{HasHandled, MayNotEnd, Spells, StandsBehind, StopsEnd, StopsLine, StopsUnread, audited}
 use Rattle.crsm_audit.specs.Lines.{BeginAnAudit, FitsLine, line_text}
 use Rattle.crsm_audit.specs.Sheets.{IsAudited}

@@ -1,3 +1,7 @@
+mod Searching
+mod Longest
+mod Verdicts
+mod Drops
 mod Places
 mod Parts
 mod Bodies

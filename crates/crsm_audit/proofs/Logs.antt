@@ -13,13 +13,13 @@ use Rattle.crsm_law_sheets.specs.Sheets.{log_after}
 use Rattle.crsm_law_sheets.specs.Verdicts.{lines_told}
 use Rattle.crsm_ledger.specs.Recovered.{AreKept}
 use Rattle.crsm_base.specs.Records.{SpeltBody}
-use Rattle.crsm_log_facts.specs.Logs.{with_records}
-use Rattle.crsm_rerun.specs.Sheets.{replica_after}
-use Rattle.crsm_sheet.specs.Sheets.{entry_line, sheet_of, turn_line}
-use Rattle.crsm_sheet.specs.declared.line.SheetLine.TheVariants.{Open}
-use Rattle.crsm_step_facts.specs.Steps.{BatchesAreLogged, Grown}
-use Rattle.crsm_verdict.specs.Accounts.{dropped_from, dropped_in, own_in, own_logged, own_of}
-use Rattle.crsm_verdict.specs.declared.place.Dropped.{Dropped}
+use Rattle.crsm_fact_log.specs.Logs.{with_records}
+use Rattle.crsm_replica_rerun.specs.Sheets.{replica_after}
+use Rattle.crsm_text_sheet.specs.Sheets.{entry_line, sheet_of, turn_line}
+use Rattle.crsm_text_sheet.specs.declared.line.SheetLine.TheVariants.{Open}
+use Rattle.crsm_fact_step.specs.Steps.{BatchesAreLogged, Grown}
+use Rattle.crsm_audit.specs.Accounts.{dropped_from, dropped_in, own_in, own_logged, own_of}
+use Rattle.crsm_audit.specs.declared.place.Dropped.{Dropped}
 
 -- ---- steps
 

@@ -1,9 +1,9 @@
 -- The sheets of lines, where one sheet comes behind others.
 use Rattle.std.proofs.Common.{◌≡◌, ℕ, ◌+◌, List, [], ◌∷◌, ◌++◌, map, length, refl, ◌∙◌, ap, arith}
 use Rattle.crsm_law_sheets.specs.Sheets.{Sheet}
-use Rattle.crsm_sheet.specs.declared.line.SheetLine.{SheetLine}
-use Rattle.crsm_verdict.specs.Accounts.{AccountStands, AccountsStand}
-use Rattle.crsm_verdict.specs.declared.account.Account.{Account}
+use Rattle.crsm_text_sheet.specs.declared.line.SheetLine.{SheetLine}
+use Rattle.crsm_audit.specs.Accounts.{AccountStands, AccountsStand}
+use Rattle.crsm_audit.specs.declared.account.Account.{Account}
 use Rattle.crsm_audit.specs.Sheets.{AreSheetsOf, IsSheetOf, NodeSheet, own_lines, sheets_from, sheets_in}
 use Rattle.crsm_audit.specs.declared.line.AuditLine.{AuditLine}
 use Rattle.crsm_audit.specs.declared.line.AuditLine.TheVariants as lines

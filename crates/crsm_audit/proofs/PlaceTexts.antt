@@ -2,7 +2,7 @@
 use Rattle.std.proofs.Common.{◌≡◌, ℕ, suc, ◌+◌, ◌<◌, ◌≤◌, List, ◌++◌, drop, length, get_or, sym, ◌∙◌, ap, append_assoc, arith}
 use Rattle.std.proofs.Math.Seq.{drop-cons}
 use Rattle.std.proofs.lemmas.List.{append-nil, at_drop_all}
-use Rattle.crsm_verdict.specs.declared.place.Place.{Place}
+use Rattle.crsm_audit.specs.declared.place.Place.{Place}
 use Rattle.crsm_audit.specs.Texts.{place_text, places_text}
 
 next : (places : List Place) (at : ℕ) (d : Place) → at < length places → places_text at (drop at places) ≡ place_text at (get_or places at d) ++ places_text (at + 1) (drop (at + 1) places)

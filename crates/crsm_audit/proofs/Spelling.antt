@@ -2,10 +2,10 @@
 use Rattle.std.proofs.Common.{◌≡◌, ℕ, List, [], ◌∷◌, ◌++◌, map, get_or, refl, ap, sym, ◌∙◌, arith}
 use Rattle.std.specs.List.{AllByRecursion}
 use Rattle.std.proofs.lemmas.Fmt.{decimal_injective}
-use Rattle.crsm_input.specs.Handling.{Text}
-use Rattle.crsm_sheet.specs.declared.line.SheetLine.{SheetLine}
-use Rattle.crsm_sheet.specs.declared.line.SheetLine.TheVariants.{Entry, Open, In, Tick, Suspect}
-use Rattle.crsm_sheet.specs.Laws.{LinesHaveOneText}
+use Rattle.crsm_port_lines.specs.Handling.{Text}
+use Rattle.crsm_text_sheet.specs.declared.line.SheetLine.{SheetLine}
+use Rattle.crsm_text_sheet.specs.declared.line.SheetLine.TheVariants.{Entry, Open, In, Tick, Suspect}
+use Rattle.crsm_text_sheet.specs.Laws.{LinesHaveOneText}
 use Rattle.crsm_audit.specs.Lines.{FitsLine, line_text}
 use Rattle.crsm_audit.specs.declared.line.AuditLine.{AuditLine}
 use Rattle.crsm_audit.specs.declared.line.AuditLine.TheVariants.{Node, Sheet}

@@ -6,21 +6,21 @@ use Rattle.std.proofs.lemmas.List.{append-nil, map-append}
 use Rattle.std.proofs.lemmas.Option.{none-some, same_Some}
 use Rattle.crsm_law_sheets.specs.Laws.{AgreeingSheetsAreSafe, AreSafe, IsSound}
 use Rattle.crsm_law_sheets.specs.Sheets.{Sheet, log_after}
-use Rattle.crsm_log_facts.specs.Logs.{AllFit, AreSpelt}
-use Rattle.crsm_rerun.specs.declared.rerun.Rerun.{Rerun}
-use Rattle.crsm_rerun.specs.Replaying.{RerunStands}
-use Rattle.crsm_rerun.specs.Sheets.{HoldBadLog as HasBadLog, LeadTo, Replays}
-use Rattle.crsm_sheet.specs.declared.line.SheetLine.{SheetLine}
-use Rattle.crsm_sheet.specs.declared.line.SheetLine.TheVariants.{Open}
-use Rattle.crsm_sheet.specs.declared.line.SheetLine.TheVariants as written
-use Rattle.crsm_sheet.specs.Sheets.{entry_line, sheet_of}
+use Rattle.crsm_fact_log.specs.Logs.{AllFit, AreSpelt}
+use Rattle.crsm_replica_rerun.specs.declared.rerun.Rerun.{Rerun}
+use Rattle.crsm_replica_rerun.specs.Replaying.{RerunStands}
+use Rattle.crsm_replica_rerun.specs.Sheets.{HoldBadLog as HasBadLog, LeadTo, Replays}
+use Rattle.crsm_text_sheet.specs.declared.line.SheetLine.{SheetLine}
+use Rattle.crsm_text_sheet.specs.declared.line.SheetLine.TheVariants.{Open}
+use Rattle.crsm_text_sheet.specs.declared.line.SheetLine.TheVariants as written
+use Rattle.crsm_text_sheet.specs.Sheets.{entry_line, sheet_of}
 use Rattle.crsm_spec.specs.Draft.{Draft}
 use Rattle.crsm_spec.specs.Log.{Log, executed}
 use Rattle.crsm_spec.specs.Node.{outputs}
-use Rattle.crsm_verdict.specs.Accounts.{AccountStands, AccountsStand, dropped_from, own_logged, spelt}
-use Rattle.crsm_verdict.specs.Verdict.{IsVerdict}
-use Rattle.crsm_verdict.specs.declared.account.Account.{Account}
-use Rattle.crsm_verdict.specs.declared.verdict.Verdict.{Verdict}
+use Rattle.crsm_audit.specs.Accounts.{AccountStands, AccountsStand, dropped_from, own_logged, spelt}
+use Rattle.crsm_audit.specs.Verdict.{IsVerdict}
+use Rattle.crsm_audit.specs.declared.account.Account.{Account}
+use Rattle.crsm_audit.specs.declared.verdict.Verdict.{Verdict}
 use Rattle.crsm_audit.specs.Handled.{StandsBehind}
 use Rattle.crsm_audit.specs.Lines.{BeginAnAudit, IsAnAudit, follows, progress_after}
 use Rattle.crsm_audit.specs.Sheets.{AreSheetsOf, HoldBadLog, IsSheetOf, NodeSheet, WhereAgreed, sheets_from, sheets_in}

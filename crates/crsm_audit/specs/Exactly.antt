@@ -1,9 +1,9 @@
 -- Which audits are done, and which are refused for which line.
 use Rattle.std.specs.Prelude.{◌≡◌, ℕ, Option}
-use Rattle.crsm_input.specs.Exact.{Exact, IsDone, IsRefused, IsTooLong, WhereBad, WhereFaultless, WhereTooLong, WhereWhole}
-use Rattle.crsm_input.specs.Handling.{Text}
-use Rattle.crsm_input.specs.declared.Ending.{Ending}
-use Rattle.crsm_replay_node.specs.declared.cause.SheetCause.{SheetCause}
+use Rattle.crsm_port_lines.specs.Exact.{Exact, IsDone, IsRefused, IsTooLong, WhereBad, WhereFaultless, WhereTooLong, WhereWhole}
+use Rattle.crsm_port_lines.specs.Handling.{Text}
+use Rattle.crsm_port_lines.specs.declared.Ending.{Ending}
+use Rattle.crsm_cmd_replay_node.specs.declared.cause.SheetCause.{SheetCause}
 use Rattle.crsm_audit.specs.Handled.{audited}
 
 -- Lines alone say what is taken and what is refused. A line that is too long or cut is refused as one that cannot be read.

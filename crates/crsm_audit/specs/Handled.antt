@@ -1,9 +1,9 @@
 -- What an audit makes of the lines of an input.
 use Rattle.std.specs.Prelude.{◌≡◌, List, [], ◌∷◌, ◌++◌, ℕ, Some, map}
 use Rattle.std.specs.List.{AllByRecursion}
-use Rattle.crsm_input.specs.Handling.{Handling, Text}
-use Rattle.crsm_input.specs.declared.Stop.{Stop}
-use Rattle.crsm_replay_node.specs.declared.cause.SheetCause.{SheetCause}
+use Rattle.crsm_port_lines.specs.Handling.{Handling, Text}
+use Rattle.crsm_port_lines.specs.declared.Stop.{Stop}
+use Rattle.crsm_cmd_replay_node.specs.declared.cause.SheetCause.{SheetCause}
 use Rattle.crsm_audit.specs.Lines.{BeginAnAudit, FitsLine, IsAnAudit, line_text, progress_after}
 use Rattle.crsm_audit.specs.Sheets.{HoldBadLog, IsAudited}
 use Rattle.crsm_audit.specs.State.{IsKnown}

@@ -1,3 +1,7 @@
+pub mod Accounts
+pub mod Lists
+pub mod Judging
+pub mod Verdict
 pub mod Lines
 pub mod Texts
 pub mod Sheets

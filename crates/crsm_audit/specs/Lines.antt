@@ -4,10 +4,10 @@ use Rattle.std.specs.List.{flat_map}
 use Rattle.std.specs.Option.{option_and_then}
 use Rattle.crsm_text.specs.Words.{named}
 use Rattle.crsm_spec.specs.Node.{Turn}
-use Rattle.crsm_sheet.specs.declared.line.SheetLine.{SheetLine}
-use Rattle.crsm_sheet.specs.declared.line.SheetLine.TheVariants as lines
-use Rattle.crsm_sheet.specs.Grammar.{FitsSheetLine, sheet_line_text}
-use Rattle.crsm_sheet.specs.Sheets.{sheet_of}
+use Rattle.crsm_text_sheet.specs.declared.line.SheetLine.{SheetLine}
+use Rattle.crsm_text_sheet.specs.declared.line.SheetLine.TheVariants as lines
+use Rattle.crsm_text_sheet.specs.Grammar.{FitsSheetLine, sheet_line_text}
+use Rattle.crsm_text_sheet.specs.Sheets.{sheet_of}
 use Rattle.crsm_audit.specs.declared.line.AuditLine.{AuditLine}
 use Rattle.crsm_audit.specs.declared.line.AuditLine.TheVariants.{Node, Sheet}
 use Rattle.crsm_audit.specs.declared.line.Progress.{Progress}

@@ -3,12 +3,12 @@ use Rattle.std.specs.Prelude.{◌≡◌, ℕ, ◌+◌, List, [], ◌∷◌, ◌+
 use Rattle.crsm_ledger.specs.Recovered.{IsBadAt}
 use Rattle.crsm_law_sheets.specs.Laws.{AreSafe}
 use Rattle.crsm_law_sheets.specs.Sheets.{Sheet}
-use Rattle.crsm_rerun.specs.Sheets.{IsSheet}
-use Rattle.crsm_sheet.specs.declared.line.SheetLine.{SheetLine}
-use Rattle.crsm_sheet.specs.declared.line.SheetLine.TheVariants.{Open}
-use Rattle.crsm_sheet.specs.Sheets.{entry_line}
-use Rattle.crsm_verdict.specs.Verdict.{IsVerdict}
-use Rattle.crsm_verdict.specs.declared.verdict.Verdict.{Verdict}
+use Rattle.crsm_replica_rerun.specs.Sheets.{IsSheet}
+use Rattle.crsm_text_sheet.specs.declared.line.SheetLine.{SheetLine}
+use Rattle.crsm_text_sheet.specs.declared.line.SheetLine.TheVariants.{Open}
+use Rattle.crsm_text_sheet.specs.Sheets.{entry_line}
+use Rattle.crsm_audit.specs.Verdict.{IsVerdict}
+use Rattle.crsm_audit.specs.declared.verdict.Verdict.{Verdict}
 use Rattle.crsm_audit.specs.Texts.{verdict_text}
 use Rattle.crsm_audit.specs.declared.line.AuditLine.{AuditLine}
 use Rattle.crsm_audit.specs.declared.line.AuditLine.TheVariants as lines

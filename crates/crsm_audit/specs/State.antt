@@ -2,15 +2,15 @@
 use Rattle.std.specs.Prelude.{◌≡◌, ℕ, ◌+◌, ◌-◌, List, [], ◌∷◌, ◌++◌, Option, Some, None, length, map}
 use Rattle.crsm_ledger.specs.Recovered.{AreKept}
 use Rattle.crsm_law_sheets.specs.Sheets.{Sheet, log_after}
-use Rattle.crsm_log_facts.specs.Logs.{AllFit, AreSpelt}
-use Rattle.crsm_rerun.specs.declared.rerun.Rerun.{Rerun}
-use Rattle.crsm_rerun.specs.Replaying.{RerunStands}
-use Rattle.crsm_sheet.specs.declared.line.SheetLine.{SheetLine}
-use Rattle.crsm_sheet.specs.Sheets.{entry_line}
+use Rattle.crsm_fact_log.specs.Logs.{AllFit, AreSpelt}
+use Rattle.crsm_replica_rerun.specs.declared.rerun.Rerun.{Rerun}
+use Rattle.crsm_replica_rerun.specs.Replaying.{RerunStands}
+use Rattle.crsm_text_sheet.specs.declared.line.SheetLine.{SheetLine}
+use Rattle.crsm_text_sheet.specs.Sheets.{entry_line}
 use Rattle.crsm_spec.specs.Draft.{Draft}
 use Rattle.crsm_spec.specs.Log.{Log, executed}
-use Rattle.crsm_verdict.specs.Accounts.{AccountsStand, dropped_from, own_logged, spelt}
-use Rattle.crsm_verdict.specs.declared.account.Account.{Account}
+use Rattle.crsm_audit.specs.Accounts.{AccountsStand, dropped_from, own_logged, spelt}
+use Rattle.crsm_audit.specs.declared.account.Account.{Account}
 use Rattle.crsm_audit.specs.Sheets.{AreSheetsOf, HoldBadLog, sheets_in}
 use Rattle.crsm_audit.specs.declared.state.BadLog.{BadLog}
 use Rattle.crsm_audit.specs.declared.line.AuditLine.{AuditLine}

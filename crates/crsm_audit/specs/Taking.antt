@@ -1,8 +1,8 @@
 -- What becomes of an audit at a line, and at the end.
 use Rattle.std.specs.Prelude.{◌≡◌, ℕ, List, [], ◌∷◌, ◌++◌, Some}
 use Rattle.crsm_law_sheets.specs.Sheets.{Sheet}
-use Rattle.crsm_verdict.specs.Accounts.{AccountsStand}
-use Rattle.crsm_verdict.specs.declared.account.Account.{Account}
+use Rattle.crsm_audit.specs.Accounts.{AccountsStand}
+use Rattle.crsm_audit.specs.declared.account.Account.{Account}
 use Rattle.crsm_audit.specs.Handled.{StandsBehind}
 use Rattle.crsm_audit.specs.Lines.{IsAnAudit, follows}
 use Rattle.crsm_audit.specs.Sheets.{AreSheetsOf, IsAudited, sheets_in}

@@ -1,8 +1,8 @@
 -- The text of a verdict.
 use Rattle.std.specs.Prelude.{ℕ, ◌+◌, List, [], ◌∷◌, ◌++◌, codes, length}
 use Rattle.crsm_text.specs.Words.{named}
-use Rattle.crsm_verdict.specs.declared.place.Place.{Place}
-use Rattle.crsm_verdict.specs.declared.verdict.Verdict.{Verdict}
+use Rattle.crsm_audit.specs.declared.place.Place.{Place}
+use Rattle.crsm_audit.specs.declared.verdict.Verdict.{Verdict}
 
 -- a word and numbers, and the end of the line
 abbrev pub row : List ℕ → List ℕ → List ℕ

@@ -1,17 +1,17 @@
 //! The sheets of several nodes, from the first to the last.
 
 ghost use Rattle.std.specs.Prelude.{◌≡◌, ◌≢◌, ◌<◌, ◌≤◌, ℕ, List, Some, length};
-ghost use Rattle.crsm_faults.specs.Counts.{Rose};
-ghost use Rattle.crsm_input.specs.Run.{Ran};
+ghost use Rattle.crsm_port_faults.specs.Counts.{Rose};
+ghost use Rattle.crsm_port_lines.specs.Run.{Ran};
 ghost use Rattle.crsm_audit.specs.Exactly.{EndsExactly, IsDecided};
 ghost use Rattle.crsm_audit.specs.Handled.{audited};
 
 use crate::state::Audit;
-use crsm_input::{Ending, MAX_INPUT_BYTES, run_lines};
+use crsm_cmd_replay_node::SheetCause;
 use crsm_io::{Sink, Source};
-use crsm_replay_node::SheetCause;
-use crsm_rerun::bad_logs_are_one;
-use crsm_sheet::lines_have_one_text;
+use crsm_port_lines::{Ending, MAX_INPUT_BYTES, run_lines};
+use crsm_replica_rerun::bad_logs_are_one;
+use crsm_text_sheet::lines_have_one_text;
 use std::alloc::Global;
 
 /// Reads the sheets of nodes of a cluster that began with `n` to their end, and writes what they come to: the one list

@@ -11,13 +11,13 @@ use crate::line::{AuditLine, Progress, follows, read_line};
 use crate::sheet::advance;
 use crate::state::{Audit, BadLog};
 use crate::text::push_verdict;
+use crate::{Account, judge};
 use crsm_base::{Bytes, never};
-use crsm_input::{Handler, Stop};
+use crsm_cmd_replay_node::SheetCause;
 use crsm_law_sheets::agreeing_sheets_are_safe;
-use crsm_replay_node::SheetCause;
-use crsm_rerun::{Rerun, RerunError};
-use crsm_sheet::{LineError, SheetLine};
-use crsm_verdict::{Account, judge};
+use crsm_port_lines::{Handler, Stop};
+use crsm_replica_rerun::{Rerun, RerunError};
+use crsm_text_sheet::{LineError, SheetLine};
 use std::alloc::Global;
 
 /// The line that a text spells.

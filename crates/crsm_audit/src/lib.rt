@@ -1,11 +1,24 @@
-//! The command `audit`: the sheets of several nodes are read, and what they come to is written.
+//! The command `audit`: reads the sheets of several nodes of one cluster, keeps an account of each, and writes the verdict
+//! on them all.
 #![tactic(auto)]
 
+mod account;
 mod command;
 mod handling;
+mod judging;
+mod keeping;
 mod line;
+mod list;
+mod naming;
+mod origins;
+mod place;
 mod sheet;
 mod state;
 mod text;
+mod verdict;
 
+pub use account::Account;
 pub use command::{audit, audits_are_exact};
+pub use judging::judge;
+pub use place::{Dropped, Place};
+pub use verdict::Verdict;

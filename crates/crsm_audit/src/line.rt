@@ -7,8 +7,8 @@ ghost use Rattle.crsm_audit.specs.declared.line.AuditLine.{AuditLine as Spelt};
 ghost use Rattle.crsm_audit.specs.Lines.{FitsLine, line_text};
 ghost use Rattle.crsm_audit.specs.Lines as on_paper;
 
-use crsm_sheet::{LineError, SheetLine, read_sheet};
 use crsm_text::read_number;
+use crsm_text_sheet::{LineError, SheetLine, read_sheet};
 use std::alloc::Global;
 
 /// A line of the input.

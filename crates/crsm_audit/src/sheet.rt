@@ -1,16 +1,16 @@
 //! One sheet: each line is replayed, and what the replica makes at it is added to the account.
 
 ghost use Rattle.std.specs.Prelude.{◌<◌, ◌^◌, ◌-◌, ℕ, List, IfErr, OnOk};
-ghost use Rattle.crsm_rerun.specs.Replaying.{next_of};
-ghost use Rattle.crsm_rerun.specs.Stages.{IsRefusal};
+ghost use Rattle.crsm_replica_rerun.specs.Replaying.{next_of};
+ghost use Rattle.crsm_replica_rerun.specs.Stages.{IsRefusal};
 ghost use Rattle.crsm_audit.specs.State.{SheetAdvances, WhereSheetStands};
 
+use crate::Account;
 use crsm_base::never;
+use crsm_fact_step::batches_are_logged;
 use crsm_law_sheets::executed_lists_grow;
-use crsm_rerun::{Rerun, RerunError};
-use crsm_sheet::SheetLine;
-use crsm_step_facts::batches_are_logged;
-use crsm_verdict::Account;
+use crsm_replica_rerun::{Rerun, RerunError};
+use crsm_text_sheet::SheetLine;
 
 /// Takes a line of a sheet. After an error neither the replay nor the account is of use any more.
 pub(crate) fn advance(

@@ -2,9 +2,9 @@
 
 ghost use Rattle.std.specs.Prelude.{◌≤◌};
 
+use crate::Account;
 use crate::line::Progress;
-use crsm_rerun::Rerun;
-use crsm_verdict::Account;
+use crsm_replica_rerun::Rerun;
 use std::alloc::Global;
 
 /// A log that is bad: this body of it, and why.

@@ -3,9 +3,9 @@
 ghost use Rattle.std.specs.Prelude.{◌≡◌, ◌++◌, OnOk};
 ghost use Rattle.crsm_audit.specs.Texts.{place_text, places_text, row, verdict_text};
 
+use crate::{Place, Verdict};
 use crsm_base::{Bytes, NoMemory};
 use crsm_text::push_named;
-use crsm_verdict::{Place, Verdict};
 
 /// Adds a line of a word and numbers.
 fn push_row(out: &mut Bytes, name: &[u8], values: &[u64]) -> Result<(), NoMemory>

@@ -3,7 +3,7 @@ use Rattle.std.proofs.Common.{◌≡◌, ℕ, ◌+◌, ◌<◌, List, [], ◌∷
 use Rattle.std.specs.List.{AllByRecursion}
 use Rattle.crsm_base.specs.declared.Command.{Command}
 use Rattle.crsm_base.specs.declared.Outcome.{Outcome}
-use Rattle.crsm_faults.specs.Counts.{Rose}
+use Rattle.crsm_port_faults.specs.Counts.{Rose}
 use Rattle.crsm_port.specs.Cluster.{over}
 use Rattle.crsm_port.specs.Meaning.{Coat, Meaning, Packet}
 use Rattle.crsm_client.specs.Asking.{Asks, IsOther, IsPaced, request_to}

@@ -1,7 +1,7 @@
 -- A request for which room was made, and which was sent or not.
 use Rattle.std.proofs.Common.{◌≡◌, ◌∙◌, ℕ, List, Result, Ok, Err, IsErrAnd, ap, subst, arith}
 use Rattle.crsm_base.specs.declared.memory.Failed.{Failed}
-use Rattle.crsm_faults.specs.Counts.{Rose}
+use Rattle.crsm_port_faults.specs.Counts.{Rose}
 use Rattle.crsm_port.specs.Cluster.{over, wrapped}
 use Rattle.crsm_port.specs.Meaning.{Coat, Meaning, Packet, Sends}
 use Rattle.crsm_client.specs.Exchange.{Exchanges}

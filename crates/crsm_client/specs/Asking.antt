@@ -5,7 +5,7 @@ use Rattle.crsm_base.specs.declared.Command.{Command}
 use Rattle.crsm_base.specs.declared.Datagram.TheVariants.{Request, Reply}
 use Rattle.crsm_base.specs.declared.Outcome.{Outcome}
 use Rattle.crsm_base.specs.Messages.{SpeltDatagram, datagram_bytes}
-use Rattle.crsm_faults.specs.Counts.{Rose}
+use Rattle.crsm_port_faults.specs.Counts.{Rose}
 use Rattle.crsm_port.specs.Cluster.{over}
 use Rattle.crsm_port.specs.Meaning.{Coat, Meaning, Packet, Traffic}
 use Rattle.crsm_client.specs.Exchange.{Exchange, Exchanges, IsLater, IsQuiet, received_of, turns_in}

@@ -2,7 +2,7 @@
 use Rattle.std.specs.Prelude.{◌≡◌, ℕ, ◌≤◌, List, Result, OnOk, OnErr, IsErrOf, option_map}
 use Rattle.crsm_base.specs.declared.Datagram.TheVariants.{Operate}
 use Rattle.crsm_base.specs.Messages.{datagram_bytes}
-use Rattle.crsm_faults.specs.Counts.{Rose}
+use Rattle.crsm_port_faults.specs.Counts.{Rose}
 use Rattle.crsm_port.specs.Cluster.{over}
 use Rattle.crsm_port.specs.Meaning.{Meaning, Packet, with_sent}
 use Rattle.crsm_client.specs.declared.error.OperateError.{OperateError}

@@ -4,7 +4,7 @@ use Rattle.std.specs.List.{AllByRecursion}
 use Rattle.crsm_base.specs.declared.Command.{Command}
 use Rattle.crsm_base.specs.declared.Outcome.{Outcome}
 use Rattle.crsm_base.specs.declared.memory.NoMemory.{NoMemory as OutOfMemory}
-use Rattle.crsm_faults.specs.Counts.{Rose}
+use Rattle.crsm_port_faults.specs.Counts.{Rose}
 use Rattle.crsm_port.specs.Cluster.{over, wrapped}
 use Rattle.crsm_port.specs.Meaning.{Meaning, Packet}
 use Rattle.crsm_client.specs.Asking.{IsOther, IsReply}

@@ -4,7 +4,7 @@ ghost use Rattle.std.specs.Prelude.{◌≡◌, ◌≤◌};
 ghost use Rattle.crsm_base.specs.Spelling.{FitsCommand};
 ghost use Rattle.crsm_client.specs.Asking.{WhereNotReplied, WhereReplied};
 ghost use Rattle.crsm_client.specs.Commands.{ClientRan, IsDone, IsNoAnswer, WritesOutcome};
-ghost use Rattle.crsm_faults.specs.Counts.{Rose};
+ghost use Rattle.crsm_port_faults.specs.Counts.{Rose};
 
 use crate::asking::ask_in;
 use crate::error::AskError;

@@ -9,7 +9,7 @@ ghost use Rattle.crsm_client.specs.Marks.{mark_in, stripped};
 ghost use Rattle.crsm_port.specs.Cluster.{wrapped};
 
 use crsm_base::{Bytes, Datagram, NoMemory};
-use crsm_fields::{put_u8, put_u64};
+use crsm_text_fields::{put_u8, put_u64};
 use crsm_wire::put_datagram;
 use std::alloc::Global;
 

@@ -14,7 +14,7 @@ pub fn read_key(alloc: Global, bytes: &[u8]) -> Result<Option<(Key, usize)>, NoM
     ensures none { IfOk result (λ r. IfNone r (HasNoPrefix SpeltKey bytes.now)) }
     ensures again { ReadsAgain key_bytes FitsKey bytes.now result }
 {
-    match crsm_fields::take_key(alloc, bytes)? {
+    match crsm_text_fields::take_key(alloc, bytes)? {
         Some((key, rest)) => Ok(Some((key, bytes.len() - rest.len()))),
         None => Ok(None),
     }
@@ -27,7 +27,7 @@ pub fn write_key(alloc: Global, key: &Key, out: &mut Bytes) -> Result<(), NoMemo
     ensures err { OnErr result (out.new ≡ out.old) }
 {
     let mut spelling = Bytes::new(alloc);
-    crsm_fields::put_key(key, &mut spelling)?;
+    crsm_text_fields::put_key(key, &mut spelling)?;
     out.append(spelling.as_slice())
 }
 
@@ -38,7 +38,7 @@ pub fn read_val(alloc: Global, bytes: &[u8]) -> Result<Option<(Val, usize)>, NoM
     ensures none { IfOk result (λ r. IfNone r (HasNoPrefix SpeltVal bytes.now)) }
     ensures again { ReadsAgain val_bytes FitsVal bytes.now result }
 {
-    match crsm_fields::take_val(alloc, bytes)? {
+    match crsm_text_fields::take_val(alloc, bytes)? {
         Some((val, rest)) => Ok(Some((val, bytes.len() - rest.len()))),
         None => Ok(None),
     }
@@ -51,7 +51,7 @@ pub fn write_val(alloc: Global, val: &Val, out: &mut Bytes) -> Result<(), NoMemo
     ensures err { OnErr result (out.new ≡ out.old) }
 {
     let mut spelling = Bytes::new(alloc);
-    crsm_fields::put_val(val, &mut spelling)?;
+    crsm_text_fields::put_val(val, &mut spelling)?;
     out.append(spelling.as_slice())
 }
 
@@ -65,7 +65,7 @@ pub fn read_option_val(
     ensures none { IfOk result (λ r. IfNone r (HasNoPrefix (Spelt (option_bytes val_bytes) (FitsOption FitsVal)) bytes.now)) }
     ensures again { ReadsAgain (option_bytes val_bytes) (FitsOption FitsVal) bytes.now result }
 {
-    match crsm_fields::take_option_val(alloc, bytes)? {
+    match crsm_text_fields::take_option_val(alloc, bytes)? {
         Some((val, rest)) => Ok(Some((val, bytes.len() - rest.len()))),
         None => Ok(None),
     }
@@ -78,7 +78,7 @@ pub fn write_option_val(alloc: Global, val: &Option<Val>, out: &mut Bytes) -> Re
     ensures err { OnErr result (out.new ≡ out.old) }
 {
     let mut spelling = Bytes::new(alloc);
-    crsm_fields::put_option_val(val, &mut spelling)?;
+    crsm_text_fields::put_option_val(val, &mut spelling)?;
     out.append(spelling.as_slice())
 }
 
@@ -89,7 +89,7 @@ pub fn read_op(alloc: Global, bytes: &[u8]) -> Result<Option<(Op, usize)>, NoMem
     ensures none { IfOk result (λ r. IfNone r (HasNoPrefix SpeltOp bytes.now)) }
     ensures again { ReadsAgain op_bytes FitsOp bytes.now result }
 {
-    match crsm_fields::take_op(alloc, bytes)? {
+    match crsm_text_fields::take_op(alloc, bytes)? {
         Some((op, rest)) => Ok(Some((op, bytes.len() - rest.len()))),
         None => Ok(None),
     }
@@ -102,7 +102,7 @@ pub fn write_op(alloc: Global, op: &Op, out: &mut Bytes) -> Result<(), NoMemory>
     ensures err { OnErr result (out.new ≡ out.old) }
 {
     let mut spelling = Bytes::new(alloc);
-    crsm_fields::put_op(op, &mut spelling)?;
+    crsm_text_fields::put_op(op, &mut spelling)?;
     out.append(spelling.as_slice())
 }
 
@@ -113,7 +113,7 @@ pub fn read_command(alloc: Global, bytes: &[u8]) -> Result<Option<(Command, usiz
     ensures none { IfOk result (λ r. IfNone r (HasNoPrefix SpeltCommand bytes.now)) }
     ensures again { ReadsAgain command_bytes FitsCommand bytes.now result }
 {
-    match crsm_fields::take_command(alloc, bytes)? {
+    match crsm_text_fields::take_command(alloc, bytes)? {
         Some((command, rest)) => Ok(Some((command, bytes.len() - rest.len()))),
         None => Ok(None),
     }
@@ -126,6 +126,6 @@ pub fn write_command(alloc: Global, command: &Command, out: &mut Bytes) -> Resul
     ensures err { OnErr result (out.new ≡ out.old) }
 {
     let mut spelling = Bytes::new(alloc);
-    crsm_fields::put_command(command, &mut spelling)?;
+    crsm_text_fields::put_command(command, &mut spelling)?;
     out.append(spelling.as_slice())
 }

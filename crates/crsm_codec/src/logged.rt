@@ -14,7 +14,7 @@ pub fn read_entry(alloc: Global, bytes: &[u8]) -> Result<Option<(Entry, usize)>,
     ensures none { IfOk result (λ r. IfNone r (HasNoPrefix SpeltEntry bytes.now)) }
     ensures again { ReadsAgain entry_bytes FitsEntry bytes.now result }
 {
-    match crsm_fields::take_entry(alloc, bytes)? {
+    match crsm_text_fields::take_entry(alloc, bytes)? {
         Some((entry, rest)) => Ok(Some((entry, bytes.len() - rest.len()))),
         None => Ok(None),
     }
@@ -27,7 +27,7 @@ pub fn write_entry(alloc: Global, entry: &Entry, out: &mut Bytes) -> Result<(), 
     ensures err { OnErr result (out.new ≡ out.old) }
 {
     let mut spelling = Bytes::new(alloc);
-    crsm_fields::put_entry(entry, &mut spelling)?;
+    crsm_text_fields::put_entry(entry, &mut spelling)?;
     out.append(spelling.as_slice())
 }
 
@@ -38,7 +38,7 @@ pub fn read_entries(alloc: Global, bytes: &[u8]) -> Result<Option<(Entries, usiz
     ensures none { IfOk result (λ r. IfNone r (HasNoPrefix SpeltEntries bytes.now)) }
     ensures again { ReadsAgain entries_bytes FitsEntries bytes.now result }
 {
-    match crsm_fields::take_entries(alloc, bytes)? {
+    match crsm_text_fields::take_entries(alloc, bytes)? {
         Some((entries, rest)) => Ok(Some((entries, bytes.len() - rest.len()))),
         None => Ok(None),
     }
@@ -52,6 +52,6 @@ pub fn write_entries(alloc: Global, entries: &Entries, out: &mut Bytes) -> Resul
     ensures err { OnErr result (out.new ≡ out.old) }
 {
     let mut spelling = Bytes::new(alloc);
-    crsm_fields::put_entries(entries, &mut spelling)?;
+    crsm_text_fields::put_entries(entries, &mut spelling)?;
     out.append(spelling.as_slice())
 }

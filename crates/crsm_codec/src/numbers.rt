@@ -14,7 +14,7 @@ pub fn read_u8(_alloc: Global, bytes: &[u8]) -> Result<Option<(u8, usize)>, NoMe
     ensures none { IfOk result (λ r. IfNone r (HasNoPrefix SpeltU8 bytes.now)) }
     ensures again { ReadsAgain u8_bytes (λ number. number < 256) bytes.now result }
 {
-    match crsm_fields::take_u8(bytes) {
+    match crsm_text_fields::take_u8(bytes) {
         Some((number, rest)) => Ok(Some((number, bytes.len() - rest.len()))),
         None => Ok(None),
     }
@@ -25,7 +25,7 @@ pub fn write_u8(_alloc: Global, number: &u8, out: &mut Bytes) -> Result<(), NoMe
     ensures ok { OnOk result (out.new ≡ out.old ++ u8_bytes number.now) }
     ensures err { OnErr result (out.new ≡ out.old) }
 {
-    crsm_fields::put_u8(*number, out)
+    crsm_text_fields::put_u8(*number, out)
 }
 
 /// Reads a number of two bytes from the prefix of the bytes: the value and how many bytes it takes, or `None`
@@ -35,7 +35,7 @@ pub fn read_u16(_alloc: Global, bytes: &[u8]) -> Result<Option<(u16, usize)>, No
     ensures none { IfOk result (λ r. IfNone r (HasNoPrefix SpeltU16 bytes.now)) }
     ensures again { ReadsAgain u16_bytes (λ number. number < 2 ^ 16) bytes.now result }
 {
-    match crsm_fields::take_u16(bytes) {
+    match crsm_text_fields::take_u16(bytes) {
         Some((number, rest)) => Ok(Some((number, bytes.len() - rest.len()))),
         None => Ok(None),
     }
@@ -46,7 +46,7 @@ pub fn write_u16(_alloc: Global, number: &u16, out: &mut Bytes) -> Result<(), No
     ensures ok { OnOk result (out.new ≡ out.old ++ u16_bytes number.now) }
     ensures err { OnErr result (out.new ≡ out.old) }
 {
-    crsm_fields::put_u16(*number, out)
+    crsm_text_fields::put_u16(*number, out)
 }
 
 /// Reads a number of four bytes from the prefix of the bytes: the value and how many bytes it takes, or `None`
@@ -56,7 +56,7 @@ pub fn read_u32(_alloc: Global, bytes: &[u8]) -> Result<Option<(u32, usize)>, No
     ensures none { IfOk result (λ r. IfNone r (HasNoPrefix SpeltU32 bytes.now)) }
     ensures again { ReadsAgain u32_bytes (λ number. number < 2 ^ 32) bytes.now result }
 {
-    match crsm_fields::take_u32(bytes) {
+    match crsm_text_fields::take_u32(bytes) {
         Some((number, rest)) => Ok(Some((number, bytes.len() - rest.len()))),
         None => Ok(None),
     }
@@ -67,7 +67,7 @@ pub fn write_u32(_alloc: Global, number: &u32, out: &mut Bytes) -> Result<(), No
     ensures ok { OnOk result (out.new ≡ out.old ++ u32_bytes number.now) }
     ensures err { OnErr result (out.new ≡ out.old) }
 {
-    crsm_fields::put_u32(*number, out)
+    crsm_text_fields::put_u32(*number, out)
 }
 
 /// Reads a number of eight bytes from the prefix of the bytes: the value and how many bytes it takes, or `None`
@@ -77,7 +77,7 @@ pub fn read_u64(_alloc: Global, bytes: &[u8]) -> Result<Option<(u64, usize)>, No
     ensures none { IfOk result (λ r. IfNone r (HasNoPrefix SpeltU64 bytes.now)) }
     ensures again { ReadsAgain u64_bytes (λ number. number < 2 ^ 64) bytes.now result }
 {
-    match crsm_fields::take_u64(bytes) {
+    match crsm_text_fields::take_u64(bytes) {
         Some((number, rest)) => Ok(Some((number, bytes.len() - rest.len()))),
         None => Ok(None),
     }
@@ -88,7 +88,7 @@ pub fn write_u64(_alloc: Global, number: &u64, out: &mut Bytes) -> Result<(), No
     ensures ok { OnOk result (out.new ≡ out.old ++ u64_bytes number.now) }
     ensures err { OnErr result (out.new ≡ out.old) }
 {
-    crsm_fields::put_u64(*number, out)
+    crsm_text_fields::put_u64(*number, out)
 }
 
 /// Reads a replica's number, one byte below 15 from the prefix of the bytes: the value and how many bytes it takes,
@@ -98,7 +98,7 @@ pub fn read_replica(_alloc: Global, bytes: &[u8]) -> Result<Option<(u32, usize)>
     ensures none { IfOk result (λ r. IfNone r (HasNoPrefix SpeltReplica bytes.now)) }
     ensures again { ReadsAgain u8_bytes (λ replica. replica < 15) bytes.now result }
 {
-    match crsm_fields::take_replica(bytes) {
+    match crsm_text_fields::take_replica(bytes) {
         Some((replica, rest)) => Ok(Some((replica, bytes.len() - rest.len()))),
         None => Ok(None),
     }
@@ -110,5 +110,5 @@ pub fn write_replica(_alloc: Global, replica: &u32, out: &mut Bytes) -> Result<(
     ensures ok { OnOk result (out.new ≡ out.old ++ u8_bytes replica.now) }
     ensures err { OnErr result (out.new ≡ out.old) }
 {
-    crsm_fields::put_u8(*replica as u8, out)
+    crsm_text_fields::put_u8(*replica as u8, out)
 }

@@ -14,7 +14,7 @@ pub fn read_answer(alloc: Global, bytes: &[u8]) -> Result<Option<(Answer, usize)
     ensures none { IfOk result (λ r. IfNone r (HasNoPrefix SpeltAnswer bytes.now)) }
     ensures again { ReadsAgain answer_bytes FitsAnswer bytes.now result }
 {
-    match crsm_fields::take_answer(alloc, bytes)? {
+    match crsm_text_fields::take_answer(alloc, bytes)? {
         Some((answer, rest)) => Ok(Some((answer, bytes.len() - rest.len()))),
         None => Ok(None),
     }
@@ -27,7 +27,7 @@ pub fn write_answer(alloc: Global, answer: &Answer, out: &mut Bytes) -> Result<(
     ensures err { OnErr result (out.new ≡ out.old) }
 {
     let mut spelling = Bytes::new(alloc);
-    crsm_fields::put_answer(answer, &mut spelling)?;
+    crsm_text_fields::put_answer(answer, &mut spelling)?;
     out.append(spelling.as_slice())
 }
 
@@ -38,7 +38,7 @@ pub fn read_outcome(alloc: Global, bytes: &[u8]) -> Result<Option<(Outcome, usiz
     ensures none { IfOk result (λ r. IfNone r (HasNoPrefix SpeltOutcome bytes.now)) }
     ensures again { ReadsAgain outcome_bytes FitsOutcome bytes.now result }
 {
-    match crsm_fields::take_outcome(alloc, bytes)? {
+    match crsm_text_fields::take_outcome(alloc, bytes)? {
         Some((outcome, rest)) => Ok(Some((outcome, bytes.len() - rest.len()))),
         None => Ok(None),
     }
@@ -51,6 +51,6 @@ pub fn write_outcome(alloc: Global, outcome: &Outcome, out: &mut Bytes) -> Resul
     ensures err { OnErr result (out.new ≡ out.old) }
 {
     let mut spelling = Bytes::new(alloc);
-    crsm_fields::put_outcome(outcome, &mut spelling)?;
+    crsm_text_fields::put_outcome(outcome, &mut spelling)?;
     out.append(spelling.as_slice())
 }

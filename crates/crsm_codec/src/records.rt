@@ -15,7 +15,7 @@ pub fn read_rec(alloc: Global, bytes: &[u8]) -> Result<Option<(Rec, usize)>, NoM
     ensures none { IfOk result (λ r. IfNone r (HasNoPrefix SpeltRec bytes.now)) }
     ensures again { ReadsAgain rec_bytes FitsRec bytes.now result }
 {
-    match crsm_fields::take_rec(alloc, bytes)? {
+    match crsm_text_fields::take_rec(alloc, bytes)? {
         Some((rec, rest)) => Ok(Some((rec, bytes.len() - rest.len()))),
         None => Ok(None),
     }
@@ -28,7 +28,7 @@ pub fn write_rec(alloc: Global, rec: &Rec, out: &mut Bytes) -> Result<(), NoMemo
     ensures err { OnErr result (out.new ≡ out.old) }
 {
     let mut spelling = Bytes::new(alloc);
-    crsm_fields::put_rec(rec, &mut spelling)?;
+    crsm_text_fields::put_rec(rec, &mut spelling)?;
     out.append(spelling.as_slice())
 }
 
@@ -44,7 +44,7 @@ pub fn read_recs(alloc: Global, body: &[u8]) -> Result<Option<Recs>, NoMemory>
     let mut recs = Recs::new(alloc);
     let mut rest = body;
     while !rest.is_empty() {
-        let Some((rec, after)) = crsm_fields::take_rec(alloc, rest)? else {
+        let Some((rec, after)) = crsm_text_fields::take_rec(alloc, rest)? else {
             return Ok(None);
         };
         recs.push(rec)?;

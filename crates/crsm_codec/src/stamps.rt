@@ -14,7 +14,7 @@ pub fn read_stamp(_alloc: Global, bytes: &[u8]) -> Result<Option<(Stamp, usize)>
     ensures none { IfOk result (λ r. IfNone r (HasNoPrefix SpeltStamp bytes.now)) }
     ensures again { ReadsAgain stamp_bytes FitsStamp bytes.now result }
 {
-    match crsm_fields::take_stamp(bytes) {
+    match crsm_text_fields::take_stamp(bytes) {
         Some((stamp, rest)) => Ok(Some((stamp, bytes.len() - rest.len()))),
         None => Ok(None),
     }
@@ -27,7 +27,7 @@ pub fn write_stamp(alloc: Global, stamp: &Stamp, out: &mut Bytes) -> Result<(), 
     ensures err { OnErr result (out.new ≡ out.old) }
 {
     let mut spelling = Bytes::new(alloc);
-    crsm_fields::put_stamp(*stamp, &mut spelling)?;
+    crsm_text_fields::put_stamp(*stamp, &mut spelling)?;
     out.append(spelling.as_slice())
 }
 
@@ -41,7 +41,7 @@ pub fn read_option_stamp(
     ensures none { IfOk result (λ r. IfNone r (HasNoPrefix (Spelt (option_bytes stamp_bytes) (FitsOption FitsStamp)) bytes.now)) }
     ensures again { ReadsAgain (option_bytes stamp_bytes) (FitsOption FitsStamp) bytes.now result }
 {
-    match crsm_fields::take_option_stamp(bytes) {
+    match crsm_text_fields::take_option_stamp(bytes) {
         Some((stamp, rest)) => Ok(Some((stamp, bytes.len() - rest.len()))),
         None => Ok(None),
     }
@@ -58,7 +58,7 @@ pub fn write_option_stamp(
     ensures err { OnErr result (out.new ≡ out.old) }
 {
     let mut spelling = Bytes::new(alloc);
-    crsm_fields::put_option_stamp(*stamp, &mut spelling)?;
+    crsm_text_fields::put_option_stamp(*stamp, &mut spelling)?;
     out.append(spelling.as_slice())
 }
 
@@ -69,7 +69,7 @@ pub fn read_ballot(_alloc: Global, bytes: &[u8]) -> Result<Option<(Ballot, usize
     ensures none { IfOk result (λ r. IfNone r (HasNoPrefix SpeltBallot bytes.now)) }
     ensures again { ReadsAgain ballot_bytes FitsBallot bytes.now result }
 {
-    match crsm_fields::take_ballot(bytes) {
+    match crsm_text_fields::take_ballot(bytes) {
         Some((ballot, rest)) => Ok(Some((ballot, bytes.len() - rest.len()))),
         None => Ok(None),
     }
@@ -82,6 +82,6 @@ pub fn write_ballot(alloc: Global, ballot: &Ballot, out: &mut Bytes) -> Result<(
     ensures err { OnErr result (out.new ≡ out.old) }
 {
     let mut spelling = Bytes::new(alloc);
-    crsm_fields::put_ballot(*ballot, &mut spelling)?;
+    crsm_text_fields::put_ballot(*ballot, &mut spelling)?;
     out.append(spelling.as_slice())
 }

@@ -14,7 +14,7 @@ use Rattle.crsm_spec.specs.Step.{if_fitting}
 use Rattle.crsm_replica.specs.declared.state.ReplicaState.{ReplicaState}
 use Rattle.crsm_replica.specs.Sound.{IsSound}
 use Rattle.crsm_replica.specs.Replica.{ReplicaStands}
-use Rattle.crsm_epoch_state.specs.First.{ready_of, ready_first}
+use Rattle.crsm_replica_epoch.specs.First.{ready_of, ready_first}
 use Rattle.crsm_core.proofs.Fitting.{stands_as, if_fits}
 
 -- ---- what is ready

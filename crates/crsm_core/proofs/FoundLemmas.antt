@@ -5,7 +5,7 @@ use Rattle.crsm_base.specs.Records.{FitsRec}
 use Rattle.crsm_spec.specs.Types.{Rec}
 use Rattle.crsm_spec.specs.Log.{Log}
 use Rattle.crsm_ledger.specs.Recovered.{AreKept, FitInTurn, with_records}
-use Rattle.crsm_epoch_state.specs.EpochState.{EachFits}
+use Rattle.crsm_replica_epoch.specs.EpochState.{EachFits}
 
 fit_behind : (me n : ℕ) (log : Log) (recs : List Rec) → EachFits me n log → FitInTurn me n log recs → EachFits me n (with_records log recs)
 fit_behind me n log [] e f = e

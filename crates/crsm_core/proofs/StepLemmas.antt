@@ -15,8 +15,8 @@ use Rattle.crsm_spec.specs.Coordinate.{on_suspect}
 use Rattle.crsm_spec.specs.Controls.{on_control}
 use Rattle.crsm_spec.specs.Clients.{on_request, commits, replies}
 use Rattle.crsm_spec.specs.Step.{Input as InputOnPaper, if_fitting, on_whole_message, on_part, on_tick, on_datagram, on_input, idle_at, step}
-use Rattle.crsm_output.specs.declared.batch.Batch.{Batch}
-use Rattle.crsm_output.specs.Made.{made_of, IsBatchOf, to_replica, to_address}
+use Rattle.crsm_replica_output.specs.declared.batch.Batch.{Batch}
+use Rattle.crsm_replica_output.specs.Made.{made_of, IsBatchOf, to_replica, to_address}
 use Rattle.crsm_replica.specs.declared.state.ReplicaState.{ReplicaState}
 use Rattle.crsm_replica.specs.Sound.{IsSound, FitsSend, FitsReply}
 use Rattle.crsm_replica.specs.Replica.{ReplicaStands}

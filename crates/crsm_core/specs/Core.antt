@@ -9,8 +9,8 @@ use Rattle.crsm_base.specs.Records.{FitsRec}
 use Rattle.crsm_spec.specs.Log.{Log}
 use Rattle.crsm_spec.specs.Replica.{Replica}
 use Rattle.crsm_spec.specs.Draft.{Draft, begun}
-use Rattle.crsm_output.specs.declared.batch.Batch.{Batch}
-use Rattle.crsm_output.specs.Made.{made_of, IsBatchOf}
+use Rattle.crsm_replica_output.specs.declared.batch.Batch.{Batch}
+use Rattle.crsm_replica_output.specs.Made.{made_of, IsBatchOf}
 use Rattle.crsm_replica.specs.Replica.{ReplicaStands, AwaitsBoot}
 use Rattle.crsm_core.specs.declared.replica.Core.{Core}
 

@@ -11,8 +11,8 @@ ghost use Rattle.crsm_spec.specs.Draft.{Draft};
 ghost use Rattle.crsm_spec.specs.Frames as frames;
 ghost use Rattle.crsm_spec.specs.Step.{if_fitting};
 ghost use Rattle.crsm_replica.specs.Replica.{ReplicaStands, WhereLater};
-ghost use Rattle.crsm_reconfigure.specs.Receiving.{FollowsFrom};
-ghost use Rattle.crsm_reconfigure.specs.Rules.{Follows};
+ghost use Rattle.crsm_replica_reconfigure.specs.Receiving.{FollowsFrom};
+ghost use Rattle.crsm_replica_reconfigure.specs.Rules.{Follows};
 
 use crate::records::log_entry;
 use crsm_base::{Entry, InEpoch, NoMemory};

@@ -14,7 +14,7 @@ mod requests;
 mod step;
 mod ticks;
 
-pub use crsm_output::Batch;
+pub use crsm_replica_output::Batch;
 pub use input::Input;
 pub use laws::found_logs_fit;
 pub use replica::Core;

@@ -5,11 +5,11 @@ ghost use Rattle.crsm_segment.specs.Taking.{is_sized, piece};
 ghost use Rattle.crsm_spec.specs.Draft.{Draft};
 ghost use Rattle.crsm_spec.specs.Step as rules;
 ghost use Rattle.crsm_base.specs.MessageReading.{control_of};
-ghost use Rattle.crsm_reconfigure.specs.Receiving.{FollowsFrom};
+ghost use Rattle.crsm_replica_reconfigure.specs.Receiving.{FollowsFrom};
 
 use crsm_base::NoMemory;
-use crsm_reconfigure::on_control;
 use crsm_replica::{ReplicaState, states_are_sound};
+use crsm_replica_reconfigure::on_control;
 use crsm_wire::{WireError, read_control};
 
 /// What a part of a control message says of itself.

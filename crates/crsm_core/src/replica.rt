@@ -4,7 +4,7 @@ ghost use Rattle.std.specs.Prelude.{◌<◌, ◌≤◌, ℕ, IfOk, OnErr, IsErr}
 ghost use Rattle.std.specs.List.{AllByRecursion};
 ghost use Rattle.crsm_base.specs.Records.{FitsRec};
 ghost use Rattle.crsm_ledger.specs.Ledger.{LedgerStands};
-ghost use Rattle.crsm_epoch_state.specs.EpochState.{EachFits};
+ghost use Rattle.crsm_replica_epoch.specs.EpochState.{EachFits};
 ghost use Rattle.crsm_spec.specs.Clock.{u64_max};
 ghost use Rattle.crsm_spec.specs.Log.{Log, boots};
 ghost use Rattle.crsm_spec.specs.Replica.{Replica};
@@ -16,8 +16,8 @@ use crate::input::Input;
 use crate::step;
 use crsm_base::NoMemory;
 use crsm_ledger::Ledger;
-use crsm_output::Batch;
 use crsm_replica::{ReplicaState, states_are_sound};
+use crsm_replica_output::Batch;
 
 /// One replica in memory. After an error it is spent, and a new one is made of its log.
 #[derive(Drop)]

@@ -6,7 +6,7 @@ ghost use Rattle.crsm_spec.specs.Clients as clients;
 ghost use Rattle.crsm_spec.specs.Draft.{Draft, would};
 ghost use Rattle.crsm_spec.specs.Step.{if_fitting};
 ghost use Rattle.crsm_replica.specs.Replica.{ReplicaStands};
-ghost use Rattle.crsm_reconfigure.specs.Rules.{Follows};
+ghost use Rattle.crsm_replica_reconfigure.specs.Rules.{Follows};
 
 use crate::records::log_entry;
 use crsm_base::{Command, Entry, InEpoch, MAX_OWN_UNEXECUTED, NoMemory, Refusal, Stamp};

@@ -8,7 +8,7 @@ ghost use Rattle.crsm_spec.specs.Replica.{Replica};
 ghost use Rattle.crsm_spec.specs.Step as rules;
 ghost use Rattle.crsm_replica.specs.Replica.{ReplicaStands, Makes};
 ghost use Rattle.crsm_core.specs.Inputs.{input_of, FitsInput};
-ghost use Rattle.crsm_reconfigure.specs.Rules.{Follows};
+ghost use Rattle.crsm_replica_reconfigure.specs.Rules.{Follows};
 
 use crate::commits::commits;
 use crate::frames::{on_ack, on_frame};
@@ -19,8 +19,8 @@ use crate::parts::{Heading, on_part};
 use crate::requests::on_request;
 use crate::ticks::on_tick;
 use crsm_base::{Datagram, NoMemory};
-use crsm_reconfigure::on_suspect;
 use crsm_replica::ReplicaState;
+use crsm_replica_reconfigure::on_suspect;
 use crsm_segment::parts_of_datagrams;
 
 /// One step: the rule of the input, the acknowledgements that are due, at a tick the clock's time, the commits, the replies.

@@ -3,11 +3,11 @@
 ghost use Rattle.crsm_spec.specs.Frames as frames;
 ghost use Rattle.crsm_spec.specs.Step as rules;
 ghost use Rattle.crsm_replica.specs.Replica.{Makes};
-ghost use Rattle.crsm_reconfigure.specs.Rules.{Follows};
+ghost use Rattle.crsm_replica_reconfigure.specs.Rules.{Follows};
 
 use crsm_base::NoMemory;
-use crsm_reconfigure::renew_and_ask;
 use crsm_replica::{ReplicaState, states_are_sound};
+use crsm_replica_reconfigure::renew_and_ask;
 
 /// A tick: frames again while active, and otherwise the coordinator's messages and a question to all.
 pub(crate) fn on_tick(state: &mut ReplicaState) -> Result<(), NoMemory>

@@ -4,8 +4,8 @@ use Rattle.std.specs.Prelude.{◌⊎◌, Option, Some}
 use Rattle.std.proofs.lemmas.Bool.{false≢true}
 use Rattle.std.proofs.lemmas.Fmt.{decimal_injective}
 use Rattle.std.proofs.lemmas.Option.{none-some, same_Some}
-use Rattle.crsm_input.specs.Exact.{Exact}
-use Rattle.crsm_input.specs.Handling.{Text}
+use Rattle.crsm_port_lines.specs.Exact.{Exact}
+use Rattle.crsm_port_lines.specs.Handling.{Text}
 use Rattle.crsm_schedule.specs.Grammar.{IsSize, first_text}
 use Rattle.crsm_text.proofs.TextLaws.{decimal_split}
 use Rattle.crsm_delay.specs.Grammar.{FitsLine, line_text}

@@ -7,15 +7,15 @@ use Rattle.std.proofs.lemmas.Bool.{false≢true, and_parts, or_cases}
 use Rattle.std.proofs.lemmas.Bool.Decides.{nat_tests}
 use Rattle.std.proofs.lemmas.List.{append-nil}
 use Rattle.std.proofs.lemmas.Option.{none-some, same_Some}
-use Rattle.crsm_input.specs.Handling.{Text, Handles, EndsWell, StopsAt}
-use Rattle.crsm_input.specs.declared.Ending.{Ending}
-use Rattle.crsm_input.specs.declared.Stop.{Stop}
+use Rattle.crsm_port_lines.specs.Handling.{Text, Handles, EndsWell, StopsAt}
+use Rattle.crsm_port_lines.specs.declared.Ending.{Ending}
+use Rattle.crsm_port_lines.specs.declared.Stop.{Stop}
 use Rattle.crsm_schedule.specs.Grammar.{IsSize, first_text}
-use Rattle.crsm_log_facts.proofs.Lists.{all-push}
-use Rattle.crsm_timing.specs.declared.Plan.{Plan}
-use Rattle.crsm_timing.specs.declared.Offset.{Offset as Ahead}
-use Rattle.crsm_timing.specs.declared.Delay.{Delay as Takes}
-use Rattle.crsm_timing.specs.Plans.{FitsPlan, most_delay, most_moment, offset_of, delay_of, stamped, reading}
+use Rattle.crsm_fact_log.proofs.Lists.{all-push}
+use Rattle.crsm_spec_plan.specs.declared.Plan.{Plan}
+use Rattle.crsm_spec_plan.specs.declared.Offset.{Offset as Ahead}
+use Rattle.crsm_spec_plan.specs.declared.Delay.{Delay as Takes}
+use Rattle.crsm_spec_plan.specs.Plans.{FitsPlan, most_delay, most_moment, offset_of, delay_of, stamped, reading}
 use Rattle.crsm_delay.specs.Exactly.{EndsExactly}
 use Rattle.crsm_delay.specs.Grammar.{FitsLine, line_text}
 use Rattle.crsm_delay.specs.Drafts.{can_follow, empty, with_line}

@@ -7,8 +7,8 @@ use Rattle.crsm_delay.specs.Times.{row}
 use Rattle.std.proofs.lemmas.List.{append-nil}
 use Rattle.std.proofs.lemmas.Bool.{eq-eqb, ne_eqb}
 use Rattle.crsm_spec.specs.Lists.{greatest, numbers_below}
-use Rattle.crsm_timing.specs.declared.Plan.{Plan}
-use Rattle.crsm_timing.specs.Plans.{FitsPlan, ok_at, delay_of, offset_of, reading, stamped, arrival, others, commit_at}
+use Rattle.crsm_spec_plan.specs.declared.Plan.{Plan}
+use Rattle.crsm_spec_plan.specs.Plans.{FitsPlan, ok_at, delay_of, offset_of, reading, stamped, arrival, others, commit_at}
 
 -- the greatest over the replicas below k, and the command's own
 pub last_below : Plan → ℕ → ℕ → ℕ

@@ -3,11 +3,11 @@ use Rattle.std.proofs.Common.{◌≡◌, ℕ, zero, suc, ◌+◌, ◌<◌, ◌�
 use Rattle.std.specs.List.{AllByRecursion, insert}
 use Rattle.std.proofs.lemmas.List.{map-append}
 use Rattle.crsm_spec.specs.Types.{Line}
-use Rattle.crsm_log_facts.proofs.Lists.{halves}
-use Rattle.crsm_timing.specs.declared.Plan.{Plan}
-use Rattle.crsm_timing.specs.Plans.{FitsPlan}
-use Rattle.crsm_timing.specs.Timelines.{Timed, Precedes}
-use Rattle.crsm_law_sends.specs.Posts.{Post, post_of, posts}
+use Rattle.crsm_fact_log.proofs.Lists.{halves}
+use Rattle.crsm_spec_plan.specs.declared.Plan.{Plan}
+use Rattle.crsm_spec_plan.specs.Plans.{FitsPlan}
+use Rattle.crsm_spec_plan.specs.Timelines.{Timed, Precedes}
+use Rattle.crsm_law_pending.specs.Posts.{Post, post_of, posts}
 use Rattle.crsm_law_pending.specs.Agendas.{IsAgenda, IsAhead, IsPut, LacksPosts, delivery_of}
 use Rattle.crsm_law_pending.specs.Following.{AgendasGoOn}
 use Rattle.crsm_delay.specs.Upcoming.{IsAheadOf, timed_of}

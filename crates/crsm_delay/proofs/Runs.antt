@@ -14,10 +14,10 @@ use Rattle.crsm_spec.specs.Possible.{possible}
 use Rattle.crsm_spec.specs.Run.{ArePossible, after_acts}
 use Rattle.crsm_spec.specs.World.{World, begin}
 use Rattle.crsm_text.specs.Values.{HasBytes}
-use Rattle.crsm_timing.specs.declared.Plan.{Plan}
-use Rattle.crsm_timing.specs.Plans.{FitsPlan}
-use Rattle.crsm_timing.specs.Timelines.{Timed, acts_of, the_command}
-use Rattle.crsm_law_sends.specs.Posts.{posts}
+use Rattle.crsm_spec_plan.specs.declared.Plan.{Plan}
+use Rattle.crsm_spec_plan.specs.Plans.{FitsPlan}
+use Rattle.crsm_spec_plan.specs.Timelines.{Timed, acts_of, the_command}
+use Rattle.crsm_law_pending.specs.Posts.{posts}
 use Rattle.crsm_law_timing.specs.SoFar.{CanHappen, EventsCanHappen, IsNext, IsSoFar, world_after}
 use Rattle.crsm_law_pending.specs.Agendas.{IsAgenda, LacksPosts}
 use Rattle.crsm_law_pending.specs.Following.{AgendasEnd, AgendasGoOn}

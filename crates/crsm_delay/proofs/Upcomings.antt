@@ -6,9 +6,9 @@ use Rattle.crsm_text.specs.Words.{named}
 use Rattle.crsm_text.specs.Values.{op_text}
 use Rattle.hex.specs.Hex.{encode_with}
 use Rattle.std.specs.List.{join_with_byte}
-use Rattle.crsm_timing.specs.declared.Plan.{Plan}
-use Rattle.crsm_timing.specs.Plans.{FitsPlan, arrival, delay_of, offset_of, reading, stamped}
-use Rattle.crsm_timing.specs.Timelines.{tick, the_command}
+use Rattle.crsm_spec_plan.specs.declared.Plan.{Plan}
+use Rattle.crsm_spec_plan.specs.Plans.{FitsPlan, arrival, delay_of, offset_of, reading, stamped}
+use Rattle.crsm_spec_plan.specs.Timelines.{tick, the_command}
 use Rattle.crsm_delay.specs.Upcoming.{IsTick, spelt_of, timed_of}
 use Rattle.crsm_delay.specs.declared.upcoming.Kind.{Kind}
 

@@ -1,8 +1,8 @@
 -- Which plans are done, and which are refused for which line.
 use Rattle.std.specs.Prelude.{ℕ, Option}
-use Rattle.crsm_input.specs.Exact.{Exact, IsDone, IsRefused, IsTooLong, WhereBad, WhereFaultless, WhereTooLong, WhereWhole}
-use Rattle.crsm_input.specs.Handling.{Text}
-use Rattle.crsm_input.specs.declared.Ending.{Ending}
+use Rattle.crsm_port_lines.specs.Exact.{Exact, IsDone, IsRefused, IsTooLong, WhereBad, WhereFaultless, WhereTooLong, WhereWhole}
+use Rattle.crsm_port_lines.specs.Handling.{Text}
+use Rattle.crsm_port_lines.specs.declared.Ending.{Ending}
 use Rattle.crsm_delay.specs.Reading.{plans_of}
 use Rattle.crsm_delay.specs.declared.handling.PlanCause.{PlanCause}
 use Rattle.crsm_delay.specs.declared.handling.Wanted.{Wanted}

@@ -1,7 +1,7 @@
 -- A plan that is followed over a world, and what is written of it.
 use Rattle.std.specs.Prelude.{◌≡◌, ℕ, List, ◌++◌, map}
-use Rattle.crsm_timing.specs.declared.Plan.{Plan}
-use Rattle.crsm_timing.specs.Timelines.{Timed, IsTimeline, acts_of}
+use Rattle.crsm_spec_plan.specs.declared.Plan.{Plan}
+use Rattle.crsm_spec_plan.specs.Timelines.{Timed, IsTimeline, acts_of}
 use Rattle.crsm_law_timing.specs.SoFar.{IsSoFar, world_after}
 use Rattle.crsm_law_pending.specs.Agendas.{IsAgenda}
 use Rattle.crsm_world.specs.Schedule.{IsSchedule, Schedule, schedule_text}

@@ -1,10 +1,10 @@
 -- What a reader makes of the lines of an input.
 use Rattle.std.specs.Prelude.{◌≡◌, ◌≢◌, ℕ, true, false, List, [], ◌∷◌, ◌++◌, Option, Some, None}
-use Rattle.crsm_input.specs.Handling.{Handling, Text}
-use Rattle.crsm_input.specs.declared.Stop.{Stop}
+use Rattle.crsm_port_lines.specs.Handling.{Handling, Text}
+use Rattle.crsm_port_lines.specs.declared.Stop.{Stop}
 use Rattle.crsm_schedule.specs.Grammar.{IsSize, first_text}
-use Rattle.crsm_timing.specs.declared.Plan.{Plan}
-use Rattle.crsm_timing.specs.Plans.{FitsPlan}
+use Rattle.crsm_spec_plan.specs.declared.Plan.{Plan}
+use Rattle.crsm_spec_plan.specs.Plans.{FitsPlan}
 use Rattle.crsm_delay.specs.Grammar.{FitsLine, line_text}
 use Rattle.crsm_delay.specs.Drafts.{can_follow, empty, with_line}
 use Rattle.crsm_delay.specs.Following.{WritesTimeline}

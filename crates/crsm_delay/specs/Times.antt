@@ -3,8 +3,8 @@ use Rattle.std.specs.Prelude.{ℕ, List, [], ◌∷◌, ◌++◌, codes}
 use Rattle.std.specs.List.{flat_map}
 use Rattle.crsm_spec.specs.Lists.{numbers_below}
 use Rattle.crsm_text.specs.Words.{named}
-use Rattle.crsm_timing.specs.declared.Plan.{Plan}
-use Rattle.crsm_timing.specs.Plans.{commit_at}
+use Rattle.crsm_spec_plan.specs.declared.Plan.{Plan}
+use Rattle.crsm_spec_plan.specs.Plans.{commit_at}
 
 -- a replica, and the moment at which it executes the command
 abbrev pub row : Plan → ℕ → List ℕ

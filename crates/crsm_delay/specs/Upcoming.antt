@@ -3,10 +3,10 @@ use Rattle.std.specs.Prelude.{◌≡◌, ℕ, ◌+◌, ◌<◌, List, [], ◌∷
 use Rattle.crsm_schedule.specs.declared.Event.{Event}
 use Rattle.crsm_schedule.specs.declared.Single.{Single as Spelt}
 use Rattle.crsm_spec.specs.Acts.{Single}
-use Rattle.crsm_timing.specs.declared.Plan.{Plan}
-use Rattle.crsm_timing.specs.Plans.{arrival, reading, stamped}
-use Rattle.crsm_timing.specs.Timelines.{Timed, Precedes, the_command, tick}
-use Rattle.crsm_law_sends.specs.Posts.{Post}
+use Rattle.crsm_spec_plan.specs.declared.Plan.{Plan}
+use Rattle.crsm_spec_plan.specs.Plans.{arrival, reading, stamped}
+use Rattle.crsm_spec_plan.specs.Timelines.{Timed, Precedes, the_command, tick}
+use Rattle.crsm_law_pending.specs.Posts.{Post}
 use Rattle.crsm_delay.specs.declared.upcoming.Kind.{Kind}
 use Rattle.crsm_delay.specs.declared.upcoming.Upcoming.{Upcoming}
 use Rattle.crsm_delay.specs.declared.agenda.Agenda.{Agenda}

@@ -3,16 +3,16 @@
 ghost use Rattle.std.specs.Prelude.{◌≡◌, ◌≤◌, ◌<◌, ◌+◌, ◌∷◌, [], ℕ, List, IfOk, OnOk, MatchOption, length, take, drop};
 ghost use Rattle.std.specs.List.{AllByRecursion};
 ghost use Rattle.crsm_law_pending.specs.Agendas.{IsAgenda, IsPending, IsPut, LacksPosts, delivery_of};
-ghost use Rattle.crsm_law_sends.specs.Posts as sends;
-ghost use Rattle.crsm_timing.specs.Plans.{FitsPlan};
-ghost use Rattle.crsm_timing.specs.Timelines.{Precedes, Timed};
+ghost use Rattle.crsm_law_pending.specs.Posts as sends;
+ghost use Rattle.crsm_spec_plan.specs.Plans.{FitsPlan};
+ghost use Rattle.crsm_spec_plan.specs.Timelines.{Precedes, Timed};
 ghost use Rattle.crsm_delay.specs.Upcoming.{IsAheadOf, listed, on_paper, timed_of};
 
 use crate::moments::{delay_of, reading_of};
 use crate::upcoming::{Kind, Upcoming, request, tick};
 use crsm_base::{Line, NoMemory};
 use crsm_law_pending::{agendas_begin, agendas_go_on};
-use crsm_timing::Plan;
+use crsm_spec_plan::Plan;
 use std::alloc::Global;
 
 /// A datagram that was sent.
@@ -24,7 +24,7 @@ pub(crate) struct Post {
 }
 
 /// The datagram that a line tells of, if it tells of one.
-#[tactic(auto, unfolding(crsm_law_sends::specs::Posts::post_of))]
+#[tactic(auto, unfolding(crsm_law_pending::specs::Posts::post_of))]
 fn post_of(line: &Line) -> Option<Post>
     ensures { MatchOption result (sends.post_of line.now ≡ []) (λ p. sends.post_of line.now ≡ on_paper p ∷ []) }
 {

@@ -1,18 +1,18 @@
 //! A plan from its beginning to its end.
 
 ghost use Rattle.std.specs.Prelude.{◌≡◌, ◌≢◌, ◌<◌, ◌≤◌, ◌+◌, ℕ, List, Some, length};
-ghost use Rattle.crsm_faults.specs.Counts.{Rose};
-ghost use Rattle.crsm_input.specs.Exact.{Exact};
-ghost use Rattle.crsm_input.specs.Run.{Ran};
+ghost use Rattle.crsm_port_faults.specs.Counts.{Rose};
+ghost use Rattle.crsm_port_lines.specs.Exact.{Exact};
+ghost use Rattle.crsm_port_lines.specs.Run.{Ran};
 ghost use Rattle.crsm_delay.specs.Exactly.{EndsExactly};
 ghost use Rattle.crsm_delay.specs.declared.handling.Wanted.{Wanted as Asked};
 ghost use Rattle.crsm_delay.specs.Reading.{plans_of, schedule_of, times_of};
 ghost use Rattle.crsm_law_timing.specs.Commits.{CommandsCommitInTime, TimelinesArePossible};
 
 use crate::handling::{PlanCause, PlanReader, Wanted};
-use crsm_input::{Ending, MAX_INPUT_BYTES, run_lines};
 use crsm_io::{Sink, Source};
 use crsm_law_timing::{commands_commit_in_time, timelines_are_possible};
+use crsm_port_lines::{Ending, MAX_INPUT_BYTES, run_lines};
 use std::alloc::Global;
 
 /// Reads a plan to its end, and writes what is wanted of it.

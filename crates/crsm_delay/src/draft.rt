@@ -2,13 +2,13 @@
 
 ghost use Rattle.std.specs.Prelude.{◌≡◌, OnOk, nat_le, true};
 ghost use Rattle.std.specs.List.{list_all};
-ghost use Rattle.crsm_timing.specs.Plans.{FitsPlan, most_delay, most_moment};
+ghost use Rattle.crsm_spec_plan.specs.Plans.{FitsPlan, most_delay, most_moment};
 ghost use Rattle.crsm_delay.specs.Drafts.{can_follow, empty, has_delay, has_offset, with_line};
 
 use crate::line::PlanLine;
 use crate::moments::offset_of;
 use crsm_base::NoMemory;
-use crsm_timing::{Delay, Delays, Offset, Offsets, Plan};
+use crsm_spec_plan::{Delay, Delays, Offset, Offsets, Plan};
 use std::alloc::Global;
 
 /// The greatest moment of a command, and the greatest offset of a clock.

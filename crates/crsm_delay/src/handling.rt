@@ -3,16 +3,16 @@
 ghost use Rattle.std.specs.Prelude.{◌≡◌, None, Some, IfErr, IfOk, IfSome, OnOk};
 ghost use Rattle.crsm_delay.specs.Following.{AddsTimeline};
 ghost use Rattle.crsm_delay.specs.Reading.{AddsWritten, Advances, RefusedAfter, StopsUnread};
-ghost use Rattle.crsm_timing.specs.Plans.{FitsPlan};
+ghost use Rattle.crsm_spec_plan.specs.Plans.{FitsPlan};
 
 use crate::draft::{Draft, is_within};
 use crate::line::read_line;
 use crate::moments::push_times;
 use crate::timeline::push_timeline;
 use crsm_base::{Bytes, NoMemory, never};
-use crsm_input::{Handler, Stop};
+use crsm_port_lines::{Handler, Stop};
 use crsm_schedule::read_first;
-use crsm_timing::Plan;
+use crsm_spec_plan::Plan;
 use std::alloc::Global;
 
 /// What is written of a plan.

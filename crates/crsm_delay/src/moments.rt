@@ -1,15 +1,15 @@
 //! The moments of a plan, and their text. A plan beyond the bounds has moments that stay within 64 bits.
 
 ghost use Rattle.std.specs.Prelude.{◌≡◌, ◌≤◌, ◌<◌, ◌+◌, ◌++◌, ◌∷◌, [], ℕ, OnOk};
-ghost use Rattle.crsm_timing.specs.Plans as timing;
+ghost use Rattle.crsm_spec_plan.specs.Plans as timing;
 ghost use Rattle.crsm_delay.specs.Times.{row, times_text};
 
 use crsm_base::{Bytes, NoMemory};
+use crsm_spec_plan::Plan;
 use crsm_text::push_named;
-use crsm_timing::Plan;
 
 /// How far the clock of a replica is ahead.
-#[tactic(auto, unfolding(crsm_timing::specs::Plans::offset_of))]
+#[tactic(auto, unfolding(crsm_spec_plan::specs::Plans::offset_of))]
 pub(crate) fn offset_of(plan: &Plan, k: u64) -> u64
     ensures { result ≡ timing.offset_of plan.now k }
 {
@@ -22,7 +22,7 @@ pub(crate) fn offset_of(plan: &Plan, k: u64) -> u64
 }
 
 /// How long a datagram takes from one replica to another.
-#[tactic(auto, unfolding(crsm_timing::specs::Plans::delay_of))]
+#[tactic(auto, unfolding(crsm_spec_plan::specs::Plans::delay_of))]
 pub(crate) fn delay_of(plan: &Plan, a: u64, b: u64) -> u64
     ensures { result ≡ timing.delay_of plan.now a b }
 {
@@ -38,7 +38,7 @@ pub(crate) fn delay_of(plan: &Plan, a: u64, b: u64) -> u64
 }
 
 /// What the clock of a replica reads at a moment.
-#[tactic(auto, unfolding(crsm_timing::specs::Plans::reading))]
+#[tactic(auto, unfolding(crsm_spec_plan::specs::Plans::reading))]
 pub(crate) fn reading_of(plan: &Plan, k: u64, moment: u64) -> u64
     requires fits { timing.FitsPlan plan.now }
     requires soon { moment ≤ 4000000000000 }

@@ -1,7 +1,7 @@
 //! The timeline of a plan: a world is driven by the plan, and each datagram that it sends is delivered in time.
 
 ghost use Rattle.std.specs.Prelude.{◌≡◌, ◌∷◌, ◌++◌, [], List, IfErr, IfOk, MatchOption, Ok, OnOk};
-ghost use Rattle.crsm_timing.specs.Plans.{FitsPlan};
+ghost use Rattle.crsm_spec_plan.specs.Plans.{FitsPlan};
 ghost use Rattle.crsm_delay.specs.Following.{AddsTimeline, Follows, IsFollowed};
 ghost use Rattle.crsm_delay.specs.Upcoming.{listed};
 ghost use Rattle.crsm_delay.specs.declared.upcoming.Upcoming.{Upcoming as Done};
@@ -12,8 +12,8 @@ use crsm_base::{Bytes, Lines, NoMemory};
 use crsm_law_pending::{agendas_end, agendas_go_on};
 use crsm_law_timing::events_can_happen;
 use crsm_schedule::Event;
+use crsm_spec_plan::Plan;
 use crsm_text::push_named;
-use crsm_timing::Plan;
 use crsm_world::{Bad, World};
 use std::alloc::Global;
 

@@ -2,16 +2,16 @@
 
 ghost use Rattle.std.specs.Prelude.{◌≡◌, ◌≤◌, ◌<◌, ◌++◌, ◌∷◌, [], IsTrue, ◌↔◌, None, IfOk, IfSome, OnOk};
 ghost use Rattle.crsm_schedule.specs.Grammar.{event_text};
-ghost use Rattle.crsm_timing.specs.Plans.{FitsPlan, arrival, reading, stamped};
-ghost use Rattle.crsm_timing.specs.Timelines.{IsBefore, Precedes, the_command};
-ghost use Rattle.crsm_timing.specs.Timelines as timing;
+ghost use Rattle.crsm_spec_plan.specs.Plans.{FitsPlan, arrival, reading, stamped};
+ghost use Rattle.crsm_spec_plan.specs.Timelines.{IsBefore, Precedes, the_command};
+ghost use Rattle.crsm_spec_plan.specs.Timelines as timing;
 ghost use Rattle.crsm_delay.specs.Upcoming.{IsTick, does_of, event_of, timed_of};
 
 use crate::moments::{delay_of, offset_of, reading_of};
 use crsm_base::{Bytes, Command, Key, NoMemory, Op, Val};
 use crsm_schedule::{Event, Single};
+use crsm_spec_plan::Plan;
 use crsm_text::push_named;
-use crsm_timing::Plan;
 use std::alloc::Global;
 
 /// What happens at a replica. A reading is that of its clock.
@@ -107,7 +107,7 @@ impl Upcoming {
 }
 
 /// The command of a plan: client 7 puts a value, as its command 1.
-#[tactic(auto, unfolding(crsm_timing::specs::Timelines::the_command))]
+#[tactic(auto, unfolding(crsm_spec_plan::specs::Timelines::the_command))]
 fn command(alloc: Global) -> Result<Command, NoMemory>
     ensures { IfOk result (λ c. c ≡ the_command) }
 {
@@ -121,7 +121,7 @@ fn command(alloc: Global) -> Result<Command, NoMemory>
 }
 
 /// The command comes to the origin.
-#[tactic(auto, unfolding(crsm_timing::specs::Timelines::request, crsm_timing::specs::Plans::stamped))]
+#[tactic(auto, unfolding(crsm_spec_plan::specs::Timelines::request, crsm_spec_plan::specs::Plans::stamped))]
 pub(crate) fn request(plan: &Plan) -> Upcoming
     requires { FitsPlan plan.now }
     ensures { timed_of result ≡ timing.request plan.now }

@@ -2,8 +2,8 @@
 use Rattle.std.specs.Prelude.{◌≡◌, ◌≤◌, ℕ, List, Option, Some, None, Result, OnErr, option_map}
 use Rattle.crsm_base.specs.declared.memory.Failed.{Failed}
 use Rattle.crsm_base.specs.declared.memory.NoMemory.{NoMemory}
-use Rattle.crsm_faults.specs.Counts.{Rose}
-use Rattle.crsm_faults.specs.Plan.{Plan, Spends, MakesRoom}
+use Rattle.crsm_port_faults.specs.Counts.{Rose}
+use Rattle.crsm_port_faults.specs.Plan.{Plan, Spends, MakesRoom}
 use Rattle.crsm_disk.specs.Meaning.{Meaning, Elapses, Same}
 
 -- each outcome of a crash is an old one after this step

@@ -1,7 +1,7 @@
 -- What a disk means: what is read of it, what a crash may leave, and what it tells of itself.
 use Rattle.std.specs.Prelude.{◌≡◌, ◌⊎◌, ◌↔◌, ℕ, ◌≤◌, List, Bool, IsTrue, Option, Some}
-use Rattle.crsm_faults.specs.Plan.{Plan}
-use Rattle.crsm_image.specs.Calls.{History, contents}
+use Rattle.crsm_port_faults.specs.Plan.{Plan}
+use Rattle.crsm_disk.specs.Calls.{History, contents}
 
 pub record Meaning : Type 1 where
   -- the bytes that a read gives

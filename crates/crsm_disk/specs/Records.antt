@@ -1,8 +1,8 @@
 -- How a disk in memory keeps its calls.
 use Rattle.std.specs.Prelude.{ℕ, ◌+◌, List, [], ◌∷◌, take, drop, Bool, true, false}
-use Rattle.crsm_image.specs.Bytes.{overwritten}
-use Rattle.crsm_image.specs.Calls.{Call, wrote, cut, synced}
-use Rattle.crsm_image.specs.Image.{ranged}
+use Rattle.crsm_disk.specs.Bytes.{overwritten}
+use Rattle.crsm_disk.specs.Calls.{Call, wrote, cut, synced}
+use Rattle.crsm_disk.specs.Image.{ranged}
 use Rattle.crsm_disk.specs.declared.record.Record.{Record}
 use Rattle.crsm_disk.specs.declared.record.Record.TheVariants.{Write, Cut, Sync}
 

@@ -1,8 +1,8 @@
 //! A disk, what is read of it, and what a crash may leave of it.
 
 ghost use Rattle.std.specs.Prelude.{◌≡◌, ◌+◌, ◌-◌, ◌≤◌, length, take, IsTrue, IfOk, OnOk, is_ok, Some, if◌then◌else◌};
-ghost use Rattle.crsm_image.specs.Bytes.{overwritten, Torn, Shortened, ReadsAt};
-ghost use Rattle.crsm_image.specs.Calls.{wrote, cut, synced, noted};
+ghost use Rattle.crsm_disk.specs.Bytes.{overwritten, Torn, Shortened, ReadsAt};
+ghost use Rattle.crsm_disk.specs.Calls.{wrote, cut, synced, noted};
 ghost use Rattle.crsm_disk.specs.Contract.{Answers, Arms, Goes, Reserves};
 ghost use Rattle.crsm_disk.specs.Meaning.{Meaning, Only, Same};
 

@@ -5,7 +5,7 @@ ghost use Rattle.crsm_disk.specs.Unknown.{unknown};
 
 use crate::Disk;
 use crsm_base::{Failed, NoMemory};
-use crsm_faults::raised_by;
+use crsm_port_faults::raised_by;
 use std::fs::{File, Files, OpenOptions, TryLockError};
 use std::io;
 use std::os::unix::fs::FileExt;

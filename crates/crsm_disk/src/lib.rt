@@ -1,12 +1,14 @@
-//! A disk: what is read of it, what a crash at any moment may leave, and what it tells of its calls.
+//! A disk: what is read of it, what a crash at any moment may leave of what was written, and what it records of its calls.
 #![tactic(auto)]
 
 mod content;
+mod crashes;
 mod disk;
 mod file;
 mod memory;
 mod record;
 
+pub use crashes::{each_image_is_reached, fills_as_image, reads_as_image};
 pub use disk::Disk;
 pub use file::{FileDisk, OpenError};
 pub use memory::MemDisk;

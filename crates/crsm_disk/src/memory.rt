@@ -2,17 +2,17 @@
 
 ghost use Rattle.std.specs.Prelude.{◌≡◌, ◌≤◌, [], length, IfOk, OnOk, OnErr, Some};
 ghost use Rattle.std.specs.Bool.{OnTrue, OnFalse};
-ghost use Rattle.crsm_faults.specs.Counts.{raised, Rose};
-ghost use Rattle.crsm_faults.specs.Failing.{IsNotEnd, good_of, least, one_less};
-ghost use Rattle.crsm_image.specs.Calls.{contents, wrote, cut, synced};
-ghost use Rattle.crsm_image.specs.Image.{IsImage};
+ghost use Rattle.crsm_port_faults.specs.Counts.{raised, Rose};
+ghost use Rattle.crsm_port_faults.specs.Failing.{IsNotEnd, good_of, least, one_less};
+ghost use Rattle.crsm_disk.specs.Calls.{contents, wrote, cut, synced};
+ghost use Rattle.crsm_disk.specs.Image.{IsImage};
 ghost use Rattle.crsm_disk.specs.Memory.{good_left, holding, left_by_crash, meaning_of, room_for_write, with_call};
 
 use crate::Disk;
 use crate::content::{copy, overwrite, paint_unsynced, redo};
 use crate::record::{Record, coordinator_write};
 use crsm_base::{Failed, NoMemory};
-use crsm_faults::{Failures, raise};
+use crsm_port_faults::{Failures, raise};
 use std::alloc::Global;
 use std::marker::Model;
 

@@ -1,7 +1,7 @@
 -- What is seen of a source and of a sink in memory.
 use Rattle.std.specs.Prelude.{ℕ, ◌+◌, List}
-use Rattle.crsm_faults.specs.Counts.{raised}
-use Rattle.crsm_faults.specs.Failing.{Failing, IsListed}
+use Rattle.crsm_port_faults.specs.Counts.{raised}
+use Rattle.crsm_port_faults.specs.Failing.{Failing, IsListed}
 
 -- the bytes that are left, the calls so far with those that fail, and how many faults there were
 pub record Playback : Type 0 where

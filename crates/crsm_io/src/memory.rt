@@ -1,13 +1,13 @@
 //! A source and a sink in memory, whose calls fail by a list of their numbers.
 
 ghost use Rattle.std.specs.Prelude.{◌≡◌, ℕ, ◌-◌, ◌+◌, ◌<◌, ◌≤◌, ◌↔◌, ◌⊎◌, ◌++◌, [], drop, take, max, Some, length, IfOk, IsErr, OnOk, OnErr};
-ghost use Rattle.crsm_faults.specs.Counts.{Rose};
+ghost use Rattle.crsm_port_faults.specs.Counts.{Rose};
 ghost use Rattle.crsm_io.specs.Streams.{Takes, Puts, AtEnd, prefix_of};
 ghost use Rattle.crsm_io.specs.Memory.{NextIsListed, one_later};
 
 use crate::streams::{Sink, Source};
 use crsm_base::{Failed, NoMemory};
-use crsm_faults::{Failures, raise};
+use crsm_port_faults::{Failures, raise};
 use std::alloc::Global;
 use std::marker::Model;
 

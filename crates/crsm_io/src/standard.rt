@@ -4,7 +4,7 @@ ghost use Rattle.std.specs.Prelude.{◌≡◌, None};
 
 use crate::streams::{Sink, Source};
 use crsm_base::Failed;
-use crsm_faults::{raise, raised_by};
+use crsm_port_faults::{raise, raised_by};
 use std::io::{Read, Write};
 use std::marker::Model;
 

@@ -1,7 +1,7 @@
 //! Sources and sinks of bytes.
 
 ghost use Rattle.std.specs.Prelude.{◌≡◌, ℕ, ◌<◌, ◌≤◌, List, Option, length, IfOk, OnOk, OnErr};
-ghost use Rattle.crsm_faults.specs.Counts.{Rose};
+ghost use Rattle.crsm_port_faults.specs.Counts.{Rose};
 ghost use Rattle.crsm_io.specs.Streams.{Takes, Puts, PutsPrefix, AtEnd, prefix_of};
 
 use crsm_base::Failed;

@@ -12,7 +12,7 @@ use Rattle.crsm_spec.specs.Draft.{Draft, Reply, begun, reply}
 use Rattle.crsm_spec.specs.Clients.{commits, replies, answer_each, answer_found, reply_ok, reply_dropped, find_executed, is_dropped}
 use Rattle.crsm_spec.specs.Frames.{owed_oks}
 use Rattle.crsm_spec.specs.Step.{if_fitting, on_input, idle_at, step}
-use Rattle.crsm_log_facts.proofs.Lists.{among_left, among_right}
+use Rattle.crsm_fact_log.proofs.Lists.{among_left, among_right}
 use Rattle.crsm_law_active.specs.Answering.{answer_line, IsServed, StepsAnswer}
 use Rattle.crsm_law_active.specs.Answering.IsServed.{Waits, Answered, Dropped}
 use Rattle.crsm_law_active.proofs.Ending.{all_commits, pays_in}

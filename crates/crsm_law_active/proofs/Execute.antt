@@ -15,16 +15,16 @@ use Rattle.crsm_spec.specs.Clients.{commit_run, commits, replies, answer_each, a
 use Rattle.crsm_spec.specs.Frames.{owed_oks}
 use Rattle.crsm_spec.specs.Step.{Input, if_fitting, on_input, idle_at, step}
 use Rattle.crsm_spec.specs.Fits.{fits}
-use Rattle.crsm_log_facts.specs.Logs.{AllFit, Extends, same, more}
-use Rattle.crsm_step_facts.proofs.Walk.{commit_active, same_when}
-use Rattle.crsm_log_facts.proofs.Tests.{same_stamp}
-use Rattle.crsm_step_facts.specs.Changes.{Changes}
-use Rattle.crsm_step_facts.proofs.Fitted.{step_changes}
-use Rattle.crsm_step_facts.proofs.Logs.{steps_fit, changes_numbers}
-use Rattle.crsm_log_facts.specs.Rising.{Rises}
-use Rattle.crsm_log_facts.proofs.Logged.{logged_rises, logged_epoch, extends_trans, end_fits}
-use Rattle.crsm_log_facts.proofs.Sorted.{split, upto, eq_self}
-use Rattle.crsm_log_facts.proofs.Lists.{among_left, among_right}
+use Rattle.crsm_fact_log.specs.Logs.{AllFit, Extends, same, more}
+use Rattle.crsm_fact_step.proofs.Walk.{commit_active, same_when}
+use Rattle.crsm_fact_log.proofs.Tests.{same_stamp}
+use Rattle.crsm_fact_step.specs.Changes.{Changes}
+use Rattle.crsm_fact_step.proofs.Fitted.{step_changes}
+use Rattle.crsm_fact_step.proofs.Logs.{steps_fit, changes_numbers}
+use Rattle.crsm_fact_log.specs.Rising.{Rises}
+use Rattle.crsm_fact_log.proofs.Logged.{logged_rises, logged_epoch, extends_trans, end_fits}
+use Rattle.crsm_fact_log.proofs.Sorted.{split, upto, eq_self}
+use Rattle.crsm_fact_log.proofs.Lists.{among_left, among_right}
 use Rattle.crsm_law_collection.proofs.Orderly.{above_last}
 use Rattle.crsm_law_active.specs.Musts.{NoneReady, StepsExecute}
 use Rattle.crsm_law_active.proofs.Ending.{on_true, on_false}

@@ -6,3 +6,8 @@ pub mod Paying
 pub mod Staying
 pub mod Answering
 pub mod Telling
+pub mod Replicas
+pub mod Steps
+pub mod Worlds
+pub mod Serving
+pub mod ServedWorlds

@@ -13,7 +13,7 @@ use Rattle.crsm_spec.specs.Replica.{Replica, other_members, last_issued}
 use Rattle.crsm_spec.specs.Draft.{Draft, begun, issued_at, push_to_members, push_to, would}
 use Rattle.crsm_spec.specs.Frames.{pay, owing, pay_run, owed_oks, send_time, idle, send_again}
 use Rattle.crsm_spec.specs.Step.{Input, if_fitting, on_input, on_tick, idle_at, step}
-use Rattle.crsm_step_facts.proofs.Walk.{same_when}
+use Rattle.crsm_fact_step.proofs.Walk.{same_when}
 use Rattle.crsm_law_active.specs.Musts.{StepsPay}
 use Rattle.crsm_law_active.proofs.Ending.{on_true, ends_before}
 use Rattle.crsm_law_active.proofs.Again.{all_sent}

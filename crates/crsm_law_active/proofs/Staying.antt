@@ -14,7 +14,7 @@ use Rattle.crsm_spec.specs.Clients.{commits, replies}
 use Rattle.crsm_spec.specs.Controls.{on_control, on_decide, on_retrieve, page_from}
 use Rattle.crsm_spec.specs.Frames.{is_astray, is_odd_frame, on_frame, on_ack, take_frame, receive, owe, with_stamp, ack, send_again, owed_oks}
 use Rattle.crsm_spec.specs.Step.{Input, if_fitting, on_whole_message, on_part, on_tick, on_datagram, on_input, idle_at, step}
-use Rattle.crsm_log_facts.proofs.Tests.{not_astray}
+use Rattle.crsm_fact_log.proofs.Tests.{not_astray}
 use Rattle.crsm_law_epoch.proofs.CommitEffects.{taken_origin}
 use Rattle.crsm_law_active.specs.Staying.{GrowsBy, IsEndOf, IsMild, IsCalmInput, StepsStay}
 use Rattle.crsm_law_active.specs.Staying.GrowsBy.{same, entry}

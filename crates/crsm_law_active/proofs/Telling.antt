@@ -11,7 +11,7 @@ use Rattle.crsm_spec.specs.Draft.{Draft, begun, keep, send, count_vote, issued_a
 use Rattle.crsm_spec.specs.Clients.{commits, replies}
 use Rattle.crsm_spec.specs.Frames.{on_frame, on_ack, take_frame, receive, owe, ack, pay, owing, pay_run, owed_oks, send_time, idle, again_frame, again_to, send_again}
 use Rattle.crsm_spec.specs.Step.{Input, if_fitting, on_input, on_datagram, on_tick, idle_at, step}
-use Rattle.crsm_log_facts.proofs.Lists.{among_left, among_either}
+use Rattle.crsm_fact_log.proofs.Lists.{among_left, among_either}
 use Rattle.crsm_law_active.specs.Telling.{IsOfLink, IsKnown, TellsLittle, ComesOnLink, LinksTellLittle}
 use Rattle.crsm_law_active.specs.Telling.TellsLittle.{OfLinks, OneMessage}
 use Rattle.crsm_law_active.proofs.Ending.{on_true, by_when, by_option, ends_before}

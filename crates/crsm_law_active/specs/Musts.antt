@@ -9,7 +9,7 @@ use Rattle.crsm_spec.specs.Replica.{Replica, members_of, next_from, last_issued}
 use Rattle.crsm_spec.specs.Ready.{is_ready}
 use Rattle.crsm_spec.specs.Frames.{is_odd_frame}
 use Rattle.crsm_spec.specs.Step.{Input, step}
-use Rattle.crsm_log_facts.specs.Logs.{AllFit}
+use Rattle.crsm_fact_log.specs.Logs.{AllFit}
 
 -- the record of the payload, if any, fits
 abbrev pub FitsHere : Replica → InEpoch → Type 0

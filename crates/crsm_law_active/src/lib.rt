@@ -1,9 +1,12 @@
-//! What a step of an active replica must do: what it takes, pays, executes, sends again, answers, and what it leaves.
+//! What active replicas do and have counted.
 //!
-//! A step is made of changes (`crsm_step_facts`), and a change says what a step may do. These laws say what it does not leave
-//! undone, of one step and of whatever replica.
+//! A step is made of changes (`crsm_fact_step`), and a change says what a step may do. The laws of one step say what it does
+//! not leave undone: what it takes, pays, executes, sends again and answers, at whatever replica. The laws of worlds say
+//! what an active replica has counted, in every world that a cluster reaches.
 #![tactic(auto)]
 
+ghost use Rattle.crsm_law_active.specs.Counted.{AcksAreEntered, CountsHold};
+ghost use Rattle.crsm_law_active.specs.Served.{NothingIsLeft};
 ghost use Rattle.crsm_law_active.specs.Again.{StepsSendAgain};
 ghost use Rattle.crsm_law_active.specs.Answering.{StepsAnswer};
 ghost use Rattle.crsm_law_active.specs.Musts.{StepsExecute, StepsPay, StepsTake};
@@ -45,4 +48,21 @@ pub fn steps_answer()
 /// a tick of an active replica sends frames alone.
 pub fn links_tell_little()
     ensures { LinksTellLittle }
+{}
+
+/// Each active replica has counted what it took: the times and votes of frames, and for each logged entry its own vote and its
+/// origin's. It has pushed or still owes each PREPAREOK, its links are even, and it has taken what it acknowledged.
+pub fn counts_hold()
+    ensures { CountsHold }
+{}
+
+/// Who acknowledges a frame of an epoch has entered that epoch.
+pub fn acks_are_entered()
+    ensures { AcksAreEntered }
+{}
+
+/// Between steps nothing is ready to be executed at an active replica, and each client that waits there waits for an own entry
+/// that is logged and not executed, of the known epoch.
+pub fn nothing_is_left()
+    ensures { NothingIsLeft }
 {}

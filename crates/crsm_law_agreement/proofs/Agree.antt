@@ -9,23 +9,23 @@ use Rattle.crsm_spec.specs.Log.{Log, known, decision, spec, executed}
 use Rattle.crsm_spec.specs.Fits.{fits}
 use Rattle.crsm_spec.specs.Quorum.{spec_decided}
 use Rattle.crsm_spec.specs.World.{World, log_at}
-use Rattle.crsm_log_facts.specs.Logs.{AllFit, Extends, same, more}
+use Rattle.crsm_fact_log.specs.Logs.{AllFit, Extends, same, more}
 use Rattle.crsm_law_steps.specs.Happenings.{IsReached}
 use Rattle.crsm_law_collection.specs.Collecting.{CommitOf}
 use Rattle.crsm_law_collection.proofs.Law.{same_place}
-use Rattle.crsm_log_facts.proofs.Lists.{get_some, get_inside}
-use Rattle.crsm_log_facts.proofs.Logged.{end_fits}
+use Rattle.crsm_fact_log.proofs.Lists.{get_some, get_inside}
+use Rattle.crsm_fact_log.proofs.Logged.{end_fits}
 use Rattle.crsm_law_epoch.specs.LogWorlds.{HasFewBoots}
 use Rattle.crsm_law_epoch.proofs.LogWorlds.{logs_fit}
 use Rattle.crsm_law_messages.specs.Counted.{AllSpelt}
-use Rattle.crsm_law_decisions.specs.Laws.{IsSpecOf}
-use Rattle.crsm_law_decisions.proofs.Logs.{accept_fits, known_decide}
-use Rattle.crsm_law_decisions.proofs.Coordinators.{extends_among}
-use Rattle.crsm_law_decisions.proofs.Choice.{share}
-use Rattle.crsm_law_decisions.proofs.Worlds.{ballots_hold, decisions_are_collected}
-use Rattle.crsm_law_decisions.proofs.Agree.{Knows, First, Later, knows, decisions_are_one}
+use Rattle.crsm_law_agreement.specs.DecisionLaws.{IsSpecOf}
+use Rattle.crsm_law_agreement.proofs.DecidedLogs.{accept_fits, known_decide}
+use Rattle.crsm_law_agreement.proofs.Coordinators.{extends_among}
+use Rattle.crsm_law_agreement.proofs.Choice.{share}
+use Rattle.crsm_law_agreement.proofs.DecidedWorlds.{ballots_hold, decisions_are_collected}
+use Rattle.crsm_law_agreement.proofs.BallotsAgree.{Knows, First, Later, knows, decisions_are_one}
 use Rattle.crsm_law_agreement.specs.Openings.{IsOpening, IsEpochOf, EpochHolds}
-use Rattle.crsm_law_agreement.specs.Laws.{EpochsHold, ListsAgree}
+use Rattle.crsm_law_agreement.specs.ListLaws.{EpochsHold, ListsAgree}
 use Rattle.crsm_law_agreement.proofs.Lists.{prefixes}
 use Rattle.crsm_law_agreement.proofs.Worlds.{all_placed}
 use Rattle.crsm_law_agreement.proofs.Facts.{epoch_facts}

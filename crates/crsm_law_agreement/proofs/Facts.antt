@@ -7,9 +7,9 @@ use Rattle.crsm_spec.specs.Lists.{Among, has, numbers_below}
 use Rattle.crsm_spec.specs.Log.{Log, known, decision, members, logged_in, has_entered}
 use Rattle.crsm_spec.specs.Paxos.{majority}
 use Rattle.crsm_spec.specs.World.{World, log_at}
-use Rattle.crsm_log_facts.specs.Logs.{Extends, same, more, Logged}
+use Rattle.crsm_fact_log.specs.Logs.{Extends, same, more, Logged}
 use Rattle.crsm_law_steps.specs.Happenings.{IsReached}
-use Rattle.crsm_log_facts.proofs.Logged.{extends_trans, logged_is}
+use Rattle.crsm_fact_log.proofs.Logged.{extends_trans, logged_is}
 use Rattle.crsm_law_epoch.specs.Worlds.{seats, sent_in}
 use Rattle.crsm_law_epoch.proofs.Worlds.{seat_log_at}
 use Rattle.crsm_law_collection.specs.Collecting.{CommitOf, EpochFacts}
@@ -19,12 +19,12 @@ use Rattle.crsm_law_epoch.specs.Witness.{Witnessed}
 use Rattle.crsm_law_epoch.proofs.CommitLogs.{unexecuted_logged}
 use Rattle.crsm_law_epoch.proofs.CommitWorlds.{commits_are_witnessed}
 use Rattle.crsm_law_messages.specs.Counted.{AllSpelt}
-use Rattle.crsm_law_decisions.specs.Laws.{IsSpecOf}
-use Rattle.crsm_law_decisions.proofs.Agree.{known_are_one}
+use Rattle.crsm_law_agreement.specs.DecisionLaws.{IsSpecOf}
+use Rattle.crsm_law_agreement.proofs.BallotsAgree.{known_are_one}
 use Rattle.crsm_law_agreement.specs.Openings.{IsOpening, IsPlaced}
 use Rattle.crsm_law_agreement.proofs.Logs.{entered_as, is_logged}
 use Rattle.crsm_law_agreement.proofs.Worlds.{one_entry, all_placed}
-use Rattle.crsm_log_facts.proofs.Lists.{get_inside}
+use Rattle.crsm_fact_log.proofs.Lists.{get_inside}
 
 same_members : (n : ℕ) (a b : Log) → decision a ≡ decision b → members n a ≡ members n b
 unfolding members

@@ -1,3 +1,10 @@
+pub mod DecidedLogs
+pub mod Choice
+pub mod Coordinators
+pub mod Pages
+pub mod DecidedSteps
+pub mod DecidedWorlds
+pub mod BallotsAgree
 pub mod Lists
 pub mod Logs
 pub mod Placed

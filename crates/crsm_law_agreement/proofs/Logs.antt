@@ -7,7 +7,7 @@ use Rattle.crsm_spec.specs.Types.{Entry, Decision, Rec}
 use Rattle.crsm_spec.specs.Lists.{Among, has}
 use Rattle.crsm_spec.specs.Log.{Log, known, start, decision, members, logged_in, with_entry, has_entered, is_enter, live, executed, entry_of}
 use Rattle.crsm_spec.specs.Fits.{fits}
-use Rattle.crsm_log_facts.specs.Logs.{Extends, same, more, AllFit, Logged}
+use Rattle.crsm_fact_log.specs.Logs.{Extends, same, more, AllFit, Logged}
 use Rattle.crsm_law_collection.proofs.Orderly.{enter_fit}
 
 -- ---- records that execute nothing

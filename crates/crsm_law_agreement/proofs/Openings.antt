@@ -7,17 +7,17 @@ use Rattle.std.proofs.lemmas.Option.{none-some, same_Some}
 use Rattle.crsm_spec.specs.Types.{Entry, Decision, Rec}
 use Rattle.crsm_spec.specs.Lists.{Among, IsPrefixOf}
 use Rattle.crsm_spec.specs.Log.{Log, known, decision, start, executed}
-use Rattle.crsm_log_facts.specs.Logs.{AllFit, Extends}
+use Rattle.crsm_fact_log.specs.Logs.{AllFit, Extends}
 use Rattle.crsm_law_collection.specs.Collecting.{CommitOf, EpochFacts, IsCollected}
 use Rattle.crsm_law_collection.specs.Starts.{AgreeBelow}
 use Rattle.crsm_law_collection.proofs.Law.{are_well_made}
-use Rattle.crsm_log_facts.proofs.Lists.{get_some, get_left, get_inside}
-use Rattle.crsm_log_facts.proofs.Logged.{end_fits, logged_epoch}
+use Rattle.crsm_fact_log.proofs.Lists.{get_some, get_left, get_inside}
+use Rattle.crsm_fact_log.proofs.Logged.{end_fits, logged_epoch}
 use Rattle.crsm_law_collection.proofs.Prefixes.{lists_are_prefixes}
 use Rattle.crsm_law_steps.proofs.Happen.{got_among}
 use Rattle.crsm_law_epoch.proofs.CommitLogs.{unexecuted_logged}
-use Rattle.crsm_law_decisions.proofs.Agree.{Knows, First, Later, knows, decided_later}
-use Rattle.crsm_law_decisions.proofs.Coordinators.{extends_among}
+use Rattle.crsm_law_agreement.proofs.BallotsAgree.{Knows, First, Later, knows, decided_later}
+use Rattle.crsm_law_agreement.proofs.Coordinators.{extends_among}
 use Rattle.crsm_law_agreement.specs.Openings.{IsOpening, IsPlaced}
 use Rattle.crsm_law_agreement.proofs.Lists.{get_append, get_take, take_get, taken_length, get_right}
 

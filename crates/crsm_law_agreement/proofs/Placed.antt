@@ -11,9 +11,9 @@ use Rattle.crsm_spec.specs.Lists.{Among, first_of}
 use Rattle.crsm_spec.specs.Log.{Log, known, decision, executed, logged, logged_in, entry_of, unexecuted}
 use Rattle.crsm_spec.specs.Collect.{first_page}
 use Rattle.crsm_spec.specs.Controls.{page_from, new_entries, may_adopt}
-use Rattle.crsm_log_facts.specs.Logs.{Extends, same, more, Logged}
-use Rattle.crsm_log_facts.proofs.Logged.{extends_trans, logged_is}
-use Rattle.crsm_log_facts.proofs.Tests.{same_stamp}
+use Rattle.crsm_fact_log.specs.Logs.{Extends, same, more, Logged}
+use Rattle.crsm_fact_log.proofs.Logged.{extends_trans, logged_is}
+use Rattle.crsm_fact_log.proofs.Tests.{same_stamp}
 use Rattle.crsm_law_collection.specs.Collecting.{CommitOf}
 use Rattle.crsm_law_agreement.specs.Openings.{IsOpening, IsPlaced}
 use Rattle.crsm_law_agreement.proofs.Lists.{get_append, get_take}

@@ -14,20 +14,20 @@ use Rattle.crsm_spec.specs.Coordinate.{forget_epoch}
 use Rattle.crsm_spec.specs.Controls.{new_entries, may_adopt}
 use Rattle.crsm_spec.specs.Step.{Input}
 use Rattle.crsm_spec.specs.World.{Site, World, log_at}
-use Rattle.crsm_log_facts.specs.Logs.{AllFit, Extends, same, more, Logged}
-use Rattle.crsm_step_facts.specs.Messages.{ReceivesControl}
-use Rattle.crsm_step_facts.specs.Changes.{Change, Changes, stay, and_then}
-use Rattle.crsm_step_facts.specs.Changes.Change.{Submits, Refuses, Commits, Replies, Takes, Acks, IsAcked, Pays, Owes, SendsTime, SendsAgain, SendsControl, Gathers, Suspends, Collects, TakesPage, Completes, Refrains, GivesUp, Asks, CountsAnswer, Proposes, IsPreempted, AcceptsOwn, CountsVote, Promises, Accepts, Chooses, Learns, AdoptsTail, AdoptsPage, Enters}
+use Rattle.crsm_fact_log.specs.Logs.{AllFit, Extends, same, more, Logged}
+use Rattle.crsm_fact_step.specs.Messages.{ReceivesControl}
+use Rattle.crsm_fact_step.specs.Changes.{Change, Changes, stay, and_then}
+use Rattle.crsm_fact_step.specs.Changes.Change.{Submits, Refuses, Commits, Replies, Takes, Acks, IsAcked, Pays, Owes, SendsTime, SendsAgain, SendsControl, Gathers, Suspends, Collects, TakesPage, Completes, Refrains, GivesUp, Asks, CountsAnswer, Proposes, IsPreempted, AcceptsOwn, CountsVote, Promises, Accepts, Chooses, Learns, AdoptsTail, AdoptsPage, Enters}
 use Rattle.crsm_law_steps.specs.Happenings.{Marks, CanCome, IsReached}
-use Rattle.crsm_step_facts.proofs.Logs.{log_change, change_grows, send_still, replies_still}
-use Rattle.crsm_log_facts.proofs.Logged.{extends_trans, decide_above, end_fits}
+use Rattle.crsm_fact_step.proofs.Logs.{log_change, change_grows, send_still, replies_still}
+use Rattle.crsm_fact_log.proofs.Logged.{extends_trans, decide_above, end_fits}
 use Rattle.crsm_law_epoch.proofs.CommitLogs.{unexecuted_logged}
 use Rattle.crsm_law_messages.specs.Laws.{Says}
 use Rattle.crsm_law_messages.specs.Counted.{AllSpelt}
 use Rattle.crsm_law_messages.proofs.Worlds.{received_is_sent}
 use Rattle.crsm_law_messages.proofs.Truth.{sent_is_true}
-use Rattle.crsm_law_decisions.proofs.Logs.{decision_kept, known_decide}
-use Rattle.crsm_law_decisions.proofs.Coordinators.{extends_among}
+use Rattle.crsm_law_agreement.proofs.DecidedLogs.{decision_kept, known_decide}
+use Rattle.crsm_law_agreement.proofs.Coordinators.{extends_among}
 use Rattle.crsm_law_agreement.specs.Openings.{IsOpening}
 use Rattle.crsm_law_agreement.proofs.Lists.{get_drop, get_page}
 use Rattle.crsm_law_agreement.proofs.Logs.{live_long}

@@ -11,12 +11,12 @@ use Rattle.crsm_spec.specs.Draft.{begun, keep}
 use Rattle.crsm_spec.specs.Step.{Input, step, boot, boot_again, founding_boot, first_boot}
 use Rattle.crsm_spec.specs.World.{Site, World, Moment, begin, log_at, with_site, whole_step, cut_step, lost_step, down, after_step, then_down}
 use Rattle.crsm_spec.specs.Moments.{silent, begun_at, with_room, start_at}
-use Rattle.crsm_log_facts.specs.Logs.{Extends, same, more, Logged}
+use Rattle.crsm_fact_log.specs.Logs.{Extends, same, more, Logged}
 use Rattle.crsm_law_steps.specs.Happenings.{Marks, CanCome, Ends, Happens, IsReached}
 use Rattle.crsm_law_steps.specs.Happenings.Ends.{IsWhole, IsCut, IsLost}
 use Rattle.crsm_law_steps.specs.Happenings.Happens.{Nothing, Steps, Junk, Stops, Joins, Starts}
 use Rattle.crsm_law_steps.specs.Happenings.IsReached.{first, next}
-use Rattle.crsm_step_facts.proofs.Fitted.{step_changes}
+use Rattle.crsm_fact_step.proofs.Fitted.{step_changes}
 use Rattle.crsm_law_steps.proofs.Moments.{moment_goes_on}
 use Rattle.crsm_law_epoch.specs.Seats.{Seat, seat_up, seat_down}
 use Rattle.crsm_law_epoch.specs.Worlds.{seats}
@@ -24,8 +24,8 @@ use Rattle.crsm_law_epoch.proofs.Worlds.{marked_sites, seat_log_at, log_there, b
 use Rattle.crsm_law_epoch.specs.LogWorlds.{HasFewBoots}
 use Rattle.crsm_law_epoch.proofs.LogWorlds.{logs_fit, epochs_hold_always}
 use Rattle.crsm_law_messages.specs.Counted.{AllSpelt}
-use Rattle.crsm_law_decisions.proofs.Coordinators.{extends_among}
-use Rattle.crsm_law_decisions.proofs.Worlds.{log_other, at_set, same_logs, up_is, down_is, kept_logs, few_before, spelt_before}
+use Rattle.crsm_law_agreement.proofs.Coordinators.{extends_among}
+use Rattle.crsm_law_agreement.proofs.DecidedWorlds.{log_other, at_set, same_logs, up_is, down_is, kept_logs, few_before, spelt_before}
 use Rattle.crsm_law_agreement.specs.Openings.{IsOpening}
 use Rattle.crsm_law_agreement.proofs.Placed.{EndsPlaced, ends_on, opening_back, idle_placed}
 use Rattle.crsm_law_agreement.proofs.Steps.{AllPlaced, along}

@@ -1,2 +1,4 @@
+pub mod Ballots
+pub mod DecisionLaws
 pub mod Openings
-pub mod Laws
+pub mod ListLaws

@@ -3,9 +3,9 @@ use Rattle.std.specs.Prelude.{◌≡◌, ◌⊎◌, ℕ, ◌+◌, ◌<◌, ◌�
 use Rattle.crsm_spec.specs.Types.{Entry, Decision, Rec}
 use Rattle.crsm_spec.specs.Lists.{Among}
 use Rattle.crsm_spec.specs.Log.{Log, known, start, executed}
-use Rattle.crsm_log_facts.specs.Logs.{Extends}
+use Rattle.crsm_fact_log.specs.Logs.{Extends}
 use Rattle.crsm_law_collection.specs.Collecting.{CommitOf, EpochFacts}
-use Rattle.crsm_law_decisions.specs.Laws.{IsSpecOf}
+use Rattle.crsm_law_agreement.specs.DecisionLaws.{IsSpecOf}
 
 -- Epoch e begins with this list: each list of a replica that knows an earlier epoch is a prefix of it.
 pub record IsOpening (e : ℕ) (opening : List Entry) (logs : ℕ → Log) : Type 0 where

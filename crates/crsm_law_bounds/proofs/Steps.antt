@@ -24,20 +24,20 @@ use Rattle.crsm_spec.specs.Frames.{take_frame, receive, owe, ack, pay, owing, ag
 use Rattle.crsm_spec.specs.Coordinate.{forget_epoch, instance, greater_ballot, may_reconfigure, most_collected}
 use Rattle.crsm_spec.specs.Controls.{is_page_of, are_above, new_entries, page_from}
 use Rattle.crsm_spec.specs.Step.{Input}
-use Rattle.crsm_log_facts.specs.Logs.{AllFit, Extends, same, more, AreSpelt}
-use Rattle.crsm_step_facts.specs.Messages.{ReceivesControl, IsAsked, IsSent, Answers}
-use Rattle.crsm_step_facts.specs.Changes.{Change, Changes, stay, and_then, AsksFor, IsAnswer, IsNextRound, IsRefusal}
-use Rattle.crsm_step_facts.specs.Changes.Change.{Submits, Refuses, Commits, Replies, Takes, Acks, IsAcked, Pays, Owes, SendsTime, SendsAgain, SendsControl, Gathers, Suspends, Collects, TakesPage, Completes, Refrains, GivesUp, Asks, CountsAnswer, Proposes, IsPreempted, AcceptsOwn, CountsVote, Promises, Accepts, Chooses, Learns, AdoptsTail, AdoptsPage, Enters}
-use Rattle.crsm_log_facts.proofs.Logged.{extends_trans, end_fits}
-use Rattle.crsm_step_facts.proofs.Logs.{log_change, change_grows, send_still, replies_still, numbers_stay}
-use Rattle.crsm_log_facts.proofs.Lists.{list_all_at, all_at, all-append}
+use Rattle.crsm_fact_log.specs.Logs.{AllFit, Extends, same, more, AreSpelt}
+use Rattle.crsm_fact_step.specs.Messages.{ReceivesControl, IsAsked, IsSent, Answers}
+use Rattle.crsm_fact_step.specs.Changes.{Change, Changes, stay, and_then, AsksFor, IsAnswer, IsNextRound, IsRefusal}
+use Rattle.crsm_fact_step.specs.Changes.Change.{Submits, Refuses, Commits, Replies, Takes, Acks, IsAcked, Pays, Owes, SendsTime, SendsAgain, SendsControl, Gathers, Suspends, Collects, TakesPage, Completes, Refrains, GivesUp, Asks, CountsAnswer, Proposes, IsPreempted, AcceptsOwn, CountsVote, Promises, Accepts, Chooses, Learns, AdoptsTail, AdoptsPage, Enters}
+use Rattle.crsm_fact_log.proofs.Logged.{extends_trans, end_fits}
+use Rattle.crsm_fact_step.proofs.Logs.{log_change, change_grows, send_still, replies_still, numbers_stay}
+use Rattle.crsm_fact_log.proofs.Lists.{list_all_at, all_at, all-append}
 use Rattle.crsm_law_epoch.proofs.CommitLogs.{unexecuted_logged}
 use Rattle.crsm_law_messages.proofs.Coordinators.{send_coordinator, replies_coordinator}
 use Rattle.crsm_law_bounds.specs.Bounds.{most_records}
-use Rattle.crsm_log_facts.proofs.EntriesFit.{take_fits, drop_fits}
-use Rattle.crsm_log_facts.proofs.LogsFit.{decision_fits, known_small, accepted_fits, promised_fits, no_fits, logged_fits, executed_short, last_fits, frozen_fits, asked_page, executed_page}
-use Rattle.crsm_log_facts.specs.Pages.{AnswersFit, FitsPage, FitPages}
-use Rattle.crsm_log_facts.proofs.DecisionsFit.{value_fits, named_fits, cursor_fits, collected_fits}
+use Rattle.crsm_fact_log.proofs.EntriesFit.{take_fits, drop_fits}
+use Rattle.crsm_fact_log.proofs.LogsFit.{decision_fits, known_small, accepted_fits, promised_fits, no_fits, logged_fits, executed_short, last_fits, frozen_fits, asked_page, executed_page}
+use Rattle.crsm_fact_log.specs.Pages.{AnswersFit, FitsPage, FitPages}
+use Rattle.crsm_fact_log.proofs.DecisionsFit.{value_fits, named_fits, cursor_fits, collected_fits}
 
 -- ---- coordinators
 

@@ -17,19 +17,19 @@ use Rattle.crsm_spec.specs.Draft.{Draft, begun, keep}
 use Rattle.crsm_spec.specs.Step.{Input, step, boot, boot_again, founding_boot, first_boot}
 use Rattle.crsm_spec.specs.World.{Site, World, Moment, begin, log_of, log_at, with_site, whole_step, cut_step, lost_step, down, after_step, then_down}
 use Rattle.crsm_spec.specs.Moments.{silent, begun_at, with_room, start_at}
-use Rattle.crsm_log_facts.specs.Logs.{AllFit, Extends, same, Logged, AreSpelt}
+use Rattle.crsm_fact_log.specs.Logs.{AllFit, Extends, same, Logged, AreSpelt}
 use Rattle.crsm_law_steps.specs.Laws.{LogsGoOn}
-use Rattle.crsm_step_facts.specs.Messages.{ReceivesControl}
-use Rattle.crsm_step_facts.specs.Changes.{Changes, stay, and_then}
+use Rattle.crsm_fact_step.specs.Messages.{ReceivesControl}
+use Rattle.crsm_fact_step.specs.Changes.{Changes, stay, and_then}
 use Rattle.crsm_law_steps.specs.Happenings.{Marks, CanCome, Ends, Happens, IsReached}
 use Rattle.crsm_law_steps.specs.Happenings.CanCome.{IsPacket, IsCommand, IsReply, IsTick, IsSuspicion}
 use Rattle.crsm_law_steps.specs.Happenings.Marks.{none}
 use Rattle.crsm_law_steps.specs.Happenings.Ends.{IsWhole, IsCut, IsLost}
 use Rattle.crsm_law_steps.specs.Happenings.Happens.{Nothing, Steps, Junk, Stops, Joins, Starts}
 use Rattle.crsm_law_steps.specs.Happenings.IsReached.{first, next}
-use Rattle.crsm_log_facts.proofs.Logged.{extends_trans}
-use Rattle.crsm_step_facts.proofs.Logs.{log_change, change_grows, changes_grow}
-use Rattle.crsm_step_facts.proofs.Fitted.{step_changes}
+use Rattle.crsm_fact_log.proofs.Logged.{extends_trans}
+use Rattle.crsm_fact_step.proofs.Logs.{log_change, change_grows, changes_grow}
+use Rattle.crsm_fact_step.proofs.Fitted.{step_changes}
 use Rattle.crsm_law_steps.proofs.Moments.{set_case, moment_goes_on}
 use Rattle.crsm_law_epoch.specs.Worlds.{sent_in}
 use Rattle.crsm_law_epoch.proofs.Words.{get_either, among_map}
@@ -43,7 +43,7 @@ use Rattle.crsm_law_messages.proofs.Truth.{logs_carried}
 use Rattle.crsm_law_messages.proofs.History.{Sends, SendsIn, SendsAt, WasSentIn}
 use Rattle.crsm_law_messages.proofs.Worlds.{all_known, received_was_sent_in, kept_whole, kept_cut}
 use Rattle.crsm_law_bounds.specs.Bounds.{most_records, HasShortLogs, ShortLogsAreSpelt}
-use Rattle.crsm_log_facts.proofs.Lists.{all_at}
+use Rattle.crsm_fact_log.proofs.Lists.{all_at}
 use Rattle.crsm_law_bounds.proofs.Steps.{Fit, Comes, changes_fit, sent_fits, extends_length}
 
 -- ---- short logs

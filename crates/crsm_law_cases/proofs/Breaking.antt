@@ -10,11 +10,11 @@ use Rattle.crsm_spec.specs.Log.{Log}
 use Rattle.crsm_spec.specs.Draft.{Reply}
 use Rattle.crsm_spec.specs.Step.{boot}
 use Rattle.crsm_spec.specs.Node.{Turn, turn}
-use Rattle.crsm_lives.specs.Lives.{Life, kept_turns, kept_steps}
+use Rattle.crsm_spec_process.specs.Lives.{Life, kept_turns, kept_steps}
 use Rattle.crsm_law_examples.proofs.Opened.{the_model}
-use Rattle.crsm_law_histories.specs.Clusters.{Event, Process, Cluster, empty_host, unborn, outgoing_of, started, with_turn, kept, while_up, with_process, posted, host_at, log_in, with_host, next_out, sent_of, after}
-use Rattle.crsm_law_histories.specs.Histories.{clusters_from, clusters, last_from, last_cluster}
-use Rattle.crsm_law_histories.specs.Lawful.{IsGenuine, IsLawful}
+use Rattle.crsm_law_cluster.specs.Clusters.{Event, Process, Cluster, empty_host, unborn, outgoing_of, started, with_turn, kept, while_up, with_process, posted, host_at, log_in, with_host, next_out, sent_of, after}
+use Rattle.crsm_law_cluster.specs.Histories.{clusters_from, clusters, last_from, last_cluster}
+use Rattle.crsm_law_cluster.specs.Lawful.{IsGenuine, IsLawful}
 use Rattle.crsm_law_cluster.specs.OneList.{lists, one_list}
 use Rattle.crsm_law_lives.specs.Events.{after_turns, left_by, lives_of}
 use Rattle.crsm_law_lives.specs.Premises.{DisksKeep}

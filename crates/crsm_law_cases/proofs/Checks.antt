@@ -9,9 +9,9 @@ use Rattle.crsm_base.specs.MessageReading.{datagram_of}
 use Rattle.crsm_spec.specs.Types.{Command, Datagram}
 use Rattle.crsm_spec.specs.Lists.{Among}
 use Rattle.crsm_spec.specs.Node.{Turn}
-use Rattle.crsm_law_histories.specs.Clusters.{Event, Host, Cluster, empty_host, host_at, log_in}
-use Rattle.crsm_law_histories.specs.Lawful.{IsByte, IsGenuine, MayHappen}
-use Rattle.crsm_law_histories.specs.Laws.{HasShortLogs}
+use Rattle.crsm_law_cluster.specs.Clusters.{Event, Host, Cluster, empty_host, host_at, log_in}
+use Rattle.crsm_law_cluster.specs.Lawful.{IsByte, IsGenuine, MayHappen}
+use Rattle.crsm_law_cluster.specs.HistoryLaws.{HasShortLogs}
 
 -- ---- checks
 

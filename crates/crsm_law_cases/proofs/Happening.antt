@@ -11,9 +11,9 @@ use Rattle.crsm_spec.specs.Decided.{decisions_in}
 use Rattle.crsm_spec.specs.Draft.{Reply}
 use Rattle.crsm_spec.specs.Node.{Turn}
 use Rattle.crsm_law_examples.proofs.Opened.{the_model}
-use Rattle.crsm_law_histories.specs.Clusters.{Event, Outgoing, empty_host, unborn, outgoing_of, started, with_turn, kept, while_up, with_process, posted, host_at, log_in, with_host, next_out, sent_of, after}
-use Rattle.crsm_law_histories.specs.Histories.{clusters_from, clusters, last_from, last_cluster}
-use Rattle.crsm_law_histories.specs.Lawful.{IsLawful}
+use Rattle.crsm_law_cluster.specs.Clusters.{Event, Outgoing, empty_host, unborn, outgoing_of, started, with_turn, kept, while_up, with_process, posted, host_at, log_in, with_host, next_out, sent_of, after}
+use Rattle.crsm_law_cluster.specs.Histories.{clusters_from, clusters, last_from, last_cluster}
+use Rattle.crsm_law_cluster.specs.Lawful.{IsLawful}
 use Rattle.crsm_law_cluster.specs.OneList.{world_of}
 use Rattle.crsm_law_cluster.specs.Going.{IsReplied}
 use Rattle.crsm_law_cases.specs.Cases.{AllHappens}

@@ -7,13 +7,13 @@ use Rattle.crsm_spec.specs.Log.{executed}
 use Rattle.crsm_spec.specs.Draft.{Draft, Reply}
 use Rattle.crsm_spec.specs.Decided.{decisions_in}
 use Rattle.crsm_spec.specs.Node.{Turn}
-use Rattle.crsm_lives.specs.Lives.{Life, kept_steps}
-use Rattle.crsm_law_histories.specs.Clusters.{Event, Outgoing, Process, host_at, log_in}
-use Rattle.crsm_law_histories.specs.Histories.{last_cluster}
-use Rattle.crsm_law_histories.specs.Lawful.{IsLawful}
+use Rattle.crsm_spec_process.specs.Lives.{Life, kept_steps}
+use Rattle.crsm_law_cluster.specs.Clusters.{Event, Outgoing, Process, host_at, log_in}
+use Rattle.crsm_law_cluster.specs.Histories.{last_cluster}
+use Rattle.crsm_law_cluster.specs.Lawful.{IsLawful}
 use Rattle.crsm_law_cluster.specs.OneList.{one_list, world_of}
 use Rattle.crsm_law_cluster.specs.Going.{IsReplied}
-use Rattle.crsm_law_cluster.specs.Laws.{IsHistory}
+use Rattle.crsm_law_cluster.specs.ClusterLaws.{IsHistory}
 use Rattle.crsm_law_lives.specs.Premises.{DisksKeep}
 
 -- A lawful history that began with one replica: an answer goes out, a group is lost with its process, which starts again,

@@ -8,7 +8,7 @@ use Rattle.crsm_spec.specs.Lists.{Among, first_of}
 use Rattle.crsm_spec.specs.Log.{executed}
 use Rattle.crsm_spec.specs.Draft.{Reply}
 use Rattle.crsm_spec.specs.World.{World, log_at}
-use Rattle.crsm_log_facts.proofs.Lists.{get_some}
+use Rattle.crsm_fact_log.proofs.Lists.{get_some}
 use Rattle.crsm_law_steps.specs.Laws.{LogsGoOn}
 use Rattle.crsm_law_steps.proofs.Moments.{on_then}
 use Rattle.crsm_law_runs.specs.Last.{IsDurableIn}
@@ -17,12 +17,12 @@ use Rattle.crsm_law_runs.proofs.Holds.{Holds, IsWithin}
 use Rattle.crsm_law_runs.proofs.Moments.{seen_holds}
 use Rattle.crsm_law_runs.proofs.Runs.{executed_longer}
 use Rattle.crsm_law_runs.proofs.DurableLists.{prefix_get}
-use Rattle.crsm_law_histories.specs.Clusters.{Event, Outgoing, Process, Cluster, host_at, next_out}
-use Rattle.crsm_law_histories.specs.Histories.{last_cluster}
-use Rattle.crsm_law_histories.specs.Told.{Says, IsTold}
-use Rattle.crsm_law_histories.specs.Showing.{AreShownBy}
+use Rattle.crsm_law_cluster.specs.Clusters.{Event, Outgoing, Process, Cluster, host_at, next_out}
+use Rattle.crsm_law_cluster.specs.Histories.{last_cluster}
+use Rattle.crsm_law_cluster.specs.Told.{Says, IsTold}
+use Rattle.crsm_law_cluster.specs.Showing.{AreShownBy}
 use Rattle.crsm_law_cluster.specs.OneList.{one_list, world_of}
-use Rattle.crsm_law_cluster.specs.Laws.{IsHistory, IsRightAnswer, IsRightDrop, AnswersAreRight, AnsweredAreDurable}
+use Rattle.crsm_law_cluster.specs.ClusterLaws.{IsHistory, IsRightAnswer, IsRightDrop, AnswersAreRight, AnsweredAreDurable}
 use Rattle.crsm_law_cluster.proofs.Last.{shown, last}
 use Rattle.crsm_law_cluster.proofs.Durable.{durable_there}
 

@@ -14,12 +14,12 @@ use Rattle.crsm_law_runs.proofs.RunLists.{each_of, of_each}
 use Rattle.crsm_law_runs.proofs.DurableLists.{among_place}
 use Rattle.crsm_law_runs.proofs.Decisions as decisions
 use Rattle.crsm_law_runs.proofs.Durable.{durable}
-use Rattle.crsm_law_histories.specs.Clusters.{Event, Cluster}
-use Rattle.crsm_law_histories.specs.Histories.{clusters, last_cluster}
-use Rattle.crsm_law_histories.specs.Showing.{IsShownBy}
-use Rattle.crsm_law_histories.proofs.Agree.{list_is}
+use Rattle.crsm_law_cluster.specs.Clusters.{Event, Cluster}
+use Rattle.crsm_law_cluster.specs.Histories.{clusters, last_cluster}
+use Rattle.crsm_law_cluster.specs.Showing.{IsShownBy}
+use Rattle.crsm_law_cluster.proofs.Agree.{list_is}
 use Rattle.crsm_law_cluster.specs.OneList.{one_list, world_of}
-use Rattle.crsm_law_cluster.specs.Laws.{IsHistory, DecisionsAgree, ExecutedAreDurable}
+use Rattle.crsm_law_cluster.specs.ClusterLaws.{IsHistory, DecisionsAgree, ExecutedAreDurable}
 use Rattle.crsm_law_cluster.proofs.Last.{shown, last}
 use Rattle.crsm_law_cluster.proofs.Views.{decisions_are, spec_is, kept_by}
 

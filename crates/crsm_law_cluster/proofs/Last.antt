@@ -10,10 +10,10 @@ use Rattle.crsm_spec.specs.Lists.{Among, IsPrefixOf, numbers_below}
 use Rattle.crsm_spec.specs.Log.{Log, executed}
 use Rattle.crsm_spec.specs.Run.{longest}
 use Rattle.crsm_spec.specs.World.{World, Site, log_of, log_at}
-use Rattle.crsm_log_facts.specs.Logs.{Extends, same, more, AreSpelt}
-use Rattle.crsm_log_facts.proofs.Lists.{flat_from, flat_in}
-use Rattle.crsm_log_facts.proofs.Logged.{end_fits, extends_trans}
-use Rattle.crsm_log_facts.proofs.LogsFit.{executed_rises}
+use Rattle.crsm_fact_log.specs.Logs.{Extends, same, more, AreSpelt}
+use Rattle.crsm_fact_log.proofs.Lists.{flat_from, flat_in}
+use Rattle.crsm_fact_log.proofs.Logged.{end_fits, extends_trans}
+use Rattle.crsm_fact_log.proofs.LogsFit.{executed_rises}
 use Rattle.crsm_law_epoch.proofs.Words.{among_map, among_unmap, is_range}
 use Rattle.crsm_law_epoch.proofs.LogWorlds.{logs_fit}
 use Rattle.crsm_law_bounds.specs.Bounds.{IsSpelt}
@@ -23,13 +23,13 @@ use Rattle.crsm_law_runs.specs.Last.{IsLast}
 use Rattle.crsm_law_runs.proofs.RunLists.{of_each, longest_among, none_longer, shorter_prefix, empty_prefix}
 use Rattle.crsm_law_runs.proofs.Runs.{executed_longer}
 use Rattle.crsm_law_runs.proofs.DurableLists.{among_place}
-use Rattle.crsm_law_histories.specs.Clusters.{Event, Cluster, log_in, after, unborn}
-use Rattle.crsm_law_histories.specs.Histories.{clusters_from, clusters, last_from, last_cluster}
-use Rattle.crsm_law_histories.specs.Showing.{IsShown}
-use Rattle.crsm_law_histories.proofs.Showing.{histories_are_shown}
-use Rattle.crsm_law_histories.proofs.Agree.{shown_short, list_is}
+use Rattle.crsm_law_cluster.specs.Clusters.{Event, Cluster, log_in, after, unborn}
+use Rattle.crsm_law_cluster.specs.Histories.{clusters_from, clusters, last_from, last_cluster}
+use Rattle.crsm_law_cluster.specs.Showing.{IsShown}
+use Rattle.crsm_law_cluster.proofs.Showing.{histories_are_shown}
+use Rattle.crsm_law_cluster.proofs.Agree.{shown_short, list_is}
 use Rattle.crsm_law_cluster.specs.OneList.{lists, one_list}
-use Rattle.crsm_law_cluster.specs.Laws.{IsHistory, ListsAreOne, ExecutedListsGrow}
+use Rattle.crsm_law_cluster.specs.ClusterLaws.{IsHistory, ListsAreOne, ExecutedListsGrow}
 
 -- the last cluster is one of all
 last_of : (c : Cluster) (h : List Event) → Among (clusters_from c h) (last_from c h)

@@ -15,8 +15,8 @@ use Rattle.crsm_spec.specs.World.{World, Site, log_of, log_at}
 use Rattle.crsm_law_epoch.proofs.LogWorlds.{all_held}
 use Rattle.crsm_law_runs.proofs.RunLists.{each_of, of_each}
 use Rattle.crsm_law_runs.proofs.DurableLists.{among_contains}
-use Rattle.crsm_law_histories.specs.Clusters.{Host, Cluster, host_at, log_in, empty_host}
-use Rattle.crsm_law_histories.specs.Showing.{IsShownBy}
+use Rattle.crsm_law_cluster.specs.Clusters.{Host, Cluster, host_at, log_in, empty_host}
+use Rattle.crsm_law_cluster.specs.Showing.{IsShownBy}
 use Rattle.crsm_law_cluster.specs.OneList.{world_of}
 
 -- ---- logs

@@ -1,8 +1,8 @@
 -- Replies that go out.
 use Rattle.std.specs.Prelude.{◌≡◌, ℕ, List, Some, slice_get}
 use Rattle.crsm_spec.specs.Draft.{Reply}
-use Rattle.crsm_law_histories.specs.Clusters.{Event, Outgoing, Cluster, next_out}
-use Rattle.crsm_law_histories.specs.Histories.{clusters}
+use Rattle.crsm_law_cluster.specs.Clusters.{Event, Outgoing, Cluster, next_out}
+use Rattle.crsm_law_cluster.specs.Histories.{clusters}
 
 -- the i-th event, and the cluster before it
 pub record IsAt (n : ℕ) (h : List Event) (i : ℕ) (c : Cluster) (e : Event) : Type 0 where

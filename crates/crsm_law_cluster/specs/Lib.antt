@@ -1,3 +1,11 @@
+pub mod Clusters
+pub mod Histories
+pub mod Lawful
+pub mod Told
+pub mod Showing
+pub mod HistoryLaws
 pub mod OneList
 pub mod Going
-pub mod Laws
+pub mod ClusterLaws
+pub mod Requests
+pub mod RequestLaws

@@ -5,8 +5,8 @@ use Rattle.crsm_spec.specs.Lists.{numbers_below}
 use Rattle.crsm_spec.specs.Log.{executed}
 use Rattle.crsm_spec.specs.Run.{longest}
 use Rattle.crsm_spec.specs.World.{World, Site}
-use Rattle.crsm_law_histories.specs.Clusters.{Event, Cluster, log_in}
-use Rattle.crsm_law_histories.specs.Histories.{clusters}
+use Rattle.crsm_law_cluster.specs.Clusters.{Event, Cluster, log_in}
+use Rattle.crsm_law_cluster.specs.Histories.{clusters}
 
 -- the executed list of each log file, at each moment
 unfoldable pub lists : ℕ → List Event → List (List Entry)

@@ -6,9 +6,9 @@ use Rattle.crsm_spec.specs.Types.{Decision, Rec}
 use Rattle.crsm_spec.specs.Quorum.{spec_decided}
 use Rattle.crsm_spec.specs.Log.{Log, known, decision, logged_in, suspended, live, active, with_entry}
 use Rattle.crsm_spec.specs.Fits.{fits, booted, can_be_members}
-use Rattle.crsm_log_facts.specs.Logs.{Extends, same, more, AllFit}
+use Rattle.crsm_fact_log.specs.Logs.{Extends, same, more, AllFit}
 use Rattle.crsm_law_collection.specs.Frozen.{StaysFrozen}
-use Rattle.crsm_log_facts.proofs.Logged.{prepare_known, decide_above}
+use Rattle.crsm_fact_log.proofs.Logged.{prepare_known, decide_above}
 
 -- the log is suspended in epoch e, or knows a later one
 abbrev Past : ℕ → Log → Type 0

@@ -9,12 +9,12 @@ use Rattle.crsm_spec.specs.Lists.{has, Among, first_of}
 use Rattle.crsm_spec.specs.Log.{entry_of, Log, decision, known, start, with_entry, logged_in, logged, executed, last_stamp, unexecuted}
 use Rattle.crsm_spec.specs.Paxos.{majority}
 use Rattle.crsm_spec.specs.Fits.{fits}
-use Rattle.crsm_log_facts.specs.Logs.{Extends, same, more, AllFit}
+use Rattle.crsm_fact_log.specs.Logs.{Extends, same, more, AllFit}
 use Rattle.crsm_law_collection.specs.Collecting.{CommitOf, EpochFacts}
 use Rattle.crsm_law_collection.specs.Keeping.{Origins, OwesOfState, FactsOfStateGoOn, OneMore, Owes, FactsBegin, FactsGoOn}
-use Rattle.crsm_log_facts.proofs.Sorted.{Lt, lt_not, le_self, le_both, eq_le, above_from}
-use Rattle.crsm_log_facts.proofs.Lists.{all_at, get_inside}
-use Rattle.crsm_log_facts.proofs.Logged.{Apart, newest_all, entry_in, prepare_known, extends_trans, entry_from, logged_grows, decide_above}
+use Rattle.crsm_fact_log.proofs.Sorted.{Lt, lt_not, le_self, le_both, eq_le, above_from}
+use Rattle.crsm_fact_log.proofs.Lists.{all_at, get_inside}
+use Rattle.crsm_fact_log.proofs.Logged.{Apart, newest_all, entry_in, prepare_known, extends_trans, entry_from, logged_grows, decide_above}
 use Rattle.crsm_law_collection.proofs.Orderly.{commit_fit, orderly, logged_now}
 use Rattle.crsm_law_collection.proofs.Suffices.{either_part, first_with, adopt_parts, found_logged, executed_upto}
 

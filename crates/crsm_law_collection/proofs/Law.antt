@@ -9,19 +9,19 @@ use Rattle.crsm_spec.specs.Types.{Stamp, Entry, Decision}
 use Rattle.crsm_spec.specs.Lists.{has, Among, first_of, last_of, greatest}
 use Rattle.crsm_spec.specs.Log.{Log, known, logged_in, logged, executed, last_stamp, above, suspended}
 use Rattle.crsm_spec.specs.Replica.{LogPage}
-use Rattle.crsm_log_facts.specs.Counting.{IsMajorityOf}
+use Rattle.crsm_fact_log.specs.Counting.{IsMajorityOf}
 use Rattle.crsm_spec.specs.Collect.{frozen, pages_of, whole_ones, all_entries, first_pages, base_of, floor_of, union, collected}
-use Rattle.crsm_log_facts.specs.Logs.{Extends}
+use Rattle.crsm_fact_log.specs.Logs.{Extends}
 use Rattle.crsm_law_collection.proofs.Choosing.{meet}
-use Rattle.crsm_log_facts.specs.Rising.{IsAbove, Rises}
+use Rattle.crsm_fact_log.specs.Rising.{IsAbove, Rises}
 use Rattle.crsm_law_collection.specs.Collecting.{IsCollected, ReportsMakeCollections, CollectionsStay, Stands, CommitsStand, IsWellMade, CollectionsAreWellMade, CommitOf, EpochFacts, Reports, StandsAt, CollectionLaw}
-use Rattle.crsm_log_facts.proofs.Sorted.{Lt, Le, le_trans, le_lt, le_both, lt_is_le, lt_or_le, same_rising, upto, upto_from, upto_in, rises_upto, rises_above, split, above_from, above_in, top_at}
-use Rattle.crsm_log_facts.proofs.Lists.{all_from, get_left, among_left, among_right, among_either, flat_from, flat_in, has_from, has_in, get_inside, get_some}
-use Rattle.crsm_log_facts.proofs.Logged.{extends_trans, end_fits, logged_grows, logged_epoch}
+use Rattle.crsm_fact_log.proofs.Sorted.{Lt, Le, le_trans, le_lt, le_both, lt_is_le, lt_or_le, same_rising, upto, upto_from, upto_in, rises_upto, rises_above, split, above_from, above_in, top_at}
+use Rattle.crsm_fact_log.proofs.Lists.{all_from, get_left, among_left, among_right, among_either, flat_from, flat_in, has_from, has_in, get_inside, get_some}
+use Rattle.crsm_fact_log.proofs.Logged.{extends_trans, end_fits, logged_grows, logged_epoch}
 use Rattle.crsm_law_collection.proofs.Freeze.{stays_frozen}
-use Rattle.crsm_log_facts.proofs.Union.{union_rises, union_from, union_has}
+use Rattle.crsm_fact_log.proofs.Union.{union_rises, union_from, union_has}
 use Rattle.crsm_law_collection.proofs.Orderly.{cut, cut_length, cut_has, cut_rises, cut_commits, cut_from, cut_in, logged_now}
-use Rattle.crsm_log_facts.proofs.Pages.{firsts_from, firsts_in, top_high, top_from, found_from, found_none}
+use Rattle.crsm_fact_log.proofs.Pages.{firsts_from, firsts_in, top_high, top_from, found_from, found_none}
 
 -- ---- lists
 

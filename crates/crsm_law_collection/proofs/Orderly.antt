@@ -12,12 +12,12 @@ use Rattle.crsm_base.specs.Order.{stamp_lt, stamp_eq}
 use Rattle.crsm_spec.specs.Lists.{Among, first_of, last_of}
 use Rattle.crsm_spec.specs.Log.{entry_of, Log, decision, known, start, with_entry, logged_in, logged, executed, last_stamp, above, unexecuted, live, suspended, active, has_entered}
 use Rattle.crsm_spec.specs.Fits.{fits, is_newest}
-use Rattle.crsm_log_facts.specs.Logs.{Extends, same, more}
-use Rattle.crsm_log_facts.specs.Rising.{Rises}
+use Rattle.crsm_fact_log.specs.Logs.{Extends, same, more}
+use Rattle.crsm_fact_log.specs.Rising.{Rises}
 use Rattle.crsm_law_collection.specs.Collecting.{CommitOf, EpochFacts}
-use Rattle.crsm_log_facts.proofs.Sorted.{Lt, Le, lt_not, le_self, le_both, lt_is_le, lt_or_le, le_time, eq_le, le_trans, same_rising, upto, upto_from, upto_in, rises_upto, rises_above, above_from, above_in}
-use Rattle.crsm_log_facts.proofs.Lists.{all_at, all_from, among_left, among_right, among_either, get_left}
-use Rattle.crsm_log_facts.proofs.Logged.{extends_trans, end_fits, entry_in, Apart, newest_all, prepare_known, logged_rises, logged_epoch, logged_grows}
+use Rattle.crsm_fact_log.proofs.Sorted.{Lt, Le, lt_not, le_self, le_both, lt_is_le, lt_or_le, le_time, eq_le, le_trans, same_rising, upto, upto_from, upto_in, rises_upto, rises_above, above_from, above_in}
+use Rattle.crsm_fact_log.proofs.Lists.{all_at, all_from, among_left, among_right, among_either, get_left}
+use Rattle.crsm_fact_log.proofs.Logged.{extends_trans, end_fits, entry_in, Apart, newest_all, prepare_known, logged_rises, logged_epoch, logged_grows}
 
 -- ---- rising lists in two parts
 

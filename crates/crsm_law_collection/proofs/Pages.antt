@@ -13,12 +13,12 @@ use Rattle.crsm_spec.specs.Replica.{LogPage}
 use Rattle.crsm_base.specs.Spelling.{entry_bytes}
 use Rattle.crsm_base.specs.Limits.{page_bytes}
 use Rattle.crsm_spec.specs.Collect.{frozen, asked_of, first_page, run_within, suspend_ok, own_page, pages_of, is_whole, cursor, whole_ones}
-use Rattle.crsm_log_facts.specs.Rising.{Rises, IsAbove}
+use Rattle.crsm_fact_log.specs.Rising.{Rises, IsAbove}
 use Rattle.crsm_law_collection.specs.Collecting.{ReportOf}
 use Rattle.crsm_law_collection.specs.Paging.{answer_page, AnswersArePages, IsPart, IsFrozen, PagesBegin, PagesGoOn, PagesReport, PagesStay}
-use Rattle.crsm_log_facts.proofs.Sorted.{Lt, lt_trans, same_rising, rises_above, above_from, above_in}
-use Rattle.crsm_log_facts.proofs.Lists.{among_left, kept_from, has_from}
-use Rattle.crsm_log_facts.proofs.Logged.{extends_trans, end_fits, logged_rises}
+use Rattle.crsm_fact_log.proofs.Sorted.{Lt, lt_trans, same_rising, rises_above, above_from, above_in}
+use Rattle.crsm_fact_log.proofs.Lists.{among_left, kept_from, has_from}
+use Rattle.crsm_fact_log.proofs.Logged.{extends_trans, end_fits, logged_rises}
 use Rattle.crsm_law_collection.proofs.Freeze.{stays_frozen}
 use Rattle.crsm_law_collection.proofs.Orderly.{above_last, last_top, rises_left, logged_now}
 

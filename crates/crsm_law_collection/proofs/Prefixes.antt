@@ -12,18 +12,18 @@ use Rattle.crsm_spec.specs.Collect.{pages_of, whole_ones, all_entries, first_pag
 use Rattle.crsm_base.specs.Order.{stamp_lt, entry_lt}
 use Rattle.crsm_base.specs.Reading.{is_rising}
 use Rattle.crsm_spec.specs.Replica.{LogPage}
-use Rattle.crsm_log_facts.specs.Rising.{Rises}
+use Rattle.crsm_fact_log.specs.Rising.{Rises}
 use Rattle.crsm_law_collection.specs.Collecting.{IsWellMade}
 use Rattle.crsm_law_collection.specs.Starts.{CompleteIsCollected, ListsArePrefixes, StartRises}
-use Rattle.crsm_log_facts.specs.Collected.{CollectedIsMade}
-use Rattle.crsm_log_facts.proofs.Lists.{flat_from, flat_in, get_some}
-use Rattle.crsm_log_facts.proofs.Pages.{firsts_from, firsts_in, top_high, top_from, found_from, found_none}
+use Rattle.crsm_fact_log.specs.Collected.{CollectedIsMade}
+use Rattle.crsm_fact_log.proofs.Lists.{flat_from, flat_in, get_some}
+use Rattle.crsm_fact_log.proofs.Pages.{firsts_from, firsts_in, top_high, top_from, found_from, found_none}
 use Rattle.crsm_law_collection.proofs.Law.{commit_epoch, are_well_made, reports_make, commits_stand}
 use Rattle.crsm_law_collection.proofs.Pages.{pages_report}
-use Rattle.crsm_log_facts.proofs.Merge.{whole_ones_are_many, above_same}
-use Rattle.crsm_log_facts.proofs.Sorted.{Lt, rises_above, above_from, above_in}
-use Rattle.crsm_log_facts.proofs.Union.{union_rises, union_from, union_has}
-use Rattle.crsm_log_facts.proofs.Logged.{logged_epoch}
+use Rattle.crsm_fact_log.proofs.Merge.{whole_ones_are_many, above_same}
+use Rattle.crsm_fact_log.proofs.Sorted.{Lt, rises_above, above_from, above_in}
+use Rattle.crsm_fact_log.proofs.Union.{union_rises, union_from, union_has}
+use Rattle.crsm_fact_log.proofs.Logged.{logged_epoch}
 
 pub complete_is_collected : CompleteIsCollected
 complete_is_collected e n begins counted members named logs log pages facts knows starts parts many =

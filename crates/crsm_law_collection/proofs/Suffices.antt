@@ -13,12 +13,12 @@ use Rattle.crsm_spec.specs.Paxos.{majority}
 use Rattle.crsm_spec.specs.Replica.{Replica, members_of, spec_of}
 use Rattle.crsm_spec.specs.Ready.{is_replicated, is_stable, is_next, is_ready, votes_for, voted, reached, all_received}
 use Rattle.crsm_spec.specs.Fits.{fits, booted, goes_on}
-use Rattle.crsm_log_facts.specs.Logs.{Extends, same, more, AllFit}
+use Rattle.crsm_fact_log.specs.Logs.{Extends, same, more, AllFit}
 use Rattle.crsm_law_collection.specs.Collecting.{CommitOf}
 use Rattle.crsm_law_collection.specs.Premises.{Premises, PremisesSuffice}
-use Rattle.crsm_log_facts.proofs.Sorted.{le_both, eq_le, above_from}
-use Rattle.crsm_log_facts.proofs.Logged.{extends_trans, end_fits, logged_epoch, logged_grows, decide_above}
-use Rattle.crsm_log_facts.proofs.Lists.{list_all_at, has_from}
+use Rattle.crsm_fact_log.proofs.Sorted.{le_both, eq_le, above_from}
+use Rattle.crsm_fact_log.proofs.Logged.{extends_trans, end_fits, logged_epoch, logged_grows, decide_above}
+use Rattle.crsm_fact_log.proofs.Lists.{list_all_at, has_from}
 use Rattle.crsm_law_collection.proofs.Orderly.{commit_fit, enter_fit, logged_now, first_from}
 
 -- ---- lists

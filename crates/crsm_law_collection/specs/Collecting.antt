@@ -7,10 +7,10 @@ use Rattle.crsm_spec.specs.Lists.{has, first_of, Among}
 use Rattle.crsm_spec.specs.Log.{Log, known, start, logged_in, executed, last_stamp, unexecuted, suspended, above}
 use Rattle.crsm_spec.specs.Paxos.{majority}
 use Rattle.crsm_spec.specs.Replica.{LogPage}
-use Rattle.crsm_log_facts.specs.Counting.{IsMajorityOf}
+use Rattle.crsm_fact_log.specs.Counting.{IsMajorityOf}
 use Rattle.crsm_spec.specs.Collect.{frozen, pages_of, whole_ones, union, collected}
-use Rattle.crsm_log_facts.specs.Logs.{Extends, AllFit}
-use Rattle.crsm_log_facts.specs.Rising.{Rises}
+use Rattle.crsm_fact_log.specs.Logs.{Extends, AllFit}
+use Rattle.crsm_fact_log.specs.Rising.{Rises}
 
 -- A commit in epoch e that some replica has made by now: it had the log `log`, and executed x at this place.
 -- `logs` says which log each replica has now.

@@ -1,7 +1,7 @@
 -- A suspended replica logs no more in the epoch that it knows, whatever comes: its later logs have the same entries.
 use Rattle.std.specs.Prelude.{◌≡◌, ℕ, IsTrue}
 use Rattle.crsm_spec.specs.Log.{Log, known, logged_in, suspended}
-use Rattle.crsm_log_facts.specs.Logs.{Extends, AllFit}
+use Rattle.crsm_fact_log.specs.Logs.{Extends, AllFit}
 
 abbrev pub StaysFrozen : Type 0
 StaysFrozen =

@@ -6,7 +6,7 @@ use Rattle.crsm_spec.specs.Lists.{first_of}
 use Rattle.crsm_spec.specs.Log.{Log, known, executed, last_stamp, suspended}
 use Rattle.crsm_spec.specs.Replica.{LogPage}
 use Rattle.crsm_spec.specs.Collect.{frozen, asked_of, first_page, suspend_ok, own_page, pages_of, is_whole, cursor, whole_ones}
-use Rattle.crsm_log_facts.specs.Logs.{Extends, AllFit}
+use Rattle.crsm_fact_log.specs.Logs.{Extends, AllFit}
 use Rattle.crsm_law_collection.specs.Collecting.{Reports}
 
 -- what the receiver of k's answer sees of it

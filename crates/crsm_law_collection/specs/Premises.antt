@@ -5,7 +5,7 @@ use Rattle.crsm_spec.specs.Lists.{has, Among}
 use Rattle.crsm_spec.specs.Log.{Log, known, start, logged_in, executed}
 use Rattle.crsm_spec.specs.Replica.{Replica, members_of, spec_of}
 use Rattle.crsm_spec.specs.Ready.{is_ready, voted, reached, all_received}
-use Rattle.crsm_log_facts.specs.Logs.{Extends, AllFit}
+use Rattle.crsm_fact_log.specs.Logs.{Extends, AllFit}
 use Rattle.crsm_law_collection.specs.Collecting.{CommitOf, EpochFacts}
 
 -- How a commit was made: the replica as it was, and the log that each replica had at that moment.

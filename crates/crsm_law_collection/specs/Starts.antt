@@ -7,8 +7,8 @@ use Rattle.crsm_spec.specs.Paxos.{majority}
 use Rattle.crsm_spec.specs.Replica.{LogPage}
 use Rattle.crsm_spec.specs.Collect.{pages_of, whole_ones, collected}
 use Rattle.crsm_base.specs.Reading.{is_rising}
-use Rattle.crsm_log_facts.specs.Logs.{Extends}
-use Rattle.crsm_log_facts.specs.Rising.{Rises, IsAbove}
+use Rattle.crsm_fact_log.specs.Logs.{Extends}
+use Rattle.crsm_fact_log.specs.Rising.{Rises, IsAbove}
 use Rattle.crsm_law_collection.specs.Collecting.{EpochFacts, IsCollected}
 use Rattle.crsm_law_collection.specs.Paging.{AreParts}
 

@@ -4,8 +4,8 @@ use Rattle.std.proofs.lemmas.Bool.{leb-false}
 use Rattle.std.proofs.lemmas.List.{length-map}
 use Rattle.std.specs.List.{AllByRecursion}
 use Rattle.crsm_base.specs.Limits.{most_world}
-use Rattle.crsm_generator.specs.Drawing.{begun, drawn_next}
-use Rattle.crsm_generator.specs.declared.drawing.Drawing.{Drawing}
+use Rattle.crsm_sim_generator.specs.Drawing.{begun, drawn_next}
+use Rattle.crsm_sim_generator.specs.declared.drawing.Drawing.{Drawing}
 use Rattle.crsm_schedule.specs.declared.Event.{Event}
 use Rattle.crsm_schedule.specs.declared.Single.{Single}
 use Rattle.crsm_law_draws.specs.Drawn.{drawn, drawn_from}

@@ -8,10 +8,10 @@ use Rattle.crsm_base.specs.Members.{IsMembers, RisesWithin}
 use Rattle.crsm_base.specs.Replicas.{majority}
 use Rattle.crsm_base.specs.Spelling.{FitsCommand, FitsKey, FitsOp, FitsOption, FitsVal}
 use Rattle.crsm_base.specs.declared.command.Op.{Op}
-use Rattle.crsm_generator.specs.Drawing.{Drawn, after_head, asked, begun, behind, capped_sum, drawn_cas, drawn_command, drawn_expected, drawn_next, drawn_op, head_of, if_possible, kind_of, number_behind, one_of, op_of_kind, otherwise}
-use Rattle.crsm_generator.specs.Sequence.{draw, later}
-use Rattle.crsm_generator.specs.View.{View, places, is_up_in, up_replicas, down_replicas, fresh_to_any, fresh_to_up, used_to_up}
-use Rattle.crsm_generator.specs.declared.drawing.Drawing.{Drawing}
+use Rattle.crsm_sim_generator.specs.Drawing.{Drawn, after_head, asked, begun, behind, capped_sum, drawn_cas, drawn_command, drawn_expected, drawn_next, drawn_op, head_of, if_possible, kind_of, number_behind, one_of, op_of_kind, otherwise}
+use Rattle.crsm_sim_generator.specs.Sequence.{draw, later}
+use Rattle.crsm_sim_generator.specs.View.{View, places, is_up_in, up_replicas, down_replicas, fresh_to_any, fresh_to_up, used_to_up}
+use Rattle.crsm_sim_generator.specs.declared.drawing.Drawing.{Drawing}
 use Rattle.crsm_schedule.specs.declared.Event.{Event}
 use Rattle.crsm_schedule.specs.declared.Single.{Single}
 

@@ -18,7 +18,7 @@ use Rattle.crsm_law_steps.specs.Happenings.CanCome.{IsPacket, IsCommand, IsReply
 use Rattle.crsm_law_steps.specs.Happenings.Ends.{IsWhole, IsCut, IsLost}
 use Rattle.crsm_law_steps.specs.Happenings.Happens.{Nothing, Steps, Junk, Stops, Joins, Starts}
 use Rattle.crsm_law_steps.specs.Happenings.IsReached.{first, next}
-use Rattle.crsm_log_facts.proofs.Lists.{has_in}
+use Rattle.crsm_fact_log.proofs.Lists.{has_in}
 use Rattle.crsm_law_epoch.proofs.Words.{is_range}
 use Rattle.crsm_law_steps.proofs.Happen.{IsEnding, got_among, sent_before}
 use Rattle.crsm_law_draws.specs.Founders.{StartsAFounder}

@@ -6,8 +6,8 @@ use Rattle.std.specs.Option.{option_map_or}
 use Rattle.std.proofs.lemmas.Bool.{lt-leb, le-ltb, leb-false, and_parts}
 use Rattle.std.proofs.lemmas.List.FromFn.{length-range_with_len}
 use Rattle.crsm_base.specs.Replicas.{has, majority, numbers_below}
-use Rattle.crsm_generator.specs.Possible.{CanHappen, CanStart, IsAmong, SingleCanHappen}
-use Rattle.crsm_generator.specs.View.{Mark, places, is_up_in, up_replicas, down_replicas, fresh_to_any, fresh_to_up, used_to_up}
+use Rattle.crsm_sim_generator.specs.Possible.{CanHappen, CanStart, IsAmong, SingleCanHappen}
+use Rattle.crsm_sim_generator.specs.View.{Mark, places, is_up_in, up_replicas, down_replicas, fresh_to_any, fresh_to_up, used_to_up}
 use Rattle.crsm_schedule.specs.declared.Event.{Event}
 use Rattle.crsm_schedule.specs.declared.Single.{Single}
 use Rattle.crsm_spec.specs.Acts.{Bad}

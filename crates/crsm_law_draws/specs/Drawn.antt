@@ -1,7 +1,7 @@
 -- Runs that a number draws.
 use Rattle.std.specs.Prelude.{ℕ, zero, suc, if◌then◌else◌, List, [], ◌∷◌}
-use Rattle.crsm_generator.specs.Drawing.{begun, drawn_next}
-use Rattle.crsm_generator.specs.declared.drawing.Drawing.{Drawing}
+use Rattle.crsm_sim_generator.specs.Drawing.{begun, drawn_next}
+use Rattle.crsm_sim_generator.specs.declared.drawing.Drawing.{Drawing}
 use Rattle.crsm_schedule.specs.declared.Event.{Event}
 use Rattle.crsm_spec.specs.Moments.{act}
 use Rattle.crsm_spec.specs.World.{World, begin, is_full}

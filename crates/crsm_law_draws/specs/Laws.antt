@@ -1,8 +1,8 @@
 -- The laws of what is drawn.
 use Rattle.std.specs.Prelude.{◌≡◌, ◌≤◌, ◌<◌, ◌^◌, ℕ, false, List, None}
 use Rattle.std.specs.List.{AllByRecursion}
-use Rattle.crsm_generator.specs.Drawing.{drawn_next}
-use Rattle.crsm_generator.specs.declared.drawing.Drawing.{Drawing}
+use Rattle.crsm_sim_generator.specs.Drawing.{drawn_next}
+use Rattle.crsm_sim_generator.specs.declared.drawing.Drawing.{Drawing}
 use Rattle.crsm_spec.specs.Acts.{Act, FitsAct}
 use Rattle.crsm_spec.specs.Possible.{possible}
 use Rattle.crsm_spec.specs.Run.{ArePossible, last_world}

@@ -3,8 +3,8 @@
 
 ghost use Rattle.crsm_law_draws.specs.Laws.{DrawnArePossible, DrawnFitLines, DrawnRunsArePossible, DrawnRunsGoOn, FoundersStay};
 
-use crsm_generator::drawn_can_happen;
 use crsm_law_runs::worlds_are_on_the_way;
+use crsm_sim_generator::drawn_can_happen;
 
 /// An event that is drawn is possible in a world that is not full, where the replicas are those that the cluster began
 /// with and majorities are counted over all of them.

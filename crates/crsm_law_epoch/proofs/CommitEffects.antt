@@ -15,10 +15,10 @@ use Rattle.crsm_spec.specs.Clients.{refusal, refuse, submit, await}
 use Rattle.crsm_spec.specs.Frames.{take_frame, receive, owe, ack, pay, owing, again_frame, is_odd_frame, is_wrong}
 use Rattle.crsm_spec.specs.Coordinate.{forget_epoch}
 use Rattle.crsm_spec.specs.Step.{Input}
-use Rattle.crsm_step_facts.specs.Changes.{Change}
-use Rattle.crsm_step_facts.specs.Changes.Change.{Submits, Refuses, Commits, Replies, Takes, Acks, IsAcked, Pays, Owes, SendsTime, SendsAgain, SendsControl, Gathers, Suspends, Collects, TakesPage, Completes, Refrains, GivesUp, Asks, CountsAnswer, Proposes, IsPreempted, AcceptsOwn, CountsVote, Promises, Accepts, Chooses, Learns, AdoptsTail, AdoptsPage, Enters}
-use Rattle.crsm_step_facts.proofs.Logs.{send_still, replies_still}
-use Rattle.crsm_log_facts.proofs.Tests.{or_parts}
+use Rattle.crsm_fact_step.specs.Changes.{Change}
+use Rattle.crsm_fact_step.specs.Changes.Change.{Submits, Refuses, Commits, Replies, Takes, Acks, IsAcked, Pays, Owes, SendsTime, SendsAgain, SendsControl, Gathers, Suspends, Collects, TakesPage, Completes, Refrains, GivesUp, Asks, CountsAnswer, Proposes, IsPreempted, AcceptsOwn, CountsVote, Promises, Accepts, Chooses, Learns, AdoptsTail, AdoptsPage, Enters}
+use Rattle.crsm_fact_step.proofs.Logs.{send_still, replies_still}
+use Rattle.crsm_fact_log.proofs.Tests.{or_parts}
 
 -- the record is no commit, and no entry of k's own
 pub record IsForeign (k : ℕ) (rec : Rec) : Type 0 where

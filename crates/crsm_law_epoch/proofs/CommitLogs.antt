@@ -8,11 +8,11 @@ use Rattle.crsm_base.specs.Order.{stamp_lt}
 use Rattle.crsm_spec.specs.Lists.{Among, first_of}
 use Rattle.crsm_spec.specs.Log.{Log, known, decision, logged, logged_in, with_entry, unexecuted, above, last_stamp, active, live, suspended, has_entered}
 use Rattle.crsm_spec.specs.Fits.{fits}
-use Rattle.crsm_log_facts.specs.Logs.{Extends, same, more, AllFit, Logged}
+use Rattle.crsm_fact_log.specs.Logs.{Extends, same, more, AllFit, Logged}
 use Rattle.crsm_law_epoch.proofs.Quiet.{entered_more}
 use Rattle.crsm_law_epoch.proofs.Kept.{live_entered}
-use Rattle.crsm_log_facts.proofs.Logged.{logged_is}
-use Rattle.crsm_log_facts.proofs.Lists.{first_among, kept_from}
+use Rattle.crsm_fact_log.proofs.Logged.{logged_is}
+use Rattle.crsm_fact_log.proofs.Lists.{first_among, kept_from}
 
 -- a log that goes on from one record is that record's, or goes on before the newest
 pub extends_cases : (c rec : Rec) (log old : Log) → Extends (c ∷ log) (rec ∷ old) → ((c ≡ rec) × (log ≡ old)) ⊎ Extends (c ∷ log) old

@@ -5,7 +5,7 @@ use Rattle.std.proofs.lemmas.Bool.{cases_eq}
 use Rattle.crsm_spec.specs.Types.{Entry, Rec, Datagram}
 use Rattle.crsm_spec.specs.Lists.{Among, has, first_of}
 use Rattle.crsm_spec.specs.Log.{Log, known, members, unexecuted}
-use Rattle.crsm_log_facts.specs.Logs.{Extends, Logged}
+use Rattle.crsm_fact_log.specs.Logs.{Extends, Logged}
 use Rattle.crsm_law_epoch.specs.Seats.{Seat, logs_of}
 use Rattle.crsm_law_epoch.proofs.Moved.{at, at_same, at_other, at_case}
 use Rattle.crsm_law_epoch.specs.Witness.{Committed, Witnessed, AreWitnessed}

@@ -12,11 +12,11 @@ use Rattle.crsm_spec.specs.Paxos.{majority}
 use Rattle.crsm_spec.specs.Ready.{is_ready, is_replicated, is_stable, is_next, votes_for, voted, reached, all_received}
 use Rattle.crsm_spec.specs.Replica.{members_of, spec_of}
 use Rattle.crsm_spec.specs.Draft.{Draft, would}
-use Rattle.crsm_log_facts.specs.Logs.{Extends, Logged}
-use Rattle.crsm_log_facts.proofs.Tests.{same_stamp}
+use Rattle.crsm_fact_log.specs.Logs.{Extends, Logged}
+use Rattle.crsm_fact_log.proofs.Tests.{same_stamp}
 use Rattle.crsm_law_epoch.specs.Seats.{Seat, seat_up, Receiver, logs_of, taken_of}
 use Rattle.crsm_law_epoch.proofs.Words.{any_is, among_unmap}
-use Rattle.crsm_log_facts.proofs.Lists.{among_either, among_left, list_all_at, has_from}
+use Rattle.crsm_fact_log.proofs.Lists.{among_either, among_left, list_all_at, has_from}
 use Rattle.crsm_law_epoch.proofs.Moved.{at, at_same, at_other, at_case}
 use Rattle.crsm_law_epoch.proofs.Drafts.{Good, outs, sender_of, receiver_of, fit_of}
 use Rattle.crsm_law_epoch.proofs.Kept.{live_entered, would_late}

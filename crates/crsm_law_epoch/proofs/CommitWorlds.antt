@@ -13,21 +13,21 @@ use Rattle.crsm_spec.specs.Draft.{Draft, begun, keep}
 use Rattle.crsm_spec.specs.Step.{Input, step, boot, boot_again, founding_boot, first_boot}
 use Rattle.crsm_spec.specs.World.{Site, World, Moment, begin, log_at, with_site, packet_of, whole_step, cut_step, lost_step, down, after_step, then_down}
 use Rattle.crsm_spec.specs.Moments.{silent, begun_at, with_room, start_at}
-use Rattle.crsm_log_facts.specs.Logs.{Extends, same, more, Logged}
+use Rattle.crsm_fact_log.specs.Logs.{Extends, same, more, Logged}
 use Rattle.crsm_law_steps.specs.Laws.{LogsGoOn}
-use Rattle.crsm_step_facts.specs.Changes.{Changes, stay, and_then}
+use Rattle.crsm_fact_step.specs.Changes.{Changes, stay, and_then}
 use Rattle.crsm_law_steps.specs.Happenings.{Marks, CanCome, Ends, Happens}
 use Rattle.crsm_law_steps.specs.Happenings.Ends.{IsWhole, IsCut, IsLost}
 use Rattle.crsm_law_steps.specs.Happenings.Happens.{Nothing, Steps, Junk, Stops, Joins, Starts}
 use Rattle.crsm_law_steps.specs.Happenings.IsReached.{first, next}
-use Rattle.crsm_step_facts.proofs.Logs.{log_change, change_grows, numbers_stay}
-use Rattle.crsm_log_facts.proofs.Logged.{extends_trans}
-use Rattle.crsm_step_facts.proofs.Fitted.{step_changes}
+use Rattle.crsm_fact_step.proofs.Logs.{log_change, change_grows, numbers_stay}
+use Rattle.crsm_fact_log.proofs.Logged.{extends_trans}
+use Rattle.crsm_fact_step.proofs.Fitted.{step_changes}
 use Rattle.crsm_law_steps.proofs.Moments.{moment_goes_on}
 use Rattle.crsm_law_epoch.specs.Numbers.{Distinct}
 use Rattle.crsm_law_epoch.specs.Seats.{Seat, seat_up, seat_down, seat_of}
 use Rattle.crsm_law_epoch.specs.Worlds.{seats, sent_in, IsWell}
-use Rattle.crsm_log_facts.proofs.Lists.{among_left}
+use Rattle.crsm_fact_log.proofs.Lists.{among_left}
 use Rattle.crsm_law_epoch.proofs.Moved.{at, at_same, at_other}
 use Rattle.crsm_law_epoch.proofs.Drafts.{Good}
 use Rattle.crsm_law_epoch.proofs.Kept.{chain_kept}

@@ -7,9 +7,9 @@ use Rattle.crsm_spec.specs.Types.{Entry, InEpoch, Datagram}
 use Rattle.crsm_spec.specs.Lists.{Among}
 use Rattle.crsm_spec.specs.Log.{Log, known, active, has_entered}
 use Rattle.crsm_spec.specs.Draft.{Draft}
-use Rattle.crsm_log_facts.specs.Logs.{AllFit, Logged}
+use Rattle.crsm_fact_log.specs.Logs.{AllFit, Logged}
 use Rattle.crsm_law_epoch.specs.Seats.{Seat, seat_up, Sender, Receiver, IsFirst, Facts, logs_of}
-use Rattle.crsm_log_facts.proofs.Lists.{among_left, among_right, among_either, among_take}
+use Rattle.crsm_fact_log.proofs.Lists.{among_left, among_right, among_either, among_take}
 use Rattle.crsm_law_epoch.proofs.Moved.{at, at_same}
 use Rattle.crsm_law_epoch.proofs.Quiet.{quiet}
 

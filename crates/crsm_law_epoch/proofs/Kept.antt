@@ -20,14 +20,14 @@ use Rattle.crsm_spec.specs.Draft.{Draft, keep, noting, send, reply, count_vote, 
 use Rattle.crsm_spec.specs.Clients.{refusal, refuse, submit, await, replies, answer_each, answer_found, reply_ok, reply_dropped, find_executed, is_dropped}
 use Rattle.crsm_spec.specs.Coordinate.{forget_epoch}
 use Rattle.crsm_spec.specs.Step.{Input}
-use Rattle.crsm_log_facts.specs.Logs.{AllFit, Extends, Logged}
-use Rattle.crsm_step_facts.specs.Changes.{Change, Changes, stay, and_then}
-use Rattle.crsm_step_facts.specs.Changes.Change.{Submits, Refuses, Commits, Replies, Takes, Acks, IsAcked, Pays, Owes, SendsTime, SendsAgain, SendsControl, Gathers, Suspends, Collects, TakesPage, Completes, Refrains, GivesUp, Asks, CountsAnswer, Proposes, IsPreempted, AcceptsOwn, CountsVote, Promises, Accepts, Chooses, Learns, AdoptsTail, AdoptsPage, Enters}
-use Rattle.crsm_step_facts.proofs.Logs.{log_change, change_fits, change_grows, numbers_stay}
-use Rattle.crsm_log_facts.proofs.Logged.{extends_trans}
+use Rattle.crsm_fact_log.specs.Logs.{AllFit, Extends, Logged}
+use Rattle.crsm_fact_step.specs.Changes.{Change, Changes, stay, and_then}
+use Rattle.crsm_fact_step.specs.Changes.Change.{Submits, Refuses, Commits, Replies, Takes, Acks, IsAcked, Pays, Owes, SendsTime, SendsAgain, SendsControl, Gathers, Suspends, Collects, TakesPage, Completes, Refrains, GivesUp, Asks, CountsAnswer, Proposes, IsPreempted, AcceptsOwn, CountsVote, Promises, Accepts, Chooses, Learns, AdoptsTail, AdoptsPage, Enters}
+use Rattle.crsm_fact_step.proofs.Logs.{log_change, change_fits, change_grows, numbers_stay}
+use Rattle.crsm_fact_log.proofs.Logged.{extends_trans}
 use Rattle.crsm_law_epoch.specs.Numbers.{Distinct}
 use Rattle.crsm_law_epoch.specs.Seats.{Seat, seat_up, Sender, IsTop, IsOther, IsFirst, Facts, logs_of, pushed_to, taken_of}
-use Rattle.crsm_log_facts.proofs.Lists.{get_some, among_left, among_right, among_either, kept_from, has_from, has_in, among_take}
+use Rattle.crsm_fact_log.proofs.Lists.{get_some, among_left, among_right, among_either, kept_from, has_from, has_in, among_take}
 use Rattle.crsm_law_epoch.proofs.Words.{among_unmap, among_filter, distinct_filter}
 use Rattle.crsm_law_epoch.proofs.Moved.{at, at_same}
 use Rattle.crsm_law_epoch.proofs.Quiet.{entered_more, or_right}

@@ -14,11 +14,11 @@ use Rattle.crsm_spec.specs.Fits.{fits, booted}
 use Rattle.crsm_spec.specs.Replica.{fresh}
 use Rattle.crsm_spec.specs.Draft.{Draft, begun, keep}
 use Rattle.crsm_spec.specs.Step.{boot, boot_again, founding_boot, first_boot}
-use Rattle.crsm_log_facts.specs.Logs.{AllFit, Extends, same, more}
+use Rattle.crsm_fact_log.specs.Logs.{AllFit, Extends, same, more}
 use Rattle.crsm_law_epoch.proofs.Words.{is_range}
 use Rattle.crsm_law_epoch.specs.Ordered.{AreOrdered}
 use Rattle.crsm_law_epoch.proofs.LogSteps.{IsOrderedCoordinator, AreBetween}
-use Rattle.crsm_log_facts.proofs.Lists.{has_in}
+use Rattle.crsm_fact_log.proofs.Lists.{has_in}
 
 -- ---- how many boots
 

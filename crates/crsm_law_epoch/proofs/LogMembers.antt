@@ -6,7 +6,7 @@ use Rattle.crsm_base.specs.Members.{RisesWithin, IsMembers}
 use Rattle.crsm_spec.specs.Types.{Decision, Rec}
 use Rattle.crsm_spec.specs.Lists.{Among, numbers_below}
 use Rattle.crsm_spec.specs.Log.{Log, decision, members}
-use Rattle.crsm_log_facts.specs.Logs.{Extends, same, more}
+use Rattle.crsm_fact_log.specs.Logs.{Extends, same, more}
 use Rattle.crsm_law_epoch.specs.Numbers.{Distinct}
 use Rattle.crsm_law_epoch.proofs.Words.{distinct_range}
 use Rattle.crsm_law_epoch.specs.Ordered.{IsOrdered, AreOrdered}

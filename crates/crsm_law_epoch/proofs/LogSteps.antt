@@ -16,10 +16,10 @@ use Rattle.crsm_spec.specs.Clients.{refuse, submit, await, replies, answer_each,
 use Rattle.crsm_spec.specs.Frames.{take_frame, receive, owe, ack, pay, owing, again_frame}
 use Rattle.crsm_spec.specs.Coordinate.{forget_epoch, instance}
 use Rattle.crsm_spec.specs.Step.{Input, step}
-use Rattle.crsm_step_facts.specs.Messages.{ReceivesControl}
-use Rattle.crsm_step_facts.specs.Changes.{Change, Changes, stay, and_then, AsksFor, IsAnswer}
-use Rattle.crsm_step_facts.specs.Changes.Change.{Submits, Refuses, Commits, Replies, Takes, Acks, IsAcked, Pays, Owes, SendsTime, SendsAgain, SendsControl, Gathers, Suspends, Collects, TakesPage, Completes, Refrains, GivesUp, Asks, CountsAnswer, Proposes, IsPreempted, AcceptsOwn, CountsVote, Promises, Accepts, Chooses, Learns, AdoptsTail, AdoptsPage, Enters}
-use Rattle.crsm_step_facts.proofs.Fitted.{step_changes}
+use Rattle.crsm_fact_step.specs.Messages.{ReceivesControl}
+use Rattle.crsm_fact_step.specs.Changes.{Change, Changes, stay, and_then, AsksFor, IsAnswer}
+use Rattle.crsm_fact_step.specs.Changes.Change.{Submits, Refuses, Commits, Replies, Takes, Acks, IsAcked, Pays, Owes, SendsTime, SendsAgain, SendsControl, Gathers, Suspends, Collects, TakesPage, Completes, Refrains, GivesUp, Asks, CountsAnswer, Proposes, IsPreempted, AcceptsOwn, CountsVote, Promises, Accepts, Chooses, Learns, AdoptsTail, AdoptsPage, Enters}
+use Rattle.crsm_fact_step.proofs.Fitted.{step_changes}
 use Rattle.crsm_law_epoch.specs.Ordered.{IsOrdered, AreOrdered}
 use Rattle.crsm_law_epoch.proofs.LogReceived.{IsOrderedHeld, IsOrderedControl, received_ordered}
 

@@ -14,20 +14,20 @@ use Rattle.crsm_spec.specs.Draft.{Draft, begun}
 use Rattle.crsm_spec.specs.Step.{Input, step, boot, founding_boot}
 use Rattle.crsm_spec.specs.World.{Site, Packet, World, Moment, begin, log_of, log_at, with_site, packet_of, whole_step, cut_step, lost_step, down, after_step, then_down}
 use Rattle.crsm_spec.specs.Moments.{use_up, silent, begun_at, with_room, start_at}
-use Rattle.crsm_log_facts.specs.Logs.{AllFit, Extends}
+use Rattle.crsm_fact_log.specs.Logs.{AllFit, Extends}
 use Rattle.crsm_law_steps.specs.Happenings.{Marks, CanCome, Ends, Happens, IsReached}
 use Rattle.crsm_law_steps.specs.Happenings.Marks.{none, mark}
 use Rattle.crsm_law_steps.specs.Happenings.CanCome.{IsPacket, IsCommand, IsReply, IsTick, IsSuspicion}
 use Rattle.crsm_law_steps.specs.Happenings.Ends.{IsWhole, IsCut, IsLost}
 use Rattle.crsm_law_steps.specs.Happenings.Happens.{Nothing, Steps, Junk, Stops, Joins, Starts}
 use Rattle.crsm_law_steps.specs.Happenings.IsReached.{first, next}
-use Rattle.crsm_step_facts.specs.Changes.{AsksFor}
-use Rattle.crsm_step_facts.proofs.Logs.{steps_grow, steps_fit, changes_numbers}
-use Rattle.crsm_step_facts.proofs.Fitted.{step_changes}
+use Rattle.crsm_fact_step.specs.Changes.{AsksFor}
+use Rattle.crsm_fact_step.proofs.Logs.{steps_grow, steps_fit, changes_numbers}
+use Rattle.crsm_fact_step.proofs.Fitted.{step_changes}
 use Rattle.crsm_law_steps.proofs.Moments.{set_case}
 use Rattle.crsm_law_steps.proofs.Happen.{sent_before}
 use Rattle.crsm_law_epoch.specs.Worlds.{IsWell}
-use Rattle.crsm_log_facts.proofs.Lists.{among_either}
+use Rattle.crsm_fact_log.proofs.Lists.{among_either}
 use Rattle.crsm_law_epoch.proofs.Words.{get_either}
 use Rattle.crsm_law_epoch.proofs.Worlds as epochs
 use Rattle.crsm_law_epoch.specs.Ordered.{AreOrdered}

@@ -5,7 +5,7 @@ use Rattle.std.proofs.lemmas.Bool.{ne_eqb, eq-eqb, cases_eq}
 use Rattle.crsm_spec.specs.Types.{Stamp, Entry, InEpoch, Datagram}
 use Rattle.crsm_spec.specs.Lists.{Among}
 use Rattle.crsm_spec.specs.Log.{known, has_entered}
-use Rattle.crsm_log_facts.specs.Logs.{AllFit, Logged}
+use Rattle.crsm_fact_log.specs.Logs.{AllFit, Logged}
 use Rattle.crsm_law_epoch.specs.Seats.{Seat, Sender, Receiver, HasStamp, IsFirst, Facts, logs_of}
 
 unfoldable pub at : ℕ → Seat → (ℕ → Seat) → ℕ → Seat

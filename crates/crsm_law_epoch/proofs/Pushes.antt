@@ -9,10 +9,10 @@ use Rattle.crsm_spec.specs.Types.{Stamp, Entry, InEpoch, Datagram}
 use Rattle.crsm_spec.specs.Lists.{Among, has}
 use Rattle.crsm_spec.specs.Log.{known, members, has_entered}
 use Rattle.crsm_spec.specs.Frames.{time_of}
-use Rattle.crsm_log_facts.specs.Logs.{AllFit, Logged}
+use Rattle.crsm_fact_log.specs.Logs.{AllFit, Logged}
 use Rattle.crsm_law_epoch.specs.Numbers.{Distinct}
 use Rattle.crsm_law_epoch.specs.Seats.{Seat, Sender, Receiver, IsTop, IsOther, IsFirst, Facts, logs_of, pushed_to, taken_of}
-use Rattle.crsm_log_facts.proofs.Lists.{among_left, among_right, among_either, get_left, get_some}
+use Rattle.crsm_fact_log.proofs.Lists.{among_left, among_right, among_either, get_left, get_some}
 use Rattle.crsm_law_epoch.proofs.Words.{among_map, among_unmap, get_end, get_either}
 use Rattle.crsm_law_epoch.proofs.Moved.{at, at_same, at_other, moved}
 

@@ -6,7 +6,7 @@ use Rattle.std.proofs.lemmas.Bool.{cases_eq}
 use Rattle.crsm_spec.specs.Types.{Stamp, Entry, Rec, InEpoch, Datagram}
 use Rattle.crsm_spec.specs.Lists.{Among, first_of, has}
 use Rattle.crsm_spec.specs.Log.{Log, known, members, executed, unexecuted, has_entered, is_enter}
-use Rattle.crsm_log_facts.specs.Logs.{Extends, same, more, AllFit, Logged}
+use Rattle.crsm_fact_log.specs.Logs.{Extends, same, more, AllFit, Logged}
 use Rattle.crsm_law_collection.specs.Collecting.{CommitOf}
 use Rattle.crsm_law_epoch.specs.Seats.{Seat, Sender, Receiver, HasStamp, IsOther, Facts, logs_of}
 use Rattle.crsm_law_epoch.proofs.Moved.{at, at_same, at_other, at_case, moved}

@@ -8,7 +8,7 @@ use Rattle.crsm_spec.specs.Types.{Stamp, Entry, Rec, InEpoch, Datagram}
 use Rattle.crsm_spec.specs.Lists.{Among}
 use Rattle.crsm_spec.specs.Log.{Log, known, members, active, has_entered, decision}
 use Rattle.crsm_spec.specs.Draft.{Draft}
-use Rattle.crsm_log_facts.specs.Logs.{AllFit, Logged}
+use Rattle.crsm_fact_log.specs.Logs.{AllFit, Logged}
 use Rattle.crsm_law_epoch.specs.Seats.{Seat, seat_up, Sender, Receiver, HasStamp, logs_of, pushed_to, taken_of}
 use Rattle.crsm_law_epoch.proofs.Moved.{at, at_same, at_other, at_all}
 use Rattle.crsm_law_epoch.proofs.Quiet.{IsNoEntry, strip, entered_more, sends_on, takes_on}

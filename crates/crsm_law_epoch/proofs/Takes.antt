@@ -6,7 +6,7 @@ use Rattle.crsm_spec.specs.Types.{Stamp, Entry, InEpoch, Datagram}
 use Rattle.crsm_spec.specs.Lists.{Among, has}
 use Rattle.crsm_spec.specs.Log.{known, members, has_entered}
 use Rattle.crsm_spec.specs.Frames.{time_of}
-use Rattle.crsm_log_facts.specs.Logs.{AllFit, Logged}
+use Rattle.crsm_fact_log.specs.Logs.{AllFit, Logged}
 use Rattle.crsm_law_epoch.specs.Seats.{Seat, Sender, Receiver, HasStamp, IsTop, Facts, logs_of, pushed_to, taken_of}
 use Rattle.crsm_law_epoch.proofs.Words.{count_same, count_other}
 use Rattle.crsm_law_epoch.proofs.Moved.{at, at_same, at_other, moved}

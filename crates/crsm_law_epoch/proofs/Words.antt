@@ -7,7 +7,7 @@ use Rattle.std.proofs.lemmas.Option.{none-some, same_Some}
 use Rattle.std.proofs.lemmas.List.Sums.{sum_by-cons}
 use Rattle.crsm_spec.specs.Lists.{Among}
 use Rattle.crsm_law_epoch.specs.Numbers.{Distinct}
-use Rattle.crsm_log_facts.proofs.Lists.{kept_from}
+use Rattle.crsm_fact_log.proofs.Lists.{kept_from}
 
 pub among_map : {A B : Type 0} (f : A → B) (xs : List A) (a : A) → Among xs a → Among (map f xs) (f a)
 among_map f [] a h = absurd h

@@ -16,7 +16,7 @@ use Rattle.crsm_spec.specs.Draft.{Draft, begun, keep}
 use Rattle.crsm_spec.specs.Step.{Input, step, boot, boot_again, founding_boot, first_boot}
 use Rattle.crsm_spec.specs.World.{Site, Packet, World, Moment, begin, log_of, log_at, with_site, packet_of, whole_step, cut_step, lost_step, down, after_step, then_down}
 use Rattle.crsm_spec.specs.Moments.{use_up, silent, begun_at, with_room, start_at}
-use Rattle.crsm_log_facts.specs.Logs.{AllFit, Extends, same, more, Logged}
+use Rattle.crsm_fact_log.specs.Logs.{AllFit, Extends, same, more, Logged}
 use Rattle.crsm_law_steps.specs.Laws.{LogsGoOn}
 use Rattle.crsm_law_steps.specs.Happenings.{Marks, CanCome, Ends, Happens, IsReached}
 use Rattle.crsm_law_steps.specs.Happenings.Marks.{none, mark}
@@ -24,13 +24,13 @@ use Rattle.crsm_law_steps.specs.Happenings.CanCome.{IsPacket, IsCommand, IsReply
 use Rattle.crsm_law_steps.specs.Happenings.Ends.{IsWhole, IsCut, IsLost}
 use Rattle.crsm_law_steps.specs.Happenings.Happens.{Nothing, Steps, Junk, Stops, Joins, Starts}
 use Rattle.crsm_law_steps.specs.Happenings.IsReached.{first, next}
-use Rattle.crsm_log_facts.proofs.Logged.{extends_trans}
-use Rattle.crsm_step_facts.proofs.Logs.{steps_grow}
-use Rattle.crsm_step_facts.proofs.Fitted.{step_changes}
+use Rattle.crsm_fact_log.proofs.Logged.{extends_trans}
+use Rattle.crsm_fact_step.proofs.Logs.{steps_grow}
+use Rattle.crsm_fact_step.proofs.Fitted.{step_changes}
 use Rattle.crsm_law_steps.proofs.Moments.{moment_goes_on}
 use Rattle.crsm_law_epoch.specs.Seats.{Seat, seat_up, seat_down, seat_of, Sender, Receiver, IsFirst, Facts, logs_of, pushed_to, taken_of}
 use Rattle.crsm_law_epoch.specs.Worlds.{seats, sent_in, IsWell, AreSeated, EpochsHold}
-use Rattle.crsm_log_facts.proofs.Lists.{get_some, get_left, among_left, among_right, among_either, among_take}
+use Rattle.crsm_fact_log.proofs.Lists.{get_some, get_left, among_left, among_right, among_either, among_take}
 use Rattle.crsm_law_epoch.proofs.Words.{get_end, among_map, set_same, set_other}
 use Rattle.crsm_law_epoch.proofs.Moved.{at, at_same, at_other, at_case, moved}
 use Rattle.crsm_law_epoch.proofs.Quiet.{stopped, strip, entered_more}

@@ -3,7 +3,7 @@ use Rattle.std.specs.Prelude.{ℕ, ◌≤◌}
 use Rattle.crsm_spec.specs.Clock.{u64_max}
 use Rattle.crsm_spec.specs.Log.{boots}
 use Rattle.crsm_spec.specs.World.{World, log_at}
-use Rattle.crsm_log_facts.specs.Logs.{AllFit}
+use Rattle.crsm_fact_log.specs.Logs.{AllFit}
 use Rattle.crsm_law_steps.specs.Happenings.{IsReached}
 use Rattle.crsm_law_epoch.specs.Seats.{Facts}
 use Rattle.crsm_law_epoch.specs.Worlds.{seats, sent_in}

@@ -6,7 +6,7 @@ use Rattle.crsm_spec.specs.Log.{Log, known, active, members, has_entered}
 use Rattle.crsm_spec.specs.Frames.{time_of}
 use Rattle.crsm_spec.specs.Replica.{Replica}
 use Rattle.crsm_spec.specs.World.{Site}
-use Rattle.crsm_log_facts.specs.Logs.{AllFit, Logged}
+use Rattle.crsm_fact_log.specs.Logs.{AllFit, Logged}
 use Rattle.crsm_law_collection.specs.Collecting.{CommitOf}
 
 -- A replica's place: its log, and what it remembers of the known epoch while it runs.

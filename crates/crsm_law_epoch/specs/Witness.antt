@@ -5,7 +5,7 @@ use Rattle.crsm_spec.specs.Lists.{Among, has, first_of}
 use Rattle.crsm_spec.specs.Log.{Log, known, members, spec, unexecuted}
 use Rattle.crsm_spec.specs.Paxos.{majority}
 use Rattle.crsm_spec.specs.Frames.{time_of}
-use Rattle.crsm_log_facts.specs.Logs.{Extends, Logged}
+use Rattle.crsm_fact_log.specs.Logs.{Extends, Logged}
 use Rattle.crsm_law_epoch.specs.Seats.{Seat, logs_of}
 
 -- Replica `by` had this log when it committed x, the first of its unexecuted entries.

@@ -4,7 +4,7 @@ use Rattle.crsm_spec.specs.Types.{Datagram}
 use Rattle.crsm_spec.specs.Log.{Log, members}
 use Rattle.crsm_spec.specs.Replica.{Replica}
 use Rattle.crsm_spec.specs.World.{World, Site, log_at}
-use Rattle.crsm_log_facts.specs.Logs.{AllFit, Extends}
+use Rattle.crsm_fact_log.specs.Logs.{AllFit, Extends}
 use Rattle.crsm_law_steps.specs.Happenings.{IsReached}
 use Rattle.crsm_law_epoch.specs.Seats.{Seat, seat_of, Facts}
 use Rattle.crsm_law_epoch.specs.Numbers.{Distinct}

@@ -1,3 +1,13 @@
+pub mod LeaderOpened
+mod LeadsAlone
+mod ThreeWithALeader
+mod NotTheLeader
+mod NoopInTheGap
+pub mod AnotherValue
+mod RivalLeaders
+mod StopsInAStep
+mod Refused
+pub mod Replies
 pub mod Opened
 mod OneReplicaBegins
 mod OneReplica

@@ -1,3 +1,5 @@
+pub mod LeaderWords
+pub mod Answering
 pub mod Words
 pub mod Changing
 pub mod Calming

@@ -7,18 +7,18 @@ use Rattle.crsm_spec.specs.Draft.{Draft}
 use Rattle.crsm_spec.specs.Step.{boot}
 use Rattle.crsm_spec.specs.Node.{Turn, turn, outputs_from, outputs}
 use Rattle.crsm_spec.specs.World.{log_at}
-use Rattle.crsm_log_facts.specs.Logs.{Extends, same}
-use Rattle.crsm_log_facts.proofs.Logged.{extends_trans}
-use Rattle.crsm_lives.specs.Lives.{Life, kept_turns, kept_steps}
-use Rattle.crsm_law_histories.specs.Clusters.{Event}
-use Rattle.crsm_law_histories.specs.Histories.{last_cluster}
-use Rattle.crsm_law_histories.specs.Laws.{HasShortLogs}
-use Rattle.crsm_law_histories.proofs.Agree.{list_is}
+use Rattle.crsm_fact_log.specs.Logs.{Extends, same}
+use Rattle.crsm_fact_log.proofs.Logged.{extends_trans}
+use Rattle.crsm_spec_process.specs.Lives.{Life, kept_turns, kept_steps}
+use Rattle.crsm_law_cluster.specs.Clusters.{Event}
+use Rattle.crsm_law_cluster.specs.Histories.{last_cluster}
+use Rattle.crsm_law_cluster.specs.HistoryLaws.{HasShortLogs}
+use Rattle.crsm_law_cluster.proofs.Agree.{list_is}
 use Rattle.crsm_law_cluster.specs.OneList.{one_list}
-use Rattle.crsm_law_cluster.specs.Laws.{IsHistory}
+use Rattle.crsm_law_cluster.specs.ClusterLaws.{IsHistory}
 use Rattle.crsm_law_cluster.proofs.Last.{shown, last}
-use Rattle.crsm_law_requests.proofs.Executed.{prefix_then, executed_prefix}
-use Rattle.crsm_law_requests.proofs.Turns.{turn_logs}
+use Rattle.crsm_law_cluster.proofs.Executed.{prefix_then, executed_prefix}
+use Rattle.crsm_law_cluster.proofs.Turns.{turn_logs}
 use Rattle.crsm_law_lives.specs.Events.{after_turns, left_by}
 use Rattle.crsm_law_lives.specs.Premises.{Ran}
 use Rattle.crsm_law_lives.proofs.Laws.{lives_are_lawful}

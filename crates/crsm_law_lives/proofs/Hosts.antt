@@ -3,10 +3,10 @@ use Rattle.std.proofs.Common.{◌≡◌, ℕ, List, [], ◌∷◌, ◌++◌, ref
 use Rattle.std.specs.Prelude.{◌==◌, filter, Some, None, slice_get}
 use Rattle.std.proofs.lemmas.Bool.{cases_eq, eq-eqb, ne_eqb}
 use Rattle.crsm_spec.specs.Types.{Datagram}
-use Rattle.crsm_law_histories.specs.Clusters.{Event, Host, Cluster, host_at, with_host, started, with_turn, kept, while_up, with_process, posted, after}
-use Rattle.crsm_law_histories.specs.Histories.{last_from}
-use Rattle.crsm_law_histories.proofs.Lists.{got_set, got_other}
-use Rattle.crsm_law_histories.proofs.Shown.{host_is, host_other}
+use Rattle.crsm_law_cluster.specs.Clusters.{Event, Host, Cluster, host_at, with_host, started, with_turn, kept, while_up, with_process, posted, after}
+use Rattle.crsm_law_cluster.specs.Histories.{last_from}
+use Rattle.crsm_law_cluster.proofs.Lists.{got_set, got_other}
+use Rattle.crsm_law_cluster.proofs.Shown.{host_is, host_other}
 use Rattle.crsm_law_lives.specs.Events.{node_of, events_of}
 
 -- what an event of replica k's node makes of its host, in a cluster that began with n replicas

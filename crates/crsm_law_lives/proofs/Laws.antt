@@ -8,15 +8,15 @@ use Rattle.std.proofs.lemmas.Option.{none-some, same_Some}
 use Rattle.crsm_spec.specs.Types.{Datagram}
 use Rattle.crsm_spec.specs.Lists.{Among, numbers_below}
 use Rattle.crsm_spec.specs.Node.{Turn}
-use Rattle.crsm_log_facts.proofs.Lists.{among_left, among_right, among_either, all_at, flat_from, flat_in}
-use Rattle.crsm_lives.specs.Lives.{Group, Life, kept_turns}
-use Rattle.crsm_law_histories.specs.Clusters.{Event, Outgoing, Host, Cluster, empty_host, host_at, log_in, next_out, sent_of, with_host, after, unborn}
-use Rattle.crsm_law_histories.specs.Histories.{clusters_from, clusters, last_from}
-use Rattle.crsm_law_histories.specs.Lawful.{IsGenuine, MayHappen, IsLawfulFrom, IsLawful}
-use Rattle.crsm_law_histories.proofs.Lists.{got_range}
+use Rattle.crsm_fact_log.proofs.Lists.{among_left, among_right, among_either, all_at, flat_from, flat_in}
+use Rattle.crsm_spec_process.specs.Lives.{Group, Life, kept_turns}
+use Rattle.crsm_law_cluster.specs.Clusters.{Event, Outgoing, Host, Cluster, empty_host, host_at, log_in, next_out, sent_of, with_host, after, unborn}
+use Rattle.crsm_law_cluster.specs.Histories.{clusters_from, clusters, last_from}
+use Rattle.crsm_law_cluster.specs.Lawful.{IsGenuine, MayHappen, IsLawfulFrom, IsLawful}
+use Rattle.crsm_law_cluster.proofs.Lists.{got_range}
 use Rattle.crsm_law_epoch.proofs.Words.{among_unmap}
 use Rattle.crsm_law_cluster.specs.Going.{IsAt}
-use Rattle.crsm_law_requests.proofs.Along.{IsThere, from_then, next_there}
+use Rattle.crsm_law_cluster.proofs.Along.{IsThere, from_then, next_there}
 use Rattle.crsm_law_lives.specs.Events.{AreEventsOf, take_events, fate_events, group_events, life_events, node_of, events_of, lives_of}
 use Rattle.crsm_law_lives.specs.Premises.{CanBeTaken, IsProcess, WasSentBy, SpeaksTrue, NobodyForges, Ran}
 use Rattle.crsm_law_lives.specs.Laws.{IsIn, LivesAreLawful}

@@ -13,17 +13,17 @@ use Rattle.crsm_spec.specs.Clients.{refuse, replies, answer_each, answer_found, 
 use Rattle.crsm_spec.specs.Step.{Input, step, boot, first_boot, founding_boot, boot_again}
 use Rattle.crsm_spec.specs.Node.{Turn, turn, input_of}
 use Rattle.crsm_spec.specs.World.{World}
-use Rattle.crsm_log_facts.proofs.Lists.{among_either}
-use Rattle.crsm_step_facts.specs.Changes.{Changes, stay, and_then}
-use Rattle.crsm_step_facts.proofs.Fitted.{step_changes}
-use Rattle.crsm_step_facts.proofs.Walk.{same_when}
+use Rattle.crsm_fact_log.proofs.Lists.{among_either}
+use Rattle.crsm_fact_step.specs.Changes.{Changes, stay, and_then}
+use Rattle.crsm_fact_step.proofs.Fitted.{step_changes}
+use Rattle.crsm_fact_step.proofs.Walk.{same_when}
 use Rattle.crsm_law_runs.proofs.Drafts.{quiet_lines}
 use Rattle.crsm_law_runs.proofs.Effects.{Effect, effect, IsKept}
 use Rattle.crsm_law_runs.proofs.Effects.Effect.{Still, Quiet, Took, Stamped, Refused, Executed, AdoptedTail, AdoptedPage, Answered}
 use Rattle.crsm_law_runs.proofs.Steps.{is_stamped}
 use Rattle.crsm_law_runs.proofs.Words.{IsRight, exec_right}
-use Rattle.crsm_law_requests.proofs.Logging.{goes}
-use Rattle.crsm_law_requests.proofs.Executed.{prefix_then, executed_prefix}
+use Rattle.crsm_law_cluster.proofs.Logging.{goes}
+use Rattle.crsm_law_cluster.proofs.Executed.{prefix_then, executed_prefix}
 
 found_lines : (f : Waiting) (o : Option (ℕ × Entry)) (x : Draft) → (answer_found f o x).lines ≡ x.lines
 unfolding answer_found reply_ok reply_dropped reply

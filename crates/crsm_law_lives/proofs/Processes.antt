@@ -7,8 +7,8 @@ use Rattle.crsm_spec.specs.Log.{Log}
 use Rattle.crsm_spec.specs.Replica.{Replica}
 use Rattle.crsm_spec.specs.Step.{boot}
 use Rattle.crsm_spec.specs.Node.{Turn, turn}
-use Rattle.crsm_lives.specs.Lives.{Group, Life, kept_turns}
-use Rattle.crsm_law_histories.specs.Clusters.{Event, Process, Host, started, with_turn, kept, while_up, with_process, posted}
+use Rattle.crsm_spec_process.specs.Lives.{Group, Life, kept_turns}
+use Rattle.crsm_law_cluster.specs.Clusters.{Event, Process, Host, started, with_turn, kept, while_up, with_process, posted}
 use Rattle.crsm_law_lives.specs.Events.{take_events, fate_events, group_events, life_events, after_turns, left_by}
 use Rattle.crsm_law_lives.specs.Premises.{FindWhatIsLeft}
 use Rattle.crsm_law_lives.proofs.Hosts.{own_event, own_run, own_then}

@@ -13,29 +13,29 @@ use Rattle.crsm_spec.specs.Safe.{AnswersAt}
 use Rattle.crsm_spec.specs.Step.{Input, step, boot, first_boot, founding_boot, boot_again}
 use Rattle.crsm_spec.specs.Node.{Turn, turn, input_of, outputs_from, outputs}
 use Rattle.crsm_spec.specs.World.{World, log_at}
-use Rattle.crsm_log_facts.specs.Logs.{Extends, same, Logged}
-use Rattle.crsm_log_facts.proofs.Logged.{extends_trans}
-use Rattle.crsm_log_facts.proofs.Lists.{get_some}
-use Rattle.crsm_lives.specs.Lives.{Life, kept_turns, kept_steps}
-use Rattle.crsm_law_decisions.proofs.Coordinators.{extends_among}
+use Rattle.crsm_fact_log.specs.Logs.{Extends, same, Logged}
+use Rattle.crsm_fact_log.proofs.Logged.{extends_trans}
+use Rattle.crsm_fact_log.proofs.Lists.{get_some}
+use Rattle.crsm_spec_process.specs.Lives.{Life, kept_turns, kept_steps}
+use Rattle.crsm_law_agreement.proofs.Coordinators.{extends_among}
 use Rattle.crsm_law_runs.proofs.Last.{is_before}
 use Rattle.crsm_law_runs.proofs.Lists.{older_below}
 use Rattle.crsm_law_runs.proofs.DurableLists.{prefix_get}
 use Rattle.crsm_law_runs.proofs.Words.{IsRight}
-use Rattle.crsm_law_histories.specs.Clusters.{Event, log_in}
-use Rattle.crsm_law_histories.specs.Histories.{last_cluster}
-use Rattle.crsm_law_histories.specs.Laws.{HasShortLogs}
-use Rattle.crsm_law_histories.specs.Told.{Says}
-use Rattle.crsm_law_histories.proofs.Replies.{step_says}
+use Rattle.crsm_law_cluster.specs.Clusters.{Event, log_in}
+use Rattle.crsm_law_cluster.specs.Histories.{last_cluster}
+use Rattle.crsm_law_cluster.specs.HistoryLaws.{HasShortLogs}
+use Rattle.crsm_law_cluster.specs.Told.{Says}
+use Rattle.crsm_law_cluster.proofs.Replies.{step_says}
 use Rattle.crsm_law_cluster.specs.OneList.{one_list}
-use Rattle.crsm_law_cluster.specs.Laws.{IsRightAnswer, IsRightDrop}
+use Rattle.crsm_law_cluster.specs.ClusterLaws.{IsRightAnswer, IsRightDrop}
 use Rattle.crsm_law_cluster.proofs.Last.{shown, last}
-use Rattle.crsm_law_requests.proofs.Replying.{IsDropped, IsLineOn, IsOn, told_one, count, count_none, count_one, count_is}
-use Rattle.crsm_law_requests.proofs.Replying.IsLineOn.{Answers, Drops}
-use Rattle.crsm_law_requests.proofs.Balance.{Balanced, begun_balanced}
-use Rattle.crsm_law_requests.proofs.Turns.{Asks, turn_logs, turn_balanced}
-use Rattle.crsm_law_requests.proofs.Executed.{executed_prefix, answers_prefix}
-use Rattle.crsm_law_requests.proofs.Laws.{one, executed_there}
+use Rattle.crsm_law_cluster.proofs.Replying.{IsDropped, IsLineOn, IsOn, told_one, count, count_none, count_one, count_is}
+use Rattle.crsm_law_cluster.proofs.Replying.IsLineOn.{Answers, Drops}
+use Rattle.crsm_law_cluster.proofs.Balance.{Balanced, begun_balanced}
+use Rattle.crsm_law_cluster.proofs.Turns.{Asks, turn_logs, turn_balanced}
+use Rattle.crsm_law_cluster.proofs.Executed.{executed_prefix, answers_prefix}
+use Rattle.crsm_law_cluster.proofs.RequestLaws.{one, executed_there}
 use Rattle.crsm_law_lives.specs.Premises.{Ran}
 use Rattle.crsm_law_lives.specs.Laws.{IsIn, IsRightStep, StepsAreRight}
 use Rattle.crsm_law_lives.proofs.Laws.{lives_are_lawful}

@@ -12,9 +12,9 @@ use Rattle.crsm_spec.specs.Replica.{Replica, fresh}
 use Rattle.crsm_spec.specs.Draft.{begun, keep}
 use Rattle.crsm_spec.specs.Step.{boot, first_boot, founding_boot, boot_again}
 use Rattle.crsm_spec.specs.Node.{Turn, turn, outputs_from}
-use Rattle.crsm_log_facts.proofs.Lists.{all_at}
-use Rattle.crsm_lives.specs.Lives.{Group, Life}
-use Rattle.crsm_law_histories.specs.Clusters.{Event, Outgoing, outgoing_of, Process, Host, Cluster, host_at, next_out, started, with_turn, kept, while_up, with_process, posted, after, unborn}
+use Rattle.crsm_fact_log.proofs.Lists.{all_at}
+use Rattle.crsm_spec_process.specs.Lives.{Group, Life}
+use Rattle.crsm_law_cluster.specs.Clusters.{Event, Outgoing, outgoing_of, Process, Host, Cluster, host_at, next_out, started, with_turn, kept, while_up, with_process, posted, after, unborn}
 use Rattle.crsm_law_lives.specs.Events.{take_events, fate_events, group_events, life_events, after_turns, left_by, node_of, events_of, lives_of}
 use Rattle.crsm_law_lives.specs.Premises.{FindWhatIsLeft}
 use Rattle.crsm_law_lives.specs.Sending.{handed_by, gone, sent_from, sent_by, HaveFates, HasFates, out_at, outs_from}

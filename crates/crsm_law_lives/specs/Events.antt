@@ -5,8 +5,8 @@ use Rattle.crsm_spec.specs.Log.{Log}
 use Rattle.crsm_spec.specs.Replica.{Replica}
 use Rattle.crsm_spec.specs.Step.{boot}
 use Rattle.crsm_spec.specs.Node.{Turn, turn}
-use Rattle.crsm_lives.specs.Lives.{Group, Life, kept_turns}
-use Rattle.crsm_law_histories.specs.Clusters.{Event}
+use Rattle.crsm_spec_process.specs.Lives.{Group, Life, kept_turns}
+use Rattle.crsm_law_cluster.specs.Clusters.{Event}
 
 -- ---- one process
 

@@ -6,14 +6,14 @@ use Rattle.crsm_spec.specs.Lists.{Among, IsPrefixOf}
 use Rattle.crsm_spec.specs.Log.{executed}
 use Rattle.crsm_spec.specs.Draft.{Draft, Reply}
 use Rattle.crsm_spec.specs.Safe.{AnswersAt}
-use Rattle.crsm_lives.specs.Lives.{Life, kept_steps}
-use Rattle.crsm_law_histories.specs.Clusters.{Event, Cluster, host_at, log_in, unborn}
-use Rattle.crsm_law_histories.specs.Histories.{clusters, last_cluster}
-use Rattle.crsm_law_histories.specs.Lawful.{IsLawful}
-use Rattle.crsm_law_histories.specs.Laws.{HasShortLogs}
+use Rattle.crsm_spec_process.specs.Lives.{Life, kept_steps}
+use Rattle.crsm_law_cluster.specs.Clusters.{Event, Cluster, host_at, log_in, unborn}
+use Rattle.crsm_law_cluster.specs.Histories.{clusters, last_cluster}
+use Rattle.crsm_law_cluster.specs.Lawful.{IsLawful}
+use Rattle.crsm_law_cluster.specs.HistoryLaws.{HasShortLogs}
 use Rattle.crsm_law_cluster.specs.OneList.{one_list}
 use Rattle.crsm_law_cluster.specs.Going.{IsAt}
-use Rattle.crsm_law_cluster.specs.Laws.{IsRightAnswer, IsRightDrop}
+use Rattle.crsm_law_cluster.specs.ClusterLaws.{IsRightAnswer, IsRightDrop}
 use Rattle.crsm_law_lives.specs.Events.{left_by, lives_of}
 use Rattle.crsm_law_lives.specs.Premises.{Ran}
 use Rattle.crsm_law_lives.specs.Sending.{HasFates, outs_from, sent_by}

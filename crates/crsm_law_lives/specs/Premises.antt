@@ -6,9 +6,9 @@ use Rattle.crsm_base.specs.MessageReading.{datagram_of}
 use Rattle.crsm_spec.specs.Types.{Datagram}
 use Rattle.crsm_spec.specs.Log.{Log}
 use Rattle.crsm_spec.specs.Node.{Turn}
-use Rattle.crsm_lives.specs.Lives.{Life, kept_turns}
-use Rattle.crsm_law_histories.specs.Clusters.{Event, Outgoing, Cluster, next_out}
-use Rattle.crsm_law_histories.specs.Lawful.{IsByte}
+use Rattle.crsm_spec_process.specs.Lives.{Life, kept_turns}
+use Rattle.crsm_law_cluster.specs.Clusters.{Event, Outgoing, Cluster, next_out}
+use Rattle.crsm_law_cluster.specs.Lawful.{IsByte}
 use Rattle.crsm_law_cluster.specs.Going.{IsAt}
 use Rattle.crsm_law_lives.specs.Events.{AreEventsOf, left_by, lives_of}
 

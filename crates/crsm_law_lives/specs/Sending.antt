@@ -4,8 +4,8 @@ use Rattle.std.specs.List.{flat_map}
 use Rattle.crsm_spec.specs.Replica.{Replica}
 use Rattle.crsm_spec.specs.Step.{boot}
 use Rattle.crsm_spec.specs.Node.{Turn, outputs_from}
-use Rattle.crsm_lives.specs.Lives.{Group, Life}
-use Rattle.crsm_law_histories.specs.Clusters.{Event, Outgoing, outgoing_of, Cluster, next_out, after}
+use Rattle.crsm_spec_process.specs.Lives.{Group, Life}
+use Rattle.crsm_law_cluster.specs.Clusters.{Event, Outgoing, outgoing_of, Cluster, next_out, after}
 use Rattle.crsm_law_lives.specs.Events.{after_turns}
 
 -- ---- of a process

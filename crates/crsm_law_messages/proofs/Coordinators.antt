@@ -14,22 +14,22 @@ use Rattle.crsm_spec.specs.Coordinate.{forget_epoch, instance}
 use Rattle.crsm_spec.specs.Step.{Input, step, boot, boot_again, founding_boot, first_boot}
 use Rattle.crsm_spec.specs.World.{Site, World, Moment, begin, log_at, with_site, whole_step, cut_step, lost_step, down, after_step, then_down}
 use Rattle.crsm_spec.specs.Moments.{silent, begun_at, with_room, start_at}
-use Rattle.crsm_step_facts.specs.Messages.{IsSent}
-use Rattle.crsm_step_facts.specs.Changes.{Change, Changes, stay, and_then, IsAnswer, IsVote}
+use Rattle.crsm_fact_step.specs.Messages.{IsSent}
+use Rattle.crsm_fact_step.specs.Changes.{Change, Changes, stay, and_then, IsAnswer, IsVote}
 use Rattle.crsm_law_steps.specs.Happenings.{Marks, CanCome, Ends, Happens, IsReached}
 use Rattle.crsm_law_steps.specs.Happenings.Marks.{none}
 use Rattle.crsm_law_steps.specs.Happenings.Ends.{IsWhole, IsCut, IsLost}
 use Rattle.crsm_law_steps.specs.Happenings.Happens.{Nothing, Steps, Junk, Stops, Joins, Starts}
 use Rattle.crsm_law_steps.specs.Happenings.IsReached.{first, next}
-use Rattle.crsm_step_facts.proofs.Fitted.{step_changes}
-use Rattle.crsm_step_facts.proofs.Logs.{send_still, replies_still}
-use Rattle.crsm_step_facts.proofs.Walk.{same_when}
+use Rattle.crsm_fact_step.proofs.Fitted.{step_changes}
+use Rattle.crsm_fact_step.proofs.Logs.{send_still, replies_still}
+use Rattle.crsm_fact_step.proofs.Walk.{same_when}
 use Rattle.crsm_law_messages.specs.SentMessages.{GoesOn, here, Past}
 use Rattle.crsm_law_messages.specs.Proposals.{Did, Asks, Counts, Proposes, CountsVote, HasAsked, HasProposed, CoordinatorIsTrue, CoordinatorsAreTrue, AskedWasAsked, ProposedWasProposed}
 use Rattle.crsm_law_messages.proofs.Truth.{carried}
 use Rattle.crsm_law_messages.proofs.SendingControls.{then_on}
 use Rattle.crsm_law_messages.proofs.Worlds.{past_on, set_up, up_same, not_up, marked_sites, room_up, kept_whole, founded_is, all_known}
-use Rattle.crsm_log_facts.proofs.Lists.{among_either}
+use Rattle.crsm_fact_log.proofs.Lists.{among_either}
 
 -- ---- what stays true
 

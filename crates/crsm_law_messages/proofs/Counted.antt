@@ -7,9 +7,9 @@ use Rattle.crsm_spec.specs.Draft.{begun}
 use Rattle.crsm_spec.specs.Coordinate.{instance, has_accepted}
 use Rattle.crsm_spec.specs.World.{World, Site, log_at}
 use Rattle.crsm_spec.specs.Moments.{begun_at}
-use Rattle.crsm_step_facts.specs.Messages.{ReceivesControl}
-use Rattle.crsm_log_facts.specs.Logs.{Extends}
-use Rattle.crsm_step_facts.proofs.Logs.{changes_numbers}
+use Rattle.crsm_fact_step.specs.Messages.{ReceivesControl}
+use Rattle.crsm_fact_log.specs.Logs.{Extends}
+use Rattle.crsm_fact_step.proofs.Logs.{changes_numbers}
 use Rattle.crsm_law_messages.specs.SentMessages.{SentMessage, Past, WasSentBefore}
 use Rattle.crsm_law_messages.specs.Laws.{Says, ReceivesIn}
 use Rattle.crsm_law_messages.specs.Counted.{AllSpelt, AnswersAreTrue, VotesAreTrue}

@@ -13,11 +13,11 @@ use Rattle.crsm_spec.specs.Draft.{Draft, keep, noting, send, reply, count_vote, 
 use Rattle.crsm_spec.specs.Clients.{refuse, submit, await, replies, answer_each, answer_found, reply_ok, reply_dropped, find_executed, is_dropped}
 use Rattle.crsm_spec.specs.Coordinate.{forget_epoch}
 use Rattle.crsm_spec.specs.Step.{Input}
-use Rattle.crsm_step_facts.specs.Messages.{IsSent, Answers}
-use Rattle.crsm_step_facts.specs.Changes.{Change}
-use Rattle.crsm_step_facts.specs.Changes.Change.{Submits, Refuses, Commits, Replies, Takes, Acks, IsAcked, Pays, Owes, SendsTime, SendsAgain, SendsControl, Gathers, Suspends, Collects, TakesPage, Completes, Refrains, GivesUp, Asks, CountsAnswer, Proposes, IsPreempted, AcceptsOwn, CountsVote, Promises, Accepts, Chooses, Learns, AdoptsTail, AdoptsPage, Enters}
+use Rattle.crsm_fact_step.specs.Messages.{IsSent, Answers}
+use Rattle.crsm_fact_step.specs.Changes.{Change}
+use Rattle.crsm_fact_step.specs.Changes.Change.{Submits, Refuses, Commits, Replies, Takes, Acks, IsAcked, Pays, Owes, SendsTime, SendsAgain, SendsControl, Gathers, Suspends, Collects, TakesPage, Completes, Refrains, GivesUp, Asks, CountsAnswer, Proposes, IsPreempted, AcceptsOwn, CountsVote, Promises, Accepts, Chooses, Learns, AdoptsTail, AdoptsPage, Enters}
 use Rattle.crsm_law_messages.proofs.Words.{among_unmap}
-use Rattle.crsm_log_facts.proofs.Lists.{among_either}
+use Rattle.crsm_fact_log.proofs.Lists.{among_either}
 
 -- ---- boots
 

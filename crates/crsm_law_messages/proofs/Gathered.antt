@@ -8,8 +8,8 @@ use Rattle.std.proofs.lemmas.List.{append-nil}
 use Rattle.crsm_spec.specs.Lists.{Among, numbers_below}
 use Rattle.crsm_spec.specs.Parts.{Piece, is_same_message, kept_of, has_index, is_complete, is_old, is_odd, joined, with_part, whole_with, cut}
 use Rattle.crsm_law_messages.proofs.Words.{both}
-use Rattle.crsm_log_facts.proofs.Lists.{among_either, kept_from, kept_in}
-use Rattle.crsm_log_facts.proofs.Parts.{joined_again}
+use Rattle.crsm_fact_log.proofs.Lists.{among_either, kept_from, kept_in}
+use Rattle.crsm_fact_log.proofs.Parts.{joined_again}
 
 -- ---- parts of one message
 

@@ -5,12 +5,12 @@ use Rattle.crsm_spec.specs.Replica.{Replica}
 use Rattle.crsm_spec.specs.Draft.{Draft}
 use Rattle.crsm_spec.specs.Step.{Input}
 use Rattle.crsm_spec.specs.World.{World, Moment}
-use Rattle.crsm_step_facts.specs.Changes.{Changes, stay, and_then}
+use Rattle.crsm_fact_step.specs.Changes.{Changes, stay, and_then}
 use Rattle.crsm_law_steps.specs.Happenings.{Ends, Happens, IsReached}
 use Rattle.crsm_law_steps.specs.Happenings.Ends.{IsWhole, IsCut, IsLost}
 use Rattle.crsm_law_steps.specs.Happenings.Happens.{Nothing, Steps, Junk, Stops, Joins, Starts}
 use Rattle.crsm_law_steps.specs.Happenings.IsReached.{first, next}
-use Rattle.crsm_step_facts.proofs.Fitted.{step_changes}
+use Rattle.crsm_fact_step.proofs.Fitted.{step_changes}
 use Rattle.crsm_law_messages.specs.SentMessages.{SentMessage, IsSentBy}
 
 -- some draft of these changes, but for the last, may send it

@@ -12,14 +12,14 @@ use Rattle.crsm_spec.specs.Parts.{Piece, cut, with_part}
 use Rattle.crsm_spec.specs.Replica.{Replica}
 use Rattle.crsm_spec.specs.Draft.{Draft, begun, send_control, parts_to}
 use Rattle.crsm_spec.specs.Step.{Input}
-use Rattle.crsm_step_facts.specs.Messages.{IsSent, Answers}
-use Rattle.crsm_step_facts.specs.Changes.{Changes, stay, and_then}
+use Rattle.crsm_fact_step.specs.Messages.{IsSent, Answers}
+use Rattle.crsm_fact_step.specs.Changes.{Changes, stay, and_then}
 use Rattle.crsm_law_messages.specs.SentMessages.{SentMessage, IsSentBy}
 use Rattle.crsm_law_messages.proofs.History.{SendsIn}
 use Rattle.crsm_law_messages.proofs.Words.{among_unmap}
 use Rattle.crsm_law_messages.proofs.Gathered.{IsOnce, once_with, with_among}
 use Rattle.crsm_law_messages.proofs.Effects.{PartsChange, Quiet, SendsOne, GathersOne, IsQuiet, parts_change}
-use Rattle.crsm_log_facts.proofs.Lists.{among_either}
+use Rattle.crsm_fact_log.proofs.Lists.{among_either}
 
 -- ---- parts of what was sent
 

@@ -9,14 +9,14 @@ use Rattle.crsm_spec.specs.Log.{accepted}
 use Rattle.crsm_spec.specs.Draft.{Draft}
 use Rattle.crsm_spec.specs.Coordinate.{instance, has_accepted}
 use Rattle.crsm_spec.specs.World.{World, Moment, log_at}
-use Rattle.crsm_step_facts.specs.Messages.{IsSent}
-use Rattle.crsm_log_facts.specs.Logs.{Extends, same}
+use Rattle.crsm_fact_step.specs.Messages.{IsSent}
+use Rattle.crsm_fact_log.specs.Logs.{Extends, same}
 use Rattle.crsm_law_steps.specs.Laws.{LogsGoOn}
 use Rattle.crsm_law_steps.specs.Happenings.{Happens}
-use Rattle.crsm_log_facts.proofs.Logged.{extends_trans}
-use Rattle.crsm_step_facts.proofs.Logs.{changes_grow}
+use Rattle.crsm_fact_log.proofs.Logged.{extends_trans}
+use Rattle.crsm_fact_step.proofs.Logs.{changes_grow}
 use Rattle.crsm_law_steps.proofs.Moments.{moment_goes_on}
-use Rattle.crsm_log_facts.proofs.Tests.{same_ballot}
+use Rattle.crsm_fact_log.proofs.Tests.{same_ballot}
 use Rattle.crsm_law_messages.specs.SentMessages.{GoesOn, here, on, Past}
 use Rattle.crsm_law_messages.specs.Laws.{Says, SentIsTrue}
 

@@ -17,15 +17,15 @@ use Rattle.crsm_spec.specs.Draft.{Draft, begun, keep}
 use Rattle.crsm_spec.specs.Step.{Input, step, boot, boot_again, founding_boot, first_boot}
 use Rattle.crsm_spec.specs.World.{Site, Packet, World, Moment, begin, log_of, log_at, with_site, packet_of, whole_step, cut_step, lost_step, down, after_step, then_down}
 use Rattle.crsm_spec.specs.Moments.{use_up, silent, begun_at, with_room, start_at}
-use Rattle.crsm_log_facts.specs.Logs.{Extends, same, more}
-use Rattle.crsm_step_facts.specs.Changes.{stay}
+use Rattle.crsm_fact_log.specs.Logs.{Extends, same, more}
+use Rattle.crsm_fact_step.specs.Changes.{stay}
 use Rattle.crsm_law_steps.specs.Happenings.{Marks, WasSent, CanCome, Ends, Happens, IsReached}
 use Rattle.crsm_law_steps.specs.Happenings.Marks.{none, mark}
 use Rattle.crsm_law_steps.specs.Happenings.CanCome.{IsPacket, IsCommand, IsReply, IsTick, IsSuspicion}
 use Rattle.crsm_law_steps.specs.Happenings.Ends.{IsWhole, IsCut, IsLost}
 use Rattle.crsm_law_steps.specs.Happenings.Happens.{Nothing, Steps, Junk, Stops, Joins, Starts}
 use Rattle.crsm_law_steps.specs.Happenings.IsReached.{first, next}
-use Rattle.crsm_step_facts.proofs.Fitted.{step_changes}
+use Rattle.crsm_fact_step.proofs.Fitted.{step_changes}
 use Rattle.crsm_law_steps.proofs.Happen.{sent_before}
 use Rattle.crsm_law_messages.specs.SentMessages.{SentMessage, here, on, Past, WasSentBefore}
 use Rattle.crsm_law_messages.specs.Laws.{IsSource, ReceivesIn, ReceivedWasSent, ReceivedIsSent}
@@ -35,7 +35,7 @@ use Rattle.crsm_law_messages.proofs.Effects.{boots_skip, boots_more}
 use Rattle.crsm_law_messages.proofs.SendingControls.{IsFor, IsSaid, AreApart, Here, Mid, said_more, here_more, IsNew, Told, sent_along}
 use Rattle.crsm_law_messages.proofs.History.{Sends, SendsIn, SendsAt, WasSentIn}
 use Rattle.crsm_law_messages.proofs.Truth.{past_extends}
-use Rattle.crsm_log_facts.proofs.Lists.{among_either, among_take}
+use Rattle.crsm_fact_log.proofs.Lists.{among_either, among_take}
 
 -- ---- boots rise
 

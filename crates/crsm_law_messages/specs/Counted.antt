@@ -5,7 +5,7 @@ use Rattle.crsm_spec.specs.Types.{Ballot, Decision}
 use Rattle.crsm_spec.specs.Log.{Log, known, promised, accepted}
 use Rattle.crsm_spec.specs.Paxos.{Answer}
 use Rattle.crsm_spec.specs.World.{World, log_at}
-use Rattle.crsm_log_facts.specs.Logs.{Extends}
+use Rattle.crsm_fact_log.specs.Logs.{Extends}
 use Rattle.crsm_law_messages.specs.SentMessages.{SentMessage, WasSentBefore}
 use Rattle.crsm_law_messages.specs.Proposals.{Did, Counts, CountsVote}
 

@@ -9,8 +9,8 @@ use Rattle.crsm_spec.specs.Collect.{suspend_ok}
 use Rattle.crsm_spec.specs.Controls.{page_from}
 use Rattle.crsm_spec.specs.Step.{Input}
 use Rattle.crsm_spec.specs.World.{Site, World, log_at}
-use Rattle.crsm_step_facts.specs.Messages.{ReceivesControl}
-use Rattle.crsm_log_facts.specs.Logs.{Extends}
+use Rattle.crsm_fact_step.specs.Messages.{ReceivesControl}
+use Rattle.crsm_fact_log.specs.Logs.{Extends}
 use Rattle.crsm_law_steps.specs.Happenings.{Marks, CanCome, IsReached}
 use Rattle.crsm_law_messages.specs.SentMessages.{SentMessage, WasSentBefore}
 

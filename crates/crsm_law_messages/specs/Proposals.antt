@@ -11,7 +11,7 @@ use Rattle.crsm_spec.specs.Draft.{Draft}
 use Rattle.crsm_spec.specs.Coordinate.{instance}
 use Rattle.crsm_spec.specs.Step.{Input}
 use Rattle.crsm_spec.specs.World.{World}
-use Rattle.crsm_step_facts.specs.Changes.{IsAnswer, IsVote}
+use Rattle.crsm_fact_step.specs.Changes.{IsAnswer, IsVote}
 use Rattle.crsm_law_messages.specs.SentMessages.{SentMessage, Past, WasSentBefore}
 
 -- replica k once had a draft of which this holds

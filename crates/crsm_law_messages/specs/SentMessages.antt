@@ -7,8 +7,8 @@ use Rattle.crsm_spec.specs.Draft.{Draft, begun}
 use Rattle.crsm_spec.specs.Step.{Input, step}
 use Rattle.crsm_spec.specs.World.{Site, World, Moment, log_at}
 use Rattle.crsm_spec.specs.Moments.{begun_at}
-use Rattle.crsm_step_facts.specs.Messages.{IsSent, Answers}
-use Rattle.crsm_step_facts.specs.Changes.{Changes}
+use Rattle.crsm_fact_step.specs.Messages.{IsSent, Answers}
+use Rattle.crsm_fact_step.specs.Changes.{Changes}
 use Rattle.crsm_law_steps.specs.Happenings.{Marks, CanCome, Ends, Happens, IsReached}
 
 -- A control message as it was sent: its sender, whom it is for, and the boot and the number under which it went.

@@ -11,13 +11,13 @@ use Rattle.crsm_spec.specs.Step.{boot}
 use Rattle.crsm_spec.specs.Node.{Turn, turn, outputs_from, outputs}
 use Rattle.crsm_schedule.specs.Transcript.{line_text}
 use Rattle.crsm_wire.specs.Inverse.{AreBytes}
-use Rattle.crsm_peer_port.specs.Laws.{SendersAreNamed}
-use Rattle.crsm_rerun.specs.Laws.{SheetsHaveOneText}
-use Rattle.crsm_rerun.specs.Sheets.{IsSheet}
-use Rattle.crsm_rerun.specs.Texts.{IsNodeText, ending_of, shown_text}
-use Rattle.crsm_lives.specs.Lives.{Life, kept_turns, kept_steps}
-use Rattle.crsm_law_histories.specs.Clusters.{Event, Cluster}
-use Rattle.crsm_law_histories.specs.Lawful.{IsByte}
+use Rattle.crsm_port_node.specs.Laws.{SendersAreNamed}
+use Rattle.crsm_replica_rerun.specs.Laws.{SheetsHaveOneText}
+use Rattle.crsm_replica_rerun.specs.Sheets.{IsSheet}
+use Rattle.crsm_replica_rerun.specs.Texts.{IsNodeText, ending_of, shown_text}
+use Rattle.crsm_spec_process.specs.Lives.{Life, kept_turns, kept_steps}
+use Rattle.crsm_law_cluster.specs.Clusters.{Event, Cluster}
+use Rattle.crsm_law_cluster.specs.Lawful.{IsByte}
 use Rattle.crsm_law_cluster.specs.Going.{IsAt}
 use Rattle.crsm_law_lives.specs.Events.{AreEventsOf}
 use Rattle.crsm_law_lives.specs.Premises.{IsProcess, SpeaksTrue, NobodyForges}

@@ -4,9 +4,9 @@ use Rattle.std.specs.List.{AllByRecursion}
 use Rattle.crsm_base.specs.MessageReading.{datagram_of}
 use Rattle.crsm_spec.specs.Types.{Datagram}
 use Rattle.crsm_spec.specs.Node.{Turn}
-use Rattle.crsm_peer_port.specs.Senders.{named_sender}
-use Rattle.crsm_lives.specs.Lives.{Life}
-use Rattle.crsm_law_histories.specs.Clusters.{Event, Cluster}
+use Rattle.crsm_port_node.specs.Senders.{named_sender}
+use Rattle.crsm_spec_process.specs.Lives.{Life}
+use Rattle.crsm_law_cluster.specs.Clusters.{Event, Cluster}
 use Rattle.crsm_law_cluster.specs.Going.{IsAt}
 use Rattle.crsm_law_lives.specs.Events.{AreEventsOf}
 use Rattle.crsm_law_lives.specs.Premises.{IsProcess, DisksKeep, WasSentBy, Ran}

@@ -4,13 +4,13 @@ use Rattle.crsm_spec.specs.Lists.{Among, IsPrefixOf}
 use Rattle.crsm_spec.specs.Draft.{Draft}
 use Rattle.crsm_spec.specs.Node.{Turn}
 use Rattle.crsm_ledger.specs.Recovered.{AreKept}
-use Rattle.crsm_lives.specs.Lives.{Life, kept_turns}
-use Rattle.crsm_sheet.specs.Sheets.{sheet_of}
-use Rattle.crsm_sheet.specs.declared.line.SheetLine.{SheetLine}
-use Rattle.crsm_rerun.specs.Texts.{IsNodeText, shown_text}
-use Rattle.crsm_law_histories.specs.Clusters.{Event}
-use Rattle.crsm_law_histories.specs.Histories.{last_cluster}
-use Rattle.crsm_law_histories.specs.Laws.{HasShortLogs}
+use Rattle.crsm_spec_process.specs.Lives.{Life, kept_turns}
+use Rattle.crsm_text_sheet.specs.Sheets.{sheet_of}
+use Rattle.crsm_text_sheet.specs.declared.line.SheetLine.{SheetLine}
+use Rattle.crsm_replica_rerun.specs.Texts.{IsNodeText, shown_text}
+use Rattle.crsm_law_cluster.specs.Clusters.{Event}
+use Rattle.crsm_law_cluster.specs.Histories.{last_cluster}
+use Rattle.crsm_law_cluster.specs.HistoryLaws.{HasShortLogs}
 use Rattle.crsm_law_lives.specs.Premises.{Ran}
 use Rattle.crsm_law_lives.specs.Laws.{IsRightStep}
 

@@ -5,8 +5,8 @@ ghost use Rattle.crsm_law_nodes.specs.Addresses.{AddressesSuffice};
 ghost use Rattle.crsm_law_nodes.specs.Sheets.{SheetsAreRight};
 
 use crsm_law_lives::steps_are_right;
-use crsm_peer_port::senders_are_named;
-use crsm_rerun::sheets_have_one_text;
+use crsm_port_node::senders_are_named;
+use crsm_replica_rerun::sheets_have_one_text;
 
 /// Nobody forges a datagram if nobody sends from a replica's address, and each node takes what names a replica as its
 /// sender from that address alone.

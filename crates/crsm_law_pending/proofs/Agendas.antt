@@ -8,11 +8,11 @@ use Rattle.crsm_spec.specs.Acts.{Act, Single}
 use Rattle.crsm_spec.specs.Lists.{Among}
 use Rattle.crsm_spec.specs.Moments.{act}
 use Rattle.crsm_spec.specs.World.{Packet, World}
-use Rattle.crsm_log_facts.proofs.Lists.{all_at, among_left, among_right, among_either, get_inside}
-use Rattle.crsm_timing.specs.declared.Plan.{Plan}
-use Rattle.crsm_timing.specs.Plans.{FitsPlan, arrival, delay_of, reading, stamped}
-use Rattle.crsm_timing.specs.Timelines.{Timed, Sent, sent, sent_from, request, tick, delivery, IsDue, Precedes}
-use Rattle.crsm_law_sends.specs.Posts.{Post, SendsAreTold, new_packets, posts, posts_from}
+use Rattle.crsm_fact_log.proofs.Lists.{all_at, among_left, among_right, among_either, get_inside}
+use Rattle.crsm_spec_plan.specs.declared.Plan.{Plan}
+use Rattle.crsm_spec_plan.specs.Plans.{FitsPlan, arrival, delay_of, reading, stamped}
+use Rattle.crsm_spec_plan.specs.Timelines.{Timed, Sent, sent, sent_from, request, tick, delivery, IsDue, Precedes}
+use Rattle.crsm_law_pending.specs.Posts.{Post, SendsAreTold, new_packets, posts, posts_from}
 use Rattle.crsm_law_timing.specs.SoFar.{IsNext, IsSoFar, world_after}
 use Rattle.crsm_law_timing.proofs.Order.{asymmetric, not_itself}
 use Rattle.crsm_law_timing.proofs.Worlds.{at, done, act_is, sends_by, sent_more}

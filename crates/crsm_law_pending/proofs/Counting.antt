@@ -4,10 +4,10 @@ use Rattle.std.specs.Prelude.{◌⊎◌, filter, not, ◌==◌}
 use Rattle.std.proofs.lemmas.Bool.{cases_eq, eq-eqb, ne_eqb}
 use Rattle.std.proofs.lemmas.List.{length-map}
 use Rattle.crsm_spec.specs.Lists.{Among}
-use Rattle.crsm_log_facts.proofs.Lists.{among_either}
-use Rattle.crsm_timing.specs.declared.Plan.{Plan}
-use Rattle.crsm_timing.specs.Plans.{FitsPlan}
-use Rattle.crsm_timing.specs.Timelines.{Timed, sent, IsDue, IsTimeline}
+use Rattle.crsm_fact_log.proofs.Lists.{among_either}
+use Rattle.crsm_spec_plan.specs.declared.Plan.{Plan}
+use Rattle.crsm_spec_plan.specs.Plans.{FitsPlan}
+use Rattle.crsm_spec_plan.specs.Timelines.{Timed, sent, IsDue, IsTimeline}
 use Rattle.crsm_law_timing.specs.SoFar.{IsSoFar, EventsEndWhole}
 use Rattle.crsm_law_timing.proofs.Behind.{due_later}
 use Rattle.crsm_law_timing.proofs.SoFar.{reached}

@@ -1,3 +1,5 @@
+mod Lines
+mod Steps
 mod Puts
 mod Numbers
 mod Agendas

@@ -2,10 +2,10 @@
 use Rattle.std.proofs.Common.{◌≡◌, ℕ, ◌+◌, ◌<◌, List, length, refl, sym, ◌∙◌, ap, subst, arith}
 use Rattle.std.specs.Prelude.{slice_get}
 use Rattle.std.proofs.lemmas.Option.{same_Some}
-use Rattle.crsm_log_facts.proofs.Lists.{get_inside}
-use Rattle.crsm_timing.specs.declared.Plan.{Plan}
-use Rattle.crsm_timing.specs.Plans.{FitsPlan, reading, stamped}
-use Rattle.crsm_timing.specs.Timelines.{Timed, Sent, sent, request, tick, delivery, IsDue}
+use Rattle.crsm_fact_log.proofs.Lists.{get_inside}
+use Rattle.crsm_spec_plan.specs.declared.Plan.{Plan}
+use Rattle.crsm_spec_plan.specs.Plans.{FitsPlan, reading, stamped}
+use Rattle.crsm_spec_plan.specs.Timelines.{Timed, Sent, sent, request, tick, delivery, IsDue}
 use Rattle.crsm_law_pending.specs.Agendas.{number_of}
 
 pub request_number : (plan : Plan) → number_of (request plan).does ≡ 0

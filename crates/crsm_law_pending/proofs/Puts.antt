@@ -3,8 +3,8 @@ use Rattle.std.proofs.Common.{◌≡◌, List, [], ◌∷◌, ◌++◌, refl, sy
 use Rattle.std.specs.Prelude.{◌⊎◌}
 use Rattle.std.specs.List.{AllByRecursion}
 use Rattle.crsm_spec.specs.Lists.{Among}
-use Rattle.crsm_log_facts.proofs.Lists.{all_more, all_from, all_at, among_left, among_right, among_either}
-use Rattle.crsm_timing.specs.Timelines.{Timed, Precedes, InOrder}
+use Rattle.crsm_fact_log.proofs.Lists.{all_more, all_from, all_at, among_left, among_right, among_either}
+use Rattle.crsm_spec_plan.specs.Timelines.{Timed, Precedes, InOrder}
 use Rattle.crsm_law_timing.proofs.Order.{precedes_then}
 use Rattle.crsm_law_pending.specs.Agendas.{IsAhead, IsPut}
 

@@ -3,10 +3,10 @@ use Rattle.std.specs.Prelude.{◌≡◌, ◌⊎◌, ℕ, ◌+◌, ◌<◌, List,
 use Rattle.std.specs.List.{AllByRecursion}
 use Rattle.crsm_spec.specs.Lists.{Among}
 use Rattle.crsm_spec.specs.Acts.{Single}
-use Rattle.crsm_timing.specs.declared.Plan.{Plan}
-use Rattle.crsm_timing.specs.Plans.{delay_of, reading}
-use Rattle.crsm_timing.specs.Timelines.{Timed, Sent, sent, IsDue, InOrder, Precedes}
-use Rattle.crsm_law_sends.specs.Posts.{Post, posts_from}
+use Rattle.crsm_spec_plan.specs.declared.Plan.{Plan}
+use Rattle.crsm_spec_plan.specs.Plans.{delay_of, reading}
+use Rattle.crsm_spec_plan.specs.Timelines.{Timed, Sent, sent, IsDue, InOrder, Precedes}
+use Rattle.crsm_law_pending.specs.Posts.{Post, posts_from}
 
 -- ---- an event is put into a list in order
 

@@ -2,10 +2,10 @@
 use Rattle.std.specs.Prelude.{◌≡◌, ◌≢◌, ◌⊎◌, ℕ, ◌+◌, ◌<◌, ◌≤◌, List, [], ◌∷◌, ◌++◌, length}
 use Rattle.crsm_spec.specs.Acts.{Act}
 use Rattle.crsm_spec.specs.Moments.{act}
-use Rattle.crsm_timing.specs.declared.Plan.{Plan}
-use Rattle.crsm_timing.specs.Plans.{FitsPlan, arrival, reading, stamped}
-use Rattle.crsm_timing.specs.Timelines.{Timed, IsTimeline, request, tick}
-use Rattle.crsm_law_sends.specs.Posts.{Post, posts}
+use Rattle.crsm_spec_plan.specs.declared.Plan.{Plan}
+use Rattle.crsm_spec_plan.specs.Plans.{FitsPlan, arrival, reading, stamped}
+use Rattle.crsm_spec_plan.specs.Timelines.{Timed, IsTimeline, request, tick}
+use Rattle.crsm_law_pending.specs.Posts.{Post, posts}
 use Rattle.crsm_law_timing.specs.SoFar.{IsNext, IsSoFar, world_after}
 use Rattle.crsm_law_pending.specs.Agendas.{IsAgenda, IsPending, IsPut, LacksPosts, delivery_of}
 

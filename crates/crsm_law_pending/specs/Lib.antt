@@ -1,2 +1,3 @@
+pub mod Posts
 pub mod Agendas
 pub mod Following

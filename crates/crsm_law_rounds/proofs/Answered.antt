@@ -17,9 +17,9 @@ use Rattle.crsm_spec.specs.World.{Site, Packet, World, Moment, is_full, send_lin
 use Rattle.crsm_spec.specs.Acts.{Single, Act}
 use Rattle.crsm_spec.specs.Moments.{use_up, begun_at, single, come, deliverable, go_each, moments_of, act, lines_of}
 use Rattle.crsm_spec.specs.Run.{TraceLine, traced, told, after_acts}
-use Rattle.crsm_log_facts.proofs.Tests.{same_stamp}
-use Rattle.crsm_log_facts.proofs.Sorted.{eq_self}
-use Rattle.crsm_log_facts.proofs.Lists.{among_left, among_right, get_left, get_inside, take-grown}
+use Rattle.crsm_fact_log.proofs.Tests.{same_stamp}
+use Rattle.crsm_fact_log.proofs.Sorted.{eq_self}
+use Rattle.crsm_fact_log.proofs.Lists.{among_left, among_right, get_left, get_inside, take-grown}
 use Rattle.crsm_law_steps.specs.Laws.{LogsGoOn}
 use Rattle.crsm_law_epoch.specs.Numbers.{Distinct}
 use Rattle.crsm_law_runs.proofs.Drafts.{find_at, find_none}

@@ -20,9 +20,9 @@ use Rattle.crsm_spec.specs.Possible.{first_bad, causes_of, possible}
 use Rattle.crsm_spec.specs.Run.{ArePossible, after_acts, last_world}
 use Rattle.crsm_spec.specs.Safe.{AnswersAt}
 use Rattle.crsm_spec.specs.Calm.{IsCalm, IsCalmAt, IsCalmReading, calm_round, AllIsDone, IsAnsweredAt, RoundsAreBounded, IsUpAs}
-use Rattle.crsm_log_facts.specs.Logs.{Extends, same, more, Logged}
-use Rattle.crsm_log_facts.proofs.Logged.{extends_trans, end_fits, prepare_known}
-use Rattle.crsm_log_facts.proofs.Lists.{all_at, all_from, has_from}
+use Rattle.crsm_fact_log.specs.Logs.{Extends, same, more, Logged}
+use Rattle.crsm_fact_log.proofs.Logged.{extends_trans, end_fits, prepare_known}
+use Rattle.crsm_fact_log.proofs.Lists.{all_at, all_from, has_from}
 use Rattle.crsm_law_steps.specs.Laws.{LogsGoOn}
 use Rattle.crsm_law_steps.specs.Happenings.{IsReached, WasSent}
 use Rattle.crsm_law_steps.proofs.Happen.{act_happens, got_among}
@@ -33,17 +33,17 @@ use Rattle.crsm_law_epoch.proofs.Kept.{live_entered}
 use Rattle.crsm_law_epoch.proofs.LogSteps.{IsBetween}
 use Rattle.crsm_law_epoch.proofs.LogWorlds.{all_held, is_well, logs_fit}
 use Rattle.crsm_law_epoch.proofs.Worlds.{log_there}
-use Rattle.crsm_law_decisions.proofs.Agree.{known_are_one}
-use Rattle.crsm_law_decisions.proofs.Choice.{contains_among}
+use Rattle.crsm_law_agreement.proofs.BallotsAgree.{known_are_one}
+use Rattle.crsm_law_agreement.proofs.Choice.{contains_among}
 use Rattle.crsm_law_bounds.specs.Bounds.{IsSpelt}
 use Rattle.crsm_law_runs.proofs.DurableLists.{among_contains, among_place}
 use Rattle.crsm_law_runs.proofs.Last.{is_before, last_of_run}
 use Rattle.crsm_law_runs.proofs.Runs.{last_on}
 use Rattle.crsm_law_active.specs.Staying.{IsCalmInput, IsMild}
 use Rattle.crsm_law_active.specs.Telling.{IsOfLink}
-use Rattle.crsm_law_counts.specs.Served.{WaitsRightly}
-use Rattle.crsm_law_counts.proofs.ServedWorlds.{nothing_is_left}
-use Rattle.crsm_law_counts.proofs.Worlds.{few_before}
+use Rattle.crsm_law_active.specs.Served.{WaitsRightly}
+use Rattle.crsm_law_active.proofs.ServedWorlds.{nothing_is_left}
+use Rattle.crsm_law_active.proofs.Worlds.{few_before}
 use Rattle.crsm_law_rounds.specs.Rounds.{GoesCalmly}
 use Rattle.crsm_law_rounds.specs.Rounds.GoesCalmly.{stay}
 use Rattle.crsm_law_rounds.specs.Members.{IsMemberUp, AllUp}

@@ -9,10 +9,10 @@ use Rattle.crsm_spec.specs.Types.{Entry, Rec, Decision}
 use Rattle.crsm_spec.specs.Lists.{Among, last_of}
 use Rattle.crsm_spec.specs.Log.{Log, known, decision, active, executed, unexecuted, logged, logged_in, last_stamp, above}
 use Rattle.crsm_spec.specs.World.{World, log_at}
-use Rattle.crsm_log_facts.specs.Logs.{same, Logged}
-use Rattle.crsm_log_facts.specs.Rising.{Rises}
-use Rattle.crsm_log_facts.proofs.Lists.{among_left, among_right, among_either, get_left, get_inside}
-use Rattle.crsm_log_facts.proofs.Logged.{logged_is, logged_rises, logged_epoch}
+use Rattle.crsm_fact_log.specs.Logs.{same, Logged}
+use Rattle.crsm_fact_log.specs.Rising.{Rises}
+use Rattle.crsm_fact_log.proofs.Lists.{among_left, among_right, among_either, get_left, get_inside}
+use Rattle.crsm_fact_log.proofs.Logged.{logged_is, logged_rises, logged_epoch}
 use Rattle.crsm_law_steps.specs.Happenings.{IsReached}
 use Rattle.crsm_law_collection.proofs.Orderly.{Orderly, orderly, above_last}
 use Rattle.crsm_law_agreement.specs.Openings.{IsEpochOf, EpochHolds}

@@ -18,9 +18,9 @@ use Rattle.crsm_spec.specs.Ready.{is_ready, is_replicated, is_stable, is_next, v
 use Rattle.crsm_spec.specs.Replica.{Replica, members_of, spec_of, frames_to, last_issued}
 use Rattle.crsm_spec.specs.Frames.{time_of}
 use Rattle.crsm_spec.specs.World.{World, log_at}
-use Rattle.crsm_log_facts.specs.Logs.{AllFit, Logged}
-use Rattle.crsm_log_facts.proofs.Sorted.{eq_self}
-use Rattle.crsm_log_facts.proofs.Lists.{list_all_at, has_from, get_inside, among_left, among_right}
+use Rattle.crsm_fact_log.specs.Logs.{AllFit, Logged}
+use Rattle.crsm_fact_log.proofs.Sorted.{eq_self}
+use Rattle.crsm_fact_log.proofs.Lists.{list_all_at, has_from, get_inside, among_left, among_right}
 use Rattle.crsm_law_epoch.specs.Numbers.{Distinct}
 use Rattle.crsm_law_epoch.specs.Seats.{seat_up}
 use Rattle.crsm_law_epoch.specs.Worlds.{sent_in}
@@ -30,8 +30,8 @@ use Rattle.crsm_law_epoch.proofs.Worlds.{log_there}
 use Rattle.crsm_law_bounds.specs.Bounds.{IsSpelt}
 use Rattle.crsm_law_runs.proofs.DurableLists.{among_place}
 use Rattle.crsm_law_active.proofs.Paying.{steps_pay}
-use Rattle.crsm_law_counts.specs.Counted.{IsPaidTo, HasVote, Counted}
-use Rattle.crsm_law_counts.proofs.ServedWorlds.{nothing_is_left}
+use Rattle.crsm_law_active.specs.Counted.{IsPaidTo, HasVote, Counted}
+use Rattle.crsm_law_active.proofs.ServedWorlds.{nothing_is_left}
 use Rattle.crsm_law_rounds.specs.Members.{IsMemberUp, AllUp}
 use Rattle.crsm_law_rounds.proofs.Growing.{logged_on, grows_extends}
 use Rattle.crsm_law_rounds.proofs.Going.{up_one, calm_sent}

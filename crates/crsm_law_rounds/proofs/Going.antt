@@ -12,9 +12,9 @@ use Rattle.crsm_spec.specs.Draft.{Draft}
 use Rattle.crsm_spec.specs.Step.{Input, step}
 use Rattle.crsm_spec.specs.World.{Site, Packet, World, Moment, packet_of, whole_step, after_step}
 use Rattle.crsm_spec.specs.Moments.{use_up, silent, begun_at}
-use Rattle.crsm_log_facts.specs.Logs.{same}
-use Rattle.crsm_log_facts.proofs.Logged.{extends_trans}
-use Rattle.crsm_log_facts.proofs.Lists.{among_left, get_left}
+use Rattle.crsm_fact_log.specs.Logs.{same}
+use Rattle.crsm_fact_log.proofs.Logged.{extends_trans}
+use Rattle.crsm_fact_log.proofs.Lists.{among_left, get_left}
 use Rattle.crsm_law_steps.specs.Laws.{LogsGoOn}
 use Rattle.crsm_law_steps.specs.Happenings.{Marks, CanCome, Ends, Happens, IsReached, WasSent}
 use Rattle.crsm_law_steps.proofs.Moments.{moment_goes_on}

@@ -10,9 +10,9 @@ use Rattle.crsm_spec.specs.Lists.{Among, greatest}
 use Rattle.crsm_spec.specs.Log.{Log, known, decision, members, active, live, suspended, logged, logged_in}
 use Rattle.crsm_spec.specs.Fits.{fits, is_newest}
 use Rattle.crsm_spec.specs.Replica.{Replica, next_from, acked_by}
-use Rattle.crsm_log_facts.specs.Logs.{AllFit, Extends, same, more, Logged}
-use Rattle.crsm_log_facts.proofs.Logged.{prepare_known}
-use Rattle.crsm_log_facts.proofs.Lists.{list_all_at}
+use Rattle.crsm_fact_log.specs.Logs.{AllFit, Extends, same, more, Logged}
+use Rattle.crsm_fact_log.proofs.Logged.{prepare_known}
+use Rattle.crsm_fact_log.proofs.Lists.{list_all_at}
 use Rattle.crsm_law_agreement.proofs.Logs.{is_logged}
 use Rattle.crsm_law_active.specs.Staying.{GrowsBy, IsEndOf}
 use Rattle.crsm_law_active.proofs.Ending.{grows_then, end_self, end_then}

@@ -13,10 +13,10 @@ use Rattle.crsm_spec.specs.Replica.{Replica, members_of, frames_to, next_from, l
 use Rattle.crsm_spec.specs.Frames.{time_of, is_odd_frame, is_wrong}
 use Rattle.crsm_spec.specs.Step.{Input, step}
 use Rattle.crsm_spec.specs.World.{World}
-use Rattle.crsm_log_facts.specs.Logs.{AllFit, Logged}
-use Rattle.crsm_log_facts.proofs.Logged.{decide_above}
-use Rattle.crsm_log_facts.proofs.LogsFit.{of_known}
-use Rattle.crsm_log_facts.proofs.Lists.{kept_from, has_in, has_from}
+use Rattle.crsm_fact_log.specs.Logs.{AllFit, Logged}
+use Rattle.crsm_fact_log.proofs.Logged.{decide_above}
+use Rattle.crsm_fact_log.proofs.LogsFit.{of_known}
+use Rattle.crsm_fact_log.proofs.Lists.{kept_from, has_in, has_from}
 use Rattle.crsm_law_epoch.specs.Seats.{seat_up, seat_of, Sender, Receiver, Facts, logs_of, pushed_to, taken_of}
 use Rattle.crsm_law_epoch.specs.Worlds.{seats, sent_in}
 use Rattle.crsm_law_epoch.proofs.LogWorlds.{epochs_hold_always, logs_fit, up_numbers}
@@ -24,9 +24,9 @@ use Rattle.crsm_law_epoch.proofs.Words.{among_unmap, count_same}
 use Rattle.crsm_law_epoch.proofs.Worlds.{log_there}
 use Rattle.crsm_law_active.specs.Musts.{FitsHere}
 use Rattle.crsm_law_active.proofs.Musts.{steps_take}
-use Rattle.crsm_law_counts.specs.Counted.{Counted}
-use Rattle.crsm_law_counts.proofs.Worlds.{counts_hold}
-use Rattle.crsm_law_counts.proofs.Serving.{logged_epoch_low}
+use Rattle.crsm_law_active.specs.Counted.{Counted}
+use Rattle.crsm_law_active.proofs.Worlds.{counts_hold}
+use Rattle.crsm_law_active.proofs.Serving.{logged_epoch_low}
 use Rattle.crsm_law_rounds.specs.Members.{IsMemberUp, AllUp}
 use Rattle.crsm_law_rounds.proofs.Growing.{greatest_among}
 

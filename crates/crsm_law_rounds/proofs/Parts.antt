@@ -16,10 +16,10 @@ use Rattle.crsm_spec.specs.Step.{Input, step}
 use Rattle.crsm_spec.specs.World.{Site, Packet, World, is_full, packet_of, whole_step}
 use Rattle.crsm_spec.specs.Moments.{use_up}
 use Rattle.crsm_spec.specs.Calm.{IsPart}
-use Rattle.crsm_log_facts.proofs.Lists.{among_right, among_either}
-use Rattle.crsm_step_facts.specs.Changes.{stay as no_change}
-use Rattle.crsm_step_facts.specs.Messages.{IsSent, Answers}
-use Rattle.crsm_step_facts.proofs.Fitted.{step_changes}
+use Rattle.crsm_fact_log.proofs.Lists.{among_right, among_either}
+use Rattle.crsm_fact_step.specs.Changes.{stay as no_change}
+use Rattle.crsm_fact_step.specs.Messages.{IsSent, Answers}
+use Rattle.crsm_fact_step.proofs.Fitted.{step_changes}
 use Rattle.crsm_law_steps.specs.Laws.{LogsGoOn}
 use Rattle.crsm_law_steps.specs.Happenings.{Marks, CanCome, Ends, IsReached, WasSent}
 use Rattle.crsm_law_steps.proofs.Happen.{got_among, among_set}

@@ -3,7 +3,7 @@ use Rattle.std.proofs.Common.{◌≡◌, ℕ, ◌+◌, ◌≤◌, List, [], ◌�
 use Rattle.std.specs.Prelude.{IsTrue, count_by}
 use Rattle.std.proofs.lemmas.List.Sums.{sum_by-append, sum_by-cons}
 use Rattle.crsm_spec.specs.Lists.{Among}
-use Rattle.crsm_log_facts.proofs.Lists.{among_left, among_right, among_either}
+use Rattle.crsm_fact_log.proofs.Lists.{among_left, among_right, among_either}
 use Rattle.crsm_law_epoch.specs.Numbers.{Distinct}
 use Rattle.crsm_law_rounds.proofs.Growing.{IsSet}
 

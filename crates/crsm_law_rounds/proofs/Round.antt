@@ -14,8 +14,8 @@ use Rattle.crsm_spec.specs.Draft.{Draft}
 use Rattle.crsm_spec.specs.Step.{Input, step}
 use Rattle.crsm_spec.specs.World.{Site, Packet, World, is_full, is_up, is_up_at, packet_of, whole_step}
 use Rattle.crsm_spec.specs.Moments.{use_up, deliverable}
-use Rattle.crsm_log_facts.proofs.Lists.{kept_from, kept_in}
-use Rattle.crsm_log_facts.proofs.Logged.{extends_trans}
+use Rattle.crsm_fact_log.proofs.Lists.{kept_from, kept_in}
+use Rattle.crsm_fact_log.proofs.Logged.{extends_trans}
 use Rattle.crsm_law_steps.specs.Laws.{LogsGoOn}
 use Rattle.crsm_law_steps.proofs.Happen.{got_among}
 use Rattle.crsm_law_epoch.specs.Numbers.{Distinct}
@@ -26,7 +26,7 @@ use Rattle.crsm_law_active.specs.Again.{sent_to, frame_of}
 use Rattle.crsm_law_active.specs.Staying.{IsCalmInput}
 use Rattle.crsm_law_active.proofs.Again.{steps_send_again}
 use Rattle.crsm_law_active.proofs.Staying.{steps_stay}
-use Rattle.crsm_law_counts.proofs.Worlds.{few_before}
+use Rattle.crsm_law_active.proofs.Worlds.{few_before}
 use Rattle.crsm_law_rounds.specs.Rounds.{GoesCalmly, IsFrameAt, Carries}
 use Rattle.crsm_law_rounds.specs.Rounds.GoesCalmly.{stay}
 use Rattle.crsm_law_rounds.specs.Members.{IsMemberUp, AllUp}

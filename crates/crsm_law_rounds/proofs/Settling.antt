@@ -9,8 +9,8 @@ use Rattle.crsm_spec.specs.Step.{Input, step}
 use Rattle.crsm_spec.specs.World.{Site, Packet, World, Moment, is_full, whole_step}
 use Rattle.crsm_spec.specs.Acts.{Single, Act}
 use Rattle.crsm_spec.specs.Moments.{use_up, begun_at, silent, come, single, step_at, step_at_site, deliverable, go_each, moments_of, world_after, act}
-use Rattle.crsm_log_facts.specs.Logs.{same}
-use Rattle.crsm_log_facts.proofs.Logged.{extends_trans}
+use Rattle.crsm_fact_log.specs.Logs.{same}
+use Rattle.crsm_fact_log.proofs.Logged.{extends_trans}
 use Rattle.crsm_law_steps.specs.Laws.{LogsGoOn}
 use Rattle.crsm_law_steps.specs.Happenings.{WasSent}
 use Rattle.crsm_law_steps.proofs.Happen.{got_among}

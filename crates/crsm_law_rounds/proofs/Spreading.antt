@@ -13,13 +13,13 @@ use Rattle.crsm_spec.specs.Log.{known, members, active, executed}
 use Rattle.crsm_spec.specs.Replica.{Replica, other_members, frames_to, next_from, acked_by, unacked}
 use Rattle.crsm_spec.specs.World.{Site, World, log_at}
 use Rattle.crsm_spec.specs.Calm.{IsOpen}
-use Rattle.crsm_log_facts.specs.Logs.{Logged}
-use Rattle.crsm_log_facts.proofs.Lists.{all_at, get_inside, has_in}
+use Rattle.crsm_fact_log.specs.Logs.{Logged}
+use Rattle.crsm_fact_log.proofs.Lists.{all_at, get_inside, has_in}
 use Rattle.crsm_law_epoch.specs.Numbers.{Distinct}
 use Rattle.crsm_law_epoch.specs.Seats.{seat_up, pushed_to, taken_of}
 use Rattle.crsm_law_epoch.specs.Worlds.{sent_in}
 use Rattle.crsm_law_epoch.proofs.Worlds.{log_there}
-use Rattle.crsm_law_decisions.proofs.Choice.{contains_among}
+use Rattle.crsm_law_agreement.proofs.Choice.{contains_among}
 use Rattle.crsm_law_bounds.specs.Bounds.{IsSpelt}
 use Rattle.crsm_law_runs.proofs.DurableLists.{among_contains}
 use Rattle.crsm_law_rounds.specs.Rounds.{GoesCalmly}

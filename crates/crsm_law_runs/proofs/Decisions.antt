@@ -10,10 +10,10 @@ use Rattle.crsm_spec.specs.World.{Site, World, begin, log_of, log_at}
 use Rattle.crsm_spec.specs.Acts.{Act}
 use Rattle.crsm_spec.specs.Run.{ArePossible, last_world, the_list}
 use Rattle.crsm_spec.specs.Decided.{decisions, decisions_in, all_decisions, start_of, ArePrefixes, DecisionsAgree}
-use Rattle.crsm_log_facts.specs.Logs.{Extends}
-use Rattle.crsm_log_facts.proofs.Lists.{flat_from}
-use Rattle.crsm_law_decisions.proofs.Agree.{decisions_are_one}
-use Rattle.crsm_law_decisions.proofs.Worlds.{ballots_hold}
+use Rattle.crsm_fact_log.specs.Logs.{Extends}
+use Rattle.crsm_fact_log.proofs.Lists.{flat_from}
+use Rattle.crsm_law_agreement.proofs.BallotsAgree.{decisions_are_one}
+use Rattle.crsm_law_agreement.proofs.DecidedWorlds.{ballots_hold}
 use Rattle.crsm_law_agreement.specs.Openings.{IsEpochOf}
 use Rattle.crsm_law_agreement.proofs.Agree.{holder, epoch_holds, opening_same}
 use Rattle.crsm_law_agreement.proofs.Lists.{prefixes, get_append, get_take, taken_length}

@@ -19,9 +19,9 @@ use Rattle.crsm_spec.specs.World.{World}
 use Rattle.crsm_spec.specs.Acts.{Act}
 use Rattle.crsm_spec.specs.Run.{TraceLine, traced}
 use Rattle.crsm_spec.specs.Safe.{IsExecOf}
-use Rattle.crsm_log_facts.specs.Logs.{AllFit, Extends, same, more, Logged}
-use Rattle.crsm_log_facts.proofs.Logged.{prepare_known}
-use Rattle.crsm_law_decisions.proofs.Logs.{known_rises}
+use Rattle.crsm_fact_log.specs.Logs.{AllFit, Extends, same, more, Logged}
+use Rattle.crsm_fact_log.proofs.Logged.{prepare_known}
+use Rattle.crsm_law_agreement.proofs.DecidedLogs.{known_rises}
 use Rattle.crsm_law_runs.proofs.Effects.{IsQuiet}
 use Rattle.crsm_law_runs.proofs.Words.{IsRight, IsReplyLine, IsSubmitLine, seen_by}
 use Rattle.crsm_law_runs.proofs.Holds.{AreApart}

@@ -13,18 +13,18 @@ use Rattle.crsm_spec.specs.Acts.{Act}
 use Rattle.crsm_spec.specs.Run.{ArePossible, all_worlds, last_world, the_list}
 use Rattle.crsm_spec.specs.Decided.{decisions_in, all_decisions, spec_at, HasAccepted, IsChosenAfter, start_of}
 use Rattle.crsm_spec.specs.Durable.{HoldsEntry, KeepsEntry, IsKeptBy, GoesOnIn, IsDurable}
-use Rattle.crsm_log_facts.specs.Logs.{Extends, same, more}
+use Rattle.crsm_fact_log.specs.Logs.{Extends, same, more}
 use Rattle.crsm_law_steps.proofs.Happen.{got_among}
-use Rattle.crsm_log_facts.proofs.Logged.{extends_trans, logged_is}
+use Rattle.crsm_fact_log.proofs.Logged.{extends_trans, logged_is}
 use Rattle.crsm_law_collection.specs.Collecting.{CommitOf}
-use Rattle.crsm_log_facts.proofs.Lists.{has_from, get_some, kept_from, get_left, get_inside}
+use Rattle.crsm_fact_log.proofs.Lists.{has_from, get_some, kept_from, get_left, get_inside}
 use Rattle.crsm_law_epoch.specs.Numbers.{Distinct}
 use Rattle.crsm_law_epoch.proofs.CommitLogs.{unexecuted_logged}
 use Rattle.crsm_law_epoch.proofs.LogWorlds.{logs_fit}
-use Rattle.crsm_law_decisions.proofs.Choice.{contains_among}
-use Rattle.crsm_law_decisions.proofs.Coordinators.{extends_among}
-use Rattle.crsm_law_decisions.proofs.Worlds.{ballots_hold}
-use Rattle.crsm_law_decisions.proofs.Logs.{known_decide}
+use Rattle.crsm_law_agreement.proofs.Choice.{contains_among}
+use Rattle.crsm_law_agreement.proofs.Coordinators.{extends_among}
+use Rattle.crsm_law_agreement.proofs.DecidedWorlds.{ballots_hold}
+use Rattle.crsm_law_agreement.proofs.DecidedLogs.{known_decide}
 use Rattle.crsm_law_agreement.specs.Openings.{IsOpening, IsEpochOf, EpochHolds}
 use Rattle.crsm_law_agreement.proofs.Agree.{holder, has_base, epoch_before, epoch_holds, known_epoch, one_opening, same_entries}
 use Rattle.crsm_law_agreement.proofs.Lists.{get_right, take_get, taken_length}

@@ -3,7 +3,7 @@ use Rattle.std.proofs.Common.{◌≡◌, ℕ, zero, suc, ◌<◌, ◌≤◌, Lis
 use Rattle.std.specs.Prelude.{Some, slice_get}
 use Rattle.std.specs.List.{Contains}
 use Rattle.crsm_spec.specs.Lists.{Among, IsPrefixOf}
-use Rattle.crsm_log_facts.proofs.Lists.{get_left}
+use Rattle.crsm_fact_log.proofs.Lists.{get_left}
 
 at_place : {A : Type 0} (xs : List A) (x : A) (i : ℕ) → i < length xs → get_or xs i x ≡ x → Among xs x
 at_place [] x i lt e = absurd (omega (arith, lt))

@@ -14,9 +14,9 @@ use Rattle.crsm_spec.specs.Frames.{take_frame, receive, owe, ack, pay, owing, ag
 use Rattle.crsm_spec.specs.Coordinate.{forget_epoch}
 use Rattle.crsm_spec.specs.Controls.{new_entries}
 use Rattle.crsm_spec.specs.Step.{Input}
-use Rattle.crsm_step_facts.specs.Messages.{ReceivesControl}
-use Rattle.crsm_step_facts.specs.Changes.{Change}
-use Rattle.crsm_step_facts.specs.Changes.Change.{Submits, Refuses, Commits, Replies, Takes, Acks, IsAcked, Pays, Owes, SendsTime, SendsAgain, SendsControl, Gathers, Suspends, Collects, TakesPage, Completes, Refrains, GivesUp, Asks, CountsAnswer, Proposes, IsPreempted, AcceptsOwn, CountsVote, Promises, Accepts, Chooses, Learns, AdoptsTail, AdoptsPage, Enters}
+use Rattle.crsm_fact_step.specs.Messages.{ReceivesControl}
+use Rattle.crsm_fact_step.specs.Changes.{Change}
+use Rattle.crsm_fact_step.specs.Changes.Change.{Submits, Refuses, Commits, Replies, Takes, Acks, IsAcked, Pays, Owes, SendsTime, SendsAgain, SendsControl, Gathers, Suspends, Collects, TakesPage, Completes, Refrains, GivesUp, Asks, CountsAnswer, Proposes, IsPreempted, AcceptsOwn, CountsVote, Promises, Accepts, Chooses, Learns, AdoptsTail, AdoptsPage, Enters}
 use Rattle.crsm_law_epoch.proofs.CommitEffects.{taken_origin}
 
 -- a line that tells of no submission, no execution and no answer

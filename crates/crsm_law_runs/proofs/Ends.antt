@@ -11,16 +11,16 @@ use Rattle.crsm_spec.specs.Step.{Input, step}
 use Rattle.crsm_spec.specs.World.{Site, World, log_at}
 use Rattle.crsm_spec.specs.Acts.{Act}
 use Rattle.crsm_spec.specs.Run.{TraceLine}
-use Rattle.crsm_log_facts.specs.Logs.{Extends, same, Logged}
-use Rattle.crsm_log_facts.proofs.Logged.{extends_trans}
+use Rattle.crsm_fact_log.specs.Logs.{Extends, same, Logged}
+use Rattle.crsm_fact_log.proofs.Logged.{extends_trans}
 use Rattle.crsm_law_runs.proofs.Lists.{at_origin, executed_logged}
 use Rattle.crsm_law_runs.proofs.Each.{Each}
 use Rattle.crsm_law_runs.proofs.Effects.{IsSilent, Effect, Still, Quiet, Took, Stamped, Refused, Executed, AdoptedTail, AdoptedPage, Answered, effect}
 use Rattle.crsm_law_runs.proofs.Words.{IsLate, IsNew, IsSubmittedIn, seen_by}
 use Rattle.crsm_law_runs.proofs.Holds.{Wait, Stepping, Has, HasIn, IsHere, reply_lines}
-use Rattle.crsm_step_facts.specs.Changes.{Changes, stay, and_then}
-use Rattle.crsm_step_facts.proofs.Logs.{log_change, change_grows, changes_grow, replies_still}
-use Rattle.crsm_step_facts.proofs.Fitted.{step_changes}
+use Rattle.crsm_fact_step.specs.Changes.{Changes, stay, and_then}
+use Rattle.crsm_fact_step.proofs.Logs.{log_change, change_grows, changes_grow, replies_still}
+use Rattle.crsm_fact_step.proofs.Fitted.{step_changes}
 use Rattle.crsm_law_runs.proofs.Steps.{last, IsGood, spelt_w, quiet_good, took_good, executed_good, tail_good, page_good, stamped_good, is_stamped, the_entry, command_is}
 use Rattle.crsm_law_runs.proofs.Replies.{refused_good, answered_good}
 use Rattle.crsm_law_epoch.proofs.Worlds.{marked_sites}

@@ -13,7 +13,7 @@ use Rattle.crsm_spec.specs.Run.{TraceLine}
 use Rattle.crsm_spec.specs.Safe.{IsExecOf, IsSubmitOf}
 use Rattle.crsm_law_steps.specs.Laws.{LogsGoOn}
 use Rattle.crsm_law_steps.specs.Happenings.{Marks, CanCome, Brings, IsReached}
-use Rattle.crsm_log_facts.specs.Logs.{Logged}
+use Rattle.crsm_fact_log.specs.Logs.{Logged}
 use Rattle.crsm_law_runs.proofs.Each.{Each}
 use Rattle.crsm_law_runs.proofs.Effects.{ArePlain}
 use Rattle.crsm_law_runs.proofs.Words.{IsLast, IsRight, IsReplyOn, IsReplyLine, IsSubmitLine, IsLate, IsNew, IsSubmittedIn, seen_by}

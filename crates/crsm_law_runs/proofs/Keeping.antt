@@ -7,7 +7,7 @@ use Rattle.crsm_spec.specs.Lists.{Among}
 use Rattle.crsm_spec.specs.Log.{Log, executed, entry_of}
 use Rattle.crsm_spec.specs.Durable.{HoldsEntry}
 use Rattle.crsm_law_steps.proofs.Happen.{got_among}
-use Rattle.crsm_law_decisions.proofs.Choice.{contains_among}
+use Rattle.crsm_law_agreement.proofs.Choice.{contains_among}
 use Rattle.crsm_law_agreement.proofs.Lists.{get_append}
 use Rattle.crsm_law_agreement.proofs.Placed.{entry_is}
 

@@ -8,14 +8,14 @@ use Rattle.crsm_spec.specs.World.{World, Moment, begin, first_lines, log_at}
 use Rattle.crsm_spec.specs.Acts.{Act}
 use Rattle.crsm_spec.specs.Moments.{world_after, lines_of, act, moments_of}
 use Rattle.crsm_spec.specs.Run.{ArePossible, TraceLine, traced, moments, moments_of_run, all_worlds, last_world, the_list}
-use Rattle.crsm_log_facts.specs.Logs.{Extends, same}
+use Rattle.crsm_fact_log.specs.Logs.{Extends, same}
 use Rattle.crsm_law_steps.specs.Laws.{LogsGoOn}
 use Rattle.crsm_law_steps.specs.Happenings.{GoOn, GoOnBy}
-use Rattle.crsm_log_facts.proofs.Logged.{extends_trans}
+use Rattle.crsm_fact_log.proofs.Logged.{extends_trans}
 use Rattle.crsm_law_steps.proofs.Moments.{moment_goes_on}
 use Rattle.crsm_law_steps.proofs.Happen.{act_leads, run_happens}
 use Rattle.crsm_law_epoch.proofs.Words.{among_map}
-use Rattle.crsm_log_facts.proofs.Lists.{get_some}
+use Rattle.crsm_fact_log.proofs.Lists.{get_some}
 use Rattle.crsm_law_agreement.proofs.Lists.{get_append}
 use Rattle.crsm_law_runs.proofs.Runs.{on_the_way, list_is_one}
 use Rattle.crsm_law_runs.proofs.DurableLists.{among_contains, prefix_get}

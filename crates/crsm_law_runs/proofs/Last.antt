@@ -8,7 +8,7 @@ use Rattle.crsm_spec.specs.Log.{Log}
 use Rattle.crsm_spec.specs.World.{World, begin, log_at}
 use Rattle.crsm_spec.specs.Acts.{Act}
 use Rattle.crsm_spec.specs.Run.{ArePossible, all_worlds, last_world, the_list}
-use Rattle.crsm_log_facts.specs.Logs.{Extends, same, more}
+use Rattle.crsm_fact_log.specs.Logs.{Extends, same, more}
 use Rattle.crsm_law_steps.specs.Laws.{LogsGoOn}
 use Rattle.crsm_law_steps.specs.Happenings.{IsReached}
 use Rattle.crsm_law_bounds.specs.Bounds.{HasShortLogs}

@@ -8,20 +8,20 @@ use Rattle.crsm_spec.specs.Types.{Entry, Decision, Rec}
 use Rattle.crsm_spec.specs.Lists.{Among}
 use Rattle.crsm_spec.specs.Log.{Log, known, start, decision, executed, logged_in}
 use Rattle.crsm_spec.specs.World.{World, log_at}
-use Rattle.crsm_log_facts.specs.Logs.{Extends, Logged, same, more}
+use Rattle.crsm_fact_log.specs.Logs.{Extends, Logged, same, more}
 use Rattle.crsm_law_steps.specs.Happenings.{IsReached}
 use Rattle.crsm_law_epoch.proofs.Worlds.{seat_log_at}
 use Rattle.crsm_law_collection.specs.Collecting.{CommitOf}
 use Rattle.crsm_law_collection.proofs.Law.{are_well_made}
-use Rattle.crsm_log_facts.proofs.Lists.{get_some, get_inside}
-use Rattle.crsm_log_facts.proofs.Logged.{end_fits, logged_is, extends_trans}
+use Rattle.crsm_fact_log.proofs.Lists.{get_some, get_inside}
+use Rattle.crsm_fact_log.proofs.Logged.{end_fits, logged_is, extends_trans}
 use Rattle.crsm_law_epoch.specs.LogWorlds.{HasFewBoots}
 use Rattle.crsm_law_epoch.proofs.LogWorlds.{epochs_hold_always}
 use Rattle.crsm_law_epoch.proofs.CommitLogs.{unexecuted_logged}
 use Rattle.crsm_law_messages.specs.Counted.{AllSpelt}
-use Rattle.crsm_law_decisions.proofs.Agree.{Knows, First, Later, knows}
-use Rattle.crsm_law_decisions.proofs.Coordinators.{extends_among}
-use Rattle.crsm_law_decisions.proofs.Worlds.{decisions_are_collected}
+use Rattle.crsm_law_agreement.proofs.BallotsAgree.{Knows, First, Later, knows}
+use Rattle.crsm_law_agreement.proofs.Coordinators.{extends_among}
+use Rattle.crsm_law_agreement.proofs.DecidedWorlds.{decisions_are_collected}
 use Rattle.crsm_law_agreement.specs.Openings.{IsEpochOf, EpochHolds}
 use Rattle.crsm_law_agreement.proofs.Agree.{fit, next_is, epoch_before, holder, epoch_holds, known_epoch}
 

@@ -24,15 +24,15 @@ use Rattle.crsm_law_steps.specs.Happenings.Marks.{none}
 use Rattle.crsm_law_steps.specs.Happenings.Ends.{IsWhole, IsCut, IsLost}
 use Rattle.crsm_law_steps.specs.Happenings.Happens.{Nothing, Steps, Junk, Stops, Joins, Starts}
 use Rattle.crsm_law_steps.specs.Happenings.IsReached.{first, next}
-use Rattle.crsm_log_facts.proofs.Logged.{extends_trans}
+use Rattle.crsm_fact_log.proofs.Logged.{extends_trans}
 use Rattle.crsm_law_steps.proofs.Moments.{moment_goes_on}
 use Rattle.crsm_law_epoch.specs.Seats.{Seat}
-use Rattle.crsm_log_facts.specs.Logs.{Logged}
+use Rattle.crsm_fact_log.specs.Logs.{Logged}
 use Rattle.crsm_law_epoch.proofs.Worlds.{marked_sites, seat_log_at, room_seats}
 use Rattle.crsm_law_messages.proofs.Worlds.{set_up, not_up, up_same, room_up, founded_is, all_known, kept_whole, kept_cut}
 use Rattle.crsm_law_epoch.proofs.LogWorlds.{all_held, get_range, from_zero}
 use Rattle.crsm_law_bounds.proofs.Short.{log_set}
-use Rattle.crsm_law_decisions.proofs.Worlds.{log_other, same_logs, kept_logs, up_is, down_is}
+use Rattle.crsm_law_agreement.proofs.DecidedWorlds.{log_other, same_logs, kept_logs, up_is, down_is}
 use Rattle.crsm_law_runs.specs.Seen.{IsSeen, boots, then_on}
 use Rattle.crsm_law_runs.proofs.Each.{Each, each_then, each_all}
 use Rattle.crsm_law_runs.proofs.Effects.{IsPlain, ArePlain, plain_then}

@@ -17,9 +17,9 @@ use Rattle.crsm_spec.specs.World.{World, log_at}
 use Rattle.crsm_spec.specs.Acts.{Act}
 use Rattle.crsm_spec.specs.Run.{TraceLine, traced}
 use Rattle.crsm_spec.specs.Safe.{IsExecOf}
-use Rattle.crsm_log_facts.specs.Logs.{Extends, Logged}
-use Rattle.crsm_log_facts.proofs.Lists.{get_inside, get_some}
-use Rattle.crsm_law_decisions.proofs.Coordinators.{extends_among}
+use Rattle.crsm_fact_log.specs.Logs.{Extends, Logged}
+use Rattle.crsm_fact_log.proofs.Lists.{get_inside, get_some}
+use Rattle.crsm_law_agreement.proofs.Coordinators.{extends_among}
 use Rattle.crsm_law_runs.proofs.Lists.{executed_logged, older_below}
 use Rattle.crsm_law_runs.proofs.Each.{Each, each_then}
 use Rattle.crsm_law_runs.proofs.Words.{IsRight, IsReplyOn, IsReplyLine, IsSubmitLine, IsNew, seen_by}
@@ -28,8 +28,8 @@ use Rattle.crsm_law_runs.proofs.Holds.{Wait, Stepping, IsHere, reply_lines}
 use Rattle.crsm_law_runs.proofs.Drafts.{among_right, among_either, told_line, apart_from, without, apart_without, find_at, find_none, take_prefix, get_prefix}
 use Rattle.crsm_base.specs.Order.{stamp_eq}
 use Rattle.crsm_base.specs.Store.{answer_after}
-use Rattle.crsm_log_facts.proofs.Tests.{same_stamp}
-use Rattle.crsm_log_facts.proofs.Sorted.{eq_self}
+use Rattle.crsm_fact_log.proofs.Tests.{same_stamp}
+use Rattle.crsm_fact_log.proofs.Sorted.{eq_self}
 use Rattle.crsm_law_agreement.proofs.Worlds.{one_entry}
 use Rattle.crsm_law_runs.proofs.Steps.{last, IsGood, spelt_end, at_end}
 

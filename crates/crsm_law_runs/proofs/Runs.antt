@@ -10,12 +10,12 @@ use Rattle.crsm_spec.specs.World.{World, Moment, Site, begin, log_of, log_at}
 use Rattle.crsm_spec.specs.Acts.{Act}
 use Rattle.crsm_spec.specs.Moments.{world_after}
 use Rattle.crsm_spec.specs.Run.{ArePossible, all_worlds, all_lists, last_world, moments, moments_of_run, the_list, longest}
-use Rattle.crsm_log_facts.specs.Logs.{Extends, same, more}
+use Rattle.crsm_fact_log.specs.Logs.{Extends, same, more}
 use Rattle.crsm_law_steps.specs.Laws.{LogsGoOn}
 use Rattle.crsm_law_steps.specs.Happenings.{IsReached}
 use Rattle.crsm_law_steps.proofs.Happen.{runs}
 use Rattle.crsm_law_steps.proofs.Moments.{logs_grow, same_end}
-use Rattle.crsm_log_facts.proofs.Lists.{flat_from, flat_in}
+use Rattle.crsm_fact_log.proofs.Lists.{flat_from, flat_in}
 use Rattle.crsm_law_epoch.proofs.Words.{among_unmap, among_map, is_range}
 use Rattle.crsm_law_bounds.specs.Bounds.{IsSpelt}
 use Rattle.crsm_law_bounds.proofs.Short.{runs_are_spelt}

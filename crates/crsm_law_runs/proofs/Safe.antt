@@ -15,14 +15,14 @@ use Rattle.crsm_spec.specs.Acts.{Act}
 use Rattle.crsm_spec.specs.Moments.{world_after, lines_of, act, moments_of}
 use Rattle.crsm_spec.specs.Run.{ArePossible, all_worlds, TraceLine, traced, told, seen, after_acts, last_world, all_lists, the_list}
 use Rattle.crsm_spec.specs.Safe.{Submits, IsExecOf, IsSubmitOf, IsLineAt, WasSubmitted, Agreed, Answered, RealTime, IsSafe}
-use Rattle.crsm_log_facts.specs.Logs.{Extends, same, more, Logged, AreSpelt}
+use Rattle.crsm_fact_log.specs.Logs.{Extends, same, more, Logged, AreSpelt}
 use Rattle.crsm_law_steps.specs.Happenings.{GoOnBy}
 use Rattle.crsm_law_steps.proofs.Happen.{act_leads}
-use Rattle.crsm_log_facts.proofs.Logged.{end_fits}
+use Rattle.crsm_fact_log.proofs.Logged.{end_fits}
 use Rattle.crsm_law_epoch.proofs.LogWorlds.{logs_fit}
 use Rattle.crsm_law_bounds.specs.Bounds.{IsSpelt, HasShortLogs}
-use Rattle.crsm_log_facts.proofs.Lists.{all_at, all_from}
-use Rattle.crsm_log_facts.proofs.LogsFit.{executed_rises}
+use Rattle.crsm_fact_log.proofs.Lists.{all_at, all_from}
+use Rattle.crsm_fact_log.proofs.LogsFit.{executed_rises}
 use Rattle.crsm_law_bounds.proofs.Worlds.{short_logs_are_spelt}
 use Rattle.crsm_law_runs.specs.Seen.{IsSeen, boots, then_on}
 use Rattle.crsm_law_runs.proofs.Lists.{got_among, executed_logged}

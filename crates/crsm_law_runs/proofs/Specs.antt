@@ -17,10 +17,10 @@ use Rattle.crsm_spec.specs.World.{Site, World, begin, log_of, log_at}
 use Rattle.crsm_spec.specs.Acts.{Act}
 use Rattle.crsm_spec.specs.Run.{ArePossible, last_world}
 use Rattle.crsm_spec.specs.Decided.{decisions, decisions_in, decision_of, spec_at}
-use Rattle.crsm_log_facts.specs.Logs.{Extends}
+use Rattle.crsm_fact_log.specs.Logs.{Extends}
 use Rattle.crsm_law_steps.specs.Happenings.{IsReached}
-use Rattle.crsm_log_facts.proofs.Lists.{flat_in, kept_from}
-use Rattle.crsm_log_facts.proofs.Logged.{end_fits}
+use Rattle.crsm_fact_log.proofs.Lists.{flat_in, kept_from}
+use Rattle.crsm_fact_log.proofs.Logged.{end_fits}
 use Rattle.crsm_law_epoch.specs.Numbers.{Distinct}
 use Rattle.crsm_law_epoch.proofs.Words.{distinct_range, distinct_filter}
 use Rattle.crsm_law_epoch.specs.Ordered.{IsOrdered, AreOrdered}
@@ -29,10 +29,10 @@ use Rattle.crsm_law_epoch.proofs.LogWorlds.{all_held, logs_fit, decisions_are_or
 use Rattle.crsm_law_epoch.proofs.LogMembers.{members_distinct}
 use Rattle.crsm_law_steps.proofs.Happen.{got_among}
 use Rattle.crsm_law_messages.specs.Counted.{AllSpelt}
-use Rattle.crsm_law_decisions.proofs.Choice.{contains_among, decided_are_complete}
-use Rattle.crsm_law_decisions.proofs.Coordinators.{extends_among}
-use Rattle.crsm_law_decisions.proofs.Worlds.{ballots_hold}
-use Rattle.crsm_law_decisions.proofs.Agree.{Knows, First, Later, knows, decided_later, decisions_are_one}
+use Rattle.crsm_law_agreement.proofs.Choice.{contains_among, decided_are_complete}
+use Rattle.crsm_law_agreement.proofs.Coordinators.{extends_among}
+use Rattle.crsm_law_agreement.proofs.DecidedWorlds.{ballots_hold}
+use Rattle.crsm_law_agreement.proofs.BallotsAgree.{Knows, First, Later, knows, decided_later, decisions_are_one}
 use Rattle.crsm_law_runs.proofs.Runs.{last_on}
 use Rattle.crsm_law_runs.specs.Last.{IsLast, IsBefore, start_in, GoesOnWith, IsDurableIn, DecisionsAgreeIn}
 use Rattle.crsm_law_runs.proofs.Last.{end_before, last_of_run}

@@ -18,28 +18,28 @@ use Rattle.crsm_spec.specs.World.{World, log_at}
 use Rattle.crsm_spec.specs.Acts.{Act}
 use Rattle.crsm_spec.specs.Run.{TraceLine, traced}
 use Rattle.crsm_spec.specs.Safe.{IsExecOf, IsSubmitOf, command_of}
-use Rattle.crsm_log_facts.specs.Logs.{AllFit, Extends, same, more, Logged}
+use Rattle.crsm_fact_log.specs.Logs.{AllFit, Extends, same, more, Logged}
 use Rattle.crsm_law_steps.specs.Laws.{LogsGoOn}
-use Rattle.crsm_step_facts.specs.Messages.{ReceivesControl}
+use Rattle.crsm_fact_step.specs.Messages.{ReceivesControl}
 use Rattle.crsm_law_steps.specs.Happenings.{CanCome, Brings, IsReached}
 use Rattle.crsm_law_steps.specs.Happenings.CanCome.{IsPacket, IsCommand, IsReply, IsTick, IsSuspicion}
-use Rattle.crsm_log_facts.proofs.Logged.{extends_trans, end_fits, prepare_known, newest_all}
+use Rattle.crsm_fact_log.proofs.Logged.{extends_trans, end_fits, prepare_known, newest_all}
 use Rattle.crsm_law_epoch.specs.Worlds.{sent_in}
 use Rattle.crsm_law_epoch.proofs.Words.{among_map}
 use Rattle.crsm_law_epoch.proofs.Worlds.{seat_log_at}
-use Rattle.crsm_log_facts.proofs.Sorted.{Le, lt_not, le_self}
-use Rattle.crsm_log_facts.proofs.Lists.{all_at, get_some}
+use Rattle.crsm_fact_log.proofs.Sorted.{Le, lt_not, le_self}
+use Rattle.crsm_fact_log.proofs.Lists.{all_at, get_some}
 use Rattle.crsm_law_epoch.proofs.CommitEffects.{same_entry}
 use Rattle.crsm_law_epoch.proofs.LogSteps.{IsBetween}
 use Rattle.crsm_law_epoch.proofs.LogWorlds.{all_held, logs_fit, epochs_hold_always}
 use Rattle.crsm_law_messages.specs.Laws.{Says, ReceivesIn}
 use Rattle.crsm_law_messages.proofs.Worlds.{received_is_sent}
 use Rattle.crsm_law_messages.proofs.Truth.{sent_is_true}
-use Rattle.crsm_law_decisions.proofs.Coordinators.{extends_among}
+use Rattle.crsm_law_agreement.proofs.Coordinators.{extends_among}
 use Rattle.crsm_law_agreement.proofs.Logs.{is_logged}
 use Rattle.crsm_law_bounds.specs.Bounds.{IsSpelt}
 use Rattle.crsm_law_bounds.proofs.Worlds.{short_before, short_logs_are_spelt}
-use Rattle.crsm_log_facts.proofs.LogsFit.{of_known, commit_entry}
+use Rattle.crsm_fact_log.proofs.LogsFit.{of_known, commit_entry}
 use Rattle.crsm_law_runs.proofs.Lists.{got_among, tail_logged, executed_logged}
 use Rattle.crsm_law_runs.proofs.Each.{Each, each_then, each_all}
 use Rattle.crsm_law_runs.proofs.Effects.{ArePlain, IsQuiet, IsKept}

@@ -11,7 +11,7 @@ use Rattle.crsm_spec.specs.World.{World, log_at}
 use Rattle.crsm_spec.specs.Acts.{Act}
 use Rattle.crsm_spec.specs.Run.{TraceLine, traced}
 use Rattle.crsm_spec.specs.Safe.{Submits, IsExecOf, IsSubmitOf, AnswersAt, AreOnOneEntry}
-use Rattle.crsm_log_facts.specs.Logs.{Extends, Logged}
+use Rattle.crsm_fact_log.specs.Logs.{Extends, Logged}
 use Rattle.crsm_law_steps.specs.Happenings.{IsReached}
 use Rattle.crsm_law_bounds.specs.Bounds.{HasShortLogs}
 

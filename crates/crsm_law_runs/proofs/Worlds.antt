@@ -14,9 +14,9 @@ use Rattle.crsm_spec.specs.World.{Site, World, log_at}
 use Rattle.crsm_spec.specs.Acts.{Act}
 use Rattle.crsm_spec.specs.Run.{TraceLine, traced}
 use Rattle.crsm_spec.specs.Safe.{IsExecOf, IsSubmitOf}
-use Rattle.crsm_log_facts.specs.Logs.{Extends, same, more, Logged}
+use Rattle.crsm_fact_log.specs.Logs.{Extends, same, more, Logged}
 use Rattle.crsm_law_steps.specs.Laws.{LogsGoOn}
-use Rattle.crsm_law_decisions.proofs.Coordinators.{extends_among}
+use Rattle.crsm_law_agreement.proofs.Coordinators.{extends_among}
 use Rattle.crsm_law_runs.proofs.Each.{Each, each_then, each_all, each_from, each_take, among_prefix}
 use Rattle.crsm_law_runs.proofs.Effects.{IsPlain, ArePlain}
 use Rattle.crsm_law_runs.proofs.Words.{IsRight, IsReplyOn, IsReplyLine, IsSubmitLine, IsLate, IsLateLine, IsNew, IsSubmittedIn, submitted_more, seen_by}

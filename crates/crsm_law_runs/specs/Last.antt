@@ -7,7 +7,7 @@ use Rattle.crsm_spec.specs.Log.{Log, executed}
 use Rattle.crsm_spec.specs.World.{World, log_at}
 use Rattle.crsm_spec.specs.Decided.{decisions_in, spec_at, ArePrefixes}
 use Rattle.crsm_spec.specs.Durable.{IsKeptBy}
-use Rattle.crsm_log_facts.specs.Logs.{Extends}
+use Rattle.crsm_fact_log.specs.Logs.{Extends}
 use Rattle.crsm_law_steps.specs.Laws.{LogsGoOn}
 use Rattle.crsm_law_steps.specs.Happenings.{IsReached}
 use Rattle.crsm_law_bounds.specs.Bounds.{IsSpelt, HasShortLogs}

@@ -12,11 +12,11 @@ use Rattle.crsm_spec.specs.Log.{Log, executed, known, decision, logged, logged_i
 use Rattle.crsm_spec.specs.Fits.{fits, is_newest}
 use Rattle.crsm_spec.specs.Draft.{Draft, Reply}
 use Rattle.crsm_spec.specs.Run.{longest}
-use Rattle.crsm_log_facts.specs.Logs.{AllFit, Extends, same, more, Logged}
-use Rattle.crsm_log_facts.proofs.Logged.{extends_trans, end_fits, prepare_known, entry_in, entry_keeps, decide_above}
-use Rattle.crsm_log_facts.proofs.LogsFit.{executed_rises}
-use Rattle.crsm_log_facts.proofs.Lists.{all_at, list_all_at}
-use Rattle.crsm_step_facts.specs.Changes.{StepsAreChanges}
+use Rattle.crsm_fact_log.specs.Logs.{AllFit, Extends, same, more, Logged}
+use Rattle.crsm_fact_log.proofs.Logged.{extends_trans, end_fits, prepare_known, entry_in, entry_keeps, decide_above}
+use Rattle.crsm_fact_log.proofs.LogsFit.{executed_rises}
+use Rattle.crsm_fact_log.proofs.Lists.{all_at, list_all_at}
+use Rattle.crsm_fact_step.specs.Changes.{StepsAreChanges}
 use Rattle.crsm_law_sheets.specs.Laws.{AreSafe, IsRightBy, IsSound, KeepsRealTime}
 use Rattle.crsm_law_sheets.specs.Sheets.{Sheet, last_log, list_of, one_list, steps_of}
 use Rattle.crsm_law_sheets.specs.Verdicts.{Agree, DropsExecuted, lines_told}

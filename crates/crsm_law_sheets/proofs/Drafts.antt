@@ -16,10 +16,10 @@ use Rattle.crsm_spec.specs.Replica.{Replica, Waiting}
 use Rattle.crsm_spec.specs.Draft.{Draft, Reply, begun, keep, reply, count_vote, issued_at, push_to_members, push_to}
 use Rattle.crsm_spec.specs.Clients.{refuse, submit, await, replies, answer_each, answer_found, reply_ok, reply_dropped, find_executed, is_dropped}
 use Rattle.crsm_spec.specs.Step.{Input, step}
-use Rattle.crsm_log_facts.specs.Logs.{Extends, same, more, Logged}
-use Rattle.crsm_log_facts.proofs.Logged.{extends_trans}
-use Rattle.crsm_log_facts.proofs.Tests.{same_stamp}
-use Rattle.crsm_step_facts.specs.Changes.{Changes, stay, and_then, StepsAreChanges}
+use Rattle.crsm_fact_log.specs.Logs.{Extends, same, more, Logged}
+use Rattle.crsm_fact_log.proofs.Logged.{extends_trans}
+use Rattle.crsm_fact_log.proofs.Tests.{same_stamp}
+use Rattle.crsm_fact_step.specs.Changes.{Changes, stay, and_then, StepsAreChanges}
 use Rattle.crsm_law_sheets.proofs.Effects.{Effect, Still, Kept, Submitted, Refused, Answered, IsSilent, effect, own_entry}
 
 -- ---- logs

@@ -6,7 +6,7 @@ use Rattle.std.proofs.lemmas.Option.{none-some, same_Some}
 use Rattle.crsm_spec.specs.Types.{Rec}
 use Rattle.crsm_spec.specs.Lists.{Among, IsPrefixOf}
 use Rattle.crsm_spec.specs.Log.{Log, executed, entry_of}
-use Rattle.crsm_log_facts.specs.Logs.{Extends, same, more, with_records}
+use Rattle.crsm_fact_log.specs.Logs.{Extends, same, more, with_records}
 
 pub prefix_self : {A : Type 0} (xs : List A) → IsPrefixOf xs xs
 prefix_self xs = ([], append-nil xs)

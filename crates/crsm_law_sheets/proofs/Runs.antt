@@ -10,9 +10,9 @@ use Rattle.crsm_spec.specs.Replica.{Replica, fresh}
 use Rattle.crsm_spec.specs.Draft.{Draft, begun, keep}
 use Rattle.crsm_spec.specs.Step.{Input, step, boot, boot_again, first_boot, founding_boot}
 use Rattle.crsm_spec.specs.Node.{Turn, turn, input_of, outputs, outputs_from}
-use Rattle.crsm_log_facts.specs.Logs.{Extends, same}
-use Rattle.crsm_log_facts.proofs.Logged.{extends_trans}
-use Rattle.crsm_step_facts.specs.Changes.{StepsAreChanges}
+use Rattle.crsm_fact_log.specs.Logs.{Extends, same}
+use Rattle.crsm_fact_log.proofs.Logged.{extends_trans}
+use Rattle.crsm_fact_step.specs.Changes.{StepsAreChanges}
 use Rattle.crsm_law_sheets.specs.Sheets.{log_after}
 use Rattle.crsm_law_sheets.proofs.Drafts.{Good, WaitForOwn, begun_good, kept_good, step_good}
 

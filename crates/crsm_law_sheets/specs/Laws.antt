@@ -7,7 +7,7 @@ use Rattle.crsm_spec.specs.Lists.{Among, IsPrefixOf}
 use Rattle.crsm_spec.specs.Log.{Log, executed}
 use Rattle.crsm_spec.specs.Draft.{Draft, Reply}
 use Rattle.crsm_spec.specs.Safe.{AnswersAt}
-use Rattle.crsm_log_facts.specs.Logs.{AllFit, AreSpelt, Extends, with_records}
+use Rattle.crsm_fact_log.specs.Logs.{AllFit, AreSpelt, Extends, with_records}
 use Rattle.crsm_law_sheets.specs.Sheets.{Sheet, last_log, one_list, steps_of}
 use Rattle.crsm_law_sheets.specs.Verdicts.{Agree, HasNamed}
 

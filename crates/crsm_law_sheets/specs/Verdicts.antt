@@ -4,7 +4,7 @@ use Rattle.std.specs.List.{AllByRecursion}
 use Rattle.crsm_spec.specs.Types.{Stamp, Entry, Line}
 use Rattle.crsm_spec.specs.Lists.{Among, IsPrefixOf}
 use Rattle.crsm_spec.specs.Draft.{Draft}
-use Rattle.crsm_log_facts.specs.Logs.{Logged}
+use Rattle.crsm_fact_log.specs.Logs.{Logged}
 use Rattle.crsm_law_sheets.specs.Sheets.{Sheet, list_of, last_log, one_list, steps_of}
 
 -- ---- lists

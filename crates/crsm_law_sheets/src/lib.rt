@@ -4,7 +4,7 @@
 
 ghost use Rattle.crsm_law_sheets.specs.Laws.{AgreeingSheetsAreSafe, EntriesStandInOrder, ExecutedListsGrow, OneListRises};
 
-use crsm_step_facts::steps_are_changes;
+use crsm_fact_step::steps_are_changes;
 
 /// Where lists agree, none is a stranger and nothing that is executed was called dropped: executed lists at all moments are
 /// prefixes of one list, each reply is right by it, and each node keeps real time.

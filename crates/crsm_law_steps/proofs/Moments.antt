@@ -19,11 +19,11 @@ use Rattle.crsm_law_steps.specs.Happenings.{Marks, Ends, Happens, GoOn}
 use Rattle.crsm_law_steps.specs.Happenings.Marks.{none, mark}
 use Rattle.crsm_law_steps.specs.Happenings.Ends.{IsWhole, IsCut, IsLost}
 use Rattle.crsm_law_steps.specs.Happenings.Happens.{Nothing, Steps, Junk, Stops, Joins, Starts}
-use Rattle.crsm_log_facts.specs.Logs.{Extends, same, more}
+use Rattle.crsm_fact_log.specs.Logs.{Extends, same, more}
 use Rattle.crsm_law_steps.specs.Laws.{LogsGoOn, KeptBeforeSent}
-use Rattle.crsm_step_facts.specs.Steps.{IgnoredInputsEnd}
-use Rattle.crsm_log_facts.proofs.Logged.{extends_trans}
-use Rattle.crsm_step_facts.proofs.Logs.{steps_grow}
+use Rattle.crsm_fact_step.specs.Steps.{IgnoredInputsEnd}
+use Rattle.crsm_fact_log.proofs.Logged.{extends_trans}
+use Rattle.crsm_fact_step.proofs.Logs.{steps_grow}
 use Rattle.crsm_law_steps.proofs.Happen.{run_happens}
 
 -- ---- one place of a list

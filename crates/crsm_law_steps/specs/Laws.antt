@@ -13,7 +13,7 @@ use Rattle.crsm_spec.specs.World.{World, Moment, log_at, begin}
 use Rattle.crsm_spec.specs.Acts.{Act}
 use Rattle.crsm_spec.specs.Run.{ArePossible, moments_of_run, all_worlds, last_world}
 use Rattle.crsm_law_steps.specs.Happenings.{IsReached, GoOn, Ends}
-use Rattle.crsm_log_facts.specs.Logs.{Extends}
+use Rattle.crsm_fact_log.specs.Logs.{Extends}
 
 -- ---- logs
 

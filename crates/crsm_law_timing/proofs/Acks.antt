@@ -6,9 +6,9 @@ use Rattle.crsm_spec.specs.Lists.{Among}
 use Rattle.crsm_spec.specs.Draft.{Draft}
 use Rattle.crsm_spec.specs.Step.{Input, step}
 use Rattle.crsm_spec.specs.World.{World}
-use Rattle.crsm_timing.specs.declared.Plan.{Plan}
-use Rattle.crsm_timing.specs.Plans.{delay_of, reading}
-use Rattle.crsm_timing.specs.Timelines.{Timed, Sent, sent, delivery}
+use Rattle.crsm_spec_plan.specs.declared.Plan.{Plan}
+use Rattle.crsm_spec_plan.specs.Plans.{delay_of, reading}
+use Rattle.crsm_spec_plan.specs.Timelines.{Timed, Sent, sent, delivery}
 use Rattle.crsm_law_timing.proofs.Local.{Part, IsComplete}
 use Rattle.crsm_law_timing.proofs.Turns.{Turned}
 use Rattle.crsm_law_timing.proofs.MoreTurns.{turn_ack}

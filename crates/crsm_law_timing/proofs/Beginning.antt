@@ -12,9 +12,9 @@ use Rattle.crsm_spec.specs.Draft.{begun, keep}
 use Rattle.crsm_spec.specs.Step.{boot_again, founding_boot}
 use Rattle.crsm_spec.specs.Run.{after_acts}
 use Rattle.crsm_spec.specs.World.{Site, begin, body_size}
-use Rattle.crsm_timing.specs.declared.Plan.{Plan}
-use Rattle.crsm_timing.specs.Plans.{FitsPlan}
-use Rattle.crsm_timing.specs.Timelines.{Sent, sent, sent_from, acts_of, exec_moments, exec_from}
+use Rattle.crsm_spec_plan.specs.declared.Plan.{Plan}
+use Rattle.crsm_spec_plan.specs.Plans.{FitsPlan}
+use Rattle.crsm_spec_plan.specs.Timelines.{Sent, sent, sent_from, acts_of, exec_moments, exec_from}
 use Rattle.crsm_law_timing.proofs.Local.{Part, Plays, many_below}
 use Rattle.crsm_law_timing.proofs.Worlds.{at}
 use Rattle.crsm_law_timing.proofs.Letters.{Facts}

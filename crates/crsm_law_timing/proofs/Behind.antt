@@ -5,10 +5,10 @@ use Rattle.std.proofs.lemmas.Bool.{cases_lt}
 use Rattle.std.proofs.lemmas.Option.{same_Some}
 use Rattle.crsm_spec.specs.Lists.{Among}
 use Rattle.crsm_spec.specs.World.{Packet}
-use Rattle.crsm_log_facts.proofs.Lists.{among_left, among_right, among_either, get_inside, get_left}
+use Rattle.crsm_fact_log.proofs.Lists.{among_left, among_right, among_either, get_inside, get_left}
 use Rattle.crsm_law_epoch.proofs.Words.{among_unmap, get_among}
-use Rattle.crsm_timing.specs.declared.Plan.{Plan}
-use Rattle.crsm_timing.specs.Timelines.{Timed, Sent, sent, request, tick, delivery, IsDue, Precedes}
+use Rattle.crsm_spec_plan.specs.declared.Plan.{Plan}
+use Rattle.crsm_spec_plan.specs.Timelines.{Timed, Sent, sent, request, tick, delivery, IsDue, Precedes}
 use Rattle.crsm_law_timing.specs.SoFar.{IsNext, IsSoFar}
 use Rattle.crsm_law_timing.proofs.Order.{no_later, precedes_then}
 use Rattle.crsm_law_timing.proofs.Worlds.{at, sends_by, sent_more, sent_split}

@@ -9,10 +9,10 @@ use Rattle.crsm_spec.specs.Step.{Input, step}
 use Rattle.crsm_spec.specs.World.{Site, World, body_size}
 use Rattle.crsm_spec.specs.Acts.{Single, Act, FitsAct}
 use Rattle.crsm_spec.specs.Possible.{possible}
-use Rattle.crsm_log_facts.proofs.Lists.{among_left, among_right}
-use Rattle.crsm_timing.specs.declared.Plan.{Plan}
-use Rattle.crsm_timing.specs.Plans.{FitsPlan, delay_of, offset_of, reading, stamped, arrival, ok_at}
-use Rattle.crsm_timing.specs.Timelines.{Timed, Sent, sent, the_command, request, tick, delivery, IsDue, Precedes}
+use Rattle.crsm_fact_log.proofs.Lists.{among_left, among_right}
+use Rattle.crsm_spec_plan.specs.declared.Plan.{Plan}
+use Rattle.crsm_spec_plan.specs.Plans.{FitsPlan, delay_of, offset_of, reading, stamped, arrival, ok_at}
+use Rattle.crsm_spec_plan.specs.Timelines.{Timed, Sent, sent, the_command, request, tick, delivery, IsDue, Precedes}
 use Rattle.crsm_law_timing.specs.SoFar.{IsNext}
 use Rattle.crsm_law_timing.proofs.Local.{Part, Plays, HasLogged, IsFirst, the_stamp, the_entry, issued_in}
 use Rattle.crsm_law_timing.proofs.Paying.{frames}

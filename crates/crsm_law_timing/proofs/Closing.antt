@@ -12,10 +12,10 @@ use Rattle.crsm_spec.specs.Replica.{Replica, Waiting}
 use Rattle.crsm_spec.specs.Ready.{is_ready}
 use Rattle.crsm_spec.specs.Draft.{Draft, keep, reply}
 use Rattle.crsm_spec.specs.Clients.{commit_run, commits, replies, answer_each, answer_found, reply_ok, reply_dropped, find_executed}
-use Rattle.crsm_log_facts.proofs.Lists.{filter-push}
+use Rattle.crsm_fact_log.proofs.Lists.{filter-push}
 use Rattle.crsm_law_active.proofs.Ending.{on_true, on_false, by_when}
-use Rattle.crsm_timing.specs.declared.Plan.{Plan}
-use Rattle.crsm_timing.specs.Timelines.{is_exec}
+use Rattle.crsm_spec_plan.specs.declared.Plan.{Plan}
+use Rattle.crsm_spec_plan.specs.Timelines.{is_exec}
 use Rattle.crsm_law_timing.proofs.Local.{Part, Plays, IsComplete, the_stamp, the_entry, left_in, is_active, is_left, finds_it, is_ready_then, complete_if_ready}
 
 -- ---- all that a part in a timeline speaks of

@@ -8,9 +8,9 @@ use Rattle.crsm_spec.specs.Draft.{Draft}
 use Rattle.crsm_spec.specs.Step.{Input, step}
 use Rattle.crsm_spec.specs.World.{World}
 use Rattle.crsm_spec.specs.Acts.{Single}
-use Rattle.crsm_timing.specs.declared.Plan.{Plan}
-use Rattle.crsm_timing.specs.Plans.{delay_of, reading, stamped, arrival, ok_at}
-use Rattle.crsm_timing.specs.Timelines.{Timed, Sent, sent, delivery}
+use Rattle.crsm_spec_plan.specs.declared.Plan.{Plan}
+use Rattle.crsm_spec_plan.specs.Plans.{delay_of, reading, stamped, arrival, ok_at}
+use Rattle.crsm_spec_plan.specs.Timelines.{Timed, Sent, sent, delivery}
 use Rattle.crsm_law_timing.proofs.Local.{Part, Plays, IsFirst, the_stamp, the_entry, issued_in}
 use Rattle.crsm_law_timing.proofs.Paying.{frames}
 use Rattle.crsm_law_timing.proofs.Turns.{Turned}

@@ -9,10 +9,10 @@ use Rattle.crsm_spec.specs.Step.{Input, step}
 use Rattle.crsm_spec.specs.World.{Site, Packet, World}
 use Rattle.crsm_spec.specs.Acts.{Single, Act, FitsAct}
 use Rattle.crsm_spec.specs.Possible.{possible}
-use Rattle.crsm_log_facts.proofs.Lists.{among_left, among_either, get_inside}
-use Rattle.crsm_timing.specs.declared.Plan.{Plan}
-use Rattle.crsm_timing.specs.Plans.{delay_of, offset_of, reading, stamped, arrival}
-use Rattle.crsm_timing.specs.Timelines.{Timed, Sent, sent, request, tick, delivery, IsDue, Precedes}
+use Rattle.crsm_fact_log.proofs.Lists.{among_left, among_either, get_inside}
+use Rattle.crsm_spec_plan.specs.declared.Plan.{Plan}
+use Rattle.crsm_spec_plan.specs.Plans.{delay_of, offset_of, reading, stamped, arrival}
+use Rattle.crsm_spec_plan.specs.Timelines.{Timed, Sent, sent, request, tick, delivery, IsDue, Precedes}
 use Rattle.crsm_law_timing.proofs.Local.{Part}
 use Rattle.crsm_law_timing.proofs.Worlds.{at, IsStep, go_is}
 use Rattle.crsm_law_timing.proofs.Letters.{IsFrame, letter, tick_of, latest}

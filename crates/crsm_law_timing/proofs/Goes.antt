@@ -2,8 +2,8 @@
 use Rattle.std.proofs.Common.{◌≡◌, ℕ, List, sym, subst, arith}
 use Rattle.std.specs.Prelude.{Some, slice_get}
 use Rattle.crsm_spec.specs.World.{World}
-use Rattle.crsm_timing.specs.declared.Plan.{Plan}
-use Rattle.crsm_timing.specs.Timelines.{Timed, Sent, sent, delivery, IsDue}
+use Rattle.crsm_spec_plan.specs.declared.Plan.{Plan}
+use Rattle.crsm_spec_plan.specs.Timelines.{Timed, Sent, sent, delivery, IsDue}
 use Rattle.crsm_law_timing.proofs.Letters.{IsLetter}
 use Rattle.crsm_law_timing.proofs.Cases.{Here, Goes, ok_small, comes, ticks}
 use Rattle.crsm_law_timing.proofs.Acks.{ack_arrives}

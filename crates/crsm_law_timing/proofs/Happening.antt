@@ -7,11 +7,11 @@ use Rattle.std.proofs.lemmas.Option.{none-some, same_Some}
 use Rattle.crsm_spec.specs.Lists.{Among}
 use Rattle.crsm_spec.specs.Types.{Stamp, Op, Entry, InEpoch, Datagram}
 use Rattle.crsm_spec.specs.Acts.{Single}
-use Rattle.crsm_timing.specs.declared.Plan.{Plan}
-use Rattle.crsm_timing.specs.declared.Offset.{Offset}
-use Rattle.crsm_timing.specs.declared.Delay.{Delay}
-use Rattle.crsm_timing.specs.Plans.{FitsPlan, delay_of, offset_of, reading, stamped, arrival, most_moment, most_delay}
-use Rattle.crsm_timing.specs.Timelines.{Timed, Sent, sent, sent_from, the_command, request, tick, delivery, IsDue, Precedes, InOrder}
+use Rattle.crsm_spec_plan.specs.declared.Plan.{Plan}
+use Rattle.crsm_spec_plan.specs.declared.Offset.{Offset}
+use Rattle.crsm_spec_plan.specs.declared.Delay.{Delay}
+use Rattle.crsm_spec_plan.specs.Plans.{FitsPlan, delay_of, offset_of, reading, stamped, arrival, most_moment, most_delay}
+use Rattle.crsm_spec_plan.specs.Timelines.{Timed, Sent, sent, sent_from, the_command, request, tick, delivery, IsDue, Precedes, InOrder}
 use Rattle.crsm_law_timing.proofs.Opened.{the_model}
 use Rattle.crsm_law_timing.specs.Commits.{WaitsForClock}
 

@@ -6,11 +6,11 @@ use Rattle.std.proofs.lemmas.Option.{none-some, same_Some}
 use Rattle.crsm_spec.specs.Types.{InEpoch, Datagram}
 use Rattle.crsm_spec.specs.Lists.{Among, greatest, numbers_below}
 use Rattle.crsm_spec.specs.Acts.{Single}
-use Rattle.crsm_log_facts.proofs.Lists.{among_left, among_right, among_either, kept_from, kept_in, get_left}
+use Rattle.crsm_fact_log.proofs.Lists.{among_left, among_right, among_either, kept_from, kept_in, get_left}
 use Rattle.crsm_law_epoch.proofs.Words.{among_map, among_unmap}
-use Rattle.crsm_timing.specs.declared.Plan.{Plan}
-use Rattle.crsm_timing.specs.Plans.{delay_of, offset_of, reading, stamped, others, arrival, ok_at, commit_at}
-use Rattle.crsm_timing.specs.Timelines.{Timed, Sent, sent, request, tick, delivery}
+use Rattle.crsm_spec_plan.specs.declared.Plan.{Plan}
+use Rattle.crsm_spec_plan.specs.Plans.{delay_of, offset_of, reading, stamped, others, arrival, ok_at, commit_at}
+use Rattle.crsm_spec_plan.specs.Timelines.{Timed, Sent, sent, request, tick, delivery}
 use Rattle.crsm_law_timing.proofs.Local.{Part, HasLogged, IsFirst, the_stamp, the_entry, below_is, is_below}
 
 -- ---- letters

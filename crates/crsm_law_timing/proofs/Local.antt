@@ -13,12 +13,12 @@ use Rattle.crsm_spec.specs.Quorum.{spec_decided}
 use Rattle.crsm_spec.specs.Log.{Log, known, decision, members, spec, active, live, suspended, logged, logged_in, with_entry, unexecuted, executed, entry_of, last_stamp, above}
 use Rattle.crsm_spec.specs.Replica.{Replica, members_of, spec_of}
 use Rattle.crsm_spec.specs.Ready.{is_ready, is_replicated, is_stable, is_next, all_received, reached, voted, votes_for}
-use Rattle.crsm_log_facts.proofs.Lists.{list_all_at, among_left, among_right, among_either}
-use Rattle.crsm_log_facts.proofs.Sorted.{eq_self}
+use Rattle.crsm_fact_log.proofs.Lists.{list_all_at, among_left, among_right, among_either}
+use Rattle.crsm_fact_log.proofs.Sorted.{eq_self}
 use Rattle.crsm_law_epoch.proofs.Words.{among_map, among_unmap, any_is, range_is, is_range}
-use Rattle.crsm_timing.specs.declared.Plan.{Plan}
-use Rattle.crsm_timing.specs.Plans.{stamped}
-use Rattle.crsm_timing.specs.Timelines.{the_command}
+use Rattle.crsm_spec_plan.specs.declared.Plan.{Plan}
+use Rattle.crsm_spec_plan.specs.Plans.{stamped}
+use Rattle.crsm_spec_plan.specs.Timelines.{the_command}
 
 abbrev pub the_stamp : Plan → Stamp
 the_stamp plan = record { time = stamped plan; origin = plan.origin }

@@ -3,8 +3,8 @@ use Rattle.std.proofs.Common.{◌≡◌, ℕ, ◌+◌, ◌<◌, ◌≤◌, List,
 use Rattle.std.proofs.lemmas.Bool.{cases_eq}
 use Rattle.crsm_spec.specs.Lists.{Among, greatest}
 use Rattle.crsm_law_epoch.proofs.Words.{among_map}
-use Rattle.crsm_timing.specs.declared.Plan.{Plan}
-use Rattle.crsm_timing.specs.Plans.{arrival, commit_at, delay_of, ok_at, others, reading, stamped}
+use Rattle.crsm_spec_plan.specs.declared.Plan.{Plan}
+use Rattle.crsm_spec_plan.specs.Plans.{arrival, commit_at, delay_of, ok_at, others, reading, stamped}
 use Rattle.crsm_law_timing.specs.Moments.{MomentsAreSo}
 use Rattle.crsm_law_timing.proofs.Letters.{at_ok, other_is, is_other, no_less}
 

@@ -17,11 +17,11 @@ use Rattle.crsm_spec.specs.Draft.{Draft, begun, keep, send, count_vote, issued_a
 use Rattle.crsm_spec.specs.Clients.{on_request, take_or_refuse, refusal, submit_at, submit, await, own_unexecuted, commits, replies}
 use Rattle.crsm_spec.specs.Frames.{time_of, is_astray, is_wrong, with_stamp, owe, ack, receive, take_frame, on_ack, owed_oks, idle, is_idle, again_frame, again_to, send_again}
 use Rattle.crsm_spec.specs.Step.{Input, if_fitting, on_input, on_datagram, on_tick, idle_at, step}
-use Rattle.crsm_log_facts.proofs.Lists.{has_in}
+use Rattle.crsm_fact_log.proofs.Lists.{has_in}
 use Rattle.crsm_law_active.proofs.Ending.{on_true, on_false, by_when}
-use Rattle.crsm_timing.specs.declared.Plan.{Plan}
-use Rattle.crsm_timing.specs.Plans.{FitsPlan, stamped}
-use Rattle.crsm_timing.specs.Timelines.{the_command, is_exec}
+use Rattle.crsm_spec_plan.specs.declared.Plan.{Plan}
+use Rattle.crsm_spec_plan.specs.Plans.{FitsPlan, stamped}
+use Rattle.crsm_spec_plan.specs.Timelines.{the_command, is_exec}
 use Rattle.crsm_law_timing.proofs.Local.{Part, Plays, the_stamp, the_entry, is_active, is_known, is_left, is_below}
 use Rattle.crsm_law_timing.proofs.Closing.{plays_alike}
 use Rattle.crsm_law_timing.proofs.Paying.{frames, pushes, pays}

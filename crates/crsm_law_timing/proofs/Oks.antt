@@ -6,9 +6,9 @@ use Rattle.crsm_spec.specs.Lists.{Among}
 use Rattle.crsm_spec.specs.Draft.{Draft}
 use Rattle.crsm_spec.specs.Step.{Input, step}
 use Rattle.crsm_spec.specs.World.{World}
-use Rattle.crsm_timing.specs.declared.Plan.{Plan}
-use Rattle.crsm_timing.specs.Plans.{delay_of, reading, stamped, ok_at}
-use Rattle.crsm_timing.specs.Timelines.{Timed, Sent, sent, delivery}
+use Rattle.crsm_spec_plan.specs.declared.Plan.{Plan}
+use Rattle.crsm_spec_plan.specs.Plans.{delay_of, reading, stamped, ok_at}
+use Rattle.crsm_spec_plan.specs.Timelines.{Timed, Sent, sent, delivery}
 use Rattle.crsm_law_timing.proofs.Local.{the_stamp}
 use Rattle.crsm_law_timing.proofs.Turns.{Turned, turn_ok}
 use Rattle.crsm_law_timing.proofs.Letters.{letter, IsLetter, facts_more, Reason, no_frame, latest, Delivers}

@@ -3,8 +3,8 @@ use Rattle.std.proofs.Common.{ℕ, ◌≤◌, List, [], ◌∷◌, ◌++◌, ref
 use Rattle.crsm_spec.specs.Types.{Command}
 use Rattle.crsm_spec.specs.Lists.{Among}
 use Rattle.crsm_spec.specs.Acts.{Single}
-use Rattle.crsm_log_facts.proofs.Lists.{all_at, all-push, among_either}
-use Rattle.crsm_timing.specs.Timelines.{Timed, IsBefore, Precedes, InOrder}
+use Rattle.crsm_fact_log.proofs.Lists.{all_at, all-push, among_either}
+use Rattle.crsm_spec_plan.specs.Timelines.{Timed, IsBefore, Precedes, InOrder}
 
 before_not : (a b : Single) → IsBefore a b → IsBefore b a → ⊥
 before_not (Single.Request k t c) (Single.Request j u d) p q = p

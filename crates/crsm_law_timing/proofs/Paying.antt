@@ -12,8 +12,8 @@ use Rattle.crsm_spec.specs.Replica.{Replica, frames_to, other_members, members_o
 use Rattle.crsm_spec.specs.Draft.{Draft, issued_at, push_to_members, push_to, next_frame, would}
 use Rattle.crsm_spec.specs.Frames.{pay, owing, pay_run, owed_oks}
 use Rattle.crsm_law_active.proofs.Ending.{on_true, on_false}
-use Rattle.crsm_timing.specs.declared.Plan.{Plan}
-use Rattle.crsm_timing.specs.Plans.{stamped}
+use Rattle.crsm_spec_plan.specs.declared.Plan.{Plan}
+use Rattle.crsm_spec_plan.specs.Plans.{stamped}
 use Rattle.crsm_law_timing.proofs.Local.{Part, Plays, IsFirst, the_stamp, log_in, owed_in, is_active, is_known, are_members}
 use Rattle.crsm_law_timing.proofs.Closing.{IsAlike, plays_alike}
 

@@ -9,8 +9,8 @@ use Rattle.crsm_spec.specs.Replica.{Replica}
 use Rattle.crsm_spec.specs.World.{Site, Packet, World, is_up, is_up_at, is_full}
 use Rattle.crsm_spec.specs.Acts.{Single, Act, Bad}
 use Rattle.crsm_spec.specs.Possible.{first_bad, is_none_of, is_down_at, is_not_sent, is_receiver_down, is_used, causes_at, causes_of_single, causes_of, possible}
-use Rattle.crsm_log_facts.proofs.Lists.{get_inside}
-use Rattle.crsm_timing.specs.Timelines.{the_command}
+use Rattle.crsm_fact_log.proofs.Lists.{get_inside}
+use Rattle.crsm_spec_plan.specs.Timelines.{the_command}
 
 pub command_can_be_spelt : FitsCommand the_command
 unfolding the_command

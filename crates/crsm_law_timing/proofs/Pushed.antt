@@ -6,11 +6,11 @@ use Rattle.std.proofs.lemmas.Option.{none-some, same_Some}
 use Rattle.crsm_spec.specs.Types.{InEpoch, Datagram}
 use Rattle.crsm_spec.specs.Lists.{Among, numbers_below}
 use Rattle.crsm_spec.specs.World.{packet_of}
-use Rattle.crsm_log_facts.proofs.Lists.{kept_from, kept_in}
+use Rattle.crsm_fact_log.proofs.Lists.{kept_from, kept_in}
 use Rattle.crsm_law_epoch.specs.Numbers.{Distinct}
 use Rattle.crsm_law_epoch.proofs.Words.{among_map, among_unmap, get_among, distinct_range, distinct_filter}
-use Rattle.crsm_timing.specs.declared.Plan.{Plan}
-use Rattle.crsm_timing.specs.Timelines.{Sent}
+use Rattle.crsm_spec_plan.specs.declared.Plan.{Plan}
+use Rattle.crsm_spec_plan.specs.Timelines.{Sent}
 use Rattle.crsm_law_timing.proofs.Local.{below_is, is_below}
 use Rattle.crsm_law_timing.proofs.Paying.{peers, frames}
 use Rattle.crsm_law_timing.proofs.Letters.{letter, IsFrom, no_frame}

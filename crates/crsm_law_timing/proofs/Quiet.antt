@@ -10,7 +10,7 @@ use Rattle.crsm_spec.specs.Draft.{Draft, keep}
 use Rattle.crsm_spec.specs.Clients.{commit_run, commits, replies}
 use Rattle.crsm_spec.specs.World.{World, send_line, send_lines, whole_step, after_step}
 use Rattle.crsm_law_active.proofs.Ending.{by_when}
-use Rattle.crsm_timing.specs.Timelines.{is_exec}
+use Rattle.crsm_spec_plan.specs.Timelines.{is_exec}
 use Rattle.crsm_law_timing.proofs.Closing.{all_answered}
 
 filter_both : {A : Type 0} (p : A → Bool) (xs ys : List A) → filter p (xs ++ ys) ≡ filter p xs ++ filter p ys

@@ -7,10 +7,10 @@ use Rattle.crsm_spec.specs.Acts.{Act, FitsAct}
 use Rattle.crsm_spec.specs.Possible.{possible}
 use Rattle.crsm_spec.specs.Moments.{act}
 use Rattle.crsm_spec.specs.Run.{ArePossible, after_acts}
-use Rattle.crsm_log_facts.proofs.Lists.{map-push}
-use Rattle.crsm_timing.specs.declared.Plan.{Plan}
-use Rattle.crsm_timing.specs.Plans.{FitsPlan, reading}
-use Rattle.crsm_timing.specs.Timelines.{Timed, Sent, acts_of, request, tick, delivery, IsDue, InOrder, IsTimeline}
+use Rattle.crsm_fact_log.proofs.Lists.{map-push}
+use Rattle.crsm_spec_plan.specs.declared.Plan.{Plan}
+use Rattle.crsm_spec_plan.specs.Plans.{FitsPlan, reading}
+use Rattle.crsm_spec_plan.specs.Timelines.{Timed, Sent, acts_of, request, tick, delivery, IsDue, InOrder, IsTimeline}
 use Rattle.crsm_law_timing.specs.SoFar.{IsNext, IsSoFar, CanHappen, EventsCanHappen, EventsEndWhole, world_after}
 use Rattle.crsm_law_timing.proofs.Order.{not_itself, comes_before, earlier, in_order_more}
 use Rattle.crsm_law_timing.proofs.Worlds.{at, at_more}

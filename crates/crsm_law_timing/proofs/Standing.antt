@@ -12,12 +12,12 @@ use Rattle.crsm_spec.specs.Draft.{Draft}
 use Rattle.crsm_spec.specs.Clients.{commits, replies}
 use Rattle.crsm_spec.specs.World.{Site, Packet, World, packet_of, whole_step, after_step, body_size, packets_size}
 use Rattle.crsm_spec.specs.Acts.{Single}
-use Rattle.crsm_log_facts.proofs.Lists.{among_left, among_either, get_left}
+use Rattle.crsm_fact_log.proofs.Lists.{among_left, among_either, get_left}
 use Rattle.crsm_law_epoch.proofs.Words.{among_unmap, get_among, set_same, set_other}
 use Rattle.crsm_law_active.proofs.Ending.{ends_before}
-use Rattle.crsm_timing.specs.declared.Plan.{Plan}
-use Rattle.crsm_timing.specs.Plans.{FitsPlan, commit_at}
-use Rattle.crsm_timing.specs.Timelines.{Timed, Sent, sent, exec_moments, request, delivery, is_exec}
+use Rattle.crsm_spec_plan.specs.declared.Plan.{Plan}
+use Rattle.crsm_spec_plan.specs.Plans.{FitsPlan, commit_at}
+use Rattle.crsm_spec_plan.specs.Timelines.{Timed, Sent, sent, exec_moments, request, delivery, is_exec}
 use Rattle.crsm_law_timing.proofs.Local.{Part, Plays, IsComplete, HasLogged, IsFirst, the_stamp, the_entry, issued_in}
 use Rattle.crsm_law_timing.proofs.Closing.{Ended, ends}
 use Rattle.crsm_law_timing.proofs.Turns.{Turned}

@@ -1,9 +1,9 @@
 -- Where a replica is after a delivery that does not change its part.
 use Rattle.std.proofs.Common.{ℕ, List, [], ◌∷◌, ◌++◌}
 use Rattle.crsm_spec.specs.Lists.{Among}
-use Rattle.crsm_log_facts.proofs.Lists.{among_left}
-use Rattle.crsm_timing.specs.declared.Plan.{Plan}
-use Rattle.crsm_timing.specs.Timelines.{Timed, Sent, delivery}
+use Rattle.crsm_fact_log.proofs.Lists.{among_left}
+use Rattle.crsm_spec_plan.specs.declared.Plan.{Plan}
+use Rattle.crsm_spec_plan.specs.Timelines.{Timed, Sent, delivery}
 use Rattle.crsm_law_timing.proofs.Local.{Part}
 use Rattle.crsm_law_timing.proofs.Letters.{AtOrigin, Elsewhere}
 use Rattle.crsm_law_timing.proofs.Deliveries.{no_request, no_tick, not_then, was_before}

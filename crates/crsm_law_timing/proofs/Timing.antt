@@ -2,9 +2,9 @@
 use Rattle.std.proofs.Common.{◌≡◌, ◌≢◌, ℕ, ◌<◌, List, [], ◌∷◌, refl, sym, ◌∙◌, ap, subst, inl, inr}
 use Rattle.std.proofs.lemmas.Bool.{cases_eq}
 use Rattle.crsm_spec.specs.Lists.{Among}
-use Rattle.crsm_timing.specs.declared.Plan.{Plan}
-use Rattle.crsm_timing.specs.Plans.{FitsPlan, commit_at}
-use Rattle.crsm_timing.specs.Timelines.{Timed, exec_moments, request, delivery, IsDue, IsTimeline}
+use Rattle.crsm_spec_plan.specs.declared.Plan.{Plan}
+use Rattle.crsm_spec_plan.specs.Plans.{FitsPlan, commit_at}
+use Rattle.crsm_spec_plan.specs.Timelines.{Timed, exec_moments, request, delivery, IsDue, IsTimeline}
 use Rattle.crsm_law_timing.specs.Commits.{TimelinesArePossible, CommandsCommitInTime}
 use Rattle.crsm_law_timing.proofs.Local.{Part, IsComplete, IsFirst}
 use Rattle.crsm_law_timing.proofs.Worlds.{at}

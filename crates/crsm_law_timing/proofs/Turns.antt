@@ -12,12 +12,12 @@ use Rattle.crsm_spec.specs.Draft.{Draft, begun, send, count_vote}
 use Rattle.crsm_spec.specs.Clients.{commits, replies}
 use Rattle.crsm_spec.specs.Frames.{time_of, is_astray, is_wrong, is_odd_frame, ack, receive, take_frame, on_frame, owed_oks}
 use Rattle.crsm_spec.specs.Step.{Input, if_fitting, on_input, on_datagram, idle_at, step}
-use Rattle.crsm_log_facts.proofs.Lists.{has_in}
+use Rattle.crsm_fact_log.proofs.Lists.{has_in}
 use Rattle.crsm_law_epoch.proofs.Words.{count_other}
 use Rattle.crsm_law_active.proofs.Ending.{on_true, on_false}
-use Rattle.crsm_timing.specs.declared.Plan.{Plan}
-use Rattle.crsm_timing.specs.Plans.{FitsPlan, stamped}
-use Rattle.crsm_timing.specs.Timelines.{is_exec}
+use Rattle.crsm_spec_plan.specs.declared.Plan.{Plan}
+use Rattle.crsm_spec_plan.specs.Plans.{FitsPlan, stamped}
+use Rattle.crsm_spec_plan.specs.Timelines.{is_exec}
 use Rattle.crsm_law_timing.proofs.Local.{Part, Plays, the_stamp, is_active, is_known, are_members, is_below}
 use Rattle.crsm_law_timing.proofs.Paying.{frames, pays_not, pays}
 

@@ -12,8 +12,8 @@ use Rattle.crsm_spec.specs.Types.{Rec, InEpoch, Datagram}
 use Rattle.crsm_spec.specs.Lists.{numbers_below}
 use Rattle.crsm_spec.specs.Replica.{Replica}
 use Rattle.crsm_spec.specs.World.{Site, Packet, packet_of, body_size, packets_size}
-use Rattle.crsm_timing.specs.declared.Plan.{Plan}
-use Rattle.crsm_timing.specs.Timelines.{the_command}
+use Rattle.crsm_spec_plan.specs.declared.Plan.{Plan}
+use Rattle.crsm_spec_plan.specs.Timelines.{the_command}
 use Rattle.crsm_law_timing.proofs.Local.{the_stamp, the_entry, many_below}
 use Rattle.crsm_law_timing.proofs.Paying.{peers, frames}
 

@@ -11,8 +11,8 @@ use Rattle.crsm_spec.specs.World.{Site, Packet, World, Moment, begin, whole_step
 use Rattle.crsm_spec.specs.Acts.{Single, Act}
 use Rattle.crsm_spec.specs.Moments.{use_up, begun_at, step_at_site, step_at, come, single, moments_of, world_after, lines_of, act}
 use Rattle.crsm_spec.specs.Run.{after_acts}
-use Rattle.crsm_timing.specs.declared.Plan.{Plan}
-use Rattle.crsm_timing.specs.Timelines.{Timed, Sent, acts_of, sent_from, sent, is_exec, exec_from, exec_moments}
+use Rattle.crsm_spec_plan.specs.declared.Plan.{Plan}
+use Rattle.crsm_spec_plan.specs.Timelines.{Timed, Sent, acts_of, sent_from, sent, is_exec, exec_from, exec_moments}
 
 -- the world after these events
 unfoldable pub at : Plan → List Timed → World

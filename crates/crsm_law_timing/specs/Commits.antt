@@ -3,9 +3,9 @@ use Rattle.std.specs.Prelude.{◌≡◌, ℕ, ◌<◌, List, [], ◌∷◌}
 use Rattle.crsm_spec.specs.Lists.{Among}
 use Rattle.crsm_spec.specs.World.{begin}
 use Rattle.crsm_spec.specs.Run.{ArePossible}
-use Rattle.crsm_timing.specs.declared.Plan.{Plan}
-use Rattle.crsm_timing.specs.Plans.{FitsPlan, commit_at}
-use Rattle.crsm_timing.specs.Timelines.{Timed, IsTimeline, acts_of, exec_moments, tick}
+use Rattle.crsm_spec_plan.specs.declared.Plan.{Plan}
+use Rattle.crsm_spec_plan.specs.Plans.{FitsPlan, commit_at}
+use Rattle.crsm_spec_plan.specs.Timelines.{Timed, IsTimeline, acts_of, exec_moments, tick}
 
 -- Each timeline of a plan is possible.
 abbrev pub TimelinesArePossible : Type 0

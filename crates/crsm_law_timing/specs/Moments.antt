@@ -1,8 +1,8 @@
 -- What the moments of a plan are.
 use Rattle.std.specs.Prelude.{◌≡◌, ℕ, ◌+◌, ◌<◌, ◌≤◌, map}
 use Rattle.crsm_spec.specs.Lists.{greatest}
-use Rattle.crsm_timing.specs.declared.Plan.{Plan}
-use Rattle.crsm_timing.specs.Plans.{arrival, commit_at, delay_of, ok_at, others, reading, stamped}
+use Rattle.crsm_spec_plan.specs.declared.Plan.{Plan}
+use Rattle.crsm_spec_plan.specs.Plans.{arrival, commit_at, delay_of, ok_at, others, reading, stamped}
 
 -- One replica executes the command when it comes, and of several each when the last acknowledgement has come. A replica acknowledges
 -- when the command comes if its clock is past the timestamp, and otherwise when its clock reads one more than that.

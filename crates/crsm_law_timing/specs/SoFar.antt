@@ -5,9 +5,9 @@ use Rattle.crsm_spec.specs.World.{World, begin}
 use Rattle.crsm_spec.specs.Acts.{Act, FitsAct}
 use Rattle.crsm_spec.specs.Possible.{possible}
 use Rattle.crsm_spec.specs.Run.{ArePossible, after_acts}
-use Rattle.crsm_timing.specs.declared.Plan.{Plan}
-use Rattle.crsm_timing.specs.Plans.{FitsPlan}
-use Rattle.crsm_timing.specs.Timelines.{Timed, IsDue, IsTimeline, Precedes, acts_of}
+use Rattle.crsm_spec_plan.specs.declared.Plan.{Plan}
+use Rattle.crsm_spec_plan.specs.Plans.{FitsPlan}
+use Rattle.crsm_spec_plan.specs.Timelines.{Timed, IsDue, IsTimeline, Precedes, acts_of}
 
 -- The event has to happen by these and has not, and all that has to happen before it has.
 pub record IsNext (plan : Plan) (es : List Timed) (e : Timed) : Type 0 where

@@ -6,7 +6,7 @@ ghost use Rattle.crsm_lease.specs.declared.lock.Lock.{Lock as Written};
 ghost use Rattle.crsm_lease.specs.Locks.{FitsLock, IsLock, fields_at, lock_bytes, lock_of};
 
 use crsm_base::{Bytes, NoMemory, Val};
-use crsm_fields::{put_u8, put_u64, take_u8, take_u64};
+use crsm_text_fields::{put_u8, put_u64, take_u8, take_u64};
 use std::alloc::Global;
 
 /// A lock. Its fence is the number of the last grant: each grant raises it by one.

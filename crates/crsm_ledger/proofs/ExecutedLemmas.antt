@@ -16,7 +16,7 @@ use Rattle.crsm_spec.specs.Lines.{exec_line, exec_lines}
 use Rattle.crsm_ledger.specs.declared.history.History.{History}
 use Rattle.crsm_ledger.specs.declared.history.Position.{Position}
 use Rattle.crsm_ledger.specs.Executed.{HistoryStands, position_of, last_stamp_in, goes_on_behind}
-use Rattle.crsm_log_facts.proofs.Lists.{all-push, map-push, filter-push, slice_get-map, length-map, last_or-push, append-none}
+use Rattle.crsm_fact_log.proofs.Lists.{all-push, map-push, filter-push, slice_get-map, length-map, last_or-push, append-none}
 
 pub last_of-push : {X : Type 0} (xs : List X) (x : X) → last_of (xs ++ x ∷ []) ≡ Some x
 unfolding last_of

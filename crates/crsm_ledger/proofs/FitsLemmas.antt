@@ -15,7 +15,7 @@ use Rattle.crsm_ledger.specs.declared.ledger.Ledger.{Ledger}
 use Rattle.crsm_ledger.specs.Executed.{position_of, goes_on_behind}
 use Rattle.crsm_ledger.specs.Ledger.{FieldsStand}
 use Rattle.crsm_ledger.proofs.ExecutedLemmas.{goes_on-position}
-use Rattle.crsm_log_facts.proofs.Known.{known-epoch, known-members}
+use Rattle.crsm_fact_log.proofs.Known.{known-epoch, known-members}
 use Rattle.crsm_ledger.proofs.ReadLemmas.{me-is, n-is, boots-is, known-is, start-is, live-is, suspended-is, entered-is, promised-is, accepted-is, logged-is}
 
 pub fits-boot : {me n : ℕ} {l : Ledger} {log : Log} (s : FieldsStand me n l log) (m k : ℕ) → ((m == l.me && k == l.n) && nat_lt l.boots u64_max) ≡ fits me n log (Rec.Boot m k)

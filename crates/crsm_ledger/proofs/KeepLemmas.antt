@@ -15,7 +15,7 @@ use Rattle.crsm_ledger.specs.declared.ledger.Ledger.{Ledger}
 use Rattle.crsm_ledger.specs.declared.history.History.{History}
 use Rattle.crsm_ledger.specs.Executed.{HistoryStands}
 use Rattle.crsm_ledger.specs.Ledger.{FieldsStand}
-use Rattle.crsm_log_facts.proofs.Lists.{all_more}
+use Rattle.crsm_fact_log.proofs.Lists.{all_more}
 use Rattle.crsm_ledger.proofs.LoggedLemmas.{with_entry-all}
 use Rattle.crsm_ledger.proofs.ReadLemmas.{me-is, boots-is, logged-is}
 use Rattle.crsm_ledger.proofs.StepLemmas.{says-decide, says-prepare, says-commit, says-adopt, committed}

@@ -10,7 +10,7 @@ use Rattle.crsm_spec.specs.Types.{Stamp, Entry}
 use Rattle.crsm_spec.specs.Lists.{first_of}
 use Rattle.crsm_spec.specs.Log.{with_entry, above}
 use Rattle.crsm_spec.specs.Fits.{is_newest}
-use Rattle.crsm_log_facts.proofs.Lists.{all_got, all_more, take-rest}
+use Rattle.crsm_fact_log.proofs.Lists.{all_got, all_more, take-rest}
 use Rattle.crsm_ledger.specs.Sorted.{IsNotBelow, IsSortedByStamp, IsLogged}
 
 -- ---- stamps

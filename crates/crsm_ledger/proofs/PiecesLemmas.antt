@@ -2,7 +2,7 @@
 use Rattle.std.proofs.Common.{◌≡◌, ℕ, suc, zero, ◌<◌, ◌≤◌, ◌+◌, List, [], ◌∷◌, ◌++◌, refl, ap, sym, ◌∙◌, arith, length, get_or, set, length-append, subst}
 use Rattle.std.specs.Prelude.{slice_range, slice_get, Some, None}
 use Rattle.std.specs.List.{AllByRecursion}
-use Rattle.crsm_log_facts.proofs.Lists.{all_got, get_or-grown, get_or-set, at_set, length-set, range-grown, range-end}
+use Rattle.crsm_fact_log.proofs.Lists.{all_got, get_or-grown, get_or-set, at_set, length-set, range-grown, range-end}
 use Rattle.crsm_ledger.specs.declared.spelt.Place.{Place}
 use Rattle.crsm_ledger.specs.Pieces.{piece, pieces, IsWithin, Keeps}
 

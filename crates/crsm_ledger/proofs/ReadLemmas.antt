@@ -4,7 +4,7 @@ use Rattle.std.specs.Prelude.{unwrap_or}
 use Rattle.crsm_spec.specs.Lists.{numbers_below}
 use Rattle.crsm_spec.specs.Log.{Log, known, start, spec, boots, live, suspended, has_entered, promised, accepted, logged}
 use Rattle.crsm_ledger.specs.declared.ledger.Ledger.{Ledger}
-use Rattle.crsm_log_facts.proofs.Known.{known-spec}
+use Rattle.crsm_fact_log.proofs.Known.{known-spec}
 use Rattle.crsm_ledger.specs.Ledger.{FieldsStand, facts_of, known_decision}
 
 pub me-is : {me n : ℕ} {l : Ledger} {log : Log} → FieldsStand me n l log → l.me ≡ me

@@ -9,7 +9,7 @@ use Rattle.crsm_ledger.specs.declared.error.LedgerError.{LedgerError}
 use Rattle.crsm_ledger.specs.declared.error.LedgerError.TheVariants.{BadLog, NotFit, NoMemory}
 use Rattle.crsm_ledger.specs.Recovered.{with_records, FitInTurn, AreKept, Misfit, IsBad, IsBadAt, IfBadLog}
 use Rattle.crsm_ledger.specs.Ledger.{kind}
-use Rattle.crsm_log_facts.proofs.Lists.{halves, item_at}
+use Rattle.crsm_fact_log.proofs.Lists.{halves, item_at}
 
 pub fit-push : (me n : ℕ) (log : Log) (recs : List Rec) (rec : Rec) → FitInTurn me n log recs → fits me n (with_records log recs) rec ≡ true → FitInTurn me n log (recs ++ rec ∷ [])
 fit-push me n log [] rec fit here = (here, tt)

@@ -12,7 +12,7 @@ use Rattle.crsm_ledger.specs.declared.ledger.Ledger.{Ledger}
 use Rattle.crsm_ledger.specs.declared.history.History.{History}
 use Rattle.crsm_ledger.specs.Executed.{HistoryStands}
 use Rattle.crsm_ledger.specs.Ledger.{Facts, FieldsStand, facts_of, fields_of, known_decision}
-use Rattle.crsm_log_facts.proofs.Lists.{all-push, all-append, all_more}
+use Rattle.crsm_fact_log.proofs.Lists.{all-push, all-append, all_more}
 use Rattle.crsm_ledger.proofs.LoggedLemmas.{stamp_eq-same, find-above}
 
 -- ---- boots

@@ -13,7 +13,7 @@ use Rattle.crsm_spec.specs.Log.{Log}
 use Rattle.crsm_spec.specs.Fits.{fits}
 use Rattle.crsm_ledger.specs.Ledger.{kind}
 use Rattle.crsm_ledger.specs.Recovered.{with_records, FitInTurn, IsBad}
-use Rattle.crsm_log_facts.proofs.Lists.{all-append}
+use Rattle.crsm_fact_log.proofs.Lists.{all-append}
 
 -- what was read of a body fits
 pub taken_fits : (body : List ℕ) (recs : List Rec) (rest : List ℕ) (rec : Rec) (after : List ℕ) → IsBytes body → HasRead rec_bytes FitsRec body recs rest → Some (rec, after) ≡ rec_at rest → FitsRec rec

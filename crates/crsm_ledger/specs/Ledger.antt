@@ -7,8 +7,8 @@ use Rattle.crsm_spec.specs.Lists.{numbers_below}
 use Rattle.crsm_spec.specs.Log.{Log, known, start, boots, live, suspended, has_entered, promised, accepted, logged_in, logged, executed}
 use Rattle.crsm_spec.specs.Fits.{fits}
 use Rattle.crsm_spec.specs.Lines.{lines_of}
-pub use Rattle.crsm_log_facts.specs.Known.{founding}
-unfoldable pub use Rattle.crsm_log_facts.specs.Known.{known_decision}
+pub use Rattle.crsm_fact_log.specs.Known.{founding}
+unfoldable pub use Rattle.crsm_fact_log.specs.Known.{known_decision}
 use Rattle.crsm_ledger.specs.declared.ledger.Ledger.{Ledger}
 use Rattle.crsm_ledger.specs.Executed.{HistoryStands}
 

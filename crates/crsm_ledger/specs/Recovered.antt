@@ -4,7 +4,7 @@ use Rattle.crsm_base.specs.Records.{SpeltBody}
 use Rattle.crsm_spec.specs.Types.{Rec}
 use Rattle.crsm_spec.specs.Log.{Log}
 use Rattle.crsm_spec.specs.Fits.{fits}
-pub use Rattle.crsm_log_facts.specs.Logs.{with_records}
+pub use Rattle.crsm_fact_log.specs.Logs.{with_records}
 use Rattle.crsm_ledger.specs.declared.error.LedgerError.{LedgerError}
 use Rattle.crsm_ledger.specs.declared.ledger.Ledger.{Ledger}
 use Rattle.crsm_ledger.specs.Ledger.{LedgerStands, kind}

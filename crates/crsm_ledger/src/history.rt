@@ -12,8 +12,8 @@ ghost use Rattle.crsm_ledger.specs.Executed.{HistoryStands, position_of, last_st
 use crate::spelt::Spelt;
 use crsm_base::{Answer, Bytes, Entry, Line, Lines, NoMemory, Stamp};
 use crsm_codec::read_entry;
-use crsm_fields::put_entry;
 use crsm_kv::Store;
+use crsm_text_fields::put_entry;
 use std::alloc::Global;
 
 /// Where an entry stands in the global order.

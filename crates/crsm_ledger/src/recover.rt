@@ -13,7 +13,7 @@ use crate::ledger::{Ledger, kind_of};
 use crate::taken::Next;
 use crsm_base::{Bodies, Rec};
 use crsm_codec::read_recs;
-use crsm_fields::take_rec;
+use crsm_text_fields::take_rec;
 use std::alloc::Global;
 
 impl Ledger {

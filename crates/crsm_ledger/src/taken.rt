@@ -12,7 +12,7 @@ ghost use Rattle.crsm_ledger.specs.Taken.{IsAgain, IsAtHand, IsNext, IsTail, IsT
 
 use crate::ledger::Ledger;
 use crsm_base::{Ballot, Decision, Members, NoMemory};
-use crsm_fields::{
+use crsm_text_fields::{
     take_ballot, take_decision, take_entry, take_replica, take_stamp, take_u8, take_u64,
 };
 use std::mem;

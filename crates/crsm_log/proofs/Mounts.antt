@@ -5,10 +5,10 @@ use Rattle.std.proofs.lemmas.Bool.Decides.{nat_tests}
 use Rattle.crsm_log.specs.declared.entry.Held.{Held}
 use Rattle.crsm_log.specs.First.{ReadsFile, all_entries}
 use Rattle.crsm_log.specs.Claim.{Holds}
-use Rattle.crsm_image.specs.Bytes.{Torn, overwritten}
-use Rattle.crsm_image.specs.Calls.{History, noted, synced, wrote}
-use Rattle.crsm_faults.specs.Failing.{one_less}
-use Rattle.crsm_faults.specs.Plan.{Plan, spent}
+use Rattle.crsm_disk.specs.Bytes.{Torn, overwritten}
+use Rattle.crsm_disk.specs.Calls.{History, noted, synced, wrote}
+use Rattle.crsm_port_faults.specs.Failing.{one_less}
+use Rattle.crsm_port_faults.specs.Plan.{Plan, spent}
 use Rattle.crsm_disk.specs.Meaning.{Meaning, LeavesOnly, Only}
 use Rattle.crsm_disk.proofs.Moments.{joined, weaker}
 use Rattle.crsm_log.specs.Format.{bad, broken, found, reading, reading_in, bodies_in, cluster_among, cluster_of, entries_in, gate_in, items_of, size, whole}

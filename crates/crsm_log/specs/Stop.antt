@@ -1,7 +1,7 @@
 -- What a disk that was stopped in a put stands for.
 use Rattle.std.specs.Prelude.{◌≡◌, ◌≢◌, ℕ, ◌<◌, List, [], ◌∷◌, ◌++◌, length, take, Some, IfSome, slice_index, nat_le, ◌==◌, ◌||◌, ◌&&◌, if◌then◌else◌}
-use Rattle.crsm_image.specs.Calls.{History, contents}
-use Rattle.crsm_image.specs.Image.{image_of}
+use Rattle.crsm_disk.specs.Calls.{History, contents}
+use Rattle.crsm_disk.specs.Image.{image_of}
 use Rattle.crsm_log.specs.Format.{reading, found, bodies_of, gate_in}
 use Rattle.crsm_log.specs.Log.{recorded, put_calls}
 

@@ -2,7 +2,7 @@
 
 ghost use Rattle.std.specs.Prelude.{◌≡◌, ◌≢◌, ◌+◌, ◌^◌, ◌≤◌, ℕ, IsTrue, IfOk, IfErr, OnOk, IsErrOf, true};
 ghost use Rattle.std.specs.Bool.{OnTrue};
-ghost use Rattle.crsm_faults.specs.Counts.{Rose};
+ghost use Rattle.crsm_port_faults.specs.Counts.{Rose};
 ghost use Rattle.crsm_disk.specs.Meaning.{LeavesOnly, Meaning};
 ghost use Rattle.crsm_log.specs.Log.{Goes};
 ghost use Rattle.crsm_log.specs.Claim.{Claims, Forbids, IsClaimedOrBefore, IsOpenTo, RefusesClaim, wants_entry};

@@ -1,8 +1,8 @@
 //! A log puts each body behind a closed gate, syncs it, and opens the gate: a crash finds the whole body or none of it.
 
 ghost use Rattle.std.specs.Prelude.{◌≡◌, ◌≢◌, ◌+◌, ◌^◌, ◌<◌, ◌≤◌, ◌↔◌, ◌∷◌, [], ◌++◌, ℕ, length, true, false, IsTrue, IfOk, IfErr, OnOk, OnErr, IsErr, IsErrOf, Some};
-ghost use Rattle.crsm_faults.specs.Counts.{Rose};
-ghost use Rattle.crsm_faults.specs.Plan.{Plan};
+ghost use Rattle.crsm_port_faults.specs.Counts.{Rose};
+ghost use Rattle.crsm_port_faults.specs.Plan.{Plan};
 ghost use Rattle.crsm_disk.specs.Contract.{Arms};
 ghost use Rattle.crsm_disk.specs.Meaning.{LeavesOnly, Meaning, Only, Same};
 ghost use Rattle.crsm_log.specs.Format.{reading, found, bodies_of, cluster_of};

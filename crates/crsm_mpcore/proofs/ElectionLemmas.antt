@@ -10,7 +10,7 @@ use Rattle.crsm_base.specs.Spelling.{FitsOption}
 use Rattle.crsm_spec.specs.Choice.{when◌then◌otherwise◌}
 use Rattle.crsm_spec.specs.Paxos as paxos
 use Rattle.crsm_spec.specs.Paxos.{Held, majority, better_held, better_answer, counts_before, value_of_best}
-use Rattle.crsm_log_facts.proofs.Lists.{append-none, all-append}
+use Rattle.crsm_fact_log.proofs.Lists.{append-none, all-append}
 use Rattle.crsm_mpspec.specs.declared.accepts.MpAccepted.{MpAccepted}
 use Rattle.crsm_mpspec.specs.declared.choices.MpChosen.{MpChosen}
 use Rattle.crsm_mpspec.specs.Types.{Ballot, Value}

@@ -8,7 +8,7 @@ use Rattle.std.proofs.lemmas.Grind.{fold-append}
 use Rattle.std.proofs.lemmas.Bool.Decides.{nat_tests}
 use Rattle.crsm_base.specs.Order.{ballot_lt}
 use Rattle.crsm_spec.specs.Choice.{when◌then◌otherwise◌}
-use Rattle.crsm_log_facts.proofs.Lists.{append-none, filter-push, map-push}
+use Rattle.crsm_fact_log.proofs.Lists.{append-none, filter-push, map-push}
 use Rattle.crsm_spec.specs.Lists.{greatest}
 use Rattle.crsm_spec.specs.Paxos.{Held}
 use Rattle.crsm_mpspec.specs.declared.accepts.MpAccepted.{MpAccepted}

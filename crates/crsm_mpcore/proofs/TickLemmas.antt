@@ -8,7 +8,7 @@ use Rattle.std.specs.Option.{option_map, option_map_or}
 use Rattle.std.specs.Ordering.{nat_cmp}
 use Rattle.std.proofs.lemmas.Grind.{fold-append}
 use Rattle.std.proofs.lemmas.Bool.Decides.{nat_tests}
-use Rattle.crsm_log_facts.proofs.Lists.{all_from, all-take, has_in}
+use Rattle.crsm_fact_log.proofs.Lists.{all_from, all-take, has_in}
 use Rattle.crsm_base.specs.Limits.{most_again}
 use Rattle.crsm_spec.specs.Choice.{when◌then◌otherwise◌}
 use Rattle.crsm_spec.specs.Lists.{has, numbers_below}

@@ -1,3 +1,5 @@
+mod RecordLaws
+mod BodyLaws
 mod SlotLemmas
 mod NumberedLemmas
 mod ExecutedLemmas

@@ -11,7 +11,7 @@ use Rattle.crsm_base.proofs.Fields.{ballot_parses, command_parses}
 use Rattle.crsm_mpspec.specs.declared.rec.MpRec.{MpRec}
 use Rattle.crsm_mpspec.specs.Log.{Log}
 use Rattle.crsm_mpspec.specs.Records.{rec_bytes, FitsRec, body_bytes, SpeltBody}
-use Rattle.crsm_mpcodec.specs.Reading.{value_at, boot_at, promise_at, accept_at, choose_at, rec_at}
+use Rattle.crsm_mpledger.specs.Reading.{value_at, boot_at, promise_at, accept_at, choose_at, rec_at}
 use Rattle.crsm_mpledger.specs.Sound.{IsSound, MayFollow, with_records}
 use Rattle.crsm_mpledger.proofs.BootLemmas.{sound_before}
 

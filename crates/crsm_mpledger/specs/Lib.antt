@@ -1,3 +1,4 @@
+pub mod Reading
 pub mod Sound
 pub mod Executed
 pub mod BySlot

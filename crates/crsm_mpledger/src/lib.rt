@@ -1,14 +1,20 @@
-//! What the records of the log of a replica say, in a store with a leader: its promise, what it has accepted and what it knows to
-//! be chosen at each slot, and the answers of the store to what is executed.
+//! What the records of a replica's log say in the store with a leader (Multi-Paxos): its promise, what it has accepted and
+//! what it knows to be chosen at each slot, and the answers of the store to what is executed. Each record and each log body
+//! has one encoding.
 #![tactic(auto)]
 
+mod body;
 mod by_slot;
 mod executions;
 mod laws;
 mod ledger;
 mod readers;
+mod rec;
 mod recover;
 mod reports;
+mod value;
 
+pub use body::{put_body, take_body};
 pub use laws::{answers_are_by_slot, executed_lists_grow};
 pub use ledger::MpLedger;
+pub use rec::{put_rec, take_rec};

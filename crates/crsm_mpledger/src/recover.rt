@@ -8,8 +8,8 @@ ghost use Rattle.crsm_mpledger.specs.MpLedger.{MpLedgerStands, WhereLedger};
 ghost use Rattle.crsm_mpledger.specs.Sound.{IsSound, AreBodies, with_records};
 
 use crate::ledger::MpLedger;
+use crate::take_rec;
 use crsm_base::{Bodies, NoMemory, never};
-use crsm_mpcodec::take_rec;
 use std::alloc::Global;
 
 impl MpLedger {

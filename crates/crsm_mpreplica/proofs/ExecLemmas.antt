@@ -1,7 +1,7 @@
 -- The lines of what is executed, one slot more.
 use Rattle.std.proofs.Common.{◌≡◌, ℕ, zero, suc, ◌+◌, ◌-◌, ◌≤◌, List, [], ◌∷◌, ◌++◌, Some, refl, ap, sym, ◌∙◌, append_assoc, arith}
 use Rattle.std.specs.Prelude.{Option, slice_get, take, drop}
-use Rattle.crsm_log_facts.proofs.Lists.{append-none}
+use Rattle.crsm_fact_log.proofs.Lists.{append-none}
 use Rattle.crsm_mpspec.specs.declared.line.MpLine.{MpLine}
 use Rattle.crsm_mpspec.specs.Types.{Value}
 use Rattle.crsm_mpspec.specs.Draft.{exec_line, exec_lines}

@@ -10,7 +10,7 @@ use Rattle.std.specs.Ordering.{nat_cmp}
 use Rattle.std.specs.declared.cmp.Ordering.TheVariants.{Less, Equal, Greater}
 use Rattle.std.proofs.lemmas.Bool.Decides.{nat_tests}
 use Rattle.std.proofs.lemmas.Bool.{ltb-true, ltb-false}
-use Rattle.crsm_log_facts.proofs.Lists.{all_more}
+use Rattle.crsm_fact_log.proofs.Lists.{all_more}
 
 -- which of two numbers is the greater, and what tests say of it
 pub data Compared (a b : ℕ) : Type 0 where

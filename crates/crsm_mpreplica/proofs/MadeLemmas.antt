@@ -1,6 +1,6 @@
 -- What a step makes, one more.
 use Rattle.std.proofs.Common.{◌≡◌, ℕ, List, [], ◌∷◌, ◌++◌, ap, sym, ◌∙◌}
-use Rattle.crsm_log_facts.proofs.Lists.{all-push, map-push}
+use Rattle.crsm_fact_log.proofs.Lists.{all-push, map-push}
 use Rattle.crsm_mpspec.specs.declared.line.MpLine.{MpLine}
 use Rattle.crsm_mpspec.specs.declared.message.MpMessage.{MpMessage}
 use Rattle.crsm_mpspec.specs.declared.rec.MpRec.{MpRec}

@@ -2,7 +2,7 @@
 use Rattle.std.proofs.Common.{◌≡◌, ℕ, zero, suc, ◌+◌, List, [], ◌∷◌, ◌++◌, length, drop, refl, ap, ◌∙◌}
 use Rattle.std.specs.Prelude.{Bool, true, false, ◌==◌, not, filter, fold, map, if◌then◌else◌}
 use Rattle.std.proofs.lemmas.Grind.{fold-append}
-use Rattle.crsm_log_facts.proofs.Lists.{filter-push}
+use Rattle.crsm_fact_log.proofs.Lists.{filter-push}
 use Rattle.crsm_spec.specs.Lists.{numbers_below}
 use Rattle.crsm_mpspec.specs.Types.{Ballot, Value}
 use Rattle.crsm_mpreplica.proofs.SlotMaps.{numbers-snoc}

@@ -13,7 +13,7 @@ use Rattle.std.proofs.lemmas.List.{map-append}
 use Rattle.crsm_base.specs.Order.{ballot_eq}
 use Rattle.crsm_spec.specs.Lists.{has}
 use Rattle.crsm_spec.specs.Paxos.{majority}
-use Rattle.crsm_log_facts.proofs.Lists.{all-push, all_more, among_left, among_right, append-none, filter-push, has_from, has_in}
+use Rattle.crsm_fact_log.proofs.Lists.{all-push, all_more, among_left, among_right, append-none, filter-push, has_from, has_in}
 use Rattle.crsm_mpspec.specs.Deciding.{counts}
 use Rattle.crsm_mpspec.specs.Log.{Log, is_chosen}
 use Rattle.crsm_mpspec.specs.Replica.{Replica, Note as NoteOnPaper, slots_of, voters_at, votes_of, with_vote}

@@ -7,7 +7,7 @@ use Rattle.std.specs.Option.{option_map}
 use Rattle.std.specs.Ordering.{nat_cmp}
 use Rattle.std.specs.BTreeMap.Range.{IsLeBy}
 use Rattle.std.proofs.lemmas.Bool.Decides.{nat_tests}
-use Rattle.crsm_log_facts.proofs.Lists.{slice_get-map}
+use Rattle.crsm_fact_log.proofs.Lists.{slice_get-map}
 use Rattle.crsm_mpspec.specs.Types.{Command}
 use Rattle.crsm_mpspec.specs.Replica.{Waiting}
 use Rattle.crsm_mpreplica.specs.State.{waiting_of}

@@ -19,8 +19,8 @@ use crate::place::{Running, Stopped};
 use crsm_base::{Bytes, NoMemory, never};
 use crsm_disk::MemDisk;
 use crsm_log::{Log, PutError, stop_keeps};
-use crsm_mpcodec::put_body;
 use crsm_mpcore::MpCore;
+use crsm_mpledger::put_body;
 use crsm_mpspec::{MpBatch, MpInput, MpRec};
 use std::alloc::Global;
 

@@ -5,17 +5,17 @@ use Rattle.std.specs.Prelude.{Option, Result, Ok, Err, ◌≢◌}
 use Rattle.std.specs.List.{AllByRecursion}
 use Rattle.crsm_clock.specs.Readings.{Readings}
 use Rattle.crsm_disk.specs.Meaning.{LeavesOnly}
-use Rattle.crsm_faults.specs.Counts.{Rose}
+use Rattle.crsm_port_faults.specs.Counts.{Rose}
 use Rattle.crsm_io.specs.Streams.{Puts, PutsPrefix}
-use Rattle.crsm_lives.specs.Groups.{AreGroups, IsGroup}
-use Rattle.crsm_lives.specs.Lives.{Group, kept_turns}
+use Rattle.crsm_spec_process.specs.Groups.{AreGroups, IsGroup}
+use Rattle.crsm_spec_process.specs.Lives.{Group, kept_turns}
 use Rattle.crsm_log.specs.Format.{bodies_of}
 use Rattle.crsm_log.specs.Log.{Goes}
 use Rattle.crsm_spec.specs.Node.{Turn, outputs_from}
 use Rattle.crsm_spec.specs.Replica.{Replica}
-use Rattle.crsm_detector.specs.Watching.{Watch}
-use Rattle.crsm_detector.specs.Wished.{replica_after}
-use Rattle.crsm_turns.specs.Outgoing.{packets_for}
+use Rattle.crsm_replica_detector.specs.Watching.{Watch}
+use Rattle.crsm_replica_detector.specs.Wished.{replica_after}
+use Rattle.crsm_replica_io.specs.Outgoing.{packets_for}
 use Rattle.crsm_shell.specs.Flushing.{Adds, IsFull, IsLeft, SendsPackets}
 use Rattle.crsm_shell.specs.Shell.{group_body, sends_of}
 use Rattle.crsm_node.specs.Devices.{Node}

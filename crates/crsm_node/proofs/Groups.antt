@@ -2,7 +2,7 @@
 use Rattle.std.proofs.Common.{◌≡◌, ℕ, ◌+◌, ◌<◌, List, [], ◌∷◌, ◌++◌, length, refl, ◌∙◌, ap, subst, arith, length-append}
 use Rattle.std.specs.List.{AllByRecursion}
 use Rattle.crsm_spec.specs.Node.{Turn}
-use Rattle.crsm_lives.specs.Groups.{AreGroups, IsClosed, IsDatagram, IsGroup}
+use Rattle.crsm_spec_process.specs.Groups.{AreGroups, IsClosed, IsDatagram, IsGroup}
 
 pub all_append : {A : Type 0} (P : A → Type 0) (xs ys : List A) → AllByRecursion P xs → AllByRecursion P ys → AllByRecursion P (xs ++ ys)
 all_append P [] ys h k = k

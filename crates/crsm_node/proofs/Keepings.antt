@@ -2,7 +2,7 @@
 use Rattle.std.proofs.Common.{◌≡◌, IsTrue, ℕ, List, refl}
 use Rattle.std.specs.Prelude.{Option, Err}
 use Rattle.crsm_disk.specs.Meaning.{Meaning as DiskMeaning, Same}
-use Rattle.crsm_faults.specs.Counts.{Rose}
+use Rattle.crsm_port_faults.specs.Counts.{Rose}
 use Rattle.crsm_port.specs.Meaning.{Meaning as PortMeaning}
 use Rattle.crsm_spec.specs.Draft.{Draft}
 use Rattle.crsm_spec.specs.Replica.{Replica}

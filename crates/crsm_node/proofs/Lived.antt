@@ -5,19 +5,19 @@ use Rattle.std.specs.Prelude.{Option, Result, Ok, Err}
 use Rattle.crsm_disk.specs.Meaning.{LeavesOnly, Meaning, Only}
 use Rattle.crsm_io.specs.Streams.{Puts, PutsPrefix}
 use Rattle.crsm_ledger.specs.Recovered.{AreKept}
-use Rattle.crsm_lives.specs.Groups.{AreGroups}
-use Rattle.crsm_lives.specs.Lives.{Group, Life, kept_turns}
+use Rattle.crsm_spec_process.specs.Groups.{AreGroups}
+use Rattle.crsm_spec_process.specs.Lives.{Group, Life, kept_turns}
 use Rattle.crsm_log.specs.Claim.{Claims, IsClaimedOrBefore}
 use Rattle.crsm_log.specs.Format.{bodies_in, bodies_of, found, reading}
-use Rattle.crsm_sheet.specs.declared.line.SheetLine.{SheetLine}
-use Rattle.crsm_sheet.specs.Grammar.{sheet_line_text}
-use Rattle.crsm_sheet.specs.Sheets.{entry_line, sheet_of, sheet_text, turn_line}
+use Rattle.crsm_text_sheet.specs.declared.line.SheetLine.{SheetLine}
+use Rattle.crsm_text_sheet.specs.Grammar.{sheet_line_text}
+use Rattle.crsm_text_sheet.specs.Sheets.{entry_line, sheet_of, sheet_text, turn_line}
 use Rattle.crsm_clock.specs.Readings.{Readings}
 use Rattle.crsm_port.specs.Meaning.{Meaning as PortMeaning}
 use Rattle.crsm_log.specs.Log.{Goes}
-use Rattle.crsm_detector.specs.Watching.{Watch, unwatched}
-use Rattle.crsm_detector.specs.Wished.{AreWished, empty_receives, replica_after}
-use Rattle.crsm_turns.specs.Outgoing.{packets_for}
+use Rattle.crsm_replica_detector.specs.Watching.{Watch, unwatched}
+use Rattle.crsm_replica_detector.specs.Wished.{AreWished, empty_receives, replica_after}
+use Rattle.crsm_replica_io.specs.Outgoing.{packets_for}
 use Rattle.crsm_spec.specs.Log.{Log}
 use Rattle.crsm_spec.specs.Node.{Turn, outputs_from}
 use Rattle.crsm_spec.specs.Replica.{Replica}

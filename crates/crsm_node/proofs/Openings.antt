@@ -6,9 +6,9 @@ use Rattle.std.proofs.lemmas.Option.{get_or_from_slice_get, slice_get_within}
 use Rattle.std.proofs.lemmas.Grind.{flat_map-append}
 use Rattle.std.specs.Prelude.{Option, Some, None, slice_get}
 use Rattle.crsm_io.specs.Streams.{Puts, PutsPrefix}
-use Rattle.crsm_sheet.specs.declared.line.SheetLine.{SheetLine}
-use Rattle.crsm_sheet.specs.Grammar.{sheet_line_text}
-use Rattle.crsm_sheet.specs.Sheets.{entry_line, sheet_of, sheet_text}
+use Rattle.crsm_text_sheet.specs.declared.line.SheetLine.{SheetLine}
+use Rattle.crsm_text_sheet.specs.Grammar.{sheet_line_text}
+use Rattle.crsm_text_sheet.specs.Sheets.{entry_line, sheet_of, sheet_text}
 use Rattle.crsm_node.specs.Running.{opening_text}
 use Rattle.crsm_node.proofs.SoFar.{puts_then}
 

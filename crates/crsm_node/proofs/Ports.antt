@@ -3,9 +3,9 @@ use Rattle.std.proofs.Common.{◌≡◌, ℕ, ◌+◌, ◌≤◌, List, [], ◌�
 use Rattle.std.proofs.lemmas.List.{append-nil, map-append}
 use Rattle.std.specs.Prelude.{Option, Some, None, option_map}
 use Rattle.crsm_clock.specs.Readings.{Gives, Readings}
-use Rattle.crsm_faults.specs.Counts.{Rose}
+use Rattle.crsm_port_faults.specs.Counts.{Rose}
 use Rattle.crsm_port.specs.Meaning.{Coat, Packet, Traffic}
-use Rattle.crsm_turns.specs.Outgoing.{raised_by, with_all_sent}
+use Rattle.crsm_replica_io.specs.Outgoing.{raised_by, with_all_sent}
 use Rattle.crsm_node.specs.Received.{BothTell, GivesAll, Passes, received}
 
 -- ---- counts

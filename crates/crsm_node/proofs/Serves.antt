@@ -5,20 +5,20 @@ use Rattle.std.specs.Prelude.{Option, Some, None, Result, Ok, Err}
 use Rattle.std.specs.List.{AllByRecursion}
 use Rattle.crsm_clock.specs.Readings.{Readings}
 use Rattle.crsm_disk.specs.Meaning.{Meaning as DiskMeaning, Only, Same}
-use Rattle.crsm_faults.specs.Counts.{Rose}
+use Rattle.crsm_port_faults.specs.Counts.{Rose}
 use Rattle.crsm_io.specs.Streams.{Puts, PutsPrefix}
-use Rattle.crsm_lives.specs.Groups.{AreGroups, IsClosed, IsDatagram, IsGroup}
-use Rattle.crsm_lives.specs.Lives.{Group, kept_turns}
+use Rattle.crsm_spec_process.specs.Groups.{AreGroups, IsClosed, IsDatagram, IsGroup}
+use Rattle.crsm_spec_process.specs.Lives.{Group, kept_turns}
 use Rattle.crsm_log.specs.Log.{Goes}
 use Rattle.crsm_port.specs.Meaning.{Meaning as PortMeaning, Traffic}
 use Rattle.crsm_spec.specs.Draft.{Draft}
 use Rattle.crsm_spec.specs.Node.{Turn, outputs_from, turn}
 use Rattle.crsm_spec.specs.Replica.{Replica}
-use Rattle.crsm_turns.specs.Outgoing.{packets_for, raised_by}
-use Rattle.crsm_detector.specs.Watching.{Watch, watched}
-use Rattle.crsm_detector.specs.Wished.{AreWished, empty_receives, replica_after, watch_after}
-use Rattle.crsm_detector.specs.Detector.{DetectorStands}
-use Rattle.crsm_detector.specs.declared.detector.Detector.{Detector}
+use Rattle.crsm_replica_io.specs.Outgoing.{packets_for, raised_by}
+use Rattle.crsm_replica_detector.specs.Watching.{Watch, watched}
+use Rattle.crsm_replica_detector.specs.Wished.{AreWished, empty_receives, replica_after, watch_after}
+use Rattle.crsm_replica_detector.specs.Detector.{DetectorStands}
+use Rattle.crsm_replica_detector.specs.declared.detector.Detector.{Detector}
 use Rattle.crsm_shell.specs.declared.shell.Shell.{Shell}
 use Rattle.crsm_shell.specs.Flushing.{IsFull, SendsNone, SendsPackets}
 use Rattle.crsm_shell.specs.Shell.{ShellStands, group_body, sends_of}

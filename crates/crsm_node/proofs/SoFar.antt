@@ -7,18 +7,18 @@ use Rattle.std.specs.List.{flat_map}
 use Rattle.crsm_clock.specs.Readings.{Gives, Readings}
 use Rattle.crsm_disk.specs.Meaning.{LeavesOnly, Meaning as DiskMeaning}
 use Rattle.crsm_io.specs.Streams.{Puts, PutsPrefix}
-use Rattle.crsm_lives.specs.Lives.{Group, kept_turns}
+use Rattle.crsm_spec_process.specs.Lives.{Group, kept_turns}
 use Rattle.crsm_log.specs.Format.{bodies_of}
 use Rattle.crsm_log.specs.Log.{Goes}
 use Rattle.crsm_port.specs.Meaning.{Coat, Meaning as PortMeaning, Packet}
-use Rattle.crsm_sheet.specs.declared.line.SheetLine.{SheetLine}
-use Rattle.crsm_sheet.specs.Grammar.{sheet_line_text}
-use Rattle.crsm_sheet.specs.Sheets.{sheet_text, turn_line}
+use Rattle.crsm_text_sheet.specs.declared.line.SheetLine.{SheetLine}
+use Rattle.crsm_text_sheet.specs.Grammar.{sheet_line_text}
+use Rattle.crsm_text_sheet.specs.Sheets.{sheet_text, turn_line}
 use Rattle.crsm_spec.specs.Node.{Turn, outputs_from}
 use Rattle.crsm_spec.specs.Replica.{Replica}
-use Rattle.crsm_turns.specs.Outgoing.{GoesOut, packets_for, raised_by}
-use Rattle.crsm_detector.specs.Watching.{Watch}
-use Rattle.crsm_detector.specs.Wished.{Fulfils, empty_receive, empty_receives, replica_after, watch_after, wish_of}
+use Rattle.crsm_replica_io.specs.Outgoing.{GoesOut, packets_for, raised_by}
+use Rattle.crsm_replica_detector.specs.Watching.{Watch}
+use Rattle.crsm_replica_detector.specs.Wished.{Fulfils, empty_receive, empty_receives, replica_after, watch_after, wish_of}
 use Rattle.crsm_shell.specs.Flushing.{Adds, IsFull, IsLeft}
 use Rattle.crsm_shell.specs.Shell.{group_body, sends_of}
 use Rattle.crsm_node.specs.Kept.{HasBehind, IsLeftOf, PutInTurn, bodies_in_log, body_in_log}

@@ -3,7 +3,7 @@ use Rattle.std.proofs.Common.{◌≡◌, inl, inr, ⊎_elim, IsTrue, Bool, true,
 use Rattle.std.specs.Prelude.{Option}
 use Rattle.crsm_base.specs.declared.limits.TheConstants.{MAX_LOG_BYTES}
 use Rattle.crsm_disk.specs.Meaning.{LeavesOnly, Meaning}
-use Rattle.crsm_faults.specs.Counts.{Rose}
+use Rattle.crsm_port_faults.specs.Counts.{Rose}
 use Rattle.crsm_ledger.specs.Recovered.{AreKept, IsBadAt}
 use Rattle.crsm_log.specs.Claim.{Claims, IsClaimedOrBefore, RefusesClaim}
 use Rattle.crsm_log.specs.Format.{bodies_in, bodies_of, found, reading}

@@ -9,18 +9,18 @@ use Rattle.crsm_spec.specs.Draft.{Draft}
 use Rattle.crsm_spec.specs.Log.{Log}
 use Rattle.crsm_spec.specs.Node.{Turn}
 use Rattle.crsm_spec.specs.Replica.{Replica}
-use Rattle.crsm_turns.specs.Input.{CountsTick, IsFirst, TakesInput}
-use Rattle.crsm_turns.specs.Outgoing.{raised_by}
-use Rattle.crsm_turns.specs.declared.input.Taken.{Taken}
-use Rattle.crsm_turns.specs.declared.input.Taken.TheVariants as taken
-use Rattle.crsm_turns.specs.declared.input.TakeError.{TakeError}
-use Rattle.crsm_turns.specs.declared.input.TakeError.TheVariants as take_error
-use Rattle.crsm_turns.specs.declared.input.What.{What}
-use Rattle.crsm_turns.specs.declared.input.What.TheVariants as what
-use Rattle.crsm_detector.specs.Detector.{DetectorStands}
-use Rattle.crsm_detector.specs.Watching.{Watch}
-use Rattle.crsm_detector.specs.Wished.{Fulfils, chosen, empty_receive, wish_of}
-use Rattle.crsm_detector.specs.declared.detector.Detector.{Detector}
+use Rattle.crsm_replica_io.specs.Input.{CountsTick, IsFirst, TakesInput}
+use Rattle.crsm_replica_io.specs.Outgoing.{raised_by}
+use Rattle.crsm_replica_io.specs.declared.input.Taken.{Taken}
+use Rattle.crsm_replica_io.specs.declared.input.Taken.TheVariants as taken
+use Rattle.crsm_replica_io.specs.declared.input.TakeError.{TakeError}
+use Rattle.crsm_replica_io.specs.declared.input.TakeError.TheVariants as take_error
+use Rattle.crsm_replica_io.specs.declared.input.What.{What}
+use Rattle.crsm_replica_io.specs.declared.input.What.TheVariants as what
+use Rattle.crsm_replica_detector.specs.Detector.{DetectorStands}
+use Rattle.crsm_replica_detector.specs.Watching.{Watch}
+use Rattle.crsm_replica_detector.specs.Wished.{Fulfils, chosen, empty_receive, wish_of}
+use Rattle.crsm_replica_detector.specs.declared.detector.Detector.{Detector}
 use Rattle.crsm_shell.specs.Shell.{ShellStands}
 use Rattle.crsm_shell.specs.Taking.{Reads, Takes, most_received, turn_of}
 use Rattle.crsm_shell.specs.declared.errors.TurnError.{TurnError}

@@ -6,9 +6,9 @@ use Rattle.std.specs.List.{flat_map}
 use Rattle.crsm_spec.specs.Draft.{Draft}
 use Rattle.crsm_spec.specs.Node.{Turn, outputs_from, turn}
 use Rattle.crsm_spec.specs.Replica.{Replica}
-use Rattle.crsm_lives.specs.Lives.{Group, kept_turns}
-use Rattle.crsm_detector.specs.Watching.{Watch, watched}
-use Rattle.crsm_detector.specs.Wished.{AreWished, Fulfils, empty_receive, empty_receives, replica_after, watch_after, wish_of}
+use Rattle.crsm_spec_process.specs.Lives.{Group, kept_turns}
+use Rattle.crsm_replica_detector.specs.Watching.{Watch, watched}
+use Rattle.crsm_replica_detector.specs.Wished.{AreWished, Fulfils, empty_receive, empty_receives, replica_after, watch_after, wish_of}
 use Rattle.crsm_node.specs.Kept.{bodies_in_log, body_in_log}
 use Rattle.crsm_node.specs.Sent.{steps_by_group}
 

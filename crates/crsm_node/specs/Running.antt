@@ -1,15 +1,15 @@
 -- What a node does from its start to its end.
 use Rattle.std.specs.Prelude.{◌≡◌, ◌≢◌, ◌⊎◌, ℕ, ◌+◌, ◌<◌, ◌≤◌, List, [], ◌∷◌, ◌++◌, length, true, IsTrue, Option, Some, None, Result, Ok, Err}
 use Rattle.crsm_base.specs.declared.limits.TheConstants.{MAX_LOG_BYTES}
-use Rattle.crsm_faults.specs.Counts.{Rose}
+use Rattle.crsm_port_faults.specs.Counts.{Rose}
 use Rattle.crsm_spec.specs.Log.{Log}
 use Rattle.crsm_spec.specs.Replica.{Replica}
 use Rattle.crsm_spec.specs.Step.{boot}
-use Rattle.crsm_lives.specs.Groups.{AreGroups}
-use Rattle.crsm_lives.specs.Lives.{Life, kept_turns}
+use Rattle.crsm_spec_process.specs.Groups.{AreGroups}
+use Rattle.crsm_spec_process.specs.Lives.{Life, kept_turns}
 use Rattle.crsm_clock.specs.Readings.{Readings}
 use Rattle.crsm_io.specs.Streams.{Puts, PutsPrefix}
-use Rattle.crsm_sheet.specs.Sheets.{sheet_of, sheet_text}
+use Rattle.crsm_text_sheet.specs.Sheets.{sheet_of, sheet_text}
 use Rattle.crsm_disk.specs.Meaning.{LeavesOnly, Meaning as DiskMeaning}
 use Rattle.crsm_ledger.specs.Recovered.{AreKept}
 use Rattle.crsm_log.specs.Claim.{IsOpenTo, claimed}
@@ -17,9 +17,9 @@ use Rattle.crsm_log.specs.Format.{bodies_of, cluster_of, found, gate_in, reading
 use Rattle.crsm_log.specs.Log.{Goes}
 use Rattle.crsm_port.specs.Cluster.{clustered, over}
 use Rattle.crsm_port.specs.Meaning.{Coat, Meaning as PortMeaning}
-use Rattle.crsm_detector.specs.Watching.{unwatched}
-use Rattle.crsm_detector.specs.Wished.{replica_after}
-use Rattle.crsm_detector.specs.declared.detector.Detector.{Detector}
+use Rattle.crsm_replica_detector.specs.Watching.{unwatched}
+use Rattle.crsm_replica_detector.specs.Wished.{replica_after}
+use Rattle.crsm_replica_detector.specs.declared.detector.Detector.{Detector}
 use Rattle.crsm_shell.specs.Booting.{HasFullLog, IsBadLog, ReadsAsBefore, boot_body}
 use Rattle.crsm_shell.specs.Shell.{HasLog}
 use Rattle.crsm_shell.specs.declared.shell.Shell.{Shell}

@@ -5,11 +5,11 @@ use Rattle.crsm_base.specs.declared.send.Send.{Send}
 use Rattle.crsm_spec.specs.Draft.{Draft}
 use Rattle.crsm_spec.specs.Node.{Turn, outputs_from}
 use Rattle.crsm_spec.specs.Replica.{Replica}
-use Rattle.crsm_lives.specs.Lives.{Group, kept_turns}
-use Rattle.crsm_detector.specs.Wished.{replica_after}
+use Rattle.crsm_spec_process.specs.Lives.{Group, kept_turns}
+use Rattle.crsm_replica_detector.specs.Wished.{replica_after}
 use Rattle.crsm_port.specs.Meaning.{Packet}
 use Rattle.crsm_shell.specs.Shell.{sends_of}
-use Rattle.crsm_turns.specs.Outgoing.{address_of, packets_for}
+use Rattle.crsm_replica_io.specs.Outgoing.{address_of, packets_for}
 
 -- the steps of each of these lists of turns, the first of which this replica takes
 unfoldable pub steps_by_group : Replica → List (List (Turn × ℕ)) → List (List Draft)

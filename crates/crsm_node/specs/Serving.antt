@@ -1,19 +1,19 @@
 -- What a node does over so many turns.
 use Rattle.std.specs.Prelude.{◌≡◌, ℕ, ◌≤◌, List, [], ◌∷◌, ◌++◌, length, map, IsTrue, Option, Result, Ok, Err}
-use Rattle.crsm_faults.specs.Counts.{Rose}
+use Rattle.crsm_port_faults.specs.Counts.{Rose}
 use Rattle.crsm_spec.specs.Node.{Turn, outputs_from}
 use Rattle.crsm_spec.specs.Replica.{Replica}
-use Rattle.crsm_lives.specs.Groups.{AreGroups}
-use Rattle.crsm_lives.specs.Lives.{Group, kept_turns}
+use Rattle.crsm_spec_process.specs.Groups.{AreGroups}
+use Rattle.crsm_spec_process.specs.Lives.{Group, kept_turns}
 use Rattle.crsm_clock.specs.Readings.{Readings}
 use Rattle.crsm_io.specs.Streams.{Puts, PutsPrefix}
-use Rattle.crsm_sheet.specs.Sheets.{sheet_text, turn_line}
+use Rattle.crsm_text_sheet.specs.Sheets.{sheet_text, turn_line}
 use Rattle.crsm_disk.specs.Meaning.{LeavesOnly, Meaning as DiskMeaning}
 use Rattle.crsm_log.specs.Log.{Goes}
 use Rattle.crsm_port.specs.Meaning.{Meaning as PortMeaning}
-use Rattle.crsm_turns.specs.Outgoing.{raised_by}
-use Rattle.crsm_detector.specs.Watching.{Watch}
-use Rattle.crsm_detector.specs.Wished.{AreWished, empty_receives, replica_after, watch_after}
+use Rattle.crsm_replica_io.specs.Outgoing.{raised_by}
+use Rattle.crsm_replica_detector.specs.Watching.{Watch}
+use Rattle.crsm_replica_detector.specs.Wished.{AreWished, empty_receives, replica_after, watch_after}
 use Rattle.crsm_shell.specs.Flushing.{IsFull}
 use Rattle.crsm_shell.specs.Shell.{group_body}
 use Rattle.crsm_node.specs.Devices.{Node}

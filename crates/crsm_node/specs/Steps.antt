@@ -1,23 +1,23 @@
 -- What a node does in one turn, and when it keeps a group.
 use Rattle.std.specs.Prelude.{◌≡◌, ◌⊎◌, ◌↔◌, ℕ, ◌≤◌, List, [], ◌∷◌, ◌++◌, Bool, IsTrue, Option, Result, Ok, Err}
-use Rattle.crsm_faults.specs.Counts.{Rose}
+use Rattle.crsm_port_faults.specs.Counts.{Rose}
 use Rattle.crsm_spec.specs.Draft.{Draft}
 use Rattle.crsm_spec.specs.Log.{Log}
 use Rattle.crsm_spec.specs.Node.{Turn, turn}
 use Rattle.crsm_spec.specs.Replica.{Replica}
-use Rattle.crsm_lives.specs.Groups.{IsDatagram}
+use Rattle.crsm_spec_process.specs.Groups.{IsDatagram}
 use Rattle.crsm_clock.specs.Readings.{Gives, Readings}
 use Rattle.crsm_io.specs.Streams.{Puts, PutsPrefix}
-use Rattle.crsm_sheet.specs.Grammar.{sheet_line_text}
-use Rattle.crsm_sheet.specs.Sheets.{turn_line}
+use Rattle.crsm_text_sheet.specs.Grammar.{sheet_line_text}
+use Rattle.crsm_text_sheet.specs.Sheets.{turn_line}
 use Rattle.crsm_disk.specs.Meaning.{Meaning as DiskMeaning, Same}
 use Rattle.crsm_port.specs.Meaning.{Meaning as PortMeaning}
-use Rattle.crsm_turns.specs.Outgoing.{packets_for, raised_by}
-use Rattle.crsm_turns.specs.declared.input.What.{What}
-use Rattle.crsm_detector.specs.Detector.{DetectorStands}
-use Rattle.crsm_detector.specs.Watching.{Watch, watched}
-use Rattle.crsm_detector.specs.Wished.{Fulfils, empty_receive, wish_of}
-use Rattle.crsm_detector.specs.declared.detector.Detector.{Detector}
+use Rattle.crsm_replica_io.specs.Outgoing.{packets_for, raised_by}
+use Rattle.crsm_replica_io.specs.declared.input.What.{What}
+use Rattle.crsm_replica_detector.specs.Detector.{DetectorStands}
+use Rattle.crsm_replica_detector.specs.Watching.{Watch, watched}
+use Rattle.crsm_replica_detector.specs.Wished.{Fulfils, empty_receive, wish_of}
+use Rattle.crsm_replica_detector.specs.declared.detector.Detector.{Detector}
 use Rattle.crsm_shell.specs.declared.shell.Shell.{Shell}
 use Rattle.crsm_shell.specs.Flushing.{AddsGroup, IsFullFor, LeavesGroup, SendsNone, SendsPackets}
 use Rattle.crsm_shell.specs.Shell.{ShellStands, sends_of}

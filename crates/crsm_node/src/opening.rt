@@ -1,15 +1,15 @@
 //! The first lines of a sheet.
 
 ghost use Rattle.std.specs.Prelude.{◌≡◌, ◌⊎◌, ◌++◌, ◌∷◌, ◌≤◌, [], IfErr, OnOk, IsErrOf, Err};
-ghost use Rattle.crsm_faults.specs.Counts.{Rose};
+ghost use Rattle.crsm_port_faults.specs.Counts.{Rose};
 ghost use Rattle.crsm_io.specs.Streams.{Puts, PutsPrefix};
-ghost use Rattle.crsm_sheet.specs.Grammar.{sheet_line_text};
+ghost use Rattle.crsm_text_sheet.specs.Grammar.{sheet_line_text};
 ghost use Rattle.crsm_node.specs.Running.{FailsToOpen, opening_text};
 
 use crate::errors::NodeError;
 use crsm_base::{Bodies, Bytes, NoMemory};
 use crsm_io::{Sink, put_all};
-use crsm_sheet::{SheetLine, print_sheet};
+use crsm_text_sheet::{SheetLine, print_sheet};
 use std::alloc::Global;
 
 /// Writes the lines of the bodies that were found in the log, and the line behind them.

@@ -2,12 +2,12 @@
 
 ghost use Rattle.std.specs.Prelude.{◌≡◌, ◌++◌, [], OnOk, length};
 ghost use Rattle.crsm_shell.specs.Taking.{turn_of};
-ghost use Rattle.crsm_turns.specs.Input.{IsWithin};
+ghost use Rattle.crsm_replica_io.specs.Input.{IsWithin};
 ghost use Rattle.crsm_node.specs.Steps.{turn_text};
 
 use crsm_base::{Bytes, NoMemory};
-use crsm_sheet::{SheetLine, print_sheet, push_in};
 use crsm_shell::{Taken, Turned};
+use crsm_text_sheet::{SheetLine, print_sheet, push_in};
 use std::alloc::Global;
 
 /// The turns that are pending, as their node needs them.

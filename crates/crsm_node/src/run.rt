@@ -13,11 +13,11 @@ use crate::report::{Reporter, held_in};
 use crate::serving::serve;
 use crsm_base::Bodies;
 use crsm_clock::Clock;
-use crsm_detector::Detector;
 use crsm_disk::Disk;
 use crsm_io::Sink;
 use crsm_log::claim;
 use crsm_port::{ClusterPort, Port};
+use crsm_replica_detector::Detector;
 use crsm_shell::{Booted, Shell, logs_are_one};
 use std::alloc::Global;
 

@@ -10,10 +10,10 @@ use crate::keep::keep_group;
 use crate::pending::Pending;
 use crate::take::{MOST_PENDING, take_turn};
 use crsm_clock::Clock;
-use crsm_detector::Detector;
 use crsm_disk::Disk;
 use crsm_io::Sink;
 use crsm_port::Port;
+use crsm_replica_detector::Detector;
 use crsm_shell::Shell;
 use std::alloc::Global;
 

@@ -4,11 +4,11 @@ ghost use Rattle.std.specs.Prelude.{◌≡◌, ◌↔◌, IsTrue, ◌∷◌, [],
 ghost use Rattle.crsm_spec.specs.Draft.{Draft};
 ghost use Rattle.crsm_spec.specs.Log.{Log};
 ghost use Rattle.crsm_spec.specs.Replica.{Replica};
-ghost use Rattle.crsm_lives.specs.Groups.{IsDatagram};
-ghost use Rattle.crsm_detector.specs.Detector.{DetectorStands, WhereStands as WhereWatches};
-ghost use Rattle.crsm_detector.specs.Watching.{Watch};
-ghost use Rattle.crsm_detector.specs.Wished.{with_turn};
-ghost use Rattle.crsm_detector.specs.Watching.{heard_at};
+ghost use Rattle.crsm_spec_process.specs.Groups.{IsDatagram};
+ghost use Rattle.crsm_replica_detector.specs.Detector.{DetectorStands, WhereStands as WhereWatches};
+ghost use Rattle.crsm_replica_detector.specs.Watching.{Watch};
+ghost use Rattle.crsm_replica_detector.specs.Wished.{with_turn};
+ghost use Rattle.crsm_replica_detector.specs.Watching.{heard_at};
 ghost use Rattle.crsm_shell.specs.Shell.{WhereStands};
 ghost use Rattle.crsm_shell.specs.Taking.{turn_of};
 ghost use Rattle.crsm_shell.specs.Words.{disk_of, has_failed, peers_of};
@@ -18,9 +18,9 @@ use crate::errors::NodeError;
 use crate::pending::Pending;
 use crsm_base::never;
 use crsm_clock::Clock;
-use crsm_detector::{Detector, inputs_are_wished, turns_are_watched};
 use crsm_disk::Disk;
 use crsm_port::Port;
+use crsm_replica_detector::{Detector, inputs_are_wished, turns_are_watched};
 use crsm_shell::{Shell, Taken, Turned, What};
 
 /// So many turns are kept together at most.

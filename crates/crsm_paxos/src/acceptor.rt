@@ -32,7 +32,7 @@ pub enum Accepted {
 }
 
 /// One replica's promise in an instance, and what it has accepted there. No call takes memory. A library type: a replica
-/// reads its own promise off its log (`crsm_reconfigure`, promising).
+/// reads its own promise off its log (`crsm_replica_reconfigure`, promising).
 #[derive(Debug, Drop)]
 pub struct Acceptor {
     promised: Ballot,

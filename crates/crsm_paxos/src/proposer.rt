@@ -152,7 +152,7 @@ impl Proposer {
     }
 
     /// A replica has refused this ballot, since it promised another. A library call: a replica's coordinator is preempted as a
-    /// whole (`crsm_coordinator`).
+    /// whole (`crsm_replica_coordinator`).
     #[tactic(auto, unfolding(crsm_base::specs::Order::ballot_eq))]
     pub fn on_no(&mut self, b: Ballot, promised: Ballot) -> Next
         ensures next { result ≡ next_of_no self.old b promised }

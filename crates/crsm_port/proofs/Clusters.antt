@@ -1,7 +1,7 @@
 -- A datagram that came off the wire is handed up without its mark.
 use Rattle.std.proofs.Common.{◌≡◌, ◌≢◌, ◌≤◌, ◌+◌, ◌-◌, ◌^◌, ℕ, zero, suc, min, List, [], ◌∷◌, ◌++◌, length, take, drop, Some, None, Result, Ok, refl, ◌∙◌, ap, arith}
 use Rattle.crsm_base.specs.declared.memory.Failed.{Failed}
-use Rattle.crsm_faults.specs.Plan.{Plan, Spends}
+use Rattle.crsm_port_faults.specs.Plan.{Plan, Spends}
 use Rattle.crsm_port.specs.Cluster.{clustered, over, unwrapped, most_on_the_wire}
 use Rattle.crsm_port.specs.Meaning.{Meaning, Receives, Takes, Traffic}
 use Rattle.crsm_port.specs.declared.port.Got.TheVariants.{Datagram}

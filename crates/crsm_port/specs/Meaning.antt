@@ -2,8 +2,8 @@
 use Rattle.std.specs.Prelude.{◌≡◌, ◌↔◌, ℕ, ◌≤◌, min, List, [], ◌∷◌, ◌++◌, length, take, drop, Option, Some, IsSome, Result, IfOk, OnOk, OnErr, option_map}
 use Rattle.crsm_base.specs.declared.memory.Failed.{Failed}
 use Rattle.crsm_base.specs.declared.memory.NoMemory.{NoMemory}
-use Rattle.crsm_faults.specs.Counts.{Rose}
-use Rattle.crsm_faults.specs.Plan.{MakesRoom, Plan, Spends}
+use Rattle.crsm_port_faults.specs.Counts.{Rose}
+use Rattle.crsm_port_faults.specs.Plan.{MakesRoom, Plan, Spends}
 use Rattle.crsm_port.specs.declared.port.Got.{Got}
 use Rattle.crsm_port.specs.declared.port.Got.TheVariants.{Nothing, Datagram}
 

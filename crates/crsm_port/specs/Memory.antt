@@ -1,6 +1,6 @@
 -- A port in memory.
 use Rattle.std.specs.Prelude.{ℕ, List, take, drop, Some, None}
-use Rattle.crsm_faults.specs.Failing.{Failing, good_of}
+use Rattle.crsm_port_faults.specs.Failing.{Failing, good_of}
 use Rattle.crsm_port.specs.Meaning.{Meaning, Packet, Traffic, plain}
 
 pub record Memory : Type 0 where

@@ -7,7 +7,7 @@ ghost use Rattle.crsm_port.specs.Cluster.{IsShort, clustered, mark_of, unwrapped
 use crate::memory::copy;
 use crate::{Got, Port};
 use crsm_base::{Failed, NoMemory};
-use crsm_faults::raise;
+use crsm_port_faults::raise;
 use std::alloc::Global;
 
 // The byte 16 and the number stand before a datagram.

@@ -1,15 +1,15 @@
 //! A port in memory, which tells all that it took and sent.
 
 ghost use Rattle.std.specs.Prelude.{◌≡◌, ◌+◌, ◌-◌, ◌≤◌, ℕ, [], ◌∷◌, ◌++◌, length, min, take, drop, IfOk, OnOk, OnErr, Some};
-ghost use Rattle.crsm_faults.specs.Counts.{raised, Rose};
-ghost use Rattle.crsm_faults.specs.Failing.{IsNotEnd, good_of, one_less};
+ghost use Rattle.crsm_port_faults.specs.Counts.{raised, Rose};
+ghost use Rattle.crsm_port_faults.specs.Failing.{IsNotEnd, good_of, one_less};
 ghost use Rattle.crsm_port.specs.Meaning.{CountsEmpty, Takes, plain};
 ghost use Rattle.crsm_port.specs.Memory.{meaning_of, traffic_of};
 ghost use Rattle.crsm_port.specs.Sent.{packets_of};
 
 use crate::{Got, Port, SentPackets};
 use crsm_base::{Failed, NoMemory};
-use crsm_faults::{Failures, raise};
+use crsm_port_faults::{Failures, raise};
 use std::alloc::Global;
 use std::marker::Model;
 

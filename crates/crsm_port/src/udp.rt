@@ -1,12 +1,12 @@
 //! A socket as a port. Nothing is known of what it gives and takes.
 ghost use Rattle.std.specs.Prelude.{◌≡◌, ◌≤◌, ◌^◌, ◌<◌, IfOk, OnErr, length};
-ghost use Rattle.crsm_faults.specs.Counts.{Rose};
+ghost use Rattle.crsm_port_faults.specs.Counts.{Rose};
 ghost use Rattle.crsm_port.specs.Unknown.{unknown};
 
 use crate::address::{from_number, number};
 use crate::{Got, Port};
 use crsm_base::{Failed, NoMemory};
-use crsm_faults::raise;
+use crsm_port_faults::raise;
 use mio::net::UdpSocket;
 use mio::{Events, Interest, Poll, Token};
 use std::alloc::Global;

@@ -12,14 +12,14 @@ use Rattle.crsm_spec.specs.Fits.{fits, booted}
 use Rattle.crsm_spec.specs.Replica.{Replica, fresh}
 use Rattle.crsm_spec.specs.Draft.{begun, keep}
 use Rattle.crsm_spec.specs.Step.{boot_again}
-use Rattle.crsm_results.specs.Rising.{RisesStrictly}
-use Rattle.crsm_results.proofs.Kept.{rises_kept, Executes, The, executes, next_is}
-use Rattle.crsm_results.proofs.Kept.{sent_kept}
+use Rattle.crsm_replica_results.specs.Rising.{RisesStrictly}
+use Rattle.crsm_replica_results.proofs.Kept.{rises_kept, Executes, The, executes, next_is}
+use Rattle.crsm_replica_results.proofs.Kept.{sent_kept}
 use Rattle.crsm_ledger.specs.declared.ledger.Ledger.{Ledger}
-use Rattle.crsm_output.specs.declared.output.Output.{Output}
-use Rattle.crsm_output.specs.Made.{nothing}
-use Rattle.crsm_epoch_state.specs.declared.state.EpochState.{EpochState}
-use Rattle.crsm_epoch_state.specs.EpochState.{EachFits, EpochStands, forgotten}
+use Rattle.crsm_replica_output.specs.declared.output.Output.{Output}
+use Rattle.crsm_replica_output.specs.Made.{nothing}
+use Rattle.crsm_replica_epoch.specs.declared.state.EpochState.{EpochState}
+use Rattle.crsm_replica_epoch.specs.EpochState.{EachFits, EpochStands, forgotten}
 use Rattle.crsm_replica.specs.declared.state.ReplicaState.{ReplicaState}
 use Rattle.crsm_replica.specs.Recorded.{InBoth}
 use Rattle.crsm_replica.specs.Replica.{StandsInside, AwaitsInside, on_paper}

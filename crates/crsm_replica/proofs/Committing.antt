@@ -3,7 +3,7 @@ use Rattle.std.proofs.Common.{◌≡◌, ℕ, refl, List, ◌∷◌, Bool, true,
 use Rattle.std.specs.Prelude.{◌==◌, ◌&&◌}
 use Rattle.std.proofs.lemmas.Bool.Decides.{nat_tests}
 use Rattle.crsm_base.specs.Order.{stamp_eq}
-use Rattle.crsm_epoch_state.proofs.Recorded.{unexecuted_committed}
+use Rattle.crsm_replica_epoch.proofs.Recorded.{unexecuted_committed}
 use Rattle.crsm_spec.specs.Types.{Stamp, Entry, Rec}
 use Rattle.crsm_spec.specs.Log.{unexecuted}
 use Rattle.crsm_spec.specs.Draft.{Draft}

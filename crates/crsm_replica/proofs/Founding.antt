@@ -11,7 +11,7 @@ use Rattle.crsm_spec.specs.Replica.{fresh}
 use Rattle.crsm_spec.specs.Draft.{Draft, begun, keep}
 use Rattle.crsm_spec.specs.Coordinate.{enter, forget_epoch}
 use Rattle.crsm_spec.specs.Step.{boot, boot_again, first_boot, founding_boot}
-use Rattle.crsm_epoch_state.specs.EpochState.{EachFits}
+use Rattle.crsm_replica_epoch.specs.EpochState.{EachFits}
 use Rattle.crsm_replica.proofs.Excepting.{has_below}
 use Rattle.crsm_replica.proofs.Rebuilt.{still_booted}
 

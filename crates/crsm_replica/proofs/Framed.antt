@@ -7,13 +7,13 @@ use Rattle.std.proofs.lemmas.List.Elements.{recursion_from_All}
 use Rattle.crsm_base.specs.Limits.{most_again}
 use Rattle.crsm_base.specs.Messages.{FitsPayload}
 use Rattle.crsm_base.specs.Records.{FitsRec}
-use Rattle.crsm_log_facts.proofs.Lists.{all-append, all-drop, all-take}
-use Rattle.crsm_output.specs.declared.output.Output.{Output}
-use Rattle.crsm_output.specs.Made.{OutputStands, made_of}
-use Rattle.crsm_epoch_state.specs.declared.state.EpochState.{EpochState}
-use Rattle.crsm_epoch_state.specs.EpochState.{EpochStands}
-use Rattle.crsm_epoch_state.proofs.Kept.{few_sent}
-use Rattle.crsm_epoch_state.proofs.Times.{issued_above}
+use Rattle.crsm_fact_log.proofs.Lists.{all-append, all-drop, all-take}
+use Rattle.crsm_replica_output.specs.declared.output.Output.{Output}
+use Rattle.crsm_replica_output.specs.Made.{OutputStands, made_of}
+use Rattle.crsm_replica_epoch.specs.declared.state.EpochState.{EpochState}
+use Rattle.crsm_replica_epoch.specs.EpochState.{EpochStands}
+use Rattle.crsm_replica_epoch.proofs.Kept.{few_sent}
+use Rattle.crsm_replica_epoch.proofs.Times.{issued_above}
 use Rattle.crsm_spec.specs.Types.{Rec, InEpoch, Datagram}
 use Rattle.crsm_spec.specs.Log.{Log, known, decision}
 use Rattle.crsm_spec.specs.Replica.{Replica, members_of, other_members, last_issued, frames_to, acked_by, unacked}

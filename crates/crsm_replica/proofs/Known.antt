@@ -9,10 +9,10 @@ use Rattle.crsm_base.specs.Order.{stamp_lt, stamp_eq}
 use Rattle.crsm_base.specs.Records.{FitsRec}
 use Rattle.crsm_base.specs.Spelling.{FitsStamp, FitsEntry, FitsOption}
 use Rattle.crsm_ledger.specs.Ledger.{founding, known_decision}
-use Rattle.crsm_log_facts.proofs.Known.{known-spec}
+use Rattle.crsm_fact_log.proofs.Known.{known-spec}
 use Rattle.crsm_commit.specs.Waiting.{without_entry}
-use Rattle.crsm_epoch_state.specs.First.{ready_first, ready_of}
-use Rattle.crsm_results.proofs.Kept.{next_is}
+use Rattle.crsm_replica_epoch.specs.First.{ready_first, ready_of}
+use Rattle.crsm_replica_results.proofs.Kept.{next_is}
 use Rattle.crsm_spec.specs.Types.{Stamp, Entry, Decision}
 use Rattle.crsm_spec.specs.Lists.{has, numbers_below, first_of}
 use Rattle.crsm_spec.specs.Ready.{is_ready}

@@ -9,11 +9,11 @@ use Rattle.crsm_base.specs.Records.{FitsRec}
 use Rattle.crsm_base.specs.Spelling.{FitsStamp}
 use Rattle.crsm_ledger.specs.declared.ledger.Ledger.{Ledger}
 use Rattle.crsm_ledger.specs.Ledger.{LedgerStands}
-use Rattle.crsm_log_facts.proofs.Lists.{all-push, all-append}
-use Rattle.crsm_coordinator.specs.declared.coordinator.Coordinator.{Coordinator as CoordinatorInMemory}
-use Rattle.crsm_coordinator.specs.Coordinator.{CoordinatorStands}
-use Rattle.crsm_output.specs.declared.output.Output.{Output}
-use Rattle.crsm_output.specs.Made.{Made, OutputStands, made_of, nothing}
+use Rattle.crsm_fact_log.proofs.Lists.{all-push, all-append}
+use Rattle.crsm_replica_coordinator.specs.declared.coordinator.Coordinator.{Coordinator as CoordinatorInMemory}
+use Rattle.crsm_replica_coordinator.specs.Coordinator.{CoordinatorStands}
+use Rattle.crsm_replica_output.specs.declared.output.Output.{Output}
+use Rattle.crsm_replica_output.specs.Made.{Made, OutputStands, made_of, nothing}
 use Rattle.crsm_spec.specs.Types.{Stamp, Decision, Rec, InEpoch, Datagram, Line}
 use Rattle.crsm_spec.specs.Choice.{when◌then◌otherwise◌}
 use Rattle.crsm_spec.specs.Log.{Log, decision, boots, is_boot}
@@ -25,10 +25,10 @@ use Rattle.crsm_spec.specs.Step.{if_fitting}
 use Rattle.crsm_segment.specs.Gather.{GatherStands}
 use Rattle.crsm_spec.specs.Parts.{Piece}
 use Rattle.crsm_spec.specs.Clock.{u64_max}
-use Rattle.crsm_epoch_state.specs.declared.state.EpochState.{EpochState}
-use Rattle.crsm_epoch_state.specs.EpochState.{EpochStands, IsNoEnter}
-use Rattle.crsm_epoch_state.proofs.Kept.{beside}
-use Rattle.crsm_results.proofs.Kept.{rises_kept, sent_kept}
+use Rattle.crsm_replica_epoch.specs.declared.state.EpochState.{EpochState}
+use Rattle.crsm_replica_epoch.specs.EpochState.{EpochStands, IsNoEnter}
+use Rattle.crsm_replica_epoch.proofs.Kept.{beside}
+use Rattle.crsm_replica_results.proofs.Kept.{rises_kept, sent_kept}
 use Rattle.crsm_replica.specs.declared.state.ReplicaState.{ReplicaState}
 use Rattle.crsm_replica.specs.declared.gathered.Gathered.{Gathered}
 use Rattle.crsm_replica.specs.declared.state.Waiting.{Waiting as WaitingInMemory}

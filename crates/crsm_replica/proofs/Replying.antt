@@ -4,7 +4,7 @@ use Rattle.std.specs.Prelude.{Option, Some, None}
 use Rattle.std.specs.List.{AllByRecursion}
 use Rattle.std.specs.Option.{option_map}
 use Rattle.crsm_base.specs.Store.{answer_after}
-use Rattle.crsm_results.specs.Answering.{answered}
+use Rattle.crsm_replica_results.specs.Answering.{answered}
 use Rattle.crsm_spec.specs.Types.{Entry, Answer}
 use Rattle.crsm_spec.specs.Choice.{when◌then◌otherwise◌}
 use Rattle.crsm_spec.specs.Log.{executed}

@@ -3,10 +3,10 @@ use Rattle.std.specs.Prelude.{◌≡◌, ℕ, List, ◌++◌}
 use Rattle.crsm_spec.specs.Types.{InEpoch, Datagram}
 use Rattle.crsm_spec.specs.Log.{known}
 use Rattle.crsm_spec.specs.Replica.{Replica}
-use Rattle.crsm_epoch_state.specs.declared.state.EpochState.{EpochState}
-use Rattle.crsm_epoch_state.specs.EpochState.{EpochStands}
-use Rattle.crsm_output.specs.declared.output.Output.{Output}
-use Rattle.crsm_output.specs.Made.{Made, OutputStands}
+use Rattle.crsm_replica_epoch.specs.declared.state.EpochState.{EpochState}
+use Rattle.crsm_replica_epoch.specs.EpochState.{EpochStands}
+use Rattle.crsm_replica_output.specs.declared.output.Output.{Output}
+use Rattle.crsm_replica_output.specs.Made.{Made, OutputStands}
 
 -- a frame of me to k, behind its receiver
 unfoldable pub frame_again : ℕ → ℕ → ℕ → ℕ × InEpoch → ℕ × Datagram

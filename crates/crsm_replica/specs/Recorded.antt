@@ -2,8 +2,8 @@
 use Rattle.std.specs.Prelude.{◌≡◌, ℕ, Bool, true, false, List, ◌∷◌, [], ◌++◌, Option, None, Some}
 use Rattle.crsm_ledger.specs.declared.ledger.Ledger.{Ledger}
 use Rattle.crsm_ledger.specs.Ledger.{LedgerStands}
-use Rattle.crsm_output.specs.declared.output.Output.{Output}
-use Rattle.crsm_output.specs.Made.{Made, OutputStands}
+use Rattle.crsm_replica_output.specs.declared.output.Output.{Output}
+use Rattle.crsm_replica_output.specs.Made.{Made, OutputStands}
 use Rattle.crsm_spec.specs.Types.{Rec, Line}
 use Rattle.crsm_spec.specs.Fits.{fits}
 use Rattle.crsm_spec.specs.Lines.{lines_of}

@@ -4,8 +4,8 @@ use Rattle.std.specs.List.{AllByRecursion}
 use Rattle.crsm_base.specs.declared.NoMemory.{NoMemory}
 use Rattle.crsm_base.specs.Records.{FitsRec}
 use Rattle.crsm_ledger.specs.Ledger.{LedgerStands}
-use Rattle.crsm_coordinator.specs.Coordinator.{CoordinatorStands}
-use Rattle.crsm_output.specs.Made.{OutputStands, made_of, nothing}
+use Rattle.crsm_replica_coordinator.specs.Coordinator.{CoordinatorStands}
+use Rattle.crsm_replica_output.specs.Made.{OutputStands, made_of, nothing}
 use Rattle.crsm_segment.specs.Gather.{GatherStands}
 use Rattle.crsm_spec.specs.Types.{Decision, Rec}
 use Rattle.crsm_spec.specs.Log.{Log, decision, executed}
@@ -13,12 +13,12 @@ use Rattle.crsm_spec.specs.Replica.{Coordinator, Waiting, latest_from}
 use Rattle.crsm_spec.specs.Draft.{Draft, keep, noting}
 use Rattle.crsm_spec.specs.Coordinate.{forget_epoch}
 use Rattle.crsm_spec.specs.Step.{if_fitting}
-use Rattle.crsm_results.specs.Answering.{IsTrueOf}
-use Rattle.crsm_epoch_state.specs.EpochState.{EpochStands, EachFits}
+use Rattle.crsm_replica_results.specs.Answering.{IsTrueOf}
+use Rattle.crsm_replica_epoch.specs.EpochState.{EpochStands, EachFits}
 use Rattle.crsm_replica.specs.declared.state.ReplicaState.{ReplicaState}
 use Rattle.crsm_replica.specs.declared.state.Waiting.{Waiting as WaitingInMemory}
 use Rattle.crsm_replica.specs.Sound.{IsSound}
-pub use Rattle.crsm_epoch_state.specs.First.{ready_first, ready_of}
+pub use Rattle.crsm_replica_epoch.specs.First.{ready_first, ready_of}
 
 -- the waiting client that one in memory is
 unfoldable pub on_paper : WaitingInMemory → Waiting

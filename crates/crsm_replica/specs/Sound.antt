@@ -9,8 +9,8 @@ use Rattle.crsm_spec.specs.Log.{decision, executed}
 use Rattle.crsm_spec.specs.Fits.{booted}
 use Rattle.crsm_spec.specs.Replica.{Waiting}
 use Rattle.crsm_spec.specs.Draft.{Draft, Reply}
-pub use Rattle.crsm_results.specs.Rising.{RisesStrictly}
-pub use Rattle.crsm_epoch_state.specs.EpochState.{EachFits}
+pub use Rattle.crsm_replica_results.specs.Rising.{RisesStrictly}
+pub use Rattle.crsm_replica_epoch.specs.EpochState.{EachFits}
 
 -- a datagram to a replica has a spelling
 abbrev pub FitsSend : ℕ × Datagram → Type 0

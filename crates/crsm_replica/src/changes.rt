@@ -11,7 +11,7 @@ ghost use Rattle.crsm_replica.specs.Replica.{ReplicaStands, Makes};
 
 use crate::state::{ReplicaState, Waiting};
 use crsm_base::{Command, Datagram, Entry, Line, NoMemory, Outcome, Refusal, Stamp};
-use crsm_output::Reply;
+use crsm_replica_output::Reply;
 
 impl ReplicaState {
     #[tactic(auto, unfolding(crate::specs::Replica::ReplicaStands))]

@@ -3,7 +3,7 @@
 ghost use Rattle.std.specs.Prelude.{◌≡◌, ℕ, IfOk};
 ghost use Rattle.crsm_base.specs.Spelling.{FitsDecision};
 ghost use Rattle.crsm_ledger.specs.Ledger.{LedgerStands};
-ghost use Rattle.crsm_coordinator.specs.Coordinator.{CoordinatorStands};
+ghost use Rattle.crsm_replica_coordinator.specs.Coordinator.{CoordinatorStands};
 ghost use Rattle.crsm_spec.specs.Log.{Log, decision};
 ghost use Rattle.crsm_spec.specs.Types.{Rec};
 ghost use Rattle.crsm_spec.specs.Replica.{Coordinator};
@@ -15,9 +15,9 @@ ghost use Rattle.crsm_replica.specs.Replica.{ReplicaStands, AwaitsBoot, Makes, l
 use crate::records::put;
 use crate::state::ReplicaState;
 use crsm_base::{Decision, NoMemory, Rec, never};
-use crsm_coordinator::Coordinator as CoordinatorInMemory;
-use crsm_epoch_state::EpochState;
 use crsm_ledger::Ledger;
+use crsm_replica_coordinator::Coordinator as CoordinatorInMemory;
+use crsm_replica_epoch::EpochState;
 use crsm_wire::is_rec_spelt;
 
 impl ReplicaState {

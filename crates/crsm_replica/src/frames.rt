@@ -1,14 +1,14 @@
 //! The frames of a step: new ones, and those that go again.
 
 ghost use Rattle.std.specs.Prelude.{◌<◌, [], ◌∷◌, map, All, OnOk};
-ghost use Rattle.crsm_output.specs.Made.{Made, OutputStands};
-ghost use Rattle.crsm_epoch_state.specs.Linked.{others_of};
+ghost use Rattle.crsm_replica_output.specs.Made.{Made, OutputStands};
+ghost use Rattle.crsm_replica_epoch.specs.Linked.{others_of};
 ghost use Rattle.crsm_spec.specs.Draft.{next_frame};
 ghost use Rattle.crsm_replica.specs.Again.{frame_again, WhereSending, sending};
 
 use crsm_base::{Datagram, InEpoch, NoMemory};
-use crsm_epoch_state::EpochState;
-use crsm_output::Output;
+use crsm_replica_epoch::EpochState;
+use crsm_replica_output::Output;
 use std::alloc::Global;
 
 /// Sends the next frame to each of these members but me.

@@ -3,13 +3,13 @@
 ghost use Rattle.std.specs.Prelude.{◌<◌, IfOk, All};
 ghost use Rattle.crsm_base.specs.declared.Control.{Control as ControlOnPaper};
 ghost use Rattle.crsm_base.specs.Messages.{FitsControl};
-ghost use Rattle.crsm_output.specs.Spellings.{IsSpelling, IsSpellingOf};
+ghost use Rattle.crsm_replica_output.specs.Spellings.{IsSpelling, IsSpellingOf};
 ghost use Rattle.crsm_spec.specs.Draft.{Draft, send_control, send_to_each, send_to_all, send_decision, send_retrieve};
 ghost use Rattle.crsm_replica.specs.Replica.{ReplicaStands, Makes, WhereStands};
 
 use crate::state::ReplicaState;
 use crsm_base::{Control, NoMemory};
-use crsm_output::{parts_are_spelt, send_parts, spell, spell_decision};
+use crsm_replica_output::{parts_are_spelt, send_parts, spell, spell_decision};
 
 impl ReplicaState {
     #[tactic(auto, unfolding(crate::specs::Replica::ReplicaStands))]

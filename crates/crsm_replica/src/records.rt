@@ -13,7 +13,7 @@ ghost use Rattle.crsm_replica.specs.Replica.{ReplicaStands, MakesFitting, IsPlai
 use crate::state::ReplicaState;
 use crsm_base::{Lines, NoMemory, Rec, never};
 use crsm_ledger::{Ledger, LedgerError};
-use crsm_output::Output;
+use crsm_replica_output::Output;
 use crsm_wire::is_rec_spelt;
 
 impl ReplicaState {

@@ -1,7 +1,7 @@
 //! Replies to waiting clients.
 
 ghost use Rattle.std.specs.Prelude.{◌≡◌, ◌<◌, ◌^◌, false, IsTrue, None, IfOk};
-ghost use Rattle.crsm_results.specs.Answering.{answered};
+ghost use Rattle.crsm_replica_results.specs.Answering.{answered};
 ghost use Rattle.crsm_base.specs.Spelling.{FitsAnswer, FitsVal};
 ghost use Rattle.crsm_spec.specs.Log.{executed};
 ghost use Rattle.crsm_spec.specs.Draft.{Draft};
@@ -11,8 +11,8 @@ ghost use Rattle.crsm_replica.specs.Replica.{ReplicaStands, Makes, on_paper, Whe
 
 use crate::state::{ReplicaState, Waiting};
 use crsm_base::{Answer, Entry, Line, MAX_VAL_BYTES, NoMemory, Outcome, Refusal, Val, never};
-use crsm_output::Reply;
-use crsm_results::{answer_to, executions, has_dropped, has_no_answer};
+use crsm_replica_output::Reply;
+use crsm_replica_results::{answer_to, executions, has_dropped, has_no_answer};
 use std::mem;
 
 impl ReplicaState {

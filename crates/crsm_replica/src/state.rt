@@ -2,10 +2,10 @@
 
 use crate::gathered::Gathered;
 use crsm_base::Entry;
-use crsm_coordinator::Coordinator;
-use crsm_epoch_state::EpochState;
 use crsm_ledger::Ledger;
-use crsm_output::Output;
+use crsm_replica_coordinator::Coordinator;
+use crsm_replica_epoch::EpochState;
+use crsm_replica_output::Output;
 use std::alloc::Global;
 
 /// A client that waits for an entry which was submitted here.

@@ -4,8 +4,8 @@ ghost use Rattle.std.specs.Prelude.{◌≡◌, ◌<◌, ◌≤◌, ℕ, List, If
 ghost use Rattle.std.specs.List.{AllByRecursion};
 ghost use Rattle.crsm_base.specs.Records.{FitsRec};
 ghost use Rattle.crsm_ledger.specs.Ledger.{LedgerStands};
-ghost use Rattle.crsm_output.specs.Made.{made_of, IsBatchOf};
-ghost use Rattle.crsm_epoch_state.specs.EpochState.{EachFits};
+ghost use Rattle.crsm_replica_output.specs.Made.{made_of, IsBatchOf};
+ghost use Rattle.crsm_replica_epoch.specs.EpochState.{EachFits};
 ghost use Rattle.crsm_spec.specs.Clock.{u64_max};
 ghost use Rattle.crsm_spec.specs.Types.{Rec};
 ghost use Rattle.crsm_spec.specs.Log.{boots};
@@ -17,10 +17,10 @@ use crate::gathered::Gathered;
 use crate::records::put;
 use crate::state::ReplicaState;
 use crsm_base::{MAX_REPLICAS, NoMemory, Rec, never};
-use crsm_coordinator::Coordinator;
-use crsm_epoch_state::EpochState;
 use crsm_ledger::Ledger;
-use crsm_output::{Batch, Output};
+use crsm_replica_coordinator::Coordinator;
+use crsm_replica_epoch::EpochState;
+use crsm_replica_output::{Batch, Output};
 
 impl ReplicaState {
     #[tactic(auto, unfolding(crate::specs::Replica::AwaitsBoot))]

@@ -8,7 +8,7 @@ use Rattle.crsm_base.specs.declared.send.Send.{Send}
 use Rattle.crsm_base.specs.declared.send.To.TheVariants as to_whom
 use Rattle.crsm_base.specs.declared.datagram.Datagram.TheVariants as datagram
 use Rattle.crsm_spec.specs.Parts.{part_count, cut_into, cut}
-use Rattle.crsm_log_facts.proofs.Parts.{cut_length}
+use Rattle.crsm_fact_log.proofs.Parts.{cut_length}
 use Rattle.crsm_segment.specs.Pieces.{send_of, piece_of, sends_of}
 
 no_bytes : (k : ℕ) (xs : List ℕ) → xs ≡ [] → drop k xs ≡ []

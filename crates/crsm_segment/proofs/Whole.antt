@@ -11,7 +11,7 @@ use Rattle.std.proofs.lemmas.List.Sums.{AllPass-from_list_all}
 use Rattle.crsm_base.specs.declared.send.Send.{Send}
 use Rattle.crsm_spec.specs.Lists.{numbers_below}
 use Rattle.crsm_spec.specs.Parts.{Piece, is_same_message, kept_of, has_index, is_complete, is_old, is_odd, joined, whole_with, cut}
-use Rattle.crsm_log_facts.proofs.Parts.{joined_again}
+use Rattle.crsm_fact_log.proofs.Parts.{joined_again}
 use Rattle.crsm_segment.specs.Pieces.{send_of, piece_of, sends_of}
 use Rattle.crsm_segment.specs.Taking.{piece, is_sized, after_part, taken_whole, taken_of}
 use Rattle.crsm_segment.specs.Gather.{bytes_at, AreOnce, EachOnce}

@@ -9,17 +9,17 @@ use Rattle.crsm_spec.specs.Step.{boot}
 use Rattle.crsm_spec.specs.World.{body_size}
 use Rattle.crsm_core.specs.declared.replica.Core.{Core}
 use Rattle.crsm_core.specs.Core.{CoreStands}
-use Rattle.crsm_faults.specs.Plan.{Plan}
+use Rattle.crsm_port_faults.specs.Plan.{Plan}
 use Rattle.crsm_disk.specs.Meaning.{LeavesOnly, Meaning}
 use Rattle.crsm_disk.proofs.Moments.{joined, weaker}
-use Rattle.crsm_image.specs.Calls.{Call, History}
+use Rattle.crsm_disk.specs.Calls.{Call, History}
 use Rattle.crsm_ledger.specs.Recovered.{AreKept, IsBadAt}
 use Rattle.crsm_log.specs.declared.errors.MountError.{MountError}
 use Rattle.crsm_log.specs.declared.errors.MountError.TheVariants as mount
 use Rattle.crsm_log.specs.Format.{Reading, bodies_in, bodies_of, found, gate_in, reading, reading_in}
 use Rattle.crsm_log.specs.Log.{IsAsBefore, MeetsIn, Mounts, Refuses, Serves, Used, mount_calls, mount_count, put_calls, recorded}
-use Rattle.crsm_epoch_state.specs.EpochState.{EachFits}
-use Rattle.crsm_turns.specs.Outgoing.{packets_for}
+use Rattle.crsm_replica_epoch.specs.EpochState.{EachFits}
+use Rattle.crsm_replica_io.specs.Outgoing.{packets_for}
 use Rattle.crsm_shell.specs.declared.begin.Begun.{Begun}
 use Rattle.crsm_shell.specs.declared.boot.Booted.{Booted}
 use Rattle.crsm_shell.specs.declared.errors.BootError.{BootError}

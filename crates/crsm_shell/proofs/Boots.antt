@@ -6,16 +6,16 @@ use Rattle.crsm_base.specs.Records.{body_bytes, rec_bytes}
 use Rattle.crsm_spec.specs.Choice.{when◌then◌otherwise◌}
 use Rattle.crsm_spec.specs.Types.{Line, Rec}
 use Rattle.crsm_spec.specs.Log.{Log}
-use Rattle.crsm_output.specs.declared.batch.Batch.{Batch}
-use Rattle.crsm_output.specs.Made.{IsBatchOf, line_of, made_of}
+use Rattle.crsm_replica_output.specs.declared.batch.Batch.{Batch}
+use Rattle.crsm_replica_output.specs.Made.{IsBatchOf, line_of, made_of}
 use Rattle.crsm_spec.specs.Draft.{Draft, Reply, begun, keep}
 use Rattle.crsm_spec.specs.Replica.{fresh}
 use Rattle.crsm_spec.specs.Step.{boot, boot_again, first_boot, founding_boot}
-use Rattle.crsm_faults.specs.Counts.{Rose, raised}
-use Rattle.crsm_faults.specs.Plan.{Plan}
+use Rattle.crsm_port_faults.specs.Counts.{Rose, raised}
+use Rattle.crsm_port_faults.specs.Plan.{Plan}
 use Rattle.crsm_log.specs.Log.{Goes, MeetsIn, Serves, Used, less}
 use Rattle.crsm_disk.specs.Meaning.{Meaning}
-use Rattle.crsm_step_facts.specs.Steps.{Grown}
+use Rattle.crsm_fact_step.specs.Steps.{Grown}
 
 -- ---- the records of a boot
 

@@ -2,7 +2,7 @@
 use Rattle.crsm_core.specs.declared.replica.Core.{Core}
 use Rattle.crsm_core.specs.Core.{CoreStands}
 use Rattle.crsm_replica.specs.Replica.{ReplicaStands}
-use Rattle.crsm_epoch_state.specs.EpochState.{EachFits}
+use Rattle.crsm_replica_epoch.specs.EpochState.{EachFits}
 use Rattle.crsm_spec.specs.Draft.{begun}
 use Rattle.crsm_spec.specs.Replica.{Replica}
 

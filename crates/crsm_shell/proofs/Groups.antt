@@ -1,6 +1,6 @@
 -- The steps that pend on a shell, as a group of records behind the log that is kept.
 use Rattle.std.proofs.Common.{◌≡◌, IsTrue, ℕ, ◌<◌, List, length, sym, ◌∙◌, ap, subst, inl}
-use Rattle.crsm_epoch_state.specs.EpochState.{EachFits}
+use Rattle.crsm_replica_epoch.specs.EpochState.{EachFits}
 use Rattle.crsm_spec.specs.Log.{Log}
 use Rattle.crsm_spec.specs.Moments.{is_kept}
 use Rattle.crsm_spec.specs.Replica.{Replica}
@@ -8,7 +8,7 @@ use Rattle.crsm_spec.specs.Draft.{Draft}
 use Rattle.crsm_base.specs.Records.{body_bytes}
 use Rattle.crsm_disk.specs.Meaning.{LeavesOnly, Meaning}
 use Rattle.crsm_disk.proofs.Moments.{started, weaker}
-use Rattle.crsm_image.specs.Image.{image_of}
+use Rattle.crsm_disk.specs.Image.{image_of}
 use Rattle.crsm_log.specs.Format.{bodies_of, gate_in, reading}
 use Rattle.crsm_log.specs.Log.{IsSettled}
 use Rattle.crsm_shell.specs.declared.shell.Shell.{Shell}

@@ -1,7 +1,7 @@
 -- What putting a body, or none, does to the disk.
 use Rattle.std.proofs.Common.{◌≡◌, IsTrue, ℕ, ◌+◌, ◌<◌, ◌≤◌, List, [], ◌∷◌, ◌++◌, length, refl, sym, ◌∙◌, ap, subst, inl, inr, arith}
 use Rattle.std.specs.Prelude.{◌⊎◌, Option, None, Some}
-use Rattle.crsm_faults.specs.Plan.{Plan}
+use Rattle.crsm_port_faults.specs.Plan.{Plan}
 use Rattle.crsm_disk.specs.Meaning.{LeavesOnly, Meaning}
 use Rattle.crsm_disk.proofs.Moments.{weaker}
 use Rattle.crsm_log.specs.Format.{bodies_of, found, reading}

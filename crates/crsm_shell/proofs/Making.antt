@@ -10,7 +10,7 @@ use Rattle.crsm_spec.specs.Node.{Turn, turn, input_of}
 use Rattle.crsm_spec.specs.Step.{Input, step}
 use Rattle.crsm_core.specs.declared.replica.Core.{Core}
 use Rattle.crsm_core.specs.Core.{Answers, CoreStands}
-use Rattle.crsm_output.specs.declared.batch.Batch.{Batch}
+use Rattle.crsm_replica_output.specs.declared.batch.Batch.{Batch}
 use Rattle.crsm_shell.specs.declared.make.Made.{Made}
 use Rattle.crsm_shell.specs.Taking.{heard_in, sender_of}
 

@@ -10,14 +10,14 @@ use Rattle.crsm_spec.specs.Draft.{Draft}
 use Rattle.crsm_spec.specs.World.{body_size}
 use Rattle.crsm_disk.specs.Meaning.{Meaning}
 use Rattle.crsm_ledger.specs.Recovered.{with_records}
-use Rattle.crsm_output.specs.declared.batch.Batch.{Batch}
-use Rattle.crsm_turns.specs.Outgoing.{FitsSend, packets_for}
+use Rattle.crsm_replica_output.specs.declared.batch.Batch.{Batch}
+use Rattle.crsm_replica_io.specs.Outgoing.{FitsSend, packets_for}
 use Rattle.crsm_core.specs.Core.{Answers, CoreStands, FitsSent}
 use Rattle.crsm_shell.specs.declared.shell.Shell.{Shell}
 use Rattle.crsm_shell.specs.Shell.{HasLog, ShellStands, StandsInside, records_of, sends_in, sends_of}
 use Rattle.crsm_shell.specs.Taking.{MakesStep}
 use Rattle.crsm_shell.proofs.Records.{all_more, body_more, packets_more, records_push, sends_push, with_more}
-use Rattle.crsm_step_facts.specs.Steps.{Grown}
+use Rattle.crsm_fact_step.specs.Steps.{Grown}
 
 -- what is sent has a spelling
 pub sent_fit : (sends : List Send) → AllByRecursion FitsSent sends → AllByRecursion FitsSend sends

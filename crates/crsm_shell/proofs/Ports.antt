@@ -2,10 +2,10 @@
 use Rattle.std.proofs.Common.{◌≡◌, ℕ, ◌≤◌, List, length, map, refl, sym, ◌∙◌, ap, subst}
 use Rattle.std.specs.Prelude.{Option, Some, None, option_map}
 use Rattle.std.proofs.lemmas.Option.{none-some}
-use Rattle.crsm_faults.specs.Failing.{one_less}
-use Rattle.crsm_faults.specs.Plan.{HasRoom, Plan, spent}
+use Rattle.crsm_port_faults.specs.Failing.{one_less}
+use Rattle.crsm_port_faults.specs.Plan.{HasRoom, Plan, spent}
 use Rattle.crsm_port.specs.Meaning.{Meaning, Packet, Traffic}
-use Rattle.crsm_turns.specs.Outgoing.{GoesOut, SendsAll, bytes_in, raised_by, with_all_sent}
+use Rattle.crsm_replica_io.specs.Outgoing.{GoesOut, SendsAll, bytes_in, raised_by, with_all_sent}
 use Rattle.crsm_shell.specs.Flushing.{GoesWell, SendsNone, SendsPackets}
 
 -- room is made, and the calls go as well as before

@@ -8,9 +8,9 @@ use Rattle.crsm_spec.specs.Types.{Rec}
 use Rattle.crsm_spec.specs.Log.{Log}
 use Rattle.crsm_spec.specs.Fits.{fits}
 use Rattle.crsm_spec.specs.Draft.{Draft}
-use Rattle.crsm_epoch_state.specs.EpochState.{EachFits}
+use Rattle.crsm_replica_epoch.specs.EpochState.{EachFits}
 use Rattle.crsm_ledger.specs.Recovered.{AreKept, FitInTurn, with_records}
-use Rattle.crsm_turns.specs.Outgoing.{packets_for, packet_for}
+use Rattle.crsm_replica_io.specs.Outgoing.{packets_for, packet_for}
 use Rattle.crsm_shell.specs.Shell.{records_of, sends_in, sends_of}
 
 -- ---- one step more

@@ -1,7 +1,7 @@
 -- What a turn does, of what its take and its flush do.
 use Rattle.std.proofs.Common.{◌≡◌, IsTrue, ℕ, List, [], ◌∷◌, ◌++◌, refl, sym, subst, inl}
 use Rattle.std.specs.Prelude.{Option, Result, Ok, Err, IfErr, Some}
-use Rattle.crsm_faults.specs.Plan.{Plan}
+use Rattle.crsm_port_faults.specs.Plan.{Plan}
 use Rattle.crsm_spec.specs.Draft.{Draft}
 use Rattle.crsm_spec.specs.Log.{Log}
 use Rattle.crsm_spec.specs.Node.{turn}
@@ -12,8 +12,8 @@ use Rattle.crsm_disk.proofs.Moments.{started, weaker}
 use Rattle.crsm_log.specs.Format.{bodies_of}
 use Rattle.crsm_log.specs.Log.{IsSettled, Used, recorded}
 use Rattle.crsm_port.specs.Meaning.{Meaning as PortMeaning}
-use Rattle.crsm_turns.specs.declared.input.What.{What}
-use Rattle.crsm_turns.specs.declared.input.Taken.{Taken}
+use Rattle.crsm_replica_io.specs.declared.input.What.{What}
+use Rattle.crsm_replica_io.specs.declared.input.Taken.{Taken}
 use Rattle.crsm_shell.specs.declared.errors.TurnError.{TurnError}
 use Rattle.crsm_shell.specs.declared.errors.TurnError.TheVariants as errors
 use Rattle.crsm_shell.specs.declared.shell.Shell.{Shell}
@@ -24,7 +24,7 @@ use Rattle.crsm_shell.specs.Taking.{Reads, Takes, step_of, turn_of}
 use Rattle.crsm_shell.specs.Turning.{FailsOnPort, FailsToFlush, KeepsGroup, Loses, LosesStep, TakesOnly}
 use Rattle.crsm_shell.specs.Words.{buffer_of, disk_of, gate_of}
 use Rattle.crsm_shell.proofs.Groups.{inside, left_bodies}
-use Rattle.crsm_step_facts.proofs.Batches.{turn_grown}
+use Rattle.crsm_fact_step.proofs.Batches.{turn_grown}
 
 -- what is known of an error is known of the result that carries it
 pub if_err : {A : Type 0} (P : TurnError → Type 0) (result : Result A TurnError) (e why : TurnError) → result ≡ Err e → e ≡ why → P why → IfErr result P

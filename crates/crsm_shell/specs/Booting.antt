@@ -4,8 +4,8 @@ use Rattle.crsm_base.specs.Records.{body_bytes}
 use Rattle.crsm_spec.specs.Log.{Log}
 use Rattle.crsm_spec.specs.Step.{boot}
 use Rattle.crsm_spec.specs.World.{body_size}
-use Rattle.crsm_faults.specs.Counts.{Rose}
-use Rattle.crsm_faults.specs.Plan.{Plan}
+use Rattle.crsm_port_faults.specs.Counts.{Rose}
+use Rattle.crsm_port_faults.specs.Plan.{Plan}
 use Rattle.crsm_disk.specs.Meaning.{LeavesOnly, Meaning}
 use Rattle.crsm_ledger.specs.Recovered.{AreKept, IsBadAt}
 use Rattle.crsm_log.specs.Format.{Reading, bad, bodies_of, found, gate_in, reading}

@@ -8,8 +8,8 @@ use Rattle.crsm_log.specs.declared.errors.MountError.{MountError}
 use Rattle.crsm_log.specs.declared.errors.MountError.TheVariants as mount
 use Rattle.crsm_log.specs.declared.errors.PutError.{PutError}
 use Rattle.crsm_log.specs.declared.errors.PutError.TheVariants as put
-use Rattle.crsm_turns.specs.declared.input.TakeError.{TakeError}
-use Rattle.crsm_turns.specs.declared.input.TakeError.TheVariants as take
+use Rattle.crsm_replica_io.specs.declared.input.TakeError.{TakeError}
+use Rattle.crsm_replica_io.specs.declared.input.TakeError.TheVariants as take
 
 -- what a failed mount is
 abbrev pub mount_failure : MountError → BootError

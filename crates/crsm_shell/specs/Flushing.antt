@@ -4,16 +4,16 @@ use Rattle.crsm_spec.specs.Draft.{Draft}
 use Rattle.crsm_spec.specs.Log.{Log}
 use Rattle.crsm_spec.specs.Moments.{is_kept}
 use Rattle.crsm_spec.specs.Replica.{Replica}
-use Rattle.crsm_faults.specs.Plan.{Plan}
-use Rattle.crsm_image.specs.Calls.{Call, History}
-use Rattle.crsm_image.specs.Image.{image_of}
-use Rattle.crsm_faults.specs.Counts.{Rose}
+use Rattle.crsm_port_faults.specs.Plan.{Plan}
+use Rattle.crsm_disk.specs.Calls.{Call, History}
+use Rattle.crsm_disk.specs.Image.{image_of}
+use Rattle.crsm_port_faults.specs.Counts.{Rose}
 use Rattle.crsm_disk.specs.Meaning.{LeavesOnly, Meaning, Same}
 use Rattle.crsm_log.specs.Log.{Goes, Used, put_calls, recorded}
 use Rattle.crsm_log.specs.Log as logs
 use Rattle.crsm_log.specs.Format.{bodies_of, found, gate_in, reading}
 use Rattle.crsm_port.specs.Meaning.{Meaning as PortMeaning, Packet}
-use Rattle.crsm_turns.specs.Outgoing.{GoesOut, with_all_sent}
+use Rattle.crsm_replica_io.specs.Outgoing.{GoesOut, with_all_sent}
 use Rattle.crsm_shell.specs.declared.errors.TurnError.{TurnError}
 use Rattle.crsm_shell.specs.declared.errors.TurnError.TheVariants as errors
 use Rattle.crsm_shell.specs.declared.shell.Shell.{Shell}

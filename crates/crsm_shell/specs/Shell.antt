@@ -7,15 +7,15 @@ use Rattle.crsm_spec.specs.Types.{Rec}
 use Rattle.crsm_spec.specs.Log.{Log}
 use Rattle.crsm_spec.specs.Replica.{Replica}
 use Rattle.crsm_spec.specs.Draft.{Draft}
-use Rattle.crsm_output.specs.Made.{to_replica, to_address}
+use Rattle.crsm_replica_output.specs.Made.{to_replica, to_address}
 use Rattle.crsm_ledger.specs.Recovered.{AreKept, with_records}
 use Rattle.crsm_log.specs.Format.{reading, found, bodies_of}
 use Rattle.crsm_disk.specs.Meaning.{Meaning}
-use Rattle.crsm_turns.specs.Outgoing.{packets_for}
+use Rattle.crsm_replica_io.specs.Outgoing.{packets_for}
 use Rattle.crsm_core.specs.Core.{CoreStands}
 use Rattle.crsm_shell.specs.declared.shell.Shell.{Shell}
 use Rattle.crsm_shell.specs.Words.{disk_of}
-use Rattle.crsm_image.specs.Calls.{History}
+use Rattle.crsm_disk.specs.Calls.{History}
 
 -- ---- steps that are pending
 

@@ -10,14 +10,14 @@ use Rattle.crsm_spec.specs.Node.{Turn, turn}
 use Rattle.crsm_spec.specs.World.{body_size}
 use Rattle.crsm_clock.specs.Readings.{Readings, Gives}
 use Rattle.crsm_core.specs.Core.{Answers}
-use Rattle.crsm_output.specs.declared.batch.Batch.{Batch}
+use Rattle.crsm_replica_output.specs.declared.batch.Batch.{Batch}
 use Rattle.crsm_disk.specs.Meaning.{Meaning}
 use Rattle.crsm_port.specs.Meaning.{Meaning as PortMeaning}
-use Rattle.crsm_turns.specs.Input.{TakesInput}
-use Rattle.crsm_turns.specs.declared.input.What.{What}
-use Rattle.crsm_turns.specs.declared.input.Taken.{Taken}
-use Rattle.crsm_turns.specs.declared.input.Taken.TheVariants as taken
-use Rattle.crsm_turns.specs.declared.input.TakeError.TheVariants as take_error
+use Rattle.crsm_replica_io.specs.Input.{TakesInput}
+use Rattle.crsm_replica_io.specs.declared.input.What.{What}
+use Rattle.crsm_replica_io.specs.declared.input.Taken.{Taken}
+use Rattle.crsm_replica_io.specs.declared.input.Taken.TheVariants as taken
+use Rattle.crsm_replica_io.specs.declared.input.TakeError.TheVariants as take_error
 use Rattle.crsm_ledger.specs.Recovered.{with_records}
 use Rattle.crsm_shell.specs.declared.errors.TurnError.{TurnError}
 use Rattle.crsm_shell.specs.declared.errors.TurnError.TheVariants as errors

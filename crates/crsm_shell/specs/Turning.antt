@@ -9,11 +9,11 @@ use Rattle.crsm_clock.specs.Readings.{Gives, Readings}
 use Rattle.crsm_core.specs.Core.{Answers}
 use Rattle.crsm_disk.specs.Meaning.{LeavesOnly, Meaning, Same}
 use Rattle.crsm_port.specs.Meaning.{Meaning as PortMeaning}
-use Rattle.crsm_turns.specs.Input.{TakesInput}
-use Rattle.crsm_turns.specs.Outgoing.{packets_for}
-use Rattle.crsm_turns.specs.declared.input.What.{What}
-use Rattle.crsm_turns.specs.declared.input.Taken.{Taken}
-use Rattle.crsm_turns.specs.declared.input.TakeError.TheVariants as take_error
+use Rattle.crsm_replica_io.specs.Input.{TakesInput}
+use Rattle.crsm_replica_io.specs.Outgoing.{packets_for}
+use Rattle.crsm_replica_io.specs.declared.input.What.{What}
+use Rattle.crsm_replica_io.specs.declared.input.Taken.{Taken}
+use Rattle.crsm_replica_io.specs.declared.input.TakeError.TheVariants as take_error
 use Rattle.crsm_shell.specs.declared.errors.TurnError.{TurnError}
 use Rattle.crsm_shell.specs.declared.errors.TurnError.TheVariants as errors
 use Rattle.crsm_shell.specs.declared.shell.Shell.{Shell}

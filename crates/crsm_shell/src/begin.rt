@@ -11,7 +11,7 @@ use crate::errors::BootError;
 use crsm_base::{Bodies, Bytes, Lines, NoMemory};
 use crsm_core::Core;
 use crsm_ledger::{Ledger, LedgerError};
-use crsm_turns::write_records;
+use crsm_replica_io::write_records;
 use std::alloc::Global;
 
 /// A core whose boot is made and not kept yet.

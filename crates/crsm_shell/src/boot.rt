@@ -21,7 +21,7 @@ use crsm_base::{Bodies, Bytes, Lines};
 use crsm_codec::one_spelling_each;
 use crsm_disk::Disk;
 use crsm_log::Log;
-use crsm_turns::Outbox;
+use crsm_replica_io::Outbox;
 use std::alloc::Global;
 
 /// A replica that was booted.

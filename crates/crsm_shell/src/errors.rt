@@ -7,7 +7,7 @@ ghost use Rattle.crsm_shell.specs.Errors.{is_lasting, keep_failure, mount_failur
 
 use crsm_base::NoMemory;
 use crsm_log::{MountError, PutError};
-use crsm_turns::TakeError;
+use crsm_replica_io::TakeError;
 use thiserror::Error;
 
 /// Why a replica is not booted.

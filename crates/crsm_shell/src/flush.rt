@@ -1,10 +1,10 @@
 //! A flush: the pending steps are kept together, and then all that they send goes out.
 
 ghost use Rattle.std.specs.Prelude.{◌≡◌, ◌↔◌, [], true, is_err, IsErr, OnOk, OnErr, IsErrOf};
-ghost use Rattle.crsm_faults.specs.Counts.{Rose};
+ghost use Rattle.crsm_port_faults.specs.Counts.{Rose};
 ghost use Rattle.crsm_disk.specs.Meaning.{Same};
 ghost use Rattle.crsm_log.specs.Log.{Goes};
-ghost use Rattle.crsm_turns.specs.Outgoing.{packets_for};
+ghost use Rattle.crsm_replica_io.specs.Outgoing.{packets_for};
 ghost use Rattle.crsm_shell.specs.Flushing.{AddsGroup, CallsForGroup, IsFullFor, LeavesGroup, LeavesLogs, SendsNone, SendsPackets, SpendsForGroup, StopsGroup};
 ghost use Rattle.crsm_shell.specs.Shell.{ShellStands, WhereHonest, WhereStands, records_of, sends_of};
 ghost use Rattle.crsm_shell.specs.Words.{buffer_of, disk_of, peers_of, has_failed};

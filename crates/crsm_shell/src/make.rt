@@ -7,14 +7,14 @@ ghost use Rattle.crsm_spec.specs.Replica.{Replica};
 ghost use Rattle.crsm_core.specs.Core.{Answers, CoreStands};
 ghost use Rattle.crsm_core.specs.Inputs.{FitsInput, input_of};
 ghost use Rattle.crsm_spec.specs.Step as rules;
-ghost use Rattle.crsm_turns.specs.Input.{IsWithin};
+ghost use Rattle.crsm_replica_io.specs.Input.{IsWithin};
 ghost use Rattle.crsm_shell.specs.Taking.{heard_in, turn_of, step_at};
 ghost use Rattle.crsm_shell.specs.Taking as shells;
 
 use crsm_base::{Datagram, Lines, NoMemory, Recs, Sends};
 use crsm_core::{Core, Input};
-use crsm_output::Batch;
-use crsm_turns::Taken;
+use crsm_replica_io::Taken;
+use crsm_replica_output::Batch;
 use crsm_wire::{WireError, read_datagram};
 use std::alloc::Global;
 

@@ -8,7 +8,7 @@ use crsm_base::Bytes;
 use crsm_core::Core;
 use crsm_disk::Disk;
 use crsm_log::Log;
-use crsm_turns::Outbox;
+use crsm_replica_io::Outbox;
 use std::alloc::Global;
 
 /// One running replica over its disk. Once the disk failed, the log was full or memory ran out, it has failed for good,

@@ -6,7 +6,7 @@ ghost use Rattle.crsm_core.specs.Core.{FitsSent};
 ghost use Rattle.crsm_shell.specs.Shell.{ShellStands, WhereStands};
 ghost use Rattle.crsm_shell.specs.Errors.{is_lasting};
 ghost use Rattle.crsm_shell.specs.Taking.{MakesStep, Reads, Receives, Takes, TakesStep, heard_in, most_received, turn_of, step_at};
-ghost use Rattle.crsm_turns.specs.Input.{IsWithin};
+ghost use Rattle.crsm_replica_io.specs.Input.{IsWithin};
 ghost use Rattle.crsm_shell.specs.Words.{buffer_of, disk_of, gate_of, peers_of, pending_of, has_failed};
 
 use crate::errors::TurnError;
@@ -17,7 +17,7 @@ use crsm_base::NoMemory;
 use crsm_clock::Clock;
 use crsm_disk::Disk;
 use crsm_port::Port;
-use crsm_turns::{Taken, What, take_input, write_records};
+use crsm_replica_io::{Taken, What, take_input, write_records};
 
 impl<D: Disk> Shell<D> {
     /// Takes the input that is wanted and makes its step, at a reading of the clock that is given once the input is there.

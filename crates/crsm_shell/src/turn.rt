@@ -3,10 +3,10 @@
 ghost use Rattle.std.specs.Prelude.{◌≡◌, ◌<◌, ◌↔◌, true, false, IfOk, IfErr, IsErr, IsErrOf, MatchResult};
 ghost use Rattle.std.specs.List.{AllByRecursion};
 ghost use Rattle.crsm_core.specs.Core.{FitsSent};
-ghost use Rattle.crsm_faults.specs.Counts.{Rose};
+ghost use Rattle.crsm_port_faults.specs.Counts.{Rose};
 ghost use Rattle.crsm_disk.specs.Meaning.{Same};
 ghost use Rattle.crsm_log.specs.Log.{Goes};
-ghost use Rattle.crsm_turns.specs.Input.{IsWithin};
+ghost use Rattle.crsm_replica_io.specs.Input.{IsWithin};
 ghost use Rattle.crsm_shell.specs.Errors.{is_lasting};
 ghost use Rattle.crsm_shell.specs.Shell.{WhereStands};
 ghost use Rattle.crsm_shell.specs.Taking.{Reads, heard_in, most_received, turn_of};
@@ -19,7 +19,7 @@ use crate::turned::Turned;
 use crsm_clock::Clock;
 use crsm_disk::Disk;
 use crsm_port::Port;
-use crsm_turns::What;
+use crsm_replica_io::What;
 
 impl<D: Disk> Shell<D> {
     /// Takes the input that is wanted, and flushes its step with those that pend. After `PortFault` nothing was kept or

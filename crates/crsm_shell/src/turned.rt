@@ -1,7 +1,7 @@
 //! What a turn gives.
 
-use crsm_output::Batch;
-use crsm_turns::Taken;
+use crsm_replica_io::Taken;
+use crsm_replica_output::Batch;
 
 /// A step that was made: the reading of the clock, what was taken, and what came of it.
 #[derive(Drop)]

@@ -16,8 +16,8 @@ use Rattle.crsm_spec.specs.Quorum.{has_majority}
 use Rattle.crsm_spec.specs.Controls.{are_above, is_page_of}
 use Rattle.crsm_spec.specs.Coordinate.{most_collected}
 use Rattle.crsm_spec.specs.Collect.{own_page, frozen, pages_of, is_whole, cursor, whole_ones, first_pages, all_entries, base_of, floor_of, union, collected, size_of, is_within}
-use Rattle.crsm_log_facts.proofs.Lists.{has_in, has_from, kept_from, kept_in, all-push}
-use Rattle.crsm_log_facts.proofs.Merge.{union_goes_on}
+use Rattle.crsm_fact_log.proofs.Lists.{has_in, has_from, kept_from, kept_in, all-push}
+use Rattle.crsm_fact_log.proofs.Merge.{union_goes_on}
 use Rattle.crsm_suspend.specs.Pages.{asked_stamp}
 use Rattle.crsm_suspend.specs.Reports.{head_of, report_of, page_from, ReportsStand}
 use Rattle.crsm_suspend.specs.declared.report.Page.{Page}

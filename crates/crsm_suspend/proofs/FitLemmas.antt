@@ -10,11 +10,11 @@ use Rattle.crsm_spec.specs.Log.{Log, known, start, logged, logged_in, last_stamp
 use Rattle.crsm_spec.specs.Replica.{LogPage}
 use Rattle.crsm_spec.specs.Collect.{collected, size_of, is_within}
 use Rattle.crsm_spec.specs.Coordinate.{most_collected}
-use Rattle.crsm_log_facts.specs.Pages.{FitPages}
-use Rattle.crsm_log_facts.proofs.Lists.{all_at, all_from}
-use Rattle.crsm_log_facts.proofs.Sorted.{above_from}
-use Rattle.crsm_log_facts.proofs.Logged.{logged_epoch}
-use Rattle.crsm_log_facts.proofs.DecisionsFit.{collected_fits}
+use Rattle.crsm_fact_log.specs.Pages.{FitPages}
+use Rattle.crsm_fact_log.proofs.Lists.{all_at, all_from}
+use Rattle.crsm_fact_log.proofs.Sorted.{above_from}
+use Rattle.crsm_fact_log.proofs.Logged.{logged_epoch}
+use Rattle.crsm_fact_log.proofs.DecisionsFit.{collected_fits}
 use Rattle.crsm_suspend.specs.Collecting.{CanSend, FitsGot, got_decided}
 use Rattle.crsm_suspend.specs.declared.got.Got.TheVariants as Got
 

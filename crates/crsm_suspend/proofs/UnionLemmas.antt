@@ -14,10 +14,10 @@ use Rattle.crsm_base.specs.Order.{stamp_lt, stamp_eq}
 use Rattle.crsm_base.specs.contracts.stamp.StampOrd.TheImpl as order
 use Rattle.crsm_spec.specs.Lists.{Among}
 use Rattle.crsm_spec.specs.Collect.{with_new}
-use Rattle.crsm_log_facts.specs.Rising.{Rises}
-use Rattle.crsm_log_facts.proofs.Sorted.{Lt, Le, lt_not, lt_is_le, le_self, eq_le, eq_self, le_both}
-use Rattle.crsm_log_facts.proofs.Lists.{all_at}
-use Rattle.crsm_log_facts.proofs.Union.{new_rises}
+use Rattle.crsm_fact_log.specs.Rising.{Rises}
+use Rattle.crsm_fact_log.proofs.Sorted.{Lt, Le, lt_not, lt_is_le, le_self, eq_le, eq_self, le_both}
+use Rattle.crsm_fact_log.proofs.Lists.{all_at}
+use Rattle.crsm_fact_log.proofs.Union.{new_rises}
 use Rattle.crsm_suspend.specs.Union.{IsByStamp}
 
 -- ---- the order of stamps

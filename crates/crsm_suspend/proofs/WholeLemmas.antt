@@ -18,7 +18,7 @@ use Rattle.crsm_suspend.specs.Pages.{is_over}
 use Rattle.crsm_suspend.proofs.FrozenLemmas.{above_none, above_next}
 use Rattle.crsm_suspend.specs.Reports.{head_of, report_of, no_report, ReportsStand}
 use Rattle.crsm_suspend.specs.declared.report.Report.{Report}
-use Rattle.crsm_log_facts.proofs.Merge.{union_goes_on}
+use Rattle.crsm_fact_log.proofs.Merge.{union_goes_on}
 
 -- ---- lists with one more at their end
 

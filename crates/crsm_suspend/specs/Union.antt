@@ -2,7 +2,7 @@
 use Rattle.std.specs.Prelude.{◌≡◌, List, map}
 use Rattle.std.specs.List.{AllByRecursion}
 use Rattle.crsm_spec.specs.Types.{Stamp, Entry}
-use Rattle.crsm_log_facts.specs.Rising.{Rises}
+use Rattle.crsm_fact_log.specs.Rising.{Rises}
 
 -- each entry is at its stamp, and they rise
 pub record IsByStamp (es : List (Stamp × Entry)) : Type 0 where

@@ -5,10 +5,10 @@ ghost use Rattle.std.specs.Prelude.{◌<◌, ◌≤◌};
 use crate::fault::Fault;
 use crate::words::{number_of, parted, replica_of};
 use crsm_base::Bodies;
-use crsm_detector::Detector;
 use crsm_ledger::Ledger;
+use crsm_replica_detector::Detector;
+use crsm_replica_io::What;
 use crsm_text::hex_of;
-use crsm_turns::What;
 use std::alloc::Global;
 
 /// A replica with its detector.

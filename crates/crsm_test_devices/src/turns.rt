@@ -1,10 +1,10 @@
 //! Over a port in memory whose calls fail by a list.
 
-ghost use Rattle.crsm_turns.specs.Outgoing.{FitsSend};
+ghost use Rattle.crsm_replica_io.specs.Outgoing.{FitsSend};
 
 use crsm_base::{Bytes, Datagram, Members, NoMemory, Rec, Send, To};
 use crsm_port::MemPort;
-use crsm_turns::{Outbox, TakeError, Taken, What, take_input, write_records};
+use crsm_replica_io::{Outbox, TakeError, Taken, What, take_input, write_records};
 use std::alloc::Global;
 use std::test::Fail;
 

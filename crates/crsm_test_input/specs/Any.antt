@@ -1,5 +1,5 @@
 -- A handler of which nothing is said.
-use Rattle.crsm_input.specs.Handling.{Handling}
+use Rattle.crsm_port_lines.specs.Handling.{Handling}
 
 abbrev pub any : {H R : Type 0} → Handling H R
 any = record {

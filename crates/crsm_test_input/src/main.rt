@@ -5,8 +5,8 @@
 ghost use Rattle.std.specs.Prelude.{◌≡◌, ◌++◌, ℕ, List, OnOk};
 
 use crsm_base::{Bytes, NoMemory};
-use crsm_input::{Handler, Stop, run_lines};
 use crsm_io::{MemSink, MemSource};
+use crsm_port_lines::{Handler, Stop, run_lines};
 use crsm_text::{push_numbers, read_number, read_numbers};
 use std::alloc::{AllocError, Global};
 use std::io;

@@ -3,8 +3,8 @@
 use crate::fault::Fault;
 use crsm_base::Bytes;
 use crsm_clock::ListClock;
-use crsm_paced_port::PacedPort;
 use crsm_port::{Got, MemPort, Port};
+use crsm_port_node::PacedPort;
 use crsm_text::{hex_of, push_hex, push_number};
 use std::alloc::Global;
 use std::str::from_utf8;

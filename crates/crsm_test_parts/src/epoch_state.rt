@@ -1,7 +1,7 @@
 //! The state of an epoch through each change of a step.
 
 use crsm_base::{Command, Entry, InEpoch, Key, Members, NoMemory, Op, Rec, Stamp};
-use crsm_epoch_state::EpochState;
+use crsm_replica_epoch::EpochState;
 use std::alloc::Global;
 use std::test::Fail;
 

@@ -1,6 +1,6 @@
 //! Calls that are listed to fail.
 
-use crsm_faults::Failures;
+use crsm_port_faults::Failures;
 use std::test::Fail;
 
 #[test]

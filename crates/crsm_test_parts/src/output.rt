@@ -1,7 +1,7 @@
 //! A step that makes one of each, and a short control message.
 
 use crsm_base::{Control, Datagram, Line, Lines, Outcome, Rec, Refusal, To};
-use crsm_output::{Output, Reply, send_parts, spell};
+use crsm_replica_output::{Output, Reply, send_parts, spell};
 use std::test::Fail;
 
 #[test]

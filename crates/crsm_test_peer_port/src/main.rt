@@ -3,8 +3,8 @@
 #![tactic(auto)]
 
 use crsm_base::NoMemory;
-use crsm_peer_port::PeerPort;
 use crsm_port::{Got, MemPort, Port};
+use crsm_port_node::PeerPort;
 use crsm_text::{hex_of, number_field};
 use std::alloc::{AllocError, Global};
 use std::io;

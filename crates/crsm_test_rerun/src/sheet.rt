@@ -4,10 +4,10 @@ ghost use Rattle.std.specs.Prelude.{◌<◌, ◌≤◌};
 
 use crate::fault::Fault;
 use crsm_base::{Bytes, Line, NoMemory};
-use crsm_rerun::{Rerun, RerunError};
+use crsm_replica_rerun::{Rerun, RerunError};
 use crsm_schedule::push_line;
-use crsm_sheet::{LineError, read_sheet};
 use crsm_text::split_field;
+use crsm_text_sheet::{LineError, read_sheet};
 use std::alloc::Global;
 
 /// Why a sheet is refused.

@@ -2,7 +2,7 @@
 #![tactic(auto)]
 
 use crsm_base::{Bytes, NoMemory};
-use crsm_sheet::{LineError, SheetLine, print_sheet, read_sheet};
+use crsm_text_sheet::{LineError, SheetLine, print_sheet, read_sheet};
 use std::alloc::{AllocError, Global};
 use std::io::{self, Write};
 

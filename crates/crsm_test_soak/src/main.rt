@@ -3,8 +3,8 @@
 
 ghost use Rattle.std.specs.Prelude.{◌≤◌, IfSome};
 
+use crsm_cmd_soak::{SoakEnd, soak};
 use crsm_io::StdSink;
-use crsm_soak::{SoakEnd, soak};
 use std::io;
 use std::str::FromStr;
 

@@ -3,11 +3,11 @@
 ghost use Rattle.std.specs.Prelude.{◌≡◌, ◌≤◌, [], IfOk};
 
 use crate::fault::Fault;
+use crsm_audit::{Account, Place, Verdict, judge};
 use crsm_base::{Bodies, Line, Lines, Recs, Sends, Stamp};
 use crsm_ledger::Ledger;
-use crsm_output::Batch;
+use crsm_replica_output::Batch;
 use crsm_text::{hex_of, read_number};
-use crsm_verdict::{Account, Place, Verdict, judge};
 use std::alloc::Global;
 
 /// The number that a word spells.

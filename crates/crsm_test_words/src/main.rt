@@ -1,10 +1,10 @@
 //! Reads command lines from the standard input, the words of each with a tab between each two, and writes what they ask for.
 #![tactic(auto)]
 
-ghost use Rattle.crsm_words.specs.Plans.{HasOwnPeer};
+ghost use Rattle.crsm_text_words.specs.Plans.{HasOwnPeer};
 
 use crsm_base::Bytes;
-use crsm_words::{Order, Refusal, Task, read_words, usage_text};
+use crsm_text_words::{Order, Refusal, Task, read_words, usage_text};
 use std::alloc::{AllocError, Global};
 use std::io;
 use std::str::from_utf8;

@@ -9,7 +9,7 @@ ghost use Rattle.crsm_base.specs.MessageReading.{prepare_at, prepare_ok_at, cloc
 
 use crate::fault::WireError;
 use crsm_base::{Bytes, Datagram, InEpoch, MAX_CONTROL_BYTES, MAX_PARTS, NoMemory, PART_BYTES};
-use crsm_fields::{
+use crsm_text_fields::{
     take_command, take_entry, take_members, take_outcome, take_replica, take_stamp, take_u8,
     take_u32, take_u64,
 };

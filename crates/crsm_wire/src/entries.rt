@@ -7,7 +7,7 @@ ghost use Rattle.crsm_wire.specs.Sized.{AreSized};
 
 use crate::fields::entry_size;
 use crsm_base::{Entries, Entry, MAX_TAIL_BYTES, MAX_TAIL_ENTRIES};
-use crsm_fields::rises;
+use crsm_text_fields::rises;
 
 /// How many bytes the entries' spellings have together, where each has one.
 fn total_size(entries: &[Entry]) -> Option<u64>

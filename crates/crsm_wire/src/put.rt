@@ -7,7 +7,7 @@ ghost use Rattle.crsm_base.specs.Messages.{bool_bytes, control_bytes, FitsContro
 
 use crate::head::{head, put_clock_time, put_head, put_prepare_ok};
 use crsm_base::{Bytes, Control, Datagram, Decision, InEpoch, NoMemory};
-use crsm_fields::{
+use crsm_text_fields::{
     put_ballot, put_command, put_decision, put_entries, put_entry, put_members, put_option_stamp,
     put_option_vote, put_outcome, put_u8, put_u32, put_u64,
 };

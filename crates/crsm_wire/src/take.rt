@@ -5,7 +5,7 @@ ghost use Rattle.std.specs.Option.{option_map};
 ghost use Rattle.crsm_base.specs.MessageReading.{bool_at, suspend_at, suspend_ok_at, p1a_at, p1b_at, p1no_at, p2a_at, p2b_at, decide_at, retrieve_at, page_at, control_at};
 
 use crsm_base::{Control, NoMemory};
-use crsm_fields::{
+use crsm_text_fields::{
     take_ballot, take_decision, take_entries, take_option_stamp, take_option_vote, take_u8,
     take_u64,
 };

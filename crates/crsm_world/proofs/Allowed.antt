@@ -12,7 +12,7 @@ use Rattle.crsm_spec.specs.Acts.{Act, Bad as Cause}
 use Rattle.crsm_spec.specs.World.{Site, Packet, World, is_up, is_up_at, is_full}
 use Rattle.crsm_spec.specs.Possible.{first_bad, possible, causes_of, causes_of_single, causes_of_batch, causes_at, is_none_of, is_next_new, is_down_at, is_not_sent, is_receiver_down, is_used, receivers, are_mixed}
 use Rattle.crsm_world.specs.Doing.{single_of}
-use Rattle.crsm_network.specs.Packets.{receiver_or}
+use Rattle.crsm_sim_network.specs.Packets.{receiver_or}
 use Rattle.crsm_world.specs.Machines.{roomed}
 use Rattle.crsm_world.specs.Turning.{IsGenuine}
 use Rattle.crsm_world.specs.Several.{IsFor, AreFor}

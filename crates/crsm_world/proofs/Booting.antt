@@ -7,13 +7,13 @@ use Rattle.crsm_spec.specs.Draft.{Draft, Reply}
 use Rattle.crsm_spec.specs.Step.{boot}
 use Rattle.crsm_spec.specs.World.{Site, Packet, World as Cluster, body_size, packet_of, packets_size, send_lines, whole_step, after_step, log_of, log_at}
 use Rattle.crsm_spec.specs.Moments.{begun_at, with_room, start_at}
-use Rattle.crsm_machine.specs.declared.Boot.{Boot}
-use Rattle.crsm_machine.specs.Outcomes.{IsQuiet}
+use Rattle.crsm_sim_machine.specs.declared.Boot.{Boot}
+use Rattle.crsm_sim_machine.specs.Outcomes.{IsQuiet}
 use Rattle.crsm_world.specs.declared.machines.Machines.{Machines}
-use Rattle.crsm_network.specs.declared.Network.{Network}
+use Rattle.crsm_sim_network.specs.declared.Network.{Network}
 use Rattle.crsm_world.specs.declared.world.World.{World}
 use Rattle.crsm_world.specs.Machines.{MachinesStand, MachinesBoot, roomed}
-use Rattle.crsm_network.specs.Packets.{NetworkStands}
+use Rattle.crsm_sim_network.specs.Packets.{NetworkStands}
 use Rattle.crsm_world.specs.World.{Leads}
 use Rattle.crsm_world.specs.Starting.{CanStart}
 use Rattle.crsm_world.proofs.Turns.{log_here}

@@ -8,10 +8,10 @@ use Rattle.std.proofs.lemmas.List.{take_more, map-append}
 use Rattle.std.proofs.lemmas.Option.{get_or_from_slice_get}
 use Rattle.crsm_spec.specs.World.{Site, World as Cluster, is_up, is_up_at}
 use Rattle.crsm_spec.specs.Moments.{deliverable}
-use Rattle.crsm_network.specs.Packets.{is_fresh_for, is_up_among, numbers_of}
-use Rattle.crsm_network.proofs.Numbers.{filter_alike, numbers_fresh}
-use Rattle.crsm_machine.specs.declared.Machine.{Machine}
-use Rattle.crsm_machine.specs.Machine.{MachineStands}
+use Rattle.crsm_sim_network.specs.Packets.{is_fresh_for, is_up_among, numbers_of}
+use Rattle.crsm_sim_network.proofs.Numbers.{filter_alike, numbers_fresh}
+use Rattle.crsm_sim_machine.specs.declared.Machine.{Machine}
+use Rattle.crsm_sim_machine.specs.Machine.{MachineStands}
 use Rattle.crsm_world.specs.declared.machines.Machines.{Machines}
 use Rattle.crsm_world.specs.Machines.{MachinesStand}
 use Rattle.crsm_world.proofs.Sites.{machine_got, machines_length}

@@ -17,10 +17,10 @@ use Rattle.crsm_spec.specs.World.{Site, World as Cluster, Moment, begin, first_l
 use Rattle.crsm_spec.specs.Moments.{begun_at, with_room, start_at}
 use Rattle.crsm_world.specs.declared.world.World.{World}
 use Rattle.crsm_world.specs.Machines.{MachinesStand, roomed}
-use Rattle.crsm_network.specs.Packets.{NetworkStands}
+use Rattle.crsm_sim_network.specs.Packets.{NetworkStands}
 use Rattle.crsm_world.specs.World.{Holds, Leads}
 use Rattle.crsm_world.specs.Starting.{CanStart}
-use Rattle.crsm_network.proofs.Numbers.{range_more}
+use Rattle.crsm_sim_network.proofs.Numbers.{range_more}
 use Rattle.crsm_world.proofs.Turns.{log_here}
 use Rattle.crsm_world.proofs.Booting.{room_is, log_down}
 

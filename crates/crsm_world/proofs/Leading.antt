@@ -7,11 +7,11 @@ use Rattle.crsm_spec.specs.Node.{Turn, turn}
 use Rattle.crsm_spec.specs.World.{Site, World as Cluster, Moment, Ending, whole_step, cut_step, lost_step, then_down, after_step, down, with_site, log_of}
 use Rattle.crsm_spec.specs.Moments.{silent, cut_at, begun_at, world_after, lines_of}
 use Rattle.crsm_world.specs.Several.{together}
-use Rattle.crsm_machine.specs.Outcomes.{is_cut_kept}
+use Rattle.crsm_sim_machine.specs.Outcomes.{is_cut_kept}
 use Rattle.crsm_world.specs.declared.world.World.{World}
 use Rattle.crsm_world.specs.Machines.{MachinesStand}
-use Rattle.crsm_network.specs.Packets.{NetworkStands}
-use Rattle.crsm_network.specs.declared.Network.{Network}
+use Rattle.crsm_sim_network.specs.Packets.{NetworkStands}
+use Rattle.crsm_sim_network.specs.declared.Network.{Network}
 use Rattle.crsm_world.specs.declared.machines.Machines.{Machines}
 use Rattle.crsm_world.specs.declared.ending.Effects.{Effects}
 use Rattle.crsm_world.specs.Effects.{LetsOut, Leaves}

@@ -6,18 +6,18 @@ use Rattle.std.proofs.Math.Seq.{take-append_seam}
 use Rattle.std.proofs.lemmas.List.{take-map, length-map, take_all}
 use Rattle.crsm_base.specs.Messages.{datagram_bytes}
 use Rattle.crsm_base.specs.declared.send.Send.{Send}
-use Rattle.crsm_machine.specs.declared.Step.{Step}
-use Rattle.crsm_machine.specs.Outcomes.{Makes, Sends}
+use Rattle.crsm_sim_machine.specs.declared.Step.{Step}
+use Rattle.crsm_sim_machine.specs.Outcomes.{Makes, Sends}
 use Rattle.crsm_port.specs.Meaning.{Packet as Sent}
 use Rattle.crsm_port.specs.Memory.{Memory}
 use Rattle.crsm_shell.specs.Shell.{sends_in, sends_of}
-use Rattle.crsm_output.specs.Made.{to_replica, to_address, line_of}
+use Rattle.crsm_replica_output.specs.Made.{to_replica, to_address, line_of}
 use Rattle.crsm_spec.specs.Types.{Datagram, Line}
 use Rattle.crsm_spec.specs.Draft.{Draft, Reply}
 use Rattle.crsm_spec.specs.World.{Packet, body_size, packet_of, packets_size, send_lines}
-use Rattle.crsm_network.specs.declared.Network.{Network}
+use Rattle.crsm_sim_network.specs.declared.Network.{Network}
 use Rattle.crsm_world.specs.Effects.{LetsOut}
-use Rattle.crsm_network.specs.Packets.{AreSpelt, NetworkStands, sent_to, to_packets, sent_of}
+use Rattle.crsm_sim_network.specs.Packets.{AreSpelt, NetworkStands, sent_to, to_packets, sent_of}
 
 -- ---- what is among what is sent
 

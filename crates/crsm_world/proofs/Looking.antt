@@ -7,10 +7,10 @@ use Rattle.std.proofs.lemmas.Bool.{ltb-true, ltb-false, lt-ltb, le-ltb}
 use Rattle.std.proofs.lemmas.Bool.Decides.{eqb_tells}
 use Rattle.std.proofs.lemmas.List.Sums.{sum_by-cons}
 use Rattle.std.proofs.lemmas.Option.{slice_get-map, slice_get_past}
-use Rattle.crsm_generator.specs.View.{Mark, View, places, is_up_in as is_seen_up, fresh_seen, fresh_to_any, fresh_to_up, used_to_up}
-use Rattle.crsm_network.specs.Packets.{is_of}
+use Rattle.crsm_sim_generator.specs.View.{Mark, View, places, is_up_in as is_seen_up, fresh_seen, fresh_to_any, fresh_to_up, used_to_up}
+use Rattle.crsm_sim_network.specs.Packets.{is_of}
 use Rattle.crsm_spec.specs.World.{Packet, Site, World as Cluster, is_up, is_up_at}
-use Rattle.crsm_tally.specs.Nth.{IsNth}
+use Rattle.crsm_sim_network.specs.Nth.{IsNth}
 use Rattle.crsm_world.specs.Machines.{is_up_in}
 use Rattle.crsm_world.specs.Seen.{is_receiver, mark_of, view_of}
 

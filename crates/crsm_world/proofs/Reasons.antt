@@ -9,10 +9,10 @@ use Rattle.std.proofs.lemmas.List.Folds.{list_any_more, list_any_at}
 use Rattle.crsm_spec.specs.Acts.{Bad as Cause}
 use Rattle.crsm_spec.specs.World.{Site, Packet, World, is_up, is_up_at, log_at, log_of}
 use Rattle.crsm_spec.specs.Log.{spec}
-use Rattle.crsm_machine.specs.Outcomes.{spec_at}
+use Rattle.crsm_sim_machine.specs.Outcomes.{spec_at}
 use Rattle.crsm_spec.specs.Possible.{first_bad, is_none_of, is_next_new, is_down_at, is_not_sent, is_receiver_down, is_used, receivers, are_mixed, are_too_few}
 use Rattle.crsm_world.specs.Machines.{is_up_in, spec_in}
-use Rattle.crsm_network.specs.Packets.{is_used_at, receiver_of, receiver_or}
+use Rattle.crsm_sim_network.specs.Packets.{is_used_at, receiver_of, receiver_or}
 
 -- the first cause holds
 pub hit : (b : Bool) (c : Cause) (cs : List (Bool × Cause)) → b ≡ true → first_bad ((b, c) ∷ cs) ≡ Some c

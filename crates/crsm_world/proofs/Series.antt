@@ -12,12 +12,12 @@ use Rattle.crsm_spec.specs.Replica.{Replica}
 use Rattle.crsm_spec.specs.Draft.{Draft, begun}
 use Rattle.crsm_spec.specs.Node.{Turn, turn, input_of}
 use Rattle.crsm_base.proofs.DatagramLaws.{datagram_of-bytes}
-use Rattle.crsm_machine.specs.declared.Step.{Step}
-use Rattle.crsm_machine.specs.Outcomes.{Makes, Sends}
+use Rattle.crsm_sim_machine.specs.declared.Step.{Step}
+use Rattle.crsm_sim_machine.specs.Outcomes.{Makes, Sends}
 use Rattle.crsm_port.specs.Meaning.{Packet as Sent}
 use Rattle.crsm_port.specs.Memory.{Memory}
 use Rattle.crsm_shell.specs.Shell.{sends_in, sends_of}
-use Rattle.crsm_network.specs.declared.PacketView.{PacketView}
+use Rattle.crsm_sim_network.specs.declared.PacketView.{PacketView}
 use Rattle.crsm_world.specs.Effects.{LetsOut}
 use Rattle.crsm_spec.specs.Step.{Input, step as begin_step}
 use Rattle.crsm_spec.specs.World.{Site, Packet, World as Cluster, Moment, is_full, whole_step, after_step, packet_of}
@@ -25,8 +25,8 @@ use Rattle.crsm_spec.specs.Moments.{single, begun_at, come, step_at, step_at_sit
 use Rattle.crsm_world.specs.declared.world.World.{World}
 use Rattle.crsm_world.specs.Machines.{MachinesPend, MachinesStand}
 use Rattle.crsm_world.specs.declared.groups.Taken.{Taken}
-use Rattle.crsm_network.specs.declared.Network.{Network}
-use Rattle.crsm_network.specs.Packets.{AreSpelt, IsPacketView, NetworkStands, used_up, receiver_of}
+use Rattle.crsm_sim_network.specs.declared.Network.{Network}
+use Rattle.crsm_sim_network.specs.Packets.{AreSpelt, IsPacketView, NetworkStands, used_up, receiver_of}
 use Rattle.crsm_world.specs.Several.{IsFor, AreFor, AreStill, IsStill, Runs, TookAll, all_gone, each_gone, gone, number_of, step_of, together}
 use Rattle.crsm_world.specs.World.{Holds, HoldsBeside, Leads, LeadsOn}
 use Rattle.crsm_world.proofs.Letting.{drop_seam, spelt_here}

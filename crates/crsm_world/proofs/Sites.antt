@@ -7,7 +7,7 @@ use Rattle.std.specs.Vec.{with_item}
 use Rattle.std.proofs.lemmas.Option.{slice_get_past, slice_get-get_or}
 use Rattle.std.proofs.lemmas.List.{length-set, length-append}
 use Rattle.crsm_spec.specs.World.{Site}
-use Rattle.crsm_machine.specs.declared.Machine.{Machine}
+use Rattle.crsm_sim_machine.specs.declared.Machine.{Machine}
 use Rattle.std.specs.List.{enumerate_from}
 use Rattle.std.proofs.lemmas.List.{take_more, map-append, take_all}
 use Rattle.std.proofs.lemmas.List.FromFn.{length-enumerate_from, get_or-enumerate_from}
@@ -21,14 +21,14 @@ use Rattle.crsm_spec.specs.Replica.{Replica}
 use Rattle.crsm_spec.specs.Draft.{Draft}
 use Rattle.crsm_spec.specs.Step.{boot}
 use Rattle.crsm_spec.specs.World.{is_up, final_line}
-use Rattle.crsm_machine.specs.declared.Step.{Step}
-use Rattle.crsm_machine.specs.declared.Boot.{Boot}
-use Rattle.crsm_machine.specs.Outcomes.{IsWell, Makes, Boots, IsCut}
-use Rattle.crsm_machine.specs.Machine.{MachineStands, MachinePends}
+use Rattle.crsm_sim_machine.specs.declared.Step.{Step}
+use Rattle.crsm_sim_machine.specs.declared.Boot.{Boot}
+use Rattle.crsm_sim_machine.specs.Outcomes.{IsWell, Makes, Boots, IsCut}
+use Rattle.crsm_sim_machine.specs.Machine.{MachineStands, MachinePends}
 use Rattle.crsm_port.specs.Memory.{Memory}
 use Rattle.crsm_world.specs.declared.machines.Machines.{Machines}
 use Rattle.crsm_world.specs.Machines.{EachIs, IsSite, MachinesStand, IsPending, IsSiteBeside, MachinesPend, MachinesCut, MachinesBoot, is_up_in, up_in, roomed}
-use Rattle.crsm_network.proofs.Gets.{got}
+use Rattle.crsm_sim_network.proofs.Gets.{got}
 
 pub each_length : (P : ℕ → Machine → Site → Type 0) (k : ℕ) (ss : List Machine) (ps : List Site) → EachIs P k ss ps → length ss ≡ length ps
 each_length P k [] [] h = refl

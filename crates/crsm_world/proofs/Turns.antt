@@ -12,9 +12,9 @@ use Rattle.crsm_spec.specs.Step.{Input, step}
 use Rattle.crsm_spec.specs.Node.{Turn, turn, input_of}
 use Rattle.crsm_spec.specs.World.{Site, Packet, World, Ending, is_up, log_of, log_at, lost_step}
 use Rattle.crsm_spec.specs.Moments.{cut_at, is_kept, silent, step_at, step_at_site, junk_at, come, use_up}
-use Rattle.crsm_network.specs.declared.PacketView.{PacketView}
+use Rattle.crsm_sim_network.specs.declared.PacketView.{PacketView}
 use Rattle.crsm_world.specs.Machines.{is_up_in, up_in}
-use Rattle.crsm_network.specs.Packets.{IsPacketView, used_up}
+use Rattle.crsm_sim_network.specs.Packets.{IsPacketView, used_up}
 use Rattle.crsm_world.specs.Turning.{turn_at, turn_at_machine}
 
 -- ---- a replica that is up, or not

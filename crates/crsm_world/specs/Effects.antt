@@ -7,11 +7,11 @@ use Rattle.crsm_spec.specs.Draft.{Draft, Reply}
 use Rattle.crsm_spec.specs.Replica.{Replica}
 use Rattle.crsm_spec.specs.World.{Packet, Site, World as Cluster, Moment, body_size, packet_of, packets_size, send_lines, whole_step, cut_step, down, log_of}
 use Rattle.crsm_spec.specs.Moments.{silent}
-use Rattle.crsm_network.specs.declared.Network.{Network}
-use Rattle.crsm_network.specs.Packets.{AreSpelt, NetworkStands}
+use Rattle.crsm_sim_network.specs.declared.Network.{Network}
+use Rattle.crsm_sim_network.specs.Packets.{AreSpelt, NetworkStands}
 use Rattle.crsm_port.specs.Meaning.{Packet as Sent}
-use Rattle.crsm_machine.specs.declared.Step.{Step}
-use Rattle.crsm_machine.specs.Outcomes.{Makes}
+use Rattle.crsm_sim_machine.specs.declared.Step.{Step}
+use Rattle.crsm_sim_machine.specs.Outcomes.{Makes}
 use Rattle.crsm_world.specs.declared.ending.Effects.{Effects}
 use Rattle.crsm_world.specs.declared.ending.Effects.TheVariants as effects
 use Rattle.crsm_world.specs.declared.machines.Machines.{Machines}

@@ -6,11 +6,11 @@ use Rattle.crsm_spec.specs.Log.{Log}
 use Rattle.crsm_spec.specs.Replica.{Replica}
 use Rattle.crsm_spec.specs.Draft.{Draft}
 use Rattle.crsm_spec.specs.Step.{boot}
-use Rattle.crsm_machine.specs.declared.Machine.{Machine}
-use Rattle.crsm_machine.specs.declared.Step.{Step}
-use Rattle.crsm_machine.specs.declared.Boot.{Boot}
-use Rattle.crsm_machine.specs.Outcomes.{IsWell, Makes, Sends, Boots, is_cut_kept, spec_at}
-use Rattle.crsm_machine.specs.Machine.{MachineStands, MachinePends}
+use Rattle.crsm_sim_machine.specs.declared.Machine.{Machine}
+use Rattle.crsm_sim_machine.specs.declared.Step.{Step}
+use Rattle.crsm_sim_machine.specs.declared.Boot.{Boot}
+use Rattle.crsm_sim_machine.specs.Outcomes.{IsWell, Makes, Sends, Boots, is_cut_kept, spec_at}
+use Rattle.crsm_sim_machine.specs.Machine.{MachineStands, MachinePends}
 use Rattle.crsm_world.specs.declared.machines.Machines.{Machines}
 
 -- each machine is held as this says, by number from k

@@ -1,6 +1,6 @@
 -- What is seen of a world by whoever draws its events.
 use Rattle.std.specs.Prelude.{◌≡◌, ℕ, Bool, true, false, map}
-use Rattle.crsm_generator.specs.View.{Mark, View}
+use Rattle.crsm_sim_generator.specs.View.{Mark, View}
 use Rattle.crsm_spec.specs.World.{Packet, World as Cluster, is_up, is_up_at}
 use Rattle.crsm_world.specs.declared.world.World.{World}
 use Rattle.crsm_world.specs.World.{WorldStands}

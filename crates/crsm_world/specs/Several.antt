@@ -2,8 +2,8 @@
 use Rattle.std.specs.Prelude.{◌≡◌, ℕ, List, [], ◌∷◌, ◌++◌, map, Some, slice_get, slice_set}
 use Rattle.std.specs.List.{AllByRecursion}
 use Rattle.crsm_core.specs.Core.{FitsSent}
-use Rattle.crsm_machine.specs.Outcomes.{Makes, Sends}
-use Rattle.crsm_network.specs.Packets.{NetworkStands}
+use Rattle.crsm_sim_machine.specs.Outcomes.{Makes, Sends}
+use Rattle.crsm_sim_network.specs.Packets.{NetworkStands}
 use Rattle.crsm_spec.specs.Acts.{Single}
 use Rattle.crsm_spec.specs.Draft.{Draft}
 use Rattle.crsm_spec.specs.Replica.{Replica}

@@ -6,9 +6,9 @@ use Rattle.crsm_spec.specs.Replica.{Replica}
 use Rattle.crsm_spec.specs.World.{Site, World as Cluster, Moment}
 use Rattle.crsm_world.specs.declared.world.World.{World}
 use Rattle.crsm_world.specs.declared.machines.Machines.{Machines}
-use Rattle.crsm_network.specs.declared.Network.{Network}
+use Rattle.crsm_sim_network.specs.declared.Network.{Network}
 use Rattle.crsm_world.specs.Machines.{MachinesStand, MachinesPend}
-use Rattle.crsm_network.specs.Packets.{NetworkStands}
+use Rattle.crsm_sim_network.specs.Packets.{NetworkStands}
 
 -- The world has the machines, the datagrams and the bytes of this one on paper.
 pub record Holds (w : World) (v : Cluster) : Type 0 where

@@ -2,7 +2,7 @@
 
 ghost use Rattle.std.specs.Prelude.{◌≡◌, [], ◌∷◌, ◌==◌, not, true, false, is_some, ℕ};
 ghost use Rattle.std.specs.List.{list_any};
-ghost use Rattle.crsm_network.specs.Packets.{receiver_or};
+ghost use Rattle.crsm_sim_network.specs.Packets.{receiver_or};
 ghost use Rattle.crsm_spec.specs.Possible as possible;
 ghost use Rattle.crsm_spec.specs.World as on_paper;
 ghost use Rattle.crsm_spec.specs.Log.{spec};

@@ -1,7 +1,7 @@
 //! What comes of an event.
 
 ghost use Rattle.std.specs.Prelude.{◌≡◌, ◌<◌, None, Some, ℕ, fold, drop, length, slice_get, IfOk, OnOk};
-ghost use Rattle.crsm_machine.specs.Arriving.{turn_of, IsShort};
+ghost use Rattle.crsm_sim_machine.specs.Arriving.{turn_of, IsShort};
 ghost use Rattle.crsm_base.specs.Spelling.{FitsCommand};
 ghost use Rattle.crsm_schedule.specs.Grammar.{FitsSingle};
 ghost use Rattle.crsm_spec.specs.Acts.{Single as OneStep};
@@ -17,8 +17,8 @@ use crate::ending::Ending;
 use crate::outgoing::leave;
 use crate::world::World;
 use crsm_base::{Bytes, Command, Datagram, Lines, MAX_DATAGRAM_BYTES, NoMemory, never};
-use crsm_machine::Arrival;
 use crsm_schedule::Single;
+use crsm_sim_machine::Arrival;
 use crsm_wire::write_datagram;
 
 impl World {

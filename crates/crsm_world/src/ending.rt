@@ -1,6 +1,6 @@
 //! How a step ends, and what it leaves to be let out.
 
-use crsm_machine::Step;
+use crsm_sim_machine::Step;
 
 /// Where the put of a step stops: after so many device calls, with this byte in the ranges that were not synced.
 #[derive(Clone, Copy)]

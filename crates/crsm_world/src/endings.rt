@@ -1,7 +1,7 @@
 //! Steps of replicas, each with its ending.
 
 ghost use Rattle.std.specs.Prelude.{◌≡◌, ◌≤◌, ◌<◌, Some, length, slice_get, IfOk};
-ghost use Rattle.crsm_machine.specs.Arriving.{turn_of, IsShort};
+ghost use Rattle.crsm_sim_machine.specs.Arriving.{turn_of, IsShort};
 ghost use Rattle.crsm_spec.specs.Moments as moments;
 ghost use Rattle.crsm_spec.specs.Node.{turn};
 ghost use Rattle.crsm_spec.specs.Replica.{Replica};
@@ -13,7 +13,7 @@ ghost use Rattle.crsm_world.specs.Machines.{MachinesStand};
 use crate::ending::{Effects, Ending, Stop};
 use crate::machines::Machines;
 use crsm_base::NoMemory;
-use crsm_machine::Arrival;
+use crsm_sim_machine::Arrival;
 
 impl Machines {
     /// A whole step of a replica that is up.

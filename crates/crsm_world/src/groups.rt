@@ -12,7 +12,7 @@ use crate::ending::Ending;
 use crate::outgoing::let_all_out;
 use crate::world::World;
 use crsm_base::{Lines, MAX_DATAGRAM_BYTES, NoMemory, never};
-use crsm_machine::{Arrival, Step, machines_pend_nothing};
+use crsm_sim_machine::{Arrival, Step, machines_pend_nothing};
 
 /// A datagram that was delivered, and the step that it made.
 #[derive(Drop)]

@@ -1,7 +1,7 @@
 //! A world as whoever draws its events sees it.
 
 ghost use Rattle.std.specs.Prelude.{◌≡◌, ◌<◌, ◌==◌, ◌&&◌, ◌||◌, ℕ, Bool, length};
-ghost use Rattle.crsm_network.specs.Packets.{Receives};
+ghost use Rattle.crsm_sim_network.specs.Packets.{Receives};
 ghost use Rattle.crsm_spec.specs.World as on_paper;
 ghost use Rattle.crsm_world.specs.Machines.{WhereMachinesStand, is_up_in};
 ghost use Rattle.crsm_world.specs.Seen.{is_receiver};
@@ -10,8 +10,8 @@ ghost use Rattle.crsm_world.specs.World.{WhereStands};
 use crate::machines::Machines;
 use crate::world::World;
 use crsm_base::MAX_REPLICAS;
-use crsm_generator::Look;
-use crsm_network::Receivers;
+use crsm_sim_generator::Look;
+use crsm_sim_network::Receivers;
 
 impl Machines {
     /// How many replicas there are so far.

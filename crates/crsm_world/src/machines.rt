@@ -8,17 +8,17 @@ ghost use Rattle.crsm_spec.specs.Log.{Log};
 ghost use Rattle.crsm_spec.specs.Node.{turn};
 ghost use Rattle.crsm_spec.specs.Replica.{Replica};
 ghost use Rattle.crsm_spec.specs.World as on_paper;
-ghost use Rattle.crsm_machine.specs.Arriving.{turn_of, IsShort};
-ghost use Rattle.crsm_machine.specs.Outcomes.{Makes, Sends};
-ghost use Rattle.crsm_machine.specs.Machine.{MachineStands};
+ghost use Rattle.crsm_sim_machine.specs.Arriving.{turn_of, IsShort};
+ghost use Rattle.crsm_sim_machine.specs.Outcomes.{Makes, Sends};
+ghost use Rattle.crsm_sim_machine.specs.Machine.{MachineStands};
 ghost use Rattle.crsm_port.specs.Sent.{packets_of};
 ghost use Rattle.crsm_world.specs.Machines.{MachinesStand, MachinesPend, MachinesCut, MachinesBoot, is_up_in, up_in, roomed, spec_in, WhereMachinesStand, WhereUp, WherePending, StepsTo, PendsTo, WhereSite, CanBoot};
 
 use crate::ending::Stop;
 use crate::founders::Founders;
 use crsm_base::{Line, Lines, MAX_REPLICAS, Members, NoMemory, never};
-use crsm_machine::{Arrival, Boot, Machine, Step};
 use crsm_port::{MemPort, SentPackets};
+use crsm_sim_machine::{Arrival, Boot, Machine, Step};
 use std::alloc::Global;
 
 /// The place of each replica, by number.

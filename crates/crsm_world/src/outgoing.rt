@@ -3,19 +3,19 @@
 ghost use Rattle.std.specs.Prelude.{◌≡◌, ◌≤◌, ◌-◌, ◌++◌, ℕ, List, drop, length, take, OnOk};
 ghost use Rattle.std.specs.List.{AllByRecursion};
 ghost use Rattle.crsm_core.specs.Core.{FitsSent};
-ghost use Rattle.crsm_machine.specs.Outcomes.{Makes};
+ghost use Rattle.crsm_sim_machine.specs.Outcomes.{Makes};
 ghost use Rattle.crsm_spec.specs.Draft.{Draft};
 ghost use Rattle.crsm_world.specs.Effects.{LetsOut, FitsEffects, WhereMade, LetsOutSome, WhereLeft};
 ghost use Rattle.crsm_world.specs.World.{LeadsOn};
-ghost use Rattle.crsm_network.specs.Packets.{AreSpelt, NetworkStands};
+ghost use Rattle.crsm_sim_network.specs.Packets.{AreSpelt, NetworkStands};
 ghost use Rattle.crsm_port.specs.Sent.{packets_of};
 
 use crate::ending::Effects;
 use crate::lines::{add, add_first};
 use crsm_base::{Line, Lines, NoMemory};
-use crsm_machine::Step;
-use crsm_network::{Network, packets_in};
 use crsm_port::SentPackets;
+use crsm_sim_machine::Step;
+use crsm_sim_network::{Network, packets_in};
 use std::alloc::Global;
 
 /// A step of replica `k` is kept, and so many of its sends and replies go out, which a port has sent from `first` on. Its

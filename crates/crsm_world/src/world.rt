@@ -20,9 +20,9 @@ use crsm_base::{Lines, NoMemory};
 use crsm_disk::MemDisk;
 use crsm_law_rounds::rounds_are_bounded;
 use crsm_law_runs::{answered_are_kept, decisions_always_agree, runs_are_safe};
-use crsm_network::Network;
 use crsm_schedule::Event;
 use crsm_shell::Shell;
+use crsm_sim_network::Network;
 use std::alloc::Global;
 use std::mem;
 

@@ -1,6 +1,6 @@
 use Rattle.std.proofs.Common.{ap, ◌∙◌}
-use Rattle.crsm_words.specs.Plans.{plan_of}
-use Rattle.crsm_words.specs.declared.order.Order.{Order}
+use Rattle.crsm_text_words.specs.Plans.{plan_of}
+use Rattle.crsm_text_words.specs.declared.order.Order.{Order}
 use Rattle.crsm_app.proofs.Asked.{read_so}
 use Rattle.crsm_app.proofs.command.plan.Goals as goal
 

@@ -1,7 +1,7 @@
 use Rattle.std.proofs.Common.{Err, ap, refl, sym, ◌∙◌, subst, map, string_bytes}
-use Rattle.crsm_words.specs.Answers.{OrderRefused}
-use Rattle.crsm_words.specs.declared.order.Order.{Order}
-use Rattle.crsm_words.specs.declared.read.Refusal.{Refusal}
+use Rattle.crsm_text_words.specs.Answers.{OrderRefused}
+use Rattle.crsm_text_words.specs.declared.order.Order.{Order}
+use Rattle.crsm_text_words.specs.declared.read.Refusal.{Refusal}
 use Rattle.crsm_app.specs.Run.{at_fault, did, no_memory}
 use Rattle.crsm_app.specs.Tasks.{IsReader}
 use Rattle.crsm_app.proofs.Asked.{not_idle, not_usage, read_so, within_limits}

@@ -1,6 +1,6 @@
 use Rattle.std.proofs.Common.{subst}
-use Rattle.crsm_lock.specs.Commands.{LockRan}
-use Rattle.crsm_lock.specs.declared.command.LockOrder.{LockOrder}
+use Rattle.crsm_cmd_lock.specs.Commands.{LockRan}
+use Rattle.crsm_cmd_lock.specs.declared.command.LockOrder.{LockOrder}
 use Rattle.crsm_app.proofs.LockEnds.{completes, is_port_fault, is_unanswered, is_write_fault}
 use Rattle.crsm_app.proofs.locking.run_lock.Goals as goal
 

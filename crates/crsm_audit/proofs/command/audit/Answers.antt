@@ -1,5 +1,5 @@
 use Rattle.std.proofs.Common.{ℕ, refl, subst}
-use Rattle.crsm_input.specs.Run.{Ran}
+use Rattle.crsm_port_lines.specs.Run.{Ran}
 use Rattle.crsm_audit.specs.Exactly.{EndsExactly}
 use Rattle.crsm_audit.specs.Handled.{audited}
 use Rattle.crsm_audit.proofs.Handled.{begins}

@@ -1,8 +1,8 @@
 use Rattle.std.proofs.Common.{◌+◌, ℕ, List, length, ◌∷◌, [], ◌++◌, ◌∙◌, subst, sym}
 use Rattle.std.proofs.lemmas.Result.{err_from_is_err_and}
-use Rattle.crsm_rerun.specs.Replaying.{Advances}
-use Rattle.crsm_sheet.specs.declared.line.SheetLine.{SheetLine}
-use Rattle.crsm_sheet.specs.declared.line.SheetLine.TheVariants.{Entry}
+use Rattle.crsm_replica_rerun.specs.Replaying.{Advances}
+use Rattle.crsm_text_sheet.specs.declared.line.SheetLine.{SheetLine}
+use Rattle.crsm_text_sheet.specs.declared.line.SheetLine.TheVariants.{Entry}
 use Rattle.crsm_audit.specs.State.{SheetAdvances}
 use Rattle.crsm_audit.proofs.Advancing.{Finds, Takes, finds, steps_on}
 use Rattle.crsm_audit.proofs.sheet.advance.Goals as goal

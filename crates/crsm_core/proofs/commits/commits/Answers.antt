@@ -3,7 +3,7 @@ use Rattle.std.specs.Prelude.{Option, None, Some}
 use Rattle.std.specs.Option.{is_none}
 use Rattle.crsm_spec.specs.Types.{Stamp}
 use Rattle.crsm_spec.specs.Log.{active}
-use Rattle.crsm_epoch_state.specs.First.{ready_of}
+use Rattle.crsm_replica_epoch.specs.First.{ready_of}
 use Rattle.crsm_core.proofs.CommitLemmas.{begins, commit_one, not_active, none_at_first, none_ready, all_committed}
 use Rattle.crsm_core.proofs.commits.commits.Goals as goal
 

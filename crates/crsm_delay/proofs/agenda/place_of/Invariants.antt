@@ -1,6 +1,6 @@
 use Rattle.std.proofs.Common.{take}
 use Rattle.std.specs.List.{AllByRecursion}
-use Rattle.crsm_timing.specs.Timelines.{Precedes}
+use Rattle.crsm_spec_plan.specs.Timelines.{Precedes}
 use Rattle.crsm_delay.specs.Upcoming.{timed_of}
 use Rattle.crsm_delay.proofs.agenda.place_of.Given as goal
 

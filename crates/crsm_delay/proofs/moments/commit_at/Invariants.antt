@@ -1,5 +1,5 @@
 use Rattle.std.proofs.Common.{◌≡◌}
-use Rattle.crsm_timing.specs.Plans.{FitsPlan}
+use Rattle.crsm_spec_plan.specs.Plans.{FitsPlan}
 use Rattle.crsm_delay.proofs.Last.{last_below}
 use Rattle.crsm_delay.proofs.moments.commit_at.Given as goal
 

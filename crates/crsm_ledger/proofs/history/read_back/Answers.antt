@@ -1,6 +1,6 @@
 use Rattle.std.proofs.Common.{◌≡◌, [], ◌++◌, ◌∙◌, sym, length}
 use Rattle.crsm_base.specs.Spelling.{entry_bytes}
-use Rattle.crsm_log_facts.proofs.Lists.{append-none}
+use Rattle.crsm_fact_log.proofs.Lists.{append-none}
 use Rattle.crsm_ledger.proofs.ExecutedLemmas.{first_same}
 use Rattle.crsm_ledger.proofs.history.read_back.Goals as goal
 

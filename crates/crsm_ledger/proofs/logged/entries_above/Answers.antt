@@ -1,5 +1,5 @@
 use Rattle.crsm_base.specs.Spelling.{FitsEntry}
-use Rattle.crsm_log_facts.proofs.Lists.{all-take, all-drop}
+use Rattle.crsm_fact_log.proofs.Lists.{all-take, all-drop}
 use Rattle.crsm_ledger.proofs.LoggedLemmas.{range-above}
 use Rattle.crsm_ledger.proofs.logged.entries_above.Goals as goal
 

@@ -3,7 +3,7 @@ use Rattle.std.specs.Prelude.{map, fold}
 use Rattle.std.specs.List.{AllByRecursion}
 use Rattle.std.specs.Map.Iter.{deref_pair}
 use Rattle.std.proofs.lemmas.Map.Iter.{iter_turn, iter_end}
-use Rattle.crsm_log_facts.proofs.Lists.{map-push}
+use Rattle.crsm_fact_log.proofs.Lists.{map-push}
 use Rattle.crsm_mpspec.specs.Types.{Value}
 use Rattle.crsm_mpspec.specs.Electing.{choose_reported}
 use Rattle.crsm_mpreplica.specs.State.{MpReplicaStands}

@@ -1,6 +1,6 @@
 use Rattle.std.proofs.Common.{◌≡◌, ◌∙◌, length, refl, sym, subst, arith}
 use Rattle.std.specs.Prelude.{drop}
-use Rattle.crsm_log_facts.proofs.Lists.{get_some}
+use Rattle.crsm_fact_log.proofs.Lists.{get_some}
 use Rattle.crsm_mpspec.specs.Draft.{reply}
 use Rattle.crsm_mpspec.specs.Log.{executed}
 use Rattle.crsm_mpspec.specs.Step.{reply_line}

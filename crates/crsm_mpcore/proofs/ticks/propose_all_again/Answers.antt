@@ -1,7 +1,7 @@
 use Rattle.std.proofs.Common.{get_or, ◌≡◌, ◌∙◌, ℕ, List, length, sym, subst, arith}
 use Rattle.std.specs.Prelude.{fold, take}
 use Rattle.std.specs.List.{AllByRecursion}
-use Rattle.crsm_log_facts.proofs.Lists.{all_got, take-all}
+use Rattle.crsm_fact_log.proofs.Lists.{all_got, take-all}
 use Rattle.crsm_mpspec.specs.Replica.{Replica}
 use Rattle.crsm_mpreplica.specs.State.{MpReplicaStands}
 use Rattle.crsm_mpcore.specs.Ticks.{IsOpen, propose_slot, propose_all_again, slots_again}

@@ -1,6 +1,6 @@
 use Rattle.std.proofs.Common.{◌≡◌, ◌∙◌, ◌++◌, ◌∷◌, [], ◌-◌, List, length, ap, subst, arith}
 use Rattle.std.specs.Prelude.{take, drop}
-use Rattle.crsm_log_facts.proofs.Lists.{get_some, take-rest}
+use Rattle.crsm_fact_log.proofs.Lists.{get_some, take-rest}
 use Rattle.crsm_mpspec.specs.declared.line.MpLine.{MpLine}
 use Rattle.crsm_mpspec.specs.Types.{Value}
 use Rattle.crsm_mpspec.specs.Draft.{exec_lines}

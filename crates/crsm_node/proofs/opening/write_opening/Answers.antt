@@ -1,9 +1,9 @@
 use Rattle.std.proofs.Common.{◌≡◌, ◌⊎◌, inl, inr, ◌≤◌, ℕ, List, length, refl, sym, ap, subst, arith, Ok, Err, IfErr, OnOk}
 use Rattle.std.proofs.lemmas.Result.{err_from_is_err_and}
 use Rattle.std.specs.Prelude.{Option, Result}
-use Rattle.crsm_faults.specs.Counts.{Rose}
+use Rattle.crsm_port_faults.specs.Counts.{Rose}
 use Rattle.crsm_io.specs.Streams.{Puts, PutsPrefix}
-use Rattle.crsm_sheet.specs.declared.line.SheetLine.{SheetLine}
+use Rattle.crsm_text_sheet.specs.declared.line.SheetLine.{SheetLine}
 use Rattle.crsm_node.specs.Running.{FailsToOpen, opening_text}
 use Rattle.crsm_node.specs.declared.errors.NodeError.{NodeError}
 use Rattle.crsm_node.specs.declared.errors.NodeError.TheVariants as errors

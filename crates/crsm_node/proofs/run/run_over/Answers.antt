@@ -5,8 +5,8 @@ use Rattle.std.specs.Borrow.{MutBor}
 use Rattle.std.proofs.lemmas.List.{append-nil}
 use Rattle.crsm_port.specs.Meaning.{Meaning as PortMeaning}
 use Rattle.crsm_disk.specs.Meaning.{LeavesOnly, Meaning, Only}
-use Rattle.crsm_detector.specs.Watching.{unwatched}
-use Rattle.crsm_lives.specs.Lives.{kept_turns}
+use Rattle.crsm_replica_detector.specs.Watching.{unwatched}
+use Rattle.crsm_spec_process.specs.Lives.{kept_turns}
 use Rattle.crsm_log.specs.Format.{bodies_of, found}
 use Rattle.crsm_spec.specs.Draft.{Draft}
 use Rattle.crsm_spec.specs.Log.{Log}

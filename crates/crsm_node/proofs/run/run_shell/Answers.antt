@@ -1,6 +1,6 @@
 use Rattle.std.proofs.Common.{ℕ, inl, subst}
-use Rattle.crsm_detector.specs.Detector.{DetectorStands}
-use Rattle.crsm_detector.specs.Watching.{unwatched}
+use Rattle.crsm_replica_detector.specs.Detector.{DetectorStands}
+use Rattle.crsm_replica_detector.specs.Watching.{unwatched}
 use Rattle.crsm_node.proofs.run.run_shell.Goals as goal
 
 pub returns : goal.returns

@@ -3,15 +3,15 @@ use Rattle.std.proofs.lemmas.List.{append-nil}
 use Rattle.std.proofs.lemmas.Result.{err_from_is_err_and}
 use Rattle.std.specs.Prelude.{Result, Ok}
 use Rattle.crsm_disk.specs.Meaning.{Meaning as DiskMeaning}
-use Rattle.crsm_lives.specs.Groups.{IsDatagram}
-use Rattle.crsm_lives.specs.Lives.{kept_turns}
+use Rattle.crsm_spec_process.specs.Groups.{IsDatagram}
+use Rattle.crsm_spec_process.specs.Lives.{kept_turns}
 use Rattle.crsm_log.specs.Format.{bodies_of, found}
 use Rattle.crsm_spec.specs.Draft.{Draft}
 use Rattle.crsm_spec.specs.Log.{Log}
 use Rattle.crsm_spec.specs.Node.{Turn, outputs_from}
 use Rattle.crsm_spec.specs.Replica.{Replica}
-use Rattle.crsm_detector.specs.Watching.{Watch}
-use Rattle.crsm_detector.specs.Wished.{replica_after, watch_after}
+use Rattle.crsm_replica_detector.specs.Watching.{Watch}
+use Rattle.crsm_replica_detector.specs.Wished.{replica_after, watch_after}
 use Rattle.crsm_shell.specs.Shell.{HasLog, ShellStands}
 use Rattle.crsm_shell.specs.Words.{disk_of, has_failed}
 use Rattle.crsm_shell.specs.declared.shell.Shell.{Shell}

@@ -1,5 +1,5 @@
 use Rattle.std.proofs.Common.{◌≡◌, false}
-use Rattle.crsm_detector.specs.Watching.{Watch}
+use Rattle.crsm_replica_detector.specs.Watching.{Watch}
 use Rattle.crsm_spec.specs.Replica.{Replica}
 use Rattle.crsm_shell.specs.Words.{has_failed}
 use Rattle.crsm_node.specs.Devices.{WhereIdle, node_of}

@@ -1,9 +1,9 @@
 use Rattle.std.proofs.Common.{ℕ, List, sym, subst}
-use Rattle.crsm_turns.specs.declared.input.Taken.{Taken}
-use Rattle.crsm_detector.specs.Detector.{DetectorStands}
-use Rattle.crsm_detector.specs.Watching.{Watch, heard_at}
-use Rattle.crsm_detector.specs.Wished.{with_turn}
-use Rattle.crsm_detector.specs.declared.detector.Detector.{Detector}
+use Rattle.crsm_replica_io.specs.declared.input.Taken.{Taken}
+use Rattle.crsm_replica_detector.specs.Detector.{DetectorStands}
+use Rattle.crsm_replica_detector.specs.Watching.{Watch, heard_at}
+use Rattle.crsm_replica_detector.specs.Wished.{with_turn}
+use Rattle.crsm_replica_detector.specs.declared.detector.Detector.{Detector}
 use Rattle.crsm_shell.specs.Taking.{turn_of}
 use Rattle.crsm_node.proofs.take.note.Goals as goal
 

@@ -1,9 +1,9 @@
 use Rattle.std.proofs.Common.{◌≡◌, ◌++◌, ◌∙◌, ℕ, List, Bool, true, false, IfErr, Err, sym, ap, subst, inr}
 use Rattle.std.proofs.lemmas.Result.{err_from_is_err_and}
 use Rattle.std.specs.Prelude.{Option, Result}
-use Rattle.crsm_detector.specs.Detector.{DetectorStands}
-use Rattle.crsm_detector.specs.Watching.{Watch, heard_at, watched}
-use Rattle.crsm_detector.specs.Wished.{chosen, with_turn}
+use Rattle.crsm_replica_detector.specs.Detector.{DetectorStands}
+use Rattle.crsm_replica_detector.specs.Watching.{Watch, heard_at, watched}
+use Rattle.crsm_replica_detector.specs.Wished.{chosen, with_turn}
 use Rattle.crsm_shell.specs.Shell.{ShellStands}
 use Rattle.crsm_shell.specs.Taking.{turn_of}
 use Rattle.crsm_shell.specs.Words.{buffer_of, disk_of, has_failed}

@@ -1,6 +1,6 @@
 use Rattle.std.proofs.Common.{◌≡◌, ◌∙◌, ◌++◌, ap, subst, map, get_or, arith}
 use Rattle.std.proofs.lemmas.List.{take_all}
-use Rattle.crsm_output.specs.Made.{OutputStands}
+use Rattle.crsm_replica_output.specs.Made.{OutputStands}
 use Rattle.crsm_replica.specs.Again.{frame_again}
 use Rattle.crsm_replica.proofs.Sending.{sent-none, sent-more, again-is}
 use Rattle.crsm_replica.proofs.frames.send_again.Goals as goal

@@ -1,5 +1,5 @@
 use Rattle.std.proofs.Common.{◌++◌, map, take}
-use Rattle.crsm_output.specs.Made.{Made, OutputStands}
+use Rattle.crsm_replica_output.specs.Made.{Made, OutputStands}
 use Rattle.crsm_replica.specs.Again.{frame_again}
 use Rattle.crsm_replica.proofs.frames.send_again.Given as goal
 

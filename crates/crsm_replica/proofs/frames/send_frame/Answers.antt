@@ -1,5 +1,5 @@
 use Rattle.std.proofs.Common.{[], ◌∷◌, ◌++◌, subst, refl}
-use Rattle.crsm_output.specs.Made.{OutputStands}
+use Rattle.crsm_replica_output.specs.Made.{OutputStands}
 use Rattle.crsm_replica.proofs.Sending.{next-is}
 use Rattle.crsm_replica.proofs.frames.send_frame.Goals as goal
 

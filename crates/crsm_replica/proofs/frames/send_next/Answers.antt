@@ -1,7 +1,7 @@
 use Rattle.std.proofs.Common.{◌+◌, ◌++◌, sym, subst, map, arith, take, get_or, [], ◌∷◌}
 use Rattle.std.proofs.lemmas.List.{take_all}
-use Rattle.crsm_output.specs.Made.{OutputStands}
-use Rattle.crsm_epoch_state.specs.Linked.{others_of}
+use Rattle.crsm_replica_output.specs.Made.{OutputStands}
+use Rattle.crsm_replica_epoch.specs.Linked.{others_of}
 use Rattle.crsm_spec.specs.Draft.{next_frame}
 use Rattle.crsm_replica.proofs.Sending.{sent-none, sent-other, passed-me}
 use Rattle.crsm_replica.proofs.frames.send_next.Goals as goal

@@ -1,7 +1,7 @@
 use Rattle.std.proofs.Common.{◌≡◌, ◌++◌, map, take}
-use Rattle.crsm_output.specs.Made.{Made, OutputStands}
-use Rattle.crsm_epoch_state.specs.Linked.{others_of}
-use Rattle.crsm_epoch_state.specs.EpochState.{EpochStands}
+use Rattle.crsm_replica_output.specs.Made.{Made, OutputStands}
+use Rattle.crsm_replica_epoch.specs.Linked.{others_of}
+use Rattle.crsm_replica_epoch.specs.EpochState.{EpochStands}
 use Rattle.crsm_spec.specs.Log.{known}
 use Rattle.crsm_spec.specs.Replica.{Replica}
 use Rattle.crsm_spec.specs.Draft.{next_frame}

@@ -1,7 +1,7 @@
 use Rattle.std.proofs.Common.{refl, ap, ◌∙◌}
 use Rattle.crsm_replica.specs.Replica.{ReplicaStands}
 use Rattle.crsm_commit.specs.Waiting.{without_entry}
-use Rattle.crsm_epoch_state.proofs.Recorded.{unexecuted_committed}
+use Rattle.crsm_replica_epoch.proofs.Recorded.{unexecuted_committed}
 use Rattle.crsm_replica.proofs.Known.{without_first}
 use Rattle.crsm_replica.proofs.laws.commits_go_on.Goals as goal
 

@@ -1,7 +1,7 @@
 use Rattle.std.proofs.Common.{◌≡◌, ◌∙◌, ap}
 use Rattle.crsm_spec.specs.Types.{Decision}
 use Rattle.crsm_spec.specs.Log.{known}
-use Rattle.crsm_log_facts.proofs.Known.{known-epoch}
+use Rattle.crsm_fact_log.proofs.Known.{known-epoch}
 use Rattle.crsm_suspend.proofs.FrozenLemmas.{answer_is}
 use Rattle.crsm_suspend.proofs.frozen.page_of.Goals as goal
 

@@ -2,7 +2,7 @@ use Rattle.std.proofs.Common.{◌≡◌, ◌∙◌, ap, arith, length, true, fal
 use Rattle.std.specs.Prelude.{◌==◌}
 use Rattle.crsm_spec.specs.Types.{Decision}
 use Rattle.crsm_spec.specs.Log.{known, active}
-use Rattle.crsm_log_facts.proofs.Known.{known-epoch}
+use Rattle.crsm_fact_log.proofs.Known.{known-epoch}
 use Rattle.crsm_transfer.proofs.NewLemmas.{fit_ahead, fit_gap, fit_active, fit_nothing, fit_adopt, new_as}
 use Rattle.crsm_transfer.proofs.fitting.fit_entries.Goals as goal
 

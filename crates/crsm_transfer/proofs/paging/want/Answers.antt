@@ -1,7 +1,7 @@
 use Rattle.std.proofs.Common.{◌≡◌, ◌∙◌, ap, length}
 use Rattle.crsm_spec.specs.Types.{Decision}
 use Rattle.crsm_spec.specs.Log.{executed, known}
-use Rattle.crsm_log_facts.proofs.Known.{known-epoch}
+use Rattle.crsm_fact_log.proofs.Known.{known-epoch}
 use Rattle.crsm_transfer.proofs.paging.want.Goals as goal
 
 pub returns : goal.returns

@@ -1,5 +1,5 @@
 use Rattle.std.proofs.Common.{List, subst, sym, take}
-use Rattle.crsm_network.specs.Packets.{AreSpelt}
+use Rattle.crsm_sim_network.specs.Packets.{AreSpelt}
 use Rattle.crsm_port.specs.Meaning.{Packet as Sent}
 use Rattle.crsm_port.specs.Sent.{packets_of}
 use Rattle.crsm_world.specs.declared.ending.Effects.{Effects}

@@ -2,7 +2,7 @@ use Rattle.std.proofs.Common.{◌∙◌, ◌+◌, ◌++◌, take, drop, length, 
 use Rattle.crsm_base.specs.declared.send.Send.{Send}
 use Rattle.crsm_port.specs.Sent.{packets_of}
 use Rattle.crsm_spec.specs.World.{packet_of, packets_size, send_lines}
-use Rattle.crsm_network.specs.Packets.{NetworkStands, sent_of}
+use Rattle.crsm_sim_network.specs.Packets.{NetworkStands, sent_of}
 use Rattle.crsm_world.proofs.Letting.{lets_out, spelt_taken}
 use Rattle.crsm_world.proofs.outgoing.let_out.Goals as goal
 

@@ -1,4 +1,4 @@
-use Rattle.crsm_input.specs.Handling.{EndsWell, StopsAtEnd}
+use Rattle.crsm_port_lines.specs.Handling.{EndsWell, StopsAtEnd}
 use Rattle.crsm_audit.specs.Handled.{StopsEnd, audited}
 use Rattle.crsm_audit.specs.Taking.{EndsWith}
 use Rattle.crsm_audit.proofs.Handled.{ends, if_err, no_end}

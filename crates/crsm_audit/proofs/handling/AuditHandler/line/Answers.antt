@@ -1,6 +1,6 @@
 use Rattle.std.proofs.Common.{◌∷◌, [], ◌++◌}
 use Rattle.std.proofs.lemmas.Result.{err_from_is_err_and}
-use Rattle.crsm_input.specs.Handling.{Handles, StopsAt}
+use Rattle.crsm_port_lines.specs.Handling.{Handles, StopsAt}
 use Rattle.crsm_audit.specs.Handled.{StandsBehind, StopsLine, audited}
 use Rattle.crsm_audit.specs.Lines.{BeginAnAudit}
 use Rattle.crsm_audit.proofs.Handled.{handles, if_err, number_is, stops, unread}

@@ -1,8 +1,8 @@
 use Rattle.std.proofs.Common.{◌≡◌, ◌≢◌, ◌⊎◌, ℕ, List, inl, inr, sym, ◌∙◌, subst}
 use Rattle.crsm_law_sheets.specs.Sheets.{Sheet}
-use Rattle.crsm_verdict.specs.Accounts.{AccountsStand}
-use Rattle.crsm_verdict.specs.Verdict.{IsVerdict}
-use Rattle.crsm_verdict.specs.declared.account.Account.{Account}
+use Rattle.crsm_audit.specs.Accounts.{AccountsStand}
+use Rattle.crsm_audit.specs.Verdict.{IsVerdict}
+use Rattle.crsm_audit.specs.declared.account.Account.{Account}
 use Rattle.crsm_audit.specs.declared.line.Progress.{Progress}
 use Rattle.crsm_audit.specs.declared.line.Progress.TheVariants.{Before, Finding, Running}
 use Rattle.crsm_audit.proofs.Taking.{bad_end, concludes, unfinished}

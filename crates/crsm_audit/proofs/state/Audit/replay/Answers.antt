@@ -1,6 +1,6 @@
 use Rattle.std.proofs.Common.{◌≡◌, refl}
-use Rattle.crsm_rerun.specs.Stages.{IsRefusal}
-use Rattle.crsm_rerun.specs.declared.error.RerunError.{RerunError}
+use Rattle.crsm_replica_rerun.specs.Stages.{IsRefusal}
+use Rattle.crsm_replica_rerun.specs.declared.error.RerunError.{RerunError}
 use Rattle.crsm_audit.proofs.Taking.{at_err, takes_bad_log, takes_sheet}
 use Rattle.crsm_audit.proofs.state.Audit.replay.Goals as goal
 

@@ -1,6 +1,6 @@
 use Rattle.std.proofs.Common.{◌+◌, sym, subst, drop}
 use Rattle.crsm_law_pending.specs.Agendas.{LacksPosts}
-use Rattle.crsm_law_sends.specs.Posts.{posts}
+use Rattle.crsm_law_pending.specs.Posts.{posts}
 use Rattle.crsm_delay.specs.Upcoming.{listed, on_paper, timed_of}
 use Rattle.crsm_delay.specs.declared.agenda.Agenda.{Agenda}
 use Rattle.crsm_delay.proofs.Listing.{line_silent, line_told, lines_end}

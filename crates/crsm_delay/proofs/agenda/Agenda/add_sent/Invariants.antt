@@ -1,7 +1,7 @@
 use Rattle.std.proofs.Common.{List, drop}
 use Rattle.crsm_law_pending.specs.Agendas.{LacksPosts}
-use Rattle.crsm_law_sends.specs.Posts.{posts}
-use Rattle.crsm_timing.specs.Timelines.{Timed}
+use Rattle.crsm_law_pending.specs.Posts.{posts}
+use Rattle.crsm_spec_plan.specs.Timelines.{Timed}
 use Rattle.crsm_delay.specs.Upcoming.{listed}
 use Rattle.crsm_delay.proofs.agenda.Agenda.add_sent.Given as goal
 

@@ -4,7 +4,7 @@ use Rattle.crsm_schedule.specs.declared.Event.{Event}
 use Rattle.crsm_spec.specs.Moments.{act}
 use Rattle.crsm_spec.specs.Possible.{possible}
 use Rattle.crsm_law_pending.specs.Agendas.{LacksPosts}
-use Rattle.crsm_law_sends.specs.Posts.{posts}
+use Rattle.crsm_law_pending.specs.Posts.{posts}
 use Rattle.crsm_law_timing.specs.SoFar.{world_after}
 use Rattle.crsm_world.specs.Doing.{act_of}
 use Rattle.crsm_world.specs.World.{WorldStands}

@@ -3,7 +3,7 @@ use Rattle.std.proofs.lemmas.Grind.{common_steps}
 use Rattle.crsm_spec.specs.Types.{Entry, Line}
 use Rattle.crsm_spec.specs.Lines.{exec_line, exec_lines}
 use Rattle.crsm_ledger.specs.Executed.{HistoryStands}
-use Rattle.crsm_log_facts.proofs.Lists.{append-none}
+use Rattle.crsm_fact_log.proofs.Lists.{append-none}
 use Rattle.crsm_ledger.proofs.ExecutedLemmas.{exec_lines-none, lines-push}
 use Rattle.crsm_ledger.proofs.history.History.execute_all.Goals as goal
 

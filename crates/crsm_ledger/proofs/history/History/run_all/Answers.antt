@@ -2,7 +2,7 @@ use Rattle.std.proofs.Common.{◌≡◌, ◌+◌, [], ◌∷◌, ◌++◌, List,
 use Rattle.std.proofs.lemmas.Grind.{common_steps}
 use Rattle.crsm_spec.specs.Types.{Entry}
 use Rattle.crsm_ledger.specs.Executed.{HistoryStands}
-use Rattle.crsm_log_facts.proofs.Lists.{append-none}
+use Rattle.crsm_fact_log.proofs.Lists.{append-none}
 use Rattle.crsm_ledger.proofs.history.History.run_all.Goals as goal
 
 pub loop-entry-init : goal.loop-entry-init

@@ -4,7 +4,7 @@ use Rattle.crsm_base.proofs.BodyLaws.{reads_on, falls, body_none, body_found}
 use Rattle.crsm_spec.specs.Log.{Log}
 use Rattle.crsm_ledger.specs.Ledger.{LedgerStands}
 use Rattle.crsm_ledger.specs.Recovered.{with_records}
-use Rattle.crsm_log_facts.proofs.Logged.{with_records-push}
+use Rattle.crsm_fact_log.proofs.Logged.{with_records-push}
 use Rattle.crsm_ledger.proofs.RecoverLemmas.{fit-push}
 use Rattle.crsm_ledger.proofs.TakenRecords.{read_so_far}
 use Rattle.crsm_ledger.proofs.ledger.Ledger.take_body.Goals as goal

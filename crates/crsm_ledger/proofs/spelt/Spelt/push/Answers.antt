@@ -1,7 +1,7 @@
 use Rattle.std.proofs.Common.{◌∙◌, ap, [], ◌∷◌, ◌++◌, List, ℕ}
 use Rattle.crsm_ledger.specs.declared.spelt.Place.{Place}
 use Rattle.crsm_ledger.specs.Pieces.{IsWithin, pieces, piece}
-use Rattle.crsm_log_facts.proofs.Lists.{all-push}
+use Rattle.crsm_fact_log.proofs.Lists.{all-push}
 use Rattle.crsm_ledger.proofs.PiecesLemmas.{all-kept, keeps-trans, pieces-kept, pieces-push}
 use Rattle.crsm_ledger.proofs.spelt.Spelt.push.Goals as goal
 

@@ -1,5 +1,5 @@
 use Rattle.std.proofs.Common.{rules, ◌≡◌, ◌∷◌, ◌<◌, length, Some, subst, arith}
-use Rattle.crsm_mpcodec.specs.Reading.{rec_at}
+use Rattle.crsm_mpledger.specs.Reading.{rec_at}
 use Rattle.crsm_mpledger.specs.MpLedger.{MpLedgerStands}
 use Rattle.crsm_mpledger.specs.Sound.{with_records}
 use Rattle.crsm_mpledger.proofs.TakenLemmas.{left_first, left_next, left_last}

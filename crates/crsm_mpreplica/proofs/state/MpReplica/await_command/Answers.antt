@@ -1,6 +1,6 @@
 use Rattle.std.proofs.Common.{◌∙◌, ◌++◌, ◌∷◌, [], ap}
 use Rattle.std.specs.Prelude.{map}
-use Rattle.crsm_log_facts.proofs.Lists.{map-push}
+use Rattle.crsm_fact_log.proofs.Lists.{map-push}
 use Rattle.crsm_mpspec.specs.Draft.{await}
 use Rattle.crsm_mpreplica.specs.State.{waiting_of}
 use Rattle.crsm_mpreplica.proofs.state.MpReplica.await_command.Goals as goal

@@ -1,5 +1,5 @@
 use Rattle.std.proofs.Common.{◌∙◌, length, ap, sym}
-use Rattle.crsm_log_facts.proofs.Lists.{length-map}
+use Rattle.crsm_fact_log.proofs.Lists.{length-map}
 use Rattle.crsm_mpreplica.specs.State.{waiting_of}
 use Rattle.crsm_mpreplica.proofs.state.MpReplica.waiting_len.Goals as goal
 

@@ -1,8 +1,8 @@
 use Rattle.std.proofs.Common.{◌≡◌, ◌<◌, ℕ, [], ◌∷◌, ◌++◌, subst}
 use Rattle.crsm_replica.specs.Replica.{ReplicaStands}
 use Rattle.crsm_base.specs.declared.datagram.Datagram.TheVariants as datagram
-use Rattle.crsm_log_facts.proofs.Lists.{all-push}
-use Rattle.crsm_output.specs.Made.{made_of, OutputStands}
+use Rattle.crsm_fact_log.proofs.Lists.{all-push}
+use Rattle.crsm_replica_output.specs.Made.{made_of, OutputStands}
 use Rattle.crsm_spec.specs.Types.{Datagram}
 use Rattle.crsm_spec.specs.Log.{known}
 use Rattle.crsm_spec.specs.Replica.{next_from}

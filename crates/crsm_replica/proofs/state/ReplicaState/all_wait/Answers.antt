@@ -2,7 +2,7 @@ use Rattle.std.proofs.Common.{◌≡◌, ◌+◌, ◌++◌, ◌∷◌, [], arith
 use Rattle.std.proofs.lemmas.Grind.{common_steps}
 use Rattle.std.proofs.lemmas.List.{take_all}
 use Rattle.std.specs.List.{AllByRecursion}
-use Rattle.crsm_log_facts.proofs.Lists.{all-push}
+use Rattle.crsm_fact_log.proofs.Lists.{all-push}
 use Rattle.crsm_replica.specs.Replica.{ReplicaStands, on_paper}
 use Rattle.crsm_replica.proofs.Replying.{Waits, replies-wait, waits-paper}
 use Rattle.crsm_replica.proofs.state.ReplicaState.all_wait.Goals as goal

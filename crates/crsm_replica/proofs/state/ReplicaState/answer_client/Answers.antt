@@ -1,7 +1,7 @@
 use Rattle.std.proofs.Common.{◌∙◌, sym, subst}
 use Rattle.std.specs.List.{AllByRecursion}
-use Rattle.crsm_results.specs.Answering.{IsTrueOf}
-use Rattle.crsm_output.specs.Made.{made_of}
+use Rattle.crsm_replica_results.specs.Answering.{IsTrueOf}
+use Rattle.crsm_replica_output.specs.Made.{made_of}
 use Rattle.crsm_spec.specs.Log.{executed}
 use Rattle.crsm_spec.specs.Draft.{Draft}
 use Rattle.crsm_replica.specs.Replica.{ReplicaStands, on_paper}

@@ -1,6 +1,6 @@
 use Rattle.std.proofs.Common.{◌≡◌, [], ◌∷◌, ◌++◌, map, ap, ◌∙◌, rules}
 use Rattle.crsm_replica.specs.Replica.{ReplicaStands}
-use Rattle.crsm_log_facts.proofs.Lists.{all-push, map-push}
+use Rattle.crsm_fact_log.proofs.Lists.{all-push, map-push}
 use Rattle.crsm_spec.specs.Replica.{Waiting}
 use Rattle.crsm_spec.specs.Clients.{await}
 use Rattle.crsm_replica.specs.declared.state.Waiting.{Waiting as WaitingInMemory}

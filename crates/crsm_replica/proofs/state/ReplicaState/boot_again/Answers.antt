@@ -1,6 +1,6 @@
 use Rattle.std.proofs.Common.{◌≡◌, ◌≤◌, subst, arith}
 use Rattle.crsm_spec.specs.Types.{Rec}
-use Rattle.crsm_output.specs.Made.{nothing}
+use Rattle.crsm_replica_output.specs.Made.{nothing}
 use Rattle.crsm_replica.specs.Recorded.{InBoth}
 use Rattle.crsm_replica.specs.Replica.{ReplicaStands, AwaitsBoot}
 use Rattle.crsm_replica.proofs.Booting.{stands_booted, same_boot}

@@ -1,5 +1,5 @@
 use Rattle.std.proofs.Common.{◌∙◌, ◌++◌, ◌∷◌, [], sym, subst, ap, map}
-use Rattle.crsm_log_facts.proofs.Lists.{all-push, map-push}
+use Rattle.crsm_fact_log.proofs.Lists.{all-push, map-push}
 use Rattle.crsm_spec.specs.Draft.{Draft}
 use Rattle.crsm_replica.specs.Sound.{FitsWaiting}
 use Rattle.crsm_replica.specs.Replica.{ReplicaStands, on_paper}

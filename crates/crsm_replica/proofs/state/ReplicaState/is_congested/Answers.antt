@@ -1,7 +1,7 @@
 use Rattle.std.proofs.Common.{ap, ◌∙◌}
 use Rattle.crsm_replica.specs.Replica.{ReplicaStands}
 use Rattle.crsm_spec.specs.Replica.{members_of}
-use Rattle.crsm_log_facts.proofs.Known.{known-members}
+use Rattle.crsm_fact_log.proofs.Known.{known-members}
 use Rattle.crsm_replica.proofs.state.ReplicaState.is_congested.Goals as goal
 
 pub returns : goal.returns

@@ -2,7 +2,7 @@ use Rattle.std.proofs.Common.{ap, ◌∙◌}
 use Rattle.crsm_replica.specs.Replica.{ReplicaStands}
 use Rattle.crsm_spec.specs.Lists.{has}
 use Rattle.crsm_spec.specs.Replica.{members_of}
-use Rattle.crsm_log_facts.proofs.Known.{known-members}
+use Rattle.crsm_fact_log.proofs.Known.{known-members}
 use Rattle.crsm_replica.proofs.state.ReplicaState.is_member.Goals as goal
 
 pub returns : goal.returns

@@ -5,7 +5,7 @@ use Rattle.crsm_spec.specs.Lists.{has}
 use Rattle.crsm_spec.specs.Log.{spec}
 use Rattle.crsm_spec.specs.Types.{Decision}
 use Rattle.crsm_spec.specs.Replica.{spec_of}
-use Rattle.crsm_log_facts.proofs.Known.{known-spec}
+use Rattle.crsm_fact_log.proofs.Known.{known-spec}
 use Rattle.crsm_replica.specs.Replica.{ReplicaStands}
 use Rattle.crsm_replica.proofs.Excepting.{among_named, among_first}
 use Rattle.crsm_replica.proofs.state.ReplicaState.is_of_spec.Goals as goal

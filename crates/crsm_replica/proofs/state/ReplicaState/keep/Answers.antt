@@ -1,7 +1,7 @@
 use Rattle.std.proofs.Common.{sym, subst}
 use Rattle.std.specs.Prelude.{Option}
-use Rattle.crsm_coordinator.specs.Coordinator.{CoordinatorStands}
-use Rattle.crsm_output.specs.Made.{made_of}
+use Rattle.crsm_replica_coordinator.specs.Coordinator.{CoordinatorStands}
+use Rattle.crsm_replica_output.specs.Made.{made_of}
 use Rattle.crsm_spec.specs.Types.{Decision}
 use Rattle.crsm_spec.specs.Fits.{fits}
 use Rattle.crsm_spec.specs.Draft.{keep}

@@ -1,6 +1,6 @@
 use Rattle.std.proofs.Common.{ap, ◌∙◌}
 use Rattle.crsm_replica.specs.Replica.{ReplicaStands}
-use Rattle.crsm_log_facts.proofs.Known.{known-epoch}
+use Rattle.crsm_fact_log.proofs.Known.{known-epoch}
 use Rattle.crsm_replica.proofs.state.ReplicaState.known.Goals as goal
 
 pub returns : goal.returns

@@ -1,6 +1,6 @@
 use Rattle.std.proofs.Common.{[], ◌∷◌, refl, sym, subst, rules, true, false}
 use Rattle.crsm_replica.specs.Replica.{ReplicaStands}
-use Rattle.crsm_output.specs.Made.{made_of}
+use Rattle.crsm_replica_output.specs.Made.{made_of}
 use Rattle.crsm_spec.specs.Types.{Rec}
 use Rattle.crsm_spec.specs.Fits.{fits}
 use Rattle.crsm_spec.specs.Draft.{keep}

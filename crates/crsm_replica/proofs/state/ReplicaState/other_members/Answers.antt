@@ -1,7 +1,7 @@
 use Rattle.std.proofs.Common.{◌≡◌, ◌∙◌, ℕ, ap, subst, List}
 use Rattle.crsm_spec.specs.Types.{Decision}
 use Rattle.crsm_spec.specs.Replica.{members_of, other_members}
-use Rattle.crsm_log_facts.proofs.Known.{known-members}
+use Rattle.crsm_fact_log.proofs.Known.{known-members}
 use Rattle.crsm_replica.specs.Replica.{ReplicaStands}
 use Rattle.crsm_replica.proofs.Excepting.{but_for}
 use Rattle.crsm_replica.proofs.state.ReplicaState.other_members.Goals as goal

@@ -1,12 +1,12 @@
 use Rattle.std.proofs.Common.{◌≡◌, ◌∙◌, ◌<◌, ap, arith}
 use Rattle.std.specs.Prelude.{◌==◌, not}
 use Rattle.std.proofs.lemmas.List.Elements.{All-filter}
-use Rattle.crsm_output.specs.Made.{made_of}
-use Rattle.crsm_epoch_state.specs.Linked.{others_of}
+use Rattle.crsm_replica_output.specs.Made.{made_of}
+use Rattle.crsm_replica_epoch.specs.Linked.{others_of}
 use Rattle.crsm_spec.specs.Draft.{would}
 use Rattle.crsm_spec.specs.Log.{known}
 use Rattle.crsm_spec.specs.Replica.{members_of, other_members}
-use Rattle.crsm_log_facts.proofs.Known.{known-epoch, known-members}
+use Rattle.crsm_fact_log.proofs.Known.{known-epoch, known-members}
 use Rattle.crsm_replica.specs.Replica.{ReplicaStands}
 use Rattle.crsm_replica.proofs.Framed.{pushed}
 use Rattle.crsm_replica.proofs.state.ReplicaState.push_at.Goals as goal

@@ -4,8 +4,8 @@ use Rattle.std.specs.Prelude.{Option}
 use Rattle.crsm_base.specs.Spelling.{FitsOption, FitsStamp}
 use Rattle.crsm_spec.specs.Types.{Stamp}
 use Rattle.crsm_spec.specs.Replica.{members_of, spec_of}
-use Rattle.crsm_epoch_state.specs.First.{ready_of}
-use Rattle.crsm_log_facts.proofs.Known.{known-members}
+use Rattle.crsm_replica_epoch.specs.First.{ready_of}
+use Rattle.crsm_fact_log.proofs.Known.{known-members}
 use Rattle.crsm_replica.proofs.Known.{ready-fits}
 use Rattle.crsm_replica.proofs.state.ReplicaState.ready.Goals as goal
 

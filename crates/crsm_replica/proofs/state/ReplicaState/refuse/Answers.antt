@@ -1,7 +1,7 @@
 use Rattle.std.proofs.Common.{ℕ, [], ◌∷◌, ◌++◌, subst, rules}
 use Rattle.crsm_replica.specs.Replica.{ReplicaStands}
-use Rattle.crsm_log_facts.proofs.Lists.{all-push}
-use Rattle.crsm_output.specs.Made.{made_of, OutputStands, on_paper}
+use Rattle.crsm_fact_log.proofs.Lists.{all-push}
+use Rattle.crsm_replica_output.specs.Made.{made_of, OutputStands, on_paper}
 use Rattle.crsm_base.specs.Spelling.{refusal_number}
 use Rattle.crsm_spec.specs.Types.{Line, Outcome}
 use Rattle.crsm_spec.specs.Draft.{Reply, reply}

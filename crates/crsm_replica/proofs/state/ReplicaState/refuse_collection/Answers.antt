@@ -1,6 +1,6 @@
 use Rattle.std.proofs.Common.{◌≡◌, [], ◌∷◌, ◌++◌, subst}
 use Rattle.crsm_replica.specs.Replica.{ReplicaStands}
-use Rattle.crsm_output.specs.Made.{made_of, OutputStands}
+use Rattle.crsm_replica_output.specs.Made.{made_of, OutputStands}
 use Rattle.crsm_spec.specs.Types.{Line}
 use Rattle.crsm_spec.specs.Log.{known}
 use Rattle.crsm_replica.proofs.Rebuilt.{sent}

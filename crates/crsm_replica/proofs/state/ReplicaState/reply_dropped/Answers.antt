@@ -1,6 +1,6 @@
 use Rattle.std.proofs.Common.{ℕ, ◌++◌, ◌∷◌, [], subst}
-use Rattle.crsm_log_facts.proofs.Lists.{all-push}
-use Rattle.crsm_output.specs.Made.{made_of, OutputStands, on_paper as on_paper_too}
+use Rattle.crsm_fact_log.proofs.Lists.{all-push}
+use Rattle.crsm_replica_output.specs.Made.{made_of, OutputStands, on_paper as on_paper_too}
 use Rattle.crsm_spec.specs.Types.{Line, Outcome, Refusal}
 use Rattle.crsm_spec.specs.Clients.{reply_dropped}
 use Rattle.crsm_spec.specs.Draft.{Reply, reply}

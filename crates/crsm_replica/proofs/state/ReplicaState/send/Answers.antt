@@ -1,7 +1,7 @@
 use Rattle.std.proofs.Common.{[], ◌∷◌, ◌++◌}
 use Rattle.crsm_replica.specs.Replica.{ReplicaStands}
-use Rattle.crsm_log_facts.proofs.Lists.{all-push}
-use Rattle.crsm_output.specs.Made.{made_of}
+use Rattle.crsm_fact_log.proofs.Lists.{all-push}
+use Rattle.crsm_replica_output.specs.Made.{made_of}
 use Rattle.crsm_spec.specs.Draft.{send}
 use Rattle.crsm_replica.specs.Sound.{FitsSend}
 use Rattle.crsm_replica.proofs.Rebuilt.{sent}

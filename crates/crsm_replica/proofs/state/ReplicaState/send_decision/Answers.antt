@@ -1,6 +1,6 @@
 use Rattle.std.proofs.Common.{◌≡◌, ◌∙◌, ℕ, List, ap, arith, subst, sym, Some}
 use Rattle.crsm_base.specs.Spelling.{FitsDecision}
-use Rattle.crsm_output.specs.Spellings.{IsSpellingOf}
+use Rattle.crsm_replica_output.specs.Spellings.{IsSpellingOf}
 use Rattle.crsm_spec.specs.Types.{Decision, Control}
 use Rattle.crsm_spec.specs.Log.{decision}
 use Rattle.crsm_spec.specs.Draft.{Draft}

@@ -2,7 +2,7 @@ use Rattle.std.proofs.Common.{◌≡◌, ◌∙◌, ◌<◌, ◌^◌, ap, subst,
 use Rattle.crsm_spec.specs.Types.{Control}
 use Rattle.crsm_spec.specs.Log.{known, executed}
 use Rattle.crsm_spec.specs.Draft.{send_control, retrieve, send_retrieve}
-use Rattle.crsm_log_facts.proofs.Known.{known-epoch}
+use Rattle.crsm_fact_log.proofs.Known.{known-epoch}
 use Rattle.crsm_replica.specs.Replica.{ReplicaStands}
 use Rattle.crsm_replica.proofs.Framed.{known-fits}
 use Rattle.crsm_replica.proofs.state.ReplicaState.send_retrieve.Goals as goal

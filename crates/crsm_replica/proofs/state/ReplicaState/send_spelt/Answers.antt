@@ -1,6 +1,6 @@
 use Rattle.std.proofs.Common.{◌≡◌, ◌<◌, ℕ, ◌+◌, sym, ap, ◌∙◌, subst, arith}
 use Rattle.crsm_replica.specs.Replica.{ReplicaStands}
-use Rattle.crsm_output.specs.Made.{made_of}
+use Rattle.crsm_replica_output.specs.Made.{made_of}
 use Rattle.crsm_spec.specs.Log.{boots}
 use Rattle.crsm_spec.specs.Draft.{Draft, send_control, parts_to}
 use Rattle.crsm_replica.proofs.Rebuilt.{sent_one, chosen_x, other_x, is_last, not_last}

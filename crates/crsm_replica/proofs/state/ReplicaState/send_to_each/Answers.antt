@@ -1,7 +1,7 @@
 use Rattle.std.proofs.Common.{ℕ, List, subst, sym, arith, take}
 use Rattle.std.proofs.lemmas.List.{nil_from_length, take_all}
 use Rattle.crsm_spec.specs.Draft.{Draft, send_to_each}
-use Rattle.crsm_output.specs.Spellings.{IsSpellingOf}
+use Rattle.crsm_replica_output.specs.Spellings.{IsSpellingOf}
 use Rattle.crsm_replica.specs.Replica.{ReplicaStands}
 use Rattle.crsm_replica.proofs.SendingControls.{send_control-more, send_control-none}
 use Rattle.crsm_replica.proofs.state.ReplicaState.send_to_each.Goals as goal

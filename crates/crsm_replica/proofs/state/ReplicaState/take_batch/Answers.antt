@@ -1,5 +1,5 @@
 use Rattle.crsm_replica.specs.Replica.{ReplicaStands}
-use Rattle.crsm_output.specs.Made.{made_of}
+use Rattle.crsm_replica_output.specs.Made.{made_of}
 use Rattle.crsm_replica.proofs.Rebuilt.{begun_again}
 use Rattle.crsm_replica.proofs.state.ReplicaState.take_batch.Goals as goal
 

@@ -1,7 +1,7 @@
 use Rattle.std.proofs.Common.{◌≡◌, sym, subst, rules}
 use Rattle.crsm_replica.specs.Replica.{ReplicaStands}
-use Rattle.crsm_coordinator.specs.declared.coordinator.Coordinator.{Coordinator as CoordinatorInMemory}
-use Rattle.crsm_coordinator.specs.Coordinator.{CoordinatorStands}
+use Rattle.crsm_replica_coordinator.specs.declared.coordinator.Coordinator.{Coordinator as CoordinatorInMemory}
+use Rattle.crsm_replica_coordinator.specs.Coordinator.{CoordinatorStands}
 use Rattle.crsm_spec.specs.Log.{decision}
 use Rattle.crsm_spec.specs.Replica.{Coordinator}
 use Rattle.crsm_spec.specs.Draft.{noting}

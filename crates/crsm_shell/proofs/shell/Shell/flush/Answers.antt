@@ -7,7 +7,7 @@ use Rattle.crsm_log.specs.Format.{bodies_of}
 use Rattle.crsm_log.specs.Log.{Used, recorded}
 use Rattle.crsm_log.specs.Words as logs
 use Rattle.crsm_port.specs.Meaning.{Packet}
-use Rattle.crsm_turns.specs.Outgoing.{packets_for}
+use Rattle.crsm_replica_io.specs.Outgoing.{packets_for}
 use Rattle.crsm_shell.specs.declared.errors.TurnError.{TurnError}
 use Rattle.crsm_shell.specs.declared.errors.TurnError.TheVariants as errors
 use Rattle.crsm_shell.specs.Flushing.{Adds, IsLeft, SendsPackets, keep_calls, keep_count}

@@ -7,14 +7,14 @@ use Rattle.crsm_base.specs.Records.{FitsRec, body_bytes}
 use Rattle.crsm_core.specs.Core.{Answers, CoreStands, FitsSent}
 use Rattle.crsm_core.specs.declared.replica.Core.{Core}
 use Rattle.crsm_spec.specs.Node.{turn}
-use Rattle.crsm_turns.specs.Outgoing.{FitsSend, packets_for}
+use Rattle.crsm_replica_io.specs.Outgoing.{FitsSend, packets_for}
 use Rattle.crsm_shell.specs.Shell.{ShellStands}
 use Rattle.crsm_shell.specs.Taking.{turn_of}
 use Rattle.crsm_shell.specs.Words.{disk_of}
 use Rattle.crsm_shell.proofs.Groups.{inside}
 use Rattle.crsm_shell.proofs.Pending.{one_more, sent_fit}
 use Rattle.crsm_shell.proofs.Propositions.{records_prop, sends_prop}
-use Rattle.crsm_step_facts.proofs.Batches.{turn_grown}
+use Rattle.crsm_fact_step.proofs.Batches.{turn_grown}
 use Rattle.crsm_shell.proofs.shell.Shell.step.Goals as goal
 
 pub write_records-requires : goal.write_records-requires

@@ -4,8 +4,8 @@ use Rattle.std.proofs.lemmas.Result.{err_from_is_err_and}
 use Rattle.crsm_spec.specs.World.{body_size}
 use Rattle.crsm_core.specs.Core.{Answers}
 use Rattle.crsm_disk.specs.Meaning.{Same}
-use Rattle.crsm_turns.specs.Input.{TakesInput}
-use Rattle.crsm_turns.specs.Outgoing.{packets_for}
+use Rattle.crsm_replica_io.specs.Input.{TakesInput}
+use Rattle.crsm_replica_io.specs.Outgoing.{packets_for}
 use Rattle.crsm_shell.specs.declared.errors.TurnError.{TurnError}
 use Rattle.crsm_shell.specs.declared.errors.TurnError.TheVariants as errors
 use Rattle.crsm_shell.specs.declared.turned.Turned.{Turned}

@@ -1,5 +1,5 @@
 use Rattle.std.proofs.Common.{◌≡◌, ◌∙◌, length, sym, subst, true}
-use Rattle.crsm_generator.specs.View.{View, fresh_seen}
+use Rattle.crsm_sim_generator.specs.View.{View, fresh_seen}
 use Rattle.crsm_world.specs.Seen.{is_receiver}
 use Rattle.crsm_world.specs.World.{WorldStands}
 use Rattle.crsm_world.proofs.Looking.{fresh_count}

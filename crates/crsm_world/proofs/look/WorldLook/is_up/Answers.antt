@@ -1,5 +1,5 @@
 use Rattle.std.proofs.Common.{◌≡◌, ◌∙◌, ap, sym, subst}
-use Rattle.crsm_generator.specs.View.{View, is_up_in as is_seen_up}
+use Rattle.crsm_sim_generator.specs.View.{View, is_up_in as is_seen_up}
 use Rattle.crsm_world.specs.Machines.{is_up_in}
 use Rattle.crsm_world.specs.World.{WorldStands}
 use Rattle.crsm_world.proofs.Looking.{seen_up_in}

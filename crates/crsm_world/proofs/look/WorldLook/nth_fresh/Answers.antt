@@ -1,6 +1,6 @@
 use Rattle.std.proofs.Common.{◌≡◌, ◌<◌, ◌∙◌, length, sym, subst, true, ℕ, Some}
 use Rattle.std.specs.Prelude.{slice_get}
-use Rattle.crsm_generator.specs.View.{View, fresh_seen}
+use Rattle.crsm_sim_generator.specs.View.{View, fresh_seen}
 use Rattle.crsm_world.specs.Seen.{is_receiver}
 use Rattle.crsm_world.specs.World.{WorldStands}
 use Rattle.crsm_world.proofs.Looking.{fresh_count, fresh_nth}

@@ -1,6 +1,6 @@
 use Rattle.std.proofs.Common.{◌≡◌, ◌∙◌, length, sym, subst}
 use Rattle.std.proofs.lemmas.List.{length-map}
-use Rattle.crsm_generator.specs.View.{View}
+use Rattle.crsm_sim_generator.specs.View.{View}
 use Rattle.crsm_spec.specs.World.{is_up}
 use Rattle.crsm_world.specs.Seen.{view_of}
 use Rattle.crsm_world.specs.World.{WorldStands}

@@ -1,6 +1,6 @@
 use Rattle.std.proofs.Common.{◌∙◌, ap, sym}
 use Rattle.std.specs.Prelude.{nat_eq, ◌||◌, ◌&&◌}
-use Rattle.crsm_network.proofs.Receiving.{alike}
+use Rattle.crsm_sim_network.proofs.Receiving.{alike}
 use Rattle.crsm_world.specs.Machines.{is_up_in}
 use Rattle.crsm_world.proofs.Looking.{added_down, added_up}
 use Rattle.crsm_world.proofs.machines.Machines.add_up.Goals as goal

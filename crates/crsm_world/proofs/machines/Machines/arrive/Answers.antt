@@ -3,7 +3,7 @@ use Rattle.std.proofs.Common.{◌∙◌, ap, sym}
 use Rattle.crsm_spec.specs.World.{whole_step, cut_step, lost_step}
 use Rattle.crsm_spec.specs.Moments.{cut_at}
 use Rattle.crsm_spec.specs.Node.{turn}
-use Rattle.crsm_machine.specs.Arriving.{turn_of}
+use Rattle.crsm_sim_machine.specs.Arriving.{turn_of}
 use Rattle.crsm_world.specs.Turning.{ending_of}
 use Rattle.crsm_world.proofs.Turns.{lost_at, turn_silent, up_found}
 use Rattle.crsm_world.proofs.Leading.{leaves_as, leaves_here}

@@ -1,8 +1,8 @@
 use Rattle.std.proofs.Common.{◌≡◌, ◌∙◌, ap, sym, subst, arith}
 use Rattle.std.proofs.Common.{◌<◌, ℕ, List, length, get_or}
 use Rattle.crsm_spec.specs.World.{final_line}
-use Rattle.crsm_machine.specs.declared.Machine.{Machine}
-use Rattle.crsm_machine.specs.Machine.{MachineStands}
+use Rattle.crsm_sim_machine.specs.declared.Machine.{Machine}
+use Rattle.crsm_sim_machine.specs.Machine.{MachineStands}
 use Rattle.crsm_world.proofs.Sites.{finals_next, finals_done}
 use Rattle.crsm_world.proofs.machines.Machines.finals.Goals as goal
 

@@ -1,7 +1,7 @@
 use Rattle.std.proofs.Common.{◌∙◌, sym, subst, arith}
 use Rattle.std.proofs.Common.{ℕ, []}
 use Rattle.crsm_spec.specs.World.{Site}
-use Rattle.crsm_machine.specs.Machine.{MachineStands}
+use Rattle.crsm_sim_machine.specs.Machine.{MachineStands}
 use Rattle.crsm_world.proofs.Sites.{roomed_new, roomed_old}
 use Rattle.crsm_world.proofs.machines.Machines.make_room.Goals as goal
 use Rattle.crsm_world.proofs.machines.Machines.make_room.Goals.{else-k-count-via-then-k-count+else-k-from, else-k-count-via-else-k-count}

@@ -1,6 +1,6 @@
 use Rattle.std.proofs.Common.{refl, subst, sym, arith, List, []}
-use Rattle.crsm_machine.specs.declared.Machine.{Machine}
-use Rattle.crsm_machine.specs.Outcomes.{IsWell}
+use Rattle.crsm_sim_machine.specs.declared.Machine.{Machine}
+use Rattle.crsm_sim_machine.specs.Outcomes.{IsWell}
 use Rattle.crsm_port.specs.Memory.{Memory}
 use Rattle.crsm_world.specs.Machines.{EachIs, IsSite}
 use Rattle.crsm_world.proofs.machines.Machines.new.Goals as goal

@@ -1,6 +1,6 @@
 use Rattle.std.proofs.Common.{◌≤◌, arith, length, false}
 use Rattle.std.specs.Prelude.{nat_eq, nat_lt, ◌||◌, ◌&&◌}
-use Rattle.crsm_network.proofs.Receiving.{alike}
+use Rattle.crsm_sim_network.proofs.Receiving.{alike}
 use Rattle.crsm_world.specs.Machines.{is_up_in}
 use Rattle.crsm_world.proofs.Looking.{all_up, none_up, one_up}
 use Rattle.crsm_world.proofs.machines.Machines.receivers.Goals as goal

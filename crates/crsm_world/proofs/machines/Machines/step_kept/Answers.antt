@@ -1,8 +1,8 @@
 use Rattle.std.proofs.Common.{refl, subst, sym, take, List}
 use Rattle.crsm_spec.specs.World.{Site, log_of}
 use Rattle.crsm_spec.specs.Node.{turn}
-use Rattle.crsm_machine.specs.Arriving.{turn_of}
-use Rattle.crsm_network.specs.Packets.{AreSpelt}
+use Rattle.crsm_sim_machine.specs.Arriving.{turn_of}
+use Rattle.crsm_sim_network.specs.Packets.{AreSpelt}
 use Rattle.crsm_port.specs.Memory.{Memory}
 use Rattle.crsm_world.specs.Machines.{MachinesStand}
 use Rattle.crsm_world.proofs.Letting.{spelt_first, spelt_one}

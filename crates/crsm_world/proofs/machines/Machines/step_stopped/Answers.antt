@@ -1,8 +1,8 @@
 use Rattle.std.proofs.Common.{refl, subst, Option}
 use Rattle.crsm_spec.specs.World.{Site, log_of, cut_step}
 use Rattle.crsm_spec.specs.Node.{turn}
-use Rattle.crsm_machine.specs.Arriving.{turn_of}
-use Rattle.crsm_machine.specs.declared.Step.{Step}
+use Rattle.crsm_sim_machine.specs.Arriving.{turn_of}
+use Rattle.crsm_sim_machine.specs.declared.Step.{Step}
 use Rattle.crsm_spec.specs.World.{down}
 use Rattle.crsm_world.specs.Effects.{Leaves}
 use Rattle.crsm_world.specs.declared.ending.Effects.TheVariants as effects

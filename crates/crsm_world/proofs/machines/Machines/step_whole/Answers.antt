@@ -1,6 +1,6 @@
 use Rattle.std.proofs.Common.{refl}
 use Rattle.crsm_spec.specs.Node.{turn}
-use Rattle.crsm_machine.specs.Arriving.{turn_of}
+use Rattle.crsm_sim_machine.specs.Arriving.{turn_of}
 use Rattle.crsm_world.proofs.Letting.{spelt_one}
 use Rattle.crsm_world.proofs.machines.Machines.step_whole.Goals as goal
 

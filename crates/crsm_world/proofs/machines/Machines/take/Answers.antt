@@ -1,9 +1,9 @@
 use Rattle.std.proofs.Common.{◌++◌, ◌∷◌, [], subst}
 use Rattle.crsm_spec.specs.Replica.{Replica}
 use Rattle.crsm_spec.specs.Node.{turn}
-use Rattle.crsm_machine.specs.Arriving.{turn_of}
-use Rattle.crsm_machine.specs.Outcomes.{Makes}
-use Rattle.crsm_machine.specs.Machine.{MachinePends}
+use Rattle.crsm_sim_machine.specs.Arriving.{turn_of}
+use Rattle.crsm_sim_machine.specs.Outcomes.{Makes}
+use Rattle.crsm_sim_machine.specs.Machine.{MachinePends}
 use Rattle.crsm_world.proofs.Sites.{take_set}
 use Rattle.crsm_world.proofs.machines.Machines.take.Goals as goal
 

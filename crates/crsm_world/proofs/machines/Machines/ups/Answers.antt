@@ -1,6 +1,6 @@
 use Rattle.std.proofs.Common.{◌≡◌, ◌<◌, ◌≤◌, ◌∙◌, ap, arith, subst, List, length, map, get_or, take_all}
 use Rattle.crsm_spec.specs.World.{is_up}
-use Rattle.crsm_machine.specs.declared.Machine.{Machine}
+use Rattle.crsm_sim_machine.specs.declared.Machine.{Machine}
 use Rattle.crsm_world.proofs.Sites.{machines_length}
 use Rattle.crsm_world.proofs.Due.{ups_next}
 use Rattle.crsm_world.proofs.machines.Machines.ups.Goals as goal

@@ -1,7 +1,7 @@
 use Rattle.std.proofs.Common.{◌∙◌, ap, sym, subst}
 use Rattle.crsm_spec.specs.Node.{Turn}
 use Rattle.crsm_spec.specs.Moments.{single}
-use Rattle.crsm_machine.specs.Arriving.{turn_of}
+use Rattle.crsm_sim_machine.specs.Arriving.{turn_of}
 use Rattle.crsm_world.specs.Turning.{ending_of, turn_at}
 use Rattle.crsm_spec.specs.Types.{Datagram}
 use Rattle.crsm_schedule.specs.declared.Single.{Single}

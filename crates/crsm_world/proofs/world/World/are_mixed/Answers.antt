@@ -1,7 +1,7 @@
 use Rattle.std.proofs.Common.{◌∙◌, ◌==◌, not, ap, sym}
 use Rattle.std.specs.List.{list_any}
 use Rattle.crsm_spec.specs.Possible.{are_mixed, receivers, is_not_sent}
-use Rattle.crsm_network.specs.Packets.{receiver_or}
+use Rattle.crsm_sim_network.specs.Packets.{receiver_or}
 use Rattle.crsm_world.proofs.Reasons.{mixed, not_mixed, empty_is}
 use Rattle.crsm_world.proofs.world.World.are_mixed.Goals as goal
 

@@ -1,4 +1,4 @@
-use Rattle.crsm_machine.specs.Arriving.{turn_of}
+use Rattle.crsm_sim_machine.specs.Arriving.{turn_of}
 use Rattle.crsm_world.proofs.world.World.bytes_arrive.Goals as goal
 
 pub returns : goal.returns

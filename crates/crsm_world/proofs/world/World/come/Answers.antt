@@ -1,7 +1,7 @@
 use Rattle.std.proofs.Common.{◌∙◌, ap, sym}
 use Rattle.crsm_spec.specs.Node.{Turn}
 use Rattle.crsm_spec.specs.Moments.{come}
-use Rattle.crsm_machine.specs.Arriving.{turn_of}
+use Rattle.crsm_sim_machine.specs.Arriving.{turn_of}
 use Rattle.crsm_world.specs.Turning.{ending_of, turn_at}
 use Rattle.crsm_world.proofs.Turns.{come_missed, come_found}
 use Rattle.crsm_world.proofs.Leading.{on_as, on_still}

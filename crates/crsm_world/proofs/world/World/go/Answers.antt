@@ -2,7 +2,7 @@ use Rattle.std.proofs.Common.{sym}
 use Rattle.std.specs.Prelude.{slice_get}
 use Rattle.crsm_spec.specs.Moments.{single, come, use_up}
 use Rattle.crsm_world.specs.Turning.{ending_of}
-use Rattle.crsm_network.specs.Packets.{used_up}
+use Rattle.crsm_sim_network.specs.Packets.{used_up}
 use Rattle.crsm_world.proofs.Turns.{come_used}
 use Rattle.crsm_world.proofs.Leading.{on_as, on_begun}
 use Rattle.crsm_world.proofs.world.World.go.Goals as goal

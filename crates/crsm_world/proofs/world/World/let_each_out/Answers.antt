@@ -1,7 +1,7 @@
 use Rattle.std.proofs.Common.{◌≡◌, [], ◌∷◌, ◌∙◌, ap, sym, subst, arith, List, length}
 use Rattle.std.specs.List.{AllByRecursion}
 use Rattle.std.specs.Vec.Iter.{into_iter_items}
-use Rattle.crsm_network.specs.Packets.{AreSpelt}
+use Rattle.crsm_sim_network.specs.Packets.{AreSpelt}
 use Rattle.crsm_port.specs.Meaning.{Packet as Sent}
 use Rattle.crsm_world.specs.declared.groups.Taken.{Taken}
 use Rattle.crsm_world.specs.Machines.{MachinesStand}

@@ -1,8 +1,8 @@
 use Rattle.std.proofs.Common.{◌≡◌, ℕ, List, length}
 use Rattle.std.specs.List.{AllByRecursion}
 use Rattle.std.specs.Vec.Iter.{into_iter_items, into_iter_len}
-use Rattle.crsm_machine.specs.Outcomes.{Sends}
-use Rattle.crsm_network.specs.Packets.{NetworkStands}
+use Rattle.crsm_sim_machine.specs.Outcomes.{Sends}
+use Rattle.crsm_sim_network.specs.Packets.{NetworkStands}
 use Rattle.crsm_spec.specs.Draft.{Draft}
 use Rattle.crsm_spec.specs.World as on_paper
 use Rattle.crsm_world.specs.Several.{FitsTaken, Runs}

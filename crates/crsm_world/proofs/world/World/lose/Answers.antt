@@ -1,5 +1,5 @@
 use Rattle.crsm_spec.specs.Moments.{act, moments_of, world_after, lines_of, silent, use_up}
-use Rattle.crsm_network.specs.Packets.{used_up}
+use Rattle.crsm_sim_network.specs.Packets.{used_up}
 use Rattle.crsm_world.proofs.world.World.lose.Goals as goal
 
 pub returns : goal.returns

@@ -1,5 +1,5 @@
 use Rattle.std.proofs.Common.{◌==◌, not, sym}
-use Rattle.crsm_network.specs.Packets.{receiver_or}
+use Rattle.crsm_sim_network.specs.Packets.{receiver_or}
 use Rattle.crsm_world.proofs.Reasons.{any_here, any_next, any_end, differs, agrees}
 use Rattle.crsm_world.proofs.world.World.one_is_for_another.Goals as goal
 

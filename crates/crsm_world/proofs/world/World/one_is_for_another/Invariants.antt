@@ -2,7 +2,7 @@ use Rattle.std.proofs.Common.{◌≡◌, ◌==◌, not, false, take}
 use Rattle.std.specs.List.{list_any}
 use Rattle.crsm_spec.specs.World as on_paper
 use Rattle.crsm_world.specs.World.{Holds}
-use Rattle.crsm_network.specs.Packets.{receiver_or}
+use Rattle.crsm_sim_network.specs.Packets.{receiver_or}
 use Rattle.crsm_world.proofs.world.World.one_is_for_another.Given as goal
 
 abbrev pub invariant-loop-number : goal.invariant-loop-number

@@ -1,6 +1,6 @@
 use Rattle.std.proofs.Common.{Bool, true, false, sym, subst}
-use Rattle.crsm_network.proofs.Receiving.{alike}
-use Rattle.crsm_network.specs.Packets.{Receives}
+use Rattle.crsm_sim_network.proofs.Receiving.{alike}
+use Rattle.crsm_sim_network.specs.Packets.{Receives}
 use Rattle.crsm_world.specs.Machines.{is_up_in}
 use Rattle.crsm_world.specs.Seen.{is_receiver}
 use Rattle.crsm_world.specs.World.{WorldStands}

@@ -1,6 +1,6 @@
 use Rattle.std.proofs.Common.{◌∙◌, subst, ap, List, ℕ}
 use Rattle.std.specs.Prelude.{filter}
-use Rattle.crsm_network.specs.Packets.{is_fresh_for, is_up_among, numbers_of}
+use Rattle.crsm_sim_network.specs.Packets.{is_fresh_for, is_up_among, numbers_of}
 use Rattle.crsm_world.specs.Several.{each_gone}
 use Rattle.crsm_world.specs.World.{Leads}
 use Rattle.crsm_world.proofs.Due.{those_due}

@@ -2,7 +2,7 @@ use Rattle.std.proofs.Common.{◌≡◌, ◌∙◌, ap, sym, subst, Some}
 use Rattle.std.specs.Prelude.{slice_get}
 use Rattle.std.proofs.lemmas.Option.{IfSome_then}
 use Rattle.crsm_spec.specs.World.{Site}
-use Rattle.crsm_machine.specs.Machine.{MachineStands}
+use Rattle.crsm_sim_machine.specs.Machine.{MachineStands}
 use Rattle.crsm_world.specs.Machines.{is_up_in}
 use Rattle.crsm_world.specs.World.{WorldStands}
 use Rattle.crsm_world.proofs.Reasons.{up_is}

@@ -1,5 +1,5 @@
 use Rattle.std.proofs.Common.{refl}
-use Rattle.crsm_machine.specs.Arriving.{turn_of}
+use Rattle.crsm_sim_machine.specs.Arriving.{turn_of}
 use Rattle.crsm_world.proofs.Series.{taken}
 use Rattle.crsm_world.proofs.world.World.take.Goals as goal
 

@@ -1,7 +1,7 @@
 use Rattle.std.proofs.Common.{sym, take_all}
 use Rattle.std.proofs.lemmas.List.Sums.{fold_more}
 use Rattle.crsm_spec.specs.Moments.{use_up}
-use Rattle.crsm_network.specs.Packets.{used_up}
+use Rattle.crsm_sim_network.specs.Packets.{used_up}
 use Rattle.crsm_world.proofs.world.World.use_up_all.Goals as goal
 
 pub loop-number-preserved : goal.loop-number-preserved

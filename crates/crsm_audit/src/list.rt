@@ -1,0 +1,106 @@
+//! Lists of entries, each as its bytes.
+
+ghost use Rattle.std.specs.Prelude.{◌≡◌, ◌≢◌, ◌≤◌, ℕ, false, IsTrue, List, Some, IfOk, IfSome, IfNone, slice_get};
+ghost use Rattle.std.specs.List.{AllByRecursion};
+ghost use Rattle.crsm_base.specs.Spelling.{FitsEntry, entry_bytes};
+ghost use Rattle.crsm_base.specs.declared.Entry.{Entry};
+ghost use Rattle.crsm_audit.specs.Accounts.{spelt};
+ghost use Rattle.crsm_audit.specs.Lists.{Differs, IsWithin};
+ghost use Rattle.crsm_audit.specs.Lists as on_paper;
+
+use crate::place::Place;
+use crsm_base::{Bodies, Entry, NoMemory, never};
+use crsm_codec::read_entry;
+use std::alloc::Global;
+
+/// Whether the list has these bytes at this place.
+pub(crate) fn has_at(list: &Bodies, place: usize, bytes: &[u8]) -> bool
+    ensures yes { IsTrue result → slice_get list.now place ≡ Some bytes.now }
+    ensures no { result ≡ false → slice_get list.now place ≢ Some bytes.now }
+{
+    match list.get(place) {
+        Some(other) => other == bytes,
+        None => false,
+    }
+}
+
+/// The first place at which a list has an entry that the other has not there.
+pub(crate) fn first_difference(list: &Bodies, one: &Bodies) -> Option<usize>
+    ensures found { IfSome result (Differs list.now one.now) }
+    ensures none { IfNone result (IsWithin list.now one.now) }
+{
+    for place in 0..list.len() {
+        let Some(bytes) = list.get(place) else {
+            unreachable!();
+        };
+        if !has_at(one, place, bytes) {
+            return Some(place);
+        }
+    }
+    None
+}
+
+/// A place from this one on at which the list has these bytes.
+fn find_from(list: &Bodies, from: usize, bytes: &[u8]) -> Option<usize>
+    ensures found { IfSome result (λ p. slice_get list.now p ≡ Some bytes.now) }
+    ensures none { IfNone result ((p : ℕ) → from ≤ p → slice_get list.now p ≢ Some bytes.now) }
+{
+    for place in from..list.len() {
+        if has_at(list, place, bytes) {
+            return Some(place);
+        }
+    }
+    None
+}
+
+/// A place at which the list has these bytes; it is looked for from this place on, and then from the beginning.
+pub(crate) fn find(list: &Bodies, from: usize, bytes: &[u8]) -> Option<usize>
+    ensures found { IfSome result (λ p. slice_get list.now p ≡ Some bytes.now) }
+    ensures none { IfNone result ((p : ℕ) → slice_get list.now p ≢ Some bytes.now) }
+{
+    match find_from(list, from, bytes) {
+        Some(place) => Some(place),
+        None => find_from(list, 0, bytes),
+    }
+}
+
+/// The name of an entry.
+fn name_of(entry: &Entry) -> Place
+    ensures { result ≡ on_paper.place_of entry.now }
+{
+    Place {
+        epoch: entry.epoch,
+        stamp: entry.stamp,
+        client: entry.command.client,
+        number: entry.command.number,
+    }
+}
+
+/// Lets a value go, in a function of its own, which keeps the cases of the value out of its caller's proof.
+fn discard<T: Drop>(_value: T) {}
+
+/// The name of an entry with these bytes.
+fn place_of(alloc: Global, bytes: &[u8]) -> Result<Place, NoMemory>
+    ensures { (e : Entry) → FitsEntry e → bytes.now ≡ entry_bytes e → IfOk result (λ place. place ≡ on_paper.place_of e) }
+{
+    let Some((entry, _)) = read_entry(alloc, bytes)? else {
+        return Err(never());
+    };
+    let place = name_of(&entry);
+    discard(entry);
+    Ok(place)
+}
+
+/// The names of a list's entries.
+pub(crate) fn places_of(alloc: Global, list: &Bodies) -> Result<Vec<Place>, NoMemory>
+    ensures { (es : List Entry) → AllByRecursion FitsEntry es → list.now ≡ spelt es → IfOk result (λ places. places.items ≡ on_paper.places_of es) }
+{
+    let mut places = Vec::new(alloc);
+    for at in 0..list.len() {
+        let Some(bytes) = list.get(at) else {
+            unreachable!();
+        };
+        places.push(place_of(alloc, bytes)?)?;
+    }
+    Ok(places)
+}

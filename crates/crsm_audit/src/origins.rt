@@ -1,0 +1,90 @@
+//! What each node has logged, by its last sheet.
+
+ghost use Rattle.std.specs.Prelude.{◌≡◌, ◌<◌, false, IsTrue, IfSome, IfNone};
+ghost use Rattle.crsm_audit.specs.Judging.{HasNever, HasNeverAt, IsLast, IsOfNone, OriginsStand};
+
+use crate::account::Account;
+use crate::list::find;
+use crate::place::Place;
+use crsm_base::Bodies;
+
+/// The last sheet of each node, and how far it was looked through.
+#[derive(Drop)]
+pub(crate) struct Origins {
+    last: [Option<usize>; 15],
+    seen: [usize; 15],
+}
+
+/// The last sheet of a node.
+fn last_of(accounts: &[Account], node: u32) -> Option<usize>
+    ensures found { IfSome result (IsLast accounts.now node) }
+    ensures none { IfNone result (IsOfNone accounts.now node) }
+{
+    let mut index = accounts.len();
+    while index > 0 {
+        index -= 1;
+        if accounts[index].me == node {
+            return Some(index);
+        }
+    }
+    None
+}
+
+impl Origins {
+    /// The last sheet of each node.
+    pub(crate) fn new(accounts: &[Account]) -> Origins
+        ensures { OriginsStand accounts.now result }
+    {
+        let mut last = [None; 15];
+        for node in 0..15 {
+            last[node as usize] = last_of(accounts, node);
+        }
+        Origins {
+            last,
+            seen: [0; 15],
+        }
+    }
+
+    /// Whether this node has a sheet, and never logged these bytes by its last one. Entries stand in the order in which they are
+    /// asked for, so each is looked for after the one before it.
+    pub(crate) fn is_strange(&mut self, accounts: &[Account], node: u32, bytes: &[u8]) -> bool
+        ensures yes { OriginsStand accounts.now self.old → IsTrue result → HasNever accounts.now node bytes.now }
+        ensures no { OriginsStand accounts.now self.old → result ≡ false → HasNever accounts.now node bytes.now → ⊥ }
+        ensures stays { OriginsStand accounts.now self.old → OriginsStand accounts.now self.new }
+    {
+        if node >= 15 {
+            return false;
+        }
+        let Some(index) = self.last[node as usize] else {
+            return false;
+        };
+        let Some(account) = accounts.get(index) else {
+            return false;
+        };
+        match find(&account.held, self.seen[node as usize], bytes) {
+            Some(place) => {
+                self.seen[node as usize] = place;
+                false
+            }
+            None => true,
+        }
+    }
+
+    /// Whether the node of the entry at this place has a sheet, and never logged the entry by its last one.
+    pub(crate) fn is_strange_at(
+        &mut self,
+        accounts: &[Account],
+        one: &Bodies,
+        at: usize,
+        place: &Place,
+    ) -> bool
+        ensures yes { OriginsStand accounts.now self.old → IsTrue result → HasNeverAt accounts.now one.now place.now.stamp.origin at }
+        ensures no { OriginsStand accounts.now self.old → result ≡ false → HasNeverAt accounts.now one.now place.now.stamp.origin at → ⊥ }
+        ensures stays { OriginsStand accounts.now self.old → OriginsStand accounts.now self.new }
+    {
+        match one.get(at) {
+            Some(bytes) => self.is_strange(accounts, place.stamp.origin, bytes),
+            None => false,
+        }
+    }
+}

@@ -1,0 +1,88 @@
+//! What a client learns of a lock: by a look at its key, and by the operation that follows.
+
+ghost use Rattle.std.specs.Prelude.{◌≡◌, ◌<◌, ◌-◌, ◌^◌, IfOk};
+ghost use Rattle.crsm_base.specs.Spelling.{FitsCommand, FitsKey};
+ghost use Rattle.crsm_lease.specs.Rules.{Asks};
+ghost use Rattle.crsm_cmd_lock.specs.Learning.{AsksFor, IsCasOf, LearnsOr, TellsNext, look_of};
+
+use crate::command::LockOrder;
+use crsm_base::{Command, Key, NoMemory, Op, Outcome};
+use crsm_client::{AskError, ask};
+use crsm_lease::{Next, Told, after_cas, after_get, locks_have_one_value};
+use crsm_port::Port;
+use std::alloc::Global;
+
+/// A request is sent again after so many turns.
+const RESEND: u64 = 100;
+
+/// The command of a client that looks at a key.
+fn get(client: u64, number: u64, key: Key) -> Command
+    requires { FitsKey key }
+    ensures fits { FitsCommand result }
+    ensures get { result ≡ record { client = client; number = number; op = Op.Get key } }
+{
+    Command {
+        client,
+        number,
+        op: Op::Get(key),
+    }
+}
+
+/// The look at the key.
+fn look(alloc: Global, order: &LockOrder) -> Result<Command, NoMemory>
+    requires { FitsKey order.now.key }
+    ensures fits { IfOk result FitsCommand }
+    ensures look { IfOk result (λ command. command ≡ look_of order.now) }
+{
+    let key = order.key.copy(alloc)?;
+    Ok(get(order.client, order.number, key))
+}
+
+/// Asks for a command.
+fn request<P: Port>(
+    alloc: Global,
+    order: &LockOrder,
+    command: &Command,
+    port: &mut P,
+) -> Result<Outcome, AskError>
+    requires { FitsCommand command.now }
+    ensures { AsksFor order.now command.now (P.meaning port.old) (P.meaning port.new) result }
+{
+    ask(alloc, port, order.to, command, order.turns, RESEND)
+}
+
+/// Asks for the operation that follows the look, under the next number, and answers what the client is told of it.
+fn follow<P: Port>(alloc: Global, order: &LockOrder, op: Op, port: &mut P) -> Result<Told, AskError>
+    requires key { FitsKey order.now.key }
+    requires number { order.now.number < 2 ^ 64 - 1 }
+    requires asked { Asks order.now.action order.now.client op }
+    requires cas { IsCasOf order.now.key op }
+    ensures { TellsNext order.now op (P.meaning port.old) (P.meaning port.new) result }
+{
+    locks_have_one_value();
+    let command = Command {
+        client: order.client,
+        number: order.number + 1,
+        op,
+    };
+    let outcome = request(alloc, order, &command, port)?;
+    Ok(after_cas(&command.op, &outcome))
+}
+
+/// Looks at the key, asks for what follows by the rule, and answers what the client is told.
+pub(crate) fn learn<P: Port>(
+    alloc: Global,
+    order: &LockOrder,
+    port: &mut P,
+) -> Result<Told, AskError>
+    requires key { FitsKey order.now.key }
+    requires number { order.now.number < 2 ^ 64 - 1 }
+    ensures { LearnsOr order.now (P.meaning port.old) (P.meaning port.new) result }
+{
+    let look = look(alloc, order)?;
+    let found = request(alloc, order, &look, port)?;
+    match after_get(alloc, order.action, order.client, &order.key, &found)? {
+        Next::End(told) => Ok(told),
+        Next::Ask(op) => follow(alloc, order, op, port),
+    }
+}

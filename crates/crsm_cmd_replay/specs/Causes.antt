@@ -1,0 +1,24 @@
+-- The cause of a refusal.
+use Rattle.crsm_spec.specs.Acts.{Bad}
+use Rattle.crsm_cmd_replay.specs.declared.cause.Cause.{Cause}
+use Rattle.crsm_port_lines.specs.declared.Bad.{Bad as BadLine}
+use Rattle.crsm_port_lines.specs.declared.Bad.TheVariants.{Refused, TooLong, Cut}
+
+-- why an act is not possible
+unfoldable pub cause_of : Bad → Cause
+cause_of (Bad.Full bytes) = Cause.Full bytes
+cause_of Bad.NoSuchReplica = Cause.NoSuchReplica
+cause_of Bad.NoSuchDatagram = Cause.NoSuchDatagram
+cause_of Bad.Used = Cause.Used
+cause_of Bad.Fresh = Cause.Fresh
+cause_of Bad.Mixed = Cause.Mixed
+cause_of Bad.IsDown = Cause.IsDown
+cause_of Bad.IsUp = Cause.IsUp
+cause_of Bad.TooFew = Cause.TooFew
+cause_of Bad.Forged = Cause.Forged
+
+-- the cause that a bad line is told with
+abbrev pub cause_in : BadLine Cause → Cause
+cause_in (Refused cause) = cause
+cause_in TooLong = Cause.Unreadable
+cause_in Cut = Cause.Unreadable

@@ -1,0 +1,63 @@
+//! What is wrong with a line of a schedule.
+
+ghost use Rattle.std.specs.Prelude.{◌≡◌};
+ghost use Rattle.crsm_cmd_replay.specs.Causes.{cause_in};
+
+use crsm_port_lines::Bad;
+use std::fmt::{self, Display, Formatter, Write};
+
+/// What is wrong with a line.
+#[derive(Clone, Copy, Debug, PartialEq, Eq)]
+pub enum Cause {
+    /// It is outside the grammar.
+    Unreadable,
+    /// The datagrams and the log bodies have so many bytes, which is the limit or above it.
+    Full { bytes: u64 },
+    /// No replica has this number.
+    NoSuchReplica,
+    /// No datagram with this number was sent.
+    NoSuchDatagram,
+    /// The datagram was delivered or lost before.
+    Used,
+    /// The datagram was neither delivered nor lost before.
+    Fresh,
+    /// The datagrams have not all one receiver.
+    Mixed,
+    /// The replica is down.
+    IsDown,
+    /// The replica is up.
+    IsUp,
+    /// The members are fewer than a majority.
+    TooFew,
+    /// The bytes are a datagram.
+    Forged,
+}
+
+/// The cause that a bad line is told with.
+pub fn told_cause(why: Bad<Cause>) -> Cause
+    ensures { result ≡ cause_in why }
+{
+    match why {
+        Bad::Refused(cause) => cause,
+        Bad::TooLong | Bad::Cut => Cause::Unreadable,
+    }
+}
+
+/// The cause in words.
+impl Display for Cause {
+    fn fmt<W: Write>(&self, f: &mut Formatter<W>) -> fmt::Result {
+        match self {
+            Cause::Unreadable => f.write_str("it cannot be read"),
+            Cause::Full { bytes } => write!(f, "the world is full with {bytes} bytes"),
+            Cause::NoSuchReplica => f.write_str("there is no such replica"),
+            Cause::NoSuchDatagram => f.write_str("there is no such datagram"),
+            Cause::Used => f.write_str("the datagram was delivered or lost before"),
+            Cause::Fresh => f.write_str("the datagram was not delivered or lost before"),
+            Cause::Mixed => f.write_str("the datagrams have more than one receiver"),
+            Cause::IsDown => f.write_str("the replica is down"),
+            Cause::IsUp => f.write_str("the replica is up"),
+            Cause::TooFew => f.write_str("the members are fewer than a majority"),
+            Cause::Forged => f.write_str("the bytes are a datagram"),
+        }
+    }
+}

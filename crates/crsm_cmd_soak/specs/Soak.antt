@@ -1,0 +1,40 @@
+-- Runs that a number draws, and their summary.
+use Rattle.std.specs.Prelude.{ℕ, ◌+◌, List, length, map}
+use Rattle.std.specs.List.{count_by}
+use Rattle.crsm_spec.specs.Run.{seen}
+use Rattle.crsm_spec.specs.Types.{Line}
+use Rattle.crsm_spec.specs.World.{finals}
+use Rattle.crsm_world.specs.Schedule.{Schedule, acts_of, last_world}
+unfoldable pub use Rattle.crsm_law_draws.specs.Drawn.{drawn, drawn_from}
+use Rattle.crsm_cmd_soak.specs.Counting.{executed_in, greatest, is_answer, is_drop, is_refusal, is_send, is_submission, known_in}
+use Rattle.crsm_cmd_soak.specs.declared.summary.Summary.{Summary}
+
+-- ---- the summary
+
+-- nothing has happened
+unfoldable pub nothing : Summary
+nothing = record { steps = 0; submitted = 0; executed = 0; answered = 0; refused = 0; dropped = 0; epoch = 0; datagrams = 0 }
+
+-- so many events more have led to these lines
+unfoldable pub more : Summary → (steps : ℕ) → List Line → Summary
+more s steps lines =
+    record s {
+      steps = s.steps + steps;
+      submitted = s.submitted + count_by is_submission lines;
+      answered = s.answered + count_by is_answer lines;
+      refused = s.refused + count_by is_refusal lines;
+      dropped = s.dropped + count_by is_drop lines;
+      datagrams = s.datagrams + count_by is_send lines;
+    }
+
+-- the lines that are seen in the run of a schedule
+unfoldable pub lines_of : Schedule → List Line
+lines_of s = map (λ x. x.line) (seen s.replicas (acts_of s))
+
+-- What is told of a run: how many events it has, what its lines tell, and the greatest numbers of its final lines.
+unfoldable pub summary_of : Schedule → Summary
+summary_of s =
+    record (more nothing (length s.events) (lines_of s)) {
+      executed = greatest executed_in (finals (last_world s));
+      epoch = greatest known_in (finals (last_world s));
+    }

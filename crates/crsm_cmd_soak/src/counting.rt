@@ -1,0 +1,107 @@
+//! Lines, counted by what they tell.
+
+ghost use Rattle.std.specs.Prelude.{◌≡◌};
+ghost use Rattle.std.specs.List.{count_by};
+ghost use Rattle.crsm_cmd_soak.specs.Counting as on_paper;
+ghost use Rattle.crsm_cmd_soak.specs.Counting.{greatest, is_answer, is_drop, is_refusal, is_send, is_submission};
+
+use crsm_base::Line;
+
+/// How many of these are submitted commands.
+#[tactic(auto, unfolding(crate::specs::Counting::is_submission))]
+pub(crate) fn submissions(lines: &[Line]) -> u64
+    ensures { result ≡ count_by is_submission lines.now }
+{
+    lines
+        .iter()
+        .filter(|line| matches!(line, Line::Submit { .. }))
+        .count() as u64
+}
+
+/// How many of these are answers.
+#[tactic(auto, unfolding(crate::specs::Counting::is_answer))]
+pub(crate) fn answers(lines: &[Line]) -> u64
+    ensures { result ≡ count_by is_answer lines.now }
+{
+    lines
+        .iter()
+        .filter(|line| matches!(line, Line::ReplyOk { .. }))
+        .count() as u64
+}
+
+/// How many of these are refusals.
+#[tactic(auto, unfolding(crate::specs::Counting::is_refusal))]
+pub(crate) fn refusals(lines: &[Line]) -> u64
+    ensures { result ≡ count_by is_refusal lines.now }
+{
+    lines
+        .iter()
+        .filter(|line| matches!(line, Line::ReplyNo { .. }))
+        .count() as u64
+}
+
+/// How many of these tell that a command is dropped.
+#[tactic(auto, unfolding(crate::specs::Counting::is_drop))]
+pub(crate) fn drops(lines: &[Line]) -> u64
+    ensures { result ≡ count_by is_drop lines.now }
+{
+    lines
+        .iter()
+        .filter(|line| matches!(line, Line::ReplyDropped { .. }))
+        .count() as u64
+}
+
+/// How many of these are datagrams.
+#[tactic(auto, unfolding(crate::specs::Counting::is_send))]
+pub(crate) fn sends(lines: &[Line]) -> u64
+    ensures { result ≡ count_by is_send lines.now }
+{
+    lines
+        .iter()
+        .filter(|line| matches!(line, Line::Send { .. }))
+        .count() as u64
+}
+
+/// How much its replica has executed, by a final line. Other lines do not say it.
+#[tactic(auto, unfolding(crate::specs::Counting::executed_in))]
+fn executed_in(line: &Line) -> u64
+    ensures { result ≡ on_paper.executed_in line.now }
+{
+    match line {
+        Line::Final { executed, .. } => *executed,
+        _ => 0,
+    }
+}
+
+/// The epoch that its replica knows, by a final line. Other lines do not say it.
+#[tactic(auto, unfolding(crate::specs::Counting::known_in))]
+fn known_in(line: &Line) -> u64
+    ensures { result ≡ on_paper.known_in line.now }
+{
+    match line {
+        Line::Final { known, .. } => *known,
+        _ => 0,
+    }
+}
+
+/// The greatest executed length.
+pub(crate) fn greatest_executed(lines: &[Line]) -> u64
+    ensures { result ≡ greatest on_paper.executed_in lines.now }
+{
+    let mut greatest: u64 = 0;
+    for line in lines {
+        greatest = greatest.max(executed_in(line));
+    }
+    greatest
+}
+
+/// The greatest known epoch.
+pub(crate) fn greatest_known(lines: &[Line]) -> u64
+    ensures { result ≡ greatest on_paper.known_in lines.now }
+{
+    let mut greatest: u64 = 0;
+    for line in lines {
+        greatest = greatest.max(known_in(line));
+    }
+    greatest
+}

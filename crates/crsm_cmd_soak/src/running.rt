@@ -1,0 +1,91 @@
+//! One generated event after another.
+
+ghost use Rattle.std.specs.Prelude.{◌≡◌, ◌≤◌, ℕ, IfErr, IfOk, List, Ok, OnOk};
+ghost use Rattle.crsm_spec.specs.Acts.{Act};
+ghost use Rattle.crsm_spec.specs.World as on_paper;
+ghost use Rattle.crsm_cmd_soak.specs.Running.{Begins, CanGoOn, HasRun, StepsOn};
+ghost use Rattle.crsm_world.specs.Laws.{HasDone};
+ghost use Rattle.crsm_world.specs.World.{WorldStands};
+
+use crate::summary::Summary;
+use crsm_base::{Lines, NoMemory};
+use crsm_law_draws::drawn_runs_are_possible;
+use crsm_schedule::Event;
+use crsm_sim_generator::Generator;
+use crsm_world::{Bad, World};
+use std::alloc::Global;
+
+/// Lets an event go, in a function of its own, which keeps the cases of an event out of its callers' proofs.
+fn discard(_event: Event) {}
+
+/// What an event led to that was not refused.
+fn unless_refused(stepped: Result<Lines, Bad>) -> Result<Lines, NoMemory>
+    requires { IfErr stepped (λ bad. bad ≡ Bad.NoMemory) }
+    ensures { IfOk result (λ lines. stepped ≡ Ok lines) }
+{
+    match stepped {
+        Ok(lines) => Ok(lines),
+        Err(bad) => {
+            prove!(bad == Bad::NoMemory);
+            Err(NoMemory)
+        }
+    }
+}
+
+/// A run as far as it has come.
+#[derive(Drop)]
+pub(crate) struct Run {
+    pub world: World,
+    pub generator: Generator,
+    pub summary: Summary,
+}
+
+impl Run {
+    /// The replicas have booted.
+    fn begin(alloc: Global, number: u64, n: u32) -> Result<Run, NoMemory>
+        requires some { 1 ≤ n }
+        requires most { n ≤ 15 }
+        ensures { IfOk result (λ run. Begins run number n) }
+    {
+        let (mut world, lines) = World::new(alloc, n)?;
+        let mut summary = Summary::new();
+        summary.add(0, lines.as_slice())?;
+        world.take_back(lines);
+        Ok(Run {
+            world,
+            generator: Generator::new(alloc, number, n),
+            summary,
+        })
+    }
+
+    /// Draws an event and does it. The event is possible, so it is not refused.
+    fn step(&mut self) -> Result<(), NoMemory>
+        requires { CanGoOn self.old }
+        ensures { (v : on_paper.World) (n : ℕ) (acts : List Act) → WorldStands self.old.world v → HasDone self.old.world n acts → OnOk result (StepsOn v n acts self.old self.new) }
+    {
+        let event = self.generator.next(&self.world)?;
+        let stepped = self.world.step(&event);
+        discard(event);
+        let lines = unless_refused(stepped)?;
+        self.summary.add(1, lines.as_slice())?;
+        self.world.take_back(lines);
+        Ok(())
+    }
+}
+
+/// Runs up to so many generated events: it ends early where the world is full.
+pub(crate) fn run_all(alloc: Global, number: u64, n: u32, steps: u64) -> Result<Run, NoMemory>
+    requires some { 1 ≤ n }
+    requires most { n ≤ 15 }
+    ensures { IfOk result (λ run. HasRun run number n steps) }
+{
+    drawn_runs_are_possible();
+    let mut run = Run::begin(alloc, number, n)?;
+    for _ in 0..steps {
+        if run.world.is_full() {
+            return Ok(run);
+        }
+        run.step()?;
+    }
+    Ok(run)
+}

@@ -1,5 +1,0 @@
-use Rattle.crsm_epoch_state.proofs.Kept.{with_acks, the_links}
-use Rattle.crsm_epoch_state.proofs.state.EpochState.acked.Goals as goal
-
-pub returns : goal.returns
-returns c r s within = with_acks c.args.self.now r c.args.k c.args.next c.acked.new.self s (c.acked.ensures r (the_links c.args.self.now r s) within)

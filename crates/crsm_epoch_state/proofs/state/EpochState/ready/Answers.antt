@@ -1,5 +1,0 @@
-use Rattle.crsm_epoch_state.proofs.First.{first_is_ready}
-use Rattle.crsm_epoch_state.proofs.state.EpochState.ready.Goals as goal
-
-pub returns : goal.returns
-returns c r s members spec a = first_is_ready c.args.self.now r c.ready.result c.args.members.now c.args.spec.now s members spec a c.ready.ensures

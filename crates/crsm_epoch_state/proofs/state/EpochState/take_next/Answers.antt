@@ -1,7 +1,0 @@
-use Rattle.crsm_epoch_state.proofs.Kept.{with_frame, the_links}
-use Rattle.crsm_epoch_state.proofs.state.EpochState.take_next.Goals as goal
-
-pub returns : goal.returns
-returns c r s above =
-    with_frame c.args.self.now r c.args.k c.args.time c.take_next.new.self c.receive.new.self s above
-    (c.take_next.ensures r (the_links c.args.self.now r s) above) c.receive.ensures

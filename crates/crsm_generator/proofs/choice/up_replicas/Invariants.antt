@@ -1,6 +1,0 @@
-use Rattle.std.proofs.Common.{◌≡◌, take}
-use Rattle.crsm_generator.specs.View.{View, places}
-use Rattle.crsm_generator.proofs.choice.up_replicas.Given as goal
-
-abbrev pub invariant-loop-replica : goal.invariant-loop-replica
-invariant-loop-replica g l = (v : View) → g.L.Look.shows l.world v → l.ups.items ≡ places (λ up. up) (take l.replica v.ups)

@@ -1,4 +1,0 @@
-pub mod Bytes
-pub mod Calls
-pub mod Image
-pub mod Torn

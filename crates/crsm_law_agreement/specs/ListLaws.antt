@@ -1,0 +1,21 @@
+-- The laws of agreement.
+use Rattle.std.specs.Prelude.{◌⊎◌, ℕ}
+use Rattle.crsm_spec.specs.Lists.{IsPrefixOf}
+use Rattle.crsm_spec.specs.Log.{Log, executed}
+use Rattle.crsm_spec.specs.World.{World, log_at}
+use Rattle.crsm_fact_log.specs.Logs.{Extends}
+use Rattle.crsm_law_steps.specs.Happenings.{IsReached}
+use Rattle.crsm_law_epoch.specs.LogWorlds.{HasFewBoots}
+use Rattle.crsm_law_messages.specs.Counted.{AllSpelt}
+use Rattle.crsm_law_agreement.specs.Openings.{IsEpochOf, EpochHolds}
+
+-- In every world that is reached all that is asked of an epoch holds of each one that has begun.
+abbrev pub EpochsHold : Type 0
+EpochsHold = (n : ℕ) (w : World) → IsReached n w → HasFewBoots w → AllSpelt n w → (e : ℕ) → IsEpochOf e (log_at w) → EpochHolds n e (log_at w)
+
+-- Of two replicas' executed lists, now or earlier, one is a prefix of the other: in every world that is reached, whatever was
+-- lost, came twice or late, whatever the clocks said, whoever stopped and started, and whatever epochs were begun.
+abbrev pub ListsAgree : Type 0
+ListsAgree =
+    (n : ℕ) (w : World) → IsReached n w → HasFewBoots w → AllSpelt n w →
+    (j k : ℕ) (a b : Log) → Extends a (log_at w j) → Extends b (log_at w k) → IsPrefixOf (executed a) (executed b) ⊎ IsPrefixOf (executed b) (executed a)

@@ -1,5 +1,0 @@
-use Rattle.crsm_law_counts.proofs.Worlds.{acks_are_entered}
-use Rattle.crsm_law_counts.proofs.acks_are_entered.Goals as goal
-
-pub returns : goal.returns
-returns c n w q few j m e a h = acks_are_entered n w q few j m e a h

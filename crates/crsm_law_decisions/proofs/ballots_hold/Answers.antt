@@ -1,5 +1,0 @@
-use Rattle.crsm_law_decisions.proofs.Worlds.{ballots_hold}
-use Rattle.crsm_law_decisions.proofs.ballots_hold.Goals as goal
-
-pub returns : goal.returns
-returns c n w q few spelt = ballots_hold n w q few spelt

@@ -1,5 +1,0 @@
-use Rattle.crsm_law_decisions.proofs.Worlds.{decisions_are_collected}
-use Rattle.crsm_law_decisions.proofs.decisions_are_collected.Goals as goal
-
-pub returns : goal.returns
-returns c n e begins counted w q few spelt facts specs k d a at = decisions_are_collected n e begins counted w q few spelt facts specs k d a at

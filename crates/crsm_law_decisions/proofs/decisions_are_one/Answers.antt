@@ -1,5 +1,0 @@
-use Rattle.crsm_law_decisions.proofs.Agree.{decisions_are_one}
-use Rattle.crsm_law_decisions.proofs.decisions_are_one.Goals as goal
-
-pub returns : goal.returns
-returns c n w q few spelt j k a b ha hb e = decisions_are_one n w q few spelt j k a b ha hb e

@@ -1,2 +1,0 @@
-pub mod Ballots
-pub mod Laws

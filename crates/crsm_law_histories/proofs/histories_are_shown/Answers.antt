@@ -1,5 +1,0 @@
-use Rattle.crsm_law_histories.proofs.Showing.{histories_are_shown}
-use Rattle.crsm_law_histories.proofs.histories_are_shown.Goals as goal
-
-pub returns : goal.returns
-returns c n h most l = histories_are_shown n h most l

@@ -1,0 +1,5 @@
+pub mod Slots
+pub mod Seats
+pub mod Happenings
+pub mod Traces
+pub mod Kept

@@ -1,5 +1,0 @@
-use Rattle.crsm_law_mp_examples.proofs.Replies.{replies}
-use Rattle.crsm_law_mp_examples.proofs.commands_are_answered.Goals as goal
-
-pub returns : goal.returns
-returns c = replies

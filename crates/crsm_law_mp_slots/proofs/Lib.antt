@@ -1,7 +1,0 @@
-pub mod Turns
-pub mod Agree
-pub mod Lists
-pub mod Changes
-pub mod Held
-pub mod Voting
-pub mod Reports

@@ -1,5 +1,0 @@
-use Rattle.crsm_law_sends.proofs.Steps.{sends_are_told}
-use Rattle.crsm_law_sends.proofs.sends_are_told.Goals as goal
-
-pub returns : goal.returns
-returns c = sends_are_told c.steps_are_changes.ensures

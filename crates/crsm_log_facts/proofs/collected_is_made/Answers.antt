@@ -1,5 +1,0 @@
-use Rattle.crsm_log_facts.proofs.Collected.{collected_is_made}
-use Rattle.crsm_log_facts.proofs.collected_is_made.Goals as goal
-
-pub returns : goal.returns
-returns c = collected_is_made

@@ -1,5 +1,0 @@
-use Rattle.crsm_log_facts.proofs.Merge.{merged_as_they_come}
-use Rattle.crsm_log_facts.proofs.merged_as_they_come.Goals as goal
-
-pub returns : goal.returns
-returns c = merged_as_they_come

@@ -1,5 +1,0 @@
-use Rattle.crsm_log_facts.proofs.Merge.{union_of_same}
-use Rattle.crsm_log_facts.proofs.union_of_same.Goals as goal
-
-pub returns : goal.returns
-returns c = union_of_same

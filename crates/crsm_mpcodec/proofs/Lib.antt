@@ -1,2 +1,0 @@
-mod RecordLaws
-mod BodyLaws

@@ -1,0 +1,45 @@
+//! The value of a slot: a command, or nothing where the slot is a noop.
+
+ghost use Rattle.std.specs.Prelude.{◌≡◌, ◌++◌, IfOk, OnOk};
+ghost use Rattle.std.specs.Option.{option_map};
+ghost use Rattle.crsm_base.specs.Spelling.{command_bytes, FitsCommand, option_bytes, FitsOption};
+ghost use Rattle.crsm_mpledger.specs.Reading.{value_at};
+
+use crsm_base::{Bytes, Command, NoMemory};
+use crsm_text_fields::{put_command, put_u8, take_command};
+use std::alloc::Global;
+
+/// Appends the spelling of the value of a slot.
+pub(crate) fn put_value(value: &Option<Command>, out: &mut Bytes) -> Result<(), NoMemory>
+    requires { FitsOption FitsCommand value.now }
+    ensures { OnOk result (out.new ≡ out.old ++ option_bytes command_bytes value.now) }
+{
+    match value {
+        None => put_u8(0, out),
+        Some(command) => {
+            put_u8(1, out)?;
+            put_command(command, out)
+        }
+    }
+}
+
+#[tactic(auto, unfolding(crate::specs::Reading::value_at))]
+/// Takes the value of a slot off the prefix of the bytes: the value and the bytes after it.
+pub(crate) fn take_value(
+    alloc: Global,
+    bytes: &[u8],
+) -> Result<Option<(Option<Command>, &[u8])>, NoMemory>
+    ensures { IfOk result (λ r. option_map (λ x. (x.0, x.1.now)) r ≡ value_at bytes.now) }
+{
+    match bytes {
+        [] => Ok(None),
+        [0, rest @ ..] => Ok(Some((None, rest))),
+        [1, rest @ ..] => {
+            let Some((command, rest)) = take_command(alloc, rest)? else {
+                return Ok(None);
+            };
+            Ok(Some((Some(command), rest)))
+        }
+        [_, ..] => Ok(None),
+    }
+}

@@ -1,8 +1,0 @@
-use Rattle.std.proofs.Common.{◌≡◌, true, ℕ, List, take}
-use Rattle.std.specs.Prelude.{filter}
-use Rattle.crsm_spec.specs.World as on_paper
-use Rattle.crsm_network.specs.Packets.{NetworkStands, is_fresh_for}
-use Rattle.crsm_network.proofs.network.Network.still_fresh.Given as goal
-
-abbrev pub invariant-loop-number : goal.invariant-loop-number
-invariant-loop-number l = (packets : List on_paper.Packet) (bytes : ℕ) → NetworkStands l.self packets bytes → l.kept.items ≡ filter (is_fresh_for (λ k. true) packets) (take l.number-index l.self.fresh.items)

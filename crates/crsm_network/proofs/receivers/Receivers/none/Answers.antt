@@ -1,5 +1,0 @@
-use Rattle.crsm_network.proofs.Receiving.{nobody}
-use Rattle.crsm_network.proofs.receivers.Receivers.none.Goals as goal
-
-pub returns : goal.returns
-returns c = nobody

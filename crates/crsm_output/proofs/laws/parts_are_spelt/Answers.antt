@@ -1,5 +1,0 @@
-use Rattle.crsm_output.proofs.Parts.{parts_spelt}
-use Rattle.crsm_output.proofs.laws.parts_are_spelt.Goals as goal
-
-pub returns : goal.returns
-returns c = parts_spelt

@@ -1,7 +1,0 @@
-use Rattle.std.proofs.Common.{◌≡◌, ◌++◌, length}
-use Rattle.std.specs.Vec.Iter.{into_iter_items, into_iter_len}
-use Rattle.crsm_output.proofs.output.add.Given as goal
-
-abbrev pub invariant-loop-line : goal.invariant-loop-line
-invariant-loop-line l = (l.lines ++ into_iter_items l.line-iterator ≡ l.fn.lines ++ l.fn.more.items)
-    × (into_iter_len l.line-iterator ≡ length (into_iter_items l.line-iterator))

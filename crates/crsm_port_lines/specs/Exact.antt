@@ -1,0 +1,74 @@
+-- Which inputs are read to their end, which are refused for which line, and which are too long.
+use Rattle.std.specs.Prelude.{◌≡◌, ◌⊎◌, ℕ, ◌+◌, ◌<◌, ◌≤◌, List, ◌∷◌, ◌++◌, Option, Some, length}
+use Rattle.std.specs.List.{AllByRecursion}
+use Rattle.crsm_port_faults.specs.Counts.{Rose}
+use Rattle.crsm_port_lines.specs.Handling.{Handling, Text}
+use Rattle.crsm_port_lines.specs.State.{IsLine, read_text}
+use Rattle.crsm_port_lines.specs.Run.{BeginsBad}
+use Rattle.crsm_port_lines.specs.declared.lines.Bad.{Bad}
+use Rattle.crsm_port_lines.specs.declared.lines.Bad.TheVariants.{Refused, TooLong, Cut}
+use Rattle.crsm_port_lines.specs.declared.run.Ending.{Ending}
+
+module _ {H R : Type 0} (h : Handling H R) where
+  -- no line of them is refused
+  abbrev pub Fits : List Text → Type 0
+  Fits lines = (before more : List Text) (line shown : Text) (why : R) → lines ≡ before ++ line ∷ more → h.refuses before shown why line → ⊥
+
+  -- the input may end behind them
+  abbrev pub MayEnd : List Text → Type 0
+  MayEnd lines = (shown : Text) (why : R) → h.refuses_end lines shown why → ⊥
+
+  -- A handling is exact where nothing that is handled is refused, and neither a line nor the end is refused for two reasons. A
+  -- line that is too long is refused as unreadable.
+  pub record Exact : Type 0 where
+    pub unreadable : R
+    pub handled : (handler : H) (lines : List Text) (shown : Text) → h.after handler lines shown → Fits lines
+    pub ended : (lines : List Text) (shown last : Text) → h.ends lines shown last → MayEnd lines
+    pub one_reason : (lines : List Text) (shown other line : Text) (why w : R) → h.refuses lines shown why line → h.refuses lines other w line → why ≡ w
+    pub long_reason : (lines : List Text) (shown line : Text) (why : R) → h.refuses lines shown why line → 16777216 < length line → why ≡ unreadable
+    pub one_end : (lines : List Text) (shown other : Text) (why w : R) → h.refuses_end lines shown why → h.refuses_end lines other w → why ≡ w
+
+module _ {H R : Type 0} (h : Handling H R) (x : Exact h) where
+  -- the reason that a bad line is told with
+  abbrev pub reason_of : Bad R → R
+  reason_of (Refused why) = why
+  reason_of TooLong = x.unreadable
+  reason_of Cut = x.unreadable
+
+  -- the line is named as bad for this reason
+  pub record Names (line : ℕ) (why : R) (result : Ending R) : Type 0 where
+    pub bad : Bad R
+    pub told : reason_of bad ≡ why
+    pub is : result ≡ Ending.BadLine line bad
+
+  -- Each of these holds unless memory ran out.
+  abbrev pub IsRefused : ℕ → R → Ending R → Type 0
+  IsRefused line why result = Names line why result ⊎ (result ≡ Ending.NoMemory)
+
+  -- for whole lines that fit and behind which the input ends and may end, within the limit
+  abbrev pub WhereWhole : Option Text → Type 0 → Type 0
+  WhereWhole left P =
+      (lines : List Text) → Fits h lines → MayEnd h lines → AllByRecursion IsLine lines → left ≡ Some (read_text lines) → length (read_text lines) ≤ 1073741824 → P
+
+  -- for lines that fit and a bad one behind them, within the limit
+  abbrev pub WhereBad : Option Text → (ℕ → R → Type 0) → Type 0
+  WhereBad left P =
+      (lines : List Text) (shown text more : Text) (why : Bad R) → Fits h lines → AllByRecursion IsLine lines → left ≡ Some (read_text lines ++ (text ++ more)) →
+      BeginsBad h lines shown (Some more) why text → length (read_text lines ++ text) ≤ 1073741824 → P (length lines + 1) (reason_of why)
+
+  -- for lines that fit with a part of a line up to the limit, and more bytes behind it
+  abbrev pub WhereTooLong : Option Text → Type 0 → Type 0
+  WhereTooLong left P =
+      (lines : List Text) (rest more : Text) → Fits h lines → AllByRecursion IsLine lines → IsLine rest →
+      length (read_text lines ++ rest) ≡ 1073741824 → 0 < length more → left ≡ Some (read_text lines ++ (rest ++ more)) → P
+
+-- done, or too long, unless memory ran out
+abbrev pub IsDone : {R : Type 0} → Ending R → Type 0
+IsDone result = (result ≡ Ending.Done) ⊎ (result ≡ Ending.NoMemory)
+
+abbrev pub IsTooLong : {R : Type 0} → Ending R → Type 0
+IsTooLong result = (result ≡ Ending.InputTooLong) ⊎ (result ≡ Ending.NoMemory)
+
+-- where no fault of the input or of the output was counted
+abbrev pub WhereFaultless : (in_old in_new out_old out_new : ℕ) → Type 0 → Type 0
+WhereFaultless in_old in_new out_old out_new P = ¬ (Rose in_old in_new) → ¬ (Rose out_old out_new) → P

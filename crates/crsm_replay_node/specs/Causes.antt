@@ -1,9 +1,0 @@
--- The cause that a bad line is told with.
-use Rattle.crsm_input.specs.declared.Bad.{Bad}
-use Rattle.crsm_input.specs.declared.Bad.TheVariants.{Refused, TooLong, Cut}
-use Rattle.crsm_replay_node.specs.declared.cause.SheetCause.{SheetCause}
-
-abbrev pub cause_in : Bad SheetCause → SheetCause
-cause_in (Refused cause) = cause
-cause_in TooLong = SheetCause.Unreadable
-cause_in Cut = SheetCause.Unreadable

@@ -1,0 +1,16 @@
+use Rattle.std.proofs.Common.{subst}
+use Rattle.crsm_spec.specs.Log.{decision}
+use Rattle.crsm_spec.specs.Replica.{Coordinator as CoordinatorOnPaper}
+use Rattle.crsm_spec.specs.Quorum.{spec_decided}
+use Rattle.crsm_replica_coordinator.specs.Coordinator.{CoordinatorStands, named_in}
+use Rattle.crsm_replica_coordinator.proofs.Coordinators.{not_collecting, as_gathering}
+use Rattle.crsm_replica_coordinator.proofs.coordinator.Coordinator.is_whole.Goals as goal
+use Rattle.std.proofs.Common.{refl}
+
+pub returns-in-Collecting : goal.returns-in-Collecting
+returns-in-Collecting c = λ me n log ms pages s.
+    let g = as_gathering me n (decision log) c.in-Collecting.collect ms pages (subst (λ x. CoordinatorStands x me n (decision log) (CoordinatorOnPaper.Collecting ms pages)) c.in-Collecting.is s) in
+    c.is_whole.ensures log (spec_decided n (decision log)) (named_in n (decision log) ms) ms pages (g.collects log refl)
+
+pub returns-in_default : goal.returns-in_default
+returns-in_default c = λ me n log ms pages s. absurd (not_collecting me n (decision log) c.args.self.now ms pages s c.in_default.not-Collecting)

@@ -1,0 +1,119 @@
+//! How a coordinator changes.
+
+ghost use Rattle.std.specs.Prelude.{◌≡◌, ◌<◌, ◌+◌, ℕ, Option, Some, [], ◌∷◌, ◌++◌, true, IfOk};
+ghost use Rattle.crsm_base.specs.declared.Decision.{Decision};
+ghost use Rattle.crsm_base.specs.declared.Ballot.{Ballot};
+ghost use Rattle.crsm_base.specs.Messages.{FitsVote};
+ghost use Rattle.crsm_base.specs.Spelling.{FitsBallot, FitsOption};
+ghost use Rattle.crsm_spec.specs.Lists.{has};
+ghost use Rattle.crsm_spec.specs.Quorum.{spec_decided};
+ghost use Rattle.crsm_spec.specs.Replica.{Coordinator as CoordinatorOnPaper};
+ghost use Rattle.crsm_replica_coordinator.specs.Coordinator.{CoordinatorStands, IsOwn, VotedIs, preempted_by, WhereStands};
+ghost use Rattle.crsm_replica_coordinator.specs.Stages.{AnsweredIs, WhereNextRound, WherePreempted, WhereProposing, WhereUnanswered, answer_of};
+
+use crate::coordinator::{Coordinator, Voted};
+use crate::readers::is_chosen_with;
+use crsm_base::{Ballot, Decision, Members, NoMemory, never};
+use crsm_paxos::{Proposer, StartError};
+use std::alloc::Global;
+
+impl Coordinator {
+    #[tactic(auto, unfolding(crate::specs::Coordinator::CoordinatorStands))]
+    /// A coordinator that is at nothing.
+    pub fn quiet() -> Coordinator
+        ensures { (me n : ℕ) (known : Option Decision) → CoordinatorStands result me n known CoordinatorOnPaper.Idle }
+    {
+        Coordinator::Idle
+    }
+
+    /// A coordinator that is to propose its own decision above this ballot.
+    pub fn over(own: Decision, seen: Ballot) -> Coordinator
+        ensures { (me n : ℕ) (known : Option Decision) → IsOwn me n known own → FitsBallot seen → CoordinatorStands result me n known (CoordinatorOnPaper.Preempted own seen) }
+    {
+        Coordinator::Preempted { own, seen }
+    }
+
+    /// Asks for the ballot of replica `me` in the round after that of a ballot, over this Spec, and counts its own
+    /// promise, with what it had accepted. There is such a round.
+    pub fn asking(
+        alloc: Global,
+        own: Decision,
+        above: Ballot,
+        me: u32,
+        spec: &Members,
+        accepted: Option<(Ballot, Decision)>,
+    ) -> Result<Coordinator, NoMemory>
+        requires { me < 15 }
+        ensures { WhereNextRound me own spec.now above accepted (λ n known b. IfOk result (λ coordinator. AnsweredIs coordinator me n known b own (answer_of me accepted ∷ []))) }
+    {
+        let size = spec.count();
+        let mut proposer = match Proposer::start(alloc, own, above, me, size) {
+            Ok(proposer) => proposer,
+            Err(StartError::NoMemory) => return Err(NoMemory),
+            Err(StartError::Spent) => return Err(never()),
+        };
+        let ballot = proposer.ballot();
+        proposer.on_p1b(me, ballot, accepted)?;
+        Ok(Coordinator::Proposing(proposer))
+    }
+
+    /// Counts the promise of a replica, with what it had accepted.
+    pub fn with_answer(
+        self,
+        k: u32,
+        accepted: Option<(Ballot, Decision)>,
+    ) -> Result<Coordinator, NoMemory>
+        requires { k < 15 }
+        ensures { WhereUnanswered self k (λ me n known b own answers. FitsOption FitsVote accepted → IfOk result (λ coordinator. AnsweredIs coordinator me n known b own (answers ++ answer_of k accepted ∷ []))) }
+    {
+        match self {
+            Coordinator::Proposing(mut proposer) => {
+                let ballot = proposer.ballot();
+                proposer.on_p1b(k, ballot, accepted)?;
+                Ok(Coordinator::Proposing(proposer))
+            }
+            other => Ok(other),
+        }
+    }
+
+    /// Counts the vote of a replica, once.
+    pub fn with_vote(self, k: u32) -> Result<Voted, NoMemory>
+        requires { k < 15 }
+        ensures { WhereProposing self (λ me n known b own value acceptors. has (spec_decided n known) k ≡ true → IfOk result (λ voted. VotedIs voted me n known b own value (k ∷ acceptors))) }
+    {
+        match self {
+            Coordinator::Proposing(mut proposer) => {
+                if is_chosen_with(&proposer, k) {
+                    return Ok(Voted::Chosen(proposer.into_value()));
+                }
+                let ballot = proposer.ballot();
+                proposer.on_p2b(k, ballot)?;
+                Ok(Voted::More(Coordinator::Proposing(proposer)))
+            }
+            other => Ok(Voted::More(other)),
+        }
+    }
+
+    /// Its ballot is over, since this one was seen.
+    pub fn preempted(self, top: Ballot) -> Coordinator
+        ensures { WhereStands self (λ me n known m. FitsBallot top → CoordinatorStands result me n known (preempted_by m top)) }
+    {
+        match self {
+            Coordinator::Proposing(proposer) => Coordinator::Preempted {
+                own: proposer.into_own(),
+                seen: top,
+            },
+            other => other,
+        }
+    }
+
+    /// The decision of one's own that is to be proposed again, and the ballot that was seen.
+    pub fn into_own(self) -> Option<(Decision, Ballot)>
+        ensures { WherePreempted self (λ me n known own seen. (result ≡ Some (own, seen)) × IsOwn me n known own × FitsBallot seen) }
+    {
+        match self {
+            Coordinator::Preempted { own, seen } => Some((own, seen)),
+            _ => None,
+        }
+    }
+}

@@ -1,0 +1,44 @@
+//! What is kept of an epoch.
+
+ghost use Rattle.std.specs.Prelude.{◌≡◌, false, true, ◌∷◌};
+ghost use Rattle.crsm_spec.specs.Types.{Rec};
+ghost use Rattle.crsm_spec.specs.Log.{known, active};
+ghost use Rattle.crsm_spec.specs.Fits.{fits};
+ghost use Rattle.crsm_spec.specs.Replica.{Replica};
+ghost use Rattle.crsm_replica_epoch.specs.EpochState.{EpochStands, EachFits, forgotten};
+
+use crate::links::Links;
+use crsm_clock::Rising;
+use crsm_commit::{Latest, Pending};
+use crsm_phase::Waits;
+use std::alloc::Global;
+
+/// What a replica keeps of its epoch while it runs.
+#[derive(Drop)]
+pub struct EpochState {
+    pub(crate) clock: Rising,
+    /// The latest times, its own too.
+    pub(crate) latest: Latest,
+    /// The entries that are not executed, and all votes for stamps above the last executed one. While the replica is
+    /// not active this says nothing.
+    pub(crate) pending: Pending,
+    pub(crate) owed: Waits,
+    pub(crate) links: Links,
+}
+
+impl EpochState {
+    /// An epoch in which nothing has happened yet.
+    pub fn new(alloc: Global) -> EpochState
+        ensures inactive { (r : Replica) → EachFits r.me r.n r.log → active r.log ≡ false → EpochStands result (forgotten r) }
+        ensures entered { (r : Replica) → EachFits r.me r.n r.log → fits r.me r.n r.log (Rec.Enter (known r.log)) ≡ true →
+            EpochStands result (record (forgotten r) { log = Rec.Enter (known r.log) ∷ r.log }) }
+    {
+        EpochState {
+            clock: Rising::new(),
+            latest: Latest::new(),
+            pending: Pending::new(alloc),
+            owed: Waits::new(alloc),
+            links: Links::new(alloc),
+        }
+    }
+}

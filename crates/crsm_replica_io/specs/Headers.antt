@@ -1,0 +1,14 @@
+-- The headers of an outbox's datagrams, whose bytes stand one behind another, as datagrams.
+use Rattle.std.specs.Prelude.{ℕ, ◌+◌, List, [], ◌∷◌, take, drop}
+use Rattle.crsm_port.specs.Meaning.{Packet}
+use Rattle.crsm_replica_io.specs.declared.outbox.Header.{Header}
+
+-- how many bytes they have together
+abbrev pub size_of : List Header → ℕ
+size_of [] = 0
+size_of (l ∷ headers) = l.len + size_of headers
+
+-- the datagrams that have these bytes
+abbrev pub packets_of : List Header → List ℕ → List Packet
+packets_of [] text = []
+packets_of (l ∷ headers) text = (record { address = l.to; bytes = take l.len text }) ∷ packets_of headers (drop l.len text)

@@ -1,0 +1,62 @@
+use Rattle.std.proofs.Common.{◌∙◌, ap, sym, subst}
+use Rattle.crsm_base.specs.Messages.{FitsControl}
+use Rattle.crsm_spec.specs.Controls.{on_control}
+use Rattle.crsm_replica_reconfigure.specs.Rules.{on_page_in}
+use Rattle.crsm_replica_reconfigure.proofs.DraftLemmas.{instead, is_whole}
+use Rattle.crsm_replica_reconfigure.proofs.ControlLemmas.{a_suspend, a_question, a_promise, a_refusal, a_proposal, a_vote, a_decision, a_retrieve, a_page, asked_fitting}
+use Rattle.crsm_replica_reconfigure.proofs.controls.on_control.Goals as goal
+
+pub returns-in_ok-on_suspend-in-Suspend : goal.returns-in_ok-on_suspend-in-Suspend
+returns-in_ok-on_suspend-in-Suspend c = λ x s n.
+    let fit = subst FitsControl c.in-Suspend.is c.requires.spelt in
+    instead c.on_suspend.new.state x _ _ (a_suspend c.args.k c.in-Suspend.epoch c.in-Suspend.after x ∙ ap (λ m. on_control c.args.k m x) (sym c.in-Suspend.is))
+    (c.in_ok-on_suspend-in-Suspend.ensures x s fit.1)
+
+pub returns-in_ok-on_p1a-in-P1a : goal.returns-in_ok-on_p1a-in-P1a
+returns-in_ok-on_p1a-in-P1a c = λ x s n.
+    let fit = subst FitsControl c.in-P1a.is c.requires.spelt in
+    instead c.on_p1a.new.state x _ _ (a_question c.args.k c.in-P1a.instance c.in-P1a.ballot x ∙ ap (λ m. on_control c.args.k m x) (sym c.in-P1a.is))
+    (c.in_ok-on_p1a-in-P1a.ensures x s fit.1)
+
+pub returns-in_ok-on_p1b-in-P1b : goal.returns-in_ok-on_p1b-in-P1b
+returns-in_ok-on_p1b-in-P1b c = λ x s n.
+    let fit = subst FitsControl c.in-P1b.is c.requires.spelt in
+    instead c.on_p1b.new.state x _ _ (a_promise c.args.k c.in-P1b.instance c.in-P1b.ballot c.in-P1b.accepted x ∙ ap (λ m. on_control c.args.k m x) (sym c.in-P1b.is))
+    (c.in_ok-on_p1b-in-P1b.ensures x s (fit.1, fit.2))
+
+pub returns-in_ok-on_p1no-in-P1no : goal.returns-in_ok-on_p1no-in-P1no
+returns-in_ok-on_p1no-in-P1no c = λ x s n.
+    let fit = subst FitsControl c.in-P1no.is c.requires.spelt in
+    instead c.on_p1no.new.state x _ _ (a_refusal c.args.k c.in-P1no.instance c.in-P1no.ballot c.in-P1no.promised x ∙ ap (λ m. on_control c.args.k m x) (sym c.in-P1no.is))
+    (c.in_ok-on_p1no-in-P1no.ensures x s fit.2)
+
+pub returns-in_ok-on_p2a-in-P2a : goal.returns-in_ok-on_p2a-in-P2a
+returns-in_ok-on_p2a-in-P2a c = λ x s n.
+    let fit = subst FitsControl c.in-P2a.is c.requires.spelt in
+    instead c.on_p2a.new.state x _ _ (a_proposal c.args.k c.in-P2a.instance c.in-P2a.ballot c.in-P2a.decision x ∙ ap (λ m. on_control c.args.k m x) (sym c.in-P2a.is))
+    (c.in_ok-on_p2a-in-P2a.ensures x s (fit.1, fit.2))
+
+pub returns-in_ok-on_p2b-in-P2b : goal.returns-in_ok-on_p2b-in-P2b
+returns-in_ok-on_p2b-in-P2b c = λ x s n.
+    let fit = subst FitsControl c.in-P2b.is c.requires.spelt in
+    instead c.on_p2b.new.state x _ _ (a_vote c.args.k c.in-P2b.instance c.in-P2b.ballot x ∙ ap (λ m. on_control c.args.k m x) (sym c.in-P2b.is))
+    (c.in_ok-on_p2b-in-P2b.ensures x s fit.1)
+
+pub returns-in_ok-on_decide-in-Decide : goal.returns-in_ok-on_decide-in-Decide
+returns-in_ok-on_decide-in-Decide c = λ x s n.
+    let fit = subst FitsControl c.in-Decide.is c.requires.spelt in
+    instead c.on_decide.new.state x _ _ (a_decision c.args.k c.in-Decide.decision x ∙ ap (λ m. on_control c.args.k m x) (sym c.in-Decide.is))
+    (c.in_ok-on_decide-in-Decide.ensures x s fit)
+
+pub returns-in_ok-on_retrieve-in-Retrieve : goal.returns-in_ok-on_retrieve-in-Retrieve
+returns-in_ok-on_retrieve-in-Retrieve c = λ x s n.
+    let fitting = asked_fitting c.args.k c.in-Retrieve.known c.in-Retrieve.from x ∙ (c.states_are_sound.ensures c.args.state.now x s).fitting in
+    instead c.on_retrieve.new.state x _ _ (a_retrieve c.args.k c.in-Retrieve.known c.in-Retrieve.from x ∙ ap (λ m. on_control c.args.k m x) (sym c.in-Retrieve.is))
+    (is_whole c.on_retrieve.new.state x _ fitting (c.in_ok-on_retrieve-in-Retrieve.ensures x s))
+
+pub returns-in_ok-on_page-in-Page : goal.returns-in_ok-on_page-in-Page
+returns-in_ok-on_page-in-Page c = λ x s n.
+    instead c.on_page.new.state x _ _
+    (ap (λ m. on_page_in c.args.k m x) c.in-Page.is ∙ a_page c.args.k c.in-Page.known c.in-Page.from c.in-Page.entries x
+    ∙ ap (λ m. on_control c.args.k m x) (sym c.in-Page.is))
+    (c.in_ok-on_page-in-Page.ensures x s c.requires.spelt)

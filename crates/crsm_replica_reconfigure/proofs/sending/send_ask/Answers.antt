@@ -1,0 +1,32 @@
+use Rattle.std.proofs.Common.{◌≡◌, ◌∙◌, sym, subst}
+use Rattle.std.specs.Prelude.{Some}
+use Rattle.crsm_base.specs.Spelling.{FitsBallot}
+use Rattle.crsm_spec.specs.Log.{decision}
+use Rattle.crsm_spec.specs.Replica.{Coordinator}
+use Rattle.crsm_replica_coordinator.specs.Coordinator.{CoordinatorStands, ballot_of}
+use Rattle.crsm_replica.specs.Replica.{ReplicaStands}
+use Rattle.crsm_replica_reconfigure.proofs.ProposeLemmas.{ask_as, none_proposed, own_small}
+use Rattle.std.proofs.lemmas.Option.{same_Some}
+use Rattle.crsm_replica_coordinator.proofs.Coordinators.{asking_mine}
+use Rattle.crsm_replica_reconfigure.proofs.sending.send_ask.Goals as goal
+
+pub returns-in_default : goal.returns-in_default
+unfolding ballot_of
+returns-in_default c = λ x b own answers s e.
+    let found : c.ballot-found.result ≡ Some b = c.ballot-found.ensures x.replica.me x.replica.n (decision x.replica.log) (Coordinator.Preparing b own answers) (subst (λ z. CoordinatorStands c.coordinator.result.now x.replica.me x.replica.n (decision x.replica.log) z) e (c.coordinator.ensures x s)) in
+    absurd (none_proposed c.ballot-found.result b found c.in_default.is)
+
+pub returns : goal.returns
+unfolding ballot_of
+returns c = λ x b own answers s e.
+    let m : Coordinator = Coordinator.Preparing b own answers in
+    let stands = subst (λ z. CoordinatorStands c.coordinator.result.now x.replica.me x.replica.n (decision x.replica.log) z) e (c.coordinator.ensures x s) in
+    let again = subst (λ z. CoordinatorStands c.coordinator-2.result.now x.replica.me x.replica.n (decision x.replica.log) z) e (c.coordinator-2.ensures x s) in
+    let mine = asking_mine x.replica.me x.replica.n (decision x.replica.log) c.coordinator.result.now b own answers stands in
+    let found : c.ballot-found.result ≡ Some b = c.ballot-found.ensures x.replica.me x.replica.n (decision x.replica.log) m stands in
+    let same : c.in-Some.ballot ≡ b = same_Some _ _ (sym c.in-Some.is ∙ found) in
+    let next = c.in_ok-instance.ensures x s in
+    let sent = c.in_ok-send_to_each.ensures x s (own_small x x.replica.me x.replica.n own c.in_ok-instance.instance mine.0 next, subst (λ z. FitsBallot z) (sym same) mine.1) in
+    subst (λ y. ReplicaStands c.send_to_each.new.self y)
+    (ask_as b own answers x c.in-Some.ballot c.in_ok-instance.instance c.deref.result.now c.deref-2.result.now same next (c.deref.ensures.value ∙ c.in_ok-others.ensures.value x s)
+    (c.deref-2.ensures.value ∙ c.in_ok-missing.ensures.value x.replica.me x.replica.n (decision x.replica.log) m again)) sent

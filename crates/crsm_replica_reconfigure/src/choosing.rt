@@ -1,0 +1,78 @@
+//! A decision is chosen.
+
+ghost use Rattle.std.specs.Prelude.{◌≡◌, ◌<◌, ◌==◌, ◌&&◌, ◌||◌, not, All, IfOk};
+ghost use Rattle.crsm_base.specs.Spelling.{FitsDecision};
+ghost use Rattle.crsm_base.specs.declared.Control.{Control as ControlOnPaper};
+ghost use Rattle.crsm_spec.specs.Draft.{send_to_each};
+ghost use Rattle.crsm_spec.specs.Lists.{has, numbers_below};
+ghost use Rattle.crsm_spec.specs.Coordinate.{on_chosen};
+ghost use Rattle.crsm_replica_reconfigure.specs.Rules.{TriesWhere, MakesWhere};
+ghost use Rattle.crsm_replica_reconfigure.specs.Stages.{others_of_both};
+
+use crate::learning::learn;
+use crsm_base::{Control, Decision, MAX_REPLICAS, Members, NoMemory, first_replicas, is_among};
+use crsm_replica::ReplicaState;
+use std::alloc::Global;
+
+/// A decision that is chosen is learnt and sent to all, of the old Spec and of the new one. `false` if its
+/// records do not fit, and the state is as before.
+pub fn choose(state: &mut ReplicaState, decision: &Decision) -> Result<bool, NoMemory>
+    ensures { TriesWhere (λ x. FitsDecision decision.now) (on_chosen decision.now) state.old result state.new }
+{
+    let old = state.spec()?;
+    let me = state.me();
+    let fits = learn(state, decision)?;
+    if !fits {
+        return Ok(false);
+    }
+    let new = state.spec()?;
+    send_both(state, &old, &new, me, decision)?;
+    Ok(true)
+}
+
+/// Sends the decision to all replicas of two Specs but this one.
+fn send_both(
+    state: &mut ReplicaState,
+    old: &Members,
+    new: &Members,
+    me: u32,
+    decision: &Decision,
+) -> Result<(), NoMemory>
+    ensures { MakesWhere (λ x. FitsDecision decision.now) (send_to_each (others_of_both old.now new.now me) (ControlOnPaper.Decide decision.now)) state.old result state.new }
+{
+    let replicas = both_specs(state.alloc(), old, new, me)?;
+    let decision = decision.copy(state.alloc())?;
+    let control = Control::Decide { decision };
+    state.send_to_each(&replicas, &control)?;
+    Ok(())
+}
+
+/// The replicas of two Specs but this one, ascending.
+fn both_specs(alloc: Global, old: &Members, new: &Members, me: u32) -> Result<Vec<u32>, NoMemory>
+    ensures value { IfOk result (λ ks. ks.items ≡ others_of_both old.now new.now me) }
+    ensures below { IfOk result (λ ks. All (λ k. k < 15) ks.items) }
+{
+    let mut both = Vec::new(alloc);
+    for k in all_replicas() {
+        if is_other(old, new, me, *k) {
+            both.push(*k)?;
+        }
+    }
+    Ok(both)
+}
+
+fn is_other(old: &Members, new: &Members, me: u32, k: u32) -> bool
+    ensures { result ≡ ((has old.now k || has new.now k) && not (k == me)) }
+{
+    let is_of_either = is_among(old.as_slice(), k) | is_among(new.as_slice(), k);
+    is_of_either & (k != me)
+}
+
+/// All replicas that there can be.
+#[tactic(auto, unfolding(crsm_base::specs::Replicas::numbers_below))]
+fn all_replicas() -> &'static [u32]
+    ensures value { result.now ≡ numbers_below 15 }
+    ensures below { All (λ k. k < 15) result.now }
+{
+    first_replicas(MAX_REPLICAS)
+}

@@ -1,0 +1,129 @@
+//! The frozen logs of a Spec are collected, page by page, until those of a majority are whole.
+
+ghost use Rattle.std.specs.Prelude.{◌≡◌, ◌≢◌, ◌<◌, IfOk};
+ghost use Rattle.crsm_base.specs.Messages.{FitsControl};
+ghost use Rattle.crsm_spec.specs.Log.{decision};
+ghost use Rattle.crsm_spec.specs.Replica.{Coordinator as CoordinatorOnPaper};
+ghost use Rattle.crsm_spec.specs.Draft.{Draft, noting};
+ghost use Rattle.crsm_spec.specs.Controls as controls;
+ghost use Rattle.crsm_spec.specs.Step as rules;
+ghost use Rattle.crsm_suspend.specs.Coordinating.{on_got};
+ghost use Rattle.crsm_replica.specs.Replica.{ReplicaStands};
+ghost use Rattle.crsm_replica_reconfigure.specs.Reports.{IsReport, CanGoOn, ask_missing, is_collecting};
+ghost use Rattle.crsm_replica_reconfigure.specs.Rules.{FollowsWhere};
+ghost use Rattle.crsm_replica_reconfigure.specs.Stages.{WhereCollecting, WhereGathering};
+
+use crate::beginning::begin_proposing;
+use crsm_base::{Ballot, Control, NoMemory};
+use crsm_replica::{ReplicaState, states_are_sound};
+use crsm_replica_coordinator::{Coordinator, Stage};
+use crsm_suspend::{Collect, Got, got_is_by_the_rules};
+
+/// The ballot at the beginning of an instance, which is below all that are asked for.
+pub(crate) const NO_BALLOT: Ballot = Ballot { round: 0, by: 0 };
+
+/// A page of the frozen log of another replica k, of which it counts the one that was asked for.
+pub fn on_suspend_ok(state: &mut ReplicaState, k: u32, answer: &Control) -> Result<(), NoMemory>
+    requires from { k < 15 }
+    requires is { IsReport answer.now }
+    requires spelt { FitsControl answer.now }
+    ensures { FollowsWhere (λ x. k ≢ x.replica.me) (controls.on_control k answer.now) state.old result state.new }
+{
+    states_are_sound();
+    got_is_by_the_rules();
+    let is_collecting = is_collecting(state);
+    if !is_collecting {
+        return Ok(());
+    }
+    let answer = answer.copy(state.alloc())?;
+    let coordinator = state.take_coordinator();
+    let Some(mut collect) = coordinator.into_collect() else {
+        return Ok(());
+    };
+    let got = collect.take(k, answer)?;
+    go_on(state, k, collect, got)?;
+    Ok(())
+}
+
+/// Does what the pages of a collection have brought, the last of them replica k's: the next page is asked for, more is
+/// waited for, the decision is proposed, or the collection is given up.
+pub(crate) fn go_on(
+    state: &mut ReplicaState,
+    k: u32,
+    collect: Collect,
+    got: Got,
+) -> Result<(), NoMemory>
+    requires { k < 15 }
+    ensures { IfOk result (λ _. WhereGathering state.old collect (λ x ms pages. CanGoOn k pages got x → ReplicaStands state.new (on_got ms pages got (noting (CoordinatorOnPaper.Collecting ms pages) x)))) }
+{
+    match got {
+        Got::Stranger => {
+            state.set_coordinator(Coordinator::collecting(collect));
+            Ok(())
+        }
+        Got::More { .. } => {
+            state.set_coordinator(Coordinator::collecting(collect));
+            ask_page(state, k)?;
+            Ok(())
+        }
+        Got::Kept => {
+            state.set_coordinator(Coordinator::collecting(collect));
+            Ok(())
+        }
+        Got::Complete(decision) => {
+            begin_proposing(state, decision, NO_BALLOT)?;
+            Ok(())
+        }
+        Got::TooMany { count, bytes } => {
+            state.refuse_collection(count, bytes)?;
+            state.set_coordinator(Coordinator::quiet());
+            Ok(())
+        }
+    }
+}
+
+/// Asks each other replica of the Spec for its next page, while collecting, whose last page has not come.
+pub fn send_collect(state: &mut ReplicaState) -> Result<(), NoMemory>
+    ensures { IfOk result (λ _. WhereCollecting state.old (λ x ms pages. ReplicaStands state.new (rules.send_collect pages x))) }
+{
+    let others = state.others()?;
+    for k in &others {
+        ask_missing(state, *k)?;
+    }
+    Ok(())
+}
+
+/// Asks replica k for its next page, while collecting, unless its last page has come.
+fn ask_missing(state: &mut ReplicaState, k: u32) -> Result<(), NoMemory>
+    requires { k < 15 }
+    ensures { IfOk result (λ _. WhereCollecting state.old (λ x ms pages. ReplicaStands state.new (ask_missing pages x k))) }
+{
+    let is_whole = state.coordinator().is_whole(k);
+    if is_whole {
+        return Ok(());
+    }
+    ask_page(state, k)?;
+    Ok(())
+}
+
+/// Asks replica k for its next page, while collecting.
+fn ask_page(state: &mut ReplicaState, k: u32) -> Result<(), NoMemory>
+    requires { k < 15 }
+    ensures { IfOk result (λ _. WhereCollecting state.old (λ x ms pages. ReplicaStands state.new (rules.ask_page pages x k))) }
+{
+    let epoch = state.known();
+    let after = state.coordinator().cursor(k);
+    let control = Control::Suspend { epoch, after };
+    state.send_control(k, &control)?;
+    Ok(())
+}
+
+/// Whether frozen logs are collected.
+fn is_collecting(state: &ReplicaState) -> bool
+    ensures { (x : Draft) → ReplicaStands state.now x → result ≡ is_collecting x.replica.coordinator }
+{
+    match state.coordinator().stage() {
+        Stage::Collecting => true,
+        _ => false,
+    }
+}

@@ -1,0 +1,73 @@
+//! Whether the records of a proposer's own acceptance fit.
+
+ghost use Rattle.std.specs.Prelude.{◌≡◌, IfOk};
+ghost use Rattle.crsm_base.specs.declared.Rec.{Rec as RecOnPaper};
+ghost use Rattle.crsm_spec.specs.Fits.{fits};
+ghost use Rattle.crsm_spec.specs.Draft.{Draft};
+ghost use Rattle.crsm_spec.specs.Coordinate.{accept_own};
+ghost use Rattle.crsm_replica.specs.Replica.{ReplicaStands};
+ghost use Rattle.crsm_replica_reconfigure.specs.Stages.{WhereOwnVote};
+
+use crate::proposing::is_due;
+use crate::sending::next_instance;
+use crate::tails::tail_goes_on;
+use crsm_base::{Ballot, Decision, NoMemory, Rec, ballot_precedes};
+use crsm_replica::{ReplicaState, states_are_sound};
+
+/// Whether the records of the own acceptance of this proposal would fit, which is chosen by it or not.
+pub fn fits_own(
+    state: &ReplicaState,
+    ballot: Ballot,
+    value: &Decision,
+    is_chosen: bool,
+) -> Result<bool, NoMemory>
+    ensures { IfOk result (λ fit. WhereOwnVote state.now value.now is_chosen (λ x own acceptors. fit ≡ (accept_own ballot own value.now acceptors x).fitting)) }
+{
+    states_are_sound();
+    let top = state.promised();
+    if ballot_precedes(ballot, top) {
+        return Ok(true);
+    }
+    let is_due = is_due(state, ballot, value);
+    if !is_due {
+        return Ok(true);
+    }
+    let instance = next_instance(state)?;
+    let accepts = would_accept(state, instance, ballot, value)?;
+    if !accepts {
+        return Ok(false);
+    }
+    if !is_chosen {
+        return Ok(true);
+    }
+    let goes_on = tail_goes_on(state, value)?;
+    let decides = would_decide(state, value)?;
+    Ok(decides & goes_on)
+}
+
+fn would_accept(
+    state: &ReplicaState,
+    instance: u64,
+    ballot: Ballot,
+    value: &Decision,
+) -> Result<bool, NoMemory>
+    ensures { IfOk result (λ fit. (x : Draft) → ReplicaStands state.now x → fit ≡ fits x.replica.me x.replica.n x.replica.log (RecOnPaper.Accept instance ballot value.now)) }
+{
+    let decision = value.copy(state.alloc())?;
+    let rec = Rec::Accept {
+        instance,
+        ballot,
+        decision,
+    };
+    let fits = state.ledger().fits(&rec);
+    Ok(fits)
+}
+
+fn would_decide(state: &ReplicaState, value: &Decision) -> Result<bool, NoMemory>
+    ensures { IfOk result (λ fit. (x : Draft) → ReplicaStands state.now x → fit ≡ fits x.replica.me x.replica.n x.replica.log (RecOnPaper.Decide value.now)) }
+{
+    let decision = value.copy(state.alloc())?;
+    let rec = Rec::Decide { decision };
+    let fits = state.ledger().fits(&rec);
+    Ok(fits)
+}

@@ -1,0 +1,130 @@
+//! A decision is learnt, and its epoch entered.
+
+ghost use Rattle.std.specs.Prelude.{◌≡◌, ◌<◌, ◌&&◌, nat_lt, nat_le, true, drop, IfOk};
+ghost use Rattle.crsm_base.specs.declared.Rec.{Rec as RecOnPaper};
+ghost use Rattle.crsm_base.specs.Spelling.{FitsDecision, FitsEntries};
+ghost use Rattle.crsm_spec.specs.Draft.{Draft, keep};
+ghost use Rattle.crsm_spec.specs.Coordinate.{adopt_tail, advance, learn};
+ghost use Rattle.crsm_spec.specs.Controls.{on_decide, retrieve_base};
+ghost use Rattle.crsm_replica.specs.Replica.{ReplicaStands, Makes};
+ghost use Rattle.crsm_replica_reconfigure.specs.Rules.{FollowsWhere, TriesWhere, MakesWhere};
+
+use crate::tails::tail_goes_on;
+use crsm_base::{Decision, Entries, Entry, NoMemory, Rec};
+use crsm_replica::{ReplicaState, states_are_sound};
+use std::alloc::Global;
+
+/// A decision of replica k is learnt where it is of a later epoch.
+pub fn on_decide(state: &mut ReplicaState, k: u32, decision: &Decision) -> Result<(), NoMemory>
+    requires { k < 15 }
+    ensures { FollowsWhere (λ x. FitsDecision decision.now) (on_decide k decision.now) state.old result state.new }
+{
+    states_are_sound();
+    let known = state.known();
+    if decision.epoch <= known {
+        return Ok(());
+    }
+    let fits = learn(state, decision)?;
+    if !fits {
+        return Ok(());
+    }
+    retrieve_base(state, k)?;
+    Ok(())
+}
+
+/// Learns a decision. `false` if its records do not fit, and the state is as before.
+pub fn learn(state: &mut ReplicaState, decision: &Decision) -> Result<bool, NoMemory>
+    ensures { TriesWhere (λ x. FitsDecision decision.now) (learn decision.now) state.old result state.new }
+{
+    states_are_sound();
+    let goes_on = tail_goes_on(state, decision)?;
+    if !goes_on {
+        return Ok(false);
+    }
+    let fits = state.learn_decision(decision)?;
+    if !fits {
+        return Ok(false);
+    }
+    advance(state)?;
+    Ok(true)
+}
+
+/// Executes the rest of the known decision's tail once its base is executed, where that fits, and enters the epoch
+/// where that fits.
+pub fn advance(state: &mut ReplicaState) -> Result<(), NoMemory>
+    ensures { MakesWhere (λ x. (adopt_tail x).fitting ≡ true) advance state.old result state.new }
+{
+    adopt_tail(state)?;
+    state.enter()?;
+    Ok(())
+}
+
+fn adopt_tail(state: &mut ReplicaState) -> Result<(), NoMemory>
+    ensures { MakesWhere (λ x. (adopt_tail x).fitting ≡ true) adopt_tail state.old result state.new }
+{
+    states_are_sound();
+    let Some(decision) = state.decision()? else {
+        return Ok(());
+    };
+    let place = state.executed_len();
+    if !is_left(decision.base_len, place, state.start()) {
+        return Ok(());
+    }
+    let rest = behind(decision.tail.as_slice(), place - decision.base_len);
+    adopt(state, place, rest)?;
+    Ok(())
+}
+
+/// Whether the base is executed, and the tail, which ends at this place, is not.
+fn is_left(base_len: u64, place: u64, end: u64) -> bool
+    ensures { result ≡ (nat_le base_len place && nat_lt place end) }
+{
+    base_len <= place && place < end
+}
+
+/// Executes these entries from a place on. `false` if that does not fit, and the state is as before.
+pub fn adopt(state: &mut ReplicaState, place: u64, entries: &[Entry]) -> Result<bool, NoMemory>
+    ensures { TriesWhere (λ x. FitsEntries entries.now) (keep (RecOnPaper.Adopt place entries.now)) state.old result state.new }
+{
+    let entries = copied(state.alloc(), entries)?;
+    let rec = Rec::Adopt { place, entries };
+    let fits = state.keep_known(rec)?;
+    Ok(fits)
+}
+
+/// What lies behind so many of the entries.
+fn behind(entries: &[Entry], count: u64) -> &[Entry]
+    ensures { result.now ≡ drop count entries.now }
+{
+    let count = count as usize;
+    if count >= entries.len() {
+        &entries[entries.len()..]
+    } else {
+        &entries[count..]
+    }
+}
+
+/// Equal entries.
+fn copied(alloc: Global, entries: &[Entry]) -> Result<Entries, NoMemory>
+    ensures { IfOk result (λ copy. copy ≡ entries.now) }
+{
+    let mut copy = Entries::new(alloc);
+    for item in entries {
+        copy.push(item.copy(alloc)?)?;
+    }
+    Ok(copy)
+}
+
+/// Asks k for what is missing below the base.
+fn retrieve_base(state: &mut ReplicaState, k: u32) -> Result<(), NoMemory>
+    requires { k < 15 }
+    ensures { Makes (retrieve_base k) state.old result state.new }
+{
+    let done = state.executed_len();
+    let base_len = state.base_len();
+    if done < base_len {
+        state.send_retrieve(k)?;
+        return Ok(());
+    }
+    Ok(())
+}

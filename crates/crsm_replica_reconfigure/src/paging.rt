@@ -1,0 +1,85 @@
+//! Executed entries are asked for, and taken, page by page.
+
+ghost use Rattle.std.specs.Prelude.{◌<◌};
+ghost use Rattle.crsm_base.specs.Messages.{FitsControl};
+ghost use Rattle.crsm_base.specs.Spelling.{FitsEntries};
+ghost use Rattle.crsm_spec.specs.Draft.{Draft};
+ghost use Rattle.crsm_spec.specs.Controls.{on_retrieve};
+ghost use Rattle.crsm_replica.specs.Replica.{ReplicaStands, Makes};
+ghost use Rattle.crsm_transfer.specs.Fitting.{IsPage};
+ghost use Rattle.crsm_replica_reconfigure.specs.Rules.{FollowsWhere, on_page_in, CanAdopt, send_executed, take_executed};
+
+use crate::learning::{adopt, advance};
+use crate::tails::rest_goes_on;
+use crsm_base::{Control, Entries, NoMemory};
+use crsm_replica::{ReplicaState, states_are_sound};
+use crsm_transfer::{Fit, fit, page};
+
+/// Replica k, which knows this epoch and has executed so many entries, asks for what is beyond.
+pub fn on_retrieve(state: &mut ReplicaState, k: u32, known: u64, from: u64) -> Result<(), NoMemory>
+    requires { k < 15 }
+    ensures { Makes (on_retrieve k known from) state.old result state.new }
+{
+    let own = state.known();
+    if known < own {
+        state.send_decision(k)?;
+        return Ok(());
+    }
+    send_page(state, k, from)?;
+    if own < known {
+        state.send_retrieve(k)?;
+        return Ok(());
+    }
+    Ok(())
+}
+
+/// Sends k the first page of the executed entries from a place on, if there is one.
+fn send_page(state: &mut ReplicaState, k: u32, from: u64) -> Result<(), NoMemory>
+    requires { k < 15 }
+    ensures { Makes (send_executed k from) state.old result state.new }
+{
+    states_are_sound();
+    let found = page(state.alloc(), state.ledger(), from)?;
+    let Some(control) = found else {
+        return Ok(());
+    };
+    state.send_control(k, &control)?;
+    Ok(())
+}
+
+/// A page of executed entries from k.
+pub fn on_page(state: &mut ReplicaState, k: u32, page: &Control) -> Result<(), NoMemory>
+    requires to { k < 15 }
+    requires is { IsPage page.now }
+    ensures { FollowsWhere (λ x. FitsControl page.now) (on_page_in k page.now) state.old result state.new }
+{
+    let found = fit(state.alloc(), state.ledger(), page)?;
+    let Fit::Adopt(entries) = found else {
+        return Ok(());
+    };
+    take_entries(state, k, &entries)?;
+    Ok(())
+}
+
+/// Executes the entries, which follow the executed ones, and asks k for more.
+fn take_entries(state: &mut ReplicaState, k: u32, entries: &Entries) -> Result<(), NoMemory>
+    requires { k < 15 }
+    ensures { FollowsWhere (λ x. FitsEntries entries.now × CanAdopt x entries.now) (take_executed k entries.now) state.old result state.new }
+{
+    states_are_sound();
+    if entries.as_slice().is_empty() {
+        return Ok(());
+    }
+    let goes_on = rest_goes_on(state, entries)?;
+    if !goes_on {
+        return Ok(());
+    }
+    let place = state.executed_len();
+    let fits = adopt(state, place, entries.as_slice())?;
+    if !fits {
+        return Ok(());
+    }
+    advance(state)?;
+    state.send_retrieve(k)?;
+    Ok(())
+}

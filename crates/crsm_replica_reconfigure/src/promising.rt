@@ -1,0 +1,184 @@
+//! What an acceptor promises and accepts.
+
+ghost use Rattle.std.specs.Prelude.{◌≡◌, ◌<◌, IfOk};
+ghost use Rattle.crsm_base.specs.Order.{ballot_lt, ballot_eq};
+ghost use Rattle.crsm_base.specs.Spelling.{FitsBallot, FitsDecision};
+ghost use Rattle.crsm_base.specs.declared.Control.{Control as ControlOnPaper};
+ghost use Rattle.crsm_base.specs.declared.Rec.{Rec as RecOnPaper};
+ghost use Rattle.crsm_spec.specs.Draft.{Draft, keep, send_control};
+ghost use Rattle.crsm_spec.specs.Controls.{send_promise, on_p1a, on_p2a};
+ghost use Rattle.crsm_replica.specs.Replica.{ReplicaStands};
+ghost use Rattle.crsm_replica_reconfigure.specs.Rules.{FollowsWhere, MakesWhere, TriesWhere, IsNextOr};
+
+use crsm_base::{Ballot, Control, Decision, NoMemory, Rec, ballot_precedes, is_same_ballot};
+use crsm_replica::{ReplicaState, states_are_sound};
+
+/// A ballot of k asks for a promise.
+pub fn on_p1a(
+    state: &mut ReplicaState,
+    k: u32,
+    instance: u64,
+    ballot: Ballot,
+) -> Result<(), NoMemory>
+    requires { k < 15 }
+    ensures { FollowsWhere (λ x. FitsBallot ballot) (on_p1a k instance ballot) state.old result state.new }
+{
+    states_are_sound();
+    let is_next = if_next(state, k, instance)?;
+    if !is_next {
+        return Ok(());
+    }
+    let top = state.promised();
+    if ballot_precedes(top, ballot) {
+        let fits = promise(state, instance, ballot)?;
+        if !fits {
+            return Ok(());
+        }
+        send_promise(state, k, instance, ballot)?;
+        return Ok(());
+    }
+    if is_same_ballot(top, ballot) {
+        send_promise(state, k, instance, ballot)?;
+        return Ok(());
+    }
+    refuse(state, k, instance, ballot, top)?;
+    Ok(())
+}
+
+/// A ballot of k proposes a decision.
+pub fn on_p2a(
+    state: &mut ReplicaState,
+    k: u32,
+    instance: u64,
+    ballot: Ballot,
+    decision: &Decision,
+) -> Result<(), NoMemory>
+    requires { k < 15 }
+    ensures { FollowsWhere (λ x. FitsBallot ballot × FitsDecision decision.now) (on_p2a k instance ballot decision.now) state.old result state.new }
+{
+    states_are_sound();
+    let is_next = if_next(state, k, instance)?;
+    if !is_next {
+        return Ok(());
+    }
+    let top = state.promised();
+    if ballot_precedes(ballot, top) {
+        refuse(state, k, instance, ballot, top)?;
+        return Ok(());
+    }
+    let has_accepted = state.has_accepted(ballot);
+    if has_accepted {
+        vote(state, k, instance, ballot)?;
+        return Ok(());
+    }
+    let done = state.executed_len();
+    let base_len = decision.base_len;
+    if done < base_len {
+        state.send_retrieve(k)?;
+        return Ok(());
+    }
+    let fits = accept(state, instance, ballot, decision)?;
+    if !fits {
+        return Ok(());
+    }
+    vote(state, k, instance, ballot)?;
+    Ok(())
+}
+
+/// Keeps that the ballot is promised. `false` if that does not fit, and the state is as before.
+pub fn promise(state: &mut ReplicaState, instance: u64, ballot: Ballot) -> Result<bool, NoMemory>
+    ensures { TriesWhere (λ x. FitsBallot ballot) (keep (RecOnPaper.Promise instance ballot)) state.old result state.new }
+{
+    let rec = Rec::Promise { instance, ballot };
+    let fits = state.keep_known(rec)?;
+    Ok(fits)
+}
+
+/// Keeps that the decision is accepted in this ballot. `false` if that does not fit, and the state is as
+/// before.
+pub fn accept(
+    state: &mut ReplicaState,
+    instance: u64,
+    ballot: Ballot,
+    decision: &Decision,
+) -> Result<bool, NoMemory>
+    ensures { TriesWhere (λ x. FitsBallot ballot × FitsDecision decision.now) (keep (RecOnPaper.Accept instance ballot decision.now)) state.old result state.new }
+{
+    let decision = decision.copy(state.alloc())?;
+    let rec = Rec::Accept {
+        instance,
+        ballot,
+        decision,
+    };
+    let fits = state.keep_known(rec)?;
+    Ok(fits)
+}
+
+/// Whether the instance is the next one. Any other one of k is answered.
+fn if_next(state: &mut ReplicaState, k: u32, instance: u64) -> Result<bool, NoMemory>
+    requires { k < 15 }
+    ensures { IfOk result (λ next. (x : Draft) → ReplicaStands state.old x → IsNextOr k instance x next state.new) }
+{
+    let known = state.known();
+    if instance <= known {
+        state.send_decision(k)?;
+        return Ok(false);
+    }
+    let before = instance - 1;
+    if before > known {
+        state.send_retrieve(k)?;
+        return Ok(false);
+    }
+    Ok(true)
+}
+
+/// Answers k that the ballot is promised, and what was accepted.
+fn send_promise(
+    state: &mut ReplicaState,
+    k: u32,
+    instance: u64,
+    ballot: Ballot,
+) -> Result<(), NoMemory>
+    requires { k < 15 }
+    ensures { MakesWhere (λ x. FitsBallot ballot) (send_promise k instance ballot) state.old result state.new }
+{
+    states_are_sound();
+    let accepted = state.accepted()?;
+    let control = Control::P1b {
+        instance,
+        ballot,
+        accepted,
+    };
+    state.send_control(k, &control)?;
+    Ok(())
+}
+
+/// Answers k that a greater ballot was promised.
+fn refuse(
+    state: &mut ReplicaState,
+    k: u32,
+    instance: u64,
+    ballot: Ballot,
+    promised: Ballot,
+) -> Result<(), NoMemory>
+    requires { k < 15 }
+    ensures { MakesWhere (λ x. FitsBallot ballot × FitsBallot promised) (λ x. send_control (ControlOnPaper.P1no instance ballot promised) x k) state.old result state.new }
+{
+    let control = Control::P1no {
+        instance,
+        ballot,
+        promised,
+    };
+    state.send_control(k, &control)?;
+    Ok(())
+}
+
+/// Answers k that its ballot's decision is accepted.
+fn vote(state: &mut ReplicaState, k: u32, instance: u64, ballot: Ballot) -> Result<(), NoMemory>
+    requires { k < 15 }
+    ensures { MakesWhere (λ x. FitsBallot ballot) (λ x. send_control (ControlOnPaper.P2b instance ballot) x k) state.old result state.new }
+{
+    let control = Control::P2b { instance, ballot };
+    state.send_control(k, &control)?;
+    Ok(())
+}

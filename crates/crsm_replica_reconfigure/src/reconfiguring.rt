@@ -1,0 +1,132 @@
+//! A new epoch is wished for: the known one is suspended, and its frozen logs are collected.
+
+ghost use Rattle.std.specs.Prelude.{◌≡◌, ◌≤◌, ◌&&◌, ℕ, None, List, IfOk};
+ghost use Rattle.std.specs.List.{list_all};
+ghost use Rattle.crsm_base.specs.declared.Control.{Control as ControlOnPaper};
+ghost use Rattle.crsm_spec.specs.Lists.{has, numbers_below};
+ghost use Rattle.crsm_spec.specs.Fits.{can_be_members};
+ghost use Rattle.crsm_spec.specs.Log.{known};
+ghost use Rattle.crsm_spec.specs.Replica.{spec_of, next_spec, named_spec};
+ghost use Rattle.crsm_spec.specs.Draft.{Draft, send_to_all};
+ghost use Rattle.crsm_spec.specs.Coordinate as coordinate;
+ghost use Rattle.crsm_replica.specs.Replica.{ReplicaStands, Makes};
+ghost use Rattle.crsm_replica_reconfigure.specs.Reports.{CanBegin, begins_fitting, Begun};
+ghost use Rattle.crsm_replica_reconfigure.specs.Rules.{Follows, BeginsAlike};
+
+use crate::beginning::may_begin;
+use crate::collecting::{NO_BALLOT, go_on};
+use crate::suspending::suspend_once;
+use crsm_base::{Control, Members, NoMemory, are_among, can_be_members, first_replicas};
+use crsm_replica::{ReplicaState, states_are_sound};
+use crsm_suspend::{Collect, Got, got_is_by_the_rules};
+
+/// How large a known epoch and its start may be where a collection begins: the numbers behind them stay below the greatest one.
+const MOST_COLLECTED: u64 = u64::MAX - 4_096;
+
+/// A suspicion, or an operator's wish: these are to be the members of the next epoch.
+pub fn on_suspect(state: &mut ReplicaState, members: &Members) -> Result<(), NoMemory>
+    ensures { Follows (coordinate.on_suspect members.now) state.old result state.new }
+{
+    states_are_sound();
+    got_is_by_the_rules();
+    let Some(mut collect) = begin(state, members)? else {
+        return Ok(());
+    };
+    let me = state.me();
+    let got = collect.take_own(me, state.ledger())?;
+    let fits = may_go_on(state, &got)?;
+    if !fits {
+        return Ok(());
+    }
+    suspend_once(state)?;
+    send_suspend(state)?;
+    go_on(state, me, collect, got)?;
+    Ok(())
+}
+
+/// A collection for the next epoch without pages, where these may be its members.
+fn begin(state: &ReplicaState, members: &Members) -> Result<Option<Collect>, NoMemory>
+    ensures { IfOk result (λ found. (x : Draft) → ReplicaStands state.now x → Begun found members.now x) }
+{
+    let epoch = state.known();
+    let start = state.start();
+    if epoch > MOST_COLLECTED {
+        return Ok(None);
+    }
+    if start > MOST_COLLECTED {
+        return Ok(None);
+    }
+    let spec = state.spec()?;
+    let next = next_spec(state, &spec, members)?;
+    let can = can_be_next(state, &next, members);
+    if !can {
+        return Ok(None);
+    }
+    let named = named_spec(state, next);
+    let members = members.copy(state.alloc())?;
+    let collect = Collect::start(state.alloc(), epoch, start, spec, named, members);
+    Ok(Some(collect))
+}
+
+/// The Spec after this one, where these are to be the members: this one where they are all of it, and otherwise they.
+#[tactic(auto, unfolding(crsm_spec::specs::Replica::next_spec))]
+fn next_spec(state: &ReplicaState, spec: &Members, members: &Members) -> Result<Members, NoMemory>
+    ensures { IfOk result (λ next. (x : Draft) → spec.now ≡ spec_of x.replica → next ≡ next_spec x.replica members.now) }
+{
+    let are_of_spec = are_among(members.as_slice(), spec.as_slice());
+    if are_of_spec {
+        let next = spec.copy(state.alloc())?;
+        return Ok(next);
+    }
+    let next = members.copy(state.alloc())?;
+    Ok(next)
+}
+
+/// How a decision names the next Spec: not at all where it is the first one.
+fn named_spec(state: &ReplicaState, next: Members) -> Option<Members>
+    ensures { (x : Draft) (ms : List ℕ) → ReplicaStands state.now x → next ≡ next_spec x.replica ms → result ≡ named_spec x.replica ms }
+{
+    states_are_sound();
+    let first = first_replicas(state.ledger().n());
+    let is_first = next.as_slice() == first;
+    if is_first {
+        return None;
+    }
+    Some(next)
+}
+
+/// Whether this replica is counted, and these may be the members of an epoch of the next Spec.
+fn can_be_next(state: &ReplicaState, next: &Members, members: &Members) -> bool
+    ensures { (x : Draft) → ReplicaStands state.now x → result ≡ (has (spec_of x.replica) x.replica.me && can_be_members next.now members.now) }
+{
+    let me = state.me();
+    let is_of_spec = state.is_of_spec(me);
+    is_of_spec & can_be_members(next.as_slice(), members.as_slice())
+}
+
+/// Whether the records would fit of what is done by this once the epoch is suspended.
+#[tactic(auto, unfolding(crate::specs::Reports::begins_fitting))]
+fn may_go_on(state: &ReplicaState, got: &Got) -> Result<bool, NoMemory>
+    ensures { IfOk result (λ fit. (x y : Draft) → ReplicaStands state.now x → CanBegin got.now x → BeginsAlike x y → fit ≡ begins_fitting got.now y) }
+{
+    match got {
+        Got::Complete(decision) => {
+            let fits = may_begin(state, decision, NO_BALLOT)?;
+            Ok(fits)
+        }
+        Got::Stranger => Ok(true),
+        Got::More { .. } => Ok(true),
+        Got::Kept => Ok(true),
+        Got::TooMany { .. } => Ok(true),
+    }
+}
+
+/// Asks each other replica of the Spec for its frozen log.
+fn send_suspend(state: &mut ReplicaState) -> Result<(), NoMemory>
+    ensures { Makes (λ x. send_to_all (ControlOnPaper.Suspend (known x.replica.log) None) x) state.old result state.new }
+{
+    let epoch = state.known();
+    let control = Control::Suspend { epoch, after: None };
+    state.send_to_all(&control)?;
+    Ok(())
+}

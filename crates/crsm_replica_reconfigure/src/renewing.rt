@@ -1,0 +1,75 @@
+//! What a coordinator does again that proposes, or whose ballot is over.
+
+ghost use Rattle.std.specs.Prelude.{◌≡◌, true, IfOk, Some};
+ghost use Rattle.crsm_spec.specs.Replica.{Coordinator as CoordinatorOnPaper};
+ghost use Rattle.crsm_spec.specs.Coordinate.{accept_own};
+ghost use Rattle.crsm_spec.specs.Step.{renew};
+ghost use Rattle.crsm_replica.specs.Replica.{ReplicaStands};
+ghost use Rattle.crsm_replica_reconfigure.specs.Rules.{CanPropose};
+ghost use Rattle.crsm_replica_reconfigure.specs.Stages.{TriesTo, WherePreempted, WhereProposing, CanAcceptOwn};
+
+use crate::beginning::{begin_proposing, may_begin};
+use crate::fitting::fits_own;
+use crate::proposing::accept_own;
+use crate::sending::send_proposal;
+use crsm_base::{Ballot, Decision, NoMemory};
+use crsm_replica::{ReplicaState, states_are_sound};
+use crsm_replica_coordinator::Coordinator;
+
+/// A proposal is renewed: the proposer's own acceptance is made up where it is due, and it is sent to all that have not accepted.
+/// `false` if the records of that do not fit, and the state is as before.
+pub fn renew_proposal(state: &mut ReplicaState) -> Result<bool, NoMemory>
+    ensures { IfOk result (λ fit. WhereProposing state.old (λ x b own value acceptors. TriesTo fit state.new x (renew (CoordinatorOnPaper.Proposing b own value acceptors) x))) }
+{
+    states_are_sound();
+    let found = state.coordinator().proposal(state.alloc())?;
+    let Some((ballot, value)) = found else {
+        return Ok(false);
+    };
+    let me = state.me();
+    let is_chosen = state.coordinator().is_last_vote(me);
+    let fits = fits_own(state, ballot, &value, is_chosen)?;
+    if !fits {
+        return Ok(false);
+    }
+    accept_and_send(state)?;
+    Ok(true)
+}
+
+/// A decision of one's own whose ballot is over is proposed again, above the ballot that was seen. `false` if
+/// where the records of that do not fit, and the state is as before.
+pub fn renew_over(state: &mut ReplicaState) -> Result<bool, NoMemory>
+    ensures { IfOk result (λ fit. WherePreempted state.old (λ x own seen. TriesTo fit state.new x (renew (CoordinatorOnPaper.Preempted own seen) x))) }
+{
+    states_are_sound();
+    let found = own_again(state)?;
+    let Some((own, seen)) = found else {
+        return Ok(false);
+    };
+    let fits = may_begin(state, &own, seen)?;
+    if !fits {
+        return Ok(false);
+    }
+    begin_proposing(state, own, seen)?;
+    Ok(true)
+}
+
+/// The decision of one's own that is to be proposed again, and the ballot that was seen.
+fn own_again(state: &ReplicaState) -> Result<Option<(Decision, Ballot)>, NoMemory>
+    ensures { IfOk result (λ found. WherePreempted state.now (λ x own seen. (found ≡ Some (own, seen)) × CanPropose own seen x)) }
+{
+    match state.coordinator() {
+        Coordinator::Preempted { own, seen } => Ok(Some((own.copy(state.alloc())?, *seen))),
+        _ => Ok(None),
+    }
+}
+
+/// The proposer's own acceptance, where its records fit. Then the proposal is sent to all that have not accepted it, where
+/// there still is one.
+pub fn accept_and_send(state: &mut ReplicaState) -> Result<(), NoMemory>
+    ensures { IfOk result (λ _. WhereProposing state.old (λ x b own value acceptors. CanAcceptOwn b own value acceptors x → ReplicaStands state.new (renew (CoordinatorOnPaper.Proposing b own value acceptors) x))) }
+{
+    accept_own(state)?;
+    send_proposal(state)?;
+    Ok(())
+}

@@ -1,0 +1,69 @@
+//! The known epoch is ended here.
+
+ghost use Rattle.std.specs.Prelude.{◌≡◌, ◌<◌};
+ghost use Rattle.crsm_base.specs.Spelling.{FitsOption, FitsStamp};
+ghost use Rattle.crsm_spec.specs.Draft.{Draft, send_control};
+ghost use Rattle.crsm_spec.specs.Collect.{suspend_ok};
+ghost use Rattle.crsm_spec.specs.Controls.{on_suspend};
+ghost use Rattle.crsm_spec.specs.Coordinate.{suspend_once};
+ghost use Rattle.crsm_replica.specs.Replica.{ReplicaStands, MakesFitting};
+ghost use Rattle.crsm_replica_reconfigure.specs.Rules.{FollowsWhere, MakesWhere};
+
+use crsm_base::{NoMemory, Rec, Stamp};
+use crsm_replica::{ReplicaState, states_are_sound};
+use crsm_suspend::page_of;
+
+/// A coordinator k ends an epoch and asks for the logged entries above a stamp.
+pub fn on_suspend(
+    state: &mut ReplicaState,
+    k: u32,
+    epoch: u64,
+    after: Option<Stamp>,
+) -> Result<(), NoMemory>
+    requires { k < 15 }
+    ensures { FollowsWhere (λ x. FitsOption FitsStamp after) (on_suspend k epoch after) state.old result state.new }
+{
+    states_are_sound();
+    let known = state.known();
+    if epoch < known {
+        state.send_decision(k)?;
+        return Ok(());
+    }
+    if known < epoch {
+        state.send_retrieve(k)?;
+        return Ok(());
+    }
+    let fits = suspend_once(state)?;
+    if !fits {
+        return Ok(());
+    }
+    send_frozen(state, k, after)?;
+    Ok(())
+}
+
+/// Suspends the known epoch, unless that is done. `false` if that does not fit, and the state is as before.
+pub fn suspend_once(state: &mut ReplicaState) -> Result<bool, NoMemory>
+    ensures { MakesFitting suspend_once state.old result state.new }
+{
+    states_are_sound();
+    let is_suspended = state.is_suspended();
+    if is_suspended {
+        return Ok(true);
+    }
+    let epoch = state.known();
+    let rec = Rec::Suspend { epoch };
+    let fits = state.keep_known(rec)?;
+    Ok(fits)
+}
+
+/// Sends k the first page of the frozen log above a stamp.
+fn send_frozen(state: &mut ReplicaState, k: u32, after: Option<Stamp>) -> Result<(), NoMemory>
+    requires { k < 15 }
+    ensures { MakesWhere (λ x. FitsOption FitsStamp after) (λ x. send_control (suspend_ok x.replica.log after) x k) state.old result state.new }
+{
+    states_are_sound();
+    let _done = state.executed_len();
+    let control = page_of(state.alloc(), state.ledger(), after)?;
+    state.send_control(k, &control)?;
+    Ok(())
+}

@@ -1,0 +1,85 @@
+//! Whether the rest of a decision's tail goes on behind the executed entries.
+
+ghost use Rattle.std.specs.Prelude.{◌≡◌, ◌≢◌, ◌-◌, [], ◌++◌, true, length, IfOk, slice_get};
+ghost use Rattle.std.specs.Option.{option_map_or, option_copied};
+ghost use Rattle.crsm_base.specs.Order.{entry_lt};
+ghost use Rattle.crsm_spec.specs.Log.{Log, executed, decision};
+ghost use Rattle.crsm_spec.specs.Draft.{Draft};
+ghost use Rattle.crsm_ledger.specs.Ledger.{LedgerStands};
+ghost use Rattle.std.specs.Prelude.{ℕ};
+ghost use Rattle.crsm_replica.specs.Replica.{ReplicaStands};
+ghost use Rattle.crsm_replica_reconfigure.specs.Rules.{tail_goes_on, rest_goes_on, first_left};
+
+use crsm_base::{Decision, Entries, Entry, NoMemory, entry_precedes, never};
+use crsm_ledger::Ledger;
+use crsm_replica::ReplicaState;
+
+/// Whether the rest of the decision's tail goes on behind the executed entries, where its base is executed.
+pub fn tail_goes_on(state: &ReplicaState, decision: &Decision) -> Result<bool, NoMemory>
+    ensures { IfOk result (λ b. (x : Draft) → ReplicaStands state.now x → b ≡ tail_goes_on decision.now (executed x.replica.log)) }
+{
+    let Some(entry) = first_left(decision, state.executed_len()) else {
+        return Ok(true);
+    };
+    let is_behind = stands_behind(state.ledger(), entry)?;
+    Ok(is_behind)
+}
+
+/// Whether the rest of the known decision's tail goes on behind the executed entries and these, of which there is one.
+pub fn rest_goes_on(state: &ReplicaState, entries: &Entries) -> Result<bool, NoMemory>
+    requires { entries.now ≢ [] }
+    ensures { IfOk result (λ b. (x : Draft) → ReplicaStands state.now x → b ≡ rest_goes_on (decision x.replica.log) (executed x.replica.log ++ entries.now)) }
+{
+    let Some(decision) = state.decision()? else {
+        return Ok(true);
+    };
+    let entries = entries.as_slice();
+    let more = entries.len() as u64;
+    let before = state.executed_len();
+    // No memory holds so many.
+    if before > u64::MAX - more {
+        return Err(never());
+    }
+    let done = before + more;
+    let Some(entry) = first_left(&decision, done) else {
+        return Ok(true);
+    };
+    let is_behind = ends_before(entries, entry);
+    Ok(is_behind)
+}
+
+/// The first entry of the tail that is left where so many are executed, while the base is.
+#[tactic(auto, unfolding(crate::specs::Rules::first_left))]
+fn first_left(decision: &Decision, done: u64) -> Option<&Entry>
+    ensures { option_copied result ≡ first_left decision.now done }
+{
+    if done < decision.base_len {
+        return None;
+    }
+    decision
+        .tail
+        .as_slice()
+        .get((done - decision.base_len) as usize)
+}
+
+/// Whether the entry stands behind the last executed one, if there is one.
+fn stands_behind(ledger: &Ledger, entry: &Entry) -> Result<bool, NoMemory>
+    ensures { IfOk result (λ b. (me n : ℕ) (log : Log) → LedgerStands me n ledger.now log → b ≡ option_map_or (λ f. entry_lt f entry.now) (slice_get (executed log) (length (executed log) - 1)) true) }
+{
+    let found = ledger.executed(ledger.executed_len().saturating_sub(1))?;
+    let Some(last) = found else {
+        return Ok(true);
+    };
+    let is_behind = entry_precedes(&last, entry);
+    Ok(is_behind)
+}
+
+/// Whether the entry stands behind the last of these, if there is one.
+fn ends_before(entries: &[Entry], entry: &Entry) -> bool
+    ensures { result ≡ option_map_or (λ f. entry_lt f entry.now) (slice_get entries.now (length entries.now - 1)) true }
+{
+    let Some(last) = entries.get(entries.len().saturating_sub(1)) else {
+        return true;
+    };
+    entry_precedes(last, entry)
+}

@@ -1,0 +1,51 @@
+//! A tick of a replica that does not take part in its epoch.
+
+ghost use Rattle.crsm_spec.specs.Step as rules;
+ghost use Rattle.crsm_replica.specs.Replica.{MakesFitting};
+ghost use Rattle.crsm_replica_reconfigure.specs.Rules.{Follows};
+
+use crate::collecting::send_collect;
+use crate::renewing::{renew_over, renew_proposal};
+use crate::sending::{ask_all, send_ask};
+use crsm_base::NoMemory;
+use crsm_replica::{ReplicaState, states_are_sound};
+use crsm_replica_coordinator::Stage;
+
+/// What the coordinator says is done again, and all are asked for what is known and executed beyond here. Where the records of that
+/// would not fit, nothing is done.
+pub fn renew_and_ask(state: &mut ReplicaState) -> Result<(), NoMemory>
+    ensures { Follows (λ x. rules.ask_all (rules.renew x.replica.coordinator x)) state.old result state.new }
+{
+    let fits = renew(state)?;
+    if !fits {
+        return Ok(());
+    }
+    ask_all(state)?;
+    Ok(())
+}
+
+/// What the coordinator says is done again. `false` if its records do not fit, and the state is as before.
+fn renew(state: &mut ReplicaState) -> Result<bool, NoMemory>
+    ensures { MakesFitting (λ x. rules.renew x.replica.coordinator x) state.old result state.new }
+{
+    states_are_sound();
+    match state.coordinator().stage() {
+        Stage::Idle => Ok(true),
+        Stage::Collecting => {
+            send_collect(state)?;
+            Ok(true)
+        }
+        Stage::Preparing => {
+            send_ask(state)?;
+            Ok(true)
+        }
+        Stage::Proposing => {
+            let fits = renew_proposal(state)?;
+            Ok(fits)
+        }
+        Stage::Preempted => {
+            let fits = renew_over(state)?;
+            Ok(fits)
+        }
+    }
+}

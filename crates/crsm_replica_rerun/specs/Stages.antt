@@ -1,0 +1,103 @@
+-- What a line does to a replica in memory.
+use Rattle.std.specs.Prelude.{◌≡◌, ℕ, List, [], ◌∷◌, ◌++◌, map, Result, MatchResult, IfOk}
+use Rattle.std.specs.List.{AllByRecursion}
+use Rattle.crsm_base.specs.declared.NoMemory.{NoMemory}
+use Rattle.crsm_base.specs.Records.{FitsRec}
+use Rattle.crsm_spec.specs.Log.{Log}
+use Rattle.crsm_spec.specs.Replica.{Replica}
+use Rattle.crsm_spec.specs.Draft.{Draft}
+use Rattle.crsm_spec.specs.Step.{boot}
+use Rattle.crsm_spec.specs.Node.{Turn, turn}
+use Rattle.crsm_replica_output.specs.declared.batch.Batch.{Batch}
+use Rattle.crsm_core.specs.declared.replica.Core.{Core}
+use Rattle.crsm_core.specs.Core.{Answers, CoreStands, FitsSent, IsSpent}
+use Rattle.crsm_text_sheet.specs.declared.line.SheetLine.{SheetLine}
+use Rattle.crsm_text_sheet.specs.declared.line.SheetLine.TheVariants.{Open}
+use Rattle.crsm_text_sheet.specs.Sheets.{entry_line}
+use Rattle.crsm_replica_rerun.specs.declared.error.RerunError.{RerunError}
+use Rattle.crsm_replica_rerun.specs.declared.error.RerunError.TheVariants as errors
+use Rattle.crsm_replica_rerun.specs.declared.stage.Stage.{Stage}
+use Rattle.crsm_replica_rerun.specs.declared.stage.Stage.TheVariants as stages
+use Rattle.crsm_replica_rerun.specs.Sheets.{BeginASheet, HoldBadLog, IsSheet, replica_of, steps_of}
+
+-- ---- cores
+
+-- the core stands for some replica
+pub record IsOfOne (core : Core) : Type 0 where
+  pub replica : Replica
+  pub stands : CoreStands core replica
+
+-- the core is spent, or stands for some replica
+abbrev pub IsUsable : Core → Type 0
+IsUsable core = (IsSpent core → ⊥) → IsOfOne core
+
+-- the core has booted on this log, and the batch is what the boot made
+pub record BootsOn (me n : ℕ) (log : Log) (core : Core) (batch : Batch) : Type 0 where
+  pub answers : Answers batch (boot me n log)
+  pub stands : CoreStands core (boot me n log).replica
+
+-- Whatever replica the old core stood for, the batch is the step of the turn, and the new core stands for what the turn
+-- leaves; or memory ran out.
+abbrev pub TakesTurn : Core → Turn × ℕ → Result Batch NoMemory → Core → Type 0
+TakesTurn old t result new =
+    IfOk result (λ batch. (r : Replica) → CoreStands old r → Answers batch (turn r t) × CoreStands new (turn r t).replica)
+
+-- ---- what a line leads to
+
+-- each record and each datagram of the batch has a spelling
+abbrev pub IsSpelt : Batch → Type 0
+IsSpelt batch = AllByRecursion FitsRec batch.records × AllByRecursion FitsSent batch.sends
+
+-- the batch is nothing
+pub record IsNothing (batch : Batch) : Type 0 where
+  pub records : batch.records ≡ []
+  pub sends : batch.sends ≡ []
+  pub lines : batch.lines ≡ []
+
+-- the batch is what the step has made, or nothing where there is none
+abbrev pub AnswersAll : Batch → List Draft → Type 0
+AnswersAll batch [] = IsNothing batch
+AnswersAll batch (x ∷ []) = Answers batch x
+AnswersAll batch (x ∷ y ∷ xs) = ⊥
+
+-- Why a line is refused: no sheet begins so, or the log that was found is bad, or memory ran out.
+abbrev pub IsRefusal : (me n : ℕ) → List SheetLine → SheetLine → RerunError → Type 0
+IsRefusal me n lines line errors.Misplaced = BeginASheet (lines ++ line ∷ []) → ⊥
+IsRefusal me n lines line (errors.BadLog entry why) = (line ≡ Open) × HoldBadLog me n lines entry why
+IsRefusal me n lines line errors.NoMemory = Unit {0}
+
+-- the error names a body and says this of it and of the reason, or memory ran out
+abbrev pub IfBadLog : RerunError → (ℕ → ℕ → Type 0) → Type 0
+IfBadLog (errors.BadLog entry why) P = P entry why
+IfBadLog errors.Misplaced P = ⊥
+IfBadLog errors.NoMemory P = Unit {0}
+
+-- ---- stages
+
+-- the core of a replica with this sheet, and these are the steps so far
+pub record Runs (me n : ℕ) (core : Core) (lines : List SheetLine) (steps : List Draft) : Type 0 where
+  pub sheet : IsSheet me n lines
+  pub are : steps ≡ steps_of sheet
+  pub stands : CoreStands core (replica_of sheet)
+
+-- the stage is that behind these lines, which have led to these steps
+abbrev pub StageStands : (me n : ℕ) → Stage → List SheetLine → List Draft → Type 0
+StageStands me n (stages.Finding bodies) lines steps = (lines ≡ map entry_line bodies) × (steps ≡ [])
+StageStands me n (stages.Running core) lines steps = Runs me n core.value lines steps
+
+-- a core that runs is usable
+abbrev pub IsSound : Stage → Type 0
+IsSound (stages.Finding bodies) = Unit {0}
+IsSound (stages.Running core) = IsUsable core.value
+
+-- The line leads from the old stage to the new one, with these further steps, which the batch answers.
+pub record StageAdvances (me n : ℕ) (new : Stage) (lines : List SheetLine) (steps : List Draft) (line : SheetLine) (batch : Batch) : Type 0 where
+  pub more : List Draft
+  pub answers : AnswersAll batch more
+  pub stands : StageStands me n new (lines ++ line ∷ []) (steps ++ more)
+
+-- Whatever lines the old stage stands behind, the line advances it or is refused.
+abbrev pub TakesLine : (me n : ℕ) → Stage → SheetLine → Result Batch RerunError → Stage → Type 0
+TakesLine me n old line result new =
+    (lines : List SheetLine) (steps : List Draft) → StageStands me n old lines steps →
+    MatchResult result (StageAdvances me n new lines steps line) (IsRefusal me n lines line)

@@ -1,0 +1,96 @@
+//! The lines of a sheet, one after another.
+
+ghost use Rattle.std.specs.Prelude.{◌≡◌, ◌≢◌, ◌<◌, ◌≤◌, ◌+◌, ◌-◌, ◌^◌, ℕ, [], List, IfOk, IfErr, OnOk, MatchOption};
+ghost use Rattle.std.specs.List.{AllByRecursion};
+ghost use Rattle.crsm_base.specs.Records.{FitsRec};
+ghost use Rattle.crsm_core.specs.Core.{FitsSent};
+ghost use Rattle.crsm_replica_rerun.specs.Stages.{IsRefusal};
+ghost use Rattle.crsm_replica_rerun.specs.Replaying.{AddsText, Advances, Ends, IsNoSheet, RerunStands, SaysLog, WhereStands, next_of};
+
+use crate::ending::ending;
+use crate::error::RerunError;
+use crate::rerun::Rerun;
+use crate::stage::Stage;
+use crate::text::push_step;
+use crsm_base::{Bodies, Bytes, Line};
+use crsm_core::Batch;
+use crsm_ledger::Ledger;
+use crsm_text_sheet::SheetLine;
+use std::alloc::Global;
+
+impl Rerun {
+    /// Replica `me` of a cluster that began with `n`, before the first line of its sheet, which has this number.
+    pub fn new(alloc: Global, me: u32, n: u32, first: u64) -> Rerun
+        requires me_below { me < 15 }
+        requires some { 1 ≤ n }
+        requires few { n ≤ 15 }
+        ensures { RerunStands me n first result [] [] }
+    {
+        Rerun {
+            alloc,
+            me,
+            n,
+            next: first,
+            stage: Stage::Finding {
+                bodies: Bodies::new(alloc),
+            },
+        }
+    }
+
+    /// The number of the next line.
+    pub fn next_line(&self) -> u64
+        ensures { result ≡ next_of self.now }
+    {
+        self.next
+    }
+
+    /// What the replica makes at a line: nothing at a body, its boot at `open`, a step at each line behind it. After an
+    /// error it is of no use any more.
+    pub fn feed(&mut self, line: &SheetLine) -> Result<Batch, RerunError>
+        requires { next_of self.old < 2 ^ 64 - 1 }
+        ensures advances { WhereStands self.old (λ me n first lines steps. IfOk result (Advances me n first self.new lines steps line.now)) }
+        ensures refused { WhereStands self.old (λ me n first lines steps. IfErr result (IsRefusal me n lines line.now)) }
+        ensures records { IfOk result (λ batch. AllByRecursion FitsRec batch.records) }
+        ensures spelt { IfOk result (λ batch. AllByRecursion FitsSent batch.sends) }
+        ensures next { OnOk result (next_of self.new ≡ next_of self.old + 1) }
+    {
+        let batch = self.stage.take(self.alloc, self.me, self.n, line)?;
+        self.next += 1;
+        Ok(batch)
+    }
+
+    /// Replays a line, and adds the text of what the replica makes at it. After an error it is of no use any more, and
+    /// where memory ran out the text is of none.
+    pub fn replay(&mut self, line: &SheetLine, out: &mut Bytes) -> Result<(), RerunError>
+        requires { next_of self.old < 2 ^ 64 - 1 }
+        ensures adds { WhereStands self.old (λ me n first lines steps. OnOk result (AddsText me n first self.new lines steps line.now out.old out.new)) }
+        ensures refused { WhereStands self.old (λ me n first lines steps. IfErr result (IsRefusal me n lines line.now)) }
+        ensures kept { IfErr result (λ why. why ≢ RerunError.NoMemory → out.new ≡ out.old) }
+        ensures next { OnOk result (next_of self.new ≡ next_of self.old + 1) }
+    {
+        let at = self.next;
+        let batch = self.feed(line)?;
+        push_step(self.alloc, out, at, &batch)?;
+        Ok(())
+    }
+
+    /// The final line of the replica: `None` exactly where the lines so far are no sheet.
+    pub fn final_line(&self) -> Option<Line>
+        ensures { WhereStands self.now (λ me n first lines steps. MatchOption result (IsNoSheet lines) (Ends me n first lines steps)) }
+    {
+        match &self.stage {
+            Stage::Finding { .. } => None,
+            Stage::Running { core } => Some(ending(self.me, core.ledger())),
+        }
+    }
+
+    /// What the log of the replica says: `None` exactly where the lines so far are no sheet.
+    pub fn ledger(&self) -> Option<&Ledger>
+        ensures { WhereStands self.now (λ me n first lines steps. MatchOption result (IsNoSheet lines) (λ ledger. SaysLog me n lines steps ledger.now)) }
+    {
+        match &self.stage {
+            Stage::Finding { .. } => None,
+            Stage::Running { core } => Some(core.ledger()),
+        }
+    }
+}

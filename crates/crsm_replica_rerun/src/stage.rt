@@ -1,0 +1,130 @@
+//! What has come of a sheet so far.
+
+ghost use Rattle.std.specs.Prelude.{◌≡◌, ◌<◌, ◌≤◌, ℕ, IfOk};
+ghost use Rattle.crsm_text_sheet.specs.declared.line.SheetLine.{SheetLine};
+ghost use Rattle.crsm_replica_rerun.specs.Stages.{IsSound, IsSpelt, TakesLine};
+
+use crate::boot::boot;
+use crate::error::RerunError;
+use crate::step::{come, nothing, suspect, tick};
+use crsm_base::{Bodies, Members};
+use crsm_core::{Batch, Core};
+use crsm_text_sheet::SheetLine;
+use std::alloc::Global;
+
+/// What has come of a sheet so far: bodies of the log alone; or `open` behind them, and the replica runs.
+#[derive(Drop)]
+pub(crate) enum Stage {
+    Finding { bodies: Bodies },
+    Running { core: Box<Core> },
+}
+
+impl Stage {
+    /// What replica `me` of a cluster that began with `n` makes at a line.
+    pub(crate) fn take(
+        &mut self,
+        alloc: Global,
+        me: u32,
+        n: u32,
+        line: &SheetLine,
+    ) -> Result<Batch, RerunError>
+        requires me_below { me < 15 }
+        requires some { 1 ≤ n }
+        requires few { n ≤ 15 }
+        ensures takes { TakesLine me n self.old line.now result self.new }
+        ensures sound { IsSound self.old → IsSound self.new }
+        ensures spelt { IsSound self.old → IfOk result IsSpelt }
+    {
+        match line {
+            SheetLine::Entry { bytes } => self.find(alloc, bytes.as_slice()),
+            SheetLine::Open => self.open(alloc, me, n),
+            SheetLine::In {
+                reading,
+                address,
+                bytes,
+            } => self.come(alloc, *reading, *address, bytes.as_slice()),
+            SheetLine::Tick { reading } => self.tick(*reading),
+            SheetLine::Suspect { reading, members } => self.suspect(alloc, *reading, members),
+        }
+    }
+
+    /// A body of the log is found.
+    fn find(&mut self, alloc: Global, body: &[u8]) -> Result<Batch, RerunError>
+        ensures takes { (me n : ℕ) → TakesLine me n self.old (SheetLine.Entry body.now) result self.new }
+        ensures sound { IsSound self.old → IsSound self.new }
+        ensures spelt { IfOk result IsSpelt }
+    {
+        let Stage::Finding { bodies } = self else {
+            return Err(RerunError::Misplaced);
+        };
+        bodies.push(body)?;
+        Ok(nothing(alloc))
+    }
+
+    /// Replica `me` of a cluster that began with `n` boots on the bodies that were found.
+    fn open(&mut self, alloc: Global, me: u32, n: u32) -> Result<Batch, RerunError>
+        requires me_below { me < 15 }
+        requires some { 1 ≤ n }
+        requires few { n ≤ 15 }
+        ensures takes { TakesLine me n self.old SheetLine.Open result self.new }
+        ensures sound { IsSound self.old → IsSound self.new }
+        ensures spelt { IfOk result IsSpelt }
+    {
+        let Stage::Finding { bodies } = &*self else {
+            return Err(RerunError::Misplaced);
+        };
+        let booted = boot(alloc, me, n, bodies)?;
+        *self = Stage::Running { core: booted.core };
+        Ok(booted.batch)
+    }
+
+    /// The replica takes bytes from an address.
+    fn come(
+        &mut self,
+        alloc: Global,
+        reading: u64,
+        address: u64,
+        bytes: &[u8],
+    ) -> Result<Batch, RerunError>
+        ensures takes { (me n : ℕ) → TakesLine me n self.old (SheetLine.In reading address bytes.now) result self.new }
+        ensures sound { IsSound self.old → IsSound self.new }
+        ensures spelt { IsSound self.old → IfOk result IsSpelt }
+    {
+        let Stage::Running { core } = self else {
+            return Err(RerunError::Misplaced);
+        };
+        let batch = come(alloc, core, reading, address, bytes)?;
+        Ok(batch)
+    }
+
+    /// The replica takes a tick.
+    fn tick(&mut self, reading: u64) -> Result<Batch, RerunError>
+        ensures takes { (me n : ℕ) → TakesLine me n self.old (SheetLine.Tick reading) result self.new }
+        ensures sound { IsSound self.old → IsSound self.new }
+        ensures spelt { IsSound self.old → IfOk result IsSpelt }
+    {
+        let Stage::Running { core } = self else {
+            return Err(RerunError::Misplaced);
+        };
+        let batch = tick(core, reading)?;
+        Ok(batch)
+    }
+
+    /// The replica takes a suspicion.
+    fn suspect(
+        &mut self,
+        alloc: Global,
+        reading: u64,
+        members: &Members,
+    ) -> Result<Batch, RerunError>
+        ensures takes { (me n : ℕ) → TakesLine me n self.old (SheetLine.Suspect reading members.now) result self.new }
+        ensures sound { IsSound self.old → IsSound self.new }
+        ensures spelt { IsSound self.old → IfOk result IsSpelt }
+    {
+        let Stage::Running { core } = self else {
+            return Err(RerunError::Misplaced);
+        };
+        let batch = suspect(alloc, core, reading, members)?;
+        Ok(batch)
+    }
+}

@@ -1,0 +1,30 @@
+use Rattle.std.proofs.Common.{subst}
+use Rattle.std.proofs.Math.Logic.{∥∥₁_map}
+use Rattle.crsm_sim_machine.specs.Machine.{MachinePends}
+use Rattle.crsm_sim_machine.specs.States.{IsStateOf, IsUpIn}
+use Rattle.crsm_sim_machine.proofs.machine.Machine.take.Goals as goal
+
+pub returns-in-Ok-clause-stands : goal.returns-in-Ok-clause-stands
+unfolding MachinePends
+returns-in-Ok-clause-stands c me n r steps h =
+    let up = subst (λ p. IsUpIn me n p r steps) c.in-Up.is h.2 in
+    let t = c.in-Ok.ensures.stands me n up.0 r steps up.1 in
+    (t.0, (h.0, h.1, (up.0, t.2)))
+
+-- ---- the state is one of the replica
+
+pub take-requires-clause-up : goal.take-requires-clause-up
+take-requires-clause-up c =
+    let i = c.args.self.now.me in
+    let j = c.args.self.now.n in ∥∥₁_map (subst (λ p. ∥ IsStateOf i j p ∥₁) c.in-Up.is c.args.self.now.stands) (λ h. (i, j, h))
+
+pub invariant_of-self : goal.invariant_of-self
+invariant_of-self c =
+    let old = c.args.self.now in
+    record {
+      below = old.below;
+      some = old.some;
+      most = old.most;
+      stands = ∥∥₁_map (subst (λ p. ∥ IsStateOf old.me old.n p ∥₁) c.in-Up.is old.stands)
+          (λ h. record { kept = h.kept; replica = _; steps = _; is = (c.in-Ok.ensures.stands old.me old.n h.kept h.replica h.steps h.is).2 });
+    }

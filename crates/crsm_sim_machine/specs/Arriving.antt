@@ -1,0 +1,28 @@
+-- What comes to a machine, as the turn of its replica.
+use Rattle.std.specs.Prelude.{◌≡◌, ◌≤◌, [], ◌∷◌, length}
+use Rattle.crsm_spec.specs.Node.{Turn}
+use Rattle.crsm_replica_io.specs.declared.input.What.{What}
+use Rattle.crsm_replica_io.specs.declared.input.What.TheVariants as what
+use Rattle.crsm_sim_machine.specs.declared.arrival.Arrival.{Arrival}
+use Rattle.crsm_sim_machine.specs.declared.arrival.Arrival.TheVariants as arrival
+use Rattle.crsm_sim_machine.specs.declared.packet_port.PacketPort.{PacketPort}
+use Rattle.crsm_sim_machine.specs.PacketPorts.{traffic_of}
+
+-- the turn of what comes
+unfoldable pub turn_of : Arrival → Turn
+turn_of (arrival.Bytes from bytes) = Turn.In from bytes.now
+turn_of arrival.Tick = Turn.Tick
+turn_of (arrival.Suspect members) = Turn.Suspect members
+
+-- the bytes are no more than what is received at once
+abbrev pub IsShort : Arrival → Type 0
+IsShort (arrival.Bytes from bytes) = length bytes.now ≤ 8192
+IsShort arrival.Tick = Unit {0}
+IsShort (arrival.Suspect members) = Unit {0}
+
+-- what is wanted of a shell where this comes, and the port that it takes it off: bytes wait there
+abbrev pub Asks : Arrival → What → PacketPort → Type 0
+Asks (arrival.Bytes from bytes) wanted port =
+    (wanted ≡ what.Receive) × ((traffic_of port.slot).waiting ≡ (record { address = from; bytes = bytes.now }) ∷ [])
+Asks arrival.Tick wanted port = wanted ≡ what.Tick
+Asks (arrival.Suspect members) wanted port = wanted ≡ what.Suspect members

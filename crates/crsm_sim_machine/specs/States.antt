@@ -1,0 +1,93 @@
+-- What the state of a machine stands for.
+use Rattle.std.specs.Prelude.{◌≡◌, ℕ, List, [], ◌∷◌, length, None}
+use Rattle.std.specs.List.{AllByRecursion}
+use Rattle.crsm_core.specs.Core.{FitsSent}
+use Rattle.crsm_disk.specs.Calls.{contents}
+use Rattle.crsm_disk.specs.Memory.{Memory, meaning_of, good_left}
+use Rattle.crsm_ledger.specs.Recovered.{with_records}
+use Rattle.crsm_spec.specs.Log.{Log, known, executed}
+use Rattle.crsm_spec.specs.Replica.{Replica}
+use Rattle.crsm_spec.specs.Draft.{Draft}
+use Rattle.crsm_spec.specs.World.{Site}
+use Rattle.crsm_shell.specs.declared.shell.Shell.{Shell}
+use Rattle.crsm_shell.specs.Shell.{HasLog, ShellStands, sends_of}
+use Rattle.crsm_shell.specs.Words.{disk_of, peers_of}
+use Rattle.crsm_sim_machine.specs.declared.stopped.LogSummary.{LogSummary}
+use Rattle.crsm_sim_machine.specs.declared.stopped.Stopped.{Stopped}
+use Rattle.crsm_sim_machine.specs.declared.state.MachineState.{MachineState}
+use Rattle.crsm_sim_machine.specs.declared.state.MachineState.TheVariants as state
+
+-- ---- down
+
+-- the disk holds this log of replica me, and all its calls go well
+pub record IsDisk (me n : ℕ) (disk : Memory) (log : Log) : Type 0 where
+  pub holds : HasLog me n (contents disk.first disk.calls) log
+  pub well : good_left disk ≡ None
+
+-- what the records of a log say
+pub record SumsUp (summary : LogSummary) (log : Log) : Type 0 where
+  pub known : summary.known ≡ known log
+  pub executed : summary.executed ≡ length (executed log)
+
+-- replica me is down, and left this log
+pub record IsStopped (me n : ℕ) (left : Stopped) (log : Log) : Type 0 where
+  pub disk : IsDisk me n left.disk log
+  pub summary : SumsUp left.summary log
+
+-- ---- up
+
+-- Replica me is up with r, and whatever it sends has an address. On its disk, all of whose calls go well, is the log `kept`; these steps came since.
+pub record IsUpAs (me n : ℕ) {g : _} (shell : Shell Memory g) (kept : Log) (r : Replica) (steps : List Draft) : Type 0 where
+  pub is_me : r.me ≡ me
+  pub began : r.n ≡ n
+  pub stands : ShellStands shell (meaning_of (disk_of shell)) kept r steps
+  pub peers : length (peers_of shell) ≡ 15
+  pub fits : AllByRecursion FitsSent (sends_of steps)
+  pub well : good_left (disk_of shell) ≡ None
+
+-- for whatever replica the shell is, with its log on the disk and the steps that came since
+abbrev pub WhereUpAs : {g : _} → Shell Memory g → ((me n : ℕ) → Log → Replica → List Draft → Type 0) → Type 0
+WhereUpAs shell P = (me n : ℕ) (kept : Log) (r : Replica) (steps : List Draft) → IsUpAs me n shell kept r steps → P me n kept r steps
+
+-- the same where one step has come since, which this draft made
+abbrev pub WhereStepped : {g : _} → Shell Memory g → ((me n : ℕ) → Log → Draft → Type 0) → Type 0
+WhereStepped shell P =
+    (me n : ℕ) (kept : Log) (x : Draft) → IsUpAs me n shell kept x.replica (x ∷ []) → x.replica.log ≡ with_records kept x.batch → P me n kept x
+
+-- ---- either
+
+abbrev pub IsIn : (me n : ℕ) → MachineState → Site → Type 0
+IsIn me n (state.Up shell) (Site.Up r) = IsUpAs me n shell r.log r []
+IsIn me n (state.Up shell) (Site.Down log) = ⊥
+IsIn me n (state.Down left) (Site.Up r) = ⊥
+IsIn me n (state.Down left) (Site.Down log) = IsStopped me n left log
+IsIn me n state.Spent s = ⊥
+
+abbrev pub IsUpIn : (me n : ℕ) → MachineState → Replica → List Draft → Type 0
+IsUpIn me n (state.Up shell) r steps = (kept : Log) × IsUpAs me n shell kept r steps
+IsUpIn me n (state.Down left) r steps = ⊥
+IsUpIn me n state.Spent r steps = ⊥
+
+-- ---- what is known of each machine
+
+-- some log of replica me is on the disk
+pub record HasSomeLog (me n : ℕ) (disk : Memory) : Type 0 where
+  pub log : Log
+  pub on_disk : IsDisk me n disk log
+
+-- replica me is up, on some log and with some steps that came since
+pub record IsUp (me n : ℕ) {g : _} (shell : Shell Memory g) : Type 0 where
+  pub kept : Log
+  pub replica : Replica
+  pub steps : List Draft
+  pub is : IsUpAs me n shell kept replica steps
+
+-- some replica is up
+abbrev pub IsSomeUp : {g : _} → Shell Memory g → Type 0
+IsSomeUp shell = (me : ℕ) × (n : ℕ) × IsUp me n shell
+
+-- the state is one of replica me, or memory ran out
+abbrev pub IsStateOf : (me n : ℕ) → MachineState → Type 0
+IsStateOf me n (state.Up shell) = IsUp me n shell
+IsStateOf me n (state.Down left) = HasSomeLog me n left.disk
+IsStateOf me n state.Spent = Unit {0}

@@ -1,0 +1,116 @@
+//! A step that is stopped within its put.
+
+ghost use Rattle.std.specs.Prelude.{◌≡◌, ◌≤◌, ◌++◌, ◌∷◌, [], ℕ, List, IfOk, IfSome};
+ghost use Rattle.std.specs.List.{AllByRecursion};
+ghost use Rattle.crsm_core.specs.Core.{FitsSent};
+ghost use Rattle.crsm_ledger.specs.Recovered.{with_records};
+ghost use Rattle.crsm_spec.specs.Log.{Log};
+ghost use Rattle.crsm_spec.specs.Moments.{is_kept};
+ghost use Rattle.crsm_spec.specs.Replica.{Replica};
+ghost use Rattle.crsm_spec.specs.Draft.{Draft};
+ghost use Rattle.crsm_spec.specs.Node.{turn};
+ghost use Rattle.crsm_sim_machine.specs.Arriving.{turn_of, IsShort};
+ghost use Rattle.crsm_sim_machine.specs.Outcomes.{LeavesCut, is_cut_kept, log_after};
+ghost use Rattle.crsm_sim_machine.specs.States.{HasSomeLog, IsDisk, IsSomeUp, IsUp, IsUpAs, WhereStepped};
+
+use crate::arrival::Arrival;
+use crate::sink_port::SinkPort;
+use crate::step::Step;
+use crate::stopped::{Stopped, image_of_disk, summary_of};
+use crate::turn::take;
+use crsm_base::{NoMemory, never};
+use crsm_disk::MemDisk;
+use crsm_shell::{Shell, TurnError};
+
+/// Where a put stops: after so many device calls, with a byte in the ranges that were not synced.
+#[derive(Clone, Copy)]
+pub(crate) struct Stop {
+    pub(crate) calls: u64,
+    pub(crate) fill: u8,
+}
+
+/// The byte of an open gate.
+const OPEN: u8 = 1;
+
+/// What is put is kept where all four calls were made, or three and its gate reads open.
+#[tactic(auto, unfolding(crsm_spec::specs::Moments::is_kept))]
+fn keeps(stop: Stop) -> bool
+    ensures { result ≡ is_kept stop.calls stop.fill }
+{
+    if stop.calls == 4 {
+        return true;
+    }
+    if stop.calls != 3 {
+        return false;
+    }
+    stop.fill == OPEN
+}
+
+/// Whether a step that stops there is kept. One without records is not.
+#[tactic(auto, unfolding(crate::specs::Outcomes::is_cut_kept))]
+fn is_kept_at(stop: Stop, step: &Step) -> bool
+    ensures { (x : Draft) → step.now.batch.records ≡ x.batch → result ≡ is_cut_kept stop.calls stop.fill x }
+{
+    if !keeps(stop) {
+        return false;
+    }
+    !step.batch.records.as_slice().is_empty()
+}
+
+/// The disk of a shell whose put stops there.
+fn stopped_disk(shell: Shell<MemDisk>, stop: Stop) -> Result<MemDisk, NoMemory>
+    requires calls { stop.calls ≤ 4 }
+    requires up { ∥ IsSomeUp shell ∥₁ }
+    ensures stands { IfOk result (λ disk. WhereStepped shell (λ me n kept x. IsDisk me n disk (log_after stop.calls stop.fill kept x))) }
+    ensures log { IfOk result (λ disk. (me n : ℕ) → IsUp me n shell → HasSomeLog me n disk) }
+{
+    let mut shell = shell;
+    let mut port = SinkPort { empties: 0 };
+    shell.arm(Some(stop.calls), stop.fill);
+    match shell.flush(&mut port) {
+        Ok(()) => Ok(image_of_disk(shell.into_disk())?),
+        Err(TurnError::DiskFault) => Ok(image_of_disk(shell.into_disk())?),
+        Err(TurnError::Failed) => unreachable!(),
+        Err(TurnError::PortFault) => unreachable!(),
+        // A world is full long before a log is.
+        Err(TurnError::LogFull) => Err(never()),
+        Err(TurnError::NoMemory) => Err(NoMemory),
+    }
+}
+
+/// One step that stops there, and what it leaves. What the step made is answered where it is kept.
+pub(crate) fn cut(
+    shell: Shell<MemDisk>,
+    stop: Stop,
+    arrival: Arrival<'_>,
+    reading: u64,
+) -> Result<(Option<Step>, Stopped), NoMemory>
+    requires calls { stop.calls ≤ 4 }
+    requires short { IsShort arrival }
+    requires up { ∥ IsSomeUp shell ∥₁ }
+    ensures stands { IfOk result (λ cut. (me n : ℕ) (r : Replica) → IsUpAs me n shell r.log r [] → LeavesCut stop.calls stop.fill me n r (turn r (turn_of arrival.entry, reading)) cut.0 cut.1) }
+    ensures spelt { IfOk result (λ cut. IfSome cut.0 (λ step. AllByRecursion FitsSent step.batch.sends)) }
+    ensures log { IfOk result (λ cut. (me n : ℕ) → IsUp me n shell → HasSomeLog me n cut.1.disk) }
+{
+    let mut shell = shell;
+    let before = summary_of(shell.state());
+    let step = take(&mut shell, arrival, reading)?;
+    let after = summary_of(shell.state());
+    let disk = stopped_disk(shell, stop)?;
+    if is_kept_at(stop, &step) {
+        return Ok((
+            Some(step),
+            Stopped {
+                disk,
+                summary: after,
+            },
+        ));
+    }
+    Ok((
+        None,
+        Stopped {
+            disk,
+            summary: before,
+        },
+    ))
+}

@@ -1,0 +1,31 @@
+//! The port that a step sends over which is stopped.
+
+ghost use Rattle.crsm_port.specs.Unknown.{unknown};
+
+use crsm_base::{Failed, NoMemory};
+use crsm_port::{Got, Port};
+use crsm_port_faults::raise;
+
+/// A port that takes each datagram and lets it go: of a step that is stopped within its put nothing goes out. Nothing comes
+/// over it.
+#[derive(Drop)]
+pub(crate) struct SinkPort {
+    pub(crate) empties: u64,
+}
+
+impl Port for SinkPort {
+    ghost meaning = { λ p. unknown 0 0 p.empties };
+
+    fn recv(&mut self, _buf: &mut [u8]) -> Result<Got, Failed> {
+        raise(&mut self.empties);
+        Ok(Got::Nothing)
+    }
+
+    fn send(&mut self, _to: u64, _bytes: &[u8]) -> Result<(), Failed> {
+        Ok(())
+    }
+
+    fn reserve(&mut self, _sends: u64, _bytes: u64) -> Result<(), NoMemory> {
+        Ok(())
+    }
+}

@@ -1,0 +1,70 @@
+//! Stops of a machine.
+
+ghost use Rattle.std.specs.Prelude.{◌≤◌, ℕ, IfOk, IfSome, OnOk};
+ghost use Rattle.std.specs.List.{AllByRecursion};
+ghost use Rattle.crsm_core.specs.Core.{FitsSent};
+ghost use Rattle.crsm_spec.specs.Replica.{Replica};
+ghost use Rattle.crsm_spec.specs.Node.{turn};
+ghost use Rattle.crsm_spec.specs.World as world;
+ghost use Rattle.crsm_sim_machine.specs.Arriving.{turn_of, IsShort};
+ghost use Rattle.crsm_sim_machine.specs.Outcomes.{IsCut};
+ghost use Rattle.crsm_sim_machine.specs.Machine.{MachineStands, WhereStands, WhereUp};
+
+use crate::arrival::Arrival;
+use crate::cut::{Stop, cut};
+use crate::machine::Machine;
+use crate::state::MachineState;
+use crate::step::Step;
+use crate::stopped::stopped_by;
+use crsm_base::{NoMemory, never};
+use std::mem;
+
+impl Machine {
+    /// The replica goes down with what is on its disk. One that is down stays so.
+    #[tactic(auto, unfolding(crate::specs::Machine::MachineStands, crsm_spec::specs::World::log_of))]
+    pub fn crash(&mut self) -> Result<(), NoMemory>
+        ensures { OnOk result (WhereStands self.old (λ me n s. MachineStands self.new me n (world.Site.Down (world.log_of s)))) }
+    {
+        match mem::replace(&mut self.place, MachineState::Spent) {
+            MachineState::Up(shell) => {
+                self.place = MachineState::Down(stopped_by(shell)?);
+                Ok(())
+            }
+            MachineState::Down(left) => {
+                self.place = MachineState::Down(left);
+                Ok(())
+            }
+            MachineState::Spent => Err(NoMemory),
+        }
+    }
+
+    /// One step that stops after so many device calls of its put, with `fill` in the ranges that were not synced: the
+    /// replica goes down. What the step made is answered where it is kept. The replica is up; one that is down answers
+    /// `NoMemory`.
+    #[tactic(auto, unfolding(crate::specs::Machine::MachineStands))]
+    pub fn cut_at(
+        &mut self,
+        calls: u64,
+        fill: u8,
+        arrival: Arrival<'_>,
+        reading: u64,
+    ) -> Result<Option<Step>, NoMemory>
+        requires calls { calls ≤ 4 }
+        requires short { IsShort arrival }
+        ensures stands { IfOk result (λ step. WhereUp self.old (λ me n r.
+            IsCut calls fill me n r (turn r (turn_of arrival.entry, reading)) step self.new)) }
+        ensures spelt { IfOk result (λ step. IfSome step (λ s. AllByRecursion FitsSent s.batch.sends)) }
+    {
+        match mem::replace(&mut self.place, MachineState::Spent) {
+            MachineState::Up(shell) => {
+                let stop = Stop { calls, fill };
+                let (step, left) = cut(shell, stop, arrival, reading)?;
+                self.place = MachineState::Down(left);
+                Ok(step)
+            }
+            // A world stops a step of what is up.
+            MachineState::Down(_) => Err(never()),
+            MachineState::Spent => Err(NoMemory),
+        }
+    }
+}

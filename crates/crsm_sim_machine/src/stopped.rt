@@ -1,0 +1,75 @@
+//! What is left of a replica that goes down.
+
+ghost use Rattle.std.specs.Prelude.{◌≡◌, ℕ, [], IfOk};
+ghost use Rattle.crsm_disk.specs.Image.{image_of};
+ghost use Rattle.crsm_ledger.specs.Ledger.{LedgerStands};
+ghost use Rattle.crsm_spec.specs.Log.{Log};
+ghost use Rattle.crsm_spec.specs.Replica.{Replica};
+ghost use Rattle.crsm_shell.specs.Shell.{HasLog};
+ghost use Rattle.crsm_sim_machine.specs.States.{HasSomeLog, IsDisk, IsStopped, IsUp, IsUpAs, SumsUp};
+
+use crsm_base::NoMemory;
+use crsm_disk::MemDisk;
+use crsm_ledger::Ledger;
+use crsm_shell::{Shell, empty_files_have_empty_logs};
+use std::alloc::Global;
+
+/// What the records of a log say.
+#[derive(Clone, Copy)]
+pub(crate) struct LogSummary {
+    /// The known epoch.
+    pub(crate) known: u64,
+    /// How many entries are executed.
+    pub(crate) executed: u64,
+}
+
+/// What an empty log says.
+pub(crate) const NOTHING: LogSummary = LogSummary {
+    known: 0,
+    executed: 0,
+};
+
+/// What is left of a replica that is down: its disk, and what its log says.
+#[derive(Drop)]
+pub(crate) struct Stopped {
+    pub(crate) disk: MemDisk,
+    pub(crate) summary: LogSummary,
+}
+
+/// What is left of a replica that never booted: an empty disk.
+pub(crate) fn never_booted(alloc: Global) -> Result<Stopped, NoMemory>
+    ensures { IfOk result (λ left. (me n : ℕ) → IsStopped me n left []) }
+{
+    empty_files_have_empty_logs();
+    Ok(Stopped {
+        disk: MemDisk::new(alloc, &[], None, 0)?,
+        summary: NOTHING,
+    })
+}
+
+/// What a ledger says.
+pub(crate) fn summary_of(ledger: &Ledger) -> LogSummary
+    ensures { (me n : ℕ) (log : Log) → LedgerStands me n ledger.now log → SumsUp result log }
+{
+    LogSummary {
+        known: ledger.known().epoch,
+        executed: ledger.executed_len(),
+    }
+}
+
+/// The disk as the crash leaves it.
+pub(crate) fn image_of_disk(disk: MemDisk) -> Result<MemDisk, NoMemory>
+    ensures { IfOk result (λ image. (me n : ℕ) (log : Log) → HasLog me n (image_of disk.first disk.calls disk.fill) log → IsDisk me n image log) }
+{
+    Ok(disk.into_image()?)
+}
+
+/// What a shell leaves that goes down now, with nothing pending. Steps that pend are lost.
+pub(crate) fn stopped_by(shell: Shell<MemDisk>) -> Result<Stopped, NoMemory>
+    ensures stands { IfOk result (λ left. (me n : ℕ) (r : Replica) → IsUpAs me n shell r.log r [] → IsStopped me n left r.log) }
+    ensures log { IfOk result (λ left. (me n : ℕ) → IsUp me n shell → HasSomeLog me n left.disk) }
+{
+    let summary = summary_of(shell.state());
+    let disk = image_of_disk(shell.into_disk())?;
+    Ok(Stopped { disk, summary })
+}

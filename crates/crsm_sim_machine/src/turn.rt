@@ -1,0 +1,131 @@
+//! One step of a replica that is up.
+
+ghost use Rattle.std.specs.Prelude.{◌≡◌, ◌++◌, ◌∷◌, [], ℕ, List, IfOk, OnOk};
+ghost use Rattle.std.specs.List.{AllByRecursion};
+ghost use Rattle.crsm_core.specs.Core.{FitsSent};
+ghost use Rattle.crsm_ledger.specs.Recovered.{with_records};
+ghost use Rattle.crsm_spec.specs.Log.{Log};
+ghost use Rattle.crsm_spec.specs.Replica.{Replica};
+ghost use Rattle.crsm_spec.specs.Draft.{Draft};
+ghost use Rattle.crsm_spec.specs.Node.{turn};
+ghost use Rattle.crsm_sim_machine.specs.Arriving.{turn_of, IsShort, Asks};
+ghost use Rattle.crsm_sim_machine.specs.PacketPorts.{traffic_of};
+ghost use Rattle.crsm_sim_machine.specs.Outcomes.{IsWell, Makes, Sends, ShellHasStepped, ShellHasTaken};
+ghost use Rattle.crsm_sim_machine.specs.States.{IsSomeUp, IsUpAs, WhereUpAs};
+
+use crate::arrival::Arrival;
+use crate::fixed_clock::FixedClock;
+use crate::packet_port::{PacketPort, Slot};
+use crate::step::Step;
+use crsm_base::{NoMemory, never};
+use crsm_disk::MemDisk;
+use crsm_port::{MemPort, Port};
+use crsm_shell::{Shell, TurnError, What};
+
+/// So many steps are kept together at most.
+const MOST_PENDING: u32 = 32;
+
+/// What is wanted of the shell where this comes, and the port that it takes it off.
+fn wanted(arrival: Arrival<'_>) -> (What, PacketPort<'_>)
+    ensures { Asks arrival.entry result.0 result.1 }
+{
+    match arrival {
+        Arrival::Bytes { from, bytes } => (What::Receive, packet_port(Slot::Waits { from, bytes })),
+        Arrival::Tick => (What::Tick, packet_port(Slot::Missing)),
+        Arrival::Suspect(members) => (What::Suspect(members), packet_port(Slot::Missing)),
+    }
+}
+
+fn packet_port(slot: Slot<'_>) -> PacketPort<'_>
+    ensures { traffic_of result.slot ≡ traffic_of slot.entry }
+{
+    PacketPort {
+        slot,
+        empties: 0,
+        losses: 0,
+    }
+}
+
+/// One more step, whose records are pending. The shell has not failed before, and its port does not fail.
+pub(crate) fn take(
+    shell: &mut Shell<MemDisk>,
+    arrival: Arrival<'_>,
+    reading: u64,
+) -> Result<Step, NoMemory>
+    requires short { IsShort arrival }
+    requires up { ∥ IsSomeUp shell.old ∥₁ }
+    ensures stands { IfOk result (λ step. WhereUpAs shell.old (λ me n kept r steps.
+        ShellHasTaken shell.new me n kept r steps step (turn r (turn_of arrival.entry, reading)))) }
+    ensures spelt { IfOk result (λ step. AllByRecursion FitsSent step.batch.sends) }
+{
+    if shell.pending() >= MOST_PENDING {
+        // A world delivers no more together.
+        return Err(never());
+    }
+    let (what, mut port) = wanted(arrival);
+    let mut clock = FixedClock { reading };
+    match shell.take(what, &mut clock, &mut port) {
+        Ok(turned) => Ok(Step {
+            batch: turned.batch,
+            size: turned.size,
+        }),
+        Err(TurnError::Failed) => unreachable!(),
+        Err(TurnError::PortFault) => unreachable!(),
+        Err(TurnError::DiskFault) => unreachable!(),
+        Err(TurnError::LogFull) => unreachable!(),
+        Err(TurnError::NoMemory) => Err(NoMemory),
+    }
+}
+
+/// So many datagrams are kept on a port at most before the next steps are flushed.
+const MOST_SENT: usize = 64;
+
+/// Of what a port has sent nobody asks any more once the next steps are flushed.
+fn renew(port: &mut MemPort)
+    ensures { IsWell port.old → IsWell port.new }
+{
+    if port.sent().len() >= MOST_SENT {
+        port.forget_sent();
+    }
+}
+
+/// Keeps the records of the pending steps, and sends over the port; answers the place on it of the first datagram. The shell
+/// has not failed before, and no call of its disk fails.
+pub(crate) fn flush(shell: &mut Shell<MemDisk>, port: &mut MemPort) -> Result<usize, NoMemory>
+    requires { ∥ IsSomeUp shell.old ∥₁ }
+    ensures stands { OnOk result (WhereUpAs shell.old (λ me n kept r steps. IsUpAs me n shell.new r.log r [])) }
+    ensures sent { IfOk result (λ first. WhereUpAs shell.old (λ me n kept r steps. IsWell port.old → Sends port.new first steps)) }
+{
+    renew(port);
+    let first = port.sent().len();
+    match shell.flush(port) {
+        Ok(()) => Ok(first),
+        Err(TurnError::Failed) => unreachable!(),
+        Err(TurnError::PortFault) => unreachable!(),
+        Err(TurnError::DiskFault) => unreachable!(),
+        // A world is full long before a log is.
+        Err(TurnError::LogFull) => Err(never()),
+        Err(TurnError::NoMemory) => Err(NoMemory),
+    }
+}
+
+/// One step behind those that are pending, all of which are kept at once; answers the place on the port of the first datagram
+/// that they sent. The shell has not failed before, and no call of its disk fails.
+pub(crate) fn step(
+    shell: &mut Shell<MemDisk>,
+    arrival: Arrival<'_>,
+    reading: u64,
+    port: &mut MemPort,
+) -> Result<(Step, usize), NoMemory>
+    requires short { IsShort arrival }
+    requires up { ∥ IsSomeUp shell.old ∥₁ }
+    ensures stands { IfOk result (λ made. WhereUpAs shell.old (λ me n kept r steps.
+        ShellHasStepped shell.new me n made.0 (turn r (turn_of arrival.entry, reading)))) }
+    ensures sent { IfOk result (λ made. WhereUpAs shell.old (λ me n kept r steps. IsWell port.old →
+        Sends port.new made.1 (steps ++ turn r (turn_of arrival.entry, reading) ∷ []))) }
+    ensures spelt { IfOk result (λ made. AllByRecursion FitsSent made.0.batch.sends) }
+{
+    let step = take(shell, arrival, reading)?;
+    let first = flush(shell, port)?;
+    Ok((step, first))
+}

@@ -1,0 +1,10 @@
+pub mod Counting
+pub mod Blocked
+pub mod Finding
+pub mod Gets
+pub mod PacketLists
+pub mod Numbers
+pub mod Marked
+pub mod PacketViews
+pub mod Classes
+pub mod Receiving

@@ -1,0 +1,11 @@
+use Rattle.std.proofs.Common.{refl}
+use Rattle.crsm_sim_network.specs.Packets.{is_used_at}
+use Rattle.crsm_sim_network.proofs.network.Network.is_used.Goals as goal
+
+pub returns-in-Some : goal.returns-in-Some
+unfolding is_used_at
+returns-in-Some c packets bytes h = let f = c.in-Some.ensures packets bytes h in rw f.1 f.2.used
+
+pub returns-in-None : goal.returns-in-None
+unfolding is_used_at
+returns-in-None c packets bytes h = let f = c.in-None.ensures packets bytes h in rw f refl

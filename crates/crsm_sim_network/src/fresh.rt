@@ -1,0 +1,119 @@
+//! Which datagrams can be delivered. Each time that this is asked costs no more than what was sent and delivered since the last
+//! time, unless other replicas are up now: those for a replica that stays down are not looked at again.
+
+ghost use Rattle.std.specs.Prelude.{◌≡◌, ◌++◌, ◌∷◌, [], ℕ, List, true, filter, IfOk, OnOk};
+ghost use Rattle.crsm_spec.specs.World as on_paper;
+ghost use Rattle.crsm_sim_network.specs.Packets.{NetworkStands, is_fresh_for, is_up_among, numbers_of, WhereStands};
+
+use crate::network::Network;
+use crsm_base::NoMemory;
+
+impl Network {
+    /// The datagram with this number is fresh.
+    #[tactic(auto, unfolding(crate::specs::Packets::is_fresh_for))]
+    fn is_fresh(&self, number: u64) -> bool
+        ensures { WhereStands self.now (λ packets bytes. result ≡ is_fresh_for (λ k. true) packets number) }
+    {
+        match self.find(number) {
+            Some(packet) => !packet.is_used,
+            None => false,
+        }
+    }
+
+    fn add_fresh(&self, number: u64, kept: &mut Vec<u64>) -> Result<(), NoMemory>
+        ensures { OnOk result (WhereStands self.now (λ packets bytes. kept.new.items ≡ kept.old.items ++ filter (is_fresh_for (λ k. true) packets) (number ∷ []))) }
+    {
+        if self.is_fresh(number) {
+            kept.push(number)?;
+        }
+        Ok(())
+    }
+
+    /// The numbers of those that are still fresh.
+    fn still_fresh(&self) -> Result<Vec<u64>, NoMemory>
+        ensures { IfOk result (λ kept. WhereStands self.now (λ packets bytes. kept.items ≡ filter (is_fresh_for (λ k. true) packets) self.now.fresh.items)) }
+    {
+        let mut kept = Vec::new(self.alloc);
+        for number in &self.fresh {
+            self.add_fresh(*number, &mut kept)?;
+        }
+        Ok(kept)
+    }
+
+    /// From now on these are the replicas that are up. All that is fresh is near again.
+    fn turn_to(&mut self, ups: &[bool]) -> Result<(), NoMemory>
+        ensures stands { OnOk result (WhereStands self.old (λ packets bytes. NetworkStands self.new packets bytes)) }
+        ensures ups { OnOk result (self.new.ups.items ≡ ups.now) }
+    {
+        let fresh = self.still_fresh()?;
+        self.near = Vec::from_slice(self.alloc, fresh.as_slice())?;
+        self.fresh = fresh;
+        self.ups = Vec::from_slice(self.alloc, ups)?;
+        Ok(())
+    }
+
+    /// The same where others were up so far.
+    fn see(&mut self, ups: &[bool]) -> Result<(), NoMemory>
+        ensures stands { OnOk result (WhereStands self.old (λ packets bytes. NetworkStands self.new packets bytes)) }
+        ensures ups { OnOk result (self.new.ups.items ≡ ups.now) }
+    {
+        if self.ups.as_slice() == ups {
+            return Ok(());
+        }
+        self.turn_to(ups)?;
+        Ok(())
+    }
+
+    /// The datagram with this number is fresh, and its receiver was up when that was last asked.
+    #[tactic(auto, unfolding(crate::specs::Packets::is_fresh_for))]
+    fn is_due(&self, number: u64) -> bool
+        ensures { WhereStands self.now (λ packets bytes. result ≡ is_fresh_for (is_up_among self.now.ups.items) packets number) }
+    {
+        match self.find(number) {
+            Some(packet) => !packet.is_used & is_up(self.ups.as_slice(), packet.to),
+            None => false,
+        }
+    }
+
+    fn add_due(&self, number: u64, due: &mut Vec<u64>) -> Result<(), NoMemory>
+        ensures { OnOk result (WhereStands self.now (λ packets bytes. due.new.items ≡ due.old.items ++ filter (is_fresh_for (is_up_among self.now.ups.items) packets) (number ∷ []))) }
+    {
+        if self.is_due(number) {
+            due.push(number)?;
+        }
+        Ok(())
+    }
+
+    /// Of those that are near the ones that can be delivered.
+    fn still_due(&self) -> Result<Vec<u64>, NoMemory>
+        ensures { IfOk result (λ due. WhereStands self.now (λ packets bytes. due.items ≡ filter (is_fresh_for (is_up_among self.now.ups.items) packets) self.now.near.items)) }
+    {
+        let mut due = Vec::with_capacity(self.alloc, self.near.len())?;
+        for number in &self.near {
+            self.add_due(*number, &mut due)?;
+        }
+        Ok(due)
+    }
+
+    /// The numbers of the fresh ones whose receivers are up, ascending. `ups` says of each replica whether it is up.
+    pub fn due(&mut self, ups: &[bool]) -> Result<Vec<u64>, NoMemory>
+        ensures stands { OnOk result (WhereStands self.old (λ packets bytes. NetworkStands self.new packets bytes)) }
+        ensures due { IfOk result (λ due. WhereStands self.old (λ packets bytes. due.items ≡ filter (is_fresh_for (is_up_among ups.now) packets) (numbers_of packets))) }
+    {
+        self.see(ups)?;
+        let due = self.still_due()?;
+        self.near = Vec::from_slice(self.alloc, due.as_slice())?;
+        Ok(due)
+    }
+}
+
+/// Whether replica `k` is up, where `ups` says it of each.
+#[tactic(auto, unfolding(crate::specs::Packets::is_up_among))]
+fn is_up(ups: &[bool], k: u32) -> bool
+    ensures { result ≡ is_up_among ups.now k }
+{
+    match ups.get(k as usize) {
+        Some(up) => *up,
+        None => false,
+    }
+}

@@ -1,0 +1,154 @@
+//! What leaves a replica.
+
+ghost use Rattle.std.specs.Prelude.{◌≡◌, ◌≤◌, ◌+◌, ◌++◌, ◌∷◌, [], ℕ, List, length, map, IfOk, OnOk};
+ghost use Rattle.std.specs.List.{AllByRecursion};
+ghost use Rattle.crsm_base.specs.Messages.{FitsDatagram, datagram_bytes};
+ghost use Rattle.crsm_spec.specs.World as on_paper;
+ghost use Rattle.crsm_spec.specs.World.{packet_of};
+ghost use Rattle.crsm_sim_network.specs.Packets.{NetworkStands, FitsPacket, sent_to, sent_of, AreSpelt, WhereSpelt, WhereStands, HasSent};
+ghost use Rattle.crsm_port.specs.Sent.{packets_of};
+
+use crate::network::Network;
+use crate::packets::PacketEntry;
+use crate::receivers::class_of;
+use crsm_base::{Bytes, Datagram, Line, Lines, NoMemory, Send, SendKind, To, never};
+use crsm_port::SentPackets;
+use std::alloc::Global;
+
+impl Network {
+    /// A datagram, of these bytes, leaves replica `k`, and its line is printed.
+    fn send(
+        &mut self,
+        k: u32,
+        to: u32,
+        datagram: &Datagram,
+        text: &[u8],
+        lines: &mut Lines,
+    ) -> Result<(), NoMemory>
+        requires { FitsDatagram datagram.now }
+        ensures network { OnOk result (WhereSpelt self.old datagram.now text.now (λ packets bytes.
+            NetworkStands self.new (packets ++ packet_of k (to, datagram.now) ∷ []) (bytes + length (datagram_bytes datagram.now)))) }
+        ensures lines { OnOk result (WhereSpelt self.old datagram.now text.now (λ packets bytes.
+            lines.new ≡ lines.old ++ on_paper.send_line k (length packets) (to, datagram.now) ∷ [])) }
+    {
+        let index = self.count();
+        let start = self.spelling.as_slice().len();
+        self.spelling.append(text)?;
+        let end = self.spelling.as_slice().len();
+        lines.push(Line::Send {
+            index,
+            from: k,
+            to,
+            kind: kind_of(datagram),
+            bytes: Bytes::from_slice(self.alloc, text)?,
+        })?;
+        self.fresh.push(index)?;
+        self.near.push(index)?;
+        self.tally.push(class_of(to, false))?;
+        self.packets.push(PacketEntry {
+            from: k,
+            to,
+            start,
+            end,
+            is_used: false,
+        })?;
+        self.keep(text.len() as u64)?;
+        Ok(())
+    }
+
+    /// Something that a step sends, of these bytes, leaves replica `k`. A reply is no packet.
+    fn send_one(
+        &mut self,
+        k: u32,
+        send: &Send,
+        text: &[u8],
+        lines: &mut Lines,
+    ) -> Result<(), NoMemory>
+        requires { FitsPacket send.now }
+        ensures network { OnOk result (WhereSpelt self.old send.now.datagram text.now (λ packets bytes.
+            HasSent self.new packets bytes k (sent_to send.now))) }
+        ensures lines { OnOk result (WhereSpelt self.old send.now.datagram text.now (λ packets bytes.
+            lines.new ≡ lines.old ++ on_paper.send_lines k (length packets) (sent_to send.now))) }
+    {
+        match send.to {
+            To::Replica(to) => {
+                self.send(k, to, &send.datagram, text, lines)?;
+                Ok(())
+            }
+            To::Address(_) => Ok(()),
+        }
+    }
+
+    /// What a step sends leaves replica `k` in its order, and the lines of the packets are printed. A port has sent it: from
+    /// `first` on, the bytes are those of the port.
+    pub fn send_all(
+        &mut self,
+        k: u32,
+        sends: &[Send],
+        sent: &SentPackets,
+        first: usize,
+        lines: &mut Lines,
+    ) -> Result<(), NoMemory>
+        requires { AllByRecursion FitsPacket sends.now }
+        ensures network { OnOk result (WhereStands self.old (λ packets bytes. AreSpelt sends.now (packets_of sent.now) first →
+            HasSent self.new packets bytes k (sent_of sends.now))) }
+        ensures lines { OnOk result (WhereStands self.old (λ packets bytes. AreSpelt sends.now (packets_of sent.now) first →
+            lines.new ≡ lines.old ++ on_paper.send_lines k (length packets) (sent_of sends.now))) }
+    {
+        let mut place = first;
+        for send in sends {
+            // The port has each of them.
+            let Some((_, text)) = sent.get(place) else {
+                return Err(never());
+            };
+            self.send_one(k, send, text, lines)?;
+            let next = behind(place)?;
+            place = next;
+        }
+        Ok(())
+    }
+}
+
+/// The place behind this one.
+fn behind(place: usize) -> Result<usize, NoMemory>
+    ensures { IfOk result (λ next. next ≡ place + 1) }
+{
+    // Whatever has a place is in memory.
+    place.checked_add(1).ok_or(never())
+}
+
+/// The kind of a datagram between replicas.
+#[tactic(auto, unfolding(crsm_spec::specs::World::kind_of))]
+fn kind_of(datagram: &Datagram) -> SendKind
+    ensures { result ≡ on_paper.kind_of datagram.now }
+{
+    match datagram {
+        Datagram::Ack { .. } => SendKind::Ack,
+        Datagram::Part { .. } => SendKind::Part,
+        _ => SendKind::Frame,
+    }
+}
+
+/// How many datagrams to replicas this is: one or none.
+#[tactic(auto, unfolding(crate::specs::Packets::sent_to, crate::specs::Packets::to_packets))]
+fn packets_of(send: &Send) -> usize
+    ensures count { result ≡ length (sent_to send.now) }
+    ensures most { result ≤ 1 }
+{
+    match send.to {
+        To::Replica(_) => 1,
+        To::Address(_) => 0,
+    }
+}
+
+/// How many of these are datagrams to replicas.
+pub fn packets_in(sends: &[Send]) -> usize
+    ensures count { result ≡ length (sent_of sends.now) }
+    ensures most { result ≤ length sends.now }
+{
+    let mut count = 0;
+    for send in sends {
+        count += packets_of(send);
+    }
+    count
+}

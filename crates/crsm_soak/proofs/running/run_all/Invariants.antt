@@ -1,6 +1,0 @@
-use Rattle.std.proofs.Common.{◌-◌}
-use Rattle.crsm_soak.proofs.Runs.{Runs}
-use Rattle.crsm_soak.proofs.running.run_all.Given as goal
-
-abbrev pub invariant-loop : goal.invariant-loop
-invariant-loop l = Runs l.run l.number l.n l.steps (l.steps - l.counter)

@@ -1,0 +1,60 @@
+-- When a command commits by a plan.
+use Rattle.std.specs.Prelude.{ℕ, ◌+◌, ◌-◌, ◌<◌, ◌≤◌, ◌==◌, ◌&&◌, not, max, if◌then◌else◌, List, ◌∷◌, map, filter, find}
+use Rattle.std.specs.Option.{option_map_or}
+use Rattle.crsm_spec.specs.Lists.{greatest, numbers_below}
+use Rattle.crsm_spec_plan.specs.declared.plan.Plan.{Plan}
+
+-- ---- delays and clocks
+
+-- how long a datagram takes from a to b
+unfoldable pub delay_of : Plan → ℕ → ℕ → ℕ
+delay_of plan a b =
+    if a == b then 0 else option_map_or (λ d. d.by) (find (λ d. d.from == a && d.to == b) plan.delays) 0
+
+-- how far the clock of k is ahead
+unfoldable pub offset_of : Plan → ℕ → ℕ
+offset_of plan k = option_map_or (λ o. o.by) (find (λ o. o.replica == k) plan.offsets) 0
+
+-- what the clock of k reads at a moment
+unfoldable pub reading : Plan → ℕ → ℕ → ℕ
+reading plan k moment = moment + offset_of plan k
+
+-- the time of the command's timestamp: what the origin's clock reads when the command comes
+unfoldable pub stamped : Plan → ℕ
+stamped plan = reading plan plan.origin plan.at
+
+-- ---- when it commits
+
+-- the replicas but the origin
+unfoldable pub others : Plan → List ℕ
+others plan = filter (λ k. not (k == plan.origin)) (numbers_below plan.n)
+
+-- when the command comes to k
+unfoldable pub arrival : Plan → ℕ → ℕ
+arrival plan k = plan.at + delay_of plan plan.origin k
+
+-- when k acknowledges it: it has come, and the clock of k is past its timestamp
+unfoldable pub ok_at : Plan → ℕ → ℕ
+ok_at plan k = max (arrival plan k) (stamped plan + 1 - offset_of plan k)
+
+-- when i executes it: the last acknowledgement has come; at once where there is one replica
+unfoldable pub commit_at : Plan → ℕ → ℕ
+commit_at plan i = greatest (plan.at ∷ map (λ k. ok_at plan k + delay_of plan k i) (others plan))
+
+-- ---- which plans there are
+
+abbrev pub most_moment : ℕ
+most_moment = 1000000000000
+
+abbrev pub most_delay : ℕ
+most_delay = 1000000000
+
+-- the numbers are within these bounds, the origin is a replica, and its clock does not read 0
+pub record FitsPlan (plan : Plan) : Type 0 where
+  pub some : 1 ≤ plan.n
+  pub most : plan.n ≤ 15
+  pub origin : plan.origin < plan.n
+  pub at : plan.at ≤ most_moment
+  pub offsets : (k : ℕ) → offset_of plan k ≤ most_moment
+  pub delays : (a b : ℕ) → delay_of plan a b ≤ most_delay
+  pub reads : 1 ≤ stamped plan

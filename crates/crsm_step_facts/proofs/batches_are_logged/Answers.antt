@@ -1,5 +1,0 @@
-use Rattle.crsm_step_facts.proofs.Batches.{batches_are_logged}
-use Rattle.crsm_step_facts.proofs.batches_are_logged.Goals as goal
-
-pub returns : goal.returns
-returns c = batches_are_logged

@@ -1,0 +1,200 @@
+//! Reads the words of a command line.
+
+ghost use Rattle.std.specs.Prelude.{◌≡◌, ◌<◌, ◌^◌, ◌↔◌, ◌∷◌, [], ℕ, IfErr, IfNone, IfOk, IfSome, IsTrue, Some, codes, decimal, map, string_bytes};
+ghost use Rattle.std.specs.List.{All};
+ghost use Rattle.clap.specs.Words.{kind_of, subcommand_rows_of};
+ghost use Rattle.crsm_text_words.specs.Answers.{AnswersError, OrderBy, Reads, TaskBy};
+ghost use Rattle.crsm_text_words.specs.Orders.{Asks, AsksFor, NamesCluster, task_words, cluster_words, texts};
+ghost use Rattle.crsm_text_words.specs.Plans.{HasOwnPeer};
+ghost use Rattle.crsm_text_words.specs.Split.{IsPlain, parts};
+ghost use Rattle.crsm_text_words.specs.declared.order.Order.{Order as AskedOrder};
+ghost use Rattle.crsm_text_words.specs.declared.order.Task.{Task as Asked};
+
+use crate::command::split;
+use crate::order::{Order, Task};
+use crate::tasks::read_task;
+use clap::error::ErrorKind;
+use clap::{ArgMatches, Error};
+use crsm_base::{Bytes, NoMemory};
+use crsm_text::{LineError, read_number};
+use std::alloc::Global;
+
+/// Why words ask for nothing.
+#[derive(Clone, Copy, Debug, PartialEq, Eq)]
+pub enum Refusal {
+    /// They are not those of a command, or a value is outside its limits.
+    Usage,
+    NoMemory,
+}
+
+impl From<LineError> for Refusal {
+    ghost use Rattle.std.specs.Prelude.{◌≡◌};
+    ghost use Rattle.crsm_text_words.specs.Answers.{refusal_of};
+
+    ghost from_gives = { λ e r. r ≡ refusal_of e };
+
+    fn from(e: LineError) -> Refusal {
+        match e {
+            LineError::Unreadable => Refusal::Usage,
+            LineError::NoMemory => Refusal::NoMemory,
+        }
+    }
+}
+
+impl From<NoMemory> for Refusal {
+    ghost use Rattle.std.specs.Prelude.{◌≡◌};
+    ghost use Rattle.crsm_text_words.specs.declared.read.Refusal.TheVariants.{NoMemory as no_memory};
+
+    ghost from_gives = { λ _ r. r ≡ no_memory };
+
+    fn from(_e: NoMemory) -> Refusal {
+        Refusal::NoMemory
+    }
+}
+
+/// The text of an error of `clap`.
+fn text_of(alloc: Global, error: &Error) -> Result<Bytes, NoMemory> {
+    let Ok(text) = format!(in alloc; "{error}") else {
+        return Err(NoMemory);
+    };
+    let mut bytes = Bytes::new(alloc);
+    bytes.append(text.as_bytes())?;
+    Ok(bytes)
+}
+
+/// What an error of `clap` comes to: help or the version is shown where it was asked for.
+fn answer(alloc: Global, error: &Error) -> Result<Task, Refusal>
+    ensures { AnswersError (kind_of error.now) result }
+{
+    match error.kind() {
+        ErrorKind::OutOfMemory => Err(Refusal::NoMemory),
+        ErrorKind::DisplayHelp | ErrorKind::DisplayVersion => {
+            let text = text_of(alloc, error)?;
+            Ok(Task::Show(text))
+        }
+        _ => Err(Refusal::Usage),
+    }
+}
+
+/// The task that a name and its values ask for.
+fn named_task(alloc: Global, name: &str, values: &[&str]) -> Result<Task, Refusal>
+    ensures found { IfOk result (λ task. Asks task (name.now ∷ texts values.now)) }
+    ensures only { (task : Asked) → Asks task (name.now ∷ texts values.now) → Reads result task }
+{
+    match read_task(alloc, name.as_bytes(), values) {
+        Ok(task) => Ok(task),
+        Err(LineError::Unreadable) => Err(Refusal::Usage),
+        Err(LineError::NoMemory) => Err(Refusal::NoMemory),
+    }
+}
+
+/// The task that a command's name and its values ask for.
+fn matched_task(alloc: Global, matches: &ArgMatches<'_>) -> Result<Task, Refusal>
+    ensures found { IfOk result (λ task. Asks task (parts (subcommand_rows_of matches.now))) }
+    ensures only { (task : Asked) → Asks task (parts (subcommand_rows_of matches.now)) → Reads result task }
+{
+    let Some((name, found)) = matches.subcommand() else {
+        return Err(Refusal::Usage);
+    };
+    match found.get_raw("values") {
+        Some(values) => named_task(alloc, name, values),
+        None => named_task(alloc, name, &[]),
+    }
+}
+
+/// The task that words ask for, which name no cluster.
+fn task_of(alloc: Global, words: &[String]) -> Result<Task, Refusal>
+    ensures any { TaskBy (map string_bytes words.now) result }
+    ensures found { All IsPlain (map string_bytes words.now) → IfOk result (λ task. Asks task (map string_bytes words.now)) }
+    ensures only { All IsPlain (map string_bytes words.now) → (task : Asked) → Asks task (map string_bytes words.now) → Reads result task }
+{
+    match split(alloc, words) {
+        Ok(matches) => matched_task(alloc, &matches),
+        Err(error) => answer(alloc, &error),
+    }
+}
+
+/// Whether a task is one in a cluster.
+fn names_cluster(task: &Task) -> bool
+    ensures { IsTrue result ↔ NamesCluster task.now }
+{
+    matches!(
+        task,
+        Task::Node(_) | Task::Client { .. } | Task::Operate { .. }
+    )
+}
+
+/// Lets a task go, in a function of its own, which keeps the cases of a task out of its callers' proofs.
+fn discard(_task: Task) {}
+
+/// The order of a task in a cluster.
+fn order_of(cluster: u64, task: Task) -> Result<Order, Refusal>
+    ensures ok { IfOk result (λ order. NamesCluster task × (order ≡ record { cluster = cluster; task = task })) }
+    ensures err { IfErr result (λ r. (r ≡ Refusal.Usage) × ¬ (NamesCluster task)) }
+{
+    if names_cluster(&task) {
+        Ok(Order { cluster, task })
+    } else {
+        discard(task);
+        Err(Refusal::Usage)
+    }
+}
+
+/// The number of a cluster, which is at least 1.
+fn cluster_number(word: &str) -> Option<u64>
+    ensures found { IfSome result (λ n. (0 < n) × (n < 2 ^ 64) × (word.now ≡ decimal n)) }
+    ensures only { (n : ℕ) → 0 < n → n < 2 ^ 64 → word.now ≡ decimal n → result ≡ Some n }
+{
+    let number = read_number(word.as_bytes())?;
+    if number == 0 {
+        return None;
+    }
+    Some(number)
+}
+
+/// What words ask for that stand behind the number of a cluster.
+fn order_in(alloc: Global, number: &str, rest: &[String]) -> Result<Order, Refusal>
+    ensures found { All IsPlain (map string_bytes rest.now) → IfOk result (λ order. AsksFor order (codes "cluster" ∷ number.now ∷ map string_bytes rest.now)) }
+    ensures only { All IsPlain (map string_bytes rest.now) → (order : AskedOrder) → AsksFor order (codes "cluster" ∷ number.now ∷ map string_bytes rest.now) → Reads result order }
+    ensures any { OrderBy (codes "cluster" ∷ number.now ∷ map string_bytes rest.now) result }
+{
+    let Some(cluster) = cluster_number(number) else {
+        return Err(Refusal::Usage);
+    };
+    let task = task_of(alloc, rest)?;
+    order_of(cluster, task)
+}
+
+/// The word behind `cluster`, and those behind that one.
+pub(crate) fn cluster_words<'a>(words: &'a [String]) -> Option<(&'a str, &'a [String])>
+    ensures found { IfSome result (λ w. map string_bytes words.now ≡ codes "cluster" ∷ w.0.now ∷ map string_bytes w.1.now) }
+    ensures none { IfNone result ((cluster_words (map string_bytes words.now) ≡ []) × (task_words (map string_bytes words.now) ≡ map string_bytes words.now)) }
+{
+    if words.len() < 2 {
+        return None;
+    }
+    if words[0].as_str() == "cluster" {
+        return Some((words[1].as_str(), &words[2..]));
+    }
+    None
+}
+
+/// What the words of a command line ask for, without the program's name.
+pub fn read_words(alloc: Global, words: &[String]) -> Result<Order, Refusal>
+    // Of words that do not begin with a hyphen: an order is what they ask for, and what they ask for is the order, unless
+    // memory ran out. So the words are refused only where they ask for nothing.
+    ensures found { All IsPlain (map string_bytes words.now) → IfOk result (λ order. AsksFor order (map string_bytes words.now)) }
+    ensures only { All IsPlain (map string_bytes words.now) → (order : AskedOrder) → AsksFor order (map string_bytes words.now) → Reads result order }
+
+    // Of any words: by what `clap` takes them for, and by the faults that it finds.
+    ensures any { OrderBy (map string_bytes words.now) result }
+
+    // A node has an address of its own.
+    ensures peer { IfOk result (λ order. HasOwnPeer order.task) }
+{
+    if let Some((number, rest)) = cluster_words(words) {
+        return order_in(alloc, number, rest);
+    }
+    let task = task_of(alloc, words)?;
+    Ok(Order { cluster: 0, task })
+}

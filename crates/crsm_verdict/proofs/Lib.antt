@@ -1,4 +1,0 @@
-mod Searching
-mod Longest
-mod Verdicts
-mod Drops

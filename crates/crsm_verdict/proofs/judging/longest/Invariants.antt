@@ -1,7 +1,0 @@
-use Rattle.std.proofs.Common.{◌≡◌, take}
-use Rattle.crsm_verdict.specs.Lists.{longest_of}
-use Rattle.crsm_verdict.proofs.judging.longest.Given as goal
-
--- it is the longest so far
-abbrev pub invariant-loop-account : goal.invariant-loop-account
-invariant-loop-account l = l.best ≡ longest_of (take l.account-index l.accounts)

@@ -1,9 +1,0 @@
-use Rattle.std.proofs.Common.{◌≡◌, ℕ, ◌<◌}
-use Rattle.std.specs.Prelude.{Some, slice_get}
-use Rattle.crsm_verdict.specs.Lists.{IsWithin}
-use Rattle.crsm_verdict.specs.declared.account.Account.{Account}
-use Rattle.crsm_verdict.proofs.judging.odd_list.Given as goal
-
--- the lists so far are within the one list
-abbrev pub invariant-loop-index : goal.invariant-loop-index
-invariant-loop-index l = (j : ℕ) (a : Account) → j < l.index → slice_get l.accounts j ≡ Some a → IsWithin a.list l.one

@@ -1,7 +1,0 @@
-use Rattle.std.proofs.Common.{ℕ, ◌<◌}
-use Rattle.crsm_verdict.specs.Judging.{OriginsStand, StrangeAt}
-use Rattle.crsm_verdict.proofs.judging.stranger.Given as goal
-
--- no place so far has a stranger
-abbrev pub invariant-loop-index : goal.invariant-loop-index
-invariant-loop-index l = OriginsStand l.accounts l.origins × ((q : ℕ) → q < l.index → StrangeAt l.accounts l.one l.places q → ⊥)

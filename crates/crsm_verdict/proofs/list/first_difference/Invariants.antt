@@ -1,7 +1,0 @@
-use Rattle.std.proofs.Common.{◌≡◌, ℕ, ◌<◌}
-use Rattle.std.specs.Prelude.{slice_get}
-use Rattle.crsm_verdict.proofs.list.first_difference.Given as goal
-
--- up to this place they have the same
-abbrev pub invariant-loop-place : goal.invariant-loop-place
-invariant-loop-place l = (q : ℕ) → q < l.place → slice_get l.one q ≡ slice_get l.list q

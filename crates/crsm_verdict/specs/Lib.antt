@@ -1,4 +1,0 @@
-pub mod Accounts
-pub mod Lists
-pub mod Judging
-pub mod Verdict

@@ -1,6 +1,0 @@
-use Rattle.std.proofs.Common.{map, string_bytes}
-use Rattle.crsm_words.proofs.Clusters.{answered}
-use Rattle.crsm_words.proofs.read.task_of.Goals as goal
-
-pub returns-in-Err-clause-any : goal.returns-in-Err-clause-any
-returns-in-Err-clause-any c = answered (map string_bytes c.args.words.now) c.in-Err.error c.answer.result c.in-Err.ensures.any.0 c.answer.ensures
