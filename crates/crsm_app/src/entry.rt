@@ -4,7 +4,7 @@ use crate::command::plan;
 use crate::devices::{NoDevice, status_over_nothing, status_over_socket};
 use crate::replica::run_replica_of;
 use crate::status::Status;
-use crsm_text_words::{Plan, usage_text};
+use crsm_text_words::{DevicePlan, usage_text};
 use std::env::{self, Env};
 use std::fs::{File, Files};
 use std::io::{Eprint, ErrorKind, Input, Print};
@@ -66,9 +66,9 @@ fn status_of<R: AllocGlobal + Clock + Eprint + Files<File = File> + Input + Net 
     words: &[String],
 ) -> Status {
     match plan(rt.alloc(), words) {
-        Ok(Plan::Plain) => told(rt, words, Ok(status_over_nothing(rt, words))),
-        Ok(Plan::Socket) => told(rt, words, status_over_socket(rt, words)),
-        Ok(Plan::Node { me, bind }) => run_replica_of(rt, words, me, bind),
+        Ok(DevicePlan::Plain) => told(rt, words, Ok(status_over_nothing(rt, words))),
+        Ok(DevicePlan::Socket) => told(rt, words, status_over_socket(rt, words)),
+        Ok(DevicePlan::Node { me, bind }) => run_replica_of(rt, words, me, bind),
         Err(status) => told(rt, words, Ok(status)),
     }
 }

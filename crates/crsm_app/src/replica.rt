@@ -5,7 +5,7 @@ use crate::devices::{NoDevice, socket_at, status_over};
 use crate::status::Status;
 use crsm_clock::SystemClock;
 use crsm_disk::FileDisk;
-use crsm_node::{Held, Reporter};
+use crsm_node::{BootReport, Reporter};
 use crsm_port_node::{PacedPort, PeerPort};
 use crsm_text_words::{NodeTask, Order, Task, read_words};
 use std::alloc::Global;
@@ -17,7 +17,7 @@ use std::time::Clock;
 
 /// Which replica it is, and where it listens.
 #[derive(Clone, Copy, Debug)]
-struct Place {
+struct NodeIdentity {
     me: u32,
     /// How many replicas the cluster began with.
     n: u32,
@@ -26,7 +26,7 @@ struct Place {
     address: u64,
 }
 
-impl Display for Place {
+impl Display for NodeIdentity {
     fn fmt<W: Write>(&self, f: &mut Formatter<W>) -> fmt::Result {
         write!(f, "replica {} of {}", self.me, self.n)?;
         if self.cluster != 0 {
@@ -38,18 +38,18 @@ impl Display for Place {
 
 /// The line of a replica that was booted.
 #[derive(Clone, Copy, Debug)]
-struct Begun {
-    place: Place,
-    held: Held,
+struct StartLine {
+    place: NodeIdentity,
+    held: BootReport,
 }
 
-impl Display for Begun {
+impl Display for StartLine {
     fn fmt<W: Write>(&self, f: &mut Formatter<W>) -> fmt::Result {
-        let Begun { place, held } = self;
+        let StartLine { place, held } = self;
         let [_, _, a, b, c, d, high, low] = place.address.to_be_bytes();
         let port = u16::from_be_bytes([high, low]);
         write!(f, "{place}: listens at {a}.{b}.{c}.{d}:{port}; ")?;
-        let Held {
+        let BootReport {
             bodies,
             epoch,
             executed,
@@ -64,7 +64,7 @@ impl Display for Begun {
 /// The line of a replica that ends.
 #[derive(Drop)]
 struct Ended<Why> {
-    place: Place,
+    place: NodeIdentity,
     why: Why,
 }
 
@@ -76,15 +76,15 @@ impl<Why: Display> Display for Ended<Why> {
 
 /// Tells on standard error what a log held. Where that fails, nothing is told.
 #[derive(Drop)]
-struct Voice<'a, R> {
+struct StderrReporter<'a, R> {
     rt: &'a R,
-    place: Place,
+    place: NodeIdentity,
 }
 
-impl<R: Eprint> Reporter for Voice<'_, R> {
-    fn booted(&mut self, held: Held) {
+impl<R: Eprint> Reporter for StderrReporter<'_, R> {
+    fn booted(&mut self, held: BootReport) {
         let place = self.place;
-        let _ = self.rt.eprintln(Begun { place, held });
+        let _ = self.rt.eprintln(StartLine { place, held });
     }
 }
 
@@ -106,7 +106,7 @@ fn node_in(alloc: Global, words: &[String]) -> Result<(u64, NodeTask), Status> {
 fn run_at<R: AllocGlobal + Clock + Eprint + Files<File = File> + Input + Net + Print>(
     rt: &R,
     words: &[String],
-    place: Place,
+    place: NodeIdentity,
     peers: &[u64],
 ) -> Result<Status, NoDevice> {
     let Ok(name) = format!(in rt.alloc(); "crsm-{}.log", place.me) else {
@@ -121,7 +121,7 @@ fn run_at<R: AllocGlobal + Clock + Eprint + Files<File = File> + Input + Net + P
         return Ok(Status::NoMemory);
     };
     let mut port = PeerPort::new(paced, peers);
-    let mut voice = Voice { rt, place };
+    let mut voice = StderrReporter { rt, place };
     Ok(status_over(rt, words, &mut port, &mut disk, &mut voice))
 }
 
@@ -133,7 +133,7 @@ pub(crate) fn run_replica_of<
         Ok(found) => found,
         Err(status) => return status,
     };
-    let place = Place {
+    let place = NodeIdentity {
         me,
         n: node.n,
         cluster,

@@ -7,7 +7,7 @@ ghost use Rattle.crsm_client.specs.Turns.{BringsReply, ReadsReply};
 use crate::error::AskError;
 use crate::marks::{behind_mark, mark};
 use crsm_base::{Bytes, Command, Datagram, NoMemory, Outcome};
-use crsm_port::{Got, Port};
+use crsm_port::{Port, Recv};
 use crsm_wire::{WireError, read_datagram};
 use std::alloc::Global;
 
@@ -77,8 +77,8 @@ impl Inbox {
     {
         match port.recv(&mut self.buffer) {
             Err(_) => Err(AskError::PortFault),
-            Ok(Got::Nothing) => Ok(None),
-            Ok(Got::Datagram { from, len }) => {
+            Ok(Recv::Nothing) => Ok(None),
+            Ok(Recv::Datagram { from, len }) => {
                 let bytes = behind_mark(&self.buffer[..len], self.mark.as_slice());
                 Ok(reply_in(alloc, from, bytes, to, command)?)
             }

@@ -15,7 +15,7 @@ ghost use Rattle.crsm_law_agreement.specs.DecisionLaws.{
   KnownAreOne,
   DecisionsAreCollected,
 };
-ghost use Rattle.crsm_law_agreement.specs.ListLaws.{EpochsHold, ListsAgree};
+ghost use Rattle.crsm_law_agreement.specs.ListLaws.{BegunEpochsHold, ListsAgree};
 
 /// In every world, what is on record as accepted was offered in its ballot, once and over the promises of a majority, and
 /// what is on record as decided was chosen.
@@ -56,8 +56,8 @@ pub fn decisions_are_collected()
 
 /// All that is asked of an epoch holds of each one that has begun: it has one opening, lists of replicas that know it go on
 /// from there by what was committed, and the premises of the law of collection hold.
-pub fn epochs_hold()
-    ensures { EpochsHold }
+pub fn begun_epochs_hold()
+    ensures { BegunEpochsHold }
 {}
 
 /// Of two replicas' executed lists, now or earlier, one is a prefix of the other.

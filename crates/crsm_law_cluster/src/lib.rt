@@ -3,7 +3,7 @@
 //! once, for what they asked (`RequestLaws`).
 #![tactic(auto)]
 
-ghost use Rattle.crsm_law_cluster.specs.ClusterLaws.{ListsAreOne, ExecutedListsGrow, DecisionsAgree, ExecutedAreDurable, AnswersAreRight, AnsweredAreDurable};
+ghost use Rattle.crsm_law_cluster.specs.ClusterLaws.{ListsAreOne, LogFilesGrow, DecisionsAgree, LogFilesAreDurable, AnswersAreRight, AnsweredAreDurable};
 ghost use Rattle.crsm_law_cluster.specs.HistoryLaws.{HistoriesAreShown, LogFilesAgree};
 ghost use Rattle.crsm_law_cluster.specs.RequestLaws.{EntriesWereSubmitted, RealTimeIsKept, RepliesReachWhoAsked, RepliesGoOutOnce};
 
@@ -24,8 +24,8 @@ pub fn lists_are_one()
 {}
 
 /// What a log file has as executed stays at its place there, whoever is killed and started again.
-pub fn executed_lists_grow()
-    ensures { ExecutedListsGrow }
+pub fn log_files_grow()
+    ensures { LogFilesGrow }
 {}
 
 /// Decisions of one epoch are equal, and what each begins its epoch with agrees with the one list.
@@ -34,8 +34,8 @@ pub fn decisions_agree()
 {}
 
 /// What some log file has as executed is kept by a majority from then on, and each later epoch begins with it.
-pub fn executed_are_durable()
-    ensures { ExecutedAreDurable }
+pub fn log_files_are_durable()
+    ensures { LogFilesAreDurable }
 {}
 
 /// Each answer that goes out is the sequential store's at its place of the one list, and what is said to be dropped is

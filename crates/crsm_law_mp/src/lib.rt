@@ -22,6 +22,6 @@ pub fn moments_keep_sound()
 /// losses, repeats and rival leaders: all executed lists are prefixes of one, each answer is the store's, a client is
 /// told that its command was dropped only where another value was chosen, and a command that is submitted for the
 /// first time after an answer stands behind it.
-pub fn runs_are_safe()
+pub fn leader_runs_are_safe()
     ensures { IsSafe }
 {}

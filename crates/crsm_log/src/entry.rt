@@ -172,14 +172,14 @@ fn at_gate(has_one: bool, bytes: &[u8]) -> First<'_>
 
 /// What a file holds: the place of its closed gate, the bodies before it and the cluster that it names.
 #[derive(Drop)]
-pub(crate) struct Held {
+pub(crate) struct LogContents {
     pub gate: u64,
     pub bodies: Bodies,
     pub cluster: Option<u64>,
 }
 
 // What the bytes of a file hold.
-pub(crate) fn read_entries(alloc: Global, file: &[u8]) -> Result<Held, MountError>
+pub(crate) fn read_entries(alloc: Global, file: &[u8]) -> Result<LogContents, MountError>
     ensures read { IfOk result (ReadsFile file.now) }
     ensures bad_gate { IfErr result (ReadsBad file.now) }
     ensures no_fault { IfErr result (λ why. why ≢ DiskFault) }
@@ -192,7 +192,7 @@ pub(crate) fn read_entries(alloc: Global, file: &[u8]) -> Result<Held, MountErro
     'entries: loop {
         match at_gate(cluster.is_some(), bytes) {
             First::Closed => {
-                return Ok(Held {
+                return Ok(LogContents {
                     gate,
                     bodies,
                     cluster,

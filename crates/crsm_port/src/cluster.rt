@@ -5,7 +5,7 @@ ghost use Rattle.crsm_port.specs.Meaning.{Receives, Sends};
 ghost use Rattle.crsm_port.specs.Cluster.{IsShort, clustered, mark_of, unwrapped, wrapped};
 
 use crate::memory::copy;
-use crate::{Got, Port};
+use crate::{Port, Recv};
 use crsm_base::{Failed, NoMemory};
 use crsm_port_faults::raise;
 use std::alloc::Global;
@@ -58,17 +58,17 @@ fn recv_wrapped<P: Port>(
     wire: &mut [u8],
     cluster: u64,
     buf: &mut [u8],
-) -> Result<Got, Failed>
+) -> Result<Recv, Failed>
     requires cluster { cluster ≢ 0 }
     requires room { length wire.old ≡ 8201 }
     ensures { (too_long : ℕ) → Receives (clustered cluster too_long (P.meaning inner.old)) (clustered cluster too_long (P.meaning inner.new)) buf.old buf.new result }
 {
     match inner.recv(wire) {
         Err(Failed) => Err(Failed),
-        Ok(Got::Nothing) => Ok(Got::Nothing),
-        Ok(Got::Datagram { from, len }) => {
+        Ok(Recv::Nothing) => Ok(Recv::Nothing),
+        Ok(Recv::Datagram { from, len }) => {
             let len = copy(own_bytes(&wire[..len], cluster), buf);
-            Ok(Got::Datagram { from, len })
+            Ok(Recv::Datagram { from, len })
         }
     }
 }
@@ -120,7 +120,7 @@ fn own_bytes(wire: &[u8], cluster: u64) -> &[u8]
 impl<P: Port> Port for ClusterPort<P> {
     ghost meaning = { λ p. clustered p.cluster p.too_long (P.meaning p.inner) };
 
-    fn recv(&mut self, buf: &mut [u8]) -> Result<Got, Failed> {
+    fn recv(&mut self, buf: &mut [u8]) -> Result<Recv, Failed> {
         match self.cluster {
             0 => self.inner.recv(buf),
             _ => recv_wrapped(&mut self.inner, &mut self.room, self.cluster, buf),

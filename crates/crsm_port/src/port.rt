@@ -7,7 +7,7 @@ use crsm_base::{Failed, NoMemory};
 
 /// What a receive gave. The datagram's first `len` bytes stand in the buffer.
 #[derive(Clone, Copy, Debug, PartialEq, Eq)]
-pub enum Got {
+pub enum Recv {
     Nothing,
     Datagram { from: u64, len: usize },
 }
@@ -18,7 +18,7 @@ pub trait Port {
 
     /// The next datagram, cut to the buffer. `Failed` comes only where the count of faults rose, and Nothing only
     /// where the count of empty receives rose.
-    fn recv(&mut self, buf: &mut [u8]) -> Result<Got, Failed>
+    fn recv(&mut self, buf: &mut [u8]) -> Result<Recv, Failed>
         ensures { Receives (meaning self.old) (meaning self.new) buf.old buf.new result };
 
     /// Sends a datagram. `Failed` comes only where the count of losses rose.
@@ -38,7 +38,7 @@ pub trait Port {
 impl<P: Port> Port for &mut P {
     ghost meaning = { λ p. record (P.meaning p.now) { lent = Some p.ghost_name } };
 
-    fn recv(&mut self, buf: &mut [u8]) -> Result<Got, Failed> {
+    fn recv(&mut self, buf: &mut [u8]) -> Result<Recv, Failed> {
         (**self).recv(buf)
     }
 

@@ -2,8 +2,8 @@
 use Rattle.std.specs.Prelude.{◌≡◌, ◌↔◌, ℕ, min, List, [], ◌∷◌, ◌++◌, drop, length, take, Option, Some, None, IsSome, ◌&&◌, if◌then◌else◌, slice_get, nat_eq, nat_le}
 use Rattle.crsm_port.specs.Meaning.{Coat, Meaning, Packet, Traffic}
 use Rattle.crsm_port.specs.Unknown.{unknown}
-use Rattle.crsm_port.specs.declared.port.Got.{Got}
-use Rattle.crsm_port.specs.declared.port.Got.TheVariants.{Nothing, Datagram}
+use Rattle.crsm_port.specs.declared.port.Recv.{Recv}
+use Rattle.crsm_port.specs.declared.port.Recv.TheVariants.{Nothing, Datagram}
 
 -- how many bytes the mark of a cluster takes: the byte 16, and the cluster's number
 abbrev pub mark_size : ℕ
@@ -25,7 +25,7 @@ abbrev pub SpeaksForItself : List ℕ → (address : ℕ) → List ℕ → Type 
 SpeaksForItself peers address bytes = (k : ℕ) → named_sender (behind_mark bytes) ≡ Some k → slice_get peers k ≡ Some address
 
 -- what is handed up speaks for itself
-abbrev pub IsOwn : List ℕ → List ℕ → Got → Type 0
+abbrev pub IsOwn : List ℕ → List ℕ → Recv → Type 0
 IsOwn peers buffer Nothing = Unit {0}
 IsOwn peers buffer (Datagram from len) = SpeaksForItself peers from (take len buffer)
 
@@ -38,14 +38,14 @@ pub record HandsUp (peers : List ℕ) (d : Packet) (room : ℕ) (buffer : List �
   pub foreign : (SpeaksForItself peers d.address (take room d.bytes) → ⊥) → len ≡ 0
 
 -- The port below takes the first datagram that waits, and that is what is handed up; or none waits.
-abbrev pub IsFirst : List ℕ → Coat → ℕ → Traffic → Traffic → List ℕ → Got → Type 0
+abbrev pub IsFirst : List ℕ → Coat → ℕ → Traffic → Traffic → List ℕ → Recv → Type 0
 IsFirst peers coat room t u buffer Nothing = (t.waiting ≡ []) × (u ≡ t)
 IsFirst peers coat room t u buffer (Datagram from len) = (d : Packet) × (rest : List Packet) × (t.waiting ≡ d ∷ rest)
     × (u ≡ record t { waiting = rest; taken = t.taken ++ d ∷ [] })
     × HandsUp peers (coat.unwrap d) room buffer from len
 
 -- the same, where the port below tells its traffic, as it does after the receive if it did before
-pub record IsOfFirst (peers : List ℕ) (old new : Meaning) (room : ℕ) (buffer : List ℕ) (got : Got) : Type 0 where
+pub record IsOfFirst (peers : List ℕ) (old new : Meaning) (room : ℕ) (buffer : List ℕ) (got : Recv) : Type 0 where
   pub told : IsSome old.traffic ↔ IsSome new.traffic
   pub first : (t u : Traffic) → old.traffic ≡ Some t → new.traffic ≡ Some u → IsFirst peers old.coat room t u buffer got
 

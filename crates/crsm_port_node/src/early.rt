@@ -4,7 +4,7 @@ ghost use Rattle.std.specs.Prelude.{IfSome, length};
 ghost use Rattle.crsm_port.specs.Meaning.{IsWithin};
 
 use crsm_base::NoMemory;
-use crsm_port::Got;
+use crsm_port::Recv;
 use std::alloc::Global;
 use std::collections::VecDeque;
 
@@ -152,7 +152,7 @@ impl Early {
     }
 
     /// The frame that is kept and is next, cut to the buffer.
-    pub(crate) fn take(&mut self, buf: &mut [u8]) -> Option<Got>
+    pub(crate) fn take(&mut self, buf: &mut [u8]) -> Option<Recv>
         ensures { IfSome result (IsWithin (length buf.old)) }
     {
         let place = self.ready?;
@@ -168,6 +168,6 @@ impl Early {
         self.see(place);
         let len = bytes.len().min(buf.len());
         buf[..len].copy_from_slice(&bytes[..len]);
-        Some(Got::Datagram { from, len })
+        Some(Recv::Datagram { from, len })
     }
 }

@@ -5,7 +5,7 @@ use crsm_text_fields::take_u64;
 
 /// A command, by its client and its number.
 #[derive(Clone, Copy, PartialEq)]
-pub(crate) struct Command {
+pub(crate) struct CommandId {
     client: u64,
     number: u64,
 }
@@ -15,7 +15,7 @@ const NUMBER_BYTES: usize = 16;
 
 /// The kinds of datagrams that are paced, and where they belong.
 #[derive(Clone, Copy)]
-pub(crate) enum Head<'a> {
+pub(crate) enum PacketHead<'a> {
     /// A frame of a link.
     Frame {
         from: u8,
@@ -33,9 +33,9 @@ pub(crate) enum Head<'a> {
     /// A part of a message: what stands behind its message's number.
     Part(&'a [u8]),
     /// A client asks for a command.
-    Request(Command),
+    Request(CommandId),
     /// A replica answers a command.
-    Reply(Command),
+    Reply(CommandId),
     /// All else goes as it comes.
     Other,
 }
@@ -48,41 +48,43 @@ fn two_numbers(bytes: &[u8]) -> Option<(u64, u64)> {
 }
 
 /// The command that the bytes begin with.
-fn command_of(bytes: &[u8]) -> Option<Command> {
+fn command_of(bytes: &[u8]) -> Option<CommandId> {
     let (client, number) = two_numbers(bytes)?;
-    Some(Command { client, number })
+    Some(CommandId { client, number })
 }
 
 /// What the bytes of a datagram say first, whatever cluster it belongs to.
-pub(crate) fn head_of(bytes: &[u8]) -> Head<'_> {
+pub(crate) fn head_of(bytes: &[u8]) -> PacketHead<'_> {
     match unmarked(bytes) {
         [1, from, to, rest @ ..] => match two_numbers(rest) {
-            Some((epoch, number)) => Head::Frame {
+            Some((epoch, number)) => PacketHead::Frame {
                 from: *from,
                 to: *to,
                 epoch,
                 number,
             },
-            None => Head::Other,
+            None => PacketHead::Other,
         },
         [2, from, to, rest @ ..] => match two_numbers(rest) {
-            Some((epoch, next)) => Head::Ack {
+            Some((epoch, next)) => PacketHead::Ack {
                 from: *from,
                 to: *to,
                 epoch,
                 next,
             },
-            None => Head::Other,
+            None => PacketHead::Other,
         },
-        [3, _, _, rest @ ..] if rest.len() >= NUMBER_BYTES => Head::Part(&rest[NUMBER_BYTES..]),
+        [3, _, _, rest @ ..] if rest.len() >= NUMBER_BYTES => PacketHead::Part(
+            &rest[NUMBER_BYTES..],
+        ),
         [4, rest @ ..] => match command_of(rest) {
-            Some(command) => Head::Request(command),
-            None => Head::Other,
+            Some(command) => PacketHead::Request(command),
+            None => PacketHead::Other,
         },
         [5, rest @ ..] => match command_of(rest) {
-            Some(command) => Head::Reply(command),
-            None => Head::Other,
+            Some(command) => PacketHead::Reply(command),
+            None => PacketHead::Other,
         },
-        _ => Head::Other,
+        _ => PacketHead::Other,
     }
 }

@@ -20,14 +20,14 @@ struct Ack {
 
 /// The last acknowledgement for each address: one says all that those before it said.
 #[derive(Drop)]
-pub(crate) struct Held {
+pub(crate) struct LastAcks {
     acks: Vec<Ack>,
 }
 
-impl Held {
+impl LastAcks {
     /// None, with room for all.
-    pub(crate) fn new(alloc: Global) -> Result<Held, NoMemory> {
-        Ok(Held {
+    pub(crate) fn new(alloc: Global) -> Result<LastAcks, NoMemory> {
+        Ok(LastAcks {
             acks: Vec::with_capacity(alloc, MOST_HELD)?,
         })
     }

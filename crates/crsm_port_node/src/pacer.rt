@@ -5,14 +5,14 @@ ghost use Rattle.crsm_port.specs.Meaning.{IsWithin};
 
 use crate::ahead::Ahead;
 use crate::early::Early;
-use crate::head::{Head, head_of};
-use crate::held::Held;
-use crate::parts::Parts;
+use crate::head::{PacketHead, head_of};
+use crate::held::LastAcks;
+use crate::parts::RecentParts;
 use crate::repeats::Repeats;
 use crate::requests::{MOST_WAITING, Requests};
 use crsm_base::{Failed, NoMemory};
 use crsm_clock::Clock;
-use crsm_port::{Got, Port};
+use crsm_port::{Port, Recv};
 use std::alloc::Global;
 
 /// A port, with what is held back before it and what was read ahead of it.
@@ -23,9 +23,9 @@ pub(crate) struct Pacer<P, C> {
     // the clock's reading before the sends that come
     now: u64,
     ahead: Ahead,
-    held: Held,
+    held: LastAcks,
     repeats: Repeats,
-    parts: Parts,
+    parts: RecentParts,
     requests: Requests,
     early: Early,
     // the receive does not wait
@@ -40,9 +40,9 @@ impl<P: Drop, C: Drop> Pacer<P, C> {
             clock,
             now: 0,
             ahead: Ahead::new(alloc)?,
-            held: Held::new(alloc)?,
+            held: LastAcks::new(alloc)?,
             repeats: Repeats::new(alloc)?,
-            parts: Parts::new(alloc)?,
+            parts: RecentParts::new(alloc)?,
             requests: Requests::new(alloc)?,
             early: Early::new(alloc)?,
             is_hurried: false,
@@ -53,7 +53,7 @@ impl<P: Drop, C: Drop> Pacer<P, C> {
 impl<P: Port, C: Clock> Pacer<P, C> {
     /// Lets go what is held back, and gives the next datagram: a frame that is missed no longer, a request that has waited,
     /// one that was read ahead, or what the port gives.
-    pub(crate) fn recv(&mut self, buf: &mut [u8]) -> Result<Got, Failed>
+    pub(crate) fn recv(&mut self, buf: &mut [u8]) -> Result<Recv, Failed>
         ensures { IfOk result (IsWithin (length buf.old)) }
     {
         self.held.let_go(&mut self.port);
@@ -66,7 +66,7 @@ impl<P: Port, C: Clock> Pacer<P, C> {
     }
 
     /// One that was kept, and whose turn has come.
-    fn kept(&mut self, buf: &mut [u8]) -> Option<Got>
+    fn kept(&mut self, buf: &mut [u8]) -> Option<Recv>
         ensures { IfSome result (IsWithin (length buf.old)) }
     {
         match self.early.take(buf) {
@@ -76,20 +76,20 @@ impl<P: Port, C: Clock> Pacer<P, C> {
     }
 
     /// The next datagram that is not held back.
-    fn next(&mut self, buf: &mut [u8]) -> Result<Got, Failed>
+    fn next(&mut self, buf: &mut [u8]) -> Result<Recv, Failed>
         ensures { IfOk result (IsWithin (length buf.old)) }
     {
         for _ in 0..=MOST_WAITING {
             match self.arrived(buf)? {
-                Got::Datagram { from, len } if self.is_held(from, &buf[..len]) => {}
+                Recv::Datagram { from, len } if self.is_held(from, &buf[..len]) => {}
                 got => return Ok(got),
             }
         }
-        Ok(Got::Nothing)
+        Ok(Recv::Nothing)
     }
 
     /// The next datagram, read ahead or not.
-    fn arrived(&mut self, buf: &mut [u8]) -> Result<Got, Failed>
+    fn arrived(&mut self, buf: &mut [u8]) -> Result<Recv, Failed>
         ensures { IfOk result (IsWithin (length buf.old)) }
     {
         if let Some(got) = self.ahead.take(buf) {
@@ -107,7 +107,7 @@ impl<P: Port, C: Clock> Pacer<P, C> {
     /// Whether a datagram is held back; notes frames, and which frame its sender expects.
     fn is_held(&mut self, from: u64, bytes: &[u8]) -> bool {
         match head_of(bytes) {
-            Head::Ack {
+            PacketHead::Ack {
                 from: sender,
                 epoch,
                 next,
@@ -116,7 +116,7 @@ impl<P: Port, C: Clock> Pacer<P, C> {
                 self.repeats.note_expected(sender, epoch, next);
                 false
             }
-            Head::Frame {
+            PacketHead::Frame {
                 from: sender,
                 epoch,
                 number,
@@ -125,7 +125,7 @@ impl<P: Port, C: Clock> Pacer<P, C> {
                 self.early.note(sender, epoch, number, from, bytes);
                 false
             }
-            Head::Request(command) => self.requests.hold(from, command, bytes, self.now),
+            PacketHead::Request(command) => self.requests.hold(from, command, bytes, self.now),
             _ => false,
         }
     }
@@ -142,13 +142,13 @@ impl<P: Port, C: Clock> Pacer<P, C> {
     /// Whether a datagram is to go out now. An acknowledgement is held.
     fn may_go(&mut self, to: u64, bytes: &[u8]) -> bool {
         match head_of(bytes) {
-            Head::Frame {
+            PacketHead::Frame {
                 to: receiver,
                 epoch,
                 number,
                 ..
             } => self.repeats.may_go(receiver, epoch, number, self.now),
-            Head::Ack {
+            PacketHead::Ack {
                 to: sender,
                 epoch,
                 next,
@@ -157,12 +157,12 @@ impl<P: Port, C: Clock> Pacer<P, C> {
                 self.early.note_expected(sender, epoch, next);
                 !self.held.hold(to, bytes)
             }
-            Head::Part(part) => self.parts.may_go(to, part, self.now),
-            Head::Reply(command) => {
+            PacketHead::Part(part) => self.parts.may_go(to, part, self.now),
+            PacketHead::Reply(command) => {
                 self.requests.note_answered(command);
                 true
             }
-            Head::Request(_) | Head::Other => true,
+            PacketHead::Request(_) | PacketHead::Other => true,
         }
     }
 

@@ -16,7 +16,7 @@ const PRIME: u64 = 0x0100_0000_01b3;
 
 /// The sum of a part, and the reading at which it went out last.
 #[derive(Clone, Copy)]
-struct Last {
+struct SentPart {
     sum: u64,
     at: u64,
 }
@@ -24,8 +24,8 @@ struct Last {
 /// What a replica says of epochs it says again at each tick, as a message of a new number, and once for each frame of
 /// another epoch. So the same part to the same address waits, whatever its message's number.
 #[derive(Drop)]
-pub(crate) struct Parts {
-    last: Vec<Last>,
+pub(crate) struct RecentParts {
+    last: Vec<SentPart>,
 }
 
 /// A sum of the address and of a part behind its message's number. Two parts with the same one are taken for the same.
@@ -37,11 +37,11 @@ fn sum_of(to: u64, part: &[u8]) -> u64 {
     sum
 }
 
-impl Parts {
+impl RecentParts {
     /// None.
-    pub(crate) fn new(alloc: Global) -> Result<Parts, NoMemory> {
-        let never = Last { sum: 0, at: 0 };
-        Ok(Parts {
+    pub(crate) fn new(alloc: Global) -> Result<RecentParts, NoMemory> {
+        let never = SentPart { sum: 0, at: 0 };
+        Ok(RecentParts {
             last: Vec::from_elem(alloc, never, REMEMBERED)?,
         })
     }
@@ -56,7 +56,7 @@ impl Parts {
         if last.sum == sum && last.at <= now && now - last.at < PACE {
             return false;
         }
-        *last = Last { sum, at: now };
+        *last = SentPart { sum, at: now };
         true
     }
 }

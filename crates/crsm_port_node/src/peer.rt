@@ -5,7 +5,7 @@ ghost use Rattle.crsm_port.specs.Meaning.{Receives, Reserves, Sends};
 ghost use Rattle.crsm_port_node.specs.Senders.{IsOfFirst, IsOwn, SpeaksForItself, behind_mark, counts_of, named_sender};
 
 use crsm_base::{Failed, NoMemory};
-use crsm_port::{Got, Port};
+use crsm_port::{Port, Recv};
 
 // The byte 16 and the number of a cluster stand before its datagrams.
 const MARK: u8 = 16;
@@ -70,15 +70,15 @@ fn speaks_for_itself(peers: &[u64], address: u64, bytes: &[u8]) -> bool
 impl<P: Port> Port for PeerPort<P> {
     ghost meaning = { λ p. counts_of (P.meaning p.inner) };
 
-    fn recv(&mut self, buf: &mut [u8]) -> Result<Got, Failed>
+    fn recv(&mut self, buf: &mut [u8]) -> Result<Recv, Failed>
         ensures tells { Receives (counts_of (P.meaning self.old.inner)) (counts_of (P.meaning self.new.inner)) buf.old buf.new result }
         ensures own { IfOk result (IsOwn self.old.peers.items buf.new) }
         ensures first { IfOk result (IsOfFirst self.old.peers.items (P.meaning self.old.inner) (P.meaning self.new.inner) (length buf.old) buf.new) }
         ensures peers { self.new.peers ≡ self.old.peers }
     {
         match self.inner.recv(buf)? {
-            Got::Datagram { from, len } if !speaks_for_itself(&self.peers, from, &buf[..len]) => {
-                Ok(Got::Datagram { from, len: 0 })
+            Recv::Datagram { from, len } if !speaks_for_itself(&self.peers, from, &buf[..len]) => {
+                Ok(Recv::Datagram { from, len: 0 })
             }
             got => Ok(got),
         }

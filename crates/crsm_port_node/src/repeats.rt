@@ -21,7 +21,7 @@ const MISSED: u64 = 32;
 
 /// A frame, the reading at which it went out last, and how often it went out again.
 #[derive(Clone, Copy)]
-struct Last {
+struct SentFrame {
     epoch: u64,
     number: u64,
     at: u64,
@@ -36,7 +36,7 @@ struct Expected {
     is_repeated: bool,
 }
 
-impl Last {
+impl SentFrame {
     /// How long after it went out it may go again.
     fn pace(&self, is_missed: bool) -> u64 {
         if is_missed && self.again == 0 {
@@ -60,7 +60,7 @@ impl Expected {
 /// What went out to each replica a moment ago, and what each expects.
 #[derive(Drop)]
 pub(crate) struct Repeats {
-    last: Vec<Last>,
+    last: Vec<SentFrame>,
     expected: Vec<Expected>,
 }
 
@@ -72,7 +72,7 @@ fn place_of(to: u8, number: u64) -> usize {
 impl Repeats {
     /// Nothing went out.
     pub(crate) fn new(alloc: Global) -> Result<Repeats, NoMemory> {
-        let never = Last {
+        let never = SentFrame {
             epoch: u64::MAX,
             number: u64::MAX,
             at: 0,
@@ -124,7 +124,7 @@ impl Repeats {
         } else {
             0
         };
-        *last = Last {
+        *last = SentFrame {
             epoch,
             number,
             at: now,

@@ -3,9 +3,9 @@
 ghost use Rattle.std.specs.Prelude.{IfSome, length};
 ghost use Rattle.crsm_port.specs.Meaning.{IsWithin};
 
-use crate::head::Command;
+use crate::head::CommandId;
 use crsm_base::NoMemory;
-use crsm_port::Got;
+use crsm_port::Recv;
 use std::alloc::Global;
 use std::collections::VecDeque;
 
@@ -20,15 +20,15 @@ const PATIENCE: u64 = 1_000_000;
 /// A command that the node was asked for and has not answered, and the reading when it was.
 #[derive(Clone, Copy)]
 struct Open {
-    command: Command,
+    command: CommandId,
     since: u64,
 }
 
 /// A request that waits, and the address that it came from.
 #[derive(Drop)]
-struct Waiting {
+struct WaitingRequest {
     from: u64,
-    command: Command,
+    command: CommandId,
     bytes: Vec<u8>,
 }
 
@@ -37,7 +37,7 @@ struct Waiting {
 pub(crate) struct Requests {
     alloc: Global,
     open: Vec<Open>,
-    waiting: VecDeque<Waiting>,
+    waiting: VecDeque<WaitingRequest>,
 }
 
 impl Requests {
@@ -52,7 +52,7 @@ impl Requests {
 
     /// Holds a request where the node has no room for it, and tells whether it did. One that the node has already goes
     /// up, as its client asks again; so does one that no room is left for, and the node refuses it.
-    pub(crate) fn hold(&mut self, from: u64, command: Command, bytes: &[u8], now: u64) -> bool {
+    pub(crate) fn hold(&mut self, from: u64, command: CommandId, bytes: &[u8], now: u64) -> bool {
         if self.open.iter().any(|o| o.command == command) {
             return false;
         }
@@ -73,7 +73,7 @@ impl Requests {
     }
 
     /// The node is asked for it now.
-    fn note_asked(&mut self, command: Command, now: u64) {
+    fn note_asked(&mut self, command: CommandId, now: u64) {
         let _ = self.open.push(Open {
             command,
             since: now,
@@ -81,10 +81,10 @@ impl Requests {
     }
 
     /// Puts a request behind those that wait.
-    fn keep(&mut self, from: u64, command: Command, bytes: &[u8]) -> Result<(), NoMemory> {
+    fn keep(&mut self, from: u64, command: CommandId, bytes: &[u8]) -> Result<(), NoMemory> {
         let mut copy = Vec::with_capacity(self.alloc, bytes.len())?;
         copy.extend_from_slice(bytes)?;
-        self.waiting.push_back(Waiting {
+        self.waiting.push_back(WaitingRequest {
             from,
             command,
             bytes: copy,
@@ -93,13 +93,13 @@ impl Requests {
     }
 
     /// The oldest one that waits, if the node has room for it, cut to the buffer.
-    pub(crate) fn take(&mut self, buf: &mut [u8], now: u64) -> Option<Got>
+    pub(crate) fn take(&mut self, buf: &mut [u8], now: u64) -> Option<Recv>
         ensures { IfSome result (IsWithin (length buf.old)) }
     {
         if self.waiting.is_empty() || !self.has_room(now) {
             return None;
         }
-        let Waiting {
+        let WaitingRequest {
             from,
             command,
             bytes,
@@ -107,11 +107,11 @@ impl Requests {
         self.note_asked(command, now);
         let len = bytes.len().min(buf.len());
         buf[..len].copy_from_slice(&bytes[..len]);
-        Some(Got::Datagram { from, len })
+        Some(Recv::Datagram { from, len })
     }
 
     /// The node has answered a command.
-    pub(crate) fn note_answered(&mut self, command: Command) {
+    pub(crate) fn note_answered(&mut self, command: CommandId) {
         self.open.retain(|o| o.command != command);
     }
 }

@@ -11,7 +11,7 @@ ghost use Rattle.crsm_sim_machine.specs.Outcomes.{IsCut};
 ghost use Rattle.crsm_sim_machine.specs.Machine.{MachineStands, WhereStands, WhereUp};
 
 use crate::arrival::Arrival;
-use crate::cut::{Stop, cut};
+use crate::cut::{PutStop, cut};
 use crate::machine::Machine;
 use crate::state::MachineState;
 use crate::step::Step;
@@ -57,7 +57,7 @@ impl Machine {
     {
         match mem::replace(&mut self.place, MachineState::Spent) {
             MachineState::Up(shell) => {
-                let stop = Stop { calls, fill };
+                let stop = PutStop { calls, fill };
                 let (step, left) = cut(shell, stop, arrival, reading)?;
                 self.place = MachineState::Down(left);
                 Ok(step)

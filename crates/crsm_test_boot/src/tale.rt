@@ -6,7 +6,7 @@ use crate::fault::Fault;
 use crate::traces::{push_kept, push_refusal, push_sent};
 use crate::words::{Word, calls_of, parted, word_of};
 use crsm_disk::MemDisk;
-use crsm_shell::{BootError, Shell, TurnError, What};
+use crsm_shell::{BootError, Shell, TurnError, WantedInput};
 use std::alloc::{AllocError, Global};
 
 /// What comes of a replica that boots on an empty disk and does what the words say. The first two words are the calls
@@ -111,7 +111,7 @@ fn push_word(
         Word::Junk => devices.port.put(9, &[0xff])?,
         Word::Stop { calls, fill } => shell.arm(Some(calls), fill),
         Word::Take(count) => push_receives(shell, devices, count, out)?,
-        Word::Tick => push_tick(take(shell, devices, What::Tick)?, out)?,
+        Word::Tick => push_tick(take(shell, devices, WantedInput::Tick)?, out)?,
         Word::Turn => push_turn(turn(shell, devices)?, out)?,
         Word::Flush => push_flush(shell.flush(&mut devices.port), out)?,
     }
@@ -127,7 +127,7 @@ fn push_receives(
 ) -> Result<(), Fault> {
     let mut bytes = 0u64;
     for taken in 0..count {
-        match take(shell, devices, What::Receive)? {
+        match take(shell, devices, WantedInput::Receive)? {
             Ok(size) => bytes = bytes.saturating_add(size),
             Err(why) => {
                 write!(out, "{why} after {taken} steps; ")?;
@@ -166,7 +166,7 @@ fn push_flush(flush: Result<(), TurnError>, out: &mut String) -> Result<(), Allo
 fn take(
     shell: &mut Shell<MemDisk>,
     devices: &mut Devices,
-    what: What,
+    what: WantedInput,
 ) -> Result<Result<u64, TurnError>, Fault> {
     if shell.pending() >= 32 {
         return Err(Fault::TooMany);
@@ -183,6 +183,6 @@ fn turn(
     if shell.pending() >= 32 {
         return Err(Fault::TooMany);
     }
-    let turned = shell.turn(What::Receive, &mut devices.clock, &mut devices.port);
+    let turned = shell.turn(WantedInput::Receive, &mut devices.clock, &mut devices.port);
     Ok(turned.map(|turned| turned.size))
 }

@@ -1,26 +1,26 @@
 //! What is got, as text.
 
 use crsm_base::{Decision, Members};
-use crsm_suspend::Got;
+use crsm_suspend::PageOutcome;
 use std::alloc::{AllocError, Global};
 
 /// How many entries of a tail are shown at most.
 const SHOWN: usize = 8;
 
 /// What is got, in words.
-pub fn text_of(alloc: Global, got: &Got) -> Result<String, AllocError> {
+pub fn text_of(alloc: Global, got: &PageOutcome) -> Result<String, AllocError> {
     let mut out = String::new(alloc);
     push_got(got, &mut out)?;
     Ok(out)
 }
 
-fn push_got(got: &Got, out: &mut String) -> Result<(), AllocError> {
+fn push_got(got: &PageOutcome, out: &mut String) -> Result<(), AllocError> {
     match got {
-        Got::Stranger => out.push_str("stranger"),
-        Got::More { from, after } => write!(out, "more of {from} from {}", after.time),
-        Got::Kept => out.push_str("kept"),
-        Got::Complete(decision) => push_decision(decision, out),
-        Got::TooMany { count, bytes } => {
+        PageOutcome::Stranger => out.push_str("stranger"),
+        PageOutcome::More { from, after } => write!(out, "more of {from} from {}", after.time),
+        PageOutcome::Kept => out.push_str("kept"),
+        PageOutcome::Complete(decision) => push_decision(decision, out),
+        PageOutcome::TooMany { count, bytes } => {
             write!(out, "too many: {count} entries of {bytes} bytes")
         }
     }

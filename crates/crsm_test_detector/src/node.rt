@@ -7,7 +7,7 @@ use crate::words::{number_of, parted, replica_of};
 use crsm_base::Bodies;
 use crsm_ledger::Ledger;
 use crsm_replica_detector::Detector;
-use crsm_replica_io::What;
+use crsm_replica_io::WantedInput;
 use crsm_text::hex_of;
 use std::alloc::Global;
 
@@ -25,11 +25,11 @@ pub struct Node {
 }
 
 /// What is wanted, in words.
-fn text_of(alloc: Global, what: &What) -> Result<String, Fault> {
+fn text_of(alloc: Global, what: &WantedInput) -> Result<String, Fault> {
     match what {
-        What::Receive => Ok(format!(in alloc; "receive")?),
-        What::Tick => Ok(format!(in alloc; "tick")?),
-        What::Suspect(members) => Ok(format!(in alloc; "suspect {:?}", members.as_slice())?),
+        WantedInput::Receive => Ok(format!(in alloc; "receive")?),
+        WantedInput::Tick => Ok(format!(in alloc; "tick")?),
+        WantedInput::Suspect(members) => Ok(format!(in alloc; "suspect {:?}", members.as_slice())?),
     }
 }
 

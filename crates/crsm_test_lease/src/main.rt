@@ -3,7 +3,7 @@
 #![tactic(auto)]
 
 use crsm_base::{Answer, Bytes, Key, NoMemory, Op, Outcome, Refusal, Val};
-use crsm_lease::{Action, Next, after_cas, after_get, print_told};
+use crsm_lease::{Action, NextStep, after_cas, after_get, print_told};
 use crsm_text::{LineError, hex_of, push_hex, read_number, split_field};
 use std::alloc::Global;
 use std::io::{self, Write};
@@ -130,8 +130,8 @@ fn push_asked(out: &mut Bytes, op: &Op) -> Result<(), NoMemory> {
 /// What a row leads to.
 fn told_of(alloc: Global, row: &Row, out: &mut Bytes) -> Result<(), NoMemory> {
     match after_get(alloc, row.action, row.client, &row.key, &row.found)? {
-        Next::End(told) => print_told(alloc, told, out),
-        Next::Ask(op) => {
+        NextStep::End(told) => print_told(alloc, told, out),
+        NextStep::Ask(op) => {
             push_asked(out, &op)?;
             print_told(alloc, after_cas(&op, &row.changed), out)
         }

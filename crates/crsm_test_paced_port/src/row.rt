@@ -3,7 +3,7 @@
 use crate::fault::Fault;
 use crsm_base::Bytes;
 use crsm_clock::ListClock;
-use crsm_port::{Got, MemPort, Port};
+use crsm_port::{MemPort, Port, Recv};
 use crsm_port_node::PacedPort;
 use crsm_text::{hex_of, push_hex, push_number};
 use std::alloc::Global;
@@ -77,8 +77,8 @@ fn push_packet(text: &mut Bytes, address: u64, bytes: &[u8]) -> Result<(), Fault
 fn receive<P: Port>(port: &mut P, text: &mut Bytes) -> Result<(), Fault> {
     let mut buf = [0; ROOM];
     match port.recv(&mut buf) {
-        Ok(Got::Datagram { from, len }) => push_packet(text, from, &buf[..len])?,
-        Ok(Got::Nothing) => text.append(b" nothing")?,
+        Ok(Recv::Datagram { from, len }) => push_packet(text, from, &buf[..len])?,
+        Ok(Recv::Nothing) => text.append(b" nothing")?,
         Err(_) => text.append(b" failed")?,
     }
     Ok(())

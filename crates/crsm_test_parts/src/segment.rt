@@ -1,7 +1,7 @@
 //! A message of two parts, and parts that are old, odd or of a newer message.
 
 use crsm_base::{Datagram, Send};
-use crsm_segment::{Gather, Taken, cut};
+use crsm_segment::{Gather, PartOutcome, cut};
 use std::test::Fail;
 
 fn bytes_of(send: &Send) -> &[u8] {
@@ -23,13 +23,13 @@ fn parts_come_in_reverse(rt: HostRuntime) -> Result<(), Fail> {
     assert_eq!(rt; first.len(), 8_000);
     assert_eq!(rt; last.len(), 1);
     let mut gather = Gather::new(alloc, 3)?;
-    assert!(rt; matches!(gather.take(1, 3, 9, 1, 2, last)?, Taken::More));
-    let Taken::Whole(whole) = gather.take(1, 3, 9, 0, 2, first)? else {
+    assert!(rt; matches!(gather.take(1, 3, 9, 1, 2, last)?, PartOutcome::More));
+    let PartOutcome::Whole(whole) = gather.take(1, 3, 9, 0, 2, first)? else {
         return Err("the message is not whole")?;
     };
     assert!(rt; whole.as_slice() == bytes.as_slice());
-    assert!(rt; matches!(gather.take(1, 3, 9, 0, 2, first)?, Taken::Old));
-    assert!(rt; matches!(gather.take(1, 3, 10, 0, 3, first)?, Taken::More));
-    assert!(rt; matches!(gather.take(1, 3, 10, 1, 2, first)?, Taken::Odd));
+    assert!(rt; matches!(gather.take(1, 3, 9, 0, 2, first)?, PartOutcome::Old));
+    assert!(rt; matches!(gather.take(1, 3, 10, 0, 3, first)?, PartOutcome::More));
+    assert!(rt; matches!(gather.take(1, 3, 10, 1, 2, first)?, PartOutcome::Odd));
     Ok(())
 }

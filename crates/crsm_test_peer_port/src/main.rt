@@ -3,7 +3,7 @@
 #![tactic(auto)]
 
 use crsm_base::NoMemory;
-use crsm_port::{Got, MemPort, Port};
+use crsm_port::{MemPort, Port, Recv};
 use crsm_port_node::PeerPort;
 use crsm_text::{hex_of, number_field};
 use std::alloc::{AllocError, Global};
@@ -22,7 +22,7 @@ fn handed_up(alloc: Global, address: u64, bytes: &[u8]) -> Result<Option<usize>,
     let mut port = PeerPort::new(wire, peers);
     let mut buf = [0; ROOM];
     match port.recv(&mut buf) {
-        Ok(Got::Datagram { len, .. }) => Ok(Some(len)),
+        Ok(Recv::Datagram { len, .. }) => Ok(Some(len)),
         _ => Ok(None),
     }
 }

@@ -3,7 +3,7 @@
 ghost use Rattle.std.specs.Prelude.{◌≡◌, ◌≤◌, [], IfOk};
 
 use crate::fault::Fault;
-use crsm_audit::{Account, Place, Verdict, judge};
+use crsm_audit::{Account, ExecutedEntry, Verdict, judge};
 use crsm_base::{Bodies, Line, Lines, Recs, Sends, Stamp};
 use crsm_ledger::Ledger;
 use crsm_replica_output::Batch;
@@ -92,8 +92,8 @@ fn account_of(alloc: Global, part: &str) -> Result<Account, Fault> {
 }
 
 /// The text of a place.
-fn place_text(alloc: Global, place: &Place) -> Result<String, Fault> {
-    let Place {
+fn place_text(alloc: Global, place: &ExecutedEntry) -> Result<String, Fault> {
+    let ExecutedEntry {
         epoch,
         stamp,
         client,

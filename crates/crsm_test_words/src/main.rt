@@ -4,7 +4,7 @@
 ghost use Rattle.crsm_text_words.specs.Plans.{HasOwnPeer};
 
 use crsm_base::Bytes;
-use crsm_text_words::{Order, Refusal, Task, read_words, usage_text};
+use crsm_text_words::{Order, Task, WordsError, read_words, usage_text};
 use std::alloc::{AllocError, Global};
 use std::io;
 use std::str::from_utf8;
@@ -54,8 +54,8 @@ fn meaning(alloc: Global, line: &str) -> Result<String, AllocError> {
     let words = words_of(alloc, line)?;
     match read_words(alloc, words.as_slice()) {
         Ok(order) => shown(alloc, &order),
-        Err(Refusal::Usage) => refused(alloc, words.as_slice()),
-        Err(Refusal::NoMemory) => format!(in alloc; "out of memory"),
+        Err(WordsError::Usage) => refused(alloc, words.as_slice()),
+        Err(WordsError::NoMemory) => format!(in alloc; "out of memory"),
     }
 }
 

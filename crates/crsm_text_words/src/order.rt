@@ -96,7 +96,7 @@ pub struct Order {
 
 /// Which real devices a task wants.
 #[derive(Clone, Copy, Debug, PartialEq, Eq)]
-pub enum Plan {
+pub enum DevicePlan {
     /// None but the standard input and output.
     Plain,
     /// A socket that is bound at this address, and the log file of this replica.
@@ -107,17 +107,17 @@ pub enum Plan {
 
 impl Task {
     /// The devices that it wants.
-    pub fn plan(&self) -> Plan
+    pub fn plan(&self) -> DevicePlan
         requires { HasOwnPeer self.now }
         ensures { result ≡ plan_of self.now }
     {
         match self {
-            Task::Node(node) => Plan::Node {
+            Task::Node(node) => DevicePlan::Node {
                 me: node.me,
                 bind: node.peers.as_slice()[node.me as usize],
             },
-            Task::Client { .. } | Task::Operate { .. } | Task::Lock(_) => Plan::Socket,
-            _ => Plan::Plain,
+            Task::Client { .. } | Task::Operate { .. } | Task::Lock(_) => DevicePlan::Socket,
+            _ => DevicePlan::Plain,
         }
     }
 }
