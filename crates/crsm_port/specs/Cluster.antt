@@ -1,12 +1,8 @@
 -- A port of a cluster over a port that clusters share. A datagram of a cluster stands there with its number in front.
 use Rattle.std.specs.Prelude.{◌≡◌, ◌≤◌, ◌⊎◌, ℕ, zero, suc, ◌+◌, ◌-◌, ◌^◌, min, List, [], ◌∷◌, ◌++◌, length, take, drop, None, eqb, if◌then◌else◌}
 use Rattle.std.specs.List.{starts_with}
-use Rattle.crsm_base.specs.Spelling.{u64_bytes}
+use Rattle.crsm_wire.specs.Marks.{mark_of}
 use Rattle.crsm_port.specs.Meaning.{Coat, Meaning}
-
--- what stands in front: the byte 16 and the number
-abbrev pub mark_of : ℕ → List ℕ
-mark_of c = 16 ∷ u64_bytes c
 
 -- a datagram on the wire; those of cluster 0 go as they are
 abbrev pub wrapped : ℕ → List ℕ → List ℕ

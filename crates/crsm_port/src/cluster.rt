@@ -2,16 +2,15 @@
 
 ghost use Rattle.std.specs.Prelude.{◌≡◌, ◌≢◌, ℕ, ◌+◌, ◌++◌, ◌*◌, ◌≤◌, length, take, IfOk, IfSome};
 ghost use Rattle.crsm_port.specs.Meaning.{Receives, Sends};
-ghost use Rattle.crsm_port.specs.Cluster.{IsShort, clustered, mark_of, unwrapped, wrapped};
+ghost use Rattle.crsm_port.specs.Cluster.{IsShort, clustered, unwrapped, wrapped};
+ghost use Rattle.crsm_wire.specs.Marks.{mark_of};
 
 use crate::memory::copy;
 use crate::{Port, Recv};
 use crsm_base::{Failed, NoMemory};
 use crsm_port_faults::raise;
+use crsm_wire::{MARK_BYTES, mark};
 use std::alloc::Global;
-
-// The byte 16 and the number stand before a datagram.
-const MARK: usize = 9;
 
 const MOST_SENT: usize = 8_183;
 // The most bytes of a datagram, and its mark.
@@ -86,24 +85,15 @@ impl<P: Port> ClusterPort<P> {
     }
 }
 
-#[tactic(auto, unfolding(crsm_base::specs::Spelling::u64_bytes))]
-fn mark(cluster: u64) -> [u8; MARK]
-    ensures { result ≡ mark_of cluster }
-{
-    let mut mark = [16u8; MARK];
-    mark[1..].copy_from_slice(&cluster.to_be_bytes());
-    mark
-}
-
 // Writes a datagram and its mark from the first byte on, and tells how many bytes that are.
 fn wrap(room: &mut [u8], cluster: u64, bytes: &[u8]) -> usize
     requires { 9 + length bytes.now ≤ length room.old }
     ensures len { result ≡ 9 + length bytes.now }
     ensures bytes { take result room.new ≡ mark_of cluster ++ bytes.now }
 {
-    let (front, rest) = room.split_at_mut(MARK);
+    let (front, rest) = room.split_at_mut(MARK_BYTES);
     front.copy_from_slice(&mark(cluster));
-    copy(bytes, rest) + MARK
+    copy(bytes, rest) + MARK_BYTES
 }
 
 // What stands behind the mark of the cluster.
@@ -112,7 +102,7 @@ fn own_bytes(wire: &[u8], cluster: u64) -> &[u8]
     ensures { result.now ≡ unwrapped cluster wire.now }
 {
     match wire.starts_with(&mark(cluster)) {
-        true => &wire[MARK..],
+        true => &wire[MARK_BYTES..],
         false => &[],
     }
 }
@@ -159,5 +149,5 @@ impl<P: Port> Port for ClusterPort<P> {
 fn with_marks(sends: u64, bytes: u64) -> Option<u64>
     ensures { IfSome result (λ n. n ≡ bytes + 9 * sends) }
 {
-    sends.checked_mul(MARK as u64)?.checked_add(bytes)
+    sends.checked_mul(MARK_BYTES as u64)?.checked_add(bytes)
 }

@@ -4,7 +4,6 @@
 
 mod ahead;
 mod early;
-mod head;
 mod held;
 mod laws;
 mod paced;
@@ -16,4 +15,4 @@ mod requests;
 
 pub use laws::senders_are_named;
 pub use paced::PacedPort;
-pub use peer::{PeerPort, unmarked};
+pub use peer::PeerPort;

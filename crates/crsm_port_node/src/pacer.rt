@@ -5,7 +5,6 @@ ghost use Rattle.crsm_port.specs.Meaning.{IsWithin};
 
 use crate::ahead::Ahead;
 use crate::early::Early;
-use crate::head::{PacketHead, head_of};
 use crate::held::LastAcks;
 use crate::parts::RecentParts;
 use crate::repeats::Repeats;
@@ -13,6 +12,7 @@ use crate::requests::{MOST_WAITING, Requests};
 use crsm_base::{Failed, NoMemory};
 use crsm_clock::Clock;
 use crsm_port::{Port, Recv};
+use crsm_wire::{PacketHead, peek};
 use std::alloc::Global;
 
 /// A port, with what is held back before it and what was read ahead of it.
@@ -106,7 +106,7 @@ impl<P: Port, C: Clock> Pacer<P, C> {
 
     /// Whether a datagram is held back; notes frames, and which frame its sender expects.
     fn is_held(&mut self, from: u64, bytes: &[u8]) -> bool {
-        match head_of(bytes) {
+        match peek(bytes) {
             PacketHead::Ack {
                 from: sender,
                 epoch,
@@ -141,7 +141,7 @@ impl<P: Port, C: Clock> Pacer<P, C> {
 
     /// Whether a datagram is to go out now. An acknowledgement is held.
     fn may_go(&mut self, to: u64, bytes: &[u8]) -> bool {
-        match head_of(bytes) {
+        match peek(bytes) {
             PacketHead::Frame {
                 to: receiver,
                 epoch,

@@ -1,16 +1,12 @@
-//! The port.
+//! A port over a port: takes what names a replica as its sender from that replica's address alone.
 
 ghost use Rattle.std.specs.Prelude.{◌≡◌, ◌↔◌, IsTrue, IfOk, Some, length, slice_get};
 ghost use Rattle.crsm_port.specs.Meaning.{Receives, Reserves, Sends};
-ghost use Rattle.crsm_port_node.specs.Senders.{IsOfFirst, IsOwn, SpeaksForItself, behind_mark, counts_of, named_sender};
+ghost use Rattle.crsm_port_node.specs.Senders.{IsOfFirst, IsOwn, SpeaksForItself, counts_of};
 
 use crsm_base::{Failed, NoMemory};
 use crsm_port::{Port, Recv};
-
-// The byte 16 and the number of a cluster stand before its datagrams.
-const MARK: u8 = 16;
-
-const MARK_BYTES: usize = 9;
+use crsm_wire::{sender_in, unmarked};
 
 /// A port over a port, for a replica whose peers have these addresses. A datagram that names the replica that it comes
 /// from (a frame, an acknowledgement or a part) is handed up only from that replica's address, and with no bytes from any
@@ -27,26 +23,6 @@ impl<P: Drop> PeerPort<P> {
         ensures { (result.inner ≡ inner) × (result.peers ≡ peers) }
     {
         PeerPort { inner, peers }
-    }
-}
-
-/// The bytes of a datagram without the mark of a cluster, where they have one.
-pub fn unmarked(bytes: &[u8]) -> &[u8]
-    ensures { result.now ≡ behind_mark bytes.now }
-{
-    match bytes.first() {
-        Some(&MARK) if bytes.len() >= MARK_BYTES => &bytes[MARK_BYTES..],
-        _ => bytes,
-    }
-}
-
-// The replica that the bytes name as their sender.
-fn sender_in(bytes: &[u8]) -> Option<u8>
-    ensures { result ≡ named_sender bytes.now }
-{
-    match bytes {
-        [1..=3, from, ..] => Some(*from),
-        _ => None,
     }
 }
 

@@ -3,9 +3,9 @@
 ghost use Rattle.std.specs.Prelude.{IfSome, length};
 ghost use Rattle.crsm_port.specs.Meaning.{IsWithin};
 
-use crate::head::CommandId;
 use crsm_base::NoMemory;
 use crsm_port::Recv;
+use crsm_wire::CommandId;
 use std::alloc::Global;
 use std::collections::VecDeque;
 

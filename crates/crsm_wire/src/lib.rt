@@ -1,4 +1,4 @@
-//! Datagrams and control messages as bytes.
+//! Datagrams and control messages as bytes, and what is seen of a datagram in its first bytes.
 #![tactic(auto)]
 
 mod datagram;
@@ -8,7 +8,9 @@ mod fault;
 mod fields;
 mod head;
 mod laws;
+mod marks;
 mod messages;
+mod peek;
 mod put;
 mod read;
 mod take;
@@ -16,6 +18,8 @@ mod take;
 pub use decision::is_decision_spelt;
 pub use fault::WireError;
 pub use laws::{one_spelling_each, what_is_read_is_spelt};
+pub use marks::{MARK_BYTES, behind_mark, mark, mark_before, unmarked};
 pub use messages::{is_control_spelt, is_rec_spelt};
+pub use peek::{CommandId, PacketHead, peek, sender_in};
 pub use put::{put_control, put_datagram, put_decide};
 pub use read::{read_control, read_datagram, write_control, write_datagram};

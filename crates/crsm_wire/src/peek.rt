@@ -1,21 +1,24 @@
-//! What a datagram says first.
+//! What a datagram says in its first bytes, for ports that look at datagrams and do not read them.
 
-use crate::unmarked;
+ghost use Rattle.std.specs.Prelude.{◌≡◌};
+ghost use Rattle.crsm_wire.specs.Marks.{named_sender};
+
+use crate::marks::unmarked;
 use crsm_text_fields::take_u64;
 
 /// A command, by its client and its number.
 #[derive(Clone, Copy, PartialEq)]
-pub(crate) struct CommandId {
+pub struct CommandId {
     client: u64,
     number: u64,
 }
 
-/// How many bytes of a part number its message.
+/// Bytes of a part that number its message: its sender's boot, and a number.
 const NUMBER_BYTES: usize = 16;
 
-/// The kinds of datagrams that are paced, and where they belong.
+/// The head of a datagram: its kind, and where it belongs. Nothing behind it is looked at.
 #[derive(Clone, Copy)]
-pub(crate) enum PacketHead<'a> {
+pub enum PacketHead<'a> {
     /// A frame of a link.
     Frame {
         from: u8,
@@ -53,8 +56,8 @@ fn command_of(bytes: &[u8]) -> Option<CommandId> {
     Some(CommandId { client, number })
 }
 
-/// What the bytes of a datagram say first, whatever cluster it belongs to.
-pub(crate) fn head_of(bytes: &[u8]) -> PacketHead<'_> {
+/// Returns the head of a datagram of whatever cluster.
+pub fn peek(bytes: &[u8]) -> PacketHead<'_> {
     match unmarked(bytes) {
         [1, from, to, rest @ ..] => match two_numbers(rest) {
             Some((epoch, number)) => PacketHead::Frame {
@@ -86,5 +89,15 @@ pub(crate) fn head_of(bytes: &[u8]) -> PacketHead<'_> {
             None => PacketHead::Other,
         },
         _ => PacketHead::Other,
+    }
+}
+
+/// Returns the replica that the bytes name as their sender: frames, acknowledgements and parts do.
+pub fn sender_in(bytes: &[u8]) -> Option<u8>
+    ensures { result ≡ named_sender bytes.now }
+{
+    match bytes {
+        [1..=3, from, ..] => Some(*from),
+        _ => None,
     }
 }
