@@ -36,6 +36,8 @@ pub(crate) enum Head<'a> {
     Request(Command),
     /// A replica answers a command.
     Reply(Command),
+    /// An operator asks for other members.
+    Operate,
     /// All else goes as it comes.
     Other,
 }
@@ -83,6 +85,7 @@ pub(crate) fn head_of(bytes: &[u8]) -> Head<'_> {
             Some(command) => Head::Reply(command),
             None => Head::Other,
         },
+        [6, ..] => Head::Operate,
         _ => Head::Other,
     }
 }

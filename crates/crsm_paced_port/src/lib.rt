@@ -1,6 +1,7 @@
 //! A port that keeps a node from drowning in what it and its peers send again and again.
 #![tactic(auto)]
 
+mod again;
 mod ahead;
 mod early;
 mod head;
