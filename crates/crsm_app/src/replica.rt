@@ -104,8 +104,8 @@ fn node_in(alloc: Global, words: &[String]) -> Result<(u64, NodeTask), Status> {
     }
 }
 
-/// Whether the name is a symbolic link to no file. A log that is made behind it has its name in another folder, which no
-/// sync of the log would make last.
+/// Whether the name is a symbolic link to no file. A log made behind it would have its name in another folder, which no
+/// sync of the log makes last.
 fn is_dangling<R: Files>(rt: &R, name: &str) -> bool {
     rt.symlink_metadata(name).is_ok() && rt.metadata(name).is_err()
 }
@@ -144,8 +144,8 @@ fn run_at<R: AllocGlobal + Clock + Eprint + Files<File = File> + Input + Net + P
     Ok(status_over(rt, words, &mut port, &mut disk, &mut voice))
 }
 
-/// Runs the replica that the words ask for, tells on standard error why it ends, and answers its status. Nothing is told
-/// where standard error goes to the log.
+/// Runs the replica that the words ask for, tells on standard error why it ends, and answers its status. Where standard
+/// error goes to the log, nothing is told.
 pub(crate) fn run_replica_of<
     R: AllocGlobal + Clock + Eprint + Files<File = File> + Input + Net + Print,
 >(rt: &R, words: &[String], me: u32, address: u64) -> Status {

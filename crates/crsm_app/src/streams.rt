@@ -1,5 +1,5 @@
-//! The standard streams of the process. One that is closed when the process starts leaves its number to the next file that
-//! is opened, and what is written to the stream would go to that file: so files stand in for closed streams.
+//! The standard streams of the process. One that is closed when the process starts leaves its number to the next file
+//! that is opened, and what is written to the stream would go to that file: so files stand in for closed streams.
 
 ghost use Rattle.std.specs.Prelude.{◌<ℤ◌, pos, IfOk, IfSome};
 ghost use Rattle.std.specs.Fd.{file_raw_fd};
@@ -26,7 +26,7 @@ pub(crate) enum Stream {
 }
 
 impl Stream {
-    /// The path by which the system tells where the stream goes.
+    /// The path at which the system shows the file that the stream goes to.
     fn path(self) -> &'static str {
         match self {
             Stream::Output => "/proc/self/fd/1",
@@ -44,8 +44,8 @@ impl Display for Stream {
     }
 }
 
-/// Opens what stands in for the lowest stream that is closed, or nothing where all are open. A stream still fails: what
-/// stands in for standard input cannot be read, and what stands in for the others cannot be written to.
+/// Opens the file that stands in for the lowest stream that is closed, or none where all are open. The stream still
+/// fails: the file in the place of standard input cannot be read, and that in another's cannot be written.
 fn stand_in<R: Files<File = File>>(rt: &R) -> io::Result<Option<File>>
     ensures { IfOk result (λ opened. IfSome opened (λ file. file_raw_fd file <ℤ pos 3)) }
 {
@@ -62,8 +62,8 @@ fn stand_in<R: Files<File = File>>(rt: &R) -> io::Result<Option<File>>
     }
 }
 
-/// Opens what stands in for each stream that is closed, for as long as it is kept. Fails where `/dev/null` cannot be
-/// opened, even if all streams are open.
+/// Opens the files that stand in for the streams that are closed; each stands in for as long as it is kept. Fails where
+/// `/dev/null` cannot be opened, even if all streams are open.
 pub(crate) fn stand_ins<R: Files<File = File>>(rt: &R) -> io::Result<[Option<File>; 3]> {
     let first = stand_in(rt)?;
     let second = stand_in(rt)?;
@@ -71,7 +71,7 @@ pub(crate) fn stand_ins<R: Files<File = File>>(rt: &R) -> io::Result<[Option<Fil
     Ok([first, second, third])
 }
 
-/// Whether a stream goes to this file. One of which the system does not tell goes elsewhere.
+/// Whether a stream goes to this file. Where the system does not tell, it is taken to go elsewhere.
 fn goes_to<R: Files>(rt: &R, stream: Stream, file: &Metadata) -> bool {
     match rt.metadata(stream.path()) {
         Ok(end) => end.dev() == file.dev() && end.ino() == file.ino(),
@@ -79,7 +79,7 @@ fn goes_to<R: Files>(rt: &R, stream: Stream, file: &Metadata) -> bool {
     }
 }
 
-/// The stream that goes to the file of this name, if one does: standard error, if both do.
+/// Returns the stream that goes to the file of this name, if one does: standard error, if both do.
 pub(crate) fn stream_into<R: Files>(rt: &R, name: &str) -> Option<Stream> {
     let file = rt.metadata(name).ok()?;
     if goes_to(rt, Stream::Error, &file) {

@@ -1,14 +1,14 @@
-//! The newest request for other members, which comes once more.
+//! The newest request for a membership change, which is handed up once more.
 
 ghost use Rattle.std.specs.Prelude.{IfSome, length};
 ghost use Rattle.crsm_port.specs.Meaning.{IsWithin};
 
 use crsm_port::Got;
 
-/// A request for other members names up to 15 of them behind 2 bytes, and 9 more stand before it where it names its cluster.
+/// A request for a membership change has 2 bytes and 1 for each of at most 15 members, behind 9 of its cluster's mark.
 const MOST_BYTES: usize = 26;
 
-/// It comes again after so many microseconds.
+/// It is handed up again after this many microseconds.
 const PAUSE: u64 = 1_000_000;
 
 /// A request that came, the address that it came from and the reading when it came.
@@ -21,15 +21,15 @@ struct Operate {
 }
 
 impl Operate {
-    /// Whether it is time for it to come again. A clock that went back holds nothing.
+    /// Whether its time to be handed up again has come. A clock that went back holds nothing.
     fn is_due(&self, now: u64) -> bool {
         now < self.at || now - self.at >= PAUSE
     }
 }
 
-/// A replica that has suspected nobody for some seconds ends the epoch at a request for other members, and then asks at
-/// once for those that it hears, in place of those that it was asked for. At the same request a moment later it does not.
-/// So the newest one is kept, and comes once more.
+/// A replica that has suspected nobody for 5 seconds ends its epoch at such a request, and at its next tick asks for
+/// the replicas that it hears, in place of those that were asked for. The same request within the next 5 seconds
+/// stands. So the newest one is kept, and handed up once more.
 #[derive(Drop)]
 pub(crate) struct Again {
     newest: Option<Operate>,

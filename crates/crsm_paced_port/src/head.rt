@@ -36,7 +36,7 @@ pub(crate) enum Head<'a> {
     Request(Command),
     /// A replica answers a command.
     Reply(Command),
-    /// An operator asks for other members.
+    /// An operator asks for a membership change.
     Operate,
     /// All else goes as it comes.
     Other,

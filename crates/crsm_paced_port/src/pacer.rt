@@ -55,7 +55,7 @@ impl<P: Drop, C: Drop> Pacer<P, C> {
 
 impl<P: Port, C: Clock> Pacer<P, C> {
     /// Lets go what is held back, and gives the next datagram: a frame that is missed no longer, a request that has waited,
-    /// a request for other members that comes again, one that was read ahead, or what the port gives.
+    /// a request for a membership change that comes again, one that was read ahead, or what the port gives.
     pub(crate) fn recv(&mut self, buf: &mut [u8]) -> Result<Got, Failed>
         ensures { IfOk result (IsWithin (length buf.old)) }
     {
@@ -110,7 +110,8 @@ impl<P: Port, C: Clock> Pacer<P, C> {
         self.port.recv(buf)
     }
 
-    /// Whether a datagram is held back; notes frames, which frame its sender expects, and a request for other members.
+    /// Whether a datagram is held back; notes frames, which frame its sender expects, and a request for a membership
+    /// change.
     fn is_held(&mut self, from: u64, bytes: &[u8]) -> bool {
         match head_of(bytes) {
             Head::Ack {
