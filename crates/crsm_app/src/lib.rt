@@ -8,6 +8,7 @@ mod entry;
 mod locking;
 mod replica;
 mod status;
+mod streams;
 
 pub use command::{plan, run};
 pub use crsm_cmd_replay::Cause;

@@ -3,6 +3,7 @@
 
 use crate::devices::{NoDevice, socket_at, status_over};
 use crate::status::Status;
+use crate::streams::stream_into;
 use crsm_clock::SystemClock;
 use crsm_disk::FileDisk;
 use crsm_node::{BootReport, Reporter};
@@ -102,6 +103,23 @@ fn node_in(alloc: Global, words: &[String]) -> Result<(u64, NodeTask), Status> {
     }
 }
 
+/// Whether the name is a symbolic link to no file. A log made behind it would have its name in another folder, which no
+/// sync of the log makes last.
+fn is_dangling<R: Files>(rt: &R, name: &str) -> bool {
+    rt.symlink_metadata(name).is_ok() && rt.metadata(name).is_err()
+}
+
+/// Opens the log file of this name, into which nothing but the log may be written.
+fn open_log<R: Files<File = File>>(rt: &R, name: &str) -> Result<FileDisk, NoDevice> {
+    if let Some(stream) = stream_into(rt, name) {
+        return Err(NoDevice::LogOf(stream));
+    }
+    if is_dangling(rt, name) {
+        return Err(NoDevice::LogBehindLink);
+    }
+    FileDisk::open(rt, name).map_err(NoDevice::Log)
+}
+
 /// Runs a replica over a socket at its address and its log file. Nobody speaks in another replica's name.
 fn run_at<R: AllocGlobal + Clock + Eprint + Files<File = File> + Input + Net + Print>(
     rt: &R,
@@ -115,7 +133,7 @@ fn run_at<R: AllocGlobal + Clock + Eprint + Files<File = File> + Input + Net + P
     let Ok(peers) = Vec::from_slice(rt.alloc(), peers) else {
         return Ok(Status::NoMemory);
     };
-    let mut disk = FileDisk::open(rt, name.as_str()).map_err(NoDevice::Log)?;
+    let mut disk = open_log(rt, name.as_str())?;
     let socket = socket_at(rt, place.address)?;
     let Ok(paced) = PacedPort::new(rt.alloc(), socket, SystemClock::new(rt)) else {
         return Ok(Status::NoMemory);
@@ -125,7 +143,8 @@ fn run_at<R: AllocGlobal + Clock + Eprint + Files<File = File> + Input + Net + P
     Ok(status_over(rt, words, &mut port, &mut disk, &mut voice))
 }
 
-/// Runs the replica that the words ask for, tells on standard error why it ends, and answers its status.
+/// Runs the replica that the words ask for, tells on standard error why it ends, and answers its status. Where standard
+/// error goes to the log, nothing is told.
 pub(crate) fn run_replica_of<
     R: AllocGlobal + Clock + Eprint + Files<File = File> + Input + Net + Print,
 >(rt: &R, words: &[String], me: u32, address: u64) -> Status {
@@ -146,7 +165,9 @@ pub(crate) fn run_replica_of<
         }
         Err(error) => {
             let status = error.status();
-            let _ = rt.eprintln(Ended { place, why: error });
+            if error.may_be_told() {
+                let _ = rt.eprintln(Ended { place, why: error });
+            }
             status
         }
     }

@@ -2,6 +2,7 @@
 //! alone; `PacedPort` does retransmission and flow control, so that repeats do not drown what is new.
 #![tactic(auto)]
 
+mod again;
 mod ahead;
 mod early;
 mod held;

@@ -22,7 +22,8 @@ use std::alloc::Global;
 /// - what waits at the port below is read ahead before the replica keeps its records, up to 1,024 datagrams;
 /// - a frame that comes before one that is missing is kept, up to 1,024 of a link, and comes once more behind that one;
 /// - a request waits, one of up to 1,024, while the replica has 64 that it has not answered, as it would refuse it. One that
-///   has no answer for a second counts no longer.
+///   has no answer for a second counts no longer;
+/// - a request for a membership change comes once more, a second later, unless another one has come since.
 ///
 /// A send that is held back counts as a loss, whether it goes out later or not. It tells its counts and nothing else.
 #[derive(Drop)]

@@ -3,6 +3,7 @@
 ghost use Rattle.std.specs.Prelude.{IfOk, IfSome, length};
 ghost use Rattle.crsm_port.specs.Meaning.{IsWithin};
 
+use crate::again::Again;
 use crate::ahead::Ahead;
 use crate::early::Early;
 use crate::held::LastAcks;
@@ -28,6 +29,7 @@ pub(crate) struct Pacer<P, C> {
     parts: RecentParts,
     requests: Requests,
     early: Early,
+    again: Again,
     // the receive does not wait
     is_hurried: bool,
 }
@@ -45,6 +47,7 @@ impl<P: Drop, C: Drop> Pacer<P, C> {
             parts: RecentParts::new(alloc)?,
             requests: Requests::new(alloc)?,
             early: Early::new(alloc)?,
+            again: Again::new(),
             is_hurried: false,
         })
     }
@@ -52,7 +55,7 @@ impl<P: Drop, C: Drop> Pacer<P, C> {
 
 impl<P: Port, C: Clock> Pacer<P, C> {
     /// Lets go what is held back, and gives the next datagram: a frame that is missed no longer, a request that has waited,
-    /// one that was read ahead, or what the port gives.
+    /// a request for a membership change that comes again, one that was read ahead, or what the port gives.
     pub(crate) fn recv(&mut self, buf: &mut [u8]) -> Result<Recv, Failed>
         ensures { IfOk result (IsWithin (length buf.old)) }
     {
@@ -69,9 +72,12 @@ impl<P: Port, C: Clock> Pacer<P, C> {
     fn kept(&mut self, buf: &mut [u8]) -> Option<Recv>
         ensures { IfSome result (IsWithin (length buf.old)) }
     {
-        match self.early.take(buf) {
+        if let Some(got) = self.early.take(buf) {
+            return Some(got);
+        }
+        match self.requests.take(buf, self.now) {
             Some(got) => Some(got),
-            None => self.requests.take(buf, self.now),
+            None => self.again.take(buf, self.now),
         }
     }
 
@@ -104,7 +110,8 @@ impl<P: Port, C: Clock> Pacer<P, C> {
         self.port.recv(buf)
     }
 
-    /// Whether a datagram is held back; notes frames, and which frame its sender expects.
+    /// Whether a datagram is held back; notes frames, which frame its sender expects, and a request for a membership
+    /// change.
     fn is_held(&mut self, from: u64, bytes: &[u8]) -> bool {
         match peek(bytes) {
             PacketHead::Ack {
@@ -126,6 +133,10 @@ impl<P: Port, C: Clock> Pacer<P, C> {
                 false
             }
             PacketHead::Request(command) => self.requests.hold(from, command, bytes, self.now),
+            PacketHead::Operate => {
+                self.again.note(from, bytes, self.now);
+                false
+            }
             _ => false,
         }
     }
@@ -162,7 +173,7 @@ impl<P: Port, C: Clock> Pacer<P, C> {
                 self.requests.note_answered(command);
                 true
             }
-            PacketHead::Request(_) | PacketHead::Other => true,
+            PacketHead::Request(_) | PacketHead::Operate | PacketHead::Other => true,
         }
     }
 

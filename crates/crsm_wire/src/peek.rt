@@ -39,7 +39,9 @@ pub enum PacketHead<'a> {
     Request(CommandId),
     /// A replica answers a command.
     Reply(CommandId),
-    /// All else goes as it comes.
+    /// An operator asks for a membership change.
+    Operate,
+    /// Any other bytes.
     Other,
 }
 
@@ -88,6 +90,7 @@ pub fn peek(bytes: &[u8]) -> PacketHead<'_> {
             Some(command) => PacketHead::Reply(command),
             None => PacketHead::Other,
         },
+        [6, ..] => PacketHead::Operate,
         _ => PacketHead::Other,
     }
 }
