@@ -1,4 +1,4 @@
--- How the lines of a transcript are written, each with its line feed.
+-- The lines of a transcript, each with its line feed.
 use Rattle.std.specs.Prelude.{ℕ, List, [], ◌∷◌, ◌++◌, codes, decimal}
 use Rattle.std.specs.List.{flat_map}
 use Rattle.hex.specs.Hex.{encode_lower}
@@ -25,7 +25,7 @@ state_text Held = codes "held"
 state_text IsOut = codes "out"
 state_text IsDown = codes "down"
 
--- a line without its number
+-- a line without its number and line feed
 abbrev pub line_words : Line → List ℕ
 line_words (Boot replica count) = named (codes "boot") (replica ∷ count ∷ [])
 line_words (Submit replica epoch time client number) = named (codes "submit") (replica ∷ epoch ∷ time ∷ client ∷ number ∷ [])
@@ -52,7 +52,7 @@ line_words (Final replica state known executed) = named (codes "final") (replica
 line_words (Out receiver bytes) = named (codes "out") (receiver ∷ []) ++ 32 ∷ encode_lower bytes
 line_words (Back address bytes) = named (codes "back") (address ∷ []) ++ 32 ∷ encode_lower bytes
 
--- a line, after the number of the line of input that caused it
+-- a line with the number of the input line that caused it, and a line feed
 abbrev pub numbered : ℕ → List ℕ → List ℕ
 numbered at words = decimal at ++ 32 ∷ (words ++ 10 ∷ [])
 
@@ -64,7 +64,7 @@ line_text at line = numbered at (line_words line)
 abbrev pub lines_text : ℕ → List Line → List ℕ
 lines_text at lines = flat_map (line_text at) lines
 
--- what a client is told
+-- the line that shows a client its outcome
 abbrev pub outcome_text : Outcome → List ℕ
 outcome_text (Answered answer) = codes "ok " ++ (answer_text answer ++ 10 ∷ [])
 outcome_text (Refused refusal) = named (codes "no") (refusal_number refusal ∷ []) ++ 10 ∷ []

@@ -1,4 +1,4 @@
--- How keys, values, operations and answers are written, and which of them can be.
+-- The texts of keys, values, operations and answers, and which of these have a text.
 use Rattle.std.specs.Prelude.{ℕ, List, [], ◌∷◌, codes, Option, Some, None}
 use Rattle.hex.specs.Hex.{encode_lower, IsBytes}
 use Rattle.crsm_base.specs.declared.Op.{Op}
@@ -8,12 +8,12 @@ use Rattle.crsm_base.specs.declared.Answer.TheVariants.{Found, Missing, Done, Di
 use Rattle.crsm_base.specs.Spelling.{FitsOption}
 use Rattle.crsm_text.specs.Words.{spaced, named}
 
--- a value: its bytes in lower-case hexadecimal, or a word where it has none
+-- a value: its bytes in lower-case hexadecimal, or `empty`
 abbrev pub value_text : List ℕ → List ℕ
 value_text [] = codes "empty"
 value_text (b ∷ bs) = encode_lower (b ∷ bs)
 
--- a value, or a word where there is none
+-- an optional value: the value, or `none`
 abbrev pub option_text : Option (List ℕ) → List ℕ
 option_text None = codes "none"
 option_text (Some val) = value_text val
@@ -32,7 +32,7 @@ answer_text (Differs val) = spaced (codes "differs" ∷ option_text val ∷ [])
 answer_text (Stale number) = named (codes "stale") (number ∷ [])
 answer_text NoRoom = codes "noroom"
 
--- what an operation holds are bytes
+-- keys and values of the operation consist of bytes
 abbrev pub HasBytes : Op → Type 0
 HasBytes (Get key) = IsBytes key
 HasBytes (Put key val) = IsBytes key × IsBytes val
