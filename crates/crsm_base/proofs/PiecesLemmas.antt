@@ -1,4 +1,4 @@
--- One piece more, and the piece of a number.
+-- The pieces of a text with one piece appended, and the piece at an index.
 use Rattle.std.proofs.Common.{◌≡◌, ◌∙◌, ℕ, ◌-◌, ◌<◌, ◌≤◌, List, [], ◌∷◌, ◌++◌, length, take, drop, get_or, zero, suc, refl, ap, ap₂, arith, length-append, slice_get, Some}
 use Rattle.std.proofs.Math.Seq.{take-length, drop-append_seam}
 use Rattle.std.proofs.lemmas.List.{take-append-le, drop-append-le, length-drop}

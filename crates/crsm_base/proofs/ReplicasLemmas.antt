@@ -1,4 +1,4 @@
--- The first numbers of a longer range.
+-- The first numbers of a range are a prefix of a longer range.
 use Rattle.std.proofs.Common.{◌≡◌, ℕ, suc, zero, ◌≤◌, ◌+◌, [], ◌∷◌, refl, ap, arith, take}
 use Rattle.std.specs.Prelude.{min}
 use Rattle.std.specs.List.{range_with_len}

@@ -1,4 +1,4 @@
-//! What holds of the limits: the code's are those of the definitions.
+//! The constants of `limits` are the numbers of the definitions in `specs/Limits`.
 
 ghost use Rattle.std.specs.Prelude.{◌≡◌};
 ghost use Rattle.crsm_base.specs.Limits.{idle_after, most_again, most_bytes, most_clients, most_control_bytes, most_entries, most_frames, most_key_bytes, most_keys, most_log_bytes, most_own, most_parts, most_val_bytes, most_world, page_bytes, part_bytes};
@@ -9,7 +9,7 @@ use crate::limits::{
     MAX_TAIL_ENTRIES, MAX_VAL_BYTES, MAX_WORLD_BYTES, PART_BYTES,
 };
 
-/// The law: each limit of the code is the number that the definitions give it. Nothing runs.
+/// States that each constant of `limits` is the number of that limit in `specs/Limits`. It runs no code.
 pub fn limits_are_those()
     ensures key_bytes { MAX_KEY_BYTES ≡ most_key_bytes }
     ensures val_bytes { MAX_VAL_BYTES ≡ most_val_bytes }

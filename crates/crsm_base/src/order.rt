@@ -1,4 +1,4 @@
-//! The orders of stamps, ballots and entries.
+//! Comparisons of stamps, ballots and entries, each equal to its definition in `specs/Order`.
 
 ghost use Rattle.std.specs.Prelude.{◌≡◌};
 ghost use Rattle.crsm_base.specs.Order.{ballot_eq, ballot_lt, entry_lt, stamp_eq, stamp_lt};
@@ -6,7 +6,7 @@ ghost use Rattle.crsm_base.specs.Order.{ballot_eq, ballot_lt, entry_lt, stamp_eq
 use crate::command::Entry;
 use crate::stamp::{Ballot, Stamp};
 
-/// Whether one stamp is before the other: by time, then by origin.
+/// Returns whether stamp `a` is before `b`: by time, then by origin.
 #[tactic(auto, unfolding(crate::specs::Order::stamp_lt))]
 pub fn stamp_precedes(a: Stamp, b: Stamp) -> bool
     ensures { result ≡ stamp_lt a b }
@@ -14,7 +14,7 @@ pub fn stamp_precedes(a: Stamp, b: Stamp) -> bool
     a < b
 }
 
-/// Whether these are one stamp.
+/// Returns whether the stamps are equal.
 #[tactic(auto, unfolding(crate::specs::Order::stamp_eq))]
 pub fn is_same_stamp(a: Stamp, b: Stamp) -> bool
     ensures { result ≡ stamp_eq a b }
@@ -22,7 +22,7 @@ pub fn is_same_stamp(a: Stamp, b: Stamp) -> bool
     a == b
 }
 
-/// Whether one ballot is before the other: by round, then by proposer.
+/// Returns whether ballot `a` is before `b`: by round, then by proposer.
 #[tactic(auto, unfolding(crate::specs::Order::ballot_lt))]
 pub fn ballot_precedes(a: Ballot, b: Ballot) -> bool
     ensures { result ≡ ballot_lt a b }
@@ -30,7 +30,7 @@ pub fn ballot_precedes(a: Ballot, b: Ballot) -> bool
     a < b
 }
 
-/// Whether these are one ballot.
+/// Returns whether the ballots are equal.
 #[tactic(auto, unfolding(crate::specs::Order::ballot_eq))]
 pub fn is_same_ballot(a: Ballot, b: Ballot) -> bool
     ensures { result ≡ ballot_eq a b }
@@ -38,7 +38,7 @@ pub fn is_same_ballot(a: Ballot, b: Ballot) -> bool
     a == b
 }
 
-/// Whether one entry is before the other in the global order: by epoch, then by stamp.
+/// Returns whether entry `a` is before `b` in the global order: by epoch, then by stamp.
 #[tactic(auto, unfolding(crate::specs::Order::entry_lt))]
 pub fn entry_precedes(a: &Entry, b: &Entry) -> bool
     ensures { result ≡ entry_lt a.now b.now }

@@ -1,4 +1,4 @@
-//! Lists of bytes most of which are short.
+//! `ShortBytes`: a list of bytes that is kept without an allocation while it has at most 8.
 
 ghost use Rattle.std.specs.Prelude.{◌≡◌, ◌≤◌, [], ◌∷◌, ◌++◌, length, take, IfOk, OnOk, OnErr};
 
@@ -7,13 +7,13 @@ use std::alloc::Global;
 use std::fmt::{self, Debug, Formatter, Write};
 use std::marker::Model;
 
-/// So many bytes lie in place, as the invariant says below.
+/// Maximum length in bytes of a list that is kept in the value itself.
 const IN_PLACE: usize = 8;
 
-/// A list of bytes, which lies in place where it is short, and in memory of its own where it is not.
+/// A list of bytes. Lists of up to `IN_PLACE` bytes are kept in the value, longer ones in a vector.
 #[derive(Drop)]
 pub(crate) struct ShortBytes {
-    // The first `len` of these are the list, and then the others are: one of both is empty.
+    // The list is the first `len` bytes of `near` followed by `far`; one of the two is empty.
     near: [u8; IN_PLACE],
     len: usize,
     far: Vec<u8>,
@@ -29,7 +29,7 @@ impl Model for ShortBytes {
     ghost invariant = { λ b. (b.len ≤ 8) × ((b.len ≡ 0) ⊎ (b.far.items ≡ [])) };
 }
 
-/// They are shown as a list, wherever they lie.
+/// Formats the bytes as a list, whichever field holds them.
 impl Debug for ShortBytes {
     ghost use Rattle.std.specs.Fmt.{debug_list};
 
@@ -41,7 +41,7 @@ impl Debug for ShortBytes {
 }
 
 impl ShortBytes {
-    /// An empty list of bytes, which takes its memory from this allocator.
+    /// Returns an empty list of bytes that allocates from `alloc`.
     pub(crate) fn new(alloc: Global) -> ShortBytes
         ensures { result ≡ [] }
     {
@@ -52,7 +52,7 @@ impl ShortBytes {
         }
     }
 
-    /// Adds a byte at the end, in memory of its own. After `NoMemory` the list is as before.
+    /// Appends a byte, and moves the list to the vector. `NoMemory` if memory runs out; the list is then unchanged.
     pub(crate) fn push(&mut self, item: u8) -> Result<(), NoMemory>
         ensures ok { OnOk result (self.new ≡ self.old ++ item ∷ []) }
         ensures err { OnErr result (self.new ≡ self.old) }
@@ -70,7 +70,7 @@ impl ShortBytes {
         Ok(())
     }
 
-    /// A list of these bytes.
+    /// Returns a list of the given bytes, or `NoMemory` if memory runs out.
     pub(crate) fn from_slice(alloc: Global, bytes: &[u8]) -> Result<ShortBytes, NoMemory>
         ensures { IfOk result (λ made. made ≡ bytes.now) }
     {
@@ -87,7 +87,7 @@ impl ShortBytes {
         })
     }
 
-    /// A list of the first of these bytes, so many.
+    /// Returns a list of the first `count` of the given bytes, or `NoMemory` if memory runs out.
     pub(crate) fn from_prefix(
         alloc: Global,
         bytes: &[u8],
@@ -99,7 +99,7 @@ impl ShortBytes {
         if count > IN_PLACE || bytes.len() < IN_PLACE {
             return ShortBytes::from_slice(alloc, &bytes[..count]);
         }
-        // All the room is filled at once, whatever the count.
+        // A copy of fixed length compiles to one load; bytes after `count` are not part of the list.
         let mut near = [0; IN_PLACE];
         near.copy_from_slice(&bytes[..IN_PLACE]);
         Ok(ShortBytes {
@@ -109,7 +109,7 @@ impl ShortBytes {
         })
     }
 
-    /// The bytes in their order.
+    /// Returns the bytes in order.
     pub(crate) fn as_slice(&self) -> &[u8]
         ensures { result.now ≡ self.now }
     {
@@ -120,7 +120,7 @@ impl ShortBytes {
         }
     }
 
-    /// An equal value.
+    /// Returns a copy in memory from `alloc`, or `NoMemory` if that runs out.
     pub(crate) fn copy(&self, alloc: Global) -> Result<ShortBytes, NoMemory>
         ensures { IfOk result (λ copy. copy ≡ self.now) }
     {

@@ -1,4 +1,4 @@
-//! Keys, values, operations and commands.
+//! Readers and writers of keys, values, operations and commands.
 
 ghost use Rattle.std.specs.Prelude.{◌≡◌, ◌++◌, IfOk, IfSome, IfNone, OnOk, OnErr};
 ghost use Rattle.crsm_base.specs.Spelling.{FitsCommand, FitsKey, FitsOp, FitsOption, FitsVal, Spelt, SpeltCommand, SpeltKey, SpeltOp, SpeltVal, command_bytes, key_bytes, op_bytes, option_bytes, val_bytes};
@@ -7,8 +7,8 @@ ghost use Rattle.crsm_codec.specs.Readers.{IsPrefix, HasNoPrefix, ReadsAgain};
 use crsm_base::{Bytes, Command, Key, NoMemory, Op, Val};
 use std::alloc::Global;
 
-/// Reads a key, of 1 to 64 bytes from the prefix of the bytes: the value and how many bytes it takes, or `None`
-/// exactly where no first bytes spell one.
+/// Parses a key of 1 to 64 bytes at the beginning of `bytes`. Returns it with the length of its encoding in bytes, or
+/// `None` if `bytes` begins with no such encoding; `NoMemory` if memory runs out.
 pub fn read_key(alloc: Global, bytes: &[u8]) -> Result<Option<(Key, usize)>, NoMemory>
     ensures found { IfOk result (λ r. IfSome r (IsPrefix SpeltKey bytes.now)) }
     ensures none { IfOk result (λ r. IfNone r (HasNoPrefix SpeltKey bytes.now)) }
@@ -20,7 +20,7 @@ pub fn read_key(alloc: Global, bytes: &[u8]) -> Result<Option<(Key, usize)>, NoM
     }
 }
 
-/// Appends the one spelling of a key, of 1 to 64 bytes. After `NoMemory` the bytes are as before.
+/// Appends the encoding of a key of 1 to 64 bytes. `NoMemory` if memory runs out; `out` is then unchanged.
 pub fn write_key(alloc: Global, key: &Key, out: &mut Bytes) -> Result<(), NoMemory>
     requires { FitsKey key.now }
     ensures ok { OnOk result (out.new ≡ out.old ++ key_bytes key.now) }
@@ -31,8 +31,8 @@ pub fn write_key(alloc: Global, key: &Key, out: &mut Bytes) -> Result<(), NoMemo
     out.append(spelling.as_slice())
 }
 
-/// Reads a value, of at most 512 bytes from the prefix of the bytes: the value and how many bytes it takes, or
-/// `None` exactly where no first bytes spell one.
+/// Parses a value of at most 512 bytes at the beginning of `bytes`. Returns it with the length of its encoding in
+/// bytes, or `None` if `bytes` begins with no such encoding; `NoMemory` if memory runs out.
 pub fn read_val(alloc: Global, bytes: &[u8]) -> Result<Option<(Val, usize)>, NoMemory>
     ensures found { IfOk result (λ r. IfSome r (IsPrefix SpeltVal bytes.now)) }
     ensures none { IfOk result (λ r. IfNone r (HasNoPrefix SpeltVal bytes.now)) }
@@ -44,7 +44,7 @@ pub fn read_val(alloc: Global, bytes: &[u8]) -> Result<Option<(Val, usize)>, NoM
     }
 }
 
-/// Appends the one spelling of a value, of at most 512 bytes. After `NoMemory` the bytes are as before.
+/// Appends the encoding of a value of at most 512 bytes. `NoMemory` if memory runs out; `out` is then unchanged.
 pub fn write_val(alloc: Global, val: &Val, out: &mut Bytes) -> Result<(), NoMemory>
     requires { FitsVal val.now }
     ensures ok { OnOk result (out.new ≡ out.old ++ val_bytes val.now) }
@@ -55,8 +55,8 @@ pub fn write_val(alloc: Global, val: &Val, out: &mut Bytes) -> Result<(), NoMemo
     out.append(spelling.as_slice())
 }
 
-/// Reads a value that may be missing from the prefix of the bytes: the value and how many bytes it takes, or `None`
-/// exactly where no first bytes spell one.
+/// Parses an optional value at the beginning of `bytes`. Returns it with the length of its encoding in bytes, or
+/// `None` if `bytes` begins with no such encoding; `NoMemory` if memory runs out.
 pub fn read_option_val(
     alloc: Global,
     bytes: &[u8],
@@ -71,7 +71,7 @@ pub fn read_option_val(
     }
 }
 
-/// Appends the one spelling of a value that may be missing. After `NoMemory` the bytes are as before.
+/// Appends the encoding of an optional value. `NoMemory` if memory runs out; `out` is then unchanged.
 pub fn write_option_val(alloc: Global, val: &Option<Val>, out: &mut Bytes) -> Result<(), NoMemory>
     requires { FitsOption FitsVal val.now }
     ensures ok { OnOk result (out.new ≡ out.old ++ option_bytes val_bytes val.now) }
@@ -82,8 +82,8 @@ pub fn write_option_val(alloc: Global, val: &Option<Val>, out: &mut Bytes) -> Re
     out.append(spelling.as_slice())
 }
 
-/// Reads an operation from the prefix of the bytes: the value and how many bytes it takes, or `None` exactly where
-/// no first bytes spell one.
+/// Parses an operation at the beginning of `bytes`. Returns it with the length of its encoding in bytes, or `None` if
+/// `bytes` begins with no such encoding; `NoMemory` if memory runs out.
 pub fn read_op(alloc: Global, bytes: &[u8]) -> Result<Option<(Op, usize)>, NoMemory>
     ensures found { IfOk result (λ r. IfSome r (IsPrefix SpeltOp bytes.now)) }
     ensures none { IfOk result (λ r. IfNone r (HasNoPrefix SpeltOp bytes.now)) }
@@ -95,7 +95,7 @@ pub fn read_op(alloc: Global, bytes: &[u8]) -> Result<Option<(Op, usize)>, NoMem
     }
 }
 
-/// Appends the one spelling of an operation. After `NoMemory` the bytes are as before.
+/// Appends the encoding of an operation. `NoMemory` if memory runs out; `out` is then unchanged.
 pub fn write_op(alloc: Global, op: &Op, out: &mut Bytes) -> Result<(), NoMemory>
     requires { FitsOp op.now }
     ensures ok { OnOk result (out.new ≡ out.old ++ op_bytes op.now) }
@@ -106,8 +106,8 @@ pub fn write_op(alloc: Global, op: &Op, out: &mut Bytes) -> Result<(), NoMemory>
     out.append(spelling.as_slice())
 }
 
-/// Reads a command from the prefix of the bytes: the value and how many bytes it takes, or `None` exactly where no
-/// first bytes spell one.
+/// Parses a command at the beginning of `bytes`. Returns it with the length of its encoding in bytes, or `None` if
+/// `bytes` begins with no such encoding; `NoMemory` if memory runs out.
 pub fn read_command(alloc: Global, bytes: &[u8]) -> Result<Option<(Command, usize)>, NoMemory>
     ensures found { IfOk result (λ r. IfSome r (IsPrefix SpeltCommand bytes.now)) }
     ensures none { IfOk result (λ r. IfNone r (HasNoPrefix SpeltCommand bytes.now)) }
@@ -119,7 +119,7 @@ pub fn read_command(alloc: Global, bytes: &[u8]) -> Result<Option<(Command, usiz
     }
 }
 
-/// Appends the one spelling of a command. After `NoMemory` the bytes are as before.
+/// Appends the encoding of a command. `NoMemory` if memory runs out; `out` is then unchanged.
 pub fn write_command(alloc: Global, command: &Command, out: &mut Bytes) -> Result<(), NoMemory>
     requires { FitsCommand command.now }
     ensures ok { OnOk result (out.new ≡ out.old ++ command_bytes command.now) }

@@ -1,4 +1,4 @@
-//! Members, decisions, and what an acceptor has accepted.
+//! Readers and writers of members, decisions, and accepted ballots with their decisions.
 
 ghost use Rattle.std.specs.Prelude.{◌≡◌, ◌++◌, IfOk, IfSome, IfNone, OnOk, OnErr};
 ghost use Rattle.crsm_base.specs.Members.{IsMembers};
@@ -9,8 +9,8 @@ ghost use Rattle.crsm_codec.specs.Readers.{IsPrefix, HasNoPrefix, ReadsAgain};
 use crsm_base::{Ballot, Bytes, Decision, Members, NoMemory};
 use std::alloc::Global;
 
-/// Reads members from the prefix of the bytes: the value and how many bytes it takes, or `None` exactly where no
-/// first bytes spell one.
+/// Parses members at the beginning of `bytes`. Returns them with the length of its encoding in bytes, or `None` if
+/// `bytes` begins with no such encoding; `NoMemory` if memory runs out.
 pub fn read_members(alloc: Global, bytes: &[u8]) -> Result<Option<(Members, usize)>, NoMemory>
     ensures found { IfOk result (λ r. IfSome r (IsPrefix SpeltMembers bytes.now)) }
     ensures none { IfOk result (λ r. IfNone r (HasNoPrefix SpeltMembers bytes.now)) }
@@ -22,7 +22,7 @@ pub fn read_members(alloc: Global, bytes: &[u8]) -> Result<Option<(Members, usiz
     }
 }
 
-/// Appends the one spelling of members. After `NoMemory` the bytes are as before.
+/// Appends the encoding of members. `NoMemory` if memory runs out; `out` is then unchanged.
 pub fn write_members(alloc: Global, members: &Members, out: &mut Bytes) -> Result<(), NoMemory>
     ensures ok { OnOk result (out.new ≡ out.old ++ members_bytes members.now) }
     ensures err { OnErr result (out.new ≡ out.old) }
@@ -32,8 +32,8 @@ pub fn write_members(alloc: Global, members: &Members, out: &mut Bytes) -> Resul
     out.append(spelling.as_slice())
 }
 
-/// Reads a decision from the prefix of the bytes: the value and how many bytes it takes, or `None` exactly where no
-/// first bytes spell one.
+/// Parses a decision at the beginning of `bytes`. Returns it with the length of its encoding in bytes, or `None` if
+/// `bytes` begins with no such encoding; `NoMemory` if memory runs out.
 pub fn read_decision(alloc: Global, bytes: &[u8]) -> Result<Option<(Decision, usize)>, NoMemory>
     ensures found { IfOk result (λ r. IfSome r (IsPrefix SpeltDecision bytes.now)) }
     ensures none { IfOk result (λ r. IfNone r (HasNoPrefix SpeltDecision bytes.now)) }
@@ -45,7 +45,7 @@ pub fn read_decision(alloc: Global, bytes: &[u8]) -> Result<Option<(Decision, us
     }
 }
 
-/// Appends the one spelling of a decision. After `NoMemory` the bytes are as before.
+/// Appends the encoding of a decision. `NoMemory` if memory runs out; `out` is then unchanged.
 pub fn write_decision(alloc: Global, decision: &Decision, out: &mut Bytes) -> Result<(), NoMemory>
     requires { FitsDecision decision.now }
     ensures ok { OnOk result (out.new ≡ out.old ++ decision_bytes decision.now) }
@@ -56,8 +56,8 @@ pub fn write_decision(alloc: Global, decision: &Decision, out: &mut Bytes) -> Re
     out.append(spelling.as_slice())
 }
 
-/// Reads what an acceptor has accepted, if anything: the ballot and the decision from the prefix of the bytes: the
-/// value and how many bytes it takes, or `None` exactly where no first bytes spell one.
+/// Parses an optional accepted ballot and decision at the beginning of `bytes`. Returns it with the length of its
+/// encoding in bytes, or `None` if `bytes` begins with no such encoding; `NoMemory` if memory runs out.
 pub fn read_option_vote(
     alloc: Global,
     bytes: &[u8],
@@ -72,8 +72,8 @@ pub fn read_option_vote(
     }
 }
 
-/// Appends the one spelling of what an acceptor has accepted, if anything: the ballot and the decision. After
-/// `NoMemory` the bytes are as before.
+/// Appends the encoding of an optional accepted ballot and decision. `NoMemory` if memory runs out; `out` is then
+/// unchanged.
 pub fn write_option_vote(
     alloc: Global,
     vote: &Option<(Ballot, Decision)>,

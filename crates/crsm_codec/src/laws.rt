@@ -1,4 +1,4 @@
-//! Each value has one spelling, each spelling one value, and none begins another of its kind.
+//! Unique decodability: each value has one encoding, and no encoding is a prefix of another of its kind.
 
 ghost use Rattle.std.specs.Prelude.{◌≡◌, List, ℕ};
 ghost use Rattle.crsm_base.specs.declared.Rec.{Rec};
@@ -7,7 +7,8 @@ ghost use Rattle.crsm_base.specs.Messages.{vote_bytes, FitsVote};
 ghost use Rattle.crsm_base.specs.Records.{SpeltRec, SpeltBody};
 ghost use Rattle.crsm_codec.specs.Readers.{OneSpelling};
 
-/// Takes nothing and does nothing: that the fields and the records have one spelling each is what it ensures.
+/// States for each field and record that a value has one encoding, and that no encoding is a prefix of another. It runs
+/// no code.
 pub fn one_spelling_each()
     ensures u8_has_one { OneSpelling SpeltU8 }
     ensures u16_has_one { OneSpelling SpeltU16 }

@@ -1,4 +1,4 @@
-//! The fields and the records as bytes: their writers and readers.
+//! Public readers and writers of single fields and records, each the exact inverse of the other.
 #![tactic(auto)]
 
 mod commands;

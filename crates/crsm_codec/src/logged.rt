@@ -1,4 +1,4 @@
-//! Entries and lists of entries.
+//! Readers and writers of entries and lists of entries.
 
 ghost use Rattle.std.specs.Prelude.{◌≡◌, ◌++◌, IfOk, IfSome, IfNone, OnOk, OnErr};
 ghost use Rattle.crsm_base.specs.Spelling.{FitsEntries, FitsEntry, SpeltEntries, SpeltEntry, entries_bytes, entry_bytes};
@@ -7,8 +7,8 @@ ghost use Rattle.crsm_codec.specs.Readers.{IsPrefix, HasNoPrefix, ReadsAgain};
 use crsm_base::{Bytes, Entries, Entry, NoMemory};
 use std::alloc::Global;
 
-/// Reads an entry from the prefix of the bytes: the value and how many bytes it takes, or `None` exactly where no
-/// first bytes spell one.
+/// Parses an entry at the beginning of `bytes`. Returns it with the length of its encoding in bytes, or `None` if
+/// `bytes` begins with no such encoding; `NoMemory` if memory runs out.
 pub fn read_entry(alloc: Global, bytes: &[u8]) -> Result<Option<(Entry, usize)>, NoMemory>
     ensures found { IfOk result (λ r. IfSome r (IsPrefix SpeltEntry bytes.now)) }
     ensures none { IfOk result (λ r. IfNone r (HasNoPrefix SpeltEntry bytes.now)) }
@@ -20,7 +20,7 @@ pub fn read_entry(alloc: Global, bytes: &[u8]) -> Result<Option<(Entry, usize)>,
     }
 }
 
-/// Appends the one spelling of an entry. After `NoMemory` the bytes are as before.
+/// Appends the encoding of an entry. `NoMemory` if memory runs out; `out` is then unchanged.
 pub fn write_entry(alloc: Global, entry: &Entry, out: &mut Bytes) -> Result<(), NoMemory>
     requires { FitsEntry entry.now }
     ensures ok { OnOk result (out.new ≡ out.old ++ entry_bytes entry.now) }
@@ -31,8 +31,9 @@ pub fn write_entry(alloc: Global, entry: &Entry, out: &mut Bytes) -> Result<(), 
     out.append(spelling.as_slice())
 }
 
-/// Reads a list of entries, strictly rising, at most 4,096 of them in at most 2,097,152 bytes from the prefix of the
-/// bytes: the value and how many bytes it takes, or `None` exactly where no first bytes spell one.
+/// Parses a list of entries, strictly rising, at most 4,096 of them in at most 2,097,152 bytes at the beginning of
+/// `bytes`. Returns it with the length of its encoding in bytes, or `None` if `bytes` begins with no such encoding;
+/// `NoMemory` if memory runs out.
 pub fn read_entries(alloc: Global, bytes: &[u8]) -> Result<Option<(Entries, usize)>, NoMemory>
     ensures found { IfOk result (λ r. IfSome r (IsPrefix SpeltEntries bytes.now)) }
     ensures none { IfOk result (λ r. IfNone r (HasNoPrefix SpeltEntries bytes.now)) }
@@ -44,8 +45,8 @@ pub fn read_entries(alloc: Global, bytes: &[u8]) -> Result<Option<(Entries, usiz
     }
 }
 
-/// Appends the one spelling of a list of entries, strictly rising, at most 4,096 of them in at most 2,097,152
-/// bytes. After `NoMemory` the bytes are as before.
+/// Appends the encoding of a list of entries, strictly rising, at most 4,096 of them in at most 2,097,152 bytes.
+/// `NoMemory` if memory runs out; `out` is then unchanged.
 pub fn write_entries(alloc: Global, entries: &Entries, out: &mut Bytes) -> Result<(), NoMemory>
     requires { FitsEntries entries.now }
     ensures ok { OnOk result (out.new ≡ out.old ++ entries_bytes entries.now) }

@@ -1,4 +1,4 @@
-//! Numbers and the numbers of replicas.
+//! Readers and writers of numbers and replica numbers.
 
 ghost use Rattle.std.specs.Prelude.{◌≡◌, ◌++◌, IfOk, IfSome, IfNone, OnOk, OnErr, ◌<◌, ◌^◌};
 ghost use Rattle.crsm_base.specs.Spelling.{SpeltReplica, SpeltU16, SpeltU32, SpeltU64, SpeltU8, u16_bytes, u32_bytes, u64_bytes, u8_bytes};
@@ -7,8 +7,8 @@ ghost use Rattle.crsm_codec.specs.Readers.{IsPrefix, HasNoPrefix, ReadsAgain};
 use crsm_base::{Bytes, NoMemory};
 use std::alloc::Global;
 
-/// Reads a byte from the prefix of the bytes: the value and how many bytes it takes, or `None` exactly where no
-/// first bytes spell one.
+/// Parses a byte at the beginning of `bytes`. Returns it with the length of its encoding in bytes, or `None` if
+/// `bytes` begins with no such encoding.
 pub fn read_u8(_alloc: Global, bytes: &[u8]) -> Result<Option<(u8, usize)>, NoMemory>
     ensures found { IfOk result (λ r. IfSome r (IsPrefix SpeltU8 bytes.now)) }
     ensures none { IfOk result (λ r. IfNone r (HasNoPrefix SpeltU8 bytes.now)) }
@@ -20,7 +20,7 @@ pub fn read_u8(_alloc: Global, bytes: &[u8]) -> Result<Option<(u8, usize)>, NoMe
     }
 }
 
-/// Appends the one spelling of a byte. After `NoMemory` the bytes are as before.
+/// Appends the encoding of a byte. `NoMemory` if memory runs out; `out` is then unchanged.
 pub fn write_u8(_alloc: Global, number: &u8, out: &mut Bytes) -> Result<(), NoMemory>
     ensures ok { OnOk result (out.new ≡ out.old ++ u8_bytes number.now) }
     ensures err { OnErr result (out.new ≡ out.old) }
@@ -28,8 +28,8 @@ pub fn write_u8(_alloc: Global, number: &u8, out: &mut Bytes) -> Result<(), NoMe
     crsm_text_fields::put_u8(*number, out)
 }
 
-/// Reads a number of two bytes from the prefix of the bytes: the value and how many bytes it takes, or `None`
-/// exactly where no first bytes spell one.
+/// Parses a big-endian number of two bytes at the beginning of `bytes`. Returns it with the length of its encoding in
+/// bytes, or `None` if `bytes` begins with no such encoding.
 pub fn read_u16(_alloc: Global, bytes: &[u8]) -> Result<Option<(u16, usize)>, NoMemory>
     ensures found { IfOk result (λ r. IfSome r (IsPrefix SpeltU16 bytes.now)) }
     ensures none { IfOk result (λ r. IfNone r (HasNoPrefix SpeltU16 bytes.now)) }
@@ -41,7 +41,7 @@ pub fn read_u16(_alloc: Global, bytes: &[u8]) -> Result<Option<(u16, usize)>, No
     }
 }
 
-/// Appends the one spelling of a number of two bytes. After `NoMemory` the bytes are as before.
+/// Appends the encoding of a big-endian number of two bytes. `NoMemory` if memory runs out; `out` is then unchanged.
 pub fn write_u16(_alloc: Global, number: &u16, out: &mut Bytes) -> Result<(), NoMemory>
     ensures ok { OnOk result (out.new ≡ out.old ++ u16_bytes number.now) }
     ensures err { OnErr result (out.new ≡ out.old) }
@@ -49,8 +49,8 @@ pub fn write_u16(_alloc: Global, number: &u16, out: &mut Bytes) -> Result<(), No
     crsm_text_fields::put_u16(*number, out)
 }
 
-/// Reads a number of four bytes from the prefix of the bytes: the value and how many bytes it takes, or `None`
-/// exactly where no first bytes spell one.
+/// Parses a big-endian number of four bytes at the beginning of `bytes`. Returns it with the length of its encoding in
+/// bytes, or `None` if `bytes` begins with no such encoding.
 pub fn read_u32(_alloc: Global, bytes: &[u8]) -> Result<Option<(u32, usize)>, NoMemory>
     ensures found { IfOk result (λ r. IfSome r (IsPrefix SpeltU32 bytes.now)) }
     ensures none { IfOk result (λ r. IfNone r (HasNoPrefix SpeltU32 bytes.now)) }
@@ -62,7 +62,7 @@ pub fn read_u32(_alloc: Global, bytes: &[u8]) -> Result<Option<(u32, usize)>, No
     }
 }
 
-/// Appends the one spelling of a number of four bytes. After `NoMemory` the bytes are as before.
+/// Appends the encoding of a big-endian number of four bytes. `NoMemory` if memory runs out; `out` is then unchanged.
 pub fn write_u32(_alloc: Global, number: &u32, out: &mut Bytes) -> Result<(), NoMemory>
     ensures ok { OnOk result (out.new ≡ out.old ++ u32_bytes number.now) }
     ensures err { OnErr result (out.new ≡ out.old) }
@@ -70,8 +70,8 @@ pub fn write_u32(_alloc: Global, number: &u32, out: &mut Bytes) -> Result<(), No
     crsm_text_fields::put_u32(*number, out)
 }
 
-/// Reads a number of eight bytes from the prefix of the bytes: the value and how many bytes it takes, or `None`
-/// exactly where no first bytes spell one.
+/// Parses a big-endian number of eight bytes at the beginning of `bytes`. Returns it with the length of its encoding
+/// in bytes, or `None` if `bytes` begins with no such encoding.
 pub fn read_u64(_alloc: Global, bytes: &[u8]) -> Result<Option<(u64, usize)>, NoMemory>
     ensures found { IfOk result (λ r. IfSome r (IsPrefix SpeltU64 bytes.now)) }
     ensures none { IfOk result (λ r. IfNone r (HasNoPrefix SpeltU64 bytes.now)) }
@@ -83,7 +83,7 @@ pub fn read_u64(_alloc: Global, bytes: &[u8]) -> Result<Option<(u64, usize)>, No
     }
 }
 
-/// Appends the one spelling of a number of eight bytes. After `NoMemory` the bytes are as before.
+/// Appends the encoding of a big-endian number of eight bytes. `NoMemory` if memory runs out; `out` is then unchanged.
 pub fn write_u64(_alloc: Global, number: &u64, out: &mut Bytes) -> Result<(), NoMemory>
     ensures ok { OnOk result (out.new ≡ out.old ++ u64_bytes number.now) }
     ensures err { OnErr result (out.new ≡ out.old) }
@@ -91,8 +91,8 @@ pub fn write_u64(_alloc: Global, number: &u64, out: &mut Bytes) -> Result<(), No
     crsm_text_fields::put_u64(*number, out)
 }
 
-/// Reads a replica's number, one byte below 15 from the prefix of the bytes: the value and how many bytes it takes,
-/// or `None` exactly where no first bytes spell one.
+/// Parses a replica's number (one byte, 0 to 14) at the beginning of `bytes`. Returns it with the length of its
+/// encoding in bytes, or `None` if `bytes` begins with no such encoding.
 pub fn read_replica(_alloc: Global, bytes: &[u8]) -> Result<Option<(u32, usize)>, NoMemory>
     ensures found { IfOk result (λ r. IfSome r (IsPrefix SpeltReplica bytes.now)) }
     ensures none { IfOk result (λ r. IfNone r (HasNoPrefix SpeltReplica bytes.now)) }
@@ -104,7 +104,8 @@ pub fn read_replica(_alloc: Global, bytes: &[u8]) -> Result<Option<(u32, usize)>
     }
 }
 
-/// Appends the one spelling of a replica's number, one byte below 15. After `NoMemory` the bytes are as before.
+/// Appends the encoding of a replica's number (one byte, 0 to 14). `NoMemory` if memory runs out; `out` is then
+/// unchanged.
 pub fn write_replica(_alloc: Global, replica: &u32, out: &mut Bytes) -> Result<(), NoMemory>
     requires { replica.now < 15 }
     ensures ok { OnOk result (out.new ≡ out.old ++ u8_bytes replica.now) }

@@ -1,4 +1,4 @@
-//! Answers and outcomes.
+//! Readers and writers of answers and outcomes.
 
 ghost use Rattle.std.specs.Prelude.{◌≡◌, ◌++◌, IfOk, IfSome, IfNone, OnOk, OnErr};
 ghost use Rattle.crsm_base.specs.Spelling.{FitsAnswer, FitsOutcome, SpeltAnswer, SpeltOutcome, answer_bytes, outcome_bytes};
@@ -7,8 +7,8 @@ ghost use Rattle.crsm_codec.specs.Readers.{IsPrefix, HasNoPrefix, ReadsAgain};
 use crsm_base::{Answer, Bytes, NoMemory, Outcome};
 use std::alloc::Global;
 
-/// Reads an answer of the store from the prefix of the bytes: the value and how many bytes it takes, or `None`
-/// exactly where no first bytes spell one.
+/// Parses an answer of the store at the beginning of `bytes`. Returns it with the length of its encoding in bytes, or
+/// `None` if `bytes` begins with no such encoding; `NoMemory` if memory runs out.
 pub fn read_answer(alloc: Global, bytes: &[u8]) -> Result<Option<(Answer, usize)>, NoMemory>
     ensures found { IfOk result (λ r. IfSome r (IsPrefix SpeltAnswer bytes.now)) }
     ensures none { IfOk result (λ r. IfNone r (HasNoPrefix SpeltAnswer bytes.now)) }
@@ -20,7 +20,7 @@ pub fn read_answer(alloc: Global, bytes: &[u8]) -> Result<Option<(Answer, usize)
     }
 }
 
-/// Appends the one spelling of an answer of the store. After `NoMemory` the bytes are as before.
+/// Appends the encoding of an answer of the store. `NoMemory` if memory runs out; `out` is then unchanged.
 pub fn write_answer(alloc: Global, answer: &Answer, out: &mut Bytes) -> Result<(), NoMemory>
     requires { FitsAnswer answer.now }
     ensures ok { OnOk result (out.new ≡ out.old ++ answer_bytes answer.now) }
@@ -31,8 +31,8 @@ pub fn write_answer(alloc: Global, answer: &Answer, out: &mut Bytes) -> Result<(
     out.append(spelling.as_slice())
 }
 
-/// Reads an outcome from the prefix of the bytes: the value and how many bytes it takes, or `None` exactly where no
-/// first bytes spell one.
+/// Parses an outcome at the beginning of `bytes`. Returns it with the length of its encoding in bytes, or `None` if
+/// `bytes` begins with no such encoding; `NoMemory` if memory runs out.
 pub fn read_outcome(alloc: Global, bytes: &[u8]) -> Result<Option<(Outcome, usize)>, NoMemory>
     ensures found { IfOk result (λ r. IfSome r (IsPrefix SpeltOutcome bytes.now)) }
     ensures none { IfOk result (λ r. IfNone r (HasNoPrefix SpeltOutcome bytes.now)) }
@@ -44,7 +44,7 @@ pub fn read_outcome(alloc: Global, bytes: &[u8]) -> Result<Option<(Outcome, usiz
     }
 }
 
-/// Appends the one spelling of an outcome. After `NoMemory` the bytes are as before.
+/// Appends the encoding of an outcome. `NoMemory` if memory runs out; `out` is then unchanged.
 pub fn write_outcome(alloc: Global, outcome: &Outcome, out: &mut Bytes) -> Result<(), NoMemory>
     requires { FitsOutcome outcome.now }
     ensures ok { OnOk result (out.new ≡ out.old ++ outcome_bytes outcome.now) }

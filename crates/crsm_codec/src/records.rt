@@ -1,4 +1,4 @@
-//! Records and whole log bodies.
+//! Readers and writers of records and whole log bodies.
 
 ghost use Rattle.std.specs.Prelude.{◌≡◌, ◌++◌, List, IfOk, IfSome, IfNone, OnOk, OnErr};
 ghost use Rattle.crsm_base.specs.declared.Rec.{Rec};
@@ -8,8 +8,8 @@ ghost use Rattle.crsm_codec.specs.Readers.{IsPrefix, HasNoPrefix, ReadsAgain};
 use crsm_base::{Bytes, NoMemory, Rec, Recs};
 use std::alloc::Global;
 
-/// Reads a record from the prefix of the bytes: the value and how many bytes it takes, or `None` exactly where no
-/// first bytes spell one.
+/// Parses a record at the beginning of `bytes`. Returns it with the length of its encoding in bytes, or `None` if
+/// `bytes` begins with no such encoding; `NoMemory` if memory runs out.
 pub fn read_rec(alloc: Global, bytes: &[u8]) -> Result<Option<(Rec, usize)>, NoMemory>
     ensures found { IfOk result (λ r. IfSome r (IsPrefix SpeltRec bytes.now)) }
     ensures none { IfOk result (λ r. IfNone r (HasNoPrefix SpeltRec bytes.now)) }
@@ -21,7 +21,7 @@ pub fn read_rec(alloc: Global, bytes: &[u8]) -> Result<Option<(Rec, usize)>, NoM
     }
 }
 
-/// Appends the one spelling of a record. After `NoMemory` the bytes are as before.
+/// Appends the encoding of a record. `NoMemory` if memory runs out; `out` is then unchanged.
 pub fn write_rec(alloc: Global, rec: &Rec, out: &mut Bytes) -> Result<(), NoMemory>
     requires { FitsRec rec.now }
     ensures ok { OnOk result (out.new ≡ out.old ++ rec_bytes rec.now) }
@@ -32,7 +32,8 @@ pub fn write_rec(alloc: Global, rec: &Rec, out: &mut Bytes) -> Result<(), NoMemo
     out.append(spelling.as_slice())
 }
 
-/// Reads the records of a whole log body, up to its end: `None` exactly where the bytes are not one or more records.
+/// Parses a whole log body, to its end. Returns its records, or `None` if the bytes are not one record or more;
+/// `NoMemory` if memory runs out.
 pub fn read_recs(alloc: Global, body: &[u8]) -> Result<Option<Recs>, NoMemory>
     ensures found { IfOk result (λ r. IfSome r (λ recs. SpeltBody recs body.now)) }
     ensures none { IfOk result (λ r. IfNone r ((recs : List Rec) → SpeltBody recs body.now → ⊥)) }

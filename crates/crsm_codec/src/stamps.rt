@@ -1,4 +1,4 @@
-//! Stamps and ballots.
+//! Readers and writers of stamps and ballots.
 
 ghost use Rattle.std.specs.Prelude.{◌≡◌, ◌++◌, IfOk, IfSome, IfNone, OnOk, OnErr};
 ghost use Rattle.crsm_base.specs.Spelling.{FitsBallot, FitsOption, FitsStamp, Spelt, SpeltBallot, SpeltStamp, ballot_bytes, option_bytes, stamp_bytes};
@@ -7,8 +7,8 @@ ghost use Rattle.crsm_codec.specs.Readers.{IsPrefix, HasNoPrefix, ReadsAgain};
 use crsm_base::{Ballot, Bytes, NoMemory, Stamp};
 use std::alloc::Global;
 
-/// Reads a stamp from the prefix of the bytes: the value and how many bytes it takes, or `None` exactly where no
-/// first bytes spell one.
+/// Parses a stamp at the beginning of `bytes`. Returns it with the length of its encoding in bytes, or `None` if
+/// `bytes` begins with no such encoding.
 pub fn read_stamp(_alloc: Global, bytes: &[u8]) -> Result<Option<(Stamp, usize)>, NoMemory>
     ensures found { IfOk result (λ r. IfSome r (IsPrefix SpeltStamp bytes.now)) }
     ensures none { IfOk result (λ r. IfNone r (HasNoPrefix SpeltStamp bytes.now)) }
@@ -20,7 +20,7 @@ pub fn read_stamp(_alloc: Global, bytes: &[u8]) -> Result<Option<(Stamp, usize)>
     }
 }
 
-/// Appends the one spelling of a stamp. After `NoMemory` the bytes are as before.
+/// Appends the encoding of a stamp. `NoMemory` if memory runs out; `out` is then unchanged.
 pub fn write_stamp(alloc: Global, stamp: &Stamp, out: &mut Bytes) -> Result<(), NoMemory>
     requires { FitsStamp stamp.now }
     ensures ok { OnOk result (out.new ≡ out.old ++ stamp_bytes stamp.now) }
@@ -31,8 +31,8 @@ pub fn write_stamp(alloc: Global, stamp: &Stamp, out: &mut Bytes) -> Result<(), 
     out.append(spelling.as_slice())
 }
 
-/// Reads a stamp that may be missing from the prefix of the bytes: the value and how many bytes it takes, or `None`
-/// exactly where no first bytes spell one.
+/// Parses an optional stamp at the beginning of `bytes`. Returns it with the length of its encoding in bytes, or
+/// `None` if `bytes` begins with no such encoding.
 pub fn read_option_stamp(
     _alloc: Global,
     bytes: &[u8],
@@ -47,7 +47,7 @@ pub fn read_option_stamp(
     }
 }
 
-/// Appends the one spelling of a stamp that may be missing. After `NoMemory` the bytes are as before.
+/// Appends the encoding of an optional stamp. `NoMemory` if memory runs out; `out` is then unchanged.
 pub fn write_option_stamp(
     alloc: Global,
     stamp: &Option<Stamp>,
@@ -62,8 +62,8 @@ pub fn write_option_stamp(
     out.append(spelling.as_slice())
 }
 
-/// Reads a ballot from the prefix of the bytes: the value and how many bytes it takes, or `None` exactly where no
-/// first bytes spell one.
+/// Parses a ballot at the beginning of `bytes`. Returns it with the length of its encoding in bytes, or `None` if
+/// `bytes` begins with no such encoding.
 pub fn read_ballot(_alloc: Global, bytes: &[u8]) -> Result<Option<(Ballot, usize)>, NoMemory>
     ensures found { IfOk result (λ r. IfSome r (IsPrefix SpeltBallot bytes.now)) }
     ensures none { IfOk result (λ r. IfNone r (HasNoPrefix SpeltBallot bytes.now)) }
@@ -75,7 +75,7 @@ pub fn read_ballot(_alloc: Global, bytes: &[u8]) -> Result<Option<(Ballot, usize
     }
 }
 
-/// Appends the one spelling of a ballot. After `NoMemory` the bytes are as before.
+/// Appends the encoding of a ballot. `NoMemory` if memory runs out; `out` is then unchanged.
 pub fn write_ballot(alloc: Global, ballot: &Ballot, out: &mut Bytes) -> Result<(), NoMemory>
     requires { FitsBallot ballot.now }
     ensures ok { OnOk result (out.new ≡ out.old ++ ballot_bytes ballot.now) }

@@ -1,4 +1,4 @@
--- What the letters of an event's text tell: which step it is, and the parts of one that is stopped.
+-- The first letters of an event's text determine its kind, and the parts of an event that is cut.
 use Rattle.std.proofs.Common.{◌≡◌, ◌≢◌, ℕ, ◌^◌, ◌<◌, ◌≤◌, List, ◌∷◌, ◌++◌, get_or, codes, decimal, refl, ap, sym, arith}
 use Rattle.crsm_text.specs.Words.{commas}
 use Rattle.crsm_text.proofs.TextLaws.{first_digit}

@@ -1,4 +1,4 @@
--- How the lines of a schedule are written, each without its line feed, and what can be written.
+-- The lines of a schedule, each without its line feed, and the events that have a line.
 use Rattle.std.specs.Prelude.{◌≢◌, ℕ, ◌^◌, ◌<◌, ◌≤◌, List, [], ◌∷◌, length, codes, decimal}
 use Rattle.std.specs.List.{AllByRecursion}
 use Rattle.hex.specs.Hex.{encode_lower, IsBytes}
@@ -12,14 +12,14 @@ use Rattle.crsm_schedule.specs.declared.event.Single.TheVariants.{Request, Go, A
 use Rattle.crsm_schedule.specs.declared.event.Event.{Event}
 use Rattle.crsm_schedule.specs.declared.event.Event.TheVariants.{One, Lose, Crash, Start, Settle, CutLost, CutKept, Batch, CutLostBatch, CutAt}
 
--- the first line: how many replicas there are
+-- the first line, with the number of replicas
 abbrev pub first_text : ℕ → List ℕ
 first_text n = named (codes "replicas") (n ∷ [])
 
 abbrev pub IsSize : ℕ → Type 0
 IsSize n = (1 ≤ n) × (n ≤ 15)
 
--- a step of one replica
+-- the text of an event of one step
 abbrev pub single_text : Single → List ℕ
 single_text (Request replica reading command) =
     spaced (codes "request" ∷ decimal replica ∷ decimal reading ∷ decimal command.client ∷ decimal command.number ∷ op_text command.op ∷ [])
@@ -29,11 +29,11 @@ single_text (Tick replica reading) = named (codes "tick") (replica ∷ reading �
 single_text (Suspect replica reading members) = spaced (codes "suspect" ∷ decimal replica ∷ decimal reading ∷ commas members ∷ [])
 single_text (Junk replica reading bytes) = spaced (codes "junk" ∷ decimal replica ∷ decimal reading ∷ encode_lower bytes ∷ [])
 
--- numbers of datagrams that are delivered together
+-- the text of a batch
 abbrev pub batch_text : ℕ → List ℕ → List ℕ
 batch_text reading numbers = spaced (codes "batch" ∷ decimal reading ∷ commas numbers ∷ [])
 
--- any other line
+-- the text of an event
 abbrev pub event_text : Event → List ℕ
 event_text (One single) = single_text single
 event_text (Lose number) = named (codes "lose") (number ∷ [])
@@ -64,12 +64,12 @@ pub record FitsJunk (replica reading : ℕ) (bytes : List ℕ) : Type 0 where
   pub some : 1 ≤ length bytes
   pub most : length bytes ≤ 8192
 
--- no number stands twice
+-- the numbers are distinct
 abbrev pub AreDistinct : List ℕ → Type 0
 AreDistinct [] = Unit {0}
 AreDistinct (n ∷ ns) = AllByRecursion (λ m. n ≢ m) ns × AreDistinct ns
 
--- numbers of datagrams that can be delivered together
+-- numbers of datagrams that can be a batch: 1 to 32, distinct
 pub record AreTogether (numbers : List ℕ) : Type 0 where
   pub fit : AllByRecursion (λ n. n < 2 ^ 64) numbers
   pub some : 1 ≤ length numbers
@@ -79,7 +79,7 @@ pub record AreTogether (numbers : List ℕ) : Type 0 where
 abbrev pub FitsBatch : ℕ → List ℕ → Type 0
 FitsBatch reading numbers = (reading < 2 ^ 64) × AreTogether numbers
 
--- which steps can be written
+-- the event of one step has a text
 abbrev pub FitsSingle : Single → Type 0
 FitsSingle (Request replica reading command) = FitsRequest replica reading command
 FitsSingle (Go number reading) = (number < 2 ^ 64) × (reading < 2 ^ 64)
@@ -88,7 +88,7 @@ FitsSingle (Tick replica reading) = (replica < 2 ^ 64) × (reading < 2 ^ 64)
 FitsSingle (Suspect replica reading members) = FitsSuspect replica reading members
 FitsSingle (Junk replica reading bytes) = FitsJunk replica reading bytes
 
--- which events can be written
+-- the event has a text
 abbrev pub FitsEvent : Event → Type 0
 FitsEvent (One single) = FitsSingle single
 FitsEvent (Lose number) = number < 2 ^ 64
@@ -101,6 +101,6 @@ FitsEvent (Batch reading numbers) = FitsBatch reading numbers
 FitsEvent (CutLostBatch reading numbers) = FitsBatch reading numbers
 FitsEvent (CutAt calls fill single) = (calls ≤ 4) × (fill < 256) × FitsSingle single
 
--- no event is written so
+-- the line is the text of no event
 abbrev pub Unreadable : List ℕ → Type 0
 Unreadable line = (e : Event) → FitsEvent e → line ≢ event_text e

@@ -1,4 +1,4 @@
--- How the lines of a transcript are written, each with its line feed.
+-- The lines of a transcript, each with its line feed.
 use Rattle.std.specs.Prelude.{ℕ, List, [], ◌∷◌, ◌++◌, codes, decimal}
 use Rattle.std.specs.List.{flat_map}
 use Rattle.hex.specs.Hex.{encode_lower}
@@ -22,7 +22,7 @@ state_text Held = codes "held"
 state_text IsOut = codes "out"
 state_text IsDown = codes "down"
 
--- a line without its number
+-- a line without its number and line feed
 abbrev pub line_words : Line → List ℕ
 line_words (Boot replica count) = named (codes "boot") (replica ∷ count ∷ [])
 line_words (Submit replica epoch time client number) = named (codes "submit") (replica ∷ epoch ∷ time ∷ client ∷ number ∷ [])
@@ -49,7 +49,7 @@ line_words (Final replica state known executed) = named (codes "final") (replica
 line_words (Out receiver bytes) = named (codes "out") (receiver ∷ []) ++ 32 ∷ encode_lower bytes
 line_words (Back address bytes) = named (codes "back") (address ∷ []) ++ 32 ∷ encode_lower bytes
 
--- a line, after the number of the line of input that caused it
+-- a line with the number of the input line that caused it, and a line feed
 abbrev pub numbered : ℕ → List ℕ → List ℕ
 numbered at words = decimal at ++ 32 ∷ (words ++ 10 ∷ [])
 

@@ -1,4 +1,4 @@
-//! Reads numbers of datagrams that are delivered together.
+//! Parsing of the datagrams of a `batch` line.
 
 ghost use Rattle.std.specs.Prelude.{◌≡◌, ℕ, ◌↔◌, ◌++◌, ◌∷◌, List, IfOk, IsTrue, MatchResult, decimal};
 ghost use Rattle.crsm_text.specs.Words.{commas};
@@ -9,7 +9,7 @@ use crate::numbers::Numbers;
 use crsm_text::{LineError, number_field, read_numbers};
 use std::alloc::Global;
 
-/// How many datagrams may be delivered together.
+/// Maximum number of datagrams in a batch.
 const MAX_TOGETHER: usize = 32;
 
 fn are_distinct(numbers: &[u64]) -> bool
@@ -34,7 +34,8 @@ fn numbers_of(alloc: Global, word: &[u8]) -> Result<Numbers, LineError>
     Ok(Numbers::from_vec(numbers))
 }
 
-/// A reading and numbers of datagrams.
+/// Parses a clock reading and the comma-separated numbers of 1 to 32 distinct datagrams. `Unreadable` if the text is no
+/// such list.
 pub(crate) fn batch_of(alloc: Global, text: &[u8]) -> Result<(u64, Numbers), LineError>
     ensures found { IfOk result (λ b. FitsBatch b.0 b.1 × (text.now ≡ decimal b.0 ++ 32 ∷ commas b.1)) }
     ensures only { (reading : ℕ) (ns : List ℕ) → FitsBatch reading ns → text.now ≡ decimal reading ++ 32 ∷ commas ns

@@ -6,37 +6,38 @@ use crate::numbers::Numbers;
 use crsm_base::{Bytes, Command, Members, NoMemory};
 use std::alloc::Global;
 
-/// One step of one replica. A reading is that of its clock.
+/// An event of one step at one replica. `reading` is that of the replica's clock. Its unit is left to the schedule;
+/// `delay` writes microseconds.
 #[derive(Debug, Drop)]
 pub enum Single {
-    /// A client's command reaches a replica.
+    /// A replica receives a client's command.
     Request {
         replica: u64,
         reading: u64,
         command: Command,
     },
-    /// A datagram that was sent is delivered, for the first time.
+    /// A datagram is delivered for the first time. Datagrams are numbered from 0, in the order in which they are sent.
     Go {
         number: u64,
         reading: u64,
     },
-    /// A datagram that was delivered, or lost, is delivered once more.
+    /// A datagram that was delivered or lost is delivered once more.
     Again {
         number: u64,
         reading: u64,
     },
-    /// Some time went by.
+    /// The timer of a replica fires.
     Tick {
         replica: u64,
         reading: u64,
     },
-    /// A replica begins to change the members.
+    /// A replica is asked to change the members of its epoch to these.
     Suspect {
         replica: u64,
         reading: u64,
         members: Members,
     },
-    /// Bytes from nowhere reach a replica.
+    /// A replica receives bytes that are no datagram.
     Junk {
         replica: u64,
         reading: u64,
@@ -44,10 +45,10 @@ pub enum Single {
     },
 }
 
-/// One line of a schedule after the first.
+/// An event: one line of a schedule after the first.
 #[derive(Debug, Drop)]
 pub enum Event {
-    /// A step of one replica.
+    /// One step at one replica.
     One {
         single: Single,
     },
@@ -55,38 +56,38 @@ pub enum Event {
     Lose {
         number: u64,
     },
-    /// A replica goes down between two steps.
+    /// A replica stops between two steps.
     Crash {
         replica: u64,
     },
-    /// A replica boots on its disk.
+    /// A replica boots on its disk; a new number becomes a new replica.
     Start {
         replica: u64,
     },
-    /// Each datagram that is on its way is delivered, in the order of sending.
+    /// Every datagram neither delivered nor lost whose receiver is up is delivered, in the order of sending.
     Settle {
         reading: u64,
     },
-    /// A step is stopped before its records are kept.
+    /// A step stops before its records are kept.
     CutLost {
         single: Single,
     },
-    /// A step is stopped when its records are kept and so many of its sends are out.
+    /// A step stops after its records were kept and its first `sends` datagrams and replies were sent.
     CutKept {
         sends: u64,
         single: Single,
     },
-    /// Datagrams are delivered in this order, as steps of one group.
+    /// Datagrams are delivered in this order, with one log write for all.
     Batch {
         reading: u64,
         numbers: Numbers,
     },
-    /// The first step of a group is stopped before its records are kept, and the other datagrams are lost.
+    /// A batch stops before its records are kept: its first step is lost, and the other datagrams are lost too.
     CutLostBatch {
         reading: u64,
         numbers: Numbers,
     },
-    /// A step is stopped after so many calls of the device, 0 to 4. What was not synced holds the byte `fill`.
+    /// A step stops after `calls` device calls of its log write, 0 to 4. Bytes that were not synced read as `fill`.
     CutAt {
         calls: u64,
         fill: u8,

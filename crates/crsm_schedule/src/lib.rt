@@ -1,4 +1,4 @@
-//! The texts of schedules and transcripts: events are read from lines, and lines of a transcript are printed.
+//! The text of schedules and transcripts: schedule lines are parsed as events, and transcript lines are formatted.
 #![tactic(auto)]
 
 mod batch;

@@ -1,4 +1,4 @@
-//! Lists of numbers of datagrams.
+//! `Numbers`: a growable list of datagram numbers, seen by proofs as a plain list.
 
 ghost use Rattle.std.specs.Prelude.{◌≡◌, [], ◌∷◌, ◌++◌, IfOk, OnOk, OnErr};
 
@@ -6,7 +6,7 @@ use crsm_base::NoMemory;
 use std::alloc::Global;
 use std::marker::Model;
 
-/// A list of numbers of datagrams.
+/// A list of datagram numbers.
 #[derive(Debug, Drop)]
 pub struct Numbers {
     items: Vec<u64>,

@@ -1,4 +1,4 @@
-//! Prints the lines of a transcript.
+//! Formatting of transcript lines.
 
 ghost use Rattle.std.specs.Prelude.{◌≡◌, ◌≤◌, ◌++◌, ◌∷◌, [], OnOk, codes, decimal, length};
 ghost use Rattle.crsm_text.specs.Words.{named, numbers};
@@ -7,7 +7,7 @@ ghost use Rattle.crsm_schedule.specs.Transcript.{line_text, kind_text, state_tex
 use crsm_base::{Bytes, Line, NoMemory, SendKind, State};
 use crsm_text::{push_answer, push_hex, push_members, push_named, push_numbered, push_numbers};
 
-/// The kind of a datagram, between two spaces.
+/// Returns the word for a kind of datagram, with a space on both sides.
 fn spaced_kind(kind: SendKind) -> &'static [u8]
     ensures text { result.now ≡ 32 ∷ (kind_text kind ++ 32 ∷ []) }
     ensures short { length result.now ≤ 8 }
@@ -30,7 +30,7 @@ fn push_state(out: &mut Bytes, state: State) -> Result<(), NoMemory>
     }
 }
 
-/// Adds the number of a line, the part that the lines of all replies begin with, and a space.
+/// Appends the line number and the part that all reply lines begin with, up to the space before the outcome.
 fn push_reply(
     out: &mut Bytes,
     at: u64,
@@ -60,8 +60,8 @@ fn push_final(
     out.push(b'\n')
 }
 
-/// Adds a line of the transcript with its line feed, behind the number of the line of input that caused it.
-/// A final line has no number. After an error a prefix of the line may have been added.
+/// Appends a transcript line with its line feed. `at` is the number, from 1, of the input line that caused it; a final
+/// line has none. `NoMemory` if memory runs out; a prefix of the line may then have been appended.
 pub fn push_line(out: &mut Bytes, at: u64, line: &Line) -> Result<(), NoMemory>
     ensures { OnOk result (out.new ≡ out.old ++ line_text at line.now) }
 {

@@ -1,4 +1,4 @@
-//! Reads the lines of a schedule, each without its line feed.
+//! Parsing of schedule lines, each without its line feed.
 
 ghost use Rattle.std.specs.Prelude.{◌≡◌, ℕ, ◌<◌, ◌^◌, ◌++◌, ◌∷◌, IfSome, IfOk, codes, decimal};
 ghost use Rattle.crsm_text.specs.Reads.{ReadsAs};
@@ -13,7 +13,7 @@ use crsm_base::MAX_REPLICAS;
 use crsm_text::{LineError, number_field, read_number, two_fields};
 use std::alloc::Global;
 
-/// The number of replicas that the first line of a schedule gives, 1 to 15.
+/// Parses the first line, `replicas N`. Returns N, from 1 to 15, or `None` if the line is no such line.
 pub fn read_first(line: &[u8]) -> Option<u32>
     ensures found { IfSome result (λ n. IsSize n × (line.now ≡ first_text n)) }
     ensures only { (n : ℕ) → IsSize n → line.now ≡ first_text n → result ≡ Some n }
@@ -88,7 +88,7 @@ fn cut_at_of(alloc: Global, text: &[u8]) -> Result<Event, LineError>
     })
 }
 
-/// A step that is stopped when its records are kept.
+/// Parses a `cut K` line after its first word.
 fn cut_kept_of(alloc: Global, text: &[u8]) -> Result<Event, LineError>
     ensures found { IfOk result (λ e. FitsEvent e × (codes "cut " ++ text.now ≡ event_text e)) }
     ensures only { (sends : ℕ) (s : Single) → sends < 2 ^ 64 → FitsSingle s → text.now ≡ decimal sends ++ 32 ∷ single_text s → ReadsAs result (Event.CutKept sends s) }
@@ -113,7 +113,7 @@ fn cut_of(alloc: Global, text: &[u8]) -> Result<Event, LineError>
     cut_kept_of(alloc, text)
 }
 
-/// The event that a line spells. It is Unreadable exactly if no event is spelt so.
+/// Parses an event. `Unreadable` if the line is no event's text; `NoMemory` if memory runs out.
 pub fn read_event(alloc: Global, line: &[u8]) -> Result<Event, LineError>
     ensures found { IfOk result (λ e. FitsEvent e × (line.now ≡ event_text e)) }
     ensures only { (e : Event) → FitsEvent e → line.now ≡ event_text e → ReadsAs result e }

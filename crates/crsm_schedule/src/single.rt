@@ -1,4 +1,4 @@
-//! Reads steps of one replica.
+//! Parsing of events of one step.
 
 ghost use Rattle.std.specs.Prelude.{◌≡◌, ℕ, ◌≤◌, ◌++◌, List, IfOk, codes, length};
 ghost use Rattle.hex.specs.Hex.{encode_lower, IsBytes};
@@ -75,7 +75,7 @@ fn suspect_of(alloc: Global, text: &[u8]) -> Result<Single, LineError>
     })
 }
 
-/// The bytes that may come in one datagram.
+/// Parses the hexadecimal bytes of a `junk` line, 1 to 8,192 of them.
 fn datagram_of(alloc: Global, word: &[u8]) -> Result<Bytes, LineError>
     ensures found { IfOk result (λ bytes. IsBytes bytes × (1 ≤ length bytes) × (length bytes ≤ 8192) × (word.now ≡ encode_lower bytes)) }
     ensures only { (bytes : List ℕ) → IsBytes bytes → 1 ≤ length bytes → length bytes ≤ 8192 → word.now ≡ encode_lower bytes → ReadsAs result bytes }
@@ -104,7 +104,7 @@ fn junk_of(alloc: Global, text: &[u8]) -> Result<Single, LineError>
     })
 }
 
-/// The step of one replica that a text spells.
+/// Parses an event of one step. `Unreadable` if the text is none; `NoMemory` if memory runs out.
 pub(crate) fn read_single(alloc: Global, text: &[u8]) -> Result<Single, LineError>
     ensures found { IfOk result (λ s. FitsSingle s × (text.now ≡ single_text s)) }
     ensures only { (s : Single) → FitsSingle s → text.now ≡ single_text s → ReadsAs result s }

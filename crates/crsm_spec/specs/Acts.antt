@@ -1,4 +1,4 @@
--- What may happen in a world, and which of it a line of a schedule can spell.
+-- Acts: the events of a cluster, and which of them a line of a schedule can express.
 use Rattle.std.specs.Prelude.{ℕ, ◌≤◌, ◌<◌, ◌^◌, nat_eq, List, length}
 use Rattle.std.specs.List.{IsDistinct, AllByRecursion}
 use Rattle.crsm_base.specs.Members.{IsMembers}
@@ -7,35 +7,35 @@ use Rattle.crsm_spec.specs.Types.{Command}
 
 -- An act of one step, with its clock reading.
 pub data Single : Type 0 where
-  -- a client's request comes
+  -- a client's request is received
   Request : (replica reading : ℕ) (command : Command) → Single
   -- a datagram is delivered, for the first time or once more
   Go : (number reading : ℕ) → Single
   Again : (number reading : ℕ) → Single
   Tick : (replica reading : ℕ) → Single
-  -- these are to be the members of the next epoch
+  -- the replica is asked to make these the members of the next epoch
   Suspect : (replica reading : ℕ) (members : List ℕ) → Single
-  -- bytes from nowhere
+  -- bytes that are no datagram are received
   Junk : (replica reading : ℕ) (bytes : List ℕ) → Single
 
--- What may happen.
+-- An event of the cluster.
 pub data Act : Type 0 where
   One : Single → Act
   Lose : (number : ℕ) → Act
   Crash : (replica : ℕ) → Act
   Start : (replica : ℕ) → Act
-  -- all that can be delivered now is delivered
+  -- every datagram that can be delivered now is delivered
   Settle : (reading : ℕ) → Act
-  -- the step stops before its batch is kept, or with it kept and so many of its sends out
+  -- the step stops before its batch is kept, or after it was kept and the first `sends` of its datagrams were sent
   CutLost : Single → Act
   CutKept : (sends : ℕ) → Single → Act
-  -- these are delivered, their batches kept together
+  -- datagrams are delivered, their batches kept together
   Batch : (reading : ℕ) (numbers : List ℕ) → Act
   CutLostBatch : (reading : ℕ) (numbers : List ℕ) → Act
-  -- the step stops after so many device calls of its put, with `fill` in the ranges that were not synced
+  -- the step stops after this many device calls of its log write; the byte `fill` stands where nothing was synced
   CutAt : (calls fill : ℕ) → Single → Act
 
--- Why an act is not possible.
+-- The reason why an act is not possible.
 pub data Bad : Type 0 where
   Full : (bytes : ℕ) → Bad
   NoSuchReplica : Bad
@@ -50,23 +50,23 @@ pub data Bad : Type 0 where
 
 -- ---- what a line can spell
 
--- a number of 64 bits
+-- a 64-bit number
 abbrev pub IsU64 : ℕ → Type 0
 IsU64 n = n < 2 ^ 64
 
--- so many bytes may come in one datagram
+-- bounds of the length of a junk datagram
 pub record IsJunk (bytes : List ℕ) : Type 0 where
   pub some : 1 ≤ length bytes
   pub most : length bytes ≤ 8192
 
--- so many datagrams may be delivered together
+-- bounds of the number of datagrams that are delivered together
 pub record IsBatch (numbers : List ℕ) : Type 0 where
   pub some : 1 ≤ length numbers
   pub most : length numbers ≤ 32
   pub distinct : IsDistinct nat_eq numbers
   pub small : AllByRecursion IsU64 numbers
 
--- A line spells an act of one step.
+-- Some line of a schedule expresses the act of one step.
 abbrev pub FitsSingle : Single → Type 0
 FitsSingle (Single.Request k t c) = IsU64 k × IsU64 t × FitsCommand c
 FitsSingle (Single.Go i t) = IsU64 i × IsU64 t
@@ -75,7 +75,7 @@ FitsSingle (Single.Tick k t) = IsU64 k × IsU64 t
 FitsSingle (Single.Suspect k t ms) = IsU64 k × IsU64 t × IsMembers ms
 FitsSingle (Single.Junk k t bytes) = IsU64 k × IsU64 t × IsJunk bytes
 
--- A line spells the act.
+-- Some line of a schedule expresses the act.
 abbrev pub FitsAct : Act → Type 0
 FitsAct (Act.One s) = FitsSingle s
 FitsAct (Act.Lose i) = IsU64 i

@@ -1,4 +1,4 @@
--- The bound: from a calm state two calm rounds execute and answer what is submitted.
+-- The liveness bound: from a calm state two calm rounds execute and answer all that was submitted.
 use Rattle.std.specs.Prelude.{◌≡◌, ℕ, ◌+◌, ◌≤◌, ◌-◌, false, true, ◌++◌, List, [], ◌∷◌, length, map, Contains, Some, slice_get}
 use Rattle.std.specs.List.{AllByRecursion}
 use Rattle.crsm_spec.specs.Types.{Entry, Answer, Rec, Datagram, Line}
@@ -16,7 +16,8 @@ use Rattle.crsm_spec.specs.Safe.{AnswersAt}
 abbrev pub IsUpAs : World → ℕ → Replica → Type 0
 IsUpAs w k r = slice_get w.sites k ≡ Some (Site.Up r)
 
--- an active replica of epoch e, whose members are these, with short links and few debts
+-- an active replica of epoch e with these members, at most 16 unacknowledged frames on a link, and at most 16 pending
+-- acknowledgements
 pub record IsCalmMember (e : ℕ) (members : List ℕ) (r : Replica) : Type 0 where
   pub known : known r.log ≡ e
   pub active : active r.log ≡ true
@@ -48,8 +49,9 @@ pub record IsOpen (e : ℕ) (members : List ℕ) (w : World) (f : Entry) : Type 
   pub logged : Contains (log_at w by) (Rec.Prepare f)
   pub unfinished : AllByRecursion (λ k. Contains (executed (log_at w k)) f) members → ⊥
 
--- Every member of epoch e is up and active, no replica knows a later epoch, no control message is under way, at most
--- 16 entries are open, and each member has at most 16 unacknowledged frames on a link and owes at most 16 stamps.
+-- Every member of epoch e is up and active, no replica knows a later epoch, no control message is in flight, at most 16
+-- entries are open, and each member has at most 16 unacknowledged frames on a link and at most 16 pending
+-- acknowledgements.
 pub record IsCalm (e : ℕ) (members : List ℕ) (w : World) : Type 0 where
   pub up : AllByRecursion (IsCalmAt e members w) members
   pub latest : (k : ℕ) (rec : Rec) → Contains (log_at w k) rec → IsLaterDecide e rec → ⊥
@@ -64,31 +66,31 @@ pub record IsCalm (e : ℕ) (members : List ℕ) (w : World) : Type 0 where
 unfoldable pub calm_round : List ℕ → ℕ → List Act
 calm_round members reading = map (λ k. Act.One (Single.Tick k reading)) members ++ Act.Settle reading ∷ []
 
--- the reading is at least 10 above every time that a member has issued in the epoch, and not near the end of numbers
+-- the reading is at least 10 above every time that a member has issued in the epoch, and far from 2^64
 pub record IsCalmReading (members : List ℕ) (w : World) (reading : ℕ) : Type 0 where
   pub above : (k t : ℕ) (r : Replica) → Contains members k → IsUpAs w k r → Contains r.issued t → t + 10 ≤ reading
   pub below : reading ≤ u64_max - 100000
 
 -- ---- what they lead to
 
--- By these acts replica k has executed the entry of a client that waited, and told him its place and the store's answer
--- there.
+-- After these acts replica k has executed the entry of a waiting client and has sent it the entry's place and the
+-- store's answer there.
 pub record IsAnsweredAt (k : ℕ) (w : World) (acts : List Act) (c : Waiting) : Type 0 where
   pub place : ℕ
   pub answer : Answer
   pub answers : AnswersAt (executed (log_at (after_acts w acts) k)) place c.entry answer
   pub line : Contains (map (λ t. t.line) (told w acts)) (Line.ReplyOk k c.entry.command.client c.entry.command.number place answer)
 
--- From w by these acts: each entry of epoch e that its origin had logged is executed at every member, and each client
--- that waited at a member is answered.
+-- After these acts from w: each entry of epoch e that its origin had logged is executed at every member, and each
+-- client that waited at a member is answered.
 pub record AllIsDone (e : ℕ) (members : List ℕ) (w : World) (acts : List Act) : Type 0 where
   pub executed : (f : Entry) → f.epoch ≡ e → Contains (log_at w f.stamp.origin) (Rec.Prepare f) →
       AllByRecursion (λ k. Contains (executed (log_at (after_acts w acts) k)) f) members
   pub answered : (k : ℕ) (r : Replica) (c : Waiting) → Contains members k → IsUpAs w k r → Contains r.waiting c →
       IsAnsweredAt k w acts c
 
--- From w, where it is calm, two calm rounds do all that was submitted, if they are possible and leave the world not full.
--- It is said of the worlds of runs alone: a world that no run leads to may have acknowledged what nobody took.
+-- From a calm world w two calm rounds complete all that was submitted, if they are possible and leave the world not
+-- full. Only worlds of runs are meant: in another one, frames may be acknowledged that no replica received.
 abbrev pub IsBounded : World → Type 0
 IsBounded w =
     (e : ℕ) (members : List ℕ) (t u : ℕ) → IsCalm e members w → IsCalmReading members w t →

@@ -1,4 +1,4 @@
--- The collection of frozen logs: pages, reports, and the decision that they make.
+-- The collection of suspended logs: pages, reports, and the decision that is made of them.
 use Rattle.std.specs.Prelude.{ℕ, ◌+◌, ◌-◌, Bool, true, ◌==◌, ◌&&◌, nat_le, if◌then◌else◌, List, [], ◌∷◌, length, map, filter, find, flat_map, fold, sum_by, max, Option, None, Some, option_map}
 use Rattle.std.specs.List.{list_any}
 use Rattle.std.specs.Option.{option_map_or}
@@ -12,22 +12,22 @@ use Rattle.crsm_spec.specs.Replica.{LogPage}
 
 -- ---- pages
 
--- the logged entries of the known epoch above a stamp, all where there is none
+-- the logged entries of the known epoch above a stamp, or all of them
 unfoldable pub frozen : Log → Option Stamp → List Entry
 frozen log after = above after (logged log)
 
--- the longest run of entries of so many bytes
+-- the longest prefix of the entries whose encodings fit in `room` bytes
 unfoldable pub run_within : ℕ → List Entry → List Entry
 run_within room [] = []
 run_within room (e ∷ es) =
     let size = length (entry_bytes e) in
     if nat_le size room then e ∷ run_within (room - size) es else []
 
--- as many of the entries as go into a page
+-- the longest prefix of the entries that fits in a page
 unfoldable pub first_page : List Entry → List Entry
 first_page es = run_within page_bytes es
 
--- what is asked of: the entries above the asked stamp, or above the last executed one
+-- the entries that a SUSPEND asks for: those above its stamp, or above the last executed one
 unfoldable pub asked_of : Log → Option Stamp → List Entry
 asked_of log None = frozen log (last_stamp log)
 asked_of log (Some s) = frozen log (Some s)
@@ -39,7 +39,7 @@ suspend_ok log after =
     let page = first_page es in
     Control.SuspendOk (known log) (length (executed log)) (last_stamp log) after (length page == length es) page
 
--- the replica's own pages, whole
+-- the replica's own report, as one page
 unfoldable pub own_page : ℕ → Log → LogPage
 own_page me log =
     record {
@@ -56,38 +56,38 @@ own_page me log =
 unfoldable pub pages_of : List LogPage → ℕ → List LogPage
 pages_of pages k = filter (λ p. p.from == k) pages
 
--- its last page has come
+-- whether the last page of k was received
 unfoldable pub is_whole : List LogPage → ℕ → Bool
 is_whole pages k = list_any (λ p. p.whole) (pages_of pages k)
 
--- the stamp of the last entry that came of k: the next page is asked from there
+-- the stamp of the last entry received from k, above which the next page is requested
 unfoldable pub cursor : List LogPage → ℕ → Option Stamp
 cursor pages k = option_map (λ e. e.stamp) (last_of (flat_map (λ p. p.entries) (pages_of pages k)))
 
--- the replicas whose pages are whole, ascending
+-- the replicas of which all pages were received, ascending
 unfoldable pub whole_ones : List ℕ → List LogPage → List ℕ
 whole_ones spec pages = filter (is_whole pages) spec
 
 -- ---- what the reports together say
 
--- the entries of the reports, those of the least replica first
+-- the entries of the reports, by ascending replica
 unfoldable pub all_entries : List ℕ → List LogPage → List Entry
 all_entries ks pages = flat_map (λ k. flat_map (λ p. p.entries) (pages_of pages k)) ks
 
--- the first pages of the reports, that of the least replica first
+-- the first page of each report, by ascending replica
 unfoldable pub first_pages : List ℕ → List LogPage → List LogPage
 first_pages [] pages = []
 first_pages (k ∷ ks) pages = option_map_or (λ p. p ∷ first_pages ks pages) (first_of (pages_of pages k)) (first_pages ks pages)
 
--- the greatest executed length, at least the start
+-- the greatest executed length of the reports, and at least the start
 unfoldable pub base_of : ℕ → List LogPage → ℕ
 base_of start firsts = max start (greatest (map (λ p. p.executed) firsts))
 
--- the last stamp of the first report that has this length
+-- the last stamp of the first report with this executed length
 unfoldable pub floor_of : ℕ → List LogPage → Option Stamp
 floor_of base firsts = option_map_or (λ p. p.last) (find (λ p. p.executed == base) firsts) None
 
--- the entries with this one among them, by ascending stamp, unless its stamp is there
+-- the entries with e inserted by ascending stamp, unless an entry has its stamp
 unfoldable pub with_new : List Entry → Entry → List Entry
 with_new [] e = e ∷ []
 with_new (f ∷ es) e =
@@ -95,11 +95,11 @@ with_new (f ∷ es) e =
     else if stamp_eq e.stamp f.stamp then f ∷ es
     else f ∷ with_new es e
 
--- the entries of all reports as a set, in order: of one stamp the first counts
+-- the entries of all reports by ascending stamp: of entries with one stamp the first is kept
 unfoldable pub union : List Entry → List Entry
 union es = fold with_new [] es
 
--- The decision that the whole reports make for the epoch after the known one.
+-- The decision for the epoch after the known one, made of the complete reports.
 unfoldable pub collected : List ℕ → Option (List ℕ) → Log → List ℕ → List LogPage → Decision
 collected spec named log members pages =
     let ks = whole_ones spec pages in
@@ -113,10 +113,10 @@ collected spec named log members pages =
       tail = above (floor_of base firsts) (union (all_entries ks pages));
     }
 
--- how many bytes the entries take
+-- the encoded length of the entries in bytes
 unfoldable pub size_of : List Entry → ℕ
 size_of es = sum_by (λ e. length (entry_bytes e)) es
 
--- the tail is within the limits
+-- whether the tail is within the limits of a decision
 unfoldable pub is_within : List Entry → Bool
 is_within es = nat_le (length es) most_entries && nat_le (size_of es) most_bytes

@@ -1,4 +1,4 @@
--- A step while it is made: the replica so far, and what the step has kept, sent and told.
+-- Drafts: a step in progress, with the replica's state and what the step has recorded, sent and reported so far.
 use Rattle.std.specs.Prelude.{ℕ, ◌+◌, Bool, true, ◌==◌, ◌&&◌, List, [], ◌∷◌, ◌++◌, length, map, fold, Option}
 use Rattle.std.specs.List.{enumerate_from}
 use Rattle.std.specs.Option.{option_map_or}
@@ -12,7 +12,7 @@ use Rattle.crsm_spec.specs.Parts.{cut}
 use Rattle.crsm_spec.specs.Replica.{Replica, Coordinator, frames_to, other_members, others, last_issued}
 use Rattle.crsm_spec.specs.Choice.{when◌then◌otherwise◌}
 
--- A reply to a client: where it goes, which command it is on, what it says, and its line.
+-- A reply to a client: its address, the command, the outcome, and the line of the transcript.
 pub record Reply : Type 0 where
   pub address : ℕ
   pub client : ℕ
@@ -20,7 +20,7 @@ pub record Reply : Type 0 where
   pub says : Outcome
   pub line : Line
 
--- A step while it is made.
+-- A step in progress.
 pub record Draft : Type 0 where
   pub replica : Replica  -- as the step leaves it so far
   pub batch : List Rec  -- the records of the step, in order
@@ -30,13 +30,13 @@ pub record Draft : Type 0 where
   pub replies : List Reply  -- in order
   pub fitting : Bool  -- each record so far fits
 
--- a step that has done nothing yet
+-- the draft of a step that has done nothing
 unfoldable pub begun : Replica → Draft
 begun r = record { replica = r; batch = []; lines = []; excess = []; sends = []; replies = []; fitting = true }
 
 -- ---- the single things that a step does
 
--- keeps a record
+-- appends a record
 unfoldable pub keep : Rec → Draft → Draft
 keep rec x =
     record x {
@@ -46,37 +46,37 @@ keep rec x =
       fitting = x.fitting && fits x.replica.me x.replica.n x.replica.log rec;
     }
 
--- sends a datagram to a replica
+-- sends datagram d to replica k
 unfoldable pub send : ℕ → Datagram → Draft → Draft
 send k d x = record x { sends = x.sends ++ (k, d) ∷ [] }
 
--- replies to a client
+-- sends a reply to a client
 unfoldable pub reply : Reply → Draft → Draft
 reply a x = record x { replies = x.replies ++ a ∷ [] }
 
--- counts a vote
+-- counts the vote of k for the stamp
 unfoldable pub count_vote : Stamp → ℕ → Draft → Draft
 count_vote s k x = record x { replica = record x.replica { votes = (s, k) ∷ x.replica.votes } }
 
--- changes the coordinator
+-- sets the state of the coordinator
 unfoldable pub noting : Coordinator → Draft → Draft
 noting coordinator x = record x { replica = record x.replica { coordinator = coordinator } }
 
--- the time that the replica would issue
+-- the time that the replica would issue at this reading
 unfoldable pub would : Draft → ℕ → Option ℕ
 would x reading = issue (last_issued x.replica) reading
 
--- issues a time
+-- issues time t
 unfoldable pub issued_at : ℕ → Draft → Draft
 issued_at t x = record x { replica = record x.replica { issued = t ∷ x.replica.issued } }
 
 -- ---- links
 
--- the next frame to k, behind its receiver
+-- the receiver k and the next frame on the link to it
 unfoldable pub next_frame : Replica → InEpoch → ℕ → ℕ × Datagram
 next_frame r payload k = (k, Datagram.Frame r.me k (known r.log) (length (frames_to r k)) payload)
 
--- pushes a payload to these replicas: it gets the next number of each link and is sent at once
+-- pushes a payload to these replicas: it gets the next sequence number on each link and is sent
 unfoldable pub push_to : List ℕ → InEpoch → Draft → Draft
 push_to ks payload x =
     let r = x.replica in
@@ -91,24 +91,24 @@ push_to_members payload x = push_to (other_members x.replica) payload x
 
 -- ---- control messages
 
--- the part datagrams of a message
+-- the parts of a control message to k, as datagrams
 unfoldable pub parts_to : Replica → ℕ → Control → List (ℕ × Datagram)
 parts_to r k c =
     let pieces = cut (control_bytes c) in
     map (λ p. (k, Datagram.Part r.me k (boots r.log) r.made p.0 (length pieces) p.1)) (enumerate_from 0 pieces)
 
--- makes a control message for k, unless this boot has made as many as can be numbered
+-- sends k a control message, unless this boot has used all message numbers
 unfoldable pub send_control : Control → Draft → ℕ → Draft
 send_control c x k =
     let r = x.replica in
     when r.made == u64_max then x
     otherwise record x { replica = record r { made = r.made + 1 }; sends = x.sends ++ parts_to r k c }
 
--- makes one for each of these
+-- sends the control message to each of these replicas
 unfoldable pub send_to_each : List ℕ → Control → Draft → Draft
 send_to_each ks c x = fold (send_control c) x ks
 
--- makes one for each other replica of the Spec
+-- sends the control message to each other replica of the Spec
 unfoldable pub send_to_all : Control → Draft → Draft
 send_to_all c x = send_to_each (others x.replica) c x
 
@@ -116,7 +116,7 @@ send_to_all c x = send_to_each (others x.replica) c x
 unfoldable pub send_decision : ℕ → Draft → Draft
 send_decision k x = option_map_or (λ d. send_control (Control.Decide d) x k) (decision x.replica.log) x
 
--- asks for what is known and executed beyond here
+-- the request for decisions and executed entries beyond this replica's own
 unfoldable pub retrieve : Draft → Control
 retrieve x = Control.Retrieve (known x.replica.log) (length (executed x.replica.log))
 

@@ -1,4 +1,4 @@
--- Nothing that was answered is lost.
+-- Durability: no answered command is lost.
 use Rattle.std.specs.Prelude.{◌≡◌, ℕ, ◌+◌, ◌<◌, ◌≤◌, List, Contains, Some, slice_get}
 use Rattle.std.specs.List.{AllByRecursion}
 use Rattle.crsm_spec.specs.Types.{Entry, Decision, Answer, Rec, Line}
@@ -24,12 +24,12 @@ KeepsEntry w e k = (rec : Rec) × Contains (log_at w k) rec × HoldsEntry e rec
 abbrev pub IsKeptBy : World → List ℕ → Entry → Type 0
 IsKeptBy w spec e = (ks : List ℕ) × IsMajority spec ks × AllByRecursion (KeepsEntry w e) ks
 
--- The next epoch of d begins with the entry in its place, and a majority of the Spec that decided d keeps it.
+-- Decision d's epoch begins with the entry at its place, and a majority of the Spec that decided d holds it.
 pub record GoesOnIn (n : ℕ) (acts : List Act) (w : World) (e : Entry) (place : ℕ) (d : Decision) : Type 0 where
   pub start : slice_get (start_of n acts d) place ≡ Some e
   pub kept : (x : ℕ) → x + 1 ≡ d.epoch → IsKeptBy w (spec_at (last_world n acts) x) e
 
--- In this world an entry at this place is kept by a majority of the Spec of its epoch, and by every later decision.
+-- In this world the entry at this place is held by a majority of the Spec of its epoch, and by every later decision.
 pub record IsDurable (n : ℕ) (acts : List Act) (w : World) (e : Entry) (place : ℕ) : Type 0 where
   pub kept : IsKeptBy w (spec_at (last_world n acts) e.epoch) e
   pub later : AllByRecursion (λ d. e.epoch < d.epoch → GoesOnIn n acts w e place d) (decisions_in w)

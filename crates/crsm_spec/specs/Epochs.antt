@@ -1,4 +1,4 @@
--- Replicas that decide one instance after another, over any network.
+-- A sequence of Paxos instances over an arbitrary network, as replicas run them.
 use Rattle.std.specs.Prelude.{ℕ, ◌+◌, Bool, true, false, ◌==◌, ◌||◌, ◌&&◌, not, nat_lt, nat_le, if◌then◌else◌, List, [], ◌∷◌, ◌++◌, length, Option, Some, None, slice_get}
 use Rattle.crsm_base.specs.declared.stamp.Ballot.{Ballot}
 use Rattle.crsm_base.specs.Order.{ballot_lt, ballot_eq}
@@ -23,7 +23,7 @@ pub record World (D : Type 0) : Type 0 where
   pub replica : ℕ → Replica D
   pub sent : List (Message D)
 
--- a replica begins a proposal, a message comes to it (again, late or in any order), or it loses what it had in memory
+-- a replica begins a proposal, receives a message (any that was sent, late or again), or loses what it had in memory
 pub data Event (D : Type 0) : Type 0 where
   Begin : (r : ℕ) (own : D) → Event D
   Comes : (r which : ℕ) → Event D

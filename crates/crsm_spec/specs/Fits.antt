@@ -1,4 +1,4 @@
--- Which record may be kept next.
+-- Which record may follow which in a log.
 use Rattle.std.specs.Prelude.{ℕ, ◌+◌, Bool, true, false, ◌==◌, ◌&&◌, ◌||◌, not, nat_lt, nat_le, List, [], ◌∷◌, length, Some}
 use Rattle.std.specs.Option.{option_map_or}
 use Rattle.std.specs.List.{list_all}
@@ -10,20 +10,20 @@ use Rattle.crsm_spec.specs.Quorum.{spec_decided}
 use Rattle.crsm_spec.specs.Clock.{u64_max}
 use Rattle.crsm_spec.specs.Log.{Log, known, start, members, spec, logged, executed, unexecuted, boots, has_entered, live, suspended, active, promised, accepted}
 
--- a boot is on record
+-- whether the log has the record of a boot
 unfoldable pub booted : Log → Bool
 booted log = nat_lt 0 (boots log)
 
--- each logged entry of the same origin has a smaller time
+-- whether each logged entry of the same origin has a smaller time
 unfoldable pub is_newest : Entry → List Entry → Bool
 is_newest e es = list_all (λ f. not (f.stamp.origin == e.stamp.origin) || nat_lt f.stamp.time e.stamp.time) es
 
--- the entries stand behind the executed ones, in order
+-- whether the entries extend the executed ones, in order
 unfoldable pub goes_on : List Entry → List Entry → Bool
 goes_on done [] = false
 goes_on done (e ∷ es) = option_map_or (λ f. entry_lt f e) (last_of done) true
 
--- The condition of each kind of record, at replica me of n.
+-- Whether a record may be appended to the log of replica me of n.
 unfoldable pub fits : ℕ → ℕ → Log → Rec → Bool
 fits me n log (Rec.Boot m k) = (m == me && k == n) && nat_lt (boots log) u64_max
 fits me n log (Rec.Prepare e) =

@@ -1,4 +1,4 @@
--- What ties a proposer to its instance.
+-- The relation between a proposer's state and the instance that it proposes in.
 use Rattle.std.specs.Prelude.{◌≡◌, ◌≢◌, ℕ, true, false, nat_eq, List, [], map, length, Contains}
 use Rattle.std.specs.List.{IsDistinct}
 use Rattle.crsm_spec.specs.Types.{Ballot}
@@ -10,7 +10,7 @@ use Rattle.crsm_spec.specs.Proposing.{Proposing, value_proposed}
 abbrev pub lowest : Ballot
 lowest = record { round = 0; by = 0 }
 
--- the instance is where some list of steps leaves a fresh one
+-- some list of steps leads from a fresh instance to this one
 pub record IsReached {D : Type 0} (spec : List ℕ) (s : Instance D) : Type 0 where
   pub steps : List (PaxosStep D)
   pub run : IsRun spec fresh steps
@@ -30,7 +30,7 @@ IsOther (Promises r c) b = Unit {0}
 IsOther (Accepts r c d) b = Unit {0}
 IsOther (Proposes c own answers) b = c ≢ b
 
--- what the proposer counted is what replicas of the Spec answered in its ballot, each once
+-- the promises and votes that the proposer counted were made by replicas of the Spec in its ballot, each counted once
 pub record Follows {D : Type 0} (spec : List ℕ) (s : Instance D) (p : Proposing D) : Type 0 where
   pub size : p.size ≡ length spec
   pub answers : List (Answer D)

@@ -1,20 +1,20 @@
--- The lines of the transcript that records and replies give.
+-- The transcript lines of records and replies.
 use Rattle.std.specs.Prelude.{ℕ, ◌+◌, ◌==◌, if◌then◌else◌, List, [], ◌∷◌, ◌++◌, length, option_to_list}
 use Rattle.crsm_spec.specs.Types.{Entry, Rec, Line}
 use Rattle.crsm_base.specs.Store.{answer_after}
 use Rattle.crsm_spec.specs.Log.{Log, entry_of, executed, boots}
 
--- the line of an entry that is executed behind these, at replica me
+-- the line of an entry that replica me executes after these
 unfoldable pub exec_line : ℕ → List Entry → Entry → Line
 exec_line me done e =
     Line.Exec me (length done) e.epoch e.stamp e.command.client e.command.number (answer_after done e)
 
--- the lines of entries that are executed behind these
+-- the lines of entries that are executed after these
 unfoldable pub exec_lines : ℕ → List Entry → List Entry → List Line
 exec_lines me done [] = []
 exec_lines me done (e ∷ es) = exec_line me done e ∷ exec_lines me (done ++ e ∷ []) es
 
--- The lines that a record gives which is kept behind this log.
+-- The lines of a record that is appended to this log.
 unfoldable pub lines_of : ℕ → Log → Rec → List Line
 lines_of me log (Rec.Boot m n) = Line.Boot me (boots log + 1) ∷ []
 lines_of me log (Rec.Prepare e) =

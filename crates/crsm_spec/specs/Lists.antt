@@ -1,4 +1,4 @@
--- Words on lists that std lacks.
+-- Functions on lists that std lacks.
 use Rattle.std.specs.Prelude.{◌⊎◌, ◌≡◌, ℕ, List, [], ◌∷◌, ◌++◌, Option, None, Some, max}
 use Rattle.std.specs.List.{last_or}
 unfoldable pub use Rattle.crsm_base.specs.Replicas.{has, numbers_below}
@@ -12,7 +12,7 @@ unfoldable pub first_of : {A : Type 0} → List A → Option A
 first_of [] = None
 first_of (x ∷ xs) = Some x
 
--- the greatest of the numbers, 0 of none
+-- the greatest of the numbers, 0 if there are none
 unfoldable pub greatest : List ℕ → ℕ
 greatest [] = 0
 greatest (x ∷ xs) = max x (greatest xs)

@@ -1,5 +1,5 @@
--- What a replica's log says. A log is the list of the records that were kept, the newest first: so what it said
--- earlier is what an end of it says.
+-- The state that a replica's log records. A log is the list of its records, the newest first, so an earlier state is
+-- that of a tail of the list.
 use Rattle.std.specs.Prelude.{ℕ, ◌+◌, Bool, true, false, ◌==◌, ◌&&◌, not, if◌then◌else◌, List, [], ◌∷◌, ◌++◌, length, filter, find, count_by, Option, None, Some, option_map, option_to_list}
 use Rattle.std.specs.List.{list_any}
 use Rattle.std.specs.Option.{option_map_or}
@@ -14,17 +14,17 @@ Log = List Rec
 
 -- ---- epochs
 
--- the decision of the known epoch; of epoch 0 there is none
+-- the decision of the known epoch; epoch 0 has none
 unfoldable pub decision : Log → Option Decision
 decision [] = None
 decision (Rec.Decide d ∷ log) = Some d
 decision (_ ∷ log) = decision log
 
--- the known epoch
+-- the known epoch: that of the latest decision, 0 before the first
 unfoldable pub known : Log → ℕ
 known log = option_map_or (λ d. d.epoch) (decision log) 0
 
--- how many entries are executed when the known epoch begins
+-- the number of entries that are executed when the known epoch begins
 unfoldable pub start : Log → ℕ
 start log = option_map_or (λ d. d.base_len + length d.tail) (decision log) 0
 
@@ -38,7 +38,7 @@ spec n log = spec_decided n (decision log)
 
 -- ---- entries
 
--- the entries with this one among them, by ascending stamp
+-- the entries with e inserted by ascending stamp
 unfoldable pub with_entry : Entry → List Entry → List Entry
 with_entry e [] = e ∷ []
 with_entry e (f ∷ es) = if stamp_lt e.stamp f.stamp then e ∷ f ∷ es else f ∷ with_entry e es
@@ -68,7 +68,7 @@ executed (_ ∷ log) = executed log
 unfoldable pub last_stamp : Log → Option Stamp
 last_stamp log = option_map (λ e. e.stamp) (last_of (filter (λ e. e.epoch == known log) (executed log)))
 
--- the entries above a stamp, all of them where there is none
+-- the entries above a stamp, or all of them if there is none
 unfoldable pub above : Option Stamp → List Entry → List Entry
 above None es = es
 above (Some s) es = filter (λ e. stamp_lt s e.stamp) es
@@ -84,7 +84,7 @@ unfoldable pub is_boot : Rec → Bool
 is_boot (Rec.Boot me n) = true
 is_boot _ = false
 
--- how many boots are on record
+-- the number of boots recorded
 unfoldable pub boots : Log → ℕ
 boots log = count_by is_boot log
 
@@ -93,11 +93,11 @@ unfoldable pub is_enter : ℕ → Rec → Bool
 is_enter x (Rec.Enter y) = y == x
 is_enter x _ = false
 
--- some boot has entered epoch x
+-- whether some boot has entered epoch x
 unfoldable pub has_entered : ℕ → Log → Bool
 has_entered x log = list_any (is_enter x) log
 
--- the newest boot has entered the known epoch
+-- whether the newest boot has entered the known epoch
 unfoldable pub live : Log → Bool
 live [] = false
 live (Rec.Enter x ∷ log) = true
@@ -105,14 +105,14 @@ live (Rec.Boot me n ∷ log) = false
 live (Rec.Decide d ∷ log) = false
 live (_ ∷ log) = live log
 
--- the replica has promised to log and to stamp no more in the known epoch
+-- whether the replica is suspended: it logs and stamps no more entries in the known epoch
 unfoldable pub suspended : Log → Bool
 suspended [] = false
 suspended (Rec.Suspend x ∷ log) = true
 suspended (Rec.Decide d ∷ log) = false
 suspended (_ ∷ log) = suspended log
 
--- live and not suspended: the replica logs, stamps and commits
+-- whether the replica is live and not suspended, so that it logs, stamps and commits
 unfoldable pub active : Log → Bool
 active log = live log && not (suspended log)
 

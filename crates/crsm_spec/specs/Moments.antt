@@ -1,4 +1,4 @@
--- What comes of an act: the moments that it makes of a world.
+-- The effect of an act: the changes that it makes to a world, one after another.
 use Rattle.std.specs.Prelude.{ℕ, Bool, true, ◌==◌, ◌&&◌, ◌||◌, not, nat_lt, if◌then◌else◌, List, [], ◌∷◌, ◌++◌, length, map, filter, fold, flat_map, Option, None, Some, slice_get, slice_set}
 use Rattle.std.specs.List.{enumerate_from}
 use Rattle.std.specs.Option.{option_map_or}
@@ -10,20 +10,20 @@ use Rattle.crsm_spec.specs.Acts.{Single, Act}
 
 -- ---- one step
 
--- datagram i is used from now on
+-- the world with datagram i used
 unfoldable pub use_up : ℕ → World → World
 use_up i w =
     record w { packets = option_map_or (λ m. slice_set w.packets i (record m { used = true })) (slice_get w.packets i) w.packets }
 
--- a change without a line
+-- a change without a transcript line
 unfoldable pub silent : World → World → Moment
 silent w v = record { before = w; after = v; lines = [] }
 
--- the same moment, of a change that began earlier
+-- the same change, of a moment that began in an earlier world
 unfoldable pub begun_at : World → Moment → Moment
 begun_at w m = record m { before = w }
 
--- A step at a site, which ends whole or is stopped. Only a replica that is up steps.
+-- A step at a site, which ends as `ending` says. Only a replica that is up makes steps.
 unfoldable pub step_at_site : Ending → World → ℕ → Input → ℕ → Option Site → Moment
 step_at_site ends w k input reading (Some (Site.Up r)) = ends w k (step r input reading)
 step_at_site ends w k input reading _ = silent w w
@@ -32,18 +32,17 @@ step_at_site ends w k input reading _ = silent w w
 unfoldable pub step_at : Ending → World → ℕ → Input → ℕ → Moment
 step_at ends w k input reading = step_at_site ends w k input reading (slice_get w.sites k)
 
--- a datagram comes to its receiver
+-- a datagram is received
 unfoldable pub come : Ending → World → ℕ → Option Packet → Moment
 come ends w reading None = silent w w
 come ends w reading (Some m) = step_at ends w m.to (Input.Came m.from m.datagram) reading
 
--- bytes that are no datagram do nothing to a replica
+-- bytes that are no datagram change nothing at a replica
 unfoldable pub junk_at : Ending → World → ℕ → Option Site → Moment
 junk_at ends w k (Some (Site.Up r)) = ends w k (begun r)
 junk_at ends w k _ = silent w w
 
--- What comes of an act of one step, which ends whole or is stopped. A client's address is its number, and a
--- replica's is its own.
+-- The effect of an act of one step. The address of a client is its number, that of a replica is its number too.
 unfoldable pub single : Ending → World → Single → Moment
 single ends w (Single.Request k t c) = step_at ends w k (Input.Came c.client (Datagram.Request c)) t
 single ends w (Single.Go i t) = begun_at w (come ends (use_up i w) t (slice_get w.packets i))
@@ -67,27 +66,28 @@ go_each t (i ∷ is) w =
     let more = m ∷ go_each t is m.after in
     if is_full w then [] else more
 
--- Delivers these together, each as one moment.
+-- Delivers these datagrams as one batch, each as one moment.
 unfoldable pub go_all : ℕ → List ℕ → World → List Moment
 go_all t [] w = []
 go_all t (i ∷ is) w = let m = single whole_step w (Single.Go i t) in m ∷ go_all t is m.after
 
--- Deliveries that stop before their batches are kept: the first is lost with its step, and the others are used.
+-- A batch that stops before it is kept: the first delivery is lost with its step, and the other datagrams are used up.
 unfoldable pub lose_batch : ℕ → List ℕ → World → Moment
 lose_batch t [] w = silent w w
 lose_batch t (i ∷ is) w = begun_at w (single lost_step (fold (λ v j. use_up j v) w is) (Single.Go i t))
 
 -- ---- stops and starts
 
--- A put that stops after so many device calls is kept where all four were made, or where its gate reads open.
+-- whether a log write that stopped after this many device calls is kept: all four were made, or its gate byte reads as
+-- open
 unfoldable pub is_kept : ℕ → ℕ → Bool
 is_kept calls fill = calls == 4 || (calls == 3 && fill == 1)
 
--- A step that stops within its put. A batch without records is lost with its sends.
+-- The ending of a step that stops during its log write. A step without records is lost with its sends.
 unfoldable pub cut_at : ℕ → ℕ → Ending
 cut_at calls fill w k x = if is_kept calls fill && nat_lt 0 (length x.batch) then cut_step 0 w k x else lost_step w k x
 
--- the world with one more site, where k is the number of replicas so far
+-- the world with one site more, where k is the next new number
 unfoldable pub with_room : World → ℕ → World
 with_room w k = if k == length w.sites then record w { sites = w.sites ++ Site.Down [] ∷ [] } else w
 
@@ -119,7 +119,7 @@ world_after w (m ∷ ms) = world_after m.after ms
 unfoldable pub lines_of : List Moment → List Line
 lines_of ms = flat_map (λ m. m.lines) ms
 
--- An act as one change.
+-- The effect of an act as one change.
 unfoldable pub act : World → Act → Moment
 act w a =
     let ms = moments_of w a in record { before = w; after = world_after w ms; lines = lines_of ms }

@@ -1,4 +1,4 @@
--- Single-decree Paxos over any decisions D: an acceptor, the value of a proposal, and what is chosen in an instance.
+-- Single-decree Paxos over arbitrary decisions D: acceptors, the value of a proposal, and which decision is chosen.
 use Rattle.std.specs.Prelude.{◌≡◌, ◌≢◌, ℕ, ◌≤◌, Bool, false, ◌==◌, ◌||◌, ◌&&◌, not, nat_lt, nat_eq, if◌then◌else◌, List, [], ◌∷◌, ◌++◌, map, fold, length, Contains, IsTrue, Option, Some, None}
 use Rattle.std.specs.List.{IsDistinct}
 use Rattle.std.specs.Option.{ForSome}
@@ -10,12 +10,12 @@ pub use Rattle.crsm_base.specs.Replicas.{majority}
 abbrev pub Held : Type 0 → Type 0
 Held D = Option (Ballot × D)
 
--- what an acceptor keeps of the instance
+-- an acceptor's state in the instance: its promise, and what it accepted
 pub record Acceptance (D : Type 0) : Type 0 where
   pub promised : Ballot
   pub accepted : Held D
 
--- what a replica answers with its promise: its number, and what it had accepted
+-- an acceptor's answer with a promise: its number, and the decision that it had accepted
 pub record Answer (D : Type 0) : Type 0 where
   pub replica : ℕ
   pub accepted : Held D
@@ -36,7 +36,7 @@ pub record Proposal (D : Type 0) : Type 0 where
   pub ballot : Ballot
   pub value : D
 
--- an instance: each acceptor as it is now, and every promise, vote and proposal ever made
+-- an instance: the state of each acceptor, and every promise, vote and proposal ever made
 pub record Instance (D : Type 0) : Type 0 where
   pub acceptor : ℕ → Acceptance D
   pub promises : List (Promise D)
@@ -69,17 +69,17 @@ pub record Found (D : Type 0) : Type 0 where
 abbrev pub counts_before : {D : Type 0} → Found D → Found D → Bool
 counts_before x y = ballot_lt y.ballot x.ballot || (not (ballot_lt x.ballot y.ballot) && nat_lt x.replica y.replica)
 
--- of what was found so far and of a further one, what counts
+-- the better of two such decisions
 abbrev pub better : {D : Type 0} → Option (Found D) → Found D → Option (Found D)
 better None x = Some x
 better (Some y) x = if counts_before x y then Some x else Some y
 
--- with what a replica had accepted
+-- the better one, after a replica's accepted decision
 abbrev pub better_held : {D : Type 0} → Option (Found D) → ℕ → Held D → Option (Found D)
 better_held best replica None = best
 better_held best replica (Some held) = better best (record { ballot = held.0; replica = replica; value = held.1 })
 
--- with what an answer names
+-- the better one, after an answer
 abbrev pub better_answer : {D : Type 0} → Option (Found D) → Answer D → Option (Found D)
 better_answer best x = better_held best x.replica x.accepted
 
@@ -87,13 +87,13 @@ better_answer best x = better_held best x.replica x.accepted
 abbrev pub best_of : {D : Type 0} → List (Answer D) → Option (Found D)
 best_of answers = fold better_answer None answers
 
--- the same as a fact: it was named, in the greatest ballot that was, by the least replica for that ballot
+-- the same as a relation: it is named in the greatest ballot, by the least replica for that ballot
 pub record IsGreatest {D : Type 0} (answers : List (Answer D)) (f : Found D) : Type 0 where
   pub named : Contains answers (record { replica = f.replica; accepted = Some (f.ballot, f.value) })
   pub greatest : (x : Answer D) → Contains answers x → ForSome x.accepted (λ held. ballot_lt f.ballot held.0 ≡ false)
   pub least : (x : Answer D) → Contains answers x → ForSome x.accepted (λ held. held.0 ≡ f.ballot → f.replica ≤ x.replica)
 
--- it, or the proposer's own where there is none
+-- its decision, or the proposer's own where there is none
 abbrev pub value_of_best : {D : Type 0} → D → Option (Found D) → D
 value_of_best own None = own
 value_of_best own (Some x) = x.value
@@ -112,7 +112,7 @@ pub record IsMajority (spec replicas : List ℕ) : Type 0 where
 
 -- ---- the steps
 
--- a step of one replica: an acceptor promises or accepts, or a ballot proposes what these answers leave
+-- a step of one replica: an acceptor promises or accepts, or a ballot proposes the value that the answers allow
 pub data PaxosStep (D : Type 0) : Type 0 where
   Promises : (replica : ℕ) (ballot : Ballot) → PaxosStep D
   Accepts : (replica : ℕ) (ballot : Ballot) (value : D) → PaxosStep D
@@ -144,7 +144,7 @@ MayTake spec s (Promises r b) = MayPromise (s.acceptor r) b
 MayTake spec s (Accepts r b d) = MayAccept (s.acceptor r) s.proposals b d
 MayTake spec s (Proposes b own answers) = MayPropose spec s b answers
 
--- the acceptors with one of them changed
+-- the acceptors with one of them replaced
 abbrev pub with_acceptor : {D : Type 0} → (ℕ → Acceptance D) → ℕ → Acceptance D → ℕ → Acceptance D
 with_acceptor f r a q = if q == r then a else f q
 
@@ -174,7 +174,7 @@ abbrev pub after_steps : {D : Type 0} → Instance D → List (PaxosStep D) → 
 after_steps s [] = s
 after_steps s (e ∷ es) = after_steps (after_step s e) es
 
--- each step may be taken where those before it left the instance
+-- each step may be taken in the instance that those before it left
 abbrev pub IsRun : {D : Type 0} → List ℕ → Instance D → List (PaxosStep D) → Type 0
 IsRun spec s [] = Unit {0}
 IsRun spec s (e ∷ es) = MayTake spec s e × IsRun spec (after_step s e) es

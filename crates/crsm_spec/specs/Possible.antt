@@ -1,4 +1,4 @@
--- Which acts are possible in a world, and why another is not.
+-- Which acts are possible in a world, and the reason why another is not.
 use Rattle.std.specs.Prelude.{ℕ, Bool, false, ◌==◌, ◌&&◌, not, nat_lt, nat_le, if◌then◌else◌, List, [], ◌∷◌, length, flat_map, Option, None, Some, is_some, slice_get}
 use Rattle.std.specs.List.{list_all, list_any}
 use Rattle.std.specs.Option.{option_map_or}
@@ -9,18 +9,18 @@ use Rattle.crsm_spec.specs.Log.{spec}
 use Rattle.crsm_spec.specs.World.{World, log_at, is_up_at, is_full}
 use Rattle.crsm_spec.specs.Acts.{Single, Act, Bad}
 
--- the first cause of these that holds
+-- the reason of the first condition that holds
 unfoldable pub first_bad : List (Bool × Bad) → Option Bad
 first_bad [] = None
 first_bad (c ∷ cs) = if c.0 then Some c.1 else first_bad cs
 
 -- ---- tests
 
--- k is no replica so far
+-- whether k is the number of no replica
 unfoldable pub is_none_of : World → ℕ → Bool
 is_none_of w k = nat_le (length w.sites) k
 
--- k can become the next replica
+-- whether k is the next new replica number
 unfoldable pub is_next_new : World → ℕ → Bool
 is_next_new w k = k == length w.sites && nat_lt k 15
 
@@ -28,7 +28,7 @@ is_next_new w k = k == length w.sites && nat_lt k 15
 unfoldable pub is_down_at : World → ℕ → Bool
 is_down_at w k = not (is_up_at w k)
 
--- datagram i was not sent
+-- whether no datagram has number i
 unfoldable pub is_not_sent : World → ℕ → Bool
 is_not_sent w i = nat_le (length w.packets) i
 
@@ -36,11 +36,11 @@ is_not_sent w i = nat_le (length w.packets) i
 unfoldable pub is_receiver_down : World → ℕ → Bool
 is_receiver_down w i = option_map_or (λ m. is_down_at w m.to) (slice_get w.packets i) false
 
--- datagram i was delivered or lost
+-- whether datagram i was delivered or lost
 unfoldable pub is_used : World → ℕ → Bool
 is_used w i = option_map_or (λ m. m.used) (slice_get w.packets i) false
 
--- they are of this Spec, and fewer than a majority of it
+-- whether the members are in this Spec and fewer than a majority of it
 unfoldable pub are_too_few : List ℕ → List ℕ → Bool
 are_too_few spec ms = list_all (has spec) ms && nat_lt (length ms) (majority (length spec))
 
@@ -48,18 +48,18 @@ are_too_few spec ms = list_all (has spec) ms && nat_lt (length ms) (majority (le
 unfoldable pub receivers : World → List ℕ → List ℕ
 receivers w is = flat_map (λ i. option_map_or (λ m. m.to ∷ []) (slice_get w.packets i) []) is
 
--- the numbers are not all the same
+-- whether the numbers differ
 unfoldable pub are_mixed : List ℕ → Bool
 are_mixed [] = false
 are_mixed (k ∷ ks) = list_any (λ j. not (j == k)) ks
 
 -- ---- the causes, in order
 
--- replica k is there and up
+-- the conditions under which no step at k is possible: k is no replica, or is down
 unfoldable pub causes_at : World → ℕ → List (Bool × Bad)
 causes_at w k = (is_none_of w k, Bad.NoSuchReplica) ∷ (is_down_at w k, Bad.IsDown) ∷ []
 
--- the causes that an act of one step may meet
+-- the conditions under which an act of one step is not possible
 unfoldable pub causes_of_single : World → Single → List (Bool × Bad)
 causes_of_single w (Single.Request k t c) = causes_at w k
 causes_of_single w (Single.Go i t) =
@@ -73,13 +73,13 @@ causes_of_single w (Single.Suspect k t ms) =
 causes_of_single w (Single.Junk k t bytes) =
     (is_none_of w k, Bad.NoSuchReplica) ∷ (is_down_at w k, Bad.IsDown) ∷ (is_some (datagram_of bytes), Bad.Forged) ∷ []
 
--- the causes that deliveries together may meet
+-- the conditions under which a batch of deliveries is not possible
 unfoldable pub causes_of_batch : World → List ℕ → List (Bool × Bad)
 causes_of_batch w is =
     (list_any (is_not_sent w) is, Bad.NoSuchDatagram) ∷ (list_any (is_used w) is, Bad.Used)
     ∷ (are_mixed (receivers w is), Bad.Mixed) ∷ (list_any (is_receiver_down w) is, Bad.IsDown) ∷ []
 
--- the causes that an act may meet
+-- the conditions under which an act is not possible
 unfoldable pub causes_of : World → Act → List (Bool × Bad)
 causes_of w (Act.One s) = causes_of_single w s
 causes_of w (Act.Lose i) = (is_not_sent w i, Bad.NoSuchDatagram) ∷ (is_used w i, Bad.Used) ∷ []
@@ -93,6 +93,6 @@ causes_of w (Act.Batch t is) = causes_of_batch w is
 causes_of w (Act.CutLostBatch t is) = causes_of_batch w is
 causes_of w (Act.CutAt calls fill s) = causes_of_single w s
 
--- Why an act is not possible here: the first cause, and none where it is possible.
+-- The first reason why an act is not possible here; None if it is possible.
 unfoldable pub possible : World → Act → Option Bad
 possible w a = first_bad ((is_full w, Bad.Full w.bytes) ∷ causes_of w a)

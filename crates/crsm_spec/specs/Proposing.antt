@@ -1,4 +1,4 @@
--- A proposal under way at one replica.
+-- A proposer's state in one ballot.
 use Rattle.std.specs.Prelude.{ℕ, ◌+◌, Bool, false, ◌==◌, ◌&&◌, not, nat_le, if◌then◌else◌, List, [], ◌∷◌, ◌++◌, length, Option, None}
 use Rattle.std.specs.List.{list_any}
 use Rattle.crsm_spec.specs.Types.{Ballot}
@@ -6,29 +6,29 @@ use Rattle.crsm_base.specs.Order.{ballot_eq}
 use Rattle.crsm_spec.specs.Paxos.{majority}
 use Rattle.crsm_spec.specs.Paxos.{Held, Found, better_held, value_of_best}
 
--- what a proposer keeps of its ballot
+-- a proposer's state in its ballot
 pub record Proposing (D : Type 0) : Type 0 where
   pub ballot : Ballot
   pub own : D
-  -- how many replicas the Spec has
+  -- the size of the Spec
   pub size : ℕ
-  -- whose promises are counted, and the accepted decision that counts among their answers
+  -- the replicas whose promises were counted, and the accepted decision that counts among their answers
   pub received : List ℕ
   pub best : Option (Found D)
-  -- a majority promised, and the value is proposed
+  -- whether a majority promised, so that the value is proposed
   pub has_proposed : Bool
-  -- whose votes are counted
+  -- the replicas whose votes were counted
   pub voters : List ℕ
 
 -- the value that the ballot proposes
 abbrev pub value_proposed : {D : Type 0} → Proposing D → D
 value_proposed p = value_of_best p.own p.best
 
--- the replica is among these
+-- whether the promise of this replica was counted
 abbrev pub is_received : List ℕ → ℕ → Bool
 is_received replicas r = list_any (λ q. q == r) replicas
 
--- a ballot in which nothing was answered yet
+-- the state before any answer
 abbrev pub start_proposing : {D : Type 0} → Ballot → D → ℕ → Proposing D
 start_proposing ballot own size = record { ballot = ballot; own = own; size = size; received = []; best = None; has_proposed = false; voters = [] }
 
@@ -36,7 +36,7 @@ start_proposing ballot own size = record { ballot = ballot; own = own; size = si
 abbrev pub counts_answer : {D : Type 0} → Proposing D → ℕ → Ballot → Bool
 counts_answer p from b = ballot_eq b p.ballot && (not p.has_proposed && not (is_received p.received from))
 
--- with an answer counted
+-- the state after an answer was counted
 abbrev pub after_answer : {D : Type 0} → Proposing D → ℕ → Held D → Proposing D
 after_answer p from accepted =
     record {
@@ -49,7 +49,7 @@ after_answer p from accepted =
       voters = p.voters;
     }
 
--- after a promise of this ballot came
+-- the state after a promise was received
 abbrev pub after_p1b : {D : Type 0} → Proposing D → ℕ → Ballot → Held D → Proposing D
 after_p1b p from b accepted = if counts_answer p from b then after_answer p from accepted else p
 
@@ -57,7 +57,7 @@ after_p1b p from b accepted = if counts_answer p from b then after_answer p from
 abbrev pub counts_vote : {D : Type 0} → Proposing D → ℕ → Ballot → Bool
 counts_vote p from b = ballot_eq b p.ballot && (p.has_proposed && not (is_received p.voters from))
 
--- after a vote in this ballot came
+-- the state after a vote was received
 abbrev pub after_p2b : {D : Type 0} → Proposing D → ℕ → Ballot → Proposing D
 after_p2b p from b = if counts_vote p from b then record p { voters = p.voters ++ from ∷ [] } else p
 

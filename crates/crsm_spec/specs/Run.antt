@@ -1,4 +1,4 @@
--- Whole runs: what acts make of the first world, the lines that are seen, and the executed lists.
+-- Whole runs: the worlds that acts lead to, the lines of the transcript, and the executed lists.
 use Rattle.std.specs.Prelude.{◌≡◌, ℕ, nat_lt, if◌then◌else◌, List, [], ◌∷◌, ◌++◌, length, map, flat_map, fold, Option, None, Some}
 use Rattle.crsm_spec.specs.Types.{Entry, Line}
 use Rattle.crsm_spec.specs.Lists.{numbers_below}
@@ -13,7 +13,7 @@ unfoldable pub after_acts : World → List Act → World
 after_acts w [] = w
 after_acts w (a ∷ acts) = after_acts (act w a).after acts
 
--- a line spells each act, and each is possible in the world so far
+-- a schedule can express each act, and each is possible in the world that those before it left
 abbrev pub ArePossible : World → List Act → Type 0
 ArePossible w [] = Unit {0}
 ArePossible w (a ∷ acts) = FitsAct a × (possible w a ≡ None) × ArePossible (act w a).after acts
@@ -33,12 +33,12 @@ last_world n acts = after_acts (begin n) acts
 
 -- ---- lines
 
--- A line, and the act that led to it. The first boots are no act.
+-- A transcript line, and the act that led to it. The first boots have none.
 pub record TraceLine : Type 0 where
   pub by : Option Act
   pub line : Line
 
--- the line, by this act
+-- a line, with this act
 unfoldable pub traced : Option Act → Line → TraceLine
 traced a line = record { by = a; line = line }
 
@@ -47,7 +47,7 @@ unfoldable pub told : World → List Act → List TraceLine
 told w [] = []
 told w (a ∷ acts) = let m = act w a in map (traced (Some a)) m.lines ++ told m.after acts
 
--- all lines of a run, those of the first boots in front
+-- all lines of a run, those of the first boots at the beginning
 unfoldable pub seen : ℕ → List Act → List TraceLine
 seen n acts = map (traced None) (first_lines n) ++ told (begin n) acts
 
@@ -65,6 +65,6 @@ all_lists n acts = flat_map (λ k. map (λ w. executed (log_at w k)) (all_worlds
 unfoldable pub longest : List (List Entry) → List Entry
 longest lists = fold (λ best es. if nat_lt (length best) (length es) then es else best) [] lists
 
--- The one list of a run. No replica holds it.
+-- The one list of a run, which no replica need hold.
 unfoldable pub the_list : ℕ → List Act → List Entry
 the_list n acts = longest (all_lists n acts)

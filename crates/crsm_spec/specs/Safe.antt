@@ -1,5 +1,5 @@
--- What holds of every run: the laws of agreement, of answers and of real time. They speak of one list of entries
--- and of the sequential store, and know no votes, epoch changes, links or logs.
+-- The safety of every run: agreement, answers and real time. These laws speak of one list of entries and of the
+-- sequential store, and not of votes, epoch changes, links or logs.
 use Rattle.std.specs.Prelude.{◌≡◌, ℕ, ◌<◌, ◌≤◌, List, take, Option, None, Some, slice_get}
 use Rattle.std.specs.List.{AllByRecursion}
 use Rattle.crsm_spec.specs.Types.{Stamp, Command, Entry, Answer, Line}
@@ -25,18 +25,18 @@ command_of (Some (Act.CutKept count s)) = command_of_single s
 command_of (Some (Act.CutAt calls fill s)) = command_of_single s
 command_of _ = None
 
--- the line says that this entry was submitted at its origin, by a request of its command
+-- the line is the submission of this entry at its origin, by a request of its command
 abbrev pub Submits : TraceLine → Entry → Type 0
 Submits t e =
     (t.line ≡ Line.Submit e.stamp.origin e.epoch e.stamp.time e.command.client e.command.number)
     × (command_of t.by ≡ Some e.command)
 
--- the line says that an entry of this epoch and stamp was executed
+-- the line is the execution of an entry of this epoch and stamp
 abbrev pub IsExecOf : ℕ → Stamp → Line → Type 0
 IsExecOf epoch stamp (Line.Exec k place x s client number a) = (x ≡ epoch) × (s ≡ stamp)
 IsExecOf epoch stamp _ = ⊥
 
--- the line says that an entry of this epoch and stamp was submitted
+-- the line is the submission of an entry of this epoch and stamp
 abbrev pub IsSubmitOf : ℕ → Stamp → Line → Type 0
 IsSubmitOf epoch stamp (Line.Submit k x time client number) = (x ≡ epoch) × (record { time = time; origin = k } ≡ stamp)
 IsSubmitOf epoch stamp _ = ⊥
@@ -52,7 +52,8 @@ AnswersAt es place e a = (slice_get es place ≡ Some e) × (a ≡ answer_after 
 -- ---- agreement
 
 -- All executed lists, at any moments, are prefixes of one list. It rises by epoch and stamp, and each entry of it was
--- submitted by its origin for a client's request before it was executed anywhere. No epoch and stamp is submitted twice.
+-- submitted by its origin for a client's request before it was executed anywhere. No epoch and stamp is submitted
+-- twice.
 pub record Agreed (n : ℕ) (acts : List Act) : Type 0 where
   pub prefixes : AllByRecursion (λ es. IsPrefixOf es (the_list n acts)) (all_lists n acts)
   pub ascending : Rises (the_list n acts)
@@ -70,14 +71,15 @@ abbrev pub WasSubmitted : List TraceLine → ℕ → ℕ → ℕ → ℕ → ℕ
 WasSubmitted lines i k epoch time client number =
     (j : ℕ) × (j < i) × IsLineAt lines j (Line.Submit k epoch time client number)
 
--- Two reply lines of a run are on one submitted entry.
+-- Two reply lines of a run are for one submitted entry.
 abbrev pub AreOnOneEntry : Line → Line → Type 0
 AreOnOneEntry (Line.ReplyOk k c m place a) (Line.ReplyOk k' c' m' place' a') = place ≡ place'
 AreOnOneEntry (Line.ReplyDropped k c m x s) (Line.ReplyDropped k' c' m' x' s') = (x ≡ x') × (s ≡ s')
 AreOnOneEntry _ _ = ⊥
 
--- Each executed entry, and each answer, is the one list's at its place. A reply is on an entry of its client and number,
--- submitted at its replica before. An entry that is said to be dropped is in no executed list. No entry is replied to twice.
+-- Each executed entry, and each answer, is the one list's at its place. A reply is for an entry of its client and
+-- number, submitted before at the replica that replies. An entry reported as dropped is in no executed list. No entry
+-- is replied to twice.
 pub record Answered (n : ℕ) (acts : List Act) : Type 0 where
   pub executed : (i k place epoch : ℕ) (s : Stamp) (client number : ℕ) (a : Answer) →
       IsLineAt (seen n acts) i (Line.Exec k place epoch s client number a) →
@@ -97,7 +99,7 @@ pub record Answered (n : ℕ) (acts : List Act) : Type 0 where
 
 -- ---- real time
 
--- A command that is submitted after another was answered stands behind it.
+-- A command submitted after another was answered has a later place in the list.
 abbrev pub RealTime : ℕ → List Act → Type 0
 RealTime n acts =
     (i j k client number place k' epoch time client' number' : ℕ) (a : Answer) (q : ℕ) (e : Entry) → i < j →
@@ -108,8 +110,8 @@ RealTime n acts =
 
 -- ---- the headline
 
--- Every run is safe, of every cluster of 1 to 15 replicas, over every list of acts that a schedule can spell and that
--- are possible: its executed lists agree, its answers are right, and it keeps real time.
+-- Every run is safe: in every cluster of 1 to 15 replicas, over every list of possible acts that a schedule can
+-- express, executed lists agree, answers are right, and real time is kept.
 abbrev pub IsSafe : Type 0
 IsSafe =
     (n : ℕ) → 1 ≤ n → n ≤ 15 → (acts : List Act) → ArePossible (begin n) acts →

@@ -1,4 +1,4 @@
--- One step of a replica: the rule of its input, and what follows in every step.
+-- One step of a replica: the rule of its input, and the phases that follow in every step.
 use Rattle.std.specs.Prelude.{nat_lt, ℕ, not, List, [], ◌∷◌, filter, fold, Option, None, Some}
 use Rattle.std.specs.Option.{option_map_or}
 use Rattle.crsm_spec.specs.Types.{Rec, Datagram, Control}
@@ -15,24 +15,25 @@ use Rattle.crsm_spec.specs.Coordinate.{accept_own, send_proposal, send_ask, begi
 use Rattle.crsm_spec.specs.Controls.{on_control}
 use Rattle.crsm_spec.specs.Choice.{when◌then◌otherwise◌}
 
--- What comes to a replica: a datagram from an address, a tick, or a suspicion that names the next members.
+-- An input of a replica: a datagram from an address, a tick, or a suspicion with the members that it asks for.
 pub data Input : Type 0 where
   Came : (from : ℕ) (d : Datagram) → Input
   Ticked : Input
   Suspected : (members : List ℕ) → Input
 
--- an input whose records would not fit is ignored whole
+-- the draft of an input, or nothing of it where its records would not fit
 unfoldable pub if_fitting : Draft → Draft → Draft
 if_fitting x y = when y.fitting then y otherwise x
 
 -- ---- parts
 
--- bytes that are no control message do nothing
+-- bytes that are no control message change nothing
 unfoldable pub on_whole_message : ℕ → Option Control → Draft → Draft
 on_whole_message k None x = x
 on_whole_message k (Some c) x = on_control k c x
 
--- A part: the message that is whole with it is received. One whose records would not fit is ignored, its part is kept.
+-- Handles a part: the message that is complete with it is handled. If its records would not fit, the message is ignored
+-- and the part is kept.
 unfoldable pub on_part : Piece → Draft → Draft
 on_part p x =
     let parts = x.replica.parts in
@@ -41,19 +42,19 @@ on_part p x =
 
 -- ---- ticks
 
--- asks k for its next page
+-- requests the next page from k
 unfoldable pub ask_page : List LogPage → Draft → ℕ → Draft
 ask_page pages x k = send_control (Control.Suspend (known x.replica.log) (cursor pages k)) x k
 
--- the other replicas whose report is not whole
+-- the other replicas whose report is not complete
 unfoldable pub missing : Replica → List LogPage → List ℕ
 missing r pages = filter (λ k. not (is_whole pages k)) (others r)
 
--- asks each of them for its next page
+-- requests the next page from each of them
 unfoldable pub send_collect : List LogPage → Draft → Draft
 send_collect pages x = fold (ask_page pages) x (missing x.replica pages)
 
--- what the coordinator says to do again
+-- retransmits the messages of the coordinator's phase
 unfoldable pub renew : Coordinator → Draft → Draft
 renew Coordinator.Idle x = x
 renew (Coordinator.Collecting ms pages) x = send_collect pages x
@@ -62,17 +63,17 @@ renew (Coordinator.Proposing b own value acceptors) x =
     let y = accept_own b own value acceptors x in send_proposal y.replica.coordinator y
 renew (Coordinator.Preempted own seen) x = begin_proposing own seen x
 
--- asks all for what is known and executed beyond here, while not active
+-- while not active: sends RETRIEVE to all
 unfoldable pub ask_all : Draft → Draft
 ask_all x = when active x.replica.log then x otherwise send_to_all (retrieve x) x
 
--- A tick: frames again while active, and otherwise the coordinator's messages and a question to all.
+-- Handles a tick: retransmits frames while active, and otherwise the coordinator's messages and RETRIEVE.
 unfoldable pub on_tick : Draft → Draft
 on_tick x = when active x.replica.log then send_again x otherwise ask_all (renew x.replica.coordinator x)
 
 -- ---- the rule of each input
 
--- A datagram from an address. A reply means nothing to a replica.
+-- Handles a datagram from an address. A reply is ignored.
 unfoldable pub on_datagram : ℕ → Datagram → ℕ → Draft → Draft
 on_datagram address (Datagram.Frame from to epoch seq payload) reading x =
     when is_astray x.replica from to then x otherwise on_frame from epoch seq payload x
@@ -107,19 +108,19 @@ step r input reading =
 
 -- ---- boots
 
--- a boot puts itself on record
+-- records a boot
 unfoldable pub boot_again : ℕ → ℕ → Log → Draft
 boot_again me n log = keep (Rec.Boot me n) (begun (fresh me n log))
 
--- the first boot of a replica of the beginning: it enters epoch 0
+-- the first boot of a replica that began the cluster: it enters epoch 0
 unfoldable pub founding_boot : ℕ → ℕ → Draft
 founding_boot me n = keep (Rec.Enter 0) (boot_again me n [])
 
--- A boot on an empty disk; a replica with a new number enters nothing.
+-- The boot on an empty disk; a replica with a new number enters no epoch.
 unfoldable pub first_boot : ℕ → ℕ → Draft
 first_boot me n = when nat_lt me n then founding_boot me n otherwise boot_again me n []
 
--- A boot on a log.
+-- The boot on a log.
 unfoldable pub boot : ℕ → ℕ → Log → Draft
 boot me n [] = first_boot me n
 boot me n (rec ∷ log) = boot_again me n (rec ∷ log)

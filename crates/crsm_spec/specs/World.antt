@@ -1,4 +1,4 @@
--- The world: the replicas and the datagrams between them, and what a step leaves in it.
+-- The world: the replicas and the datagrams between them, and the effect of a step on both.
 use Rattle.std.specs.Prelude.{ℕ, ◌+◌, ◌-◌, Bool, true, false, nat_le, if◌then◌else◌, List, [], ◌∷◌, ◌++◌, length, map, take, flat_map, sum_by, slice_get, slice_set}
 use Rattle.std.specs.List.{enumerate_from}
 use Rattle.std.specs.Option.{option_map_or}
@@ -12,12 +12,12 @@ use Rattle.crsm_spec.specs.Replica.{Replica}
 use Rattle.crsm_spec.specs.Draft.{Draft, Reply}
 use Rattle.crsm_spec.specs.Step.{founding_boot}
 
--- A replica's place in the world: it is up, or down with the log on its disk.
+-- A replica's site in the world: it is up, or down with the log on its disk.
 pub data Site : Type 0 where
   Up : Replica → Site
   Down : Log → Site
 
--- A datagram that was sent between replicas. It is used once it was delivered or lost.
+-- A datagram between replicas. It is used once it was delivered or lost.
 pub record Packet : Type 0 where
   pub from : ℕ
   pub to : ℕ
@@ -31,7 +31,7 @@ pub record World : Type 0 where
   pub packets : List Packet  -- all datagrams ever sent, by number
   pub bytes : ℕ  -- of all datagrams sent and all log bodies kept
 
--- A change of the world, and the lines that tell it.
+-- A change of the world, and its transcript lines.
 pub record Moment : Type 0 where
   pub before : World
   pub after : World
@@ -63,15 +63,15 @@ with_site w k s = record w { sites = slice_set w.sites k s }
 
 -- ---- bytes
 
--- how many bytes a batch takes on a disk
+-- the encoded length of a batch in bytes
 unfoldable pub body_size : List Rec → ℕ
 body_size batch = length (body_bytes batch)
 
--- how many bytes the datagrams take
+-- the encoded length of the datagrams in bytes
 unfoldable pub packets_size : List (ℕ × Datagram) → ℕ
 packets_size sends = sum_by (λ s. length (datagram_bytes s.1)) sends
 
--- the world has as many bytes as it may
+-- whether the world has its maximum number of bytes
 unfoldable pub is_full : World → Bool
 is_full w = nat_le most_world w.bytes
 
@@ -95,7 +95,7 @@ send_lines k i sends = map (λ s. send_line k s.0 s.1) (enumerate_from i sends)
 unfoldable pub packet_of : ℕ → ℕ × Datagram → Packet
 packet_of k s = record { from = k; to = s.0; datagram = s.1; used = false }
 
--- A step of replica k, of which these datagrams and replies went out.
+-- The effect of a step of replica k, of which these datagrams and replies were sent.
 unfoldable pub after_step : World → ℕ → Draft → Site → List (ℕ × Datagram) → List Reply → Moment
 after_step w k x site sends replies =
     record {
@@ -109,28 +109,28 @@ after_step w k x site sends replies =
       lines = ((x.lines ++ x.excess) ++ send_lines k (length w.packets) sends) ++ map (λ a. a.line) replies;
     }
 
--- How the step of a replica ends in the world.
+-- How a step of a replica ends in the world.
 abbrev pub Ending : Type 0
 Ending = World → ℕ → Draft → Moment
 
--- A whole step: all goes out, and the replica goes on.
+-- The ending of a whole step: all is sent, and the replica stays up.
 unfoldable pub whole_step : Ending
 whole_step w k x = after_step w k x (Site.Up x.replica) x.sends x.replies
 
--- the moment with the line that replica k is down
+-- the moment with the line of replica k's stop appended
 unfoldable pub then_down : ℕ → Moment → Moment
 then_down k m = record m { lines = m.lines ++ Line.Down k ∷ [] }
 
--- A step that stops when its batch is kept and `count` of its sends and replies are out.
+-- The ending of a step that stops after its batch was kept and the first `count` of its sends and replies were sent.
 unfoldable pub cut_step : ℕ → Ending
 cut_step count w k x =
     then_down k (after_step w k x (Site.Down x.replica.log) (take count x.sends) (take (count - length x.sends) x.replies))
 
--- Replica k goes down with what is on its disk.
+-- Replica k stops; the log on its disk stays.
 unfoldable pub down : World → ℕ → Moment
 down w k = record { before = w; after = with_site w k (Site.Down (log_at w k)); lines = Line.Down k ∷ [] }
 
--- A step that stops before its batch is kept.
+-- The ending of a step that stops before its batch is kept.
 unfoldable pub lost_step : Ending
 lost_step w k x = down w k
 
@@ -152,15 +152,15 @@ first_lines n = flat_map (λ k. (founding_boot k n).lines) (numbers_below n)
 
 -- ---- the last lines
 
--- how a site stands
+-- the state of a site in the final lines
 unfoldable pub state_of : Site → State
 state_of (Site.Down log) = State.Down
 state_of (Site.Up r) = if active r.log then State.Live else if live r.log then State.Held else State.Out
 
--- how replica number s.0 stands at the end
+-- the final line of replica s.0
 unfoldable pub final_line : ℕ × Site → Line
 final_line s = Line.Final s.0 (state_of s.1) (known (log_of s.1)) (length (executed (log_of s.1)))
 
--- the last line of each replica
+-- the final line of each replica
 unfoldable pub finals : World → List Line
 finals w = map final_line (enumerate_from 0 w.sites)

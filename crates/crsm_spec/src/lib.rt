@@ -1,4 +1,4 @@
-//! The definitions of the protocol, in `specs/`, and what holds of every run of it; no code.
+//! Definitions of the protocol, in `specs/`, and of the safety of every run; no code.
 //!
-//! `specs/Safe.antt` has the headline; `docs/PROTOCOL.md` tells the rules in words.
+//! `specs/Safe.antt` has the main statement; `docs/PROTOCOL.md` explains the rules in prose.
 #![tactic(auto)]

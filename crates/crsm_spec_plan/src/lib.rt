@@ -1,5 +1,5 @@
-//! Plans of delays between replicas and of offsets of their clocks, as values; and in `specs/` what happens when if all goes by
-//! a plan, and when a command commits.
+//! Plans: delays between replicas and offsets of their clocks, in microseconds. `specs/` defines the events of a plan
+//! and the moment at which a command commits.
 #![tactic(auto)]
 
 mod plan;

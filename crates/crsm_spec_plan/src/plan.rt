@@ -1,4 +1,4 @@
-//! Plans: one command, the delays between replicas, and how far their clocks are ahead.
+//! A plan: one command, the delays between replicas, and the offsets of their clocks.
 
 ghost use Rattle.std.specs.Prelude.{◌≡◌, [], ◌∷◌, ◌++◌, OnOk, OnErr};
 
@@ -6,14 +6,14 @@ use crsm_base::NoMemory;
 use std::alloc::Global;
 use std::marker::Model;
 
-/// So far the clock of a replica is ahead.
+/// The offset of one replica's clock: `by` is how far it is ahead of real time, in microseconds.
 #[derive(Clone, Copy, Debug, PartialEq, Eq)]
 pub struct Offset {
     pub replica: u64,
     pub by: u64,
 }
 
-/// So long a datagram takes from one replica to another.
+/// The time in microseconds, `by`, that a datagram takes from replica `from` to replica `to`.
 #[derive(Clone, Copy, Debug, PartialEq, Eq)]
 pub struct Delay {
     pub from: u64,
@@ -21,7 +21,7 @@ pub struct Delay {
     pub by: u64,
 }
 
-/// Offsets of clocks.
+/// A list of clock offsets. A replica that is not named has the offset 0.
 #[derive(Debug, Drop)]
 pub struct Offsets {
     items: Vec<Offset>,
@@ -60,7 +60,7 @@ impl Offsets {
     }
 }
 
-/// Delays between replicas.
+/// A list of delays. A pair of replicas that is not named has the delay 0.
 #[derive(Debug, Drop)]
 pub struct Delays {
     items: Vec<Delay>,
@@ -99,10 +99,10 @@ impl Delays {
     }
 }
 
-/// A command reaches the origin at a moment. What no offset and no delay names is 0.
+/// A plan of one command, which reaches the replica `origin` at the moment `at`, in microseconds of real time.
 #[derive(Debug, Drop)]
 pub struct Plan {
-    /// How many replicas there are.
+    /// The number of replicas, from 1 to 15.
     pub n: u64,
     pub offsets: Offsets,
     pub delays: Delays,

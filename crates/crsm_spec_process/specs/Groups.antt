@@ -1,15 +1,15 @@
--- How the turns of a node are kept together.
+-- Groups: the turns of a node whose records are synced together.
 use Rattle.std.specs.Prelude.{◌≡◌, ◌≢◌, ◌⊎◌, ℕ, ◌<◌, List, [], ◌∷◌, ◌++◌, length}
 use Rattle.std.specs.List.{AllByRecursion}
 use Rattle.crsm_spec.specs.Node.{Turn}
 
--- the turn takes bytes that came
+-- the turn's input is a datagram
 abbrev pub IsDatagram : Turn × ℕ → Type 0
 IsDatagram (Turn.In address bytes, reading) = Unit {0}
 IsDatagram (Turn.Tick, reading) = ⊥
 IsDatagram (Turn.Suspect members, reading) = ⊥
 
--- At most 32 turns, one at least. Each but the last takes bytes that came.
+-- One to 32 turns; each but the last has a datagram as its input.
 pub record IsGroup (turns : List (Turn × ℕ)) : Type 0 where
   pub before : List (Turn × ℕ)
   pub last : Turn × ℕ
@@ -17,11 +17,11 @@ pub record IsGroup (turns : List (Turn × ℕ)) : Type 0 where
   pub datagrams : AllByRecursion IsDatagram before
   pub few : length before < 32
 
--- no turn is kept with these: there are 32, or the last takes no bytes that came
+-- no further turn joins the group: it has 32, or its last input is no datagram
 abbrev pub IsClosed : {turns : List (Turn × ℕ)} → IsGroup turns → Type 0
 IsClosed {turns} g = (length turns ≡ 32) ⊎ (IsDatagram g.last → ⊥)
 
--- the groups that turns are cut into, in order: each but the last of them is closed
+-- the turns are cut into these groups in order; each but the last is closed
 abbrev pub AreGroups : List (List (Turn × ℕ)) → Type 0
 AreGroups [] = Unit {0}
 AreGroups (turns ∷ groups) = (g : IsGroup turns) × (groups ≢ [] → IsClosed g) × AreGroups groups

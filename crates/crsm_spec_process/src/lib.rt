@@ -1,3 +1,3 @@
-//! Definitions, in `specs/`, of what a running node does from its boot to its end: which of its turns were kept
-//! together, which datagrams of theirs went out, and which turns were lost; no code.
+//! Definitions, in `specs/`, of one process of a running node from boot to exit: which of its turns were synced
+//! together, which of their datagrams were sent, and which turns were lost; no code.
 #![tactic(auto)]

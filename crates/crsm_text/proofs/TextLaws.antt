@@ -1,4 +1,4 @@
--- Texts have no line feed, are short, and tell their values apart.
+-- Texts have no line feed, have bounded lengths, and differ for different values.
 use Rattle.std.proofs.Common.{◌≡◌, ◌≢◌, ℕ, ◌+◌, ◌*◌, ◌%◌, ◌^◌, ◌<◌, ◌≤◌, List, [], ◌∷◌, ◌++◌, Option, Some, None, length, get_or, codes, decimal, map, refl, ap, sym, ◌∙◌, arith, length-append, append_assoc}
 use Rattle.std.specs.List.{AllByRecursion, join_with_byte}
 use Rattle.std.proofs.lemmas.Fmt.{length-decimal-le, decimal_injective, decimal_by_steps}

@@ -1,4 +1,4 @@
--- What the texts of values and operations tell.
+-- Texts of different values and operations differ.
 use Rattle.std.proofs.Common.{◌≡◌, ◌≢◌, ℕ, ◌*◌, ◌<◌, List, [], ◌∷◌, ◌++◌, Option, Some, None, length, codes, refl, ap, sym, subst, arith, ◌∙◌}
 use Rattle.hex.specs.Hex.{encode_lower, lower_digits, IsBytes}
 use Rattle.hex.proofs.HexLemmas.{length-encode_with}

@@ -1,4 +1,4 @@
--- How keys, values, operations and answers are written, and which of them can be.
+-- The texts of keys, values, operations and answers, and which of these have a text.
 use Rattle.std.specs.Prelude.{ℕ, List, [], ◌∷◌, ◌++◌, codes, Option, Some, None}
 use Rattle.hex.specs.Hex.{encode_lower, IsBytes}
 use Rattle.crsm_base.specs.declared.Op.{Op}
@@ -10,12 +10,12 @@ use Rattle.crsm_base.specs.declared.Outcome.TheVariants.{Answered, Refused}
 use Rattle.crsm_base.specs.Spelling.{FitsOption, refusal_number}
 use Rattle.crsm_text.specs.Words.{spaced, named}
 
--- a value: its bytes in lower-case hexadecimal, or a word where it has none
+-- a value: its bytes in lower-case hexadecimal, or `empty`
 abbrev pub value_text : List ℕ → List ℕ
 value_text [] = codes "empty"
 value_text (b ∷ bs) = encode_lower (b ∷ bs)
 
--- a value, or a word where there is none
+-- an optional value: the value, or `none`
 abbrev pub option_text : Option (List ℕ) → List ℕ
 option_text None = codes "none"
 option_text (Some val) = value_text val
@@ -39,7 +39,7 @@ abbrev pub outcome_text : Outcome → List ℕ
 outcome_text (Answered answer) = codes "ok " ++ (answer_text answer ++ 10 ∷ [])
 outcome_text (Refused refusal) = named (codes "no") (refusal_number refusal ∷ []) ++ 10 ∷ []
 
--- what an operation holds are bytes
+-- keys and values of the operation consist of bytes
 abbrev pub HasBytes : Op → Type 0
 HasBytes (Get key) = IsBytes key
 HasBytes (Put key val) = IsBytes key × IsBytes val

@@ -1,4 +1,4 @@
-//! Why a line is not read.
+//! The errors of parsing a line or a word.
 
 ghost use Rattle.std.specs.Prelude.{◌≡◌};
 
@@ -6,10 +6,10 @@ use crsm_base::NoMemory;
 use hex::FromHexError;
 use std::alloc::{AllocError, AllocFailed};
 
-/// Why a line, or a word, is not read.
+/// The reason why a line or a word could not be parsed.
 #[derive(Clone, Copy, Debug, PartialEq, Eq)]
 pub enum LineError {
-    /// It is outside its grammar.
+    /// It does not match its grammar, or a number is out of range.
     Unreadable,
     NoMemory,
 }
@@ -47,7 +47,7 @@ impl<T: Drop> From<AllocFailed<T>> for LineError {
     }
 }
 
-/// What a fault of the digits is to a reader.
+/// Converts an error of the hexadecimal decoder.
 pub(crate) fn refusal(error: FromHexError) -> LineError
     ensures { error ≡ FromHexError.OutOfMemory → result ≡ LineError.NoMemory }
 {

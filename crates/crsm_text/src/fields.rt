@@ -1,4 +1,4 @@
-//! Fields up to a separator, and numbers.
+//! Splitting a text at separators, and parsing decimal numbers.
 
 ghost use Rattle.std.specs.Prelude.{◌≡◌, ℕ, ◌<◌, ◌^◌, ◌++◌, ◌∷◌, List, IfSome, decimal};
 ghost use Rattle.std.specs.Option.{IsSomeAnd};
@@ -7,10 +7,10 @@ ghost use Rattle.crsm_text.specs.Words.{Lacks};
 use itoa::Buffer;
 use std::str::from_utf8;
 
-/// Where a number is below this, ten times the number and a digit fit.
+/// 10^18: below it, ten times a number plus a digit is below 2^64.
 const MOST_TENS: u64 = 1_000_000_000_000_000_000;
 
-/// The bytes before the first separator, and those after it.
+/// Splits `input` at the first separator, or returns `None` if there is none.
 pub fn split_field(input: &[u8], separator: u8) -> Option<(&[u8], &[u8])>
     ensures found { IfSome result (λ s. input.now ≡ s.0.now ++ separator ∷ s.1.now) }
     ensures word { IfSome result (λ s. Lacks separator s.0.now) }
@@ -24,7 +24,7 @@ pub fn split_field(input: &[u8], separator: u8) -> Option<(&[u8], &[u8])>
     None
 }
 
-/// The number that a word spells in decimal digits, without a leading zero.
+/// Parses a decimal number without leading zeros, or returns `None` if `word` is none or it is 2^64 or above.
 pub fn read_number(word: &[u8]) -> Option<u64>
     ensures found { IfSome result (λ n. word.now ≡ decimal n) }
     ensures only { (n : ℕ) → n < 2 ^ 64 → word.now ≡ decimal n → result ≡ Some n }
@@ -35,7 +35,7 @@ pub fn read_number(word: &[u8]) -> Option<u64>
     }
 }
 
-// Digit by digit, as far as the next one surely fits: nearly every number is read so.
+// Returns `None` also where the next digit might overflow, which is rare: the caller then tries the general parser.
 fn read_digits(word: &[u8]) -> Option<u64>
     ensures { IfSome result (λ n. word.now ≡ decimal n) }
 {
@@ -76,7 +76,7 @@ fn read_any(word: &[u8]) -> Option<u64>
     }
 }
 
-/// A number, and what stands behind the space after it.
+/// Parses a number that a space follows. Returns it and the bytes after the space, or `None`.
 pub fn number_field(input: &[u8]) -> Option<(u64, &[u8])>
     ensures found { IfSome result (λ f. input.now ≡ decimal f.0 ++ 32 ∷ f.1.now) }
     ensures only { (n : ℕ) (rest : List ℕ) → n < 2 ^ 64 → input.now ≡ decimal n ++ 32 ∷ rest → IsSomeAnd result (λ f. (f.0 ≡ n) × (f.1.now ≡ rest)) }
@@ -86,7 +86,7 @@ pub fn number_field(input: &[u8]) -> Option<(u64, &[u8])>
     Some((number, rest))
 }
 
-/// Two numbers, and what stands behind the space after them.
+/// Parses two numbers, each followed by a space. Returns them and the bytes after the second space, or `None`.
 pub fn two_fields(input: &[u8]) -> Option<(u64, u64, &[u8])>
     ensures found { IfSome result (λ f. input.now ≡ decimal f.0 ++ 32 ∷ (decimal f.1 ++ 32 ∷ f.2.now)) }
     ensures only { (m n : ℕ) (rest : List ℕ) → m < 2 ^ 64 → n < 2 ^ 64 → input.now ≡ decimal m ++ 32 ∷ (decimal n ++ 32 ∷ rest)
@@ -97,7 +97,7 @@ pub fn two_fields(input: &[u8]) -> Option<(u64, u64, &[u8])>
     Some((first, second, rest))
 }
 
-/// Two numbers.
+/// Parses two numbers with a space between them, or returns `None`.
 pub fn two_numbers(input: &[u8]) -> Option<(u64, u64)>
     ensures found { IfSome result (λ f. input.now ≡ decimal f.0 ++ 32 ∷ decimal f.1) }
     ensures only { (m n : ℕ) → m < 2 ^ 64 → n < 2 ^ 64 → input.now ≡ decimal m ++ 32 ∷ decimal n

@@ -1,4 +1,5 @@
-//! The words of schedules, transcripts and command lines: numbers, keys, values, operations, members and answers.
+//! Text forms shared by schedules, transcripts, sheets and command lines: numbers, keys, values, operations, members
+//! and answers.
 #![tactic(auto)]
 
 mod error;

@@ -1,4 +1,4 @@
-//! Numbers and members with a comma between each two.
+//! Comma-separated numbers and members.
 
 ghost use Rattle.std.specs.Prelude.{◌≡◌, ℕ, ◌<◌, ◌≤◌, ◌^◌, List, IfOk, MatchResult, length};
 ghost use Rattle.std.specs.List.{AllByRecursion};
@@ -11,7 +11,7 @@ use crate::fields::{read_number, split_field};
 use crsm_base::{MAX_REPLICAS, Members, MembersError};
 use std::alloc::Global;
 
-/// The numbers that a word spells, at least one.
+/// Parses one or more comma-separated numbers. `Unreadable` if the word is no such list.
 pub fn read_numbers(alloc: Global, word: &[u8]) -> Result<Vec<u64>, LineError>
     ensures found { IfOk result (λ made. AllByRecursion (λ n. n < 2 ^ 64) made.items × (1 ≤ length made.items) × (word.now ≡ commas made.items)) }
     ensures only { (ns : List ℕ) → AllByRecursion (λ n. n < 2 ^ 64) ns → 1 ≤ length ns → word.now ≡ commas ns
@@ -33,7 +33,7 @@ pub fn read_numbers(alloc: Global, word: &[u8]) -> Result<Vec<u64>, LineError>
     Ok(numbers)
 }
 
-/// What a fault of the members is to a reader.
+/// Converts an error of `Members::from_slice`.
 fn members_refusal(error: MembersError) -> LineError
     ensures { error ≡ MembersError.NoMemory → result ≡ LineError.NoMemory }
 {
@@ -43,7 +43,7 @@ fn members_refusal(error: MembersError) -> LineError
     }
 }
 
-/// The replicas that numbers are.
+/// Converts numbers to replica numbers. `Unreadable` if one is out of range.
 fn replicas_of(alloc: Global, numbers: &[u64]) -> Result<Vec<u32>, LineError>
     ensures found { IfOk result (λ made. made.items ≡ numbers.now) }
     ensures only { AllByRecursion (λ n. n < 15) numbers.now → MatchResult result (λ made. made.items ≡ numbers.now) (λ e. e ≡ LineError.NoMemory) }
@@ -58,7 +58,7 @@ fn replicas_of(alloc: Global, numbers: &[u64]) -> Result<Vec<u32>, LineError>
     Ok(replicas)
 }
 
-/// The members that a word spells.
+/// Parses comma-separated members, strictly rising and below 15. `Unreadable` if the word is no such list.
 pub fn read_members(alloc: Global, word: &[u8]) -> Result<Members, LineError>
     ensures found { IfOk result (λ members. IsMembers members × (word.now ≡ commas members)) }
     ensures only { (members : List ℕ) → IsMembers members → word.now ≡ commas members → ReadsAs result members }

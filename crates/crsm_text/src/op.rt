@@ -1,4 +1,4 @@
-//! Operations.
+//! Parsing of operations.
 
 ghost use Rattle.std.specs.Prelude.{◌≡◌, ◌++◌, IfOk, codes};
 ghost use Rattle.crsm_base.specs.declared.Op.{Op};
@@ -54,7 +54,7 @@ fn cas_of(alloc: Global, text: &[u8]) -> Result<Op, LineError>
     Ok(Op::Cas(key, expected, new))
 }
 
-/// The operation that a text spells.
+/// Parses an operation: `get`, `put`, `del` or `cas` with its key and values. `Unreadable` if the text is none.
 pub fn read_op(alloc: Global, text: &[u8]) -> Result<Op, LineError>
     ensures found { IfOk result (λ op. FitsOp op × HasBytes op × (text.now ≡ op_text op)) }
     ensures only { (op : Op) → FitsOp op → HasBytes op → text.now ≡ op_text op → ReadsAs result op }

@@ -1,4 +1,4 @@
-//! Adds words to bytes. After an error a prefix of the text may have been added.
+//! Appending text to bytes. Where a function fails, a prefix of the text may have been appended.
 
 ghost use Rattle.std.specs.Prelude.{◌≡◌, ◌≤◌, ◌++◌, ◌∷◌, ◌<◌, ◌+◌, OnOk, decimal, drop, length, slice_index, take};
 ghost use Rattle.hex.specs.Hex.{encode_lower, lower_digits};
@@ -8,19 +8,19 @@ ghost use Rattle.crsm_text.specs.Values.{value_text, option_text, answer_text};
 use crsm_base::{Answer, Bytes, Members, NoMemory, Val};
 use itoa::{Buffer, write_digits};
 
-/// The room of a space and the digits of a number.
+/// Bytes of a space and the longest decimal u64.
 const SPACED_BYTES: usize = 21;
 
-/// How many numbers are written into a row.
+/// Maximum count of numbers in a row, which is formatted on the stack.
 const ROW_NUMBERS: usize = 8;
 
-/// The room of a number, a word of 8 bytes, 8 numbers and an end of 8 bytes, with spaces between them.
+/// Bytes of a number, a word of 8 bytes, 8 numbers and an end of 8 bytes, with spaces between them.
 const LINE_BYTES: usize = 208;
 
-/// The bytes that are written in hexadecimal at a time.
+/// Count of bytes that are formatted in hexadecimal at a time.
 const PIECE_BYTES: usize = 64;
 
-/// Adds a number in decimal digits.
+/// Appends a number in decimal digits. `NoMemory` if memory runs out.
 pub fn push_number(out: &mut Bytes, value: u64) -> Result<(), NoMemory>
     ensures { OnOk result (out.new ≡ out.old ++ decimal value) }
 {
@@ -28,7 +28,7 @@ pub fn push_number(out: &mut Bytes, value: u64) -> Result<(), NoMemory>
     out.append(buffer.format(value).as_bytes())
 }
 
-// The numbers are written into a row of spaces, from its end, so that they are added at once.
+// The row is filled from its end, so that its text is appended by a single call.
 fn push_row(out: &mut Bytes, values: &[u64]) -> Result<(), NoMemory>
     requires { length values.now ≤ 8 }
     ensures { OnOk result (out.new ≡ out.old ++ numbers values.now) }
@@ -44,7 +44,7 @@ fn push_row(out: &mut Bytes, values: &[u64]) -> Result<(), NoMemory>
     out.append(&row[at..])
 }
 
-/// Adds a space and a number, for each number.
+/// Appends each number in decimal digits, with a space before it. `NoMemory` if memory runs out.
 pub fn push_numbers(out: &mut Bytes, values: &[u64]) -> Result<(), NoMemory>
     ensures { OnOk result (out.new ≡ out.old ++ numbers values.now) }
 {
@@ -57,7 +57,7 @@ pub fn push_numbers(out: &mut Bytes, values: &[u64]) -> Result<(), NoMemory>
     push_row(out, rest)
 }
 
-/// Adds a word, and a space and a number for each number.
+/// Appends a word and then each number with a space before it. `NoMemory` if memory runs out.
 pub fn push_named(out: &mut Bytes, name: &[u8], values: &[u64]) -> Result<(), NoMemory>
     ensures { OnOk result (out.new ≡ out.old ++ named name.now values.now) }
 {
@@ -77,7 +77,7 @@ fn digit(value: u8) -> u8
     }
 }
 
-// Writes the text so that it ends at `end`, and returns where it starts.
+// Writes the text so that it ends at `end`, and returns the index at which it starts.
 fn write_text(text: &[u8], row: &mut [u8], end: usize) -> usize
     requires { (length text.now ≤ end) × (end ≤ length row.old) }
     ensures start { result + length text.now ≡ end }
@@ -89,8 +89,8 @@ fn write_text(text: &[u8], row: &mut [u8], end: usize) -> usize
     start
 }
 
-/// Adds a number, a word, a number behind it for each value, and an end, with a space before the word and each value.
-/// They are written into a row of spaces, from its end, so that they are added at once.
+/// Appends a number, a word, the values and `end`, with a space before the word and before each value. All is formatted
+/// on the stack, from its end, and appended by a single call. `NoMemory` if memory runs out.
 pub fn push_numbered(
     out: &mut Bytes,
     number: u64,
@@ -115,8 +115,8 @@ pub fn push_numbered(
     out.append(&row[begin..])
 }
 
-// The digits of a piece are written on the stack, and added at once. The piece is filled up with zeros, and its first and
-// second digits are made apart, since such loops are done many bytes at a time.
+// The digits of a piece are formatted on the stack and appended by a single call. The piece is padded with zeros, and
+// its high and low digits are computed in separate loops, since the compiler vectorizes those.
 fn push_piece(out: &mut Bytes, piece: &[u8]) -> Result<(), NoMemory>
     requires { length piece.now ≤ 64 }
     ensures { OnOk result (out.new ≡ out.old ++ encode_lower piece.now) }
@@ -144,7 +144,7 @@ fn digits_of(bytes: &[u8; PIECE_BYTES]) -> [u8; 2 * PIECE_BYTES]
     row
 }
 
-/// Adds bytes in lower-case hexadecimal.
+/// Appends bytes in lower-case hexadecimal. `NoMemory` if memory runs out.
 pub fn push_hex(out: &mut Bytes, bytes: &[u8]) -> Result<(), NoMemory>
     ensures { OnOk result (out.new ≡ out.old ++ encode_lower bytes.now) }
 {
@@ -176,7 +176,7 @@ fn push_option(out: &mut Bytes, val: &Option<Val>) -> Result<(), NoMemory>
     }
 }
 
-/// Adds an answer of the store.
+/// Appends an answer of the store. `NoMemory` if memory runs out.
 pub fn push_answer(out: &mut Bytes, answer: &Answer) -> Result<(), NoMemory>
     ensures { OnOk result (out.new ≡ out.old ++ answer_text answer.now) }
 {
@@ -195,7 +195,7 @@ pub fn push_answer(out: &mut Bytes, answer: &Answer) -> Result<(), NoMemory>
         Answer::NoRoom => out.append(b"noroom"),
     }
 }
-/// Adds members, with a comma between each two.
+/// Appends members, separated by commas. `NoMemory` if memory runs out.
 pub fn push_members(out: &mut Bytes, members: &Members) -> Result<(), NoMemory>
     ensures { OnOk result (out.new ≡ out.old ++ commas members.now) }
 {

@@ -1,4 +1,4 @@
-//! Keys and values in hexadecimal.
+//! Parsing of keys and values in hexadecimal.
 
 ghost use Rattle.std.specs.Prelude.{◌≡◌, ℕ, ◌<◌, ◌++◌, List, Option, IfOk, MatchResult, length};
 ghost use Rattle.hex.specs.Hex.{encode_lower, IsBytes};
@@ -10,7 +10,7 @@ use crate::error::{LineError, refusal};
 use crsm_base::{Key, MAX_KEY_BYTES, MAX_VAL_BYTES, Val};
 use std::alloc::Global;
 
-/// The bytes that lower-case hexadecimal digits spell.
+/// Decodes lower-case hexadecimal digits. `Unreadable` if the word has other bytes or an odd length.
 pub fn hex_of(alloc: Global, word: &[u8]) -> Result<Vec<u8>, LineError>
     ensures found { IfOk result (λ bytes. IsBytes bytes.items × (word.now ≡ encode_lower bytes.items)) }
     ensures only { (bytes : List ℕ) → IsBytes bytes → word.now ≡ encode_lower bytes → MatchResult result (λ made. made.items ≡ bytes) (λ e. e ≡ LineError.NoMemory) }
@@ -27,7 +27,7 @@ pub fn hex_of(alloc: Global, word: &[u8]) -> Result<Vec<u8>, LineError>
     }
 }
 
-/// A key.
+/// Parses a key of 1 to 64 bytes in hexadecimal. `Unreadable` if the word is none.
 pub(crate) fn key_of(alloc: Global, word: &[u8]) -> Result<Key, LineError>
     ensures found { IfOk result (λ key. FitsKey key × IsBytes key × (word.now ≡ encode_lower key)) }
     ensures only { (key : List ℕ) → FitsKey key → IsBytes key → word.now ≡ encode_lower key → ReadsAs result key }
@@ -39,7 +39,7 @@ pub(crate) fn key_of(alloc: Global, word: &[u8]) -> Result<Key, LineError>
     Ok(Key::from_slice(alloc, key.as_slice())?)
 }
 
-/// A value of at least one byte.
+/// Parses a value of 1 to 512 bytes in hexadecimal. `Unreadable` if the word is none.
 fn plain_val_of(alloc: Global, word: &[u8]) -> Result<Val, LineError>
     ensures found { IfOk result (λ val. FitsVal val × IsBytes val × (0 < length val) × (word.now ≡ encode_lower val)) }
     ensures only { (val : List ℕ) → FitsVal val → IsBytes val → 0 < length val → word.now ≡ encode_lower val → ReadsAs result val }
@@ -51,7 +51,7 @@ fn plain_val_of(alloc: Global, word: &[u8]) -> Result<Val, LineError>
     Ok(Val::from_slice(alloc, val.as_slice())?)
 }
 
-/// A value.
+/// Parses a value of up to 512 bytes: `empty`, or hexadecimal digits. `Unreadable` if the word is none.
 pub(crate) fn val_of(alloc: Global, word: &[u8]) -> Result<Val, LineError>
     ensures found { IfOk result (λ val. FitsVal val × IsBytes val × (word.now ≡ value_text val)) }
     ensures only { (val : List ℕ) → FitsVal val → IsBytes val → word.now ≡ value_text val → ReadsAs result val }
@@ -62,7 +62,7 @@ pub(crate) fn val_of(alloc: Global, word: &[u8]) -> Result<Val, LineError>
     plain_val_of(alloc, word)
 }
 
-/// A value, or the word where there is none.
+/// Parses an optional value: `none`, or a value. `Unreadable` if the word is neither.
 pub(crate) fn option_of(alloc: Global, word: &[u8]) -> Result<Option<Val>, LineError>
     ensures found { IfOk result (λ val. FitsOption FitsVal val × FitsOption IsBytes val × (word.now ≡ option_text val)) }
     ensures only { (val : Option (List ℕ)) → FitsOption FitsVal val → FitsOption IsBytes val → word.now ≡ option_text val → ReadsAs result val }

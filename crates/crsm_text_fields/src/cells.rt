@@ -1,11 +1,11 @@
-//! Fields of a fixed length next to one another, as the bytes that spell them.
+//! Encodings of adjacent fields of fixed length as arrays, so that they are appended by a single call.
 
 ghost use Rattle.std.specs.Prelude.{◌≡◌, ◌∷◌, ◌++◌};
 ghost use Rattle.crsm_base.specs.Spelling.{u8_bytes, u64_bytes, stamp_bytes, FitsStamp};
 
 use crsm_base::Stamp;
 
-/// Two numbers of eight bytes.
+/// Encodes two u64, big endian.
 #[tactic(auto, unfolding(crsm_base::specs::Spelling::u64_bytes))]
 pub fn pair(first: u64, second: u64) -> [u8; 16]
     ensures { result ≡ u64_bytes first ++ u64_bytes second }
@@ -16,7 +16,7 @@ pub fn pair(first: u64, second: u64) -> [u8; 16]
     cells
 }
 
-/// A number of eight bytes, a stamp, two numbers of eight bytes and two of one byte.
+/// Encodes a u64, a stamp, two u64 and two bytes.
 #[tactic(auto, unfolding(crsm_base::specs::Spelling::u64_bytes, crsm_base::specs::Spelling::stamp_bytes))]
 pub fn stamp_and_pair(
     number: u64,
@@ -35,7 +35,7 @@ pub fn stamp_and_pair(
     cells
 }
 
-/// Two numbers of eight bytes and two of one byte.
+/// Encodes two u64 and two bytes.
 #[tactic(auto, unfolding(crsm_base::specs::Spelling::u64_bytes))]
 pub fn pair_and_bytes(first: u64, second: u64, third: u8, fourth: u8) -> [u8; 18]
     ensures { result ≡ u64_bytes first ++ (u64_bytes second ++ third ∷ u8_bytes fourth) }
@@ -46,7 +46,7 @@ pub fn pair_and_bytes(first: u64, second: u64, third: u8, fourth: u8) -> [u8; 18
     cells
 }
 
-/// A number of eight bytes and a byte.
+/// Encodes a u64 and a byte.
 #[tactic(auto, unfolding(crsm_base::specs::Spelling::u64_bytes))]
 pub fn number_and_byte(number: u64, byte: u8) -> [u8; 9]
     ensures { result ≡ u64_bytes number ++ u8_bytes byte }
@@ -56,7 +56,7 @@ pub fn number_and_byte(number: u64, byte: u8) -> [u8; 9]
     cells
 }
 
-/// A number of eight bytes and a stamp.
+/// Encodes a u64 and a stamp.
 #[tactic(auto, unfolding(crsm_base::specs::Spelling::u64_bytes, crsm_base::specs::Spelling::stamp_bytes))]
 pub fn before_stamp(number: u64, stamp: Stamp) -> [u8; 17]
     requires { FitsStamp stamp }

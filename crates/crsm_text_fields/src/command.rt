@@ -1,4 +1,4 @@
-//! Operations, commands and entries.
+//! Encoding and parsing of operations, commands and entries.
 
 ghost use Rattle.std.specs.Prelude.{◌≡◌, ◌++◌, IfOk, OnOk};
 ghost use Rattle.std.specs.Option.{option_map};
@@ -13,7 +13,7 @@ use crate::value::{put_option_val, put_tagged_key, put_val, take_key, take_optio
 use crsm_base::{Bytes, Command, Entry, Key, NoMemory, Op};
 use std::alloc::Global;
 
-/// Appends the spelling of an operation.
+/// Appends the encoding of an operation. `NoMemory` if memory runs out; a prefix may then have been appended.
 #[tactic(auto, unfolding(crsm_base::specs::Spelling::op_bytes))]
 pub fn put_op(op: &Op, out: &mut Bytes) -> Result<(), NoMemory>
     requires { FitsOp op.now }
@@ -34,7 +34,7 @@ pub fn put_op(op: &Op, out: &mut Bytes) -> Result<(), NoMemory>
     }
 }
 
-// the numbers of a command, the tag of its operation and the key
+// Appends the two numbers of a command, the tag of its operation, and the key.
 #[tactic(auto, unfolding(crsm_base::specs::Spelling::key_bytes))]
 fn put_prefix(command: &Command, tag: u8, key: &Key, out: &mut Bytes) -> Result<(), NoMemory>
     requires { FitsKey key.now }
@@ -46,7 +46,7 @@ fn put_prefix(command: &Command, tag: u8, key: &Key, out: &mut Bytes) -> Result<
     out.append(bytes)
 }
 
-/// Appends the spelling of a command.
+/// Appends the encoding of a command. `NoMemory` if memory runs out; a prefix may then have been appended.
 #[tactic(auto, unfolding(crsm_base::specs::Spelling::command_bytes, crsm_base::specs::Spelling::op_bytes))]
 pub fn put_command(command: &Command, out: &mut Bytes) -> Result<(), NoMemory>
     requires { FitsCommand command.now }
@@ -67,7 +67,7 @@ pub fn put_command(command: &Command, out: &mut Bytes) -> Result<(), NoMemory>
     }
 }
 
-// the numbers of an entry, the tag of its operation and the key
+// Appends the epoch and stamp of an entry, and then the same of its command.
 #[tactic(auto, unfolding(crsm_base::specs::Spelling::key_bytes))]
 fn put_entry_prefix(entry: &Entry, tag: u8, key: &Key, out: &mut Bytes) -> Result<(), NoMemory>
     requires stamp { FitsStamp entry.now.stamp }
@@ -87,7 +87,7 @@ fn put_entry_prefix(entry: &Entry, tag: u8, key: &Key, out: &mut Bytes) -> Resul
     out.append(bytes)
 }
 
-/// Appends the spelling of an entry.
+/// Appends the encoding of an entry. `NoMemory` if memory runs out; a prefix may then have been appended.
 #[tactic(auto, unfolding(crsm_base::specs::Spelling::entry_bytes, crsm_base::specs::Spelling::command_bytes, crsm_base::specs::Spelling::op_bytes))]
 pub fn put_entry(entry: &Entry, out: &mut Bytes) -> Result<(), NoMemory>
     requires { FitsEntry entry.now }
@@ -157,7 +157,8 @@ fn take_cas(alloc: Global, bytes: &[u8]) -> Result<Option<(Op, &[u8])>, NoMemory
     Ok(Some((Op::Cas(key, expected, new), rest)))
 }
 
-/// Takes an operation off the prefix of the bytes: the value and the bytes after it.
+/// Parses an operation at the beginning of `bytes`. Returns it and the remaining bytes, or `None` if they do not begin
+/// with one; `NoMemory` if memory runs out.
 #[tactic(auto, unfolding(crsm_base::specs::Reading::op_at))]
 pub fn take_op(alloc: Global, bytes: &[u8]) -> Result<Option<(Op, &[u8])>, NoMemory>
     ensures { IfOk result (λ r. option_map (λ x. (x.0, x.1.now)) r ≡ op_at bytes.now) }
@@ -174,7 +175,8 @@ pub fn take_op(alloc: Global, bytes: &[u8]) -> Result<Option<(Op, &[u8])>, NoMem
     }
 }
 
-/// Takes a command off the prefix of the bytes: the value and the bytes after it.
+/// Parses a command at the beginning of `bytes`. Returns it and the remaining bytes, or `None` if they do not begin
+/// with one; `NoMemory` if memory runs out.
 #[tactic(auto, unfolding(crsm_base::specs::Reading::command_at))]
 pub fn take_command(alloc: Global, bytes: &[u8]) -> Result<Option<(Command, &[u8])>, NoMemory>
     ensures { IfOk result (λ r. option_map (λ x. (x.0, x.1.now)) r ≡ command_at bytes.now) }
@@ -191,7 +193,8 @@ pub fn take_command(alloc: Global, bytes: &[u8]) -> Result<Option<(Command, &[u8
     Ok(Some((Command { client, number, op }, rest)))
 }
 
-/// Takes an entry off the prefix of the bytes: the value and the bytes after it.
+/// Parses an entry at the beginning of `bytes`. Returns it and the remaining bytes, or `None` if they do not begin with
+/// one; `NoMemory` if memory runs out.
 #[tactic(auto, unfolding(crsm_base::specs::Reading::entry_at))]
 pub fn take_entry(alloc: Global, bytes: &[u8]) -> Result<Option<(Entry, &[u8])>, NoMemory>
     ensures { IfOk result (λ r. option_map (λ x. (x.0, x.1.now)) r ≡ entry_at bytes.now) }

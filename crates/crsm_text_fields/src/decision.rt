@@ -1,4 +1,4 @@
-//! Decisions.
+//! Encoding and parsing of decisions.
 
 ghost use Rattle.std.specs.Prelude.{◌≡◌, ◌≤◌, ◌+◌, ◌==◌, ◌++◌, IfOk, OnOk, length};
 ghost use Rattle.std.specs.Option.{option_map};
@@ -11,7 +11,7 @@ use crate::number::{put_u8, put_u64, take_u8, take_u64};
 use crsm_base::{Bytes, Decision, Entry, Members, NoMemory};
 use std::alloc::Global;
 
-// the byte that announces a set of replicas is this number plus the size of the set
+// A named replica set begins with the byte 128 plus its size, which no member count equals.
 const SPEC_MARK: u8 = 128;
 
 #[tactic(auto, unfolding(crsm_base::specs::Spelling::spec_bytes))]
@@ -27,7 +27,7 @@ fn put_spec(spec: &Option<Members>, out: &mut Bytes) -> Result<(), NoMemory>
     }
 }
 
-/// Appends the spelling of a decision.
+/// Appends the encoding of a decision. `NoMemory` if memory runs out; a prefix may then have been appended.
 #[tactic(auto, unfolding(crsm_base::specs::Spelling::decision_bytes))]
 pub fn put_decision(decision: &Decision, out: &mut Bytes) -> Result<(), NoMemory>
     requires { FitsDecision decision.now }
@@ -86,7 +86,7 @@ fn take_spec(alloc: Global, bytes: &[u8]) -> Result<Option<(Members, &[u8])>, No
     take_replicas(alloc, size, rest)
 }
 
-// the set of replicas that the decision names, if any, and the members
+// Parses the replica set, if the decision names one, and the members.
 #[tactic(auto, unfolding(crsm_base::specs::Reading::spec_members_at))]
 fn take_spec_members(
     alloc: Global,
@@ -138,7 +138,8 @@ fn take_bare_decision(alloc: Global, bytes: &[u8]) -> Result<Option<(Decision, &
     Ok(Some((decision, rest)))
 }
 
-/// Takes a decision off the prefix of the bytes: the value and the bytes after it.
+/// Parses a decision at the beginning of `bytes`. Returns it and the remaining bytes, or `None` if they do not begin
+/// with one; `NoMemory` if memory runs out.
 #[tactic(auto, unfolding(crsm_base::specs::Reading::decision_at))]
 pub fn take_decision(alloc: Global, bytes: &[u8]) -> Result<Option<(Decision, &[u8])>, NoMemory>
     ensures { IfOk result (λ r. option_map (λ x. (x.0, x.1.now)) r ≡ decision_at bytes.now) }

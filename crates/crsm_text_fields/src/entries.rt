@@ -1,4 +1,4 @@
-//! Lists of entries.
+//! Encoding and parsing of lists of entries.
 
 ghost use Rattle.std.specs.Prelude.{◌≡◌, ◌++◌, IfOk, OnOk};
 ghost use Rattle.std.specs.Option.{option_map};
@@ -12,10 +12,10 @@ use crsm_base::{
 };
 use std::alloc::Global;
 
-// no entry is spelt in fewer bytes: 33 of numbers, a tag, and a key of a byte with its length
+// Minimum encoded length of an entry in bytes: 33 of numbers, a tag, and a key of one byte with its length.
 const LEAST_ENTRY_BYTES: usize = 36;
 
-/// Appends the spelling of a list of entries.
+/// Appends the encoding of a list of entries. `NoMemory` if memory runs out; a prefix may then have been appended.
 #[tactic(auto, unfolding(crsm_base::specs::Spelling::entries_bytes))]
 pub fn put_entries(entries: &Entries, out: &mut Bytes) -> Result<(), NoMemory>
     requires { FitsEntries entries.now }
@@ -38,7 +38,7 @@ fn take_many_entries(
     ensures { IfOk result (λ r. option_map (λ x. (x.0, x.1.now)) r ≡ many_entries_at count bytes.now) }
 {
     let mut entries = Entries::new(alloc);
-    // what is told may be more than the bytes can spell
+    // The count comes from the input: no more is reserved than the remaining bytes can hold.
     entries.reserve((count as usize).min(bytes.len() / LEAST_ENTRY_BYTES))?;
     let mut rest = bytes;
     for _ in 0..count {
@@ -51,7 +51,7 @@ fn take_many_entries(
     Ok(Some((entries, rest)))
 }
 
-/// Whether the entries strictly rise in the global order.
+/// Returns whether the entries strictly rise in the global order.
 #[tactic(auto, unfolding(crsm_base::specs::Reading::is_rising))]
 pub fn rises(entries: &[Entry]) -> bool
     ensures { result ≡ is_rising entries.now }
@@ -69,7 +69,8 @@ pub fn rises(entries: &[Entry]) -> bool
     true
 }
 
-/// Takes a list of entries off the prefix of the bytes: the value and the bytes after it.
+/// Parses a list of entries at the beginning of `bytes`. Returns it and the remaining bytes, or `None` if they do not
+/// begin with one; `NoMemory` if memory runs out.
 #[tactic(auto, unfolding(crsm_base::specs::Reading::entries_at))]
 pub fn take_entries(alloc: Global, bytes: &[u8]) -> Result<Option<(Entries, &[u8])>, NoMemory>
     ensures { IfOk result (λ r. option_map (λ x. (x.0, x.1.now)) r ≡ entries_at bytes.now) }

@@ -1,4 +1,5 @@
-//! Appending the spelling of a field or a record to bytes, and taking one off the prefix of bytes.
+//! Encoding of fields and records, and parsing them from a prefix of bytes. Numbers are big endian; each value has one
+//! encoding, and the parsers accept no other.
 #![tactic(auto)]
 
 mod cells;

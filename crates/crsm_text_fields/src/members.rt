@@ -1,4 +1,4 @@
-//! Members.
+//! Encoding and parsing of members.
 
 ghost use Rattle.std.specs.Prelude.{◌≡◌, ◌≤◌, ◌++◌, length, take, IfOk, OnOk, Some, None, if◌then◌else◌};
 ghost use Rattle.std.specs.Option.{option_map};
@@ -10,7 +10,7 @@ use crate::number::{put_u8, take_run, take_u8};
 use crsm_base::{Bytes, MAX_REPLICAS, Members, MembersError, NoMemory};
 use std::alloc::Global;
 
-/// Appends the members, one byte each.
+/// Appends the members' numbers, one byte each, without their count. `NoMemory` if memory runs out.
 pub fn put_replicas(members: &Members, out: &mut Bytes) -> Result<(), NoMemory>
     ensures { OnOk result (out.new ≡ out.old ++ members.now) }
 {
@@ -20,7 +20,7 @@ pub fn put_replicas(members: &Members, out: &mut Bytes) -> Result<(), NoMemory>
     Ok(())
 }
 
-/// Appends the spelling of members.
+/// Appends the encoding of members. `NoMemory` if memory runs out; a prefix may then have been appended.
 #[tactic(auto, unfolding(crsm_base::specs::Spelling::members_bytes))]
 pub fn put_members(members: &Members, out: &mut Bytes) -> Result<(), NoMemory>
     ensures { OnOk result (out.new ≡ out.old ++ members_bytes members.now) }
@@ -29,10 +29,10 @@ pub fn put_members(members: &Members, out: &mut Bytes) -> Result<(), NoMemory>
     put_replicas(members, out)
 }
 
-// as many numbers as there may be members
+// Room for the maximum number of members.
 const ROOM: usize = MAX_REPLICAS as usize;
 
-// the bytes as numbers, with zeros behind them
+// Converts bytes to numbers, padded with zeros.
 fn widened(cells: &[u8]) -> [u32; ROOM]
     requires { length cells.now ≤ 15 }
     ensures { take (length cells.now) result ≡ cells.now }
@@ -44,7 +44,7 @@ fn widened(cells: &[u8]) -> [u32; ROOM]
     numbers
 }
 
-// the members of which each byte is one, if they are members
+// Returns the members whose numbers these bytes are, or `None` if they are no members.
 fn members_of(alloc: Global, cells: &[u8]) -> Result<Option<Members>, NoMemory>
     ensures { IfOk result (λ r. r ≡ (if is_members cells.now then Some cells.now else None)) }
 {
@@ -59,7 +59,8 @@ fn members_of(alloc: Global, cells: &[u8]) -> Result<Option<Members>, NoMemory>
     }
 }
 
-/// Takes so many replicas, one byte each.
+/// Parses `count` replica numbers of one byte each, as members. Returns them and the remaining bytes, or `None` if
+/// there are too few bytes or they are no members; `NoMemory` if memory runs out.
 pub fn take_replicas(
     alloc: Global,
     count: u8,
@@ -76,7 +77,8 @@ pub fn take_replicas(
     Ok(Some((members, rest)))
 }
 
-/// Takes members off the prefix of the bytes: the value and the bytes after it.
+/// Parses members at the beginning of `bytes`. Returns them and the remaining bytes, or `None` if they do not begin
+/// with one; `NoMemory` if memory runs out.
 #[tactic(auto, unfolding(crsm_base::specs::Reading::members_at))]
 pub fn take_members(alloc: Global, bytes: &[u8]) -> Result<Option<(Members, &[u8])>, NoMemory>
     ensures { IfOk result (λ r. option_map (λ x. (x.0, x.1.now)) r ≡ members_at bytes.now) }

@@ -1,4 +1,4 @@
-//! Numbers, and runs of bytes.
+//! Encoding and parsing of numbers, and splitting off runs of bytes.
 
 ghost use Rattle.std.specs.Prelude.{◌≡◌, ◌++◌, OnOk, OnErr};
 ghost use Rattle.std.specs.Option.{option_map};
@@ -9,7 +9,7 @@ ghost use Rattle.crsm_base.specs.Reading.{u16_at, u32_at, u64_at, replica_at, ru
 use byteorder::{BigEndian, ByteOrder};
 use crsm_base::{Bytes, MAX_REPLICAS, NoMemory};
 
-/// Appends the spelling of a byte.
+/// Appends the encoding of a byte. `NoMemory` if memory runs out; `out` is then unchanged.
 pub fn put_u8(number: u8, out: &mut Bytes) -> Result<(), NoMemory>
     ensures ok { OnOk result (out.new ≡ out.old ++ u8_bytes number) }
     ensures err { OnErr result (out.new ≡ out.old) }
@@ -17,7 +17,7 @@ pub fn put_u8(number: u8, out: &mut Bytes) -> Result<(), NoMemory>
     out.push(number)
 }
 
-/// Appends the spelling of a number of two bytes.
+/// Appends the encoding of a big-endian number of two bytes. `NoMemory` if memory runs out; `out` is then unchanged.
 #[tactic(auto, unfolding(crsm_base::specs::Spelling::u16_bytes))]
 pub fn put_u16(number: u16, out: &mut Bytes) -> Result<(), NoMemory>
     ensures ok { OnOk result (out.new ≡ out.old ++ u16_bytes number) }
@@ -28,7 +28,7 @@ pub fn put_u16(number: u16, out: &mut Bytes) -> Result<(), NoMemory>
     out.append(&cells)
 }
 
-/// Appends the spelling of a number of four bytes.
+/// Appends the encoding of a big-endian number of four bytes. `NoMemory` if memory runs out; `out` is then unchanged.
 #[tactic(auto, unfolding(crsm_base::specs::Spelling::u32_bytes))]
 pub fn put_u32(number: u32, out: &mut Bytes) -> Result<(), NoMemory>
     ensures ok { OnOk result (out.new ≡ out.old ++ u32_bytes number) }
@@ -39,7 +39,7 @@ pub fn put_u32(number: u32, out: &mut Bytes) -> Result<(), NoMemory>
     out.append(&cells)
 }
 
-/// Appends the spelling of a number of eight bytes.
+/// Appends the encoding of a big-endian number of eight bytes. `NoMemory` if memory runs out; `out` is then unchanged.
 #[tactic(auto, unfolding(crsm_base::specs::Spelling::u64_bytes))]
 pub fn put_u64(number: u64, out: &mut Bytes) -> Result<(), NoMemory>
     ensures ok { OnOk result (out.new ≡ out.old ++ u64_bytes number) }
@@ -50,7 +50,8 @@ pub fn put_u64(number: u64, out: &mut Bytes) -> Result<(), NoMemory>
     out.append(&cells)
 }
 
-/// Takes a byte off the prefix of the bytes: the value and the bytes after it.
+/// Parses a byte at the beginning of `bytes`. Returns it and the remaining bytes, or `None` if they do not begin with
+/// one.
 #[tactic(auto, unfolding(crsm_base::specs::Parser::u8_at))]
 pub fn take_u8(bytes: &[u8]) -> Option<(u8, &[u8])>
     ensures { option_map (λ x. (x.0, x.1.now)) result ≡ u8_at bytes.now }
@@ -61,7 +62,8 @@ pub fn take_u8(bytes: &[u8]) -> Option<(u8, &[u8])>
     }
 }
 
-/// Takes a number of two bytes off the prefix of the bytes: the value and the bytes after it.
+/// Parses a big-endian number of two bytes at the beginning of `bytes`. Returns it and the remaining bytes, or `None`
+/// if they do not begin with one.
 #[tactic(auto, unfolding(crsm_base::specs::Reading::u16_at))]
 pub fn take_u16(bytes: &[u8]) -> Option<(u16, &[u8])>
     ensures { option_map (λ x. (x.0, x.1.now)) result ≡ u16_at bytes.now }
@@ -72,7 +74,8 @@ pub fn take_u16(bytes: &[u8]) -> Option<(u16, &[u8])>
     Some((BigEndian::read_u16(bytes), &bytes[2..]))
 }
 
-/// Takes a number of four bytes off the prefix of the bytes: the value and the bytes after it.
+/// Parses a big-endian number of four bytes at the beginning of `bytes`. Returns it and the remaining bytes, or `None`
+/// if they do not begin with one.
 #[tactic(auto, unfolding(crsm_base::specs::Reading::u32_at))]
 pub fn take_u32(bytes: &[u8]) -> Option<(u32, &[u8])>
     ensures { option_map (λ x. (x.0, x.1.now)) result ≡ u32_at bytes.now }
@@ -83,7 +86,8 @@ pub fn take_u32(bytes: &[u8]) -> Option<(u32, &[u8])>
     Some((BigEndian::read_u32(bytes), &bytes[4..]))
 }
 
-/// Takes a number of eight bytes off the prefix of the bytes: the value and the bytes after it.
+/// Parses a big-endian number of eight bytes at the beginning of `bytes`. Returns it and the remaining bytes, or `None`
+/// if they do not begin with one.
 #[tactic(auto, unfolding(crsm_base::specs::Reading::u64_at))]
 pub fn take_u64(bytes: &[u8]) -> Option<(u64, &[u8])>
     ensures { option_map (λ x. (x.0, x.1.now)) result ≡ u64_at bytes.now }
@@ -94,7 +98,8 @@ pub fn take_u64(bytes: &[u8]) -> Option<(u64, &[u8])>
     Some((BigEndian::read_u64(bytes), &bytes[8..]))
 }
 
-/// Takes a replica's number off the prefix of the bytes: the value and the bytes after it.
+/// Parses a replica's number at the beginning of `bytes`. Returns it and the remaining bytes, or `None` if they do not
+/// begin with one.
 #[tactic(auto, unfolding(crsm_base::specs::Reading::replica_at))]
 pub fn take_replica(bytes: &[u8]) -> Option<(u32, &[u8])>
     ensures { option_map (λ x. (x.0, x.1.now)) result ≡ replica_at bytes.now }
@@ -107,7 +112,7 @@ pub fn take_replica(bytes: &[u8]) -> Option<(u32, &[u8])>
     }
 }
 
-/// Takes so many bytes off the prefix of the bytes: the value and the bytes after it.
+/// Splits `bytes` after the first `len`, or returns `None` if there are fewer.
 #[tactic(auto, unfolding(crsm_base::specs::Reading::run_at))]
 pub fn take_run(len: usize, bytes: &[u8]) -> Option<(&[u8], &[u8])>
     ensures { option_map (λ x. (x.0.now, x.1.now)) result ≡ run_at len bytes.now }

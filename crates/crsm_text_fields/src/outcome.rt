@@ -1,4 +1,4 @@
-//! Answers and outcomes.
+//! Encoding and parsing of answers and outcomes.
 
 ghost use Rattle.std.specs.Prelude.{◌≡◌, ◌++◌, IfOk, OnOk};
 ghost use Rattle.std.specs.Option.{option_map};
@@ -10,7 +10,7 @@ use crate::value::{put_option_val, put_val, take_option_val, take_val};
 use crsm_base::{Answer, Bytes, NoMemory, Outcome, Refusal};
 use std::alloc::Global;
 
-/// Appends the spelling of an answer.
+/// Appends the encoding of an answer. `NoMemory` if memory runs out; a prefix may then have been appended.
 #[tactic(auto, unfolding(crsm_base::specs::Spelling::answer_bytes))]
 pub fn put_answer(answer: &Answer, out: &mut Bytes) -> Result<(), NoMemory>
     requires { FitsAnswer answer.now }
@@ -35,7 +35,7 @@ pub fn put_answer(answer: &Answer, out: &mut Bytes) -> Result<(), NoMemory>
     }
 }
 
-/// Appends the spelling of an outcome.
+/// Appends the encoding of an outcome. `NoMemory` if memory runs out; a prefix may then have been appended.
 #[tactic(auto, unfolding(crsm_base::specs::Spelling::outcome_bytes))]
 pub fn put_outcome(outcome: &Outcome, out: &mut Bytes) -> Result<(), NoMemory>
     requires { FitsOutcome outcome.now }
@@ -85,7 +85,8 @@ fn take_stale(_alloc: Global, bytes: &[u8]) -> Result<Option<(Answer, &[u8])>, N
     Ok(Some((Answer::Stale(number), rest)))
 }
 
-/// Takes an answer off the prefix of the bytes: the value and the bytes after it.
+/// Parses an answer at the beginning of `bytes`. Returns it and the remaining bytes, or `None` if they do not begin
+/// with one; `NoMemory` if memory runs out.
 #[tactic(auto, unfolding(crsm_base::specs::Reading::answer_at))]
 pub fn take_answer(alloc: Global, bytes: &[u8]) -> Result<Option<(Answer, &[u8])>, NoMemory>
     ensures { IfOk result (λ r. option_map (λ x. (x.0, x.1.now)) r ≡ answer_at bytes.now) }
@@ -114,7 +115,8 @@ fn take_answered(alloc: Global, bytes: &[u8]) -> Result<Option<(Outcome, &[u8])>
     Ok(Some((Outcome::Answered(answer), rest)))
 }
 
-/// Takes an outcome off the prefix of the bytes: the value and the bytes after it.
+/// Parses an outcome at the beginning of `bytes`. Returns it and the remaining bytes, or `None` if they do not begin
+/// with one; `NoMemory` if memory runs out.
 #[tactic(auto, unfolding(crsm_base::specs::Reading::outcome_at))]
 pub fn take_outcome(alloc: Global, bytes: &[u8]) -> Result<Option<(Outcome, &[u8])>, NoMemory>
     ensures { IfOk result (λ r. option_map (λ x. (x.0, x.1.now)) r ≡ outcome_at bytes.now) }

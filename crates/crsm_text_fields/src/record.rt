@@ -1,4 +1,4 @@
-//! Records.
+//! Encoding and parsing of log records.
 
 ghost use Rattle.std.specs.Prelude.{◌≡◌, ◌++◌, IfOk, OnOk};
 ghost use Rattle.std.specs.Option.{option_map};
@@ -13,7 +13,7 @@ use crate::stamp::{put_ballot, put_stamp, take_ballot, take_stamp};
 use crsm_base::{Bytes, NoMemory, Rec};
 use std::alloc::Global;
 
-/// Appends the spelling of a record.
+/// Appends the encoding of a record. `NoMemory` if memory runs out; a prefix may then have been appended.
 #[tactic(auto, unfolding(crsm_base::specs::Records::rec_bytes))]
 pub fn put_rec(rec: &Rec, out: &mut Bytes) -> Result<(), NoMemory>
     requires { FitsRec rec.now }
@@ -186,7 +186,8 @@ fn take_enter(_alloc: Global, bytes: &[u8]) -> Result<Option<(Rec, &[u8])>, NoMe
     Ok(Some((Rec::Enter { epoch }, rest)))
 }
 
-/// Takes a record off the prefix of the bytes: the value and the bytes after it.
+/// Parses a record at the beginning of `bytes`. Returns it and the remaining bytes, or `None` if they do not begin with
+/// one; `NoMemory` if memory runs out.
 #[tactic(auto, unfolding(crsm_base::specs::RecordReading::rec_at))]
 pub fn take_rec(alloc: Global, bytes: &[u8]) -> Result<Option<(Rec, &[u8])>, NoMemory>
     ensures { IfOk result (λ r. option_map (λ x. (x.0, x.1.now)) r ≡ rec_at bytes.now) }

@@ -1,4 +1,4 @@
-//! Stamps and ballots.
+//! Encoding and parsing of stamps and ballots.
 
 ghost use Rattle.std.specs.Prelude.{◌≡◌, ◌++◌, OnOk};
 ghost use Rattle.std.specs.Option.{option_map};
@@ -10,7 +10,7 @@ use crate::cells::number_and_byte;
 use crate::number::{put_u8, take_replica, take_u64};
 use crsm_base::{Ballot, Bytes, NoMemory, Stamp};
 
-/// Appends the spelling of a stamp.
+/// Appends the encoding of a stamp. `NoMemory` if memory runs out; a prefix may then have been appended.
 #[tactic(auto, unfolding(crsm_base::specs::Spelling::stamp_bytes))]
 pub fn put_stamp(stamp: Stamp, out: &mut Bytes) -> Result<(), NoMemory>
     requires { FitsStamp stamp }
@@ -19,7 +19,7 @@ pub fn put_stamp(stamp: Stamp, out: &mut Bytes) -> Result<(), NoMemory>
     out.append(&number_and_byte(stamp.time, stamp.origin as u8))
 }
 
-/// Appends the spelling of a stamp that may be missing.
+/// Appends the encoding of an optional stamp. `NoMemory` if memory runs out; a prefix may then have been appended.
 pub fn put_option_stamp(stamp: Option<Stamp>, out: &mut Bytes) -> Result<(), NoMemory>
     requires { FitsOption FitsStamp stamp }
     ensures { OnOk result (out.new ≡ out.old ++ option_bytes stamp_bytes stamp) }
@@ -33,7 +33,7 @@ pub fn put_option_stamp(stamp: Option<Stamp>, out: &mut Bytes) -> Result<(), NoM
     }
 }
 
-/// Appends the spelling of a ballot.
+/// Appends the encoding of a ballot. `NoMemory` if memory runs out; a prefix may then have been appended.
 #[tactic(auto, unfolding(crsm_base::specs::Spelling::ballot_bytes))]
 pub fn put_ballot(ballot: Ballot, out: &mut Bytes) -> Result<(), NoMemory>
     requires { FitsBallot ballot }
@@ -42,7 +42,8 @@ pub fn put_ballot(ballot: Ballot, out: &mut Bytes) -> Result<(), NoMemory>
     out.append(&number_and_byte(ballot.round, ballot.by as u8))
 }
 
-/// Takes a stamp off the prefix of the bytes: the value and the bytes after it.
+/// Parses a stamp at the beginning of `bytes`. Returns it and the remaining bytes, or `None` if they do not begin with
+/// one.
 #[tactic(auto, unfolding(crsm_base::specs::Reading::stamp_at))]
 pub fn take_stamp(bytes: &[u8]) -> Option<(Stamp, &[u8])>
     ensures { option_map (λ x. (x.0, x.1.now)) result ≡ stamp_at bytes.now }
@@ -52,7 +53,8 @@ pub fn take_stamp(bytes: &[u8]) -> Option<(Stamp, &[u8])>
     Some((Stamp { time, origin }, rest))
 }
 
-/// Takes a stamp that may be missing off the prefix of the bytes: the value and the bytes after it.
+/// Parses an optional stamp at the beginning of `bytes`. Returns it and the remaining bytes, or `None` if they do
+/// not begin with one.
 #[tactic(auto, unfolding(crsm_base::specs::MessageReading::option_stamp_at))]
 pub fn take_option_stamp(bytes: &[u8]) -> Option<(Option<Stamp>, &[u8])>
     ensures { option_map (λ x. (x.0, x.1.now)) result ≡ option_stamp_at bytes.now }
@@ -68,7 +70,8 @@ pub fn take_option_stamp(bytes: &[u8]) -> Option<(Option<Stamp>, &[u8])>
     }
 }
 
-/// Takes a ballot off the prefix of the bytes: the value and the bytes after it.
+/// Parses a ballot at the beginning of `bytes`. Returns it and the remaining bytes, or `None` if they do not begin with
+/// one.
 #[tactic(auto, unfolding(crsm_base::specs::Reading::ballot_at))]
 pub fn take_ballot(bytes: &[u8]) -> Option<(Ballot, &[u8])>
     ensures { option_map (λ x. (x.0, x.1.now)) result ≡ ballot_at bytes.now }

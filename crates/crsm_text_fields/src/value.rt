@@ -1,4 +1,4 @@
-//! Keys and values.
+//! Encoding and parsing of keys and values.
 
 ghost use Rattle.std.specs.Prelude.{◌≡◌, ◌∷◌, ◌++◌, IfOk, OnOk};
 ghost use Rattle.std.specs.Option.{option_map};
@@ -9,7 +9,7 @@ use crate::number::{put_u8, put_u16, take_u8, take_u16};
 use crsm_base::{Bytes, Key, MAX_KEY_BYTES, MAX_VAL_BYTES, NoMemory, Val};
 use std::alloc::Global;
 
-/// Appends the spelling of a key.
+/// Appends the encoding of a key. `NoMemory` if memory runs out; a prefix may then have been appended.
 #[tactic(auto, unfolding(crsm_base::specs::Spelling::key_bytes))]
 pub fn put_key(key: &Key, out: &mut Bytes) -> Result<(), NoMemory>
     requires { FitsKey key.now }
@@ -20,7 +20,7 @@ pub fn put_key(key: &Key, out: &mut Bytes) -> Result<(), NoMemory>
     out.append(bytes)
 }
 
-/// Appends a tag and the spelling of a key behind it.
+/// Appends a tag byte and the encoding of a key. `NoMemory` if memory runs out; a prefix may then have been appended.
 #[tactic(auto, unfolding(crsm_base::specs::Spelling::key_bytes))]
 pub fn put_tagged_key(tag: u8, key: &Key, out: &mut Bytes) -> Result<(), NoMemory>
     requires { FitsKey key.now }
@@ -31,7 +31,7 @@ pub fn put_tagged_key(tag: u8, key: &Key, out: &mut Bytes) -> Result<(), NoMemor
     out.append(bytes)
 }
 
-/// Appends the spelling of a value.
+/// Appends the encoding of a value. `NoMemory` if memory runs out; a prefix may then have been appended.
 #[tactic(auto, unfolding(crsm_base::specs::Spelling::val_bytes))]
 pub fn put_val(val: &Val, out: &mut Bytes) -> Result<(), NoMemory>
     requires { FitsVal val.now }
@@ -42,7 +42,7 @@ pub fn put_val(val: &Val, out: &mut Bytes) -> Result<(), NoMemory>
     out.append(bytes)
 }
 
-/// Appends the spelling of a value that may be missing.
+/// Appends the encoding of an optional value. `NoMemory` if memory runs out; a prefix may then have been appended.
 pub fn put_option_val(val: &Option<Val>, out: &mut Bytes) -> Result<(), NoMemory>
     requires { FitsOption FitsVal val.now }
     ensures { OnOk result (out.new ≡ out.old ++ option_bytes val_bytes val.now) }
@@ -56,7 +56,8 @@ pub fn put_option_val(val: &Option<Val>, out: &mut Bytes) -> Result<(), NoMemory
     }
 }
 
-/// Takes a key off the prefix of the bytes: the value and the bytes after it.
+/// Parses a key at the beginning of `bytes`. Returns it and the remaining bytes, or `None` if they do not begin with
+/// one; `NoMemory` if memory runs out.
 #[tactic(auto, unfolding(crsm_base::specs::Reading::key_at, crsm_base::specs::Reading::run_at))]
 pub fn take_key(alloc: Global, bytes: &[u8]) -> Result<Option<(Key, &[u8])>, NoMemory>
     ensures { IfOk result (λ r. option_map (λ x. (x.0, x.1.now)) r ≡ key_at bytes.now) }
@@ -74,7 +75,8 @@ pub fn take_key(alloc: Global, bytes: &[u8]) -> Result<Option<(Key, &[u8])>, NoM
     Ok(Some((Key::from_prefix(alloc, rest, count)?, &rest[count..])))
 }
 
-/// Takes a value off the prefix of the bytes: the value and the bytes after it.
+/// Parses a value at the beginning of `bytes`. Returns it and the remaining bytes, or `None` if they do not begin with
+/// one; `NoMemory` if memory runs out.
 #[tactic(auto, unfolding(crsm_base::specs::Reading::val_at, crsm_base::specs::Reading::run_at))]
 pub fn take_val(alloc: Global, bytes: &[u8]) -> Result<Option<(Val, &[u8])>, NoMemory>
     ensures { IfOk result (λ r. option_map (λ x. (x.0, x.1.now)) r ≡ val_at bytes.now) }
@@ -92,7 +94,8 @@ pub fn take_val(alloc: Global, bytes: &[u8]) -> Result<Option<(Val, &[u8])>, NoM
     Ok(Some((Val::from_prefix(alloc, rest, count)?, &rest[count..])))
 }
 
-/// Takes a value that may be missing off the prefix of the bytes: the value and the bytes after it.
+/// Parses an optional value at the beginning of `bytes`. Returns it and the remaining bytes, or `None` if they do
+/// not begin with one; `NoMemory` if memory runs out.
 #[tactic(auto, unfolding(crsm_base::specs::Reading::option_val_at))]
 pub fn take_option_val(
     alloc: Global,

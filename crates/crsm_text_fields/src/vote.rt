@@ -1,4 +1,4 @@
-//! What an acceptor has accepted, and in which ballot.
+//! Encoding and parsing of an acceptor's accepted ballot and decision.
 
 ghost use Rattle.std.specs.Prelude.{◌≡◌, ◌++◌, IfOk, OnOk};
 ghost use Rattle.std.specs.Option.{option_map};
@@ -12,7 +12,8 @@ use crate::stamp::{put_ballot, take_ballot};
 use crsm_base::{Ballot, Bytes, Decision, NoMemory};
 use std::alloc::Global;
 
-/// Appends the spelling of what an acceptor has accepted, if anything.
+/// Appends the encoding of an optional accepted ballot and decision. `NoMemory` if memory runs out; a prefix may then
+/// have been appended.
 pub fn put_option_vote(vote: &Option<(Ballot, Decision)>, out: &mut Bytes) -> Result<(), NoMemory>
     requires { FitsOption FitsVote vote.now }
     ensures { OnOk result (out.new ≡ out.old ++ option_bytes vote_bytes vote.now) }
@@ -40,7 +41,8 @@ fn take_vote(alloc: Global, bytes: &[u8]) -> Result<Option<((Ballot, Decision), 
     Ok(Some(((ballot, decision), rest)))
 }
 
-/// Takes what an acceptor has accepted, if anything off the prefix of the bytes: the value and the bytes after it.
+/// Parses an optional accepted ballot and decision at the beginning of `bytes`. Returns it and the remaining bytes, or
+/// `None` if they do not begin with one; `NoMemory` if memory runs out.
 #[tactic(auto, unfolding(crsm_base::specs::MessageReading::option_vote_at))]
 pub fn take_option_vote(
     alloc: Global,

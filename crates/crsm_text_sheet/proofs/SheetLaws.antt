@@ -1,4 +1,4 @@
--- The lines of a sheet tell the bodies that were found and the turns.
+-- The lines of a sheet determine the log bodies and the turns.
 use Rattle.std.proofs.Common.{◌≡◌, ℕ, List, [], ◌∷◌, ◌++◌, map, refl}
 use Rattle.crsm_spec.specs.Node.{Turn}
 use Rattle.crsm_text_sheet.specs.declared.line.SheetLine.TheVariants.{Entry, Open}

@@ -1,4 +1,4 @@
--- How the lines of a sheet are written, each without its line feed, and what can be written.
+-- The lines of a sheet, each without its line feed, and the values that have a line.
 use Rattle.std.specs.Prelude.{◌≢◌, ℕ, ◌^◌, ◌<◌, ◌≤◌, List, [], ◌∷◌, length, codes, decimal}
 use Rattle.hex.specs.Hex.{encode_lower, IsBytes}
 use Rattle.crsm_base.specs.Members.{IsMembers}
@@ -14,19 +14,19 @@ sheet_line_text (In reading address bytes) = spaced (codes "in" ∷ decimal read
 sheet_line_text (Tick reading) = named (codes "tick") (reading ∷ [])
 sheet_line_text (Suspect reading members) = spaced (codes "suspect" ∷ decimal reading ∷ commas members ∷ [])
 
--- a body of a log has at least one byte
+-- a log body has one byte or more
 pub record FitsBody (bytes : List ℕ) : Type 0 where
   pub are_bytes : IsBytes bytes
   pub some : 1 ≤ length bytes
 
--- a turn may take any bytes that one datagram can have
+-- the bytes of a turn's input: up to the maximum length of a datagram
 pub record FitsIn (reading address : ℕ) (bytes : List ℕ) : Type 0 where
   pub reading_fits : reading < 2 ^ 64
   pub address_fits : address < 2 ^ 64
   pub are_bytes : IsBytes bytes
   pub most : length bytes ≤ 8192
 
--- which lines can be written
+-- the line has a text
 abbrev pub FitsSheetLine : SheetLine → Type 0
 FitsSheetLine (Entry bytes) = FitsBody bytes
 FitsSheetLine Open = Unit {0}
@@ -34,6 +34,6 @@ FitsSheetLine (In reading address bytes) = FitsIn reading address bytes
 FitsSheetLine (Tick reading) = reading < 2 ^ 64
 FitsSheetLine (Suspect reading members) = (reading < 2 ^ 64) × IsMembers members
 
--- no line of a sheet is written so
+-- the text is that of no line
 abbrev pub Unreadable : List ℕ → Type 0
 Unreadable text = (l : SheetLine) → FitsSheetLine l → text ≢ sheet_line_text l

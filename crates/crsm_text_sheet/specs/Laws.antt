@@ -1,4 +1,4 @@
--- What the text of a sheet tells.
+-- Laws of sheet texts: different sheets have different texts.
 use Rattle.std.specs.Prelude.{◌≡◌, ℕ, List}
 use Rattle.std.specs.List.{AllByRecursion}
 use Rattle.crsm_text.specs.Words.{Lacks}
@@ -20,7 +20,7 @@ abbrev pub TextsHaveOneSheet : Type 0
 TextsHaveOneSheet =
     (ls ms : List SheetLine) → AllByRecursion FitsSheetLine ls → AllByRecursion FitsSheetLine ms → sheet_text ls ≡ sheet_text ms → ls ≡ ms
 
--- two sheets with the same lines are of the same bodies and turns
+-- two equal sheets are of the same log bodies and turns
 abbrev pub SheetsTellTurns : Type 0
 SheetsTellTurns =
     (bodies others : List (List ℕ)) (turns later : List (Turn × ℕ)) → sheet_of bodies turns ≡ sheet_of others later → (bodies ≡ others) × (turns ≡ later)

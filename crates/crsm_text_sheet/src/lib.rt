@@ -1,4 +1,4 @@
-//! The text of a node's sheet: what a replica found in its log, and what it took at each turn.
+//! The text of a node's sheet: the log bodies that the node found, and the input of each of its turns.
 #![tactic(auto)]
 
 mod laws;

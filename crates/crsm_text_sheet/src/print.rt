@@ -1,4 +1,4 @@
-//! Prints the lines of a sheet, each with its line feed.
+//! Formatting of sheet lines, each with its line feed.
 
 ghost use Rattle.std.specs.Prelude.{◌≡◌, ◌++◌, ◌∷◌, [], OnOk, OnErr};
 ghost use Rattle.crsm_text.specs.Values.{value_text};
@@ -10,7 +10,7 @@ use crsm_base::{Bytes, Members, NoMemory};
 use crsm_text::{push_hex, push_members, push_named};
 use std::alloc::Global;
 
-/// Adds the bytes that a turn took.
+/// Appends the input bytes of a turn in hexadecimal, or `empty`.
 fn push_taken(out: &mut Bytes, bytes: &[u8]) -> Result<(), NoMemory>
     ensures { OnOk result (out.new ≡ out.old ++ value_text bytes.now) }
 {
@@ -20,8 +20,8 @@ fn push_taken(out: &mut Bytes, bytes: &[u8]) -> Result<(), NoMemory>
     }
 }
 
-/// Adds the line of a turn that took these bytes from an address. After an error a prefix of the line may have been
-/// added.
+/// Appends the line of a turn whose input was these bytes from `address`. `reading` is in microseconds since 1970.
+/// `NoMemory` if memory runs out; a prefix of the line may then have been appended.
 pub fn push_in(out: &mut Bytes, reading: u64, address: u64, bytes: &[u8]) -> Result<(), NoMemory>
     ensures { OnOk result (out.new ≡ out.old ++ (sheet_line_text (SheetLine.In reading address bytes.now) ++ 10 ∷ [])) }
 {
@@ -71,7 +71,7 @@ fn push_line(out: &mut Bytes, line: &SheetLine) -> Result<(), NoMemory>
     }
 }
 
-/// Adds a line of a sheet with its line feed. After an error `out` is as before.
+/// Appends a sheet line with its line feed. `NoMemory` if memory runs out; `out` is then unchanged.
 pub fn print_sheet(alloc: Global, line: &SheetLine, out: &mut Bytes) -> Result<(), NoMemory>
     ensures ok { OnOk result (out.new ≡ out.old ++ (sheet_line_text line.now ++ 10 ∷ [])) }
     ensures err { OnErr result (out.new ≡ out.old) }

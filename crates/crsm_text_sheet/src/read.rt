@@ -1,4 +1,4 @@
-//! Reads the lines of a sheet, each without its line feed.
+//! Parsing of sheet lines, each without its line feed.
 
 ghost use Rattle.std.specs.Prelude.{◌≡◌, ℕ, ◌≤◌, ◌++◌, List, IfSome, IfOk, codes, length};
 ghost use Rattle.hex.specs.Hex.{encode_lower, IsBytes};
@@ -12,7 +12,7 @@ use crsm_base::{Bytes, MAX_DATAGRAM_BYTES};
 use crsm_text::{LineError, hex_of, number_field, read_members, read_number, two_fields};
 use std::alloc::Global;
 
-/// The bytes that hexadecimal digits spell, at least one.
+/// Parses one or more bytes in hexadecimal.
 fn some_bytes_of(alloc: Global, word: &[u8]) -> Result<Bytes, LineError>
     ensures found { IfOk result (λ bytes. IsBytes bytes × (1 ≤ length bytes) × (word.now ≡ encode_lower bytes)) }
     ensures only { (bytes : List ℕ) → IsBytes bytes → 1 ≤ length bytes → word.now ≡ encode_lower bytes → ReadsAs result bytes }
@@ -26,7 +26,7 @@ fn some_bytes_of(alloc: Global, word: &[u8]) -> Result<Bytes, LineError>
     Ok(bytes)
 }
 
-/// The bytes that a turn took.
+/// Parses the input bytes of a turn, up to 8,192: hexadecimal digits, or `empty`.
 fn taken_of(alloc: Global, word: &[u8]) -> Result<Bytes, LineError>
     ensures found { IfOk result (λ bytes. IsBytes bytes × (length bytes ≤ 8192) × (word.now ≡ value_text bytes)) }
     ensures only { (bytes : List ℕ) → IsBytes bytes → length bytes ≤ 8192 → word.now ≡ value_text bytes → ReadsAs result bytes }
@@ -83,7 +83,7 @@ fn suspect_of(alloc: Global, text: &[u8]) -> Result<SheetLine, LineError>
     Ok(SheetLine::Suspect { reading, members })
 }
 
-/// What a line of a sheet says. It is Unreadable exactly if no line of a sheet is spelt so.
+/// Parses a sheet line. `Unreadable` if it is the text of none; `NoMemory` if memory runs out.
 pub fn read_sheet(alloc: Global, line: &[u8]) -> Result<SheetLine, LineError>
     ensures found { IfOk result (λ l. FitsSheetLine l × (line.now ≡ sheet_line_text l)) }
     ensures only { (l : SheetLine) → FitsSheetLine l → line.now ≡ sheet_line_text l → ReadsAs result l }

@@ -1,4 +1,4 @@
--- What a task behind the number of a cluster comes to.
+-- The result for a task behind the number of a cluster.
 use Rattle.std.proofs.Common.{◌≡◌, ◌∙◌, ◌⊎◌, inl, inr, ℕ, ◌<◌, ◌≤◌, ◌-◌, ◌^◌, ◌||◌, Bool, true, false, cond, refl, ap, sym, subst, map, List, [], ◌∷◌, length, get_or, take, drop, Result, Ok, Err, IfOk, IfErr, arith, codes, decimal, true≢false}
 use Rattle.std.specs.List.{All, list_any}
 use Rattle.std.specs.Str.{bytes_eq}

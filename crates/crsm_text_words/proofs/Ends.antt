@@ -1,4 +1,4 @@
--- What a parse of the product's words comes to.
+-- The results of parsing the program's words.
 use Rattle.std.proofs.Common.{◌≡◌, ◌∙◌, ◌⊎◌, ◌&&◌, inl, inr, ap, sym, subst, List, [], ◌∷◌, true, false, Bool, refl, Result, Ok, Err, IfOk}
 use Rattle.std.specs.List.{All, list_all}
 use Rattle.clap.specs.Words.{App, FailsBy, HasMatchesOf, IsAmong, Kinds, Text, fault_of, is_simple_and_free, kind_of, subcommand_of}

@@ -1,9 +1,9 @@
--- Addresses of the network. One is a number: that of its IPv4 address times 65,536, plus its port.
+-- Network addresses as numbers, IPv4 x 65,536 + port, and their texts.
 use Rattle.std.specs.Prelude.{ℕ, ◌<◌, ◌≤◌, ◌^◌, ◌+◌, ◌*◌, ◌/◌, ◌%◌, List, ◌∷◌, ◌++◌, length, map, decimal, nat_eq}
 use Rattle.std.specs.List.{AllByRecursion, IsDistinct, join_with_byte}
 use Rattle.crsm_text_words.specs.declared.address.AddressParts.{AddressParts}
 
--- the parts of an address: the four numbers of its IPv4 address, and its port
+-- the four octets and the port of an address
 abbrev pub parts_of : ℕ → AddressParts
 parts_of a = record {
   first = a / 2 ^ 40;
@@ -30,11 +30,11 @@ parts_text p = decimal p.first ++ 46 ∷ (decimal p.second ++ 46 ∷ (decimal p.
 abbrev pub address_text : ℕ → List ℕ
 address_text a = parts_text (parts_of a)
 
--- addresses, one comma between each two
+-- addresses, separated by commas
 abbrev pub addresses_text : List ℕ → List ℕ
 addresses_text all = join_with_byte 44 (map address_text all)
 
--- at least one, no two alike
+-- one address or more, all distinct
 pub record AreAddresses (all : List ℕ) : Type 0 where
   pub below : AllByRecursion (λ a. a < 2 ^ 48) all
   pub some : 1 ≤ length all

@@ -1,4 +1,4 @@
--- What words come to.
+-- The results of parsing a command line.
 use Rattle.std.specs.Prelude.{◌≡◌, ◌≢◌, ◌⊎◌, Bool, true, false, List, [], Result, Ok, Err, MatchResult}
 use Rattle.std.specs.List.{list_any}
 use Rattle.clap.specs.Words.{Text, fault_of}
@@ -19,7 +19,7 @@ abbrev pub refusal_of : LineError → WordsError
 refusal_of Unreadable = Usage
 refusal_of OutOfMemory = NoMemory
 
--- this was read, unless memory ran out
+-- the parser returns this value, unless memory runs out
 abbrev pub Reads : {X : Type 0} → Result X WordsError → X → Type 0
 Reads (Ok x) y = x ≡ y
 Reads (Err r) y = r ≡ NoMemory
@@ -30,13 +30,13 @@ abbrev pub IsShown : Task → Type 0
 IsShown (Show text) = Unit {0}
 IsShown _ = ⊥
 
--- help or the version is asked for
+-- whether the error asks for help or the version
 abbrev pub asks_text : ErrorKind → Bool
 asks_text DisplayHelp = true
 asks_text DisplayVersion = true
 asks_text _ = false
 
--- of an error of this kind: a text is shown where it was asked for, and the words are refused where they are at fault
+-- the result for an error of `clap`: a text to show if help or the version was asked for, otherwise a refusal
 abbrev pub AnswersError : ErrorKind → Result Task WordsError → Type 0
 AnswersError kind result = MatchResult result (λ task. IsShown task × (asks_text kind ≡ true)) (λ r. (r ≡ NoMemory) ⊎ ((r ≡ Usage) × (is_usage kind ≡ true)))
 

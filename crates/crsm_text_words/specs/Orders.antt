@@ -1,4 +1,4 @@
--- Which words ask for what.
+-- The words that ask for each order.
 use Rattle.std.specs.Prelude.{◌≡◌, ◌⊎◌, ℕ, ◌<◌, ◌≤◌, ◌+◌, ◌-◌, ◌^◌, ◌==◌, List, [], ◌∷◌, length, map, codes, decimal, if◌then◌else◌}
 use Rattle.std.specs.Borrow.{Bor}
 use Rattle.std.specs.Str.{bytes_eq}
@@ -19,20 +19,20 @@ use Rattle.crsm_text_words.specs.declared.order.Order.{Order}
 use Rattle.crsm_text_words.specs.declared.order.Task.{Task}
 use Rattle.crsm_text_words.specs.declared.order.Task.TheVariants.{Show, Replay, ReplayNode, Node, Client, Operate, Soak, Audit, Lock, Delay, DelayTimes, ReplayMp}
 
--- the words behind references
+-- the words that the references point to
 abbrev pub texts : List (Bor Text) → List Text
 texts = map (λ s. s.now)
 
 -- ---- limits
 
--- how many replicas a cluster may begin with
+-- the number of replicas that began a cluster is within its bounds
 abbrev pub IsClusterSize : ℕ → Type 0
 IsClusterSize n = (1 ≤ n) × (n ≤ 15)
 
 abbrev pub IsAddress : ℕ → Type 0
 IsAddress a = a < 2 ^ 48
 
--- how many turns a client has
+-- the turn count of a client is within its bounds
 abbrev pub IsPatience : ℕ → Type 0
 IsPatience turns = (1 ≤ turns) × (turns ≤ 1000000)
 
@@ -65,13 +65,13 @@ action_text Take = codes "take"
 action_text Give = codes "give"
 action_text Break = codes "break"
 
--- one to four words, which spell the operation with one space between each two
+-- one to four words that, joined by spaces, are the text of the operation
 pub record AreOperation (words : List Text) (op : Op) : Type 0 where
   pub some : 1 ≤ length words
   pub few : length words ≤ 4
   pub text : spaced words ≡ op_text op
 
--- a client's number, the command's, and its operation
+-- the words of a command: the client's number, the command's, and its operation
 pub record AsksCommand (command : Command) (words : List Text) : Type 0 where
   pub op : List Text
   pub operation : AreOperation op command.op
@@ -105,7 +105,7 @@ Asks Delay words = words ≡ codes "delay" ∷ []
 Asks DelayTimes words = words ≡ codes "delay" ∷ codes "times" ∷ []
 Asks ReplayMp words = words ≡ codes "replay-mp" ∷ []
 
--- no value of the task takes memory
+-- no value of the task needs memory
 abbrev pub IsPlainTask : Task → Type 0
 IsPlainTask (Node t) = ⊥
 IsPlainTask (Client to turns command) = ⊥
@@ -115,26 +115,26 @@ IsPlainTask _ = Unit {0}
 
 -- ---- clusters
 
--- who speaks to replicas of a cluster over the network
+-- the task may name a cluster: it sends to replicas over the network
 abbrev pub NamesCluster : Task → Type 0
 NamesCluster (Node t) = Unit {0}
 NamesCluster (Client to turns command) = Unit {0}
 NamesCluster (Operate to members) = Unit {0}
 NamesCluster _ = ⊥
 
--- the number of a cluster with the word before it, where the words begin with these
+-- `cluster` and its number, if the words begin so
 abbrev pub cluster_words : List Text → List Text
 cluster_words [] = []
 cluster_words (word ∷ []) = []
 cluster_words (word ∷ number ∷ rest) = if bytes_eq word (codes "cluster") then word ∷ number ∷ [] else []
 
--- the words behind them
+-- the words without them
 abbrev pub task_words : List Text → List Text
 task_words [] = []
 task_words (word ∷ []) = word ∷ []
 task_words (word ∷ number ∷ rest) = if bytes_eq word (codes "cluster") then rest else word ∷ number ∷ rest
 
--- no cluster is named, or this one by who may
+-- the words name no cluster and the order's is 0, or they name the order's and the task may name one
 abbrev pub InFront : Order → List Text → Type 0
 InFront order [] = order.cluster ≡ 0
 InFront order (word ∷ []) = ⊥

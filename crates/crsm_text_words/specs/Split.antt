@@ -1,4 +1,4 @@
--- What `clap` makes of words.
+-- The result of splitting words with `clap`.
 use Rattle.std.specs.Prelude.{◌≡◌, ◌⊎◌, Bool, true, false, List, [], ◌∷◌, Option, Some, None, option_map, unwrap_or, Result, MatchResult, codes}
 use Rattle.clap.specs.Lexer.{strip_byte}
 use Rattle.clap.specs.Words.{FailsBy, Row as Found, Text, all_of, fault_of, kind_of, subcommand_of, subcommand_rows_of}
@@ -12,23 +12,23 @@ use Rattle.crsm_text_words.specs.Table.{fits, product_app}
 abbrev pub IsPlain : Text → Type 0
 IsPlain word = strip_byte 45 word ≡ None
 
--- a command's name and its values, as one list; nothing where there is no command
+-- a command's name and its values, as one list; empty if there is no command
 abbrev pub parts : Option (Text × List Found) → List Text
 parts None = []
 parts (Some p) = p.0 ∷ unwrap_or (all_of (codes "values") p.1) []
 
--- what `clap` takes the words for
+-- the command that `clap` finds in the words
 abbrev pub taken : List Text → List Text
 taken words = parts (subcommand_of product_app words)
 
--- the words are at fault: neither did memory run out, nor was help or the version asked for
+-- the error is a fault of the words: neither did memory run out, nor was help or the version asked for
 abbrev pub is_usage : ErrorKind → Bool
 is_usage OutOfMemory = false
 is_usage DisplayHelp = false
 is_usage DisplayVersion = false
 is_usage _ = true
 
--- of any words: a split comes only where `clap` finds no fault; an error is a fault that it finds, or memory ran out
+-- any words: they are split only if `clap` finds no fault; an error is such a fault, or memory ran out
 abbrev pub SplitsBy : List Text → Result ArgMatches Error → Type 0
 SplitsBy words result =
     FailsBy (fault_of product_app words) result × MatchResult result (λ m. parts (subcommand_rows_of m) ≡ taken words) (λ e. Unit {0})

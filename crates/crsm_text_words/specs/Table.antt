@@ -1,10 +1,10 @@
--- The commands of the product: their names, and how many values each may have.
+-- The commands of the program: their names, and how many values each may have.
 use Rattle.std.specs.Prelude.{ℕ, ◌==◌, ◌&&◌, Bool, true, false, List, [], ◌∷◌, Option, Some, find, fold, codes, if◌then◌else◌, nat_lt, nat_le, length}
 use Rattle.std.specs.Option.{option_map_or}
 use Rattle.std.specs.Str.{bytes_eq}
 use Rattle.clap.specs.Words.{App, Rule, Shape, Text, new_app, new_rule, with_rule, with_subcommand}
 
--- a command's name, how many labels help shows for its values, and the least and the most values
+-- a command's name, the number of its labels in help, and the minimum and maximum number of its values
 pub record Row : Type 0 where
   pub name : Text
   pub labels : ℕ
@@ -39,7 +39,7 @@ abbrev pub fits : List Text → Bool
 fits [] = false
 fits (name ∷ values) = option_map_or (λ r. within r (length values)) (row_named name table) false
 
--- ---- the same, as `clap` is told of it
+-- ---- the same, as it is declared to `clap`
 
 -- one positional with all values of the command
 abbrev pub values_rule : Row → Rule

@@ -1,4 +1,4 @@
-//! Addresses of the network as words: `A.B.C.D:PORT`, and several of them with a comma between each two.
+//! Parsing of network addresses: `A.B.C.D:PORT`, and comma-separated lists of them.
 
 ghost use Rattle.std.specs.Prelude.{◌≡◌, ◌<◌, ◌≤◌, ◌^◌, ◌↔◌, ◌++◌, ◌∷◌, ℕ, List, IfOk, IfSome, IsTrue, decimal, length, nat_eq, MatchResult};
 ghost use Rattle.std.specs.List.{AllByRecursion, IsDistinct};
@@ -12,13 +12,13 @@ use crsm_text::{LineError, read_number, split_field};
 use std::alloc::Global;
 use std::marker::Model;
 
-/// The numbers of the four parts of an IPv4 address are below this.
+/// Exclusive upper bound of an octet of an IPv4 address.
 const OCTET_END: u64 = 256;
 
-/// The numbers of ports are below this.
+/// Exclusive upper bound of a port.
 const PORT_END: u64 = 65_536;
 
-/// Addresses, each as its IPv4 number times 65,536 plus its port.
+/// A list of distinct addresses, each IPv4 x 65,536 + port.
 #[derive(Debug, Drop)]
 pub struct Addresses {
     items: Vec<u64>,
@@ -39,7 +39,7 @@ impl Addresses {
         Addresses { items }
     }
 
-    /// The addresses in their order.
+    /// Returns the addresses in order.
     pub fn as_slice(&self) -> &[u64]
         ensures { result.now ≡ self.now }
     {
@@ -47,7 +47,7 @@ impl Addresses {
     }
 }
 
-/// A number below the limit.
+/// Parses a number below `limit`, or returns `None`.
 fn number_below(word: &[u8], limit: u64) -> Option<u64>
     ensures found { IfSome result (λ n. (n < limit) × (word.now ≡ decimal n)) }
     ensures only { (n : ℕ) → n < limit → word.now ≡ decimal n → result ≡ Some n }
@@ -59,7 +59,7 @@ fn number_below(word: &[u8], limit: u64) -> Option<u64>
     Some(number)
 }
 
-/// One of the first three numbers of an address, and what stands behind the dot after it.
+/// Parses one of the first three octets. Returns it and the bytes after the dot that follows, or `None`.
 fn octet_field(input: &[u8]) -> Option<(u64, &[u8])>
     ensures found { IfSome result (λ f. (f.0 < 256) × (input.now ≡ decimal f.0 ++ 46 ∷ f.1.now)) }
     ensures only { (n : ℕ) (rest : List ℕ) → n < 256 → input.now ≡ decimal n ++ 46 ∷ rest → IsSomeAnd result (λ f. (f.0 ≡ n) × (f.1.now ≡ rest)) }
@@ -69,7 +69,7 @@ fn octet_field(input: &[u8]) -> Option<(u64, &[u8])>
     Some((number, rest))
 }
 
-/// The fourth number of an address, and its port.
+/// Parses the fourth octet and the port, or returns `None`.
 fn port_field(input: &[u8]) -> Option<(u64, u64)>
     ensures found { IfSome result (λ f. (f.0 < 256) × (f.1 < 65536) × (input.now ≡ decimal f.0 ++ 58 ∷ decimal f.1)) }
     ensures only { (n port : ℕ) → n < 256 → port < 65536 → input.now ≡ decimal n ++ 58 ∷ decimal port → IsSomeAnd result (λ f. (f.0 ≡ n) × (f.1 ≡ port)) }
@@ -80,7 +80,7 @@ fn port_field(input: &[u8]) -> Option<(u64, u64)>
     Some((number, port))
 }
 
-/// The parts of an address: the four numbers of the IPv4 address, and the port.
+/// The parts of an address: the four octets of its IPv4 address, and its port.
 #[derive(Clone, Copy)]
 struct AddressParts {
     first: u64,
@@ -91,7 +91,7 @@ struct AddressParts {
 }
 
 impl AddressParts {
-    /// The number of the address.
+    /// Returns the address as IPv4 x 65,536 + port.
     #[tactic(auto, using(crate::proofs::AddressLaws::joined_below, crate::proofs::AddressLaws::joined_fits))]
     fn number(&self) -> u64
         requires { AreParts self.now }
@@ -104,7 +104,7 @@ impl AddressParts {
     }
 }
 
-/// The parts of the address that a word spells.
+/// Parses the parts of an address, or returns `None` if the word is none.
 fn read_parts(word: &[u8]) -> Option<AddressParts>
     ensures found { IfSome result (λ p. AreParts p × (word.now ≡ parts_text p)) }
     ensures only { (p : AddressParts) → AreParts p → word.now ≡ parts_text p → result ≡ Some p }
@@ -122,7 +122,7 @@ fn read_parts(word: &[u8]) -> Option<AddressParts>
     })
 }
 
-/// The address that a word spells, as its IPv4 number times 65,536 plus its port.
+/// Parses an address and returns it as IPv4 x 65,536 + port, or `None` if the word is none.
 pub fn read_address(word: &[u8]) -> Option<u64>
     ensures found { IfSome result (λ a. (a < 2 ^ 48) × (word.now ≡ address_text a)) }
     ensures only { (a : ℕ) → a < 2 ^ 48 → word.now ≡ address_text a → result ≡ Some a }
@@ -131,7 +131,7 @@ pub fn read_address(word: &[u8]) -> Option<u64>
     Some(parts.number())
 }
 
-/// The addresses that a word spells, at least one.
+/// Parses one or more comma-separated addresses. `Unreadable` if the word is no such list.
 fn read_list(alloc: Global, word: &[u8]) -> Result<Vec<u64>, LineError>
     ensures found { IfOk result (λ made. AllByRecursion (λ a. a < 2 ^ 48) made.items × (1 ≤ length made.items) × (word.now ≡ addresses_text made.items)) }
     ensures only { (all : List ℕ) → AllByRecursion (λ a. a < 2 ^ 48) all → 1 ≤ length all → word.now ≡ addresses_text all
@@ -164,7 +164,8 @@ fn are_distinct(numbers: &[u64]) -> bool
     true
 }
 
-/// The addresses that a word spells: at least one, and no two alike.
+/// Parses one or more comma-separated addresses, all distinct. `Unreadable` if the word is no such list; `NoMemory` if
+/// memory runs out.
 pub fn read_addresses(alloc: Global, word: &[u8]) -> Result<Addresses, LineError>
     ensures found { IfOk result (λ all. AreAddresses all × (word.now ≡ addresses_text all)) }
     ensures only { (all : List ℕ) → AreAddresses all → word.now ≡ addresses_text all → ReadsAs result all }

@@ -1,4 +1,4 @@
-//! The commands, as `clap` is told of them.
+//! The commands of the program as they are declared to `clap`.
 
 ghost use Rattle.std.specs.Prelude.{◌≡◌, ◌≤◌, IfOk, false, length, map, string_bytes};
 ghost use Rattle.std.specs.List.{All};
@@ -10,7 +10,7 @@ ghost use Rattle.crsm_text_words.specs.Table.{product_app, row, taking_app, top_
 use clap::{Arg, ArgMatches, Command, Error};
 use std::alloc::{AllocError, Global};
 
-/// What help says of the commands.
+/// The text of help about the commands.
 const COMMANDS: &str =
     "node runs a replica; client and lock ask one, and operate changes the membership.
 replay and replay-mp run a schedule, soak one that it draws; replay-node and audit read the sheets of nodes.
@@ -32,7 +32,7 @@ static LOCK: [&str; 6] = ["TO", "TURNS", "CLIENT", "NUMBER", "KEY", "ACTION"];
 
 static DELAY: [&str; 1] = ["times"];
 
-/// A command with values: their labels, and how many it may have.
+/// Declares a command with a name, labels of its values for help, and the minimum and maximum number of its values.
 fn taking<'a>(
     alloc: Global,
     name: &'a str,
@@ -64,7 +64,7 @@ fn top<'a>(alloc: Global) -> Command<'a>
         .subcommand_required(true)
 }
 
-/// All commands. A command more is a row more here and in the table of the definitions.
+/// Declares all commands. A new command needs a row here and one in `specs/Table`.
 fn product<'a>(alloc: Global) -> Result<Command<'a>, AllocError>
     ensures { IfOk result (λ c. app_of c ≡ product_app) }
 {
@@ -81,7 +81,7 @@ fn product<'a>(alloc: Global) -> Result<Command<'a>, AllocError>
         .subcommand(Command::new(alloc, "replay-mp"))
 }
 
-/// Splits the words into a command's name and its values.
+/// Splits the words into a command's name and its values, by `clap`; returns its error if it finds a fault.
 pub(crate) fn split<'a>(alloc: Global, words: &'a [String]) -> Result<ArgMatches<'a>, Error>
     ensures any { SplitsBy (map string_bytes words.entry.now) result }
     ensures plain { All IsPlain (map string_bytes words.entry.now) → SplitsExactly (map string_bytes words.entry.now) result }

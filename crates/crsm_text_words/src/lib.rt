@@ -1,4 +1,4 @@
-//! The words of the command line: `clap` splits them into a command and its values, and each value is read here.
+//! The words of the command line: `clap` splits them into a command and its values, and this crate parses the values.
 #![tactic(auto)]
 
 mod address;

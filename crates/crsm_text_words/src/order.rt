@@ -1,4 +1,4 @@
-//! What the words of a command line ask for.
+//! The task that a command line asks for.
 
 ghost use Rattle.std.specs.Prelude.{◌≡◌};
 ghost use Rattle.crsm_text_words.specs.Plans.{HasOwnPeer, plan_of};
@@ -6,107 +6,107 @@ ghost use Rattle.crsm_text_words.specs.Plans.{HasOwnPeer, plan_of};
 use crate::address::Addresses;
 use crsm_base::{Bytes, Command, Key, Members};
 
-/// What is done with a lock.
+/// What the command `lock` does with a lock.
 #[derive(Clone, Copy, Debug, PartialEq, Eq)]
 pub enum LockAction {
     Take,
     Give,
-    /// Takes it from its owner.
+    /// Takes the lock away from its owner.
     Break,
 }
 
-/// One replica of a cluster, over UDP and a log file.
+/// The task of running one replica over UDP and a log file.
 #[derive(Debug, Drop)]
 pub struct NodeTask {
-    /// The replica's number.
+    /// The replica's number, 0 to 14.
     pub me: u32,
-    /// How many replicas the cluster began with, 1 to 15.
+    /// The number of replicas that began the cluster, 1 to 15.
     pub n: u32,
-    /// How many turns it makes.
+    /// The number of turns until the node exits, up to 10^12: each receives a datagram or waits a millisecond for one.
     pub turns: u64,
-    /// The address of each replica, by its number.
+    /// The address of each replica, in the order of their numbers.
     pub peers: Addresses,
 }
 
-/// A lock that is taken, given back or broken.
+/// The task of taking, giving back or breaking a lock.
 #[derive(Debug, Drop)]
 pub struct LockTask {
-    /// The address of the replica that is asked.
+    /// The address of the replica that is asked, IPv4 x 65,536 + port.
     pub to: u64,
-    /// How many turns there are for each question.
+    /// The maximum number of turns (receives) to wait for each reply, 1 to 1,000,000.
     pub turns: u64,
-    /// The client, who is the owner of what is taken.
+    /// The number of the client, which owns the locks that it takes.
     pub client: u64,
-    /// The number of the first command.
+    /// The number of the client's first command.
     pub number: u64,
     pub key: Key,
     pub action: LockAction,
 }
 
-/// What is to be done.
+/// A task of the program, with its values.
 #[derive(Debug, Drop)]
 pub enum Task {
-    /// This text was asked for: help, or the version.
+    /// Shows this text, which was asked for: help, or the version.
     Show(Bytes),
-    /// Runs a schedule.
+    /// Runs a schedule from standard input.
     Replay,
-    /// Runs the sheet of a node.
+    /// Replays the sheet of node `me`, whose cluster began with `n` replicas.
     ReplayNode {
         me: u32,
         n: u32,
     },
     /// Runs a replica.
     Node(NodeTask),
-    /// Asks a replica for one command, within so many turns.
+    /// Asks the replica at address `to` for one command, and waits up to `turns` receives for the reply.
     Client {
         to: u64,
         turns: u64,
         command: Command,
     },
-    /// Asks a replica for another membership.
+    /// Asks the replica at address `to` to change the members.
     Operate {
         to: u64,
         members: Members,
     },
-    /// Runs a schedule that is drawn from a number.
+    /// Runs `steps` events drawn by a generator with the seed `number`, in a cluster of `n` replicas.
     Soak {
         number: u64,
         n: u32,
         steps: u64,
     },
-    /// Compares the sheets of several nodes.
+    /// Compares the sheets of the nodes of a cluster that began with `n` replicas.
     Audit {
         n: u32,
     },
     Lock(LockTask),
-    /// Writes the schedule of one command over given delays.
+    /// Writes the schedule of one command with given delays and clock offsets.
     Delay,
-    /// Writes when each replica commits it.
+    /// Writes the moment at which each replica executes the command, in microseconds.
     DelayTimes,
-    /// Runs a schedule in a store with a leader.
+    /// Runs a schedule in the store with a leader.
     ReplayMp,
 }
 
-/// A task, and the number of the cluster that it is for: 0 where the words name none.
+/// A task and the number of its cluster, which is 0 if the words name none.
 #[derive(Debug, Drop)]
 pub struct Order {
     pub cluster: u64,
     pub task: Task,
 }
 
-/// Which real devices a task wants.
+/// The system's devices that a task uses.
 #[derive(Clone, Copy, Debug, PartialEq, Eq)]
 pub enum DevicePlan {
-    /// None but the standard input and output.
+    /// Standard input and output only.
     Plain,
-    /// A socket that is bound at this address, and the log file of this replica.
+    /// A socket bound to the address `bind` (IPv4 x 65,536 + port), and the log file of replica `me`.
     Node { me: u32, bind: u64 },
     /// A socket at any free port.
     Socket,
 }
 
 impl Task {
-    /// The devices that it wants.
+    /// Returns the devices that the task uses.
     pub fn plan(&self) -> DevicePlan
         requires { HasOwnPeer self.now }
         ensures { result ≡ plan_of self.now }

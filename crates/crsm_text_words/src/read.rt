@@ -1,4 +1,4 @@
-//! Reads the words of a command line.
+//! Parsing of the words of a command line.
 
 ghost use Rattle.std.specs.Prelude.{◌≡◌, ◌<◌, ◌^◌, ◌↔◌, ◌∷◌, [], ℕ, IfErr, IfNone, IfOk, IfSome, IsTrue, Some, codes, decimal, map, string_bytes};
 ghost use Rattle.std.specs.List.{All};
@@ -19,7 +19,7 @@ use crsm_base::{Bytes, NoMemory};
 use crsm_text::{LineError, read_number};
 use std::alloc::Global;
 
-/// Why words ask for nothing.
+/// The reason why words were refused.
 #[derive(Clone, Copy, Debug, PartialEq, Eq)]
 pub enum WordsError {
     /// They are not those of a command, or a value is outside its limits.
@@ -52,7 +52,7 @@ impl From<NoMemory> for WordsError {
     }
 }
 
-/// The text of an error of `clap`.
+/// Formats an error of `clap`.
 fn text_of(alloc: Global, error: &Error) -> Result<Bytes, NoMemory> {
     let Ok(text) = format!(in alloc; "{error}") else {
         return Err(NoMemory);
@@ -62,7 +62,7 @@ fn text_of(alloc: Global, error: &Error) -> Result<Bytes, NoMemory> {
     Ok(bytes)
 }
 
-/// What an error of `clap` comes to: help or the version is shown where it was asked for.
+/// Converts an error of `clap`: help or the version is shown if it was asked for; otherwise `Usage`.
 fn answer(alloc: Global, error: &Error) -> Result<Task, WordsError>
     ensures { AnswersError (kind_of error.now) result }
 {
@@ -76,7 +76,7 @@ fn answer(alloc: Global, error: &Error) -> Result<Task, WordsError>
     }
 }
 
-/// The task that a name and its values ask for.
+/// Parses a command's name and values as a task. `Usage` if they are none.
 fn named_task(alloc: Global, name: &str, values: &[&str]) -> Result<Task, WordsError>
     ensures found { IfOk result (λ task. Asks task (name.now ∷ texts values.now)) }
     ensures only { (task : Asked) → Asks task (name.now ∷ texts values.now) → Reads result task }
@@ -88,7 +88,7 @@ fn named_task(alloc: Global, name: &str, values: &[&str]) -> Result<Task, WordsE
     }
 }
 
-/// The task that a command's name and its values ask for.
+/// Parses the name and values that `clap` found as a task. `Usage` if they are none.
 fn matched_task(alloc: Global, matches: &ArgMatches<'_>) -> Result<Task, WordsError>
     ensures found { IfOk result (λ task. Asks task (parts (subcommand_rows_of matches.now))) }
     ensures only { (task : Asked) → Asks task (parts (subcommand_rows_of matches.now)) → Reads result task }
@@ -102,7 +102,7 @@ fn matched_task(alloc: Global, matches: &ArgMatches<'_>) -> Result<Task, WordsEr
     }
 }
 
-/// The task that words ask for, which name no cluster.
+/// Parses words that name no cluster as a task. `Usage` if they are none.
 fn task_of(alloc: Global, words: &[String]) -> Result<Task, WordsError>
     ensures any { TaskBy (map string_bytes words.now) result }
     ensures found { All IsPlain (map string_bytes words.now) → IfOk result (λ task. Asks task (map string_bytes words.now)) }
@@ -114,7 +114,7 @@ fn task_of(alloc: Global, words: &[String]) -> Result<Task, WordsError>
     }
 }
 
-/// Whether a task is one in a cluster.
+/// Returns whether the task may name a cluster: those that send to replicas over the network do.
 fn names_cluster(task: &Task) -> bool
     ensures { IsTrue result ↔ NamesCluster task.now }
 {
@@ -124,10 +124,10 @@ fn names_cluster(task: &Task) -> bool
     )
 }
 
-/// Lets a task go, in a function of its own, which keeps the cases of a task out of its callers' proofs.
+/// Drops the task in its own function, which keeps its variants out of the proofs of callers.
 fn discard(_task: Task) {}
 
-/// The order of a task in a cluster.
+/// Returns the order of a task in a cluster. `Usage` if the task may not name one.
 fn order_of(cluster: u64, task: Task) -> Result<Order, WordsError>
     ensures ok { IfOk result (λ order. NamesCluster task × (order ≡ record { cluster = cluster; task = task })) }
     ensures err { IfErr result (λ r. (r ≡ WordsError.Usage) × ¬ (NamesCluster task)) }
@@ -140,7 +140,7 @@ fn order_of(cluster: u64, task: Task) -> Result<Order, WordsError>
     }
 }
 
-/// The number of a cluster, which is at least 1.
+/// Parses the number of a cluster, at least 1, or returns `None`.
 fn cluster_number(word: &str) -> Option<u64>
     ensures found { IfSome result (λ n. (0 < n) × (n < 2 ^ 64) × (word.now ≡ decimal n)) }
     ensures only { (n : ℕ) → 0 < n → n < 2 ^ 64 → word.now ≡ decimal n → result ≡ Some n }
@@ -152,7 +152,7 @@ fn cluster_number(word: &str) -> Option<u64>
     Some(number)
 }
 
-/// What words ask for that stand behind the number of a cluster.
+/// Parses the words after `cluster C`. `Usage` if they ask for no task, or for one that names no cluster.
 fn order_in(alloc: Global, number: &str, rest: &[String]) -> Result<Order, WordsError>
     ensures found { All IsPlain (map string_bytes rest.now) → IfOk result (λ order. AsksFor order (codes "cluster" ∷ number.now ∷ map string_bytes rest.now)) }
     ensures only { All IsPlain (map string_bytes rest.now) → (order : AskedOrder) → AsksFor order (codes "cluster" ∷ number.now ∷ map string_bytes rest.now) → Reads result order }
@@ -165,7 +165,7 @@ fn order_in(alloc: Global, number: &str, rest: &[String]) -> Result<Order, Words
     order_of(cluster, task)
 }
 
-/// The word behind `cluster`, and those behind that one.
+/// Splits words that begin with `cluster` into the word after it and the rest, or returns `None`.
 pub(crate) fn cluster_words<'a>(words: &'a [String]) -> Option<(&'a str, &'a [String])>
     ensures found { IfSome result (λ w. map string_bytes words.now ≡ codes "cluster" ∷ w.0.now ∷ map string_bytes w.1.now) }
     ensures none { IfNone result ((cluster_words (map string_bytes words.now) ≡ []) × (task_words (map string_bytes words.now) ≡ map string_bytes words.now)) }
@@ -179,17 +179,18 @@ pub(crate) fn cluster_words<'a>(words: &'a [String]) -> Option<(&'a str, &'a [St
     None
 }
 
-/// What the words of a command line ask for, without the program's name.
+/// Parses the words of a command line, without the program's name. `Usage` if they ask for no task; `NoMemory` if
+/// memory runs out.
 pub fn read_words(alloc: Global, words: &[String]) -> Result<Order, WordsError>
-    // Of words that do not begin with a hyphen: an order is what they ask for, and what they ask for is the order, unless
-    // memory ran out. So the words are refused only where they ask for nothing.
+    // Words that do not begin with a hyphen: the order returned is what they ask for, and if they ask for one it is
+    // returned, unless memory runs out. So they are refused only if they ask for nothing.
     ensures found { All IsPlain (map string_bytes words.now) → IfOk result (λ order. AsksFor order (map string_bytes words.now)) }
     ensures only { All IsPlain (map string_bytes words.now) → (order : AskedOrder) → AsksFor order (map string_bytes words.now) → Reads result order }
 
-    // Of any words: by what `clap` takes them for, and by the faults that it finds.
+    // Any words, by the command that `clap` finds in them and the faults that it reports.
     ensures any { OrderBy (map string_bytes words.now) result }
 
-    // A node has an address of its own.
+    // A node's own address is among those of its peers.
     ensures peer { IfOk result (λ order. HasOwnPeer order.task) }
 {
     if let Some((number, rest)) = cluster_words(words) {

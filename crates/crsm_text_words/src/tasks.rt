@@ -1,4 +1,4 @@
-//! The tasks, each by the values of its command.
+//! Parsing of tasks, each from the values of its command.
 
 ghost use Rattle.std.specs.Prelude.{◌≡◌, ◌<◌, ◌≤◌, ◌^◌, ◌↔◌, ◌∷◌, [], ℕ, List, IfOk, IfSome, IsTrue, Some, codes, decimal, length};
 ghost use Rattle.std.specs.Option.{IsSomeAnd};
@@ -24,16 +24,16 @@ use crsm_base::{Command, MAX_REPLICAS, Op};
 use crsm_text::{LineError, read_members, read_op};
 use std::alloc::Global;
 
-/// The most turns of a node.
+/// Maximum number of turns of a node.
 const MAX_NODE_TURNS: u64 = 1_000_000_000_000;
 
-/// The most turns of a client.
+/// Maximum number of turns of a client for one reply.
 const MAX_CLIENT_TURNS: u64 = 1_000_000;
 
-/// The most steps of a soak.
+/// Maximum number of steps of a soak.
 const MAX_STEPS: u64 = 100_000;
 
-/// The most words of an operation.
+/// Maximum number of words of an operation.
 const MAX_OP_WORDS: usize = 4;
 
 fn replay(values: &[&str]) -> Option<Task>
@@ -73,7 +73,7 @@ fn delay(values: &[&str]) -> Option<Task>
     Some(Task::DelayTimes)
 }
 
-/// A replica's number and how many replicas there are at first, and the values behind them.
+/// Parses a replica's number and the number of replicas at first; returns them and the remaining values, or `None`.
 fn take_place<'b, 'a>(values: &'b [&'a str]) -> Option<(u32, u32, &'b [&'a str])>
     ensures found { IfSome result (λ v. (v.0 < 15) × IsClusterSize v.1 × (texts values.now ≡ decimal v.0 ∷ decimal v.1 ∷ texts v.2.now)) }
     ensures only { (me n : ℕ) (rest : List (List ℕ)) → me < 15 → IsClusterSize n → texts values.now ≡ decimal me ∷ decimal n ∷ rest
@@ -93,7 +93,7 @@ fn replay_node(values: &[&str]) -> Option<Task>
     Some(Task::ReplayNode { me, n })
 }
 
-/// The steps of a soak, and the values behind them.
+/// Parses the step count of a soak; returns it and the remaining values, or `None`.
 fn take_steps<'b, 'a>(values: &'b [&'a str]) -> Option<(u64, &'b [&'a str])>
     ensures found { IfSome result (λ f. (f.0 ≤ 100000) × (texts values.now ≡ decimal f.0 ∷ texts f.1.now)) }
     ensures only { (n : ℕ) (rest : List (List ℕ)) → n ≤ 100000 → texts values.now ≡ decimal n ∷ rest → IsSomeAnd result (λ f. (f.0 ≡ n) × (texts f.1.now ≡ rest)) }
@@ -105,7 +105,7 @@ fn take_steps<'b, 'a>(values: &'b [&'a str]) -> Option<(u64, &'b [&'a str])>
     Some((steps, rest))
 }
 
-/// The number, the size and the steps of a soak.
+/// Parses the seed, the number of replicas and the step count of a soak, or returns `None`.
 fn soak_values(values: &[&str]) -> Option<(u64, u32, u64)>
     ensures found { IfSome result (λ v. IsClusterSize v.1 × (v.2 ≤ 100000) × (texts values.now ≡ decimal v.0 ∷ decimal v.1 ∷ decimal v.2 ∷ [])) }
     ensures only { (number n steps : ℕ) → number < 2 ^ 64 → IsClusterSize n → steps ≤ 100000 → texts values.now ≡ decimal number ∷ decimal n ∷ decimal steps ∷ []
@@ -135,7 +135,7 @@ fn audit(values: &[&str]) -> Option<Task>
     Some(Task::Audit { n })
 }
 
-/// The turns of a node, and the values behind them.
+/// Parses the turn count of a node; returns it and the remaining values, or `None`.
 fn take_turns<'b, 'a>(values: &'b [&'a str]) -> Option<(u64, &'b [&'a str])>
     ensures found { IfSome result (λ f. (f.0 ≤ 1000000000000) × (texts values.now ≡ decimal f.0 ∷ texts f.1.now)) }
     ensures only { (n : ℕ) (rest : List (List ℕ)) → n ≤ 1000000000000 → texts values.now ≡ decimal n ∷ rest → IsSomeAnd result (λ f. (f.0 ≡ n) × (texts f.1.now ≡ rest)) }
@@ -147,7 +147,8 @@ fn take_turns<'b, 'a>(values: &'b [&'a str]) -> Option<(u64, &'b [&'a str])>
     Some((turns, rest))
 }
 
-/// A node's number, the size, the turns, and the word of the peers.
+/// Parses a node's number, the number of replicas and the turn count; returns them and the word of the peers, or
+/// `None`.
 fn node_words<'a>(values: &[&'a str]) -> Option<(u32, u32, u64, &'a [u8])>
     ensures found { IfSome result (λ v. (v.0 < 15) × IsClusterSize v.1 × (v.2 ≤ 1000000000000)
         × (texts values.now ≡ decimal v.0 ∷ decimal v.1 ∷ decimal v.2 ∷ v.3.now ∷ [])) }
@@ -162,7 +163,7 @@ fn node_words<'a>(values: &[&'a str]) -> Option<(u32, u32, u64, &'a [u8])>
     Some((me, n, turns, peers))
 }
 
-/// Whether there is an address for each replica, one of them for this one, and none too many.
+/// Returns whether there are at least `n` addresses, at most 15, and one of them is that of replica `me`.
 fn are_enough(me: u32, n: u32, peers: &[u64]) -> bool
     ensures { IsTrue result ↔ ((n ≤ length peers.now) × (length peers.now ≤ 15) × (me < length peers.now)) }
 {
@@ -170,7 +171,7 @@ fn are_enough(me: u32, n: u32, peers: &[u64]) -> bool
     n as usize <= count && count <= MAX_REPLICAS as usize && (me as usize) < count
 }
 
-/// The values of a node.
+/// Parses the values of `node`. `Unreadable` if one is outside its limits.
 fn node_of(alloc: Global, values: &[&str]) -> Result<NodeTask, LineError>
     ensures found { IfOk result (λ t. IsNode t × (texts values.now ≡ node_values t)) }
     ensures only { (t : Node) → IsNode t → texts values.now ≡ node_values t → ReadsAs result t }
@@ -198,7 +199,7 @@ fn node(alloc: Global, values: &[&str]) -> Result<Task, LineError>
     Ok(Task::Node(node_of(alloc, values)?))
 }
 
-/// The turns of a client, and the values behind them.
+/// Parses the turn count of a client; returns it and the remaining values, or `None`.
 fn take_patience<'b, 'a>(values: &'b [&'a str]) -> Option<(u64, &'b [&'a str])>
     ensures found { IfSome result (λ f. IsPatience f.0 × (texts values.now ≡ decimal f.0 ∷ texts f.1.now)) }
     ensures only { (n : ℕ) (rest : List (List ℕ)) → IsPatience n → texts values.now ≡ decimal n ∷ rest → IsSomeAnd result (λ f. (f.0 ≡ n) × (texts f.1.now ≡ rest)) }
@@ -210,7 +211,7 @@ fn take_patience<'b, 'a>(values: &'b [&'a str]) -> Option<(u64, &'b [&'a str])>
     Some((turns, rest))
 }
 
-/// The address of the replica that is asked and the turns, and the values behind them.
+/// Parses the address of the replica to ask and the turn count; returns them and the remaining values, or `None`.
 fn take_asked<'b, 'a>(values: &'b [&'a str]) -> Option<(u64, u64, &'b [&'a str])>
     ensures found { IfSome result (λ v. IsAddress v.0 × IsPatience v.1 × (texts values.now ≡ address_text v.0 ∷ decimal v.1 ∷ texts v.2.now)) }
     ensures only { (to turns : ℕ) (rest : List (List ℕ)) → IsAddress to → IsPatience turns → texts values.now ≡ address_text to ∷ decimal turns ∷ rest
@@ -221,7 +222,7 @@ fn take_asked<'b, 'a>(values: &'b [&'a str]) -> Option<(u64, u64, &'b [&'a str])
     Some((to, turns, rest))
 }
 
-/// Two numbers, and the values behind them.
+/// Parses two numbers; returns them and the remaining values, or `None`.
 fn take_numbers<'b, 'a>(values: &'b [&'a str]) -> Option<(u64, u64, &'b [&'a str])>
     ensures found { IfSome result (λ v. texts values.now ≡ decimal v.0 ∷ decimal v.1 ∷ texts v.2.now) }
     ensures only { (m n : ℕ) (rest : List (List ℕ)) → m < 2 ^ 64 → n < 2 ^ 64 → texts values.now ≡ decimal m ∷ decimal n ∷ rest
@@ -232,14 +233,14 @@ fn take_numbers<'b, 'a>(values: &'b [&'a str]) -> Option<(u64, u64, &'b [&'a str
     Some((first, second, rest))
 }
 
-/// Whether these are as many words as an operation may have.
+/// Returns whether an operation can have this number of words: 1 to 4.
 fn is_few(words: &[&str]) -> bool
     ensures { IsTrue result ↔ ((1 ≤ length (texts words.now)) × (length (texts words.now) ≤ 4)) }
 {
     !words.is_empty() && words.len() <= MAX_OP_WORDS
 }
 
-/// The operation that one to four words spell.
+/// Parses one to four words as an operation. `Unreadable` if they are none.
 fn op_of(alloc: Global, words: &[&str]) -> Result<Op, LineError>
     ensures found { IfOk result (λ op. FitsOp op × HasBytes op × AreOperation (texts words.now) op) }
     ensures only { (op : Operation) → FitsOp op → HasBytes op → AreOperation (texts words.now) op → ReadsAs result op }
@@ -251,7 +252,7 @@ fn op_of(alloc: Global, words: &[&str]) -> Result<Op, LineError>
     read_op(alloc, text.as_slice())
 }
 
-/// The command of a client.
+/// Parses the values of a client's command. `Unreadable` if they are none.
 fn command_of(alloc: Global, values: &[&str]) -> Result<Command, LineError>
     ensures found { IfOk result (λ command. FitsCommand command × HasBytes command.op × AsksCommand command (texts values.now)) }
     ensures only { (command : Asking) → FitsCommand command → HasBytes command.op → AsksCommand command (texts values.now) → ReadsAs result command }
@@ -274,7 +275,7 @@ fn client(alloc: Global, values: &[&str]) -> Result<Task, LineError>
     Ok(Task::Client { to, turns, command })
 }
 
-/// The address of the replica that is asked, and the word of the members.
+/// Parses the address of the replica to ask; returns it and the word of the members, or `None`.
 fn operate_words<'a>(values: &[&'a str]) -> Option<(u64, &'a [u8])>
     ensures found { IfSome result (λ v. IsAddress v.0 × (texts values.now ≡ address_text v.0 ∷ v.1.now ∷ [])) }
     ensures only { (to : ℕ) (word : List ℕ) → IsAddress to → texts values.now ≡ address_text to ∷ word ∷ [] → IsSomeAnd result (λ v. (v.0 ≡ to) × (v.1.now ≡ word)) }
@@ -296,7 +297,7 @@ fn operate(alloc: Global, values: &[&str]) -> Result<Task, LineError>
     Ok(Task::Operate { to, members })
 }
 
-/// The words of a key and of an action, and nothing behind them.
+/// Splits the values into the word of a key and an action, or returns `None` if they are not two values.
 fn lock_words<'a>(values: &[&'a str]) -> Option<(&'a [u8], LockAction)>
     ensures found { IfSome result (λ v. texts values.now ≡ v.0.now ∷ action_text v.1 ∷ []) }
     ensures only { (key : List ℕ) (action : Action) → texts values.now ≡ key ∷ action_text action ∷ [] → IsSomeAnd result (λ v. (v.0.now ≡ key) × (v.1 ≡ action)) }
@@ -308,7 +309,7 @@ fn lock_words<'a>(values: &[&'a str]) -> Option<(&'a [u8], LockAction)>
     Some((key, action))
 }
 
-/// The values of a lock.
+/// Parses the values of `lock`. `Unreadable` if one is outside its limits.
 fn lock_of(alloc: Global, values: &[&str]) -> Result<LockTask, LineError>
     ensures found { IfOk result (λ t. IsLock t × (texts values.now ≡ lock_values t)) }
     ensures only { (t : Locked) → IsLock t → texts values.now ≡ lock_values t → ReadsAs result t }
@@ -343,7 +344,7 @@ fn lock(alloc: Global, values: &[&str]) -> Result<Task, LineError>
     Ok(Task::Lock(lock_of(alloc, values)?))
 }
 
-/// The task of a command whose values need no memory.
+/// Parses a task whose values need no memory, or returns `None` if the name is none of theirs or a value is bad.
 fn plain_task(name: &[u8], values: &[&str]) -> Option<Task>
     ensures found { IfSome result (λ task. Asks task (name.now ∷ texts values.now)) }
     ensures only { (task : Asked) → IsPlainTask task → Asks task (name.now ∷ texts values.now) → result ≡ Some task }
@@ -369,7 +370,7 @@ fn plain_task(name: &[u8], values: &[&str]) -> Option<Task>
     None
 }
 
-/// The task that a command's name and its values ask for.
+/// Parses a command's name and values as a task. `Unreadable` if they are none; `NoMemory` if memory runs out.
 pub(crate) fn read_task(alloc: Global, name: &[u8], values: &[&str]) -> Result<Task, LineError>
     ensures found { IfOk result (λ task. Asks task (name.now ∷ texts values.now)) }
     ensures only { (task : Asked) → Asks task (name.now ∷ texts values.now) → ReadsAs result task }

@@ -1,23 +1,23 @@
-//! What is wrong with words that are refused.
+//! The error text for a refused command line.
 
 use crate::command::split;
 use crate::read::cluster_words;
 use crsm_base::NoMemory;
 use std::alloc::{AllocError, Global};
 
-/// What is told where `clap` takes the words, and they ask for nothing all the same.
+/// The text for words that `clap` accepts but that ask for no task.
 const VALUES: &str = "error: a value is outside its limits
 
 For more information, try '--help'.
 ";
 
-/// The same, where they name a cluster.
+/// The same text for words that name a cluster.
 const IN_CLUSTER: &str = "error: a value is outside its limits, or the command is in no cluster
 
 For more information, try '--help'.
 ";
 
-/// The text of a fault of words: what `clap` has to say, or else this.
+/// Returns `clap`'s error text for the words, or `other` if it accepts them.
 fn text_of(alloc: Global, words: &[String], other: &str) -> Result<String, AllocError> {
     match split(alloc, words) {
         Ok(_) => String::from_str(alloc, other),
@@ -25,7 +25,7 @@ fn text_of(alloc: Global, words: &[String], other: &str) -> Result<String, Alloc
     }
 }
 
-/// What a reader is told where `read_words` answers `Usage`.
+/// Returns the text for a command line that `read_words` refuses as `Usage`. `NoMemory` if memory runs out.
 pub fn usage_text(alloc: Global, words: &[String]) -> Result<String, NoMemory> {
     let text = match cluster_words(words) {
         Some((_, rest)) => text_of(alloc, rest, IN_CLUSTER),

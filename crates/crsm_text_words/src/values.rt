@@ -1,4 +1,4 @@
-//! The values of a command, taken off one by one.
+//! Parsing of a command's values, one after another.
 
 ghost use Rattle.std.specs.Prelude.{◌≡◌, ◌≢◌, ◌<◌, ◌≤◌, ◌^◌, ◌↔◌, ◌∷◌, [], ℕ, List, IfNone, IfOk, IfSome, IsSome, IsTrue, Some, decimal};
 ghost use Rattle.std.specs.Option.{IsSomeAnd};
@@ -16,14 +16,14 @@ use crsm_base::{Bytes, Key, MAX_KEY_BYTES, MAX_REPLICAS, NoMemory};
 use crsm_text::{LineError, hex_of, read_number};
 use std::alloc::Global;
 
-/// Whether a word is this one.
+/// Returns whether a word is `text`.
 pub(crate) fn is_word(word: &[u8], text: &str) -> bool
     ensures { IsTrue result ↔ (word.now ≡ text.now) }
 {
     word == text.as_bytes()
 }
 
-/// The first value, and those behind it.
+/// Splits off the first value, or returns `None` if there is none.
 pub(crate) fn take_word<'b, 'a>(values: &'b [&'a str]) -> Option<(&'a [u8], &'b [&'a str])>
     ensures found { IfSome result (λ w. texts values.now ≡ w.0.now ∷ texts w.1.now) }
     ensures only { (word : List ℕ) (rest : List (List ℕ)) → texts values.now ≡ word ∷ rest → IsSomeAnd result (λ w. (w.0.now ≡ word) × (texts w.1.now ≡ rest)) }
@@ -35,14 +35,14 @@ pub(crate) fn take_word<'b, 'a>(values: &'b [&'a str]) -> Option<(&'a [u8], &'b 
     }
 }
 
-/// Whether no value is left.
+/// Returns whether no value remains.
 pub(crate) fn is_last(values: &[&str]) -> bool
     ensures { IsTrue result ↔ (texts values.now ≡ []) }
 {
     values.is_empty()
 }
 
-/// Nothing, where no value is left.
+/// Returns `Some` if no value remains.
 pub(crate) fn take_end(values: &[&str]) -> Option<()>
     ensures found { IfSome result (λ _. texts values.now ≡ []) }
     ensures only { texts values.now ≡ [] → IsSome result }
@@ -50,7 +50,7 @@ pub(crate) fn take_end(values: &[&str]) -> Option<()>
     if is_last(values) { Some(()) } else { None }
 }
 
-/// A number, and the values behind it.
+/// Parses a number; returns it and the remaining values, or `None`.
 pub(crate) fn take_number<'b, 'a>(values: &'b [&'a str]) -> Option<(u64, &'b [&'a str])>
     ensures found { IfSome result (λ f. texts values.now ≡ decimal f.0 ∷ texts f.1.now) }
     ensures only { (n : ℕ) (rest : List (List ℕ)) → n < 2 ^ 64 → texts values.now ≡ decimal n ∷ rest → IsSomeAnd result (λ f. (f.0 ≡ n) × (texts f.1.now ≡ rest)) }
@@ -60,7 +60,7 @@ pub(crate) fn take_number<'b, 'a>(values: &'b [&'a str]) -> Option<(u64, &'b [&'
     Some((number, rest))
 }
 
-/// How many replicas a cluster begins with, and the values behind it.
+/// Parses the number of replicas that began a cluster, 1 to 15; returns it and the remaining values, or `None`.
 pub(crate) fn take_size<'b, 'a>(values: &'b [&'a str]) -> Option<(u32, &'b [&'a str])>
     ensures found { IfSome result (λ f. IsClusterSize f.0 × (texts values.now ≡ decimal f.0 ∷ texts f.1.now)) }
     ensures only { (n : ℕ) (rest : List (List ℕ)) → IsClusterSize n → texts values.now ≡ decimal n ∷ rest → IsSomeAnd result (λ f. (f.0 ≡ n) × (texts f.1.now ≡ rest)) }
@@ -72,7 +72,7 @@ pub(crate) fn take_size<'b, 'a>(values: &'b [&'a str]) -> Option<(u32, &'b [&'a 
     Some((number as u32, rest))
 }
 
-/// A replica's number, and the values behind it.
+/// Parses a replica's number, 0 to 14; returns it and the remaining values, or `None`.
 pub(crate) fn take_replica<'b, 'a>(values: &'b [&'a str]) -> Option<(u32, &'b [&'a str])>
     ensures found { IfSome result (λ f. (f.0 < 15) × (texts values.now ≡ decimal f.0 ∷ texts f.1.now)) }
     ensures only { (n : ℕ) (rest : List (List ℕ)) → n < 15 → texts values.now ≡ decimal n ∷ rest → IsSomeAnd result (λ f. (f.0 ≡ n) × (texts f.1.now ≡ rest)) }
@@ -84,7 +84,7 @@ pub(crate) fn take_replica<'b, 'a>(values: &'b [&'a str]) -> Option<(u32, &'b [&
     Some((number as u32, rest))
 }
 
-/// An address, and the values behind it.
+/// Parses an address as IPv4 x 65,536 + port; returns it and the remaining values, or `None`.
 pub(crate) fn take_address<'b, 'a>(values: &'b [&'a str]) -> Option<(u64, &'b [&'a str])>
     ensures found { IfSome result (λ f. IsAddress f.0 × (texts values.now ≡ address_text f.0 ∷ texts f.1.now)) }
     ensures only { (a : ℕ) (rest : List (List ℕ)) → IsAddress a → texts values.now ≡ address_text a ∷ rest → IsSomeAnd result (λ f. (f.0 ≡ a) × (texts f.1.now ≡ rest)) }
@@ -94,7 +94,7 @@ pub(crate) fn take_address<'b, 'a>(values: &'b [&'a str]) -> Option<(u64, &'b [&
     Some((address, rest))
 }
 
-/// A key.
+/// Parses a key of 1 to 64 bytes in hexadecimal. `Unreadable` if the word is none.
 pub(crate) fn key_of(alloc: Global, word: &[u8]) -> Result<Key, LineError>
     ensures found { IfOk result (λ key. FitsKey key × IsBytes key × (word.now ≡ encode_lower key)) }
     ensures only { (key : List ℕ) → FitsKey key → IsBytes key → word.now ≡ encode_lower key → ReadsAs result key }
@@ -106,7 +106,7 @@ pub(crate) fn key_of(alloc: Global, word: &[u8]) -> Result<Key, LineError>
     Ok(Key::from_slice(alloc, key.as_slice())?)
 }
 
-/// What is done with a lock.
+/// Parses the action of `lock`, or returns `None` if the word is none.
 pub(crate) fn action_of(word: &[u8]) -> Option<LockAction>
     ensures found { IfSome result (λ action. word.now ≡ action_text action) }
     ensures only { (action : Action) → word.now ≡ action_text action → result ≡ Some action }
@@ -123,7 +123,7 @@ pub(crate) fn action_of(word: &[u8]) -> Option<LockAction>
     None
 }
 
-/// The values with one space between each two.
+/// Joins the values with single spaces. `NoMemory` if memory runs out.
 pub(crate) fn joined(alloc: Global, values: &[&str]) -> Result<Bytes, NoMemory>
     ensures { IfOk result (λ text. text ≡ spaced (texts values.now)) }
 {

@@ -1,4 +1,4 @@
--- How many bytes spellings take.
+-- The lengths of encodings in bytes.
 use Rattle.std.proofs.Common.{arith, ◌≡◌, sym, subst, ℕ, ◌+◌, ◌<◌, ◌≤◌, List, ◌++◌, length}
 use Rattle.std.specs.Prelude.{Option}
 use Rattle.std.proofs.lemmas.List.{length-append}

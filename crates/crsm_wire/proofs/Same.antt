@@ -1,4 +1,4 @@
--- The bytes of a message spell no other.
+-- The encoding of a message is that of no other message.
 use Rattle.std.proofs.Common.{◌≡◌, List, ℕ, Some, Result, Ok, Err, IfOk, sym, ap, ◌∙◌}
 use Rattle.crsm_base.specs.declared.Control.{Control}
 use Rattle.crsm_base.specs.declared.Datagram.{Datagram}

@@ -1,4 +1,4 @@
-//! Reading datagrams, each from all of the bytes.
+//! Parsing of datagrams from whole inputs.
 
 ghost use Rattle.std.specs.Prelude.{◌≡◌, ◌≤◌, ◌+◌, ◌<◌, ◌==◌, IfOk, IsErrOf, Some, None, length, []};
 ghost use Rattle.std.specs.Option.{option_map};
@@ -247,7 +247,7 @@ fn bytes_of(alloc: Global, slice: &[u8]) -> Result<Bytes, NoMemory>
     Ok(bytes)
 }
 
-/// The datagram that the bytes spell, all of them: `NotOne` exactly where they spell none.
+/// Parses a datagram from all of the bytes. `NotOne` if they are no datagram's encoding; `NoMemory` if memory runs out.
 #[tactic(auto, unfolding(crsm_base::specs::MessageReading::datagram_at))]
 pub fn read_whole(alloc: Global, bytes: &[u8]) -> Result<Datagram, WireError>
     ensures one { IfOk result (λ datagram. whole (datagram_at bytes.now) ≡ Some datagram) }

@@ -1,4 +1,4 @@
-//! Decisions.
+//! Whether decisions can be encoded: all their fields are within the limits.
 
 ghost use Rattle.std.specs.Prelude.{◌≡◌, ◌+◌, ◌==◌, IsTrue};
 ghost use Rattle.std.specs.List.{list_all};
@@ -27,7 +27,7 @@ fn is_tail_before(decision: &Decision) -> bool
     true
 }
 
-/// Members are members by their type; this only says so.
+/// Returns true: the type has only members, and this restates it for the proofs of callers.
 fn are_members(members: &Members) -> bool
     ensures { IsTrue result → IsMembers members.now }
 {
@@ -43,7 +43,7 @@ fn is_set_spelt(replicas: &Option<Members>) -> bool
     }
 }
 
-/// Whether the decision has a spelling.
+/// Returns whether the decision can be encoded.
 pub fn is_decision_spelt(decision: &Decision) -> bool
     ensures { IsTrue result → FitsDecision decision.now }
 {
@@ -63,7 +63,7 @@ pub fn is_decision_spelt(decision: &Decision) -> bool
     is_tail_before(decision)
 }
 
-/// Whether the accepted decision, if there is one, has a spelling.
+/// Returns whether the accepted ballot and decision, if there are any, can be encoded.
 pub fn is_vote_spelt(accepted: &Option<(Ballot, Decision)>) -> bool
     ensures { IsTrue result → FitsOption FitsVote accepted.now }
 {

@@ -1,4 +1,4 @@
-//! Lists of entries.
+//! Whether lists of entries can be encoded, and in how many bytes.
 
 ghost use Rattle.std.specs.Prelude.{◌≤◌, IsTrue, length};
 ghost use Rattle.std.specs.Option.{IfSome};
@@ -9,7 +9,7 @@ use crate::fields::entry_size;
 use crsm_base::{Entries, Entry, MAX_TAIL_BYTES, MAX_TAIL_ENTRIES};
 use crsm_text_fields::rises;
 
-/// How many bytes the entries' spellings have together, where each has one.
+/// Returns the encoded length of all entries in bytes, or `None` if one cannot be encoded.
 fn total_size(entries: &[Entry]) -> Option<u64>
     requires { length entries.now ≤ 4096 }
     ensures { IfSome result (λ size. AreSized entries.now size) }
@@ -21,7 +21,7 @@ fn total_size(entries: &[Entry]) -> Option<u64>
     Some(total)
 }
 
-/// Whether the list of entries has a spelling.
+/// Returns whether the list can be encoded: it rises, and is within the limits of entries and bytes.
 pub fn are_entries_spelt(entries: &Entries) -> bool
     ensures { IsTrue result → FitsEntries entries.now }
 {

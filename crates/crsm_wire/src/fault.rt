@@ -1,11 +1,11 @@
-//! Why bytes were not read.
+//! The errors of parsing a datagram or a control message.
 
 use crsm_base::NoMemory;
 
-/// Why bytes were not read.
+/// The reason why bytes could not be parsed.
 #[derive(Clone, Copy, Debug, PartialEq, Eq)]
 pub enum WireError {
-    /// No spelling is the whole input.
+    /// The whole input is the encoding of no value.
     NotOne,
     /// Memory ran out.
     NoMemory,

@@ -1,4 +1,4 @@
-//! Fields, commands and entries.
+//! Whether fields, commands and entries can be encoded.
 
 ghost use Rattle.std.specs.Prelude.{◌≡◌, ◌<◌, ◌^◌, IsTrue};
 ghost use Rattle.std.specs.Option.{IfSome};
@@ -7,21 +7,21 @@ ghost use Rattle.crsm_wire.specs.Sized.{IsSized};
 
 use crsm_base::{Ballot, Entry, Key, MAX_KEY_BYTES, MAX_REPLICAS, MAX_VAL_BYTES, Op, Stamp, Val};
 
-/// A number of 64 bits always has a spelling; that it is one is known once it is read.
+/// Returns true: every u64 can be encoded, and this restates its bound for the proofs of callers.
 pub fn is_number_spelt(_number: u64) -> bool
     ensures { IsTrue result → _number < 2 ^ 64 }
 {
     true
 }
 
-/// Whether the stamp has a spelling.
+/// Returns whether the stamp can be encoded: its origin is below 15.
 pub fn is_stamp_spelt(stamp: Stamp) -> bool
     ensures { IsTrue result → FitsStamp stamp }
 {
     stamp.origin < MAX_REPLICAS
 }
 
-/// Whether the stamp, if there is one, has a spelling.
+/// Returns whether the stamp, if there is one, can be encoded.
 pub fn is_floor_spelt(floor: Option<Stamp>) -> bool
     ensures { IsTrue result → FitsOption FitsStamp floor }
 {
@@ -31,7 +31,7 @@ pub fn is_floor_spelt(floor: Option<Stamp>) -> bool
     }
 }
 
-/// Whether the ballot has a spelling.
+/// Returns whether the ballot can be encoded: its proposer is below 15.
 pub fn is_ballot_spelt(ballot: Ballot) -> bool
     ensures { IsTrue result → FitsBallot ballot }
 {
@@ -83,7 +83,7 @@ fn op_size(op: &Op) -> Option<u64>
     }
 }
 
-/// How many bytes the entry's spelling has, where it has one.
+/// Returns the encoded length of the entry in bytes, or `None` if it cannot be encoded.
 pub fn entry_size(entry: &Entry) -> Option<u64>
     ensures { IfSome result (λ size. IsSized entry_bytes FitsEntry 1129 entry.now size) }
 {

@@ -1,11 +1,11 @@
-//! Spellings of a fixed length, each appended at once.
+//! Encodings of fixed length, each appended by a single call.
 
 ghost use Rattle.std.specs.Prelude.{◌≡◌, ◌<◌, ◌∷◌, ◌++◌, OnOk};
 ghost use Rattle.crsm_base.specs.Spelling.{u8_bytes, u64_bytes, stamp_bytes, FitsStamp};
 
 use crsm_base::{Bytes, NoMemory, Stamp};
 
-// a byte and a number behind it
+// Encodes a tag byte and a u64.
 #[tactic(auto, unfolding(crsm_base::specs::Spelling::u64_bytes))]
 pub(crate) fn marked(mark: u8, number: u64) -> [u8; 9]
     ensures { result ≡ mark ∷ u64_bytes number }
@@ -15,7 +15,7 @@ pub(crate) fn marked(mark: u8, number: u64) -> [u8; 9]
     cells
 }
 
-// two numbers
+// Encodes two u64.
 #[tactic(auto, unfolding(crsm_base::specs::Spelling::u64_bytes))]
 fn pair(first: u64, second: u64) -> [u8; 16]
     ensures { result ≡ u64_bytes first ++ u64_bytes second }
@@ -26,7 +26,7 @@ fn pair(first: u64, second: u64) -> [u8; 16]
     cells
 }
 
-// a stamp and a number behind it
+// Encodes a stamp and a u64.
 #[tactic(auto, unfolding(crsm_base::specs::Spelling::u64_bytes, crsm_base::specs::Spelling::stamp_bytes))]
 fn stamp_then(stamp: Stamp, number: u64) -> [u8; 17]
     requires { FitsStamp stamp }
@@ -38,7 +38,8 @@ fn stamp_then(stamp: Stamp, number: u64) -> [u8; 17]
     cells
 }
 
-/// What a datagram between two replicas begins with: its tag, the replicas and two numbers.
+/// Encodes the head of a datagram between two replicas: its tag, the replicas, and two numbers (of a frame the epoch
+/// and the sequence number).
 pub fn head(tag: u8, from: u32, to: u32, first: u64, second: u64) -> [u8; 19]
     requires from { from < 256 }
     requires to { to < 256 }
@@ -52,7 +53,7 @@ pub fn head(tag: u8, from: u32, to: u32, first: u64, second: u64) -> [u8; 19]
     cells
 }
 
-// the payload that a stamp was kept, behind its tag
+// Encodes a PREPAREOK payload with its tag.
 fn prepare_ok(stamp: Stamp, at: u64) -> [u8; 18]
     requires { FitsStamp stamp }
     ensures { result ≡ 2 ∷ (stamp_bytes stamp ++ u64_bytes at) }
@@ -71,7 +72,7 @@ fn joined(prefix: &[u8; 19], back: &[u8; 18]) -> [u8; 37]
     cells
 }
 
-/// Appends what a datagram between two replicas begins with.
+/// Appends the head of a datagram between two replicas. `NoMemory` if memory runs out.
 pub fn put_head(
     tag: u8,
     from: u32,
@@ -87,7 +88,7 @@ pub fn put_head(
     out.append(&head(tag, from, to, first, second))
 }
 
-/// Appends the head of a frame and the payload that a stamp was kept.
+/// Appends the head of a frame and a PREPAREOK payload. `NoMemory` if memory runs out.
 pub fn put_prepare_ok(
     prefix: &[u8; 19],
     stamp: Stamp,
@@ -100,7 +101,8 @@ pub fn put_prepare_ok(
     out.append(&joined(prefix, &prepare_ok(stamp, at)))
 }
 
-/// Appends the payload that carries a clock's time, behind its tag.
+/// Appends a CLOCKTIME payload with its tag; `at` is a time that the sender's clock issued. `NoMemory` if memory runs
+/// out.
 pub fn put_clock_time(at: u64, out: &mut Bytes) -> Result<(), NoMemory>
     ensures { OnOk result (out.new ≡ out.old ++ 3 ∷ u64_bytes at) }
 {

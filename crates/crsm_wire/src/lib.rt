@@ -1,4 +1,4 @@
-//! Datagrams and control messages as bytes, and what is seen of a datagram in its first bytes.
+//! Encoding and parsing of datagrams and control messages, and whether values can be encoded. Lengths are in bytes.
 #![tactic(auto)]
 
 mod datagram;

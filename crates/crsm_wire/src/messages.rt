@@ -1,4 +1,4 @@
-//! Control messages and records.
+//! Whether control messages and records can be encoded.
 
 ghost use Rattle.std.specs.Prelude.{◌<◌, ◌^◌, IsTrue};
 ghost use Rattle.crsm_base.specs.Spelling.{FitsBallot, FitsOption, FitsStamp};
@@ -10,7 +10,7 @@ use crate::entries::are_entries_spelt;
 use crate::fields::{entry_size, is_ballot_spelt, is_floor_spelt, is_number_spelt, is_stamp_spelt};
 use crsm_base::{Ballot, Control, MAX_REPLICAS, Rec, Stamp};
 
-/// Whether an instance and a ballot have spellings.
+/// Returns whether an instance and a ballot can be encoded.
 fn is_ballot_of(instance: u64, ballot: Ballot) -> bool
     ensures { IsTrue result → (instance < 2 ^ 64) × FitsBallot ballot }
 {
@@ -29,7 +29,7 @@ fn are_floors_spelt(first: Option<Stamp>, second: Option<Stamp>) -> bool
     is_floor_spelt(first) && is_floor_spelt(second)
 }
 
-/// Whether the control message has a spelling.
+/// Returns whether the control message can be encoded.
 pub fn is_control_spelt(control: &Control) -> bool
     ensures { IsTrue result → FitsControl control.now }
 {
@@ -74,7 +74,7 @@ pub fn is_control_spelt(control: &Control) -> bool
     }
 }
 
-/// Whether the record has a spelling.
+/// Returns whether the record can be encoded.
 pub fn is_rec_spelt(rec: &Rec) -> bool
     ensures { IsTrue result → FitsRec rec.now }
 {

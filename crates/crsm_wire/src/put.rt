@@ -1,4 +1,4 @@
-//! Appending the spelling of control messages and datagrams.
+//! Encoding of control messages and datagrams. Where a function fails, a prefix of the encoding may have been appended.
 
 ghost use Rattle.std.specs.Prelude.{◌≡◌, ◌<◌, ◌++◌, OnOk};
 ghost use Rattle.crsm_base.specs.declared.Control.{Control as ControlOnPaper};
@@ -18,7 +18,8 @@ fn put_bool(flag: bool, out: &mut Bytes) -> Result<(), NoMemory>
     if flag { put_u8(1, out) } else { put_u8(0, out) }
 }
 
-/// Appends the spelling of the control message that carries this decision. After an error a prefix of it may be there.
+/// Appends the encoding of a DECIDE message with this decision. `NoMemory` if memory runs out; a prefix may then have
+/// been appended.
 #[tactic(auto, unfolding(crsm_base::specs::Messages::control_bytes))]
 pub fn put_decide(decision: &Decision, out: &mut Bytes) -> Result<(), NoMemory>
     requires { FitsDecision decision.now }
@@ -28,7 +29,7 @@ pub fn put_decide(decision: &Decision, out: &mut Bytes) -> Result<(), NoMemory>
     put_decision(decision, out)
 }
 
-/// Appends the spelling of a control message. After an error a prefix of it may be there.
+/// Appends the encoding of a control message. `NoMemory` if memory runs out; a prefix may then have been appended.
 #[tactic(auto, unfolding(crsm_base::specs::Messages::control_bytes))]
 pub fn put_control(control: &Control, out: &mut Bytes) -> Result<(), NoMemory>
     requires { FitsControl control.now }
@@ -115,7 +116,7 @@ pub fn put_control(control: &Control, out: &mut Bytes) -> Result<(), NoMemory>
     }
 }
 
-// what a frame begins with, and its payload
+// Appends the head of a frame and its payload.
 #[tactic(auto, unfolding(crsm_base::specs::Messages::payload_bytes))]
 fn put_frame(prefix: &[u8; 19], payload: &InEpoch, out: &mut Bytes) -> Result<(), NoMemory>
     requires { FitsPayload payload.now }
@@ -135,7 +136,7 @@ fn put_frame(prefix: &[u8; 19], payload: &InEpoch, out: &mut Bytes) -> Result<()
     }
 }
 
-/// Appends the one spelling of a datagram, piece by piece. After `NoMemory` a prefix of it may have been added.
+/// Appends the encoding of a datagram. `NoMemory` if memory runs out; a prefix may then have been appended.
 #[tactic(auto, unfolding(crsm_base::specs::Messages::datagram_bytes))]
 pub fn put_datagram(datagram: &Datagram, out: &mut Bytes) -> Result<(), NoMemory>
     requires { FitsDatagram datagram.now }

@@ -1,4 +1,4 @@
-//! Control messages and datagrams as whole inputs.
+//! Readers and writers of control messages and datagrams as whole inputs.
 
 ghost use Rattle.std.specs.Prelude.{◌≡◌, ◌++◌, IfOk, IsErrOf, OnOk, OnErr};
 ghost use Rattle.crsm_base.specs.declared.Control.{Control};
@@ -11,7 +11,8 @@ use crate::{datagram, put, take};
 use crsm_base::{Bytes, Control, Datagram, NoMemory};
 use std::alloc::Global;
 
-/// The control message that the bytes spell, all of them: `NotOne` exactly where they spell none.
+/// Parses a control message from all of the bytes. `NotOne` if they are no control message's encoding; `NoMemory` if
+/// memory runs out.
 pub fn read_control(alloc: Global, bytes: &[u8]) -> Result<Control, WireError>
     ensures found { IfOk result (λ control. SpeltControl control bytes.now) }
     ensures value { IfOk result (λ control. control_of bytes.now ≡ Some control) }
@@ -28,7 +29,7 @@ pub fn read_control(alloc: Global, bytes: &[u8]) -> Result<Control, WireError>
     Ok(control)
 }
 
-/// Appends the one spelling of a control message. After `NoMemory` the bytes are as before.
+/// Appends the encoding of a control message. `NoMemory` if memory runs out; `out` is then unchanged.
 pub fn write_control(alloc: Global, control: &Control, out: &mut Bytes) -> Result<(), NoMemory>
     requires { FitsControl control.now }
     ensures ok { OnOk result (out.new ≡ out.old ++ control_bytes control.now) }
@@ -39,7 +40,7 @@ pub fn write_control(alloc: Global, control: &Control, out: &mut Bytes) -> Resul
     out.append(spelling.as_slice())
 }
 
-/// The datagram that the bytes spell, all of them: `NotOne` exactly where they spell none.
+/// Parses a datagram from all of the bytes. `NotOne` if they are no datagram's encoding; `NoMemory` if memory runs out.
 pub fn read_datagram(alloc: Global, bytes: &[u8]) -> Result<Datagram, WireError>
     ensures found { IfOk result (λ datagram. SpeltDatagram datagram bytes.now) }
     ensures value { IfOk result (λ datagram. datagram_of bytes.now ≡ Some datagram) }
@@ -50,7 +51,7 @@ pub fn read_datagram(alloc: Global, bytes: &[u8]) -> Result<Datagram, WireError>
     datagram::read_whole(alloc, bytes)
 }
 
-/// Appends the one spelling of a datagram. After `NoMemory` the bytes are as before.
+/// Appends the encoding of a datagram. `NoMemory` if memory runs out; `out` is then unchanged.
 pub fn write_datagram(alloc: Global, datagram: &Datagram, out: &mut Bytes) -> Result<(), NoMemory>
     requires { FitsDatagram datagram.now }
     ensures ok { OnOk result (out.new ≡ out.old ++ datagram_bytes datagram.now) }

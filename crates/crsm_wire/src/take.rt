@@ -1,4 +1,4 @@
-//! Taking control messages off the prefix of the bytes.
+//! Parsing of control messages from a prefix of the bytes.
 
 ghost use Rattle.std.specs.Prelude.{◌≡◌, IfOk};
 ghost use Rattle.std.specs.Option.{option_map};
