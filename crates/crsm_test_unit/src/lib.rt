@@ -20,6 +20,8 @@ mod ledger;
 #[cfg(test)]
 mod link;
 #[cfg(test)]
+mod mpspec;
+#[cfg(test)]
 mod output;
 #[cfg(test)]
 mod paxos;
