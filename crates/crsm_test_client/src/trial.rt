@@ -9,8 +9,7 @@ use crsm_base::{Bytes, Outcome};
 use crsm_client::{AskError, ClientOrder, ask, client, operate, operate_command};
 use crsm_io::MemSink;
 use crsm_port::MemPort;
-use crsm_schedule::print_outcome;
-use crsm_text::{push_hex, push_number, read_members};
+use crsm_text::{print_outcome, push_hex, push_number, read_members};
 use std::alloc::Global;
 use std::str::from_utf8;
 

@@ -4,7 +4,7 @@
 use crate::fault::Fault;
 use crate::fields::{number_of, parted};
 use crsm_base::{Answer, Bytes, Key, NoMemory, Op, Outcome, Refusal, Val};
-use crsm_lease::{Action, Next, after_cas, after_get, print_told};
+use crsm_lease::{Action, NextStep, after_cas, after_get, print_told};
 use crsm_text::{hex_of, push_hex};
 use std::alloc::Global;
 
@@ -119,8 +119,8 @@ fn push_asked(out: &mut Bytes, op: &Op) -> Result<(), NoMemory> {
 /// Appends what a row leads to.
 fn push_told(alloc: Global, row: &Row, out: &mut Bytes) -> Result<(), NoMemory> {
     match after_get(alloc, row.action, row.client, &row.key, &row.found)? {
-        Next::End(told) => print_told(alloc, told, out),
-        Next::Ask(op) => {
+        NextStep::End(told) => print_told(alloc, told, out),
+        NextStep::Ask(op) => {
             push_asked(out, &op)?;
             print_told(alloc, after_cas(&op, &row.changed), out)
         }

@@ -6,7 +6,7 @@ ghost use Rattle.crsm_text_words.specs.Plans.{HasOwnPeer};
 use crate::fault::Fault;
 use crate::fields::{append_line, text_of};
 use crsm_base::Bytes;
-use crsm_text_words::{Order, Refusal, Task, read_words, usage_text};
+use crsm_text_words::{Order, Task, WordsError, read_words, usage_text};
 use std::alloc::{AllocError, Global};
 
 /// Returns the words of a line. An empty line has none.
@@ -47,8 +47,8 @@ fn refused(alloc: Global, words: &[String]) -> Result<String, Fault> {
 fn meaning(alloc: Global, words: &[String]) -> Result<String, Fault> {
     match read_words(alloc, words) {
         Ok(order) => Ok(shown(alloc, &order)?),
-        Err(Refusal::Usage) => refused(alloc, words),
-        Err(Refusal::NoMemory) => Err(Fault::NoMemory),
+        Err(WordsError::Usage) => refused(alloc, words),
+        Err(WordsError::NoMemory) => Err(Fault::NoMemory),
     }
 }
 

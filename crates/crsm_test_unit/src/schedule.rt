@@ -4,7 +4,8 @@ use crsm_base::{
     Answer, Bytes, Command, Line, Members, NoMemory, Op, Outcome, Refusal, SendKind, Stamp, State,
     Val,
 };
-use crsm_schedule::{Event, Numbers, Single, print_outcome, push_line, read_event, read_first};
+use crsm_schedule::{Event, Numbers, Single, push_line, read_event, read_first};
+use crsm_text::print_outcome;
 use std::alloc::Global;
 use std::test::Fail;
 
