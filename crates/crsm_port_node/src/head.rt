@@ -1,59 +1,59 @@
-//! What a datagram says first.
+//! Parsing of the first fields of a datagram.
 
 use crate::unmarked;
 use crsm_text_fields::take_u64;
 
-/// A command, by its client and its number.
+/// A command, identified by its client and its number.
 #[derive(Clone, Copy, PartialEq)]
 pub(crate) struct Command {
     client: u64,
     number: u64,
 }
 
-/// How many bytes of a part number its message.
+/// Bytes of a part that identify its message: the sender's boot and the message's number.
 const NUMBER_BYTES: usize = 16;
 
-/// The kinds of datagrams that are paced, and where they belong.
+/// The first fields of a datagram that is paced, by its kind.
 #[derive(Clone, Copy)]
 pub(crate) enum Head<'a> {
-    /// A frame of a link.
+    /// A frame, with its link, epoch and sequence number.
     Frame {
         from: u8,
         to: u8,
         epoch: u64,
         number: u64,
     },
-    /// A replica says which frame it expects next of another.
+    /// An acknowledgement: `from` expects the frame `next` of `to`.
     Ack {
         from: u8,
         to: u8,
         epoch: u64,
         next: u64,
     },
-    /// A part of a message: what stands behind its message's number.
+    /// A part of a control message: its bytes after the message's number.
     Part(&'a [u8]),
-    /// A client asks for a command.
+    /// A client's request for a command.
     Request(Command),
-    /// A replica answers a command.
+    /// A reply to a command.
     Reply(Command),
-    /// All else goes as it comes.
+    /// Any other datagram; it passes unchanged.
     Other,
 }
 
-/// The two numbers that the bytes begin with.
+/// Parses the two numbers at the beginning of the bytes.
 fn two_numbers(bytes: &[u8]) -> Option<(u64, u64)> {
     let (first, bytes) = take_u64(bytes)?;
     let (second, _) = take_u64(bytes)?;
     Some((first, second))
 }
 
-/// The command that the bytes begin with.
+/// Parses the command at the beginning of the bytes.
 fn command_of(bytes: &[u8]) -> Option<Command> {
     let (client, number) = two_numbers(bytes)?;
     Some(Command { client, number })
 }
 
-/// What the bytes of a datagram say first, whatever cluster it belongs to.
+/// Parses the first fields of a datagram, with or without the mark of a cluster.
 pub(crate) fn head_of(bytes: &[u8]) -> Head<'_> {
     match unmarked(bytes) {
         [1, from, to, rest @ ..] => match two_numbers(rest) {
