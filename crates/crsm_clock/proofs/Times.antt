@@ -1,4 +1,4 @@
--- What the rule of issuing says.
+-- Laws of the rule by which times are issued.
 use Rattle.std.proofs.Common.{◌≡◌, ℕ, ◌+◌, ◌<◌, Bool, true, false, refl, arith, List, [], ◌∷◌, None, Some, zero, suc}
 use Rattle.std.specs.Prelude.{◌==◌, max, cond}
 use Rattle.std.specs.Option.{option_map_or}

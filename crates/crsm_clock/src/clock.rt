@@ -1,14 +1,14 @@
-//! What a clock is.
+//! The trait of a clock.
 
 ghost use Rattle.std.specs.Prelude.{Option};
 ghost use Rattle.crsm_clock.specs.Readings.{Readings, Gives};
 
-/// Gives readings, any whatever: a clock may stand still or go back. It can't fail.
+/// Returns readings of a clock, which may stand still or go back. It cannot fail.
 pub trait Clock {
-    /// The readings still to come, where they are told.
+    /// The readings still to come, if the clock specifies them.
     ghost readings: { Self → Option Readings };
 
-    /// The next reading, in microseconds.
+    /// Returns the next reading, in microseconds: since 1970 from `SystemClock`, as fed from `ListClock`.
     fn now(&mut self) -> u64
         ensures { Gives (readings self.old) (readings self.new) result };
 }

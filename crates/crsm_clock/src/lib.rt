@@ -1,4 +1,4 @@
-//! Clocks, and the times that a replica issues from their readings.
+//! Clocks over memory and over the system, and the strictly rising times that a replica issues from their readings.
 #![tactic(auto)]
 
 mod clock;

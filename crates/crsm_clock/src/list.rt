@@ -1,4 +1,4 @@
-//! A clock of given readings.
+//! A clock with given readings, for simulations and tests.
 
 ghost use Rattle.std.specs.Prelude.{◌≡◌, ◌∷◌, [], ◌++◌, IfOk, OnOk, OnErr, Some};
 ghost use Rattle.crsm_clock.specs.Readings.{Gives, next_reading, after_next};
@@ -9,7 +9,7 @@ use std::alloc::Global;
 use std::collections::VecDeque;
 use std::marker::Model;
 
-/// Gives the readings of a list, and then the last one again: 0 where there was none.
+/// A clock that returns the readings of a list, and then the last one again: 0 if there was none.
 #[derive(Drop)]
 pub struct ListClock {
     ahead: VecDeque<u64>,
@@ -25,7 +25,7 @@ impl Model for ListClock {
 }
 
 impl ListClock {
-    /// A clock of these readings.
+    /// Returns a clock with these readings, or `NoMemory` if memory runs out.
     pub fn new(alloc: Global, readings: &[u64]) -> Result<ListClock, NoMemory>
         ensures { IfOk result (λ clock. (clock.latest ≡ 0) × (clock.ahead ≡ readings.now)) }
     {
@@ -36,7 +36,7 @@ impl ListClock {
         Ok(ListClock { ahead, latest: 0 })
     }
 
-    /// One more reading, behind those that are ahead. An `Err` changes nothing.
+    /// Appends a reading to those still to come. `NoMemory` if memory runs out; the clock is then unchanged.
     pub fn feed(&mut self, reading: u64) -> Result<(), NoMemory>
         ensures ok { OnOk result (self.new ≡ record self.old { ahead = self.old.ahead ++ reading ∷ [] }) }
         ensures err { OnErr result (self.new ≡ self.old) }

@@ -1,4 +1,4 @@
-//! Times that strictly rise.
+//! Strictly rising times of a replica, in the unit of its clock: microseconds.
 
 ghost use Rattle.std.specs.Prelude.{◌≡◌, ℕ, ◌<◌, ◌↔◌, List, IsNone, IfSome, IfNone};
 ghost use Rattle.std.specs.List.Sorted.{IsStrictlyIncreasing};
@@ -7,8 +7,8 @@ ghost use Rattle.crsm_clock.specs.Issues.{issued_from};
 
 use std::marker::Model;
 
-/// The times that a replica issues: each is above the one before, whatever the clock reads. It is seen as the time that
-/// was issued last, 0 before the first.
+/// The times that a replica issues in one epoch: each is above the one before, whatever the clock reads. Its model is
+/// the latest time issued, 0 before the first.
 #[derive(Debug, Drop)]
 pub struct Rising {
     last: u64,
@@ -23,22 +23,22 @@ impl Model for Rising {
 }
 
 impl Rising {
-    /// No time was issued.
+    /// Returns the state before any time was issued.
     pub fn new() -> Rising
         ensures { result ≡ 0 }
     {
         Rising { last: 0 }
     }
 
-    /// The time that was issued last, 0 before the first.
+    /// Returns the latest time issued, 0 before the first.
     pub fn last(&self) -> u64
         ensures { result ≡ self.now }
     {
         self.last
     }
 
-    /// The time that would be issued at this reading: the greater of the reading and the number after the last time.
-    /// None comes where the last time is the greatest number.
+    /// Returns the time that would be issued at this reading: the greater of the reading and the latest time plus 1.
+    /// `None` if the latest time is 2^64 - 1.
     pub fn would(&self, reading: u64) -> Option<u64>
         ensures time { result ≡ issue self.now reading }
         ensures above { IfSome result (λ time. self.now < time) }
@@ -48,7 +48,7 @@ impl Rising {
         Some(reading.max(least))
     }
 
-    /// Issues that time. None changes nothing.
+    /// Issues the time that `would` returns. `None` changes nothing.
     pub fn issue(&mut self, reading: u64) -> Option<u64>
         ensures time { result ≡ issue self.old reading }
         ensures above { IfSome result (λ time. self.old < time) }
@@ -62,7 +62,7 @@ impl Rising {
     }
 }
 
-/// The times that are issued at any readings strictly rise.
+/// States that the times issued at any readings strictly rise. It runs no code.
 pub fn issues_rise()
     ensures { (last : ℕ) (readings : List ℕ) → IsStrictlyIncreasing (issued_from last readings) }
 {}

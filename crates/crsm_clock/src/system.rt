@@ -1,4 +1,4 @@
-//! The system's clock.
+//! The clock of the system.
 
 ghost use Rattle.std.specs.Prelude.{None};
 
@@ -6,8 +6,8 @@ use crate::clock::Clock;
 use std::io;
 use std::time::{self, SystemTime, UNIX_EPOCH};
 
-/// The microseconds since 1970 by the system's clock. Where that can't be read, it gives its last reading again, 0 at
-/// first. It tells nothing of its readings.
+/// The system's clock, in microseconds since 1970. If it cannot be read, the last reading is returned again, 0 at
+/// first. Contracts say nothing of its readings.
 #[derive(Drop)]
 pub struct SystemClock<'a, R> {
     runtime: &'a R,
@@ -31,7 +31,7 @@ impl<R: time::Clock> Clock for SystemClock<'_, R> {
     }
 }
 
-/// The microseconds since 1970, where the clock can be read and they are below 2^64.
+/// Returns the microseconds since 1970, or `None` if the clock cannot be read or they are 2^64 or above.
 fn microseconds<R: time::Clock>(runtime: &R) -> Option<u64> {
     let now = SystemTime::now(runtime).ok()?;
     let since = now.duration_since(UNIX_EPOCH).ok()?;

@@ -1,4 +1,4 @@
--- What a sync makes of a disk in memory.
+-- The effect of a sync on a disk in memory.
 use Rattle.std.proofs.Common.{◌≡◌, inl, inr, ⊎_elim, ℕ, List, ◌∷◌, length, sym, ap, subst, arith}
 use Rattle.crsm_disk.specs.Calls.{Call, synced, contents}
 use Rattle.crsm_disk.specs.Contract.{Goes}

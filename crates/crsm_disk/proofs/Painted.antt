@@ -1,4 +1,4 @@
--- The image that a disk in memory gives is one of those that a crash may leave.
+-- The image of a disk in memory is one of those that a crash may leave.
 use Rattle.std.proofs.Common.{◌≡◌, inl, inr, ℕ, ◌+◌, ◌-◌, ◌<◌, ◌≤◌, min, List, [], ◌∷◌, ◌++◌, length, get_or, take, drop, replicate, refl, sym, ◌∙◌, ap, arith, length-append, length-take, length-drop}
 use Rattle.std.proofs.lemmas.List.{length-replicate, ext_get_or, get_or-take, get_or-drop, get_or-replicate, get_or_append_left, get_or-append-add}
 use Rattle.crsm_disk.specs.Bytes.{Torn, Shortened, overwritten}

@@ -1,4 +1,4 @@
--- The calls that change a disk, and what it holds after them.
+-- The calls that change a disk, and the bytes after them.
 use Rattle.std.specs.Prelude.{ℕ, List, [], ◌∷◌, take, Option, Some, None}
 use Rattle.crsm_disk.specs.Bytes.{overwritten}
 
@@ -8,7 +8,7 @@ pub data Call : Type 0 where
   cut : ℕ → Call
   synced : Call
 
--- what a disk held at first, and the calls since that went well, the newest first
+-- a disk's initial bytes, and the successful calls since, the newest first
 pub record History : Type 0 where
   pub first : List ℕ
   pub calls : List Call
@@ -20,7 +20,7 @@ contents first (wrote at bytes ∷ calls) = overwritten (contents first calls) a
 contents first (cut n ∷ calls) = take n (contents first calls)
 contents first (synced ∷ calls) = contents first calls
 
--- a call that went well is told, behind those before it
+-- the history with one more call, where the disk specifies it
 abbrev pub noted : Call → Option History → Option History
 noted call None = None
 noted call (Some h) = Some (record { first = h.first; calls = call ∷ h.calls })

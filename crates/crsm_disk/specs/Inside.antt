@@ -1,4 +1,4 @@
--- The fields of a disk in memory.
+-- The invariant of a disk in memory.
 use Rattle.std.specs.Prelude.{◌≡◌, ◌+◌, ◌≤◌, [], length, vec_len, vec_capacity}
 use Rattle.crsm_disk.specs.declared.memory.MemDisk.TheInside.{Inside}
 use Rattle.crsm_disk.specs.Calls.{contents}
@@ -17,7 +17,7 @@ memory_of d = record {
   room_bytes = d.room_bytes;
 }
 
--- the bytes are those that the calls made, and there is room for what is reserved
+-- the bytes are those that the recorded calls make, and memory for the reserve is allocated
 pub record IsKept (d : Inside) : Type 0 where
   pub bytes : d.bytes.items ≡ contents d.first.items (told d.records.items d.written.items [])
   pub sizes : length d.written.items ≡ total d.records.items

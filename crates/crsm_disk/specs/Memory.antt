@@ -1,4 +1,4 @@
--- A disk in memory.
+-- The model of a disk in memory.
 use Rattle.std.specs.Prelude.{ℕ, ◌+◌, ◌-◌, List, [], ◌∷◌, length, Option, Some, None, true}
 use Rattle.crsm_port_faults.specs.Failing.{Failing, good_of, least}
 use Rattle.crsm_disk.specs.Calls.{Call, contents}
@@ -7,10 +7,10 @@ use Rattle.crsm_disk.specs.Meaning.{Meaning}
 use Rattle.crsm_disk.proofs.Images.{reads_image, counts_now_lem, only_now_lem, told_makes}
 
 pub record Memory : Type 0 where
-  -- what it held at first, and the calls that went well, the newest first
+  -- the initial bytes, and the successful calls, the newest first
   pub first : List ℕ
   pub calls : List Call
-  -- the calls of all five kinds, those that fail, and how many further ones there are before the stop
+  -- calls of all five kinds with those that fail, and the number of further calls before the stop
   pub failing : Failing
   pub stop : Option ℕ
   pub fill : ℕ
@@ -18,7 +18,7 @@ pub record Memory : Type 0 where
   pub room_calls : ℕ
   pub room_bytes : ℕ
 
--- before any call, with these bytes: it fails at the listed calls, and stops after so many
+-- a disk with these bytes before any call: it fails at the listed calls, and stops after `stop`
 abbrev pub holding : List ℕ → List ℕ → Option ℕ → ℕ → Memory
 holding first listed stop fill = record {
   first = first;
@@ -31,23 +31,23 @@ holding first listed stop fill = record {
   room_bytes = 0;
 }
 
--- a disk without failing calls or a stop, with the bytes that a crash leaves where the fill takes all that was not synced
+-- a disk without failing calls or a stop, with the bytes that a crash leaves where the fill is in all unsynced ranges
 abbrev pub left_by_crash : Memory → Memory
 left_by_crash m = holding (image_of m.first m.calls m.fill) [] None m.fill
 
--- the room that a write of so many bytes takes: the hole before it, and its bytes
+-- the room that a write of `count` bytes uses: the gap before it, and its bytes
 abbrev pub room_for_write : ℕ → ℕ → Memory → ℕ
 room_for_write at count m = (at - length (contents m.first m.calls)) + count
 
--- one more call went well, and took so many bytes of the room
+-- the disk after one more successful call, which used this many bytes of the reserve
 abbrev pub with_call : Call → ℕ → Memory → Memory
 with_call call bytes m = record m { calls = call ∷ m.calls; room_calls = m.room_calls - 1; room_bytes = m.room_bytes - bytes }
 
--- how many further calls go well: all where that is none
+-- the number of further calls that succeed (None: all)
 abbrev pub good_left : Memory → Option ℕ
 good_left m = least (good_of m.failing) m.stop
 
--- it is honest, and tells all
+-- it is honest, and specifies everything
 abbrev pub meaning_of : Memory → Meaning
 meaning_of m = record {
   seen = contents m.first m.calls;

@@ -1,4 +1,4 @@
--- A disk of which nothing is known but its faults.
+-- A disk that specifies its fault counter and nothing else.
 use Rattle.std.specs.Prelude.{ℕ, [], false, None}
 use mathlib.Core.Bool.{false≢true}
 use Rattle.crsm_disk.specs.Meaning.{Meaning}

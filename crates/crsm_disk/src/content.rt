@@ -1,4 +1,4 @@
-//! What the calls of a disk in memory make of its bytes.
+//! The effect of calls on the bytes of a disk in memory.
 
 ghost use Rattle.std.specs.Prelude.{◌≡◌, ◌+◌, ◌-◌, ◌≤◌, ◌∷◌, ℕ, List, length, vec_len, vec_capacity, IfOk, OnOk};
 ghost use Rattle.crsm_disk.specs.Bytes.{overwritten, ReadsAt};
@@ -9,7 +9,7 @@ ghost use Rattle.crsm_disk.specs.declared.record.Record.{Record};
 use crate::record::{Record, is_sync};
 use crsm_base::NoMemory;
 
-// As many bytes from a place on as there are and fit.
+// Copies as many bytes from offset `at` on as there are and fit, and returns their number.
 pub(crate) fn copy(bytes: &[u8], at: u64, buf: &mut [u8]) -> usize
     ensures { ReadsAt bytes.now at buf.old buf.new result }
 {
@@ -20,7 +20,7 @@ pub(crate) fn copy(bytes: &[u8], at: u64, buf: &mut [u8]) -> usize
     n
 }
 
-// Puts bytes over what is there, and behind zeros where that is shorter. There is room.
+// Overwrites bytes from offset `at` on, and fills a gap before it with zeros. The caller has reserved the room.
 pub(crate) fn overwrite(bytes: &mut Vec<u8>, at: usize, piece: &[u8])
     requires { vec_len bytes.old + ((at - vec_len bytes.old) + length piece.now) ≤ vec_capacity bytes.old }
     ensures items { bytes.new.items ≡ overwritten bytes.old.items at piece.now }
@@ -35,7 +35,7 @@ pub(crate) fn overwrite(bytes: &mut Vec<u8>, at: usize, piece: &[u8])
     }
 }
 
-// The same where room is still to be made.
+// The same, but reserves the room first.
 fn write_over(bytes: &mut Vec<u8>, at: usize, piece: &[u8]) -> Result<(), NoMemory>
     ensures { OnOk result (bytes.new.items ≡ overwritten bytes.old.items at piece.now) }
 {
@@ -45,7 +45,7 @@ fn write_over(bytes: &mut Vec<u8>, at: usize, piece: &[u8]) -> Result<(), NoMemo
     Ok(())
 }
 
-// Does the call of a record again, and gives what was written by those behind it.
+// Repeats one recorded call, and returns the written bytes that belong to the records after it.
 fn redo_one<'a>(bytes: &mut Vec<u8>, call: Record, written: &'a [u8]) -> Result<&'a [u8], NoMemory>
     ensures { IfOk result (λ behind. (records : List Record) → redone records behind.now bytes.new.items ≡ redone (call ∷ records) written.now bytes.old.items) }
 {
@@ -63,7 +63,7 @@ fn redo_one<'a>(bytes: &mut Vec<u8>, call: Record, written: &'a [u8]) -> Result<
     }
 }
 
-// Does the calls of these records again, on bytes as they were before them.
+// Repeats the recorded calls on the bytes as they were before them.
 pub(crate) fn redo(bytes: &mut Vec<u8>, records: &[Record], written: &[u8]) -> Result<(), NoMemory>
     ensures { OnOk result (bytes.new.items ≡ redone records.now written.now bytes.old.items) }
 {
@@ -74,7 +74,7 @@ pub(crate) fn redo(bytes: &mut Vec<u8>, records: &[Record], written: &[u8]) -> R
     Ok(())
 }
 
-// Puts the fill in the ranges that were written since the last sync.
+// Sets the ranges written since the last sync to `fill`.
 pub(crate) fn paint_unsynced(image: &mut [u8], records: &[Record], fill: u8)
     ensures { image.new ≡ painted_by records.now fill image.old image.old }
 {
@@ -85,7 +85,7 @@ pub(crate) fn paint_unsynced(image: &mut [u8], records: &[Record], fill: u8)
     }
 }
 
-// The records behind the last sync: mostly none, so they are sought from the end.
+// Returns the records after the last sync. Mostly there are none, so the search begins at the end.
 fn unsynced(records: &[Record]) -> &[Record]
     ensures { (fill : ℕ) (bytes : List ℕ) → painted_by records.now fill bytes bytes ≡ painted_on result.now fill bytes }
 {

@@ -1,4 +1,4 @@
-//! A disk, what is read of it, and what a crash may leave of it.
+//! The trait of a disk: what is read, what is written, and what a crash may leave.
 
 ghost use Rattle.std.specs.Prelude.{◌≡◌, ◌+◌, ◌-◌, ◌≤◌, length, take, IsTrue, IfOk, OnOk, is_ok, Some, if◌then◌else◌};
 ghost use Rattle.crsm_disk.specs.Bytes.{overwritten, Torn, Shortened, ReadsAt};
@@ -8,38 +8,40 @@ ghost use Rattle.crsm_disk.specs.Meaning.{Meaning, Only, Same};
 
 use crsm_base::{Failed, NoMemory};
 
-/// A run of bytes that lasts. `Failed` comes only where the disk's count of faults rose.
+/// A durable array of bytes. `Failed` is returned only if the disk's fault counter rose. Offsets and lengths are in
+/// bytes.
 pub trait Disk {
     ghost meaning: { Self → Meaning };
 
-    /// The number of bytes.
+    /// Returns the length in bytes.
     fn len(&mut self) -> Result<u64, Failed>
         ensures length { IsTrue (meaning self.old).honest → IfOk result (λ n. n ≡ length (meaning self.old).seen) }
         ensures same { Same (meaning self.old) (meaning self.new) }
         ensures answer { Answers 0 0 (meaning self.old) (meaning self.new) result };
 
-    /// Reads from a place on, as many bytes as there are and fit.
+    /// Reads as many bytes from offset `at` on as there are and fit in `buf`, and returns their number.
     fn read_at(&mut self, at: u64, buf: &mut [u8]) -> Result<usize, Failed>
         ensures bound { IfOk result (λ n. n ≤ length buf.old) }
         ensures bytes { IsTrue (meaning self.old).honest → IfOk result (ReadsAt (meaning self.old).seen at buf.old buf.new) }
         ensures same { Same (meaning self.old) (meaning self.new) }
         ensures answer { Answers 0 0 (meaning self.old) (meaning self.new) result };
 
-    /// Writes over what is there, and past the end. Until a sync, a crash may leave any bytes in the range.
+    /// Writes bytes from offset `at` on, over what is there and past the end. Until the next sync a crash may leave any
+    /// bytes in this range.
     fn write_at(&mut self, at: u64, bytes: &[u8]) -> Result<(), Failed>
         ensures written { IsTrue (meaning self.old).honest → OnOk result ((meaning self.new).seen ≡ overwritten (meaning self.old).seen at bytes.now) }
         ensures crash { IsTrue (meaning self.old).honest → Goes (Torn at (length bytes.now)) (meaning self.old) (meaning self.new) }
         ensures told { (meaning self.new).history ≡ (if is_ok result then noted (wrote at bytes.now) (meaning self.old).history else (meaning self.old).history) }
         ensures answer { Answers 1 ((at - length (meaning self.old).seen) + length bytes.now) (meaning self.old) (meaning self.new) result };
 
-    /// Cuts what is longer to a length.
+    /// Cuts the disk to `len` bytes if it is longer.
     fn cut(&mut self, len: u64) -> Result<(), Failed>
         ensures shorter { IsTrue (meaning self.old).honest → OnOk result ((meaning self.new).seen ≡ take len (meaning self.old).seen) }
         ensures crash { IsTrue (meaning self.old).honest → Goes (Shortened len) (meaning self.old) (meaning self.new) }
         ensures told { (meaning self.new).history ≡ (if is_ok result then noted (cut len) (meaning self.old).history else (meaning self.old).history) }
         ensures answer { Answers 1 0 (meaning self.old) (meaning self.new) result };
 
-    /// After it a crash leaves what a read gives.
+    /// Syncs: from then on a crash leaves what a read returns.
     fn sync(&mut self) -> Result<(), Failed>
         ensures durable { IsTrue (meaning self.old).honest → OnOk result (Only (meaning self.old).seen (meaning self.new).may_leave) }
         ensures seen { IsTrue (meaning self.old).honest → (meaning self.new).seen ≡ (meaning self.old).seen }
@@ -47,13 +49,13 @@ pub trait Disk {
         ensures told { (meaning self.new).history ≡ (if is_ok result then noted synced (meaning self.old).history else (meaning self.old).history) }
         ensures answer { Answers 1 0 (meaning self.old) (meaning self.new) result };
 
-    /// Makes room for so many writes, cuts and syncs and so many written bytes, where the disk keeps them. A write
-    /// past the end takes room for the hole, too.
+    /// Reserves memory for `calls` writes, cuts and syncs of `bytes` written bytes together, on a disk that keeps them.
+    /// A write past the end also uses room for the gap. `NoMemory` if memory runs out.
     fn reserve(&mut self, calls: u64, bytes: u64) -> Result<(), NoMemory>
         ensures { Reserves calls bytes (meaning self.old) (meaning self.new) result };
 
-    /// Stops a disk that can be stopped after so many further calls. Its image then holds this byte in the ranges
-    /// that were not synced.
+    /// Makes a disk that can be stopped fail after `stop` further calls (`None`: never). Its image then has the byte
+    /// `fill` in all ranges that were not synced.
     fn arm(&mut self, stop: Option<u64>, fill: u8)
         ensures { Arms stop fill (meaning self.old) (meaning self.new) };
 }

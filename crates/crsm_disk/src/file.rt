@@ -1,4 +1,4 @@
-//! A file of the system as a disk. Nothing is known of what it holds.
+//! A file of the system as a disk. Contracts say nothing of the bytes that it holds.
 
 ghost use Rattle.std.specs.Prelude.{◌≡◌, ◌≤◌, length, IfOk, false};
 ghost use Rattle.crsm_disk.specs.Unknown.{unknown};
@@ -11,10 +11,10 @@ use std::io;
 use std::os::unix::fs::FileExt;
 use thiserror::Error;
 
-/// Why a file is not opened as a disk.
+/// The reason why a file could not be opened as a disk.
 #[derive(Debug, Drop, Error)]
 pub enum OpenError {
-    /// Another disk, of this process or of another, has the file.
+    /// Another disk has the file open, in this process or another.
     #[error("the file is in use by another process")]
     InUse,
     #[error("{0}")]
@@ -27,7 +27,7 @@ impl From<io::Error> for OpenError {
     }
 }
 
-/// A file of the system as a disk. It counts its faults, and tells nothing else.
+/// A file of the system as a disk. It counts its faults, and specifies nothing else.
 #[derive(Drop)]
 pub struct FileDisk {
     file: File,
@@ -37,8 +37,8 @@ pub struct FileDisk {
 }
 
 impl FileDisk {
-    /// The file of this name in the current folder, locked for as long as the disk is kept. It is made where there
-    /// is none. Two disks cannot have one file: the second is refused.
+    /// Opens the file with this name in the current folder, creates it if it is missing, and locks it until the disk is
+    /// dropped. `InUse` if another disk has it locked; `Io` for any other error of the system.
     pub fn open<R: Files<File = File>>(files: &R, name: &str) -> Result<FileDisk, OpenError>
         ensures { IfOk result (λ d. d.faults ≡ 0) }
     {
@@ -52,7 +52,7 @@ impl FileDisk {
         Ok(FileDisk::new(file, folder))
     }
 
-    /// A file that was opened to be read and written, and the folder that it stands in. It is not locked.
+    /// Returns a disk over an open file, to be read and written, and the folder that contains it. It takes no lock.
     pub fn new(file: File, folder: File) -> FileDisk
         ensures { result.faults ≡ 0 }
     {
@@ -64,8 +64,8 @@ impl FileDisk {
         }
     }
 
-    // The first sync, and the first behind a cut, makes all that is kept of the file last, and its name, which stands
-    // in the folder. The others make the bytes last, and a length that grew with them, without the times of the file.
+    // The first sync, and the first after a cut, syncs all metadata and the folder that has the file's name. Later ones
+    // sync the data and a length that grew with it, but not the file's times.
     fn sync_with_name(&mut self) -> io::Result<()>
         ensures { self.new.faults ≡ self.old.faults }
     {
@@ -79,7 +79,7 @@ impl FileDisk {
     }
 }
 
-// Takes the lock of the whole file, which its last handle gives back.
+// Locks the whole file; the lock is released when its last handle is closed.
 fn lock(file: &File) -> Result<(), OpenError> {
     match file.try_lock() {
         Ok(()) => Ok(()),

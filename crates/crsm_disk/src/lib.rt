@@ -1,4 +1,4 @@
-//! A disk: what is read of it, what a crash at any moment may leave of what was written, and what it records of its calls.
+//! Disks over memory and over files: what is read, and what a crash at any moment may leave of what was written.
 #![tactic(auto)]
 
 mod content;

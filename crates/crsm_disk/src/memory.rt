@@ -1,4 +1,4 @@
-//! A disk in memory, which tells all that it was asked.
+//! A disk in memory, which specifies all its calls and bytes.
 
 ghost use Rattle.std.specs.Prelude.{◌≡◌, ◌≤◌, [], length, IfOk, OnOk, OnErr, Some};
 ghost use Rattle.std.specs.Bool.{OnTrue, OnFalse};
@@ -16,7 +16,7 @@ use crsm_port_faults::{Failures, raise};
 use std::alloc::Global;
 use std::marker::Model;
 
-/// A disk in memory. It keeps a record of its calls, fails at those that are listed, and can be stopped.
+/// A disk in memory. It records its calls, fails at listed ones, and can be stopped.
 #[derive(Drop)]
 pub struct MemDisk {
     alloc: Global,
@@ -45,8 +45,8 @@ impl Model for MemDisk {
 }
 
 impl MemDisk {
-    /// An empty disk that fails at these calls, counted from 1, and stops after so many. Its image holds the fill
-    /// in the ranges that were not synced.
+    /// Returns an empty disk whose calls with the numbers in `fails`, from 1, fail, and which stops after `stop` calls.
+    /// Its image has the byte `fill` in all ranges that were not synced. `NoMemory` if memory runs out.
     pub fn new(
         alloc: Global,
         fails: &[u64],
@@ -70,22 +70,22 @@ impl MemDisk {
         })
     }
 
-    /// How many lengths, reads, writes, cuts and syncs were asked for.
+    /// Returns the number of calls made: lengths, reads, writes, cuts and syncs.
     pub fn calls(&self) -> u64
         ensures { result ≡ self.now.failing.calls }
     {
         self.failures.calls()
     }
 
-    /// The bytes that a read gives.
+    /// Returns the bytes as they read.
     pub fn bytes(&self) -> &[u8]
         ensures { result.now ≡ contents self.now.first self.now.calls }
     {
         &self.bytes
     }
 
-    /// A fresh disk as a crash may leave it: of the same length, and what was not synced holds the fill. It has no
-    /// failing calls and no stop.
+    /// Returns a new disk with what a crash may leave of this one: the same length, and `fill` in all ranges that were
+    /// not synced. It has no failing calls and no stop. `NoMemory` if memory runs out.
     pub fn image(&self) -> Result<MemDisk, NoMemory>
         ensures one { IfOk result (λ d. IsImage self.now.first self.now.calls d.first) }
         ensures exact { IfOk result (λ d. d ≡ left_by_crash self.now) }
@@ -108,13 +108,13 @@ impl MemDisk {
         })
     }
 
-    /// The disk as a crash leaves it: what `image` makes, of this disk's own memory, in the time of what was written.
+    /// Returns the same disk as `image`, in this disk's own memory and in time proportional to the bytes written.
     pub fn into_image(self) -> Result<MemDisk, NoMemory>
         ensures one { IfOk result (λ d. IsImage self.first self.calls d.first) }
         ensures exact { IfOk result (λ d. d ≡ left_by_crash self) }
     {
         let mut disk = self;
-        // Done again, the calls make the bytes of what was held at first.
+        // Repeated on the initial bytes, the recorded calls make the current ones.
         redo(&mut disk.first, &disk.records, &disk.written)?;
         paint_unsynced(&mut disk.first, &disk.records, disk.fill);
         paint_unsynced(&mut disk.bytes, &disk.records, disk.fill);
@@ -128,7 +128,7 @@ impl MemDisk {
         Ok(disk)
     }
 
-    // Counts a call, and says whether it goes well.
+    // Counts a call, and returns `Failed` if it is to fail.
     fn begin(&mut self) -> Result<(), Failed>
         ensures same { self.new ≡ record self.old { failing = self.new.failing; stop = self.new.stop; faults = self.new.faults } }
         ensures counted { self.new.failing ≡ record self.old.failing { calls = raised self.old.failing.calls } }
@@ -142,7 +142,7 @@ impl MemDisk {
         Err(Failed)
     }
 
-    // A call beyond the room is a fault.
+    // Returns `Failed` for a call beyond the reserved room.
     fn take_room(&mut self, at: u64, count: usize) -> Result<(), Failed>
         ensures ok { OnOk result ((self.new ≡ self.old) × (1 ≤ self.old.room_calls) × (room_for_write at count self.old ≤ self.old.room_bytes)) }
         ensures err { OnErr result ((self.new ≡ record self.old { faults = self.new.faults }) × (self.old.faults ≤ self.new.faults) × Rose self.old.faults self.new.faults) }
@@ -156,7 +156,7 @@ impl MemDisk {
         Ok(())
     }
 
-    // Writes, and records it.
+    // Writes the bytes and records the call.
     fn put(&mut self, at: u64, bytes: &[u8])
         requires calls { 1 ≤ self.old.room_calls }
         requires bytes { room_for_write at (length bytes.now) self.old ≤ self.old.room_bytes }
@@ -169,7 +169,7 @@ impl MemDisk {
         self.room_bytes -= hole + bytes.len() as u64;
     }
 
-    // Cuts, and records it.
+    // Cuts the bytes and records the call.
     fn shorten(&mut self, len: u64)
         requires { 1 ≤ self.old.room_calls }
         ensures { self.new ≡ with_call (cut len) 0 self.old }
@@ -189,7 +189,7 @@ impl MemDisk {
     }
 }
 
-// Counts a call, and says whether it goes well.
+// Counts a call, and returns whether it succeeds.
 fn goes_well(failures: &mut Failures, stop: &mut Option<u64>) -> bool
     ensures counted { failures.new ≡ record failures.old { calls = raised failures.old.calls } }
     ensures well { OnTrue result ((least (good_of failures.new) stop.new ≡ one_less (least (good_of failures.old) stop.old))

@@ -1,10 +1,10 @@
-//! How a disk in memory keeps its calls.
+//! The records of a disk in memory about its calls.
 
 ghost use Rattle.std.specs.Prelude.{◌≡◌, ◌+◌, ◌<◌, ◌≤◌, ◌++◌, ◌∷◌, [], length, vec_len, vec_capacity};
 ghost use Rattle.crsm_disk.specs.Records.{syncs};
 ghost use Rattle.crsm_disk.specs.declared.record.Record.TheVariants.{Write};
 
-// A call that went well. The bytes of a write stand in a list of their own, one write behind another.
+// A call that succeeded. The bytes of all writes are kept in a list of their own, one after another.
 #[derive(Clone, Copy)]
 pub(crate) enum Record {
     Write { at: u64, count: usize },

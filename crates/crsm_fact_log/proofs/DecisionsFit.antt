@@ -1,4 +1,4 @@
--- Decisions that are collected or proposed have a spelling.
+-- Decisions that are collected or proposed can be encoded.
 use Rattle.std.proofs.Common.{◌≡◌, ℕ, ◌+◌, ◌≤◌, List, [], ◌∷◌, length, refl, sym, ◌∙◌, ap, subst, inl, inr, Bool, true, false, cond, arith}
 use Rattle.std.specs.Prelude.{◌⊎◌, IsTrue, Option, Some, None, nat_le, fold, flat_map, unwrap_or, bytes_eq, option_map}
 use Rattle.std.specs.List.{list_all}

@@ -1,4 +1,4 @@
--- Lists of entries that have a spelling: their parts, and pages.
+-- Lists of entries that can be encoded: their parts, and pages.
 use Rattle.std.proofs.Common.{◌≡◌, ℕ, zero, suc, ◌+◌, ◌-◌, ◌*◌, ◌<◌, ◌≤◌, List, [], ◌∷◌, ◌++◌, length, take, drop, refl, sym, ◌∙◌, ap, inl, inr, Bool, true, false, cond, arith}
 use Rattle.std.specs.Prelude.{◌⊎◌, IsTrue, nat_le, nat_lt, ◌==◌, ◌&&◌}
 use Rattle.std.specs.List.{flat_map, AllByRecursion}

@@ -1,4 +1,4 @@
--- What the decision of the known epoch says.
+-- The contents of the known epoch's decision.
 use Rattle.std.proofs.Common.{◌≡◌, ℕ, refl}
 use Rattle.std.specs.Prelude.{Option, None, Some, unwrap_or}
 use Rattle.std.specs.Option.{option_map_or}

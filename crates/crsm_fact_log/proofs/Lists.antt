@@ -1,4 +1,4 @@
--- Lists: what holds of each item, what is among them, what stands at a place, and one item more.
+-- Lists: properties of all elements, membership, elements at an index, and one element more.
 use Rattle.std.proofs.Common.{◌≡◌, ℕ, zero, suc, ◌+◌, ◌-◌, ◌<◌, ◌≤◌, Bool, true, false, refl, sym, ◌∙◌, subst, ap, ◌⊎◌, inl, inr, arith, List, [], ◌∷◌, ◌++◌, length, take, drop, get_or, set, cond}
 use Rattle.std.specs.Prelude.{IsTrue, ◌==◌, Option, Some, map, filter, flat_map, slice_get, if◌then◌else◌}
 use Rattle.std.specs.List.{AllByRecursion, list_all, list_any, last_or}

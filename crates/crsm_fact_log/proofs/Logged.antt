@@ -1,4 +1,4 @@
--- Logs that go on, and what they have logged in an epoch: it rises, and grows with the log.
+-- Logs with records appended, and the entries logged in an epoch: they rise, and grow with the log.
 use Rattle.std.proofs.Common.{◌≡◌, ℕ, Bool, true, false, refl, sym, ◌∙◌, subst, ◌⊎◌, inl, inr, arith, List, [], ◌∷◌, ◌++◌, cond, ap, ◌<◌}
 use Rattle.std.proofs.lemmas.Bool.{eqb-true, and_parts, ltb-true}
 use Rattle.std.proofs.lemmas.Bool.Decides.{nat_tests}

@@ -1,4 +1,4 @@
--- A message that is cut into parts: how many they are, and that they make it whole again.
+-- Messages cut into parts: the number of parts, and that they make up the message again.
 use Rattle.std.proofs.Common.{◌≡◌, ℕ, zero, suc, ◌+◌, ◌*◌, List, ◌++◌, length, take, drop, arith, refl, sym, ap, ◌∙◌}
 use Rattle.std.specs.List.{concat}
 use Rattle.std.proofs.Math.Seq.{take-add}

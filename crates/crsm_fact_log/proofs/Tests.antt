@@ -1,4 +1,4 @@
--- What tests of numbers, stamps, ballots and addresses say.
+-- Boolean tests of numbers, stamps, ballots and addresses imply the relations that they test.
 use Rattle.std.proofs.Common.{◌≡◌, ℕ, ◌+◌, refl, sym, ◌∙◌, ap, Bool, true, false, arith}
 use Rattle.std.specs.Prelude.{◌≢◌, IsTrue, not, nat_lt, nat_le, ◌==◌, ◌&&◌, ◌||◌}
 use Rattle.std.proofs.lemmas.Bool.{and_parts, eqb-true, eq-eqb, false≢true, not-false, ltb-false, leb-false}

@@ -1,4 +1,4 @@
--- What a collection is made of, whatever pages came.
+-- What a collection's decision is made of, whatever pages were received.
 use Rattle.std.specs.Prelude.{◌≡◌, ℕ, ◌≤◌, List, flat_map, Option, Some, None, ◌⊎◌}
 use Rattle.crsm_spec.specs.Types.{Stamp, Entry, Decision}
 use Rattle.crsm_spec.specs.Lists.{Among, first_of}
@@ -7,8 +7,9 @@ use Rattle.crsm_spec.specs.Replica.{LogPage}
 use Rattle.crsm_spec.specs.Collect.{pages_of, whole_ones, collected}
 use Rattle.crsm_fact_log.specs.Rising.{Rises, IsAbove}
 
--- Whatever pages came: the tail rises and holds entries of whole reports above the floor, of each of their stamps one.
--- The base is not below the start nor below any whole report's executed length, and is one of these.
+-- Whatever pages were received: the tail rises and has entries of complete reports above the floor, one of each of
+-- their stamps. The base is at least the start and at least every complete report's executed length, and is one of
+-- these.
 pub record IsMadeOf (counted : List ℕ) (log : Log) (pages : List LogPage) (d : Decision) : Type 0 where
   pub floor : Option Stamp
   pub rises : Rises d.tail

@@ -1,4 +1,4 @@
--- What the union of reports' entries is, and ways to make it.
+-- The union of the entries of reports, and ways to compute it.
 use Rattle.std.specs.Prelude.{◌≡◌, ◌⊎◌, ◌<◌, ◌≤◌, ℕ, ◌==◌, ◌++◌, if◌then◌else◌, nat_lt, List, [], ◌∷◌, length, map, filter, flat_map, fold, Option}
 use Rattle.std.specs.List.{AllByRecursion}
 use Rattle.crsm_spec.specs.Types.{Stamp, Entry}
@@ -16,31 +16,31 @@ abbrev pub IsFirst : List Entry → Entry → Type 0
 IsFirst [] z = ⊥
 IsFirst (e ∷ es) z = (e ≡ z) ⊎ ((e.stamp ≡ z.stamp → ⊥) × IsFirst es z)
 
--- A list that rises, and holds of each stamp of these entries the first.
+-- A rising list with the first of these entries of each stamp.
 pub record IsUnion (es xs : List Entry) : Type 0 where
   pub rises : Rises xs
   pub first : (z : Entry) → Among xs z → IsFirst es z
   pub each : (z : Entry) → Among es z → (w : Entry) × Among xs w × (w.stamp ≡ z.stamp)
 
--- The union is the one such list.
+-- The union is the only such list.
 abbrev pub UnionIsOne : Type 0
 UnionIsOne = ((es : List Entry) → IsUnion es (union es)) × ((es xs : List Entry) → IsUnion es xs → xs ≡ union es)
 
--- More entries may be merged later, and what is not above a floor may be left out before or after.
+-- Further entries can be merged later, and entries up to a floor left out before or after.
 abbrev pub UnionGoesOn : Type 0
 UnionGoesOn =
     ((es fs : List Entry) → union (es ++ fs) ≡ fold with_new (union es) fs)
     × ((o : Option Stamp) (es : List Entry) → above o (union es) ≡ union (above o es))
 
--- Where of one stamp all entries are one, the order in which they come does not matter.
+-- If all entries with one stamp are equal, their order does not matter.
 abbrev pub UnionOfSame : Type 0
 UnionOfSame =
     (es fs : List Entry) → ((y z : Entry) → Among es y → Among es z → y.stamp ≡ z.stamp → y ≡ z) →
     ((z : Entry) → Among es z → Among fs z) → ((z : Entry) → Among fs z → Among es z) → union es ≡ union fs
 
--- ---- entries with the replicas that they came from, in the order in which they came
+-- ---- entries with the replicas that sent them, in the order in which they were received
 
--- the entries with this one among them, by stamp: of one stamp the one of the least replica is kept
+-- the entries with this one inserted by stamp; of one stamp the one from the least replica is kept
 unfoldable pub with_least : List (ℕ × Entry) → ℕ × Entry → List (ℕ × Entry)
 with_least [] p = p ∷ []
 with_least (q ∷ ps) p =
@@ -51,7 +51,7 @@ with_least (q ∷ ps) p =
 unfoldable pub merged : List (ℕ × Entry) → List (ℕ × Entry)
 merged ps = fold with_least [] ps
 
--- what came of replica k, in order
+-- the entries received from replica k, in order
 unfoldable pub came_of : List (ℕ × Entry) → ℕ → List Entry
 came_of ps k = map (λ p. p.1) (filter (λ p. p.0 == k) ps)
 
@@ -60,7 +60,7 @@ abbrev pub Ascends : List ℕ → Type 0
 Ascends [] = Unit {0}
 Ascends (k ∷ ks) = AllByRecursion (λ j. k < j) ks × Ascends ks
 
--- Entries that are merged as they come, from replicas of these, are the union of the reports by ascending replica.
+-- Merging entries in the order in which they are received gives the union of the reports by ascending replica.
 abbrev pub MergedAsTheyCome : Type 0
 MergedAsTheyCome =
     (ks : List ℕ) (ps : List (ℕ × Entry)) → Ascends ks → ((p : ℕ × Entry) → Among ps p → Among ks p.0) →
@@ -68,7 +68,7 @@ MergedAsTheyCome =
 
 -- ---- majorities
 
--- as many whole reports as a majority are a majority
+-- if the number of complete reports is that of a majority, their senders are a majority of the Spec
 abbrev pub WholeOnesAreMany : Type 0
 WholeOnesAreMany =
     (spec : List ℕ) (pages : List LogPage) → majority (length spec) ≤ length (whole_ones spec pages) →

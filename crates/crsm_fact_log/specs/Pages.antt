@@ -1,4 +1,4 @@
--- Pages of reports, and answers of acceptors, that have a spelling.
+-- Pages of reports, and acceptors' answers, that can be encoded.
 use Rattle.std.proofs.Common.{◌≡◌, ℕ, ◌≤◌, List}
 use Rattle.std.specs.List.{AllByRecursion}
 use Rattle.crsm_base.specs.Spelling.{FitsOption, FitsEntry}
@@ -9,7 +9,7 @@ use Rattle.crsm_spec.specs.Paxos.{Answer}
 use Rattle.crsm_spec.specs.Replica.{LogPage}
 use Rattle.crsm_spec.specs.Coordinate.{most_collected}
 
--- each answer names a decision with a spelling, if any
+-- the decision in each answer, if there is one, can be encoded
 abbrev pub AnswersFit : List (Answer Decision) → Type 0
 AnswersFit answers = AllByRecursion (λ (a : Answer Decision). FitsOption FitsVote a.accepted) answers
 

@@ -1,8 +1,8 @@
-//! Facts about lists of entries, about one log, about what of them has a spelling, and about messages that are cut into
-//! parts, over the definitions alone.
+//! Lemmas about lists of entries, about a single log, about what can be encoded, and about messages cut into parts,
+//! over the definitions alone.
 //!
-//! The proofs of running code and those of the laws cite these lemmas, in `proofs/`. None of them speaks of a step, of a
-//! world or of a run. A fact that says most is also the contract of a function that does nothing.
+//! The proofs of running code and those of the laws cite these lemmas, which are in `proofs/`. None of them is about a
+//! step, a world or a run. The main ones are also contracts of functions that run no code.
 #![tactic(auto)]
 
 ghost use Rattle.crsm_fact_log.specs.Collected.{CollectedIsMade};
@@ -14,32 +14,32 @@ ghost use Rattle.crsm_fact_log.specs.Merging.{
   WholeOnesAreMany,
 };
 
-/// The union of reports is the one rising list that holds of each stamp the first entry.
+/// The union of reports is the only rising list that has the first entry of each stamp, and no others.
 pub fn union_is_one()
     ensures { UnionIsOne }
 {}
 
-/// More may be merged later, and what is not above a floor may be left out at once.
+/// Merging more entries later gives the union of all, and entries up to a floor can be left out before or after.
 pub fn union_goes_on()
     ensures { UnionGoesOn }
 {}
 
-/// Where all entries of one stamp are one, the order in which they come does not matter.
+/// If all entries with one stamp are equal, the union does not depend on the order in which they are merged.
 pub fn union_of_same()
     ensures { UnionOfSame }
 {}
 
-/// Entries that are merged as they come, with the replicas that sent them, are the union of the reports.
+/// Merging entries in the order in which they are received gives the union of the reports by ascending replica.
 pub fn merged_as_they_come()
     ensures { MergedAsTheyCome }
 {}
 
-/// As many whole reports as a majority are a majority.
+/// If the number of complete reports is that of a majority, their senders are a majority of the Spec.
 pub fn whole_ones_are_many()
     ensures { WholeOnesAreMany }
 {}
 
-/// Whatever pages came, the decision's tail rises above its base, and holds what whole reports hold.
+/// Whatever pages were received, a decision's tail rises above its base and has entries of complete reports only.
 pub fn collected_is_made()
     ensures { CollectedIsMade }
 {}

@@ -1,4 +1,4 @@
--- The log of a step is the log before it with its batch on top.
+-- The log after a step is the log before it with its batch appended.
 use Rattle.std.proofs.Common.{ℕ, ◌∷◌, refl, sym, ◌∙◌, ap}
 use Rattle.std.specs.Prelude.{Option, Some, None}
 use Rattle.std.specs.Option.{option_map_or}

@@ -1,4 +1,4 @@
--- A whole step leaves a draft whose records fit, and so does each of its changes.
+-- A whole step, and each of its changes, leaves a draft whose records may be written.
 use Rattle.std.proofs.Common.{◌≡◌, ℕ, List, [], ◌∷◌, refl, sym, ◌∙◌, Bool, true, false}
 use Rattle.std.specs.Prelude.{IsTrue, Option, Some, None, ◌&&◌}
 use Rattle.std.specs.Option.{option_map_or}

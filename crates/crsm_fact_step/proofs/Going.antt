@@ -1,4 +1,4 @@
--- Changes one after another, before it is known that their records fit.
+-- Changes in sequence, before it is known that their records fit.
 use Rattle.std.proofs.Common.{◌≡◌, ℕ, List, [], ◌∷◌, refl, inl, inr, Bool, true, false}
 use Rattle.std.specs.Prelude.{IsTrue, Option, Some, None, fold}
 use Rattle.std.specs.Option.{option_map_or}

@@ -1,4 +1,4 @@
--- An input that is ignored leaves the rest of its step.
+-- An ignored input still has the rest of its step.
 use Rattle.std.proofs.Common.{◌≡◌, refl, ◌∙◌, ap, inl, inr, Bool, true, false}
 use Rattle.crsm_spec.specs.Choice.{when◌then◌otherwise◌}
 use Rattle.crsm_spec.specs.Draft.{Draft, begun}

@@ -1,4 +1,4 @@
--- What changes do to a replica's log, to its numbers and to its times.
+-- The effect of changes on a replica's log, numbers and times.
 use Rattle.std.proofs.Common.{◌≡◌, ℕ, ◌+◌, ◌<◌, List, [], ◌∷◌, ◌++◌, refl, sym, ◌∙◌, subst, inl, inr, Bool, true, false, cond, arith, max}
 use Rattle.std.specs.Prelude.{◌⊎◌, IsTrue, Option, Some, None, ◌&&◌, unwrap_or}
 use Rattle.std.proofs.lemmas.Bool.{and_parts}

@@ -1,4 +1,4 @@
--- Each rule is made of changes.
+-- Each rule is a sequence of changes.
 use Rattle.std.proofs.Common.{◌≡◌, ℕ, ◌+◌, ◌<◌, List, [], ◌∷◌, ◌++◌, length, refl, sym, ◌∙◌, ap, subst, inl, inr, Bool, true, false, cond, map, take}
 use Rattle.std.specs.Prelude.{◌⊎◌, filter, ◌≢◌, IsTrue, Option, Some, None, not, nat_lt, nat_le, ◌==◌, ◌&&◌, ◌||◌, fold}
 use Rattle.std.specs.Option.{option_map_or}

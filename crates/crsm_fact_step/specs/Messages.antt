@@ -1,4 +1,4 @@
--- What a step receives and sends: the control message that an input makes whole, and when one that is sent is true.
+-- The control message that an input completes, and when a control message that a step sends is true.
 use Rattle.std.specs.Prelude.{◌≡◌, ◌⊎◌, ℕ, ◌<◌, IsTrue, List, length, Option, Some, None}
 use Rattle.crsm_base.specs.MessageReading.{control_of}
 use Rattle.crsm_spec.specs.Types.{Stamp, Decision, Datagram, Control}
@@ -12,7 +12,7 @@ use Rattle.crsm_spec.specs.Coordinate.{has_accepted, instance}
 use Rattle.crsm_spec.specs.Controls.{page_from}
 use Rattle.crsm_spec.specs.Step.{Input}
 
--- The input is a part of replica k's, and with it this control message of k is whole at r.
+-- The input is a part from replica k that completes this control message of k at r.
 pub record ReceivesControl (r : Replica) (input : Input) (k : ℕ) (c : Control) : Type 0 where
   pub address : ℕ
   pub piece : Piece
@@ -22,12 +22,12 @@ pub record ReceivesControl (r : Replica) (input : Input) (k : ℕ) (c : Control)
   pub whole : whole_with piece r.parts ≡ Some message
   pub is : control_of message ≡ Some c
 
--- a coordinator asks for a report from its beginning, or from where the pages that it has end
+-- a coordinator requests a report from its beginning, or from the end of the pages that it has
 abbrev pub IsAsked : Coordinator → Option Stamp → Type 0
 IsAsked coordinator after =
     (after ≡ None) ⊎ ((ms : List ℕ) × (pages : List LogPage) × (k : ℕ) × (coordinator ≡ Coordinator.Collecting ms pages) × (after ≡ cursor pages k))
 
--- A control message that is sent in this step says what the replica's log and coordinator say now.
+-- A control message that a step sends says what the replica's log and coordinator are at that moment.
 abbrev pub IsSent : Draft → Control → Type 0
 IsSent x (Control.Suspend e after) = (e ≡ known x.replica.log) × IsAsked x.replica.coordinator after
 IsSent x (Control.SuspendOk e done last after whole es) =
@@ -44,7 +44,7 @@ IsSent x (Control.Retrieve e from) = (e ≡ known x.replica.log) × (from ≡ le
 IsSent x (Control.Page e from es) =
     (from < length (executed x.replica.log)) × (Control.Page e from es ≡ page_from x.replica.log from)
 
--- An answer is sent to what is received in this step; other messages answer nothing.
+-- Answers are sent to a control message received in the same step; other messages answer nothing.
 abbrev pub Answers : Replica → Input → Control → Type 0
 Answers r input (Control.SuspendOk e done last after whole es) = (k : ℕ) × ReceivesControl r input k (Control.Suspend e after)
 Answers r input (Control.P1b i b v) = (k : ℕ) × ReceivesControl r input k (Control.P1a i b)

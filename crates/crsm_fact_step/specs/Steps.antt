@@ -8,39 +8,39 @@ use Rattle.crsm_spec.specs.Step.{Input, on_input, idle_at, step}
 use Rattle.crsm_spec.specs.Node.{Turn, turn}
 use Rattle.crsm_fact_log.specs.Logs.{with_records, AllFit}
 
--- Each record that a step keeps fits, whatever comes.
+-- Each record that a step writes may follow those before it, whatever the input.
 abbrev pub StepsFit : Type 0
 StepsFit = (r : Replica) (input : Input) (reading : ℕ) → AllFit r.me r.n r.log → AllFit r.me r.n (step r input reading).replica.log
 
 -- ---- batches
 
--- The draft's log is that of r with the records of its batch behind it, and its numbers are those of r.
+-- The draft's log is that of r with the records of its batch appended, and its numbers are those of r.
 pub record Grown (r : Replica) (x : Draft) : Type 0 where
   pub me : x.replica.me ≡ r.me
   pub n : x.replica.n ≡ r.n
   pub log : x.replica.log ≡ with_records r.log x.batch
 
--- The log of a step is the log before it with its batch on top, whatever comes; so is that of a turn.
+-- The log after a step is the log before it with the step's batch appended; so it is for a turn.
 pub record BatchesAreLogged : Type 0 where
   pub of_step : (r : Replica) (input : Input) (reading : ℕ) → Grown r (step r input reading)
   pub of_turn : (r : Replica) (t : Turn × ℕ) → Grown r (turn r t)
 
 -- ---- times
 
--- the newest is the greatest, and so on
+-- the newest time is the greatest, and so on
 abbrev pub RisesTo : List ℕ → Type 0
 RisesTo [] = Unit {0}
 RisesTo (t ∷ []) = Unit {0}
 RisesTo (t ∷ (u ∷ us)) = (u < t) × RisesTo (u ∷ us)
 
--- The times that a replica issues in an epoch rise, at whatever readings of its clock.
+-- The times that a replica issues in an epoch strictly rise, at any readings of its clock.
 abbrev pub TimesRise : Type 0
 TimesRise = (r : Replica) (input : Input) (reading : ℕ) → RisesTo r.issued → RisesTo (step r input reading).replica.issued
 
 -- ---- inputs that are ignored
 
--- An input that does nothing, or whose records would not fit, still ends its step: what is owed, the clock time, the
--- commits and the replies follow.
+-- An input that does nothing, or whose records would not fit, still has the rest of its step: pending acknowledgements,
+-- clock time, commits and replies.
 abbrev pub IgnoredInputsEnd : Type 0
 IgnoredInputsEnd =
     (r : Replica) (input : Input) (reading : ℕ) →

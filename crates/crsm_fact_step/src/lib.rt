@@ -1,33 +1,34 @@
-//! Facts about one step of one replica: one walk over all its rules, once, for every proof about steps.
+//! Facts about a single step of a replica: one walk over all its rules, for every proof about steps.
 //!
-//! Each step is made of a few kinds of changes, and each change carries what the rule that makes it has found. So a fact
-//! about steps is an induction over changes, and never speaks of a rule. None of these facts speaks of a world or of a run.
+//! Each step is a sequence of changes of a few kinds, and each change carries the conditions that its rule has checked.
+//! So a proof about steps is an induction over changes and never mentions a rule. None of these facts is about a world
+//! or a run.
 #![tactic(auto)]
 
 ghost use Rattle.crsm_fact_step.specs.Changes.{StepsAreChanges};
 ghost use Rattle.crsm_fact_step.specs.Steps.{StepsFit, BatchesAreLogged, TimesRise, IgnoredInputsEnd};
 
-/// Every step of every replica, on whatever input and at whatever reading of its clock, is made of changes.
+/// Every step of every replica, on any input at any clock reading, is a sequence of changes.
 pub fn steps_are_changes()
     ensures { StepsAreChanges }
 {}
 
-/// Each record of a step fits behind those before it.
+/// Each record that a step writes may follow those before it.
 pub fn steps_fit()
     ensures { StepsFit }
 {}
 
-/// The log of a step is the log before it with its batch on top.
+/// The log after a step is the log before it with the step's records appended.
 pub fn batches_are_logged()
     ensures { BatchesAreLogged }
 {}
 
-/// The times that a replica issues in an epoch rise.
+/// The times that a replica issues in an epoch strictly rise, whatever its clock reads.
 pub fn times_rise()
     ensures { TimesRise }
 {}
 
-/// An input that is ignored leaves the rest of its step.
+/// An ignored input still has the rest of its step: pending acknowledgements, clock time, commits and replies.
 pub fn ignored_inputs_end()
     ensures { IgnoredInputsEnd }
 {}

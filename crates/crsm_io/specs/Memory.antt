@@ -1,15 +1,15 @@
--- What is seen of a source and of a sink in memory.
+-- The states of a source and of a sink in memory.
 use Rattle.std.specs.Prelude.{ℕ, ◌+◌, List}
 use Rattle.crsm_port_faults.specs.Counts.{raised}
 use Rattle.crsm_port_faults.specs.Failing.{Failing, IsListed}
 
--- the bytes that are left, the calls so far with those that fail, and how many faults there were
+-- the bytes still to be read, the calls made with those that fail, and the number of faults
 pub record Playback : Type 0 where
   pub left : List ℕ
   pub failing : Failing
   pub faults : ℕ
 
--- the bytes that were written, how many more there is room for, and the rest as above
+-- the bytes written, the room for more, the calls made with those that fail, and the number of faults
 pub record Recording : Type 0 where
   pub written : List ℕ
   pub room : ℕ
@@ -20,6 +20,6 @@ pub record Recording : Type 0 where
 abbrev pub NextIsListed : Failing → Type 0
 NextIsListed failing = IsListed failing.listed (failing.calls + 1)
 
--- one call later
+-- the same after one more call
 abbrev pub one_later : Failing → Failing
 one_later failing = record failing { calls = raised failing.calls }

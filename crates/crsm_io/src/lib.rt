@@ -1,4 +1,5 @@
-//! Where bytes come from and where they go, with counts of faults.
+//! Byte streams that count their faults: sources and sinks over memory and over the standard library's readers and
+//! writers.
 #![tactic(auto)]
 
 mod memory;

@@ -1,4 +1,4 @@
-//! A source and a sink in memory, whose calls fail by a list of their numbers.
+//! A source and a sink in memory with injected failures.
 
 ghost use Rattle.std.specs.Prelude.{◌≡◌, ℕ, ◌-◌, ◌+◌, ◌<◌, ◌≤◌, ◌↔◌, ◌⊎◌, ◌++◌, [], drop, take, max, Some, length, IfOk, IsErr, OnOk, OnErr};
 ghost use Rattle.crsm_port_faults.specs.Counts.{Rose};
@@ -11,7 +11,7 @@ use crsm_port_faults::{Failures, raise};
 use std::alloc::Global;
 use std::marker::Model;
 
-/// Bytes in memory, whose reads fail by a list of their numbers, counted from 1.
+/// A source of given bytes, whose reads with the listed numbers, from 1, fail.
 #[derive(Drop)]
 pub struct MemSource {
     bytes: Vec<u8>,
@@ -32,7 +32,7 @@ impl Model for MemSource {
 }
 
 impl MemSource {
-    /// These bytes, where no call was made yet.
+    /// Returns a source of these bytes, whose reads with the numbers in `fails` fail. `NoMemory` if memory runs out.
     pub fn new(alloc: Global, bytes: &[u8], fails: &[u64]) -> Result<MemSource, NoMemory>
         ensures bytes { IfOk result (λ s. s.left ≡ bytes.now) }
         ensures fails { IfOk result (λ s. s.failing ≡ record { calls = 0; listed = fails.now }) }
@@ -73,7 +73,7 @@ impl Source for MemSource {
     }
 }
 
-/// Copies as much of the bytes as the buffer takes.
+/// Copies as many of the bytes as fit in the buffer, and returns their number.
 pub(crate) fn copy_prefix(bytes: &[u8], buf: &mut [u8]) -> usize
     ensures within { (result ≤ length bytes.now) × (result ≤ length buf.new) }
     ensures copied { bytes.now ≡ take result buf.new ++ drop result bytes.now }
@@ -84,8 +84,8 @@ pub(crate) fn copy_prefix(bytes: &[u8], buf: &mut [u8]) -> usize
     count
 }
 
-/// A sink in memory, whose writes fail by a list of their numbers, counted from 1.
-/// A write beyond its room is a fault, too.
+/// A sink that keeps what was written, up to the reserved room in bytes. A write with a listed number, from 1, fails,
+/// and so does one beyond the room.
 #[derive(Drop)]
 pub struct MemSink {
     bytes: Vec<u8>,
@@ -106,7 +106,7 @@ impl Model for MemSink {
 }
 
 impl MemSink {
-    /// A sink with no room yet, where no call was made yet.
+    /// Returns a sink without room, whose writes with the numbers in `fails` fail. `NoMemory` if memory runs out.
     pub fn new(alloc: Global, fails: &[u64]) -> Result<MemSink, NoMemory>
         ensures empty { IfOk result (λ s. (s.written ≡ []) × (s.room ≡ 0)) }
         ensures fails { IfOk result (λ s. s.failing ≡ record { calls = 0; listed = fails.now }) }
@@ -121,7 +121,7 @@ impl MemSink {
         })
     }
 
-    /// Makes room for at least so many bytes more. An `Err` changes nothing.
+    /// Reserves room for at least `bytes` more bytes. `NoMemory` if memory runs out; the sink is then unchanged.
     pub fn reserve(&mut self, bytes: u64) -> Result<(), NoMemory>
         ensures ok { OnOk result (self.new ≡ record self.old { room = max self.old.room bytes }) }
         ensures err { OnErr result (self.new ≡ self.old) }
@@ -132,7 +132,7 @@ impl MemSink {
         Ok(())
     }
 
-    /// What was written.
+    /// Returns the bytes that were written.
     pub fn as_slice(&self) -> &[u8]
         ensures { result.now ≡ self.now.written }
     {

@@ -1,4 +1,4 @@
-//! A source in memory and a sink that never fail.
+//! A source and a sink that never fail.
 
 ghost use Rattle.std.specs.Prelude.{◌≡◌, ℕ, ◌+◌, ◌-◌, ◌^◌, min, Some, None, Ok, length, IfOk};
 
@@ -8,7 +8,7 @@ use crsm_base::{Failed, NoMemory};
 use std::alloc::Global;
 use std::marker::Model;
 
-/// Bytes in memory, whose reads never fail.
+/// A source of given bytes whose reads never fail.
 #[derive(Drop)]
 pub struct NeverSource {
     bytes: Vec<u8>,
@@ -26,7 +26,7 @@ impl Model for NeverSource {
 }
 
 impl NeverSource {
-    /// These bytes.
+    /// Returns a source of these bytes, or `NoMemory` if memory runs out.
     pub fn new(alloc: Global, bytes: &[u8]) -> Result<NeverSource, NoMemory>
         ensures { IfOk result (λ s. s ≡ bytes.now) }
     {
@@ -47,7 +47,7 @@ impl Source for NeverSource {
     }
 }
 
-/// Takes every piece, and keeps the number of bytes alone.
+/// A sink that discards what is written and counts its bytes. Its writes never fail.
 #[derive(Drop)]
 pub struct NeverSink {
     count: u64,
@@ -62,14 +62,14 @@ impl Model for NeverSink {
 }
 
 impl NeverSink {
-    /// A sink that took nothing yet.
+    /// Returns a sink with a count of 0.
     pub fn new() -> NeverSink
         ensures { result ≡ 0 }
     {
         NeverSink { count: 0 }
     }
 
-    /// How many bytes it took. The count stands still at its last value.
+    /// Returns the number of bytes written; it stays at 2^64 - 1.
     pub fn count(&self) -> u64
         ensures { result ≡ self.now }
     {

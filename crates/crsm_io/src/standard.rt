@@ -1,4 +1,4 @@
-//! The readers and the writers of the standard library as sources and sinks. Nothing is told of what they hold.
+//! The standard library's readers and writers as sources and sinks. Contracts say nothing of the bytes that they hold.
 
 ghost use Rattle.std.specs.Prelude.{◌≡◌, None};
 
@@ -8,7 +8,7 @@ use crsm_port_faults::{raise, raised_by};
 use std::io::{Read, Write};
 use std::marker::Model;
 
-/// A reader of the standard library. Each of its errors is a fault.
+/// A reader of the standard library as a source. It counts each error as a fault.
 #[derive(Drop)]
 pub struct StdSource<R> {
     reader: R,
@@ -24,7 +24,7 @@ impl<R> Model for StdSource<R> {
 }
 
 impl<R> StdSource<R> {
-    /// No fault was counted yet.
+    /// Returns a source over the reader, with no faults counted.
     pub fn new(reader: R) -> StdSource<R>
         ensures { result ≡ 0 }
     {
@@ -42,7 +42,7 @@ impl<R: Read> Source for StdSource<R> {
     }
 }
 
-/// A writer of the standard library. Each of its errors is a fault.
+/// A writer of the standard library as a sink. It counts each error as a fault.
 #[derive(Drop)]
 pub struct StdSink<W> {
     writer: W,
@@ -58,7 +58,7 @@ impl<W> Model for StdSink<W> {
 }
 
 impl<W> StdSink<W> {
-    /// No fault was counted yet.
+    /// Returns a sink over the writer, with no faults counted.
     pub fn new(writer: W) -> StdSink<W>
         ensures { result ≡ 0 }
     {
@@ -71,7 +71,7 @@ impl<W: Write> Sink for StdSink<W> {
 
     ghost faults = { λ s. s };
 
-    /// A writer that takes nothing of a piece that is not empty is counted as a fault.
+    /// Counts a fault also where the writer takes no byte of a non-empty piece.
     fn write(&mut self, piece: &[u8]) -> Result<usize, Failed> {
         match self.writer.write(piece) {
             Ok(count) if count > 0 || piece.is_empty() => Ok(count),

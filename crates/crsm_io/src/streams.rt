@@ -1,4 +1,4 @@
-//! Sources and sinks of bytes.
+//! The traits of byte sources and sinks.
 
 ghost use Rattle.std.specs.Prelude.{◌≡◌, ℕ, ◌<◌, ◌≤◌, List, Option, length, IfOk, OnOk, OnErr};
 ghost use Rattle.crsm_port_faults.specs.Counts.{Rose};
@@ -6,16 +6,16 @@ ghost use Rattle.crsm_io.specs.Streams.{Takes, Puts, PutsPrefix, AtEnd, prefix_o
 
 use crsm_base::Failed;
 
-/// Gives bytes.
+/// A source of bytes.
 pub trait Source {
-    /// The bytes that are left, where that is told.
+    /// The bytes still to be read, if the source specifies them.
     ghost left: { Self → Option (List ℕ) };
 
-    /// How many faults there were. The count never falls, and stands still at its last value.
+    /// The number of faults. It never falls, and stays at 2^64 - 1.
     ghost faults: { Self → ℕ };
 
-    /// Takes bytes into the prefix of `buf`, and answers how many.
-    /// 0 for a `buf` that is not empty is the end. An `Err` has taken nothing.
+    /// Reads bytes into a prefix of `buf`, and returns their number; 0 for a non-empty `buf` is the end of the input.
+    /// `Failed` means that nothing was read and a fault was counted.
     fn read(&mut self, buf: &mut [u8]) -> Result<usize, Failed>
         ensures bound { IfOk result (λ n. n ≤ length buf.new) }
         ensures taken { Takes (left self.old) (left self.new) (prefix_of result buf.new) }
@@ -24,16 +24,16 @@ pub trait Source {
         ensures rose { OnErr result (Rose (faults self.old) (faults self.new)) };
 }
 
-/// Takes bytes.
+/// A sink of bytes.
 pub trait Sink {
-    /// The bytes that were written, where that is told.
+    /// The bytes that were written, if the sink specifies them.
     ghost written: { Self → Option (List ℕ) };
 
-    /// How many faults there were. The count never falls, and stands still at its last value.
+    /// The number of faults. It never falls, and stays at 2^64 - 1.
     ghost faults: { Self → ℕ };
 
-    /// Writes a prefix of the piece, and answers how many bytes it has: at least one of a piece that is not empty.
-    /// An `Err` has written nothing.
+    /// Writes a prefix of `piece`, and returns its length: at least 1 unless `piece` is empty. `Failed` means that
+    /// nothing was written and a fault was counted.
     fn write(&mut self, piece: &[u8]) -> Result<usize, Failed>
         ensures bound { IfOk result (λ n. n ≤ length piece.now) }
         ensures some { IfOk result (λ n. 0 < length piece.now → 0 < n) }
@@ -42,7 +42,7 @@ pub trait Sink {
         ensures rose { OnErr result (Rose (faults self.old) (faults self.new)) };
 }
 
-/// Writes all of the bytes. After an `Err` a prefix of them was written.
+/// Writes all of the bytes. `Failed` means that only a prefix of them was written.
 pub fn put_all<S: Sink>(sink: &mut S, bytes: &[u8]) -> Result<(), Failed>
     ensures ok { OnOk result (Puts (S.written sink.old) (S.written sink.new) bytes.now) }
     ensures prefix { PutsPrefix (S.written sink.old) (S.written sink.new) bytes.now }

@@ -1,4 +1,4 @@
--- What an active replica sends again at a tick.
+-- The frames that an active replica retransmits at a tick.
 use Rattle.std.specs.Prelude.{◌≡◌, ℕ, ◌≤◌, ◌==◌, IsTrue, List, length, map, filter}
 use Rattle.crsm_base.specs.Limits.{most_again}
 use Rattle.crsm_spec.specs.Types.{InEpoch, Datagram}
@@ -16,8 +16,8 @@ sent_to j sends = map (λ s. s.1) (filter (λ s. s.0 == j) sends)
 unfoldable pub frame_of : ℕ → ℕ → ℕ → ℕ × InEpoch → Datagram
 frame_of me e j f = Datagram.Frame me j e f.0 f.1
 
--- At a tick an active replica sends to each other member all frames that are not acknowledged, those of this tick included,
--- in ascending order.
+-- At a tick an active replica sends each other member all unacknowledged frames, those of this tick included, in
+-- ascending order, if at most 64 were unacknowledged before it.
 abbrev pub StepsSendAgain : Type 0
 StepsSendAgain =
     (r : Replica) (reading j : ℕ) → IsTrue (active r.log) → Distinct (other_members r) → Among (other_members r) j →

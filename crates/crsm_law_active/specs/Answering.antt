@@ -1,4 +1,4 @@
--- What a calm step does for the clients that wait.
+-- The effect of a calm step on waiting clients.
 use Rattle.std.specs.Prelude.{◌≡◌, ℕ, IsTrue, map, take, Some, None}
 use Rattle.crsm_base.specs.Store.{answer_after}
 use Rattle.crsm_spec.specs.Types.{Entry, Line}
@@ -10,13 +10,13 @@ use Rattle.crsm_spec.specs.Clients.{find_executed, is_dropped}
 use Rattle.crsm_spec.specs.Step.{Input, step}
 use Rattle.crsm_law_active.specs.Staying.{IsCalmInput}
 
--- the line that tells the client the answer of the entry that was found at a place
+-- the line of the reply with the answer of the entry found at a place
 unfoldable pub answer_line : Draft → Waiting → ℕ × Entry → Line
 answer_line x c p =
     Line.ReplyOk x.replica.me c.entry.command.client c.entry.command.number p.0 (answer_after (take p.0 (executed x.replica.log)) p.1)
 
--- What a step has done for a client that waited: its entry is not executed, and it waits on; or it is, and the step has told the
--- client its place and the answer; or a later epoch has begun without it.
+-- The effect of a step on a waiting client: its entry is not executed, and it keeps waiting; or it is executed, and the
+-- client is sent its place and the answer; or a later epoch has begun without it.
 pub data IsServed (x : Draft) (c : Waiting) : Type 0 where
   Waits : find_executed (executed x.replica.log) c.entry ≡ None → Among x.replica.waiting c → IsServed x c
   Answered : (p : ℕ × Entry) → find_executed (executed x.replica.log) c.entry ≡ Some p →

@@ -1,4 +1,4 @@
--- What an active replica has counted of what was sent.
+-- What an active replica has counted of the datagrams sent.
 use Rattle.std.specs.Prelude.{◌≡◌, ◌≢◌, ◌⊎◌, ℕ, ◌<◌, ◌≤◌, IsTrue, List, length, Some, slice_get}
 use Rattle.crsm_spec.specs.Types.{Stamp, Entry, InEpoch, Datagram}
 use Rattle.crsm_spec.specs.Lists.{Among}
@@ -15,41 +15,41 @@ use Rattle.crsm_law_epoch.specs.Worlds.{sent_in}
 abbrev pub IsOf : Log → Entry → Type 0
 IsOf log f = Logged log f × (f.epoch ≡ known log)
 
--- where the payload is a PREPAREOK of replica m, its vote is counted
+-- if the payload is a PREPAREOK of replica m, its vote is counted
 abbrev pub HasVote : Replica → ℕ → InEpoch → Type 0
 HasVote r m (InEpoch.PrepareOk s t) = Among r.votes (s, m)
 HasVote r m _ = Unit {0}
 
--- the PREPAREOK of this stamp was pushed to each other member, under a time above the stamp's
+-- the PREPAREOK of this stamp was pushed to each other member, with a time above the stamp's
 abbrev pub IsPaidTo : Replica → Stamp → Type 0
 IsPaidTo r s = (j : ℕ) → Among (other_members r) j → (t : ℕ) × Among (frames_to r j) (InEpoch.PrepareOk s t) × (s.time < t)
 
--- What replica k, which is r and active, has counted, where `all` was sent.
+-- What replica k, which is r and active, has counted of all datagrams sent.
 pub record Counted (k : ℕ) (r : Replica) (all : List Datagram) : Type 0 where
-  -- each frame below the next number was taken: its time is heard, and so is its vote
+  -- each frame below the next number was received: its time and its vote are counted
   pub taken : (m i : ℕ) → i < next_from r m →
       (p : InEpoch) × Among all (Datagram.Frame m k (known r.log) i p) × Among r.received (m, time_of p) × HasVote r m p
   -- of each logged entry it has its own vote and that of its origin
   pub voted : (f : Entry) → IsOf r.log f → Among r.votes (f.stamp, k) × Among r.votes (f.stamp, f.stamp.origin)
-  -- of each entry of another it has heard the time from there, and its PREPAREOK is owed or pushed
+  -- for each entry of another replica its time is received from there, and its PREPAREOK is pending or pushed
   pub heard : (f : Entry) → IsOf r.log f → f.stamp.origin ≢ k → Among r.received (f.stamp.origin, f.stamp.time)
   pub paid : (f : Entry) → IsOf r.log f → f.stamp.origin ≢ k → Among r.owed f.stamp ⊎ IsPaidTo r f.stamp
-  -- each time that it issued went to each other member in a frame
+  -- each time issued was sent to each other member in a frame
   pub even : (j : ℕ) → Among (other_members r) j → length (frames_to r j) ≡ length r.issued
   pub later : (t : ℕ) → Among r.issued t → 1 ≤ t
-  -- what was acknowledged was pushed, and an Ack says so
+  -- acknowledged frames were pushed, and an acknowledgement says so
   pub pushed : (j : ℕ) → acked_by r j ≤ length (frames_to r j)
   pub acks : (j a : ℕ) → Among r.acked (j, a) → Among all (Datagram.Ack j k (known r.log) a)
-  -- what it has acknowledged itself in the epoch it has taken
+  -- frames that it has acknowledged in the epoch were received
   pub told : (m a : ℕ) → Among all (Datagram.Ack k m (known r.log) a) → a ≤ next_from r m
 
--- In every world that is reached each active replica has counted what it took.
+-- In every world reached each active replica has counted what it received.
 abbrev pub CountsHold : Type 0
 CountsHold =
     (n : ℕ) (w : World) → IsReached n w → HasFewBoots w → (k : ℕ) (r : Replica) → slice_get w.sites k ≡ Some (Site.Up r) →
     IsTrue (active r.log) → Counted k r (sent_in w)
 
--- Who acknowledges a frame of an epoch has entered it.
+-- A replica that acknowledges a frame of an epoch has entered it.
 abbrev pub AcksAreEntered : Type 0
 AcksAreEntered =
     (n : ℕ) (w : World) → IsReached n w → HasFewBoots w → (j m e a : ℕ) → Among (sent_in w) (Datagram.Ack j m e a) →

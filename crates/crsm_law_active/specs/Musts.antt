@@ -11,19 +11,19 @@ use Rattle.crsm_spec.specs.Frames.{is_odd_frame}
 use Rattle.crsm_spec.specs.Step.{Input, step}
 use Rattle.crsm_fact_log.specs.Logs.{AllFit}
 
--- the record of the payload, if any, fits
+-- the record of the payload, if any, may be written
 abbrev pub FitsHere : Replica → InEpoch → Type 0
 FitsHere r (InEpoch.Prepare e) = IsTrue (fits r.me r.n r.log (Rec.Prepare e))
 FitsHere r _ = Unit {0}
 
--- A frame of the next number that is not odd is taken.
+-- A valid frame with the next number is received.
 abbrev pub StepsTake : Type 0
 StepsTake =
     (r : Replica) (a k : ℕ) (p : InEpoch) (reading : ℕ) → IsTrue (active r.log) → k ≤ 14 → k ≢ r.me → IsTrue (has (members_of r) k) →
     is_odd_frame r k p ≡ false → FitsHere r p →
     (step r (Input.Came a (Datagram.Frame k r.me (known r.log) (next_from r k) p)) reading).replica.taken ≡ k ∷ r.taken
 
--- At a tick whose reading is above each stamp that is owed, and not near the end of numbers, nothing stays owed.
+-- At a tick with a reading above each pending stamp, and far from 2^64, no acknowledgement stays pending.
 abbrev pub StepsPay : Type 0
 StepsPay =
     (r : Replica) (reading : ℕ) → IsTrue (active r.log) → ((s : Stamp) → Among r.owed s → s.time < reading) →

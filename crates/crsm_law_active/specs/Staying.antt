@@ -1,4 +1,4 @@
--- What a calm step leaves of a replica, and what it adds.
+-- The replica that a calm step leaves, and what the step adds to it.
 use Rattle.std.specs.Prelude.{◌≡◌, ◌≢◌, ℕ, ◌+◌, ◌≤◌, IsTrue, List, [], ◌∷◌, ◌++◌, length, Some}
 use Rattle.crsm_base.specs.MessageReading.{control_of}
 use Rattle.crsm_spec.specs.Types.{Stamp, Entry, Rec, Datagram, Control}
@@ -8,14 +8,14 @@ use Rattle.crsm_spec.specs.Replica.{Replica}
 use Rattle.crsm_spec.specs.Draft.{Draft}
 use Rattle.crsm_spec.specs.Step.{Input, step}
 
--- New is old with commits and entries of other replicas than me on top; the entries are these, the newest first.
+-- New is old with commits and entries of replicas other than me appended; the entries are these, the newest first.
 pub data GrowsBy (me : ℕ) (old : Log) : List Entry → Log → Type 0 where
   same : GrowsBy me old [] old
   entry : {entries : List Entry} {new : Log} (f : Entry) → f.stamp.origin ≢ me → GrowsBy me old entries new →
       GrowsBy me old (f ∷ entries) (Rec.Prepare f ∷ new)
   commit : {entries : List Entry} {new : Log} (s : Stamp) → GrowsBy me old entries new → GrowsBy me old entries (Rec.Commit s ∷ new)
 
--- xs is what was there before something was put in front
+-- xs is an end of the list
 abbrev pub IsEndOf : {A : Type 0} → List A → List A → Type 0
 IsEndOf {A} xs ys = (prefix : List A) × (ys ≡ prefix ++ xs)
 
@@ -25,7 +25,8 @@ IsMild e (Control.Decide d) = d.epoch ≤ e
 IsMild e (Control.Retrieve known from) = Unit {0}
 IsMild e _ = ⊥
 
--- The input is a tick of an active replica, a frame, an Ack, or a part that makes no message whole but a mild one.
+-- The input is a tick of an active replica, a frame, an acknowledgement, or a part that completes at most such a
+-- message.
 abbrev pub IsCalmInput : Replica → Input → Type 0
 IsCalmInput r Input.Ticked = IsTrue (active r.log)
 IsCalmInput r (Input.Came a (Datagram.Frame from to e seq p)) = Unit {0}
@@ -36,14 +37,15 @@ IsCalmInput r (Input.Came a (Datagram.Part from to boot number index count bytes
     control_of message ≡ Some c → IsMild (known r.log) c
 IsCalmInput r _ = ⊥
 
--- how many clock times of its own a step on this input may tell
+-- the maximum number of clock times that a step on this input sends
 abbrev pub ticks_in : Input → ℕ
 ticks_in Input.Ticked = 1
 ticks_in (Input.Came a d) = 0
 ticks_in (Input.Suspected ms) = 0
 
--- The draft's replica is r in the same epoch: its log has grown by commits and others' entries, its links have only moved on, and
--- each time that it has issued, or is still to issue for a stamp that it owes, stands for such an entry or a clock time.
+-- The draft's replica is r in the same epoch: its log has grown by commits and others' entries, its links have only
+-- advanced, and each time that it has issued, or will issue for a pending stamp, belongs to such an entry or is a clock
+-- time.
 pub record Stays (r : Replica) (ticks : ℕ) (x : Draft) : Type 0 where
   pub me : x.replica.me ≡ r.me
   pub n : x.replica.n ≡ r.n

@@ -1,4 +1,4 @@
--- The ballots of all instances, as the logs of one moment have them: what was offered in them, accepted and chosen.
+-- The ballots of all instances, read off the logs of one moment: what was offered in them, accepted and chosen.
 use Rattle.std.specs.Prelude.{◌≡◌, ◌⊎◌, ℕ, ◌+◌, IsTrue, List, [], ◌∷◌, map, Option, Some}
 use Rattle.crsm_spec.specs.Types.{Ballot, Decision, Rec}
 use Rattle.crsm_spec.specs.Lists.{Among}
@@ -10,7 +10,8 @@ use Rattle.crsm_spec.specs.Collect.{whole_ones, collected}
 use Rattle.crsm_fact_log.specs.Logs.{Extends}
 use Rattle.crsm_law_collection.specs.Paging.{AreParts}
 
--- The replica of this ballot offers, as the decision after epoch `instance` - 1, what the answers leave of its own one.
+-- The proposer of this ballot offers, as the decision after epoch `instance` - 1, the value that Paxos allows after the
+-- answers.
 pub record Offer : Type 0 where
   pub instance : ℕ
   pub ballot : Ballot
@@ -25,8 +26,8 @@ pub record IsOffered (offers : List Offer) (i : ℕ) (b : Ballot) (d : Decision)
   pub ballot : offer.ballot ≡ b
   pub value : value_of offer.own offer.answers ≡ d
 
--- A coordinator made d, for instance i, of the whole reports of a majority of the Spec that it knew. The Spec after it is the
--- first one, that one, or these members.
+-- A coordinator made d, for instance i, of the complete reports of a majority of the Spec that it knew. The Spec after
+-- it is the first one, that one, or these members.
 pub record IsComplete (n : ℕ) (logs : ℕ → Log) (i : ℕ) (d : Decision) : Type 0 where
   pub by : ℕ
   pub log : Log
@@ -40,7 +41,8 @@ pub record IsComplete (n : ℕ) (logs : ℕ → Log) (i : ℕ) (d : Decision) : 
   pub is : d ≡ collected (spec n log) named log members pages
   pub names : (s : List ℕ) → named ≡ Some s → (s ≡ spec n log) ⊎ (s ≡ members)
 
--- An earlier log of the replica that answered had promised the ballot, and had accepted what the answer says.
+-- An earlier log of the replica that answered had promised the ballot, and had accepted the decision that the answer
+-- names.
 pub record HasPromised (logs : ℕ → Log) (i : ℕ) (b : Ballot) (a : Answer Decision) : Type 0 where
   pub log : Log
   pub earlier : Extends log (logs a.replica)
@@ -48,11 +50,11 @@ pub record HasPromised (logs : ℕ → Log) (i : ℕ) (b : Ballot) (a : Answer D
   pub has_promised : promised log ≡ b
   pub had_accepted : a.accepted ≡ accepted log
 
--- what the answer names was offered
+-- the decision that the answer names was offered
 abbrev pub NamesOffered : List Offer → ℕ → Answer Decision → Type 0
 NamesOffered offers i a = (b : Ballot) (d : Decision) → a.accepted ≡ Some (b, d) → IsOffered offers i b d
 
--- An offer that was made after the earlier ones: the only one of its ballot, over promises of a majority.
+-- An offer made after the earlier ones: the only one of its ballot, over the promises of a majority.
 pub record IsSound (n : ℕ) (logs : ℕ → Log) (earlier : List Offer) (o : Offer) : Type 0 where
   pub log : Log
   pub was : Extends log (logs o.ballot.by)
@@ -63,7 +65,7 @@ pub record IsSound (n : ℕ) (logs : ℕ → Log) (earlier : List Offer) (o : Of
   pub promised : (a : Answer Decision) → Among o.answers a → HasPromised logs o.instance o.ballot a
   pub named : (a : Answer Decision) → Among o.answers a → NamesOffered earlier o.instance a
 
--- offers, the newest first
+-- offers that are sound, the newest first
 abbrev pub AreSound : ℕ → (ℕ → Log) → List Offer → Type 0
 AreSound n logs [] = Unit {0}
 AreSound n logs (o ∷ os) = IsSound n logs os o × AreSound n logs os
@@ -79,7 +81,7 @@ pub record IsChosen (n : ℕ) (logs : ℕ → Log) (d : Decision) : Type 0 where
   pub many : IsTrue (has_majority (spec n log) voters)
   pub accepted : (k : ℕ) → Among voters k → Among (logs k) (Rec.Accept d.epoch ballot d)
 
--- What each log has accepted was offered, and what it has decided was chosen.
+-- Each accepted decision was offered, and each recorded decision was chosen.
 pub record AreBallots (n : ℕ) (logs : ℕ → Log) : Type 0 where
   pub offers : List Offer
   pub sound : AreSound n logs offers

@@ -11,47 +11,47 @@ use Rattle.crsm_law_epoch.specs.LogWorlds.{HasFewBoots}
 use Rattle.crsm_law_messages.specs.Counted.{AllSpelt}
 use Rattle.crsm_law_agreement.specs.Ballots.{AreBallots, IsComplete}
 
--- In every world that is reached, what is on record of ballots was offered once for each ballot, over the promises of a
--- majority, and what is decided was chosen.
+-- In every world reached, each accepted decision was offered once in its ballot, over the promises of a majority, and
+-- each recorded decision was chosen.
 abbrev pub BallotsHold : Type 0
 BallotsHold = (n : ℕ) (w : World) → IsReached n w → HasFewBoots w → AllSpelt n w → AreBallots n (log_at w)
 
--- the Spec of epoch e is one, wherever e was known
+-- all logs that knew epoch e had this Spec of it
 abbrev pub IsSpecOf : ℕ → ℕ → List ℕ → (ℕ → Log) → Type 0
 IsSpecOf n e counted logs = (k : ℕ) (log : Log) → Extends log (logs k) → known log ≡ e → spec n log ≡ counted
 
--- Where an epoch has one Spec, all that is decided after it is one decision.
+-- If an epoch has one Spec, all decisions after it are equal.
 abbrev pub ChoicesAreOne : Type 0
 ChoicesAreOne =
     (n e : ℕ) (counted : List ℕ) (logs : ℕ → Log) → ((k : ℕ) → AllFit k n (logs k)) → AreBallots n logs → IsSpecOf n e counted logs →
     (j k : ℕ) (c d : Decision) → Among (logs j) (Rec.Decide c) → Among (logs k) (Rec.Decide d) → c.epoch ≡ e + 1 → d.epoch ≡ e + 1 → c ≡ d
 
--- Each decision that is accepted or decided was made of the whole reports of a majority.
+-- Each decision that is accepted or recorded was made of the complete reports of a majority.
 abbrev pub DecidedAreComplete : Type 0
 DecidedAreComplete =
     (n : ℕ) (logs : ℕ → Log) → AreBallots n logs →
     ((k i : ℕ) (b : Ballot) (d : Decision) → Among (logs k) (Rec.Accept i b d) → IsComplete n logs i d)
     × ((k : ℕ) (d : Decision) → Among (logs k) (Rec.Decide d) → IsComplete n logs d.epoch d)
 
--- What is made of the whole reports of a majority is a collection of the epoch before it.
+-- A decision made of the complete reports of a majority is a collection of the epoch before it.
 abbrev pub CompleteAreCollected : Type 0
 CompleteAreCollected =
     (n e begins : ℕ) (counted : List ℕ) (logs : ℕ → Log) → EpochFacts e n begins counted logs → IsSpecOf n e counted logs →
     (i : ℕ) (d : Decision) → i ≡ e + 1 → IsComplete n logs i d → IsCollected e begins counted logs d
 
--- In every world all decisions of one epoch are equal, whoever has kept them.
+-- In every world all recorded decisions of one epoch are equal.
 abbrev pub DecisionsAreOne : Type 0
 DecisionsAreOne =
     (n : ℕ) (w : World) → IsReached n w → HasFewBoots w → AllSpelt n w →
     (j k : ℕ) (c d : Decision) → Among (log_at w j) (Rec.Decide c) → Among (log_at w k) (Rec.Decide d) → c.epoch ≡ d.epoch → c ≡ d
 
--- So replicas that knew one epoch, now or earlier, knew it by one decision: its members, its Spec and its start are one.
+-- So replicas that knew one epoch, at any time, knew it by one decision, with the same members, Spec and start.
 abbrev pub KnownAreOne : Type 0
 KnownAreOne =
     (n : ℕ) (w : World) → IsReached n w → HasFewBoots w → AllSpelt n w →
     (j k : ℕ) (a b : Log) → Extends a (log_at w j) → Extends b (log_at w k) → known a ≡ known b → decision a ≡ decision b
 
--- In every world: where the facts of an epoch hold and its Spec is one, each decision after it is a collection of it.
+-- In every world: if the facts of an epoch hold and it has one Spec, each decision after it is a collection of it.
 abbrev pub DecisionsAreCollected : Type 0
 DecisionsAreCollected =
     (n e begins : ℕ) (counted : List ℕ) (w : World) → IsReached n w → HasFewBoots w → AllSpelt n w →

@@ -9,12 +9,13 @@ use Rattle.crsm_law_epoch.specs.LogWorlds.{HasFewBoots}
 use Rattle.crsm_law_messages.specs.Counted.{AllSpelt}
 use Rattle.crsm_law_agreement.specs.Openings.{IsEpochOf, EpochHolds}
 
--- In every world that is reached all that is asked of an epoch holds of each one that has begun.
+-- In every world reached, each epoch that has begun has the properties of `EpochHolds`.
 abbrev pub BegunEpochsHold : Type 0
 BegunEpochsHold = (n : ℕ) (w : World) → IsReached n w → HasFewBoots w → AllSpelt n w → (e : ℕ) → IsEpochOf e (log_at w) → EpochHolds n e (log_at w)
 
--- Of two replicas' executed lists, now or earlier, one is a prefix of the other: in every world that is reached, whatever was
--- lost, came twice or late, whatever the clocks said, whoever stopped and started, and whatever epochs were begun.
+-- Of two replicas' executed lists, at any moments, one is a prefix of the other: in every world reached, whatever was
+-- lost, repeated or late, whatever the clocks read, whichever replicas stopped and restarted, and whatever epochs were
+-- begun.
 abbrev pub ListsAgree : Type 0
 ListsAgree =
     (n : ℕ) (w : World) → IsReached n w → HasFewBoots w → AllSpelt n w →

@@ -1,4 +1,4 @@
--- The list that an epoch begins with, as the logs of one moment have it.
+-- The list that an epoch begins with, read off the logs of one moment.
 use Rattle.std.specs.Prelude.{◌≡◌, ◌⊎◌, ℕ, ◌+◌, ◌<◌, ◌≤◌, List, length, Some, slice_get}
 use Rattle.crsm_spec.specs.Types.{Entry, Decision, Rec}
 use Rattle.crsm_spec.specs.Lists.{Among}
@@ -14,17 +14,18 @@ pub record IsOpening (e : ℕ) (opening : List Entry) (logs : ℕ → Log) : Typ
   pub begin : (k : ℕ) (log : Log) → Extends log (logs k) → known log ≡ e → start log ≡ length opening
   pub tail : (k : ℕ) (d : Decision) → Among (logs k) (Rec.Decide d) → d.epoch ≡ e → (i : ℕ) (y : Entry) → slice_get d.tail i ≡ Some y → slice_get opening (d.base_len + i) ≡ Some y
 
--- Each executed entry of the log is the opening's at its place, or stands behind it and was committed there in epoch e.
+-- Each executed entry of the log is the opening's at its place, or is after it and was committed there in epoch e.
 abbrev pub IsPlaced : ℕ → List Entry → (ℕ → Log) → Log → Type 0
 IsPlaced e opening logs log =
     (p : ℕ) (x : Entry) → slice_get (executed log) p ≡ Some x → (slice_get opening p ≡ Some x) ⊎ ((length opening ≤ p) × CommitOf e logs p x)
 
--- some log has a decision of epoch e, or it is the first
+-- some log has a decision of epoch e, or e is 0
 abbrev pub IsEpochOf : ℕ → (ℕ → Log) → Type 0
 IsEpochOf e logs = (e ≡ 0) ⊎ ((k : ℕ) × (d : Decision) × Among (logs k) (Rec.Decide d) × (d.epoch ≡ e))
 
--- What holds of an epoch: it has an opening, of which each earlier one is a prefix, with newer entries behind, and a Spec; lists of replicas that know it
--- go on from the opening by what was committed, and all that the law of collection asks of it is so.
+-- The properties of an epoch: it has an opening, of which each earlier one is a prefix, with newer entries after it,
+-- and a Spec; lists of replicas that know it extend the opening by what was committed, and the premises of the law of
+-- collection hold.
 pub record EpochHolds (n e : ℕ) (logs : ℕ → Log) : Type 0 where
   pub opening : List Entry
   pub counted : List ℕ

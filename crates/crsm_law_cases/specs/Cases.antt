@@ -1,4 +1,4 @@
--- Histories that happen, and others that break the laws.
+-- Histories that can happen, and others in which the laws fail.
 use Rattle.std.specs.Prelude.{◌≡◌, ℕ, suc, List, [], ◌∷◌, ◌++◌, Contains, Some, slice_get}
 use Rattle.crsm_base.specs.Messages.{datagram_bytes}
 use Rattle.crsm_spec.specs.Types.{Entry, Decision, Answer, Datagram, Line, Rec}
@@ -16,8 +16,8 @@ use Rattle.crsm_law_cluster.specs.Going.{IsReplied}
 use Rattle.crsm_law_cluster.specs.ClusterLaws.{IsHistory}
 use Rattle.crsm_law_lives.specs.Premises.{DisksKeep}
 
--- A lawful history that began with one replica: an answer goes out, a group is lost with its process, which starts again,
--- a new number starts and is a member of the epoch that is decided then, which it enters with what was executed.
+-- A lawful history that began with one replica: an answer is sent, a group is lost with its process, which restarts,
+-- and a new replica starts, becomes a member of the epoch decided then, and enters it with what was executed.
 pub record AllHappens : Type 0 where
   pub h : List Event
   pub is : IsHistory 1 h
@@ -40,7 +40,8 @@ pub record AllHappens : Type 0 where
 
 -- ---- what must not happen
 
--- A history of two replicas that forged frames make unlawful: their log files have different entries as executed.
+-- A history of two replicas that is unlawful because frames were forged: their log files have different entries as
+-- executed.
 pub record ForgedFramesBreak : Type 0 where
   pub h : List Event
   pub unlawful : IsLawful 2 h → ⊥
@@ -50,8 +51,8 @@ pub record ForgedFramesBreak : Type 0 where
   pub there : executed (log_in (last_cluster 2 h) 1) ≡ second ∷ []
   pub differ : first ≡ second → ⊥
 
--- A datagram that its replica has not kept the records of yet: who takes it now makes the history unlawful, and who takes
--- it after they are kept and it was sent does not.
+-- A datagram whose records its sender has not kept: receiving it now makes the history unlawful, and receiving it after
+-- they are kept and it was sent does not.
 pub record SendsWaitForKeeps : Type 0 where
   pub h : List Event
   pub process : Process
@@ -61,7 +62,8 @@ pub record SendsWaitForKeeps : Type 0 where
   pub early : IsLawful 2 (h ++ Event.Takes 1 (Turn.In 70 (datagram_bytes datagram)) 6 ∷ []) → ⊥
   pub late : IsLawful 2 (h ++ Event.Keeps 0 ∷ Event.Sends 0 ∷ Event.Takes 1 (Turn.In 70 (datagram_bytes datagram)) 6 ∷ [])
 
--- An answer that is not kept is lost with its process, and its place goes to another entry: had it gone out it were wrong.
+-- An answer that is not kept is lost with its process, and its place goes to another entry: if it had been sent it
+-- would be wrong.
 pub record AnswersWaitForKeeps : Type 0 where
   pub h : List Event
   pub process : Process
@@ -75,7 +77,8 @@ pub record AnswersWaitForKeeps : Type 0 where
   pub list : one_list 1 (h ++ more) ≡ other ∷ []
   pub client : other.command.client ≡ 8
 
--- Two processes of one replica, the second of which finds an older log than the first left: what they executed differs.
+-- Two processes of one replica, of which the second finds an older log than the first left: their executed lists
+-- differ.
 pub record OldLogsBreak : Type 0 where
   pub before : Life
   pub behind : Life

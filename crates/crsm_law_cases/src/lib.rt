@@ -1,29 +1,30 @@
-//! Worked histories of running nodes: one in which all kinds of events happen, and some that would break the laws.
+//! Worked histories of running nodes: one in which every kind of event happens, and some in which a premise fails and a
+//! law with it.
 #![tactic(auto)]
 
 ghost use Rattle.crsm_law_cases.specs.Cases.{AllHappens, ForgedFramesBreak, SendsWaitForKeeps, AnswersWaitForKeeps, OldLogsBreak};
 
-/// There is a lawful history with an answer, a lost group, a restart, and a new number that enters a decided epoch.
+/// There is a lawful history with an answer, a lost group, a restart, and a new replica that enters a decided epoch.
 pub fn all_happens()
     ensures { AllHappens }
 {}
 
-/// Forged frames make log files disagree; a history with them is not lawful.
+/// There is a history with forged frames whose log files disagree; it is not lawful.
 pub fn forged_frames_break()
     ensures { ForgedFramesBreak }
 {}
 
-/// A datagram that goes out before its records are kept makes a history unlawful.
+/// There is a history in which a datagram is received before its sender has kept its records; it is not lawful.
 pub fn sends_wait_for_keeps()
     ensures { SendsWaitForKeeps }
 {}
 
-/// An answer that went out before its records are kept could be wrong.
+/// An answer that is sent before its records are kept can be wrong.
 pub fn answers_wait_for_keeps()
     ensures { AnswersWaitForKeeps }
 {}
 
-/// A boot on an older log makes executed lists disagree.
+/// If a process boots on an older log than the last one left, executed lists can disagree.
 pub fn old_logs_break()
     ensures { OldLogsBreak }
 {}

@@ -15,7 +15,7 @@ use Rattle.crsm_law_cluster.specs.HistoryLaws.{HasShortLogs}
 use Rattle.crsm_law_cluster.specs.OneList.{lists, one_list, world_of}
 use Rattle.crsm_law_cluster.specs.Going.{IsReplied}
 
--- What is presumed: nobody forged a datagram of a replica, and log files have at most 2^50 records.
+-- The premises: no datagram of a replica was forged, and log files have at most 2^50 records.
 pub record IsHistory (n : ℕ) (h : List Event) : Type 0 where
   pub most : n ≤ 15
   pub lawful : IsLawful n h
@@ -31,19 +31,18 @@ pub record IsOneList (n : ℕ) (h : List Event) : Type 0 where
 abbrev pub ListsAreOne : Type 0
 ListsAreOne = (n : ℕ) (h : List Event) → IsHistory n h → IsOneList n h
 
--- What a log file has as executed stays at its place there, whoever is killed and started again.
+-- Executed entries of a log file keep their places, whichever processes are killed and restarted.
 abbrev pub LogFilesGrow : Type 0
 LogFilesGrow =
     (n : ℕ) (h : List Event) → IsHistory n h → (i j : ℕ) (c d : Cluster) → i ≤ j →
     slice_get (clusters n h) i ≡ Some c → slice_get (clusters n h) j ≡ Some d → (k : ℕ) →
     IsPrefixOf (executed (log_in c k)) (executed (log_in d k))
 
--- Decisions in log files are equal where their epochs are, and what each begins its epoch with agrees with the one
--- list.
+-- Decisions of one epoch in log files are equal, and the beginning of each epoch agrees with the one list.
 abbrev pub DecisionsAgree : Type 0
 DecisionsAgree = (n : ℕ) (h : List Event) → IsHistory n h → DecisionsAgreeIn (world_of (last_cluster n h)) (one_list n h)
 
--- Of each cluster of a history: what one of its log files has as executed is durable there.
+-- In each cluster of a history, an entry that one of its log files has as executed is durable.
 abbrev pub LogFilesAreDurable : Type 0
 LogFilesAreDurable =
     (n : ℕ) (h : List Event) → IsHistory n h → (c : Cluster) → Among (clusters n h) c →
@@ -52,7 +51,7 @@ LogFilesAreDurable =
 
 -- ---- answers
 
--- The reply is the store's answer at this place of the one list, to an entry of its client and number from replica k.
+-- The reply is the store's answer at this place of the one list, to an entry of its client and number, from replica k.
 pub record IsRightAnswer (n : ℕ) (h : List Event) (k place : ℕ) (a : Answer) (reply : Reply) : Type 0 where
   pub entry : Entry
   pub at : AnswersAt (one_list n h) place entry a
@@ -61,13 +60,13 @@ pub record IsRightAnswer (n : ℕ) (h : List Event) (k place : ℕ) (a : Answer)
   pub number : entry.command.number ≡ reply.number
   pub says : reply.says ≡ Outcome.Answered a
 
--- The reply says that the command is dropped, and the entry of this epoch and stamp is in no list.
+-- The reply says that the command was dropped, and the entry with this epoch and stamp is in no list.
 pub record IsRightDrop (n : ℕ) (h : List Event) (k epoch : ℕ) (s : Stamp) (reply : Reply) : Type 0 where
   pub origin : s.origin ≡ k
   pub says : reply.says ≡ Outcome.Refused Refusal.Dropped
   pub none : (p : ℕ) (e : Entry) → slice_get (one_list n h) p ≡ Some e → e.epoch ≡ epoch → e.stamp ≡ s → ⊥
 
--- Each reply that goes out is right.
+-- Each reply that is sent is right.
 pub record AreRight (n : ℕ) (h : List Event) : Type 0 where
   pub answered : (i k j client number place : ℕ) (a : Answer) (reply : Reply) → IsReplied n h i k reply →
       reply.line ≡ Line.ReplyOk j client number place a → IsRightAnswer n h j place a reply
@@ -77,7 +76,7 @@ pub record AreRight (n : ℕ) (h : List Event) : Type 0 where
 abbrev pub AnswersAreRight : Type 0
 AnswersAreRight = (n : ℕ) (h : List Event) → IsHistory n h → AreRight n h
 
--- From the i-th event on, at which an answer goes out, its entry is durable in each cluster.
+-- From the i-th event on, at which an answer is sent, its entry is durable in each cluster.
 abbrev pub AnsweredAreDurable : Type 0
 AnsweredAreDurable =
     (n : ℕ) (h : List Event) → IsHistory n h →

@@ -15,8 +15,8 @@ HistoriesAreShown = (n : ℕ) (h : List Event) → n ≤ 15 → IsLawful n h →
 abbrev pub HasShortLogs : Cluster → Type 0
 HasShortLogs c = (k : ℕ) → length (log_in c k) ≤ 2 ^ 50
 
--- Of two log files' executed lists, each at any moment, one is a prefix of the other: whatever was lost, came twice,
--- late or out of order, whoever was killed and started again, whatever clients sent.
+-- Of the executed lists of two log files, at any moments, one is a prefix of the other: whatever was lost, repeated,
+-- late or out of order, whichever processes were killed and restarted, whatever clients sent.
 abbrev pub LogFilesAgree : Type 0
 LogFilesAgree =
     (n : ℕ) (h : List Event) → n ≤ 15 → IsLawful n h → HasShortLogs (last_cluster n h) →

@@ -1,4 +1,4 @@
--- What a history presumes of the network.
+-- The premises of a history about the network.
 use Rattle.std.specs.Prelude.{◌≡◌, ℕ, ◌<◌, ◌^◌, List, [], ◌∷◌, Some}
 use Rattle.std.specs.List.{AllByRecursion}
 use Rattle.crsm_base.specs.Members.{IsMembers}
@@ -8,12 +8,12 @@ use Rattle.crsm_spec.specs.Lists.{Among}
 use Rattle.crsm_spec.specs.Node.{Turn}
 use Rattle.crsm_law_cluster.specs.Clusters.{Event, Cluster, after, unborn}
 
--- Where the datagram names k as its receiver and another as its sender, it had gone out to k. From which address it
--- comes, how often and in which order does not matter.
+-- If the datagram names k as its receiver and another as its sender, it had been sent to k. From which address it
+-- comes, how often and in which order is free.
 abbrev pub WasSentTo : Cluster → ℕ → ℕ → ℕ → Datagram → Type 0
 WasSentTo c k from to d = to ≡ k → (from ≡ k → ⊥) → Among c.sent (k, d)
 
--- Nobody forged the datagram: what replicas say to one another was sent so. What clients send is anything at all.
+-- The datagram was not forged: what replicas receive from replicas was sent. What clients send is arbitrary.
 abbrev pub IsGenuine : Cluster → ℕ → Datagram → Type 0
 IsGenuine c k (Datagram.Frame from to epoch seq payload) = WasSentTo c k from to (Datagram.Frame from to epoch seq payload)
 IsGenuine c k (Datagram.Ack from to epoch next) = WasSentTo c k from to (Datagram.Ack from to epoch next)
@@ -26,7 +26,7 @@ IsGenuine c k (Datagram.Operate members) = Unit {0}
 abbrev pub IsByte : ℕ → Type 0
 IsByte b = b < 256
 
--- Node k can take this turn: bytes that are no forged datagram, a tick, or a suspicion of any members.
+-- Node k can take this turn: bytes that are no forged datagram, a tick, or a suspicion with any members.
 abbrev pub CanTake : Cluster → ℕ → Turn → Type 0
 CanTake c k (Turn.In address bytes) = AllByRecursion IsByte bytes × ((d : Datagram) → datagram_of bytes ≡ Some d → IsGenuine c k d)
 CanTake c k Turn.Tick = Unit {0}

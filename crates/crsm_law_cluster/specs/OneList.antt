@@ -16,6 +16,6 @@ lists n h = flat_map (λ k. map (λ c. executed (log_in c k)) (clusters n h)) (n
 unfoldable pub one_list : ℕ → List Event → List Entry
 one_list n h = longest (lists n h)
 
--- the log files of a cluster, as a world that is all down
+-- the log files of a cluster, as a world in which all are down
 unfoldable pub world_of : Cluster → World
 world_of c = record { n = c.n; sites = map (λ p. Site.Down p.log) c.hosts; packets = []; bytes = 0 }

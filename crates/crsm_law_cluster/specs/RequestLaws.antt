@@ -1,4 +1,5 @@
--- The laws of requests to running nodes, each of every lawful history of a cluster that began with at most 15 replicas.
+-- The laws of requests to running nodes, each about every lawful history of a cluster that began with at most 15
+-- replicas.
 use Rattle.std.specs.Prelude.{◌≡◌, ℕ, ◌<◌, ◌≤◌, List, Some, slice_get}
 use Rattle.crsm_spec.specs.Types.{Stamp, Command, Entry, Answer, Line}
 use Rattle.crsm_spec.specs.Log.{executed}
@@ -27,7 +28,7 @@ EntriesWereSubmitted =
 
 -- ---- real time
 
--- An entry that is submitted after an answer went out comes later in the list than the entry that was answered.
+-- An entry submitted after an answer was sent has a later place in the list than the answered entry.
 abbrev pub RealTimeIsKept : Type 0
 RealTimeIsKept =
     (n : ℕ) (h : List Event) → IsHistory n h →
@@ -37,8 +38,8 @@ RealTimeIsKept =
 
 -- ---- who is told
 
--- Each reply goes to the address from which its command was asked for at its replica; an answer goes to the one whose
--- request submitted the entry, and so does the reply that it is dropped.
+-- Each reply is sent to the address from which its command was requested at its replica; an answer, and the reply that
+-- an entry was dropped, to the address whose request submitted the entry.
 pub record ReachWhoAsked (n : ℕ) (h : List Event) : Type 0 where
   pub asked : (i k : ℕ) (reply : Reply) → IsReplied n h i k reply →
       (c : Command) × WasTaken n h i k reply.address c × (c.client ≡ reply.client) × (c.number ≡ reply.number)
@@ -52,7 +53,7 @@ pub record ReachWhoAsked (n : ℕ) (h : List Event) : Type 0 where
 abbrev pub RepliesReachWhoAsked : Type 0
 RepliesReachWhoAsked = (n : ℕ) (h : List Event) → IsHistory n h → ReachWhoAsked n h
 
--- Nothing goes out twice on one entry, by whichever process.
+-- No entry is replied to twice, by any processes.
 abbrev pub RepliesGoOutOnce : Type 0
 RepliesGoOutOnce =
     (n : ℕ) (h : List Event) → IsHistory n h → (i j k l : ℕ) (a b : Reply) →

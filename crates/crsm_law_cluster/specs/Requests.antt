@@ -1,4 +1,4 @@
--- Requests that nodes take, and what becomes of them.
+-- Requests that nodes receive, and the entries that they submit.
 use Rattle.std.specs.Prelude.{◌≡◌, ℕ, ◌<◌, List, Some}
 use Rattle.crsm_base.specs.MessageReading.{datagram_of}
 use Rattle.crsm_spec.specs.Types.{Command, Entry, Rec, Datagram}
@@ -7,7 +7,7 @@ use Rattle.crsm_spec.specs.Node.{Turn, turn}
 use Rattle.crsm_law_cluster.specs.Clusters.{Event, Process, Cluster, host_at}
 use Rattle.crsm_law_cluster.specs.Going.{IsAt}
 
--- By the i-th event replica k takes a request of this command that comes from this address.
+-- At the i-th event replica k receives a request of this command from this address.
 pub record IsTaken (n : ℕ) (h : List Event) (i k address : ℕ) (c : Command) : Type 0 where
   pub cluster : Cluster
   pub bytes : List ℕ
@@ -15,8 +15,8 @@ pub record IsTaken (n : ℕ) (h : List Event) (i k address : ℕ) (c : Command) 
   pub at : IsAt n h i cluster (Event.Takes k (Turn.In address bytes) reading)
   pub asks : datagram_of bytes ≡ Some (Datagram.Request c)
 
--- By the i-th event the entry is submitted: its origin takes a request of its command, from this address, and the turn
--- logs the entry. Whether that is kept, a later event tells.
+-- At the i-th event the entry is submitted: its origin receives a request of its command from this address, and the
+-- turn logs the entry. A later event says whether that is kept.
 pub record IsSubmitted (n : ℕ) (h : List Event) (i address : ℕ) (e : Entry) : Type 0 where
   pub taken : IsTaken n h i e.stamp.origin address e.command
   pub process : Process

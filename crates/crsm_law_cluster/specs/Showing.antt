@@ -11,12 +11,12 @@ use Rattle.crsm_law_cluster.specs.Clusters.{Event, Outgoing, Process, Cluster, h
 use Rattle.crsm_law_cluster.specs.Histories.{clusters, last_cluster}
 use Rattle.crsm_law_cluster.specs.Told.{IsTold}
 
--- The world's log of number k is that of the log file, or it is a first boot's, where a founder has no log file yet.
+-- The world's log of number k is that of the log file, or that of a first boot if a founder has no log file yet.
 abbrev pub IsLogOf : ℕ → Cluster → World → ℕ → Type 0
 IsLogOf n c w k = (log_in c k ≡ log_at w k) ⊎ ((k < n) × (log_in c k ≡ []) × (log_at w k ≡ (founding_boot k n).replica.log))
 
--- n replicas reach the world, it has the logs of all log files, all that went out was sent there, and each reply that
--- waits to go out was told.
+-- n replicas reach the world, it has the logs of all log files, all that was sent was sent there, and each reply that
+-- waits to be sent has its line.
 pub record IsShownBy (n : ℕ) (c : Cluster) (w : World) : Type 0 where
   pub size : c.n ≡ n
   pub reached : IsReached n w
@@ -24,7 +24,8 @@ pub record IsShownBy (n : ℕ) (c : Cluster) (w : World) : Type 0 where
   pub sent : (k : ℕ) (d : Datagram) → Among c.sent (k, d) → (j : ℕ) × WasSent w j k d
   pub told : (k : ℕ) (x : Process) (a : Reply) → (host_at c k).process ≡ Some x → Among x.outbox (Outgoing.ToClient a) → IsTold n w a
 
--- Worlds show a cluster and a later one, and the logs go on from the first to the second and from there to the end.
+-- Worlds show a cluster and a later one, and the logs are extended from the first to the second and from there to the
+-- end.
 pub record AreShownBy (n : ℕ) (c d : Cluster) (end : World) : Type 0 where
   pub world : World
   pub shown : IsShownBy n c world

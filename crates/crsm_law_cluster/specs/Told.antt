@@ -1,4 +1,4 @@
--- What was told to clients on the way to a world.
+-- The replies to clients on the way to a world.
 use Rattle.std.specs.Prelude.{◌≡◌, ℕ, List}
 use Rattle.crsm_spec.specs.Types.{Line, Outcome, Refusal}
 use Rattle.crsm_spec.specs.Lists.{Among}
@@ -8,13 +8,13 @@ use Rattle.crsm_spec.specs.Run.{TraceLine}
 use Rattle.crsm_law_steps.specs.Laws.{LogsGoOn}
 use Rattle.crsm_law_runs.specs.Seen.{IsSeen}
 
--- what is said to whom, as the line has it
+-- the line is the reply with this outcome to this client
 abbrev pub Says : ℕ → ℕ → Outcome → Line → Type 0
 Says client number told (Line.ReplyOk k c m place a) = (client ≡ c) × (number ≡ m) × (told ≡ Outcome.Answered a)
 Says client number told (Line.ReplyDropped k c m epoch s) = (client ≡ c) × (number ≡ m) × (told ≡ Outcome.Refused Refusal.Dropped)
 Says client number told _ = Unit {0}
 
--- The line of the reply was told in a world from which the logs go on to this one, and the reply says what it tells.
+-- The reply's line is in a world whose logs are extended by those of this one, and the reply has the line's outcome.
 pub record IsTold (n : ℕ) (w : World) (a : Reply) : Type 0 where
   pub world : World
   pub lines : List TraceLine

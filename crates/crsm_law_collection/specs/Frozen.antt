@@ -1,4 +1,4 @@
--- A suspended replica logs no more in the epoch that it knows, whatever comes: its later logs have the same entries.
+-- A suspended replica logs no more entries in the epoch that it knows: its later logs have the same entries of it.
 use Rattle.std.specs.Prelude.{◌≡◌, ℕ, IsTrue}
 use Rattle.crsm_spec.specs.Log.{Log, known, logged_in, suspended}
 use Rattle.crsm_fact_log.specs.Logs.{Extends, AllFit}

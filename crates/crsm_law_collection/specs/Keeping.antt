@@ -1,4 +1,4 @@
--- How the facts of an epoch go on, record by record: what each kind of record owes.
+-- The facts of an epoch are kept record by record: the conditions of each kind of record.
 use Rattle.std.specs.Prelude.{◌≡◌, ◌⊎◌, ℕ, ◌+◌, ◌<◌, ◌≤◌, Bool, IsTrue, List, [], ◌∷◌, length, count_by, Some, slice_get}
 use Rattle.crsm_spec.specs.Types.{Entry, Rec}
 use Rattle.crsm_spec.specs.Lists.{has, Among, first_of}
@@ -7,14 +7,14 @@ use Rattle.crsm_spec.specs.Paxos.{majority}
 use Rattle.crsm_spec.specs.Fits.{fits}
 use Rattle.crsm_law_collection.specs.Collecting.{CommitOf, EpochFacts}
 
--- replica k has kept one more record, and no other has
+-- replica k has written one more record, and no other replica has
 pub record OneMore (logs later : ℕ → Log) (k : ℕ) (rec : Rec) : Type 0 where
   pub here : later k ≡ rec ∷ logs k
   pub other : (j : ℕ) → (j ≡ k → ⊥) → later j ≡ logs j
 
--- What the facts of epoch e ask of a record that replica k keeps.
+-- The conditions that the facts of epoch e set for a record of replica k.
 abbrev pub Owes : ℕ → ℕ → List ℕ → (ℕ → Log) → ℕ → Rec → Type 0
--- an entry of e is what others have of its stamp, and has a greater time than what is committed without it
+-- an entry of e is the one that others have with its stamp, and its time is above all that was committed without it
 Owes e begins spec logs k (Rec.Prepare y) =
     known (logs k) ≡ e →
     ((j : ℕ) (z : Entry) → Among (logged_in e (logs j)) z → z.stamp ≡ y.stamp → z ≡ y)
@@ -24,11 +24,11 @@ Owes e begins spec logs k (Rec.Commit s) =
     known (logs k) ≡ e → (x : Entry) → first_of (unexecuted (logs k)) ≡ Some x →
     ((test : ℕ → Bool) × (majority (length spec) ≤ count_by test spec) × ((j : ℕ) → IsTrue (test j) → Among (logged_in e (logs j)) x))
     × ((j : ℕ) (y : Entry) → Among (logged_in e (logs j)) y → y.stamp.time ≤ x.stamp.time → Among (logged_in e (logs k)) y)
--- adopted entries are older below the begin, and were committed at their places from there on
+-- adopted entries below the start are older, and those from there on were committed at their places
 Owes e begins spec logs k (Rec.Adopt place es) =
     known (logs k) ≡ e → (i : ℕ) (y : Entry) → slice_get es i ≡ Some y →
     (place + i < begins → y.epoch < e) × (begins ≤ place + i → CommitOf e logs (place + i) y)
--- the decision of e says where it begins, and no list is longer where it comes
+-- the decision of e gives its start, and no list is longer when it is recorded
 Owes e begins spec logs k (Rec.Decide d) =
     d.epoch ≡ e → (d.base_len + length d.tail ≡ begins) × (length (executed (logs k)) ≤ begins)
 Owes e begins spec logs k _ = Unit {0}
@@ -37,7 +37,7 @@ Owes e begins spec logs k _ = Unit {0}
 abbrev pub FactsBegin : Type 0
 FactsBegin = (e n begins : ℕ) (spec : List ℕ) → (e ≡ 0 → begins ≡ 0) → EpochFacts e n begins spec (λ k. [])
 
--- They go on with each record that fits, and meets what it owes.
+-- They are kept by each record that fits and meets its conditions.
 abbrev pub FactsGoOn : Type 0
 FactsGoOn =
     (e n begins : ℕ) (spec : List ℕ) (logs later : ℕ → Log) (k : ℕ) (rec : Rec) →
@@ -50,7 +50,7 @@ FactsGoOn =
 abbrev pub Origins : ℕ → List ℕ → (ℕ → Log) → Type 0
 Origins e members logs = (k : ℕ) (y : Entry) → Among (logged_in e (logs k)) y → IsTrue (has members y.stamp.origin) × Among (logged_in e (logs y.stamp.origin)) y
 
--- What a record owes, as a replica's state can tell: a received entry is its origin's, an own one has a greater time
+-- The same conditions in terms of a replica's state: a received entry is its origin's, an own one has a greater time
 -- than all that was committed, and what was received from members is logged where an entry is committed.
 abbrev pub OwesOfState : ℕ → ℕ → List ℕ → List ℕ → (ℕ → Log) → ℕ → Rec → Type 0
 OwesOfState e begins spec members logs k (Rec.Prepare y) =
@@ -65,7 +65,7 @@ OwesOfState e begins spec members logs k (Rec.Commit s) =
     y.stamp.time ≤ x.stamp.time → Among (logged_in e (logs k)) y)
 OwesOfState e begins spec members logs k rec = Owes e begins spec logs k rec
 
--- The facts and the origins go on together.
+-- The facts and the origins are kept together.
 abbrev pub FactsOfStateGoOn : Type 0
 FactsOfStateGoOn =
     (e n begins : ℕ) (spec members : List ℕ) (logs later : ℕ → Log) (k : ℕ) (rec : Rec) →

@@ -1,4 +1,4 @@
--- Pages that come one after another make whole reports.
+-- Pages received one after another make complete reports.
 use Rattle.std.specs.Prelude.{◌≡◌, ◌==◌, ◌||◌, ◌⊎◌, nat_lt, ℕ, ◌<◌, false, IsTrue, List, [], ◌∷◌, ◌++◌, length, flat_map, Option, Some}
 use Rattle.std.specs.List.{list_any}
 use Rattle.crsm_spec.specs.Types.{Stamp, Entry, Control}
@@ -9,7 +9,7 @@ use Rattle.crsm_spec.specs.Collect.{frozen, asked_of, first_page, suspend_ok, ow
 use Rattle.crsm_fact_log.specs.Logs.{Extends, AllFit}
 use Rattle.crsm_law_collection.specs.Collecting.{Reports}
 
--- what the receiver of k's answer sees of it
+-- the page that the receiver reads in k's answer
 unfoldable pub answer_page : ℕ → Log → Option Stamp → LogPage
 answer_page k log after =
     let es = asked_of log after in
@@ -22,15 +22,15 @@ answer_page k log after =
       entries = page;
     }
 
--- that is what the answer carries
+-- it is the page that the answer carries
 abbrev pub AnswersArePages : Type 0
 AnswersArePages =
     (k : ℕ) (log : Log) (after : Option Stamp) →
     let p = answer_page k log after in
     suspend_ok log after ≡ Control.SuspendOk (known log) p.executed p.last after p.whole p.entries
 
--- The pages that came of one replica begin its report, which the first page's log makes, and are all of it where one
--- of them is whole.
+-- The pages received from one replica begin its report, made by the log at its first page, and are all of it if one of
+-- them is the last.
 pub record IsPart (log : Log) (pages : List LogPage) : Type 0 where
   pub page : LogPage
   pub first : first_of pages ≡ Some page
@@ -41,11 +41,11 @@ pub record IsPart (log : Log) (pages : List LogPage) : Type 0 where
   pub whole : IsTrue (list_any (λ p. p.whole) pages) → rest ≡ []
   pub some : list_any (λ p. p.whole) pages ≡ false → 0 < length (flat_map (λ p. p.entries) pages)
 
--- a log of k, by now or earlier, that is suspended in epoch e
+-- an earlier or present log of k that is suspended in epoch e
 abbrev pub IsFrozen : ℕ → (ℕ → Log) → ℕ → Log → Type 0
 IsFrozen e logs k log = Extends log (logs k) × (known log ≡ e) × IsTrue (suspended log)
 
--- of each replica nothing came, or a part of its report
+-- from each replica nothing was received, or a part of its report
 abbrev pub AreParts : ℕ → (ℕ → Log) → List LogPage → Type 0
 AreParts e logs pages = (k : ℕ) → (pages_of pages k ≡ []) ⊎ ((log : Log) × IsFrozen e logs k log × IsPart log (pages_of pages k))
 
@@ -53,7 +53,7 @@ AreParts e logs pages = (k : ℕ) → (pages_of pages k ≡ []) ⊎ ((log : Log)
 abbrev pub PagesBegin : Type 0
 PagesBegin = (e me : ℕ) (logs : ℕ → Log) (log : Log) → IsFrozen e logs me log → AreParts e logs (own_page me log ∷ [])
 
--- and takes answers to what it asked
+-- and accepts answers to its requests
 abbrev pub PagesGoOn : Type 0
 PagesGoOn =
     (e n : ℕ) (logs : ℕ → Log) (pages : List LogPage) (k : ℕ) (log : Log) → ((j : ℕ) → AllFit j n (logs j)) →
@@ -61,12 +61,12 @@ PagesGoOn =
     let p = answer_page k log (cursor pages k) in
     IsTrue (nat_lt 0 (length p.entries) || p.whole) → AreParts e logs (pages ++ p ∷ [])
 
--- what is whole then are reports
+-- complete parts are then reports
 abbrev pub PagesReport : Type 0
 PagesReport =
     (e : ℕ) (spec : List ℕ) (logs : ℕ → Log) (pages : List LogPage) → AreParts e logs pages → Reports e logs (whole_ones spec pages) pages
 
--- parts stay parts while the logs go on
+-- parts stay parts while logs grow
 abbrev pub PagesStay : Type 0
 PagesStay =
     (e : ℕ) (logs later : ℕ → Log) (pages : List LogPage) → ((k : ℕ) → Extends (logs k) (later k)) →

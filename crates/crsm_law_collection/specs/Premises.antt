@@ -1,4 +1,5 @@
--- The premises as replicas' states have them: votes, times received, and the logs of all at the moment of a commit.
+-- The premises of the law of collection in terms of replicas' states: votes, times received, and the logs of all at a
+-- commit.
 use Rattle.std.specs.Prelude.{◌≡◌, ◌⊎◌, ℕ, ◌+◌, ◌<◌, ◌≤◌, IsTrue, List, ◌∷◌, Some, slice_get}
 use Rattle.crsm_spec.specs.Types.{Stamp, Entry, Rec}
 use Rattle.crsm_spec.specs.Lists.{has, Among}
@@ -8,7 +9,7 @@ use Rattle.crsm_spec.specs.Ready.{is_ready, voted, reached, all_received}
 use Rattle.crsm_fact_log.specs.Logs.{Extends, AllFit}
 use Rattle.crsm_law_collection.specs.Collecting.{CommitOf, EpochFacts}
 
--- How a commit was made: the replica as it was, and the log that each replica had at that moment.
+-- How a commit was made: the replica's state, and the log of each replica at that moment.
 pub record WasReady (e : ℕ) (spec members : List ℕ) (logs : ℕ → Log) (log : Log) (s : Stamp) : Type 0 where
   pub replica : Replica
   pub then : ℕ → Log
@@ -29,11 +30,11 @@ pub record Premises (e n begins : ℕ) (spec members : List ℕ) (logs : ℕ →
   pub fit : (k : ℕ) → AllFit k n (logs k)
   pub begin : (k : ℕ) (log : Log) → Extends log (logs k) → known log ≡ e → start log ≡ begins
   pub made : (p : ℕ) (x : Entry) (c : CommitOf e logs p x) → WasReady e spec members logs c.log x.stamp
-  -- of one stamp all logs hold the same entry, and its origin, a member, logged it
+  -- all logs have the same entry with one stamp, and its origin, a member, logged it
   pub one : (j k : ℕ) (x y : Entry) → Among (logged_in e (logs j)) x → Among (logged_in e (logs k)) y → x.stamp ≡ y.stamp → x ≡ y
   pub origin : (k : ℕ) (y : Entry) → Among (logged_in e (logs k)) y →
       IsTrue (has members y.stamp.origin) × Among (logged_in e (logs y.stamp.origin)) y
-  -- entries of earlier epochs stand below the start length of e
+  -- entries of earlier epochs are below the start length of e
   pub older : (k : ℕ) (log : Log) → Extends log (logs k) →
       (p : ℕ) (y : Entry) → slice_get (executed log) p ≡ Some y → y.epoch < e → p < begins
   -- an entry of e that was executed by an adoption while e was known was executed at that place by a commit

@@ -1,4 +1,4 @@
--- What a collection gives the next epoch.
+-- The beginning of the next epoch, by a collection.
 use Rattle.std.specs.Prelude.{◌≡◌, ℕ, ◌≤◌, ◌<◌, IsTrue, nat_le, List, ◌++◌, length, take, flat_map, Option, Some, None, slice_get, ◌⊎◌}
 use Rattle.crsm_spec.specs.Types.{Stamp, Entry, Decision}
 use Rattle.crsm_spec.specs.Lists.{IsPrefixOf, Among, first_of}
@@ -12,7 +12,7 @@ use Rattle.crsm_fact_log.specs.Rising.{Rises, IsAbove}
 use Rattle.crsm_law_collection.specs.Collecting.{EpochFacts, IsCollected}
 use Rattle.crsm_law_collection.specs.Paging.{AreParts}
 
--- What a coordinator makes of parts, where as many reports are whole as a majority, is a collection.
+-- A coordinator's decision, made when as many reports are complete as a majority, is a collection.
 abbrev pub CompleteIsCollected : Type 0
 CompleteIsCollected =
     (e n begins : ℕ) (counted members : List ℕ) (named : Option (List ℕ)) (logs : ℕ → Log) (log : Log) (pages : List LogPage) →
@@ -20,14 +20,14 @@ CompleteIsCollected =
     IsTrue (nat_le (majority (length counted)) (length (whole_ones counted pages))) →
     IsCollected e begins counted logs (collected counted named log members pages)
 
--- lists of replicas that know e are the same below its begin
+-- lists of replicas that know e are equal below its start
 abbrev pub AgreeBelow : ℕ → ℕ → (ℕ → Log) → Type 0
 AgreeBelow e begins logs =
     (j k : ℕ) (log other : Log) → Extends log (logs j) → known log ≡ e → Extends other (logs k) → known other ≡ e →
     (p : ℕ) (x y : Entry) → p < begins → slice_get (executed log) p ≡ Some x → slice_get (executed other) p ≡ Some y → x ≡ y
 
--- Each list of a replica that knows e is a prefix of what a collection begins the next epoch with, whoever's list
--- its base is taken from.
+-- Each list of a replica that knows e is a prefix of the beginning of the next epoch, whichever replica's list its base
+-- is taken from.
 abbrev pub ListsArePrefixes : Type 0
 ListsArePrefixes =
     (e n begins : ℕ) (counted : List ℕ) (logs : ℕ → Log) (d : Decision) (h : ℕ) (holder : Log) (k : ℕ) (log : Log) →
@@ -36,7 +36,7 @@ ListsArePrefixes =
     Extends log (logs k) → known log ≡ e →
     IsPrefixOf (executed log) (take d.base_len (executed holder) ++ d.tail)
 
--- What a collection begins the next epoch with rises by epoch and stamp, where the list that its base is taken from does.
+-- The beginning of the next epoch rises by epoch and stamp, if the list that its base is taken from does.
 abbrev pub StartRises : Type 0
 StartRises =
     (e n begins : ℕ) (counted : List ℕ) (logs : ℕ → Log) (d : Decision) (h : ℕ) (holder : Log) →

@@ -1,6 +1,7 @@
 #![tactic(auto)]
 
-//! The law of collection, each part the contract of a function that does nothing.
+//! Laws of collections, the reports of suspended logs that make the next epoch's decision, each as the contract of a
+//! function that runs no code.
 
 ghost use Rattle.crsm_law_collection.specs.Collecting.{CollectionLaw};
 ghost use Rattle.crsm_law_collection.specs.Frozen.{StaysFrozen};
@@ -21,72 +22,73 @@ ghost use Rattle.crsm_law_collection.specs.Keeping.{FactsGoOn};
 ghost use Rattle.crsm_law_collection.specs.Keeping.{FactsOfStateGoOn};
 ghost use Rattle.crsm_law_collection.specs.Starts.{StartRises};
 
-/// Whatever was committed, or will be, stands at its place in each decision that a majority's frozen logs make.
+/// Each entry committed in an epoch, at any time, is at its place in every decision made of the suspended logs of a
+/// majority.
 pub fn collection_law()
     ensures { CollectionLaw }
 {}
 
-/// A suspended replica logs no more in the epoch that it knows.
+/// A suspended replica logs no more entries in the epoch that it knows.
 pub fn stays_frozen()
     ensures { StaysFrozen }
 {}
 
-/// What the reports of a suspended majority make is a collection.
+/// The reports of a suspended majority make a collection.
 pub fn reports_make_collections()
     ensures { ReportsMakeCollections }
 {}
 
-/// A collection stays one while the logs go on.
+/// A collection stays one while logs grow.
 pub fn collections_stay()
     ensures { CollectionsStay }
 {}
 
-/// Each commit stands at its place in each collection.
+/// Each commit of the epoch is at its place in each collection.
 pub fn commits_stand()
     ensures { CommitsStand }
 {}
 
-/// A collection's tail rises, holds logged entries alone, and goes on where the base ends.
+/// A collection's tail rises, has logged entries only, and begins after the end of its base.
 pub fn collections_are_well_made()
     ensures { CollectionsAreWellMade }
 {}
 
-/// What holds of votes and received times in one epoch gives what the law of collection needs.
+/// The properties of votes and received times within an epoch imply the premises of the law of collection.
 pub fn premises_suffice()
     ensures { PremisesSuffice }
 {}
 
-/// A collector's own page is whole, and a part of its report.
+/// A coordinator's own page is complete, and a part of its report.
 pub fn pages_begin()
     ensures { PagesBegin }
 {}
 
-/// Each answer that a collector takes goes on with the report of its sender.
+/// Each page that a coordinator accepts extends the part of its sender's report.
 pub fn pages_go_on()
     ensures { PagesGoOn }
 {}
 
-/// What is whole is a report.
+/// A complete part is a report.
 pub fn pages_report()
     ensures { PagesReport }
 {}
 
-/// Parts stay parts while the logs go on.
+/// Parts of reports stay such while logs grow.
 pub fn pages_stay()
     ensures { PagesStay }
 {}
 
-/// A SuspendOk carries a page.
+/// A SUSPENDOK carries a page of its sender's report.
 pub fn answers_are_pages()
     ensures { AnswersArePages }
 {}
 
-/// What a coordinator makes of a majority's whole reports is a collection.
+/// The decision that a coordinator makes of the complete reports of a majority is a collection.
 pub fn complete_is_collected()
     ensures { CompleteIsCollected }
 {}
 
-/// Each list of a replica that knows an epoch is a prefix of what a collection begins the next one with.
+/// The executed list of each replica that knows an epoch is a prefix of the beginning of the next, by any collection.
 pub fn lists_are_prefixes()
     ensures { ListsArePrefixes }
 {}
@@ -96,17 +98,18 @@ pub fn facts_begin()
     ensures { FactsBegin }
 {}
 
-/// They go on with each record that fits and meets what its kind owes.
+/// The facts of an epoch are kept by each record that fits and meets the conditions of its kind.
 pub fn facts_go_on()
     ensures { FactsGoOn }
 {}
 
-/// The facts go on where a received entry is its origin's, an own one is new, and what was received is logged.
+/// The facts of an epoch are kept if a received entry is its origin's, an own entry is new, and what was received is
+/// logged.
 pub fn facts_of_state_go_on()
     ensures { FactsOfStateGoOn }
 {}
 
-/// What a collection begins the next epoch with rises by epoch and stamp.
+/// The beginning of the next epoch, by a collection, rises by epoch and stamp.
 pub fn start_rises()
     ensures { StartRises }
 {}

@@ -1,4 +1,4 @@
--- Clusters of the replicas that they began with.
+-- Clusters of the replicas that they began with, and no others.
 use Rattle.std.specs.Prelude.{◌≡◌, ◌<◌, ◌≤◌, ℕ, length, None}
 use Rattle.crsm_spec.specs.Acts.{Act}
 use Rattle.crsm_base.specs.Replicas.{numbers_below}
@@ -17,7 +17,7 @@ abbrev pub StartsAFounder : ℕ → Act → Type 0
 StartsAFounder n (Act.Start k) = k < n
 StartsAFounder n _ = Unit {0}
 
--- The act is possible here, and starts none but these.
+-- The act is possible here, and starts no replica but those.
 pub record IsNext (n : ℕ) (w : World) (a : Act) : Type 0 where
   pub possible_here : possible w a ≡ None
   pub founder : StartsAFounder n a

@@ -1,4 +1,4 @@
--- What the logs of every world that is reached hold.
+-- The laws of logs in every world reached.
 use Rattle.std.specs.Prelude.{ℕ, ◌≤◌}
 use Rattle.crsm_spec.specs.Clock.{u64_max}
 use Rattle.crsm_spec.specs.Log.{boots}
@@ -9,18 +9,18 @@ use Rattle.crsm_law_epoch.specs.Seats.{Facts}
 use Rattle.crsm_law_epoch.specs.Worlds.{seats, sent_in}
 use Rattle.crsm_law_epoch.specs.Ordered.{AreOrdered}
 
--- no replica has booted so often that a boot cannot be numbered
+-- no log has more than 2^64 - 1 boots
 abbrev pub HasFewBoots : World → Type 0
 HasFewBoots w = (k : ℕ) → boots (log_at w k) ≤ u64_max
 
--- Each record of each log fits behind those before it.
+-- Each record of each log may follow those before it.
 abbrev pub LogsFit : Type 0
 LogsFit = (n : ℕ) (w : World) → IsReached n w → HasFewBoots w → (k : ℕ) → AllFit k n (log_at w k)
 
--- Each decision on record has members that rise strictly, each below 15.
+-- The members of each recorded decision strictly rise and are below 15.
 abbrev pub DecisionsAreOrdered : Type 0
 DecisionsAreOrdered = (n : ℕ) (w : World) → IsReached n w → (k : ℕ) → AreOrdered (log_at w k)
 
--- The facts of all epochs hold in every world that is reached.
+-- The facts of all epochs hold in every world reached.
 abbrev pub EpochsHoldAlways : Type 0
 EpochsHoldAlways = (n : ℕ) (w : World) → IsReached n w → HasFewBoots w → Facts n (seats w) (sent_in w)

@@ -1,4 +1,4 @@
--- A replica as the facts of an epoch see it, and these facts over all replicas and all that was sent.
+-- The facts of an epoch over all replicas and all datagrams sent, and a replica's state as far as they need it.
 use Rattle.std.specs.Prelude.{◌≡◌, ℕ, ◌<◌, ◌≤◌, Bool, false, ◌==◌, IsTrue, List, [], ◌∷◌, map, filter, count_by, Option, Some, None, slice_get}
 use Rattle.crsm_spec.specs.Types.{Stamp, Entry, Rec, InEpoch, Datagram}
 use Rattle.crsm_spec.specs.Lists.{Among, has}
@@ -9,7 +9,7 @@ use Rattle.crsm_spec.specs.World.{Site}
 use Rattle.crsm_fact_log.specs.Logs.{AllFit, Logged}
 use Rattle.crsm_law_collection.specs.Collecting.{CommitOf}
 
--- A replica's place: its log, and what it remembers of the known epoch while it runs.
+-- A replica's seat: its log, and its state of the known epoch while it runs.
 pub record Seat : Type 0 where
   pub log : Log
   pub running : Bool  -- up, and active in the known epoch
@@ -46,7 +46,7 @@ seat_of (Some (Site.Down log)) = seat_down log
 unfoldable pub pushed_to : ℕ → List (ℕ × InEpoch) → List InEpoch
 pushed_to j fs = map (λ f. f.1) (filter (λ f. f.0 == j) fs)
 
--- how many frames of m were taken
+-- the number of frames received from m
 unfoldable pub taken_of : ℕ → List ℕ → ℕ
 taken_of m ks = count_by (λ j. j == m) ks
 
@@ -72,11 +72,11 @@ pub record Sender (n k : ℕ) (s : Seat) (all : List Datagram) : Type 0 where
   pub only : (j i : ℕ) (p : InEpoch) → Among all (Datagram.Frame k j (known s.log) i p) → slice_get (pushed_to j s.pushed) i ≡ Some p
   pub sent : (j i : ℕ) (p : InEpoch) → slice_get (pushed_to j s.pushed) i ≡ Some p → Among all (Datagram.Frame k j (known s.log) i p)
 
--- the log of replica j has an entry of this epoch and stamp
+-- replica j has logged an entry with this epoch and stamp
 abbrev pub HasStamp : (ℕ → Log) → ℕ → ℕ → Stamp → Type 0
 HasStamp logs e j s = (f : Entry) × Logged (logs j) f × (f.epoch ≡ e) × (f.stamp ≡ s)
 
--- What a running replica has taken, received and counted.
+-- What a running replica has received and counted.
 pub record Receiver (k : ℕ) (s : Seat) (logs : ℕ → Log) (all : List Datagram) : Type 0 where
   pub has_it : (m i : ℕ) (f : Entry) → i < taken_of m s.taken → Among all (Datagram.Frame m k (known s.log) i (InEpoch.Prepare f)) → Logged s.log f
   pub came : (m i : ℕ) → i < taken_of m s.taken → (p : InEpoch) × Among all (Datagram.Frame m k (known s.log) i p)
@@ -86,39 +86,39 @@ pub record Receiver (k : ℕ) (s : Seat) (logs : ℕ → Log) (all : List Datagr
   pub votes : (t : Stamp) (j : ℕ) → Among s.votes (t, j) → HasStamp logs (known s.log) j t
   pub owed : (t : Stamp) → Among s.owed t → (f : Entry) × Logged s.log f × (f.epoch ≡ known s.log) × (f.stamp ≡ t)
 
--- an own entry of m was sent in a frame no later than any frame of its time or a later one
+-- an own entry of m was sent in a frame no later than any frame with its time or a later one
 abbrev pub IsFirst : ℕ → Log → List Datagram → Type 0
 IsFirst m log all =
     (f : Entry) (j i : ℕ) (p : InEpoch) → Logged log f → f.stamp.origin ≡ m → Among all (Datagram.Frame m j f.epoch i p) → f.stamp.time ≤ time_of p →
     (i' : ℕ) × (i' ≤ i) × Among all (Datagram.Frame m j f.epoch i' (InEpoch.Prepare f))
 
--- m has issued a time that is at least this one, where it runs in epoch e
+-- m has issued a time of at least this one, if it runs in epoch e
 abbrev pub HasPassed : ℕ → ℕ → Seat → Type 0
 HasPassed e time s = IsTrue s.running → known s.log ≡ e → (t : ℕ) × Among s.issued t × (time ≤ t)
 
 abbrev pub logs_of : (ℕ → Seat) → ℕ → Log
 logs_of v k = (v k).log
 
--- The facts of all epochs, where each replica has this seat and `all` was sent.
+-- The facts of all epochs, for these seats and all datagrams sent.
 pub record Facts (n : ℕ) (v : ℕ → Seat) (all : List Datagram) : Type 0 where
   pub fit : (k : ℕ) → AllFit k n (v k).log
   -- an entry that is logged anywhere is logged at its origin
   pub own : (k : ℕ) (f : Entry) → Logged (v k).log f → Logged (v f.stamp.origin).log f
-  -- of one epoch and stamp there is one own entry
+  -- an epoch and stamp have one own entry
   pub one : (k : ℕ) (f g : Entry) → Logged (v k).log f → Logged (v k).log g → f.stamp.origin ≡ k → f.epoch ≡ g.epoch → f.stamp ≡ g.stamp → f ≡ g
-  -- what frames say
+  -- the contents of frames are true of their senders
   pub says : (m j e i : ℕ) (f : Entry) → Among all (Datagram.Frame m j e i (InEpoch.Prepare f)) → Logged (v m).log f × (f.epoch ≡ e) × (f.stamp.origin ≡ m)
   pub says_ok : (m j e i : ℕ) (s : Stamp) (t : ℕ) → Among all (Datagram.Frame m j e i (InEpoch.PrepareOk s t)) → HasStamp (logs_of v) e m s
-  -- a number of a link stands for one payload, and all below it were sent
+  -- a sequence number of a link has one payload, and all lower ones were sent
   pub same : (m j e i : ℕ) (p q : InEpoch) → Among all (Datagram.Frame m j e i p) → Among all (Datagram.Frame m j e i q) → p ≡ q
   pub low : (m j e i : ℕ) (p : InEpoch) (i' : ℕ) → Among all (Datagram.Frame m j e i p) → i' < i → (q : InEpoch) × Among all (Datagram.Frame m j e i' q)
   pub first : (m : ℕ) → IsFirst m (v m).log all
-  -- who stamps or sends in an epoch has entered it
+  -- a replica that stamps or sends in an epoch has entered it
   pub entered : (m j e i : ℕ) (p : InEpoch) → Among all (Datagram.Frame m j e i p) → IsTrue (has_entered e (v m).log)
   pub stamped : (m : ℕ) (f : Entry) → Logged (v m).log f → f.stamp.origin ≡ m → IsTrue (has_entered f.epoch (v m).log)
   pub sender : (k : ℕ) → IsTrue (v k).running → Sender n k (v k) all
   pub receiver : (k : ℕ) → IsTrue (v k).running → Receiver k (v k) (logs_of v) all
 
--- Whoever runs in epoch e has passed the time of each entry that was committed in it.
+-- Every replica that runs in epoch e has passed the time of each entry committed in it.
 abbrev pub AllPassed : ℕ → (ℕ → Seat) → Type 0
 AllPassed e v = (p : ℕ) (x : Entry) → CommitOf e (logs_of v) p x → (m : ℕ) → HasPassed e x.stamp.time (v m)

@@ -1,34 +1,34 @@
-//! What holds within an epoch: timestamps, links and votes, in every world that a cluster reaches.
+//! Laws within an epoch, about timestamps, links and votes, in every world that a cluster reaches.
 #![tactic(auto)]
 
 ghost use Rattle.crsm_law_epoch.specs.Worlds.{EpochsHold};
 ghost use Rattle.crsm_law_epoch.specs.LogWorlds.{LogsFit, DecisionsAreOrdered, EpochsHoldAlways};
 ghost use Rattle.crsm_law_epoch.specs.CommitWorlds.{CommitsAreWitnessed};
 
-/// In every world that is reached the facts of all epochs hold: what frames say was logged by their senders, links keep
-/// their order, one entry stands for each epoch and timestamp, and votes name those who logged.
+/// In every world reached with well-formed logs the facts of all epochs hold: the entry in a frame was logged by its
+/// sender, links keep their order, an epoch and timestamp have one entry, and votes name replicas that logged.
 pub fn epochs_hold()
     ensures { EpochsHold }
 {}
 
-/// Each record of each log fits behind those before it.
+/// Each record of each log may follow those before it.
 pub fn logs_fit()
     ensures { LogsFit }
 {}
 
-/// Each decision on record has members that rise strictly, each below 15.
+/// The members of each recorded decision strictly rise and are below 15.
 pub fn decisions_are_ordered()
     ensures { DecisionsAreOrdered }
 {}
 
-/// The facts of all epochs hold in every world that is reached: what frames say was logged by their senders, links keep
-/// their order, one entry stands for each epoch and timestamp, and votes name those who logged.
+/// The facts of all epochs hold in every world reached: the entry in a frame was logged by its sender, links keep their
+/// order, an epoch and timestamp have one entry, and votes name replicas that logged.
 pub fn epochs_hold_always()
     ensures { EpochsHoldAlways }
 {}
 
-/// In every world that is reached, each commit on record was of an entry that a majority of its epoch's Spec has logged, and
-/// nothing that a member stamps in that epoch, then or later, comes before it that had not been logged by then.
+/// In every world reached, a committed entry was logged by a majority of its epoch's Spec, and every entry that a
+/// member stamps with an earlier timestamp in that epoch, at any time, had been logged at the commit.
 pub fn commits_are_witnessed()
     ensures { CommitsAreWitnessed }
 {}

@@ -1,4 +1,4 @@
--- A run in which clients get both kinds of replies.
+-- A run in which clients receive both kinds of replies.
 use Rattle.std.specs.Prelude.{ℕ, List}
 use Rattle.crsm_spec.specs.Acts.{Act}
 use Rattle.crsm_mpspec.specs.declared.MpLine.{MpLine}
@@ -7,8 +7,8 @@ use Rattle.crsm_mpspec.specs.World.{begin}
 use Rattle.crsm_mpspec.specs.Run.{ArePossible, seen}
 use Rattle.crsm_mpspec.specs.Safe.{IsLineAt}
 
--- A possible run of three replicas in which a command is answered, and a client learns that another value was chosen at
--- the slot of its own.
+-- A possible run of three replicas in which one command is answered, and another client learns that a different value
+-- was chosen at the slot of its command.
 pub record AnswersAndDrops : Type 0 where
   pub acts : List Act
   pub possible : ArePossible (begin 3) acts

@@ -1,4 +1,4 @@
--- A run that comes to a calm state, from which two calm rounds are possible.
+-- A run that reaches a calm state, from which two calm rounds are possible.
 use Rattle.std.specs.Prelude.{◌≡◌, ℕ, false, List, [], ◌∷◌, ◌++◌}
 use Rattle.crsm_spec.specs.Types.{Entry}
 use Rattle.crsm_spec.specs.World.{begin, is_full}
@@ -10,8 +10,8 @@ use Rattle.crsm_spec.specs.Calm.{IsOpen, IsCalm, IsCalmReading, calm_round}
 abbrev pub all_three : List ℕ
 all_three = 0 ∷ 1 ∷ 2 ∷ []
 
--- A possible run of three replicas after which epoch 0 is calm while an entry of it is open, and from there two rounds that are calm
--- and possible and leave the world not full.
+-- A possible run of three replicas after which epoch 0 is calm while an entry of it is open, and from there two rounds
+-- that are calm and possible and leave the world not full.
 pub record ComesToCalm : Type 0 where
   pub acts : List Act
   pub possible : ArePossible (begin 3) acts

@@ -7,7 +7,7 @@ use Rattle.crsm_spec.specs.Run.{ArePossible, seen}
 use Rattle.crsm_spec.specs.Decided.{all_decisions}
 use Rattle.crsm_spec.specs.Safe.{IsLineAt}
 
--- A possible run of three replicas in which a decision is kept, and a command is answered that it saved.
+-- A possible run of three replicas in which a decision is recorded, and a command that it carried over is answered.
 pub record ChangesEpochs : Type 0 where
   pub acts : List Act
   pub possible : ArePossible (begin 3) acts

@@ -1,4 +1,4 @@
--- Words of the worked examples: how a schedule and its transcript are written here.
+-- Notation of the worked examples: schedules and their transcripts.
 use Rattle.std.specs.Prelude.{ℕ, List, [], ◌∷◌, ◌++◌, map, Option, Some, None, option_map}
 use Rattle.std.specs.Option.{option_map_or}
 use Rattle.crsm_base.specs.Messages.{datagram_bytes}
@@ -43,7 +43,7 @@ replay_from v (a ∷ acts) =
 abbrev pub replay : ℕ → List Act → Option (List (List Line))
 replay n acts = option_map (λ lines. first_lines n ∷ lines) (replay_from (begin n) acts)
 
--- why an act is not possible after these
+-- the reason why an act is not possible after these
 abbrev pub refused : ℕ → List Act → Act → Option Bad
 refused n acts a = possible (after_acts (begin n) acts) a
 

@@ -1,4 +1,4 @@
--- The laws of processes of nodes.
+-- The laws of nodes' processes.
 use Rattle.std.specs.Prelude.{◌≡◌, ℕ, ◌<◌, ◌≤◌, List, None, Some, slice_get}
 use Rattle.std.specs.List.{AllByRecursion, flat_map}
 use Rattle.crsm_spec.specs.Types.{Stamp, Entry, Answer, Line}
@@ -30,7 +30,7 @@ pub record IsIn (n : ℕ) (h : List Event) (l : Life) : Type 0 where
   pub there : slice_get (clusters n h) last ≡ Some end
   pub left : log_in end l.me ≡ left_by n l
 
--- Where disks keep what was synced and nobody forges, the history of the processes is lawful, and in it they are.
+-- If disks keep what was synced and nobody forges datagrams, the history of the processes is lawful and contains them.
 pub record AreLawful (n : ℕ) (ls : List Life) (h : List Event) : Type 0 where
   pub lawful : IsLawful n h
   pub each : (l : Life) → Among ls l → IsIn n h l
@@ -40,7 +40,7 @@ LivesAreLawful = (n : ℕ) (ls : List Life) (h : List Event) → n ≤ 15 → Ra
 
 -- ---- what goes out
 
--- What goes out at a node in the history is what its processes sent, one behind another.
+-- The datagrams and replies sent at a node in the history are those of its processes, one after another.
 abbrev pub SendsAreTheirs : Type 0
 SendsAreTheirs =
     (n : ℕ) (ls : List Life) (h : List Event) → Ran n ls h → AllByRecursion (HasFates n) ls →
@@ -48,9 +48,9 @@ SendsAreTheirs =
 
 -- ---- steps
 
--- The step is right: it executed a prefix of the one list; each line of it that tells of an execution has the entry of
--- its place, and the sequential store's answer there; so has each answer to a client, on an entry of its client and number
--- from this replica; and what it says to be dropped is in no list.
+-- The step is right: it executed a prefix of the one list; each of its execution lines has the entry of its place and
+-- the sequential store's answer there; so has each answer to a client, for an entry of its client and number from this
+-- replica; and what it reports as dropped is in no list.
 pub record IsRightStep (n : ℕ) (h : List Event) (me : ℕ) (x : Draft) : Type 0 where
   pub executed : IsPrefixOf (executed x.replica.log) (one_list n h)
   pub executes : (k place epoch client number : ℕ) (s : Stamp) (a : Answer) → Among x.lines (Line.Exec k place epoch s client number a) →
@@ -60,7 +60,7 @@ pub record IsRightStep (n : ℕ) (h : List Event) (me : ℕ) (x : Draft) : Type 
   pub drops : (k client number epoch : ℕ) (s : Stamp) (reply : Reply) → Among x.replies reply →
       reply.line ≡ Line.ReplyDropped k client number epoch s → IsRightDrop n h me epoch s reply
 
--- Each step of each process that was kept is right: all that is told of its sheet by a replay.
+-- Each kept step of each process is right: all that a replay of its sheet shows.
 abbrev pub StepsAreRight : Type 0
 StepsAreRight =
     (n : ℕ) (ls : List Life) (h : List Event) → n ≤ 15 → Ran n ls h → HasShortLogs (last_cluster n h) →

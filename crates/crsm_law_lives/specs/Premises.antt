@@ -1,4 +1,4 @@
--- What is presumed of the processes of a cluster's nodes, of their disks and of the network.
+-- The premises about the processes of a cluster's nodes, their disks and the network.
 use Rattle.std.specs.Prelude.{◌≡◌, ◌⊎◌, ℕ, ◌<◌, ◌^◌, true, List, [], ◌∷◌, ◌++◌, Some}
 use Rattle.std.specs.List.{AllByRecursion}
 use Rattle.crsm_base.specs.Members.{IsMembers}
@@ -14,7 +14,7 @@ use Rattle.crsm_law_lives.specs.Events.{AreEventsOf, left_by, lives_of}
 
 -- ---- processes
 
--- bytes are bytes, a suspicion has members, and a reading fits a clock
+-- bytes are below 256, a suspicion has members, and a reading is a u64
 abbrev pub IsTurn : Turn → Type 0
 IsTurn (Turn.In address bytes) = AllByRecursion IsByte bytes
 IsTurn Turn.Tick = Unit {0}
@@ -29,19 +29,19 @@ pub record IsProcess (l : Life) : Type 0 where
 
 -- ---- the disk
 
--- Of the processes of one node: each finds the log that the one before it left, the first of these this log, and begins
--- when the one before it is gone.
+-- The processes of one node: each finds the log that the one before it left, the first finds this log, and each begins
+-- after the one before it has ended.
 abbrev pub FindWhatIsLeft : ℕ → Log → List Life → Type 0
 FindWhatIsLeft n log [] = Unit {0}
 FindWhatIsLeft n log (l ∷ ls) = (l.found ≡ log) × ((ls ≡ []) ⊎ (l.ended ≡ true)) × FindWhatIsLeft n (left_by n l) ls
 
--- What was synced is there at the next boot, and nothing else: the first process of a node finds no log.
+-- The next boot finds what was synced, and nothing else; the first process of a node finds no log.
 abbrev pub DisksKeep : ℕ → List Life → Type 0
 DisksKeep n ls = (k : ℕ) → FindWhatIsLeft n [] (lives_of k ls)
 
 -- ---- the network
 
--- By an event before the i-th one the node of a replica sent this datagram to k.
+-- The node of a replica sent this datagram to k at an event before the i-th.
 pub record WasSentBy (n : ℕ) (h : List Event) (i from k : ℕ) (d : Datagram) : Type 0 where
   pub place : ℕ
   pub before : place < i
@@ -49,7 +49,7 @@ pub record WasSentBy (n : ℕ) (h : List Event) (i from k : ℕ) (d : Datagram) 
   pub at : IsAt n h place cluster (Event.Sends from)
   pub is : next_out cluster from ≡ Some (Outgoing.ToReplica k d)
 
--- A datagram that names another replica as its sender, and k as its receiver, had been sent to k by that replica.
+-- A datagram that names another replica as its sender and k as its receiver had been sent to k by that replica.
 abbrev pub SpeaksTrue : ℕ → List Event → ℕ → ℕ → Datagram → Type 0
 SpeaksTrue n h i k (Datagram.Frame from to epoch seq payload) = to ≡ k → (from ≡ k → ⊥) → WasSentBy n h i from k (Datagram.Frame from to epoch seq payload)
 SpeaksTrue n h i k (Datagram.Ack from to epoch next) = to ≡ k → (from ≡ k → ⊥) → WasSentBy n h i from k (Datagram.Ack from to epoch next)
@@ -59,7 +59,8 @@ SpeaksTrue n h i k (Datagram.Request command) = Unit {0}
 SpeaksTrue n h i k (Datagram.Reply client number told) = Unit {0}
 SpeaksTrue n h i k (Datagram.Operate members) = Unit {0}
 
--- Nobody sends in a replica's name. From which address a datagram comes, how often, how late and in which order is free.
+-- Nobody sends in a replica's name. From which address a datagram comes, how often, how late and in which order is
+-- free.
 abbrev pub NobodyForges : ℕ → List Event → Type 0
 NobodyForges n h =
     (i k address reading : ℕ) (bytes : List ℕ) (c : Cluster) (d : Datagram) →

@@ -1,4 +1,4 @@
--- What goes out of a process, and of a history.
+-- The datagrams and replies that a process sends, and those of a history.
 use Rattle.std.specs.Prelude.{◌≡◌, ◌⊎◌, ℕ, ◌==◌, Bool, List, [], ◌∷◌, ◌++◌, length, if◌then◌else◌, option_to_list}
 use Rattle.std.specs.List.{flat_map}
 use Rattle.crsm_spec.specs.Replica.{Replica}
@@ -10,17 +10,17 @@ use Rattle.crsm_law_lives.specs.Events.{after_turns}
 
 -- ---- of a process
 
--- what turns hand out, in order
+-- the datagrams and replies of turns, in order
 unfoldable pub handed_by : Replica → List (Turn × ℕ) → List Outgoing
 handed_by r turns = flat_map outgoing_of (outputs_from r turns)
 
--- of what is handed out, that which goes out
+-- those of them that are sent
 unfoldable pub gone : List Outgoing → List Bool → List Outgoing
 gone [] fates = []
 gone (o ∷ os) [] = []
 gone (o ∷ os) (fate ∷ fates) = if fate then o ∷ gone os fates else gone os fates
 
--- what goes out of groups, the first of which this replica takes
+-- those that are sent of groups, from this state on
 unfoldable pub sent_from : Replica → List Group → List Outgoing
 sent_from r [] = []
 sent_from r (g ∷ groups) = gone (handed_by r g.turns) g.fates ++ sent_from (after_turns r g.turns) groups
@@ -29,7 +29,8 @@ sent_from r (g ∷ groups) = gone (handed_by r g.turns) g.fates ++ sent_from (af
 unfoldable pub sent_by : ℕ → Life → List Outgoing
 sent_by n l = sent_from (boot l.me n l.found).replica l.groups
 
--- All that a group hands out has a fate before the next group is kept. Of the last group the process may be gone before.
+-- Each datagram and reply of a group was sent or failed before the next group is kept; the process may end within the
+-- last.
 abbrev pub HaveFates : Replica → List Group → Type 0
 HaveFates r [] = Unit {0}
 HaveFates r (g ∷ groups) =
@@ -40,12 +41,12 @@ HasFates n l = HaveFates (boot l.me n l.found).replica l.groups
 
 -- ---- of a history
 
--- what goes out by an event at the node of replica k
+-- the datagram or reply that an event sends at the node of replica k
 unfoldable pub out_at : ℕ → Cluster → Event → List Outgoing
 out_at k c (Event.Sends j) = if j == k then option_to_list (next_out c k) else []
 out_at k c _ = []
 
--- what goes out at the node of replica k, from a cluster on
+-- those sent at the node of replica k, from a cluster on
 unfoldable pub outs_from : ℕ → Cluster → List Event → List Outgoing
 outs_from k c [] = []
 outs_from k c (e ∷ es) = out_at k c e ++ outs_from k (after c e) es

@@ -1,5 +1,5 @@
-//! The laws of locks, each the contract of a function that does nothing. They speak of one list of entries, whose
-//! commands on a key are those that take, give and break ask for, and of the sequential store.
+//! Laws of locks, each as the contract of a function that runs no code. They are about a list of entries whose commands
+//! on a key are those of taking, giving back and breaking a lock, and about the sequential store.
 #![tactic(auto)]
 
 ghost use Rattle.crsm_law_locks.specs.Example.{LocksChangeHands};
@@ -7,7 +7,7 @@ ghost use Rattle.crsm_law_locks.specs.Laws.{FencesRise, GrantsAreOwn, HeldByLast
 
 use crsm_lease::{asked_are_grants_or_returns, locks_have_one_value};
 
-/// A grant goes to the client that asked for it.
+/// A lock is granted to the client that asked for it.
 pub fn grants_are_own()
     ensures { GrantsAreOwn }
 {
@@ -15,7 +15,7 @@ pub fn grants_are_own()
     asked_are_grants_or_returns();
 }
 
-/// The fences of the grants of a key strictly rise.
+/// The fencing tokens of the grants of a key strictly rise.
 pub fn fences_rise()
     ensures { FencesRise }
 {
@@ -23,8 +23,8 @@ pub fn fences_rise()
     asked_are_grants_or_returns();
 }
 
-/// After each place a key is held if and only if there was a grant and the last one was not given back, and then by
-/// that grant's owner under its fence.
+/// After each entry, a key is held if and only if there was a grant and the last one was not given back; its owner and
+/// token are then those of that grant.
 pub fn held_by_last_grant()
     ensures { HeldByLastGrant }
 {
@@ -32,8 +32,8 @@ pub fn held_by_last_grant()
     asked_are_grants_or_returns();
 }
 
-/// Of two grants that follow each other the first was given back before the second, or the second breaks the lock of
-/// another owner.
+/// Of two successive grants, the first was given back before the second, or the second breaks the lock of another
+/// owner.
 pub fn returned_or_broken()
     ensures { ReturnedOrBroken }
 {
@@ -41,7 +41,8 @@ pub fn returned_or_broken()
     asked_are_grants_or_returns();
 }
 
-/// There are such lists: in one a lock is given back and taken, and broken, and a repeat grants nothing.
+/// There is a list in which a lock is given back, taken and broken, and a repeated command grants nothing, so the
+/// premises of these laws can be met.
 pub fn locks_change_hands()
     ensures { LocksChangeHands }
 {}

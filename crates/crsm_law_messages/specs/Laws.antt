@@ -1,4 +1,4 @@
--- The laws of what is received and of what was sent.
+-- The laws of received and of sent control messages.
 use Rattle.std.specs.Prelude.{◌≡◌, ℕ, ◌+◌, ◌<◌, IsTrue, length, Some, slice_get}
 use Rattle.crsm_base.specs.Messages.{control_bytes, FitsControl}
 use Rattle.crsm_base.specs.MessageReading.{control_of}
@@ -24,7 +24,7 @@ pub record IsSource (n : ℕ) (w : World) (k j : ℕ) (c : Control) : Type 0 whe
   pub was_sent : WasSentBefore n w sent_message
   pub reads : control_of (control_bytes sent_message.message) ≡ Some c
 
--- A replica j receives c from k: whatever was lost, came twice, or came in another order.
+-- Replica j receives c from k, whatever was lost, repeated or reordered.
 pub record ReceivesIn (n : ℕ) (w : World) (k j : ℕ) (c : Control) : Type 0 where
   pub reached : IsReached n w
   pub marked : World
@@ -35,11 +35,11 @@ pub record ReceivesIn (n : ℕ) (w : World) (k j : ℕ) (c : Control) : Type 0 w
   pub can_come : CanCome w j input
   pub receives : ReceivesControl replica input k c
 
--- What a replica receives from another was sent to it by that one.
+-- A control message that a replica receives from another was sent to it by that replica.
 abbrev pub ReceivedWasSent : Type 0
 ReceivedWasSent = (n : ℕ) (w : World) (k j : ℕ) (c : Control) → ReceivesIn n w k j c → IsSource n w k j c
 
--- Where each message that was sent has a spelling, it is the very message.
+-- If each message sent can be encoded, the message received is one that was sent.
 abbrev pub ReceivedIsSent : Type 0
 ReceivedIsSent =
     (n : ℕ) (w : World) (k j : ℕ) (c : Control) → ReceivesIn n w k j c → ((s : SentMessage) → WasSentBefore n w s → FitsControl s.message) →
@@ -47,7 +47,7 @@ ReceivedIsSent =
 
 -- ---- what was sent is true
 
--- What a message says of the log of its sender, as it was when it was sent.
+-- What a message says of its sender's log, as it was when the message was sent.
 abbrev pub Says : Log → Control → Type 0
 Says log (Control.Suspend e after) = e ≡ known log
 Says log (Control.SuspendOk e done last after whole es) =
@@ -61,6 +61,6 @@ Says log (Control.Decide d) = decision log ≡ Some d
 Says log (Control.Retrieve e from) = (e ≡ known log) × (from ≡ length (executed log))
 Says log (Control.Page e from es) = (from < length (executed log)) × (Control.Page e from es ≡ page_from log from)
 
--- What was sent is true of an earlier log of its sender, which the sender's log goes on from.
+-- A message sent is true of an earlier log of its sender, which the sender's log extends.
 abbrev pub SentIsTrue : Type 0
 SentIsTrue = (n : ℕ) (w : World) (s : SentMessage) → WasSentBefore n w s → (old : Log) × Extends old (log_at w s.from) × Says old s.message

@@ -1,4 +1,4 @@
--- What a coordinator says of its past: the ballot was asked for, its answers were counted, and its decision was proposed.
+-- A coordinator's past: it asked for the ballot, counted its answers, and proposed its decision.
 use Rattle.std.specs.Prelude.{◌≡◌, ℕ, IsTrue, List, map}
 use Rattle.crsm_base.specs.Order.{ballot_lt}
 use Rattle.crsm_spec.specs.Types.{Ballot, Decision, Control}
@@ -14,14 +14,14 @@ use Rattle.crsm_spec.specs.World.{World}
 use Rattle.crsm_fact_step.specs.Changes.{IsAnswer, IsVote}
 use Rattle.crsm_law_messages.specs.SentMessages.{SentMessage, Past, WasSentBefore}
 
--- replica k once had a draft of which this holds
+-- replica k once had a draft with this property
 pub record Did (n : ℕ) (w : World) (k : ℕ) (G : Replica → Input → Draft → Type 0) : Type 0 where
   pub past : Past n w k
   pub held : G past.replica past.input past.draft
 
 -- ---- what a coordinator does, in instance i and ballot b
 
--- it promises a ballot of its own, which is greater than what it had promised, and asks for it
+-- it promises a ballot of its own, greater than its promise before, and requests promises for it
 abbrev pub Asks : ℕ → Ballot → Decision → Replica → Input → Draft → Type 0
 Asks i b own r input x =
     (i ≡ instance x) × (b.by ≡ x.replica.me) × IsTrue (ballot_lt (promised x.replica.log) b) × (seen : Ballot) × (x.replica.coordinator ≡ Coordinator.Preempted own seen)
@@ -46,7 +46,7 @@ pub record HasAsked (n : ℕ) (w : World) (k i : ℕ) (b : Ballot) (own : Decisi
   pub asked : Did n w k (Asks i b own)
   pub counted : (a : Answer Decision) → Among answers a → Did n w k (Counts i b a)
 
--- k has proposed the value that answers of a majority make of its own decision
+-- k has proposed the value that Paxos allows for its own decision after the answers of a majority
 pub record HasProposed (n : ℕ) (w : World) (k i : ℕ) (b : Ballot) (own value : Decision) : Type 0 where
   pub answers : List (Answer Decision)
   pub asked : HasAsked n w k i b own answers
@@ -65,13 +65,13 @@ CoordinatorIsTrue n w k i (Coordinator.Preempted own seen) = Unit {0}
 abbrev pub CoordinatorsAreTrue : Type 0
 CoordinatorsAreTrue = (n : ℕ) (w : World) (k : ℕ) (p : Past n w k) → CoordinatorIsTrue n w k (instance p.draft) p.draft.replica.coordinator
 
--- Who sends P1A has asked for that ballot.
+-- The sender of a P1a has asked for that ballot.
 abbrev pub AskedWasAsked : Type 0
 AskedWasAsked =
     (n : ℕ) (w : World) (s : SentMessage) (i : ℕ) (b : Ballot) → WasSentBefore n w s → s.message ≡ Control.P1a i b →
     (own : Decision) × (answers : List (Answer Decision)) × HasAsked n w s.from i b own answers
 
--- The decision of a P2A was proposed in that ballot by its sender.
+-- The decision of a P2a was proposed in that ballot by its sender.
 abbrev pub ProposedWasProposed : Type 0
 ProposedWasProposed =
     (n : ℕ) (w : World) (s : SentMessage) (i : ℕ) (b : Ballot) (d : Decision) → WasSentBefore n w s → s.message ≡ Control.P2a i b d →

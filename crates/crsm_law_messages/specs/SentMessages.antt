@@ -1,4 +1,4 @@
--- Control messages as they were sent, and the moments in which they were.
+-- Control messages as they were sent, and the moments at which they were.
 use Rattle.std.specs.Prelude.{◌≡◌, ℕ, ◌<◌, ◌^◌, Some, slice_get}
 use Rattle.crsm_spec.specs.Types.{Control}
 use Rattle.crsm_spec.specs.Log.{boots}
@@ -11,7 +11,7 @@ use Rattle.crsm_fact_step.specs.Messages.{IsSent, Answers}
 use Rattle.crsm_fact_step.specs.Changes.{Changes}
 use Rattle.crsm_law_steps.specs.Happenings.{Marks, CanCome, Ends, Happens, IsReached}
 
--- A control message as it was sent: its sender, whom it is for, and the boot and the number under which it went.
+-- A control message as it was sent: its sender, its receiver, and the boot and number that identify it.
 pub record SentMessage : Type 0 where
   pub from : ℕ
   pub to : ℕ
@@ -19,8 +19,8 @@ pub record SentMessage : Type 0 where
   pub number : ℕ
   pub message : Control
 
--- In a step of r on this input the draft's replica sends it next: it says what the replica's log and coordinator say,
--- and if it is an answer it is one to the input.
+-- In a step of r on this input the draft's replica sends the message next: it says what the replica's log and
+-- coordinator are, and if it is an answer it answers the input.
 pub record IsSentBy (r : Replica) (input : Input) (x : Draft) (s : SentMessage) : Type 0 where
   pub from : x.replica.me ≡ s.from
   pub boot : boots x.replica.log ≡ s.boot
@@ -28,13 +28,12 @@ pub record IsSentBy (r : Replica) (input : Input) (x : Draft) (s : SentMessage) 
   pub is : IsSent x s.message
   pub answers : Answers r input s.message
 
--- the second world goes on from the first
+-- happenings lead from the first world to the second
 pub data GoesOn (v : World) : World → Type 0 where
   here : GoesOn v v
   on : {u : World} {m : Moment} → GoesOn v u → Happens u m → GoesOn v m.after
 
--- A draft of replica k at an earlier moment of what led to w: of a step that was made in that moment, and whose records are
--- kept.
+-- A draft of replica k at an earlier moment on the way to w, of a step whose records are kept.
 pub record Past (n : ℕ) (w : World) (k : ℕ) : Type 0 where
   pub world : World
   pub reached : IsReached n world
@@ -55,7 +54,7 @@ pub record Past (n : ℕ) (w : World) (k : ℕ) : Type 0 where
   pub kept : log_at moment.after k ≡ (step replica input reading).replica.log
   pub since : GoesOn moment.after w
 
--- It was sent at an earlier moment of what led to w.
+-- The message was sent at an earlier moment on the way to w.
 pub record WasSentBefore (n : ℕ) (w : World) (s : SentMessage) : Type 0 where
   pub past : Past n w s.from
   pub sent : IsSentBy past.replica past.input past.draft s

@@ -1,49 +1,49 @@
-//! What a replica receives was sent to it, and what was sent is true of its sender's log.
+//! Control messages: those received were sent, and those sent are true of their sender's log.
 #![tactic(auto)]
 
 ghost use Rattle.crsm_law_messages.specs.Laws.{ReceivedWasSent, ReceivedIsSent, SentIsTrue};
 ghost use Rattle.crsm_law_messages.specs.Proposals.{CoordinatorsAreTrue, AskedWasAsked, ProposedWasProposed};
 ghost use Rattle.crsm_law_messages.specs.Counted.{AnswersAreTrue, VotesAreTrue};
 
-/// What a replica receives was sent to it by the replica that it is from, in parts that were lost, came twice or came
-/// in another order.
+/// Each control message that a replica receives was sent to it by the replica that it names, whatever parts were lost,
+/// repeated or reordered.
 pub fn received_was_sent()
     ensures { ReceivedWasSent }
 {}
 
-/// Where the messages that were sent have spellings, a replica receives the very messages that were sent.
+/// If all messages sent can be encoded, a replica receives the messages that were sent, unchanged.
 pub fn received_is_sent()
     ensures { ReceivedIsSent }
 {}
 
-/// What was sent is true of an earlier log of its sender, which the sender's log goes on from.
+/// A message sent is true of an earlier log of its sender, which the sender's log extends.
 pub fn sent_is_true()
     ensures { SentIsTrue }
 {}
 
-/// What a coordinator says is true of its past: it asked for its ballot, and the answers and the votes that it has
-/// counted came to it.
+/// A coordinator's state is true of its past: it asked for its ballot, and received the answers and votes that it has
+/// counted.
 pub fn coordinators_are_true()
     ensures { CoordinatorsAreTrue }
 {}
 
-/// Who sends the request for a ballot has asked for it.
+/// The sender of a request for a ballot has asked for that ballot.
 pub fn asked_was_asked()
     ensures { AskedWasAsked }
 {}
 
-/// A decision that is sent as proposed in a ballot was proposed in that ballot, with the answers of a majority.
+/// The decision of a P2a was proposed in that ballot by its sender, over the answers of a majority.
 pub fn proposed_was_proposed()
     ensures { ProposedWasProposed }
 {}
 
-/// Each answer that a coordinator has counted is a promise on record at the replica that answered, with what that replica had
-/// accepted then.
+/// Each answer that a coordinator counted is a promise recorded at the replica that answered, with the decision that it
+/// had accepted.
 pub fn answers_are_true()
     ensures { AnswersAreTrue }
 {}
 
-/// Each vote that a coordinator has counted is an acceptance on record at the replica that voted.
+/// Each vote that a coordinator counted is an acceptance recorded at the replica that voted.
 pub fn votes_are_true()
     ensures { VotesAreTrue }
 {}

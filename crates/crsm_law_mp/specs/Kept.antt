@@ -1,4 +1,4 @@
--- What holds of a run so far: its lines tell the truth.
+-- The invariant of a run: each of its lines is true.
 use Rattle.std.specs.Prelude.{◌≡◌, ◌≢◌, ℕ, ◌<◌, ◌≤◌, take, List, length, Contains, None, Some, slice_get}
 use Rattle.crsm_mpspec.specs.declared.MpLine.{MpLine}
 use Rattle.crsm_mpspec.specs.Types.{Command, Answer, Value}
@@ -19,7 +19,7 @@ pub record IsList (worlds : List World) (es : List Value) : Type 0 where
   pub below : replica < length world.sites
   pub is : es ≡ executed (log_at world replica)
 
--- the command stands at the slot of such a list, and this is the answer to it
+-- the command is at the slot of such a list, and this is the answer to it
 pub record IsAnswered (worlds : List World) (slot client number : ℕ) (a : Answer) : Type 0 where
   pub es : List Value
   pub list : IsList worlds es
@@ -29,7 +29,7 @@ pub record IsAnswered (worlds : List World) (slot client number : ℕ) (a : Answ
   pub of_client : command.client ≡ client
   pub of_number : command.number ≡ number
 
--- a line before the i-th one says that the command was submitted
+-- a line before the i-th is the submission of the command
 pub record IsEarlier (lines : List TraceLine) (i : ℕ) (c : Command) : Type 0 where
   pub line : ℕ
   pub before : line < i
@@ -37,13 +37,13 @@ pub record IsEarlier (lines : List TraceLine) (i : ℕ) (c : Command) : Type 0 w
   pub slot : ℕ
   pub submitted : IsSubmitAt lines line replica slot c
 
--- A reply, too; and each command up to its slot was submitted before.
+-- A reply with it; and each command up to its slot was submitted before.
 pub record IsReplied (lines : List TraceLine) (worlds : List World) (i k slot client number : ℕ) (a : Answer) : Type 0 where
   pub answered : IsAnswered worlds slot client number a
   pub submitted : WasSubmitted lines i k slot client number answered.command
   pub earlier : (q : ℕ) (d : Command) → q ≤ slot → slice_get answered.es q ≡ Some (Some d) → IsEarlier lines i d
 
--- another value than the command stands at the slot
+-- another value than the command is at the slot
 pub record IsDropped (lines : List TraceLine) (worlds : List World) (i k slot client number : ℕ) : Type 0 where
   pub es : List Value
   pub list : IsList worlds es
@@ -61,8 +61,8 @@ IsRightLine lines worlds i (MpLine.ReplyOk k client number slot a) = IsReplied l
 IsRightLine lines worlds i (MpLine.ReplyDropped k client number slot) = IsDropped lines worlds i k slot client number
 IsRightLine lines worlds i _ = Unit {0}
 
--- What holds of the run so far: its world is sound, each world has n replicas, what was executed in any of its worlds
--- is known, what was submitted was told, as was what each client waits for, and each line is right.
+-- The invariant of a run: its world is sound, each world has n replicas, what was executed in any of its worlds is
+-- known, all that was submitted and that clients wait for has a line, and each line is right.
 pub record Kept (n : ℕ) (lines : List TraceLine) (worlds : List World) (w : World) : Type 0 where
   pub past : Past
   pub sound : IsSound n past w

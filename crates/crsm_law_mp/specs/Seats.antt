@@ -1,4 +1,4 @@
--- The world as the instances of its slots see it.
+-- The world as the instances of its slots need it.
 use Rattle.std.specs.Prelude.{◌≡◌, ℕ, List, [], Contains, Some, slice_get, length}
 use Rattle.std.specs.Option.{option_map_or}
 use Rattle.crsm_spec.specs.Lists.{numbers_below}
@@ -8,22 +8,22 @@ use Rattle.crsm_mpspec.specs.Replica.{Replica, Note}
 use Rattle.crsm_mpspec.specs.World.{Site, Packet, World}
 use Rattle.crsm_law_mp.specs.Slots.{Seat, Slots, Past, Holds}
 
--- what a replica of this log holds, which is at this
+-- the seat of a replica with this log and phase
 unfoldable pub seat_of : Log → Note → Seat
 seat_of log note =
     record { promised = promised log; accepted = λ s. accepted_at s log; chosen = λ s. chosen_at s log; note = note }
 
--- what a replica holds, up or down
+-- the seat of a replica, up or down
 unfoldable pub seat_in : Site → Seat
 seat_in (Site.Up r) = seat_of r.log r.note
 seat_in (Site.Down log) = seat_of log Note.Idle
 
--- what replica k holds
+-- the seat of replica k
 unfoldable pub seat_at : World → ℕ → Seat
 seat_at w k = option_map_or seat_in (slice_get w.sites k) (seat_of [] Note.Idle)
 
--- A world of n replicas, each at its place, which is one instance for each slot. Each message that was
--- sent is one that was made; those that a stop kept back were made, too.
+-- A world of n replicas, each at its index, that is one Paxos instance for each slot. Each message sent is one that was
+-- made; those that a stop kept back were made, too.
 pub record IsSound (n : ℕ) (past : Past) (w : World) : Type 0 where
   pub size : w.n ≡ n
   pub places : length w.sites ≡ n

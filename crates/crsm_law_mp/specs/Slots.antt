@@ -1,4 +1,4 @@
--- What replicas hold and have sent, slot by slot: for each slot they are in one instance of single-decree Paxos.
+-- The states and messages of replicas, slot by slot: for each slot they are in one instance of single-decree Paxos.
 use Rattle.std.specs.Prelude.{◌≡◌, ℕ, ◌<◌, ◌≤◌, ◌⊎◌, false, true, nat_eq, List, map, Contains, Option, Some}
 use Rattle.std.specs.List.{IsDistinct}
 use Rattle.crsm_base.specs.Order.{ballot_lt}
@@ -10,14 +10,14 @@ use Rattle.crsm_mpspec.specs.Types.{Ballot, Command, Value}
 use Rattle.crsm_mpspec.specs.Replica.{Report, Note, voters_at}
 use Rattle.crsm_mpspec.specs.Electing.{held_at, next_slot}
 
--- what a replica holds: its promise, what it has accepted and knows to be chosen at each slot, and what it is at
+-- the seat of a replica: its promise, what it has accepted and knows to be chosen at each slot, and its phase
 pub record Seat : Type 0 where
   pub promised : Ballot
   pub accepted : ℕ → Held Value
   pub chosen : ℕ → Option Value
   pub note : Note
 
--- which messages were sent, behind their senders
+-- which messages were sent, by their senders
 abbrev pub Sent : Type 1
 Sent = ℕ → MpMessage → Type 0
 
@@ -41,8 +41,8 @@ HasProposed s b v = Contains s.proposals (record { ballot = b; value = v })
 abbrev pub AreChosen : List ℕ → Slots → Report → Type 0
 AreChosen spec slots y = (c : MpChosen) → Contains y.chosen c → IsChosen spec (slots c.slot) c.value
 
--- What is true of a replica that asks in ballot b: the ballot is its promise, is its own and proposed nothing, and
--- what it counted is what replicas answered with their promises from the slot on that it asked for.
+-- The invariant of a replica that prepares ballot b: the ballot is its promise, is its own and has proposed nothing,
+-- and what it counted is what replicas answered with their promises, from its first slot on.
 pub record IsAsking (spec : List ℕ) (slots : Slots) (k : ℕ) (x : Seat) (b : Ballot) (start : ℕ) (reports : List Report) : Type 0 where
   pub by : b.by ≡ k
   pub high : ballot_lt lowest b ≡ true
@@ -53,7 +53,7 @@ pub record IsAsking (spec : List ℕ) (slots : Slots) (k : ℕ) (x : Seat) (b : 
   pub distinct : IsDistinct nat_eq (map (λ y. y.from) reports)
   pub of_spec : (j : ℕ) → Contains (map (λ y. y.from) reports) j → Contains spec j
 
--- What is true of a leader in ballot b: a majority reported, it voted itself wherever the ballot proposed, and the
+-- The invariant of a leader in ballot b: a majority reported, it voted itself wherever the ballot proposed, and the
 -- votes that it counted were cast for what it accepted.
 pub record IsLeading (spec : List ℕ) (slots : Slots) (k : ℕ) (x : Seat) (b : Ballot) (start next : ℕ) (reports : List Report) (votes : List (ℕ × ℕ)) : Type 0 where
   pub by : b.by ≡ k
@@ -66,13 +66,13 @@ pub record IsLeading (spec : List ℕ) (slots : Slots) (k : ℕ) (x : Seat) (b :
   pub voted : (s j : ℕ) → Contains votes (s, j) → Contains spec j × (v : Value) × (x.accepted s ≡ Some (b, v)) × HasVoted (slots s) b j v
   pub once : (s : ℕ) → IsDistinct nat_eq (voters_at s votes)
 
--- what a replica is at is true of it
+-- the invariant of a replica's phase
 abbrev pub NoteHolds : List ℕ → Slots → ℕ → Seat → Note → Type 0
 NoteHolds spec slots k x Note.Idle = Unit {0}
 NoteHolds spec slots k x (Note.Asking b start reports) = IsAsking spec slots k x b start reports
 NoteHolds spec slots k x (Note.Leading b start next reports votes) = IsLeading spec slots k x b start next reports votes
 
--- This replica asked in ballot b from a slot on: its promise is not below b, and if it still asks in b, it does so
+-- This replica prepared ballot b from a slot on: its promise is not below b, and if it still prepares b, it does so
 -- from this slot on.
 pub record HasAsked (x : Seat) (b : Ballot) (start : ℕ) : Type 0 where
   pub promised : ballot_lt x.promised b ≡ false
@@ -83,7 +83,7 @@ pub record HasReported (spec : List ℕ) (slots : Slots) (b : Ballot) (start : �
   pub answered : (s : ℕ) → start ≤ s → HasPromised (slots s) b y.from (held_at s y.accepted) ⊎ IsUsed (slots s) b
   pub chosen : AreChosen spec slots y
 
--- What a message of replica k says is true.
+-- The contents of a message of replica k are true.
 abbrev pub IsTrueMessage : List ℕ → (ℕ → Seat) → Sent → Slots → ℕ → MpMessage → Type 0
 IsTrueMessage spec seats sent slots k (MpMessage.Prep b start) = (ballot_lt lowest b ≡ true) × HasAsked (seats b.by) b start
 IsTrueMessage spec seats sent slots k (MpMessage.Prom b accepted chosen) =
@@ -95,13 +95,13 @@ IsTrueMessage spec seats sent slots k (MpMessage.Accd b s) = Contains spec k × 
 IsTrueMessage spec seats sent slots k (MpMessage.Learn s v) = IsChosen spec (slots s) v
 IsTrueMessage spec seats sent slots k (MpMessage.Ask start) = Unit {0}
 
--- what was submitted so far, and which values of slots were known
+-- the commands submitted, and the known values of slots
 pub record Past : Type 0 where
   pub submitted : List Command
   pub known : List (ℕ × Value)
 
--- What replicas hold and have sent is one instance for each slot. Each command that is proposed was submitted, and
--- what was known is chosen.
+-- The states and messages of replicas are one instance for each slot. Each command proposed was submitted, and each
+-- known value is chosen.
 pub record Holds (spec : List ℕ) (past : Past) (seats : ℕ → Seat) (sent : Sent) (slots : Slots) : Type 0 where
   pub reached : (s : ℕ) → IsReached spec (slots s)
   pub same : (s k : ℕ) → (slots s).acceptor k ≡ record { promised = (seats k).promised; accepted = (seats k).accepted s }

@@ -1,4 +1,4 @@
--- The premise on the network, where each node takes a replica's datagrams from that replica's address alone.
+-- The premise about the network for nodes that accept a replica's datagrams from that replica's address only.
 use Rattle.std.specs.Prelude.{◌≡◌, ℕ, List, Some, slice_get}
 use Rattle.std.specs.List.{AllByRecursion}
 use Rattle.crsm_base.specs.MessageReading.{datagram_of}
@@ -20,21 +20,21 @@ IsFromTo j k (Datagram.Request command) = ⊥
 IsFromTo j k (Datagram.Reply client number told) = ⊥
 IsFromTo j k (Datagram.Operate members) = ⊥
 
--- What a node takes that names a replica as its sender comes from the address of that replica.
+-- A datagram that a node receives and that names a replica as its sender comes from the address of that replica.
 abbrev pub AreOwn : List ℕ → List Event → Type 0
 AreOwn peers h =
     (i k address reading : ℕ) (bytes : List ℕ) → slice_get h i ≡ Some (Event.Takes k (Turn.In address bytes) reading) →
     (j : ℕ) → named_sender bytes ≡ Some j → slice_get peers j ≡ Some address
 
--- Nobody sends from a replica's address but its node: what comes from there and names that replica as its sender, and k as
--- its receiver, had been sent to k by it.
+-- Nobody but its node sends from a replica's address: a datagram from there that names that replica as its sender and k
+-- as its receiver had been sent to k by it.
 abbrev pub NobodyBorrows : List ℕ → ℕ → List Event → Type 0
 NobodyBorrows peers n h =
     (i j k address reading : ℕ) (bytes : List ℕ) (c : Cluster) (d : Datagram) →
     IsAt n h i c (Event.Takes k (Turn.In address bytes) reading) → slice_get peers j ≡ Some address →
     datagram_of bytes ≡ Some d → IsFromTo j k d → WasSentBy n h i j k d
 
--- So it suffices that addresses are not forged, if what names a sender is taken from its address alone.
+-- It suffices that addresses are not forged, if datagrams that name a sender are accepted from its address only.
 abbrev pub AddressesSuffice : Type 0
 AddressesSuffice =
     (n : ℕ) (ls : List Life) (h : List Event) (peers : List ℕ) →

@@ -1,4 +1,4 @@
--- Sheets of a cluster's nodes, and what they are replayed to.
+-- Sheets of a cluster's nodes, and their replays.
 use Rattle.std.specs.Prelude.{◌≡◌, ℕ, ◌≤◌, List, [], ◌++◌}
 use Rattle.crsm_spec.specs.Lists.{Among, IsPrefixOf}
 use Rattle.crsm_spec.specs.Draft.{Draft}
@@ -14,7 +14,7 @@ use Rattle.crsm_law_cluster.specs.HistoryLaws.{HasShortLogs}
 use Rattle.crsm_law_lives.specs.Premises.{Ran}
 use Rattle.crsm_law_lives.specs.Laws.{IsRightStep}
 
--- The lines are the sheet of a process: of the bodies that it found, and of all turns that it kept or the first of them.
+-- The lines are the sheet of a process: the bodies that it found, and all turns that it kept or the first of them.
 pub record IsSheetOf (n : ℕ) (l : Life) (lines : List SheetLine) : Type 0 where
   pub bodies : List (List ℕ)
   pub turns : List (Turn × ℕ)
@@ -29,7 +29,7 @@ pub record ShowsRight (n : ℕ) (h : List Event) (me first : ℕ) (lines : List 
   pub is : text ≡ shown_text first lines steps ++ final
   pub right : (x : Draft) → Among steps x → IsRightStep n h me x
 
--- What the sheet of any process of a cluster's nodes is replayed to is right.
+-- The replay of the sheet of any process of a cluster's nodes is right.
 abbrev pub SheetsAreRight : Type 0
 SheetsAreRight =
     (n : ℕ) (ls : List Life) (h : List Event) → n ≤ 15 → Ran n ls h → HasShortLogs (last_cluster n h) →

@@ -1,4 +1,4 @@
--- Lists of what is still to happen by a plan.
+-- Lists of the pending events of a plan.
 use Rattle.std.specs.Prelude.{◌≡◌, ◌⊎◌, ℕ, ◌+◌, ◌<◌, List, [], ◌∷◌, ◌++◌, length, map}
 use Rattle.std.specs.List.{AllByRecursion}
 use Rattle.crsm_spec.specs.Lists.{Among}
@@ -15,7 +15,7 @@ abbrev pub IsAhead : Timed → List Timed → Type 0
 IsAhead f [] = Unit {0}
 IsAhead f (g ∷ gs) = Precedes f g
 
--- It is put behind those that it does not precede, and before the first that it precedes.
+-- The event is inserted after those that it does not precede, before the first that it precedes.
 pub record IsPut (f : Timed) (old new : List Timed) : Type 0 where
   pub before : List Timed
   pub after : List Timed
@@ -32,7 +32,8 @@ number_of (Single.Tick k t) = 1 + k
 number_of (Single.Go i t) = 16 + i
 number_of _ = 0
 
--- These are to happen in this order, of all that has to and whose number is less than this one; what has happened has such numbers.
+-- These are the pending events, in order, with numbers below this one; the events that have happened have such numbers
+-- too.
 pub record IsPending (plan : Plan) (es : List Timed) (known : ℕ) (pending : List Timed) : Type 0 where
   pub ordered : InOrder pending
   pub due : (f : Timed) → Among pending f → IsDue plan es f
@@ -40,7 +41,7 @@ pub record IsPending (plan : Plan) (es : List Timed) (known : ℕ) (pending : Li
   pub all : (f : Timed) → IsDue plan es f → number_of f.does < known → Among es f ⊎ Among pending f
   pub below : (f : Timed) → Among es f ⊎ Among pending f → number_of f.does < known
 
--- all that is still to happen by what has happened so far
+-- all pending events, after those that have happened
 abbrev pub IsAgenda : Plan → List Timed → List Timed → Type 0
 IsAgenda plan es pending = IsPending plan es (16 + length (sent plan es)) pending
 
@@ -49,7 +50,7 @@ unfoldable pub delivery_of : Plan → ℕ → Post → Timed
 delivery_of plan sent_at p =
     let moment = sent_at + delay_of plan p.from p.to in record { moment = moment; does = Single.Go p.number (reading plan p.to moment) }
 
--- all that is still to happen, but for the deliveries of these datagrams, which were sent at this moment
+-- all pending events, except the deliveries of these datagrams, which were sent at this moment
 pub record LacksPosts (plan : Plan) (es pending : List Timed) (posts : List Post) (moment : ℕ) : Type 0 where
   pub prefix : List Sent
   pub rest : List Sent

@@ -1,4 +1,4 @@
--- How a plan is followed event by event.
+-- Following a plan event by event.
 use Rattle.std.specs.Prelude.{◌≡◌, ◌≢◌, ◌⊎◌, ℕ, ◌+◌, ◌<◌, ◌≤◌, List, [], ◌∷◌, ◌++◌, length}
 use Rattle.crsm_spec.specs.Acts.{Act}
 use Rattle.crsm_spec.specs.Moments.{act}
@@ -9,7 +9,7 @@ use Rattle.crsm_law_pending.specs.Posts.{Post, posts}
 use Rattle.crsm_law_timing.specs.SoFar.{IsNext, IsSoFar, world_after}
 use Rattle.crsm_law_pending.specs.Agendas.{IsAgenda, IsPending, IsPut, LacksPosts, delivery_of}
 
--- The command is put in first, and then the tick of each replica in turn that has one.
+-- The command's arrival is inserted first, and then the tick of each replica that has one.
 pub record AgendasBegin : Type 0 where
   pub none : (plan : Plan) → IsPending plan [] 0 []
   pub request : (plan : Plan) (old new : List Timed) → FitsPlan plan → IsPending plan [] 0 old → IsPut (request plan) old new → IsPending plan [] 1 new
@@ -19,7 +19,8 @@ pub record AgendasBegin : Type 0 where
       IsPending plan [] (1 + k) old → IsPending plan [] (2 + k) old
   pub whole : (plan : Plan) (old : List Timed) → FitsPlan plan → IsPending plan [] (1 + plan.n) old → IsAgenda plan [] old
 
--- The first event is the next one, its lines tell of what it sends, and the delivery of each datagram of these is put in.
+-- The first event is the next one, its lines name what it sends, and the delivery of each of these datagrams is
+-- inserted.
 pub record AgendasGoOn : Type 0 where
   pub next : (plan : Plan) (es rest : List Timed) (e : Timed) → FitsPlan plan → IsAgenda plan es (e ∷ rest) → IsNext plan es e
   pub told : (plan : Plan) (es rest : List Timed) (e : Timed) → FitsPlan plan → IsSoFar plan es → IsAgenda plan es (e ∷ rest) →
@@ -28,7 +29,7 @@ pub record AgendasGoOn : Type 0 where
       LacksPosts plan es old (p ∷ left) moment → IsPut (delivery_of plan moment p) old new → LacksPosts plan es new left moment
   pub whole : (plan : Plan) (es pending : List Timed) (moment : ℕ) → LacksPosts plan es pending [] moment → IsAgenda plan es pending
 
--- Where nothing is to happen any more, it is a timeline; and few events happen.
+-- Once no event is pending, the events are a timeline; and they are few.
 pub record AgendasEnd : Type 0 where
   pub ends : (plan : Plan) (es : List Timed) → FitsPlan plan → IsSoFar plan es → IsAgenda plan es [] → IsTimeline plan es
   pub few : (plan : Plan) (es : List Timed) → FitsPlan plan → IsSoFar plan es → length es ≤ 200016

@@ -1,5 +1,5 @@
-//! What is still to happen by a plan: a list of it that is kept while the plan is followed event by event becomes empty.
-//! It rests on what the lines of an event tell of the datagrams that the event sends.
+//! The pending events of a plan: a list of them, kept while the plan is followed event by event, becomes empty. This
+//! rests on the lines of an event, which name each datagram that the event sends.
 #![tactic(auto)]
 
 ghost use Rattle.crsm_law_pending.specs.Posts.{SendsAreTold};
@@ -8,27 +8,27 @@ ghost use Rattle.crsm_law_pending.specs.Following.{AgendasBegin, AgendasEnd, Age
 use crsm_fact_step::steps_are_changes;
 use crsm_law_timing::events_end_whole;
 
-/// The lines of a step tell of each datagram that it sends, in order, with its number, and of no other.
+/// The lines of a step name each datagram that it sends, in order, with its number, and no others.
 pub fn sends_are_told()
     ensures { SendsAreTold }
 {
     steps_are_changes();
 }
 
-/// Before anything was sent, the command and the ticks are to happen.
+/// Before anything was sent, the pending events are the command's arrival and the ticks.
 pub fn agendas_begin()
     ensures { AgendasBegin }
 {}
 
-/// The first event of an agenda is the next one. The rest is an agenda after it, once the deliveries of what it sends are put in,
-/// and its lines tell of these.
+/// The first pending event is the next one. The others, with the deliveries of what it sends inserted, are the pending
+/// events after it, and its lines name these datagrams.
 pub fn agendas_go_on()
     ensures { AgendasGoOn }
 {
     sends_are_told();
 }
 
-/// Where nothing is to happen any more, what has happened is a timeline; and this comes after few events.
+/// Once no event is pending, what has happened is a timeline; and this takes a bounded number of events.
 pub fn agendas_end()
     ensures { AgendasEnd }
 {

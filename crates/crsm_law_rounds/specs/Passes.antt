@@ -1,4 +1,4 @@
--- What two calm rounds do, pass by pass.
+-- The effect of two calm rounds, pass by pass.
 use Rattle.std.specs.Prelude.{◌≡◌, ◌≢◌, ℕ, ◌≤◌, false, List, ◌++◌, length, map, Contains}
 use Rattle.crsm_spec.specs.Types.{Entry, Rec, InEpoch}
 use Rattle.crsm_spec.specs.Replica.{Replica, frames_to, next_from, unacked}
@@ -7,8 +7,8 @@ use Rattle.crsm_spec.specs.Acts.{Single, Act}
 use Rattle.crsm_spec.specs.Run.{ArePossible, after_acts, last_world}
 use Rattle.crsm_spec.specs.Calm.{IsUpAs, IsCalm, IsCalmReading, calm_round}
 
--- After a possible run of n replicas the state is calm, and two rounds at these readings are calm and possible and leave the world
--- not full.
+-- After a possible run of n replicas the state is calm, and two rounds at these readings are calm and possible and
+-- leave the world not full.
 pub record AreCalmRounds (n : ℕ) (acts : List Act) (e : ℕ) (members : List ℕ) (t u : ℕ) : Type 0 where
   pub some : 1 ≤ n
   pub most : n ≤ 15
@@ -23,12 +23,12 @@ pub record AreCalmRounds (n : ℕ) (acts : List Act) (e : ℕ) (members : List �
 unfoldable pub ticks_of : List ℕ → ℕ → List Act
 ticks_of members reading = map (λ k. Act.One (Single.Tick k reading)) members
 
--- each frame that a member had pushed to another in the first world is taken in the second
+-- each frame that a member had pushed to another in the first world is received in the second
 abbrev pub AllTaken : List ℕ → World → World → Type 0
 AllTaken members v w =
     (k j : ℕ) (r q : Replica) → Contains members k → Contains members j → k ≢ j → IsUpAs v k r → IsUpAs w j q → length (frames_to r j) ≤ next_from q k
 
--- In each of the two rounds all frames of a link that were pushed before the settle are taken in it.
+-- In each of the two rounds all frames of a link that were pushed before the settle are received in it.
 abbrev pub FramesAreTaken : Type 0
 FramesAreTaken =
     (n : ℕ) (acts : List Act) (e : ℕ) (members : List ℕ) (t u : ℕ) → AreCalmRounds n acts e members t u →
@@ -36,8 +36,8 @@ FramesAreTaken =
     × AllTaken members (after_acts (last_world n acts) (calm_round members t ++ ticks_of members u))
     (after_acts (last_world n acts) (calm_round members t ++ calm_round members u))
 
--- When the second round begins a link has at most 49 unacknowledged frames: 16 from before the first round, 16 for stamps that were
--- owed then, 16 for entries that were logged in it, and one clock time.
+-- When the second round begins a link has at most 49 unacknowledged frames: 16 from before the first round, 16 for
+-- acknowledgements that were pending then, 16 for entries logged in it, and one clock time.
 abbrev pub LinksStayShort : Type 0
 LinksStayShort =
     (n : ℕ) (acts : List Act) (e : ℕ) (members : List ℕ) (t u : ℕ) → AreCalmRounds n acts e members t u →

@@ -9,8 +9,8 @@ use Rattle.crsm_spec.specs.Moments.{use_up}
 use Rattle.crsm_law_steps.specs.Happenings.{WasSent}
 use Rattle.crsm_law_active.specs.Staying.{IsCalmInput}
 
--- World v has gone on, at one reading, by ticks of active replicas, the last one first, and by datagrams that came. What came to a
--- replica of which C holds was calm input.
+-- World v has advanced, at one reading, by ticks of active replicas, the last one first, and by deliveries. Each
+-- replica with property C received calm input only.
 pub data GoesCalmly (t : ℕ) (C : ℕ → Type 0) (v : World) : List ℕ → World → Type 0 where
   stay : GoesCalmly t C v [] v
   marks : {ticks : List ℕ} {w : World} (i : ℕ) → GoesCalmly t C v ticks w → GoesCalmly t C v ticks (use_up i w)

@@ -1,4 +1,4 @@
--- The last world that is looked at, its one list, and the worlds on the way to it: of a run, of a history, of any happenings.
+-- The last world considered, its one list, and the worlds on the way to it: of a run, of a history, of any happenings.
 use Rattle.std.specs.Prelude.{◌≡◌, ℕ, ◌+◌, ◌<◌, ◌≤◌, List, ◌++◌, take, length, Contains, Some, slice_get}
 use Rattle.std.specs.List.{AllByRecursion}
 use Rattle.crsm_spec.specs.Types.{Entry, Decision}
@@ -16,9 +16,9 @@ pub record IsLast (n : ℕ) (end : World) (list : List Entry) : Type 0 where
   pub most : n ≤ 15
   pub reached : IsReached n end
   pub short : HasShortLogs end
-  -- each executed list, now or earlier, is a prefix of it
+  -- each executed list, at any moment, is a prefix of it
   pub prefix : (k : ℕ) (log : Log) → Extends log (log_at end k) → IsPrefixOf (executed log) list
-  -- and it is such a list itself
+  -- and it is an executed list itself
   pub held : (p : ℕ) (e : Entry) → slice_get list p ≡ Some e → (k : ℕ) × (log : Log) × Extends log (log_at end k) × (slice_get (executed log) p ≡ Some e)
 
 -- a world on the way to the last

@@ -1,4 +1,4 @@
--- What every world of a possible run gives, and what the one list of a run is.
+-- Properties of every world of a possible run, and the one list of a run.
 use Rattle.std.specs.Prelude.{◌≡◌, ◌⊎◌, ℕ, ◌≤◌, List, []}
 use Rattle.std.specs.List.{AllByRecursion}
 use Rattle.crsm_spec.specs.Lists.{IsPrefixOf}
@@ -11,19 +11,20 @@ use Rattle.crsm_law_steps.specs.Laws.{LogsGoOn}
 use Rattle.crsm_law_steps.specs.Happenings.{IsReached}
 use Rattle.crsm_law_bounds.specs.Bounds.{IsSpelt}
 
--- a world of a run: it is reached, all in it has a spelling, and its logs go on to those of the last world
+-- a world of a run: happenings reach it, everything in it can be encoded, and the logs of the last world extend its
+-- logs
 pub record IsOnTheWay (n : ℕ) (acts : List Act) (w : World) : Type 0 where
   pub reached : IsReached n w
   pub spelt : IsSpelt n w
   pub goes_on : LogsGoOn w (last_world n acts)
 
--- Every world of every possible run of at most 15 replicas is such a one, and so is the last.
+-- Every world of every possible run of at most 15 replicas is such a world, and so is the last.
 abbrev pub WorldsAreOnTheWay : Type 0
 WorldsAreOnTheWay =
     (n : ℕ) (acts : List Act) → n ≤ 15 → ArePossible (begin n) acts → AllByRecursion (IsOnTheWay n acts) (all_worlds n acts) × IsOnTheWay n acts (last_world n acts)
 
--- The one list is empty, or what some replica has executed by the end or earlier; each executed list of the run is a prefix of
--- it, and so is that of each log by the end or earlier.
+-- The one list is empty, or an executed list of some replica; each executed list of the run, and of each log at any
+-- moment, is a prefix of it.
 pub record IsTheList (n : ℕ) (acts : List Act) : Type 0 where
   pub is : (the_list n acts ≡ []) ⊎ ((k : ℕ) × (log : Log) × Extends log (log_at (last_world n acts) k) × (the_list n acts ≡ executed log))
   pub prefixes : AllByRecursion (λ es. IsPrefixOf es (the_list n acts)) (all_lists n acts)

@@ -1,4 +1,4 @@
--- What is seen on the way to a world: the lines of the first boots, and those of each moment with the act that led to it.
+-- The transcript on the way to a world: the lines of the first boots, and those of each moment with its act.
 use Rattle.std.specs.Prelude.{ℕ, List, ◌++◌, map, Some, None}
 use Rattle.crsm_spec.specs.World.{World, Moment, begin, first_lines}
 use Rattle.crsm_spec.specs.Acts.{Act}

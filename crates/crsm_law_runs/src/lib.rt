@@ -1,4 +1,4 @@
-//! Every possible run is safe, and nothing that was answered is lost.
+//! Safety and durability of every possible run.
 #![tactic(auto)]
 
 ghost use Rattle.crsm_spec.specs.Safe.{IsSafe};
@@ -6,18 +6,19 @@ ghost use Rattle.crsm_law_runs.specs.Laws.{AnsweredAreKept};
 ghost use Rattle.crsm_law_runs.specs.Runs.{WorldsAreOnTheWay, ListIsOne};
 ghost use Rattle.crsm_law_runs.specs.DurableLaws.{DecisionsAlwaysAgree, DecisionsAreChosen, ExecutedAreDurable};
 
-/// Of every possible run of 1 to 15 replicas: its executed lists agree, its answers are right, and it keeps real time.
+/// Every possible run of 1 to 15 replicas is safe: its executed lists agree, its answers are right, and it keeps real
+/// time.
 pub fn runs_are_safe()
     ensures { IsSafe }
 {}
 
-/// From the moment of its answer on an entry is kept by a majority of the replica set of its epoch, and by every later
-/// decision.
+/// From its answer on, an entry is held by a majority of the replica set of its epoch, and by every later decision.
 pub fn answered_are_kept()
     ensures { AnsweredAreKept }
 {}
 
-/// Each world of a possible run of at most 15 replicas is reached, all in it has a spelling, and its logs go on to the end.
+/// Happenings reach each world of a possible run of at most 15 replicas, everything in it can be encoded, and the logs
+/// of the last world extend its logs.
 pub fn worlds_are_on_the_way()
     ensures { WorldsAreOnTheWay }
 {}
@@ -27,19 +28,19 @@ pub fn list_is_one()
     ensures { ListIsOne }
 {}
 
-/// Decisions of one epoch are equal, and what each begins its epoch with agrees with the one list.
+/// Decisions of one epoch are equal, and the beginning of each epoch agrees with the one list.
 pub fn decisions_always_agree()
     ensures { DecisionsAlwaysAgree }
 {}
 
-/// Each decision that is kept was accepted in one ballot by a majority of the replica set of the epoch before it, all of whom
-/// hold the entries that it stands on.
+/// Each recorded decision was accepted in one ballot by a majority of the replica set of the epoch before it, all of
+/// whom hold its base.
 pub fn decisions_are_chosen()
     ensures { DecisionsAreChosen }
 {}
 
-/// An entry that some replica has executed is kept by a majority from then on, at its place, and each later epoch begins with
-/// it.
+/// An entry that some replica has executed is held by a majority from then on, at its place, and each later epoch
+/// begins with it.
 pub fn executed_are_durable()
     ensures { ExecutedAreDurable }
 {}

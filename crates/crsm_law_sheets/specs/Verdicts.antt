@@ -1,4 +1,4 @@
--- What may be wrong with sheets, in the order in which it is looked for.
+-- The faults of sheets, in the order in which they are looked for.
 use Rattle.std.specs.Prelude.{◌≡◌, ◌≢◌, ℕ, ◌+◌, ◌<◌, List, ◌++◌, Some, map, slice_get, take}
 use Rattle.std.specs.List.{AllByRecursion}
 use Rattle.crsm_spec.specs.Types.{Stamp, Entry, Line}
@@ -9,7 +9,7 @@ use Rattle.crsm_law_sheets.specs.Sheets.{Sheet, list_of, last_log, one_list, ste
 
 -- ---- lists
 
--- the list has an entry at this place that the other one does not have there, and before it they are equal
+-- the list has an entry at this index that the other does not have there, and before it they are equal
 abbrev pub DiffersAt : List Entry → List Entry → ℕ → Type 0
 DiffersAt es one p = (e : Entry) × (slice_get es p ≡ Some e) × (slice_get one p ≢ Some e) × (take p es ≡ take p one)
 
@@ -17,7 +17,7 @@ DiffersAt es one p = (e : Entry) × (slice_get es p ≡ Some e) × (slice_get on
 abbrev pub HasNamed : List Entry → ℕ → Stamp → Type 0
 HasNamed es epoch stamp = (p : ℕ) × (e : Entry) × (slice_get es p ≡ Some e) × (e.epoch ≡ epoch) × (e.stamp ≡ stamp)
 
--- all lines of a step: of its records, of refused collections and of its replies
+-- all lines of a step: of its records, of collections beyond their limits, and of its replies
 abbrev pub lines_told : Draft → List Line
 lines_told x = (x.lines ++ x.excess) ++ map (λ a. a.line) x.replies
 
@@ -26,7 +26,8 @@ module _ (n : ℕ) (sheets : List Sheet) where
   abbrev pub AreInOne : List Sheet → Type 0
   AreInOne some = AllByRecursion (λ s. IsPrefixOf (list_of n s) (one_list n sheets)) some
 
-  -- The list of this sheet is the first that is no prefix of the one list, and this is the first place where it differs.
+  -- The list of this sheet is the first that is no prefix of the one list, and this is the first index at which it
+  -- differs.
   abbrev pub IsOddList : ℕ → ℕ → Type 0
   IsOddList i p = (s : Sheet) × (slice_get sheets i ≡ Some s) × DiffersAt (list_of n s) (one_list n sheets) p × AreInOne (take i sheets)
 
@@ -39,17 +40,17 @@ module _ (n : ℕ) (sheets : List Sheet) where
     pub me : s.me ≡ k
     pub last : (j : ℕ) (t : Sheet) → i < j → slice_get sheets j ≡ Some t → t.me ≢ k
 
-  -- an entry of the one list whose origin has a sheet, and never logged it by its last one
+  -- an entry of the one list whose origin has a sheet but never logged the entry
   abbrev pub IsStrange : ℕ → Type 0
   IsStrange p = (e : Entry) × (slice_get (one_list n sheets) p ≡ Some e) × (s : Sheet) × IsLastOf e.stamp.origin s × (Logged (last_log n s) e → ⊥)
 
-  -- this place is the first with a stranger
+  -- this index is the first with such an entry
   abbrev pub IsStranger : ℕ → Type 0
   IsStranger p = IsStrange p × ((q : ℕ) → q < p → IsStrange q → ⊥)
 
   -- ---- dropped commands
 
-  -- At this line of the sheet its step tells that the entry of this epoch and stamp was dropped.
+  -- At this line of the sheet the step reports that the entry with this epoch and stamp was dropped.
   pub record Drops (s : Sheet) (line epoch : ℕ) (stamp : Stamp) : Type 0 where
     pub i : ℕ
     pub step : Draft
@@ -60,14 +61,14 @@ module _ (n : ℕ) (sheets : List Sheet) where
     pub number : ℕ
     pub told : Among (lines_told step) (Line.ReplyDropped replica client number epoch stamp)
 
-  -- and yet the one list has it
+  -- the sheet reports an entry as dropped that the one list has
   abbrev pub DropsExecuted : Sheet → ℕ → Type 0
   DropsExecuted s line = (epoch : ℕ) × (stamp : Stamp) × Drops s line epoch stamp × HasNamed (one_list n sheets) epoch stamp
 
   abbrev pub DropsNone : Sheet → Type 0
   DropsNone s = (line : ℕ) → DropsExecuted s line → ⊥
 
-  -- this line of this sheet is the first of these
+  -- this line of this sheet is the first that does
   abbrev pub IsDropped : ℕ → ℕ → Type 0
   IsDropped i line =
       (s : Sheet) × (slice_get sheets i ≡ Some s) × DropsExecuted s line × AllByRecursion DropsNone (take i sheets)
@@ -81,7 +82,7 @@ module _ (n : ℕ) (sheets : List Sheet) where
   abbrev pub NoneDropped : Type 0
   NoneDropped = AllByRecursion DropsNone sheets
 
-  -- nothing is wrong with the sheets
+  -- the sheets have none of these faults
   pub record Agree : Type 0 where
     pub lists : AreInOne sheets
     pub stranger : NoStranger

@@ -1,4 +1,4 @@
--- The laws of moments and of runs.
+-- The laws of moments and runs.
 use Rattle.std.specs.Prelude.{◌≡◌, ◌⊎◌, ℕ, ◌<◌, IsTrue, false, List, [], ◌∷◌, length}
 use Rattle.std.specs.List.{AllByRecursion}
 use Rattle.crsm_spec.specs.Types.{Rec, Line}
@@ -17,19 +17,19 @@ use Rattle.crsm_fact_log.specs.Logs.{Extends}
 
 -- ---- logs
 
--- the log of each replica goes on
+-- each replica's log in the first world is extended by that in the second
 abbrev pub LogsGoOn : World → World → Type 0
 LogsGoOn v w = (k : ℕ) → Extends (log_at v k) (log_at w k)
 
--- No log of any run ever loses a record: that of each world goes on to the last world's.
+-- No log of any run ever loses a record: each log is extended by the one in the last world.
 abbrev pub LogsGrow : Type 0
 LogsGrow =
     (n : ℕ) (acts : List Act) → ArePossible (begin n) acts → AllByRecursion (λ w. LogsGoOn w (last_world n acts)) (all_worlds n acts)
 
 -- ---- stops
 
--- Of a step whose batch is not kept nothing is sent and no client is answered: its records are on the disk when the
--- moment is over, or the network is as before and the only line tells that the replica is down.
+-- If a step's batch is not kept, none of its datagrams and replies is sent: either its records are on the disk when the
+-- moment is over, or the network is unchanged and the only line is that the replica is down.
 abbrev pub KeptBeforeSent : Type 0
 KeptBeforeSent =
     (w : World) (k : ℕ) (r : Replica) (input : Input) (reading : ℕ) (m : Moment) → k < length w.sites → Ends w k (step r input reading) m →
@@ -37,7 +37,7 @@ KeptBeforeSent =
 
 -- ---- runs
 
--- Every moment of a run is one that can happen, and every world of it is reached by such moments.
+-- Every moment of a run can happen in its world, so happenings reach every world of the run.
 pub record IsRunOf (n : ℕ) (acts : List Act) : Type 0 where
   pub goes_on : GoOn (begin n) (moments_of_run n acts)
   pub reached : AllByRecursion (IsReached n) (all_worlds n acts)

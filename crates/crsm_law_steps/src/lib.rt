@@ -1,11 +1,11 @@
-//! Laws of moments and of runs: each moment of a run is one of a few kinds of happenings.
+//! Laws of single moments and of runs: each moment of a run is a happening of one of a few kinds.
 //!
-//! A law about runs is an induction over happenings, and never speaks of an act; what a step does is told by its changes.
+//! A law about runs is an induction over happenings and never mentions an act; the changes of a step say what it does.
 #![tactic(auto)]
 
 ghost use Rattle.crsm_law_steps.specs.Laws.{LogsGrow, KeptBeforeSent, RunsAreReached};
 
-/// Every moment of every possible run is a happening, and every world of it is reached by happenings.
+/// Every moment of every possible run is a happening, so happenings reach every world of the run.
 pub fn runs_are_reached()
     ensures { RunsAreReached }
 {}
@@ -15,7 +15,7 @@ pub fn logs_grow()
     ensures { LogsGrow }
 {}
 
-/// A step that is stopped before its records are kept sends nothing and answers nobody.
+/// A step that stops before its records are kept sends no datagram and no reply.
 pub fn kept_before_sent()
     ensures { KeptBeforeSent }
 {}

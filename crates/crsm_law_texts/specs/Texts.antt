@@ -1,4 +1,4 @@
--- What texts tell: which event a line of a schedule spells, and which lines a transcript has.
+-- Texts are unambiguous: of one event for a schedule line, and of one list of lines for a transcript.
 use Rattle.std.specs.Prelude.{◌≡◌, ℕ, ◌<◌, ◌≤◌, ◌^◌, List, [], ◌∷◌, map, length, Option, Some, None}
 use Rattle.std.specs.List.{AllByRecursion, flat_map}
 use Rattle.hex.specs.Hex.{IsBytes}
@@ -21,7 +21,7 @@ EventsHaveOneText = (e f : Event) → FitsEvent e → FitsEvent f → event_text
 abbrev pub FirstLinesHaveOneText : Type 0
 FirstLinesHaveOneText = (m n : ℕ) → IsSize m → IsSize n → first_text m ≡ first_text n → m ≡ n
 
--- it has no line feed, and no more bytes than a line may have
+-- the text has no line feed, and at most the maximum number of bytes of a line
 abbrev pub IsLine : List ℕ → Type 0
 IsLine text = Lacks 10 text × (length text ≤ 16777216)
 
@@ -42,7 +42,7 @@ bytes_in_answer (Found val) = val
 bytes_in_answer (Differs (Some val)) = val
 bytes_in_answer answer = []
 
--- the numbers that a line has
+-- the numbers in a line
 abbrev pub numbers_in : Line → List ℕ
 numbers_in (Boot replica count) = replica ∷ count ∷ []
 numbers_in (Submit replica epoch time client number) = replica ∷ epoch ∷ time ∷ client ∷ number ∷ []
@@ -64,7 +64,7 @@ numbers_in (Final replica state known executed) = replica ∷ known ∷ executed
 numbers_in (Out receiver bytes) = receiver ∷ []
 numbers_in (Back address bytes) = address ∷ []
 
--- the bytes that a line has
+-- the bytes in a line
 abbrev pub bytes_in : Line → List ℕ
 bytes_in (Exec replica place epoch stamp client number answer) = bytes_in_answer answer
 bytes_in (Send index sender receiver kind bytes) = bytes
@@ -73,12 +73,12 @@ bytes_in (Out receiver bytes) = bytes
 bytes_in (Back address bytes) = bytes
 bytes_in line = []
 
--- numbers of 64 bits, and bytes: so is every line in memory
+-- numbers below 2^64, and bytes: as in every line in memory
 pub record FitsLine (line : Line) : Type 0 where
   pub numbers_fit : AllByRecursion (λ n. n < 2 ^ 64) (numbers_in line)
   pub are_bytes : IsBytes (bytes_in line)
 
--- a line, and the number of the line of input that led to it
+-- a line, and the number of the input line that caused it
 pub record Printed : Type 0 where
   pub at : ℕ
   pub line : Line

@@ -1,4 +1,4 @@
--- When a command commits.
+-- The laws of the moment at which a command commits.
 use Rattle.std.specs.Prelude.{◌≡◌, ℕ, ◌<◌, List, [], ◌∷◌}
 use Rattle.crsm_spec.specs.Lists.{Among}
 use Rattle.crsm_spec.specs.World.{begin}
@@ -18,7 +18,7 @@ CommandsCommitInTime =
     (plan : Plan) (es : List Timed) → FitsPlan plan → IsTimeline plan es → (i : ℕ) → i < plan.n →
     exec_moments plan i es ≡ commit_at plan i ∷ []
 
--- There is a timeline, and in it a replica waits for its clock.
+-- There is a timeline in which a replica waits for its clock.
 pub record WaitsForClock : Type 0 where
   pub plan : Plan
   pub events : List Timed

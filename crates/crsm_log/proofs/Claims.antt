@@ -1,4 +1,4 @@
--- What a claim makes of a log.
+-- The effect of a claim on a log.
 use Rattle.std.proofs.Common.{◌≡◌, IsTrue, inl, inr, ⊎_elim, ℕ, ◌+◌, ◌-◌, List, [], ◌∷◌, ◌++◌, length, nat_lt, Ok, Err, refl, sym, ◌∙◌, ap, subst, arith, ◌≤◌, Bool, true, false, not, if◌then◌else◌, ◌==◌}
 use Rattle.std.specs.Prelude.{Option, Some, None}
 use Rattle.std.proofs.lemmas.Bool.Decides.{nat_tests}

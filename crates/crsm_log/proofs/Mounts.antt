@@ -1,4 +1,4 @@
--- What a mount leaves of a disk.
+-- The effect of a mount on a disk.
 use Rattle.std.proofs.Common.{◌≡◌, ◌≤◌, IsTrue, inl, inr, false, ℕ, ◌+◌, ◌-◌, ◌<◌, List, [], ◌∷◌, ◌++◌, length, get_or, drop, replicate, refl, sym, ◌∙◌, ap, subst, arith, length-drop}
 use Rattle.std.specs.Prelude.{Option, Some, None}
 use Rattle.std.proofs.lemmas.Bool.Decides.{nat_tests}

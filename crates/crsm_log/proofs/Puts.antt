@@ -1,4 +1,4 @@
--- What the two writes of a put leave of a settled file.
+-- The effect of the two writes of a put on a settled file.
 use Rattle.std.proofs.Common.{◌≡◌, ◌≢◌, IsTrue, inl, inr, ℕ, ◌+◌, ◌-◌, ◌<◌, ◌≤◌, min, List, [], ◌∷◌, ◌++◌, length, get_or, take, drop, replicate, refl, sym, ◌∙◌, ap, subst, arith, append_assoc, length-append, length-take, take-append-drop, Bool, true, false, nat_lt}
 use Rattle.std.proofs.lemmas.Bool.{cases_eq}
 use Rattle.std.proofs.lemmas.Bool.Decides.{nat_tests}

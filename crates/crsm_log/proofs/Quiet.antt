@@ -1,4 +1,4 @@
--- After a sync a disk is quiet.
+-- After a sync a crash leaves what a read returns.
 use Rattle.std.proofs.Common.{◌≡◌, IsTrue, [], ◌∷◌, refl, ◌∙◌, ap}
 use Rattle.std.specs.Prelude.{Option, Some, None, true}
 use Rattle.crsm_disk.specs.Calls.{Call, History, noted, synced}

@@ -1,4 +1,4 @@
--- What a disk that was stopped in a put stands for.
+-- The bodies on a disk that was stopped during a put.
 use Rattle.std.proofs.Common.{false, ◌≡◌, IsTrue, inl, inr, ℕ, zero, suc, ◌+◌, ◌-◌, ◌<◌, ◌≤◌, min, List, [], ◌∷◌, ◌++◌, length, get_or, take, drop, replicate, refl, sym, ◌∙◌, ap, arith, append_assoc, length-append}
 use Rattle.std.proofs.lemmas.Bool.{cases_eq}
 use Rattle.std.proofs.lemmas.Bool.Decides.{nat_tests}

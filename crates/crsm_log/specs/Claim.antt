@@ -1,4 +1,4 @@
--- How a log is claimed for a cluster.
+-- Claiming a log for a cluster.
 use Rattle.std.specs.Prelude.{◌≡◌, ◌≢◌, ◌⊎◌, ℕ, ◌+◌, ◌<◌, List, [], ◌++◌, Bool, false, not, Option, Some, None, if◌then◌else◌, ◌==◌, IsTrue}
 use Rattle.crsm_base.specs.declared.limits.TheConstants.{MAX_LOG_BYTES}
 use Rattle.crsm_port_faults.specs.Plan.{Plan}
@@ -10,48 +10,48 @@ use Rattle.crsm_log.specs.declared.entry.LogContents.{LogContents}
 use Rattle.crsm_log.specs.declared.errors.ClaimError.{ClaimError}
 use Rattle.crsm_log.specs.declared.errors.ClaimError.TheVariants.{DiskFault, BadGate, OtherCluster, Full, NoMemory}
 
--- a log that names no cluster gets an entry, unless it is claimed for number 0
+-- whether a log that names this cluster, or none, needs an entry for the other
 abbrev pub wants_entry : Option ℕ → ℕ → Bool
 wants_entry None cluster = not (cluster == 0)
 wants_entry (Some named) cluster = false
 
--- the cluster that a log names once it is claimed
+-- the cluster that a log names after the claim
 abbrev pub claimed : Option ℕ → ℕ → Option ℕ
 claimed None cluster = if cluster == 0 then None else Some cluster
 claimed (Some named) cluster = Some named
 
--- it names no cluster, or this one
+-- the log names no cluster, or this one
 abbrev pub IsOpenTo : ℕ → Option ℕ → Type 0
 IsOpenTo cluster None = Unit {0}
 IsOpenTo cluster (Some named) = named ≡ cluster
 
--- the calls of a disk that claim this file
+-- the disk calls that claim this file
 abbrev pub entry_if : Bool → ℕ → ℕ → List Call
 entry_if wanted gate cluster = if wanted then entry_calls gate (cluster_entry cluster) else []
 
 abbrev pub claim_calls : List ℕ → ℕ → List Call
 claim_calls file cluster = mount_calls file ++ entry_if (wants_entry (cluster_of file) cluster) (gate_in file) cluster
 
--- and how many there are, with those that only read
+-- the number of disk calls of a claim, including those that read
 abbrev pub claim_count : List ℕ → ℕ → ℕ
 claim_count file cluster = mount_count file + (if wants_entry (cluster_of file) cluster then 4 else 0)
 
--- the bodies of before, and the cluster of before or the claimed one
+-- the bodies are those from before, and the cluster is that from before or the claimed one
 pub record IsClaimed (before : List ℕ) (cluster : ℕ) (file : List ℕ) : Type 0 where
   pub bodies : reading file ≡ reading before
   pub names : (cluster_of file ≡ cluster_of before) ⊎ (cluster_of file ≡ claimed (cluster_of before) cluster)
 
--- what a crash might have left before, or such a file
+-- bytes that a crash might have left before, or such a file
 abbrev pub IsClaimedOrBefore : Meaning → ℕ → List ℕ → Type 0
 IsClaimedOrBefore old cluster file = old.may_leave file ⊎ IsClaimed old.seen cluster file
 
--- what the disk held when the log was read
+-- the content of the disk when the log was read
 pub record Holds (old new : Meaning) (held : LogContents) : Type 0 where
   pub cluster : cluster_of old.seen ≡ held.cluster
   pub gate : gate_in old.seen ≡ held.gate
   pub unwritten : (new.seen ≡ old.seen) ⊎ ((held.gate ≡ 0) × (held.cluster ≡ None))
 
--- why a log that names this cluster, or none, is not claimed for that one
+-- the reason why a log that names this cluster, or none, is not claimed for the other
 abbrev pub Forbids : ℕ → Option ℕ → ℕ → ClaimError → Type 0
 Forbids gate named cluster DiskFault = ⊥
 Forbids gate named cluster (BadGate entry) = ⊥
@@ -69,7 +69,7 @@ pub record Claims (old new : Meaning) (cluster : ℕ) : Type 0 where
   pub history : new.history ≡ recorded (claim_calls old.seen cluster) old.history
   pub good : (p : Plan) → old.plan ≡ Some p → Used (claim_count old.seen cluster) p new.plan
 
--- it is refused for what it holds, and not for a failure
+-- the error is about the content, and not a failure
 abbrev pub IsOfContent : ClaimError → Type 0
 IsOfContent DiskFault = ⊥
 IsOfContent (BadGate entry) = Unit {0}
@@ -77,7 +77,7 @@ IsOfContent (OtherCluster named) = Unit {0}
 IsOfContent (Full end) = Unit {0}
 IsOfContent NoMemory = ⊥
 
--- it is not, and why
+-- the disk is not claimed, for this reason
 pub record RefusesClaim (old new : Meaning) (cluster : ℕ) (why : ClaimError) : Type 0 where
   pub bad_gate : (entry : ℕ) → why ≡ BadGate entry → reading old.seen ≡ bad entry
   pub other : (named : ℕ) → why ≡ OtherCluster named → (cluster_of old.seen ≡ Some named) × (named ≢ cluster)
@@ -87,10 +87,10 @@ pub record RefusesClaim (old new : Meaning) (cluster : ℕ) (why : ClaimError) :
   pub good : why ≡ DiskFault → MeetsIn (claim_count old.seen cluster) old.plan
   pub served : IsOfContent why → (p : Plan) → old.plan ≡ Some p → Serves 3 p.good
 
--- where an honest disk names no cluster, its closed gate is at this place, and it is to be claimed for a number but 0
+-- for an honest disk that names no cluster, with its closed gate here, and a claim for a number other than 0
 abbrev pub WhereUnclaimed : ℕ → Meaning → ℕ → Type 0 → Type 0
 WhereUnclaimed cluster old gate P = cluster ≢ 0 → cluster_of old.seen ≡ None → IsTrue old.honest → IsSettled old gate → P
 
--- it names the cluster, has the bodies of before, and the closed gate is behind the entry
+-- the log names the cluster, has the bodies from before, and its closed gate is after the entry
 abbrev pub AddsCluster : Meaning → Meaning → ℕ → ℕ → Type 0
 AddsCluster old new gate cluster = IsSettled new (gate + 13) × (reading new.seen ≡ reading old.seen) × (cluster_of new.seen ≡ Some cluster)

@@ -1,20 +1,20 @@
--- What a disk that was stopped in a put stands for.
+-- The bodies on a disk that was stopped during a put.
 use Rattle.std.specs.Prelude.{◌≡◌, ◌≢◌, ℕ, ◌<◌, List, [], ◌∷◌, ◌++◌, length, take, Some, IfSome, slice_index, nat_le, ◌==◌, ◌||◌, ◌&&◌, if◌then◌else◌}
 use Rattle.crsm_disk.specs.Calls.{History, contents}
 use Rattle.crsm_disk.specs.Image.{image_of}
 use Rattle.crsm_log.specs.Format.{reading, found, bodies_of, gate_in}
 use Rattle.crsm_log.specs.Log.{recorded, put_calls}
 
--- A body is kept where all four calls were made, or three and what was not synced holds the byte of an open gate.
+-- A body is kept if all four calls were made, or three and the fill is the byte of an open gate.
 abbrev pub kept : ℕ → ℕ → List (List ℕ) → List ℕ → List (List ℕ)
 kept made fill bodies body = if nat_le 4 made || (made == 3 && fill == 1) then bodies ++ body ∷ [] else bodies
 
--- the image of a disk that was stopped after so many calls of a put on this history reads as these bodies
+-- the image of a disk stopped after `made` calls of a put on this history holds these bodies
 abbrev pub StopKeeps : History → ℕ → List ℕ → ℕ → ℕ → Type 0
 StopKeeps h end body made fill =
     IfSome (recorded (take made (put_calls end body)) (Some h)) (λ g. reading (image_of g.first g.calls fill) ≡ found (kept made fill (bodies_of (contents h.first h.calls)) body))
 
--- the file is whole, and its closed gate stands at this place
+-- the file is whole, and its closed gate is at this offset
 pub record IsWhole (file : List ℕ) (end : ℕ) : Type 0 where
   pub whole : reading file ≡ found (bodies_of file)
   pub place : end ≡ gate_in file

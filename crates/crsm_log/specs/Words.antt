@@ -1,11 +1,11 @@
--- The parts of a log, for clauses of the crates above.
+-- The fields of a log, for contracts of the crates above.
 use Rattle.std.specs.Prelude.{Bool, ℕ}
 use Rattle.crsm_log.specs.declared.log.Log.{Log}
 
 abbrev pub disk_of : {D : Type 0} {g : _} → Log D g → D
 disk_of log = log.disk
 
--- the place of the closed gate
+-- the offset of the closed gate
 abbrev pub gate_of : {D : Type 0} {g : _} → Log D g → ℕ
 gate_of log = log.end
 

@@ -1,4 +1,4 @@
-//! A log is claimed for one cluster: an entry of its own names it, which is no body.
+//! Claiming a log for a cluster: an entry of its own kind, which is no body, names the cluster.
 
 ghost use Rattle.std.specs.Prelude.{◌≡◌, ◌≢◌, ◌+◌, ◌^◌, ◌≤◌, ℕ, IsTrue, IfOk, IfErr, OnOk, IsErrOf, true};
 ghost use Rattle.std.specs.Bool.{OnTrue};
@@ -13,26 +13,27 @@ use crate::errors::ClaimError;
 use crsm_disk::Disk;
 use std::alloc::Global;
 
-// The writes and syncs of a claim: the first sync, the two calls that make a closed gate, and the four of an entry.
+// Writes and syncs of a claim: the first sync, two calls that write a closed gate, and the four of an entry.
 const CALLS: u64 = 7;
 
-// The bytes that it writes: a closed gate, an entry of 13 bytes behind its gate, and the gate again.
+// Bytes that a claim writes: a closed gate, an entry of 13 bytes after its gate, and the gate again.
 const BYTES: u64 = 15;
 
-/// Claims the log on a disk for the cluster of this number. A log that names no cluster, as one that was written
-/// before clusters had numbers, gets an entry that names it. The number 0 stands for no cluster: it asks that the log
-/// names none, and writes no entry. A log of another cluster is refused, and the file is as it was.
+/// Claims the log on a disk for a cluster. A log that names no cluster, like those written before clusters had numbers,
+/// gets an entry that names this one. Number 0 stands for no cluster: the claim succeeds if the log names none, and
+/// writes no entry. A log of another cluster is refused, and the file is unchanged.
 ///
 /// # Errors
-/// `OtherCluster` where the log names another cluster, `BadGate` where it has a bad gate behind so many bodies, `Full`
-/// where its entry would pass the limit, `NoMemory` before any byte is written, and `DiskFault` where the disk failed.
+/// `OtherCluster` if the log names another cluster, `BadGate` if an open gate has no entry, with the number of bodies
+/// before it, `Full` if its entry would end past the limit, `NoMemory` before any byte is written, and `DiskFault` if
+/// the disk failed.
 pub fn claim<D: Disk>(alloc: Global, disk: &mut D, cluster: u64) -> Result<(), ClaimError>
     ensures goes { Goes (D.meaning disk.old) (D.meaning disk.new) }
     ensures fault { IsErrOf result ClaimError.DiskFault → Rose (D.meaning disk.old).faults (D.meaning disk.new).faults }
     ensures ok { IsTrue (D.meaning disk.old).honest → OnOk result (Claims (D.meaning disk.old) (D.meaning disk.new) cluster) }
     ensures err { IsTrue (D.meaning disk.old).honest → IfErr result (RefusesClaim (D.meaning disk.old) (D.meaning disk.new) cluster) }
 
-    // A crash at any moment of the call leaves the bodies from before it, and the cluster from before or the claimed one.
+    // A crash at any moment of the call leaves the same bodies, and the cluster from before or the claimed one.
     ensures any_moment { IsTrue (D.meaning disk.old).honest → LeavesOnly (D.meaning disk.old) (D.meaning disk.new) (IsClaimedOrBefore (D.meaning disk.old) cluster) }
 {
     let held = read_log(alloc, disk, CALLS, BYTES)?;
@@ -43,7 +44,7 @@ pub fn claim<D: Disk>(alloc: Global, disk: &mut D, cluster: u64) -> Result<(), C
     Ok(())
 }
 
-// Whether a log that names this cluster, or none, is to get an entry for that one.
+// Returns whether a log that names the cluster `named`, or none, needs an entry for `cluster`.
 fn asks_for_entry(gate: u64, named: Option<u64>, cluster: u64) -> Result<bool, ClaimError>
     requires { gate ≤ 2 ^ 62 }
     ensures open_to { IfOk result (λ wants. IsOpenTo cluster named) }

@@ -1,4 +1,4 @@
-//! The calls of a disk that a log makes.
+//! The disk calls of a log.
 
 ghost use Rattle.std.specs.Prelude.{◌≡◌, ◌+◌, ◌-◌, ◌^◌, ◌<◌, ◌≤◌, ℕ, List, [], ◌∷◌, length, IsTrue, IfOk, IfErr, OnOk, IsErrOf, Some, None};
 ghost use Rattle.crsm_disk.specs.Bytes.{overwritten, Torn};
@@ -17,7 +17,7 @@ use crsm_base::{Bodies, Failed, NoMemory};
 use crsm_disk::Disk;
 use std::alloc::Global;
 
-// Writes, and makes sure of it.
+// Writes and syncs.
 pub(crate) fn write_and_sync<D: Disk>(disk: &mut D, at: u64, bytes: &[u8]) -> Result<(), Failed>
     ensures ran { Ran (wrote at bytes.now ∷ synced ∷ []) (HasPlace 2 ((at - length (D.meaning disk.old).seen) + length bytes.now)) (D.meaning disk.old) (D.meaning disk.new) result }
     ensures plan { (p : Plan) → (D.meaning disk.old).plan ≡ Some p
@@ -31,7 +31,7 @@ pub(crate) fn write_and_sync<D: Disk>(disk: &mut D, at: u64, bytes: &[u8]) -> Re
     Ok(())
 }
 
-// Puts an entry behind the closed gate at this place, and then opens the gate.
+// Writes an entry after the closed gate at this offset, and then opens the gate.
 pub(crate) fn write_entry<D: Disk>(disk: &mut D, gate: u64, bytes: &[u8]) -> Result<(), Failed>
     requires { gate < 2 ^ 33 }
     ensures ran { (e : Entry) → bytes.now ≡ entry_bytes e
@@ -45,7 +45,7 @@ pub(crate) fn write_entry<D: Disk>(disk: &mut D, gate: u64, bytes: &[u8]) -> Res
     Ok(())
 }
 
-// Puts a body's entry.
+// Writes a body as an entry.
 pub(crate) fn write_body<D: Disk>(disk: &mut D, gate: u64, bytes: &[u8]) -> Result<(), Failed>
     requires { gate < 2 ^ 33 }
     ensures ran { (body : List ℕ) → bytes.now ≡ entry_bytes (body_entry body)
@@ -58,7 +58,7 @@ pub(crate) fn write_body<D: Disk>(disk: &mut D, gate: u64, bytes: &[u8]) -> Resu
     write_entry(disk, gate, bytes)
 }
 
-// Puts the first cluster entry.
+// Writes a cluster entry.
 pub(crate) fn write_cluster<D: Disk>(disk: &mut D, gate: u64, cluster: u64) -> Result<(), Failed>
     requires { gate < 2 ^ 33 }
     ensures ran { Ran (entry_calls gate (cluster_entry cluster)) (ServesPut gate 14 (D.meaning disk.old)) (D.meaning disk.old) (D.meaning disk.new) result }
@@ -69,10 +69,10 @@ pub(crate) fn write_cluster<D: Disk>(disk: &mut D, gate: u64, cluster: u64) -> R
     write_entry(disk, gate, &cluster_entry_of(cluster))
 }
 
-// No longer file is read: memory has no room for it.
+// Longer files are not read: no memory has room for them.
 const LONGEST: u64 = 1 << 62;
 
-// All the bytes, every one of them on the disk, and room for so many writes and syncs and so many written bytes.
+// Reads all bytes of the disk, syncs it, and reserves room for `calls` writes and syncs of `written` bytes.
 fn contents<D: Disk>(
     alloc: Global,
     disk: &mut D,
@@ -101,8 +101,8 @@ fn contents<D: Disk>(
     Ok(file)
 }
 
-// What the disk holds. A file that is too short for an entry gets a closed gate. Of the room for so many writes and
-// syncs and so many written bytes that is made first, at most three and one are used.
+// Reads what the disk holds. A file too short for an entry is given a closed gate. Of the room for writes and syncs and
+// their bytes that is reserved first, this uses at most three calls and one byte.
 pub(crate) fn read_log<D: Disk>(
     alloc: Global,
     disk: &mut D,

@@ -1,4 +1,4 @@
-//! Entries as bytes.
+//! Encoding and parsing of log file entries.
 
 ghost use Rattle.std.specs.Prelude.{◌≡◌, ◌≢◌, ◌+◌, ◌*◌, ◌^◌, ◌<◌, ◌≤◌, ◌↔◌, ℕ, [], ◌∷◌, ◌++◌, length, IfOk, IfErr, IfSome, IsNone, slice_index, MatchResult, map, false};
 ghost use Rattle.std.specs.Bool.{OnTrue};
@@ -14,13 +14,14 @@ use std::alloc::Global;
 // The length field of a cluster entry, whose eight bytes are the cluster's number.
 pub(crate) const CLUSTER_FIELD: u64 = 0x8000_0008;
 
-// A body is shorter than this, so that its length is no field of another kind.
+// Exclusive upper bound of a body's length in bytes, so that the length is never a field of another kind.
 const BODY_BOUND: u64 = 0x8000_0000;
 
-// How long the bytes of a cluster entry are.
+// Length in bytes of a cluster entry's content.
 pub(crate) const CLUSTER_BYTES: u64 = 8;
 
-/// Where an entry of this length at this gate ends, its next gate included, if that is within the limit.
+/// Returns the offset after an entry of this length at gate `at`, including its next gate, or `None` if that is past
+/// `MAX_LOG_BYTES`.
 pub fn end_of(at: u64, length: u64) -> Option<u64>
     ensures none { IsNone result ↔ (MAX_LOG_BYTES < at + 6 + length) }
     ensures some { IfSome result (λ end. end ≡ at + 6 + length) }
@@ -29,7 +30,7 @@ pub fn end_of(at: u64, length: u64) -> Option<u64>
     if end > MAX_LOG_BYTES { None } else { Some(end) }
 }
 
-// The end of a body's entry, if a body of this length may stand at this gate.
+// Returns the offset after a body's entry, or `None` if no body of this length may be written at this gate.
 pub(crate) fn body_end(at: u64, length: u64) -> Option<u64>
     ensures none { IsNone result ↔ IsPast at length }
     ensures some { IfSome result (λ end. (end ≡ at + 6 + length) × (length < 2147483648)) }
@@ -40,7 +41,7 @@ pub(crate) fn body_end(at: u64, length: u64) -> Option<u64>
     end_of(at, length)
 }
 
-// What is written behind a gate: the length, the body and the next gate, closed.
+// Encodes what follows a gate: the length, the body, and the next gate, closed.
 pub(crate) fn entry_of(alloc: Global, body: &[u8]) -> Result<Vec<u8>, NoMemory>
     requires { length body.now < 2 ^ 31 }
     ensures { IfOk result (λ entry. entry.items ≡ entry_bytes (body_entry body.now)) }
@@ -53,7 +54,7 @@ pub(crate) fn entry_of(alloc: Global, body: &[u8]) -> Result<Vec<u8>, NoMemory>
     Ok(entry)
 }
 
-// Four bytes of a number, the most significant first.
+// Encodes a number in four bytes, big endian.
 fn four_bytes(n: u64) -> [u8; 4]
     requires { n < 2 ^ 32 }
     ensures { result ≡ four_bytes n }
@@ -66,7 +67,7 @@ fn four_bytes(n: u64) -> [u8; 4]
     ]
 }
 
-// What is written behind a gate for a cluster entry.
+// Encodes what follows a gate for a cluster entry.
 pub(crate) fn cluster_entry_of(cluster: u64) -> [u8; 13]
     ensures { result ≡ entry_bytes (cluster_entry cluster) }
 {
@@ -75,7 +76,7 @@ pub(crate) fn cluster_entry_of(cluster: u64) -> [u8; 13]
     [0x80, 0, 0, 8, a, b, c, d, e, f, g, h, 0]
 }
 
-// The number that four bytes are, the most significant first.
+// Parses four bytes at an offset, big endian.
 fn number_at(at: usize, bytes: &[u8]) -> u64
     requires { at + 4 ≤ length bytes.now }
     ensures value { result ≡ number_at at bytes.now }
@@ -85,7 +86,7 @@ fn number_at(at: usize, bytes: &[u8]) -> u64
         + bytes[at + 3] as u64
 }
 
-// The number that eight bytes are.
+// Parses the first eight bytes, big endian.
 fn number_in(bytes: &[u8]) -> u64
     requires { 8 ≤ length bytes.now }
     ensures { result ≡ number_in bytes.now }
@@ -100,7 +101,7 @@ fn is_cluster(field: u64) -> bool
     field == CLUSTER_FIELD
 }
 
-// How many bytes an entry of this length field has.
+// Returns the number of bytes of an entry with this length field.
 #[tactic(auto, unfolding(crate::specs::Format::length_of))]
 fn length_of(field: u64) -> u64
     ensures { result ≡ length_of field }
@@ -112,7 +113,8 @@ fn length_of(field: u64) -> u64
     }
 }
 
-// A cluster entry is the first one, and of a number that is not 0. A body is below the bound.
+// Returns whether an entry may have these bytes: only the first cluster entry counts, its number is not 0, and a body
+// is below the bound.
 #[tactic(auto, unfolding(crate::specs::Format::may_stand, crate::specs::Format::length_of))]
 fn may_stand(has_one: bool, field: u64, bytes: &[u8]) -> bool
     requires { length_of field ≤ length bytes.now }
@@ -125,7 +127,7 @@ fn may_stand(has_one: bool, field: u64, bytes: &[u8]) -> bool
     }
 }
 
-// Whether an entry of this length field stands here, and a gate behind it.
+// Returns whether a complete entry with this length field begins here, with a gate after it.
 #[tactic(auto, unfolding(crate::specs::Format::stands))]
 fn stands(has_one: bool, field: u64, bytes: &[u8]) -> bool
     ensures value { result ≡ stands has_one field bytes.now }
@@ -135,7 +137,7 @@ fn stands(has_one: bool, field: u64, bytes: &[u8]) -> bool
     length < bytes.len() as u64 && may_stand(has_one, field, &bytes[..length as usize])
 }
 
-/// What stands at a gate.
+/// What begins at a gate.
 #[derive(Drop)]
 enum First<'a> {
     Closed,
@@ -147,7 +149,7 @@ enum First<'a> {
     },
 }
 
-// What stands at the gate that these bytes begin with, behind a cluster entry or without one.
+// Parses what begins at the gate at the start of these bytes; `has_one` says whether a cluster entry came before.
 fn at_gate(has_one: bool, bytes: &[u8]) -> First<'_>
     ensures { ReadsFirst result has_one bytes.now }
 {
@@ -170,7 +172,7 @@ fn at_gate(has_one: bool, bytes: &[u8]) -> First<'_>
     }
 }
 
-/// What a file holds: the place of its closed gate, the bodies before it and the cluster that it names.
+/// The content of a file: the offset of its closed gate, the bodies before it, and the cluster that it names.
 #[derive(Drop)]
 pub(crate) struct LogContents {
     pub gate: u64,
@@ -178,7 +180,7 @@ pub(crate) struct LogContents {
     pub cluster: Option<u64>,
 }
 
-// What the bytes of a file hold.
+// Parses the content of a file of 6 bytes or more. `BadGate` if an open gate has no entry.
 pub(crate) fn read_entries(alloc: Global, file: &[u8]) -> Result<LogContents, MountError>
     ensures read { IfOk result (ReadsFile file.now) }
     ensures bad_gate { IfErr result (ReadsBad file.now) }

@@ -1,4 +1,4 @@
-//! Why a log refuses.
+//! The errors of a log.
 
 ghost use Rattle.std.specs.Prelude.{◌≡◌};
 ghost use Rattle.crsm_log.specs.declared.errors.MountError.TheVariants.{DiskFault as MountFault, NoMemory as MountNoMemory};
@@ -10,12 +10,12 @@ use crsm_base::{Failed, NoMemory};
 use std::alloc::AllocError;
 use thiserror::Error;
 
-/// Why a disk is not mounted.
+/// The reason why a disk could not be mounted.
 #[derive(Clone, Copy, Debug, PartialEq, Eq, Error)]
 pub enum MountError {
     #[error("the disk failed")]
     DiskFault,
-    /// An open gate that no entry is behind, with so many bodies before it.
+    /// An open gate has no entry after it; `entry` is the number of bodies before it.
     #[error("no entry stands behind the open gate behind {entry} bodies")]
     BadGate { entry: u64 },
     #[error("memory ran out")]
@@ -46,15 +46,15 @@ impl From<AllocError> for MountError {
     }
 }
 
-/// Why a body is not put.
+/// The reason why a body was not written.
 #[derive(Clone, Copy, Debug, PartialEq, Eq, Error)]
 pub enum PutError {
     #[error("the disk failed")]
     DiskFault,
-    /// An earlier call of this log met a fault of the disk.
+    /// An earlier call of this log met a fault of the disk, so nothing was called.
     #[error("the disk failed before")]
     Failed,
-    /// The entry would end here, past the limit.
+    /// The entry would end at this offset, past the limit.
     #[error("the log would end at {end}, past its limit")]
     Full { end: u64 },
     #[error("memory ran out")]
@@ -69,18 +69,18 @@ impl From<NoMemory> for PutError {
     }
 }
 
-/// Why a log is not claimed for a cluster.
+/// The reason why a log was not claimed for a cluster.
 #[derive(Clone, Copy, Debug, PartialEq, Eq, Error)]
 pub enum ClaimError {
     #[error("the disk failed")]
     DiskFault,
-    /// An open gate that no entry is behind, with so many bodies before it.
+    /// An open gate has no entry after it; `entry` is the number of bodies before it.
     #[error("no entry stands behind the open gate behind {entry} bodies")]
     BadGate { entry: u64 },
-    /// The log belongs to the cluster of this number.
+    /// The log belongs to the cluster with this number.
     #[error("the log belongs to cluster {found}")]
     OtherCluster { found: u64 },
-    /// The cluster's entry would end here, past the limit.
+    /// The cluster entry would end at this offset, past the limit.
     #[error("the log would end at {end}, past its limit")]
     Full { end: u64 },
     #[error("memory ran out")]

@@ -1,4 +1,5 @@
-//! A log puts each body behind a closed gate, syncs it, and opens the gate: a crash finds the whole body or none of it.
+//! A log writes each body behind a closed gate, syncs it, and opens the gate, so that after a crash the body is there
+//! whole or not at all.
 
 ghost use Rattle.std.specs.Prelude.{◌≡◌, ◌≢◌, ◌+◌, ◌^◌, ◌<◌, ◌≤◌, ◌↔◌, ◌∷◌, [], ◌++◌, ℕ, length, true, false, IsTrue, IfOk, IfErr, OnOk, OnErr, IsErr, IsErrOf, Some};
 ghost use Rattle.crsm_port_faults.specs.Counts.{Rose};
@@ -15,7 +16,7 @@ use crsm_base::{Bodies, Failed, NoMemory};
 use crsm_disk::Disk;
 use std::alloc::Global;
 
-/// A log on a disk.
+/// A log on a disk. `end` is the offset of its closed gate.
 #[derive(Drop)]
 pub struct Log<D: Disk> {
     disk: D,
@@ -26,8 +27,9 @@ pub struct Log<D: Disk> {
 }
 
 impl<D: Disk> Log<D> {
-    /// Mounts a disk, and gives the bodies that were put on it, without the entry of a cluster. A crash at any moment
-    /// leaves them. A refusal hands the disk back as the last call left it.
+    /// Mounts a disk, and returns the log and the bodies that were put on it, without a cluster entry. A crash at any
+    /// moment leaves those bodies. An error comes with the disk as the last call left it: `BadGate` if an open gate has
+    /// no entry, `DiskFault` if the disk failed, `NoMemory` if memory runs out.
     pub fn mount(alloc: Global, disk: D) -> Result<(Log<D>, Bodies), (MountError, D)>
         ensures log { IfOk result (λ r. r.0.failed ≡ false) }
         ensures ok { IfOk result (λ r. Mounts (D.meaning disk) (D.meaning r.0.disk) r.0.end r.1) }
@@ -47,12 +49,13 @@ impl<D: Disk> Log<D> {
         }
     }
 
-    /// Puts a body behind those before it. At `Ok` it is acknowledged: every later crash leaves it. `Full` comes where
-    /// its entry would pass the limit, or the body has 2^31 bytes or more.
+    /// Appends a body. After `Ok` every later crash leaves it. `Full` if its entry would end past the limit or the body
+    /// has 2^31 bytes or more, `DiskFault` if the disk failed, `Failed` if it failed before, `NoMemory` if memory runs
+    /// out.
     pub fn put(&mut self, alloc: Global, body: &[u8]) -> Result<(), PutError>
         requires { 0 < length body.now }
 
-        // After an earlier fault nothing is called. Past the limit nothing is called either.
+        // After an earlier fault, or past the limit, the disk is not called.
         ensures failed { IsErrOf result PutError.Failed ↔ (self.old.failed ≡ true) }
         ensures full { (end : ℕ) → IsErrOf result (PutError.Full end)
             ↔ ((self.old.failed ≡ false) × (end ≡ self.old.end + 6 + length body.now) × IsPast self.old.end (length body.now)) }
@@ -62,22 +65,22 @@ impl<D: Disk> Log<D> {
         ensures becomes { IsErrOf result PutError.DiskFault → self.new.failed ≡ true }
         ensures stays { (IsErrOf result PutError.DiskFault → ⊥) → self.new.failed ≡ self.old.failed }
 
-        // At `Ok` the body stands behind the others, by four calls of the disk and no more.
+        // After `Ok` the body follows the others, by four calls of the disk and no more.
         ensures acknowledged { IsTrue (D.meaning self.old.disk).honest → OnOk result (reading (D.meaning self.new.disk).seen ≡ found (bodies_of (D.meaning self.old.disk).seen ++ body.now ∷ [])) }
         ensures durable { IsTrue (D.meaning self.old.disk).honest → OnOk result (Only (D.meaning self.new.disk).seen (D.meaning self.new.disk).may_leave) }
         ensures calls { OnOk result ((D.meaning self.new.disk).history ≡ recorded (put_calls self.old.end body.now) (D.meaning self.old.disk).history) }
         ensures place { OnOk result (self.new.end ≡ self.old.end + 5 + length body.now) }
         ensures four { (p : Plan) → IsTrue (D.meaning self.old.disk).honest → (D.meaning self.old.disk).plan ≡ Some p → OnOk result (Used 4 p (D.meaning self.new.disk).plan) }
 
-        // At a fault some of the four were made, as many as went well. At another refusal none was.
+        // At a fault, those of the four calls were made that succeeded. At another error none was.
         ensures stops { IsErrOf result PutError.DiskFault → StopsAt (put_calls self.old.end body.now) (λ _. IsTrue (D.meaning self.old.disk).honest) (D.meaning self.old.disk) (D.meaning self.new.disk) }
         ensures none { IsErr result → (IsErrOf result PutError.DiskFault → ⊥) → Same (D.meaning self.old.disk) (D.meaning self.new.disk) × (self.new.end ≡ self.old.end) }
 
-        // A crash at any moment of the call leaves the bodies from before it, with this one or without.
+        // A crash at any moment of the call leaves the bodies from before it, with or without this one.
         ensures any_moment { IsTrue (D.meaning self.old.disk).honest → self.old.failed ≡ false
             → LeavesOnly (D.meaning self.old.disk) (D.meaning self.new.disk) (IsBeforeOrAfter (bodies_of (D.meaning self.old.disk).seen) body.now) }
 
-        // And the log belongs to the cluster that it belonged to.
+        // The log belongs to the same cluster as before.
         ensures cluster { IsTrue (D.meaning self.old.disk).honest → self.old.failed ≡ false
             → LeavesOnly (D.meaning self.old.disk) (D.meaning self.new.disk) (HasCluster (cluster_of (D.meaning self.old.disk).seen)) }
     {
@@ -104,7 +107,8 @@ impl<D: Disk> Log<D> {
         }
     }
 
-    /// Stops a disk that can be stopped after so many further calls.
+    /// Makes a disk that can be stopped fail after `stop` further calls; `fill` then stands in all ranges that were not
+    /// synced.
     pub fn arm(&mut self, stop: Option<u64>, fill: u8)
         ensures armed { Arms stop fill (D.meaning self.old.disk) (D.meaning self.new.disk) }
         ensures same { (self.new.end ≡ self.old.end) × (self.new.failed ≡ self.old.failed) }
@@ -112,7 +116,7 @@ impl<D: Disk> Log<D> {
         self.disk.arm(stop, fill);
     }
 
-    /// The disk as the last call left it.
+    /// Returns the disk as the last call left it.
     pub fn into_disk(self) -> D
         ensures { result ≡ self.disk }
     {

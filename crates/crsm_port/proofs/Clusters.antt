@@ -1,4 +1,4 @@
--- A datagram that came off the wire is handed up without its mark.
+-- A datagram received from the wire is returned without its mark.
 use Rattle.std.proofs.Common.{◌≡◌, ◌≢◌, ◌≤◌, ◌+◌, ◌-◌, ◌^◌, ℕ, zero, suc, min, List, [], ◌∷◌, ◌++◌, length, take, drop, Some, None, Result, Ok, refl, ◌∙◌, ap, arith}
 use Rattle.crsm_base.specs.declared.memory.Failed.{Failed}
 use Rattle.crsm_port_faults.specs.Plan.{Plan, Spends}

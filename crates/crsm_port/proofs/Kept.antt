@@ -1,4 +1,4 @@
--- One datagram more among those sent, and one more taken.
+-- One more datagram sent, and one more received.
 use Rattle.std.proofs.Common.{◌≡◌, ◌∙◌, IsTrue, ℕ, ◌+◌, ◌<◌, ◌≤◌, List, [], ◌∷◌, ◌++◌, map, length, take, drop, refl, ap, ap₂, sym, arith, length-drop, zero, suc, add-one}
 use Rattle.std.proofs.lemmas.Bool.Decides.{nat_tests}
 use Rattle.std.specs.Prelude.{Some, slice_get, slice_index_or}

@@ -1,4 +1,4 @@
--- The fields of a port in memory.
+-- The invariant of a port in memory.
 use Rattle.std.specs.Prelude.{◌+◌, ◌≤◌, map, length, vec_len, vec_capacity}
 use Rattle.crsm_port.specs.declared.memory.MemPort.TheInside.{Inside}
 use Rattle.crsm_port.specs.declared.memory.QueuedDatagram.{QueuedDatagram}
@@ -22,7 +22,7 @@ memory_of p = record {
   room_bytes = p.room_bytes;
 }
 
--- as many were taken as there are at most, and there is room for what is reserved
+-- no more were received than there are, and memory for the reserve is allocated
 pub record IsKept (p : Inside) : Type 0 where
   pub next : p.next ≤ length p.arrivals.items
   pub place_labels : vec_len p.sent.labels + p.room_sends ≤ vec_capacity p.sent.labels

@@ -1,4 +1,4 @@
--- What a port means: the datagrams taken and sent, where told, its counts, and how many calls go well.
+-- The model of a port: the datagrams received and sent, where the port specifies them, its counters, and its plan.
 use Rattle.std.specs.Prelude.{◌≡◌, ◌↔◌, ℕ, ◌≤◌, min, List, [], ◌∷◌, ◌++◌, length, take, drop, Option, Some, IsSome, Result, IfOk, OnOk, OnErr, option_map}
 use Rattle.crsm_base.specs.declared.memory.Failed.{Failed}
 use Rattle.crsm_base.specs.declared.memory.NoMemory.{NoMemory}
@@ -7,48 +7,48 @@ use Rattle.crsm_port_faults.specs.Plan.{MakesRoom, Plan, Spends}
 use Rattle.crsm_port.specs.declared.port.Recv.{Recv}
 use Rattle.crsm_port.specs.declared.port.Recv.TheVariants.{Nothing, Datagram}
 
--- a datagram, with the address that it came from or goes to
+-- a datagram, with its sender's or receiver's address
 pub record Packet : Type 0 where
   pub address : ℕ
   pub bytes : List ℕ
 
--- how a datagram stands on the wire, and what is read of one that comes
+-- the framing of datagrams: how one is sent on the wire, and how a received one is read
 pub record Coat : Type 0 where
   pub wrap : Packet → Packet
   pub unwrap : Packet → Packet
 
--- each as it is
+-- no framing
 abbrev pub plain : Coat
 plain = record { wrap = λ d. d; unwrap = λ d. d }
 
--- the datagrams that wait, those taken and those sent, each with the oldest first
+-- the datagrams that wait, those received and those sent, each list with the oldest first
 pub record Traffic : Type 0 where
   pub waiting : List Packet
   pub taken : List Packet
   pub sent : List Packet
 
 pub record Meaning : Type 0 where
-  -- where it is told
+  -- the traffic, where the port specifies it
   pub traffic : Option Traffic
-  -- between the bytes of a call and those of the traffic
+  -- between the datagrams of calls and those of the traffic
   pub coat : Coat
-  -- the room for sends and the calls that go well, where they are told
+  -- the reserve for sends and the number of calls that succeed, where the port specifies them
   pub plan : Option Plan
-  -- the receives that failed, the sends that failed, and the receives that gave nothing
+  -- the receives that failed, the sends that failed, and the empty receives
   pub faults : ℕ
   pub losses : ℕ
   pub empties : ℕ
-  -- the name of the reference that lends it, where one does
+  -- the ghost name of the reference by which the port is borrowed
   pub lent : Option ℕ
 
--- a receive from what waits
+-- a receive of the first waiting datagram, or of none
 abbrev pub Takes : Coat → Traffic → Traffic → List ℕ → List ℕ → Recv → Type 0
 Takes coat old new before after Nothing = (old.waiting ≡ []) × (new ≡ old) × (after ≡ before)
 Takes coat old new before after (Datagram from len) = (d : Packet) × (rest : List Packet) × (old.waiting ≡ d ∷ rest) × (from ≡ (coat.unwrap d).address)
     × (len ≡ min (length before) (length (coat.unwrap d).bytes)) × (after ≡ take len (coat.unwrap d).bytes ++ drop len before)
     × (new ≡ record old { waiting = rest; taken = old.taken ++ d ∷ [] })
 
--- Nothing exactly where `empties` rose, and it rises with no other answer
+-- Nothing is returned if and only if `empties` rose
 abbrev pub CountsEmpty : ℕ → ℕ → Recv → Type 0
 CountsEmpty old new Nothing = Rose old new × (old ≤ new)
 CountsEmpty old new (Datagram from len) = new ≡ old
@@ -57,7 +57,7 @@ abbrev pub IsWithin : ℕ → Recv → Type 0
 IsWithin n Nothing = Unit {0}
 IsWithin n (Datagram from len) = len ≤ n
 
--- what a receive owes, with the buffer before and after it
+-- the contract of a receive, with the buffer before and after it
 pub record Receives (old new : Meaning) (before after : List ℕ) (result : Result Recv Failed) : Type 0 where
   pub within : IfOk result (IsWithin (length before))
   pub losses : new.losses ≡ old.losses
@@ -73,11 +73,11 @@ pub record Receives (old new : Meaning) (before after : List ℕ) (result : Resu
   pub lent : new.lent ≡ old.lent
   pub plan : Spends 0 0 old.plan new.plan result
 
--- a send is told behind those before it
+-- the traffic with one more datagram sent
 abbrev pub with_sent : Packet → Traffic → Traffic
 with_sent d t = record t { sent = t.sent ++ d ∷ [] }
 
--- what a send owes
+-- the contract of a send
 pub record Sends {T : Type 0} (to : ℕ) (bytes : List ℕ) (old new : Meaning) (result : Result T Failed) : Type 0 where
   pub faults : new.faults ≡ old.faults
   pub later : old.losses ≤ new.losses
@@ -90,7 +90,7 @@ pub record Sends {T : Type 0} (to : ℕ) (bytes : List ℕ) (old new : Meaning) 
   pub lent : new.lent ≡ old.lent
   pub plan : Spends 1 (length bytes) old.plan new.plan result
 
--- room is made, and nothing else changes
+-- memory is reserved, and nothing else changes
 pub record Reserves {T : Type 0} (sends bytes : ℕ) (old new : Meaning) (result : Result T NoMemory) : Type 0 where
   pub same : new ≡ record old { plan = new.plan }
   pub plan : MakesRoom sends bytes old.plan new.plan result

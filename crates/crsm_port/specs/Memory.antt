@@ -1,15 +1,15 @@
--- A port in memory.
+-- The model of a port in memory.
 use Rattle.std.specs.Prelude.{ℕ, List, take, drop, Some, None}
 use Rattle.crsm_port_faults.specs.Failing.{Failing, good_of}
 use Rattle.crsm_port.specs.Meaning.{Meaning, Packet, Traffic, plain}
 
 pub record Memory : Type 0 where
-  -- what was put in, the oldest first, and how many of these were taken
+  -- the datagrams put in, the oldest first, and how many of them were received
   pub arrivals : List Packet
   pub next : ℕ
-  -- what was sent, the oldest first
+  -- the datagrams sent, the oldest first
   pub sent : List Packet
-  -- the calls so far, and those that fail
+  -- the calls made, and those that fail
   pub failing : Failing
   pub faults : ℕ
   pub losses : ℕ

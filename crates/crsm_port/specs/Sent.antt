@@ -1,4 +1,4 @@
--- The datagrams that were sent, as clauses name them.
+-- The list of sent datagrams, for contracts.
 use Rattle.std.specs.Prelude.{List}
 use Rattle.crsm_port.specs.Meaning.{Packet}
 use Rattle.crsm_port.specs.Packets.{packets}

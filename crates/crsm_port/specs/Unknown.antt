@@ -1,4 +1,4 @@
--- What is known of a socket: its counts alone.
+-- The model of a socket, which specifies its counters and nothing else.
 use Rattle.std.specs.Prelude.{ℕ, None}
 use Rattle.crsm_port.specs.Meaning.{Meaning, plain}
 

@@ -1,4 +1,4 @@
-//! A port of a cluster, over a port that the clusters of a network share.
+//! The port of one cluster, over a port that the clusters of a network share.
 
 ghost use Rattle.std.specs.Prelude.{◌≡◌, ◌≢◌, ℕ, ◌+◌, ◌++◌, ◌*◌, ◌≤◌, length, take, IfOk, IfSome};
 ghost use Rattle.crsm_port.specs.Meaning.{Receives, Sends};
@@ -13,24 +13,24 @@ use crsm_wire::{MARK_BYTES, mark};
 use std::alloc::Global;
 
 const MOST_SENT: usize = 8_183;
-// The most bytes of a datagram, and its mark.
+// Maximum length of a datagram with its mark, in bytes.
 const MOST_ON_THE_WIRE: usize = 8_201;
 
-/// A port of one of the clusters that share a network. A datagram stands on the wire behind the byte 16 and the
-/// number of its cluster, and one of another cluster comes up with no bytes. The datagrams of cluster 0 go as they are.
-/// A send of more than 8,183 bytes to another cluster than 0 is a loss.
+/// A port of one of the clusters that share a network. On the wire each datagram is preceded by the byte 16 and the
+/// number of its cluster; a datagram of another cluster is received as one without bytes. Datagrams of cluster 0 are
+/// sent without a mark. A send of more than 8,183 bytes in a cluster other than 0 counts as a loss.
 #[derive(Drop)]
 pub struct ClusterPort<P> {
     inner: P,
     cluster: u64,
-    // A datagram on its way up or down.
+    // Buffer for a datagram with its mark.
     room: Vec<u8>,
     too_long: u64,
     ghost sized: { length room.items ≡ 8201 },
 }
 
 impl<P: Drop> ClusterPort<P> {
-    /// A port of a cluster over this one.
+    /// Returns a port of the cluster over `inner`, or `NoMemory` if memory runs out.
     pub fn new(alloc: Global, inner: P, cluster: u64) -> Result<ClusterPort<P>, NoMemory>
         ensures { IfOk result (λ p. (p.inner ≡ inner) × (p.cluster ≡ cluster) × (p.too_long ≡ 0)) }
     {
@@ -43,7 +43,7 @@ impl<P: Drop> ClusterPort<P> {
         })
     }
 
-    /// The port below.
+    /// Returns the inner port.
     pub fn into_inner(self) -> P
         ensures { result ≡ self.inner }
     {
@@ -51,7 +51,7 @@ impl<P: Drop> ClusterPort<P> {
     }
 }
 
-// A datagram of another cluster is handed up with no bytes.
+// A datagram of another cluster is returned with a length of 0.
 fn recv_wrapped<P: Port>(
     inner: &mut P,
     wire: &mut [u8],
@@ -73,7 +73,7 @@ fn recv_wrapped<P: Port>(
 }
 
 impl<P: Port> ClusterPort<P> {
-    // There is room for the datagram behind its mark.
+    // The caller has checked that the datagram fits in the buffer with its mark.
     fn send_wrapped(&mut self, to: u64, bytes: &[u8]) -> Result<(), Failed>
         requires cluster { self.old.cluster ≢ 0 }
         requires short { length bytes.now ≤ 8183 }
@@ -85,7 +85,7 @@ impl<P: Port> ClusterPort<P> {
     }
 }
 
-// Writes a datagram and its mark from the first byte on, and tells how many bytes that are.
+// Writes the mark and the datagram to the buffer, and returns their length.
 fn wrap(room: &mut [u8], cluster: u64, bytes: &[u8]) -> usize
     requires { 9 + length bytes.now ≤ length room.old }
     ensures len { result ≡ 9 + length bytes.now }
@@ -96,7 +96,7 @@ fn wrap(room: &mut [u8], cluster: u64, bytes: &[u8]) -> usize
     copy(bytes, rest) + MARK_BYTES
 }
 
-// What stands behind the mark of the cluster.
+// Returns the bytes after the mark of the cluster, or none if they have no such mark.
 fn own_bytes(wire: &[u8], cluster: u64) -> &[u8]
     requires { cluster ≢ 0 }
     ensures { result.now ≡ unwrapped cluster wire.now }
@@ -145,7 +145,7 @@ impl<P: Port> Port for ClusterPort<P> {
     }
 }
 
-// So many bytes and the marks of so many sends.
+// Returns the bytes of `sends` datagrams with their marks, or `None` if that overflows.
 fn with_marks(sends: u64, bytes: u64) -> Option<u64>
     ensures { IfSome result (λ n. n ≡ bytes + 9 * sends) }
 {

@@ -1,4 +1,4 @@
-//! A port: datagrams that come in and go out, and what it tells of its calls.
+//! Datagram ports over memory and over UDP sockets, with counters of faults, losses and empty receives.
 #![tactic(auto)]
 
 mod address;

@@ -1,4 +1,4 @@
-//! A port in memory, which tells all that it took and sent.
+//! A port in memory, which specifies all that it received and sent.
 
 ghost use Rattle.std.specs.Prelude.{◌≡◌, ◌+◌, ◌-◌, ◌≤◌, ℕ, [], ◌∷◌, ◌++◌, length, min, take, drop, IfOk, OnOk, OnErr, Some};
 ghost use Rattle.crsm_port_faults.specs.Counts.{raised, Rose};
@@ -13,14 +13,15 @@ use crsm_port_faults::{Failures, raise};
 use std::alloc::Global;
 use std::marker::Model;
 
-// What was put in.
+// A datagram to be received.
 #[derive(Drop)]
 struct QueuedDatagram {
     from: u64,
     bytes: Vec<u8>,
 }
 
-/// A port in memory. It gives what was put in, keeps what was sent, and fails at the calls that are listed.
+/// A port in memory. Its receives return the datagrams that were put in, its sends are kept, and its calls with listed
+/// numbers fail.
 #[derive(Drop)]
 pub struct MemPort {
     alloc: Global,
@@ -48,7 +49,7 @@ impl Model for MemPort {
 }
 
 impl MemPort {
-    /// An empty port that fails at these calls, counted from 1.
+    /// Returns an empty port whose calls with the numbers in `fails`, from 1, fail. `NoMemory` if memory runs out.
     pub fn new(alloc: Global, fails: &[u64]) -> Result<MemPort, NoMemory>
         ensures { IfOk result (λ p. p ≡ record { arrivals = []; next = 0; sent = []; failing = record { calls = 0; listed = fails.now }; faults = 0; losses = 0; empties = 0; room_sends = 0; room_bytes = 0 }) }
     {
@@ -66,7 +67,7 @@ impl MemPort {
         })
     }
 
-    /// Puts a datagram behind those that wait.
+    /// Adds a datagram to be received after those that wait. `NoMemory` if memory runs out; the port is then unchanged.
     pub fn put(&mut self, from: u64, bytes: &[u8]) -> Result<(), NoMemory>
         ensures ok { OnOk result (self.new ≡ record self.old { arrivals = self.old.arrivals ++ (record { address = from; bytes = bytes.now }) ∷ [] }) }
         ensures err { OnErr result (self.new ≡ self.old) }
@@ -76,14 +77,14 @@ impl MemPort {
         Ok(())
     }
 
-    /// Lets go what was sent, and keeps its room.
+    /// Removes all sent datagrams and keeps their memory for later ones.
     pub fn forget_sent(&mut self)
         ensures { self.new ≡ record self.old { sent = [] } }
     {
         self.sent.clear();
     }
 
-    /// What was sent.
+    /// Returns the sent datagrams, the oldest first.
     pub fn sent(&self) -> &SentPackets
         ensures { packets_of result.now ≡ self.now.sent }
     {
@@ -92,7 +93,7 @@ impl MemPort {
 }
 
 impl MemPort {
-    // The next datagram that waits, cut to the buffer. Nothing, where none waits, is counted.
+    // Returns the next waiting datagram, cut to the buffer. If none waits, counts an empty receive.
     fn take(&mut self, buf: &mut [u8]) -> Recv
         ensures arrivals { self.new ≡ record self.old { next = self.new.next; empties = self.new.empties } }
         ensures got { Takes plain (traffic_of self.old) (traffic_of self.new) buf.old buf.new result }
@@ -112,7 +113,7 @@ impl MemPort {
         }
     }
 
-    // Keeps a datagram. There is room.
+    // Keeps a sent datagram. The caller has reserved the room.
     fn keep(&mut self, to: u64, bytes: &[u8])
         requires sends { 1 ≤ self.old.room_sends }
         requires bytes { length bytes.now ≤ self.old.room_bytes }
@@ -127,7 +128,7 @@ impl MemPort {
         self.room_bytes -= bytes.len() as u64;
     }
 
-    // A send that fails or finds no room is a loss.
+    // Counts a send that fails or has no room as a loss.
     fn admits(&mut self, len: usize) -> Result<(), Failed>
         ensures same { self.new ≡ record self.old { failing = self.new.failing; losses = self.new.losses } }
         ensures room { OnOk result ((1 ≤ self.old.room_sends) × (len ≤ self.old.room_bytes)) }

@@ -1,35 +1,37 @@
-//! What a port is.
+//! The trait of a datagram port.
 
 ghost use Rattle.std.specs.Prelude.{◌≡◌, Some};
 ghost use Rattle.crsm_port.specs.Meaning.{Meaning, Receives, Reserves, Sends};
 
 use crsm_base::{Failed, NoMemory};
 
-/// What a receive gave. The datagram's first `len` bytes stand in the buffer.
+/// The result of a receive. The datagram's first `len` bytes are in the buffer; `from` is its address, IPv4 x 65,536 +
+/// port.
 #[derive(Clone, Copy, Debug, PartialEq, Eq)]
 pub enum Recv {
     Nothing,
     Datagram { from: u64, len: usize },
 }
 
-/// Datagrams to and from addresses. An address is a number.
+/// Sends and receives datagrams. An address is IPv4 x 65,536 + port.
 pub trait Port {
     ghost meaning: { Self → Meaning };
 
-    /// The next datagram, cut to the buffer. `Failed` comes only where the count of faults rose, and Nothing only
-    /// where the count of empty receives rose.
+    /// Receives the next datagram, cut to the length of `buf`. `Nothing` only if the counter of empty receives rose;
+    /// `Failed` only if the counter of faults rose.
     fn recv(&mut self, buf: &mut [u8]) -> Result<Recv, Failed>
         ensures { Receives (meaning self.old) (meaning self.new) buf.old buf.new result };
 
-    /// Sends a datagram. `Failed` comes only where the count of losses rose.
+    /// Sends a datagram to an address. `Failed` only if the counter of losses rose.
     fn send(&mut self, to: u64, bytes: &[u8]) -> Result<(), Failed>
         ensures { Sends to bytes.now (meaning self.old) (meaning self.new) result };
 
-    /// Makes room for so many sends of so many bytes together, where the port keeps them.
+    /// Reserves memory for `sends` datagrams of `bytes` bytes together, on a port that keeps what it sends. `NoMemory`
+    /// if memory runs out.
     fn reserve(&mut self, sends: u64, bytes: u64) -> Result<(), NoMemory>
         ensures { Reserves sends bytes (meaning self.old) (meaning self.new) result };
 
-    /// Asks that the next receive does not wait where nothing has come. A port that never waits need not know of it.
+    /// Asks that the next receive returns at once if no datagram has arrived. Ports that never wait ignore it.
     fn hurry(&mut self)
         ensures { meaning self.new ≡ meaning self.old }
     {}

@@ -1,4 +1,4 @@
-//! Datagrams that were sent.
+//! Lists of sent datagrams.
 
 ghost use Rattle.std.specs.Prelude.{◌≡◌, ◌+◌, ◌<◌, ◌≤◌, ◌↔◌, [], ◌∷◌, ◌++◌, length, IsNone, IsTrue, IfSome, OnOk, Some, take, drop, slice_get, vec_len, vec_capacity};
 ghost use Rattle.crsm_port.specs.Packets.{is_within, packets};
@@ -6,7 +6,7 @@ ghost use Rattle.crsm_port.specs.Packets.{is_within, packets};
 use crsm_base::NoMemory;
 use std::alloc::Global;
 
-// Where a datagram went, and which of the bytes are its own.
+// The address of a datagram, and the range of the buffer that holds its bytes.
 #[derive(Clone, Copy)]
 pub(crate) struct Label {
     pub(crate) address: u64,
@@ -14,7 +14,7 @@ pub(crate) struct Label {
     pub(crate) len: usize,
 }
 
-/// A list of datagrams, each with the address that it went to, the oldest first.
+/// A list of sent datagrams with their addresses (IPv4 x 65,536 + port), the oldest first. All bytes are in one buffer.
 #[derive(Drop)]
 pub struct SentPackets {
     pub(crate) labels: Vec<Label>,
@@ -38,7 +38,7 @@ impl SentPackets {
         self.labels.len()
     }
 
-    /// The address and the bytes of one, counted from 0.
+    /// Returns the address and the bytes of the datagram at `index`, from 0, or `None` if there are not that many.
     pub fn get(&self, index: usize) -> Option<(u64, &[u8])>
         ensures none { IsNone result ↔ (length (packets self.now.labels.items self.now.bytes.items) ≤ index) }
         ensures some { IfSome result (λ d. slice_get (packets self.now.labels.items self.now.bytes.items) index ≡ Some (record { address = d.0; bytes = d.1.now })) }
@@ -49,7 +49,7 @@ impl SentPackets {
         }
     }
 
-    // Lets all of them go, and keeps their room.
+    // Removes all datagrams and keeps their memory.
     pub(crate) fn clear(&mut self)
         ensures packets { packets self.new.labels.items self.new.bytes.items ≡ [] }
         ensures lengths { (vec_len self.new.labels ≡ 0) × (vec_len self.new.bytes ≡ 0) }
@@ -59,7 +59,7 @@ impl SentPackets {
         self.bytes.clear();
     }
 
-    // Makes room for so many more datagrams and bytes.
+    // Reserves memory for this many more datagrams and bytes.
     pub(crate) fn reserve(&mut self, datagrams: usize, bytes: usize) -> Result<(), NoMemory>
         ensures same { packets self.new.labels.items self.new.bytes.items ≡ packets self.old.labels.items self.old.bytes.items }
         ensures labels { vec_capacity self.old.labels ≤ vec_capacity self.new.labels }
@@ -72,7 +72,7 @@ impl SentPackets {
         Ok(())
     }
 
-    // One more. There is room.
+    // Appends a datagram. The caller has reserved the room.
     pub(crate) fn push(&mut self, address: u64, bytes: &[u8])
         requires place { vec_len self.old.labels < vec_capacity self.old.labels }
         requires room { vec_len self.old.bytes + length bytes.now ≤ vec_capacity self.old.bytes }

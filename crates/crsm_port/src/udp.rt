@@ -1,4 +1,4 @@
-//! A socket as a port. Nothing is known of what it gives and takes.
+//! A UDP socket as a port. Contracts say nothing of the datagrams that it sends and receives.
 ghost use Rattle.std.specs.Prelude.{◌≡◌, ◌≤◌, ◌^◌, ◌<◌, IfOk, OnErr, length};
 ghost use Rattle.crsm_port_faults.specs.Counts.{Rose};
 ghost use Rattle.crsm_port.specs.Unknown.{unknown};
@@ -14,10 +14,10 @@ use std::io::{self, ErrorKind};
 use std::net::{Net, SocketAddr};
 use std::time::Duration;
 
-// How long a receive waits where nothing has come.
+// Maximum time in milliseconds that a receive waits for a datagram.
 const WAIT_MILLIS: u64 = 1;
 
-// A socket, and what waits for a datagram on it.
+// A socket, and the poll that waits for datagrams on it.
 #[derive(Drop)]
 struct Inlet {
     socket: UdpSocket,
@@ -40,7 +40,7 @@ impl Inlet {
         })
     }
 
-    // A poll reports a change: so the socket is asked first, and the poll waits only where the socket had nothing.
+    // A poll reports changes only: so the socket is read first, and the poll waits only if nothing had arrived.
     fn receive(&mut self, buf: &mut [u8]) -> io::Result<(usize, SocketAddr)>
         ensures { IfOk result (λ r. r.0 ≤ length buf.new) }
     {
@@ -57,7 +57,7 @@ impl Inlet {
     }
 }
 
-/// A UDP socket as a port. It counts its faults, losses and empty receives, and tells nothing else.
+/// A UDP socket as a port. It counts its faults, losses and empty receives, and specifies nothing else.
 #[derive(Drop)]
 pub struct UdpPort {
     inlet: Inlet,
@@ -67,8 +67,8 @@ pub struct UdpPort {
 }
 
 impl UdpPort {
-    /// Binds an address, port 0 for any free one. A receive waits up to a millisecond for a datagram, and one that was
-    /// hurried does not wait.
+    /// Binds a socket to an address (IPv4 x 65,536 + port; port 0 stands for any free one), or returns the system's
+    /// error. A receive waits up to a millisecond for a datagram, and does not wait after `hurry`.
     pub fn bind(alloc: Global, net: &impl Net, address: u64) -> io::Result<UdpPort>
         requires { address < 2 ^ 48 }
     {
@@ -80,7 +80,7 @@ impl UdpPort {
         })
     }
 
-    /// The address that the system gave it, where that is one of IPv4.
+    /// Returns the address to which the socket is bound, or `None` if it is not an IPv4 address.
     pub fn address(&self) -> Option<u64> {
         match self.inlet.socket.local_addr() {
             Ok(SocketAddr::V4(address)) => Some(number(address)),
@@ -89,8 +89,8 @@ impl UdpPort {
     }
 }
 
-// A receive that gave nothing, where the wait was over or was broken off, or else a fault. That a datagram of ours
-// found nobody is no fault of a receive.
+// Returns `Nothing` if the wait timed out or was interrupted, and otherwise counts a fault. A report that an earlier
+// datagram reached nobody is no fault of a receive.
 fn missed(faults: &mut u64, empties: &mut u64, kind: ErrorKind) -> Result<Recv, Failed>
     ensures later { faults.old ≤ faults.new }
     ensures err { OnErr result ((empties.new ≡ empties.old) × Rose faults.old faults.new) }

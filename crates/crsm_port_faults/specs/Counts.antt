@@ -1,10 +1,10 @@
--- Counts that never fall.
+-- Counters that never fall.
 use Rattle.std.specs.Prelude.{ℕ, ◌+◌, ◌-◌, ◌^◌, ◌≤◌, min}
 
--- one more, or the last value of its type
+-- one more, or the greatest u64
 abbrev pub raised : ℕ → ℕ
 raised count = min (count + 1) (2 ^ 64 - 1)
 
--- a count rose, or stands at its last value
+-- the counter rose, or is at the greatest u64
 abbrev pub Rose : ℕ → ℕ → Type 0
 Rose before after = raised before ≤ after

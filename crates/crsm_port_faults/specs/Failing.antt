@@ -1,22 +1,22 @@
--- Calls that fail by a list of their numbers, and how many further calls go well.
+-- Calls that fail by their number, and how many further calls succeed.
 use Rattle.std.specs.Prelude.{ℕ, ◌-◌, ◌^◌, ◌<◌, min, List, [], ◌∷◌, Option, Some, None, Contains, nat_lt, ◌&&◌, if◌then◌else◌}
 
--- the calls so far, and the numbers of those that fail, counted from 1
+-- the number of calls made, and the numbers, from 1, of the calls that fail
 pub record Failing : Type 0 where
   pub calls : ℕ
   pub listed : List ℕ
 
--- the call of this number fails, which is a number that a count reaches
+-- the call with this number fails; the number is a u64
 abbrev pub IsListed : List ℕ → ℕ → Type 0
 IsListed listed number = (number < 2 ^ 64) × Contains listed number
 
--- the smaller of two, where none stands for no bound
+-- the smaller of two bounds, where None is no bound
 abbrev pub least : Option ℕ → Option ℕ → Option ℕ
 least None b = b
 least (Some a) None = Some a
 least (Some a) (Some b) = Some (min a b)
 
--- how many calls after so many go well before a listed one: all of them where that is none
+-- how many calls after the first `calls` succeed before a listed one; None: all
 abbrev pub until_listed : List ℕ → ℕ → Option ℕ
 until_listed [] calls = None
 until_listed (number ∷ listed) calls =
@@ -30,7 +30,7 @@ abbrev pub one_less : Option ℕ → Option ℕ
 one_less None = None
 one_less (Some n) = Some (n - 1)
 
--- a further call goes well
+-- one more call succeeds
 abbrev pub IsNotEnd : Option ℕ → Type 0
 IsNotEnd None = Unit {0}
 IsNotEnd (Some n) = 0 < n

@@ -1,4 +1,4 @@
-//! Calls that fail by a list of their numbers.
+//! Injected failures: calls of a device in memory that fail by their number.
 
 ghost use Rattle.std.specs.Prelude.{◌≡◌, ◌+◌, ◌<◌, ◌^◌, ◌↔◌, Contains, IsTrue, IfOk, Some};
 ghost use Rattle.std.specs.Bool.{OnTrue, OnFalse};
@@ -9,7 +9,7 @@ use crsm_base::NoMemory;
 use std::alloc::Global;
 use std::marker::Model;
 
-/// The calls of a device so far, and the numbers of those that fail, counted from 1.
+/// The number of calls made, and the numbers, from 1, of the calls that fail.
 #[derive(Drop)]
 pub struct Failures {
     calls: u64,
@@ -25,7 +25,7 @@ impl Model for Failures {
 }
 
 impl Failures {
-    /// No call yet, and these fail.
+    /// Returns a record without calls, in which the calls with these numbers, from 1, are to fail.
     pub fn new(alloc: Global, listed: &[u64]) -> Result<Failures, NoMemory>
         ensures { IfOk result (λ f. f ≡ record { calls = 0; listed = listed.now }) }
     {
@@ -33,14 +33,14 @@ impl Failures {
         Ok(Failures { calls: 0, listed })
     }
 
-    /// How many calls there were.
+    /// Returns the number of calls made.
     pub fn calls(&self) -> u64
         ensures { result ≡ self.now.calls }
     {
         self.calls
     }
 
-    /// Counts one more call, and says whether it is one of those that fail.
+    /// Counts a call, and returns whether it is to fail.
     pub fn next_fails(&mut self) -> bool
         ensures counted { self.new ≡ record self.old { calls = raised self.old.calls } }
         ensures listed { IsTrue result ↔ IsListed self.old.listed (self.old.calls + 1) }
@@ -51,7 +51,7 @@ impl Failures {
     }
 }
 
-// A number that no count reaches is not listed.
+// After u64::MAX calls the counter stays as it is, and no further call fails.
 fn is_next_listed(calls: &mut u64, listed: &[u64]) -> bool
     ensures counted { calls.new ≡ raised calls.old }
     ensures listed { IsTrue result ↔ IsListed listed.now (calls.old + 1) }

@@ -1,4 +1,4 @@
-//! What devices share: counts that never fall, calls that fail by a list, and room that is made ahead.
+//! Parts shared by all devices: fault counters, injected failures, and memory that is reserved in advance.
 #![tactic(auto)]
 
 mod count;

@@ -1,4 +1,4 @@
--- Texts that begin with a bad line: lines that fit do not, and no text does for two reasons.
+-- A text that begins with a bad line begins with no accepted one, and the line is bad for one reason only.
 use Rattle.std.proofs.Common.{◌≡◌, ◌+◌, ◌<◌, ◌≤◌, inl, inr, List, [], ◌∷◌, ◌++◌, Option, Some, length, refl, ap, sym, ◌∙◌, subst, arith, append_assoc, length-append}
 use Rattle.std.specs.List.{AllByRecursion}
 use Rattle.std.proofs.lemmas.List.{append-nil}

@@ -1,4 +1,4 @@
--- One text is cut into lines in one way.
+-- A text splits into lines in one way.
 use Rattle.std.proofs.Common.{◌≡◌, ◌≤◌, ◌⊎◌, inl, inr, List, [], ◌∷◌, ◌++◌, Option, Some, None, length, refl, ap, sym, ◌∙◌, arith, append_assoc}
 use Rattle.std.specs.List.{AllByRecursion}
 use Rattle.crsm_text.specs.Words.{Lacks}

@@ -1,4 +1,4 @@
--- A loop that is fed piece after piece has written the text of all whole lines, after each.
+-- After each piece that it is fed, the loop has written the text of all whole lines.
 use Rattle.std.proofs.Common.{◌≡◌, [], ◌++◌, Option, Some, Result, Ok, Err, OnOk, length, ap, sym, ◌∙◌, subst, arith, append_assoc}
 use Rattle.std.proofs.lemmas.List.{append-nil}
 use Rattle.crsm_io.specs.Streams.{Takes}

@@ -1,4 +1,4 @@
--- What the loop does: how it stands in mid-stream, and what it did by how it ended.
+-- The state of the loop between pieces, and what it did for each ending.
 use Rattle.std.specs.Prelude.{◌≡◌, ◌≢◌, ℕ, ◌+◌, ◌≤◌, List, [], ◌∷◌, ◌++◌, Option, length}
 use Rattle.std.specs.List.{AllByRecursion}
 use Rattle.crsm_io.specs.Streams.{Takes, Puts, PutsPrefix, AtEnd}
@@ -10,9 +10,9 @@ use Rattle.crsm_port_lines.specs.declared.lines.LineRefusal.TheVariants.{Refused
 use Rattle.crsm_port_lines.specs.declared.lines.Halt.{Halt}
 use Rattle.crsm_port_lines.specs.declared.run.InputEnd.{InputEnd}
 
--- In each of these the source had `before` and has `after` left, and the sink had `had` and has `has` written.
+-- In each definition the source had `before` left and then `after`, and the sink had `had` written and then `has`.
 
--- ---- what is bad
+-- ---- bad lines
 
 -- a whole line that the handler refuses
 pub record BadLine {H R : Type 0} (h : Handling H R) (lines : List Text) (shown : Text) (why : R) (text : Text) : Type 0 where
@@ -30,19 +30,19 @@ pub record LongLine (text : Text) : Type 0 where
   pub lacks : Lacks 10 line
   pub long : length line ≡ 16777217
 
--- a line whose line feed is missing at the end of the input
+-- a line without its line feed at the end of the input
 pub record CutLine (left : Option Text) (text : Text) : Type 0 where
   pub lacks : Lacks 10 text
   pub some : text ≢ []
   pub ended : AtEnd left
 
--- the input ends where it may not
+-- the input ends where the handler refuses the end
 pub record BadEnd {H R : Type 0} (h : Handling H R) (lines : List Text) (shown : Text) (left : Option Text) (why : R) (text : Text) : Type 0 where
   pub none : text ≡ []
   pub ended : AtEnd left
   pub refused : h.refuses_end lines shown why
 
--- What comes behind these lines is bad for this reason. `left` is what is left behind the text.
+-- The text after these lines is bad for this reason. `left` is what the source has left after the text.
 pub data BeginsBad {H R : Type 0} (h : Handling H R) (lines : List Text) (shown : Text) (left : Option Text) (why : LineRefusal R) (text : Text) : Type 0 where
   bad_line : (r : R) → why ≡ Refused r → BadLine h lines shown r text → BeginsBad h lines shown left why text
   long_line : why ≡ TooLong → LongLine text → BeginsBad h lines shown left why text
@@ -50,10 +50,10 @@ pub data BeginsBad {H R : Type 0} (h : Handling H R) (lines : List Text) (shown 
   bad_end : (r : R) → why ≡ Refused r → BadEnd h lines shown left r text → BeginsBad h lines shown left why text
 
 module _ {H R : Type 0} (h : Handling H R) where
-  -- ---- in mid-stream
+  -- ---- within the input
 
-  -- These lines were handled, and their text is what was written and what is pending; so many bytes were taken, and the last
-  -- of these are still ahead.
+  -- The lines were handled, and their text is what was written and what is pending; `total` bytes were read, of which
+  -- `ahead` are still to be handled.
   pub record SoFar (before after had has : Option Text) (state : State H) (ahead : Text) (total : ℕ) : Type 0 where
     pub lines : List Text
     pub shown : Text
@@ -69,8 +69,8 @@ module _ {H R : Type 0} (h : Handling H R) where
 
   -- ---- between two pieces
 
-  -- These bytes were taken. Each whole line of them was handled, the text of all of these is written to its end, and nothing is
-  -- pending; behind them there is a part of a line.
+  -- Of the bytes read each whole line was handled, all text of these lines is written, nothing is pending, and the rest
+  -- is a part of a line.
   pub record IsUpToDate (had has : Option Text) (state : State H) (taken : Text) : Type 0 where
     pub lines : List Text
     pub shown : Text
@@ -82,7 +82,7 @@ module _ {H R : Type 0} (h : Handling H R) where
     pub puts : Puts had has shown
     pub none_pending : state.pending ≡ []
 
-  -- ---- by how it ended
+  -- ---- for each ending
 
   -- all of the input was read, and the text of its lines and of its end was written
   pub record RanToEnd (before after had has : Option Text) : Type 0 where
@@ -108,7 +108,7 @@ module _ {H R : Type 0} (h : Handling H R) where
     pub bad : BeginsBad h lines shown after why rest
     pub puts : Puts had has shown
 
-  -- the text of all whole lines that were taken was written
+  -- the text of all whole lines that were read was written
   pub record RanSoFar (before after had has : Option Text) : Type 0 where
     pub lines : List Text
     pub shown : Text
@@ -118,7 +118,7 @@ module _ {H R : Type 0} (h : Handling H R) where
     pub takes : Takes before after (read_text lines ++ rest)
     pub puts : Puts had has shown
 
-  -- the same, where 1,073,741,824 bytes were taken and then one more
+  -- the same, where 1,073,741,824 bytes were read and then one more
   pub record RanTooLong (before after had has : Option Text) : Type 0 where
     pub lines : List Text
     pub shown : Text
@@ -130,12 +130,12 @@ module _ {H R : Type 0} (h : Handling H R) where
     pub takes : Takes before after (read_text lines ++ (rest ++ more ∷ []))
     pub puts : Puts had has shown
 
-  -- A prefix of the text of the lines was written, or, at the end of the input, a prefix of all that is to be written.
+  -- A prefix of the text of the lines was written; or, at the end of the input, a prefix of all text.
   pub data WrotePart (lines : List Text) (shown rest : Text) (after had has : Option Text) : Type 0 where
     of_lines : PutsPrefix had has shown → WrotePart lines shown rest after had has
     of_all : (last : Text) → h.ends lines shown last → rest ≡ [] → AtEnd after → PutsPrefix had has (shown ++ last) → WrotePart lines shown rest after had has
 
-  -- a part of what is to be written was written
+  -- a prefix of the text to be written was written
   pub record RanPartly (before after had has : Option Text) : Type 0 where
     pub lines : List Text
     pub shown : Text
@@ -144,7 +144,7 @@ module _ {H R : Type 0} (h : Handling H R) where
     pub takes : Takes before after (read_text lines ++ rest)
     pub wrote : WrotePart lines shown rest after had has
 
-  -- What the loop did. It is shut, as the words below are: a proof opens it where it needs what is in it.
+  -- What the loop did, for each ending. It stays folded in proofs until it is opened.
   unfoldable pub Ran : InputEnd R → Option Text → Option Text → Option Text → Option Text → Type 0
   Ran InputEnd.Done before after had has = RanToEnd before after had has
   Ran (InputEnd.BadLine line why) before after had has = RanToBad before after had has line why
@@ -155,32 +155,32 @@ module _ {H R : Type 0} (h : Handling H R) where
 
   -- ---- pieces
 
-  -- these bytes were handled but for the rest, and what was so far goes on
+  -- the bytes were handled except for `rest`, and the state before leads to the state after
   unfoldable pub CarriesOn : Option Text → Option Text → State H → State H → Text → Text → Type 0
   CarriesOn has now old new bytes rest = (before after had : Option Text) (ahead : Text) (total : ℕ)
       → SoFar before after had has old (bytes ++ ahead) total → SoFar before after had now new (rest ++ ahead) total
 
-  -- the run ends once what is pending is written, or with a prefix of it
+  -- the run ends once the pending text is written, or with a prefix of it written
   pub record Halted (result : InputEnd R) (before after had has : Option Text) (pending : Text) : Type 0 where
     pub ran : (now : Option Text) → Puts has now pending → Ran result before after had now
     pub partly : (now : Option Text) → PutsPrefix has now pending → RanPartly before after had now
 
-  -- in these bytes the run ends, but for what is pending
+  -- the run ends within these bytes, except that text is pending
   unfoldable pub Halts : InputEnd R → Option Text → Option Text → State H → State H → Text → Type 0
   Halts result has now old new bytes = (before after had : Option Text) (ahead : Text) (total : ℕ) → total ≤ 1073741824
       → SoFar before after had has old (bytes ++ ahead) total → Halted result before after had now new.pending
 
-  -- in these bytes the run ends
+  -- the run ends within these bytes
   unfoldable pub Ends : InputEnd R → Option Text → Option Text → State H → Text → Type 0
   Ends result has now old bytes = (before after had : Option Text) (ahead : Text) (total : ℕ) → total ≤ 1073741824
       → SoFar before after had has old (bytes ++ ahead) total → Ran result before after had now
 
-  -- at the end of the input the run ends
+  -- the run ends at the end of the input
   unfoldable pub Finishes : InputEnd R → Option Text → Option Text → State H → Type 0
   Finishes result has now state = (before after had : Option Text) (total : ℕ) → total ≤ 1073741824 → AtEnd after
       → SoFar before after had has state [] total → Ran result before after had now
 
--- how a run ends that halted
+-- the ending of a run whose loop stopped
 abbrev pub ending_of : {R : Type 0} → Halt R → InputEnd R
 ending_of (Halt.BadLine line why) = InputEnd.BadLine line why
 ending_of Halt.WriteFault = InputEnd.WriteFault

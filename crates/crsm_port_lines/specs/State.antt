@@ -1,11 +1,11 @@
--- The loop in mid-stream.
+-- The state of the loop between pieces.
 use Rattle.std.specs.Prelude.{ℕ, ◌≤◌, List, [], ◌∷◌, ◌++◌, length}
 use Rattle.std.specs.List.{AllByRecursion, flat_map}
 use Rattle.crsm_text.specs.Words.{Lacks}
 use Rattle.crsm_port_lines.specs.Handling.{Handling, Text}
 use Rattle.crsm_port_lines.specs.declared.lines.LineReader.{LineReader}
 
--- the handler, how many lines have come, what has come of the next, and the text that is still to be written
+-- the handler, the number of lines handled, the part of the next line that was read, and the text to be written
 pub record State (H : Type 0) : Type 0 where
   pub handler : H
   pub number : ℕ
@@ -17,16 +17,16 @@ state_of l = record { handler = l.handler; number = l.number; part = l.part.item
 
 -- ---- lines
 
--- it has no line feed, and at most 16,777,216 bytes
+-- a line has no line feed and at most 16,777,216 bytes
 pub record IsLine (line : Text) : Type 0 where
   pub lacks : Lacks 10 line
   pub short : length line ≤ 16777216
 
--- a line and its end
+-- a line with its line feed
 abbrev pub ended : Text → Text
 ended line = line ++ 10 ∷ []
 
--- the text of whole lines
+-- the bytes of whole lines
 abbrev pub read_text : List Text → Text
 read_text lines = flat_map ended lines
 

@@ -1,5 +1,5 @@
-//! The loop over the lines of an input: pieces are read, each whole line is handed to a handler as it comes, and what the
-//! handler has to say is gathered and written at the end of the piece.
+//! The loop over the lines of an input. Input is read in pieces; each whole line is passed to a handler once it is
+//! complete, and the handler's text for the lines of a piece is written at the end of the piece.
 #![tactic(auto)]
 
 mod handler;

@@ -1,5 +1,5 @@
-//! The lines of an input in mid-stream: bytes come in pieces, and each whole line is handled as it comes. The texts of the
-//! lines of one piece are gathered, and written at its end.
+//! An input that is read in pieces: each whole line is handled once it is complete, and the text for the lines of a
+//! piece is written at the end of the piece.
 
 ghost use Rattle.std.specs.Prelude.{◌≡◌, ◌≢◌, ◌+◌, ◌-◌, ◌<◌, ◌≤◌, ◌^◌, ◌++◌, ◌∷◌, [], ℕ, List, Option, IfErr, OnOk, OnErr, length, IsErrOf};
 ghost use Rattle.crsm_port_faults.specs.Counts.{Rose};
@@ -16,30 +16,30 @@ use crsm_io::{Sink, put_all};
 use crsm_text::split_field;
 use std::alloc::Global;
 
-/// The text that is gathered before it is written, in bytes.
+/// Length in bytes from which on pending text is written within a piece.
 const FULL_BYTES: usize = 262_144;
 
-/// What is wrong with a line.
+/// The reason why a line is bad.
 #[derive(Clone, Copy, Debug, PartialEq, Eq)]
 pub enum LineRefusal<R> {
-    /// The handler refuses it, or the end of the input in its place.
+    /// The handler refuses the line, or the end of the input in its place.
     Refused(R),
-    /// It has more than 16,777,216 bytes.
+    /// The line has more than 16,777,216 bytes.
     TooLong,
-    /// The input ends before its line feed.
+    /// The input ends before the line's line feed.
     Cut,
 }
 
-/// Why the loop ends in mid-stream.
+/// The reason why the loop stops before the end of the input.
 #[derive(Clone, Copy, Debug, PartialEq, Eq)]
 pub enum Halt<R> {
-    /// This line is the first that is bad, counted from 1.
+    /// The first bad line, by its number from 1, and the reason.
     BadLine { line: u64, why: LineRefusal<R> },
     WriteFault,
     NoMemory,
 }
 
-/// A handler, and what has come of the next line.
+/// A handler, the number of lines handled, the received part of the next line, and the text to be written.
 #[derive(Drop)]
 pub struct LineReader<H> {
     alloc: Global,
@@ -50,7 +50,7 @@ pub struct LineReader<H> {
 }
 
 impl<H: Handler> LineReader<H> {
-    /// Nothing has come yet.
+    /// Returns a loop that has read nothing.
     pub fn new(alloc: Global, handler: H) -> LineReader<H>
         ensures value { state_of result ≡ record { handler = handler; number = 0; part = []; pending = [] } }
         ensures up_to_date { (had : Option (List ℕ)) → Begins (H.handling handler) handler → IsUpToDate (H.handling handler) had had (state_of result) [] }
@@ -64,7 +64,7 @@ impl<H: Handler> LineReader<H> {
         }
     }
 
-    /// Hands the line that ends with these bytes to the handler. A line that lies whole in its piece is not copied.
+    /// Passes the line that ends with these bytes to the handler. A line that lies whole in its piece is not copied.
     fn advance(&mut self, tail: &[u8]) -> Result<(), Stop<H::Refusal>>
         requires { self.old.number < 2 ^ 64 - 1 }
         ensures ok { (first : H) (lines : List (List ℕ)) (shown : List ℕ) → self.old.number ≡ length lines → (H.handling first).after self.old.handler lines shown
@@ -84,7 +84,7 @@ impl<H: Handler> LineReader<H> {
             .line(at, self.part.as_slice(), &mut self.pending)
     }
 
-    /// Handles the line that ends with these bytes.
+    /// Handles the line that ends with these bytes, and checks its length.
     fn end_line(&mut self, tail: &[u8]) -> Result<(), Halt<H::Refusal>>
         requires number { self.old.number < 2 ^ 64 - 1 }
         requires lacks { Lacks 10 tail.now }
@@ -111,7 +111,7 @@ impl<H: Handler> LineReader<H> {
         Ok(())
     }
 
-    /// Keeps a prefix of a line.
+    /// Keeps a part of a line until the rest is read.
     fn keep(&mut self, prefix: &[u8]) -> Result<(), Halt<H::Refusal>>
         requires number { self.old.number + length prefix.now < 2 ^ 64 }
         requires lacks { Lacks 10 prefix.now }
@@ -134,7 +134,7 @@ impl<H: Handler> LineReader<H> {
         Ok(())
     }
 
-    /// Writes what is pending, after which nothing is.
+    /// Writes the pending text.
     fn flush<O: Sink>(&mut self, output: &mut O) -> Result<(), Halt<H::Refusal>>
         ensures put { OnOk result (Puts (O.written output.old) (O.written output.new) self.old.pending) }
         ensures prefix { PutsPrefix (O.written output.old) (O.written output.new) self.old.pending }
@@ -151,7 +151,7 @@ impl<H: Handler> LineReader<H> {
         }
     }
 
-    /// Writes what is pending, where it is much.
+    /// Writes the pending text if it has `FULL_BYTES` bytes or more.
     fn flush_full<O: Sink>(&mut self, output: &mut O) -> Result<(), Halt<H::Refusal>>
         ensures ok { (first : H) → OnOk result (CarriesOn (H.handling first) (O.written output.old) (O.written output.new) (state_of self.old) (state_of self.new) [] []) }
         ensures err { (first : H) → IfErr result (λ halt. Halts (H.handling first) (ending_of halt) (O.written output.old) (O.written output.new) (state_of self.old) (state_of self.new) []) }
@@ -165,7 +165,7 @@ impl<H: Handler> LineReader<H> {
         self.flush(output)
     }
 
-    /// Takes the bytes of a piece, up to a line that ends the run.
+    /// Handles the lines of a piece, up to one that ends the run.
     fn take_lines<O: Sink>(&mut self, piece: &[u8], output: &mut O) -> Result<(), Halt<H::Refusal>>
         requires { self.old.number + length piece.now < 2 ^ 64 }
         ensures ok { (first : H) → OnOk result (CarriesOn (H.handling first) (O.written output.old) (O.written output.new) (state_of self.old) (state_of self.new) piece.now []) }
@@ -183,8 +183,9 @@ impl<H: Handler> LineReader<H> {
         self.keep(rest)
     }
 
-    /// Takes the bytes of a piece, and writes the texts of all lines that were handled. So whoever feeds what a read gave has,
-    /// before the next read, handled every whole line that came, and written its text.
+    /// Handles the lines of a piece, and writes the text of all of them. So a caller that feeds what each read returned
+    /// has, before the next read, handled every whole line received and written its text. `BadLine` for the first line
+    /// that is refused or too long; `WriteFault` if the output failed; `NoMemory` if memory runs out.
     pub fn feed<O: Sink>(&mut self, piece: &[u8], output: &mut O) -> Result<(), Halt<H::Refusal>>
         requires { self.old.number + length piece.now < 2 ^ 64 }
         ensures ok { (first : H) → OnOk result (CarriesOn (H.handling first) (O.written output.old) (O.written output.new) (state_of self.old) (state_of self.new) piece.now []) }
@@ -203,7 +204,8 @@ impl<H: Handler> LineReader<H> {
         }
     }
 
-    /// Ends the input, and writes the text of its end.
+    /// Ends the input, and writes the text of its end. `BadLine` if the input may not end here; `WriteFault` if the
+    /// output failed; `NoMemory` if memory runs out.
     pub fn finish<O: Sink>(&self, output: &mut O) -> Result<(), Halt<H::Refusal>>
         requires number { self.now.number < 2 ^ 64 - 1 }
         requires pending { self.now.pending ≡ [] }

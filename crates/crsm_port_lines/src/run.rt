@@ -1,4 +1,4 @@
-//! An input from its beginning to its end.
+//! Handling an input from its beginning to its end.
 
 ghost use Rattle.std.specs.Prelude.{◌≡◌, ◌≢◌, ◌<◌, ◌≤◌, ◌+◌, ℕ, List, Some, length, IsErrOf};
 ghost use Rattle.crsm_port_faults.specs.Counts.{Rose};
@@ -11,10 +11,10 @@ use crate::lines::{Halt, LineReader, LineRefusal};
 use crsm_io::{Sink, Source};
 use std::alloc::Global;
 
-/// How many bytes an input has at most.
+/// Maximum length of an input in bytes.
 pub const MAX_INPUT_BYTES: u64 = 1_073_741_824;
 
-/// How many bytes are read at once.
+/// Number of bytes read at a time.
 const PIECE_BYTES: usize = 65_536;
 
 /// How a run over an input ends.
@@ -22,18 +22,18 @@ const PIECE_BYTES: usize = 65_536;
 pub enum InputEnd<R> {
     /// The input was read to its end.
     Done,
-    /// This line is the first that is bad, counted from 1.
+    /// The first bad line, by its number from 1, and the reason.
     BadLine { line: u64, why: LineRefusal<R> },
-    /// The input failed.
+    /// A read failed.
     ReadFault,
-    /// The output failed.
+    /// A write failed.
     WriteFault,
     NoMemory,
-    /// The input has more than 1,073,741,824 bytes.
+    /// The input has more than `MAX_INPUT_BYTES` bytes.
     InputTooLong,
 }
 
-/// How many bytes are asked for, so that no more than one byte beyond the limit is taken.
+/// Returns how many bytes to read next, so that at most one byte beyond the limit is read.
 fn room(total: u64) -> usize
     requires { total ≤ MAX_INPUT_BYTES }
     ensures some { (0 < result) × (result ≤ PIECE_BYTES) }
@@ -50,7 +50,7 @@ fn room(total: u64) -> usize
     }
 }
 
-/// How a run ends that halted in mid-stream.
+/// Converts the reason for which the loop stopped.
 fn halted<R>(halt: Halt<R>) -> InputEnd<R>
     ensures { result ≡ ending_of halt }
 {
@@ -98,7 +98,7 @@ fn run_through<H: Handler + Drop, I: Source, O: Sink>(
     }
 }
 
-/// Reads an input to its end, in pieces of its own.
+/// Reads an input to its end through a buffer of `PIECE_BYTES` bytes.
 fn run_pieces<H: Handler + Drop, I: Source, O: Sink>(
     alloc: Global,
     handler: H,
@@ -116,7 +116,8 @@ fn run_pieces<H: Handler + Drop, I: Source, O: Sink>(
     run_through(alloc, handler, buf.as_mut_slice(), input, output)
 }
 
-/// Reads an input to its end, hands each of its lines to the handler, and writes their texts and that of the end.
+/// Reads an input to its end, passes each line to the handler, and writes the text of the lines and of the end. Each
+/// variant of `Ending` says how it ended.
 pub fn run_lines<H: Handler + Drop, I: Source, O: Sink>(
     alloc: Global,
     handler: H,
@@ -125,20 +126,21 @@ pub fn run_lines<H: Handler + Drop, I: Source, O: Sink>(
 ) -> InputEnd<H::Refusal>
     requires { Begins (H.handling handler) handler }
 
-    // What was taken and what was written, by how it ended.
+    // What was read and written, for each ending.
     ensures ran { Ran (H.handling handler) result (I.left input.old) (I.left input.new) (O.written output.old) (O.written output.new) }
 
-    // A fault is answered only where it was counted.
+    // A fault is returned only if the device counted one.
     ensures read { result ≡ InputEnd.ReadFault → Rose (I.faults input.old) (I.faults input.new) }
     ensures write { result ≡ InputEnd.WriteFault → Rose (O.faults output.old) (O.faults output.new) }
 
-    // Where lines alone say what is handled, and no fault was counted: whole lines that fit are done, the first bad line is
-    // refused for its reason, and lines that fit up to the limit are too long where more bytes follow.
+    // If the handler's acceptance depends on lines alone and no device failed: an input of accepted lines ends as
+    // `Done`, the first bad line is named with its reason, and accepted lines up to the limit with more bytes after
+    // them are `InputTooLong`.
     ensures complete { (x : Exact (H.handling handler)) → WhereWhole (H.handling handler) x (I.left input.old) (WhereFaultless (I.faults input.old) (I.faults input.new) (O.faults output.old) (O.faults output.new) (IsDone result)) }
     ensures refused { (x : Exact (H.handling handler)) → WhereBad (H.handling handler) x (I.left input.old) (λ line why. WhereFaultless (I.faults input.old) (I.faults input.new) (O.faults output.old) (O.faults output.new) (IsRefused (H.handling handler) x line why result)) }
     ensures too_long { (x : Exact (H.handling handler)) → WhereTooLong (H.handling handler) x (I.left input.old) (WhereFaultless (I.faults input.old) (I.faults input.new) (O.faults output.old) (O.faults output.new) (IsTooLong result)) }
 
-    // An input beyond the limit is never done, and one within it is never too long.
+    // An input beyond the limit never ends as `Done`, and one within it never as `InputTooLong`.
     ensures limit { (bytes : List ℕ) → I.left input.old ≡ Some bytes → MAX_INPUT_BYTES < length bytes → result ≢ InputEnd.Done }
     ensures within { (bytes : List ℕ) → I.left input.old ≡ Some bytes → length bytes ≤ MAX_INPUT_BYTES → result ≢ InputEnd.InputTooLong }
 {

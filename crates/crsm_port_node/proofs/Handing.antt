@@ -1,4 +1,4 @@
--- What is handed up of the first datagram that waits.
+-- How the first waiting datagram is returned.
 use Rattle.std.proofs.Common.{◌≡◌, ℕ, false, min, List, ◌++◌, length, take, drop, Ok, refl, ◌∙◌, sym, ap, subst, arith, length-take}
 use Rattle.std.specs.Prelude.{IsTrue}
 use Rattle.std.proofs.lemmas.List.{take_at, take_min}

@@ -1,4 +1,4 @@
-//! Datagrams that were read before anybody asked for them.
+//! Datagrams that were read from the inner port before the replica asked for them.
 
 ghost use Rattle.std.specs.Prelude.{IfSome, length};
 ghost use Rattle.crsm_port.specs.Meaning.{IsWithin};
@@ -7,12 +7,12 @@ use crsm_base::NoMemory;
 use crsm_port::{Port, Recv};
 use std::alloc::Global;
 
-/// How many datagrams are read ahead at most, and how many bytes one has.
+/// Maximum number of datagrams that are read ahead, and maximum length of each in bytes.
 const MOST_AHEAD: usize = 1024;
 
 const MOST_BYTES: usize = 8201;
 
-/// Where a datagram that was read ahead came from, and where its bytes stand.
+/// The address of a datagram that was read ahead, and the range of the buffer that holds its bytes.
 #[derive(Clone, Copy)]
 struct QueuedRange {
     from: u64,
@@ -20,7 +20,7 @@ struct QueuedRange {
     len: usize,
 }
 
-/// Datagrams that were read ahead, the oldest first, and whether a receive failed behind them.
+/// Datagrams that were read ahead, the oldest first, and whether a receive failed after them.
 #[derive(Drop)]
 pub(crate) struct Ahead {
     places: Vec<QueuedRange>,
@@ -31,7 +31,7 @@ pub(crate) struct Ahead {
 }
 
 impl Ahead {
-    /// None.
+    /// Returns an empty buffer, or `NoMemory` if memory runs out.
     pub(crate) fn new(alloc: Global) -> Result<Ahead, NoMemory> {
         Ok(Ahead {
             places: Vec::new(alloc),
@@ -42,8 +42,8 @@ impl Ahead {
         })
     }
 
-    /// Reads what waits at the port, so that its buffer is empty while the node is busy. What no memory is left for
-    /// waits on.
+    /// Reads what has arrived at the port, so that the socket's buffer does not overflow while the node is busy. What
+    /// has no room in memory stays at the port.
     pub(crate) fn read<P: Port>(&mut self, port: &mut P) {
         self.forget_taken();
         for _ in self.places.len()..MOST_AHEAD {
@@ -62,7 +62,7 @@ impl Ahead {
         }
     }
 
-    /// Lets all go once all were taken.
+    /// Removes the datagrams once all were taken.
     fn forget_taken(&mut self) {
         if self.next >= self.places.len() {
             self.places.clear();
@@ -71,7 +71,7 @@ impl Ahead {
         }
     }
 
-    /// Keeps a datagram that was received. Where no memory is left it is lost, as datagrams may be.
+    /// Keeps a received datagram. If memory runs out it is lost, as any datagram may be.
     fn keep(&mut self, from: u64, len: usize) {
         let start = self.bytes.len();
         let Some(bytes) = self.room.get(..len) else {
@@ -82,7 +82,7 @@ impl Ahead {
         }
     }
 
-    /// The oldest one, cut to the buffer.
+    /// Returns the oldest datagram, cut to the buffer, or `None` if there is none.
     pub(crate) fn take(&mut self, buf: &mut [u8]) -> Option<Recv>
         ensures { IfSome result (IsWithin (length buf.old)) }
     {
@@ -97,7 +97,7 @@ impl Ahead {
         })
     }
 
-    /// Whether a receive failed behind those that were read ahead, which is told once.
+    /// Returns whether a receive failed after the datagrams read ahead, and resets that.
     pub(crate) fn take_failure(&mut self) -> bool {
         let has_failed = self.has_failed;
         self.has_failed = false;

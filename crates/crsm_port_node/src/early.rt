@@ -1,4 +1,4 @@
-//! Frames that came before one that is missing.
+//! Frames that were received before an earlier frame of their link.
 
 ghost use Rattle.std.specs.Prelude.{IfSome, length};
 ghost use Rattle.crsm_port.specs.Meaning.{IsWithin};
@@ -8,14 +8,14 @@ use crsm_port::Recv;
 use std::alloc::Global;
 use std::collections::VecDeque;
 
-/// How many replicas there are at most, how many frames of one are kept, and how many bytes of all.
+/// Maximum number of replicas, of kept frames from one replica, and of bytes of all kept frames.
 const REPLICAS: usize = 15;
 
 const MOST_FRAMES: usize = 1024;
 
 const MOST_BYTES: usize = 4_194_304;
 
-/// A frame that is kept, and the address that it came from.
+/// A kept frame, and the address that it came from.
 #[derive(Drop)]
 struct Frame {
     number: u64,
@@ -23,7 +23,8 @@ struct Frame {
     bytes: Vec<u8>,
 }
 
-/// The frames of a replica in an epoch: the number of the next one, and those that came before it, in ascending order.
+/// The frames from one replica in an epoch: the sequence number that is expected next, and the frames received before
+/// it, ascending.
 #[derive(Drop)]
 struct Inbound {
     epoch: u64,
@@ -31,19 +32,19 @@ struct Inbound {
     frames: VecDeque<Frame>,
 }
 
-/// A link on which a frame is missing gives nothing until that frame has come, and then needs all behind it. Those that
-/// have come already are kept here, and come again behind the one that was missing.
+/// Frames that arrived early. A link delivers nothing while a frame is missing, and then needs all after it: those
+/// received meanwhile are kept here, and are returned again after the missing one.
 #[derive(Drop)]
 pub(crate) struct Early {
     alloc: Global,
     inbound: Vec<Inbound>,
     bytes: usize,
-    // the link whose next frame is kept
+    // The link whose next frame is kept.
     ready: Option<usize>,
 }
 
 impl Inbound {
-    /// No frame, of no epoch.
+    /// Returns a link without frames.
     fn new(alloc: Global) -> Inbound {
         Inbound {
             epoch: u64::MAX,
@@ -52,30 +53,30 @@ impl Inbound {
         }
     }
 
-    /// Whether the frame is one that comes behind a missing one, and behind those that are kept.
+    /// Returns whether the frame is after a missing one and after all that are kept.
     fn is_early(&self, epoch: u64, number: u64) -> bool {
         let last = self.frames.back().map_or(self.next, |f| f.number);
         self.epoch == epoch && number > last && self.frames.len() < MOST_FRAMES
     }
 
-    /// Lets the first of the frames go, and tells how many bytes it had.
+    /// Removes the first frame, and returns its length in bytes.
     fn drop_first(&mut self) -> usize {
         self.frames.pop_front().map_or(0, |f| f.bytes.len())
     }
 
-    /// Whether the first of the frames is below the next one.
+    /// Returns whether the first frame is below the expected one.
     fn has_old(&self) -> bool {
         self.frames.front().is_some_and(|f| f.number < self.next)
     }
 
-    /// Whether the next frame is kept.
+    /// Returns whether the expected frame is kept.
     fn has_next(&self) -> bool {
         self.frames.front().is_some_and(|f| f.number == self.next)
     }
 }
 
 impl Early {
-    /// None.
+    /// Returns an empty buffer, or `NoMemory` if memory runs out.
     pub(crate) fn new(alloc: Global) -> Result<Early, NoMemory> {
         let mut inbound = Vec::with_capacity(alloc, REPLICAS)?;
         for _ in 0..REPLICAS {
@@ -89,7 +90,7 @@ impl Early {
         })
     }
 
-    /// Notes which frame this replica expects of another.
+    /// Records the sequence number that this replica expects next from another.
     pub(crate) fn note_expected(&mut self, of: u8, epoch: u64, next: u64) {
         let Some(link) = self.inbound.get_mut(usize::from(of)) else {
             return;
@@ -106,7 +107,7 @@ impl Early {
         }
     }
 
-    /// Notes a frame that came. It is kept where one before it is missing.
+    /// Records a received frame, and keeps it if one before it is missing.
     pub(crate) fn note(&mut self, of: u8, epoch: u64, number: u64, from: u64, bytes: &[u8]) {
         let place = usize::from(of);
         let Some(link) = self.inbound.get_mut(place) else {
@@ -122,7 +123,7 @@ impl Early {
         }
     }
 
-    /// Lets go the frames that are not missed any longer, and sees whether the next one is kept.
+    /// Removes frames that are no longer needed, and checks whether the expected one is kept.
     fn see(&mut self, place: usize) {
         let Some(link) = self.inbound.get_mut(place) else {
             return;
@@ -136,7 +137,7 @@ impl Early {
         self.ready = link.has_next().then_some(place);
     }
 
-    /// Keeps a frame behind those that are kept.
+    /// Keeps a frame after those that are kept. `NoMemory` if memory runs out.
     fn keep(&mut self, place: usize, number: u64, from: u64, bytes: &[u8]) -> Result<(), NoMemory> {
         let mut copy = Vec::with_capacity(self.alloc, bytes.len())?;
         copy.extend_from_slice(bytes)?;
@@ -151,7 +152,7 @@ impl Early {
         Ok(())
     }
 
-    /// The frame that is kept and is next, cut to the buffer.
+    /// Returns the kept frame that is expected next, cut to the buffer, or `None` if there is none.
     pub(crate) fn take(&mut self, buf: &mut [u8]) -> Option<Recv>
         ensures { IfSome result (IsWithin (length buf.old)) }
     {

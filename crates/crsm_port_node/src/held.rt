@@ -1,16 +1,16 @@
-//! Acknowledgements that have not gone out yet.
+//! Acknowledgements that are held back until the next receive.
 
 use crsm_base::NoMemory;
 use crsm_port::Port;
 use std::alloc::Global;
 
-/// An acknowledgement has 19 bytes, and 9 more where it names its cluster.
+/// Maximum length of an acknowledgement in bytes: 19, and 9 for the mark of a cluster.
 const MOST_BYTES: usize = 28;
 
-/// How many addresses have one at most: those of the replicas.
+/// Maximum number of addresses with a held acknowledgement: one for each replica.
 const MOST_HELD: usize = 15;
 
-/// One that is held.
+/// A held acknowledgement, and the address that it is for.
 #[derive(Clone, Copy)]
 struct Ack {
     to: u64,
@@ -18,21 +18,21 @@ struct Ack {
     len: usize,
 }
 
-/// The last acknowledgement for each address: one says all that those before it said.
+/// The latest acknowledgement for each address; it covers all earlier ones.
 #[derive(Drop)]
 pub(crate) struct LastAcks {
     acks: Vec<Ack>,
 }
 
 impl LastAcks {
-    /// None, with room for all.
+    /// Returns an empty buffer with room for all, or `NoMemory` if memory runs out.
     pub(crate) fn new(alloc: Global) -> Result<LastAcks, NoMemory> {
         Ok(LastAcks {
             acks: Vec::with_capacity(alloc, MOST_HELD)?,
         })
     }
 
-    /// Holds one in place of that which is held for its address, and tells whether it did.
+    /// Holds an acknowledgement in place of the earlier one for its address, and returns whether it did.
     pub(crate) fn hold(&mut self, to: u64, bytes: &[u8]) -> bool {
         if bytes.len() > MOST_BYTES {
             return false;
@@ -52,7 +52,7 @@ impl LastAcks {
         self.acks.len() < MOST_HELD && self.acks.push(ack).is_ok()
     }
 
-    /// Sends them all.
+    /// Sends all held acknowledgements.
     pub(crate) fn let_go<P: Port>(&mut self, port: &mut P) {
         for ack in &self.acks {
             if let Some(bytes) = ack.bytes.get(..ack.len) {

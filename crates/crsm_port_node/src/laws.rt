@@ -1,11 +1,11 @@
-//! What is known of bytes that name a sender.
+//! The relation between a datagram's sender and its bytes.
 
 ghost use Rattle.crsm_port_node.specs.Laws.{SendersAreNamed};
 
 use crsm_wire::what_is_read_is_spelt;
 
-/// A datagram that comes from a replica by what it says is in bytes that name that replica: so none passes a `PeerPort` but
-/// from its sender's address.
+/// States that the bytes of a datagram whose fields name a replica as its sender name that replica, so that none passes
+/// a `PeerPort` except from its sender's address. It runs no code.
 pub fn senders_are_named()
     ensures { SendersAreNamed }
 {

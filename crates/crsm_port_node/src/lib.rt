@@ -1,5 +1,6 @@
-//! The ports between a node's socket and its replica: `PeerPort` takes what names a replica from that replica's address
-//! alone; `PacedPort` does retransmission and flow control, so that repeats do not drown what is new.
+//! The ports between a node's socket and its replica. `PeerPort` accepts a datagram that names a replica as its sender
+//! from that replica's address only. `PacedPort` limits retransmission and does flow control, so that repeats do not
+//! crowd out new datagrams.
 #![tactic(auto)]
 
 mod again;

@@ -1,4 +1,4 @@
-//! The port.
+//! `PacedPort`: retransmission and flow control around a port.
 
 ghost use Rattle.crsm_port.specs.Unknown.{unknown};
 
@@ -9,23 +9,21 @@ use crsm_port::{Port, Recv};
 use crsm_port_faults::raise;
 use std::alloc::Global;
 
-/// A port over a port, for a replica. A link sends its frames again at each tick until they are acknowledged, and a
-/// receiver acknowledges each frame and takes none behind one that is missing; over a socket with a short buffer this drowns
-/// what is new. So
+/// A port over a port that limits retransmission. A link retransmits its frames at each tick until they are
+/// acknowledged, and a receiver acknowledges each frame and accepts none after a missing one; over a socket with a
+/// short buffer this crowds out new datagrams. Therefore:
 ///
-/// - a frame that went out less than 20 milliseconds ago does not go out again, and then less than 40, 80 and 160; the
-///   first time 1 millisecond where its receiver has said twice that it expects the same frame and this is one of 32 from
-///   there on;
-/// - a part does not go out again to the same address within 20 milliseconds, whatever the number of its message: what a
-///   replica says of epochs it says again at each tick;
-/// - acknowledgements wait for the next receive, and of those to one address only the last goes out;
-/// - what waits at the port below is read ahead before the replica keeps its records, up to 1,024 datagrams;
-/// - a frame that comes before one that is missing is kept, up to 1,024 of a link, and comes once more behind that one;
-/// - a request waits, one of up to 1,024, while the replica has 64 that it has not answered, as it would refuse it. One that
-///   has no answer for a second counts no longer;
-/// - a request for a membership change comes once more, a second later, unless another one has come since.
+/// - a frame is not retransmitted within 20 milliseconds, and then within 40, 80 and 160; the first time within 1
+///   millisecond if its receiver has acknowledged the same number twice and this is one of the 32 frames from there on;
+/// - a part is not sent to the same address again within 20 milliseconds, whatever the number of its message, since a
+///   replica repeats its control messages at each tick;
+/// - acknowledgements wait for the next receive, and only the last one for each address is sent;
+/// - datagrams that have arrived at the inner port are read ahead before the replica syncs its records, up to 1,024;
+/// - a frame received before a missing one is kept, up to 1,024 of a link, and is returned again after that one;
+/// - a request waits, one of up to 1,024, while the replica has 64 that it has not answered, since it would refuse it.
+///   One that has no reply after a second counts no longer.
 ///
-/// A send that is held back counts as a loss, whether it goes out later or not. It tells its counts and nothing else.
+/// A send that is held back counts as a loss, whether it is sent later or not. Only its counters are specified.
 #[derive(Drop)]
 pub struct PacedPort<P, C> {
     pacer: Pacer<P, C>,
@@ -35,7 +33,8 @@ pub struct PacedPort<P, C> {
 }
 
 impl<P: Drop, C: Drop> PacedPort<P, C> {
-    /// A port over this one, by this clock. It takes about a megabyte.
+    /// Returns a port over `inner` that reads `clock`, in microseconds. It allocates about a megabyte; `NoMemory` if
+    /// memory runs out.
     pub fn new(alloc: Global, inner: P, clock: C) -> Result<PacedPort<P, C>, NoMemory> {
         Ok(PacedPort {
             pacer: Pacer::new(alloc, inner, clock)?,

@@ -1,4 +1,4 @@
-//! What is held back at a port, and what is read ahead.
+//! The state of a `PacedPort`: what is held back, and what was read ahead.
 
 ghost use Rattle.std.specs.Prelude.{IfOk, IfSome, length};
 ghost use Rattle.crsm_port.specs.Meaning.{IsWithin};
@@ -16,12 +16,12 @@ use crsm_port::{Port, Recv};
 use crsm_wire::{PacketHead, peek};
 use std::alloc::Global;
 
-/// A port, with what is held back before it and what was read ahead of it.
+/// A port, with what is held back before it and what was read ahead from it.
 #[derive(Drop)]
 pub(crate) struct Pacer<P, C> {
     port: P,
     clock: C,
-    // the clock's reading before the sends that come
+    // The clock's reading before the next sends, in microseconds.
     now: u64,
     ahead: Ahead,
     held: LastAcks,
@@ -30,12 +30,12 @@ pub(crate) struct Pacer<P, C> {
     requests: Requests,
     early: Early,
     again: Again,
-    // the receive does not wait
+    // Whether the next receive must not wait.
     is_hurried: bool,
 }
 
 impl<P: Drop, C: Drop> Pacer<P, C> {
-    /// Nothing is held back, and nothing was read.
+    /// Returns a state with nothing held back and nothing read ahead, or `NoMemory` if memory runs out.
     pub(crate) fn new(alloc: Global, port: P, clock: C) -> Result<Pacer<P, C>, NoMemory> {
         Ok(Pacer {
             port,
@@ -54,8 +54,8 @@ impl<P: Drop, C: Drop> Pacer<P, C> {
 }
 
 impl<P: Port, C: Clock> Pacer<P, C> {
-    /// Lets go what is held back, and gives the next datagram: a frame that is missed no longer, a request that has waited,
-    /// a request for a membership change that comes again, one that was read ahead, or what the port gives.
+    /// Sends what is held back, and returns the next datagram: a kept frame that is no longer early, a request that has
+    /// waited, one that was read ahead, or one from the port.
     pub(crate) fn recv(&mut self, buf: &mut [u8]) -> Result<Recv, Failed>
         ensures { IfOk result (IsWithin (length buf.old)) }
     {
@@ -68,7 +68,7 @@ impl<P: Port, C: Clock> Pacer<P, C> {
         got
     }
 
-    /// One that was kept, and whose turn has come.
+    /// Returns a kept datagram that is due, or `None`.
     fn kept(&mut self, buf: &mut [u8]) -> Option<Recv>
         ensures { IfSome result (IsWithin (length buf.old)) }
     {
@@ -81,7 +81,7 @@ impl<P: Port, C: Clock> Pacer<P, C> {
         }
     }
 
-    /// The next datagram that is not held back.
+    /// Returns the next datagram that is not held back.
     fn next(&mut self, buf: &mut [u8]) -> Result<Recv, Failed>
         ensures { IfOk result (IsWithin (length buf.old)) }
     {
@@ -94,7 +94,7 @@ impl<P: Port, C: Clock> Pacer<P, C> {
         Ok(Recv::Nothing)
     }
 
-    /// The next datagram, read ahead or not.
+    /// Returns the next datagram, from those read ahead or from the port.
     fn arrived(&mut self, buf: &mut [u8]) -> Result<Recv, Failed>
         ensures { IfOk result (IsWithin (length buf.old)) }
     {
@@ -110,8 +110,7 @@ impl<P: Port, C: Clock> Pacer<P, C> {
         self.port.recv(buf)
     }
 
-    /// Whether a datagram is held back; notes frames, which frame its sender expects, and a request for a membership
-    /// change.
+    /// Returns whether a received datagram is held back; records frames and the numbers that their senders expect.
     fn is_held(&mut self, from: u64, bytes: &[u8]) -> bool {
         match peek(bytes) {
             PacketHead::Ack {
@@ -150,7 +149,7 @@ impl<P: Port, C: Clock> Pacer<P, C> {
         }
     }
 
-    /// Whether a datagram is to go out now. An acknowledgement is held.
+    /// Returns whether a datagram is to be sent now. Acknowledgements are held.
     fn may_go(&mut self, to: u64, bytes: &[u8]) -> bool {
         match peek(bytes) {
             PacketHead::Frame {
@@ -177,7 +176,7 @@ impl<P: Port, C: Clock> Pacer<P, C> {
         }
     }
 
-    /// Lets go what is held back, reads ahead, and makes room at the port. Sends come next.
+    /// Sends what is held back, reads ahead, and reserves memory at the port; sends follow.
     pub(crate) fn reserve(&mut self, sends: u64, bytes: u64) -> Result<(), NoMemory> {
         self.now = self.clock.now();
         self.held.let_go(&mut self.port);
@@ -185,7 +184,7 @@ impl<P: Port, C: Clock> Pacer<P, C> {
         self.port.reserve(sends, bytes)
     }
 
-    /// The next receive does not wait.
+    /// Makes the next receive return at once.
     pub(crate) fn hurry(&mut self) {
         self.is_hurried = true;
     }

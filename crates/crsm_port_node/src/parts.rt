@@ -1,34 +1,35 @@
-//! Parts of messages that were sent a moment ago.
+//! Parts of control messages that were sent recently.
 
 use crsm_base::NoMemory;
 use std::alloc::Global;
 
-/// How many parts are remembered at most.
+/// Maximum number of parts that are remembered.
 const REMEMBERED: usize = 4096;
 
-/// The same part goes out again after so many microseconds.
+/// Minimum time between two sends of the same part, in microseconds.
 const PACE: u64 = 20_000;
 
-/// How a sum of bytes begins, and what each step multiplies it by.
+/// The initial value and the multiplier of the checksum (FNV-1a).
 const BASIS: u64 = 0xcbf2_9ce4_8422_2325;
 
 const PRIME: u64 = 0x0100_0000_01b3;
 
-/// The sum of a part, and the reading at which it went out last.
+/// The checksum of a part, and the clock reading at which it was last sent, in microseconds.
 #[derive(Clone, Copy)]
 struct SentPart {
     sum: u64,
     at: u64,
 }
 
-/// What a replica says of epochs it says again at each tick, as a message of a new number, and once for each frame of
-/// another epoch. So the same part to the same address waits, whatever its message's number.
+/// The parts sent recently. A replica repeats its control messages at each tick, with a new message number, and once
+/// for each frame of another epoch; so the same part to the same address waits, whatever its message number.
 #[derive(Drop)]
 pub(crate) struct RecentParts {
     last: Vec<SentPart>,
 }
 
-/// A sum of the address and of a part behind its message's number. Two parts with the same one are taken for the same.
+/// Returns a checksum of the address and of a part after its message number. Parts with equal checksums count as the
+/// same.
 fn sum_of(to: u64, part: &[u8]) -> u64 {
     let mut sum = (BASIS ^ to).wrapping_mul(PRIME);
     for byte in part {
@@ -38,7 +39,7 @@ fn sum_of(to: u64, part: &[u8]) -> u64 {
 }
 
 impl RecentParts {
-    /// None.
+    /// Returns an empty record, or `NoMemory` if memory runs out.
     pub(crate) fn new(alloc: Global) -> Result<RecentParts, NoMemory> {
         let never = SentPart { sum: 0, at: 0 };
         Ok(RecentParts {
@@ -46,7 +47,8 @@ impl RecentParts {
         })
     }
 
-    /// Whether a part may go out at this reading; it is noted if it may. A clock that went back holds nothing.
+    /// Returns whether a part may be sent at this reading, and records it if so. A clock that went back holds nothing
+    /// back.
     pub(crate) fn may_go(&mut self, to: u64, part: &[u8], now: u64) -> bool {
         let sum = sum_of(to, part);
         let place = (sum % REMEMBERED as u64) as usize;

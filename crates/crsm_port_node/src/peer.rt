@@ -1,4 +1,4 @@
-//! A port over a port: takes what names a replica as its sender from that replica's address alone.
+//! `PeerPort`: a check that datagrams come from the address of the replica that they name.
 
 ghost use Rattle.std.specs.Prelude.{◌≡◌, ◌↔◌, IsTrue, IfOk, Some, length, slice_get};
 ghost use Rattle.crsm_port.specs.Meaning.{Receives, Reserves, Sends};
@@ -9,8 +9,9 @@ use crsm_port::{Port, Recv};
 use crsm_wire::{sender_in, unmarked};
 
 /// A port over a port, for a replica whose peers have these addresses. A datagram that names the replica that it comes
-/// from (a frame, an acknowledgement or a part) is handed up only from that replica's address, and with no bytes from any
-/// other. All other datagrams are handed up as they are. Of its own it tells its counts alone, those of the port below.
+/// from (a frame, an acknowledgement or a part) is returned only from that replica's address, and without bytes from
+/// any other. All other datagrams are returned unchanged. Only its counters are specified; they equal those of the
+/// inner port.
 #[derive(Drop)]
 pub struct PeerPort<P> {
     inner: P,
@@ -18,7 +19,7 @@ pub struct PeerPort<P> {
 }
 
 impl<P: Drop> PeerPort<P> {
-    /// A port over this one, where replica `k` has the address `peers[k]`.
+    /// Returns a port over `inner`, where replica `k` has the address `peers[k]` (IPv4 x 65,536 + port).
     pub fn new(inner: P, peers: Vec<u64>) -> PeerPort<P>
         ensures { (result.inner ≡ inner) × (result.peers ≡ peers) }
     {
@@ -26,14 +27,14 @@ impl<P: Drop> PeerPort<P> {
     }
 }
 
-// Whether the replica has this address.
+// Returns whether the replica has this address.
 fn has_address(peers: &[u64], replica: u8, address: u64) -> bool
     ensures { IsTrue result ↔ (slice_get peers.now replica ≡ Some address) }
 {
     peers.get(replica as usize) == Some(&address)
 }
 
-// Whether bytes that came from this address may name the sender that they name.
+// Returns whether bytes from this address may name the sender that they name.
 fn speaks_for_itself(peers: &[u64], address: u64, bytes: &[u8]) -> bool
     ensures { IsTrue result ↔ SpeaksForItself peers.now address bytes.now }
 {

@@ -1,16 +1,17 @@
-//! Frames that were sent a moment ago.
+//! Frames that were sent recently, and the frames that replicas expect.
 
 use crsm_base::NoMemory;
 use std::alloc::Global;
 
-/// How many replicas there are at most, and how many frames of a link may be on their way.
+/// Maximum number of replicas, and of frames of a link that are remembered.
 const REPLICAS: usize = 15;
 
 const WINDOW: usize = 4096;
 
-/// A frame goes out again after so many microseconds, and after twice as many each time that follows, three times: its
-/// receiver may be busy, or far away. The first time it goes after the second number where its receiver has said twice that
-/// it expects the same frame, so that one is missing there, and this is one of so many from that frame on.
+/// Minimum times in microseconds between sends of a frame: `PACE`, doubled at each retransmission up to `MOST_DOUBLED`
+/// times, since its receiver may be busy or far away. The first retransmission waits only `HASTE` if the receiver has
+/// acknowledged the same number twice, so that a frame is missing there, and this is one of `MISSED` frames from that
+/// number on.
 const PACE: u64 = 20_000;
 
 const MOST_DOUBLED: u32 = 3;
@@ -19,7 +20,7 @@ const HASTE: u64 = 1_000;
 
 const MISSED: u64 = 32;
 
-/// A frame, the reading at which it went out last, and how often it went out again.
+/// A frame, the reading at which it was last sent, in microseconds, and the number of its retransmissions.
 #[derive(Clone, Copy)]
 struct SentFrame {
     epoch: u64,
@@ -28,7 +29,7 @@ struct SentFrame {
     again: u32,
 }
 
-/// The frame that a replica expects next, and whether it has said so twice.
+/// The frame that a replica expects next, and whether it has acknowledged that number twice.
 #[derive(Clone, Copy)]
 struct Expected {
     epoch: u64,
@@ -37,7 +38,7 @@ struct Expected {
 }
 
 impl SentFrame {
-    /// How long after it went out it may go again.
+    /// Returns the minimum time in microseconds until the frame may be sent again.
     fn pace(&self, is_missed: bool) -> u64 {
         if is_missed && self.again == 0 {
             HASTE
@@ -48,7 +49,7 @@ impl SentFrame {
 }
 
 impl Expected {
-    /// Whether the frame is one that seems to be missing.
+    /// Returns whether the frame seems to be missing at its receiver.
     fn seems_to_miss(&self, epoch: u64, number: u64) -> bool {
         self.is_repeated
             && self.epoch == epoch
@@ -57,20 +58,20 @@ impl Expected {
     }
 }
 
-/// What went out to each replica a moment ago, and what each expects.
+/// The frames sent recently to each replica, and the number that each expects.
 #[derive(Drop)]
 pub(crate) struct Repeats {
     last: Vec<SentFrame>,
     expected: Vec<Expected>,
 }
 
-/// Where a frame to this replica stands among the frames that went out.
+/// Returns the index of a frame to this replica among the remembered ones.
 fn place_of(to: u8, number: u64) -> usize {
     usize::from(to) % REPLICAS * WINDOW + (number % WINDOW as u64) as usize
 }
 
 impl Repeats {
-    /// Nothing went out.
+    /// Returns an empty record, or `NoMemory` if memory runs out.
     pub(crate) fn new(alloc: Global) -> Result<Repeats, NoMemory> {
         let never = SentFrame {
             epoch: u64::MAX,
@@ -89,7 +90,7 @@ impl Repeats {
         })
     }
 
-    /// Notes which frame a replica expects.
+    /// Records the sequence number that a replica expects.
     pub(crate) fn note_expected(&mut self, from: u8, epoch: u64, next: u64) {
         if let Some(expected) = self.expected.get_mut(usize::from(from)) {
             let is_repeated = expected.epoch == epoch && expected.next == next;
@@ -101,15 +102,15 @@ impl Repeats {
         }
     }
 
-    /// Whether a replica seems to miss a frame.
+    /// Returns whether a replica seems to miss the frame.
     fn is_missed(&self, to: u8, epoch: u64, number: u64) -> bool {
         self.expected
             .get(usize::from(to))
             .is_some_and(|e| e.seems_to_miss(epoch, number))
     }
 
-    /// Whether a frame to this replica may go out at this reading; it is noted if it may. A clock that went back holds
-    /// nothing.
+    /// Returns whether a frame to this replica may be sent at this reading, and records it if so. A clock that went
+    /// back holds nothing back.
     pub(crate) fn may_go(&mut self, to: u8, epoch: u64, number: u64, now: u64) -> bool {
         let is_missed = self.is_missed(to, epoch, number);
         let Some(last) = self.last.get_mut(place_of(to, number)) else {

@@ -9,15 +9,15 @@ use crsm_wire::CommandId;
 use std::alloc::Global;
 use std::collections::VecDeque;
 
-/// How many commands a node has under way before it refuses more, and how many requests wait here at most.
+/// Number of unanswered commands from which on a node refuses more, and maximum number of requests that wait here.
 const MOST_OPEN: usize = 64;
 
 pub(crate) const MOST_WAITING: usize = 1024;
 
-/// A request that has no answer after so many microseconds is not waited for any longer.
+/// Time in microseconds after which a request without a reply is no longer counted.
 const PATIENCE: u64 = 1_000_000;
 
-/// A command that the node was asked for and has not answered, and the reading when it was.
+/// A command that the node received and has not answered, and the reading at which it did, in microseconds.
 #[derive(Clone, Copy)]
 struct Open {
     command: CommandId,
@@ -32,7 +32,7 @@ struct WaitingRequest {
     bytes: Vec<u8>,
 }
 
-/// What the node was asked for and has not answered, and the requests that wait behind these, the oldest first.
+/// The commands that the node has not answered, and the requests that wait for them, the oldest first.
 #[derive(Drop)]
 pub(crate) struct Requests {
     alloc: Global,
@@ -41,7 +41,7 @@ pub(crate) struct Requests {
 }
 
 impl Requests {
-    /// None.
+    /// Returns an empty record, or `NoMemory` if memory runs out.
     pub(crate) fn new(alloc: Global) -> Result<Requests, NoMemory> {
         Ok(Requests {
             alloc,
@@ -50,8 +50,9 @@ impl Requests {
         })
     }
 
-    /// Holds a request where the node has no room for it, and tells whether it did. One that the node has already goes
-    /// up, as its client asks again; so does one that no room is left for, and the node refuses it.
+    /// Holds a request if the node has no room for it, and returns whether it did. A request that the node has already
+    /// is passed on, since its client sent it again; so is one for which there is no room here, and the node refuses
+    /// it.
     pub(crate) fn hold(&mut self, from: u64, command: CommandId, bytes: &[u8], now: u64) -> bool {
         if self.open.iter().any(|o| o.command == command) {
             return false;
@@ -63,7 +64,8 @@ impl Requests {
         self.waiting.len() < MOST_WAITING && self.keep(from, command, bytes).is_ok()
     }
 
-    /// Whether the node has room for one more. What has waited too long for its answer counts no longer.
+    /// Returns whether the node has room for one more. A command that has waited too long for its reply no longer
+    /// counts.
     fn has_room(&mut self, now: u64) -> bool {
         if self.open.len() >= MOST_OPEN {
             self.open
@@ -72,7 +74,7 @@ impl Requests {
         self.open.len() < MOST_OPEN
     }
 
-    /// The node is asked for it now.
+    /// Records that the node receives the command now.
     fn note_asked(&mut self, command: CommandId, now: u64) {
         let _ = self.open.push(Open {
             command,
@@ -80,7 +82,7 @@ impl Requests {
         });
     }
 
-    /// Puts a request behind those that wait.
+    /// Appends a request to those that wait. `NoMemory` if memory runs out.
     fn keep(&mut self, from: u64, command: CommandId, bytes: &[u8]) -> Result<(), NoMemory> {
         let mut copy = Vec::with_capacity(self.alloc, bytes.len())?;
         copy.extend_from_slice(bytes)?;
@@ -92,7 +94,7 @@ impl Requests {
         Ok(())
     }
 
-    /// The oldest one that waits, if the node has room for it, cut to the buffer.
+    /// Returns the oldest waiting request if the node has room for it, cut to the buffer, or `None`.
     pub(crate) fn take(&mut self, buf: &mut [u8], now: u64) -> Option<Recv>
         ensures { IfSome result (IsWithin (length buf.old)) }
     {
@@ -110,7 +112,7 @@ impl Requests {
         Some(Recv::Datagram { from, len })
     }
 
-    /// The node has answered a command.
+    /// Records that the node has answered a command.
     pub(crate) fn note_answered(&mut self, command: CommandId) {
         self.open.retain(|o| o.command != command);
     }

@@ -1,4 +1,4 @@
-//! The laws of the protocol: functions with no code, each of which has a law as its contract.
+//! Laws of single-decree Paxos, each as the contract of a function that runs no code.
 #![tactic(auto)]
 
 mod instances;
