@@ -1,24 +1,25 @@
-//! Logs as lines of text.
+//! Disks with logs.
 
 use crate::fault::Fault;
+use crate::words::bytes_of;
 use crsm_disk::{Disk, MemDisk};
-use hex::FromHexError;
 use std::alloc::Global;
 
-/// A disk with the log of a line, all of it synced.
+/// Returns a disk with the log of a line, all of it synced.
 pub fn disk_of(alloc: Global, line: &str) -> Result<MemDisk, Fault> {
     let file = file_of(alloc, line)?;
-    let mut disk = MemDisk::new(alloc, &[], None, 0)?;
-    write_all(&mut disk, &file)?;
+    let disk = disk_with(alloc, &file, &[])?;
     Ok(disk.image()?)
 }
 
-/// Writes the bytes of a whole file, and syncs them.
-fn write_all(disk: &mut MemDisk, file: &[u8]) -> Result<(), Fault> {
+/// Returns a disk with the bytes of a whole file, synced. Its calls of these numbers fail; the first two write the file
+/// and sync it.
+pub fn disk_with(alloc: Global, file: &[u8], fails: &[u64]) -> Result<MemDisk, Fault> {
+    let mut disk = MemDisk::new(alloc, fails, None, 0)?;
     disk.reserve(2, file.len() as u64)?;
     disk.write_at(0, file)?;
     disk.sync()?;
-    Ok(())
+    Ok(disk)
 }
 
 /// The bytes of the file that a line says.
@@ -49,12 +50,4 @@ fn add_entry(alloc: Global, file: &mut Vec<u8>, word: &str) -> Result<(), Fault>
     file.extend_from_slice(&length.to_be_bytes())?;
     file.extend_from_slice(&body)?;
     Ok(())
-}
-
-fn bytes_of(alloc: Global, word: &str) -> Result<Vec<u8>, Fault> {
-    match hex::decode(alloc, word) {
-        Ok(bytes) => Ok(bytes),
-        Err(FromHexError::OutOfMemory) => Err(Fault::NoMemory),
-        Err(_) => Err(Fault::Unreadable),
-    }
 }

@@ -15,7 +15,7 @@ pub struct Devices {
 }
 
 impl Devices {
-    /// Nothing has come yet. These calls of the port fail.
+    /// Returns devices at which nothing has come yet. These calls of the port fail.
     pub fn new(alloc: Global, fails: &[u64]) -> Result<Devices, Fault> {
         Ok(Devices {
             port: MemPort::new(alloc, fails)?,
@@ -24,7 +24,7 @@ impl Devices {
         })
     }
 
-    /// So many requests come, with the next numbers.
+    /// Lets `count` requests come, with the next numbers.
     pub fn come(&mut self, count: u64) -> Result<(), Fault> {
         for _ in 0..count {
             let number = self.last.checked_add(1).ok_or(Fault::Unreadable)?;

@@ -1,11 +1,11 @@
-//! A line about a lock, tried.
+//! Lines of the table `client` about a lock.
 
 ghost use Rattle.std.specs.Prelude.{◌<◌, ◌-◌, ◌^◌, IfOk};
 ghost use Rattle.crsm_base.specs.Spelling.{FitsKey};
 
+use crate::client::{command, port, with_sent};
 use crate::fault::Fault;
-use crate::trial::with_sent;
-use crate::words::{command, fails, number, parted, port};
+use crate::words::{number_of, numbers_of, parted};
 use crsm_base::{Command, Op};
 use crsm_cmd_lock::{LockOrder, lock};
 use crsm_io::MemSink;
@@ -71,14 +71,14 @@ fn lock_ends(
     Ok(format!(in alloc; "{end:?} {written:?}")?)
 }
 
-/// The command `lock`.
+/// Tries the command `lock`.
 pub fn tell_lock(alloc: Global, words: &str, datagrams: &str) -> Result<String, Fault> {
     let (to, words) = parted(words)?;
     let (turns, words) = parted(words)?;
     let (calls, words) = parted(words)?;
     let (writes, words) = parted(words)?;
-    let writes = fails(alloc, writes)?;
-    let order = order_of(alloc, number(to)?, number(turns)?, words)?;
+    let writes = numbers_of(alloc, writes)?;
+    let order = order_of(alloc, number_of(to)?, number_of(turns)?, words)?;
     let mut port = port(alloc, calls, datagrams)?;
     let end = lock_ends(alloc, &order, &mut port, writes.as_slice())?;
     with_sent(alloc, end.as_str(), &port)

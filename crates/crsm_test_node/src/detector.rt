@@ -1,19 +1,24 @@
-//! A detector and the log of its replica.
+//! The table `detector`: what detectors want next.
+//!
+//! `replica ME N` begins a detector and an empty log of replica ME, in a cluster that began with N.
+//! `log HEX` adds a body to the log.
+//! `hear READING FROM` tells a reading, and whom it was received from, `-` for none; `tick READING` that of a tick.
+//! `next` asks what is wanted.
 
 ghost use Rattle.std.specs.Prelude.{◌<◌, ◌≤◌};
 
 use crate::fault::Fault;
-use crate::words::{number_of, parted, replica_of};
-use crsm_base::Bodies;
+use crate::table::push_answer;
+use crate::words::{bytes_of, number_of, parted, replica_of};
+use crsm_base::{Bodies, Bytes};
 use crsm_ledger::Ledger;
 use crsm_replica_detector::Detector;
 use crsm_replica_io::WantedInput;
-use crsm_text::hex_of;
 use std::alloc::Global;
 
 /// A replica with its detector.
 #[derive(Drop)]
-pub struct Node {
+struct Watcher {
     me: u32,
     n: u32,
     detector: Detector,
@@ -33,9 +38,9 @@ fn text_of(alloc: Global, what: &WantedInput) -> Result<String, Fault> {
     }
 }
 
-impl Node {
+impl Watcher {
     /// The replica of these words, with an empty log.
-    pub fn begun(alloc: Global, text: &str) -> Result<Node, Fault> {
+    fn begun(alloc: Global, text: &str) -> Result<Watcher, Fault> {
         let (me, n) = parted(text)?;
         let me = replica_of(me)?;
         let n = number_of(n)?;
@@ -43,7 +48,7 @@ impl Node {
             return Err(Fault::Unreadable);
         }
         let n = n as u32;
-        Ok(Node {
+        Ok(Watcher {
             me,
             n,
             detector: Detector::new(me),
@@ -54,7 +59,7 @@ impl Node {
 
     /// Adds a body to the log.
     fn log(&mut self, alloc: Global, text: &str) -> Result<(), Fault> {
-        let body = hex_of(alloc, text.as_bytes())?;
+        let body = bytes_of(alloc, text)?;
         self.bodies.push(&body)?;
         self.ledger = Ledger::recover(alloc, self.me, self.n, &self.bodies)?;
         Ok(())
@@ -79,7 +84,7 @@ impl Node {
     }
 
     /// What is wanted after a line, if it asks for that.
-    pub fn answer_to(&mut self, alloc: Global, line: &str) -> Result<Option<String>, Fault> {
+    fn answer_to(&mut self, alloc: Global, line: &str) -> Result<Option<String>, Fault> {
         if line == "next" {
             let what = self.detector.next(&self.ledger)?;
             return Ok(Some(text_of(alloc, &what)?));
@@ -93,4 +98,31 @@ impl Node {
         }
         Ok(None)
     }
+}
+
+/// What is wanted after a line, if it asks for that. One that begins a detector replaces the detector.
+fn answer_to(
+    alloc: Global,
+    watcher: &mut Option<Box<Watcher>>,
+    line: &str,
+) -> Result<Option<String>, Fault> {
+    if let Some(text) = line.strip_prefix("replica ") {
+        *watcher = Some(Box::new(alloc, Watcher::begun(alloc, text)?)?);
+        return Ok(None);
+    }
+    match watcher {
+        Some(watcher) => watcher.answer_to(alloc, line),
+        None => Err(Fault::Unreadable),
+    }
+}
+
+/// Appends the answers to those lines of the table that ask for one.
+pub fn push_all(alloc: Global, text: &str, out: &mut Bytes) -> Result<(), Fault> {
+    let mut watcher = None;
+    for line in text.lines() {
+        if let Some(answer) = answer_to(alloc, &mut watcher, line)? {
+            push_answer(out, answer.as_str())?;
+        }
+    }
+    Ok(())
 }

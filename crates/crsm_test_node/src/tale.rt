@@ -3,13 +3,14 @@
 use crate::boot::boot;
 use crate::devices::Devices;
 use crate::fault::Fault;
+use crate::tale_words::{Word, word_of};
 use crate::traces::{push_kept, push_refusal, push_sent};
-use crate::words::{Word, calls_of, parted, word_of};
+use crate::words::{numbers_of, parted};
 use crsm_disk::MemDisk;
 use crsm_shell::{BootError, Shell, TurnError, WantedInput};
 use std::alloc::{AllocError, Global};
 
-/// What comes of a replica that boots on an empty disk and does what the words say. The first two words are the calls
+/// Writes what comes of a replica that boots on an empty disk and does what the words say. The first two words are the calls
 /// of its disk and of its port that fail.
 pub fn tale_of(alloc: Global, script: &str) -> Result<String, Fault> {
     let mut out = String::new(alloc);
@@ -26,13 +27,13 @@ fn push_tale(alloc: Global, script: &str, out: &mut String) -> Result<(), Fault>
 
 /// Devices whose port fails at these calls.
 fn devices_of(alloc: Global, fails: &str) -> Result<Devices, Fault> {
-    let fails = calls_of(alloc, fails)?;
+    let fails = numbers_of(alloc, fails)?;
     Devices::new(alloc, &fails)
 }
 
 /// An empty disk that fails at these calls.
 fn empty_disk(alloc: Global, fails: &str) -> Result<MemDisk, Fault> {
-    let fails = calls_of(alloc, fails)?;
+    let fails = numbers_of(alloc, fails)?;
     Ok(MemDisk::new(alloc, &fails, None, 0)?)
 }
 
@@ -118,7 +119,7 @@ fn push_word(
     Ok(())
 }
 
-/// Appends what comes of so many receives, up to the first that fails.
+/// Appends what comes of `count` receives, up to the first that fails.
 fn push_receives(
     shell: &mut Shell<MemDisk>,
     devices: &mut Devices,

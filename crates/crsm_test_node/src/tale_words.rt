@@ -1,29 +1,29 @@
 //! The words of a run.
 
 use crate::fault::Fault;
-use std::alloc::Global;
+use crate::words::number_of;
 
 /// What a word of a run asks.
 #[derive(Clone, Copy)]
 pub enum Word {
-    /// So many requests come to the port.
+    /// This many requests come to the port.
     Requests(u64),
     /// Bytes come that are no datagram.
     Junk,
-    /// So many receives, each of which is a step.
+    /// This many receives, each of which is a step.
     Take(u64),
     Tick,
     /// A receive whose step is kept and sent at once, with those that pend.
     Turn,
-    /// The disk stops after so many further calls, and what was not synced is this byte then.
+    /// The disk stops after `calls` further calls, and what was not synced is this byte then.
     Stop { calls: u64, fill: u8 },
     Flush,
 }
 
-/// The word that is spelt so.
+/// Reads a word of a run.
 pub fn word_of(text: &str) -> Result<Word, Fault> {
     match text.split_once(':') {
-        Some((name, count)) => counted_word(name, number(count)?),
+        Some((name, count)) => counted_word(name, number_of(count)?),
         None => plain_word(text),
     }
 }
@@ -50,25 +50,4 @@ fn plain_word(text: &str) -> Result<Word, Fault> {
         "flush" => Ok(Word::Flush),
         _ => Err(Fault::Unreadable),
     }
-}
-
-/// The two parts of a text around its first space.
-pub fn parted(text: &str) -> Result<(&str, &str), Fault> {
-    text.split_once(' ').ok_or(Fault::Unreadable)
-}
-
-/// The calls that fail: their numbers with commas between, or `-` where none does.
-pub fn calls_of(alloc: Global, text: &str) -> Result<Vec<u64>, Fault> {
-    let mut calls = Vec::new(alloc);
-    if text == "-" {
-        return Ok(calls);
-    }
-    for word in text.split(',') {
-        calls.push(number(word)?)?;
-    }
-    Ok(calls)
-}
-
-fn number(word: &str) -> Result<u64, Fault> {
-    word.parse::<u64>().map_err(|_| Fault::Unreadable)
 }

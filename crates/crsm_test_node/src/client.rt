@@ -1,33 +1,58 @@
-//! One line, tried.
+//! The table `client`: how it ends that a replica is asked over a port in memory, what was written, and what was sent.
+//!
+//! `client CLUSTER TO TURNS PORT OUTPUT CLIENT NUMBER OP / DATAGRAMS` is the command of a client,
+//! `ask TO TURNS RESEND PORT CLIENT NUMBER OP / DATAGRAMS` the call below it,
+//! `operate CLUSTER TO PORT MEMBERS / DATAGRAMS` the command of an operator, and
+//! `lock TO TURNS PORT OUTPUT ACTION CLIENT NUMBER get KEY / DATAGRAMS` that of a client about a lock. PORT and OUTPUT
+//! are the calls of the port and of the output that fail (`-`: none); each of DATAGRAMS waits at the port, as
+//! `FROM:HEX`.
 
+ghost use Rattle.std.specs.Prelude.{IfOk};
 ghost use Rattle.crsm_base.specs.Spelling.{FitsCommand};
 
 use crate::fault::Fault;
-use crate::locks::tell_lock;
-use crate::words::{command, fails, number, parted, port};
-use crsm_base::{Bytes, Outcome};
+use crate::lock::tell_lock;
+use crate::packets::{push_sent, put_packet};
+use crate::table::push_answer;
+use crate::words::{number_of, numbers_of, parted};
+use crsm_base::{Bytes, Command, Outcome};
 use crsm_client::{AskError, ClientOrder, ask, client, operate, operate_command};
 use crsm_io::MemSink;
 use crsm_port::MemPort;
-use crsm_text::{print_outcome, push_hex, push_number, read_members};
+use crsm_text::{print_outcome, read_members, read_op};
 use std::alloc::Global;
 use std::str::from_utf8;
 
 /// How many bytes an output has at most.
 const ROOM: u64 = 4_096;
 
-/// How it ended, and what was sent, each datagram as `TO:HEX`.
+/// Reads a client's number, the command's, and its operation.
+pub fn command(alloc: Global, text: &str) -> Result<Command, Fault>
+    ensures { IfOk result (λ command. FitsCommand command) }
+{
+    let (client, text) = parted(text)?;
+    let (order, text) = parted(text)?;
+    Ok(Command {
+        client: number_of(client)?,
+        number: number_of(order)?,
+        op: read_op(alloc, text.as_bytes())?,
+    })
+}
+
+/// Returns a port that fails at these calls, with the datagrams that wait.
+pub fn port(alloc: Global, calls: &str, datagrams: &str) -> Result<MemPort, Fault> {
+    let fails = numbers_of(alloc, calls)?;
+    let mut port = MemPort::new(alloc, fails.as_slice())?;
+    for word in datagrams.split_whitespace() {
+        put_packet(alloc, &mut port, word)?;
+    }
+    Ok(port)
+}
+
+/// Writes how it ended, and what was sent, each datagram as `TO:HEX`.
 pub fn with_sent(alloc: Global, end: &str, port: &MemPort) -> Result<String, Fault> {
     let mut text = Bytes::new(alloc);
-    let packets = port.sent();
-    for i in 0..packets.len() {
-        if let Some((to, bytes)) = packets.get(i) {
-            text.push(b' ')?;
-            push_number(&mut text, to)?;
-            text.push(b':')?;
-            push_hex(&mut text, bytes)?;
-        }
-    }
+    push_sent(&mut text, port)?;
     let sent = from_utf8(text.as_slice()).unwrap_or(" no text");
     Ok(format!(in alloc; "{end}{sent}")?)
 }
@@ -56,10 +81,10 @@ fn tell_client(alloc: Global, words: &str, datagrams: &str) -> Result<String, Fa
     let (turns, words) = parted(words)?;
     let (calls, words) = parted(words)?;
     let (writes, words) = parted(words)?;
-    let cluster = number(cluster)?;
-    let to = number(to)?;
-    let turns = number(turns)?;
-    let writes = fails(alloc, writes)?;
+    let cluster = number_of(cluster)?;
+    let to = number_of(to)?;
+    let turns = number_of(turns)?;
+    let writes = numbers_of(alloc, writes)?;
     let mut port = port(alloc, calls, datagrams)?;
     let command = command(alloc, words)?;
     let order = ClientOrder { to, turns, command };
@@ -86,9 +111,9 @@ fn tell_ask(alloc: Global, words: &str, datagrams: &str) -> Result<String, Fault
     let (turns, words) = parted(words)?;
     let (resend, words) = parted(words)?;
     let (calls, words) = parted(words)?;
-    let to = number(to)?;
-    let turns = number(turns)?;
-    let resend = number(resend)?.max(1);
+    let to = number_of(to)?;
+    let turns = number_of(turns)?;
+    let resend = number_of(resend)?.max(1);
     let mut port = port(alloc, calls, datagrams)?;
     let command = command(alloc, words)?;
     let answer = ask(alloc, &mut port, to, &command, turns, resend);
@@ -101,8 +126,8 @@ fn tell_operate(alloc: Global, words: &str, datagrams: &str) -> Result<String, F
     let (cluster, words) = parted(words)?;
     let (to, words) = parted(words)?;
     let (calls, members) = parted(words)?;
-    let cluster = number(cluster)?;
-    let to = number(to)?;
+    let cluster = number_of(cluster)?;
+    let to = number_of(to)?;
     let members = read_members(alloc, members.as_bytes())?;
     let mut port = port(alloc, calls, datagrams)?;
     let end = match cluster {
@@ -114,7 +139,7 @@ fn tell_operate(alloc: Global, words: &str, datagrams: &str) -> Result<String, F
 }
 
 /// What comes of a line.
-pub fn tell(alloc: Global, line: &str) -> Result<String, Fault> {
+fn answer_to(alloc: Global, line: &str) -> Result<String, Fault> {
     let (words, datagrams) = line.split_once(" / ").unwrap_or((line, ""));
     match parted(words)? {
         ("client", words) => tell_client(alloc, words, datagrams),
@@ -123,4 +148,13 @@ pub fn tell(alloc: Global, line: &str) -> Result<String, Fault> {
         ("lock", words) => tell_lock(alloc, words, datagrams),
         _ => Err(Fault::Unreadable),
     }
+}
+
+/// Appends the answers to all lines of the table.
+pub fn push_all(alloc: Global, text: &str, out: &mut Bytes) -> Result<(), Fault> {
+    for line in text.lines() {
+        let answer = answer_to(alloc, line)?;
+        push_answer(out, answer.as_str())?;
+    }
+    Ok(())
 }

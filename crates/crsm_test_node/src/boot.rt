@@ -1,6 +1,16 @@
-//! Boots of a replica that is a cluster of its own.
+//! The table `boot`: boots of a replica that is a cluster of its own, and what comes of them.
+//!
+//! A line has the bodies of a log in hexadecimal, with spaces between, or `file` and the bytes of a whole file: then it is
+//! booted on that. `run DISK PORT WORDS` boots it on an empty disk, where these calls of the disk and of the port fail
+//! (`-`: none), and then does what the words say: `requests:N` and `junk` come to the port, `take:N` and `tick` are
+//! steps, `flush` keeps and sends, `turn` is a step that is kept and sent at once, and `stop:N` or `open:N` stops the
+//! disk after N further calls, where what was not synced reads as a closed or as an open gate.
 
-use crsm_base::Bodies;
+use crate::disks::disk_of;
+use crate::fault::Fault;
+use crate::table::push_answer;
+use crate::tale::tale_of;
+use crsm_base::{Bodies, Bytes};
 use crsm_disk::MemDisk;
 use crsm_shell::{BootError, Booted, Shell};
 use std::alloc::{AllocError, Global};
@@ -17,12 +27,12 @@ pub struct Found {
     size: u64,
 }
 
-/// Boots it on this disk.
+/// Boots it on this disk. At an error the disk is given back.
 pub fn boot(alloc: Global, disk: MemDisk) -> Result<Booted<MemDisk>, (BootError, MemDisk)> {
     Shell::boot(alloc, 0, 1, &[70], disk)
 }
 
-/// What a boot finds on this disk.
+/// Returns what a boot finds on this disk, or why it refuses.
 pub fn found_on(alloc: Global, disk: MemDisk) -> Result<Found, BootError> {
     match boot(alloc, disk) {
         Ok(booted) => Ok(Found {
@@ -36,7 +46,7 @@ pub fn found_on(alloc: Global, disk: MemDisk) -> Result<Found, BootError> {
 }
 
 /// What a boot says of this disk.
-pub fn boot_text(alloc: Global, disk: MemDisk) -> Result<String, AllocError> {
+fn boot_text(alloc: Global, disk: MemDisk) -> Result<String, AllocError> {
     match found_on(alloc, disk) {
         Ok(found) => found_text(alloc, &found),
         Err(why) => refusal_text(alloc, why),
@@ -54,4 +64,21 @@ fn refusal_text(alloc: Global, why: BootError) -> Result<String, AllocError> {
         BootError::BadLog { entry, why } => format!(in alloc; "{entry}, {why}"),
         _ => format!(in alloc; "{why}"),
     }
+}
+
+/// The answer to a line.
+fn answer_to(alloc: Global, line: &str) -> Result<String, Fault> {
+    match line.split_once(' ') {
+        Some(("run", script)) => tale_of(alloc, script),
+        _ => Ok(boot_text(alloc, disk_of(alloc, line)?)?),
+    }
+}
+
+/// Appends the answers to all lines of the table.
+pub fn push_all(alloc: Global, text: &str, out: &mut Bytes) -> Result<(), Fault> {
+    for line in text.lines() {
+        let answer = answer_to(alloc, line)?;
+        push_answer(out, answer.as_str())?;
+    }
+    Ok(())
 }

@@ -1,11 +1,16 @@
-//! One row.
+//! The table `paced_port`: what each send and receive of a port that paces gave, and behind `>` what went out.
+//!
+//! A row has the steps of a port: `put:FROM:HEX` is a datagram that waits, `fail:K` a call of the port below that fails,
+//! and then, in order, `reserve:T` makes room at the clock's reading T, `send:TO:HEX` sends and `recv` receives.
 
 use crate::fault::Fault;
+use crate::packets::{packet_of, push_packet, push_sent, put_packet};
+use crate::table::push_answer;
+use crate::words::number_of;
 use crsm_base::Bytes;
 use crsm_clock::ListClock;
 use crsm_port::{MemPort, Port, Recv};
 use crsm_port_node::PacedPort;
-use crsm_text::{hex_of, push_hex, push_number};
 use std::alloc::Global;
 use std::str::from_utf8;
 
@@ -24,21 +29,13 @@ struct Devices {
     clock: ListClock,
 }
 
-/// An address and bytes, as `ADDRESS:HEX`.
-fn packet_of(alloc: Global, word: &str) -> Result<(u64, Vec<u8>), Fault> {
-    let (address, hex) = word.split_once(":").ok_or(Fault::Unreadable)?;
-    let address = address.parse::<u64>().map_err(|_| Fault::Unreadable)?;
-    let bytes = hex_of(alloc, hex.as_bytes()).map_err(|_| Fault::Unreadable)?;
-    Ok((address, bytes))
-}
-
 /// The numbers of the steps of this name.
-fn numbers_of(alloc: Global, row: &str, name: &str) -> Result<Vec<u64>, Fault> {
+fn step_numbers(alloc: Global, row: &str, name: &str) -> Result<Vec<u64>, Fault> {
     let mut numbers = Vec::new(alloc);
     for step in row.split(' ') {
         match step.split_once(":") {
             Some((word, number)) if word == name => {
-                numbers.push(number.parse::<u64>().map_err(|_| Fault::Unreadable)?)?;
+                numbers.push(number_of(number)?)?;
             }
             _ => {}
         }
@@ -48,13 +45,12 @@ fn numbers_of(alloc: Global, row: &str, name: &str) -> Result<Vec<u64>, Fault> {
 
 /// The devices of a row, before its first step.
 fn devices_of(alloc: Global, row: &str) -> Result<Devices, Fault> {
-    let fails = numbers_of(alloc, row, "fail")?;
-    let readings = numbers_of(alloc, row, "reserve")?;
+    let fails = step_numbers(alloc, row, "fail")?;
+    let readings = step_numbers(alloc, row, "reserve")?;
     let mut port = MemPort::new(alloc, fails.as_slice())?;
     for step in row.split(' ') {
         if let Some(word) = step.strip_prefix("put:") {
-            let (from, bytes) = packet_of(alloc, word)?;
-            port.put(from, bytes.as_slice())?;
+            put_packet(alloc, &mut port, word)?;
         }
     }
     port.reserve(SENDS, BYTES)?;
@@ -62,15 +58,6 @@ fn devices_of(alloc: Global, row: &str) -> Result<Devices, Fault> {
         port,
         clock: ListClock::new(alloc, readings.as_slice())?,
     })
-}
-
-/// Writes an address and bytes.
-fn push_packet(text: &mut Bytes, address: u64, bytes: &[u8]) -> Result<(), Fault> {
-    text.push(b' ')?;
-    push_number(text, address)?;
-    text.push(b':')?;
-    push_hex(text, bytes)?;
-    Ok(())
 }
 
 /// Receives, and writes what came.
@@ -111,20 +98,8 @@ fn take_step<P: Port>(
     Ok(())
 }
 
-/// Writes what went out.
-fn push_sent(port: &MemPort, text: &mut Bytes) -> Result<(), Fault> {
-    let packets = port.sent();
-    text.append(b" >")?;
-    for i in 0..packets.len() {
-        if let Some((to, bytes)) = packets.get(i) {
-            push_packet(text, to, bytes)?;
-        }
-    }
-    Ok(())
-}
-
 /// What the steps of a row gave, and what went out.
-pub(crate) fn run_row(alloc: Global, row: &str) -> Result<String, Fault> {
+fn run_row(alloc: Global, row: &str) -> Result<String, Fault> {
     let mut devices = devices_of(alloc, row)?;
     let mut text = Bytes::new(alloc);
     let mut port = PacedPort::new(alloc, &mut devices.port, &mut devices.clock)?;
@@ -132,7 +107,25 @@ pub(crate) fn run_row(alloc: Global, row: &str) -> Result<String, Fault> {
         take_step(alloc, &mut port, step, &mut text)?;
     }
     drop(port);
-    push_sent(&devices.port, &mut text)?;
+    text.append(b" >")?;
+    push_sent(&mut text, &devices.port)?;
     let text = from_utf8(text.as_slice()).map_err(|_| Fault::Unreadable)?;
     Ok(format!(in alloc; "{text}")?)
+}
+
+/// The answer to a row: what its steps gave, or that one is none.
+fn answer_to(alloc: Global, row: &str) -> Result<String, Fault> {
+    match run_row(alloc, row) {
+        Err(Fault::Unreadable) => Ok(format!(in alloc; "a step that is not known")?),
+        answer => answer,
+    }
+}
+
+/// Appends the answers to all lines of the table.
+pub fn push_all(alloc: Global, text: &str, out: &mut Bytes) -> Result<(), Fault> {
+    for line in text.lines() {
+        let answer = answer_to(alloc, line)?;
+        push_answer(out, answer.as_str())?;
+    }
+    Ok(())
 }
