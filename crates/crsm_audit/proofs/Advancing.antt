@@ -1,4 +1,4 @@
--- One line more of a sheet: what becomes of its account.
+-- The account of a sheet after one more line.
 use Rattle.std.proofs.Common.{◌≡◌, ◌≢◌, ℕ, ◌+◌, ◌-◌, List, [], ◌∷◌, ◌++◌, map, length, refl, sym, ◌∙◌, ap, subst, append_assoc, inl, inr, arith}
 use Rattle.std.proofs.lemmas.List.{append-nil, length-append, map-append}
 use Rattle.crsm_base.specs.Records.{SpeltBody}

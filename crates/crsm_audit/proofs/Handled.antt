@@ -1,4 +1,4 @@
--- What an audit makes of one line more of an input, and of its end.
+-- The effect of one more line of an input on an audit, and of its end.
 use Rattle.std.proofs.Common.{◌≡◌, ℕ, ◌+◌, List, [], ◌∷◌, ◌++◌, Result, Ok, Err, IfErr, map, length, refl, ap, sym, ◌∙◌, subst}
 use Rattle.std.proofs.lemmas.List.{append-nil, length-map}
 use Rattle.crsm_port_lines.specs.Handling.{EndsWell, Handles, StopsAt, StopsAtEnd, Text}

@@ -1,4 +1,4 @@
--- The sheets of lines, where one sheet comes behind others.
+-- The sheets of lines, where one sheet follows others.
 use Rattle.std.proofs.Common.{◌≡◌, ℕ, ◌+◌, List, [], ◌∷◌, ◌++◌, map, length, refl, ◌∙◌, ap, arith}
 use Rattle.crsm_law_sheets.specs.Sheets.{Sheet}
 use Rattle.crsm_text_sheet.specs.declared.line.SheetLine.{SheetLine}

@@ -1,4 +1,4 @@
--- What becomes of an audit at a line, and at the end.
+-- The effect of a line, and of the end, on an audit.
 use Rattle.std.proofs.Common.{◌≡◌, ◌≢◌, ℕ, ◌+◌, ◌-◌, List, [], ◌∷◌, ◌++◌, map, length, refl, sym, ◌∙◌, ap, subst, append_assoc, inl, inr, arith}
 use Rattle.std.specs.Prelude.{Option, Some, None, Result, Ok, Err, IfErr, OnOk}
 use Rattle.std.specs.List.{AllByRecursion}

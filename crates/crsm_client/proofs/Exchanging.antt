@@ -1,4 +1,4 @@
--- One exchange after another, and what one call of the port is.
+-- One exchange after another, and the exchange of one call of the port.
 use Rattle.std.proofs.Common.{◌≡◌, ◌∙◌, ◌↔◌, ℕ, ◌+◌, List, [], ◌++◌, replicate, Option, Some, None, IsSome, Ok, option_map, is_some, refl, sym, ap, ap₂, subst, append_assoc, append-nil, length-append, arith}
 use Rattle.std.proofs.lemmas.List.{map-append, replicate-append-replicate}
 use Rattle.crsm_port.specs.Cluster.{over, wrapped}

@@ -1,4 +1,4 @@
--- A request for which room was made, and which was sent or not.
+-- A request with reserved memory, which was sent or not.
 use Rattle.std.proofs.Common.{◌≡◌, ◌∙◌, ℕ, List, Result, Ok, Err, IsErrAnd, ap, subst, arith}
 use Rattle.crsm_base.specs.declared.memory.Failed.{Failed}
 use Rattle.crsm_port_faults.specs.Counts.{Rose}

@@ -1,4 +1,4 @@
--- A client has its answers where they are among what was taken, and only there.
+-- A client has its answers if and only if they are among the datagrams received.
 use Rattle.std.proofs.Common.{◌≡◌, ℕ, List, [], ◌∷◌, ◌++◌, map, Option, Some, None, IsSome, Result, Ok, Err, inl, inr, refl, sym, ◌∙◌, ap, subst, append_assoc}
 use Rattle.std.proofs.lemmas.List.{append_cancel_left, map-append}
 use Rattle.crsm_base.specs.declared.Command.{Command}

@@ -1,4 +1,4 @@
--- What the reader and the replay answer makes a line handled or refused.
+-- A line is handled or refused by the results of the reader and the replay.
 use Rattle.std.proofs.Common.{◌≡◌, ℕ, List, [], ◌∷◌, ◌++◌, Result, Ok, Err, IfErr, OnOk, map, refl, ap, sym, ◌∙◌, subst, append-nil}
 use Rattle.crsm_base.specs.declared.Line.{Line}
 use Rattle.crsm_port_lines.specs.Handling.{EndsWell, Handles, StopsAt, Text}

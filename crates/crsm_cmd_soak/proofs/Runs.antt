@@ -1,4 +1,4 @@
--- A run, event by event: what has been drawn and done, and what is still ahead.
+-- A run, event by event: the events generated and executed, and those still to come.
 use Rattle.std.proofs.Common.{◌≡◌, ◌+◌, ℕ, zero, suc, true, false, List, [], ◌∷◌, ◌++◌, length, map, refl, ap, sym, ◌∙◌, subst, arith, append_assoc, append-nil, Option, None, Some}
 use Rattle.std.proofs.lemmas.List.{map-append}
 use Rattle.crsm_sim_generator.specs.Drawing.{begun, drawn_next}

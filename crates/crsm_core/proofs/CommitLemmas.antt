@@ -1,4 +1,4 @@
--- Commits: the run of them, one entry after another.
+-- The commits of a step, one entry after another.
 use Rattle.std.proofs.Common.{◌≡◌, ◌∙◌, ℕ, ◌+◌, ◌≤◌, refl, ap, sym, length, Bool, true, false, arith, List, [], ◌∷◌, cond}
 use Rattle.std.specs.Prelude.{◌&&◌, None, Some}
 use Rattle.std.proofs.lemmas.Bool.{and_parts}

@@ -1,4 +1,4 @@
--- Frames and Acks: which rule applies, and what taking a frame comes to where its record is kept first.
+-- Frames and acknowledgements: the rule that applies, and the effect of a frame whose record comes first.
 use Rattle.std.proofs.Common.{◌≡◌, ◌∙◌, ℕ, ◌<◌, ◌≤◌, refl, ap, sym, length, Bool, true, false, arith, ◌∷◌}
 use Rattle.std.specs.Prelude.{◌≢◌, ◌==◌, ◌&&◌, ◌||◌, not, nat_le}
 use Rattle.crsm_spec.specs.Types.{Stamp, Entry, Rec, InEpoch}

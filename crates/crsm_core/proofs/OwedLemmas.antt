@@ -1,4 +1,4 @@
--- Owed acknowledgements: the run of them, one payment after another.
+-- The acknowledgements sent in a step, one after another.
 use Rattle.std.proofs.Common.{◌≡◌, ◌∙◌, ℕ, ◌+◌, ◌<◌, ◌≤◌, refl, ap, sym, subst, length, true, false, arith, List, [], ◌∷◌}
 use Rattle.std.specs.Prelude.{nat_lt, Option, None, Some}
 use Rattle.std.specs.List.{AllByRecursion}

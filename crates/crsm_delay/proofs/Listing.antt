@@ -1,4 +1,4 @@
--- Lists of upcoming events: one is put in, and datagrams that lines tell of are looked at one after another.
+-- Lists of upcoming events: one is inserted, and the datagrams reported by lines are looked at one after another.
 use Rattle.std.proofs.Common.{◌≡◌, ℕ, zero, suc, ◌+◌, ◌<◌, ◌≤◌, List, [], ◌∷◌, ◌++◌, length, refl, sym, ◌∙◌, ap, subst, arith, map, take, drop, get_or}
 use Rattle.std.specs.List.{AllByRecursion, insert}
 use Rattle.std.proofs.lemmas.List.{map-append}

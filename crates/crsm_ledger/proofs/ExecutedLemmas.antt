@@ -1,4 +1,4 @@
--- One entry more is executed.
+-- The history with one more executed entry.
 use Rattle.std.proofs.Common.{◌≡◌, ℕ, suc, zero, Bool, true, false, ◌<◌, List, [], ◌∷◌, ◌++◌, refl, ap, sym, ◌∙◌, arith, length, append_assoc, subst}
 use Rattle.std.specs.Prelude.{filter, slice_get, Option, None, Some, ◌==◌, ◌||◌, ◌&&◌, nat_lt, if◌then◌else◌}
 use Rattle.std.specs.List.{AllByRecursion}

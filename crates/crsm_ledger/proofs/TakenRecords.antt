@@ -1,4 +1,4 @@
--- Records whose bytes are at hand.
+-- Records whose encodings were read before.
 use Rattle.std.proofs.Common.{◌≡◌, ℕ, ◌<◌, ◌+◌, ◌-◌, ◌≤◌, List, [], ◌++◌, length, take, Option, None, Some, Result, Err, refl, sym, ap, ◌∙◌, subst, arith, length-append, append_assoc, drop}
 use Rattle.std.proofs.lemmas.List.{drop_at, take-append-le, take_all}
 use Rattle.std.specs.Prelude.{IfErr}

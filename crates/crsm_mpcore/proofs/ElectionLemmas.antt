@@ -1,4 +1,4 @@
--- How a majority elects, and what its election does.
+-- The election by a majority, and its effects.
 use Rattle.std.proofs.Common.{◌≡◌, ℕ, zero, suc, ◌+◌, ◌-◌, ◌<◌, ◌≤◌, Bool, true, false, List, [], ◌∷◌, ◌++◌, Some, refl, ap, sym, subst, ◌∙◌, append_assoc, length, arith}
 use Rattle.std.specs.Prelude.{◌==◌, cond, map, filter, fold, take, slice_get, Option, None, nat_le, if◌then◌else◌}
 use Rattle.std.specs.List.{AllByRecursion, flat_map, range_with_len}

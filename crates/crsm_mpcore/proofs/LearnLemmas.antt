@@ -1,4 +1,4 @@
--- What is executed from a slot on, one value more.
+-- The executed values from a slot on, with one more.
 use Rattle.std.proofs.Common.{◌≡◌, ℕ, zero, suc, ◌+◌, ◌-◌, ◌<◌, ◌≤◌, List, [], ◌∷◌, ◌++◌, Some, refl, ap, ◌∙◌, length, arith}
 use Rattle.std.specs.Prelude.{Bool, true, false, nat_le, Option, min, drop, fold, slice_get, take}
 use Rattle.std.specs.List.{enumerate_from}

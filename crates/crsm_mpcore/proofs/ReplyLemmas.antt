@@ -1,4 +1,4 @@
--- Replies, one waiting client after the other, and equal commands.
+-- Replies, one waiting client after another, and equal commands.
 use Rattle.std.proofs.Common.{◌≡◌, ℕ, zero, suc, ◌+◌, ◌≤◌, true, false, List, [], ◌∷◌, ◌++◌, Some, None, length, refl, ap, ap₂, sym, ◌∙◌, append_assoc, arith}
 use Rattle.std.specs.Prelude.{◌==◌, ◌&&◌, Bool, Option, bytes_eq, slice_get, take}
 use Rattle.std.specs.List.{AllByRecursion}

@@ -1,4 +1,4 @@
--- Which requests are taken, and which are refused.
+-- The requests that are accepted, and those that are refused.
 use Rattle.std.proofs.Common.{◌≡◌, ℕ, ◌+◌, true, false, List, refl, ap, ap₂, sym, subst, ◌∙◌}
 use Rattle.std.specs.Prelude.{◌==◌}
 use Rattle.crsm_base.specs.Order.{ballot_eq}

@@ -1,4 +1,4 @@
--- What is sent again at a tick, one replica more.
+-- The retransmissions at a tick, with one more replica.
 use Rattle.std.proofs.Common.{Vec, Global, get_or, length, ◌≡◌, ℕ, zero, suc, ◌+◌, ◌<◌, Bool, true, false, List, [], ◌∷◌, ◌++◌, IsTrue, Some, refl, ap, sym, subst, ◌∙◌, arith}
 use Rattle.std.specs.Prelude.{◌==◌, ◌&&◌, ◌||◌, not, cond, is_some, map, filter, fold, take, Option, None}
 use Rattle.std.specs.BTreeMap.{get, is_at, keys}

@@ -1,4 +1,4 @@
--- Schedules that grow by one event at their end, and what a schedule shows.
+-- Schedules that grow by one event at their end, and their transcripts.
 use Rattle.std.proofs.Common.{◌≡◌, ◌≢◌, ℕ, suc, ◌+◌, List, [], ◌∷◌, ◌++◌, Option, Some, None, map, length, slice_get, false, nat_eq, refl, ap, sym, ◌∙◌, arith, append_assoc, length-append}
 use Rattle.std.specs.List.{AllByRecursion, IsDistinct, flat_map}
 use Rattle.std.proofs.lemmas.List.{append-nil, map-append, length-map, flat_map_more}

@@ -1,4 +1,4 @@
--- What a state stands for, one change more.
+-- The replica that a state stands for, after one change more.
 use Rattle.std.proofs.Common.{◌≡◌, ℕ, zero, suc, ◌+◌, List, [], ◌∷◌, ◌++◌, length, drop, refl, ap, ◌∙◌}
 use Rattle.std.specs.Prelude.{Bool, true, false, ◌==◌, not, filter, fold, map, if◌then◌else◌}
 use Rattle.std.proofs.lemmas.Grind.{fold-append}

@@ -1,4 +1,4 @@
--- A lead: what it knows of a slot, and one vote more.
+-- A lead: its facts about a slot, and one more vote.
 use Rattle.std.proofs.Common.{BTreeMap, Vec, Global, ◌≡◌, ℕ, suc, ◌<◌, Bool, inl, true, false, List, [], ◌∷◌, ◌++◌, Some, None, refl, ap, sym, subst, ◌∙◌, arith}
 use Rattle.std.specs.Prelude.{◌==◌, ◌&&◌, IsTrue, nat_le, not, length, map, filter, if◌then◌else◌, cond}
 use Rattle.std.specs.List.{All, AllByRecursion}

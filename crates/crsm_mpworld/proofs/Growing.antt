@@ -1,4 +1,4 @@
--- The log of a replica after a step: the records of the step are behind those before.
+-- The log of a replica after a step: the records of the step follow those before.
 use Rattle.std.proofs.Common.{◌≡◌, ℕ, ◌-◌, ◌==◌, not, nat_le, Bool, true, false, List, [], ◌∷◌, ◌++◌, length, take, drop, Option, None, Some, refl, ap, ◌∙◌}
 use Rattle.std.specs.Prelude.{◌&&◌, fold}
 use Rattle.std.specs.List.{enumerate_from, range_with_len}

@@ -1,4 +1,4 @@
--- Messages in memory and on paper, one by one.
+-- Messages in memory and in the definitions, one by one.
 use Rattle.std.proofs.Common.{◌≡◌, ℕ, zero, suc, List, [], ◌∷◌, ◌++◌, length, map, get_or, set, true, Option, Some, None, refl, ap, sym, ◌∙◌, subst, ltb, Bor}
 use Rattle.std.specs.Prelude.{slice_get, option_map, is_some, IfSome, MatchOption}
 use Rattle.std.specs.List.{AllByRecursion}

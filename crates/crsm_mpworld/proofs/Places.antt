@@ -1,4 +1,4 @@
--- Sites in memory and their places on paper, one by one.
+-- Sites in memory and in the definitions, one by one.
 use Rattle.std.proofs.Common.{◌≡◌, ◌<◌, ◌≤◌, ◌+◌, ℕ, zero, suc, Bool, true, false, cond, ltb, List, [], ◌∷◌, ◌++◌, length, map, take, get_or, set, replicate, Some, None, Result, Ok, Err, refl, ap, sym, ◌∙◌, subst, arith, take_all}
 use Rattle.std.specs.Prelude.{slice_get}
 use Rattle.std.specs.List.{enumerate_from}

@@ -1,4 +1,4 @@
--- A run over the port of a cluster, in the words of the port below.
+-- A run over the port of a cluster, in terms of the port below.
 use Rattle.std.proofs.Common.{◌≡◌, ℕ, List, subst}
 use Rattle.std.specs.Prelude.{Option}
 use Rattle.crsm_clock.specs.Readings.{Readings}

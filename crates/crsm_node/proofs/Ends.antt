@@ -1,4 +1,4 @@
--- How a node ends, from what it has done so far.
+-- The end of a node, from its turns before.
 use Rattle.std.proofs.Common.{◌≡◌, IsTrue, Bool, ℕ, ◌≤◌, List, [], ◌∷◌, ◌++◌, length, refl, sym, ◌∙◌, ap, subst, arith}
 use Rattle.std.proofs.lemmas.List.{append-nil}
 use Rattle.std.specs.Prelude.{Option, Result, Ok, Err, ◌≢◌}

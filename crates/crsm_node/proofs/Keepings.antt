@@ -1,4 +1,4 @@
--- Why a group is not kept, in the words of a node.
+-- The reasons why a group is not durable, as errors of a node.
 use Rattle.std.proofs.Common.{◌≡◌, IsTrue, ℕ, List, refl}
 use Rattle.std.specs.Prelude.{Option, Err}
 use Rattle.crsm_disk.specs.Meaning.{Meaning as DiskMeaning, Same}

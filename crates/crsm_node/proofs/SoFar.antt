@@ -1,4 +1,4 @@
--- What a node has done so far, with some turns pending, and how that goes on.
+-- The turns that a node has taken, some of them pending, and further ones.
 use Rattle.std.proofs.Common.{◌≡◌, IsTrue, ℕ, ◌≤◌, List, [], ◌∷◌, ◌++◌, map, sym, ◌∙◌, ap, subst, arith, append_assoc}
 use Rattle.std.proofs.lemmas.List.{append-nil, map-append}
 use Rattle.std.proofs.lemmas.Grind.{flat_map-append}

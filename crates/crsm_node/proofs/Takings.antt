@@ -1,4 +1,4 @@
--- What a turn takes off a port, in the words of a node.
+-- The input that a turn takes from a port, as a node's.
 use Rattle.std.proofs.Common.{◌≡◌, inr, ℕ, ◌≤◌, ◌↔◌, List, [], ◌∷◌, ◌++◌, take, refl, sym, ◌∙◌, ap, subst, arith}
 use Rattle.std.proofs.lemmas.List.{append-nil}
 use Rattle.std.specs.Prelude.{Option, Some, None, IsSome, Result, Ok, Err}

@@ -1,4 +1,4 @@
--- A state that has pushed a payload, or sent frames again.
+-- A state that has pushed a payload, or retransmitted frames.
 use Rattle.std.proofs.Common.{◌≡◌, ℕ, ◌+◌, ◌<◌, ◌^◌, Bool, true, false, List, [], ◌∷◌, ◌++◌, refl, sym, ◌∙◌, ap, subst, arith, length, drop, take, map, All, suc, zero}
 use Rattle.std.specs.Prelude.{◌==◌, filter, fold, if◌then◌else◌, Some}
 use Rattle.std.specs.List.{AllByRecursion, enumerate_from}

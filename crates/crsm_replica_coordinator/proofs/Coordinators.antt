@@ -1,4 +1,4 @@
--- What the coordinator in memory says of the coordinator on paper that it stands for.
+-- The facts of the coordinator in memory about that of the definitions.
 use Rattle.std.proofs.Common.{◌≡◌, ℕ, ◌+◌, List, [], ◌∷◌, ◌++◌, length, refl, sym, ◌∙◌, ap, subst, arith, Bool, true, false, length-append}
 use Rattle.std.specs.Prelude.{◌&&◌, not, nat_le, map, Option, Some, None, if◌then◌else◌}
 use Rattle.std.proofs.lemmas.List.{map-append}

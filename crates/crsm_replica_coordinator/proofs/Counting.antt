@@ -1,4 +1,4 @@
--- Distinct replicas of a Spec are as many as are counted over it.
+-- The number of distinct counted replicas is the count over them.
 use Rattle.std.proofs.Common.{◌≡◌, ℕ, ◌+◌, ◌<◌, List, [], ◌∷◌, ◌++◌, length, refl, sym, ◌∙◌, ap, cond, arith, Bool, true, false, length-append}
 use Rattle.std.specs.Prelude.{◌==◌, ◌||◌, nat_le, count_by}
 use Rattle.std.proofs.lemmas.Bool.{eqb-true, eq-eqb, false≢true}

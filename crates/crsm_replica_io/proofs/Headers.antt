@@ -1,4 +1,4 @@
--- One letter more in an outbox, and one more that goes out of it.
+-- An outbox with one more datagram, and with one sent.
 use Rattle.std.proofs.Common.{◌≡◌, ◌∙◌, ℕ, ◌+◌, ◌<◌, ◌≤◌, List, [], ◌∷◌, ◌++◌, length, take, drop, get_or, zero, suc, refl, sym, ap, ap₂, arith, length-drop, length-append}
 use Rattle.std.proofs.Math.Seq.{take-length}
 use Rattle.std.proofs.lemmas.List.{take_more, take-append-le, drop-append-le, drop-drop, length-take-le}

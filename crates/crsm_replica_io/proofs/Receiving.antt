@@ -1,4 +1,4 @@
--- What a receive of a port is, as the input of a step.
+-- A receive of a port, as the input of a step.
 use Rattle.std.proofs.Common.{◌≡◌, ◌≤◌, ℕ, zero, suc, min, List, [], ◌∷◌, ◌++◌, length, take, drop, Option, Some, None, Ok, Err, refl, sym, ◌∙◌, ap, IsErrOf, arith}
 use Rattle.crsm_base.specs.declared.memory.Failed.{Failed}
 use Rattle.crsm_port.specs.Meaning.{Meaning, Traffic, Receives as PortReceives, Takes}

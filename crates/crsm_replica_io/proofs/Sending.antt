@@ -1,4 +1,4 @@
--- One datagram after another goes out.
+-- Sending of one datagram after another.
 use Rattle.std.proofs.Common.{◌≡◌, ◌+◌, ◌≤◌, ◌<◌, take, drop, get_or, ℕ, suc, List, [], ◌∷◌, ◌++◌, map, length, Option, Some, None, Result, Ok, Err, refl, sym, ◌∙◌, ap, subst, option_map, append-nil, append_assoc, inl, inr, arith}
 use Rattle.std.proofs.lemmas.List.{map-append}
 use Rattle.crsm_base.specs.declared.memory.Failed.{Failed}

@@ -1,4 +1,4 @@
--- A decision of one's own begins to be proposed: what becomes of it, and whether its records fit.
+-- The beginning of a proposal of an own decision: its effect, and whether its records fit.
 use Rattle.std.proofs.Common.{◌≡◌, ℕ, ◌+◌, ◌<◌, List, [], ◌∷◌, ◌++◌, refl, sym, ◌∙◌, ap, subst, arith, Bool, true, false, map}
 use Rattle.std.specs.Prelude.{◌&&◌, ◌==◌, ◌^◌, Option, Some, None}
 use Rattle.std.proofs.lemmas.Bool.{false≢true, eq-eqb}

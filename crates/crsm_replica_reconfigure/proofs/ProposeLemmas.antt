@@ -1,4 +1,4 @@
--- A proposal: the proposer's own acceptance, and what is sent.
+-- A proposal: the proposer's own acceptance, and the messages sent.
 use Rattle.std.proofs.Common.{◌≡◌, ℕ, ◌+◌, ◌<◌, List, ◌∷◌, refl, sym, ◌∙◌, ap, subst, Bool, true, false, length, map}
 use Rattle.std.specs.Prelude.{◌&&◌, ◌^◌, not, nat_le, filter, Option, Some, None}
 use Rattle.std.proofs.lemmas.Option.{none-some, same_Some}

@@ -1,4 +1,4 @@
--- What pages of frozen logs bring.
+-- The outcomes of pages of frozen logs.
 use Rattle.std.proofs.Common.{◌≡◌, ℕ, zero, suc, ◌+◌, ◌<◌, ◌≤◌, List, [], ◌∷◌, ◌++◌, refl, sym, ◌∙◌, ap, subst, arith, Bool, true, false, length, take, get_or}
 use Rattle.std.specs.Prelude.{◌≢◌, ◌==◌, ◌||◌, ◌/◌, not, nat_le, fold, filter, Option, Some, None, count_by, unwrap_or}
 use Rattle.std.specs.List.{AllByRecursion, range_with_len}

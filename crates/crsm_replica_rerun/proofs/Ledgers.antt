@@ -1,4 +1,4 @@
--- What the log of a replica says whose sheet was replayed.
+-- The facts of the log of a replica whose sheet was replayed.
 use Rattle.std.proofs.Common.{◌≡◌, ℕ, List, [], ◌∷◌, subst}
 use Rattle.std.specs.Global.{Box}
 use Rattle.crsm_core.specs.declared.replica.Core.{Core}

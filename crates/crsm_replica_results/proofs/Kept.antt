@@ -1,4 +1,4 @@
--- What one more record leaves as it was: executed entries rise, and lines are true of them.
+-- The facts that one more record keeps: executed entries ascend, and lines are true of them.
 use Rattle.std.proofs.Common.{◌≡◌, ◌<◌, ◌≤◌, ℕ, zero, suc, Bool, true, false, cond, List, [], ◌∷◌, ◌++◌, length, take, refl, sym, ap, ◌∙◌, subst, arith, inl, inr, append_assoc, append-nil}
 use Rattle.std.specs.Prelude.{◌==◌, ◌&&◌, nat_eq, slice_get, Option, None, Some, filter, option_to_list}
 use Rattle.std.specs.List.{AllByRecursion, last_or}

@@ -1,4 +1,4 @@
--- A boot that is kept on a mounted log, or is not.
+-- A boot that becomes durable on a mounted log, or does not.
 use Rattle.std.proofs.Common.{◌≡◌, IsTrue, ℕ, ◌+◌, ◌<◌, List, [], ◌∷◌, ◌++◌, length, refl, sym, ◌∙◌, ap, subst, inl, inr, arith}
 use Rattle.std.specs.Prelude.{◌⊎◌, Some}
 use Rattle.crsm_base.specs.declared.rec.Rec.{Rec}

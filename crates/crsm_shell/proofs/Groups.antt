@@ -1,4 +1,4 @@
--- The steps that pend on a shell, as a group of records behind the log that is kept.
+-- The pending steps of a shell, as a group of records after the durable log.
 use Rattle.std.proofs.Common.{◌≡◌, IsTrue, ℕ, ◌<◌, List, length, sym, ◌∙◌, ap, subst, inl}
 use Rattle.crsm_replica_epoch.specs.EpochState.{EachFits}
 use Rattle.crsm_spec.specs.Log.{Log}

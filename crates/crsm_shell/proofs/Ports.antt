@@ -1,4 +1,4 @@
--- What a flush does to the port: room, and then the sends.
+-- The effect of a flush on the port: the reservation, and then the sends.
 use Rattle.std.proofs.Common.{◌≡◌, ℕ, ◌≤◌, List, length, map, refl, sym, ◌∙◌, ap, subst}
 use Rattle.std.specs.Prelude.{Option, Some, None, option_map}
 use Rattle.std.proofs.lemmas.Option.{none-some}

@@ -1,4 +1,4 @@
--- What a turn does, of what its take and its flush do.
+-- The effect of a turn, by those of its take and its flush.
 use Rattle.std.proofs.Common.{◌≡◌, IsTrue, ℕ, List, [], ◌∷◌, ◌++◌, refl, sym, subst, inl}
 use Rattle.std.specs.Prelude.{Option, Result, Ok, Err, IfErr, Some}
 use Rattle.crsm_port_faults.specs.Plan.{Plan}

@@ -1,4 +1,4 @@
--- Disks on which nothing fails, and what is left on them.
+-- Disks whose calls do not fail, and what is left on them.
 use Rattle.std.proofs.Common.{◌≡◌, ℕ, [], Option, Some, None, refl, ◌∙◌, ap, subst}
 use Rattle.std.specs.Option.{option_map_or}
 use Rattle.std.specs.Prelude.{unwrap_or}

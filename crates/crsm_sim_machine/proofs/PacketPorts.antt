@@ -1,4 +1,4 @@
--- What a receive takes off an inlet where its datagram waits.
+-- The receive of a `PacketPort` whose datagram waits.
 use Rattle.std.proofs.Common.{◌≡◌, ℕ, min, List, [], ◌++◌, length, take, drop, Option, Some, None, Ok, Bor, refl, sym, ◌∙◌, ap, subst, arith}
 use Rattle.crsm_port_faults.specs.Plan.{Plan}
 use Rattle.crsm_port.specs.declared.port.Recv.TheVariants as got

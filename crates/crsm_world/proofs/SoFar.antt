@@ -1,4 +1,4 @@
--- The acts that a world has done, and one more.
+-- The acts that a world has executed, and one more.
 use Rattle.std.proofs.Common.{◌≡◌, ℕ, List, [], ◌∷◌, ◌++◌, None, refl, sym, subst}
 use Rattle.crsm_schedule.specs.declared.Event.{Event}
 use Rattle.crsm_schedule.specs.Grammar.{FitsEvent}
