@@ -1,4 +1,5 @@
 //! Datagrams on a network that clusters share: each begins with the mark of its cluster.
+//!
 //! A client makes one request and sends it many times, so it is marked once, and the port is used as it is. A
 //! `ClusterPort` would not show which of its losses the port below counted.
 

@@ -21,6 +21,7 @@ use std::alloc::Global;
 const QUEUES: usize = 16;
 
 /// The entries that were added and not taken, by their stamps, and which replicas have logged which stamp.
+///
 /// Some stamps are tracked: for these the votes are complete. A stamp is not tracked any more once its entry is taken,
 /// so later votes for it need not be counted.
 #[derive(Drop)]
