@@ -3,8 +3,8 @@
     python3 bench/quiet.py PROGRAM
 
 starts three clusters of three nodes, side by side, leaves each alone for 12 seconds, sends one `operate`, and sees that
-the members are those that it names: one cluster grows to five nodes, one goes on without a node that still runs, and one
-has a new node in the place of one that was killed. Ends with 0 where each member answers a command within 20 seconds, and
+the members are those that it names: one cluster grows to five nodes, one has a new node in the place of one that still
+runs, and one in the place of one that was killed. Ends with 0 where each member answers a command within 20 seconds, and
 each node that is no member is refused; with 1 and what was seen where not.
 """
 
@@ -95,7 +95,7 @@ def main() -> int:
     """The three trials."""
     program = os.path.abspath(sys.argv[1])
     folder = tempfile.mkdtemp()
-    wanted = {"grow": ([0, 1, 2, 3, 4], []), "take out": ([0, 1], []), "replace": ([0, 1, 3], [2])}
+    wanted = {"grow": ([0, 1, 2, 3, 4], []), "take out": ([0, 1, 3], []), "replace": ([0, 1, 3], [2])}
     trials = {name: Trial(program, f"{folder}/{name}", *what) for name, what in wanted.items()}
     for it in trials.values():
         it.start()
