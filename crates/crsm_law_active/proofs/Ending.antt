@@ -1,4 +1,4 @@
--- What commits, replies, debts that are paid and clock times leave of a draft.
+-- The effect of commits, replies, sent acknowledgements and clock times on a draft.
 use Rattle.std.proofs.Common.{◌≡◌, ℕ, ◌+◌, ◌≤◌, List, [], ◌∷◌, ◌++◌, length, refl, sym, ◌∙◌, ap, subst, Bool, true, false, arith, append_assoc}
 use Rattle.std.specs.Prelude.{Option, Some, None}
 use Rattle.std.specs.Option.{option_map_or}

@@ -1,4 +1,4 @@
--- After an epoch of one Spec all that is chosen is one decision.
+-- After an epoch with one Spec all chosen decisions are equal.
 use Rattle.std.proofs.Common.{◌≡◌, ℕ, zero, suc, ◌+◌, ◌<◌, ◌≤◌, List, [], ◌∷◌, refl, sym, ◌∙◌, ap, subst, inl, inr, true, false, arith, map, length, get_or}
 use Rattle.std.specs.Prelude.{IsTrue, Option, Some, None, count_by}
 use Rattle.std.specs.List.{Contains}

@@ -1,4 +1,4 @@
--- What a coordinator has of the ballots of its instance, and how that stays while logs go on and offers are made.
+-- The relation of a coordinator to the ballots of its instance, and that it stays while logs grow and offers are made.
 use Rattle.std.proofs.Common.{◌≡◌, ℕ, ◌+◌, List, [], ◌∷◌, ◌∙◌, ap, inr}
 use Rattle.crsm_spec.specs.Types.{Ballot, Decision, Rec}
 use Rattle.crsm_spec.specs.Lists.{Among}

@@ -1,4 +1,5 @@
--- In a step the clients that wait are those before it and those whose requests it logs, and each is answered once.
+-- After a step the clients that wait are those from before and those whose requests it logged, and each is answered
+-- once.
 use Rattle.std.proofs.Common.{◌≡◌, ℕ, ◌+◌, ◌≤◌, List, [], ◌∷◌, ◌++◌, length, take, refl, sym, ◌∙◌, ap, subst, inl, inr, Bool, true, false, arith}
 use Rattle.std.specs.Prelude.{◌⊎◌, ◌==◌, ◌&&◌, nat_le, nat_lt, IsTrue, Option, Some, None, slice_get}
 use Rattle.std.proofs.lemmas.Bool.{and_parts, eqb-true, eq-eqb, leb-true, ltb-true, false≢true, cases_lt}

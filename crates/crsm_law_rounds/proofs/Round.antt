@@ -1,4 +1,4 @@
--- One calm round: each frame that was pushed before its settle is taken in it.
+-- One calm round: each frame that was pushed before its settle is received in it.
 use Rattle.std.proofs.Common.{◌≡◌, ℕ, zero, suc, ◌+◌, ◌<◌, ◌≤◌, List, [], ◌∷◌, ◌++◌, length, refl, sym, ◌∙◌, ap, subst, inl, inr, Bool, true, false, arith, map, drop}
 use Rattle.std.specs.Prelude.{◌^◌, IsTrue, Some, slice_get, filter, not, ◌==◌, count_by}
 use Rattle.std.specs.Option.{option_map_or}

@@ -1,4 +1,5 @@
--- What replicas of a timeline have sent to each other, what came, and when a replica executes by it.
+-- The datagrams that replicas of a timeline have sent to each other, those delivered, and when a replica executes by
+-- them.
 use Rattle.std.proofs.Common.{◌≡◌, ◌≢◌, ℕ, zero, suc, ◌+◌, ◌-◌, ◌<◌, ◌≤◌, List, [], ◌∷◌, ◌++◌, length, refl, sym, ◌∙◌, ap, subst, inl, inr, Bool, true, false, cond, arith, map}
 use Rattle.std.specs.Prelude.{◌⊎◌, Some, slice_get, not, ◌==◌}
 use Rattle.std.proofs.lemmas.Bool.{cases_eq, eq-eqb, ne_eqb, false≢true}

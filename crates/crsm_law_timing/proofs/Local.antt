@@ -1,4 +1,4 @@
--- A replica of a timeline, by how far it is with the command.
+-- The state of a replica of a timeline, by its progress with the command.
 use Rattle.std.proofs.Common.{◌≡◌, ◌≢◌, ℕ, zero, suc, ◌+◌, ◌<◌, ◌≤◌, List, [], ◌∷◌, ◌++◌, length, refl, sym, ◌∙◌, ap, subst, inl, inr, Bool, true, false, cond, arith, map}
 use Rattle.std.specs.Prelude.{IsTrue, ◌⊎◌, Some, None, nat_le, ◌==◌, ◌&&◌, ◌||◌, count_by, filter, option_map, option_to_list}
 use Rattle.std.specs.List.{list_all, list_any, range_with_len}

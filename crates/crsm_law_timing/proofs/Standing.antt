@@ -1,4 +1,4 @@
--- The state of a timeline after some events, and after one event more.
+-- The state of a timeline after some events, and after one more.
 use Rattle.std.proofs.Common.{◌≡◌, ◌≢◌, ℕ, zero, suc, ◌+◌, ◌<◌, ◌≤◌, List, [], ◌∷◌, ◌++◌, length, refl, sym, ◌∙◌, ap, subst, inl, inr, Bool, true, false, cond, arith, map, drop, length-append}
 use Rattle.std.specs.Prelude.{◌⊎◌, Some, slice_get, slice_set, filter, ◌==◌}
 use Rattle.std.proofs.lemmas.Bool.{cases_eq, eq-eqb, ne_eqb, false≢true}

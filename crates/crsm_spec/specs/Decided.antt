@@ -10,7 +10,7 @@ use Rattle.crsm_spec.specs.World.{World, log_of, log_at}
 use Rattle.crsm_spec.specs.Acts.{Act}
 use Rattle.crsm_spec.specs.Run.{last_world, the_list}
 
--- ---- what is kept
+-- ---- recorded decisions
 
 -- the decisions of a log, the newest first
 unfoldable pub decisions : Log → List Decision
