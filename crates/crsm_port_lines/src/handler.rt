@@ -10,6 +10,7 @@ use crsm_base::{Bytes, NoMemory};
 pub enum Stop<R> {
     /// The handler refuses it, for this reason.
     Refused(R),
+    /// Memory ran out.
     NoMemory,
 }
 

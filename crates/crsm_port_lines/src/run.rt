@@ -28,6 +28,7 @@ pub enum Ending<R> {
     ReadFault,
     /// A write failed.
     WriteFault,
+    /// Memory ran out.
     NoMemory,
     /// The input has more than `MAX_INPUT_BYTES` bytes.
     InputTooLong,

@@ -9,7 +9,9 @@ use crsm_base::{Bytes, Command, Key, Members};
 /// What the command `lock` does with a lock.
 #[derive(Clone, Copy, Debug, PartialEq, Eq)]
 pub enum LockAction {
+    /// Takes the lock if it is free.
     Take,
+    /// Gives the lock back.
     Give,
     /// Takes the lock away from its owner.
     Break,
@@ -78,6 +80,7 @@ pub enum Task {
     Audit {
         n: u32,
     },
+    /// Takes, gives back or breaks a lock.
     Lock(LockTask),
     /// Writes the schedule of one command with given delays and clock offsets.
     Delay,
