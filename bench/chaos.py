@@ -201,7 +201,7 @@ class Cluster:
         """Asks a node that is up for the members that are wanted."""
         for via in self.members:
             if self.nodes[via].is_up():
-                self.control.reconfigure(self.members, via=via, sure=True)
+                self.control.request_members(self.members, via=via, sure=True)
 
     def answers(self, number: int) -> bool:
         """Whether a node answers a command within a little time."""

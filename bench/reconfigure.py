@@ -73,7 +73,7 @@ def main() -> int:
         nodes[-1].go_on()
         began = time.monotonic()
         with Client(addresses) as control:
-            control.reconfigure(range(NODES - 1), via=0)
+            control.request_members(range(NODES - 1), via=0)
         for at, address in enumerate(addresses[:-1]):
             await_answer(address, 100 + at)
         took = time.monotonic() - began

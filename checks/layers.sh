@@ -1,47 +1,77 @@
 #!/usr/bin/env bash
-# Running code stands below the laws, and the laws stand beside it: crates.txt says so.
-#
-# A crate with running code depends on no law crate (crsm_law_*): only laws, the crates named in `cites_laws`, and test
-# programs may. A law crate depends on definitions, facts and laws alone, but for what `speaks_of` names: its laws are of
-# what these crates define.
+# crates.txt keeps to the rooms: they stand from the lowest to the highest, and a crate uses crates of its own room and of
+# lower rooms alone. Law crates stand beside the running code, so that neither is proved again when the other changes: a
+# law crate uses definitions, facts and laws, and what `speaks_of` names since its laws are of that; of the crates with
+# running code only those that `cites_laws` names use laws. A crate named crsm_ROOM_* stands in that room.
+# Another list can be checked: bash checks/layers.sh FILE.
 set -u
 cd "$(dirname "$0")/.." || exit 1
 list=${1:-crates.txt}
-fail=0
-cites_laws=' crsm_safety crsm_world crsm_cmd_replay crsm_mpreplay crsm_cmd_soak crsm_audit crsm_audit crsm_delay crsm_app '
-defines=' crsm_base crsm_spec crsm_spec_process crsm_spec_plan crsm_mpspec crsm_fact_log crsm_fact_step crsm_safety '
+rooms=(spec fact text port replica law sim mp cmd test)
+cites_laws=' crsm_world crsm_mpreplay crsm_cmd_replay crsm_audit crsm_delay crsm_cmd_soak crsm_app '
+defines=' crsm_mpspec '
 declare -A speaks_of=(
   [crsm_law_texts]=' crsm_text crsm_schedule hex '
   [crsm_law_locks]=' crsm_lease '
   [crsm_law_draws]=' crsm_sim_generator crsm_schedule crsm_world '
   [crsm_law_nodes]=' crsm_ledger crsm_schedule crsm_text_sheet crsm_wire crsm_port_node crsm_replica_rerun '
 )
-lines=0
-while IFS= read -r line; do
-  line=${line%%#*}
-  [[ $line == *:* ]] || continue
-  lines=$((lines + 1))
-  read -r crate _ <<<"${line%%:*}"
-  for used in ${line#*:}; do
-    case $crate in
-      crsm_law_*)
-        [[ $used == crsm_law_* || "$defines${speaks_of[$crate]:-}" == *" $used "* ]] && continue
-        echo "layers: the law crate $crate depends on $used, which has no definitions, facts or laws" >&2
-        fail=1
-        ;;
-      crsm_test_*) ;;
-      *)
-        if [[ $used == crsm_law_* && $cites_laws != *" $crate "* ]]; then
-          echo "layers: $crate depends on the law crate $used" >&2
-          fail=1
-        fi
-        ;;
-    esac
-  done
-done <"$list"
-if [ "$lines" = 0 ]; then
-  echo "layers: no crate stands in $list" >&2
+
+declare -A rank=() room_of=() uses=()
+fail=0
+wrong() {
+  echo "layers: $1" >&2
   fail=1
-fi
+}
+
+read_list() {
+  local line room='' place=0 crate
+  while IFS= read -r line; do
+    if [[ $line == '## '* ]]; then
+      room=${line#\#\# }
+      room=${room%%:*}
+      [ "$room" = "${rooms[place]:-}" ] || wrong "room $room stands where ${rooms[place]:-no room} is to stand"
+      rank[$room]=$place
+      place=$((place + 1))
+    fi
+    line=${line%%#*}
+    [[ $line == *:* ]] || continue
+    read -r crate _ <<<"${line%%:*}"
+    [ -n "$room" ] || wrong "$crate stands in no room"
+    [ -z "${room_of[$crate]:-}" ] || wrong "$crate stands there twice"
+    room_of[$crate]=$room
+    uses[$crate]=${line#*:}
+  done <"$list"
+  [ "$place" = "${#rooms[@]}" ] || wrong "$list has $place rooms of ${#rooms[@]}"
+  [ "${#room_of[@]}" != 0 ] || wrong "no crate stands in $list"
+}
+
+check_name() {
+  [[ $1 =~ ^crsm_([a-z]+)_ ]] || return
+  [[ " ${rooms[*]} " == *" ${BASH_REMATCH[1]} "* ]] || return
+  [ "${BASH_REMATCH[1]}" = "${room_of[$1]}" ] || wrong "$1 stands in room ${room_of[$1]}"
+}
+
+# A library of the kit has no room.
+check_use() {
+  local crate=$1 used=$2 room=${room_of[$1]} other=${room_of[$2]:-}
+  if [ "$room" = law ]; then
+    [[ " spec fact law " == *" ${other:-kit} "* || "$defines${speaks_of[$crate]:-}" == *" $used "* ]] ||
+      wrong "the law crate $crate uses $used, which has no definitions, facts or laws"
+  elif [ "$other" = law ]; then
+    [[ $room == test || $cites_laws == *" $crate "* ]] || wrong "$crate uses the law crate $used"
+  elif [ -n "$other" ] && ((rank[$other] > rank[$room])); then
+    wrong "$crate of room $room uses $used of the higher room $other"
+  fi
+}
+
+read_list
+[ "$fail" = 0 ] || exit 1
+for crate in "${!room_of[@]}"; do
+  check_name "$crate"
+  for used in ${uses[$crate]}; do
+    check_use "$crate" "$used"
+  done
+done
 [ "$fail" = 0 ] && echo "layers: ok"
 exit "$fail"

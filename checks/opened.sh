@@ -1,5 +1,5 @@
 #!/usr/bin/env bash
-# Worked examples compute through every definition: Opened.antt of their crate names each that stays shut otherwise.
+# Worked examples compute through every definition: a file of their crate's proofs names each that stays shut otherwise.
 # With --write the lists are written anew.
 set -u
 cd "$(dirname "$0")/.." || exit 1
@@ -10,8 +10,8 @@ names() {
     done
   done
 }
-while read -r law crates; do
-  list=crates/$law/proofs/Opened.antt
+while read -r law file crates; do
+  list=crates/$law/proofs/$file.antt
   if [ "${1:-}" = --write ]; then
     {
       echo '-- A name whose `unfolding` line opens every definition of the protocol, for proofs by computation.'
@@ -27,8 +27,8 @@ while read -r law crates; do
     exit 1
   fi
 done <<'END'
-crsm_law_examples crsm_base crsm_spec
-crsm_law_timing crsm_base crsm_spec
-crsm_law_examples crsm_base crsm_spec crsm_mpspec
+crsm_law_examples Opened crsm_base crsm_spec
+crsm_law_examples LeaderOpened crsm_base crsm_spec crsm_mpspec
+crsm_law_timing Opened crsm_base crsm_spec
 END
 echo "opened: ok"

@@ -1,6 +1,5 @@
 #!/usr/bin/env bash
-# "Where to change what" in docs/ARCHITECTURE.md names crates that there are, and in braces files that they have. A name
-# that begins with `_` goes on from the crate before it: `crsm_law_epoch`, `_runs`.
+# docs/CHANGING.md and docs/WORDS.md name crates that there are, and in braces files that they have.
 set -u
 cd "$(dirname "$0")/.." || exit 1
 has() {
@@ -13,29 +12,27 @@ has() {
 fail=0
 seen=0
 crate=
+# A name in backquotes and the braces behind it, or braces that go on from the crate before them.
 while IFS= read -r word; do
-  name=${word#\`}
-  name=${name%%\`*}
-  if [[ $name != _* ]]; then
-    crate=$name
-  elif [[ $crate =~ ^crsm_(law|test)_ ]]; then
-    crate=crsm_${BASH_REMATCH[1]}$name
-  fi
-  if [ ! -d "crates/$crate" ]; then
-    echo "rooms: there is no crate $crate" >&2
-    fail=1
+  if [[ $word == \`* ]]; then
+    crate=${word#\`}
+    crate=${crate%%\`*}
+    if [ ! -d "crates/$crate" ]; then
+      echo "rooms: there is no crate $crate" >&2
+      fail=1
+      continue
+    fi
   fi
   [[ $word == *\{* ]] || continue
   files=${word#*\{}
-  for file in ${files//[\`\},;]/ }; do
+  for file in ${files//[\},;]/ }; do
     seen=$((seen + 1))
     if ! has "$crate" "$file"; then
       echo "rooms: $crate has no $file" >&2
       fail=1
     fi
   done
-done < <(sed -n '/^## Where to change what/,/^## Crates/p' docs/ARCHITECTURE.md | grep '^|' |
-  grep -oE '`(crsm)?_[a-z_]+`( \{[^}]*\})?')
+done < <(cat docs/CHANGING.md docs/WORDS.md | tr '\n' ' ' | grep -oE '`crsm(_[a-z_]+)?`( *\{[^}]*\})?|\{[^}]*\}')
 if [ "$seen" = 0 ]; then
   echo "rooms: no file is named" >&2
   fail=1

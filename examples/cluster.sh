@@ -52,8 +52,11 @@ take_in() {
   local via all
   all=$(members "$3")
   for via in ${all//,/ }; do [ "$via" != "$1" ] && break; done
-  sleep 1
-  "$2" operate "$(address "$via" "$3")" "$all"
+  # Twice: a request may be lost, or overtaken by what the node asks for by itself.
+  for _ in 1 2; do
+    sleep 1
+    "$2" operate "$(address "$via" "$3")" "$all"
+  done
   await_node "$1" "$2" "$3"
 }
 

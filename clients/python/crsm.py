@@ -31,6 +31,7 @@ __all__ = [
     "NoAnswer",
     "NoRoom",
     "NotALock",
+    "NotMembers",
     "Refused",
     "Stale",
     "Unsafe",
@@ -50,6 +51,9 @@ LEAST_RESEND = 0.1
 
 # The pauses between two looks at a lock that another holds: each is twice the one before, up to the last.
 FIRST_PAUSE, LAST_PAUSE = 0.05, 1.0
+
+# Members are asked for twice, this many seconds apart.
+ASKED_AGAIN = 1.0
 
 REFUSALS = {
     1: "the node is not part of the current epoch",
@@ -95,6 +99,14 @@ class NoRoom(CrsmError):
 
 class Unsafe(CrsmError):
     """The new members are no majority of the nodes, and the caller did not say that it is sure."""
+
+
+class NotMembers(CrsmError):
+    """Some nodes that were asked for as members have not answered a command. `seen` says of each why, in words."""
+
+    def __init__(self, seen: Dict[int, str]):
+        super().__init__("; ".join(f"node {number}: {why}" for number, why in seen.items()))
+        self.seen = seen
 
 
 class LockHeld(CrsmError):
@@ -421,12 +433,32 @@ class Client:
         answer = self._ask(op, (_DONE, _DIFFERS))
         return Cas(answer.kind == _DONE, answer.value)
 
-    def reconfigure(self, members: Iterable[int], *, via: Optional[int] = None, sure: bool = False) -> None:
-        """Asks the replica `via`, by default the first of the members that has an address here, to change the cluster's
-        members to these numbers. Nothing confirms it: the datagram has no reply.
+    def reconfigure(
+        self, members: Iterable[int], *, via: Optional[int] = None, sure: bool = False, timeout: float = 20.0
+    ) -> None:
+        """Changes the cluster's members to these numbers: asks for them by `request_members`, asks again a second later,
+        and then gets a key at each of them until it answers.
 
-        Members that are no majority of the nodes of this client are `Unsafe`, unless the caller is `sure`: the cluster
-        could lose what it holds.
+        Raises `NotMembers` where one of them has not answered within `timeout` seconds. Members without an address here
+        are not asked. Takes a second at least, and holds up the commands of other threads.
+        """
+        chosen = sorted(set(members))
+        self.request_members(chosen, via=via, sure=sure)
+        time.sleep(ASKED_AGAIN)
+        self.request_members(chosen, via=via, sure=sure)
+        until = time.monotonic() + timeout
+        with self._lock:
+            told = {number: self._why_silent(number, until) for number in chosen if number < len(self._nodes)}
+        seen = {number: why for number, why in told.items() if why is not None}
+        if seen:
+            raise NotMembers(seen)
+
+    def request_members(self, members: Iterable[int], *, via: Optional[int] = None, sure: bool = False) -> None:
+        """Asks the replica `via`, by default the first of the members that has an address here, to change the cluster's
+        members to these numbers. Nothing confirms it: one datagram is sent, which may be lost and has no reply.
+
+        Raises `Unsafe` for members that are no majority of the nodes of this client, unless the caller is `sure`: the
+        cluster could lose what it holds.
         """
         chosen = sorted(set(members))
         if not chosen or chosen[0] < 0 or chosen[-1] >= REPLICAS:
@@ -439,6 +471,24 @@ class Client:
             raise ValueError(f"replica {to} has no address here")
         datagram = bytes([_OPERATE, len(chosen)]) + bytes(chosen)
         self._socket.sendto(self._mark + datagram, self._nodes[to])
+
+    def _why_silent(self, node: int, until: float) -> Optional[str]:
+        """Gets a key at this node alone until it answers or this time has come. Returns why it has not answered, or None."""
+        number = self._next_number()
+        request = self._mark + struct.pack(">BQQ", _REQUEST, self.client, number) + bytes([_GET]) + _key(b"\0")
+        why = "it has not answered"
+        while True:
+            due = time.monotonic() + self._resend
+            self._send(request, node)
+            outcome = self._receive(number, {self._nodes[node]}, due)
+            if isinstance(outcome, _Answer):
+                return None
+            if outcome:
+                why = REFUSALS[outcome]
+            now = time.monotonic()
+            if now >= until:
+                return why
+            time.sleep(max(0.0, due - now))
 
     # ---- locks
 
@@ -484,10 +534,7 @@ class Client:
     def _ask(self, op: bytes, kinds: Tuple[int, ...]) -> _Answer:
         """Has the operation done, and answers what the store said, which is of one of these kinds."""
         with self._lock:
-            if self._number == LAST_NUMBER:
-                raise OverflowError("this client has no number left")
-            self._number += 1
-            answer = self._answer_to(op, self._number)
+            answer = self._answer_to(op, self._next_number())
             if answer.kind == _STALE:
                 self._number = max(self._number, answer.number)
                 raise Stale(answer.number)
@@ -496,6 +543,13 @@ class Client:
         if answer.kind not in kinds:
             raise CrsmError("the store has done another command of this client and number")
         return answer
+
+    def _next_number(self) -> int:
+        """Returns the number of the next command."""
+        if self._number == LAST_NUMBER:
+            raise OverflowError("this client has no number left")
+        self._number += 1
+        return self._number
 
     def _answer_to(self, op: bytes, number: int) -> _Answer:
         """Sends the operation under this number until a node answers."""
@@ -511,7 +565,7 @@ class Client:
                 # The last request has its time to be answered, too.
                 due = now + self._resend if now + 2 * self._resend <= deadline else deadline
                 asked.add(self._nodes[self._at])
-                sent += self._send(request)
+                sent += self._send(request, self._at)
             outcome = self._receive(number, asked, min(due, deadline))
             now = time.monotonic()
             if isinstance(outcome, _Answer):
@@ -528,10 +582,10 @@ class Client:
         self._at = (self._at + 1) % len(self._nodes)
         return now + self._node_timeout
 
-    def _send(self, request: bytes) -> int:
-        """Sends the request, and answers how many went out: none where the system has no way to the node."""
+    def _send(self, request: bytes, node: int) -> int:
+        """Sends the request to a node, and answers how many went out: none where the system has no way to it."""
         try:
-            self._socket.sendto(request, self._nodes[self._at])
+            self._socket.sendto(request, self._nodes[node])
         except OSError:
             return 0
         return 1

@@ -14,6 +14,7 @@ from crsm import (
     NoAnswer,
     NoRoom,
     NotALock,
+    NotMembers,
     Refused,
     Stale,
     Unsafe,
@@ -308,22 +309,47 @@ class ClientTest(ClusterTest):
         self.assertEqual(client.get("k" * 64), b"v" * 512)
         self.assertEqual(len(node.taken), 2)
 
-    def test_reconfigure(self):
+    def test_request_members(self):
         nodes = [self.node(cluster=9) for _ in range(3)]
         client = self.client(*nodes, cluster=9)
-        client.reconfigure([1, 0])
-        client.reconfigure([2, 1], via=2)
+        client.request_members([1, 0])
+        client.request_members([2, 1], via=2)
         for members in ([1], [1, 3], [9, 10, 11]):
             with self.assertRaises(Unsafe):
-                client.reconfigure(members)
-        client.reconfigure([1], sure=True)
+                client.request_members(members)
+        client.request_members([1], sure=True)
         for members, via in (([], None), ([-1, 0], None), ([0, 1, 15], None), ([0, 1], 3)):
             with self.assertRaises(ValueError):
-                client.reconfigure(members, via=via)
+                client.request_members(members, via=via)
         time.sleep(0.2)
         mark = "10" + "0" * 15 + "9"
         taken = [[data.hex() for data in node.taken] for node in nodes]
         self.assertEqual(taken, [[mark + "06020001"], [mark + "060101"], [mark + "06020102"]])
+
+    def test_reconfigure(self):
+        nodes = [self.node(refuse=refusals) for refusals in ([], [], [1, 1, 2])]
+        client = self.client(*nodes, timeout=5.0)
+        client.reconfigure([2, 0])
+        orders = [[at for data, at in zip(node.taken, node.times) if data[0] == 6] for node in nodes]
+        self.assertEqual([len(times) for times in orders], [2, 0, 0])
+        self.assertGreaterEqual(orders[0][1] - orders[0][0], 0.9)
+        self.assertEqual([data for data in nodes[0].taken if data[0] == 6], [bytes([6, 2, 0, 2])] * 2)
+        # (each member is asked for one command, again and again until it answers)
+        commands = [[data for data in node.taken if data[0] == 4] for node in nodes]
+        self.assertEqual([len(set(asked)) for asked in commands], [1, 0, 1])
+        self.assertGreaterEqual(len(commands[2]), 4)
+        # (a command that follows is not taken for one that was done before)
+        client.put("a", "1")
+        self.assertEqual(client.get("a"), b"1")
+
+    def test_reconfigure_in_vain(self):
+        client = self.client(self.node(), self.node(refuse=[1] * 99), self.dead())
+        with self.assertRaises(NotMembers) as caught:
+            client.reconfigure([0, 1, 2], timeout=0.5)
+        self.assertEqual(
+            caught.exception.seen,
+            {1: "the node is not part of the current epoch", 2: "it has not answered"},
+        )
 
     def test_wrong_use(self):
         for nodes in ([], ["127.0.0.1"], ["127.0.0.1:x"], ["127.0.0.1:0"], ["127.0.0.1:70000"], ["127.0.0.1:7"] * 2):

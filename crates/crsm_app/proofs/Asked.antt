@@ -6,7 +6,7 @@ use Rattle.crsm_text_words.specs.Orders.{Asks}
 use Rattle.crsm_text_words.specs.declared.order.Order.{Order}
 use Rattle.crsm_text_words.specs.declared.order.Task.{Task}
 use Rattle.crsm_text_words.specs.declared.order.Task.TheVariants.{Show, Replay, ReplayNode, Node, Client, Operate, Soak, Audit, Lock, Delay, DelayTimes, ReplayMp}
-use Rattle.crsm_text_words.specs.declared.read.Refusal.{Refusal}
+use Rattle.crsm_text_words.specs.declared.read.WordsError.{WordsError}
 use Rattle.crsm_client.specs.declared.command.ClientEnd.{ClientEnd}
 use Rattle.crsm_client.specs.declared.error.OperateError.{OperateError}
 use Rattle.crsm_cmd_lock.specs.declared.command.LockEnd.{LockEnd}
@@ -19,13 +19,13 @@ use Rattle.crsm_app.specs.declared.status.Status.{Status}
 
 -- ---- what was read
 
-pub read_so : (result : Result Order Refusal) (read o : Order) → result ≡ Ok read → Reads result o → read ≡ o
+pub read_so : (result : Result Order WordsError) (read o : Order) → result ≡ Ok read → Reads result o → read ≡ o
 read_so (Ok r) read o is reads = let same : r ≡ read = cc in sym same ∙ reads
 read_so (Err r) read o is reads = absurd (cc)
 
-pub not_usage : (result : Result Order Refusal) (o : Order) → result ≡ Err Refusal.Usage → Reads result o → ⊥
+pub not_usage : (result : Result Order WordsError) (o : Order) → result ≡ Err WordsError.Usage → Reads result o → ⊥
 not_usage (Ok r) o is reads = cc
-not_usage (Err r) o is reads = let bad : Refusal.Usage ≡ Refusal.NoMemory = (cc) in cc
+not_usage (Err r) o is reads = let bad : WordsError.Usage ≡ WordsError.NoMemory = (cc) in cc
 
 -- ---- limits
 

@@ -8,7 +8,7 @@ use Rattle.crsm_text_words.specs.Orders.{AsksFor}
 use Rattle.crsm_text_words.specs.Split.{IsPlain}
 use Rattle.crsm_text_words.specs.declared.order.Order.{Order}
 use Rattle.crsm_text_words.specs.declared.order.Task.{Task}
-use Rattle.crsm_text_words.specs.declared.read.Refusal.{Refusal}
+use Rattle.crsm_text_words.specs.declared.read.WordsError.{WordsError}
 use Rattle.crsm_app.specs.Devices.{Devices, Untouched}
 use Rattle.crsm_app.specs.Did.{Did}
 use Rattle.crsm_app.specs.Tasks.{IsAsker}
@@ -24,7 +24,7 @@ pub record AskForTask (IsKind : Task → Type 0) (words : List Text) : Type 0 wh
 
 -- they ask for nothing
 abbrev pub AskForNothing : List Text → Type 0
-AskForNothing words = OrderRefused words Refusal.Usage
+AskForNothing words = OrderRefused words WordsError.Usage
 
 -- where they do not begin with a hyphen, and ask for this order
 abbrev pub WhereAsked : List Text → (Order → Type 0) → Type 0
@@ -35,7 +35,7 @@ WhereAsked words P = All IsPlain words → (order : Order) → AsksFor order wor
 -- Words were read as those of an order, which was done; or they are at fault or memory ran out, and nothing was done.
 pub data Ran (words : List Text) (result : Status) (old new : Devices) : Type 0 where
   did : (order : Order) → OrderMade words order → Did order.cluster order.task result old new → Ran words result old new
-  at_fault : OrderRefused words Refusal.Usage → result ≡ Status.Usage → Untouched old new → Ran words result old new
+  at_fault : OrderRefused words WordsError.Usage → result ≡ Status.Usage → Untouched old new → Ran words result old new
   no_memory : result ≡ Status.NoMemory → Untouched old new → Ran words result old new
 
 -- the port failed in a receive or, where the task asks a replica, in a send

@@ -30,19 +30,19 @@ use crsm_law_timing::{commands_commit_in_time, timelines_are_possible};
 use crsm_node::Reporter;
 use crsm_port::Port;
 use crsm_port_lines::MAX_INPUT_BYTES;
-use crsm_text_words::{Plan, Refusal, read_words};
+use crsm_text_words::{DevicePlan, WordsError, read_words};
 use std::alloc::Global;
 
 /// Which real devices the words want, or why `run` refuses them. Memory may run out.
-pub fn plan(alloc: Global, words: &[String]) -> Result<Plan, Status>
+pub fn plan(alloc: Global, words: &[String]) -> Result<DevicePlan, Status>
     ensures planned { IfOk result (λ plan. AskForTask (λ task. plan ≡ plan_of task) (map string_bytes words.now)) }
     ensures refused { IfErr result (λ status. (status ≡ Status.NoMemory) ⊎ ((status ≡ Status.Usage) × AskForNothing (map string_bytes words.now))) }
     ensures asked { WhereAsked (map string_bytes words.now) (λ order. MatchResult result (λ plan. plan ≡ plan_of order.task) (λ status. status ≡ Status.NoMemory)) }
 {
     match read_words(alloc, words) {
         Ok(order) => Ok(order.task.plan()),
-        Err(Refusal::Usage) => Err(Status::Usage),
-        Err(Refusal::NoMemory) => Err(Status::NoMemory),
+        Err(WordsError::Usage) => Err(Status::Usage),
+        Err(WordsError::NoMemory) => Err(Status::NoMemory),
     }
 }
 
@@ -144,7 +144,7 @@ pub fn run<I: Source, O: Sink, P: Port, D: Disk, C: Clock, R: Reporter>(
     audits_are_exact();
     match read_words(alloc, words) {
         Ok(order) => do_order(alloc, order, input, output, port, disk, clock, reporter),
-        Err(Refusal::Usage) => Status::Usage,
-        Err(Refusal::NoMemory) => Status::NoMemory,
+        Err(WordsError::Usage) => Status::Usage,
+        Err(WordsError::NoMemory) => Status::NoMemory,
     }
 }

@@ -2,6 +2,7 @@
 
 use crate::command::run;
 use crate::status::Status;
+use crate::streams::Stream;
 use crsm_clock::SystemClock;
 use crsm_disk::{Disk, MemDisk, OpenError};
 use crsm_io::{StdSink, StdSource};
@@ -20,6 +21,12 @@ const ANY_FREE_PORT: u64 = 0;
 pub(crate) enum NoDevice {
     Socket(io::Error),
     Log(OpenError),
+    /// The log file, since this stream goes to it.
+    LogOf(Stream),
+    /// The log file, since its name is a symbolic link to no file.
+    LogBehindLink,
+    /// The file that stands in for closed streams.
+    StandIn(io::Error),
 }
 
 impl NoDevice {
@@ -28,9 +35,16 @@ impl NoDevice {
         match self {
             NoDevice::Socket(error) if is_of_memory(error) => Status::NoMemory,
             NoDevice::Log(OpenError::Io(error)) if is_of_memory(error) => Status::NoMemory,
+            NoDevice::StandIn(error) if is_of_memory(error) => Status::NoMemory,
             NoDevice::Socket(_) => Status::PortFault,
-            NoDevice::Log(_) => Status::DiskFault,
+            NoDevice::Log(_) | NoDevice::LogOf(_) | NoDevice::LogBehindLink => Status::DiskFault,
+            NoDevice::StandIn(_) => Status::WriteFault,
         }
+    }
+
+    /// Whether it may be told on standard error, which would write into the log where that is its end.
+    pub(crate) fn may_be_told(&self) -> bool {
+        !matches!(self, NoDevice::LogOf(Stream::Error))
     }
 }
 
@@ -44,6 +58,13 @@ impl Display for NoDevice {
         match self {
             NoDevice::Socket(error) => write!(f, "no socket can be opened: {error}"),
             NoDevice::Log(error) => write!(f, "the log file cannot be opened: {error}"),
+            NoDevice::LogOf(stream) => {
+                write!(f, "the log file cannot be opened: {stream} goes to it")
+            }
+            NoDevice::LogBehindLink => {
+                f.write_str("the log file cannot be opened: it is a symbolic link to no file")
+            }
+            NoDevice::StandIn(error) => write!(f, "/dev/null cannot be opened: {error}"),
         }
     }
 }

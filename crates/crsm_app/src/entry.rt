@@ -4,7 +4,8 @@ use crate::command::plan;
 use crate::devices::{NoDevice, status_over_nothing, status_over_socket};
 use crate::replica::run_replica_of;
 use crate::status::Status;
-use crsm_text_words::{Plan, usage_text};
+use crate::streams::stand_ins;
+use crsm_text_words::{DevicePlan, usage_text};
 use std::env::{self, Env};
 use std::fs::{File, Files};
 use std::io::{Eprint, ErrorKind, Input, Print};
@@ -66,24 +67,35 @@ fn status_of<R: AllocGlobal + Clock + Eprint + Files<File = File> + Input + Net 
     words: &[String],
 ) -> Status {
     match plan(rt.alloc(), words) {
-        Ok(Plan::Plain) => told(rt, words, Ok(status_over_nothing(rt, words))),
-        Ok(Plan::Socket) => told(rt, words, status_over_socket(rt, words)),
-        Ok(Plan::Node { me, bind }) => run_replica_of(rt, words, me, bind),
+        Ok(DevicePlan::Plain) => told(rt, words, Ok(status_over_nothing(rt, words))),
+        Ok(DevicePlan::Socket) => told(rt, words, status_over_socket(rt, words)),
+        Ok(DevicePlan::Node { me, bind }) => run_replica_of(rt, words, me, bind),
         Err(status) => told(rt, words, Ok(status)),
     }
 }
 
-/// Does what the words of the process say, over the devices that they want, and answers the number that the process
-/// ends with. A number other than 0 comes with words on standard error.
-pub fn start<R: AllocGlobal + Clock + Env + Eprint + Files<File = File> + Input + Net + Print>(
+/// Does what the words of the process say, over the devices that they want. Why not all was done is told.
+fn done<R: AllocGlobal + Clock + Env + Eprint + Files<File = File> + Input + Net + Print>(
     rt: &R,
-) -> ExitCode {
-    let status = match words_of(rt) {
+) -> Status {
+    match words_of(rt) {
         Ok(words) => status_of(rt, words.as_slice()),
         Err(status) => {
             let _ = rt.eprintln(status);
             status
         }
+    }
+}
+
+/// Does what the words of the process say, over the devices that they want, and answers the number that the process
+/// ends with. A number other than 0 comes with words on standard error. The streams that the process was started
+/// without stay closed.
+pub fn start<R: AllocGlobal + Clock + Env + Eprint + Files<File = File> + Input + Net + Print>(
+    rt: &R,
+) -> ExitCode {
+    let status = match stand_ins(rt) {
+        Ok(_kept) => done(rt),
+        Err(error) => told(rt, &[], Err(NoDevice::StandIn(error))),
     };
     ExitCode::from(status.number())
 }

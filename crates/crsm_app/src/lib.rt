@@ -8,11 +8,12 @@ mod entry;
 mod locking;
 mod replica;
 mod status;
+mod streams;
 
 pub use command::{plan, run};
 pub use crsm_cmd_replay::Cause;
 pub use crsm_mpreplay::MpCause;
-pub use crsm_node::{Held, Reporter, Silent};
-pub use crsm_text_words::Plan;
+pub use crsm_node::{BootReport, Reporter, Silent};
+pub use crsm_text_words::DevicePlan;
 pub use entry::start;
 pub use status::Status;

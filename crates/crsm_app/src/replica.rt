@@ -3,9 +3,10 @@
 
 use crate::devices::{NoDevice, socket_at, status_over};
 use crate::status::Status;
+use crate::streams::stream_into;
 use crsm_clock::SystemClock;
 use crsm_disk::FileDisk;
-use crsm_node::{Held, Reporter};
+use crsm_node::{BootReport, Reporter};
 use crsm_port_node::{PacedPort, PeerPort};
 use crsm_text_words::{NodeTask, Order, Task, read_words};
 use std::alloc::Global;
@@ -17,7 +18,7 @@ use std::time::Clock;
 
 /// Which replica it is, and where it listens.
 #[derive(Clone, Copy, Debug)]
-struct Place {
+struct NodeIdentity {
     me: u32,
     /// How many replicas the cluster began with.
     n: u32,
@@ -26,7 +27,7 @@ struct Place {
     address: u64,
 }
 
-impl Display for Place {
+impl Display for NodeIdentity {
     fn fmt<W: Write>(&self, f: &mut Formatter<W>) -> fmt::Result {
         write!(f, "replica {} of {}", self.me, self.n)?;
         if self.cluster != 0 {
@@ -38,18 +39,18 @@ impl Display for Place {
 
 /// The line of a replica that was booted.
 #[derive(Clone, Copy, Debug)]
-struct Begun {
-    place: Place,
-    held: Held,
+struct StartLine {
+    place: NodeIdentity,
+    held: BootReport,
 }
 
-impl Display for Begun {
+impl Display for StartLine {
     fn fmt<W: Write>(&self, f: &mut Formatter<W>) -> fmt::Result {
-        let Begun { place, held } = self;
+        let StartLine { place, held } = self;
         let [_, _, a, b, c, d, high, low] = place.address.to_be_bytes();
         let port = u16::from_be_bytes([high, low]);
         write!(f, "{place}: listens at {a}.{b}.{c}.{d}:{port}; ")?;
-        let Held {
+        let BootReport {
             bodies,
             epoch,
             executed,
@@ -64,7 +65,7 @@ impl Display for Begun {
 /// The line of a replica that ends.
 #[derive(Drop)]
 struct Ended<Why> {
-    place: Place,
+    place: NodeIdentity,
     why: Why,
 }
 
@@ -76,15 +77,15 @@ impl<Why: Display> Display for Ended<Why> {
 
 /// Tells on standard error what a log held. Where that fails, nothing is told.
 #[derive(Drop)]
-struct Voice<'a, R> {
+struct StderrReporter<'a, R> {
     rt: &'a R,
-    place: Place,
+    place: NodeIdentity,
 }
 
-impl<R: Eprint> Reporter for Voice<'_, R> {
-    fn booted(&mut self, held: Held) {
+impl<R: Eprint> Reporter for StderrReporter<'_, R> {
+    fn booted(&mut self, held: BootReport) {
         let place = self.place;
-        let _ = self.rt.eprintln(Begun { place, held });
+        let _ = self.rt.eprintln(StartLine { place, held });
     }
 }
 
@@ -102,11 +103,28 @@ fn node_in(alloc: Global, words: &[String]) -> Result<(u64, NodeTask), Status> {
     }
 }
 
+/// Whether the name is a symbolic link to no file. A log made behind it would have its name in another folder, which no
+/// sync of the log makes last.
+fn is_dangling<R: Files>(rt: &R, name: &str) -> bool {
+    rt.symlink_metadata(name).is_ok() && rt.metadata(name).is_err()
+}
+
+/// Opens the log file of this name, into which nothing but the log may be written.
+fn open_log<R: Files<File = File>>(rt: &R, name: &str) -> Result<FileDisk, NoDevice> {
+    if let Some(stream) = stream_into(rt, name) {
+        return Err(NoDevice::LogOf(stream));
+    }
+    if is_dangling(rt, name) {
+        return Err(NoDevice::LogBehindLink);
+    }
+    FileDisk::open(rt, name).map_err(NoDevice::Log)
+}
+
 /// Runs a replica over a socket at its address and its log file. Nobody speaks in another replica's name.
 fn run_at<R: AllocGlobal + Clock + Eprint + Files<File = File> + Input + Net + Print>(
     rt: &R,
     words: &[String],
-    place: Place,
+    place: NodeIdentity,
     peers: &[u64],
 ) -> Result<Status, NoDevice> {
     let Ok(name) = format!(in rt.alloc(); "crsm-{}.log", place.me) else {
@@ -115,17 +133,18 @@ fn run_at<R: AllocGlobal + Clock + Eprint + Files<File = File> + Input + Net + P
     let Ok(peers) = Vec::from_slice(rt.alloc(), peers) else {
         return Ok(Status::NoMemory);
     };
-    let mut disk = FileDisk::open(rt, name.as_str()).map_err(NoDevice::Log)?;
+    let mut disk = open_log(rt, name.as_str())?;
     let socket = socket_at(rt, place.address)?;
     let Ok(paced) = PacedPort::new(rt.alloc(), socket, SystemClock::new(rt)) else {
         return Ok(Status::NoMemory);
     };
     let mut port = PeerPort::new(paced, peers);
-    let mut voice = Voice { rt, place };
+    let mut voice = StderrReporter { rt, place };
     Ok(status_over(rt, words, &mut port, &mut disk, &mut voice))
 }
 
-/// Runs the replica that the words ask for, tells on standard error why it ends, and answers its status.
+/// Runs the replica that the words ask for, tells on standard error why it ends, and answers its status. Where standard
+/// error goes to the log, nothing is told.
 pub(crate) fn run_replica_of<
     R: AllocGlobal + Clock + Eprint + Files<File = File> + Input + Net + Print,
 >(rt: &R, words: &[String], me: u32, address: u64) -> Status {
@@ -133,7 +152,7 @@ pub(crate) fn run_replica_of<
         Ok(found) => found,
         Err(status) => return status,
     };
-    let place = Place {
+    let place = NodeIdentity {
         me,
         n: node.n,
         cluster,
@@ -146,7 +165,9 @@ pub(crate) fn run_replica_of<
         }
         Err(error) => {
             let status = error.status();
-            let _ = rt.eprintln(Ended { place, why: error });
+            if error.may_be_told() {
+                let _ = rt.eprintln(Ended { place, why: error });
+            }
             status
         }
     }

@@ -10,7 +10,7 @@ use crsm_cmd_replay_node::{SheetCause, told_cause as cause_in_sheet};
 use crsm_delay::PlanCause;
 use crsm_mpreplay::{MpCause, told_cause as cause_in_led};
 use crsm_node::NodeEnd;
-use crsm_port_lines::Ending;
+use crsm_port_lines::InputEnd;
 use std::fmt::{self, Display, Formatter, Write};
 
 /// How a run ended.
@@ -71,36 +71,36 @@ impl Status {
 }
 
 /// The status of a schedule that ended so.
-pub(crate) fn replay_status(ending: Ending<Cause>) -> Status
+pub(crate) fn replay_status(ending: InputEnd<Cause>) -> Status
     ensures { result ≡ status_of_replay ending }
 {
     match ending {
-        Ending::Done => Status::Ok,
-        Ending::BadLine { line, why } => Status::BadInput {
+        InputEnd::Done => Status::Ok,
+        InputEnd::BadLine { line, why } => Status::BadInput {
             line,
             cause: cause_in_schedule(why),
         },
-        Ending::ReadFault => Status::ReadFault,
-        Ending::WriteFault => Status::WriteFault,
-        Ending::NoMemory => Status::NoMemory,
-        Ending::InputTooLong => Status::InputTooLong,
+        InputEnd::ReadFault => Status::ReadFault,
+        InputEnd::WriteFault => Status::WriteFault,
+        InputEnd::NoMemory => Status::NoMemory,
+        InputEnd::InputTooLong => Status::InputTooLong,
     }
 }
 
 /// The status of a schedule of a store with a leader that ended so.
-pub(crate) fn replay_mp_status(ending: Ending<MpCause>) -> Status
+pub(crate) fn replay_mp_status(ending: InputEnd<MpCause>) -> Status
     ensures { result ≡ status_of_replay_mp ending }
 {
     match ending {
-        Ending::Done => Status::Ok,
-        Ending::BadLine { line, why } => Status::BadMpInput {
+        InputEnd::Done => Status::Ok,
+        InputEnd::BadLine { line, why } => Status::BadMpInput {
             line,
             cause: cause_in_led(why),
         },
-        Ending::ReadFault => Status::ReadFault,
-        Ending::WriteFault => Status::WriteFault,
-        Ending::NoMemory => Status::NoMemory,
-        Ending::InputTooLong => Status::InputTooLong,
+        InputEnd::ReadFault => Status::ReadFault,
+        InputEnd::WriteFault => Status::WriteFault,
+        InputEnd::NoMemory => Status::NoMemory,
+        InputEnd::InputTooLong => Status::InputTooLong,
     }
 }
 
@@ -118,33 +118,33 @@ fn refused_status(line: u64, cause: SheetCause) -> Status
 }
 
 /// The status of a sheet that ended so.
-pub(crate) fn sheet_status(ending: Ending<SheetCause>) -> Status
+pub(crate) fn sheet_status(ending: InputEnd<SheetCause>) -> Status
     ensures { result ≡ status_of_sheet ending }
 {
     match ending {
-        Ending::Done => Status::Ok,
-        Ending::BadLine { line, why } => refused_status(line, cause_in_sheet(why)),
-        Ending::ReadFault => Status::ReadFault,
-        Ending::WriteFault => Status::WriteFault,
-        Ending::NoMemory => Status::NoMemory,
-        Ending::InputTooLong => Status::InputTooLong,
+        InputEnd::Done => Status::Ok,
+        InputEnd::BadLine { line, why } => refused_status(line, cause_in_sheet(why)),
+        InputEnd::ReadFault => Status::ReadFault,
+        InputEnd::WriteFault => Status::WriteFault,
+        InputEnd::NoMemory => Status::NoMemory,
+        InputEnd::InputTooLong => Status::InputTooLong,
     }
 }
 
 /// The status of a plan that ended so.
-pub(crate) fn delay_status(ending: Ending<PlanCause>) -> Status
+pub(crate) fn delay_status(ending: InputEnd<PlanCause>) -> Status
     ensures { result ≡ status_of_delay ending }
 {
     match ending {
-        Ending::Done => Status::Ok,
-        Ending::BadLine { line, .. } => Status::BadInput {
+        InputEnd::Done => Status::Ok,
+        InputEnd::BadLine { line, .. } => Status::BadInput {
             line,
             cause: Cause::Unreadable,
         },
-        Ending::ReadFault => Status::ReadFault,
-        Ending::WriteFault => Status::WriteFault,
-        Ending::NoMemory => Status::NoMemory,
-        Ending::InputTooLong => Status::InputTooLong,
+        InputEnd::ReadFault => Status::ReadFault,
+        InputEnd::WriteFault => Status::WriteFault,
+        InputEnd::NoMemory => Status::NoMemory,
+        InputEnd::InputTooLong => Status::InputTooLong,
     }
 }
 

@@ -16,7 +16,7 @@ use Rattle.crsm_audit.specs.Judging.{IsFirstDropped, IsNamed, NoneDropped, NoneN
 use Rattle.crsm_audit.specs.Lists.{IsAscending, IsBeforeName, place_of, places_of}
 use Rattle.crsm_audit.specs.declared.account.Account.{Account}
 use Rattle.crsm_audit.specs.declared.place.Dropped.{Dropped}
-use Rattle.crsm_audit.specs.declared.place.Place.{Place}
+use Rattle.crsm_audit.specs.declared.place.ExecutedEntry.{ExecutedEntry}
 use Rattle.crsm_fact_log.proofs.Lists.{all_at, all_from}
 use Rattle.crsm_audit.proofs.Searching.{mapped, unmapped}
 use Rattle.crsm_audit.proofs.Verdicts.{account_at, all_first, all_of, got, left, placed, right, sheet_at, two}
@@ -134,11 +134,11 @@ ascends_at (x ∷ ds) (suc k) (suc q) d e h g i le = ascends_at ds k q d e h.1 g
 
 -- ---- sheets
 
-module _ (n : ℕ) (accounts : List Account) (sheets : List Sheet) (stand : AccountsStand n accounts sheets) (places : List Place) (places_are : places ≡ places_of (one_list n sheets)) where
+module _ (n : ℕ) (accounts : List Account) (sheets : List Sheet) (stand : AccountsStand n accounts sheets) (places : List ExecutedEntry) (places_are : places ≡ places_of (one_list n sheets)) where
   named_there : (d : Dropped) → IsNamed places d → HasNamed (one_list n sheets) d.epoch d.stamp
   named_there d h =
       let e = unmapped place_of (one_list n sheets) h.p h.place (subst (λ l. slice_get l h.p ≡ Some h.place) places_are h.there) in
-      (h.p, e.0, e.1, ap (λ (z : Place). z.epoch) e.2 ∙ h.epoch, ap (λ (z : Place). z.stamp) e.2 ∙ h.stamp)
+      (h.p, e.0, e.1, ap (λ (z : ExecutedEntry). z.epoch) e.2 ∙ h.epoch, ap (λ (z : ExecutedEntry). z.stamp) e.2 ∙ h.stamp)
 
   named_here : (d : Dropped) → HasNamed (one_list n sheets) d.epoch d.stamp → IsNamed places d
   named_here d (p, e, at, epoch, stamp) = record {
@@ -213,10 +213,10 @@ all_sound n (a ∷ accounts) [] h = absurd h
 all_sound n (a ∷ accounts) (s ∷ sheets) h = (h.0.sound, all_sound n accounts sheets h.1)
 
 -- the names of the one list ascend
-pub names_ascend : OneListRises → EntriesStandInOrder → (n : ℕ) (accounts : List Account) (sheets : List Sheet) → AccountsStand n accounts sheets → (names : List Place)
+pub names_ascend : OneListRises → EntriesStandInOrder → (n : ℕ) (accounts : List Account) (sheets : List Sheet) → AccountsStand n accounts sheets → (names : List ExecutedEntry)
     → names ≡ places_of (one_list n sheets) → IsAscending names
 names_ascend rises order n accounts sheets stand names are = λ p q a b at_p at_q less.
     let e = unmapped place_of (one_list n sheets) p a (subst (λ l. slice_get l p ≡ Some a) are at_p) in
     let f = unmapped place_of (one_list n sheets) q b (subst (λ l. slice_get l q ≡ Some b) are at_q) in
     let before = order (one_list n sheets) p q e.0 f.0 (rises n sheets (all_sound n accounts sheets stand)) e.1 f.1 less in
-    subst (λ (z : Place). IsBeforeName z.epoch z.stamp a.epoch a.stamp) f.2 (subst (λ (z : Place). IsBeforeName f.0.epoch f.0.stamp z.epoch z.stamp) e.2 before)
+    subst (λ (z : ExecutedEntry). IsBeforeName z.epoch z.stamp a.epoch a.stamp) f.2 (subst (λ (z : ExecutedEntry). IsBeforeName f.0.epoch f.0.stamp z.epoch z.stamp) e.2 before)

@@ -21,7 +21,7 @@ use Rattle.crsm_audit.specs.Accounts.{AccountStands, AccountsStand, own_logged, 
 use Rattle.crsm_audit.specs.Judging.{AreWithin, IsLast, IsOdd, StrangeAt}
 use Rattle.crsm_audit.specs.Lists.{IsWithin, longer, longest_of, place_of, places_of}
 use Rattle.crsm_audit.specs.declared.account.Account.{Account}
-use Rattle.crsm_audit.specs.declared.place.Place.{Place}
+use Rattle.crsm_audit.specs.declared.place.ExecutedEntry.{ExecutedEntry}
 use Rattle.crsm_audit.proofs.Searching.{all_got, inside, mapped, unmapped}
 
 -- ---- accounts and sheets, place by place
@@ -224,7 +224,7 @@ module _ (law : OneSpelling SpeltEntry) where
 
     -- ---- strangers
 
-    module _ (places : List Place) (places_are : places ≡ places_of (one_list n sheets)) where
+    module _ (places : List ExecutedEntry) (places_are : places ≡ places_of (one_list n sheets)) where
       last_sheet : (k : ℕ) (l : (i : ℕ) × IsLast accounts k i) → (s : Sheet) × AccountStands n l.1.account s × IsLastOf n sheets k s
       last_sheet k (i, l) =
           let t = sheet_at n accounts sheets i l.account stand l.there in (
@@ -241,7 +241,7 @@ module _ (law : OneSpelling SpeltEntry) where
       pub strange_there : (p : ℕ) → StrangeAt accounts one places p → IsStrange n sheets p
       strange_there p s =
           let e = unmapped place_of (one_list n sheets) p s.place (subst (λ l. slice_get l p ≡ Some s.place) places_are s.named) in
-          let origin : s.place.stamp.origin ≡ e.0.stamp.origin = ap (λ (z : Place). z.stamp.origin) (sym e.2) in
+          let origin : s.place.stamp.origin ≡ e.0.stamp.origin = ap (λ (z : ExecutedEntry). z.stamp.origin) (sym e.2) in
           let never = s.never in
           let bytes : entry_bytes e.0 ≡ never.bytes = same_Some (entry_bytes e.0) never.bytes (sym (mapped entry_bytes (one_list n sheets) p e.0 e.1) ∙ subst (λ l. slice_get l p ≡ Some never.bytes) one_is never.there) in
           let t = last_sheet s.place.stamp.origin (never.never.i, never.never.last) in (

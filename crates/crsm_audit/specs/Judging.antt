@@ -3,7 +3,7 @@ use Rattle.std.specs.Prelude.{◌≡◌, ◌≢◌, ℕ, ◌<◌, List, Some, No
 use Rattle.crsm_audit.specs.declared.account.Account.{Account}
 use Rattle.crsm_audit.specs.declared.origins.Origins.{Origins}
 use Rattle.crsm_audit.specs.declared.place.Dropped.{Dropped}
-use Rattle.crsm_audit.specs.declared.place.Place.{Place}
+use Rattle.crsm_audit.specs.declared.place.ExecutedEntry.{ExecutedEntry}
 use Rattle.crsm_audit.specs.Lists.{Differs, IsWithin}
 
 -- ---- lists
@@ -49,32 +49,32 @@ pub record HasNeverAt (accounts : List Account) (one : List (List ℕ)) (k p : �
   pub never : HasNever accounts k bytes
 
 -- the origin of the entry at this place has never held it
-pub record StrangeAt (accounts : List Account) (one : List (List ℕ)) (places : List Place) (p : ℕ) : Type 0 where
-  pub place : Place
+pub record StrangeAt (accounts : List Account) (one : List (List ℕ)) (places : List ExecutedEntry) (p : ℕ) : Type 0 where
+  pub place : ExecutedEntry
   pub named : slice_get places p ≡ Some place
   pub never : HasNeverAt accounts one place.stamp.origin p
 
 -- this place is the first of these
-pub record IsFirstStrange (accounts : List Account) (one : List (List ℕ)) (places : List Place) (p : ℕ) : Type 0 where
+pub record IsFirstStrange (accounts : List Account) (one : List (List ℕ)) (places : List ExecutedEntry) (p : ℕ) : Type 0 where
   pub strange : StrangeAt accounts one places p
   pub before : (q : ℕ) → q < p → StrangeAt accounts one places q → ⊥
 
 -- ---- dropped commands
 
 -- one of the places has this name
-pub record IsNamed (places : List Place) (d : Dropped) : Type 0 where
+pub record IsNamed (places : List ExecutedEntry) (d : Dropped) : Type 0 where
   pub p : ℕ
-  pub place : Place
+  pub place : ExecutedEntry
   pub there : slice_get places p ≡ Some place
   pub epoch : place.epoch ≡ d.epoch
   pub stamp : place.stamp ≡ d.stamp
 
 -- none of these is named
-abbrev pub NoneNamed : List Place → List Dropped → Type 0
+abbrev pub NoneNamed : List ExecutedEntry → List Dropped → Type 0
 NoneNamed places dropped = (q : ℕ) (d : Dropped) → slice_get dropped q ≡ Some d → IsNamed places d → ⊥
 
 -- the first of these that is named is of this line
-pub record IsFirstNamed (places : List Place) (dropped : List Dropped) (line : ℕ) : Type 0 where
+pub record IsFirstNamed (places : List ExecutedEntry) (dropped : List Dropped) (line : ℕ) : Type 0 where
   pub k : ℕ
   pub name : Dropped
   pub there : slice_get dropped k ≡ Some name
@@ -83,12 +83,12 @@ pub record IsFirstNamed (places : List Place) (dropped : List Dropped) (line : �
   pub before : (q : ℕ) (d : Dropped) → q < k → slice_get dropped q ≡ Some d → IsNamed places d → ⊥
 
 -- this account is the first with one that is named, and this is its line
-pub record IsFirstDropped (accounts : List Account) (places : List Place) (i line : ℕ) : Type 0 where
+pub record IsFirstDropped (accounts : List Account) (places : List ExecutedEntry) (i line : ℕ) : Type 0 where
   pub account : Account
   pub there : slice_get accounts i ≡ Some account
   pub first : IsFirstNamed places account.dropped.items line
   pub before : (j : ℕ) (a : Account) → j < i → slice_get accounts j ≡ Some a → NoneNamed places a.dropped.items
 
 -- no account has one
-abbrev pub NoneDropped : List Account → List Place → Type 0
+abbrev pub NoneDropped : List Account → List ExecutedEntry → Type 0
 NoneDropped accounts places = (j : ℕ) (a : Account) → slice_get accounts j ≡ Some a → NoneNamed places a.dropped.items

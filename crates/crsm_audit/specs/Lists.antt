@@ -3,7 +3,7 @@ use Rattle.std.specs.Prelude.{◌≡◌, ◌≢◌, ◌⊎◌, ℕ, ◌<◌, ◌
 use Rattle.crsm_spec.specs.Types.{Stamp, Entry}
 use Rattle.crsm_audit.specs.declared.account.Account.{Account}
 use Rattle.crsm_audit.specs.declared.place.Dropped.{Dropped}
-use Rattle.crsm_audit.specs.declared.place.Place.{Place}
+use Rattle.crsm_audit.specs.declared.place.ExecutedEntry.{ExecutedEntry}
 
 -- the longer of two lists, the first where they are equally long
 unfoldable pub longer : {A : Type 0} → List A → List A → List A
@@ -25,11 +25,11 @@ abbrev pub IsWithin : {A : Type 0} → List A → List A → Type 0
 IsWithin {A} list one = (q : ℕ) (x : A) → slice_get list q ≡ Some x → slice_get one q ≡ Some x
 
 -- the names of an entry
-abbrev pub place_of : Entry → Place
+abbrev pub place_of : Entry → ExecutedEntry
 place_of e = record { epoch = e.epoch; stamp = e.stamp; client = e.command.client; number = e.command.number }
 
 -- of these entries
-abbrev pub places_of : List Entry → List Place
+abbrev pub places_of : List Entry → List ExecutedEntry
 places_of es = map place_of es
 
 -- ---- names
@@ -39,11 +39,11 @@ abbrev pub IsBeforeName : ℕ → Stamp → ℕ → Stamp → Type 0
 IsBeforeName x s y t = x < y ⊎ ((x ≡ y) × (s.time < t.time ⊎ ((s.time ≡ t.time) × (s.origin < t.origin))))
 
 -- each entry is before those that follow
-abbrev pub IsAscending : List Place → Type 0
+abbrev pub IsAscending : List ExecutedEntry → Type 0
 IsAscending places =
-    (p q : ℕ) (a b : Place) → slice_get places p ≡ Some a → slice_get places q ≡ Some b → q < p → IsBeforeName b.epoch b.stamp a.epoch a.stamp
+    (p q : ℕ) (a b : ExecutedEntry) → slice_get places p ≡ Some a → slice_get places q ≡ Some b → q < p → IsBeforeName b.epoch b.stamp a.epoch a.stamp
 
 -- each entry below `low` is before the name, and none from `high` on is
-pub record IsBetween (places : List Place) (name : Dropped) (low high : ℕ) : Type 0 where
-  pub below : (q : ℕ) (a : Place) → q < low → slice_get places q ≡ Some a → IsBeforeName a.epoch a.stamp name.epoch name.stamp
-  pub above : (q : ℕ) (a : Place) → high ≤ q → slice_get places q ≡ Some a → IsBeforeName a.epoch a.stamp name.epoch name.stamp → ⊥
+pub record IsBetween (places : List ExecutedEntry) (name : Dropped) (low high : ℕ) : Type 0 where
+  pub below : (q : ℕ) (a : ExecutedEntry) → q < low → slice_get places q ≡ Some a → IsBeforeName a.epoch a.stamp name.epoch name.stamp
+  pub above : (q : ℕ) (a : ExecutedEntry) → high ≤ q → slice_get places q ≡ Some a → IsBeforeName a.epoch a.stamp name.epoch name.stamp → ⊥

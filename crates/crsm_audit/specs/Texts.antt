@@ -1,7 +1,7 @@
 -- The text of a verdict.
 use Rattle.std.specs.Prelude.{ℕ, ◌+◌, List, [], ◌∷◌, ◌++◌, codes, length}
 use Rattle.crsm_text.specs.Words.{named}
-use Rattle.crsm_audit.specs.declared.place.Place.{Place}
+use Rattle.crsm_audit.specs.declared.place.ExecutedEntry.{ExecutedEntry}
 use Rattle.crsm_audit.specs.declared.verdict.Verdict.{Verdict}
 
 -- a word and numbers, and the end of the line
@@ -9,11 +9,11 @@ abbrev pub row : List ℕ → List ℕ → List ℕ
 row name numbers = named name numbers ++ 10 ∷ []
 
 -- an entry at its place
-abbrev pub place_text : ℕ → Place → List ℕ
+abbrev pub place_text : ℕ → ExecutedEntry → List ℕ
 place_text at p = row (codes "place") (at ∷ p.epoch ∷ p.stamp.time ∷ p.stamp.origin ∷ p.client ∷ p.number ∷ [])
 
 -- entries, the first of which has this place
-unfoldable pub places_text : ℕ → List Place → List ℕ
+unfoldable pub places_text : ℕ → List ExecutedEntry → List ℕ
 places_text at [] = []
 places_text at (p ∷ places) = place_text at p ++ places_text (at + 1) places
 

@@ -9,7 +9,7 @@ ghost use Rattle.crsm_audit.specs.Handled.{audited};
 use crate::state::Audit;
 use crsm_cmd_replay_node::SheetCause;
 use crsm_io::{Sink, Source};
-use crsm_port_lines::{Ending, MAX_INPUT_BYTES, run_lines};
+use crsm_port_lines::{InputEnd, MAX_INPUT_BYTES, run_lines};
 use crsm_replica_rerun::bad_logs_are_one;
 use crsm_text_sheet::lines_have_one_text;
 use std::alloc::Global;
@@ -21,7 +21,7 @@ pub fn audit<I: Source, O: Sink>(
     n: u32,
     input: &mut I,
     output: &mut O,
-) -> Ending<SheetCause>
+) -> InputEnd<SheetCause>
     requires some { 1 ≤ n }
     requires few { n ≤ 15 }
 
@@ -29,15 +29,15 @@ pub fn audit<I: Source, O: Sink>(
     ensures ran { Ran (audited n) result (I.left input.old) (I.left input.new) (O.written output.old) (O.written output.new) }
 
     // A fault is answered only where it was counted.
-    ensures read_fault { result ≡ Ending.ReadFault → Rose (I.faults input.old) (I.faults input.new) }
-    ensures write_fault { result ≡ Ending.WriteFault → Rose (O.faults output.old) (O.faults output.new) }
+    ensures read_fault { result ≡ InputEnd.ReadFault → Rose (I.faults input.old) (I.faults input.new) }
+    ensures write_fault { result ≡ InputEnd.WriteFault → Rose (O.faults output.old) (O.faults output.new) }
 
     // Where no fault was counted, an audit of good logs is done, the first bad line is refused, and more than the limit is too long.
     ensures exactly { EndsExactly n (I.left input.old) (I.faults input.old) (I.faults input.new) (O.faults output.old) (O.faults output.new) result }
 
     // An input beyond the limit is never done, and one within it is never too long.
-    ensures limit { (bytes : List ℕ) → I.left input.old ≡ Some bytes → MAX_INPUT_BYTES < length bytes → result ≢ Ending.Done }
-    ensures within { (bytes : List ℕ) → I.left input.old ≡ Some bytes → length bytes ≤ MAX_INPUT_BYTES → result ≢ Ending.InputTooLong }
+    ensures limit { (bytes : List ℕ) → I.left input.old ≡ Some bytes → MAX_INPUT_BYTES < length bytes → result ≢ InputEnd.Done }
+    ensures within { (bytes : List ℕ) → I.left input.old ≡ Some bytes → length bytes ≤ MAX_INPUT_BYTES → result ≢ InputEnd.InputTooLong }
 {
     run_lines(alloc, Audit::new(alloc, n), input, output)
 }

@@ -12,7 +12,7 @@ use crate::account::Account;
 use crate::list::{first_difference, places_of};
 use crate::naming::is_named;
 use crate::origins::Origins;
-use crate::place::Place;
+use crate::place::ExecutedEntry;
 use crate::verdict::Verdict;
 use crsm_base::{Bodies, NoMemory};
 use crsm_codec::one_spelling_each;
@@ -57,7 +57,7 @@ fn odd_list(accounts: &[Account], one: &Bodies) -> Option<(usize, usize)>
 }
 
 /// The first place of the one list whose entry its origin never logged.
-fn stranger(accounts: &[Account], one: &Bodies, places: &[Place]) -> Option<usize>
+fn stranger(accounts: &[Account], one: &Bodies, places: &[ExecutedEntry]) -> Option<usize>
     ensures found { IfSome result (IsFirstStrange accounts.now one.now places.now) }
     ensures none { IfNone result ((p : ℕ) → StrangeAt accounts.now one.now places.now p → ⊥) }
 {
@@ -71,7 +71,7 @@ fn stranger(accounts: &[Account], one: &Bodies, places: &[Place]) -> Option<usiz
 }
 
 /// The line of the first command that an account calls dropped and that is named.
-fn first_named(account: &Account, places: &[Place]) -> Option<u64>
+fn first_named(account: &Account, places: &[ExecutedEntry]) -> Option<u64>
     ensures found { IsAscending places.now → IfSome result (IsFirstNamed places.now account.now.dropped.items) }
     ensures none { IsAscending places.now → IfNone result (NoneNamed places.now account.now.dropped.items) }
 {
@@ -84,7 +84,7 @@ fn first_named(account: &Account, places: &[Place]) -> Option<u64>
 }
 
 /// The first account that calls an entry of the one list dropped, and at which line.
-fn first_dropped(accounts: &[Account], places: &[Place]) -> Option<(usize, u64)>
+fn first_dropped(accounts: &[Account], places: &[ExecutedEntry]) -> Option<(usize, u64)>
     ensures found { IsAscending places.now → IfSome result (λ first. IsFirstDropped accounts.now places.now first.0 first.1) }
     ensures none { IsAscending places.now → IfNone result (NoneDropped accounts.now places.now) }
 {

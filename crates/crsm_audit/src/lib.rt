@@ -20,5 +20,5 @@ mod verdict;
 pub use account::Account;
 pub use command::{audit, audits_are_exact};
 pub use judging::judge;
-pub use place::{Dropped, Place};
+pub use place::{Dropped, ExecutedEntry};
 pub use verdict::Verdict;

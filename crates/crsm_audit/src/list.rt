@@ -8,7 +8,7 @@ ghost use Rattle.crsm_audit.specs.Accounts.{spelt};
 ghost use Rattle.crsm_audit.specs.Lists.{Differs, IsWithin};
 ghost use Rattle.crsm_audit.specs.Lists as on_paper;
 
-use crate::place::Place;
+use crate::place::ExecutedEntry;
 use crsm_base::{Bodies, Entry, NoMemory, never};
 use crsm_codec::read_entry;
 use std::alloc::Global;
@@ -65,10 +65,10 @@ pub(crate) fn find(list: &Bodies, from: usize, bytes: &[u8]) -> Option<usize>
 }
 
 /// The name of an entry.
-fn name_of(entry: &Entry) -> Place
+fn name_of(entry: &Entry) -> ExecutedEntry
     ensures { result ≡ on_paper.place_of entry.now }
 {
-    Place {
+    ExecutedEntry {
         epoch: entry.epoch,
         stamp: entry.stamp,
         client: entry.command.client,
@@ -80,7 +80,7 @@ fn name_of(entry: &Entry) -> Place
 fn discard<T: Drop>(_value: T) {}
 
 /// The name of an entry with these bytes.
-fn place_of(alloc: Global, bytes: &[u8]) -> Result<Place, NoMemory>
+fn place_of(alloc: Global, bytes: &[u8]) -> Result<ExecutedEntry, NoMemory>
     ensures { (e : Entry) → FitsEntry e → bytes.now ≡ entry_bytes e → IfOk result (λ place. place ≡ on_paper.place_of e) }
 {
     let Some((entry, _)) = read_entry(alloc, bytes)? else {
@@ -92,7 +92,7 @@ fn place_of(alloc: Global, bytes: &[u8]) -> Result<Place, NoMemory>
 }
 
 /// The names of a list's entries.
-pub(crate) fn places_of(alloc: Global, list: &Bodies) -> Result<Vec<Place>, NoMemory>
+pub(crate) fn places_of(alloc: Global, list: &Bodies) -> Result<Vec<ExecutedEntry>, NoMemory>
     ensures { (es : List Entry) → AllByRecursion FitsEntry es → list.now ≡ spelt es → IfOk result (λ places. places.items ≡ on_paper.places_of es) }
 {
     let mut places = Vec::new(alloc);

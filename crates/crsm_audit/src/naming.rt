@@ -4,10 +4,10 @@ ghost use Rattle.std.specs.Prelude.{◌≡◌, ◌<◌, ◌≤◌, ◌-◌, fals
 ghost use Rattle.crsm_audit.specs.Judging.{IsNamed};
 ghost use Rattle.crsm_audit.specs.Lists.{IsAscending, IsBeforeName, IsBetween};
 
-use crate::place::{Dropped, Place};
+use crate::place::{Dropped, ExecutedEntry};
 
 /// Whether the entry is before this name: by epoch, then by stamp.
-fn is_before(place: &Place, name: &Dropped) -> bool
+fn is_before(place: &ExecutedEntry, name: &Dropped) -> bool
     ensures yes { IsTrue result → IsBeforeName place.now.epoch place.now.stamp name.now.epoch name.now.stamp }
     ensures no { result ≡ false → IsBeforeName place.now.epoch place.now.stamp name.now.epoch name.now.stamp → ⊥ }
 {
@@ -21,7 +21,7 @@ fn is_before(place: &Place, name: &Dropped) -> bool
 }
 
 /// Whether the entry has this name.
-fn has_name(place: &Place, name: &Dropped) -> bool
+fn has_name(place: &ExecutedEntry, name: &Dropped) -> bool
     ensures yes { IsTrue result → (place.now.epoch ≡ name.now.epoch) × (place.now.stamp ≡ name.now.stamp) }
     ensures no { result ≡ false → place.now.epoch ≡ name.now.epoch → place.now.stamp ≡ name.now.stamp → ⊥ }
 {
@@ -29,7 +29,7 @@ fn has_name(place: &Place, name: &Dropped) -> bool
 }
 
 /// Half of the places between two, where the name still is if it is anywhere.
-fn halve(places: &[Place], name: &Dropped, low: usize, high: usize) -> (usize, usize)
+fn halve(places: &[ExecutedEntry], name: &Dropped, low: usize, high: usize) -> (usize, usize)
     requires some { low < high }
     requires within { high ≤ length places.now }
     ensures closer { (low ≤ result.0) × (result.0 ≤ result.1) × (result.1 ≤ high) }
@@ -44,7 +44,7 @@ fn halve(places: &[Place], name: &Dropped, low: usize, high: usize) -> (usize, u
 }
 
 /// Whether one of the places, which ascend, has this name.
-pub(crate) fn is_named(places: &[Place], name: &Dropped) -> bool
+pub(crate) fn is_named(places: &[ExecutedEntry], name: &Dropped) -> bool
     ensures yes { IsTrue result → IsNamed places.now name.now }
     ensures no { IsAscending places.now → result ≡ false → IsNamed places.now name.now → ⊥ }
 {

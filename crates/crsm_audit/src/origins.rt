@@ -5,7 +5,7 @@ ghost use Rattle.crsm_audit.specs.Judging.{HasNever, HasNeverAt, IsLast, IsOfNon
 
 use crate::account::Account;
 use crate::list::find;
-use crate::place::Place;
+use crate::place::ExecutedEntry;
 use crsm_base::Bodies;
 
 /// The last sheet of each node, and how far it was looked through.
@@ -76,7 +76,7 @@ impl Origins {
         accounts: &[Account],
         one: &Bodies,
         at: usize,
-        place: &Place,
+        place: &ExecutedEntry,
     ) -> bool
         ensures yes { OriginsStand accounts.now self.old → IsTrue result → HasNeverAt accounts.now one.now place.now.stamp.origin at }
         ensures no { OriginsStand accounts.now self.old → result ≡ false → HasNeverAt accounts.now one.now place.now.stamp.origin at → ⊥ }

@@ -4,7 +4,7 @@ use crsm_base::Stamp;
 
 /// An entry of an executed list, by its name and its command's.
 #[derive(Clone, Copy, Debug, PartialEq, Eq)]
-pub struct Place {
+pub struct ExecutedEntry {
     pub epoch: u64,
     pub stamp: Stamp,
     pub client: u64,

@@ -3,7 +3,7 @@
 ghost use Rattle.std.specs.Prelude.{◌≡◌, ◌++◌, OnOk};
 ghost use Rattle.crsm_audit.specs.Texts.{place_text, places_text, row, verdict_text};
 
-use crate::{Place, Verdict};
+use crate::{ExecutedEntry, Verdict};
 use crsm_base::{Bytes, NoMemory};
 use crsm_text::push_named;
 
@@ -16,7 +16,7 @@ fn push_row(out: &mut Bytes, name: &[u8], values: &[u64]) -> Result<(), NoMemory
 }
 
 /// Adds the line of an entry at a place.
-fn push_place(out: &mut Bytes, at: u64, place: &Place) -> Result<(), NoMemory>
+fn push_place(out: &mut Bytes, at: u64, place: &ExecutedEntry) -> Result<(), NoMemory>
     ensures { OnOk result (out.new ≡ out.old ++ place_text at place.now) }
 {
     let time = place.stamp.time;
@@ -26,7 +26,7 @@ fn push_place(out: &mut Bytes, at: u64, place: &Place) -> Result<(), NoMemory>
 }
 
 /// Adds the lines of entries, from place 0 on.
-fn push_places(out: &mut Bytes, places: &[Place]) -> Result<(), NoMemory>
+fn push_places(out: &mut Bytes, places: &[ExecutedEntry]) -> Result<(), NoMemory>
     ensures { OnOk result (out.new ≡ out.old ++ places_text 0 places.now) }
 {
     for (at, place) in places.iter().enumerate() {

@@ -1,6 +1,6 @@
 //! The verdict.
 
-use crate::place::Place;
+use crate::place::ExecutedEntry;
 
 /// What sheets come to: the first of these that holds. Sheets and places are counted from 0.
 #[derive(Debug, Drop)]
@@ -12,5 +12,5 @@ pub enum Verdict {
     /// At this line of this sheet a client is told that a command was dropped which the longest list has.
     Dropped { sheet: u64, line: u64 },
     /// They agree with the longest list.
-    Agree { places: Vec<Place> },
+    Agree { places: Vec<ExecutedEntry> },
 }

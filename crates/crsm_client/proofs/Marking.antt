@@ -3,9 +3,9 @@ use Rattle.std.proofs.Common.{◌≡◌, ◌∙◌, ℕ, zero, suc, ◌+◌, ◌
 use Rattle.std.proofs.lemmas.List.{take_all, take_min, take_at}
 use Rattle.std.specs.List.{starts_with}
 use Rattle.crsm_base.proofs.Sizes.{u64_long}
-use Rattle.crsm_port.specs.Cluster.{mark_of, most_on_the_wire, unwrapped, unwrapped_first}
+use Rattle.crsm_port.specs.Cluster.{most_on_the_wire, unwrapped, unwrapped_first}
 use Rattle.crsm_client.specs.Exchange.{most_received}
-use Rattle.crsm_client.specs.Marks.{mark_in, stripped}
+use Rattle.crsm_wire.specs.Marks.{mark_in, mark_of, stripped}
 
 -- a mark has nine bytes
 nine : (c : ℕ) → length (mark_of c) ≡ 9

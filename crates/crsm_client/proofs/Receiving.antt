@@ -5,9 +5,9 @@ use Rattle.crsm_base.specs.declared.Command.{Command}
 use Rattle.crsm_base.specs.declared.Outcome.{Outcome}
 use Rattle.crsm_port.specs.Cluster.{over}
 use Rattle.crsm_port.specs.Meaning.{Coat, Meaning, Packet, Receives, Takes, Traffic}
-use Rattle.crsm_port.specs.declared.port.Got.TheVariants.{Datagram, Nothing}
+use Rattle.crsm_port.specs.declared.port.Recv.TheVariants.{Datagram, Nothing}
 use Rattle.crsm_client.specs.Exchange.{Exchange, Moves, received_of}
-use Rattle.crsm_client.specs.Marks.{mark_in, stripped}
+use Rattle.crsm_wire.specs.Marks.{mark_in, stripped}
 use Rattle.crsm_client.specs.Turns.{BringsReply, ReadsReply, ReceivesOnce}
 use Rattle.crsm_client.specs.declared.error.AskError.{AskError}
 use Rattle.crsm_client.specs.declared.error.AskError.TheVariants.{NoMemory}

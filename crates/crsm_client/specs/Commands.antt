@@ -3,7 +3,7 @@ use Rattle.std.specs.Prelude.{◌≡◌, ℕ, List, Option, Result, Ok, Err}
 use Rattle.crsm_base.specs.declared.Outcome.{Outcome}
 use Rattle.crsm_io.specs.Streams.{Puts, PutsPrefix}
 use Rattle.crsm_port.specs.Meaning.{Meaning}
-use Rattle.crsm_schedule.specs.Transcript.{outcome_text}
+use Rattle.crsm_text.specs.Values.{outcome_text}
 use Rattle.crsm_client.specs.Asking.{Asks, IsAnswered}
 use Rattle.crsm_client.specs.declared.command.ClientEnd.{ClientEnd}
 use Rattle.crsm_client.specs.declared.command.ClientEnd.TheVariants as end

@@ -2,5 +2,4 @@ pub mod Exchange
 pub mod Asking
 pub mod Operating
 pub mod Commands
-pub mod Marks
 pub mod Turns

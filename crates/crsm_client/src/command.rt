@@ -11,7 +11,7 @@ use crate::error::AskError;
 use crsm_base::{Bytes, Command, Outcome};
 use crsm_io::{Sink, put_all};
 use crsm_port::Port;
-use crsm_schedule::print_outcome;
+use crsm_text::print_outcome;
 use std::alloc::Global;
 
 /// The request is sent again after so many turns.

@@ -1,14 +1,13 @@
 //! What comes in for a client.
 
 ghost use Rattle.std.specs.Prelude.{◌≡◌, ◌+◌, length, IfOk};
-ghost use Rattle.crsm_client.specs.Marks.{mark_in};
 ghost use Rattle.crsm_client.specs.Turns.{BringsReply, ReadsReply};
+ghost use Rattle.crsm_wire.specs.Marks.{mark_in};
 
 use crate::error::AskError;
-use crate::marks::{behind_mark, mark};
 use crsm_base::{Bytes, Command, Datagram, NoMemory, Outcome};
-use crsm_port::{Got, Port};
-use crsm_wire::{WireError, read_datagram};
+use crsm_port::{Port, Recv};
+use crsm_wire::{WireError, behind_mark, mark_before, read_datagram};
 use std::alloc::Global;
 
 /// How long a datagram may be that is received whole.
@@ -55,7 +54,7 @@ impl Inbox {
     pub(crate) fn new(alloc: Global, cluster: u64) -> Result<Inbox, NoMemory>
         ensures { IfOk result (λ inbox. inbox.cluster ≡ cluster) }
     {
-        let mark = mark(alloc, cluster)?;
+        let mark = mark_before(alloc, cluster)?;
         let buffer = Vec::from_elem(alloc, 0u8, MOST_RECEIVED + mark.as_slice().len())?;
         Ok(Inbox {
             cluster,
@@ -77,8 +76,8 @@ impl Inbox {
     {
         match port.recv(&mut self.buffer) {
             Err(_) => Err(AskError::PortFault),
-            Ok(Got::Nothing) => Ok(None),
-            Ok(Got::Datagram { from, len }) => {
+            Ok(Recv::Nothing) => Ok(None),
+            Ok(Recv::Datagram { from, len }) => {
                 let bytes = behind_mark(&self.buffer[..len], self.mark.as_slice());
                 Ok(reply_in(alloc, from, bytes, to, command)?)
             }

@@ -9,7 +9,7 @@ use Rattle.crsm_client.specs.Exchange.{Exchange, received_of}
 use Rattle.crsm_client.specs.declared.error.AskError.{AskError}
 use Rattle.crsm_client.specs.declared.error.AskError.TheVariants.{NoAnswer}
 use Rattle.crsm_lease.specs.Locks.{LocksHaveOneValue}
-use Rattle.crsm_lease.specs.declared.rule.Next.{Next}
+use Rattle.crsm_lease.specs.declared.rule.NextStep.{NextStep}
 use Rattle.crsm_lease.specs.declared.told.Told.{Told}
 use Rattle.crsm_port.specs.Cluster.{over}
 use Rattle.crsm_port.specs.Meaning.{Coat, Meaning, Packet, Traffic}
@@ -90,8 +90,8 @@ same_packets t u xs ys a b = append_cancel_left t.taken xs ys (sym a ∙ b)
 
 -- ---- no answer is missed
 
-served_is : (order : LockOrder) (rest received : List Packet) (next : Next) (op : Op) → rest ≡ received → next ≡ Next.Ask op → IsServed order rest next → IsServed order received (Next.Ask op)
-served_is order rest received next op same is served = subst (λ (l : List Packet). IsServed order l (Next.Ask op)) same (subst (λ (n : Next). IsServed order rest n) is served)
+served_is : (order : LockOrder) (rest received : List Packet) (next : NextStep) (op : Op) → rest ≡ received → next ≡ NextStep.Ask op → IsServed order rest next → IsServed order received (NextStep.Ask op)
+served_is order rest received next op same is served = subst (λ (l : List Packet). IsServed order l (NextStep.Ask op)) same (subst (λ (n : NextStep). IsServed order rest n) is served)
 
 module _ (one : LocksHaveOneValue) (order : LockOrder) (old new : Meaning) (t u : Traffic) (is : old.traffic ≡ Some t) (at : new.traffic ≡ Some u) (all : TookAnswers order old.coat t u) where
   look_missed : AsksFor order (look_of order) old new (Err NoAnswer) → ⊥
@@ -109,7 +109,7 @@ module _ (one : LocksHaveOneValue) (order : LockOrder) (old new : Meaning) (t u 
       let looked = subst (λ (l : List Packet). HasFirstReply order.to (look_of order) l all.answers.found all.answers.rest) (ap (map (seen order old)) same) all.answers.looked in
       let firsts = one_first order.to (look_of order) (map (seen order old) mine.packets) all.answers.found a.found all.answers.rest received looked mine.first in
       let ruled = subst (λ (found : Outcome). IsRuled order found all.answers.next) firsts.outcome all.answers.ruled in
-      let served = served_is order all.answers.rest received all.answers.next op firsts.rest_is (one_next one order a.found all.answers.next (Next.Ask op) ruled a.ruled) all.answers.served in
+      let served = served_is order all.answers.rest received all.answers.next op firsts.rest_is (one_next one order a.found all.answers.next (NextStep.Ask op) ruled a.ruled) all.answers.served in
       no_first order.to (follows_of order op) received served.0 served.1 a.asks.ended.none served.2
 
   pub missed : Fails order old new NoAnswer → ⊥
@@ -129,7 +129,7 @@ module _ (order : LockOrder) (old new : Meaning) (told : Told) (t u : Traffic) (
             rest = [];
             looked = subst (λ (l : List Packet). HasFirstReply order.to (look_of order) l a.found []) mine.received
                 (ends_first order.to (look_of order) a.found a.looks.exchange.received a.looks.ended.reply);
-            next = Next.End told;
+            next = NextStep.End told;
             ruled = a.ruled;
             served = tt;
           };
@@ -142,7 +142,7 @@ module _ (order : LockOrder) (old new : Meaning) (told : Told) (t u : Traffic) (
             found = a.asked.found;
             rest = a.asked.asks.exchange.received;
             looked = mine.first;
-            next = Next.Ask a.op;
+            next = NextStep.Ask a.op;
             ruled = a.asked.ruled;
             served = (a.outcome, [], ends_first order.to (follows_of order a.op) a.outcome a.asked.asks.exchange.received a.asked.asks.ended.reply);
           };

@@ -13,7 +13,7 @@ use Rattle.crsm_lease.specs.Locks.{HasLock, LocksHaveOneValue}
 use Rattle.crsm_lease.specs.Rules as rules
 use Rattle.crsm_lease.specs.Rules.{found_by, next_of, rule}
 use Rattle.crsm_lease.specs.declared.lock.Lock.{Lock}
-use Rattle.crsm_lease.specs.declared.rule.Next.{Next}
+use Rattle.crsm_lease.specs.declared.rule.NextStep.{NextStep}
 use Rattle.crsm_port.specs.Meaning.{Packet}
 use Rattle.crsm_cmd_lock.specs.Answers.{HasFirstReply}
 use Rattle.crsm_cmd_lock.specs.Learning.{IsRuled}
@@ -65,7 +65,7 @@ module _ (one : LocksHaveOneValue) where
   one_lock None a b has has2 = has ∙ sym has2
   one_lock (Some value) a b has has2 = one a b has.fits has2.fits (sym has.is ∙ has2.is)
 
-  one_ruling : (order : LockOrder) (found : Option (List ℕ)) (m n : Next) → rules.IsRuled order.action order.client order.key found m → rules.IsRuled order.action order.client order.key found n → m ≡ n
+  one_ruling : (order : LockOrder) (found : Option (List ℕ)) (m n : NextStep) → rules.IsRuled order.action order.client order.key found m → rules.IsRuled order.action order.client order.key found n → m ≡ n
   one_ruling order found m n ruled ruled2 = elim ruled [
     | inl (lock, has, is) ↦ elim ruled2 [
       | inl (lock2, has2, is2) ↦ is ∙ ap (λ (l : Lock). next_of order.key found (rule order.action order.client (found_by order.client l))) (one_lock found lock lock2 has has2) ∙ sym is2
@@ -74,7 +74,7 @@ module _ (one : LocksHaveOneValue) where
     | inr (none, is) ↦ elim ruled2 [ inl (lock2, has2, is2) ↦ absurd (none lock2 has2) | inr (none2, is2) ↦ is ∙ sym is2 ]
   ]
 
-  pub one_next : (order : LockOrder) (found : Outcome) (m n : Next) → IsRuled order found m → IsRuled order found n → m ≡ n
+  pub one_next : (order : LockOrder) (found : Outcome) (m n : NextStep) → IsRuled order found m → IsRuled order found n → m ≡ n
   one_next order (Outcome.Answered (Answer.Found value)) m n ruled ruled2 = one_ruling order (Some value) m n ruled ruled2
   one_next order (Outcome.Answered Answer.Missing) m n ruled ruled2 = one_ruling order None m n ruled ruled2
   one_next order (Outcome.Answered (Answer.Stale number)) m n ruled ruled2 = ruled ∙ sym ruled2

@@ -10,7 +10,7 @@ use Rattle.crsm_lease.specs.Locks.{HasLock, lock_bytes}
 use Rattle.crsm_lease.specs.Rules as rules
 use Rattle.crsm_lease.specs.Rules.{Asks, FollowsGet, cas_to, next_of}
 use Rattle.crsm_lease.specs.declared.lock.Lock.{Lock}
-use Rattle.crsm_lease.specs.declared.rule.Next.{Next}
+use Rattle.crsm_lease.specs.declared.rule.NextStep.{NextStep}
 use Rattle.crsm_lease.specs.declared.rule.Ruling.{Ruling}
 use Rattle.crsm_lease.specs.declared.told.Told.{Told}
 use Rattle.crsm_port.specs.Meaning.{Meaning}
@@ -48,21 +48,21 @@ asked_fits few order op key client number asks cas = record { client = client; n
 
 -- ---- it is of the key
 
-of_ruling : (key : List ℕ) (found : Option (List ℕ)) (ruling : Ruling) (op : Op) → Next.Ask op ≡ next_of key found ruling → IsCasOf key op
+of_ruling : (key : List ℕ) (found : Option (List ℕ)) (ruling : Ruling) (op : Op) → NextStep.Ask op ≡ next_of key found ruling → IsCasOf key op
 of_ruling key found (Ruling.Becomes lock) op is = record { expected = found; new = Some (lock_bytes lock); is = cc }
 of_ruling key found (Ruling.Tells told) op is = absurd (cc)
 
-not_an_end : (op : Op) (told : Told) → Next.Ask op ≡ Next.End told → ⊥
+not_an_end : (op : Op) (told : Told) → NextStep.Ask op ≡ NextStep.End told → ⊥
 not_an_end op told is = cc
 
 module _ (order : LockOrder) (op : Op) where
-  of_value : (found : Option (List ℕ)) → rules.IsRuled order.action order.client order.key found (Next.Ask op) → IsCasOf order.key op
+  of_value : (found : Option (List ℕ)) → rules.IsRuled order.action order.client order.key found (NextStep.Ask op) → IsCasOf order.key op
   of_value found ruled = elim ruled [
     | inl (lock, has, is) ↦ of_ruling order.key found (rules.rule order.action order.client (rules.found_by order.client lock)) op is
     | inr (none, is) ↦ absurd (not_an_end op Told.NotALock is)
   ]
 
-  pub of_key : (found : Outcome) → IsRuled order found (Next.Ask op) → IsCasOf order.key op
+  pub of_key : (found : Outcome) → IsRuled order found (NextStep.Ask op) → IsCasOf order.key op
   of_key (Outcome.Answered (Answer.Found value)) ruled = of_value (Some value) ruled
   of_key (Outcome.Answered Answer.Missing) ruled = of_value None ruled
   of_key (Outcome.Answered (Answer.Stale number)) ruled = absurd (not_an_end op (Told.Stale number) ruled)
@@ -73,7 +73,7 @@ module _ (order : LockOrder) (op : Op) where
 
 -- ---- what is learnt of it
 
-module _ (order : LockOrder) (op : Op) (found : Outcome) (old between new : Meaning) (looks : AsksFor order (look_of order) old between (Ok found)) (ruled : IsRuled order found (Next.Ask op)) where
+module _ (order : LockOrder) (op : Op) (found : Outcome) (old between new : Meaning) (looks : AsksFor order (look_of order) old between (Ok found)) (ruled : IsRuled order found (NextStep.Ask op)) where
   after : (result : Result Outcome AskError) → AsksFor order (follows_of order op) between new result → AsksNext order op old new result
   after result asks = record { between = between; found = found; looks = looks; ruled = ruled; asks = asks }
 

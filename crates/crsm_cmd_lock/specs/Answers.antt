@@ -5,7 +5,7 @@ use Rattle.crsm_base.specs.declared.Command.{Command}
 use Rattle.crsm_base.specs.declared.answer.Outcome.{Outcome}
 use Rattle.crsm_client.specs.Asking.{IsOther, IsReply, WhereQuiet}
 use Rattle.crsm_client.specs.Exchange.{received_of}
-use Rattle.crsm_lease.specs.declared.rule.Next.{Next}
+use Rattle.crsm_lease.specs.declared.rule.NextStep.{NextStep}
 use Rattle.crsm_port.specs.Cluster.{over}
 use Rattle.crsm_port.specs.Meaning.{Coat, Meaning, Packet, Traffic}
 use Rattle.crsm_cmd_lock.specs.Learning.{IsRuled, follows_of, look_of}
@@ -20,16 +20,16 @@ pub record HasFirstReply (to : ℕ) (command : Command) (received : List Packet)
   pub is_reply : IsReply to command outcome reply
 
 -- what is asked next is answered among these, if anything is
-abbrev pub IsServed : LockOrder → List Packet → Next → Type 0
-IsServed order received (Next.End told) = Unit {0}
-IsServed order received (Next.Ask op) = (outcome : Outcome) × (rest : List Packet) × HasFirstReply order.to (follows_of order op) received outcome rest
+abbrev pub IsServed : LockOrder → List Packet → NextStep → Type 0
+IsServed order received (NextStep.End told) = Unit {0}
+IsServed order received (NextStep.Ask op) = (outcome : Outcome) × (rest : List Packet) × HasFirstReply order.to (follows_of order op) received outcome rest
 
 -- The look is answered among these, and what follows it by the rule is answered among those that came after that.
 pub record AreAnswers (order : LockOrder) (received : List Packet) : Type 0 where
   pub found : Outcome
   pub rest : List Packet
   pub looked : HasFirstReply order.to (look_of order) received found rest
-  pub next : Next
+  pub next : NextStep
   pub ruled : IsRuled order found next
   pub served : IsServed order rest next
 

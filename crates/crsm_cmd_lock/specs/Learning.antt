@@ -7,7 +7,7 @@ use Rattle.crsm_client.specs.Asking.{Asks}
 use Rattle.crsm_client.specs.declared.error.AskError.{AskError}
 use Rattle.crsm_client.specs.declared.error.AskError.TheVariants.{NoAnswer, PortFault, NoMemory}
 use Rattle.crsm_lease.specs.Rules.{FollowsCas, FollowsGet}
-use Rattle.crsm_lease.specs.declared.rule.Next.{Next}
+use Rattle.crsm_lease.specs.declared.rule.NextStep.{NextStep}
 use Rattle.crsm_lease.specs.declared.told.Told.{Told}
 use Rattle.crsm_port.specs.Meaning.{Meaning}
 use Rattle.crsm_cmd_lock.specs.declared.command.LockOrder.{LockOrder}
@@ -27,7 +27,7 @@ abbrev pub AsksFor : LockOrder → Command → Meaning → Meaning → Result Ou
 AsksFor order command old new result = Asks 0 order.to command order.turns 100 old new result
 
 -- what the rule says about an outcome of the look
-abbrev pub IsRuled : LockOrder → Outcome → Next → Type 0
+abbrev pub IsRuled : LockOrder → Outcome → NextStep → Type 0
 IsRuled order found next = FollowsGet order.action order.client order.key found next
 
 -- the operation is a compare and set of this key
@@ -41,7 +41,7 @@ pub record AsksNext (order : LockOrder) (op : Op) (old new : Meaning) (result : 
   pub between : Meaning
   pub found : Outcome
   pub looks : AsksFor order (look_of order) old between (Ok found)
-  pub ruled : IsRuled order found (Next.Ask op)
+  pub ruled : IsRuled order found (NextStep.Ask op)
   pub asks : AsksFor order (follows_of order op) between new result
 
 -- ---- what is learnt
@@ -50,7 +50,7 @@ pub record AsksNext (order : LockOrder) (op : Op) (old new : Meaning) (result : 
 pub record LearnsAtOnce (order : LockOrder) (old new : Meaning) (told : Told) : Type 0 where
   pub found : Outcome
   pub looks : AsksFor order (look_of order) old new (Ok found)
-  pub ruled : IsRuled order found (Next.End told)
+  pub ruled : IsRuled order found (NextStep.End told)
 
 -- this is told of what the operation was answered that followed the look
 pub record LearnsNext (order : LockOrder) (old new : Meaning) (told : Told) : Type 0 where

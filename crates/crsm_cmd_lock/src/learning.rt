@@ -8,7 +8,7 @@ ghost use Rattle.crsm_cmd_lock.specs.Learning.{AsksFor, IsCasOf, LearnsOr, Tells
 use crate::command::LockOrder;
 use crsm_base::{Command, Key, NoMemory, Op, Outcome};
 use crsm_client::{AskError, ask};
-use crsm_lease::{Next, Told, after_cas, after_get, locks_have_one_value};
+use crsm_lease::{NextStep, Told, after_cas, after_get, locks_have_one_value};
 use crsm_port::Port;
 use std::alloc::Global;
 
@@ -82,7 +82,7 @@ pub(crate) fn learn<P: Port>(
     let look = look(alloc, order)?;
     let found = request(alloc, order, &look, port)?;
     match after_get(alloc, order.action, order.client, &order.key, &found)? {
-        Next::End(told) => Ok(told),
-        Next::Ask(op) => follow(alloc, order, op, port),
+        NextStep::End(told) => Ok(told),
+        NextStep::Ask(op) => follow(alloc, order, op, port),
     }
 }

@@ -3,7 +3,7 @@
 ghost use Rattle.std.specs.Prelude.{◌≡◌};
 ghost use Rattle.crsm_cmd_replay.specs.Causes.{cause_in};
 
-use crsm_port_lines::Bad;
+use crsm_port_lines::LineRefusal;
 use std::fmt::{self, Display, Formatter, Write};
 
 /// What is wrong with a line.
@@ -34,12 +34,12 @@ pub enum Cause {
 }
 
 /// The cause that a bad line is told with.
-pub fn told_cause(why: Bad<Cause>) -> Cause
+pub fn told_cause(why: LineRefusal<Cause>) -> Cause
     ensures { result ≡ cause_in why }
 {
     match why {
-        Bad::Refused(cause) => cause,
-        Bad::TooLong | Bad::Cut => Cause::Unreadable,
+        LineRefusal::Refused(cause) => cause,
+        LineRefusal::TooLong | LineRefusal::Cut => Cause::Unreadable,
     }
 }
 

@@ -10,17 +10,17 @@ use crate::cause::Cause;
 use crate::handling::Replaying;
 use crsm_io::{Sink, Source};
 use crsm_law_texts::{events_have_one_text, first_lines_have_one_text, spelt_are_lines};
-use crsm_port_lines::{Ending, MAX_INPUT_BYTES, run_lines};
+use crsm_port_lines::{InputEnd, MAX_INPUT_BYTES, run_lines};
 use std::alloc::Global;
 
 /// Reads a schedule to its end, and writes its transcript and final lines.
-pub fn replay<I: Source, O: Sink>(alloc: Global, input: &mut I, output: &mut O) -> Ending<Cause>
+pub fn replay<I: Source, O: Sink>(alloc: Global, input: &mut I, output: &mut O) -> InputEnd<Cause>
     // What was taken and what was written, by how it ended.
     ensures ran { Ran result (I.left input.old) (I.left input.new) (O.written output.old) (O.written output.new) }
 
     // A fault is answered only where it was counted.
-    ensures read_fault { result ≡ Ending.ReadFault → Rose (I.faults input.old) (I.faults input.new) }
-    ensures write_fault { result ≡ Ending.WriteFault → Rose (O.faults output.old) (O.faults output.new) }
+    ensures read_fault { result ≡ InputEnd.ReadFault → Rose (I.faults input.old) (I.faults input.new) }
+    ensures write_fault { result ≡ InputEnd.WriteFault → Rose (O.faults output.old) (O.faults output.new) }
 
     // A schedule within the limit is done, where no fault was counted.
     ensures complete { WhereSchedule (I.left input.old) (λ s. WhereFaultless (I.faults input.old) (I.faults input.new) (O.faults output.old) (O.faults output.new) (IsDone result)) }
@@ -32,8 +32,8 @@ pub fn replay<I: Source, O: Sink>(alloc: Global, input: &mut I, output: &mut O) 
     ensures too_long { WhereTooLong (I.left input.old) (WhereFaultless (I.faults input.old) (I.faults input.new) (O.faults output.old) (O.faults output.new) (IsTooLong result)) }
 
     // An input beyond the limit is never done, and one within it is never too long.
-    ensures limit { (bytes : List ℕ) → I.left input.old ≡ Some bytes → MAX_INPUT_BYTES < length bytes → result ≢ Ending.Done }
-    ensures within { (bytes : List ℕ) → I.left input.old ≡ Some bytes → length bytes ≤ MAX_INPUT_BYTES → result ≢ Ending.InputTooLong }
+    ensures limit { (bytes : List ℕ) → I.left input.old ≡ Some bytes → MAX_INPUT_BYTES < length bytes → result ≢ InputEnd.Done }
+    ensures within { (bytes : List ℕ) → I.left input.old ≡ Some bytes → length bytes ≤ MAX_INPUT_BYTES → result ≢ InputEnd.InputTooLong }
 {
     events_have_one_text();
     first_lines_have_one_text();

@@ -3,7 +3,7 @@
 ghost use Rattle.std.specs.Prelude.{◌≡◌};
 ghost use Rattle.crsm_cmd_replay_node.specs.Causes.{cause_in};
 
-use crsm_port_lines::Bad;
+use crsm_port_lines::LineRefusal;
 
 /// Why a line of a sheet is refused.
 #[derive(Clone, Copy, Debug, PartialEq, Eq)]
@@ -16,11 +16,11 @@ pub enum SheetCause {
 }
 
 /// The cause that a bad line is told with.
-pub fn told_cause(why: Bad<SheetCause>) -> SheetCause
+pub fn told_cause(why: LineRefusal<SheetCause>) -> SheetCause
     ensures { result ≡ cause_in why }
 {
     match why {
-        Bad::Refused(cause) => cause,
-        Bad::TooLong | Bad::Cut => SheetCause::Unreadable,
+        LineRefusal::Refused(cause) => cause,
+        LineRefusal::TooLong | LineRefusal::Cut => SheetCause::Unreadable,
     }
 }

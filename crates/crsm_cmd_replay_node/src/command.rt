@@ -8,7 +8,7 @@ ghost use Rattle.crsm_cmd_replay_node.specs.Run.{Ran, IsRefused, WhereBad, Where
 use crate::cause::SheetCause;
 use crate::handling::SheetReplay;
 use crsm_io::{Sink, Source};
-use crsm_port_lines::{Ending, MAX_INPUT_BYTES, run_lines};
+use crsm_port_lines::{InputEnd, MAX_INPUT_BYTES, run_lines};
 use crsm_replica_rerun::bad_logs_are_one;
 use crsm_text_sheet::{lines_have_no_feed, lines_have_one_text};
 use std::alloc::Global;
@@ -21,7 +21,7 @@ pub fn replay_node<I: Source, O: Sink>(
     n: u32,
     input: &mut I,
     output: &mut O,
-) -> Ending<SheetCause>
+) -> InputEnd<SheetCause>
     requires me_below { me < 15 }
     requires some { 1 ≤ n }
     requires few { n ≤ 15 }
@@ -30,8 +30,8 @@ pub fn replay_node<I: Source, O: Sink>(
     ensures ran { Ran me n result (I.left input.old) (I.left input.new) (O.written output.old) (O.written output.new) }
 
     // A fault is answered only where it was counted.
-    ensures read_fault { result ≡ Ending.ReadFault → Rose (I.faults input.old) (I.faults input.new) }
-    ensures write_fault { result ≡ Ending.WriteFault → Rose (O.faults output.old) (O.faults output.new) }
+    ensures read_fault { result ≡ InputEnd.ReadFault → Rose (I.faults input.old) (I.faults input.new) }
+    ensures write_fault { result ≡ InputEnd.WriteFault → Rose (O.faults output.old) (O.faults output.new) }
 
     // A sheet whose bodies fit is done, within the limits on the input and its lines, where no fault was counted.
     ensures complete { WhereSheet me n (I.left input.old) (WhereFaultless (I.faults input.old) (I.faults input.new) (O.faults output.old) (O.faults output.new) (IsDone result)) }
@@ -44,8 +44,8 @@ pub fn replay_node<I: Source, O: Sink>(
     ensures too_long { WhereTooLong me n (I.left input.old) (WhereFaultless (I.faults input.old) (I.faults input.new) (O.faults output.old) (O.faults output.new) (IsTooLong result)) }
 
     // An input beyond the limit is never done, and one within it is never too long.
-    ensures limit { (bytes : List ℕ) → I.left input.old ≡ Some bytes → MAX_INPUT_BYTES < length bytes → result ≢ Ending.Done }
-    ensures within { (bytes : List ℕ) → I.left input.old ≡ Some bytes → length bytes ≤ MAX_INPUT_BYTES → result ≢ Ending.InputTooLong }
+    ensures limit { (bytes : List ℕ) → I.left input.old ≡ Some bytes → MAX_INPUT_BYTES < length bytes → result ≢ InputEnd.Done }
+    ensures within { (bytes : List ℕ) → I.left input.old ≡ Some bytes → length bytes ≤ MAX_INPUT_BYTES → result ≢ InputEnd.InputTooLong }
 {
     lines_have_no_feed();
     lines_have_one_text();

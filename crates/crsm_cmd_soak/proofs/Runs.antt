@@ -17,7 +17,7 @@ use Rattle.crsm_world.specs.Seen.{view_of}
 use Rattle.crsm_world.specs.World.{WorldStands}
 use Rattle.crsm_cmd_soak.specs.Running.{Begins, CanGoOn, HasRun, StepsOn}
 use Rattle.crsm_cmd_soak.specs.Soak.{drawn, drawn_from, lines_of, more, nothing}
-use Rattle.crsm_cmd_soak.specs.declared.running.Run.{Run}
+use Rattle.crsm_cmd_soak.specs.declared.running.SoakRun.{SoakRun}
 use Rattle.crsm_cmd_soak.proofs.Sums.{more_more, none_more}
 
 -- ---- the lines of events from a world on
@@ -41,7 +41,7 @@ first_event w e es =
 
 -- ---- a run that has come so far
 
-pub record Runs (run : Run) (number n steps left : ℕ) : Type 0 where
+pub record Runs (run : SoakRun) (number n steps left : ℕ) : Type 0 where
   pub cluster : World
   pub acts : List Act
   pub stands : WorldStands run.world cluster
@@ -52,7 +52,7 @@ pub record Runs (run : Run) (number n steps left : ℕ) : Type 0 where
   pub told : more run.summary (length (drawn_from left n cluster run.generator.drawing)) (lines_from cluster (drawn_from left n cluster run.generator.drawing))
       ≡ more nothing (length (drawn number n steps).events) (lines_of (drawn number n steps))
 
-pub runs_first : (run : Run) (number n steps : ℕ) → Begins run number n → Runs run number n steps steps
+pub runs_first : (run : SoakRun) (number n steps : ℕ) → Begins run number n → Runs run number n steps steps
 unfolding drawn acts_of lines_of seen after_acts
 runs_first run number n steps b =
     let es = drawn_from steps n (begin n) (begun number) in
@@ -97,7 +97,7 @@ possible_at w [] a rest p = p.1
 possible_at w (b ∷ acts) a rest p = possible_at (act w b).after acts a rest p.2
 
 -- what is drawn next is possible, since all that is drawn is
-pub can_go_on : (run : Run) (number n steps left : ℕ) → (h : Runs run number n steps (suc left)) → is_full h.cluster ≡ false → ArePossible (begin n) (acts_of (drawn number n steps)) → CanGoOn run
+pub can_go_on : (run : SoakRun) (number n steps left : ℕ) → (h : Runs run number n steps (suc left)) → is_full h.cluster ≡ false → ArePossible (begin n) (acts_of (drawn number n steps)) → CanGoOn run
 can_go_on run number n steps left h f all =
     let w = h.cluster in
     let d = run.generator.drawing in
@@ -108,7 +108,7 @@ can_go_on run number n steps left h f all =
     let here = subst (λ v. possible v (act_of next.0) ≡ None) (sym h.reached) can in
     record { cluster = w; stands = h.stands; can = subst (λ k. possible w (act_of (drawn_next k (view_of w) d).0) ≡ None) (sym h.replicas) here }
 
-pub runs_next : (old new : Run) (number n steps left : ℕ) → (h : Runs old number n steps (suc left)) → is_full h.cluster ≡ false → StepsOn h.cluster n h.acts old new → Runs new number n steps left
+pub runs_next : (old new : SoakRun) (number n steps left : ℕ) → (h : Runs old number n steps (suc left)) → is_full h.cluster ≡ false → StepsOn h.cluster n h.acts old new → Runs new number n steps left
 runs_next old new number n steps left h f s =
     let w = h.cluster in
     let d = old.generator.drawing in
@@ -141,16 +141,16 @@ runs_next old new number n steps left h f s =
     one_first k = omega arith
 
 -- nothing is ahead any more
-ended : (run : Run) (number n steps left : ℕ) → (h : Runs run number n steps left) → drawn_from left n h.cluster run.generator.drawing ≡ [] → HasRun run number n steps
+ended : (run : SoakRun) (number n steps left : ℕ) → (h : Runs run number n steps left) → drawn_from left n h.cluster run.generator.drawing ≡ [] → HasRun run number n steps
 unfolding told
 ended run number n steps left h e = record {
   done = subst (HasDone run.world n) (sym (append-nil h.acts) ∙ ap (λ es. h.acts ++ map act_of es) (sym e) ∙ h.ahead) h.done;
   told = sym (none_more run.summary) ∙ ap (λ es. more run.summary (length es) (lines_from h.cluster es)) (sym e) ∙ h.told;
 }
 
-pub ends_full : (run : Run) (number n steps left : ℕ) → (h : Runs run number n steps left) → is_full h.cluster ≡ true → HasRun run number n steps
+pub ends_full : (run : SoakRun) (number n steps left : ℕ) → (h : Runs run number n steps left) → is_full h.cluster ≡ true → HasRun run number n steps
 ends_full run number n steps left h f = ended run number n steps left h (none_drawn left n h.cluster run.generator.drawing f)
 
-pub ends_done : (run : Run) (number n steps : ℕ) → Runs run number n steps 0 → HasRun run number n steps
+pub ends_done : (run : SoakRun) (number n steps : ℕ) → Runs run number n steps 0 → HasRun run number n steps
 unfolding drawn_from
 ends_done run number n steps h = ended run number n steps 0 h refl

@@ -34,15 +34,15 @@ fn unless_refused(stepped: Result<Lines, Bad>) -> Result<Lines, NoMemory>
 
 /// A run as far as it has come.
 #[derive(Drop)]
-pub(crate) struct Run {
+pub(crate) struct SoakRun {
     pub world: World,
     pub generator: Generator,
     pub summary: Summary,
 }
 
-impl Run {
+impl SoakRun {
     /// The replicas have booted.
-    fn begin(alloc: Global, number: u64, n: u32) -> Result<Run, NoMemory>
+    fn begin(alloc: Global, number: u64, n: u32) -> Result<SoakRun, NoMemory>
         requires some { 1 ≤ n }
         requires most { n ≤ 15 }
         ensures { IfOk result (λ run. Begins run number n) }
@@ -51,7 +51,7 @@ impl Run {
         let mut summary = Summary::new();
         summary.add(0, lines.as_slice())?;
         world.take_back(lines);
-        Ok(Run {
+        Ok(SoakRun {
             world,
             generator: Generator::new(alloc, number, n),
             summary,
@@ -74,13 +74,13 @@ impl Run {
 }
 
 /// Runs up to so many generated events: it ends early where the world is full.
-pub(crate) fn run_all(alloc: Global, number: u64, n: u32, steps: u64) -> Result<Run, NoMemory>
+pub(crate) fn run_all(alloc: Global, number: u64, n: u32, steps: u64) -> Result<SoakRun, NoMemory>
     requires some { 1 ≤ n }
     requires most { n ≤ 15 }
     ensures { IfOk result (λ run. HasRun run number n steps) }
 {
     drawn_runs_are_possible();
-    let mut run = Run::begin(alloc, number, n)?;
+    let mut run = SoakRun::begin(alloc, number, n)?;
     for _ in 0..steps {
         if run.world.is_full() {
             return Ok(run);

@@ -14,7 +14,7 @@ use crsm_wire::{WireError, read_control};
 
 /// What a part of a control message says of itself.
 #[derive(Clone, Copy)]
-pub(crate) struct Heading {
+pub(crate) struct PartHead {
     pub boot: u64,
     pub number: u64,
     pub index: u32,
@@ -25,7 +25,7 @@ pub(crate) struct Heading {
 pub(crate) fn on_part(
     state: &mut ReplicaState,
     from: u32,
-    heading: Heading,
+    heading: PartHead,
     bytes: &[u8],
 ) -> Result<(), NoMemory>
     requires from { from < 15 }

@@ -15,7 +15,7 @@ use crate::frames::{on_ack, on_frame};
 use crate::idle::idle;
 use crate::input::Input;
 use crate::owed::owed_oks;
-use crate::parts::{Heading, on_part};
+use crate::parts::{PartHead, on_part};
 use crate::requests::on_request;
 use crate::ticks::on_tick;
 use crsm_base::{Datagram, NoMemory};
@@ -134,7 +134,7 @@ fn on_datagram(
             if is_astray(state, *from, *to) {
                 return Ok(());
             }
-            let heading = Heading {
+            let heading = PartHead {
                 boot: *boot,
                 number: *number,
                 index: *index,

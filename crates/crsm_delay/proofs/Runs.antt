@@ -28,9 +28,9 @@ use Rattle.crsm_world.specs.World.{WorldStands}
 use Rattle.crsm_world.specs.declared.bad.Bad.{Bad}
 use Rattle.crsm_delay.specs.Following.{AddsTimeline, Follows}
 use Rattle.crsm_delay.specs.Upcoming.{does_of, event_of, listed, spelt_of, timed_of}
-use Rattle.crsm_delay.specs.declared.upcoming.Kind.{Kind}
+use Rattle.crsm_delay.specs.declared.upcoming.UpcomingKind.{UpcomingKind}
 use Rattle.crsm_delay.specs.declared.upcoming.Upcoming.{Upcoming}
-use Rattle.crsm_delay.specs.declared.timeline.Run.{Run}
+use Rattle.crsm_delay.specs.declared.timeline.TimelineRun.{TimelineRun}
 
 -- ---- events as acts
 
@@ -38,10 +38,10 @@ pub act_is : (u : Upcoming) → act_of (event_of u) ≡ Act.One (timed_of u).doe
 unfolding act_of single_of
 act_is u = go u.kind
   where
-    go : (k : Kind) → act_of (Event.One (spelt_of k)) ≡ Act.One (does_of k)
-    go (Kind.Request replica reading) = refl
-    go (Kind.Tick replica reading) = refl
-    go (Kind.Go number reading) = refl
+    go : (k : UpcomingKind) → act_of (Event.One (spelt_of k)) ≡ Act.One (does_of k)
+    go (UpcomingKind.Request replica reading) = refl
+    go (UpcomingKind.Tick replica reading) = refl
+    go (UpcomingKind.Go number reading) = refl
 
 acts_are : (us : List Upcoming) → map act_of (map event_of us) ≡ acts_of (map timed_of us)
 unfolding acts_of
@@ -59,10 +59,10 @@ has_bytes = (one_byte 97 (omega arith), one_byte 98 (omega arith))
 pub fits_event : (u : Upcoming) → FitsAct (Act.One (timed_of u).does) → FitsEvent (event_of u)
 fits_event u h = go u.kind h
   where
-    go : (k : Kind) → FitsAct (Act.One (does_of k)) → FitsEvent (Event.One (spelt_of k))
-    go (Kind.Request replica reading) h = record { replica_fits = h.0; reading_fits = h.1; command_fits = h.2; bytes = has_bytes }
-    go (Kind.Tick replica reading) h = h
-    go (Kind.Go number reading) h = h
+    go : (k : UpcomingKind) → FitsAct (Act.One (does_of k)) → FitsEvent (Event.One (spelt_of k))
+    go (UpcomingKind.Request replica reading) h = record { replica_fits = h.0; reading_fits = h.1; command_fits = h.2; bytes = has_bytes }
+    go (UpcomingKind.Tick replica reading) h = h
+    go (UpcomingKind.Go number reading) h = h
 
 -- ---- an event that is possible is not refused
 
@@ -155,13 +155,13 @@ text_more plan us u text =
 -- ---- the whole of it
 
 -- the loop so far: these are done and written, one each time
-pub record Written (plan : Plan) (run : Run) (start text : List ℕ) (count : ℕ) : Type 0 where
+pub record Written (plan : Plan) (run : TimelineRun) (start text : List ℕ) (count : ℕ) : Type 0 where
   pub done : List Upcoming
   pub follows : Follows plan done run
   pub text_is : text ≡ start ++ schedule_text (scheduled plan done)
   pub count_is : length done ≡ count
 
-pub one_written : (plan : Plan) (old new : Run) (start before text : List ℕ) (count : ℕ) (u : Upcoming) → (h : Written plan old start before count) → Follows plan (h.done ++ u ∷ []) new →
+pub one_written : (plan : Plan) (old new : TimelineRun) (start before text : List ℕ) (count : ℕ) (u : Upcoming) → (h : Written plan old start before count) → Follows plan (h.done ++ u ∷ []) new →
     text ≡ before ++ (event_text (event_of u) ++ 10 ∷ []) → Written plan new start text (count + 1)
 one_written plan old new start before text count u h follows is = record {
   done = h.done ++ u ∷ [];
@@ -176,7 +176,7 @@ all_fit [] w p = tt
 all_fit (u ∷ us) w p = (fits_event u p.0, all_fit us (act w (Act.One (timed_of u).does)).after p.2)
 
 -- where nothing is to happen any more, the text is that of a timeline
-pub whole : (possibly : EventsCanHappen) (law : AgendasEnd) (plan : Plan) (run : Run) (start text : List ℕ) (count : ℕ) → FitsPlan plan → Written plan run start text count → listed run.agenda ≡ [] → AddsTimeline plan start text
+pub whole : (possibly : EventsCanHappen) (law : AgendasEnd) (plan : Plan) (run : TimelineRun) (start text : List ℕ) (count : ℕ) → FitsPlan plan → Written plan run start text count → listed run.agenda ≡ [] → AddsTimeline plan start text
 unfolding schedules.acts_of
 whole possibly law plan run start text count fit h none =
     let es = map timed_of h.done in
@@ -196,7 +196,7 @@ whole possibly law plan run start text count fit h none =
     }
 
 -- a timeline has fewer events
-pub not_so_many : (law : AgendasEnd) (plan : Plan) (run : Run) (start text : List ℕ) (count : ℕ) → FitsPlan plan → Written plan run start text count → 1000000 ≤ count → ⊥
+pub not_so_many : (law : AgendasEnd) (plan : Plan) (run : TimelineRun) (start text : List ℕ) (count : ℕ) → FitsPlan plan → Written plan run start text count → 1000000 ≤ count → ⊥
 not_so_many law plan run start text count fit h many =
     let few = law.few plan (map timed_of h.done) fit h.follows.so_far in
     let l = length_map h.done in
@@ -209,11 +209,11 @@ not_so_many law plan run start text count fit h many =
 
 -- ---- the state of a run
 
-pub follows_first : (plan : Plan) (run : Run) (n : ℕ) → n ≡ plan.n → WorldStands run.world (begin n) → IsAgenda plan [] (listed run.agenda) → Follows plan [] run
+pub follows_first : (plan : Plan) (run : TimelineRun) (n : ℕ) → n ≡ plan.n → WorldStands run.world (begin n) → IsAgenda plan [] (listed run.agenda) → Follows plan [] run
 unfolding world_after acts_of after_acts
 follows_first plan run n same stands agenda = record { so_far = IsSoFar.nothing; agenda = agenda; stands = subst (λ k. WorldStands run.world (begin k)) same stands }
 
-module _ (possibly : EventsCanHappen) (law : AgendasGoOn) (plan : Plan) (fit : FitsPlan plan) (done : List Upcoming) (old : Run) (h : Follows plan done old) (u : Upcoming) (rest : List Timed)
+module _ (possibly : EventsCanHappen) (law : AgendasGoOn) (plan : Plan) (fit : FitsPlan plan) (done : List Upcoming) (old : TimelineRun) (h : Follows plan done old) (u : Upcoming) (rest : List Timed)
     (first : listed old.agenda ≡ timed_of u ∷ rest) where
   now : IsAgenda plan (map timed_of done) (timed_of u ∷ rest)
   now = subst (IsAgenda plan (map timed_of done)) first h.agenda
@@ -232,7 +232,7 @@ module _ (possibly : EventsCanHappen) (law : AgendasGoOn) (plan : Plan) (fit : F
   its_posts = told possibly law plan fit done u rest h.so_far now
 
   -- and it has happened then
-  pub follows_next : (new : Run) → WorldStands new.world (act (world_after plan (map timed_of done)) (act_of (event_of u))).after → IsAgenda plan (map timed_of (done ++ u ∷ [])) (listed new.agenda) →
+  pub follows_next : (new : TimelineRun) → WorldStands new.world (act (world_after plan (map timed_of done)) (act_of (event_of u))).after → IsAgenda plan (map timed_of (done ++ u ∷ [])) (listed new.agenda) →
       Follows plan (done ++ u ∷ []) new
   follows_next new stands agenda = record {
     so_far = so_far_then possibly law plan fit done u rest h.so_far now;

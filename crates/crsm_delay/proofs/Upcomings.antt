@@ -10,7 +10,7 @@ use Rattle.crsm_spec_plan.specs.declared.Plan.{Plan}
 use Rattle.crsm_spec_plan.specs.Plans.{FitsPlan, arrival, delay_of, offset_of, reading, stamped}
 use Rattle.crsm_spec_plan.specs.Timelines.{tick, the_command}
 use Rattle.crsm_delay.specs.Upcoming.{IsTick, spelt_of, timed_of}
-use Rattle.crsm_delay.specs.declared.upcoming.Kind.{Kind}
+use Rattle.crsm_delay.specs.declared.upcoming.UpcomingKind.{UpcomingKind}
 
 put_text : codes " put 61 62\n" ≡ 32 ∷ op_text the_command.op ++ 10 ∷ []
 unfolding the_command encode_with
@@ -25,7 +25,7 @@ join_end : (a b c d e rest text : List ℕ) →
 join_end a b c d e rest text = simp append_assoc
 
 pub request_line : (text : List ℕ) (replica now : ℕ) →
-    (text ++ named (codes "request") (replica ∷ now ∷ 7 ∷ 1 ∷ [])) ++ codes " put 61 62\n" ≡ text ++ (single_text (spelt_of (Kind.Request replica now)) ++ 10 ∷ [])
+    (text ++ named (codes "request") (replica ∷ now ∷ 7 ∷ 1 ∷ [])) ++ codes " put 61 62\n" ≡ text ++ (single_text (spelt_of (UpcomingKind.Request replica now)) ++ 10 ∷ [])
 request_line text replica now =
     ap (λ l. (text ++ named (codes "request") (replica ∷ now ∷ 7 ∷ 1 ∷ [])) ++ l) put_text
     ∙ ap (λ n. (text ++ named (codes "request") (replica ∷ now ∷ n ∷ 1 ∷ [])) ++ (32 ∷ op_text the_command.op ++ 10 ∷ [])) (sym numbers_are.0)
@@ -56,12 +56,12 @@ later plan k x d r o s a b p lt = (omega (arith, a, b, p, lt), omega (arith, a, 
 pub offset_below : (plan : Plan) (k x d r o : ℕ) → FitsPlan plan → x ≡ reading plan plan.origin plan.at → d ≡ delay_of plan plan.origin k → r ≡ reading plan k (plan.at + d) → o ≡ offset_of plan k → r < x + 1 → o ≤ x + 1
 offset_below plan k x d r o fit e a b p lt = (later plan k x d r o (reads_stamped plan x fit e).0 (arrival_is plan k d a) b p lt).0
 
-tick_is : (plan : Plan) (k moment past : ℕ) → past ≡ reading plan k moment → timed_of (record { moment = moment; kind = Kind.Tick k past }) ≡ tick plan k moment
+tick_is : (plan : Plan) (k moment past : ℕ) → past ≡ reading plan k moment → timed_of (record { moment = moment; kind = UpcomingKind.Tick k past }) ≡ tick plan k moment
 unfolding tick
-tick_is plan k moment past e = ap (λ n. timed_of (record { moment = moment; kind = Kind.Tick k n })) e
+tick_is plan k moment past e = ap (λ n. timed_of (record { moment = moment; kind = UpcomingKind.Tick k n })) e
 
 pub a_tick : (plan : Plan) (k x d r o : ℕ) → FitsPlan plan → x ≡ reading plan plan.origin plan.at → d ≡ delay_of plan plan.origin k → r ≡ reading plan k (plan.at + d) → o ≡ offset_of plan k → r < x + 1 →
-    IsTick plan k (record { moment = x + 1 - o; kind = Kind.Tick k (x + 1) })
+    IsTick plan k (record { moment = x + 1 - o; kind = UpcomingKind.Tick k (x + 1) })
 a_tick plan k x d r o fit e a b p lt =
     let s = (reads_stamped plan x fit e).0 in
     let l = later plan k x d r o s (arrival_is plan k d a) b p lt in

@@ -9,16 +9,16 @@ use Rattle.crsm_world.specs.Schedule as schedules
 use Rattle.crsm_world.specs.World.{WorldStands}
 use Rattle.crsm_delay.specs.Upcoming.{listed, timed_of}
 use Rattle.crsm_delay.specs.declared.upcoming.Upcoming.{Upcoming}
-use Rattle.crsm_delay.specs.declared.timeline.Run.{Run}
+use Rattle.crsm_delay.specs.declared.timeline.TimelineRun.{TimelineRun}
 
 -- The world has done these events of the plan, and the agenda has those that are still to happen.
-pub record Follows (plan : Plan) (done : List Upcoming) (run : Run) : Type 0 where
+pub record Follows (plan : Plan) (done : List Upcoming) (run : TimelineRun) : Type 0 where
   pub so_far : IsSoFar plan (map timed_of done)
   pub agenda : IsAgenda plan (map timed_of done) (listed run.agenda)
   pub stands : WorldStands run.world (world_after plan (map timed_of done))
 
 -- the plan is followed
-pub record IsFollowed (plan : Plan) (run : Run) : Type 0 where
+pub record IsFollowed (plan : Plan) (run : TimelineRun) : Type 0 where
   pub done : List Upcoming
   pub follows : Follows plan done run
 

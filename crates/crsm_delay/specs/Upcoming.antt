@@ -7,26 +7,26 @@ use Rattle.crsm_spec_plan.specs.declared.Plan.{Plan}
 use Rattle.crsm_spec_plan.specs.Plans.{arrival, reading, stamped}
 use Rattle.crsm_spec_plan.specs.Timelines.{Timed, Precedes, the_command, tick}
 use Rattle.crsm_law_pending.specs.Posts.{Post}
-use Rattle.crsm_delay.specs.declared.upcoming.Kind.{Kind}
+use Rattle.crsm_delay.specs.declared.upcoming.UpcomingKind.{UpcomingKind}
 use Rattle.crsm_delay.specs.declared.upcoming.Upcoming.{Upcoming}
 use Rattle.crsm_delay.specs.declared.agenda.Agenda.{Agenda}
 use Rattle.crsm_delay.specs.declared.agenda.Post.{Post as Told}
 
 -- what happens
-abbrev pub does_of : Kind → Single
-does_of (Kind.Request replica reading) = Single.Request replica reading the_command
-does_of (Kind.Tick replica reading) = Single.Tick replica reading
-does_of (Kind.Go number reading) = Single.Go number reading
+abbrev pub does_of : UpcomingKind → Single
+does_of (UpcomingKind.Request replica reading) = Single.Request replica reading the_command
+does_of (UpcomingKind.Tick replica reading) = Single.Tick replica reading
+does_of (UpcomingKind.Go number reading) = Single.Go number reading
 
 -- the event of a timeline
 abbrev pub timed_of : Upcoming → Timed
 timed_of u = record { moment = u.moment; does = does_of u.kind }
 
 -- the same in a schedule
-abbrev pub spelt_of : Kind → Spelt
-spelt_of (Kind.Request replica reading) = Spelt.Request replica reading the_command
-spelt_of (Kind.Tick replica reading) = Spelt.Tick replica reading
-spelt_of (Kind.Go number reading) = Spelt.Go number reading
+abbrev pub spelt_of : UpcomingKind → Spelt
+spelt_of (UpcomingKind.Request replica reading) = Spelt.Request replica reading the_command
+spelt_of (UpcomingKind.Tick replica reading) = Spelt.Tick replica reading
+spelt_of (UpcomingKind.Go number reading) = Spelt.Go number reading
 
 abbrev pub event_of : Upcoming → Event
 event_of u = Event.One (spelt_of u.kind)

@@ -9,7 +9,7 @@ ghost use Rattle.crsm_spec_plan.specs.Timelines.{Precedes, Timed};
 ghost use Rattle.crsm_delay.specs.Upcoming.{IsAheadOf, listed, on_paper, timed_of};
 
 use crate::moments::{delay_of, reading_of};
-use crate::upcoming::{Kind, Upcoming, request, tick};
+use crate::upcoming::{Upcoming, UpcomingKind, request, tick};
 use crsm_base::{Line, NoMemory};
 use crsm_law_pending::{agendas_begin, agendas_go_on};
 use crsm_spec_plan::Plan;
@@ -53,7 +53,7 @@ fn delivery(plan: &Plan, post: Post, sent: u64) -> Upcoming
     let moment = sent + delay_of(plan, post.from, post.to);
     Upcoming {
         moment,
-        kind: Kind::Go {
+        kind: UpcomingKind::Go {
             number: post.number,
             reading: reading_of(plan, post.to, moment),
         },

@@ -12,7 +12,7 @@ ghost use Rattle.crsm_law_timing.specs.Commits.{CommandsCommitInTime, TimelinesA
 use crate::handling::{PlanCause, PlanReader, Wanted};
 use crsm_io::{Sink, Source};
 use crsm_law_timing::{commands_commit_in_time, timelines_are_possible};
-use crsm_port_lines::{Ending, MAX_INPUT_BYTES, run_lines};
+use crsm_port_lines::{InputEnd, MAX_INPUT_BYTES, run_lines};
 use std::alloc::Global;
 
 /// Reads a plan to its end, and writes what is wanted of it.
@@ -21,20 +21,20 @@ fn run_plan<I: Source, O: Sink>(
     wanted: Wanted,
     input: &mut I,
     output: &mut O,
-) -> Ending<PlanCause>
+) -> InputEnd<PlanCause>
     // What was taken and what was written, by how it ended.
     ensures ran { Ran (plans_of wanted) result (I.left input.old) (I.left input.new) (O.written output.old) (O.written output.new) }
 
     // A fault is answered only where it was counted.
-    ensures read_fault { result ≡ Ending.ReadFault → Rose (I.faults input.old) (I.faults input.new) }
-    ensures write_fault { result ≡ Ending.WriteFault → Rose (O.faults output.old) (O.faults output.new) }
+    ensures read_fault { result ≡ InputEnd.ReadFault → Rose (I.faults input.old) (I.faults input.new) }
+    ensures write_fault { result ≡ InputEnd.WriteFault → Rose (O.faults output.old) (O.faults output.new) }
 
     // Where no fault was counted, a whole plan is done, the first bad line is refused, and more than the limit is too long.
     ensures exactly { EndsExactly wanted (I.left input.old) (I.faults input.old) (I.faults input.new) (O.faults output.old) (O.faults output.new) result }
 
     // An input beyond the limit is never done, and one within it is never too long.
-    ensures limit { (bytes : List ℕ) → I.left input.old ≡ Some bytes → MAX_INPUT_BYTES < length bytes → result ≢ Ending.Done }
-    ensures within { (bytes : List ℕ) → I.left input.old ≡ Some bytes → length bytes ≤ MAX_INPUT_BYTES → result ≢ Ending.InputTooLong }
+    ensures limit { (bytes : List ℕ) → I.left input.old ≡ Some bytes → MAX_INPUT_BYTES < length bytes → result ≢ InputEnd.Done }
+    ensures within { (bytes : List ℕ) → I.left input.old ≡ Some bytes → length bytes ≤ MAX_INPUT_BYTES → result ≢ InputEnd.InputTooLong }
 {
     run_lines(alloc, PlanReader::new(alloc, wanted), input, output)
 }
@@ -44,20 +44,20 @@ pub fn delay_times<I: Source, O: Sink>(
     alloc: Global,
     input: &mut I,
     output: &mut O,
-) -> Ending<PlanCause>
+) -> InputEnd<PlanCause>
     // What was taken and what was written, by how it ended.
     ensures ran { Ran times_of result (I.left input.old) (I.left input.new) (O.written output.old) (O.written output.new) }
 
     // A fault is answered only where it was counted.
-    ensures read_fault { result ≡ Ending.ReadFault → Rose (I.faults input.old) (I.faults input.new) }
-    ensures write_fault { result ≡ Ending.WriteFault → Rose (O.faults output.old) (O.faults output.new) }
+    ensures read_fault { result ≡ InputEnd.ReadFault → Rose (I.faults input.old) (I.faults input.new) }
+    ensures write_fault { result ≡ InputEnd.WriteFault → Rose (O.faults output.old) (O.faults output.new) }
 
     // Where no fault was counted, a whole plan is done, the first bad line is refused, and more than the limit is too long.
     ensures exactly { EndsExactly Wanted.Times (I.left input.old) (I.faults input.old) (I.faults input.new) (O.faults output.old) (O.faults output.new) result }
 
     // An input beyond the limit is never done, and one within it is never too long.
-    ensures limit { (bytes : List ℕ) → I.left input.old ≡ Some bytes → MAX_INPUT_BYTES < length bytes → result ≢ Ending.Done }
-    ensures within { (bytes : List ℕ) → I.left input.old ≡ Some bytes → length bytes ≤ MAX_INPUT_BYTES → result ≢ Ending.InputTooLong }
+    ensures limit { (bytes : List ℕ) → I.left input.old ≡ Some bytes → MAX_INPUT_BYTES < length bytes → result ≢ InputEnd.Done }
+    ensures within { (bytes : List ℕ) → I.left input.old ≡ Some bytes → length bytes ≤ MAX_INPUT_BYTES → result ≢ InputEnd.InputTooLong }
 
     // The moments that are written are those of the protocol: each timeline of a plan is possible, and in it each replica executes
     // the command once, at its moment.
@@ -70,20 +70,24 @@ pub fn delay_times<I: Source, O: Sink>(
 }
 
 /// Reads a plan to its end, and writes the schedule of its timeline: all goes by the plan. It can be run.
-pub fn delay<I: Source, O: Sink>(alloc: Global, input: &mut I, output: &mut O) -> Ending<PlanCause>
+pub fn delay<I: Source, O: Sink>(
+    alloc: Global,
+    input: &mut I,
+    output: &mut O,
+) -> InputEnd<PlanCause>
     // What was taken and what was written, by how it ended.
     ensures ran { Ran schedule_of result (I.left input.old) (I.left input.new) (O.written output.old) (O.written output.new) }
 
     // A fault is answered only where it was counted.
-    ensures read_fault { result ≡ Ending.ReadFault → Rose (I.faults input.old) (I.faults input.new) }
-    ensures write_fault { result ≡ Ending.WriteFault → Rose (O.faults output.old) (O.faults output.new) }
+    ensures read_fault { result ≡ InputEnd.ReadFault → Rose (I.faults input.old) (I.faults input.new) }
+    ensures write_fault { result ≡ InputEnd.WriteFault → Rose (O.faults output.old) (O.faults output.new) }
 
     // Where no fault was counted, a whole plan is done, the first bad line is refused, and more than the limit is too long.
     ensures exactly { EndsExactly Wanted.Schedule (I.left input.old) (I.faults input.old) (I.faults input.new) (O.faults output.old) (O.faults output.new) result }
 
     // An input beyond the limit is never done, and one within it is never too long.
-    ensures limit { (bytes : List ℕ) → I.left input.old ≡ Some bytes → MAX_INPUT_BYTES < length bytes → result ≢ Ending.Done }
-    ensures within { (bytes : List ℕ) → I.left input.old ≡ Some bytes → length bytes ≤ MAX_INPUT_BYTES → result ≢ Ending.InputTooLong }
+    ensures limit { (bytes : List ℕ) → I.left input.old ≡ Some bytes → MAX_INPUT_BYTES < length bytes → result ≢ InputEnd.Done }
+    ensures within { (bytes : List ℕ) → I.left input.old ≡ Some bytes → length bytes ≤ MAX_INPUT_BYTES → result ≢ InputEnd.InputTooLong }
 
     // In the timeline that is written each replica executes the command once, at the moment that the plan gives.
     ensures moments { CommandsCommitInTime }

@@ -39,22 +39,22 @@ fn unless_refused(stepped: Result<Lines, Bad>) -> Result<Lines, NoMemory>
 
 /// A plan as far as it has been followed.
 #[derive(Drop)]
-pub(crate) struct Run {
+pub(crate) struct TimelineRun {
     alloc: Global,
     world: World,
     agenda: Agenda,
 }
 
-impl Run {
+impl TimelineRun {
     /// The replicas have booted.
-    fn new(alloc: Global, plan: &Plan) -> Result<Run, NoMemory>
+    fn new(alloc: Global, plan: &Plan) -> Result<TimelineRun, NoMemory>
         requires { FitsPlan plan.now }
         ensures { IfOk result (λ run. Follows plan.now [] run) }
     {
         let (mut world, lines) = World::new(alloc, plan.n as u32)?;
         world.take_back(lines);
         let agenda = Agenda::new(alloc, plan)?;
-        Ok(Run {
+        Ok(TimelineRun {
             alloc,
             world,
             agenda,
@@ -90,7 +90,7 @@ pub(crate) fn push_timeline(alloc: Global, text: &mut Bytes, plan: &Plan) -> Res
 {
     events_can_happen();
     agendas_end();
-    let mut run = Run::new(alloc, plan)?;
+    let mut run = TimelineRun::new(alloc, plan)?;
     push_named(text, b"replicas", &[plan.n])?;
     text.push(b'\n')?;
     for _ in 0..MORE_EVENTS {

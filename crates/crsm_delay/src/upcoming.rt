@@ -16,7 +16,7 @@ use std::alloc::Global;
 
 /// What happens at a replica. A reading is that of its clock.
 #[derive(Clone, Copy, Debug, PartialEq, Eq)]
-pub(crate) enum Kind {
+pub(crate) enum UpcomingKind {
     /// The command comes.
     Request { replica: u64, reading: u64 },
     /// The clock has passed the command's timestamp.
@@ -25,25 +25,25 @@ pub(crate) enum Kind {
     Go { number: u64, reading: u64 },
 }
 
-impl Kind {
+impl UpcomingKind {
     /// Whether it happens before another at the same moment: the command is the first, then come ticks by replica, and then
     /// deliveries by number.
-    fn precedes(self, other: Kind) -> bool
+    fn precedes(self, other: UpcomingKind) -> bool
         ensures { IsTrue result ↔ IsBefore (does_of self) (does_of other) }
     {
         match self {
-            Kind::Request { .. } => match other {
-                Kind::Request { .. } => false,
-                Kind::Tick { .. } | Kind::Go { .. } => true,
+            UpcomingKind::Request { .. } => match other {
+                UpcomingKind::Request { .. } => false,
+                UpcomingKind::Tick { .. } | UpcomingKind::Go { .. } => true,
             },
-            Kind::Tick { replica, .. } => match other {
-                Kind::Request { .. } => false,
-                Kind::Tick { replica: k, .. } => replica < k,
-                Kind::Go { .. } => true,
+            UpcomingKind::Tick { replica, .. } => match other {
+                UpcomingKind::Request { .. } => false,
+                UpcomingKind::Tick { replica: k, .. } => replica < k,
+                UpcomingKind::Go { .. } => true,
             },
-            Kind::Go { number, .. } => match other {
-                Kind::Request { .. } | Kind::Tick { .. } => false,
-                Kind::Go { number: i, .. } => number < i,
+            UpcomingKind::Go { number, .. } => match other {
+                UpcomingKind::Request { .. } | UpcomingKind::Tick { .. } => false,
+                UpcomingKind::Go { number: i, .. } => number < i,
             },
         }
     }
@@ -53,7 +53,7 @@ impl Kind {
 #[derive(Clone, Copy, Debug, PartialEq, Eq)]
 pub(crate) struct Upcoming {
     pub moment: u64,
-    pub kind: Kind,
+    pub kind: UpcomingKind,
 }
 
 impl Upcoming {
@@ -73,13 +73,13 @@ impl Upcoming {
         ensures { IfOk result (λ event. event ≡ event_of self) }
     {
         let single = match self.kind {
-            Kind::Request { replica, reading } => Single::Request {
+            UpcomingKind::Request { replica, reading } => Single::Request {
                 replica,
                 reading,
                 command: command(alloc)?,
             },
-            Kind::Tick { replica, reading } => Single::Tick { replica, reading },
-            Kind::Go { number, reading } => Single::Go { number, reading },
+            UpcomingKind::Tick { replica, reading } => Single::Tick { replica, reading },
+            UpcomingKind::Go { number, reading } => Single::Go { number, reading },
         };
         Ok(Event::One { single })
     }
@@ -89,15 +89,15 @@ impl Upcoming {
         ensures { OnOk result (text.new ≡ text.old ++ (event_text (event_of self) ++ 10 ∷ [])) }
     {
         match self.kind {
-            Kind::Request { replica, reading } => {
+            UpcomingKind::Request { replica, reading } => {
                 push_named(text, b"request", &[replica, reading, 7, 1])?;
                 text.append(b" put 61 62\n")?;
             }
-            Kind::Tick { replica, reading } => {
+            UpcomingKind::Tick { replica, reading } => {
                 push_named(text, b"tick", &[replica, reading])?;
                 text.push(b'\n')?;
             }
-            Kind::Go { number, reading } => {
+            UpcomingKind::Go { number, reading } => {
                 push_named(text, b"go", &[number, reading])?;
                 text.push(b'\n')?;
             }
@@ -128,7 +128,7 @@ pub(crate) fn request(plan: &Plan) -> Upcoming
 {
     Upcoming {
         moment: plan.at,
-        kind: Kind::Request {
+        kind: UpcomingKind::Request {
             replica: plan.origin,
             reading: reading_of(plan, plan.origin, plan.at),
         },
@@ -148,7 +148,7 @@ pub(crate) fn tick(plan: &Plan, k: u64) -> Option<Upcoming>
     }
     Some(Upcoming {
         moment: past - offset_of(plan, k),
-        kind: Kind::Tick {
+        kind: UpcomingKind::Tick {
             replica: k,
             reading: past,
         },

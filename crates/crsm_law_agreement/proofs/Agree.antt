@@ -25,7 +25,7 @@ use Rattle.crsm_law_agreement.proofs.Choice.{share}
 use Rattle.crsm_law_agreement.proofs.DecidedWorlds.{ballots_hold, decisions_are_collected}
 use Rattle.crsm_law_agreement.proofs.BallotsAgree.{Knows, First, Later, knows, decisions_are_one}
 use Rattle.crsm_law_agreement.specs.Openings.{IsOpening, IsEpochOf, EpochHolds}
-use Rattle.crsm_law_agreement.specs.ListLaws.{EpochsHold, ListsAgree}
+use Rattle.crsm_law_agreement.specs.ListLaws.{BegunEpochsHold, ListsAgree}
 use Rattle.crsm_law_agreement.proofs.Lists.{prefixes}
 use Rattle.crsm_law_agreement.proofs.Worlds.{all_placed}
 use Rattle.crsm_law_agreement.proofs.Facts.{epoch_facts}
@@ -243,8 +243,8 @@ module _ (n : ℕ) (w : World) (q : IsReached n w) (few : HasFewBoots w) (spelt 
       in_opening e opening q (inl t) = same_Some x y (sym q ∙ t)
       in_opening e opening q (inr t) = let l = get_inside opening p x q in let m = t.0 in absurd (omega (arith, l, m))
 
-pub epochs_hold : EpochsHold
-epochs_hold n w q few spelt e h = epoch_holds n w q few spelt e h
+pub begun_epochs_hold : BegunEpochsHold
+begun_epochs_hold n w q few spelt e h = epoch_holds n w q few spelt e h
 
 pub lists_agree : ListsAgree
 lists_agree n w q few spelt j k a b xa xb = prefixes (executed a) (executed b) (same_entries n w q few spelt j k a b xa xb)

@@ -10,8 +10,8 @@ use Rattle.crsm_law_messages.specs.Counted.{AllSpelt}
 use Rattle.crsm_law_agreement.specs.Openings.{IsEpochOf, EpochHolds}
 
 -- In every world reached, each epoch that has begun has the properties of `EpochHolds`.
-abbrev pub EpochsHold : Type 0
-EpochsHold = (n : ℕ) (w : World) → IsReached n w → HasFewBoots w → AllSpelt n w → (e : ℕ) → IsEpochOf e (log_at w) → EpochHolds n e (log_at w)
+abbrev pub BegunEpochsHold : Type 0
+BegunEpochsHold = (n : ℕ) (w : World) → IsReached n w → HasFewBoots w → AllSpelt n w → (e : ℕ) → IsEpochOf e (log_at w) → EpochHolds n e (log_at w)
 
 -- Of two replicas' executed lists, at any moments, one is a prefix of the other: in every world reached, whatever was
 -- lost, repeated or late, whatever the clocks read, whichever replicas stopped and restarted, and whatever epochs were

@@ -15,7 +15,7 @@ ghost use Rattle.crsm_law_agreement.specs.DecisionLaws.{
   KnownAreOne,
   DecisionsAreCollected,
 };
-ghost use Rattle.crsm_law_agreement.specs.ListLaws.{EpochsHold, ListsAgree};
+ghost use Rattle.crsm_law_agreement.specs.ListLaws.{BegunEpochsHold, ListsAgree};
 
 /// In every world, each accepted decision was offered once in its ballot, over the promises of a majority, and each
 /// recorded decision was chosen.
@@ -56,8 +56,8 @@ pub fn decisions_are_collected()
 
 /// Each epoch that has begun has one opening, from which lists of replicas that know it are extended by what was
 /// committed, and meets the premises of the law of collection.
-pub fn epochs_hold()
-    ensures { EpochsHold }
+pub fn begun_epochs_hold()
+    ensures { BegunEpochsHold }
 {}
 
 /// Of two replicas' executed lists, at any moments, one is a prefix of the other.

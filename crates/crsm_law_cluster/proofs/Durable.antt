@@ -19,7 +19,7 @@ use Rattle.crsm_law_cluster.specs.Histories.{clusters, last_cluster}
 use Rattle.crsm_law_cluster.specs.Showing.{IsShownBy}
 use Rattle.crsm_law_cluster.proofs.Agree.{list_is}
 use Rattle.crsm_law_cluster.specs.OneList.{one_list, world_of}
-use Rattle.crsm_law_cluster.specs.ClusterLaws.{IsHistory, DecisionsAgree, ExecutedAreDurable}
+use Rattle.crsm_law_cluster.specs.ClusterLaws.{IsHistory, DecisionsAgree, LogFilesAreDurable}
 use Rattle.crsm_law_cluster.proofs.Last.{shown, last}
 use Rattle.crsm_law_cluster.proofs.Views.{decisions_are, spec_is, kept_by}
 
@@ -58,8 +58,8 @@ module _ (n : ℕ) (h : List Event) (q : IsHistory n h) (c : Cluster) (w : World
             record { start = t.start; kept = λ x is. moves x e (t.kept x is) }));
       }
 
-pub executed_are_durable : ExecutedAreDurable
-executed_are_durable n h q c a k place e at =
+pub log_files_are_durable : LogFilesAreDurable
+log_files_are_durable n h q c a k place e at =
     let p = among_place (clusters n h) c a in
     let t = (shown n h q).between p.0 p.0 c c (omega arith) p.1 p.1 in
     durable_there n h q c t.next t.next_shown t.goes_on k place e (subst (λ z. slice_get z place ≡ Some e) (list_is n c t.next t.next_shown k) at)

@@ -29,7 +29,7 @@ use Rattle.crsm_law_cluster.specs.Showing.{IsShown}
 use Rattle.crsm_law_cluster.proofs.Showing.{histories_are_shown}
 use Rattle.crsm_law_cluster.proofs.Agree.{shown_short, list_is}
 use Rattle.crsm_law_cluster.specs.OneList.{lists, one_list}
-use Rattle.crsm_law_cluster.specs.ClusterLaws.{IsHistory, ListsAreOne, ExecutedListsGrow}
+use Rattle.crsm_law_cluster.specs.ClusterLaws.{IsHistory, ListsAreOne, LogFilesGrow}
 
 -- the last cluster is one of all
 last_of : (c : Cluster) (h : List Event) → Among (clusters_from c h) (last_from c h)
@@ -144,8 +144,8 @@ module _ (n : ℕ) (h : List Event) (q : IsHistory n h) where
 pub lists_are_one : ListsAreOne
 lists_are_one n h q = record { prefixes = prefixes n h q; ascending = rises n h q }
 
-pub executed_lists_grow : ExecutedListsGrow
-executed_lists_grow n h q i j c d le p r k =
+pub log_files_grow : LogFilesGrow
+log_files_grow n h q i j c d le p r k =
     let t = (shown n h q).between i j c d le p r in
     let a = log_at t.world k in
     let b = log_at t.next k in

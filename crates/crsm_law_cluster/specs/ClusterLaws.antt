@@ -32,8 +32,8 @@ abbrev pub ListsAreOne : Type 0
 ListsAreOne = (n : ℕ) (h : List Event) → IsHistory n h → IsOneList n h
 
 -- Executed entries of a log file keep their places, whichever processes are killed and restarted.
-abbrev pub ExecutedListsGrow : Type 0
-ExecutedListsGrow =
+abbrev pub LogFilesGrow : Type 0
+LogFilesGrow =
     (n : ℕ) (h : List Event) → IsHistory n h → (i j : ℕ) (c d : Cluster) → i ≤ j →
     slice_get (clusters n h) i ≡ Some c → slice_get (clusters n h) j ≡ Some d → (k : ℕ) →
     IsPrefixOf (executed (log_in c k)) (executed (log_in d k))
@@ -43,8 +43,8 @@ abbrev pub DecisionsAgree : Type 0
 DecisionsAgree = (n : ℕ) (h : List Event) → IsHistory n h → DecisionsAgreeIn (world_of (last_cluster n h)) (one_list n h)
 
 -- In each cluster of a history, an entry that one of its log files has as executed is durable.
-abbrev pub ExecutedAreDurable : Type 0
-ExecutedAreDurable =
+abbrev pub LogFilesAreDurable : Type 0
+LogFilesAreDurable =
     (n : ℕ) (h : List Event) → IsHistory n h → (c : Cluster) → Among (clusters n h) c →
     (k place : ℕ) (e : Entry) → slice_get (executed (log_in c k)) place ≡ Some e →
     IsDurableIn (world_of (last_cluster n h)) (one_list n h) (world_of c) e place

@@ -3,7 +3,7 @@
 //! time, once, for what they requested (`RequestLaws`).
 #![tactic(auto)]
 
-ghost use Rattle.crsm_law_cluster.specs.ClusterLaws.{ListsAreOne, ExecutedListsGrow, DecisionsAgree, ExecutedAreDurable, AnswersAreRight, AnsweredAreDurable};
+ghost use Rattle.crsm_law_cluster.specs.ClusterLaws.{ListsAreOne, LogFilesGrow, DecisionsAgree, LogFilesAreDurable, AnswersAreRight, AnsweredAreDurable};
 ghost use Rattle.crsm_law_cluster.specs.HistoryLaws.{HistoriesAreShown, LogFilesAgree};
 ghost use Rattle.crsm_law_cluster.specs.RequestLaws.{EntriesWereSubmitted, RealTimeIsKept, RepliesReachWhoAsked, RepliesGoOutOnce};
 
@@ -24,8 +24,8 @@ pub fn lists_are_one()
 {}
 
 /// Executed entries of a log file keep their places, whichever processes are killed and restarted.
-pub fn executed_lists_grow()
-    ensures { ExecutedListsGrow }
+pub fn log_files_grow()
+    ensures { LogFilesGrow }
 {}
 
 /// Decisions of one epoch are equal, and the beginning of each epoch agrees with the one list.
@@ -34,8 +34,8 @@ pub fn decisions_agree()
 {}
 
 /// An entry that some log file has as executed is held by a majority from then on, and each later epoch begins with it.
-pub fn executed_are_durable()
-    ensures { ExecutedAreDurable }
+pub fn log_files_are_durable()
+    ensures { LogFilesAreDurable }
 {}
 
 /// Each answer sent is the sequential store's at its place of the one list, and a command reported as dropped is in no

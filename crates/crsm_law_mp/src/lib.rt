@@ -21,6 +21,6 @@ pub fn moments_keep_sound()
 /// Every run of 1 to 15 replicas is safe, over every list of possible acts, with stops, losses, repeats and rival
 /// leaders: all executed lists are prefixes of one, each answer is the store's, a client is informed that its command
 /// was dropped only if another value was chosen, and a command first submitted after an answer has a later place.
-pub fn runs_are_safe()
+pub fn leader_runs_are_safe()
     ensures { IsSafe }
 {}

@@ -4,7 +4,7 @@ use Rattle.std.specs.List.{AllByRecursion}
 use Rattle.crsm_base.specs.MessageReading.{datagram_of}
 use Rattle.crsm_spec.specs.Types.{Datagram}
 use Rattle.crsm_spec.specs.Node.{Turn}
-use Rattle.crsm_port_node.specs.Senders.{named_sender}
+use Rattle.crsm_wire.specs.Marks.{named_sender}
 use Rattle.crsm_spec_process.specs.Lives.{Life}
 use Rattle.crsm_law_cluster.specs.Clusters.{Event, Cluster}
 use Rattle.crsm_law_cluster.specs.Going.{IsAt}

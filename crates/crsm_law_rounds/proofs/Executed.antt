@@ -17,7 +17,7 @@ use Rattle.crsm_fact_log.proofs.Logged.{logged_is, logged_rises, logged_epoch}
 use Rattle.crsm_law_steps.specs.Happenings.{IsReached}
 use Rattle.crsm_law_collection.proofs.Orderly.{Orderly, orderly, above_last}
 use Rattle.crsm_law_agreement.specs.Openings.{IsEpochOf, EpochHolds}
-use Rattle.crsm_law_agreement.proofs.Agree.{epochs_hold}
+use Rattle.crsm_law_agreement.proofs.Agree.{begun_epochs_hold}
 use Rattle.crsm_law_agreement.proofs.Logs.{is_logged}
 use Rattle.crsm_law_bounds.specs.Bounds.{IsSpelt}
 use Rattle.crsm_law_runs.proofs.DurableLists.{among_place}
@@ -62,7 +62,7 @@ module _ (n : â„•) (w : World) (q : IsReached n w) (spelt : IsSpelt n w) (k : â„
   log = log_at w k
 
   holds : EpochHolds n e (log_at w)
-  holds = epochs_hold n w q spelt.few spelt.messages e (epoch_begun w e k refl)
+  holds = begun_epochs_hold n w q spelt.few spelt.messages e (epoch_begun w e k refl)
 
   order : Orderly e (length holds.opening) (log_at w) log
   order = orderly e n (length holds.opening) holds.counted (log_at w) holds.facts k log same refl run

@@ -8,7 +8,7 @@ use Rattle.crsm_spec.specs.Clock.{u64_max}
 use Rattle.crsm_lease.specs.declared.lock.Lock.{Lock}
 use Rattle.crsm_lease.specs.declared.rule.Action.{Action}
 use Rattle.crsm_lease.specs.declared.rule.Ruling.{Ruling}
-use Rattle.crsm_lease.specs.declared.rule.Next.{Next}
+use Rattle.crsm_lease.specs.declared.rule.NextStep.{NextStep}
 use Rattle.crsm_lease.specs.declared.told.Told.{Told}
 use Rattle.crsm_lease.specs.Locks.{FitsLock, HasLock, lock_bytes}
 
@@ -107,25 +107,25 @@ AskedAreGrantsOrReturns =
 -- ---- after the Get
 
 -- what follows a ruling about a key with this value
-abbrev pub next_of : List ℕ → Option (List ℕ) → Ruling → Next
-next_of key found (Ruling.Becomes lock) = Next.Ask (cas_to key found lock)
-next_of key found (Ruling.Tells told) = Next.End told
+abbrev pub next_of : List ℕ → Option (List ℕ) → Ruling → NextStep
+next_of key found (Ruling.Becomes lock) = NextStep.Ask (cas_to key found lock)
+next_of key found (Ruling.Tells told) = NextStep.End told
 
 -- what follows where a key has this value: the table's ruling on its lock, or it is told that it has none
-abbrev pub IsRuled : Action → ℕ → List ℕ → Option (List ℕ) → Next → Type 0
+abbrev pub IsRuled : Action → ℕ → List ℕ → Option (List ℕ) → NextStep → Type 0
 IsRuled action me key found next =
     ((lock : Lock) × HasLock found lock × (next ≡ next_of key found (rule action me (found_by me lock))))
-    ⊎ (((lock : Lock) → HasLock found lock → ⊥) × (next ≡ Next.End Told.NotALock))
+    ⊎ (((lock : Lock) → HasLock found lock → ⊥) × (next ≡ NextStep.End Told.NotALock))
 
 -- what follows the outcome of a Get
-abbrev pub FollowsGet : Action → ℕ → List ℕ → Outcome → Next → Type 0
+abbrev pub FollowsGet : Action → ℕ → List ℕ → Outcome → NextStep → Type 0
 FollowsGet action me key (Outcome.Answered (Answer.Found value)) next = IsRuled action me key (Some value) next
 FollowsGet action me key (Outcome.Answered Answer.Missing) next = IsRuled action me key None next
-FollowsGet action me key (Outcome.Answered (Answer.Stale number)) next = next ≡ Next.End (Told.Stale number)
-FollowsGet action me key (Outcome.Answered Answer.NoRoom) next = next ≡ Next.End Told.NoRoom
-FollowsGet action me key (Outcome.Answered Answer.Done) next = next ≡ Next.End Told.Odd
-FollowsGet action me key (Outcome.Answered (Answer.Differs value)) next = next ≡ Next.End Told.Odd
-FollowsGet action me key (Outcome.Refused why) next = next ≡ Next.End (Told.Refused (refusal_number why))
+FollowsGet action me key (Outcome.Answered (Answer.Stale number)) next = next ≡ NextStep.End (Told.Stale number)
+FollowsGet action me key (Outcome.Answered Answer.NoRoom) next = next ≡ NextStep.End Told.NoRoom
+FollowsGet action me key (Outcome.Answered Answer.Done) next = next ≡ NextStep.End Told.Odd
+FollowsGet action me key (Outcome.Answered (Answer.Differs value)) next = next ≡ NextStep.End Told.Odd
+FollowsGet action me key (Outcome.Refused why) next = next ≡ NextStep.End (Told.Refused (refusal_number why))
 
 -- ---- after the Cas
 

@@ -8,5 +8,5 @@ mod told;
 
 pub use laws::{asked_are_grants_or_returns, locks_have_one_value};
 pub use lock::{Lock, read_lock, write_lock};
-pub use rule::{Action, Next, Ruling, after_cas, after_get};
+pub use rule::{Action, NextStep, Ruling, after_cas, after_get};
 pub use told::{Told, print_told};

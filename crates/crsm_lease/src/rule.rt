@@ -5,7 +5,7 @@ ghost use Rattle.std.specs.Option.{option_copied};
 ghost use Rattle.crsm_base.specs.declared.command.Op.{Op as Operation};
 ghost use Rattle.crsm_base.specs.Spelling.{refusal_number};
 ghost use Rattle.crsm_lease.specs.declared.lock.Lock.{Lock as Found};
-ghost use Rattle.crsm_lease.specs.declared.rule.Next.{Next as Follows};
+ghost use Rattle.crsm_lease.specs.declared.rule.NextStep.{NextStep as Follows};
 ghost use Rattle.crsm_lease.specs.Locks.{FitsLock};
 ghost use Rattle.crsm_lease.specs.Rules.{Asks, FollowsCas, FollowsGet, IsAsked, IsRuled, cas_to, done_of, found_by, granted, next_of, rule};
 
@@ -34,7 +34,7 @@ pub enum Ruling {
 
 /// What follows the look at the key.
 #[derive(Debug, Drop)]
-pub enum Next {
+pub enum NextStep {
     /// This is asked, under the client's next number.
     Ask(Op),
     /// The client is told this, and nothing more is asked.
@@ -89,16 +89,16 @@ fn after_ruling(
     key: &Key,
     found: Option<&Val>,
     ruling: Ruling,
-) -> Result<Next, NoMemory>
+) -> Result<NextStep, NoMemory>
     ensures { IfOk result (λ next. next ≡ next_of key.now (option_copied found.entry) ruling) }
 {
     match ruling {
-        Ruling::Becomes(lock) => Ok(Next::Ask(Op::Cas(
+        Ruling::Becomes(lock) => Ok(NextStep::Ask(Op::Cas(
             key.copy(alloc)?,
             copy_of(alloc, found)?,
             Some(write_lock(alloc, lock)?),
         ))),
-        Ruling::Tells(told) => Ok(Next::End(told)),
+        Ruling::Tells(told) => Ok(NextStep::End(told)),
     }
 }
 
@@ -108,16 +108,16 @@ fn after_found(
     me: u64,
     key: &Key,
     value: &Val,
-) -> Result<Next, NoMemory>
+) -> Result<NextStep, NoMemory>
     ensures { IfOk result (IsRuled action me key.now (Some value.now)) }
 {
     match read_lock(value.as_slice()) {
         Some(lock) => after_ruling(alloc, key, Some(value), decide(action, me, lock)),
-        None => Ok(Next::End(Told::NotALock)),
+        None => Ok(NextStep::End(Told::NotALock)),
     }
 }
 
-fn after_missing(alloc: Global, action: Action, me: u64, key: &Key) -> Result<Next, NoMemory>
+fn after_missing(alloc: Global, action: Action, me: u64, key: &Key) -> Result<NextStep, NoMemory>
     ensures { IfOk result (IsRuled action me key.now None) }
 {
     after_ruling(
@@ -149,19 +149,19 @@ pub fn after_get(
     me: u64,
     key: &Key,
     outcome: &Outcome,
-) -> Result<Next, NoMemory>
+) -> Result<NextStep, NoMemory>
     ensures follows { IfOk result (FollowsGet action me key.now outcome.now) }
-    ensures asks { IfOk result (λ next. (op : Operation) → next ≡ Next.Ask op → Asks action me op) }
+    ensures asks { IfOk result (λ next. (op : Operation) → next ≡ NextStep.Ask op → Asks action me op) }
 {
     match outcome {
         Outcome::Answered(Answer::Found(value)) => after_found(alloc, action, me, key, value),
         Outcome::Answered(Answer::Missing) => after_missing(alloc, action, me, key),
         Outcome::Answered(Answer::Stale(number)) => {
-            Ok(Next::End(Told::Stale { number: *number }))
+            Ok(NextStep::End(Told::Stale { number: *number }))
         }
-        Outcome::Answered(Answer::NoRoom) => Ok(Next::End(Told::NoRoom)),
-        Outcome::Answered(Answer::Done | Answer::Differs(_)) => Ok(Next::End(Told::Odd)),
-        Outcome::Refused(why) => Ok(Next::End(refused(*why))),
+        Outcome::Answered(Answer::NoRoom) => Ok(NextStep::End(Told::NoRoom)),
+        Outcome::Answered(Answer::Done | Answer::Differs(_)) => Ok(NextStep::End(Told::Odd)),
+        Outcome::Refused(why) => Ok(NextStep::End(refused(*why))),
     }
 }
 

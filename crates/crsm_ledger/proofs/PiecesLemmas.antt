@@ -3,7 +3,7 @@ use Rattle.std.proofs.Common.{◌≡◌, ℕ, suc, zero, ◌<◌, ◌≤◌, ◌
 use Rattle.std.specs.Prelude.{slice_range, slice_get, Some, None}
 use Rattle.std.specs.List.{AllByRecursion}
 use Rattle.crsm_fact_log.proofs.Lists.{all_got, get_or-grown, get_or-set, at_set, length-set, range-grown, range-end}
-use Rattle.crsm_ledger.specs.declared.spelt.Place.{Place}
+use Rattle.crsm_ledger.specs.declared.spelt.SpellingRange.{SpellingRange}
 use Rattle.crsm_ledger.specs.Pieces.{piece, pieces, IsWithin, Keeps}
 
 -- ---- chunks
@@ -58,34 +58,34 @@ piece-set chunks i start end bytes within begins ends =
 
 -- ---- all places
 
-pub all-kept : (old new : List (List ℕ)) (ps : List Place) → Keeps old new → AllByRecursion (IsWithin old) ps → AllByRecursion (IsWithin new) ps
+pub all-kept : (old new : List (List ℕ)) (ps : List SpellingRange) → Keeps old new → AllByRecursion (IsWithin old) ps → AllByRecursion (IsWithin new) ps
 all-kept old new [] keeps all = tt
 all-kept old new (p ∷ ps) keeps all = (keeps.within p all.0, all-kept old new ps keeps all.1)
 
-pub pieces-kept : (old new : List (List ℕ)) (ps : List Place) → Keeps old new → AllByRecursion (IsWithin old) ps → pieces new ps ≡ pieces old ps
+pub pieces-kept : (old new : List (List ℕ)) (ps : List SpellingRange) → Keeps old new → AllByRecursion (IsWithin old) ps → pieces new ps ≡ pieces old ps
 unfolding pieces
 pieces-kept old new [] keeps all = refl
 pieces-kept old new (p ∷ ps) keeps all =
     ap (λ here. here ∷ pieces new ps) (keeps.same p all.0) ∙ ap (λ rest. piece old p ∷ rest) (pieces-kept old new ps keeps all.1)
 
-pub pieces-push : (chunks : List (List ℕ)) (ps : List Place) (p : Place) → pieces chunks (ps ++ p ∷ []) ≡ pieces chunks ps ++ piece chunks p ∷ []
+pub pieces-push : (chunks : List (List ℕ)) (ps : List SpellingRange) (p : SpellingRange) → pieces chunks (ps ++ p ∷ []) ≡ pieces chunks ps ++ piece chunks p ∷ []
 unfolding pieces
 pieces-push chunks [] p = refl
 pieces-push chunks (q ∷ ps) p = ap (λ rest. piece chunks q ∷ rest) (pieces-push chunks ps p)
 
-pub pieces-at : (chunks : List (List ℕ)) (ps : List Place) (i : ℕ) (d : Place) → i < length ps → slice_get (pieces chunks ps) i ≡ Some (piece chunks (get_or ps i d))
+pub pieces-at : (chunks : List (List ℕ)) (ps : List SpellingRange) (i : ℕ) (d : SpellingRange) → i < length ps → slice_get (pieces chunks ps) i ≡ Some (piece chunks (get_or ps i d))
 unfolding pieces
 pieces-at chunks [] i d within = absurd (omega arith)
 pieces-at chunks (p ∷ ps) zero d within = refl
 pieces-at chunks (p ∷ ps) (suc i) d within = pieces-at chunks ps i d (omega arith)
 
-pub pieces-beyond : (chunks : List (List ℕ)) (ps : List Place) (i : ℕ) → length ps ≤ i → slice_get (pieces chunks ps) i ≡ None
+pub pieces-beyond : (chunks : List (List ℕ)) (ps : List SpellingRange) (i : ℕ) → length ps ≤ i → slice_get (pieces chunks ps) i ≡ None
 unfolding pieces
 pieces-beyond chunks [] i beyond = refl
 pieces-beyond chunks (p ∷ ps) zero beyond = absurd (omega arith)
 pieces-beyond chunks (p ∷ ps) (suc i) beyond = pieces-beyond chunks ps i (omega arith)
 
-pub length-pieces : (chunks : List (List ℕ)) (ps : List Place) → length (pieces chunks ps) ≡ length ps
+pub length-pieces : (chunks : List (List ℕ)) (ps : List SpellingRange) → length (pieces chunks ps) ≡ length ps
 unfolding pieces
 length-pieces chunks [] = refl
 length-pieces chunks (p ∷ ps) = ap (λ k. suc k) (length-pieces chunks ps)

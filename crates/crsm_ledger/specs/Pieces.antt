@@ -1,22 +1,22 @@
 -- Pieces of chunks of bytes.
 use Rattle.std.specs.Prelude.{◌≡◌, ℕ, ◌<◌, ◌≤◌, List, [], length, map, slice_range, slice_index_or}
-use Rattle.crsm_ledger.specs.declared.spelt.Place.{Place}
+use Rattle.crsm_ledger.specs.declared.spelt.SpellingRange.{SpellingRange}
 
 -- the bytes at a place
-abbrev pub piece : List (List ℕ) → Place → List ℕ
+abbrev pub piece : List (List ℕ) → SpellingRange → List ℕ
 piece chunks p = slice_range (slice_index_or chunks p.chunk []) p.start p.end
 
 -- the bytes at each place
-unfoldable pub pieces : List (List ℕ) → List Place → List (List ℕ)
+unfoldable pub pieces : List (List ℕ) → List SpellingRange → List (List ℕ)
 pieces chunks ps = map (piece chunks) ps
 
 -- the place lies in a chunk
-pub record IsWithin (chunks : List (List ℕ)) (p : Place) : Type 0 where
+pub record IsWithin (chunks : List (List ℕ)) (p : SpellingRange) : Type 0 where
   pub chunk : p.chunk < length chunks
   pub order : p.start ≤ p.end
   pub end : p.end ≤ length (slice_index_or chunks p.chunk [])
 
 -- what stood at a place of the old chunks stands there in the new ones
 pub record Keeps (old new : List (List ℕ)) : Type 0 where
-  pub within : (p : Place) → IsWithin old p → IsWithin new p
-  pub same : (p : Place) → IsWithin old p → piece new p ≡ piece old p
+  pub within : (p : SpellingRange) → IsWithin old p → IsWithin new p
+  pub same : (p : SpellingRange) → IsWithin old p → piece new p ≡ piece old p

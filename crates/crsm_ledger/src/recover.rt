@@ -10,7 +10,7 @@ ghost use Rattle.crsm_ledger.specs.Taken.{IsAtHand, IsNext, IsRefused, IsTail};
 
 use crate::error::LedgerError;
 use crate::ledger::{Ledger, kind_of};
-use crate::taken::Next;
+use crate::taken::Remaining;
 use crsm_base::{Bodies, Rec};
 use crsm_codec::read_recs;
 use crsm_text_fields::take_rec;
@@ -27,7 +27,7 @@ impl Ledger {
         ensures bad { IfErr result (λ e. IfBadLog e (IsBadAt me n bodies.now)) }
     {
         let mut ledger = Ledger::new(alloc, me, n)?;
-        let mut next = Next {
+        let mut next = Remaining {
             rest: &[],
             accepted: &[],
             tail: &[],
@@ -50,7 +50,7 @@ impl Ledger {
         accepted: &'a [u8],
         tail: &'a [u8],
         body: &'a [u8],
-    ) -> Result<Next<'a>, LedgerError>
+    ) -> Result<Remaining<'a>, LedgerError>
         requires accepted { IsAtHand accepted.now self.old.accepted }
         requires tail { IsTail tail.now self.old.known }
         ensures taken { TakesBody entry body.now self.old result self.new }
@@ -60,7 +60,7 @@ impl Ledger {
         if body.is_empty() {
             return Err(LedgerError::BadLog { entry, why: 0 });
         }
-        let mut next = Next {
+        let mut next = Remaining {
             rest: body,
             accepted,
             tail,
@@ -82,7 +82,7 @@ impl Ledger {
         accepted: &'a [u8],
         tail: &'a [u8],
         bytes: &'a [u8],
-    ) -> Result<Next<'a>, LedgerError>
+    ) -> Result<Remaining<'a>, LedgerError>
         requires some { 0 < length bytes.now }
         requires accepted { IsAtHand accepted.now self.old.accepted }
         requires tail { IsTail tail.now self.old.known }
@@ -102,7 +102,7 @@ impl Ledger {
                 None => Err(LedgerError::BadLog { entry, why: 0 }),
             };
         }
-        Ok(Next {
+        Ok(Remaining {
             rest,
             accepted: &[],
             tail: &[],

@@ -14,7 +14,7 @@ const CHUNK_BYTES: usize = 65_536;
 
 /// Where an entry's bytes stand: in which chunk, and from where up to where.
 #[derive(Clone, Copy)]
-pub struct Place {
+pub struct SpellingRange {
     pub chunk: usize,
     pub start: usize,
     pub end: usize,
@@ -25,7 +25,7 @@ pub struct Place {
 pub struct Spelt {
     alloc: Global,
     chunks: Vec<Bytes>,
-    places: Vec<Place>,
+    places: Vec<SpellingRange>,
 }
 
 impl Model for Spelt {
@@ -80,7 +80,7 @@ impl Spelt {
 
 /// The bytes at the place of this index.
 #[tactic(auto, using(crate::proofs::PiecesLemmas::pieces_rules))]
-fn piece_at<'a>(chunks: &'a [Bytes], places: &[Place], index: usize) -> Option<&'a [u8]>
+fn piece_at<'a>(chunks: &'a [Bytes], places: &[SpellingRange], index: usize) -> Option<&'a [u8]>
     requires { AllByRecursion (IsWithin chunks.now) places.now }
     ensures { option_copied result ≡ slice_get (pieces chunks.now places.now) index }
 {
@@ -92,7 +92,7 @@ fn piece_at<'a>(chunks: &'a [Bytes], places: &[Place], index: usize) -> Option<&
 }
 
 /// The bytes at this place.
-fn bytes_at(chunks: &[Bytes], place: Place) -> &[u8]
+fn bytes_at(chunks: &[Bytes], place: SpellingRange) -> &[u8]
     requires { IsWithin chunks.now place }
     ensures { result.now ≡ piece chunks.now place }
 {
@@ -117,7 +117,7 @@ fn make_room(alloc: Global, chunks: &mut Vec<Bytes>, more: usize) -> Result<(), 
 
 /// Appends these bytes to the last chunk.
 #[tactic(auto, using(crate::proofs::PiecesLemmas::pieces_rules))]
-fn append(chunks: &mut Vec<Bytes>, bytes: &[u8]) -> Result<Place, NoMemory>
+fn append(chunks: &mut Vec<Bytes>, bytes: &[u8]) -> Result<SpellingRange, NoMemory>
     requires { 0 < length chunks.old.items }
     ensures keeps { Keeps chunks.old.items chunks.new.items }
     ensures placed { IfOk result (λ p. IsWithin chunks.new.items p × (piece chunks.new.items p ≡ bytes.now)) }
@@ -125,7 +125,7 @@ fn append(chunks: &mut Vec<Bytes>, bytes: &[u8]) -> Result<Place, NoMemory>
     let chunk = chunks.len() - 1;
     let start = chunks[chunk].as_slice().len();
     chunks[chunk].append(bytes)?;
-    Ok(Place {
+    Ok(SpellingRange {
         chunk,
         start,
         end: start + bytes.len(),

@@ -20,7 +20,7 @@ use std::mem;
 /// Where the next record begins, and the bytes of the decision that was accepted last and of the tail of the known one, if
 /// they are at hand: a log mostly has them again.
 #[derive(Clone, Copy)]
-pub(crate) struct Next<'a> {
+pub(crate) struct Remaining<'a> {
     pub rest: &'a [u8],
     pub accepted: &'a [u8],
     pub tail: &'a [u8],
@@ -34,7 +34,7 @@ impl Ledger {
         accepted: &'a [u8],
         tail: &'a [u8],
         bytes: &'a [u8],
-    ) -> Result<Option<Next<'a>>, NoMemory>
+    ) -> Result<Option<Remaining<'a>>, NoMemory>
         requires accepted { IsAtHand accepted.now self.old.accepted }
         requires tail { IsTail tail.now self.old.known }
         ensures { IfOk result (λ r. MatchOption r (self.new ≡ self.old) (λ next. IsNext (rec_at bytes.now) next.accepted.now next.tail.now next.rest.now self.old self.new)) }
@@ -55,7 +55,7 @@ impl Ledger {
             _ => None,
         };
         match behind {
-            Some(rest) => Ok(Some(Next {
+            Some(rest) => Ok(Some(Remaining {
                 rest,
                 accepted,
                 tail,
@@ -148,7 +148,7 @@ impl Ledger {
         accepted: &'a [u8],
         tail: &'a [u8],
         bytes: &'a [u8],
-    ) -> Result<Option<Next<'a>>, NoMemory>
+    ) -> Result<Option<Remaining<'a>>, NoMemory>
         requires accepted { IsAtHand accepted.now self.old.accepted }
         requires tail { IsTail tail.now self.old.known }
         ensures { IfOk result (λ r. MatchOption r (self.new ≡ self.old) (λ next. IsNext (accept_at bytes.now) next.accepted.now next.tail.now next.rest.now self.old self.new)) }
@@ -160,7 +160,7 @@ impl Ledger {
             return Ok(None);
         };
         if let Some(rest) = self.accept_again(accepted, instance, ballot, text) {
-            return Ok(Some(Next {
+            return Ok(Some(Remaining {
                 rest,
                 accepted,
                 tail,
@@ -174,7 +174,7 @@ impl Ledger {
         }
         self.follow_accept(ballot, decision);
         let accepted = &text[..text.len() - rest.len()];
-        Ok(Some(Next {
+        Ok(Some(Remaining {
             rest,
             accepted,
             tail,
@@ -204,7 +204,7 @@ impl Ledger {
     }
 
     #[tactic(auto, unfolding(crsm_base::specs::RecordReading::decide_rec_at))]
-    fn take_decide<'a>(&mut self, accepted: &'a [u8], bytes: &'a [u8]) -> Option<Next<'a>>
+    fn take_decide<'a>(&mut self, accepted: &'a [u8], bytes: &'a [u8]) -> Option<Remaining<'a>>
         requires { IsAtHand accepted.now self.old.accepted }
         ensures { MatchOption result (self.new ≡ self.old) (λ next. IsNext (decide_rec_at bytes.now) next.accepted.now next.tail.now next.rest.now self.old self.new) }
     {
@@ -217,7 +217,7 @@ impl Ledger {
         }
         let tail = tail_of(decision, accepted);
         self.follow_accepted();
-        Some(Next {
+        Some(Remaining {
             rest,
             accepted,
             tail,

@@ -11,7 +11,7 @@ use Rattle.crsm_log.specs.Format.{bodies_in, bodies_of, cluster_among, cluster_e
 use Rattle.crsm_log.specs.Log.{HasPlace, IsAsBefore, IsSettled, MeetsIn, Mounts, Ran, Refuses, Serves, ServesPut, Used, entry_calls, less, mount_calls, mount_count, recorded}
 use Rattle.crsm_log.specs.Claim.{Claims, Forbids, Holds, IsClaimed, IsClaimedOrBefore, IsOpenTo, RefusesClaim, claimed, entry_if, wants_entry}
 use Rattle.crsm_log.specs.Errors.{claim_error}
-use Rattle.crsm_log.specs.declared.entry.Held.{Held}
+use Rattle.crsm_log.specs.declared.entry.LogContents.{LogContents}
 use Rattle.crsm_log.specs.declared.errors.ClaimError.{ClaimError}
 use Rattle.crsm_log.specs.declared.errors.ClaimError.TheVariants as claims
 use Rattle.crsm_log.specs.declared.errors.MountError.{MountError}
@@ -69,7 +69,7 @@ less_both : (n m : ℕ) (good : Option ℕ) → less m (less n good) ≡ less (n
 less_both n m None = refl
 less_both n m (Some g) = ap Some (omega arith)
 
-module _ (m0 m1 : Meaning) (held : Held) (cluster : ℕ) (mount : Mounts m0 m1 held.gate held.bodies) (holds : IsTrue m0.honest → Holds m0 m1 held) where
+module _ (m0 m1 : Meaning) (held : LogContents) (cluster : ℕ) (mount : Mounts m0 m1 held.gate held.bodies) (holds : IsTrue m0.honest → Holds m0 m1 held) where
   whole : IsTrue m0.honest → reading m0.seen ≡ found (bodies_of m0.seen)
   whole honest = let read = mount.read honest in read ∙ sym (ap (λ r. found (bodies_in r)) read)
 

@@ -2,7 +2,7 @@
 use Rattle.std.proofs.Common.{◌≡◌, ◌≤◌, IsTrue, inl, inr, false, ℕ, ◌+◌, ◌-◌, ◌<◌, List, [], ◌∷◌, ◌++◌, length, get_or, drop, replicate, refl, sym, ◌∙◌, ap, subst, arith, length-drop}
 use Rattle.std.specs.Prelude.{Option, Some, None}
 use Rattle.std.proofs.lemmas.Bool.Decides.{nat_tests}
-use Rattle.crsm_log.specs.declared.entry.Held.{Held}
+use Rattle.crsm_log.specs.declared.entry.LogContents.{LogContents}
 use Rattle.crsm_log.specs.First.{ReadsFile, all_entries}
 use Rattle.crsm_log.specs.Claim.{Holds}
 use Rattle.crsm_disk.specs.Bytes.{Torn, overwritten}
@@ -58,7 +58,7 @@ long_settles m bs end read place inside shut only before told = record {
 }
 
 -- a whole file of 6 bytes or more
-module _ (k b : ℕ) (m0 m1 : Meaning) (file : List ℕ) (held : Held) (long : 6 ≤ length file) (fetch : Fetches k b m0 m1 file) (r : ReadsFile file held) where
+module _ (k b : ℕ) (m0 m1 : Meaning) (file : List ℕ) (held : LogContents) (long : 6 ≤ length file) (fetch : Fetches k b m0 m1 file) (r : ReadsFile file held) where
   all_of : items_of file ≡ all_entries false file
   all_of = items_long file long
 
@@ -107,7 +107,7 @@ module _ (k b : ℕ) (m0 m1 : Meaning) (file : List ℕ) (held : Held) (long : 6
 pub long_bad : (file seen : List ℕ) (entry : ℕ) → 6 ≤ length file → file ≡ seen → all_entries false file ≡ broken entry → reading seen ≡ bad entry
 long_bad file seen entry long is broken_is = ap reading (sym is) ∙ ap reading_in (items_long file long ∙ broken_is)
 
-pub short_holds : (m0 m2 : Meaning) (held : Held) → length m0.seen < 6 → held.gate ≡ 0 → held.cluster ≡ None → Holds m0 m2 held
+pub short_holds : (m0 m2 : Meaning) (held : LogContents) → length m0.seen < 6 → held.gate ≡ 0 → held.cluster ≡ None → Holds m0 m2 held
 short_holds m0 m2 held short gate cluster = record {
   cluster = ap (λ i. cluster_among (entries_in i)) (items_short m0.seen short) ∙ sym cluster;
   gate = ap (λ i. size (entries_in i)) (items_short m0.seen short) ∙ sym gate;

@@ -3,7 +3,7 @@ use Rattle.std.proofs.Common.{◌≡◌, ℕ, ◌+◌, ◌<◌, ◌≤◌, List,
 use Rattle.std.specs.Prelude.{Option, Some, None, is_some}
 use Rattle.std.proofs.lemmas.List.{append-nil, drop-drop, get_or-drop}
 use Rattle.crsm_log.specs.First.{BeginsWith, EndsHere, ReadsFile, all_entries}
-use Rattle.crsm_log.specs.declared.entry.Held.{Held}
+use Rattle.crsm_log.specs.declared.entry.LogContents.{LogContents}
 use Rattle.crsm_log.specs.Format.{Entry, whole, broken, bodies_among, cluster_among, entries_in, found, has_after, is_cluster, length_of, may_stand, number_in, reading_in, size}
 use Rattle.crsm_log.proofs.Entries.{onto, onto-whole, onto-broken, onto-push, size-push, has-push, bodies-push_body, bodies-push_cluster, cluster-push_body, cluster-push_cluster, length_le-size}
 
@@ -124,7 +124,7 @@ module _ (file bytes : List ℕ) (gate entry : ℕ) (bodies : List (List ℕ)) (
   pub few : entry ≤ gate
   few = omega (arith, r.count, ap length r.bodies_are, length_le-size r.items, r.place)
 
-  pub file_read : (h : Bool) → h ≡ is_some cluster → EndsHere h bytes → (held : Held) → held.gate ≡ gate → held.bodies ≡ bodies → held.cluster ≡ cluster → ReadsFile file held
+  pub file_read : (h : Bool) → h ≡ is_some cluster → EndsHere h bytes → (held : LogContents) → held.gate ≡ gate → held.bodies ≡ bodies → held.cluster ≡ cluster → ReadsFile file held
   file_read h one e held at had named =
       let all : all_entries false file ≡ whole r.items = ends h one e in
       record {

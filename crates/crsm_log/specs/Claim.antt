@@ -6,7 +6,7 @@ use Rattle.crsm_disk.specs.Calls.{Call}
 use Rattle.crsm_disk.specs.Meaning.{LeavesOnly, Meaning, Only}
 use Rattle.crsm_log.specs.Format.{bad, bodies_of, cluster_entry, cluster_of, found, gate_in, reading}
 use Rattle.crsm_log.specs.Log.{IsAsBefore, MeetsIn, Serves, Used, entry_calls, mount_calls, mount_count, recorded, IsSettled}
-use Rattle.crsm_log.specs.declared.entry.Held.{Held}
+use Rattle.crsm_log.specs.declared.entry.LogContents.{LogContents}
 use Rattle.crsm_log.specs.declared.errors.ClaimError.{ClaimError}
 use Rattle.crsm_log.specs.declared.errors.ClaimError.TheVariants.{DiskFault, BadGate, OtherCluster, Full, NoMemory}
 
@@ -46,7 +46,7 @@ abbrev pub IsClaimedOrBefore : Meaning → ℕ → List ℕ → Type 0
 IsClaimedOrBefore old cluster file = old.may_leave file ⊎ IsClaimed old.seen cluster file
 
 -- the content of the disk when the log was read
-pub record Holds (old new : Meaning) (held : Held) : Type 0 where
+pub record Holds (old new : Meaning) (held : LogContents) : Type 0 where
   pub cluster : cluster_of old.seen ≡ held.cluster
   pub gate : gate_in old.seen ≡ held.gate
   pub unwritten : (new.seen ≡ old.seen) ⊎ ((held.gate ≡ 0) × (held.cluster ≡ None))

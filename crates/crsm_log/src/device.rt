@@ -11,7 +11,7 @@ ghost use Rattle.crsm_log.specs.Claim.{Holds, IsClaimed, AddsCluster, WhereUncla
 ghost use Rattle.crsm_log.specs.Log.{HasCluster, IsBeforeOrAfter, IsAsBefore, IsWithOrWithout, entry_bytes, entry_calls, Goes, Ran, HasPlace, ServesPut, put_calls, Mounts, Refuses, Fetches, MeetsIn, less, AddsBody, AddsEntry, IsDurable, WhereBodyMayStand, WhereEntryMayStand};
 ghost use Rattle.crsm_log.specs.declared.errors.MountError.TheVariants.{DiskFault, BadGate};
 
-use crate::entry::{Held, cluster_entry_of, read_entries};
+use crate::entry::{LogContents, cluster_entry_of, read_entries};
 use crate::errors::MountError;
 use crsm_base::{Bodies, Failed, NoMemory};
 use crsm_disk::Disk;
@@ -108,7 +108,7 @@ pub(crate) fn read_log<D: Disk>(
     disk: &mut D,
     calls: u64,
     bytes: u64,
-) -> Result<Held, MountError>
+) -> Result<LogContents, MountError>
     requires calls { 3 ≤ calls }
     requires bytes { 1 ≤ bytes }
     ensures small { IfOk result (λ held. held.gate ≤ 2 ^ 62) }
@@ -120,7 +120,7 @@ pub(crate) fn read_log<D: Disk>(
     let file = contents(alloc, disk, calls, bytes)?;
     if file.len() < 6 {
         write_and_sync(disk, 0, &[0])?;
-        return Ok(Held {
+        return Ok(LogContents {
             gate: 0,
             bodies: Bodies::new(alloc),
             cluster: None,

@@ -174,14 +174,14 @@ fn at_gate(has_one: bool, bytes: &[u8]) -> First<'_>
 
 /// The content of a file: the offset of its closed gate, the bodies before it, and the cluster that it names.
 #[derive(Drop)]
-pub(crate) struct Held {
+pub(crate) struct LogContents {
     pub gate: u64,
     pub bodies: Bodies,
     pub cluster: Option<u64>,
 }
 
 // Parses the content of a file of 6 bytes or more. `BadGate` if an open gate has no entry.
-pub(crate) fn read_entries(alloc: Global, file: &[u8]) -> Result<Held, MountError>
+pub(crate) fn read_entries(alloc: Global, file: &[u8]) -> Result<LogContents, MountError>
     ensures read { IfOk result (ReadsFile file.now) }
     ensures bad_gate { IfErr result (ReadsBad file.now) }
     ensures no_fault { IfErr result (λ why. why ≢ DiskFault) }
@@ -194,7 +194,7 @@ pub(crate) fn read_entries(alloc: Global, file: &[u8]) -> Result<Held, MountErro
     'entries: loop {
         match at_gate(cluster.is_some(), bytes) {
             First::Closed => {
-                return Ok(Held {
+                return Ok(LogContents {
                     gate,
                     bodies,
                     cluster,

@@ -19,7 +19,7 @@ use Rattle.crsm_mpspec.specs.Replica.{Report, Note}
 use Rattle.crsm_mpspec.specs.Draft.{Draft, noting}
 use Rattle.crsm_mpspec.specs.Electing.{greater_held, held_at, answers_at, reported_at, chosen_among, slots_in, next_slot, lead, lead_by, lead_at_majority, take_report}
 use Rattle.crsm_mpreplica.specs.declared.note.Note.{Note as NoteInMemory}
-use Rattle.crsm_mpreplica.specs.declared.note.Report.{Report as ReportInMemory}
+use Rattle.crsm_mpreplica.specs.declared.note.MpReport.{MpReport as ReportInMemory}
 use Rattle.crsm_mpreplica.specs.Fitting.{FitsAccepted, FitsChosen, FitsReport, FitsValue}
 use Rattle.crsm_mpreplica.specs.declared.note.Asking.{Asking}
 use Rattle.crsm_mpreplica.specs.Notes.{NoteStands, IsAsking, report_of, awaits_report, note_report}

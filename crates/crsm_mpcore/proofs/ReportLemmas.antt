@@ -21,7 +21,7 @@ use Rattle.crsm_mpspec.specs.Types.{Ballot, Value}
 use Rattle.crsm_mpspec.specs.Log.{by_slot}
 use Rattle.crsm_mpspec.specs.Replica.{Report}
 use Rattle.crsm_mpspec.specs.Electing.{greater_held, held_at, answers_at, reported_at, chosen_among, slots_in, next_slot}
-use Rattle.crsm_mpreplica.specs.declared.note.Report.{Report as ReportInMemory}
+use Rattle.crsm_mpreplica.specs.declared.note.MpReport.{MpReport as ReportInMemory}
 use Rattle.crsm_mpreplica.specs.Fitting.{FitsReport}
 use Rattle.crsm_mpreplica.specs.Notes.{report_of}
 use Rattle.crsm_mpcore.specs.declared.findings.Findings.{Findings}

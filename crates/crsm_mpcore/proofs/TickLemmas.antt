@@ -21,7 +21,7 @@ use Rattle.crsm_mpspec.specs.Step.{unreported, open_slots, unvoted, propose_agai
 use Rattle.crsm_mpreplica.specs.declared.note.Asking.{Asking}
 use Rattle.crsm_mpreplica.specs.declared.note.Leading.{Leading}
 use Rattle.crsm_mpreplica.specs.declared.note.Note.{Note as NoteInMemory}
-use Rattle.crsm_mpreplica.specs.declared.note.Report.{Report as ReportInMemory}
+use Rattle.crsm_mpreplica.specs.declared.note.MpReport.{MpReport as ReportInMemory}
 use Rattle.crsm_mpreplica.specs.Fitting.{FitsMessage}
 use Rattle.crsm_mpreplica.specs.Notes.{NoteStands, IsAsking, IsLeading, report_of, open_of, with_voters}
 use Rattle.crsm_mpledger.specs.Sound.{IsSound}

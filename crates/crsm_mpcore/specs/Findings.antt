@@ -12,7 +12,7 @@ use Rattle.crsm_mpspec.specs.Types.{Ballot, Value}
 use Rattle.crsm_mpspec.specs.Log.{by_slot}
 use Rattle.crsm_mpspec.specs.Replica.{Report}
 use Rattle.crsm_mpspec.specs.Electing.{held_at, chosen_among, reported_at, next_slot}
-use Rattle.crsm_mpreplica.specs.declared.note.Report.{Report as ReportInMemory}
+use Rattle.crsm_mpreplica.specs.declared.note.MpReport.{MpReport as ReportInMemory}
 use Rattle.crsm_mpreplica.specs.Fitting.{FitsAccepted, FitsChosen, FitsReport}
 use Rattle.crsm_mpcore.specs.declared.findings.Findings.{Findings}
 

@@ -7,12 +7,12 @@ use Rattle.crsm_mpspec.specs.Types.{Ballot}
 use Rattle.crsm_mpspec.specs.Log.{promised}
 use Rattle.crsm_mpspec.specs.Replica.{Note, Report}
 use Rattle.crsm_mpspec.specs.Draft.{Draft}
-use Rattle.crsm_mpcore.specs.declared.requests.Refusal.{Refusal}
+use Rattle.crsm_mpcore.specs.declared.requests.MpRefusal.{MpRefusal}
 
 -- the number that stands for a refusal in a reply
-abbrev pub refusal_code : Refusal → ℕ
-refusal_code Refusal.NotLeading = 1
-refusal_code Refusal.NoSlotLeft = 5
+abbrev pub refusal_code : MpRefusal → ℕ
+refusal_code MpRefusal.NotLeading = 1
+refusal_code MpRefusal.NoSlotLeft = 5
 
 -- The replica leads in this ballot, which it has promised, and the next command goes to this slot, which is not the
 -- last number.

@@ -7,7 +7,7 @@ ghost use Rattle.crsm_mpspec.specs.Replica.{Report as ReportOnPaper};
 ghost use Rattle.crsm_mpreplica.specs.Fitting.{FitsAccepted, FitsChosen};
 
 use crsm_base::{Ballot, Command, NoMemory, ballot_precedes};
-use crsm_mpreplica::Report;
+use crsm_mpreplica::MpReport;
 use crsm_mpspec::{MpAccepted, MpChosen, copy_value};
 use std::alloc::Global;
 use std::collections::BTreeMap;
@@ -39,7 +39,7 @@ impl Findings {
     }
 
     /// One report more.
-    pub(crate) fn add(&mut self, report: &Report) -> Result<(), NoMemory>
+    pub(crate) fn add(&mut self, report: &MpReport) -> Result<(), NoMemory>
         ensures { OnOk result ((found : Found) → FindingsStand self.old found → FitsInside report.now → FindingsStand self.new (and_report found report.now)) }
     {
         self.add_all_chosen(report.chosen.as_slice())?;

@@ -14,7 +14,7 @@ use crsm_mpspec::MpLine;
 
 /// Why a command is not taken, with the number that stands for it in the reply.
 #[derive(Clone, Copy)]
-enum Refusal {
+enum MpRefusal {
     NotLeading = 1,
     NoSlotLeft = 5,
 }
@@ -37,24 +37,24 @@ pub(crate) fn on_request(state: &mut MpReplica, command: &Command) -> Result<(),
 }
 
 /// The ballot in which the replica leads, and the slot of the next command.
-fn next_slot(state: &MpReplica) -> Result<(Ballot, u64), Refusal>
+fn next_slot(state: &MpReplica) -> Result<(Ballot, u64), MpRefusal>
     ensures ok { IfOk result (λ next. WhereStands state.now (λ x. IsNext next.0 next.1 x)) }
     ensures err { IfErr result (λ why. WhereStands state.now (λ x. (command : CommandOnPaper) → deciding.on_request command x ≡ deciding.refuse (refusal_code why) command x)) }
 {
     let Note::Leading(leading) = state.note() else {
-        return Err(Refusal::NotLeading);
+        return Err(MpRefusal::NotLeading);
     };
     if leading.ballot != state.ledger().promised() {
-        return Err(Refusal::NotLeading);
+        return Err(MpRefusal::NotLeading);
     }
     if leading.next == u64::MAX {
-        return Err(Refusal::NoSlotLeft);
+        return Err(MpRefusal::NoSlotLeft);
     }
     Ok((leading.ballot, leading.next))
 }
 
 /// Tells the client why its command is not taken.
-fn refuse(state: &mut MpReplica, command: &Command, why: Refusal) -> Result<(), NoMemory>
+fn refuse(state: &mut MpReplica, command: &Command, why: MpRefusal) -> Result<(), NoMemory>
     ensures { Makes (deciding.refuse (refusal_code why) command.now) state.old result state.new }
 {
     let line = MpLine::ReplyNo {
@@ -68,7 +68,7 @@ fn refuse(state: &mut MpReplica, command: &Command, why: Refusal) -> Result<(), 
 }
 
 /// The number that stands for a refusal in its line.
-fn code_of(why: Refusal) -> u32
+fn code_of(why: MpRefusal) -> u32
     ensures { result ≡ refusal_code why }
 {
     why as u32

@@ -9,7 +9,7 @@ ghost use Rattle.crsm_mpspec.specs.Values.{answer_after};
 ghost use Rattle.crsm_mpledger.specs.Executed.{answers_of};
 
 /// The executed list only grows where the value of a slot is known that was not.
-pub fn executed_lists_grow()
+pub fn executed_slots_grow()
     ensures { (slot : ℕ) (v : Value) (log : Log) → is_chosen slot log ≡ false → take (length (executed log)) (executed (MpRec.Choose slot v ∷ log)) ≡ executed log }
 {}
 

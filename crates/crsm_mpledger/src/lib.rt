@@ -15,6 +15,6 @@ mod reports;
 mod value;
 
 pub use body::{put_body, take_body};
-pub use laws::{answers_are_by_slot, executed_lists_grow};
+pub use laws::{answers_are_by_slot, executed_slots_grow};
 pub use ledger::MpLedger;
 pub use rec::{put_rec, take_rec};

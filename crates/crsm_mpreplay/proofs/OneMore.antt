@@ -14,7 +14,7 @@ use Rattle.crsm_mpreplay.proofs.Schedules.{no_events, with_event, last_world-non
 use Rattle.crsm_mpreplay.specs.State.{IsGood, StandsAt, count_of, lines_read, shown_text}
 use Rattle.crsm_mpreplay.specs.Handled.{Advances, HandledAfter, StaysAt, StopsAt}
 use Rattle.crsm_mpreplay.specs.Replayed.{IsRead, NoFirstLine, RefusedBehind, ReplayedSo, replayed}
-use Rattle.crsm_mpreplay.specs.declared.handling.Replaying.{Replaying}
+use Rattle.crsm_mpreplay.specs.declared.handling.MpReplaying.{MpReplaying}
 use Rattle.crsm_mpreplay.specs.declared.cause.MpCause.{MpCause}
 use Rattle.crsm_port_lines.specs.declared.Stop.{Stop}
 use Rattle.crsm_mpreplay.proofs.Lines.{count_lines}
@@ -56,7 +56,7 @@ next_number : (read : Option Schedule) (lines : List (List ℕ)) (at : ℕ) → 
 next_number read lines at lines_are is = is ∙ ap (λ (ls : List (List ℕ)). length ls + 1) lines_are ∙ ap (λ n. n + 1) (sym (count_lines read))
 
 -- a line that is handled, and its lines of the transcript are added
-pub handles : (old : Option Held) (new : Replaying) (world : Option Held) (at : ℕ) (line before after : List ℕ) (told : List MpLine) (lines : List (List ℕ)) (shown : List ℕ)
+pub handles : (old : Option Held) (new : MpReplaying) (world : Option Held) (at : ℕ) (line before after : List ℕ) (told : List MpLine) (lines : List (List ℕ)) (shown : List ℕ)
     → Advances old line world told → StaysAt world new.world → after ≡ before ++ lines_text at told → at ≡ length lines + 1 → ReplayedSo old lines shown
     → Handles replayed new lines shown line before after
 unfolding Advances

@@ -16,13 +16,13 @@ use Rattle.crsm_mpreplay.specs.Refused.{BeginsBad, CutShort, bad_line, cut_line,
 use Rattle.crsm_mpreplay.specs.Replayed.{IsRead, replayed}
 use Rattle.crsm_mpreplay.specs.Run.{Ran, RanPartly, RanSoFar, RanToBad, RanToEnd, RanTooLong, of_all, of_transcript}
 use Rattle.crsm_mpreplay.specs.State.{IsGood, StandsAt, read_text, shown_text}
-use Rattle.crsm_mpreplay.specs.declared.handling.Replaying.{Replaying}
+use Rattle.crsm_mpreplay.specs.declared.handling.MpReplaying.{MpReplaying}
 use Rattle.crsm_mpreplay.specs.declared.cause.MpCause.{MpCause}
 use Rattle.crsm_mpreplay.proofs.Lines.{count_lines, read_is}
 use Rattle.crsm_mpreplay.proofs.Schedules.{shows_all}
 
 -- nothing has been read
-pub begins : (r : Replaying) → r.world ≡ None → Begins replayed r
+pub begins : (r : MpReplaying) → r.world ≡ None → Begins replayed r
 begins r none = record { read = None; is = record { good = tt; lines_are = refl; shown_is = refl }; stands = subst (λ w. StandsAt w None) (sym none) tt }
 
 -- what holds of a schedule that can be run

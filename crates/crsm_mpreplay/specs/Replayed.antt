@@ -6,7 +6,7 @@ use Rattle.crsm_mpworld.specs.Schedule.{Schedule}
 use Rattle.crsm_mpreplay.specs.Transcript.{finals_text}
 use Rattle.crsm_mpreplay.specs.Refused.{Refused}
 use Rattle.crsm_mpreplay.specs.State.{IsGood, StandsAt, lines_read, shown_text}
-use Rattle.crsm_mpreplay.specs.declared.handling.Replaying.{Replaying}
+use Rattle.crsm_mpreplay.specs.declared.handling.MpReplaying.{MpReplaying}
 use Rattle.crsm_mpreplay.specs.declared.cause.MpCause.{MpCause}
 use Rattle.crsm_mpreplay.specs.declared.cause.MpCause.TheVariants.{Unreadable}
 
@@ -39,7 +39,7 @@ pub record NoFirstLine (lines : List Text) (shown : Text) (cause : MpCause) : Ty
   pub shown_is : shown ≡ []
   pub unreadable : cause ≡ Unreadable
 
-abbrev pub replayed : Handling Replaying MpCause
+abbrev pub replayed : Handling MpReplaying MpCause
 replayed = record {
   after = λ r lines shown. ReplayedSo r.world lines shown;
   refuses = RefusedBehind;

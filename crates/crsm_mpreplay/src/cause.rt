@@ -3,7 +3,7 @@
 ghost use Rattle.std.specs.Prelude.{◌≡◌};
 ghost use Rattle.crsm_mpreplay.specs.Causes.{cause_in};
 
-use crsm_port_lines::Bad;
+use crsm_port_lines::LineRefusal;
 use std::fmt::{self, Display, Formatter, Write};
 
 /// What is wrong with a line.
@@ -32,12 +32,12 @@ pub enum MpCause {
 }
 
 /// The cause that a bad line is told with.
-pub fn told_cause(why: Bad<MpCause>) -> MpCause
+pub fn told_cause(why: LineRefusal<MpCause>) -> MpCause
     ensures { result ≡ cause_in why }
 {
     match why {
-        Bad::Refused(cause) => cause,
-        Bad::TooLong | Bad::Cut => MpCause::Unreadable,
+        LineRefusal::Refused(cause) => cause,
+        LineRefusal::TooLong | LineRefusal::Cut => MpCause::Unreadable,
     }
 }
 

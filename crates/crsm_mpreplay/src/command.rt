@@ -7,11 +7,11 @@ ghost use Rattle.crsm_mpreplay.specs.State.{count_of};
 ghost use Rattle.crsm_mpreplay.specs.Run.{Ran, IsRefused, WhereBad, WhereSchedule, WhereTooLong};
 
 use crate::cause::MpCause;
-use crate::handling::Replaying;
+use crate::handling::MpReplaying;
 use crsm_io::{Sink, Source};
-use crsm_law_mp::runs_are_safe;
+use crsm_law_mp::leader_runs_are_safe;
 use crsm_law_texts::{events_have_one_text, first_lines_have_one_text, spelt_are_lines};
-use crsm_port_lines::{Ending, MAX_INPUT_BYTES, run_lines};
+use crsm_port_lines::{InputEnd, MAX_INPUT_BYTES, run_lines};
 use std::alloc::Global;
 
 /// Reads a schedule to its end, and writes its transcript and final lines.
@@ -19,13 +19,13 @@ pub fn replay_mp<I: Source, O: Sink>(
     alloc: Global,
     input: &mut I,
     output: &mut O,
-) -> Ending<MpCause>
+) -> InputEnd<MpCause>
     // What was taken and what was written, by how it ended.
     ensures ran { Ran result (I.left input.old) (I.left input.new) (O.written output.old) (O.written output.new) }
 
     // A fault is answered only where it was counted.
-    ensures read_fault { result ≡ Ending.ReadFault → Rose (I.faults input.old) (I.faults input.new) }
-    ensures write_fault { result ≡ Ending.WriteFault → Rose (O.faults output.old) (O.faults output.new) }
+    ensures read_fault { result ≡ InputEnd.ReadFault → Rose (I.faults input.old) (I.faults input.new) }
+    ensures write_fault { result ≡ InputEnd.WriteFault → Rose (O.faults output.old) (O.faults output.new) }
 
     // A schedule within the limit is done, where no fault was counted.
     ensures complete { WhereSchedule (I.left input.old) (λ s. WhereFaultless (I.faults input.old) (I.faults input.new) (O.faults output.old) (O.faults output.new) (IsDone result)) }
@@ -37,12 +37,12 @@ pub fn replay_mp<I: Source, O: Sink>(
     ensures too_long { WhereTooLong (I.left input.old) (WhereFaultless (I.faults input.old) (I.faults input.new) (O.faults output.old) (O.faults output.new) (IsTooLong result)) }
 
     // An input beyond the limit is never done, and one within it is never too long.
-    ensures limit { (bytes : List ℕ) → I.left input.old ≡ Some bytes → MAX_INPUT_BYTES < length bytes → result ≢ Ending.Done }
-    ensures within { (bytes : List ℕ) → I.left input.old ≡ Some bytes → length bytes ≤ MAX_INPUT_BYTES → result ≢ Ending.InputTooLong }
+    ensures limit { (bytes : List ℕ) → I.left input.old ≡ Some bytes → MAX_INPUT_BYTES < length bytes → result ≢ InputEnd.Done }
+    ensures within { (bytes : List ℕ) → I.left input.old ≡ Some bytes → length bytes ≤ MAX_INPUT_BYTES → result ≢ InputEnd.InputTooLong }
 {
     events_have_one_text();
     first_lines_have_one_text();
     spelt_are_lines();
-    runs_are_safe();
-    run_lines(alloc, Replaying::new(alloc), input, output)
+    leader_runs_are_safe();
+    run_lines(alloc, MpReplaying::new(alloc), input, output)
 }

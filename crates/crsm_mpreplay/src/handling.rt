@@ -133,16 +133,16 @@ fn give_back(world: &mut Option<MpWorld>, lines: MpLines)
 
 /// A schedule that is replayed: the world, once the first line has begun it.
 #[derive(Drop)]
-pub(crate) struct Replaying {
+pub(crate) struct MpReplaying {
     alloc: Global,
     world: Option<MpWorld>,
 }
 
-impl Replaying {
-    pub(crate) fn new(alloc: Global) -> Replaying
+impl MpReplaying {
+    pub(crate) fn new(alloc: Global) -> MpReplaying
         ensures { result.world ≡ None }
     {
-        Replaying { alloc, world: None }
+        MpReplaying { alloc, world: None }
     }
 
     /// Handles a line, and gives its lines of the transcript with room for their text.
@@ -160,7 +160,7 @@ impl Replaying {
     }
 }
 
-impl Handler for Replaying {
+impl Handler for MpReplaying {
     type Refusal = MpCause;
 
     ghost use Rattle.crsm_mpreplay.specs.Replayed.{replayed};

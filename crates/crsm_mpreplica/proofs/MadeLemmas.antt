@@ -6,11 +6,11 @@ use Rattle.crsm_mpspec.specs.declared.message.MpMessage.{MpMessage}
 use Rattle.crsm_mpspec.specs.declared.rec.MpRec.{MpRec}
 use Rattle.crsm_mpspec.specs.declared.send.MpSend.{MpSend}
 use Rattle.crsm_mpspec.specs.Records.{FitsRec}
-use Rattle.crsm_mpreplica.specs.declared.made.Made.{Made}
+use Rattle.crsm_mpreplica.specs.declared.made.StepOutput.{StepOutput}
 use Rattle.crsm_mpreplica.specs.Fitting.{FitsMessage}
 use Rattle.crsm_mpreplica.specs.Made.{MadeStands, Outcome, FitsSent, to_send}
 
-pub records : (m : Made) (o : Outcome) (rec : MpRec) (after : List MpRec) → MadeStands m o → FitsRec rec → after ≡ m.records ++ rec ∷ []
+pub records : (m : StepOutput) (o : Outcome) (rec : MpRec) (after : List MpRec) → MadeStands m o → FitsRec rec → after ≡ m.records ++ rec ∷ []
     → MadeStands (record m { records = after }) (record o { batch = o.batch ++ rec ∷ [] })
 records m o rec after s fits is = record {
   records = is ∙ ap (λ (recs : List MpRec). recs ++ rec ∷ []) s.records;
@@ -21,7 +21,7 @@ records m o rec after s fits is = record {
   sends_fit = s.sends_fit;
 }
 
-pub tells : (m : Made) (o : Outcome) (line : MpLine) (after : List MpLine) → MadeStands m o → after ≡ m.lines ++ line ∷ []
+pub tells : (m : StepOutput) (o : Outcome) (line : MpLine) (after : List MpLine) → MadeStands m o → after ≡ m.lines ++ line ∷ []
     → MadeStands (record m { lines = after }) (record o { lines = o.lines ++ line ∷ [] })
 tells m o line after s is = record {
   records = s.records;
@@ -32,7 +32,7 @@ tells m o line after s is = record {
   sends_fit = s.sends_fit;
 }
 
-pub sends : (m : Made) (o : Outcome) (to : ℕ) (message : MpMessage) (after : List MpSend) → MadeStands m o → FitsMessage message
+pub sends : (m : StepOutput) (o : Outcome) (to : ℕ) (message : MpMessage) (after : List MpSend) → MadeStands m o → FitsMessage message
     → after ≡ m.sends ++ record { to = to; message = message } ∷ [] → MadeStands (record m { sends = after }) (record o { sends = o.sends ++ (to, message) ∷ [] })
 unfolding to_send
 sends m o to message after s fits is = record {
@@ -44,7 +44,7 @@ sends m o to message after s fits is = record {
   sends_fit = all-push FitsSent o.sends (to, message) s.sends_fit fits;
 }
 
-pub replied : (m : Made) (o : Outcome) (line : MpLine) (after : List MpLine) → MadeStands m o → after ≡ m.replies ++ line ∷ []
+pub replied : (m : StepOutput) (o : Outcome) (line : MpLine) (after : List MpLine) → MadeStands m o → after ≡ m.replies ++ line ∷ []
     → MadeStands (record m { replies = after }) (record o { replies = o.replies ++ line ∷ [] })
 replied m o line after s is = record {
   records = s.records;

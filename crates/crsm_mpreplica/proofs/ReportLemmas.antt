@@ -19,7 +19,7 @@ use Rattle.crsm_mpspec.specs.Types.{Ballot, Value}
 use Rattle.crsm_mpledger.specs.Sound.{IsSound}
 use Rattle.crsm_mpreplica.specs.declared.note.Asking.{Asking}
 use Rattle.crsm_mpreplica.specs.declared.note.Note.{Note}
-use Rattle.crsm_mpreplica.specs.declared.note.Report.{Report}
+use Rattle.crsm_mpreplica.specs.declared.note.MpReport.{MpReport}
 use Rattle.crsm_mpreplica.specs.Fitting.{FitsAccepted, FitsChosen, FitsReport, FitsValue}
 use Rattle.crsm_mpreplica.specs.Notes.{NoteStands, awaits_report, note_report, report_of}
 use Rattle.crsm_mpreplica.proofs.KeyLemmas.{Below, Same, Above, at-key, compared, eqb-sym, same_at, same_cmp}
@@ -90,7 +90,7 @@ chosen-fit log start sound =
 -- ---- one report more
 
 -- a replica has reported where the map has it
-reported-is : (k : ℕ) (es : List (ℕ × Report)) → has_reported (map report_of es) k ≡ is_some (lookup (is_at (nat_cmp k)) es)
+reported-is : (k : ℕ) (es : List (ℕ × MpReport)) → has_reported (map report_of es) k ≡ is_some (lookup (is_at (nat_cmp k)) es)
 unfolding has_reported has report_of
 reported-is k [] = refl
 reported-is k (e ∷ es) = by_test (e.0 == k) refl (reported-is k es)
@@ -121,13 +121,13 @@ none_found : (b : Bool) (X : Type 0) (x : X) (o : Option X) → b ≡ true → i
 none_found true X x o p e = cc
 none_found false X x o p e = cc
 
-inserted-report : (es : List (ℕ × Report)) (k : ℕ) (r : Report) → is_some (lookup (is_at (nat_cmp k)) es) ≡ false
+inserted-report : (es : List (ℕ × MpReport)) (k : ℕ) (r : MpReport) → is_some (lookup (is_at (nat_cmp k)) es) ≡ false
     → map report_of (insert_entry nat_cmp es k r) ≡ with_report (report_of (k, r)) (map report_of es)
 unfolding with_report report_of
 inserted-report [] k r none = refl
 inserted-report (e ∷ es) k r none = elim (compared k e.0) [
   | Below l t _ ↦ rw (l, t) refl
-  | Same s ↦ absurd (none_found (is_at (nat_cmp k) e.0) Report e.1 (lookup (is_at (nat_cmp k)) es) (same_at k e.0 s) none)
+  | Same s ↦ absurd (none_found (is_at (nat_cmp k) e.0) MpReport e.1 (lookup (is_at (nat_cmp k)) es) (same_at k e.0 s) none)
   | Above l t n ↦ rw (l, t) (ap (λ (rs : List ReportOnPaper). report_of e ∷ rs) (inserted-report es k r (subst (λ b. is_some (cond b (Some e.1) (lookup (is_at (nat_cmp k)) es)) ≡ false) (at-key k e.0 ∙ eqb-sym e.0 k ∙ n) none)))
 ]
 
@@ -146,7 +146,7 @@ not_there true false e = refl
 not_there false u e = absurd cc
 
 -- the note with one report more
-pub reported : (a : Asking) (rest : BTreeMap ℕ Report) (r : Report) (b : Ballot) (k me : ℕ) (log : Log) (p : NoteOnPaper) → NoteStands (Note.Asking a) me log p
+pub reported : (a : Asking) (rest : BTreeMap ℕ MpReport) (r : MpReport) (b : Ballot) (k me : ℕ) (log : Log) (p : NoteOnPaper) → NoteStands (Note.Asking a) me log p
     → awaits_report b k p ≡ true → FitsReport (report_of (k, r)) → rest.entries ≡ insert_entry nat_cmp a.reports.entries k r
     → NoteStands (Note.Asking (record a { reports = rest })) me log (note_report (report_of (k, r)) p)
 unfolding note_report
@@ -165,11 +165,11 @@ reported a rest r b k me log (NoteOnPaper.Leading c start next reports votes) s 
 -- ---- the first report
 
 -- the report of a replica on itself
-pub report-of_log : (start : ℕ) (p : Replica) (me : ℕ) (r : Report) → me ≡ p.me → r.accepted ≡ accepted_from start p.log → r.chosen ≡ chosen_from start p.log
+pub report-of_log : (start : ℕ) (p : Replica) (me : ℕ) (r : MpReport) → me ≡ p.me → r.accepted ≡ accepted_from start p.log → r.chosen ≡ chosen_from start p.log
     → map report_of ((me, r) ∷ []) ≡ report start p ∷ []
 unfolding report report_of
 report-of_log start p me r is accepted chosen = λ i. record { from = is i; accepted = accepted i; chosen = chosen i } ∷ []
 
-pub report-same : (k : ℕ) (r : Report) (acc : List MpAccepted) (cho : List MpChosen) → r.accepted ≡ acc → r.chosen ≡ cho → report_of (k, r) ≡ record { from = k; accepted = acc; chosen = cho }
+pub report-same : (k : ℕ) (r : MpReport) (acc : List MpAccepted) (cho : List MpChosen) → r.accepted ≡ acc → r.chosen ≡ cho → report_of (k, r) ≡ record { from = k; accepted = acc; chosen = cho }
 unfolding report_of
 report-same k r acc cho accepted chosen = λ i. record { from = k; accepted = accepted i; chosen = chosen i }

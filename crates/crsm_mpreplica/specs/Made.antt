@@ -8,7 +8,7 @@ use Rattle.crsm_mpspec.specs.declared.rec.MpRec.{MpRec}
 use Rattle.crsm_mpspec.specs.declared.send.MpSend.{MpSend}
 use Rattle.crsm_mpspec.specs.Draft.{Draft}
 use Rattle.crsm_mpspec.specs.Records.{FitsRec}
-use Rattle.crsm_mpreplica.specs.declared.made.Made.{Made}
+use Rattle.crsm_mpreplica.specs.declared.made.StepOutput.{StepOutput}
 use Rattle.crsm_mpreplica.specs.Fitting.{FitsMessage}
 
 -- a message to a replica
@@ -32,7 +32,7 @@ abbrev pub outcome_of : Draft → Outcome
 outcome_of x = record { batch = x.batch; lines = x.lines; sends = x.sends; replies = x.replies }
 
 -- The step has made this, and each record and message of it fits.
-pub record MadeStands (made : Made) (o : Outcome) : Type 0 where
+pub record MadeStands (made : StepOutput) (o : Outcome) : Type 0 where
   pub records : made.records ≡ o.batch
   pub lines : made.lines ≡ o.lines
   pub sends : made.sends ≡ map to_send o.sends

@@ -11,11 +11,11 @@ use Rattle.crsm_mpspec.specs.Replica.{Replica, Note as NoteOnPaper, Report as Re
 use Rattle.crsm_mpreplica.specs.declared.note.Asking.{Asking}
 use Rattle.crsm_mpreplica.specs.declared.note.Leading.{Leading}
 use Rattle.crsm_mpreplica.specs.declared.note.Note.{Note}
-use Rattle.crsm_mpreplica.specs.declared.note.Report.{Report}
+use Rattle.crsm_mpreplica.specs.declared.note.MpReport.{MpReport}
 use Rattle.crsm_mpreplica.specs.Fitting.{FitsReport}
 
 -- the report of a replica
-unfoldable pub report_of : ℕ × Report → ReportOnPaper
+unfoldable pub report_of : ℕ × MpReport → ReportOnPaper
 report_of r = record { from = r.0; accepted = r.1.accepted; chosen = r.1.chosen }
 
 -- the promises that are asked for, with the reports so far

@@ -10,7 +10,7 @@ ghost use Rattle.crsm_mpreplica.specs.Fitting.{FitsReport};
 ghost use Rattle.crsm_mpreplica.specs.Notes.{awaits_report, note_report, report_of};
 ghost use Rattle.crsm_mpreplica.specs.State.{MakesIf, MakesWhere, WhereStands};
 
-use crate::note::{Asking, Note, Report};
+use crate::note::{Asking, MpReport, Note};
 use crate::state::MpReplica;
 use crsm_base::{Ballot, NoMemory};
 use crsm_mpspec::{MpAccepts, MpChoices};
@@ -21,7 +21,7 @@ impl MpReplica {
     pub fn begin_asking(&mut self, ballot: Ballot, start: u64) -> Result<(), NoMemory>
         ensures { MakesWhere (λ x. FitsBallot ballot) (λ x. drafts.noting (NoteOnPaper.Asking ballot start (electing.report start x.replica ∷ [])) x) self.old result self.new }
     {
-        let own = Report {
+        let own = MpReport {
             accepted: self.ledger.accepted_from(start)?,
             chosen: self.ledger.chosen_from(start)?,
         };
@@ -50,7 +50,7 @@ impl MpReplica {
         if !self.awaits_report(from, ballot) {
             return Ok(false);
         }
-        let report = Report {
+        let report = MpReport {
             accepted: accepted.copy(self.alloc)?,
             chosen: chosen.copy(self.alloc)?,
         };
@@ -69,7 +69,7 @@ impl MpReplica {
     }
 
     /// Adds the report of a replica that has not reported.
-    fn add_report(&mut self, from: u32, report: Report) -> Result<(), NoMemory>
+    fn add_report(&mut self, from: u32, report: MpReport) -> Result<(), NoMemory>
         ensures { (b : BallotOnPaper) → FitsReport (report_of (from, report)) →
             MakesWhere (λ x. awaits_report b from x.replica.note ≡ true) (λ x. drafts.noting (note_report (report_of (from, report)) x.replica.note) x) self.old result self.new }
     {

@@ -11,5 +11,5 @@ mod slots;
 mod state;
 mod waiting;
 
-pub use note::{Asking, Leading, Note, Report};
+pub use note::{Asking, Leading, MpReport, Note};
 pub use state::MpReplica;

@@ -11,7 +11,7 @@ use std::mem;
 
 /// What a step has made so far: records and their lines, messages, and lines of replies.
 #[derive(Drop)]
-pub(crate) struct Made {
+pub(crate) struct StepOutput {
     alloc: Global,
     records: MpRecs,
     lines: MpLines,
@@ -19,14 +19,14 @@ pub(crate) struct Made {
     replies: MpLines,
 }
 
-impl Made {
+impl StepOutput {
     ghost use Rattle.crsm_mpreplica.specs.Made.{MadeStands, Answers, Outcome, nothing};
 
     /// Nothing is made.
-    pub(crate) fn new(alloc: Global) -> Made
+    pub(crate) fn new(alloc: Global) -> StepOutput
         ensures { MadeStands result nothing }
     {
-        Made {
+        StepOutput {
             alloc,
             records: MpRecs::new(alloc),
             lines: MpLines::new(alloc),

@@ -13,7 +13,7 @@ use std::collections::BTreeMap;
 
 /// What a replica answered with its promise.
 #[derive(Debug, Drop)]
-pub struct Report {
+pub struct MpReport {
     pub accepted: MpAccepts,
     pub chosen: MpChoices,
 }
@@ -24,7 +24,7 @@ pub struct Asking {
     pub ballot: Ballot,
     pub start: u64,
     /// What was reported so far, by replica.
-    pub reports: BTreeMap<u32, Report>,
+    pub reports: BTreeMap<u32, MpReport>,
 }
 
 /// A ballot in which a replica leads.

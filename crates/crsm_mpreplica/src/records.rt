@@ -19,16 +19,21 @@ ghost use Rattle.crsm_mpreplica.specs.Fitting.{FitsAccept, FitsChoice};
 ghost use Rattle.crsm_mpreplica.specs.Made.{MadeStands, Outcome};
 ghost use Rattle.crsm_mpreplica.specs.State.{MakesWhere};
 
-use crate::made::Made;
+use crate::made::StepOutput;
 use crate::note::{Note, close, end_below};
 use crate::state::MpReplica;
 use crsm_base::{Answer, Ballot, Command, NoMemory, never};
-use crsm_mpledger::{MpLedger, answers_are_by_slot, executed_lists_grow};
+use crsm_mpledger::{MpLedger, answers_are_by_slot, executed_slots_grow};
 use crsm_mpspec::{MpLine, MpRec, copy_value};
 use std::alloc::Global;
 
 /// Keeps a record, with its own line.
-fn keep(ledger: &mut MpLedger, made: &mut Made, rec: MpRec, line: MpLine) -> Result<(), NoMemory>
+fn keep(
+    ledger: &mut MpLedger,
+    made: &mut StepOutput,
+    rec: MpRec,
+    line: MpLine,
+) -> Result<(), NoMemory>
     ensures ledger { OnOk result (WhereLedger ledger.old (λ log. MayFollow log rec → MpLedgerStands ledger.new (rec ∷ log))) }
     ensures made { OnOk result ((o : Outcome) → MadeStands made.old o → FitsRec rec → MadeStands made.new (record o { batch = o.batch ++ rec ∷ []; lines = o.lines ++ line ∷ [] })) }
 {
@@ -123,7 +128,7 @@ impl MpReplica {
         if self.ledger.is_chosen(slot) {
             return Ok(());
         }
-        executed_lists_grow();
+        executed_slots_grow();
         let before = self.ledger.executed_len();
         let value = copy_value(self.alloc, value)?;
         let line = MpLine::Choose {
@@ -147,7 +152,7 @@ fn tell_executed(
     alloc: Global,
     me: u32,
     ledger: &MpLedger,
-    made: &mut Made,
+    made: &mut StepOutput,
     first: u64,
 ) -> Result<(), NoMemory>
     ensures { OnOk result ((log : Log) (o : Outcome) → MpLedgerStands ledger.now log → first ≤ length (executed log) → MadeStands made.old o →

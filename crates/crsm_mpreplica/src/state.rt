@@ -6,7 +6,7 @@ ghost use Rattle.crsm_mpspec.specs.Log.{Log};
 ghost use Rattle.crsm_mpspec.specs.Replica.{fresh};
 ghost use Rattle.crsm_mpledger.specs.MpLedger.{MpLedgerStands};
 
-use crate::made::Made;
+use crate::made::StepOutput;
 use crate::note::Note;
 use crsm_base::Command;
 use crsm_mpledger::MpLedger;
@@ -24,7 +24,7 @@ pub struct MpReplica {
     pub(crate) note: Note,
     /// The commands whose clients wait, by slot.
     pub(crate) waiting: BTreeMap<u64, Command>,
-    pub(crate) made: Made,
+    pub(crate) made: StepOutput,
     ghost mine: { me < n },
     ghost most: { n ≤ 15 },
 }
@@ -47,7 +47,7 @@ impl MpReplica {
             ledger,
             note: Note::Idle,
             waiting: BTreeMap::new(alloc),
-            made: Made::new(alloc),
+            made: StepOutput::new(alloc),
         }
     }
 

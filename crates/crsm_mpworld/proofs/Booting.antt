@@ -9,7 +9,7 @@ use Rattle.crsm_mpspec.specs.Moments.{start_at}
 use Rattle.crsm_mpspec.specs.Replica.{fresh}
 use Rattle.crsm_mpspec.specs.Step.{boot}
 use Rattle.crsm_mpspec.specs.World.{Packet, Site, World, after_step, log_of, send_lines, whole_step}
-use Rattle.crsm_mpworld.specs.declared.stops.Boot.{Boot}
+use Rattle.crsm_mpworld.specs.declared.stops.BootSize.{BootSize}
 use Rattle.crsm_mpworld.specs.declared.world.MpWorld.{MpWorld}
 use Rattle.crsm_mpworld.specs.Packets.{MpNetworkStands}
 use Rattle.crsm_mpworld.specs.Sites.{BootsTo}
@@ -46,7 +46,7 @@ boot_replies : (me n : ℕ) (log : Log) → (boot me n log).replies ≡ []
 unfolding boot keep keep_as begun
 boot_replies me n log = refl
 
-pub started : (v : World) (k : ℕ) (log : Log) (made : Boot) (w : MpWorld) (lines : List MpLine) → slice_get v.sites k ≡ Some (Site.Down log)
+pub started : (v : World) (k : ℕ) (log : Log) (made : BootSize) (w : MpWorld) (lines : List MpLine) → slice_get v.sites k ≡ Some (Site.Down log)
     → BootsTo made log w.sites v.n v.sites k → MpNetworkStands w.network v.packets (v.bytes + made.size) → w.n ≡ v.n → lines ≡ MpLine.Boot k made.count ∷ []
     → Leads (start_at v k) w lines
 unfolding start_at whole_step after_step send_lines log_of boot keep keep_as begun

@@ -7,7 +7,7 @@ use Rattle.crsm_mpspec.specs.Draft.{Draft}
 use Rattle.crsm_mpspec.specs.Step.{step}
 use Rattle.crsm_mpspec.specs.World.{Site, World, Moment, Ending, whole_step, cut_step, then_down, after_step, down, with_site, log_of}
 use Rattle.crsm_mpspec.specs.Moments.{silent, begun_at, step_at, world_after, lines_of}
-use Rattle.crsm_mpworld.specs.declared.ending.Effects.{Effects}
+use Rattle.crsm_mpworld.specs.declared.ending.MpEffects.{MpEffects}
 use Rattle.crsm_mpworld.specs.declared.network.MpNetwork.{MpNetwork}
 use Rattle.crsm_mpworld.specs.declared.sites.Sites.{Sites}
 use Rattle.crsm_mpworld.specs.declared.world.MpWorld.{MpWorld}
@@ -59,10 +59,10 @@ leads_on m w before lines e h = record { after = record { n = h.count; sites = h
 
 -- ---- what is left
 
-pub leaves_as : (m n : Moment) (v : World) (l : Effects) (s : Sites) → m ≡ n → Leaves n v l s → Leaves m v l s
+pub leaves_as : (m n : Moment) (v : World) (l : MpEffects) (s : Sites) → m ≡ n → Leaves n v l s → Leaves m v l s
 leaves_as m n v l s e h = subst (λ (x : Moment). Leaves x v l s) (sym e) h
 
-pub leaves_here : (ends : Ending) (v : World) (k j : ℕ) (input : MpInput) (from : ℕ) (l : Effects) (s : Sites) (u : IsUp v.sites k j) → Leaves (ends v j (step u.replica input from)) v l s → Leaves (step_at ends v k input from) v l s
+pub leaves_here : (ends : Ending) (v : World) (k j : ℕ) (input : MpInput) (from : ℕ) (l : MpEffects) (s : Sites) (u : IsUp v.sites k j) → Leaves (ends v j (step u.replica input from)) v l s → Leaves (step_at ends v k input from) v l s
 leaves_here ends v k j input from l s u h =
     leaves_as (step_at ends v k input from) (ends v j (step u.replica input from)) v l s (step_here ends v k input from u.replica u.up ∙ ap (λ i. ends v i (step u.replica input from)) (sym u.number)) h
 

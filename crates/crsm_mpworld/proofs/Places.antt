@@ -12,7 +12,7 @@ use Rattle.std.proofs.lemmas.Result.{OkIff-at_ok, OkIff-at_err}
 use Rattle.crsm_mpspec.specs.declared.line.MpLine.{MpLine}
 use Rattle.crsm_mpspec.specs.World.{Site as Place, is_up, final_line}
 use Rattle.crsm_mpworld.specs.declared.place.Site.{Site}
-use Rattle.crsm_mpworld.specs.declared.place.Place.{Place as PlaceInMemory}
+use Rattle.crsm_mpworld.specs.declared.place.SiteState.{SiteState as PlaceInMemory}
 use Rattle.crsm_mpworld.specs.Sites.{IsIn, SiteStands, SitesStand, is_up_in, up_in}
 
 module _ (n : ℕ) where

@@ -7,12 +7,12 @@ use Rattle.crsm_mpspec.specs.Draft.{Draft}
 use Rattle.crsm_mpspec.specs.Moments.{silent, go_each, world_after, lines_of}
 use Rattle.crsm_mpspec.specs.Replica.{Replica}
 use Rattle.crsm_mpspec.specs.World.{Packet, Site, World, Moment, Ending, body_size, packet_of, send_lines, whole_step, cut_step, lost_step, down, log_of}
-use Rattle.crsm_mpworld.specs.declared.ending.Effects.{Effects}
-use Rattle.crsm_mpworld.specs.declared.ending.Effects.TheVariants as effects
-use Rattle.crsm_mpworld.specs.declared.ending.Ending.{Ending as EndingInMemory}
-use Rattle.crsm_mpworld.specs.declared.ending.Ending.TheVariants as endings
+use Rattle.crsm_mpworld.specs.declared.ending.MpEffects.{MpEffects}
+use Rattle.crsm_mpworld.specs.declared.ending.MpEffects.TheVariants as effects
+use Rattle.crsm_mpworld.specs.declared.ending.MpEnding.{MpEnding as EndingInMemory}
+use Rattle.crsm_mpworld.specs.declared.ending.MpEnding.TheVariants as endings
 use Rattle.crsm_mpworld.specs.declared.network.MpNetwork.{MpNetwork}
-use Rattle.crsm_mpworld.specs.declared.site.Step.{Step}
+use Rattle.crsm_mpworld.specs.declared.site.MpStep.{MpStep}
 use Rattle.crsm_mpworld.specs.declared.sites.Sites.{Sites}
 use Rattle.crsm_mpworld.specs.declared.world.MpWorld.{MpWorld}
 use Rattle.crsm_mpworld.specs.Fits.{FitsSend}
@@ -43,14 +43,14 @@ LetsOutSome count before packets bytes k x network lines =
     LetsOut before packets bytes k x (take count x.sends) (take (count - length x.sends) x.replies) network lines
 
 -- for the packets and the count of bytes so far, and the draft that made the step
-abbrev pub WhereMade : MpNetwork → Step → (List Packet → ℕ → Draft → Type 0) → Type 0
+abbrev pub WhereMade : MpNetwork → MpStep → (List Packet → ℕ → Draft → Type 0) → Type 0
 WhereMade network step P =
     (packets : List Packet) (bytes : ℕ) (x : Draft) → MpNetworkStands network packets bytes → Makes step x → P packets bytes x
 
 -- ---- what is left of a step
 
 -- What was left leads to the moment where it goes out, and the sites are already as they are then.
-abbrev pub Leaves : Moment → World → Effects → Sites → Type 0
+abbrev pub Leaves : Moment → World → MpEffects → Sites → Type 0
 Leaves m v effects.Nothing sites = (m ≡ silent v v) × StandFor sites v.n v.sites
 Leaves m v (effects.Whole k step) sites =
     (x : Draft) × (m ≡ whole_step v k x) × Makes step x × StandFor sites v.n (slice_set v.sites k (Site.Up x.replica))
@@ -60,7 +60,7 @@ Leaves m v (effects.Down k) sites =
     (p : Site) × (m ≡ down v k) × (slice_get v.sites k ≡ Some p) × StandFor sites v.n (slice_set v.sites k (Site.Down (log_of p)))
 
 -- each message of the step has a spelling
-abbrev pub FitsEffects : Effects → Type 0
+abbrev pub FitsEffects : MpEffects → Type 0
 FitsEffects (effects.Whole k step) = AllByRecursion FitsSend step.batch.sends
 FitsEffects (effects.Cut k step count) = AllByRecursion FitsSend step.batch.sends
 FitsEffects _ = Unit {0}
@@ -75,7 +75,7 @@ WhereUpIn sites k P = (v : World) (r : Replica) → StandFor sites v.n v.sites �
 
 -- for the moment to which the effects lead, from a world with the packets of the network, and for the sites that are as
 -- then
-abbrev pub WhereLeft : MpNetwork → Effects → (Moment → World → Sites → Type 0) → Type 0
+abbrev pub WhereLeft : MpNetwork → MpEffects → (Moment → World → Sites → Type 0) → Type 0
 WhereLeft network effects P =
     (m : Moment) (v : World) (sites : Sites) → MpNetworkStands network v.packets v.bytes → Leaves m v effects sites → P m v sites
 

@@ -8,13 +8,13 @@ use Rattle.crsm_mpspec.specs.Step.{boot}
 use Rattle.crsm_mpspec.specs.World.{Site as SiteOnPaper, is_up, body_size}
 use Rattle.crsm_mpreplica.specs.Made.{Answers, outcome_of}
 use Rattle.crsm_mpworld.specs.Disks.{IsDisk, IsUpOn}
-use Rattle.crsm_mpworld.specs.declared.place.Place.{Place}
+use Rattle.crsm_mpworld.specs.declared.place.SiteState.{SiteState}
 use Rattle.crsm_mpworld.specs.declared.place.Running.{Running}
 use Rattle.crsm_mpworld.specs.declared.place.Site.{Site}
-use Rattle.crsm_mpworld.specs.declared.place.Stopped.{Stopped}
-use Rattle.crsm_mpworld.specs.declared.site.Step.{Step}
+use Rattle.crsm_mpworld.specs.declared.place.MpStopped.{MpStopped}
+use Rattle.crsm_mpworld.specs.declared.site.MpStep.{MpStep}
 use Rattle.crsm_mpworld.specs.declared.sites.Sites.{Sites}
-use Rattle.crsm_mpworld.specs.declared.stops.Boot.{Boot}
+use Rattle.crsm_mpworld.specs.declared.stops.BootSize.{BootSize}
 
 -- ---- one replica
 
@@ -28,16 +28,16 @@ abbrev pub WhereUpAs : Running → (Replica → Type 0) → Type 0
 WhereUpAs running P = (r : Replica) → IsUpAs running r → P r
 
 -- the replica is down, and left this log
-pub record IsStopped (left : Stopped) (log : Log) : Type 0 where
+pub record IsStopped (left : MpStopped) (log : Log) : Type 0 where
   pub disk : IsDisk left.disk log
   pub executed_is : left.executed ≡ length (executed log)
 
-abbrev pub IsIn : Place → SiteOnPaper → Type 0
-IsIn (Place.Up running) (SiteOnPaper.Up r) = IsUpAs running r
-IsIn (Place.Up running) (SiteOnPaper.Down log) = ⊥
-IsIn (Place.Down left) (SiteOnPaper.Up r) = ⊥
-IsIn (Place.Down left) (SiteOnPaper.Down log) = IsStopped left log
-IsIn Place.Spent s = ⊥
+abbrev pub IsIn : SiteState → SiteOnPaper → Type 0
+IsIn (SiteState.Up running) (SiteOnPaper.Up r) = IsUpAs running r
+IsIn (SiteState.Up running) (SiteOnPaper.Down log) = ⊥
+IsIn (SiteState.Down left) (SiteOnPaper.Up r) = ⊥
+IsIn (SiteState.Down left) (SiteOnPaper.Down log) = IsStopped left log
+IsIn SiteState.Spent s = ⊥
 
 -- the site of replica me of n is this one on paper
 pub record SiteStands (site : Site) (me n : ℕ) (s : SiteOnPaper) : Type 0 where
@@ -60,12 +60,12 @@ WhereSiteIsDown site P = (me n : ℕ) (log : Log) → SiteStands site me n (Site
 -- ---- what a step and a boot make
 
 -- the step is what the draft has made, and takes as many bytes
-pub record Makes (step : Step) (x : Draft) : Type 0 where
+pub record Makes (step : MpStep) (x : Draft) : Type 0 where
   pub batch : Answers step.batch (outcome_of x)
   pub size : step.size ≡ body_size x.batch
 
 -- the boot of replica me on this log
-pub record Boots (made : Boot) (me n : ℕ) (log : Log) : Type 0 where
+pub record Boots (made : BootSize) (me n : ℕ) (log : Log) : Type 0 where
   pub count : made.count ≡ boots log + 1
   pub size : made.size ≡ body_size (boot me n log).batch
 
@@ -110,10 +110,10 @@ WhereDown sites k P =
     (n : ℕ) (places : List SiteOnPaper) (log : Log) → StandFor sites n places → slice_get places k ≡ Some (SiteOnPaper.Down log) → P n places log
 
 -- the step is what the draft has made, and replica k goes on as it leaves it
-abbrev pub StepsTo : Step → Draft → Sites → ℕ → List SiteOnPaper → ℕ → Type 0
+abbrev pub StepsTo : MpStep → Draft → Sites → ℕ → List SiteOnPaper → ℕ → Type 0
 StepsTo step x sites n places k = Makes step x × StandFor sites n (slice_set places k (SiteOnPaper.Up x.replica))
 
 -- replica k has booted on this log
-abbrev pub BootsTo : Boot → Log → Sites → ℕ → List SiteOnPaper → ℕ → Type 0
+abbrev pub BootsTo : BootSize → Log → Sites → ℕ → List SiteOnPaper → ℕ → Type 0
 BootsTo made log sites n places k =
     Boots made k n log × StandFor sites n (slice_set places k (SiteOnPaper.Up (boot k n log).replica))

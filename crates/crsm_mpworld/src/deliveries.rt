@@ -11,7 +11,7 @@ ghost use Rattle.crsm_mpworld.specs.World.{Leads, WhereHolds};
 ghost use Rattle.crsm_schedule.specs.Grammar.{FitsSingle};
 ghost use Rattle.crsm_spec.specs.Acts.{Act, Single as OneStep};
 
-use crate::ending::Ending;
+use crate::ending::MpEnding;
 use crate::outgoing::leave;
 use crate::world::MpWorld;
 use crsm_base::{Command, NoMemory};
@@ -23,7 +23,7 @@ impl MpWorld {
     fn arrive(
         &mut self,
         k: u64,
-        ending: Ending,
+        ending: MpEnding,
         input: &MpInput,
         lines: &mut MpLines,
     ) -> Result<(), NoMemory>
@@ -37,7 +37,7 @@ impl MpWorld {
     }
 
     /// The message of this number comes to its receiver. Nothing happens where it is not up.
-    fn come(&mut self, ending: Ending, number: u64, lines: &mut MpLines) -> Result<(), NoMemory>
+    fn come(&mut self, ending: MpEnding, number: u64, lines: &mut MpLines) -> Result<(), NoMemory>
         ensures { OnOk result (WhereHolds self.old (λ v.
             WorldLeadsOn (moments.come (ending_of ending) v (slice_get v.packets number)) self.new lines.old lines.new)) }
     {
@@ -52,7 +52,7 @@ impl MpWorld {
     }
 
     /// The message of this number is used, and comes to its receiver.
-    fn go(&mut self, ending: Ending, number: u64, lines: &mut MpLines) -> Result<(), NoMemory>
+    fn go(&mut self, ending: MpEnding, number: u64, lines: &mut MpLines) -> Result<(), NoMemory>
         ensures { OnOk result (WhereHolds self.old (λ v. (reading : ℕ) →
             WorldLeadsOn (moments.single (ending_of ending) v (OneStep.Go number reading)) self.new lines.old lines.new)) }
     {
@@ -64,7 +64,7 @@ impl MpWorld {
     /// A client's command comes to a replica.
     fn request(
         &mut self,
-        ending: Ending,
+        ending: MpEnding,
         k: u64,
         command: &Command,
         lines: &mut MpLines,
@@ -81,7 +81,7 @@ impl MpWorld {
     /// One step of one replica, which ends so. Its lines go behind those so far.
     fn add_single(
         &mut self,
-        ending: Ending,
+        ending: MpEnding,
         single: &Single,
         lines: &mut MpLines,
     ) -> Result<(), NoMemory>
@@ -109,7 +109,11 @@ impl MpWorld {
     }
 
     /// One step of one replica, which ends so.
-    pub(crate) fn do_single(&mut self, ending: Ending, single: &Single) -> Result<MpLines, NoMemory>
+    pub(crate) fn do_single(
+        &mut self,
+        ending: MpEnding,
+        single: &Single,
+    ) -> Result<MpLines, NoMemory>
         requires { FitsSingle single.now }
         ensures { IfOk result (λ lines. WhereHolds self.old (λ v. Leads (moments.single (ending_of ending) v (single_of single.now)) self.new lines)) }
     {
@@ -127,7 +131,7 @@ impl MpWorld {
             if self.network.is_full() {
                 return Ok(lines);
             }
-            self.go(Ending::Whole, *number, &mut lines)?;
+            self.go(MpEnding::Whole, *number, &mut lines)?;
         }
         Ok(lines)
     }

@@ -8,21 +8,21 @@ ghost use Rattle.crsm_mpspec.specs.World as on_paper;
 ghost use Rattle.crsm_mpworld.specs.Effects.{FitsEffects, Leaves, WhereSites, WhereUpIn, ending_of};
 ghost use Rattle.crsm_mpworld.specs.Sites.{StandFor};
 
-use crate::ending::{Effects, Ending};
+use crate::ending::{MpEffects, MpEnding};
 use crate::sites::Sites;
 use crsm_base::NoMemory;
 use crsm_mpspec::MpInput;
 
 impl Sites {
     /// A whole step of a replica that is up.
-    fn step_whole(&mut self, k: u32, input: &MpInput, from: u32) -> Result<Effects, NoMemory>
+    fn step_whole(&mut self, k: u32, input: &MpInput, from: u32) -> Result<MpEffects, NoMemory>
         requires { FitsInput input.now }
         ensures leaves { IfOk result (λ effects. WhereUpIn self.old k (λ v r.
             Leaves (on_paper.whole_step v k (steps.step r input.now from)) v effects self.new)) }
         ensures fits { IfOk result (λ effects. FitsEffects effects) }
     {
         let step = self.step(k, input, from)?;
-        Ok(Effects::Whole { k, step })
+        Ok(MpEffects::Whole { k, step })
     }
 
     /// A step of a replica that is up, which stops when its records are kept and so many of its messages and replies
@@ -33,7 +33,7 @@ impl Sites {
         sends: u64,
         input: &MpInput,
         from: u32,
-    ) -> Result<Effects, NoMemory>
+    ) -> Result<MpEffects, NoMemory>
         requires { FitsInput input.now }
         ensures leaves { IfOk result (λ effects. WhereUpIn self.old k (λ v r.
             Leaves (on_paper.cut_step sends v k (steps.step r input.now from)) v effects self.new)) }
@@ -41,28 +41,28 @@ impl Sites {
     {
         let step = self.step(k, input, from)?;
         self.crash(k)?;
-        Ok(Effects::Cut { k, step, sends })
+        Ok(MpEffects::Cut { k, step, sends })
     }
 
     /// A step of a replica that is up, whose records are lost.
-    fn step_stopped(&mut self, k: u32, input: &MpInput, from: u32) -> Result<Effects, NoMemory>
+    fn step_stopped(&mut self, k: u32, input: &MpInput, from: u32) -> Result<MpEffects, NoMemory>
         requires { FitsInput input.now }
         ensures leaves { IfOk result (λ effects. WhereUpIn self.old k (λ v r.
             Leaves (on_paper.lost_step v k (steps.step r input.now from)) v effects self.new)) }
         ensures fits { IfOk result (λ effects. FitsEffects effects) }
     {
         self.step_lost(k, input, from)?;
-        Ok(Effects::Down { k })
+        Ok(MpEffects::Down { k })
     }
 
     /// A replica goes down with what is on its disk.
-    pub(crate) fn go_down(&mut self, k: u32) -> Result<Effects, NoMemory>
+    pub(crate) fn go_down(&mut self, k: u32) -> Result<MpEffects, NoMemory>
         ensures leaves { IfOk result (λ effects. WhereSites self.old (λ v. (p : on_paper.Site) → slice_get v.sites k ≡ Some p →
             Leaves (on_paper.down v k) v effects self.new)) }
         ensures fits { IfOk result (λ effects. FitsEffects effects) }
     {
         self.crash(k)?;
-        Ok(Effects::Down { k })
+        Ok(MpEffects::Down { k })
     }
 
     /// Something comes to a replica, whose step ends so. A message comes from replica `from`. Nothing happens where it
@@ -70,22 +70,22 @@ impl Sites {
     pub(crate) fn arrive(
         &mut self,
         k: u64,
-        ending: Ending,
+        ending: MpEnding,
         input: &MpInput,
         from: u32,
-    ) -> Result<Effects, NoMemory>
+    ) -> Result<MpEffects, NoMemory>
         requires { FitsInput input.now }
         ensures leaves { IfOk result (λ effects. WhereSites self.old (λ v.
             Leaves (step_at (ending_of ending) v k input.now from) v effects self.new)) }
         ensures fits { IfOk result (λ effects. FitsEffects effects) }
     {
         let Some(k) = self.up(k) else {
-            return Ok(Effects::Nothing);
+            return Ok(MpEffects::Nothing);
         };
         match ending {
-            Ending::Whole => Ok(self.step_whole(k, input, from)?),
-            Ending::Kept { sends } => Ok(self.step_kept(k, sends, input, from)?),
-            Ending::Lost => Ok(self.step_stopped(k, input, from)?),
+            MpEnding::Whole => Ok(self.step_whole(k, input, from)?),
+            MpEnding::Kept { sends } => Ok(self.step_kept(k, sends, input, from)?),
+            MpEnding::Lost => Ok(self.step_stopped(k, input, from)?),
         }
     }
 }

@@ -10,7 +10,7 @@ ghost use Rattle.crsm_mpworld.specs.World.{Leads, WhereHolds};
 ghost use Rattle.crsm_schedule.specs.Grammar.{FitsEvent};
 ghost use Rattle.crsm_spec.specs.Acts.{Act};
 
-use crate::ending::Ending;
+use crate::ending::MpEnding;
 use crate::outgoing::leave;
 use crate::world::MpWorld;
 use crsm_base::{NoMemory, never};
@@ -65,14 +65,14 @@ impl MpWorld {
         ensures { IfOk result (λ lines. WhereHolds self.old (λ v. possible v (act_of event.now) ≡ None → Leads (act v (act_of event.now)) self.new lines)) }
     {
         match event {
-            Event::One { single } => Ok(self.do_single(Ending::Whole, single)?),
+            Event::One { single } => Ok(self.do_single(MpEnding::Whole, single)?),
             Event::Lose { number } => Ok(self.lose(*number)),
             Event::Crash { replica } => Ok(self.crash(*replica)?),
             Event::Start { replica } => Ok(self.start(*replica)?),
             Event::Settle { .. } => Ok(self.settle()?),
-            Event::CutLost { single } => Ok(self.do_single(Ending::Lost, single)?),
+            Event::CutLost { single } => Ok(self.do_single(MpEnding::Lost, single)?),
             Event::CutKept { sends, single } => {
-                Ok(self.do_single(Ending::Kept { sends: *sends }, single)?)
+                Ok(self.do_single(MpEnding::Kept { sends: *sends }, single)?)
             }
             // Groups of deliveries, and stops at a call of the device, mean nothing here.
             Event::Batch { .. } => Ok(self.no_lines()),

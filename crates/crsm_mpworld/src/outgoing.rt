@@ -8,10 +8,10 @@ ghost use Rattle.crsm_mpworld.specs.Effects.{FitsEffects, HasSent, LeadsOn, Lets
 ghost use Rattle.crsm_mpworld.specs.Packets.{WhereNetwork};
 ghost use Rattle.crsm_mpworld.specs.Fits.{FitsSend};
 
-use crate::ending::Effects;
+use crate::ending::MpEffects;
 use crate::lines::kind_of;
 use crate::network::MpNetwork;
-use crate::site::Step;
+use crate::site::MpStep;
 use crsm_base::NoMemory;
 use crsm_mpspec::{MpLine, MpLines, MpSend, MpSends};
 
@@ -57,14 +57,14 @@ fn send_all(
 fn let_out(
     network: &mut MpNetwork,
     k: u32,
-    step: Step,
+    step: MpStep,
     count: u64,
     lines: &mut MpLines,
 ) -> Result<(), NoMemory>
     requires { AllByRecursion FitsSend step.batch.sends }
     ensures { OnOk result (WhereMade network.old step (λ packets bytes x. LetsOutSome count lines.old packets bytes k x network.new lines.new)) }
 {
-    let Step { batch, size } = step;
+    let MpStep { batch, size } = step;
     let mut own = batch.lines;
     let mut sends = batch.sends;
     let mut replies = batch.replies;
@@ -82,13 +82,13 @@ fn let_out(
 fn let_all_out(
     network: &mut MpNetwork,
     k: u32,
-    step: Step,
+    step: MpStep,
     lines: &mut MpLines,
 ) -> Result<(), NoMemory>
     requires { AllByRecursion FitsSend step.batch.sends }
     ensures { OnOk result (WhereMade network.old step (λ packets bytes x. LetsOut lines.old packets bytes k x x.sends x.replies network.new lines.new)) }
 {
-    let Step { batch, size } = step;
+    let MpStep { batch, size } = step;
     let mut own = batch.lines;
     let mut replies = batch.replies;
     network.keep(size)?;
@@ -101,24 +101,24 @@ fn let_all_out(
 /// What a replica left goes out, behind the lines so far.
 pub(crate) fn leave(
     network: &mut MpNetwork,
-    effects: Effects,
+    effects: MpEffects,
     lines: &mut MpLines,
 ) -> Result<(), NoMemory>
     requires { FitsEffects effects }
     ensures { OnOk result (WhereLeft network.old effects (λ m v sites. LeadsOn m v.n sites network.new lines.old lines.new)) }
 {
     match effects {
-        Effects::Nothing => Ok(()),
-        Effects::Whole { k, step } => {
+        MpEffects::Nothing => Ok(()),
+        MpEffects::Whole { k, step } => {
             let_all_out(network, k, step, lines)?;
             Ok(())
         }
-        Effects::Cut { k, step, sends } => {
+        MpEffects::Cut { k, step, sends } => {
             let_out(network, k, step, sends, lines)?;
             lines.push(MpLine::Down { replica: k })?;
             Ok(())
         }
-        Effects::Down { k } => {
+        MpEffects::Down { k } => {
             lines.push(MpLine::Down { replica: k })?;
             Ok(())
         }

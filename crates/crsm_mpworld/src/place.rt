@@ -24,7 +24,7 @@ pub(crate) struct Running {
 
 /// What is left of a replica that is down: its disk, and how many slots are executed by its log.
 #[derive(Drop)]
-pub(crate) struct Stopped {
+pub(crate) struct MpStopped {
     pub(crate) disk: MemDisk,
     pub(crate) executed: u64,
     ghost well: { good_left disk ≡ None },
@@ -33,9 +33,9 @@ pub(crate) struct Stopped {
 
 /// Where a replica is.
 #[derive(Drop)]
-pub(crate) enum Place {
+pub(crate) enum SiteState {
     Up(Running),
-    Down(Stopped),
+    Down(MpStopped),
     /// Memory ran out while it changed.
     Spent,
 }
@@ -46,7 +46,7 @@ pub(crate) struct Site {
     pub(crate) alloc: Global,
     pub(crate) me: u32,
     pub(crate) n: u32,
-    pub(crate) place: Place,
+    pub(crate) place: SiteState,
     ghost mine: { me < n },
     ghost most: { n ≤ 15 },
 }

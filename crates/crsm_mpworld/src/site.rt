@@ -15,7 +15,7 @@ ghost use Rattle.crsm_mpspec.specs.World.{body_size};
 ghost use Rattle.crsm_mpworld.specs.Disks.{IsDisk, bytes_of, image};
 ghost use Rattle.crsm_mpworld.specs.Fits.{FitsSend};
 
-use crate::place::{Running, Stopped};
+use crate::place::{MpStopped, Running};
 use crsm_base::{Bytes, NoMemory, never};
 use crsm_disk::MemDisk;
 use crsm_log::{Log, PutError, stop_keeps};
@@ -26,7 +26,7 @@ use std::alloc::Global;
 
 /// What a step made, and how many bytes its log body has.
 #[derive(Drop)]
-pub(crate) struct Step {
+pub(crate) struct MpStep {
     pub(crate) batch: MpBatch,
     pub(crate) size: u64,
 }
@@ -130,7 +130,7 @@ impl Running {
     }
 
     /// One step, whose records are kept.
-    pub(crate) fn step(&mut self, input: &MpInput, from: u32) -> Result<Step, NoMemory>
+    pub(crate) fn step(&mut self, input: &MpInput, from: u32) -> Result<MpStep, NoMemory>
         requires { FitsInput input.now }
         ensures fits { IfOk result (λ step. AllByRecursion FitsSend step.batch.sends) }
         ensures steps { IfOk result (λ step. WhereUpAs self.old (λ r.
@@ -144,11 +144,11 @@ impl Running {
         let batch = self.core.step(input, from)?;
         let size = keep_records(self.alloc, &mut self.log, batch.records.as_slice())?;
         self.is_spent = false;
-        Ok(Step { batch, size })
+        Ok(MpStep { batch, size })
     }
 
     /// The replica goes down now.
-    pub(crate) fn stop(self) -> Result<Stopped, NoMemory>
+    pub(crate) fn stop(self) -> Result<MpStopped, NoMemory>
         ensures { IfOk result (λ left. WhereUpAs self (λ r. IsStopped left r.log)) }
     {
         let Running {
@@ -162,11 +162,11 @@ impl Running {
         }
         let executed = executed_by(&core);
         let disk = left_on(log)?;
-        Ok(Stopped { disk, executed })
+        Ok(MpStopped { disk, executed })
     }
 
     /// One step that is stopped after one call of its put: its records are lost.
-    pub(crate) fn step_lost(self, input: &MpInput, from: u32) -> Result<Stopped, NoMemory>
+    pub(crate) fn step_lost(self, input: &MpInput, from: u32) -> Result<MpStopped, NoMemory>
         requires { FitsInput input.now }
         ensures { IfOk result (λ left. WhereUpAs self (λ r. IsStopped left r.log)) }
     {
@@ -183,6 +183,6 @@ impl Running {
         let batch = core.step(input, from)?;
         put_in_vain(alloc, &mut log, batch.records.as_slice())?;
         let disk = left_on(log)?;
-        Ok(Stopped { disk, executed })
+        Ok(MpStopped { disk, executed })
     }
 }

@@ -9,8 +9,8 @@ ghost use Rattle.crsm_mpworld.specs.Fits.{FitsSend};
 ghost use Rattle.crsm_mpworld.specs.Sites.{StandFor, StepsTo, BootsTo, is_up_in, up_in, WhereSiteStands, WhereSitesStand, WherePlace, WhereUp, WhereDown};
 
 use crate::place::Site;
-use crate::site::Step;
-use crate::stops::Boot;
+use crate::site::MpStep;
+use crate::stops::BootSize;
 use crsm_base::{NoMemory, never};
 use crsm_mpspec::{MpInput, MpLine, MpLines};
 use std::alloc::Global;
@@ -86,7 +86,7 @@ impl Sites {
     }
 
     /// A replica that is down boots on its disk.
-    pub(crate) fn start(&mut self, k: u32) -> Result<Boot, NoMemory>
+    pub(crate) fn start(&mut self, k: u32) -> Result<BootSize, NoMemory>
         ensures { IfOk result (λ made. WhereDown self.old k (λ n places log. BootsTo made log self.new n places k)) }
     {
         self.check(k)?;
@@ -104,7 +104,7 @@ impl Sites {
     }
 
     /// One step of a replica that is up.
-    pub(crate) fn step(&mut self, k: u32, input: &MpInput, from: u32) -> Result<Step, NoMemory>
+    pub(crate) fn step(&mut self, k: u32, input: &MpInput, from: u32) -> Result<MpStep, NoMemory>
         requires { FitsInput input.now }
         ensures fits { IfOk result (λ step. AllByRecursion FitsSend step.batch.sends) }
         ensures steps { IfOk result (λ step. WhereUp self.old k (λ n places r. StepsTo step (steps.step r input.now from) self.new n places k)) }

@@ -10,8 +10,8 @@ ghost use Rattle.crsm_mpworld.specs.Disks.{IsDisk};
 ghost use Rattle.crsm_mpworld.specs.Fits.{FitsSend};
 ghost use Rattle.crsm_mpworld.specs.Sites.{Boots, IsUpAs, Makes, SiteStands, WhereSiteStands, WhereSiteIsDown, WhereSiteIsUp};
 
-use crate::place::{Place, Running, Site, Stopped};
-use crate::site::{Step, body_of, keep};
+use crate::place::{MpStopped, Running, Site, SiteState};
+use crate::site::{MpStep, body_of, keep};
 use crsm_base::{NoMemory, never};
 use crsm_disk::MemDisk;
 use crsm_log::{Log, MountError};
@@ -22,7 +22,7 @@ use std::mem;
 
 /// A boot: how many there were, and how many bytes its log body has.
 #[derive(Clone, Copy)]
-pub(crate) struct Boot {
+pub(crate) struct BootSize {
     pub(crate) count: u64,
     pub(crate) size: u64,
 }
@@ -39,7 +39,7 @@ impl Site {
             alloc,
             me,
             n,
-            place: Place::Down(Stopped { disk, executed: 0 }),
+            place: SiteState::Down(MpStopped { disk, executed: 0 }),
         })
     }
 
@@ -48,7 +48,7 @@ impl Site {
     pub(crate) fn is_up(&self) -> bool
         ensures { WhereSiteStands self.now (λ me n s. result ≡ on_paper.is_up s) }
     {
-        matches!(&self.place, Place::Up(_))
+        matches!(&self.place, SiteState::Up(_))
     }
 
     /// How many slots are executed by its log.
@@ -56,14 +56,14 @@ impl Site {
         ensures { WhereSiteStands self.now (λ me n s. result ≡ length (executed (on_paper.log_of s))) }
     {
         match &self.place {
-            Place::Up(running) => running.executed_len(),
-            Place::Down(left) => left.executed,
-            Place::Spent => 0,
+            SiteState::Up(running) => running.executed_len(),
+            SiteState::Down(left) => left.executed,
+            SiteState::Spent => 0,
         }
     }
 
     /// From now on the replica is here.
-    fn move_to(&mut self, place: Place)
+    fn move_to(&mut self, place: SiteState)
         ensures me { self.new.me ≡ self.old.me }
         ensures n { self.new.n ≡ self.old.n }
         ensures place { self.new.place ≡ place }
@@ -72,19 +72,19 @@ impl Site {
     }
 
     /// The replica, which is down, boots on its disk.
-    pub(crate) fn start(&mut self) -> Result<Boot, NoMemory>
+    pub(crate) fn start(&mut self) -> Result<BootSize, NoMemory>
         ensures { IfOk result (λ made. WhereSiteIsDown self.old (λ me n log.
             Boots made me n log × SiteStands self.new me n (on_paper.Site.Up (steps.boot me n log).replica))) }
     {
-        match mem::replace(&mut self.place, Place::Spent) {
-            Place::Down(left) => {
+        match mem::replace(&mut self.place, SiteState::Spent) {
+            SiteState::Down(left) => {
                 let (running, boot) = boot_on(self.alloc, self.me, self.n, left)?;
-                self.move_to(Place::Up(running));
+                self.move_to(SiteState::Up(running));
                 Ok(boot)
             }
             // A world starts what is down.
-            Place::Up(_) => Err(never()),
-            Place::Spent => Err(NoMemory),
+            SiteState::Up(_) => Err(never()),
+            SiteState::Spent => Err(NoMemory),
         }
     }
 
@@ -92,31 +92,31 @@ impl Site {
     pub(crate) fn crash(&mut self) -> Result<(), NoMemory>
         ensures { OnOk result (WhereSiteStands self.old (λ me n s. SiteStands self.new me n (on_paper.Site.Down (on_paper.log_of s)))) }
     {
-        match mem::replace(&mut self.place, Place::Spent) {
-            Place::Up(running) => {
-                self.move_to(Place::Down(running.stop()?));
+        match mem::replace(&mut self.place, SiteState::Spent) {
+            SiteState::Up(running) => {
+                self.move_to(SiteState::Down(running.stop()?));
                 Ok(())
             }
-            Place::Down(left) => {
-                self.move_to(Place::Down(left));
+            SiteState::Down(left) => {
+                self.move_to(SiteState::Down(left));
                 Ok(())
             }
-            Place::Spent => Err(NoMemory),
+            SiteState::Spent => Err(NoMemory),
         }
     }
 
     /// One step of the replica, which is up.
-    pub(crate) fn step(&mut self, input: &MpInput, from: u32) -> Result<Step, NoMemory>
+    pub(crate) fn step(&mut self, input: &MpInput, from: u32) -> Result<MpStep, NoMemory>
         requires { FitsInput input.now }
         ensures fits { IfOk result (λ step. AllByRecursion FitsSend step.batch.sends) }
         ensures steps { IfOk result (λ step. WhereSiteIsUp self.old (λ me n r.
             Makes step (steps.step r input.now from) × SiteStands self.new me n (on_paper.Site.Up (steps.step r input.now from).replica))) }
     {
         match &mut self.place {
-            Place::Up(running) => Ok(running.step(input, from)?),
+            SiteState::Up(running) => Ok(running.step(input, from)?),
             // A world steps what is up.
-            Place::Down(_) => Err(never()),
-            Place::Spent => Err(NoMemory),
+            SiteState::Down(_) => Err(never()),
+            SiteState::Spent => Err(NoMemory),
         }
     }
 
@@ -125,20 +125,20 @@ impl Site {
         requires { FitsInput input.now }
         ensures { OnOk result (WhereSiteIsUp self.old (λ me n r. SiteStands self.new me n (on_paper.Site.Down r.log))) }
     {
-        match mem::replace(&mut self.place, Place::Spent) {
-            Place::Up(running) => {
-                self.move_to(Place::Down(running.step_lost(input, from)?));
+        match mem::replace(&mut self.place, SiteState::Spent) {
+            SiteState::Up(running) => {
+                self.move_to(SiteState::Down(running.step_lost(input, from)?));
                 Ok(())
             }
             // A world stops a step of what is up.
-            Place::Down(_) => Err(never()),
-            Place::Spent => Err(NoMemory),
+            SiteState::Down(_) => Err(never()),
+            SiteState::Spent => Err(NoMemory),
         }
     }
 }
 
 /// A boot on what was left. The log that was kept is read again, and no call of the disk fails.
-fn boot_on(alloc: Global, me: u32, n: u32, left: Stopped) -> Result<(Running, Boot), NoMemory>
+fn boot_on(alloc: Global, me: u32, n: u32, left: MpStopped) -> Result<(Running, BootSize), NoMemory>
     requires mine { me < n }
     requires most { n ≤ 15 }
     ensures { IfOk result (λ made. (log : LogOnPaper) → IsDisk left.disk log →
@@ -154,7 +154,7 @@ fn boot_on(alloc: Global, me: u32, n: u32, left: Stopped) -> Result<(Running, Bo
     keep(alloc, &mut log, body.as_slice())?;
     bodies.push(body.as_slice())?;
     let core = MpCore::recover(alloc, me, n, &bodies)?;
-    let boot = Boot {
+    let boot = BootSize {
         count: core.ledger().boots(),
         size: body.as_slice().len() as u64,
     };

@@ -11,12 +11,12 @@ use Rattle.crsm_spec.specs.Node.{Turn}
 use Rattle.crsm_spec.specs.Replica.{Replica}
 use Rattle.crsm_replica_io.specs.Input.{CountsTick, IsFirst, TakesInput}
 use Rattle.crsm_replica_io.specs.Outgoing.{raised_by}
-use Rattle.crsm_replica_io.specs.declared.input.Taken.{Taken}
-use Rattle.crsm_replica_io.specs.declared.input.Taken.TheVariants as taken
+use Rattle.crsm_replica_io.specs.declared.input.ReceivedInput.{ReceivedInput}
+use Rattle.crsm_replica_io.specs.declared.input.ReceivedInput.TheVariants as taken
 use Rattle.crsm_replica_io.specs.declared.input.TakeError.{TakeError}
 use Rattle.crsm_replica_io.specs.declared.input.TakeError.TheVariants as take_error
-use Rattle.crsm_replica_io.specs.declared.input.What.{What}
-use Rattle.crsm_replica_io.specs.declared.input.What.TheVariants as what
+use Rattle.crsm_replica_io.specs.declared.input.WantedInput.{WantedInput}
+use Rattle.crsm_replica_io.specs.declared.input.WantedInput.TheVariants as what
 use Rattle.crsm_replica_detector.specs.Detector.{DetectorStands}
 use Rattle.crsm_replica_detector.specs.Watching.{Watch}
 use Rattle.crsm_replica_detector.specs.Wished.{Fulfils, chosen, empty_receive, wish_of}
@@ -46,7 +46,7 @@ told_both R (Some t) None told each = absurd (none_some Traffic (told.0 refl))
 told_both R (Some t) (Some u) told each = each t u refl refl
 
 -- the first datagram that waits is taken, or none waits
-first_passes : (buffer : List ℕ) (coat : Coat) (t u : Traffic) (it : Taken) → IsFirst most_received buffer coat t u it → Passes coat (datagram_in (turn_of buffer it)) [] t u
+first_passes : (buffer : List ℕ) (coat : Coat) (t u : Traffic) (it : ReceivedInput) → IsFirst most_received buffer coat t u it → Passes coat (datagram_in (turn_of buffer it)) [] t u
 unfolding turn_of
 first_passes buffer coat t u taken.Tick h = subst (λ (x : Traffic). Passes coat [] [] t x) (sym h.1) (passes_none coat t)
 first_passes buffer coat t u (taken.Datagram from len) h =
@@ -66,20 +66,20 @@ first_passes buffer coat t u (taken.Suspect members) h = absurd h
 
 -- ---- what is taken
 
-abbrev taking : Taken → Result Taken TakeError
+abbrev taking : ReceivedInput → Result ReceivedInput TakeError
 taking t = Ok t
 
-no_fault : (t : Taken) → taking t ≡ Err take_error.PortFault → ⊥
+no_fault : (t : ReceivedInput) → taking t ≡ Err take_error.PortFault → ⊥
 no_fault t is = cc
 
-counts : (old new : ℕ) (buffer : List ℕ) (t : Taken) → CountsTick old new t → raised_by (empty_receive what.Receive (turn_of buffer t)) old ≤ new
+counts : (old new : ℕ) (buffer : List ℕ) (t : ReceivedInput) → CountsTick old new t → raised_by (empty_receive what.Receive (turn_of buffer t)) old ≤ new
 unfolding turn_of
 counts old new buffer taken.Tick h = omega (arith, h.0)
 counts old new buffer (taken.Datagram from len) h = omega (arith, h)
 counts old new buffer (taken.Suspect members) h = absurd h
 
 -- nothing is taken off the port
-stays_off : (wanted : What) (t : Turn) (m : PortMeaning) → datagram_in t ≡ [] → empty_receive wanted t ≡ 0 → TakesOff wanted t m m
+stays_off : (wanted : WantedInput) (t : Turn) (m : PortMeaning) → datagram_in t ≡ [] → empty_receive wanted t ≡ 0 → TakesOff wanted t m m
 stays_off wanted t m none zero = record {
   traffic = subst (λ (ps : List Packet). BothTell (Passes m.coat ps []) m.traffic m.traffic) (sym none) (both_same (Passes m.coat [] []) m.traffic (passes_none m.coat));
   empties = subst (λ (k : ℕ). raised_by k m.empties ≤ m.empties) (sym zero) (raised_none m.empties m.empties (omega arith));
@@ -89,11 +89,11 @@ stays_off wanted t m none zero = record {
   lent = refl;
 }
 
-same_input : (t u : Taken) → taking t ≡ taking u → t ≡ u
+same_input : (t u : ReceivedInput) → taking t ≡ taking u → t ≡ u
 same_input t u is = cc
 
 -- the input that was taken as it is wanted
-pub takes_off : (wanted : What) (buffer : List ℕ) (old new : PortMeaning) (t : Taken) → TakesInput wanted most_received buffer old new (Ok t) → TakesOff wanted (turn_of buffer t) old new
+pub takes_off : (wanted : WantedInput) (buffer : List ℕ) (old new : PortMeaning) (t : ReceivedInput) → TakesInput wanted most_received buffer old new (Ok t) → TakesOff wanted (turn_of buffer t) old new
 unfolding turn_of
 takes_off what.Receive buffer old new t h = record {
   traffic = told_both (Passes old.coat (datagram_in (turn_of buffer t)) []) old.traffic new.traffic h.told (λ a b is other. first_passes buffer old.coat a b t (h.first a b is other));
@@ -105,36 +105,36 @@ takes_off what.Receive buffer old new t h = record {
 }
 takes_off what.Tick buffer old new t h =
     subst (λ (m : PortMeaning). TakesOff what.Tick (turn_of buffer t) old m) (sym h.0)
-    (subst (λ (x : Taken). TakesOff what.Tick (turn_of buffer x) old old) (sym (same_input t taken.Tick h.1)) (stays_off what.Tick Turn.Tick old refl refl))
+    (subst (λ (x : ReceivedInput). TakesOff what.Tick (turn_of buffer x) old old) (sym (same_input t taken.Tick h.1)) (stays_off what.Tick Turn.Tick old refl refl))
 takes_off (what.Suspect members) buffer old new t h =
     subst (λ (m : PortMeaning). TakesOff (what.Suspect members) (turn_of buffer t) old m) (sym h.0)
-    (subst (λ (x : Taken). TakesOff (what.Suspect members) (turn_of buffer x) old old) (sym (same_input t (taken.Suspect members) h.1))
+    (subst (λ (x : ReceivedInput). TakesOff (what.Suspect members) (turn_of buffer x) old old) (sym (same_input t (taken.Suspect members) h.1))
     (stays_off (what.Suspect members) (Turn.Suspect members) old refl refl))
 
 -- the law of the detector: what is taken as it is wanted is such a turn
 abbrev pub FulfilsWishes : Type 0
-FulfilsWishes = (wanted : What) (size : ℕ) (buffer : List ℕ) (old new : PortMeaning) (t : Taken) → TakesInput wanted size buffer old new (Ok t) → Fulfils wanted (turn_of buffer t)
+FulfilsWishes = (wanted : WantedInput) (size : ℕ) (buffer : List ℕ) (old new : PortMeaning) (t : ReceivedInput) → TakesInput wanted size buffer old new (Ok t) → Fulfils wanted (turn_of buffer t)
 
-pub took_as_wished : FulfilsWishes → (r : Replica) (w : Watch) (wanted : What) → wanted ≡ wish_of w r → (buffer : List ℕ) (ahead later : Option Readings) (old between new : PortMeaning) → between ≡ old → (t : Taken) (reading : ℕ) →
+pub took_as_wished : FulfilsWishes → (r : Replica) (w : Watch) (wanted : WantedInput) → wanted ≡ wish_of w r → (buffer : List ℕ) (ahead later : Option Readings) (old between new : PortMeaning) → between ≡ old → (t : ReceivedInput) (reading : ℕ) →
     TakesInput wanted most_received buffer between new (Ok t) → Gives ahead later reading → Took r w (turn_of buffer t, reading) ahead later old new
 took_as_wished law r w wanted is buffer ahead later old between new same t reading h gives =
     let k : TakesInput wanted most_received buffer old new (Ok t) = subst (λ (m : PortMeaning). TakesInput wanted most_received buffer m new (Ok t)) same h in
     record {
-      fulfils = subst (λ (x : What). Fulfils x (turn_of buffer t)) is (law wanted most_received buffer old new t k);
+      fulfils = subst (λ (x : WantedInput). Fulfils x (turn_of buffer t)) is (law wanted most_received buffer old new t k);
       gives = gives;
-      off = subst (λ (x : What). TakesOff x (turn_of buffer t) old new) is (takes_off wanted buffer old new t k);
+      off = subst (λ (x : WantedInput). TakesOff x (turn_of buffer t) old new) is (takes_off wanted buffer old new t k);
     }
 
 -- ---- nothing is taken
 
-abbrev taking_fails : Result Taken TakeError
+abbrev taking_fails : Result ReceivedInput TakeError
 taking_fails = Err take_error.PortFault
 
-is_no_fault : (t : Taken) → taking_fails ≡ taking t → ⊥
+is_no_fault : (t : ReceivedInput) → taking_fails ≡ taking t → ⊥
 is_no_fault t is = cc
 
 module _ {D : Type 0} {g : _} (shell : Shell D g) (m : DiskMeaning) (detector : Detector) (ahead later : Option Readings) (lines : List ℕ) (kept : Log) (r : Replica) (steps : List Draft) (w : Watch) (buffer : List ℕ) (law : FulfilsWishes) where
-  receive_fails : (wanted : What) (old new : PortMeaning) → TakesInput wanted most_received buffer old new (Err take_error.PortFault) → later ≡ ahead → ShellStands shell m kept r steps →
+  receive_fails : (wanted : WantedInput) (old new : PortMeaning) → TakesInput wanted most_received buffer old new (Err take_error.PortFault) → later ≡ ahead → ShellStands shell m kept r steps →
       DetectorStands detector r.me (chosen wanted w) → FailsToReceive shell m detector ahead later old new lines lines kept r steps w
   receive_fails what.Receive old new h unread stands watches = record {
     fault = h.fault refl;
@@ -148,7 +148,7 @@ module _ {D : Type 0} {g : _} (shell : Shell D g) (m : DiskMeaning) (detector : 
   receive_fails (what.Suspect members) old new h unread stands watches = absurd (is_no_fault (taken.Suspect members) h.1)
 
   -- why a take failed
-  pub take_fails : (wanted : What) → wanted ≡ wish_of w r → (old between new : PortMeaning) → between ≡ old → (why : TurnError) → Takes wanted buffer between new (Err why) → Reads ahead later (Err why) →
+  pub take_fails : (wanted : WantedInput) → wanted ≡ wish_of w r → (old between new : PortMeaning) → between ≡ old → (why : TurnError) → Takes wanted buffer between new (Err why) → Reads ahead later (Err why) →
       (why ≡ errors.Failed → ⊥) → (why ≡ errors.PortFault → ShellStands shell m kept r steps) → DetectorStands detector r.me (chosen wanted w) →
       FailsToTake shell m detector ahead later old new lines lines kept r steps w (turn_failure why)
   take_fails wanted is old between new same errors.PortFault takes reads other stands watches =

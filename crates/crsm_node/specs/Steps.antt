@@ -13,7 +13,7 @@ use Rattle.crsm_text_sheet.specs.Sheets.{turn_line}
 use Rattle.crsm_disk.specs.Meaning.{Meaning as DiskMeaning, Same}
 use Rattle.crsm_port.specs.Meaning.{Meaning as PortMeaning}
 use Rattle.crsm_replica_io.specs.Outgoing.{packets_for, raised_by}
-use Rattle.crsm_replica_io.specs.declared.input.What.{What}
+use Rattle.crsm_replica_io.specs.declared.input.WantedInput.{WantedInput}
 use Rattle.crsm_replica_detector.specs.Detector.{DetectorStands}
 use Rattle.crsm_replica_detector.specs.Watching.{Watch, watched}
 use Rattle.crsm_replica_detector.specs.Wished.{Fulfils, empty_receive, wish_of}
@@ -33,7 +33,7 @@ turn_text t = sheet_line_text (turn_line t) ++ 10 ∷ []
 -- ---- a turn
 
 -- the turn that was wanted is taken off the port, and nothing is sent
-pub record TakesOff (wanted : What) (t : Turn) (old new : PortMeaning) : Type 0 where
+pub record TakesOff (wanted : WantedInput) (t : Turn) (old new : PortMeaning) : Type 0 where
   pub traffic : BothTell (Passes old.coat (datagram_in t) []) old.traffic new.traffic
   pub empties : raised_by (empty_receive wanted t) old.empties ≤ new.empties
   pub losses : new.losses ≡ old.losses

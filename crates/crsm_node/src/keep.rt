@@ -7,7 +7,7 @@ ghost use Rattle.crsm_shell.specs.Words.{disk_of, has_failed, peers_of};
 ghost use Rattle.crsm_node.specs.Steps.{KeepsGroup};
 
 use crate::errors::NodeError;
-use crate::pending::Pending;
+use crate::pending::PendingTurns;
 use crsm_disk::Disk;
 use crsm_io::{Sink, put_all};
 use crsm_port::Port;
@@ -18,7 +18,7 @@ pub(crate) fn keep_group<P: Port, D: Disk, O: Sink>(
     shell: &mut Shell<D>,
     port: &mut P,
     sheet: &mut O,
-    pending: &mut Pending,
+    pending: &mut PendingTurns,
 ) -> Result<(), NodeError>
     ensures keeps { WhereStands D.meaning shell.old (λ kept r steps.
         KeepsGroup D.meaning shell.old shell.new (P.meaning port.old) (P.meaning port.new) (O.written sheet.old) (O.written sheet.new) (O.faults sheet.old) (O.faults sheet.new) pending.old.lines r steps result) }

@@ -13,6 +13,6 @@ mod take;
 
 pub use errors::{NodeEnd, NodeError};
 pub use order::NodeOrder;
-pub use report::{Held, Reporter, Silent};
+pub use report::{BootReport, Reporter, Silent};
 pub use run::run_node;
 pub use serving::serve;

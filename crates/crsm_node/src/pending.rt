@@ -6,13 +6,13 @@ ghost use Rattle.crsm_replica_io.specs.Input.{IsWithin};
 ghost use Rattle.crsm_node.specs.Steps.{turn_text};
 
 use crsm_base::{Bytes, NoMemory};
-use crsm_shell::{Taken, Turned};
+use crsm_shell::{ReceivedInput, TurnResult};
 use crsm_text_sheet::{SheetLine, print_sheet, push_in};
 use std::alloc::Global;
 
 /// The turns that are pending, as their node needs them.
 #[derive(Drop)]
-pub(crate) struct Pending {
+pub(crate) struct PendingTurns {
     alloc: Global,
     /// Their lines, each with its line feed.
     pub(crate) lines: Bytes,
@@ -20,12 +20,12 @@ pub(crate) struct Pending {
     pub(crate) has_record: bool,
 }
 
-impl Pending {
+impl PendingTurns {
     /// No turn.
-    pub(crate) fn new(alloc: Global) -> Pending
+    pub(crate) fn new(alloc: Global) -> PendingTurns
         ensures { result.lines ≡ [] }
     {
-        Pending {
+        PendingTurns {
             alloc,
             lines: Bytes::new(alloc),
             has_record: false,
@@ -35,11 +35,11 @@ impl Pending {
     /// One turn more, whose datagram is a prefix of the buffer. Its line is printed at once, so that once the turn is
     /// kept no memory is needed any more.
     #[tactic(auto, unfolding(crsm_shell::specs::Taking::turn_of))]
-    pub(crate) fn add(&mut self, turned: Turned, buffer: &[u8]) -> Result<(), NoMemory>
+    pub(crate) fn add(&mut self, turned: TurnResult, buffer: &[u8]) -> Result<(), NoMemory>
         requires { IsWithin (length buffer.now) turned.taken }
         ensures { OnOk result (self.new.lines ≡ self.old.lines ++ turn_text (turn_of buffer.now turned.taken, turned.reading)) }
     {
-        let Turned {
+        let TurnResult {
             reading,
             taken,
             received: _,
@@ -50,14 +50,18 @@ impl Pending {
             self.has_record = true;
         }
         match taken {
-            Taken::Datagram { from, len } => push_in(
+            ReceivedInput::Datagram { from, len } => push_in(
                 &mut self.lines,
                 reading,
                 from,
                 &buffer[..len],
             ),
-            Taken::Tick => print_sheet(self.alloc, &SheetLine::Tick { reading }, &mut self.lines),
-            Taken::Suspect(members) => print_sheet(
+            ReceivedInput::Tick => print_sheet(
+                self.alloc,
+                &SheetLine::Tick { reading },
+                &mut self.lines,
+            ),
+            ReceivedInput::Suspect(members) => print_sheet(
                 self.alloc,
                 &SheetLine::Suspect { reading, members },
                 &mut self.lines,

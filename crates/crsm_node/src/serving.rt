@@ -7,7 +7,7 @@ ghost use Rattle.crsm_node.specs.Serving.{Serves};
 
 use crate::errors::NodeError;
 use crate::keep::keep_group;
-use crate::pending::Pending;
+use crate::pending::PendingTurns;
 use crate::take::{MOST_PENDING, take_turn};
 use crsm_clock::Clock;
 use crsm_disk::Disk;
@@ -46,7 +46,7 @@ pub fn serve<C: Clock, P: Port, D: Disk, O: Sink>(
     if shell.failed() {
         return Err(NodeError::Failed);
     }
-    let mut pending = Pending::new(alloc);
+    let mut pending = PendingTurns::new(alloc);
     for turn in 0..turns {
         match take_turn(shell, detector, clock, port, &mut pending) {
             Ok(took_datagram) => {

@@ -15,13 +15,13 @@ ghost use Rattle.crsm_shell.specs.Words.{disk_of, has_failed, peers_of};
 ghost use Rattle.crsm_node.specs.Steps.{FailsToTake, TakesTurn};
 
 use crate::errors::NodeError;
-use crate::pending::Pending;
+use crate::pending::PendingTurns;
 use crsm_base::never;
 use crsm_clock::Clock;
 use crsm_disk::Disk;
 use crsm_port::Port;
 use crsm_replica_detector::{Detector, inputs_are_wished, turns_are_watched};
-use crsm_shell::{Shell, Taken, Turned, What};
+use crsm_shell::{ReceivedInput, Shell, TurnResult, WantedInput};
 
 /// So many turns are kept together at most.
 pub(crate) const MOST_PENDING: u32 = 32;
@@ -33,7 +33,7 @@ pub(crate) fn take_turn<C: Clock, P: Port, D: Disk>(
     detector: &mut Detector,
     clock: &mut C,
     port: &mut P,
-    pending: &mut Pending,
+    pending: &mut PendingTurns,
 ) -> Result<bool, NodeError>
     ensures took { WhereStands D.meaning shell.old (λ kept r steps. WhereWatches detector.old (λ me w. me ≡ r.me → IfOk result (λ is_datagram.
         TakesTurn shell.new (D.meaning (disk_of shell.new)) detector.new (C.readings clock.old) (C.readings clock.new) (P.meaning port.old) (P.meaning port.new) pending.old.lines pending.new.lines is_datagram kept r steps w))) }
@@ -61,35 +61,35 @@ pub(crate) fn take_turn<C: Clock, P: Port, D: Disk>(
 }
 
 /// Others wait for the records that are pending: these are to be kept as soon as nothing more comes.
-fn hurry<P: Port>(port: &mut P, what: &What, pending: &Pending)
+fn hurry<P: Port>(port: &mut P, what: &WantedInput, pending: &PendingTurns)
     ensures { P.meaning port.new ≡ P.meaning port.old }
 {
-    if pending.has_record && matches!(what, What::Receive) {
+    if pending.has_record && matches!(what, WantedInput::Receive) {
         port.hurry();
     }
 }
 
 #[tactic(auto, unfolding(crsm_shell::specs::Taking::turn_of))]
-fn is_datagram(taken: &Taken) -> bool
+fn is_datagram(taken: &ReceivedInput) -> bool
     ensures { (buffer : List ℕ) (reading : ℕ) → IsTrue result ↔ IsDatagram (turn_of buffer taken.now, reading) }
 {
     match taken {
-        Taken::Datagram { .. } => true,
-        Taken::Tick => false,
-        Taken::Suspect(_) => false,
+        ReceivedInput::Datagram { .. } => true,
+        ReceivedInput::Tick => false,
+        ReceivedInput::Suspect(_) => false,
     }
 }
 
 /// Notes the reading of a turn and what it took.
 #[tactic(auto, unfolding(crsm_shell::specs::Taking::turn_of))]
-fn note(detector: &mut Detector, turned: &Turned)
+fn note(detector: &mut Detector, turned: &TurnResult)
     ensures { WhereWatches detector.old (λ me w. (buffer : List ℕ) →
         DetectorStands detector.new me (with_turn (turn_of buffer turned.now.taken) (heard_at turned.now.received turned.now.reading w))) }
 {
     detector.hear(turned.reading, turned.received);
     match turned.taken {
-        Taken::Datagram { .. } => {}
-        Taken::Tick => detector.ticked(),
-        Taken::Suspect(_) => {}
+        ReceivedInput::Datagram { .. } => {}
+        ReceivedInput::Tick => detector.ticked(),
+        ReceivedInput::Suspect(_) => {}
     }
 }

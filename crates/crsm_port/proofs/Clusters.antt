@@ -4,7 +4,7 @@ use Rattle.crsm_base.specs.declared.memory.Failed.{Failed}
 use Rattle.crsm_port_faults.specs.Plan.{Plan, Spends}
 use Rattle.crsm_port.specs.Cluster.{clustered, over, unwrapped, most_on_the_wire}
 use Rattle.crsm_port.specs.Meaning.{Meaning, Receives, Takes, Traffic}
-use Rattle.crsm_port.specs.declared.port.Got.TheVariants.{Datagram}
+use Rattle.crsm_port.specs.declared.port.Recv.TheVariants.{Datagram}
 
 -- the prefix that was copied is the prefix of the datagram
 prefix : (n : ℕ) (d x : List ℕ) → n ≤ length d → take n (take n d ++ x) ≡ take n d

@@ -8,7 +8,7 @@ use Rattle.crsm_port.specs.Inside.{arrival_of}
 use Rattle.crsm_port.specs.Meaning.{Packet}
 use Rattle.crsm_port.specs.Packets.{is_within, packets}
 use Rattle.crsm_port.specs.declared.sent_packets.Label.{Label}
-use Rattle.crsm_port.specs.declared.memory.Arrival.{Arrival}
+use Rattle.crsm_port.specs.declared.memory.QueuedDatagram.{QueuedDatagram}
 
 abbrev IsWithin : List Label → ℕ → Type 0
 IsWithin [] size = Unit {0}
@@ -66,18 +66,18 @@ packet_at [] bytes i l lt is = absurd (omega (arith, lt))
 packet_at (k ∷ labels) bytes zero l lt is = ap (λ (x : Label). Some (record { address = x.address; bytes = take x.len (drop x.start bytes) })) (sym is)
 packet_at (k ∷ labels) bytes (suc i) l lt is = packet_at labels bytes i l (omega (arith, lt)) is
 
-waits : (ls : List Arrival) (n : ℕ) (l : Arrival) → n < length ls → l ≡ slice_index_or ls n l → drop n (map arrival_of ls) ≡ arrival_of l ∷ drop (suc n) (map arrival_of ls)
+waits : (ls : List QueuedDatagram) (n : ℕ) (l : QueuedDatagram) → n < length ls → l ≡ slice_index_or ls n l → drop n (map arrival_of ls) ≡ arrival_of l ∷ drop (suc n) (map arrival_of ls)
 waits [] n l lt e = absurd (omega (arith, lt))
-waits (x ∷ ls) zero l lt e = ap (λ (y : Arrival). arrival_of y ∷ map arrival_of ls) (sym e)
+waits (x ∷ ls) zero l lt e = ap (λ (y : QueuedDatagram). arrival_of y ∷ map arrival_of ls) (sym e)
 waits (x ∷ ls) (suc n) l lt e = waits ls n l (omega (arith, lt)) e
 
-taken : (ls : List Arrival) (n : ℕ) (l : Arrival) → n < length ls → l ≡ slice_index_or ls n l → take (suc n) (map arrival_of ls) ≡ take n (map arrival_of ls) ++ arrival_of l ∷ []
+taken : (ls : List QueuedDatagram) (n : ℕ) (l : QueuedDatagram) → n < length ls → l ≡ slice_index_or ls n l → take (suc n) (map arrival_of ls) ≡ take n (map arrival_of ls) ++ arrival_of l ∷ []
 taken [] n l lt e = absurd (omega (arith, lt))
-taken (x ∷ ls) zero l lt e = ap (λ (y : Arrival). arrival_of y ∷ []) (sym e)
+taken (x ∷ ls) zero l lt e = ap (λ (y : QueuedDatagram). arrival_of y ∷ []) (sym e)
 taken (x ∷ ls) (suc n) l lt e = ap (λ (ps : List Packet). arrival_of x ∷ ps) (taken ls n l (omega (arith, lt)) e)
 
-pub next_waits : (ls : List Arrival) (n : ℕ) (l : Arrival) → n < length ls → l ≡ slice_index_or ls n l → drop n (map arrival_of ls) ≡ arrival_of l ∷ drop (n + 1) (map arrival_of ls)
+pub next_waits : (ls : List QueuedDatagram) (n : ℕ) (l : QueuedDatagram) → n < length ls → l ≡ slice_index_or ls n l → drop n (map arrival_of ls) ≡ arrival_of l ∷ drop (n + 1) (map arrival_of ls)
 next_waits ls n l lt e = rw add-one (waits ls n l lt e)
 
-pub next_taken : (ls : List Arrival) (n : ℕ) (l : Arrival) → n < length ls → l ≡ slice_index_or ls n l → take (n + 1) (map arrival_of ls) ≡ take n (map arrival_of ls) ++ arrival_of l ∷ []
+pub next_taken : (ls : List QueuedDatagram) (n : ℕ) (l : QueuedDatagram) → n < length ls → l ≡ slice_index_or ls n l → take (n + 1) (map arrival_of ls) ≡ take n (map arrival_of ls) ++ arrival_of l ∷ []
 next_taken ls n l lt e = rw add-one (taken ls n l lt e)

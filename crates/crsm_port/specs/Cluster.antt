@@ -1,12 +1,8 @@
 -- The port of one cluster over a port that clusters share. On the wire a datagram is preceded by its cluster's number.
 use Rattle.std.specs.Prelude.{◌≡◌, ◌≤◌, ◌⊎◌, ℕ, zero, suc, ◌+◌, ◌-◌, ◌^◌, min, List, [], ◌∷◌, ◌++◌, length, take, drop, None, eqb, if◌then◌else◌}
 use Rattle.std.specs.List.{starts_with}
-use Rattle.crsm_base.specs.Spelling.{u64_bytes}
+use Rattle.crsm_wire.specs.Marks.{mark_of}
 use Rattle.crsm_port.specs.Meaning.{Coat, Meaning}
-
--- the mark of a cluster: the byte 16 and the cluster's number
-abbrev pub mark_of : ℕ → List ℕ
-mark_of c = 16 ∷ u64_bytes c
 
 -- a datagram on the wire; those of cluster 0 have no mark
 abbrev pub wrapped : ℕ → List ℕ → List ℕ

@@ -1,12 +1,12 @@
 -- The invariant of a port in memory.
 use Rattle.std.specs.Prelude.{◌+◌, ◌≤◌, map, length, vec_len, vec_capacity}
 use Rattle.crsm_port.specs.declared.memory.MemPort.TheInside.{Inside}
-use Rattle.crsm_port.specs.declared.memory.Arrival.{Arrival}
+use Rattle.crsm_port.specs.declared.memory.QueuedDatagram.{QueuedDatagram}
 use Rattle.crsm_port.specs.Meaning.{Packet}
 use Rattle.crsm_port.specs.Memory.{Memory}
 use Rattle.crsm_port.specs.Sent.{packets_of}
 
-abbrev pub arrival_of : Arrival → Packet
+abbrev pub arrival_of : QueuedDatagram → Packet
 arrival_of l = record { address = l.from; bytes = l.bytes.items }
 
 abbrev pub memory_of : Inside → Memory

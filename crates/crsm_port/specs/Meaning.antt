@@ -4,8 +4,8 @@ use Rattle.crsm_base.specs.declared.memory.Failed.{Failed}
 use Rattle.crsm_base.specs.declared.memory.NoMemory.{NoMemory}
 use Rattle.crsm_port_faults.specs.Counts.{Rose}
 use Rattle.crsm_port_faults.specs.Plan.{MakesRoom, Plan, Spends}
-use Rattle.crsm_port.specs.declared.port.Got.{Got}
-use Rattle.crsm_port.specs.declared.port.Got.TheVariants.{Nothing, Datagram}
+use Rattle.crsm_port.specs.declared.port.Recv.{Recv}
+use Rattle.crsm_port.specs.declared.port.Recv.TheVariants.{Nothing, Datagram}
 
 -- a datagram, with its sender's or receiver's address
 pub record Packet : Type 0 where
@@ -42,23 +42,23 @@ pub record Meaning : Type 0 where
   pub lent : Option ℕ
 
 -- a receive of the first waiting datagram, or of none
-abbrev pub Takes : Coat → Traffic → Traffic → List ℕ → List ℕ → Got → Type 0
+abbrev pub Takes : Coat → Traffic → Traffic → List ℕ → List ℕ → Recv → Type 0
 Takes coat old new before after Nothing = (old.waiting ≡ []) × (new ≡ old) × (after ≡ before)
 Takes coat old new before after (Datagram from len) = (d : Packet) × (rest : List Packet) × (old.waiting ≡ d ∷ rest) × (from ≡ (coat.unwrap d).address)
     × (len ≡ min (length before) (length (coat.unwrap d).bytes)) × (after ≡ take len (coat.unwrap d).bytes ++ drop len before)
     × (new ≡ record old { waiting = rest; taken = old.taken ++ d ∷ [] })
 
 -- Nothing is returned if and only if `empties` rose
-abbrev pub CountsEmpty : ℕ → ℕ → Got → Type 0
+abbrev pub CountsEmpty : ℕ → ℕ → Recv → Type 0
 CountsEmpty old new Nothing = Rose old new × (old ≤ new)
 CountsEmpty old new (Datagram from len) = new ≡ old
 
-abbrev pub IsWithin : ℕ → Got → Type 0
+abbrev pub IsWithin : ℕ → Recv → Type 0
 IsWithin n Nothing = Unit {0}
 IsWithin n (Datagram from len) = len ≤ n
 
 -- the contract of a receive, with the buffer before and after it
-pub record Receives (old new : Meaning) (before after : List ℕ) (result : Result Got Failed) : Type 0 where
+pub record Receives (old new : Meaning) (before after : List ℕ) (result : Result Recv Failed) : Type 0 where
   pub within : IfOk result (IsWithin (length before))
   pub losses : new.losses ≡ old.losses
   pub later : old.faults ≤ new.faults

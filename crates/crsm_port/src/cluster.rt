@@ -2,16 +2,15 @@
 
 ghost use Rattle.std.specs.Prelude.{◌≡◌, ◌≢◌, ℕ, ◌+◌, ◌++◌, ◌*◌, ◌≤◌, length, take, IfOk, IfSome};
 ghost use Rattle.crsm_port.specs.Meaning.{Receives, Sends};
-ghost use Rattle.crsm_port.specs.Cluster.{IsShort, clustered, mark_of, unwrapped, wrapped};
+ghost use Rattle.crsm_port.specs.Cluster.{IsShort, clustered, unwrapped, wrapped};
+ghost use Rattle.crsm_wire.specs.Marks.{mark_of};
 
 use crate::memory::copy;
-use crate::{Got, Port};
+use crate::{Port, Recv};
 use crsm_base::{Failed, NoMemory};
 use crsm_port_faults::raise;
+use crsm_wire::{MARK_BYTES, mark};
 use std::alloc::Global;
-
-// Bytes before each datagram on the wire: the byte 16, and the cluster's number as u64.
-const MARK: usize = 9;
 
 const MOST_SENT: usize = 8_183;
 // Maximum length of a datagram with its mark, in bytes.
@@ -58,17 +57,17 @@ fn recv_wrapped<P: Port>(
     wire: &mut [u8],
     cluster: u64,
     buf: &mut [u8],
-) -> Result<Got, Failed>
+) -> Result<Recv, Failed>
     requires cluster { cluster ≢ 0 }
     requires room { length wire.old ≡ 8201 }
     ensures { (too_long : ℕ) → Receives (clustered cluster too_long (P.meaning inner.old)) (clustered cluster too_long (P.meaning inner.new)) buf.old buf.new result }
 {
     match inner.recv(wire) {
         Err(Failed) => Err(Failed),
-        Ok(Got::Nothing) => Ok(Got::Nothing),
-        Ok(Got::Datagram { from, len }) => {
+        Ok(Recv::Nothing) => Ok(Recv::Nothing),
+        Ok(Recv::Datagram { from, len }) => {
             let len = copy(own_bytes(&wire[..len], cluster), buf);
-            Ok(Got::Datagram { from, len })
+            Ok(Recv::Datagram { from, len })
         }
     }
 }
@@ -86,24 +85,15 @@ impl<P: Port> ClusterPort<P> {
     }
 }
 
-#[tactic(auto, unfolding(crsm_base::specs::Spelling::u64_bytes))]
-fn mark(cluster: u64) -> [u8; MARK]
-    ensures { result ≡ mark_of cluster }
-{
-    let mut mark = [16u8; MARK];
-    mark[1..].copy_from_slice(&cluster.to_be_bytes());
-    mark
-}
-
 // Writes the mark and the datagram to the buffer, and returns their length.
 fn wrap(room: &mut [u8], cluster: u64, bytes: &[u8]) -> usize
     requires { 9 + length bytes.now ≤ length room.old }
     ensures len { result ≡ 9 + length bytes.now }
     ensures bytes { take result room.new ≡ mark_of cluster ++ bytes.now }
 {
-    let (front, rest) = room.split_at_mut(MARK);
+    let (front, rest) = room.split_at_mut(MARK_BYTES);
     front.copy_from_slice(&mark(cluster));
-    copy(bytes, rest) + MARK
+    copy(bytes, rest) + MARK_BYTES
 }
 
 // Returns the bytes after the mark of the cluster, or none if they have no such mark.
@@ -112,7 +102,7 @@ fn own_bytes(wire: &[u8], cluster: u64) -> &[u8]
     ensures { result.now ≡ unwrapped cluster wire.now }
 {
     match wire.starts_with(&mark(cluster)) {
-        true => &wire[MARK..],
+        true => &wire[MARK_BYTES..],
         false => &[],
     }
 }
@@ -120,7 +110,7 @@ fn own_bytes(wire: &[u8], cluster: u64) -> &[u8]
 impl<P: Port> Port for ClusterPort<P> {
     ghost meaning = { λ p. clustered p.cluster p.too_long (P.meaning p.inner) };
 
-    fn recv(&mut self, buf: &mut [u8]) -> Result<Got, Failed> {
+    fn recv(&mut self, buf: &mut [u8]) -> Result<Recv, Failed> {
         match self.cluster {
             0 => self.inner.recv(buf),
             _ => recv_wrapped(&mut self.inner, &mut self.room, self.cluster, buf),
@@ -159,5 +149,5 @@ impl<P: Port> Port for ClusterPort<P> {
 fn with_marks(sends: u64, bytes: u64) -> Option<u64>
     ensures { IfSome result (λ n. n ≡ bytes + 9 * sends) }
 {
-    sends.checked_mul(MARK as u64)?.checked_add(bytes)
+    sends.checked_mul(MARK_BYTES as u64)?.checked_add(bytes)
 }

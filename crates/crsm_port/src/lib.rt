@@ -11,6 +11,6 @@ mod udp;
 pub use address::{from_number, number};
 pub use cluster::ClusterPort;
 pub use memory::MemPort;
-pub use port::{Got, Port};
+pub use port::{Port, Recv};
 pub use sent_packets::SentPackets;
 pub use udp::UdpPort;

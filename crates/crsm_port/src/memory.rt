@@ -7,7 +7,7 @@ ghost use Rattle.crsm_port.specs.Meaning.{CountsEmpty, Takes, plain};
 ghost use Rattle.crsm_port.specs.Memory.{meaning_of, traffic_of};
 ghost use Rattle.crsm_port.specs.Sent.{packets_of};
 
-use crate::{Got, Port, SentPackets};
+use crate::{Port, Recv, SentPackets};
 use crsm_base::{Failed, NoMemory};
 use crsm_port_faults::{Failures, raise};
 use std::alloc::Global;
@@ -15,7 +15,7 @@ use std::marker::Model;
 
 // A datagram to be received.
 #[derive(Drop)]
-struct Arrival {
+struct QueuedDatagram {
     from: u64,
     bytes: Vec<u8>,
 }
@@ -25,7 +25,7 @@ struct Arrival {
 #[derive(Drop)]
 pub struct MemPort {
     alloc: Global,
-    arrivals: Vec<Arrival>,
+    arrivals: Vec<QueuedDatagram>,
     next: usize,
     sent: SentPackets,
     failures: Failures,
@@ -73,7 +73,7 @@ impl MemPort {
         ensures err { OnErr result (self.new ≡ self.old) }
     {
         let bytes = Vec::from_slice(self.alloc, bytes)?;
-        self.arrivals.push(Arrival { from, bytes })?;
+        self.arrivals.push(QueuedDatagram { from, bytes })?;
         Ok(())
     }
 
@@ -94,7 +94,7 @@ impl MemPort {
 
 impl MemPort {
     // Returns the next waiting datagram, cut to the buffer. If none waits, counts an empty receive.
-    fn take(&mut self, buf: &mut [u8]) -> Got
+    fn take(&mut self, buf: &mut [u8]) -> Recv
         ensures arrivals { self.new ≡ record self.old { next = self.new.next; empties = self.new.empties } }
         ensures got { Takes plain (traffic_of self.old) (traffic_of self.new) buf.old buf.new result }
         ensures empties { CountsEmpty self.old.empties self.new.empties result }
@@ -102,13 +102,13 @@ impl MemPort {
         match self.arrivals.get(self.next) {
             None => {
                 raise(&mut self.empties);
-                Got::Nothing
+                Recv::Nothing
             }
             Some(arrival) => {
                 let len = copy(&arrival.bytes, buf);
                 let from = arrival.from;
                 self.next += 1;
-                Got::Datagram { from, len }
+                Recv::Datagram { from, len }
             }
         }
     }
@@ -158,7 +158,7 @@ pub(crate) fn copy(bytes: &[u8], buf: &mut [u8]) -> usize
 impl Port for MemPort {
     ghost meaning = { meaning_of };
 
-    fn recv(&mut self, buf: &mut [u8]) -> Result<Got, Failed> {
+    fn recv(&mut self, buf: &mut [u8]) -> Result<Recv, Failed> {
         if self.failures.next_fails() {
             raise(&mut self.faults);
             return Err(Failed);

@@ -8,7 +8,7 @@ use crsm_base::{Failed, NoMemory};
 /// The result of a receive. The datagram's first `len` bytes are in the buffer; `from` is its address, IPv4 x 65,536 +
 /// port.
 #[derive(Clone, Copy, Debug, PartialEq, Eq)]
-pub enum Got {
+pub enum Recv {
     /// No datagram has arrived.
     Nothing,
     /// A datagram was received.
@@ -21,7 +21,7 @@ pub trait Port {
 
     /// Receives the next datagram, cut to the length of `buf`. `Nothing` only if the counter of empty receives rose;
     /// `Failed` only if the counter of faults rose.
-    fn recv(&mut self, buf: &mut [u8]) -> Result<Got, Failed>
+    fn recv(&mut self, buf: &mut [u8]) -> Result<Recv, Failed>
         ensures { Receives (meaning self.old) (meaning self.new) buf.old buf.new result };
 
     /// Sends a datagram to an address. `Failed` only if the counter of losses rose.
@@ -42,7 +42,7 @@ pub trait Port {
 impl<P: Port> Port for &mut P {
     ghost meaning = { λ p. record (P.meaning p.now) { lent = Some p.ghost_name } };
 
-    fn recv(&mut self, buf: &mut [u8]) -> Result<Got, Failed> {
+    fn recv(&mut self, buf: &mut [u8]) -> Result<Recv, Failed> {
         (**self).recv(buf)
     }
 

@@ -4,7 +4,7 @@ ghost use Rattle.crsm_port_faults.specs.Counts.{Rose};
 ghost use Rattle.crsm_port.specs.Unknown.{unknown};
 
 use crate::address::{from_number, number};
-use crate::{Got, Port};
+use crate::{Port, Recv};
 use crsm_base::{Failed, NoMemory};
 use crsm_port_faults::raise;
 use mio::net::UdpSocket;
@@ -91,10 +91,10 @@ impl UdpPort {
 
 // Returns `Nothing` if the wait timed out or was interrupted, and otherwise counts a fault. A report that an earlier
 // datagram reached nobody is no fault of a receive.
-fn missed(faults: &mut u64, empties: &mut u64, kind: ErrorKind) -> Result<Got, Failed>
+fn missed(faults: &mut u64, empties: &mut u64, kind: ErrorKind) -> Result<Recv, Failed>
     ensures later { faults.old ≤ faults.new }
     ensures err { OnErr result ((empties.new ≡ empties.old) × Rose faults.old faults.new) }
-    ensures ok { IfOk result (λ got. (got ≡ Got.Nothing) × (faults.new ≡ faults.old) × (empties.old ≤ empties.new) × Rose empties.old empties.new) }
+    ensures ok { IfOk result (λ got. (got ≡ Recv.Nothing) × (faults.new ≡ faults.old) × (empties.old ≤ empties.new) × Rose empties.old empties.new) }
 {
     match kind {
         ErrorKind::WouldBlock
@@ -102,7 +102,7 @@ fn missed(faults: &mut u64, empties: &mut u64, kind: ErrorKind) -> Result<Got, F
         | ErrorKind::Interrupted
         | ErrorKind::ConnectionRefused => {
             raise(empties);
-            Ok(Got::Nothing)
+            Ok(Recv::Nothing)
         }
         _ => {
             raise(faults);
@@ -114,9 +114,9 @@ fn missed(faults: &mut u64, empties: &mut u64, kind: ErrorKind) -> Result<Got, F
 impl Port for UdpPort {
     ghost meaning = { λ p. unknown p.faults p.losses p.empties };
 
-    fn recv(&mut self, buf: &mut [u8]) -> Result<Got, Failed> {
+    fn recv(&mut self, buf: &mut [u8]) -> Result<Recv, Failed> {
         match self.inlet.receive(buf) {
-            Ok((len, SocketAddr::V4(from))) => Ok(Got::Datagram {
+            Ok((len, SocketAddr::V4(from))) => Ok(Recv::Datagram {
                 from: number(from),
                 len,
             }),

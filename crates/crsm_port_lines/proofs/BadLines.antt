@@ -7,7 +7,7 @@ use Rattle.crsm_port_lines.specs.Exact.{Exact, Fits, MayEnd, reason_of}
 use Rattle.crsm_port_lines.specs.Handling.{Handling, Text}
 use Rattle.crsm_port_lines.specs.Run.{BeginsBad, bad_end, bad_line, cut_line, long_line}
 use Rattle.crsm_port_lines.specs.State.{IsLine, read_text}
-use Rattle.crsm_port_lines.specs.declared.lines.Bad.{Bad}
+use Rattle.crsm_port_lines.specs.declared.lines.LineRefusal.{LineRefusal}
 use Rattle.crsm_port_lines.proofs.Splits.{both_nil, first_line, line_first, more_lines, no_lines, prefix_first, prefix_short, split_lines}
 
 -- a line that begins a text, before what follows the text
@@ -17,7 +17,7 @@ line_whole line rest r k more text is e = sym (append_assoc line (10 ∷ rest) r
 module _ {H R : Type 0} (h : Handling H R) (x : Exact h) where
   -- ---- what begins well does not begin badly
 
-  pub not_bad : (lines ks : List Text) (shown : Text) (after : Option Text) (why : Bad R) (rest r k more : Text)
+  pub not_bad : (lines ks : List Text) (shown : Text) (after : Option Text) (why : LineRefusal R) (rest r k more : Text)
       → Fits h (lines ++ k ∷ ks) → IsLine k → rest ++ r ≡ k ++ 10 ∷ more → after ≡ Some r → BeginsBad h lines shown after why rest → ⊥
   not_bad lines ks shown after why rest r k more fits is e left (bad_line w why_is b) =
       let cut = split_unique 10 b.line k (b.rest ++ r) more b.lacks is.lacks (line_whole b.line b.rest r k more rest b.text_is e) in
@@ -38,7 +38,7 @@ module _ {H R : Type 0} (h : Handling H R) (x : Exact h) where
       lacks_not 10 [] k more tt (sym none ∙ whole)
 
   -- nothing at all is a bad end only where the input may not end
-  not_bad_end : (lines : List Text) (shown : Text) (after : Option Text) (why : Bad R) (rest : Text)
+  not_bad_end : (lines : List Text) (shown : Text) (after : Option Text) (why : LineRefusal R) (rest : Text)
       → MayEnd h lines → rest ≡ [] → BeginsBad h lines shown after why rest → ⊥
   not_bad_end lines shown after why rest may none (bad_line w why_is b) = lacks_not 10 [] b.line b.rest tt (sym none ∙ b.text_is)
   not_bad_end lines shown after why rest may none (long_line why_is b) =
@@ -49,7 +49,7 @@ module _ {H R : Type 0} (h : Handling H R) (x : Exact h) where
   not_bad_end lines shown after why rest may none (cut_line why_is b) = b.some none
   not_bad_end lines shown after why rest may none (bad_end w why_is b) = may shown w b.refused
 
-  fits_ahead : (lines whole ks : List Text) (shown : Text) (after : Option Text) (why : Bad R) (rest r : Text)
+  fits_ahead : (lines whole ks : List Text) (shown : Text) (after : Option Text) (why : LineRefusal R) (rest r : Text)
       → Fits h whole → MayEnd h whole → AllByRecursion IsLine whole → whole ≡ lines ++ ks → rest ++ r ≡ read_text ks ++ [] → after ≡ Some r
       → BeginsBad h lines shown after why rest → ⊥
   fits_ahead lines whole [] shown after why rest r fits may are same text left bad =
@@ -59,7 +59,7 @@ module _ {H R : Type 0} (h : Handling H R) (x : Exact h) where
       not_bad lines ks shown after why rest r k (read_text ks ++ []) (subst (Fits h) same fits) more.0 (text ∙ first_line k ks []) left bad
 
   -- a whole input that fits has no bad line
-  pub whole_not_bad : (lines whole : List Text) (shown : Text) (after : Option Text) (why : Bad R) (rest r : Text)
+  pub whole_not_bad : (lines whole : List Text) (shown : Text) (after : Option Text) (why : LineRefusal R) (rest r : Text)
       → Fits h whole → MayEnd h whole → AllByRecursion IsLine whole → AllByRecursion IsLine lines
       → read_text whole ≡ read_text lines ++ (rest ++ r) → after ≡ Some r → BeginsBad h lines shown after why rest → ⊥
   whole_not_bad lines whole shown after why rest r fits may are ls text left bad =
@@ -74,8 +74,8 @@ module _ {H R : Type 0} (h : Handling H R) (x : Exact h) where
 
   -- ---- one text begins badly for one reason
 
-  reasons : (c d : Bad R) → c ≡ d → reason_of h x c ≡ reason_of h x d
-  reasons c d is = ap (λ (b : Bad R). reason_of h x b) is
+  reasons : (c d : LineRefusal R) → c ≡ d → reason_of h x c ≡ reason_of h x d
+  reasons c d is = ap (λ (b : LineRefusal R). reason_of h x b) is
 
   -- where nothing stands on one side, nothing does on the other
   none_before : (y u z v : Text) → y ++ u ≡ z ++ v → z ≡ [] → v ≡ [] → y ≡ []
@@ -86,7 +86,7 @@ module _ {H R : Type 0} (h : Handling H R) (x : Exact h) where
   long_not_empty line rest y is long none =
       let len = length-append line rest in let zero : length (line ++ rest) ≡ 0 = ap length (sym is ∙ none) in omega (arith, len, zero, long)
 
-  same_reason : (lines : List Text) (shown other : Text) (left : Option Text) (c d : Bad R) (y z u v : Text) → y ++ u ≡ z ++ v → left ≡ Some u
+  same_reason : (lines : List Text) (shown other : Text) (left : Option Text) (c d : LineRefusal R) (y z u v : Text) → y ++ u ≡ z ++ v → left ≡ Some u
       → BeginsBad h lines shown left c y → BeginsBad h lines other (Some v) d z → reason_of h x c ≡ reason_of h x d
   same_reason lines shown other left c d y z u v text is (bad_line r c_is b) (bad_line s d_is o) =
       let whole = sym (line_first b.line b.rest u y b.text_is) ∙ text ∙ line_first o.line o.rest v z o.text_is in
@@ -140,11 +140,11 @@ module _ {H R : Type 0} (h : Handling H R) (x : Exact h) where
   same_reason lines shown other left c d y z u v text is (bad_end r c_is b) (bad_end s d_is o) =
       reasons c _ c_is ∙ x.one_end lines shown other r s b.refused o.refused ∙ reasons _ d (sym d_is)
 
-  pub record Same (ls ms : List Text) (c d : Bad R) : Type 0 where
+  pub record Same (ls ms : List Text) (c d : LineRefusal R) : Type 0 where
     pub count : length ls ≡ length ms
     pub reason : reason_of h x c ≡ reason_of h x d
 
-  more_read : (ls ms ks : List Text) (shown other : Text) (left : Option Text) (c d : Bad R) (y z u v : Text) → Fits h ls → AllByRecursion IsLine ls
+  more_read : (ls ms ks : List Text) (shown other : Text) (left : Option Text) (c d : LineRefusal R) (y z u v : Text) → Fits h ls → AllByRecursion IsLine ls
       → ls ≡ ms ++ ks → z ++ v ≡ read_text ks ++ (y ++ u) → left ≡ Some u → BeginsBad h ls shown left c y → BeginsBad h ms other (Some v) d z → Same ls ms c d
   more_read ls ms [] shown other left c d y z u v fits are same text is bad o =
       let one : ls ≡ ms = same ∙ append-nil ms in
@@ -156,7 +156,7 @@ module _ {H R : Type 0} (h : Handling H R) (x : Exact h) where
       let more = more_lines ms (k ∷ ks) (subst (λ (ks : List Text). AllByRecursion IsLine ks) same are) in
       absurd (not_bad ms ks other (Some v) d z v k (read_text ks ++ (y ++ u)) (subst (Fits h) same fits) more.0 (text ∙ first_line k ks (y ++ u)) refl o)
 
-  less_read : (ls ms ks : List Text) (shown other : Text) (left : Option Text) (c d : Bad R) (y z u v : Text) → Fits h ms → AllByRecursion IsLine ms
+  less_read : (ls ms ks : List Text) (shown other : Text) (left : Option Text) (c d : LineRefusal R) (y z u v : Text) → Fits h ms → AllByRecursion IsLine ms
       → ms ≡ ls ++ ks → y ++ u ≡ read_text ks ++ (z ++ v) → left ≡ Some u → BeginsBad h ls shown left c y → BeginsBad h ms other (Some v) d z → Same ls ms c d
   less_read ls ms [] shown other left c d y z u v fits are same text is bad o =
       let one : ls ≡ ms = sym (same ∙ append-nil ls) in
@@ -168,7 +168,7 @@ module _ {H R : Type 0} (h : Handling H R) (x : Exact h) where
       let more = more_lines ls (k ∷ ks) (subst (λ (ks : List Text). AllByRecursion IsLine ks) same are) in
       absurd (not_bad ls ks shown left c y u k (read_text ks ++ (z ++ v)) (subst (Fits h) same fits) more.0 (text ∙ first_line k ks (z ++ v)) is bad)
 
-  pub same_bad : (ls ms : List Text) (shown other : Text) (left : Option Text) (c d : Bad R) (y z u v : Text) → Fits h ls → Fits h ms
+  pub same_bad : (ls ms : List Text) (shown other : Text) (left : Option Text) (c d : LineRefusal R) (y z u v : Text) → Fits h ls → Fits h ms
       → AllByRecursion IsLine ls → AllByRecursion IsLine ms → read_text ls ++ (y ++ u) ≡ read_text ms ++ (z ++ v) → left ≡ Some u
       → BeginsBad h ls shown left c y → BeginsBad h ms other (Some v) d z → Same ls ms c d
   same_bad ls ms shown other left c d y z u v p q are and text is bad o = elim (split_lines ls ms (y ++ u) (z ++ v) are and text) [
@@ -179,7 +179,7 @@ module _ {H R : Type 0} (h : Handling H R) (x : Exact h) where
   -- ---- a bad line comes before the limit
 
   -- A part of a line that is not too long, and more behind it, do not begin badly within the part.
-  no_bad_part : (ms : List Text) (other : Text) (d : Bad R) (rest z text more : Text) → IsLine rest → 0 < length z
+  no_bad_part : (ms : List Text) (other : Text) (d : LineRefusal R) (rest z text more : Text) → IsLine rest → 0 < length z
       → rest ++ z ≡ text ++ more → length text ≤ length rest → BeginsBad h ms other (Some more) d text → ⊥
   no_bad_part ms other d rest z text more part some seam within (bad_line s d_is b) =
       let prefix = prefix_short rest b.line z (b.rest ++ more) part.lacks (seam ∙ line_first b.line b.rest more text b.text_is) in
@@ -202,7 +202,7 @@ module _ {H R : Type 0} (h : Handling H R) (x : Exact h) where
       omega (arith, len, sum, some, within)
 
   -- the same, where lines were read before
-  part_by : (ls ms ks : List Text) (other : Text) (d : Bad R) (rest z text more : Text) → Fits h ls → AllByRecursion IsLine ls → IsLine rest → 0 < length z
+  part_by : (ls ms ks : List Text) (other : Text) (d : LineRefusal R) (rest z text more : Text) → Fits h ls → AllByRecursion IsLine ls → IsLine rest → 0 < length z
       → length (read_text ms ++ text) ≤ length (read_text ls ++ rest) → ls ≡ ms ++ ks → text ++ more ≡ read_text ks ++ (rest ++ z)
       → BeginsBad h ms other (Some more) d text → ⊥
   part_by ls ms [] other d rest z text more fits are part some within same seam bad =
@@ -214,7 +214,7 @@ module _ {H R : Type 0} (h : Handling H R) (x : Exact h) where
       let ahead = more_lines ms (k ∷ ks) (subst (λ (ks : List Text). AllByRecursion IsLine ks) same are) in
       not_bad ms ks other (Some more) d text more k (read_text ks ++ (rest ++ z)) (subst (Fits h) same fits) ahead.0 (seam ∙ first_line k ks (rest ++ z)) refl bad
 
-  part_within : (ls ms ks : List Text) (other : Text) (d : Bad R) (rest z text more : Text) → IsLine rest → 0 < length z
+  part_within : (ls ms ks : List Text) (other : Text) (d : LineRefusal R) (rest z text more : Text) → IsLine rest → 0 < length z
       → length (read_text ms ++ text) ≤ length (read_text ls ++ rest) → ms ≡ ls ++ ks → rest ++ z ≡ read_text ks ++ (text ++ more)
       → BeginsBad h ms other (Some more) d text → ⊥
   part_within ls ms [] other d rest z text more part some within same seam bad =
@@ -238,7 +238,7 @@ module _ {H R : Type 0} (h : Handling H R) (x : Exact h) where
           ∙ sym (append_assoc (l ++ 10 ∷ []) (read_text ls) (k ++ 10 ∷ (read_text ks ++ [])))
 
   -- where whole lines and a part of a line reach the limit, no bad line stands before it
-  pub bad_before_limit : (ls ms : List Text) (other : Text) (d : Bad R) (rest z text more : Text) → Fits h ls → AllByRecursion IsLine ls → AllByRecursion IsLine ms
+  pub bad_before_limit : (ls ms : List Text) (other : Text) (d : LineRefusal R) (rest z text more : Text) → Fits h ls → AllByRecursion IsLine ls → AllByRecursion IsLine ms
       → IsLine rest → 0 < length z → length (read_text ms ++ text) ≤ length (read_text ls ++ rest) → read_text ls ++ (rest ++ z) ≡ read_text ms ++ (text ++ more)
       → BeginsBad h ms other (Some more) d text → ⊥
   bad_before_limit ls ms other d rest z text more fits are and part some within seam bad = elim (split_lines ls ms (rest ++ z) (text ++ more) are and seam) [

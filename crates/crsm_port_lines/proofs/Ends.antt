@@ -6,13 +6,13 @@ use Rattle.crsm_io.proofs.Steps.{puts_after, puts_none, takes_after, takes_none}
 use Rattle.crsm_port_lines.specs.Handling.{Begins, Handling, Text}
 use Rattle.crsm_port_lines.specs.State.{State, read_text}
 use Rattle.crsm_port_lines.specs.Run.{BeginsBad, RanPartly, RanSoFar, RanToBad, RanToEnd, RanTooLong, SoFar, bad_end, cut_line, of_all, of_lines}
-use Rattle.crsm_port_lines.specs.declared.lines.Bad.{Bad}
+use Rattle.crsm_port_lines.specs.declared.lines.LineRefusal.{LineRefusal}
 use Rattle.crsm_port_lines.proofs.Stream.{nothing_pending, reached_of}
 use Rattle.crsm_port_lines.proofs.Texts.{put_then}
 
 module _ {H R : Type 0} (h : Handling H R) where
   -- what is left bad at the end
-  ends_bad : (b a d w : Option Text) (st : State H) (total : ℕ) (why : Bad R) → total ≤ 1073741824 → (s : SoFar h b a d w st [] total) → st.pending ≡ []
+  ends_bad : (b a d w : Option Text) (st : State H) (total : ℕ) (why : LineRefusal R) → total ≤ 1073741824 → (s : SoFar h b a d w st [] total) → st.pending ≡ []
       → BeginsBad h s.lines s.shown a why st.part → RanToBad h b a d w (st.number + 1) why
   ends_bad b a d w st total why within s done bad = record {
     lines = s.lines;
@@ -28,14 +28,14 @@ module _ {H R : Type 0} (h : Handling H R) where
 
   -- the end comes in the middle of a line
   pub cut_bad : (b a d w : Option Text) (st : State H) (total : ℕ) → total ≤ 1073741824 → AtEnd a → SoFar h b a d w st [] total → st.pending ≡ []
-      → (st.part ≡ [] → ⊥) → RanToBad h b a d w (st.number + 1) Bad.Cut
-  cut_bad b a d w st total within ended s done some = ends_bad b a d w st total Bad.Cut within s done (cut_line refl (record { lacks = s.part.lacks; some = some; ended = ended }))
+      → (st.part ≡ [] → ⊥) → RanToBad h b a d w (st.number + 1) LineRefusal.Cut
+  cut_bad b a d w st total within ended s done some = ends_bad b a d w st total LineRefusal.Cut within s done (cut_line refl (record { lacks = s.part.lacks; some = some; ended = ended }))
 
   -- it comes where it may not
   pub end_bad : (b a d w : Option Text) (st : State H) (total : ℕ) (why : R) → total ≤ 1073741824 → AtEnd a → (s : SoFar h b a d w st [] total) → st.pending ≡ []
-      → st.part ≡ [] → h.refuses_end s.lines s.shown why → RanToBad h b a d w (st.number + 1) (Bad.Refused why)
+      → st.part ≡ [] → h.refuses_end s.lines s.shown why → RanToBad h b a d w (st.number + 1) (LineRefusal.Refused why)
   end_bad b a d w st total why within ended s done none refused =
-      ends_bad b a d w st total (Bad.Refused why) within s done (bad_end why refl (record { none = none; ended = ended; refused = refused }))
+      ends_bad b a d w st total (LineRefusal.Refused why) within s done (bad_end why refl (record { none = none; ended = ended; refused = refused }))
 
   -- a prefix of the text of the end was written
   pub finish_partly : (b a d w v : Option Text) (st : State H) (total : ℕ) (last : Text) → AtEnd a → (s : SoFar h b a d w st [] total) → st.pending ≡ [] → st.part ≡ []

@@ -6,8 +6,8 @@ use Rattle.crsm_port_lines.specs.Exact.{Exact, Fits, IsDone, IsRefused, IsTooLon
 use Rattle.crsm_port_lines.specs.Handling.{Handling, Text}
 use Rattle.crsm_port_lines.specs.Run.{BeginsBad, Ran, RanToBad, RanToEnd, RanTooLong}
 use Rattle.crsm_port_lines.specs.State.{IsLine, Reached, read_text}
-use Rattle.crsm_port_lines.specs.declared.lines.Bad.{Bad}
-use Rattle.crsm_port_lines.specs.declared.run.Ending.{Ending}
+use Rattle.crsm_port_lines.specs.declared.lines.LineRefusal.{LineRefusal}
+use Rattle.crsm_port_lines.specs.declared.run.InputEnd.{InputEnd}
 use Rattle.crsm_port_lines.proofs.BadLines.{bad_before_limit, same_bad, whole_not_bad}
 use Rattle.crsm_port_lines.proofs.Splits.{told}
 
@@ -36,20 +36,20 @@ module _ {H R : Type 0} (h : Handling H R) where
       omega (arith, len, short)
 
   -- what runs to its end is within the limit
-  pub not_done : (result : Ending R) (before after had has : Option Text) (bytes : Text) → Ran h result before after had has
-      → before ≡ Some bytes → 1073741824 < length bytes → result ≢ Ending.Done
+  pub not_done : (result : InputEnd R) (before after had has : Option Text) (bytes : Text) → Ran h result before after had has
+      → before ≡ Some bytes → 1073741824 < length bytes → result ≢ InputEnd.Done
   unfolding Ran
   not_done result before after had has bytes ran is long done =
-      let ended : RanToEnd h before after had has = subst (λ (r : Ending R). Ran h r before after had has) done ran in
+      let ended : RanToEnd h before after had has = subst (λ (r : InputEnd R). Ran h r before after had has) done ran in
       let short = ended_short before after had has bytes ended is in
       omega (arith, short, long)
 
   -- what is within the limit is not too long
-  pub not_too_long : (result : Ending R) (before after had has : Option Text) (bytes : Text) → Ran h result before after had has
-      → before ≡ Some bytes → length bytes ≤ 1073741824 → result ≢ Ending.InputTooLong
+  pub not_too_long : (result : InputEnd R) (before after had has : Option Text) (bytes : Text) → Ran h result before after had has
+      → before ≡ Some bytes → length bytes ≤ 1073741824 → result ≢ InputEnd.InputTooLong
   unfolding Ran
   not_too_long result before after had has bytes ran is short too_long =
-      let ended : RanTooLong h before after had has = subst (λ (r : Ending R). Ran h r before after had has) too_long ran in
+      let ended : RanTooLong h before after had has = subst (λ (r : InputEnd R). Ran h r before after had has) too_long ran in
       let long = long_text before after had has bytes ended is in
       omega (arith, short, long)
 
@@ -59,29 +59,29 @@ module _ {H R : Type 0} (h : Handling H R) where
 
     -- ---- what fits is not refused
 
-    bad_of_whole : (before after had has : Option Text) (line : ℕ) (why : Bad R) (whole : List Text) → RanToBad h before after had has line why
+    bad_of_whole : (before after had has : Option Text) (line : ℕ) (why : LineRefusal R) (whole : List Text) → RanToBad h before after had has line why
         → Fits h whole → MayEnd h whole → AllByRecursion IsLine whole → before ≡ Some (read_text whole) → ⊥
     bad_of_whole before after had has line why whole ran fits may are is =
         let t = told (read_text whole) (read_text ran.lines ++ ran.rest) after (rw is at ran.takes) in
         whole_not_bad h x ran.lines whole ran.shown after why ran.rest t.0 fits may are ran.reached.are_lines
         (t.2 ∙ append_assoc (read_text ran.lines) ran.rest t.0) t.1 ran.bad
 
-    pub completed : (result : Ending R) (before after had has : Option Text) (whole : List Text) → Ran h result before after had has
-        → result ≢ Ending.ReadFault → result ≢ Ending.WriteFault
+    pub completed : (result : InputEnd R) (before after had has : Option Text) (whole : List Text) → Ran h result before after had has
+        → result ≢ InputEnd.ReadFault → result ≢ InputEnd.WriteFault
         → Fits h whole → MayEnd h whole → AllByRecursion IsLine whole → before ≡ Some (read_text whole) → length (read_text whole) ≤ 1073741824 → IsDone result
     unfolding Ran
-    completed Ending.Done before after had has whole ran r w fits may are is short = inl refl
-    completed (Ending.BadLine line why) before after had has whole ran r w fits may are is short = absurd (bad_of_whole before after had has line why whole ran fits may are is)
-    completed Ending.ReadFault before after had has whole ran r w fits may are is short = absurd (r refl)
-    completed Ending.WriteFault before after had has whole ran r w fits may are is short = absurd (w refl)
-    completed Ending.NoMemory before after had has whole ran r w fits may are is short = inr refl
-    completed Ending.InputTooLong before after had has whole ran r w fits may are is short =
+    completed InputEnd.Done before after had has whole ran r w fits may are is short = inl refl
+    completed (InputEnd.BadLine line why) before after had has whole ran r w fits may are is short = absurd (bad_of_whole before after had has line why whole ran fits may are is)
+    completed InputEnd.ReadFault before after had has whole ran r w fits may are is short = absurd (r refl)
+    completed InputEnd.WriteFault before after had has whole ran r w fits may are is short = absurd (w refl)
+    completed InputEnd.NoMemory before after had has whole ran r w fits may are is short = inr refl
+    completed InputEnd.InputTooLong before after had has whole ran r w fits may are is short =
         let long = long_text before after had has (read_text whole) ran is in absurd (omega (arith, long, short))
 
     -- ---- an input with a bad line is refused for it
 
     -- it does not run to its end
-    whole_of_bad : (before after had has : Option Text) (lines : List Text) (shown text more : Text) (why : Bad R) → RanToEnd h before after had has
+    whole_of_bad : (before after had has : Option Text) (lines : List Text) (shown text more : Text) (why : LineRefusal R) → RanToEnd h before after had has
         → AllByRecursion IsLine lines → before ≡ Some (read_text lines ++ (text ++ more)) → BeginsBad h lines shown (Some more) why text → ⊥
     whole_of_bad before after had has lines shown text more why ran are is bad =
         let t = told (read_text lines ++ (text ++ more)) (read_text ran.lines) after (rw is at ran.takes) in
@@ -92,7 +92,7 @@ module _ {H R : Type 0} (h : Handling H R) where
         (x.ended ran.lines ran.shown ran.last ran.ends) ran.reached.are_lines are whole refl bad
 
     -- nor up to the limit
-    bad_of_long : (before after had has : Option Text) (lines : List Text) (shown text more : Text) (why : Bad R) → RanTooLong h before after had has
+    bad_of_long : (before after had has : Option Text) (lines : List Text) (shown text more : Text) (why : LineRefusal R) → RanTooLong h before after had has
         → AllByRecursion IsLine lines → before ≡ Some (read_text lines ++ (text ++ more)) → BeginsBad h lines shown (Some more) why text
         → length (read_text lines ++ text) ≤ 1073741824 → ⊥
     bad_of_long before after had has lines shown text more why ran are is bad within =
@@ -104,30 +104,30 @@ module _ {H R : Type 0} (h : Handling H R) where
         bad_before_limit h x ls lines shown why ran.rest (ran.more ∷ t.0) text more (reached_fits ls ran.shown ran.reached) ran.reached.are_lines are ran.part
         (omega arith) (omega (arith, long, within)) seam bad
 
-    pub refused : (result : Ending R) (before after had has : Option Text) (lines : List Text) (shown text more : Text) (why : Bad R) → Ran h result before after had has
-        → result ≢ Ending.ReadFault → result ≢ Ending.WriteFault
+    pub refused : (result : InputEnd R) (before after had has : Option Text) (lines : List Text) (shown text more : Text) (why : LineRefusal R) → Ran h result before after had has
+        → result ≢ InputEnd.ReadFault → result ≢ InputEnd.WriteFault
         → Fits h lines → AllByRecursion IsLine lines → before ≡ Some (read_text lines ++ (text ++ more)) → BeginsBad h lines shown (Some more) why text
         → length (read_text lines ++ text) ≤ 1073741824 → IsRefused h x (length lines + 1) (reason_of h x why) result
     unfolding Ran
-    refused Ending.Done before after had has lines shown text more why ran r w fits are is bad short =
+    refused InputEnd.Done before after had has lines shown text more why ran r w fits are is bad short =
         absurd (whole_of_bad before after had has lines shown text more why ran are is bad)
-    refused (Ending.BadLine line c) before after had has lines shown text more why ran r w fits are is bad short =
+    refused (InputEnd.BadLine line c) before after had has lines shown text more why ran r w fits are is bad short =
         let ls = ran.lines in
         let t = told (read_text lines ++ (text ++ more)) (read_text ls ++ ran.rest) after (rw is at ran.takes) in
         let p = same_bad h x ls lines ran.shown shown after c why ran.rest text t.0 more (reached_fits ls ran.shown ran.reached) fits ran.reached.are_lines are
         (sym (append_assoc (read_text ls) ran.rest t.0) ∙ sym t.2) t.1 ran.bad bad in
         let line_is : line ≡ length lines + 1 = ran.line_is ∙ ap (λ n. n + 1) p.count in
-        inl (record { bad = c; told = p.reason; is = ap (λ (n : ℕ). Ending.BadLine n c) line_is })
-    refused Ending.ReadFault before after had has lines shown text more why ran r w fits are is bad short = absurd (r refl)
-    refused Ending.WriteFault before after had has lines shown text more why ran r w fits are is bad short = absurd (w refl)
-    refused Ending.NoMemory before after had has lines shown text more why ran r w fits are is bad short = inr refl
-    refused Ending.InputTooLong before after had has lines shown text more why ran r w fits are is bad short =
+        inl (record { bad = c; told = p.reason; is = ap (λ (n : ℕ). InputEnd.BadLine n c) line_is })
+    refused InputEnd.ReadFault before after had has lines shown text more why ran r w fits are is bad short = absurd (r refl)
+    refused InputEnd.WriteFault before after had has lines shown text more why ran r w fits are is bad short = absurd (w refl)
+    refused InputEnd.NoMemory before after had has lines shown text more why ran r w fits are is bad short = inr refl
+    refused InputEnd.InputTooLong before after had has lines shown text more why ran r w fits are is bad short =
         absurd (bad_of_long before after had has lines shown text more why ran are is bad short)
 
     -- ---- too long
 
     -- a bad line is none within the limit
-    long_of_bad : (before after had has : Option Text) (line : ℕ) (why : Bad R) (lines : List Text) (rest more : Text) → RanToBad h before after had has line why
+    long_of_bad : (before after had has : Option Text) (line : ℕ) (why : LineRefusal R) (lines : List Text) (rest more : Text) → RanToBad h before after had has line why
         → Fits h lines → AllByRecursion IsLine lines → IsLine rest → length (read_text lines ++ rest) ≡ 1073741824 → 0 < length more
         → before ≡ Some (read_text lines ++ (rest ++ more)) → ⊥
     long_of_bad before after had has line why lines rest more ran fits are part long some is =
@@ -136,19 +136,19 @@ module _ {H R : Type 0} (h : Handling H R) where
         bad_before_limit h x lines ran.lines ran.shown why rest more ran.rest t.0 fits are ran.reached.are_lines part some (omega (arith, within, long))
         (t.2 ∙ append_assoc (read_text ran.lines) ran.rest t.0) (subst (λ (left : Option Text). BeginsBad h ran.lines ran.shown left why ran.rest) t.1 ran.bad)
 
-    pub too_long : (result : Ending R) (before after had has : Option Text) (lines : List Text) (rest more : Text) → Ran h result before after had has
-        → result ≢ Ending.ReadFault → result ≢ Ending.WriteFault
+    pub too_long : (result : InputEnd R) (before after had has : Option Text) (lines : List Text) (rest more : Text) → Ran h result before after had has
+        → result ≢ InputEnd.ReadFault → result ≢ InputEnd.WriteFault
         → Fits h lines → AllByRecursion IsLine lines → IsLine rest → length (read_text lines ++ rest) ≡ 1073741824 → 0 < length more
         → before ≡ Some (read_text lines ++ (rest ++ more)) → IsTooLong result
     unfolding Ran
-    too_long Ending.Done before after had has lines rest more ran r w fits are part long some is =
+    too_long InputEnd.Done before after had has lines rest more ran r w fits are part long some is =
         let most = ended_short before after had has (read_text lines ++ (rest ++ more)) ran is in
         let whole : length (read_text lines ++ (rest ++ more)) ≡ length (read_text lines ++ rest) + length more =
         ap length (sym (append_assoc (read_text lines) rest more)) ∙ length-append (read_text lines ++ rest) more in
         absurd (omega (arith, most, whole, long, some))
-    too_long (Ending.BadLine line why) before after had has lines rest more ran r w fits are part long some is =
+    too_long (InputEnd.BadLine line why) before after had has lines rest more ran r w fits are part long some is =
         absurd (long_of_bad before after had has line why lines rest more ran fits are part long some is)
-    too_long Ending.ReadFault before after had has lines rest more ran r w fits are part long some is = absurd (r refl)
-    too_long Ending.WriteFault before after had has lines rest more ran r w fits are part long some is = absurd (w refl)
-    too_long Ending.NoMemory before after had has lines rest more ran r w fits are part long some is = inr refl
-    too_long Ending.InputTooLong before after had has lines rest more ran r w fits are part long some is = inl refl
+    too_long InputEnd.ReadFault before after had has lines rest more ran r w fits are part long some is = absurd (r refl)
+    too_long InputEnd.WriteFault before after had has lines rest more ran r w fits are part long some is = absurd (w refl)
+    too_long InputEnd.NoMemory before after had has lines rest more ran r w fits are part long some is = inr refl
+    too_long InputEnd.InputTooLong before after had has lines rest more ran r w fits are part long some is = inl refl

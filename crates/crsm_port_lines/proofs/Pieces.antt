@@ -8,9 +8,9 @@ use Rattle.crsm_port_lines.specs.Handling.{Begins, EndsWell, Handles, Handling, 
 use Rattle.crsm_port_lines.specs.State.{IsLine, State}
 use Rattle.crsm_port_lines.specs.Run.{CarriesOn, Ends, Finishes, Halts, Ran, SoFar, ending_of}
 use Rattle.crsm_port_lines.specs.declared.handler.Stop.{Stop}
-use Rattle.crsm_port_lines.specs.declared.lines.Bad.{Bad}
+use Rattle.crsm_port_lines.specs.declared.lines.LineRefusal.{LineRefusal}
 use Rattle.crsm_port_lines.specs.declared.lines.Halt.{Halt}
-use Rattle.crsm_port_lines.specs.declared.run.Ending.{Ending}
+use Rattle.crsm_port_lines.specs.declared.run.InputEnd.{InputEnd}
 use Rattle.crsm_port_lines.proofs.Stream.{carries_then, flushed, halts_then, line_bad, more, more_part, partly, taken_more, too_long}
 use Rattle.crsm_port_lines.proofs.Ends.{cut_bad, end_bad, finish_partly, finish_well, nothing_ran, ran_so_far, ran_too_long}
 use Rattle.crsm_port_lines.proofs.Texts.{all_prefix, none_prefix, prefix_prefix, prefix_then}
@@ -38,7 +38,7 @@ module _ {H R : Type 0} (h : Handling H R) where
       more h before after had w old new tail ahead total t (fits_line old tail t.part lacks short) (advances t.lines t.shown t.number t.reached) number none
 
   pub line_refused : (w : Option Text) (old new : State H) (tail : Text) (why : R) → Lacks 10 tail → Stops old new (old.part ++ tail) (Stop.Refused why)
-      → Halts h (Ending.BadLine (old.number + 1) (Bad.Refused why)) w w old new (tail ++ 10 ∷ [])
+      → Halts h (InputEnd.BadLine (old.number + 1) (LineRefusal.Refused why)) w w old new (tail ++ 10 ∷ [])
   unfolding Halts Ran
   line_refused w old new tail why lacks stops = λ before after had ahead total short s.
       let t = subst (λ ys. SoFar h before after had w old ys total) (append_assoc tail (10 ∷ []) ahead) s in
@@ -49,14 +49,14 @@ module _ {H R : Type 0} (h : Handling H R) where
       }
 
   -- memory ran out, and a prefix of what was pending still is
-  pub no_memory_halts : (w : Option Text) (old new : State H) (bytes lost : Text) → old.pending ≡ new.pending ++ lost → Halts h Ending.NoMemory w w old new bytes
+  pub no_memory_halts : (w : Option Text) (old new : State H) (bytes lost : Text) → old.pending ≡ new.pending ++ lost → Halts h InputEnd.NoMemory w w old new bytes
   unfolding Halts Ran
   no_memory_halts w old new bytes lost cut = λ before after had ahead total short s. record {
     ran = λ now put. partly h before after had w now old (bytes ++ ahead) total s (all_prefix w now old.pending new.pending lost cut put);
     partly = λ now put. partly h before after had w now old (bytes ++ ahead) total s (prefix_prefix w now old.pending new.pending lost cut put);
   }
 
-  pub line_out_of_memory : (w : Option Text) (old new : State H) (tail : Text) → Stops old new (old.part ++ tail) Stop.NoMemory → Halts h Ending.NoMemory w w old new (tail ++ 10 ∷ [])
+  pub line_out_of_memory : (w : Option Text) (old new : State H) (tail : Text) → Stops old new (old.part ++ tail) Stop.NoMemory → Halts h InputEnd.NoMemory w w old new (tail ++ 10 ∷ [])
   unfolding Halts Ran
   line_out_of_memory w old new tail stops = λ before after had ahead total short s.
       let p = stops s.lines s.shown s.number s.reached in
@@ -74,7 +74,7 @@ module _ {H R : Type 0} (h : Handling H R) where
       more_part h before after had w old new prefix ahead total s lacks short handler number part pending
 
   pub prefix_halts : (w : Option Text) (old new : State H) (prefix : Text) → Lacks 10 prefix → 16777216 < length old.part + length prefix
-      → new.pending ≡ old.pending → Halts h (Ending.BadLine (old.number + 1) Bad.TooLong) w w old new prefix
+      → new.pending ≡ old.pending → Halts h (InputEnd.BadLine (old.number + 1) LineRefusal.TooLong) w w old new prefix
   unfolding Halts Ran
   prefix_halts w old new prefix lacks long same = λ before after had ahead total short s. record {
     ran = λ now put. too_long h before after had w now old prefix ahead total short s lacks long (subst (λ x. Puts w now x) same put);
@@ -83,10 +83,10 @@ module _ {H R : Type 0} (h : Handling H R) where
 
   -- the same, where the line has its end
   pub whole_halts : (w : Option Text) (old new : State H) (tail : Text) → Lacks 10 tail → 16777216 < length old.part + length tail
-      → new.pending ≡ old.pending → Halts h (Ending.BadLine (old.number + 1) Bad.TooLong) w w old new (tail ++ 10 ∷ [])
+      → new.pending ≡ old.pending → Halts h (InputEnd.BadLine (old.number + 1) LineRefusal.TooLong) w w old new (tail ++ 10 ∷ [])
   unfolding Halts
   whole_halts w old new tail lacks long same = λ before after had ahead total short s.
-      let halts : Halts h (Ending.BadLine (old.number + 1) Bad.TooLong) w w old new tail = prefix_halts w old new tail lacks long same in
+      let halts : Halts h (InputEnd.BadLine (old.number + 1) LineRefusal.TooLong) w w old new tail = prefix_halts w old new tail lacks long same in
       halts before after had ((10 ∷ []) ++ ahead) total short (subst (λ ys. SoFar h before after had w old ys total) (append_assoc tail (10 ∷ []) ahead) s)
 
   -- ---- what is pending is written
@@ -96,7 +96,7 @@ module _ {H R : Type 0} (h : Handling H R) where
   unfolding CarriesOn
   flush_carries w v old new put is = λ before after had ahead total s. flushed h before after had w v old new ahead total s put is
 
-  flush_halts : (w v : Option Text) (old new : State H) → PutsPrefix w v old.pending → new.pending ≡ [] → Halts h Ending.WriteFault w v old new []
+  flush_halts : (w v : Option Text) (old new : State H) → PutsPrefix w v old.pending → new.pending ≡ [] → Halts h InputEnd.WriteFault w v old new []
   unfolding Halts Ran
   flush_halts w v old new put none = λ before after had ahead total short s. record {
     ran = λ now more.
@@ -124,15 +124,15 @@ module _ {H R : Type 0} (h : Handling H R) where
   nothing_carries w st bytes = λ before after had ahead total s. s
 
   -- a run that halted, once what was pending is written
-  halted_ends : (result : Ending R) (w v u : Option Text) (old mid : State H) (bytes : Text) → Halts h result w v old mid bytes → Puts v u mid.pending → Ends h result w u old bytes
+  halted_ends : (result : InputEnd R) (w v u : Option Text) (old mid : State H) (bytes : Text) → Halts h result w v old mid bytes → Puts v u mid.pending → Ends h result w u old bytes
   unfolding Halts Ends
   halted_ends result w v u old mid bytes halts put = λ before after had ahead total short s. (halts before after had ahead total short s).ran u put
 
-  halted_faults : (result : Ending R) (w v u : Option Text) (old mid : State H) (bytes : Text) → Halts h result w v old mid bytes → PutsPrefix v u mid.pending → Ends h Ending.WriteFault w u old bytes
+  halted_faults : (result : InputEnd R) (w v u : Option Text) (old mid : State H) (bytes : Text) → Halts h result w v old mid bytes → PutsPrefix v u mid.pending → Ends h InputEnd.WriteFault w u old bytes
   unfolding Halts Ends Ran
   halted_faults result w v u old mid bytes halts put = λ before after had ahead total short s. (halts before after had ahead total short s).partly u put
 
-  carried_faults : (w v u : Option Text) (old mid : State H) (bytes : Text) → CarriesOn h w v old mid bytes [] → PutsPrefix v u mid.pending → Ends h Ending.WriteFault w u old bytes
+  carried_faults : (w v u : Option Text) (old mid : State H) (bytes : Text) → CarriesOn h w v old mid bytes [] → PutsPrefix v u mid.pending → Ends h InputEnd.WriteFault w u old bytes
   unfolding CarriesOn Ends Ran
   carried_faults w v u old mid bytes on put = λ before after had ahead total short s. partly h before after had v u mid ahead total (on before after had ahead total s) put
 
@@ -159,7 +159,7 @@ module _ {H R : Type 0} (h : Handling H R) where
   piece_ends (Err e) w v u old mid bytes halts put = halted_ends (ending_of e) w v u old mid bytes halts put
 
   pub piece_faults : {X : Type 0} (taken : Result X (Halt R)) (w v u : Option Text) (old mid : State H) (bytes : Text) → OnOk taken (CarriesOn h w v old mid bytes [])
-      → IfErr taken (λ halt. Halts h (ending_of halt) w v old mid bytes) → PutsPrefix v u mid.pending → Ends h Ending.WriteFault w u old bytes
+      → IfErr taken (λ halt. Halts h (ending_of halt) w v old mid bytes) → PutsPrefix v u mid.pending → Ends h InputEnd.WriteFault w u old bytes
   piece_faults (Ok x) w v u old mid bytes on halts put = carried_faults w v u old mid bytes on put
   piece_faults (Err e) w v u old mid bytes on halts put = halted_faults (ending_of e) w v u old mid bytes halts put
 
@@ -170,7 +170,7 @@ module _ {H R : Type 0} (h : Handling H R) where
   carries_at b a c d w v old new total xs s takes on =
       on b c d [] (total + length xs) (subst (λ ys. SoFar h b c d w old ys (total + length xs)) (sym (append-nil xs)) (taken_more h b a c d w old total xs s takes))
 
-  pub ends_at : (result : Ending R) (b a c d w v : Option Text) (old : State H) (total : ℕ) (xs : Text)
+  pub ends_at : (result : InputEnd R) (b a c d w v : Option Text) (old : State H) (total : ℕ) (xs : Text)
       → SoFar h b a d w old [] total → Takes a c xs → total + length xs ≤ 1073741824 → Ends h result w v old xs → Ran h result b c d v
   unfolding Ends
   ends_at result b a c d w v old total xs s takes short ends =
@@ -178,17 +178,17 @@ module _ {H R : Type 0} (h : Handling H R) where
 
   -- ---- the end of the input
 
-  pub cut_finishes : (w : Option Text) (st : State H) → st.pending ≡ [] → (st.part ≡ [] → ⊥) → Finishes h (Ending.BadLine (st.number + 1) Bad.Cut) w w st
+  pub cut_finishes : (w : Option Text) (st : State H) → st.pending ≡ [] → (st.part ≡ [] → ⊥) → Finishes h (InputEnd.BadLine (st.number + 1) LineRefusal.Cut) w w st
   unfolding Finishes Ran
   cut_finishes w st done some = λ before after had total within ended s. cut_bad h before after had w st total within ended s done some
 
   pub refused_finishes : (w : Option Text) (st : State H) (why : R) → st.pending ≡ [] → st.part ≡ []
-      → ((lines : List Text) (shown : Text) → h.after st.handler lines shown → h.refuses_end lines shown why) → Finishes h (Ending.BadLine (st.number + 1) (Bad.Refused why)) w w st
+      → ((lines : List Text) (shown : Text) → h.after st.handler lines shown → h.refuses_end lines shown why) → Finishes h (InputEnd.BadLine (st.number + 1) (LineRefusal.Refused why)) w w st
   unfolding Finishes Ran
   refused_finishes w st why done none refused = λ before after had total within ended s.
       end_bad h before after had w st total why within ended s done none (refused s.lines s.shown s.reached)
 
-  pub no_memory_finishes : (w : Option Text) (st : State H) → Finishes h Ending.NoMemory w w st
+  pub no_memory_finishes : (w : Option Text) (st : State H) → Finishes h InputEnd.NoMemory w w st
   unfolding Finishes Ran
   no_memory_finishes w st = λ before after had total within ended s. partly h before after had w w st [] total s (none_prefix w st.pending)
 
@@ -196,33 +196,33 @@ module _ {H R : Type 0} (h : Handling H R) where
   abbrev pub EndsInput : State H → Text → Type 0
   EndsInput st text = (lines : List Text) (shown : Text) → h.after st.handler lines shown → EndsWell h lines shown [] text
 
-  pub partly_finishes : (w v : Option Text) (st : State H) (text : Text) → st.pending ≡ [] → st.part ≡ [] → EndsInput st text → PutsPrefix w v text → Finishes h Ending.WriteFault w v st
+  pub partly_finishes : (w v : Option Text) (st : State H) (text : Text) → st.pending ≡ [] → st.part ≡ [] → EndsInput st text → PutsPrefix w v text → Finishes h InputEnd.WriteFault w v st
   unfolding Finishes Ran
   partly_finishes w v st text done none ends put = λ before after had total within ended s.
       let e = ends s.lines s.shown s.reached in
       finish_partly h before after had w v st total e.last ended s done none e.may (subst (λ x. PutsPrefix w v x) e.added put)
 
-  pub well_finishes : (w v : Option Text) (st : State H) (text : Text) → st.pending ≡ [] → st.part ≡ [] → EndsInput st text → Puts w v text → Finishes h Ending.Done w v st
+  pub well_finishes : (w v : Option Text) (st : State H) (text : Text) → st.pending ≡ [] → st.part ≡ [] → EndsInput st text → Puts w v text → Finishes h InputEnd.Done w v st
   unfolding Finishes Ran
   well_finishes w v st text done none ends put = λ before after had total within ended s.
       let e = ends s.lines s.shown s.reached in
       finish_well h before after had w v st total e.last within ended s done none e.may (subst (λ x. Puts w v x) e.added put)
 
-  pub finishes_at : (result : Ending R) (b a c d w v : Option Text) (st : State H) (total : ℕ)
+  pub finishes_at : (result : InputEnd R) (b a c d w v : Option Text) (st : State H) (total : ℕ)
       → SoFar h b a d w st [] total → Takes a c [] → total ≤ 1073741824 → AtEnd c → Finishes h result w v st → Ran h result b c d v
   unfolding Finishes
   finishes_at result b a c d w v st total s takes within ended finishes = finishes b c d (total + 0) (omega (arith, within)) ended (taken_more h b a c d w st total [] s takes)
 
   -- ---- faults and limits
 
-  pub read_fault_at : (b a c d w : Option Text) (st : State H) (total : ℕ) → SoFar h b a d w st [] total → st.pending ≡ [] → Takes a c [] → Ran h Ending.ReadFault b c d w
+  pub read_fault_at : (b a c d w : Option Text) (st : State H) (total : ℕ) → SoFar h b a d w st [] total → st.pending ≡ [] → Takes a c [] → Ran h InputEnd.ReadFault b c d w
   unfolding Ran
   read_fault_at b a c d w st total s done takes = ran_so_far h b c d w st (total + 0) (taken_more h b a c d w st total [] s takes) done
 
-  pub too_long_at : (b a c d w : Option Text) (st : State H) (x : ℕ) → SoFar h b a d w st [] 1073741824 → st.pending ≡ [] → Takes a c (x ∷ []) → Ran h Ending.InputTooLong b c d w
+  pub too_long_at : (b a c d w : Option Text) (st : State H) (x : ℕ) → SoFar h b a d w st [] 1073741824 → st.pending ≡ [] → Takes a c (x ∷ []) → Ran h InputEnd.InputTooLong b c d w
   unfolding Ran
   too_long_at b a c d w st x s done takes = ran_too_long h b a c d w st x s done takes
 
-  pub no_memory_at : (handler : H) (b d : Option Text) → Begins h handler → Ran h Ending.NoMemory b b d d
+  pub no_memory_at : (handler : H) (b d : Option Text) → Begins h handler → Ran h InputEnd.NoMemory b b d d
   unfolding Ran
   no_memory_at handler b d begins = nothing_ran h handler b d begins

@@ -8,8 +8,8 @@ use Rattle.crsm_io.proofs.Steps.{puts_after, takes_after}
 use Rattle.crsm_port_lines.specs.Handling.{Handles, Handling, Text}
 use Rattle.crsm_port_lines.specs.State.{IsLine, Reached, State, ended, read_text}
 use Rattle.crsm_port_lines.specs.Run.{CarriesOn, Halts, RanPartly, RanToBad, SoFar, bad_line, long_line, of_lines}
-use Rattle.crsm_port_lines.specs.declared.lines.Bad.{Bad}
-use Rattle.crsm_port_lines.specs.declared.run.Ending.{Ending}
+use Rattle.crsm_port_lines.specs.declared.lines.LineRefusal.{LineRefusal}
+use Rattle.crsm_port_lines.specs.declared.run.InputEnd.{InputEnd}
 use Rattle.crsm_port_lines.proofs.Texts.{are_lines-push, count-push, lacks_prefix, read_text-push}
 
 module _ {H R : Type 0} (h : Handling H R) where
@@ -95,7 +95,7 @@ module _ {H R : Type 0} (h : Handling H R) where
 
   pub line_bad : (b a d w v : Option Text) (old : State H) (tail ahead : Text) (total : ℕ) (why : R) → total ≤ 1073741824
       → (s : SoFar h b a d w old (tail ++ 10 ∷ ahead) total) → Lacks 10 tail → h.refuses s.lines s.shown why (old.part ++ tail)
-      → Puts w v old.pending → RanToBad h b a d v (old.number + 1) (Bad.Refused why)
+      → Puts w v old.pending → RanToBad h b a d v (old.number + 1) (LineRefusal.Refused why)
   line_bad b a d w v old tail ahead total why within s lacks refused put = record {
     lines = s.lines;
     shown = s.shown;
@@ -140,7 +140,7 @@ module _ {H R : Type 0} (h : Handling H R) where
   -- a line that is too long
   pub too_long : (b a d w v : Option Text) (old : State H) (prefix ahead : Text) (total : ℕ) → total ≤ 1073741824
       → SoFar h b a d w old (prefix ++ ahead) total → Lacks 10 prefix → 16777216 < length old.part + length prefix
-      → Puts w v old.pending → RanToBad h b a d v (old.number + 1) Bad.TooLong
+      → Puts w v old.pending → RanToBad h b a d v (old.number + 1) LineRefusal.TooLong
   too_long b a d w v old prefix ahead total within s lacks long put =
       let whole : Text = old.part ++ prefix in
       let len : length whole ≡ length old.part + length prefix = length-append old.part prefix in
@@ -177,11 +177,11 @@ module _ {H R : Type 0} (h : Handling H R) where
       on before after had (behind ++ ahead) total
       (subst (λ ys. SoFar h before after had w x ys total) (append_assoc line (10 ∷ behind) ahead ∙ sym (append_assoc line (10 ∷ []) (behind ++ ahead))) s)
 
-  pub halts_then : (result : Ending R) (w v u : Option Text) (x y z : State H) (bytes rest : Text) → CarriesOn h w v x y bytes rest → Halts h result v u y z rest → Halts h result w u x z bytes
+  pub halts_then : (result : InputEnd R) (w v u : Option Text) (x y z : State H) (bytes rest : Text) → CarriesOn h w v x y bytes rest → Halts h result v u y z rest → Halts h result w u x z bytes
   unfolding CarriesOn Halts
   halts_then result w v u x y z bytes rest one other = λ before after had ahead total within s. other before after had ahead total within (one before after had ahead total s)
 
-  halts_line : (result : Ending R) (w v : Option Text) (x y : State H) (line behind : Text) → Halts h result w v x y (line ++ 10 ∷ []) → Halts h result w v x y (line ++ 10 ∷ behind)
+  halts_line : (result : InputEnd R) (w v : Option Text) (x y : State H) (line behind : Text) → Halts h result w v x y (line ++ 10 ∷ []) → Halts h result w v x y (line ++ 10 ∷ behind)
   unfolding Halts
   halts_line result w v x y line behind halts = λ before after had ahead total within s.
       halts before after had (behind ++ ahead) total within
@@ -193,7 +193,7 @@ module _ {H R : Type 0} (h : Handling H R) where
   past_line w v x y z bytes rest line behind is one other =
       carries_then w v v x y z bytes rest behind one (subst (λ ys. CarriesOn h v v y z ys behind) (sym is) (carries_line v v y z line behind other))
 
-  pub at_line : (result : Ending R) (w v : Option Text) (x y z : State H) (bytes rest line behind : Text) → rest ≡ line ++ 10 ∷ behind → CarriesOn h w v x y bytes rest
+  pub at_line : (result : InputEnd R) (w v : Option Text) (x y z : State H) (bytes rest line behind : Text) → rest ≡ line ++ 10 ∷ behind → CarriesOn h w v x y bytes rest
       → Halts h result v v y z (line ++ 10 ∷ []) → Halts h result w v x z bytes
   at_line result w v x y z bytes rest line behind is one other =
       halts_then result w v v x y z bytes rest one (subst (λ ys. Halts h result v v y z ys) (sym is) (halts_line result v v y z line behind other))
@@ -203,7 +203,7 @@ module _ {H R : Type 0} (h : Handling H R) where
   unfolding CarriesOn
   past_flush w v u x y z bytes rest one other = λ before after had ahead total s. other before after had (rest ++ ahead) total (one before after had ahead total s)
 
-  pub at_flush : (result : Ending R) (w v u : Option Text) (x y z : State H) (bytes rest : Text) → CarriesOn h w v x y bytes rest → Halts h result v u y z [] → Halts h result w u x z bytes
+  pub at_flush : (result : InputEnd R) (w v u : Option Text) (x y z : State H) (bytes rest : Text) → CarriesOn h w v x y bytes rest → Halts h result v u y z [] → Halts h result w u x z bytes
   unfolding CarriesOn Halts
   at_flush result w v u x y z bytes rest one other = λ before after had ahead total within s.
       other before after had (rest ++ ahead) total within (one before after had ahead total s)

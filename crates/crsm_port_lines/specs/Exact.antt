@@ -5,9 +5,9 @@ use Rattle.crsm_port_faults.specs.Counts.{Rose}
 use Rattle.crsm_port_lines.specs.Handling.{Handling, Text}
 use Rattle.crsm_port_lines.specs.State.{IsLine, read_text}
 use Rattle.crsm_port_lines.specs.Run.{BeginsBad}
-use Rattle.crsm_port_lines.specs.declared.lines.Bad.{Bad}
-use Rattle.crsm_port_lines.specs.declared.lines.Bad.TheVariants.{Refused, TooLong, Cut}
-use Rattle.crsm_port_lines.specs.declared.run.Ending.{Ending}
+use Rattle.crsm_port_lines.specs.declared.lines.LineRefusal.{LineRefusal}
+use Rattle.crsm_port_lines.specs.declared.lines.LineRefusal.TheVariants.{Refused, TooLong, Cut}
+use Rattle.crsm_port_lines.specs.declared.run.InputEnd.{InputEnd}
 
 module _ {H R : Type 0} (h : Handling H R) where
   -- none of the lines is refused
@@ -30,20 +30,20 @@ module _ {H R : Type 0} (h : Handling H R) where
 
 module _ {H R : Type 0} (h : Handling H R) (x : Exact h) where
   -- the reason that is reported for a bad line
-  abbrev pub reason_of : Bad R → R
+  abbrev pub reason_of : LineRefusal R → R
   reason_of (Refused why) = why
   reason_of TooLong = x.unreadable
   reason_of Cut = x.unreadable
 
   -- the ending names this line and this reason
-  pub record Names (line : ℕ) (why : R) (result : Ending R) : Type 0 where
-    pub bad : Bad R
+  pub record Names (line : ℕ) (why : R) (result : InputEnd R) : Type 0 where
+    pub bad : LineRefusal R
     pub told : reason_of bad ≡ why
-    pub is : result ≡ Ending.BadLine line bad
+    pub is : result ≡ InputEnd.BadLine line bad
 
   -- Each of these holds unless memory ran out.
-  abbrev pub IsRefused : ℕ → R → Ending R → Type 0
-  IsRefused line why result = Names line why result ⊎ (result ≡ Ending.NoMemory)
+  abbrev pub IsRefused : ℕ → R → InputEnd R → Type 0
+  IsRefused line why result = Names line why result ⊎ (result ≡ InputEnd.NoMemory)
 
   -- for accepted lines within the limit, after which the input ends and may end
   abbrev pub WhereWhole : Option Text → Type 0 → Type 0
@@ -53,7 +53,7 @@ module _ {H R : Type 0} (h : Handling H R) (x : Exact h) where
   -- for accepted lines and a bad one after them, within the limit
   abbrev pub WhereBad : Option Text → (ℕ → R → Type 0) → Type 0
   WhereBad left P =
-      (lines : List Text) (shown text more : Text) (why : Bad R) → Fits h lines → AllByRecursion IsLine lines → left ≡ Some (read_text lines ++ (text ++ more)) →
+      (lines : List Text) (shown text more : Text) (why : LineRefusal R) → Fits h lines → AllByRecursion IsLine lines → left ≡ Some (read_text lines ++ (text ++ more)) →
       BeginsBad h lines shown (Some more) why text → length (read_text lines ++ text) ≤ 1073741824 → P (length lines + 1) (reason_of why)
 
   -- for accepted lines and a part of a line up to the limit, with more bytes after it
@@ -63,11 +63,11 @@ module _ {H R : Type 0} (h : Handling H R) (x : Exact h) where
       length (read_text lines ++ rest) ≡ 1073741824 → 0 < length more → left ≡ Some (read_text lines ++ (rest ++ more)) → P
 
 -- done, or too long, unless memory ran out
-abbrev pub IsDone : {R : Type 0} → Ending R → Type 0
-IsDone result = (result ≡ Ending.Done) ⊎ (result ≡ Ending.NoMemory)
+abbrev pub IsDone : {R : Type 0} → InputEnd R → Type 0
+IsDone result = (result ≡ InputEnd.Done) ⊎ (result ≡ InputEnd.NoMemory)
 
-abbrev pub IsTooLong : {R : Type 0} → Ending R → Type 0
-IsTooLong result = (result ≡ Ending.InputTooLong) ⊎ (result ≡ Ending.NoMemory)
+abbrev pub IsTooLong : {R : Type 0} → InputEnd R → Type 0
+IsTooLong result = (result ≡ InputEnd.InputTooLong) ⊎ (result ≡ InputEnd.NoMemory)
 
 -- if no fault of the input or of the output was counted
 abbrev pub WhereFaultless : (in_old in_new out_old out_new : ℕ) → Type 0 → Type 0

@@ -5,10 +5,10 @@ use Rattle.crsm_io.specs.Streams.{Takes, Puts, PutsPrefix, AtEnd}
 use Rattle.crsm_text.specs.Words.{Lacks}
 use Rattle.crsm_port_lines.specs.Handling.{Handling, Text}
 use Rattle.crsm_port_lines.specs.State.{IsLine, Reached, State, read_text}
-use Rattle.crsm_port_lines.specs.declared.lines.Bad.{Bad}
-use Rattle.crsm_port_lines.specs.declared.lines.Bad.TheVariants.{Refused, TooLong, Cut}
+use Rattle.crsm_port_lines.specs.declared.lines.LineRefusal.{LineRefusal}
+use Rattle.crsm_port_lines.specs.declared.lines.LineRefusal.TheVariants.{Refused, TooLong, Cut}
 use Rattle.crsm_port_lines.specs.declared.lines.Halt.{Halt}
-use Rattle.crsm_port_lines.specs.declared.run.Ending.{Ending}
+use Rattle.crsm_port_lines.specs.declared.run.InputEnd.{InputEnd}
 
 -- In each definition the source had `before` left and then `after`, and the sink had `had` written and then `has`.
 
@@ -43,7 +43,7 @@ pub record BadEnd {H R : Type 0} (h : Handling H R) (lines : List Text) (shown :
   pub refused : h.refuses_end lines shown why
 
 -- The text after these lines is bad for this reason. `left` is what the source has left after the text.
-pub data BeginsBad {H R : Type 0} (h : Handling H R) (lines : List Text) (shown : Text) (left : Option Text) (why : Bad R) (text : Text) : Type 0 where
+pub data BeginsBad {H R : Type 0} (h : Handling H R) (lines : List Text) (shown : Text) (left : Option Text) (why : LineRefusal R) (text : Text) : Type 0 where
   bad_line : (r : R) → why ≡ Refused r → BadLine h lines shown r text → BeginsBad h lines shown left why text
   long_line : why ≡ TooLong → LongLine text → BeginsBad h lines shown left why text
   cut_line : why ≡ Cut → CutLine left text → BeginsBad h lines shown left why text
@@ -97,7 +97,7 @@ module _ {H R : Type 0} (h : Handling H R) where
     pub puts : Puts had has (shown ++ last)
 
   -- this line is the first that is bad, and the text of all lines before it was written
-  pub record RanToBad (before after had has : Option Text) (line : ℕ) (why : Bad R) : Type 0 where
+  pub record RanToBad (before after had has : Option Text) (line : ℕ) (why : LineRefusal R) : Type 0 where
     pub lines : List Text
     pub shown : Text
     pub reached : Reached h lines shown
@@ -145,13 +145,13 @@ module _ {H R : Type 0} (h : Handling H R) where
     pub wrote : WrotePart lines shown rest after had has
 
   -- What the loop did, for each ending. It stays folded in proofs until it is opened.
-  unfoldable pub Ran : Ending R → Option Text → Option Text → Option Text → Option Text → Type 0
-  Ran Ending.Done before after had has = RanToEnd before after had has
-  Ran (Ending.BadLine line why) before after had has = RanToBad before after had has line why
-  Ran Ending.ReadFault before after had has = RanSoFar before after had has
-  Ran Ending.WriteFault before after had has = RanPartly before after had has
-  Ran Ending.NoMemory before after had has = RanPartly before after had has
-  Ran Ending.InputTooLong before after had has = RanTooLong before after had has
+  unfoldable pub Ran : InputEnd R → Option Text → Option Text → Option Text → Option Text → Type 0
+  Ran InputEnd.Done before after had has = RanToEnd before after had has
+  Ran (InputEnd.BadLine line why) before after had has = RanToBad before after had has line why
+  Ran InputEnd.ReadFault before after had has = RanSoFar before after had has
+  Ran InputEnd.WriteFault before after had has = RanPartly before after had has
+  Ran InputEnd.NoMemory before after had has = RanPartly before after had has
+  Ran InputEnd.InputTooLong before after had has = RanTooLong before after had has
 
   -- ---- pieces
 
@@ -161,27 +161,27 @@ module _ {H R : Type 0} (h : Handling H R) where
       → SoFar before after had has old (bytes ++ ahead) total → SoFar before after had now new (rest ++ ahead) total
 
   -- the run ends once the pending text is written, or with a prefix of it written
-  pub record Halted (result : Ending R) (before after had has : Option Text) (pending : Text) : Type 0 where
+  pub record Halted (result : InputEnd R) (before after had has : Option Text) (pending : Text) : Type 0 where
     pub ran : (now : Option Text) → Puts has now pending → Ran result before after had now
     pub partly : (now : Option Text) → PutsPrefix has now pending → RanPartly before after had now
 
   -- the run ends within these bytes, except that text is pending
-  unfoldable pub Halts : Ending R → Option Text → Option Text → State H → State H → Text → Type 0
+  unfoldable pub Halts : InputEnd R → Option Text → Option Text → State H → State H → Text → Type 0
   Halts result has now old new bytes = (before after had : Option Text) (ahead : Text) (total : ℕ) → total ≤ 1073741824
       → SoFar before after had has old (bytes ++ ahead) total → Halted result before after had now new.pending
 
   -- the run ends within these bytes
-  unfoldable pub Ends : Ending R → Option Text → Option Text → State H → Text → Type 0
+  unfoldable pub Ends : InputEnd R → Option Text → Option Text → State H → Text → Type 0
   Ends result has now old bytes = (before after had : Option Text) (ahead : Text) (total : ℕ) → total ≤ 1073741824
       → SoFar before after had has old (bytes ++ ahead) total → Ran result before after had now
 
   -- the run ends at the end of the input
-  unfoldable pub Finishes : Ending R → Option Text → Option Text → State H → Type 0
+  unfoldable pub Finishes : InputEnd R → Option Text → Option Text → State H → Type 0
   Finishes result has now state = (before after had : Option Text) (total : ℕ) → total ≤ 1073741824 → AtEnd after
       → SoFar before after had has state [] total → Ran result before after had now
 
 -- the ending of a run whose loop stopped
-abbrev pub ending_of : {R : Type 0} → Halt R → Ending R
-ending_of (Halt.BadLine line why) = Ending.BadLine line why
-ending_of Halt.WriteFault = Ending.WriteFault
-ending_of Halt.NoMemory = Ending.NoMemory
+abbrev pub ending_of : {R : Type 0} → Halt R → InputEnd R
+ending_of (Halt.BadLine line why) = InputEnd.BadLine line why
+ending_of Halt.WriteFault = InputEnd.WriteFault
+ending_of Halt.NoMemory = InputEnd.NoMemory

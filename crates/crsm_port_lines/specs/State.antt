@@ -3,7 +3,7 @@ use Rattle.std.specs.Prelude.{ℕ, ◌≤◌, List, [], ◌∷◌, ◌++◌, len
 use Rattle.std.specs.List.{AllByRecursion, flat_map}
 use Rattle.crsm_text.specs.Words.{Lacks}
 use Rattle.crsm_port_lines.specs.Handling.{Handling, Text}
-use Rattle.crsm_port_lines.specs.declared.lines.Lines.{Lines}
+use Rattle.crsm_port_lines.specs.declared.lines.LineReader.{LineReader}
 
 -- the handler, the number of lines handled, the part of the next line that was read, and the text to be written
 pub record State (H : Type 0) : Type 0 where
@@ -12,7 +12,7 @@ pub record State (H : Type 0) : Type 0 where
   pub part : Text
   pub pending : Text
 
-abbrev pub state_of : {H : Type 0} → Lines H → State H
+abbrev pub state_of : {H : Type 0} → LineReader H → State H
 state_of l = record { handler = l.handler; number = l.number; part = l.part.items; pending = l.pending }
 
 -- ---- lines

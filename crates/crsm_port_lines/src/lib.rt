@@ -7,5 +7,5 @@ mod lines;
 mod run;
 
 pub use handler::{Handler, Stop};
-pub use lines::{Bad, Halt, Lines};
-pub use run::{Ending, MAX_INPUT_BYTES, run_lines};
+pub use lines::{Halt, LineReader, LineRefusal};
+pub use run::{InputEnd, MAX_INPUT_BYTES, run_lines};

@@ -7,7 +7,7 @@ ghost use Rattle.crsm_io.specs.Streams.{Puts, PutsPrefix};
 ghost use Rattle.crsm_text.specs.Words.{Lacks};
 ghost use Rattle.crsm_port_lines.specs.Handling.{Begins, Handles, StopsAt};
 ghost use Rattle.crsm_port_lines.specs.State.{state_of};
-ghost use Rattle.crsm_port_lines.specs.declared.run.Ending.{Ending};
+ghost use Rattle.crsm_port_lines.specs.declared.run.InputEnd.{InputEnd};
 ghost use Rattle.crsm_port_lines.specs.Run.{CarriesOn, Halts, Ends, Finishes, IsUpToDate, ending_of};
 
 use crate::handler::{Handler, Stop};
@@ -21,7 +21,7 @@ const FULL_BYTES: usize = 262_144;
 
 /// The reason why a line is bad.
 #[derive(Clone, Copy, Debug, PartialEq, Eq)]
-pub enum Bad<R> {
+pub enum LineRefusal<R> {
     /// The handler refuses the line, or the end of the input in its place.
     Refused(R),
     /// The line has more than 16,777,216 bytes.
@@ -34,7 +34,7 @@ pub enum Bad<R> {
 #[derive(Clone, Copy, Debug, PartialEq, Eq)]
 pub enum Halt<R> {
     /// The first bad line, by its number from 1, and the reason.
-    BadLine { line: u64, why: Bad<R> },
+    BadLine { line: u64, why: LineRefusal<R> },
     /// A write failed.
     WriteFault,
     /// Memory ran out.
@@ -43,7 +43,7 @@ pub enum Halt<R> {
 
 /// A handler, the number of lines handled, the received part of the next line, and the text to be written.
 #[derive(Drop)]
-pub struct Lines<H> {
+pub struct LineReader<H> {
     alloc: Global,
     handler: H,
     number: u64,
@@ -51,13 +51,13 @@ pub struct Lines<H> {
     pending: Bytes,
 }
 
-impl<H: Handler> Lines<H> {
+impl<H: Handler> LineReader<H> {
     /// Returns a loop that has read nothing.
-    pub fn new(alloc: Global, handler: H) -> Lines<H>
+    pub fn new(alloc: Global, handler: H) -> LineReader<H>
         ensures value { state_of result ≡ record { handler = handler; number = 0; part = []; pending = [] } }
         ensures up_to_date { (had : Option (List ℕ)) → Begins (H.handling handler) handler → IsUpToDate (H.handling handler) had had (state_of result) [] }
     {
-        Lines {
+        LineReader {
             alloc,
             handler,
             number: 0,
@@ -97,13 +97,13 @@ impl<H: Handler> Lines<H> {
     {
         let line = self.number + 1;
         if self.part.len().saturating_add(tail.len()) as u64 > MAX_LINE_BYTES {
-            let why = Bad::TooLong;
+            let why = LineRefusal::TooLong;
             return Err(Halt::BadLine { line, why });
         }
         match self.advance(tail) {
             Ok(()) => {}
             Err(Stop::Refused(why)) => {
-                let why = Bad::Refused(why);
+                let why = LineRefusal::Refused(why);
                 return Err(Halt::BadLine { line, why });
             }
             Err(Stop::NoMemory) => return Err(Halt::NoMemory),
@@ -127,7 +127,7 @@ impl<H: Handler> Lines<H> {
         }
         if self.part.len().saturating_add(prefix.len()) as u64 > MAX_LINE_BYTES {
             let line = self.number + 1;
-            let why = Bad::TooLong;
+            let why = LineRefusal::TooLong;
             return Err(Halt::BadLine { line, why });
         }
         let Ok(()) = self.part.extend_from_slice(prefix) else {
@@ -211,21 +211,21 @@ impl<H: Handler> Lines<H> {
     pub fn finish<O: Sink>(&self, output: &mut O) -> Result<(), Halt<H::Refusal>>
         requires number { self.now.number < 2 ^ 64 - 1 }
         requires pending { self.now.pending ≡ [] }
-        ensures ok { (first : H) → OnOk result (Finishes (H.handling first) Ending.Done (O.written output.old) (O.written output.new) (state_of self.now)) }
+        ensures ok { (first : H) → OnOk result (Finishes (H.handling first) InputEnd.Done (O.written output.old) (O.written output.new) (state_of self.now)) }
         ensures err { (first : H) → IfErr result (λ halt. Finishes (H.handling first) (ending_of halt) (O.written output.old) (O.written output.new) (state_of self.now)) }
         ensures later { O.faults output.old ≤ O.faults output.new }
         ensures rose { IsErrOf result Halt.WriteFault → Rose (O.faults output.old) (O.faults output.new) }
     {
         let line = self.number + 1;
         if !self.part.is_empty() {
-            let why = Bad::Cut;
+            let why = LineRefusal::Cut;
             return Err(Halt::BadLine { line, why });
         }
         let mut text = Bytes::new(self.alloc);
         match self.handler.end(&mut text) {
             Ok(()) => {}
             Err(Stop::Refused(why)) => {
-                let why = Bad::Refused(why);
+                let why = LineRefusal::Refused(why);
                 return Err(Halt::BadLine { line, why });
             }
             Err(Stop::NoMemory) => return Err(Halt::NoMemory),

@@ -7,7 +7,7 @@ ghost use Rattle.crsm_port_lines.specs.Exact.{Exact, IsDone, IsRefused, IsTooLon
 ghost use Rattle.crsm_port_lines.specs.Run.{Ran, ending_of};
 
 use crate::handler::Handler;
-use crate::lines::{Bad, Halt, Lines};
+use crate::lines::{Halt, LineReader, LineRefusal};
 use crsm_io::{Sink, Source};
 use std::alloc::Global;
 
@@ -19,11 +19,11 @@ const PIECE_BYTES: usize = 65_536;
 
 /// How a run over an input ends.
 #[derive(Clone, Copy, Debug, PartialEq, Eq)]
-pub enum Ending<R> {
+pub enum InputEnd<R> {
     /// The input was read to its end.
     Done,
     /// The first bad line, by its number from 1, and the reason.
-    BadLine { line: u64, why: Bad<R> },
+    BadLine { line: u64, why: LineRefusal<R> },
     /// A read failed.
     ReadFault,
     /// A write failed.
@@ -52,13 +52,13 @@ fn room(total: u64) -> usize
 }
 
 /// Converts the reason for which the loop stopped.
-fn halted<R>(halt: Halt<R>) -> Ending<R>
+fn halted<R>(halt: Halt<R>) -> InputEnd<R>
     ensures { result ≡ ending_of halt }
 {
     match halt {
-        Halt::BadLine { line, why } => Ending::BadLine { line, why },
-        Halt::WriteFault => Ending::WriteFault,
-        Halt::NoMemory => Ending::NoMemory,
+        Halt::BadLine { line, why } => InputEnd::BadLine { line, why },
+        Halt::WriteFault => InputEnd::WriteFault,
+        Halt::NoMemory => InputEnd::NoMemory,
     }
 }
 
@@ -69,28 +69,28 @@ fn run_through<H: Handler + Drop, I: Source, O: Sink>(
     buf: &mut [u8],
     input: &mut I,
     output: &mut O,
-) -> Ending<H::Refusal>
+) -> InputEnd<H::Refusal>
     requires begins { Begins (H.handling handler) handler }
     requires room { length buf.old ≡ PIECE_BYTES }
     ensures ran { Ran (H.handling handler) result (I.left input.old) (I.left input.new) (O.written output.old) (O.written output.new) }
-    ensures read { result ≡ Ending.ReadFault → Rose (I.faults input.old) (I.faults input.new) }
-    ensures write { result ≡ Ending.WriteFault → Rose (O.faults output.old) (O.faults output.new) }
+    ensures read { result ≡ InputEnd.ReadFault → Rose (I.faults input.old) (I.faults input.new) }
+    ensures write { result ≡ InputEnd.WriteFault → Rose (O.faults output.old) (O.faults output.new) }
 {
-    let mut lines = Lines::new(alloc, handler);
+    let mut lines = LineReader::new(alloc, handler);
     let mut total: u64 = 0;
     loop {
         let want = room(total);
         let Ok(count) = input.read(&mut buf[..want]) else {
-            return Ending::ReadFault;
+            return InputEnd::ReadFault;
         };
         if count == 0 {
             if let Err(halt) = lines.finish(output) {
                 return halted(halt);
             }
-            return Ending::Done;
+            return InputEnd::Done;
         }
         if total == MAX_INPUT_BYTES {
-            return Ending::InputTooLong;
+            return InputEnd::InputTooLong;
         }
         total += count as u64;
         if let Err(halt) = lines.feed(&buf[..count], output) {
@@ -105,14 +105,14 @@ fn run_pieces<H: Handler + Drop, I: Source, O: Sink>(
     handler: H,
     input: &mut I,
     output: &mut O,
-) -> Ending<H::Refusal>
+) -> InputEnd<H::Refusal>
     requires { Begins (H.handling handler) handler }
     ensures ran { Ran (H.handling handler) result (I.left input.old) (I.left input.new) (O.written output.old) (O.written output.new) }
-    ensures read { result ≡ Ending.ReadFault → Rose (I.faults input.old) (I.faults input.new) }
-    ensures write { result ≡ Ending.WriteFault → Rose (O.faults output.old) (O.faults output.new) }
+    ensures read { result ≡ InputEnd.ReadFault → Rose (I.faults input.old) (I.faults input.new) }
+    ensures write { result ≡ InputEnd.WriteFault → Rose (O.faults output.old) (O.faults output.new) }
 {
     let Ok(mut buf) = vec![in alloc; 0u8; PIECE_BYTES] else {
-        return Ending::NoMemory;
+        return InputEnd::NoMemory;
     };
     run_through(alloc, handler, buf.as_mut_slice(), input, output)
 }
@@ -124,15 +124,15 @@ pub fn run_lines<H: Handler + Drop, I: Source, O: Sink>(
     handler: H,
     input: &mut I,
     output: &mut O,
-) -> Ending<H::Refusal>
+) -> InputEnd<H::Refusal>
     requires { Begins (H.handling handler) handler }
 
     // What was read and written, for each ending.
     ensures ran { Ran (H.handling handler) result (I.left input.old) (I.left input.new) (O.written output.old) (O.written output.new) }
 
     // A fault is returned only if the device counted one.
-    ensures read { result ≡ Ending.ReadFault → Rose (I.faults input.old) (I.faults input.new) }
-    ensures write { result ≡ Ending.WriteFault → Rose (O.faults output.old) (O.faults output.new) }
+    ensures read { result ≡ InputEnd.ReadFault → Rose (I.faults input.old) (I.faults input.new) }
+    ensures write { result ≡ InputEnd.WriteFault → Rose (O.faults output.old) (O.faults output.new) }
 
     // If the handler's acceptance depends on lines alone and no device failed: an input of accepted lines ends as
     // `Done`, the first bad line is named with its reason, and accepted lines up to the limit with more bytes after
@@ -142,8 +142,8 @@ pub fn run_lines<H: Handler + Drop, I: Source, O: Sink>(
     ensures too_long { (x : Exact (H.handling handler)) → WhereTooLong (H.handling handler) x (I.left input.old) (WhereFaultless (I.faults input.old) (I.faults input.new) (O.faults output.old) (O.faults output.new) (IsTooLong result)) }
 
     // An input beyond the limit never ends as `Done`, and one within it never as `InputTooLong`.
-    ensures limit { (bytes : List ℕ) → I.left input.old ≡ Some bytes → MAX_INPUT_BYTES < length bytes → result ≢ Ending.Done }
-    ensures within { (bytes : List ℕ) → I.left input.old ≡ Some bytes → length bytes ≤ MAX_INPUT_BYTES → result ≢ Ending.InputTooLong }
+    ensures limit { (bytes : List ℕ) → I.left input.old ≡ Some bytes → MAX_INPUT_BYTES < length bytes → result ≢ InputEnd.Done }
+    ensures within { (bytes : List ℕ) → I.left input.old ≡ Some bytes → length bytes ≤ MAX_INPUT_BYTES → result ≢ InputEnd.InputTooLong }
 {
     run_pieces(alloc, handler, input, output)
 }

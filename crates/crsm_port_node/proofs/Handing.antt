@@ -3,7 +3,7 @@ use Rattle.std.proofs.Common.{◌≡◌, ℕ, false, min, List, ◌++◌, length
 use Rattle.std.specs.Prelude.{IsTrue}
 use Rattle.std.proofs.lemmas.List.{take_at, take_min}
 use Rattle.crsm_port.specs.Meaning.{Meaning, Packet, Receives, Takes, Traffic}
-use Rattle.crsm_port.specs.declared.port.Got.TheVariants.{Datagram}
+use Rattle.crsm_port.specs.declared.port.Recv.TheVariants.{Datagram}
 use Rattle.crsm_port_node.specs.Senders.{IsFirst, IsOfFirst, SpeaksForItself}
 
 pub never : IsTrue false → ⊥

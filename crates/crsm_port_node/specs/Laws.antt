@@ -4,7 +4,7 @@ use Rattle.crsm_base.specs.MessageReading.{datagram_of}
 use Rattle.crsm_base.specs.declared.datagram.Datagram.{Datagram}
 use Rattle.crsm_base.specs.declared.datagram.Datagram.TheVariants as datagram
 use Rattle.crsm_wire.specs.Inverse.{AreBytes}
-use Rattle.crsm_port_node.specs.Senders.{named_sender}
+use Rattle.crsm_wire.specs.Marks.{named_sender}
 
 -- the replica that a datagram names as its sender
 abbrev pub sender_of : Datagram → Option ℕ

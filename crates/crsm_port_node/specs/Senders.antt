@@ -2,30 +2,16 @@
 use Rattle.std.specs.Prelude.{◌≡◌, ◌↔◌, ℕ, min, List, [], ◌∷◌, ◌++◌, drop, length, take, Option, Some, None, IsSome, ◌&&◌, if◌then◌else◌, slice_get, nat_eq, nat_le}
 use Rattle.crsm_port.specs.Meaning.{Coat, Meaning, Packet, Traffic}
 use Rattle.crsm_port.specs.Unknown.{unknown}
-use Rattle.crsm_port.specs.declared.port.Got.{Got}
-use Rattle.crsm_port.specs.declared.port.Got.TheVariants.{Nothing, Datagram}
-
--- length in bytes of the mark of a cluster: the byte 16, and the cluster's number
-abbrev pub mark_size : ℕ
-mark_size = 9
-
--- the bytes after the mark of a cluster, if there is one
-abbrev pub behind_mark : List ℕ → List ℕ
-behind_mark [] = []
-behind_mark (b ∷ bytes) = if nat_eq b 16 && nat_le 8 (length bytes) then drop 8 bytes else b ∷ bytes
-
--- the replica that the bytes name as their sender: those of frames, acknowledgements and parts do
-abbrev pub named_sender : List ℕ → Option ℕ
-named_sender [] = None
-named_sender (kind ∷ []) = None
-named_sender (kind ∷ from ∷ rest) = if nat_le 1 kind && nat_le kind 3 then Some from else None
+use Rattle.crsm_wire.specs.Marks.{behind_any_mark, named_sender}
+use Rattle.crsm_port.specs.declared.port.Recv.{Recv}
+use Rattle.crsm_port.specs.declared.port.Recv.TheVariants.{Nothing, Datagram}
 
 -- the bytes may come from this address: they name nobody, or the replica with this address
 abbrev pub SpeaksForItself : List ℕ → (address : ℕ) → List ℕ → Type 0
-SpeaksForItself peers address bytes = (k : ℕ) → named_sender (behind_mark bytes) ≡ Some k → slice_get peers k ≡ Some address
+SpeaksForItself peers address bytes = (k : ℕ) → named_sender (behind_any_mark bytes) ≡ Some k → slice_get peers k ≡ Some address
 
 -- the datagram that is returned may come from its address
-abbrev pub IsOwn : List ℕ → List ℕ → Got → Type 0
+abbrev pub IsOwn : List ℕ → List ℕ → Recv → Type 0
 IsOwn peers buffer Nothing = Unit {0}
 IsOwn peers buffer (Datagram from len) = SpeaksForItself peers from (take len buffer)
 
@@ -39,14 +25,14 @@ pub record HandsUp (peers : List ℕ) (d : Packet) (room : ℕ) (buffer : List �
   pub foreign : (SpeaksForItself peers d.address (take room d.bytes) → ⊥) → len ≡ 0
 
 -- The inner port receives the first waiting datagram, and that is the one returned; or none waits.
-abbrev pub IsFirst : List ℕ → Coat → ℕ → Traffic → Traffic → List ℕ → Got → Type 0
+abbrev pub IsFirst : List ℕ → Coat → ℕ → Traffic → Traffic → List ℕ → Recv → Type 0
 IsFirst peers coat room t u buffer Nothing = (t.waiting ≡ []) × (u ≡ t)
 IsFirst peers coat room t u buffer (Datagram from len) = (d : Packet) × (rest : List Packet) × (t.waiting ≡ d ∷ rest)
     × (u ≡ record t { waiting = rest; taken = t.taken ++ d ∷ [] })
     × HandsUp peers (coat.unwrap d) room buffer from len
 
 -- the same, where the inner port specifies its traffic, which it does after the receive if and only if it did before
-pub record IsOfFirst (peers : List ℕ) (old new : Meaning) (room : ℕ) (buffer : List ℕ) (got : Got) : Type 0 where
+pub record IsOfFirst (peers : List ℕ) (old new : Meaning) (room : ℕ) (buffer : List ℕ) (got : Recv) : Type 0 where
   pub told : IsSome old.traffic ↔ IsSome new.traffic
   pub first : (t u : Traffic) → old.traffic ≡ Some t → new.traffic ≡ Some u → IsFirst peers old.coat room t u buffer got
 

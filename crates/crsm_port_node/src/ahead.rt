@@ -4,7 +4,7 @@ ghost use Rattle.std.specs.Prelude.{IfSome, length};
 ghost use Rattle.crsm_port.specs.Meaning.{IsWithin};
 
 use crsm_base::NoMemory;
-use crsm_port::{Got, Port};
+use crsm_port::{Port, Recv};
 use std::alloc::Global;
 
 /// Maximum number of datagrams that are read ahead, and maximum length of each in bytes.
@@ -14,7 +14,7 @@ const MOST_BYTES: usize = 8201;
 
 /// The address of a datagram that was read ahead, and the range of the buffer that holds its bytes.
 #[derive(Clone, Copy)]
-struct Place {
+struct QueuedRange {
     from: u64,
     start: usize,
     len: usize,
@@ -23,7 +23,7 @@ struct Place {
 /// Datagrams that were read ahead, the oldest first, and whether a receive failed after them.
 #[derive(Drop)]
 pub(crate) struct Ahead {
-    places: Vec<Place>,
+    places: Vec<QueuedRange>,
     next: usize,
     bytes: Vec<u8>,
     room: Vec<u8>,
@@ -55,8 +55,8 @@ impl Ahead {
             }
             port.hurry();
             match port.recv(&mut self.room) {
-                Ok(Got::Datagram { from, len }) => self.keep(from, len),
-                Ok(Got::Nothing) => return,
+                Ok(Recv::Datagram { from, len }) => self.keep(from, len),
+                Ok(Recv::Nothing) => return,
                 Err(_) => self.has_failed = true,
             }
         }
@@ -78,12 +78,12 @@ impl Ahead {
             return;
         };
         if self.bytes.extend_from_slice(bytes).is_ok() {
-            let _ = self.places.push(Place { from, start, len });
+            let _ = self.places.push(QueuedRange { from, start, len });
         }
     }
 
     /// Returns the oldest datagram, cut to the buffer, or `None` if there is none.
-    pub(crate) fn take(&mut self, buf: &mut [u8]) -> Option<Got>
+    pub(crate) fn take(&mut self, buf: &mut [u8]) -> Option<Recv>
         ensures { IfSome result (IsWithin (length buf.old)) }
     {
         let place = *self.places.get(self.next)?;
@@ -91,7 +91,7 @@ impl Ahead {
         let bytes = self.bytes.get(place.start..)?.get(..place.len)?;
         let len = bytes.len().min(buf.len());
         buf[..len].copy_from_slice(&bytes[..len]);
-        Some(Got::Datagram {
+        Some(Recv::Datagram {
             from: place.from,
             len,
         })

@@ -4,7 +4,7 @@ ghost use Rattle.std.specs.Prelude.{IfSome, length};
 ghost use Rattle.crsm_port.specs.Meaning.{IsWithin};
 
 use crsm_base::NoMemory;
-use crsm_port::Got;
+use crsm_port::Recv;
 use std::alloc::Global;
 use std::collections::VecDeque;
 
@@ -153,7 +153,7 @@ impl Early {
     }
 
     /// Returns the kept frame that is expected next, cut to the buffer, or `None` if there is none.
-    pub(crate) fn take(&mut self, buf: &mut [u8]) -> Option<Got>
+    pub(crate) fn take(&mut self, buf: &mut [u8]) -> Option<Recv>
         ensures { IfSome result (IsWithin (length buf.old)) }
     {
         let place = self.ready?;
@@ -169,6 +169,6 @@ impl Early {
         self.see(place);
         let len = bytes.len().min(buf.len());
         buf[..len].copy_from_slice(&bytes[..len]);
-        Some(Got::Datagram { from, len })
+        Some(Recv::Datagram { from, len })
     }
 }

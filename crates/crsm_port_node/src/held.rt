@@ -20,14 +20,14 @@ struct Ack {
 
 /// The latest acknowledgement for each address; it covers all earlier ones.
 #[derive(Drop)]
-pub(crate) struct Held {
+pub(crate) struct LastAcks {
     acks: Vec<Ack>,
 }
 
-impl Held {
+impl LastAcks {
     /// Returns an empty buffer with room for all, or `NoMemory` if memory runs out.
-    pub(crate) fn new(alloc: Global) -> Result<Held, NoMemory> {
-        Ok(Held {
+    pub(crate) fn new(alloc: Global) -> Result<LastAcks, NoMemory> {
+        Ok(LastAcks {
             acks: Vec::with_capacity(alloc, MOST_HELD)?,
         })
     }

@@ -3,9 +3,9 @@
 //! crowd out new datagrams.
 #![tactic(auto)]
 
+mod again;
 mod ahead;
 mod early;
-mod head;
 mod held;
 mod laws;
 mod paced;
@@ -17,4 +17,4 @@ mod requests;
 
 pub use laws::senders_are_named;
 pub use paced::PacedPort;
-pub use peer::{PeerPort, unmarked};
+pub use peer::PeerPort;

@@ -5,7 +5,7 @@ ghost use Rattle.crsm_port.specs.Unknown.{unknown};
 use crate::pacer::Pacer;
 use crsm_base::{Failed, NoMemory};
 use crsm_clock::Clock;
-use crsm_port::{Got, Port};
+use crsm_port::{Port, Recv};
 use crsm_port_faults::raise;
 use std::alloc::Global;
 
@@ -48,12 +48,12 @@ impl<P: Drop, C: Drop> PacedPort<P, C> {
 impl<P: Port, C: Clock> Port for PacedPort<P, C> {
     ghost meaning = { λ p. unknown p.faults p.losses p.empties };
 
-    fn recv(&mut self, buf: &mut [u8]) -> Result<Got, Failed> {
+    fn recv(&mut self, buf: &mut [u8]) -> Result<Recv, Failed> {
         match self.pacer.recv(buf) {
-            Ok(Got::Datagram { from, len }) => Ok(Got::Datagram { from, len }),
-            Ok(Got::Nothing) => {
+            Ok(Recv::Datagram { from, len }) => Ok(Recv::Datagram { from, len }),
+            Ok(Recv::Nothing) => {
                 raise(&mut self.empties);
-                Ok(Got::Nothing)
+                Ok(Recv::Nothing)
             }
             Err(Failed) => {
                 raise(&mut self.faults);

@@ -3,16 +3,17 @@
 ghost use Rattle.std.specs.Prelude.{IfOk, IfSome, length};
 ghost use Rattle.crsm_port.specs.Meaning.{IsWithin};
 
+use crate::again::Again;
 use crate::ahead::Ahead;
 use crate::early::Early;
-use crate::head::{Head, head_of};
-use crate::held::Held;
-use crate::parts::Parts;
+use crate::held::LastAcks;
+use crate::parts::RecentParts;
 use crate::repeats::Repeats;
 use crate::requests::{MOST_WAITING, Requests};
 use crsm_base::{Failed, NoMemory};
 use crsm_clock::Clock;
-use crsm_port::{Got, Port};
+use crsm_port::{Port, Recv};
+use crsm_wire::{PacketHead, peek};
 use std::alloc::Global;
 
 /// A port, with the datagrams that are held back before it and those that were read ahead from it.
@@ -23,11 +24,12 @@ pub(crate) struct Pacer<P, C> {
     // The clock's reading before the next sends, in microseconds.
     now: u64,
     ahead: Ahead,
-    held: Held,
+    held: LastAcks,
     repeats: Repeats,
-    parts: Parts,
+    parts: RecentParts,
     requests: Requests,
     early: Early,
+    again: Again,
     // Whether the next receive must not wait.
     is_hurried: bool,
 }
@@ -40,11 +42,12 @@ impl<P: Drop, C: Drop> Pacer<P, C> {
             clock,
             now: 0,
             ahead: Ahead::new(alloc)?,
-            held: Held::new(alloc)?,
+            held: LastAcks::new(alloc)?,
             repeats: Repeats::new(alloc)?,
-            parts: Parts::new(alloc)?,
+            parts: RecentParts::new(alloc)?,
             requests: Requests::new(alloc)?,
             early: Early::new(alloc)?,
+            again: Again::new(),
             is_hurried: false,
         })
     }
@@ -53,7 +56,7 @@ impl<P: Drop, C: Drop> Pacer<P, C> {
 impl<P: Port, C: Clock> Pacer<P, C> {
     /// Sends the datagrams that are held back, and returns the next one: a kept frame that is no longer early, a
     /// request that has waited, one that was read ahead, or one from the port.
-    pub(crate) fn recv(&mut self, buf: &mut [u8]) -> Result<Got, Failed>
+    pub(crate) fn recv(&mut self, buf: &mut [u8]) -> Result<Recv, Failed>
         ensures { IfOk result (IsWithin (length buf.old)) }
     {
         self.held.let_go(&mut self.port);
@@ -66,30 +69,33 @@ impl<P: Port, C: Clock> Pacer<P, C> {
     }
 
     /// Returns a kept datagram that is due, or `None`.
-    fn kept(&mut self, buf: &mut [u8]) -> Option<Got>
+    fn kept(&mut self, buf: &mut [u8]) -> Option<Recv>
         ensures { IfSome result (IsWithin (length buf.old)) }
     {
-        match self.early.take(buf) {
+        if let Some(got) = self.early.take(buf) {
+            return Some(got);
+        }
+        match self.requests.take(buf, self.now) {
             Some(got) => Some(got),
-            None => self.requests.take(buf, self.now),
+            None => self.again.take(buf, self.now),
         }
     }
 
     /// Returns the next datagram that is not held back.
-    fn next(&mut self, buf: &mut [u8]) -> Result<Got, Failed>
+    fn next(&mut self, buf: &mut [u8]) -> Result<Recv, Failed>
         ensures { IfOk result (IsWithin (length buf.old)) }
     {
         for _ in 0..=MOST_WAITING {
             match self.arrived(buf)? {
-                Got::Datagram { from, len } if self.is_held(from, &buf[..len]) => {}
+                Recv::Datagram { from, len } if self.is_held(from, &buf[..len]) => {}
                 got => return Ok(got),
             }
         }
-        Ok(Got::Nothing)
+        Ok(Recv::Nothing)
     }
 
     /// Returns the next datagram, from those read ahead or from the port.
-    fn arrived(&mut self, buf: &mut [u8]) -> Result<Got, Failed>
+    fn arrived(&mut self, buf: &mut [u8]) -> Result<Recv, Failed>
         ensures { IfOk result (IsWithin (length buf.old)) }
     {
         if let Some(got) = self.ahead.take(buf) {
@@ -106,8 +112,8 @@ impl<P: Port, C: Clock> Pacer<P, C> {
 
     /// Returns whether a received datagram is held back; records frames and the numbers that their senders expect.
     fn is_held(&mut self, from: u64, bytes: &[u8]) -> bool {
-        match head_of(bytes) {
-            Head::Ack {
+        match peek(bytes) {
+            PacketHead::Ack {
                 from: sender,
                 epoch,
                 next,
@@ -116,7 +122,7 @@ impl<P: Port, C: Clock> Pacer<P, C> {
                 self.repeats.note_expected(sender, epoch, next);
                 false
             }
-            Head::Frame {
+            PacketHead::Frame {
                 from: sender,
                 epoch,
                 number,
@@ -125,7 +131,11 @@ impl<P: Port, C: Clock> Pacer<P, C> {
                 self.early.note(sender, epoch, number, from, bytes);
                 false
             }
-            Head::Request(command) => self.requests.hold(from, command, bytes, self.now),
+            PacketHead::Request(command) => self.requests.hold(from, command, bytes, self.now),
+            PacketHead::Operate => {
+                self.again.note(from, bytes, self.now);
+                false
+            }
             _ => false,
         }
     }
@@ -141,14 +151,14 @@ impl<P: Port, C: Clock> Pacer<P, C> {
 
     /// Returns whether a datagram is to be sent now. Acknowledgements are held.
     fn may_go(&mut self, to: u64, bytes: &[u8]) -> bool {
-        match head_of(bytes) {
-            Head::Frame {
+        match peek(bytes) {
+            PacketHead::Frame {
                 to: receiver,
                 epoch,
                 number,
                 ..
             } => self.repeats.may_go(receiver, epoch, number, self.now),
-            Head::Ack {
+            PacketHead::Ack {
                 to: sender,
                 epoch,
                 next,
@@ -157,12 +167,12 @@ impl<P: Port, C: Clock> Pacer<P, C> {
                 self.early.note_expected(sender, epoch, next);
                 !self.held.hold(to, bytes)
             }
-            Head::Part(part) => self.parts.may_go(to, part, self.now),
-            Head::Reply(command) => {
+            PacketHead::Part(part) => self.parts.may_go(to, part, self.now),
+            PacketHead::Reply(command) => {
                 self.requests.note_answered(command);
                 true
             }
-            Head::Request(_) | Head::Other => true,
+            PacketHead::Request(_) | PacketHead::Operate | PacketHead::Other => true,
         }
     }
 

@@ -16,7 +16,7 @@ const PRIME: u64 = 0x0100_0000_01b3;
 
 /// The checksum of a part, and the clock reading at which it was last sent, in microseconds.
 #[derive(Clone, Copy)]
-struct Last {
+struct SentPart {
     sum: u64,
     at: u64,
 }
@@ -24,8 +24,8 @@ struct Last {
 /// The parts sent recently. A replica repeats its control messages at each tick, with a new message number, and once
 /// for each frame of another epoch; so the same part to the same address waits, whatever its message number.
 #[derive(Drop)]
-pub(crate) struct Parts {
-    last: Vec<Last>,
+pub(crate) struct RecentParts {
+    last: Vec<SentPart>,
 }
 
 /// Returns a checksum of the address and of a part after its message number. Parts with equal checksums count as the
@@ -38,11 +38,11 @@ fn sum_of(to: u64, part: &[u8]) -> u64 {
     sum
 }
 
-impl Parts {
+impl RecentParts {
     /// Returns an empty record, or `NoMemory` if memory runs out.
-    pub(crate) fn new(alloc: Global) -> Result<Parts, NoMemory> {
-        let never = Last { sum: 0, at: 0 };
-        Ok(Parts {
+    pub(crate) fn new(alloc: Global) -> Result<RecentParts, NoMemory> {
+        let never = SentPart { sum: 0, at: 0 };
+        Ok(RecentParts {
             last: Vec::from_elem(alloc, never, REMEMBERED)?,
         })
     }
@@ -58,7 +58,7 @@ impl Parts {
         if last.sum == sum && last.at <= now && now - last.at < PACE {
             return false;
         }
-        *last = Last { sum, at: now };
+        *last = SentPart { sum, at: now };
         true
     }
 }

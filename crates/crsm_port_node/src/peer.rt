@@ -2,15 +2,11 @@
 
 ghost use Rattle.std.specs.Prelude.{◌≡◌, ◌↔◌, IsTrue, IfOk, Some, length, slice_get};
 ghost use Rattle.crsm_port.specs.Meaning.{Receives, Reserves, Sends};
-ghost use Rattle.crsm_port_node.specs.Senders.{IsOfFirst, IsOwn, SpeaksForItself, behind_mark, counts_of, named_sender};
+ghost use Rattle.crsm_port_node.specs.Senders.{IsOfFirst, IsOwn, SpeaksForItself, counts_of};
 
 use crsm_base::{Failed, NoMemory};
-use crsm_port::{Got, Port};
-
-// The first byte of the mark of a cluster; the cluster's number follows.
-const MARK: u8 = 16;
-
-const MARK_BYTES: usize = 9;
+use crsm_port::{Port, Recv};
+use crsm_wire::{sender_in, unmarked};
 
 /// A port over a port, for a replica whose peers have these addresses. A datagram that names the replica that it comes
 /// from (a frame, an acknowledgement or a part) is returned only from that replica's address, and without bytes from
@@ -28,26 +24,6 @@ impl<P: Drop> PeerPort<P> {
         ensures { (result.inner ≡ inner) × (result.peers ≡ peers) }
     {
         PeerPort { inner, peers }
-    }
-}
-
-/// Returns the bytes of a datagram without the mark of a cluster, if they have one.
-pub fn unmarked(bytes: &[u8]) -> &[u8]
-    ensures { result.now ≡ behind_mark bytes.now }
-{
-    match bytes.first() {
-        Some(&MARK) if bytes.len() >= MARK_BYTES => &bytes[MARK_BYTES..],
-        _ => bytes,
-    }
-}
-
-// Returns the replica that the bytes name as their sender, if any.
-fn sender_in(bytes: &[u8]) -> Option<u8>
-    ensures { result ≡ named_sender bytes.now }
-{
-    match bytes {
-        [1..=3, from, ..] => Some(*from),
-        _ => None,
     }
 }
 
@@ -71,15 +47,15 @@ fn speaks_for_itself(peers: &[u64], address: u64, bytes: &[u8]) -> bool
 impl<P: Port> Port for PeerPort<P> {
     ghost meaning = { λ p. counts_of (P.meaning p.inner) };
 
-    fn recv(&mut self, buf: &mut [u8]) -> Result<Got, Failed>
+    fn recv(&mut self, buf: &mut [u8]) -> Result<Recv, Failed>
         ensures tells { Receives (counts_of (P.meaning self.old.inner)) (counts_of (P.meaning self.new.inner)) buf.old buf.new result }
         ensures own { IfOk result (IsOwn self.old.peers.items buf.new) }
         ensures first { IfOk result (IsOfFirst self.old.peers.items (P.meaning self.old.inner) (P.meaning self.new.inner) (length buf.old) buf.new) }
         ensures peers { self.new.peers ≡ self.old.peers }
     {
         match self.inner.recv(buf)? {
-            Got::Datagram { from, len } if !speaks_for_itself(&self.peers, from, &buf[..len]) => {
-                Ok(Got::Datagram { from, len: 0 })
+            Recv::Datagram { from, len } if !speaks_for_itself(&self.peers, from, &buf[..len]) => {
+                Ok(Recv::Datagram { from, len: 0 })
             }
             got => Ok(got),
         }

@@ -22,7 +22,7 @@ const MISSED: u64 = 32;
 
 /// A frame, the reading at which it was last sent, in microseconds, and the number of its retransmissions.
 #[derive(Clone, Copy)]
-struct Last {
+struct SentFrame {
     epoch: u64,
     number: u64,
     at: u64,
@@ -37,7 +37,7 @@ struct Expected {
     is_repeated: bool,
 }
 
-impl Last {
+impl SentFrame {
     /// Returns the minimum time in microseconds until the frame may be sent again.
     fn pace(&self, is_missed: bool) -> u64 {
         if is_missed && self.again == 0 {
@@ -61,7 +61,7 @@ impl Expected {
 /// The frames sent recently to each replica, and the number that each expects.
 #[derive(Drop)]
 pub(crate) struct Repeats {
-    last: Vec<Last>,
+    last: Vec<SentFrame>,
     expected: Vec<Expected>,
 }
 
@@ -73,7 +73,7 @@ fn place_of(to: u8, number: u64) -> usize {
 impl Repeats {
     /// Returns an empty record, or `NoMemory` if memory runs out.
     pub(crate) fn new(alloc: Global) -> Result<Repeats, NoMemory> {
-        let never = Last {
+        let never = SentFrame {
             epoch: u64::MAX,
             number: u64::MAX,
             at: 0,
@@ -125,7 +125,7 @@ impl Repeats {
         } else {
             0
         };
-        *last = Last {
+        *last = SentFrame {
             epoch,
             number,
             at: now,

@@ -3,9 +3,9 @@
 ghost use Rattle.std.specs.Prelude.{IfSome, length};
 ghost use Rattle.crsm_port.specs.Meaning.{IsWithin};
 
-use crate::head::Command;
 use crsm_base::NoMemory;
-use crsm_port::Got;
+use crsm_port::Recv;
+use crsm_wire::CommandId;
 use std::alloc::Global;
 use std::collections::VecDeque;
 
@@ -20,15 +20,15 @@ const PATIENCE: u64 = 1_000_000;
 /// A command that the node received and has not answered, and the reading at which it did, in microseconds.
 #[derive(Clone, Copy)]
 struct Open {
-    command: Command,
+    command: CommandId,
     since: u64,
 }
 
 /// A request that waits, and the address that it came from.
 #[derive(Drop)]
-struct Waiting {
+struct WaitingRequest {
     from: u64,
-    command: Command,
+    command: CommandId,
     bytes: Vec<u8>,
 }
 
@@ -37,7 +37,7 @@ struct Waiting {
 pub(crate) struct Requests {
     alloc: Global,
     open: Vec<Open>,
-    waiting: VecDeque<Waiting>,
+    waiting: VecDeque<WaitingRequest>,
 }
 
 impl Requests {
@@ -53,7 +53,7 @@ impl Requests {
     /// Holds a request if the node has no room for it, and returns whether it did. A request that the node has already
     /// is passed on, since its client sent it again; so is one for which there is no room here, and the node refuses
     /// it.
-    pub(crate) fn hold(&mut self, from: u64, command: Command, bytes: &[u8], now: u64) -> bool {
+    pub(crate) fn hold(&mut self, from: u64, command: CommandId, bytes: &[u8], now: u64) -> bool {
         if self.open.iter().any(|o| o.command == command) {
             return false;
         }
@@ -75,7 +75,7 @@ impl Requests {
     }
 
     /// Records that the node receives the command now.
-    fn note_asked(&mut self, command: Command, now: u64) {
+    fn note_asked(&mut self, command: CommandId, now: u64) {
         let _ = self.open.push(Open {
             command,
             since: now,
@@ -83,10 +83,10 @@ impl Requests {
     }
 
     /// Appends a request to those that wait. `NoMemory` if memory runs out.
-    fn keep(&mut self, from: u64, command: Command, bytes: &[u8]) -> Result<(), NoMemory> {
+    fn keep(&mut self, from: u64, command: CommandId, bytes: &[u8]) -> Result<(), NoMemory> {
         let mut copy = Vec::with_capacity(self.alloc, bytes.len())?;
         copy.extend_from_slice(bytes)?;
-        self.waiting.push_back(Waiting {
+        self.waiting.push_back(WaitingRequest {
             from,
             command,
             bytes: copy,
@@ -95,13 +95,13 @@ impl Requests {
     }
 
     /// Returns the oldest waiting request if the node has room for it, cut to the buffer, or `None`.
-    pub(crate) fn take(&mut self, buf: &mut [u8], now: u64) -> Option<Got>
+    pub(crate) fn take(&mut self, buf: &mut [u8], now: u64) -> Option<Recv>
         ensures { IfSome result (IsWithin (length buf.old)) }
     {
         if self.waiting.is_empty() || !self.has_room(now) {
             return None;
         }
-        let Waiting {
+        let WaitingRequest {
             from,
             command,
             bytes,
@@ -109,11 +109,11 @@ impl Requests {
         self.note_asked(command, now);
         let len = bytes.len().min(buf.len());
         buf[..len].copy_from_slice(&bytes[..len]);
-        Some(Got::Datagram { from, len })
+        Some(Recv::Datagram { from, len })
     }
 
     /// Records that the node has answered a command.
-    pub(crate) fn note_answered(&mut self, command: Command) {
+    pub(crate) fn note_answered(&mut self, command: CommandId) {
         self.open.retain(|o| o.command != command);
     }
 }

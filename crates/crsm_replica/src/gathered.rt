@@ -6,7 +6,7 @@ ghost use Rattle.crsm_segment.specs.Taking.{is_sized, piece, whole_of};
 ghost use Rattle.crsm_replica.specs.Parts.{TakesPart};
 
 use crsm_base::{Bytes, MAX_REPLICAS, NoMemory};
-use crsm_segment::{Gather, Taken, parts_of_datagrams};
+use crsm_segment::{Gather, PartOutcome, parts_of_datagrams};
 use std::alloc::Global;
 use std::marker::Model;
 
@@ -59,11 +59,11 @@ impl Gathered {
 
 /// The message that an answer gives.
 #[tactic(auto, unfolding(crsm_segment::specs::Taking::whole_of))]
-fn whole_message(taken: Taken) -> Option<Bytes>
+fn whole_message(taken: PartOutcome) -> Option<Bytes>
     ensures { result ≡ whole_of taken }
 {
     match taken {
-        Taken::Whole(message) => Some(message),
-        Taken::More | Taken::Old | Taken::Odd => None,
+        PartOutcome::Whole(message) => Some(message),
+        PartOutcome::More | PartOutcome::Old | PartOutcome::Odd => None,
     }
 }

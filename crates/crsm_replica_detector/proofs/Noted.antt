@@ -3,16 +3,16 @@ use Rattle.std.proofs.Common.{◌≡◌, ℕ, List, Ok, refl, ap, arith}
 use Rattle.crsm_port.specs.Meaning.{Meaning}
 use Rattle.crsm_spec.specs.Node.{Turn}
 use Rattle.crsm_replica_io.specs.Input.{TakesInput}
-use Rattle.crsm_replica_io.specs.declared.input.What.{What}
-use Rattle.crsm_replica_io.specs.declared.input.What.TheVariants as what
-use Rattle.crsm_replica_io.specs.declared.input.Taken.{Taken}
-use Rattle.crsm_replica_io.specs.declared.input.Taken.TheVariants as taken
+use Rattle.crsm_replica_io.specs.declared.input.WantedInput.{WantedInput}
+use Rattle.crsm_replica_io.specs.declared.input.WantedInput.TheVariants as what
+use Rattle.crsm_replica_io.specs.declared.input.ReceivedInput.{ReceivedInput}
+use Rattle.crsm_replica_io.specs.declared.input.ReceivedInput.TheVariants as taken
 use Rattle.crsm_shell.specs.Taking.{heard_in, turn_of}
 use Rattle.crsm_replica_detector.specs.Watching.{Watch, heard_at, watched}
 use Rattle.crsm_replica_detector.specs.Wished.{CountsWished, Fulfils, chosen, empty_receive, with_turn}
 
 -- what is noted of a turn that fulfils a wish is the times after it
-pub noted : (w : Watch) (wanted : What) (t : Turn) (reading : ℕ) → Fulfils wanted t
+pub noted : (w : Watch) (wanted : WantedInput) (t : Turn) (reading : ℕ) → Fulfils wanted t
     → with_turn t (heard_at (heard_in t) reading (chosen wanted w)) ≡ watched w (t, reading)
 unfolding heard_in
 noted w what.Receive (Turn.In address bytes) reading f = refl
@@ -26,7 +26,7 @@ noted w (what.Suspect ks) Turn.Tick reading f = absurd f
 noted w (what.Suspect ks) (Turn.Suspect ms) reading f = refl
 
 -- what is taken as it is wanted fulfils the wish
-pub fulfilled : (wanted : What) (size : ℕ) (buffer : List ℕ) (old new : Meaning) (t : Taken)
+pub fulfilled : (wanted : WantedInput) (size : ℕ) (buffer : List ℕ) (old new : Meaning) (t : ReceivedInput)
     → TakesInput wanted size buffer old new (Ok t) → Fulfils wanted (turn_of buffer t)
 unfolding turn_of
 fulfilled what.Receive size buffer old new (taken.Datagram from len) h = tt
@@ -40,11 +40,11 @@ fulfilled (what.Suspect ks) size buffer old new taken.Tick h = let e = h.1 in cc
 fulfilled (what.Suspect ks) size buffer old new (taken.Suspect ms) h = let e = h.1 in cc
 
 -- nothing is received, and nothing is counted
-same : (wanted : What) (t : Turn) (old new : ℕ) → new ≡ old → (empty_receive wanted t ≡ 1 → ⊥) → CountsWished wanted t old new
+same : (wanted : WantedInput) (t : Turn) (old new : ℕ) → new ≡ old → (empty_receive wanted t ≡ 1 → ⊥) → CountsWished wanted t old new
 same wanted t old new e none = record { later = omega arith; rose = λ one. absurd (none one) }
 
 -- the port has counted a tick in place of a datagram
-pub counted : (wanted : What) (size : ℕ) (buffer : List ℕ) (old new : Meaning) (t : Taken)
+pub counted : (wanted : WantedInput) (size : ℕ) (buffer : List ℕ) (old new : Meaning) (t : ReceivedInput)
     → TakesInput wanted size buffer old new (Ok t) → CountsWished wanted (turn_of buffer t) old.empties new.empties
 unfolding turn_of
 counted what.Receive size buffer old new (taken.Datagram from len) h = same what.Receive _ old.empties new.empties h.counted (λ e. cc)

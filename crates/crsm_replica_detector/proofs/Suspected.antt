@@ -6,7 +6,7 @@ use Rattle.std.proofs.lemmas.Bool.Decides.{nat_tests}
 use Rattle.crsm_base.specs.Members.{IsMembers, RisesWithin}
 use Rattle.crsm_base.specs.Replicas.{can_be_members, has}
 use Rattle.crsm_spec.specs.Log.{Log, spec}
-use Rattle.crsm_replica_io.specs.declared.input.What.TheVariants as what
+use Rattle.crsm_replica_io.specs.declared.input.WantedInput.TheVariants as what
 use Rattle.crsm_replica_detector.specs.Watching.{Times, Watch}
 use Rattle.crsm_replica_detector.specs.Wishing.{is_wanted, may_suspect, should_be_members, suspects, tick_is_due, wanted, wish, wish_at}
 

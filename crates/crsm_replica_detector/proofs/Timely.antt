@@ -6,7 +6,7 @@ use Rattle.crsm_spec.specs.Types.{Decision}
 use Rattle.crsm_spec.specs.Lists.{numbers_below}
 use Rattle.crsm_spec.specs.Log.{Log, decision, live, members}
 use Rattle.crsm_ledger.specs.Ledger.{founding, known_decision}
-use Rattle.crsm_replica_io.specs.declared.input.What.TheVariants as What
+use Rattle.crsm_replica_io.specs.declared.input.WantedInput.TheVariants as WantedInput
 use Rattle.crsm_replica_detector.specs.declared.timers.Timers.{Timers}
 use Rattle.crsm_replica_detector.specs.Detector.{AreAlike, TimersStand, times_of}
 use Rattle.crsm_replica_detector.specs.Watching.{Times, Watch, further, heard_at}
@@ -28,17 +28,17 @@ up_to_live me log ms l = rw l refl
 -- ---- what is wished where no tick is due
 
 suspect_here : (me n : ℕ) (t : Times) (log : Log) → tick_is_due t ≡ false → suspects me n t log (wanted me n t log) ≡ true
-    → What.Suspect (wanted me n t log) ≡ wish_at me n t log
+    → WantedInput.Suspect (wanted me n t log) ≡ wish_at me n t log
 unfolding wish_at
 suspect_here me n t log due s = rw (due, s) refl
 
 pub suspect_wished : (me n : ℕ) (t : Times) (log : Log) (ms : List ℕ) → tick_is_due t ≡ false → Suspects me n t log (Some ms)
-    → What.Suspect ms ≡ wish_at me n t log
+    → WantedInput.Suspect ms ≡ wish_at me n t log
 suspect_wished me n t log ms due h =
     let S : List ℕ → Type 0 = λ ks. suspects me n t log ks ≡ true in
-    ap What.Suspect h.1 ∙ suspect_here me n t log due (subst S h.1 h.0)
+    ap WantedInput.Suspect h.1 ∙ suspect_here me n t log due (subst S h.1 h.0)
 
-pub receive_wished : (me n : ℕ) (t : Times) (log : Log) → tick_is_due t ≡ false → Suspects me n t log None → What.Receive ≡ wish_at me n t log
+pub receive_wished : (me n : ℕ) (t : Times) (log : Log) → tick_is_due t ≡ false → Suspects me n t log None → WantedInput.Receive ≡ wish_at me n t log
 unfolding wish_at
 receive_wished me n t log due s = rw (due, s) refl
 

@@ -3,7 +3,7 @@ use Rattle.std.specs.Prelude.{◌≡◌, ℕ, ◌<◌, slice_index, Option, Some
 use Rattle.crsm_spec.specs.Log.{Log}
 use Rattle.crsm_ledger.specs.declared.ledger.Ledger.{Ledger}
 use Rattle.crsm_ledger.specs.Ledger.{LedgerStands}
-use Rattle.crsm_replica_io.specs.declared.input.What.{What}
+use Rattle.crsm_replica_io.specs.declared.input.WantedInput.{WantedInput}
 use Rattle.crsm_replica_detector.specs.declared.detector.Detector.{Detector}
 use Rattle.crsm_replica_detector.specs.declared.timers.Timers.{Timers}
 use Rattle.crsm_replica_detector.specs.Watching.{Times, Watch}
@@ -37,10 +37,10 @@ abbrev pub WhereStands : Detector → (ℕ → Watch → Type 0) → Type 0
 WhereStands d P = (me : ℕ) (w : Watch) → DetectorStands d me w → P me w
 
 -- The input is the one that is wanted, and the detector has noted it if it is a suspicion.
-pub record Wishes (new : Detector) (me n : ℕ) (w : Watch) (log : Log) (what : What) : Type 0 where
+pub record Wishes (new : Detector) (me n : ℕ) (w : Watch) (log : Log) (what : WantedInput) : Type 0 where
   pub wished : what ≡ wish me n w log
   pub stands : DetectorStands new me (chosen what w)
 
 -- the same for each log that the ledger stands for
-abbrev pub WishesWithLedger : Ledger → Detector → ℕ → Watch → What → Type 0
+abbrev pub WishesWithLedger : Ledger → Detector → ℕ → Watch → WantedInput → Type 0
 WishesWithLedger ledger new me w what = (n : ℕ) (log : Log) → LedgerStands me n ledger log → Wishes new me n w log what

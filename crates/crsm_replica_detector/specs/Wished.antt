@@ -3,17 +3,17 @@ use Rattle.std.specs.Prelude.{◌≡◌, ◌≤◌, ℕ, ◌+◌, List, [], ◌�
 use Rattle.crsm_port_faults.specs.Counts.{Rose}
 use Rattle.crsm_spec.specs.Replica.{Replica}
 use Rattle.crsm_spec.specs.Node.{Turn, turn}
-use Rattle.crsm_replica_io.specs.declared.input.What.{What}
-use Rattle.crsm_replica_io.specs.declared.input.What.TheVariants as what
+use Rattle.crsm_replica_io.specs.declared.input.WantedInput.{WantedInput}
+use Rattle.crsm_replica_io.specs.declared.input.WantedInput.TheVariants as what
 use Rattle.crsm_replica_detector.specs.Watching.{Watch, watched, with_suspicion, with_tick}
 use Rattle.crsm_replica_detector.specs.Wishing.{wish}
 
 -- what a node with this replica wants next
-abbrev pub wish_of : Watch → Replica → What
+abbrev pub wish_of : Watch → Replica → WantedInput
 wish_of w r = wish r.me r.n w r.log
 
 -- the node's times once this input is chosen
-abbrev pub chosen : What → Watch → Watch
+abbrev pub chosen : WantedInput → Watch → Watch
 chosen what.Receive w = w
 chosen what.Tick w = w
 chosen (what.Suspect ms) w = with_suspicion w
@@ -25,7 +25,7 @@ with_turn (Turn.In address bytes) w = w
 with_turn (Turn.Suspect ms) w = w
 
 -- The turn is one of what is wanted: of a receive, a datagram, or a tick where none came.
-abbrev pub Fulfils : What → Turn → Type 0
+abbrev pub Fulfils : WantedInput → Turn → Type 0
 Fulfils what.Receive (Turn.In address bytes) = Unit {0}
 Fulfils what.Receive Turn.Tick = Unit {0}
 Fulfils what.Receive (Turn.Suspect ms) = ⊥
@@ -37,14 +37,14 @@ Fulfils (what.Suspect wanted) Turn.Tick = ⊥
 Fulfils (what.Suspect wanted) (Turn.Suspect ms) = ms ≡ wanted
 
 -- one for a tick in place of a datagram
-abbrev pub empty_receive : What → Turn → ℕ
+abbrev pub empty_receive : WantedInput → Turn → ℕ
 empty_receive what.Receive Turn.Tick = 1
 empty_receive what.Receive _ = 0
 empty_receive what.Tick _ = 0
 empty_receive (what.Suspect ms) _ = 0
 
 -- Between two values of a count of empty receives: it does not fall, and rises where the turn is one.
-pub record CountsWished (what : What) (t : Turn) (old new : ℕ) : Type 0 where
+pub record CountsWished (what : WantedInput) (t : Turn) (old new : ℕ) : Type 0 where
   pub later : old ≤ new
   pub rose : empty_receive what t ≡ 1 → Rose old new
 

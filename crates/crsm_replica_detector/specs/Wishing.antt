@@ -4,8 +4,8 @@ use Rattle.std.specs.List.{list_all}
 use Rattle.crsm_spec.specs.Log.{Log, spec, members, live, active}
 use Rattle.crsm_spec.specs.Paxos.{majority}
 use Rattle.crsm_spec.specs.Lists.{has}
-use Rattle.crsm_replica_io.specs.declared.input.What.{What}
-use Rattle.crsm_replica_io.specs.declared.input.What.TheVariants as what
+use Rattle.crsm_replica_io.specs.declared.input.WantedInput.{WantedInput}
+use Rattle.crsm_replica_io.specs.declared.input.WantedInput.TheVariants as what
 use Rattle.crsm_replica_detector.specs.Watching.{Times, Watch}
 
 -- 10 ms after the last tick
@@ -47,12 +47,12 @@ Suspects me n t log None = suspects me n t log (wanted me n t log) ≡ false
 Suspects me n t log (Some ms) = (suspects me n t log ms ≡ true) × (ms ≡ wanted me n t log)
 
 -- what replica me wants next, in a cluster that began with n, at these times and with this log
-unfoldable pub wish_at : ℕ → ℕ → Times → Log → What
+unfoldable pub wish_at : ℕ → ℕ → Times → Log → WantedInput
 wish_at me n t log =
     let ms = wanted me n t log in
     if tick_is_due t then what.Tick else if suspects me n t log ms then what.Suspect ms else what.Receive
 
 -- the same of any node; one without a reading receives
-unfoldable pub wish : ℕ → ℕ → Watch → Log → What
+unfoldable pub wish : ℕ → ℕ → Watch → Log → WantedInput
 wish me n None log = what.Receive
 wish me n (Some t) log = wish_at me n t log

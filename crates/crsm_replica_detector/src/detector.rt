@@ -6,7 +6,7 @@ ghost use Rattle.crsm_replica_detector.specs.Watching.{Watch, unwatched, heard_a
 use crate::timers::Timers;
 use crsm_base::NoMemory;
 use crsm_ledger::Ledger;
-use crsm_replica_io::What;
+use crsm_replica_io::WantedInput;
 
 /// What the node of a replica keeps of the readings of its turns, to say which input it wants next. A reading is in
 /// microseconds. Each turn is one call of `next`, one of `hear` behind it, and one of `ticked` where it took a tick.
@@ -48,15 +48,15 @@ impl Detector {
     /// replicas that should go on, where a member was not heard for 5 s or this replica takes no part; else a receive. A
     /// suspicion is noted, and the next one comes 5 s later. `NoMemory` changes nothing.
     #[tactic(auto, unfolding(crate::specs::Wishing::wish))]
-    pub fn next(&mut self, ledger: &Ledger) -> Result<What, NoMemory>
+    pub fn next(&mut self, ledger: &Ledger) -> Result<WantedInput, NoMemory>
         ensures wished { WhereStands self.old (λ me w. IfOk result (WishesWithLedger ledger.now self.new me w)) }
         ensures unchanged { OnErr result (self.new ≡ self.old) }
     {
         let Some(timers) = &mut self.timers else {
-            return Ok(What::Receive);
+            return Ok(WantedInput::Receive);
         };
         let what = timers.wish(self.me, ledger)?;
-        if let What::Suspect(_) = &what {
+        if let WantedInput::Suspect(_) = &what {
             timers.suspected = timers.newest;
         }
         Ok(what)

@@ -7,8 +7,8 @@ ghost use Rattle.crsm_spec.specs.Node.{Turn};
 ghost use Rattle.crsm_spec.specs.Replica.{Replica};
 ghost use Rattle.crsm_port.specs.Meaning.{Meaning};
 ghost use Rattle.crsm_replica_io.specs.Input.{TakesInput};
-ghost use Rattle.crsm_replica_io.specs.declared.input.What.{What};
-ghost use Rattle.crsm_replica_io.specs.declared.input.Taken.{Taken};
+ghost use Rattle.crsm_replica_io.specs.declared.input.WantedInput.{WantedInput};
+ghost use Rattle.crsm_replica_io.specs.declared.input.ReceivedInput.{ReceivedInput};
 ghost use Rattle.crsm_replica_detector.specs.Watching.{Watch, heard_at, watched};
 ghost use Rattle.crsm_replica_detector.specs.Wishing.{wish};
 ghost use Rattle.crsm_replica_detector.specs.Wished.{AreWished, CountsWished, Fulfils, chosen, empty_receives, watch_after, replica_after, with_turn};
@@ -16,19 +16,19 @@ ghost use Rattle.crsm_shell.specs.Taking.{heard_in, turn_of};
 
 /// A suspicion that is wanted names the replica itself and can be the members of the next epoch.
 pub fn suspicions_can_be_members()
-    ensures can_be { (me n : ℕ) (w : Watch) (log : Log) (ms : List ℕ) → wish me n w log ≡ What.Suspect ms → can_be_members (spec n log) ms ≡ true }
-    ensures own { (me n : ℕ) (w : Watch) (log : Log) (ms : List ℕ) → wish me n w log ≡ What.Suspect ms → has ms me ≡ true }
+    ensures can_be { (me n : ℕ) (w : Watch) (log : Log) (ms : List ℕ) → wish me n w log ≡ WantedInput.Suspect ms → can_be_members (spec n log) ms ≡ true }
+    ensures own { (me n : ℕ) (w : Watch) (log : Log) (ms : List ℕ) → wish me n w log ≡ WantedInput.Suspect ms → has ms me ≡ true }
 {}
 
 /// What is taken as it is wanted is such a turn, and the port has counted a tick in place of a datagram.
 pub fn inputs_are_wished()
-    ensures fulfils { (what : What) (size : ℕ) (buffer : List ℕ) (p q : Meaning) (t : Taken) → TakesInput what size buffer p q (Ok t) → Fulfils what (turn_of buffer t) }
-    ensures counted { (what : What) (size : ℕ) (buffer : List ℕ) (p q : Meaning) (t : Taken) → TakesInput what size buffer p q (Ok t) → CountsWished what (turn_of buffer t) p.empties q.empties }
+    ensures fulfils { (what : WantedInput) (size : ℕ) (buffer : List ℕ) (p q : Meaning) (t : ReceivedInput) → TakesInput what size buffer p q (Ok t) → Fulfils what (turn_of buffer t) }
+    ensures counted { (what : WantedInput) (size : ℕ) (buffer : List ℕ) (p q : Meaning) (t : ReceivedInput) → TakesInput what size buffer p q (Ok t) → CountsWished what (turn_of buffer t) p.empties q.empties }
 {}
 
 /// What is noted of a turn that fulfils a wish is the times after it.
 pub fn turns_are_watched()
-    ensures { (w : Watch) (what : What) (t : Turn) (reading : ℕ) → Fulfils what t → with_turn t (heard_at (heard_in t) reading (chosen what w)) ≡ watched w (t, reading) }
+    ensures { (w : Watch) (what : WantedInput) (t : Turn) (reading : ℕ) → Fulfils what t → with_turn t (heard_at (heard_in t) reading (chosen what w)) ≡ watched w (t, reading) }
 {}
 
 /// Turns that stand behind others begin where those end.

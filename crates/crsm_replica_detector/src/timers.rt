@@ -11,7 +11,7 @@ ghost use Rattle.crsm_replica_detector.specs.Wishing.{Suspects, is_up_to, is_wan
 
 use crsm_base::{Members, MembersError, NoMemory, are_among, is_among, majority_of};
 use crsm_ledger::Ledger;
-use crsm_replica_io::What;
+use crsm_replica_io::WantedInput;
 use std::alloc::Global;
 
 /// A tick is due so many microseconds behind the last one.
@@ -68,15 +68,15 @@ impl Timers {
 
     /// The input that is wanted next.
     #[tactic(auto, unfolding(crate::specs::Wishing::wish_at))]
-    pub(crate) fn wish(&self, me: u32, ledger: &Ledger) -> Result<What, NoMemory>
+    pub(crate) fn wish(&self, me: u32, ledger: &Ledger) -> Result<WantedInput, NoMemory>
         ensures { (n : ℕ) (log : Log) (t : Times) → LedgerStands me n ledger.now log → AreAlike (times_of self.now) t → IfOk result (λ what. what ≡ wish_at me n t log) }
     {
         if self.tick_is_due() {
-            return Ok(What::Tick);
+            return Ok(WantedInput::Tick);
         }
         match self.suspicion(me, ledger)? {
-            Some(members) => Ok(What::Suspect(members)),
-            None => Ok(What::Receive),
+            Some(members) => Ok(WantedInput::Suspect(members)),
+            None => Ok(WantedInput::Receive),
         }
     }
 

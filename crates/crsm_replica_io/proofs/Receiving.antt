@@ -2,12 +2,12 @@
 use Rattle.std.proofs.Common.{◌≡◌, ◌≤◌, ℕ, zero, suc, min, List, [], ◌∷◌, ◌++◌, length, take, drop, Option, Some, None, Ok, Err, refl, sym, ◌∙◌, ap, IsErrOf, arith}
 use Rattle.crsm_base.specs.declared.memory.Failed.{Failed}
 use Rattle.crsm_port.specs.Meaning.{Meaning, Traffic, Receives as PortReceives, Takes}
-use Rattle.crsm_port.specs.declared.port.Got.TheVariants as got
+use Rattle.crsm_port.specs.declared.port.Recv.TheVariants as got
 use Rattle.crsm_port_faults.specs.Plan.{Plan, Spends}
 use Rattle.crsm_replica_io.specs.Input.{Receives, IsFirst}
 use Rattle.crsm_replica_io.specs.declared.input.TakeError.{TakeError}
 use Rattle.crsm_replica_io.specs.declared.input.TakeError.TheVariants as error
-use Rattle.crsm_replica_io.specs.declared.input.Taken.TheVariants as taken
+use Rattle.crsm_replica_io.specs.declared.input.ReceivedInput.TheVariants as taken
 
 -- the prefix that was copied is the prefix of the datagram
 prefix : (n : ℕ) (d x : List ℕ) → n ≤ length d → take n (take n d ++ x) ≡ take n d

@@ -4,11 +4,11 @@ ghost use Rattle.std.specs.Prelude.{length, IfOk};
 ghost use Rattle.crsm_replica_io.specs.Input.{IsWithin, TakesInput};
 
 use crsm_base::Members;
-use crsm_port::{Got, Port};
+use crsm_port::{Port, Recv};
 
 /// The input that is wanted.
 #[derive(Debug, Drop)]
-pub enum What {
+pub enum WantedInput {
     /// The next datagram of the port; a tick where none came.
     Receive,
     Tick,
@@ -18,7 +18,7 @@ pub enum What {
 
 /// The input that is taken.
 #[derive(Debug, Drop)]
-pub enum Taken {
+pub enum ReceivedInput {
     /// So many bytes that came from an address: the prefix of the buffer. They may spell no datagram.
     Datagram { from: u64, len: usize },
     Tick,
@@ -34,24 +34,28 @@ pub enum TakeError {
 
 /// Takes the input that is wanted. A datagram is left in the buffer; one that is longer is cut to it. Nothing is
 /// received but for `Receive`, and nothing is sent.
-pub fn take_input<P: Port>(what: What, port: &mut P, buf: &mut [u8]) -> Result<Taken, TakeError>
+pub fn take_input<P: Port>(
+    what: WantedInput,
+    port: &mut P,
+    buf: &mut [u8],
+) -> Result<ReceivedInput, TakeError>
     ensures within { IfOk result (IsWithin (length buf.old)) }
     ensures taken { TakesInput what (length buf.old) buf.new (P.meaning port.old) (P.meaning port.new) result }
 {
     match what {
-        What::Receive => receive(port, buf),
-        What::Tick => Ok(Taken::Tick),
-        What::Suspect(members) => Ok(Taken::Suspect(members)),
+        WantedInput::Receive => receive(port, buf),
+        WantedInput::Tick => Ok(ReceivedInput::Tick),
+        WantedInput::Suspect(members) => Ok(ReceivedInput::Suspect(members)),
     }
 }
 
-fn receive<P: Port>(port: &mut P, buf: &mut [u8]) -> Result<Taken, TakeError>
+fn receive<P: Port>(port: &mut P, buf: &mut [u8]) -> Result<ReceivedInput, TakeError>
     ensures within { IfOk result (IsWithin (length buf.old)) }
-    ensures taken { TakesInput What.Receive (length buf.old) buf.new (P.meaning port.old) (P.meaning port.new) result }
+    ensures taken { TakesInput WantedInput.Receive (length buf.old) buf.new (P.meaning port.old) (P.meaning port.new) result }
 {
     match port.recv(buf) {
         Err(_) => Err(TakeError::PortFault),
-        Ok(Got::Nothing) => Ok(Taken::Tick),
-        Ok(Got::Datagram { from, len }) => Ok(Taken::Datagram { from, len }),
+        Ok(Recv::Nothing) => Ok(ReceivedInput::Tick),
+        Ok(Recv::Datagram { from, len }) => Ok(ReceivedInput::Datagram { from, len }),
     }
 }

@@ -7,5 +7,5 @@ mod input;
 mod outbox;
 
 pub use body::write_records;
-pub use input::{TakeError, Taken, What, take_input};
+pub use input::{ReceivedInput, TakeError, WantedInput, take_input};
 pub use outbox::Outbox;

@@ -18,7 +18,7 @@ use Rattle.crsm_spec.specs.Coordinate.{most_collected, may_reconfigure, suspend_
 use Rattle.crsm_suspend.specs.Collecting.{CollectStands, FitsGot, got_decided, got_whole}
 use Rattle.crsm_suspend.specs.Coordinating.{on_got, ReportsAreCounted}
 use Rattle.crsm_suspend.specs.declared.collect.Collect.{Collect}
-use Rattle.crsm_suspend.specs.declared.got.Got.{Got}
+use Rattle.crsm_suspend.specs.declared.got.PageOutcome.{PageOutcome}
 use Rattle.crsm_replica_coordinator.specs.Coordinator.{IsOwn, IsGathering, next_in, named_in}
 use Rattle.crsm_replica_coordinator.proofs.Coordinators.{gathers}
 use Rattle.crsm_replica.specs.Sound.{IsSound}
@@ -100,7 +100,7 @@ own_same x = go (suspended x.replica.log) refl
     go false h = ap (λ y. own_page y.replica.me y.replica.log) (once_now x h) ∙ own_kept (known x.replica.log) x
 
 -- what whole reports bring, by the known decision alone
-unfoldable got_knowing : ℕ → Option Decision → List ℕ → List LogPage → Got
+unfoldable got_knowing : ℕ → Option Decision → List ℕ → List LogPage → PageOutcome
 got_knowing n d ms pages =
     let ks = whole_ones (spec_decided n d) pages in
     let firsts = first_pages ks pages in
@@ -113,7 +113,7 @@ got_knowing n d ms pages =
       base_len = base;
       tail = above (floor_of base firsts) (union (all_entries ks pages));
     })
-    otherwise Got.Kept
+    otherwise PageOutcome.Kept
 
 got_known : (r : Replica) (ms : List ℕ) (pages : List LogPage) → got_whole r.log (spec_of r) (named_spec r ms) ms pages ≡ got_knowing r.n (decision r.log) ms pages
 unfolding got_whole got_knowing collected known start spec_of spec named_spec next_spec named_in next_in
@@ -147,13 +147,13 @@ gathering_alike x y c ms pages a g =
     subst (λ d. IsGathering c y.replica.me y.replica.n d ms pages) (sym a.knows)
     (subst (λ n. IsGathering c y.replica.me n (decision x.replica.log) ms pages) (sym a.n) (subst (λ k. IsGathering c k x.replica.n (decision x.replica.log) ms pages) (sym a.me) g))
 
-begin_alike : (got : Got) (x y : Draft) → BeginsAlike x y → CanBegin got x → CanBegin got y
-begin_alike Got.Stranger x y a c = tt
-begin_alike (Got.More k after) x y a c = tt
-begin_alike Got.Kept x y a c = tt
-begin_alike (Got.Complete d) x y a c =
+begin_alike : (got : PageOutcome) (x y : Draft) → BeginsAlike x y → CanBegin got x → CanBegin got y
+begin_alike PageOutcome.Stranger x y a c = tt
+begin_alike (PageOutcome.More k after) x y a c = tt
+begin_alike PageOutcome.Kept x y a c = tt
+begin_alike (PageOutcome.Complete d) x y a c =
     (subst (λ o. IsOwn y.replica.me y.replica.n o d) (sym a.knows) (subst (λ n. IsOwn y.replica.me n (decision x.replica.log) d) (sym a.n) (subst (λ k. IsOwn k x.replica.n (decision x.replica.log) d) (sym a.me) c.0)), c.1)
-begin_alike (Got.TooMany count bytes) x y a c = tt
+begin_alike (PageOutcome.TooMany count bytes) x y a c = tt
 
 -- ---- a suspicion
 
@@ -167,7 +167,7 @@ module _ (ms : List ℕ) (x : Draft) where
   own_pages = own_page x.replica.me x.replica.log ∷ []
 
   -- what that brings
-  abbrev pub own_got : Got
+  abbrev pub own_got : PageOutcome
   own_got = got_whole x.replica.log (spec_of x.replica) (named_spec x.replica ms) ms own_pages
 
   -- the epoch is suspended, and the others are asked for their frozen logs

@@ -24,7 +24,7 @@ use Rattle.crsm_spec.specs.Step.{ask_page, missing, send_collect}
 use Rattle.crsm_suspend.specs.Collecting.{CanSend, FitsGot, is_asked, got_decided, got_whole, got_more, got_page, page_in, got_of, pages_after}
 use Rattle.crsm_suspend.specs.Coordinating.{on_got, PagesAreTaken}
 use Rattle.crsm_suspend.specs.declared.collect.Collect.{Collect}
-use Rattle.crsm_suspend.specs.declared.got.Got.{Got}
+use Rattle.crsm_suspend.specs.declared.got.PageOutcome.{PageOutcome}
 use Rattle.crsm_suspend.proofs.CollectLemmas.{more_from}
 use Rattle.crsm_fact_log.proofs.Lists.{all_at}
 use Rattle.crsm_fact_log.specs.Pages.{FitsPage, FitPages}
@@ -119,61 +119,61 @@ begins_anyhow d m y = refl
 
 module _ (ms : List ℕ) (pages : List LogPage) (x : Draft) where
   pub does_more : (k j : ℕ) (after : Stamp) → j ≡ k → cursor pages k ≡ Some after →
-      ask_page pages (noting (Coordinator.Collecting ms pages) x) k ≡ on_got ms pages (Got.More j after) (noting (Coordinator.Collecting ms pages) x)
+      ask_page pages (noting (Coordinator.Collecting ms pages) x) k ≡ on_got ms pages (PageOutcome.More j after) (noting (Coordinator.Collecting ms pages) x)
   unfolding on_got ask_page noting
   does_more k j after same at =
       ap (λ o. send_control (Control.Suspend (known x.replica.log) o) (noting (Coordinator.Collecting ms pages) x) k) at
       ∙ ap (λ i. send_control (Control.Suspend (known x.replica.log) (Some after)) (noting (Coordinator.Collecting ms pages) x) i) (sym same)
 
-  pub does_nothing_more : noting (Coordinator.Collecting ms pages) x ≡ on_got ms pages Got.Stranger (noting (Coordinator.Collecting ms pages) x)
+  pub does_nothing_more : noting (Coordinator.Collecting ms pages) x ≡ on_got ms pages PageOutcome.Stranger (noting (Coordinator.Collecting ms pages) x)
   unfolding on_got
   does_nothing_more = refl
 
-  pub does_wait : noting (Coordinator.Collecting ms pages) x ≡ on_got ms pages Got.Kept (noting (Coordinator.Collecting ms pages) x)
+  pub does_wait : noting (Coordinator.Collecting ms pages) x ≡ on_got ms pages PageOutcome.Kept (noting (Coordinator.Collecting ms pages) x)
   unfolding on_got noting
   does_wait = refl
 
-  pub does_begin : (d : Decision) → begin_proposing d no_ballot x ≡ on_got ms pages (Got.Complete d) (noting (Coordinator.Collecting ms pages) x)
+  pub does_begin : (d : Decision) → begin_proposing d no_ballot x ≡ on_got ms pages (PageOutcome.Complete d) (noting (Coordinator.Collecting ms pages) x)
   unfolding on_got
   does_begin d = begins_anyhow d (Coordinator.Collecting ms pages) x ∙ begins_anyhow d (Coordinator.Collecting ms pages) _ ∙ begins_anyhow d (Coordinator.Preempted d no_ballot) _
 
   pub does_refuse : (count bytes : ℕ) →
-      noting Coordinator.Idle (record x { excess = x.excess ++ Line.TooMany x.replica.me (known x.replica.log) count bytes ∷ [] }) ≡ on_got ms pages (Got.TooMany count bytes) (noting (Coordinator.Collecting ms pages) x)
+      noting Coordinator.Idle (record x { excess = x.excess ++ Line.TooMany x.replica.me (known x.replica.log) count bytes ∷ [] }) ≡ on_got ms pages (PageOutcome.TooMany count bytes) (noting (Coordinator.Collecting ms pages) x)
   unfolding on_got noting
   does_refuse count bytes = refl
 
-pub got_fitting : (ms : List ℕ) (pages : List LogPage) (got : Got) (x : Draft) → x.fitting ≡ true → (on_got ms pages got x).fitting ≡ begins_fitting got x
+pub got_fitting : (ms : List ℕ) (pages : List LogPage) (got : PageOutcome) (x : Draft) → x.fitting ≡ true → (on_got ms pages got x).fitting ≡ begins_fitting got x
 unfolding on_got begins_fitting noting
-got_fitting ms pages Got.Stranger x h = h
-got_fitting ms pages (Got.More k after) x h = send_fitting _ _ k ∙ h
-got_fitting ms pages Got.Kept x h = h
-got_fitting ms pages (Got.Complete d) x h = ap (λ y. y.fitting) (sym (begins_anyhow d (Coordinator.Preempted d no_ballot) (noting (Coordinator.Collecting ms pages) x)) ∙ sym (begins_anyhow d (Coordinator.Collecting ms pages) x))
-got_fitting ms pages (Got.TooMany count bytes) x h = h
+got_fitting ms pages PageOutcome.Stranger x h = h
+got_fitting ms pages (PageOutcome.More k after) x h = send_fitting _ _ k ∙ h
+got_fitting ms pages PageOutcome.Kept x h = h
+got_fitting ms pages (PageOutcome.Complete d) x h = ap (λ y. y.fitting) (sym (begins_anyhow d (Coordinator.Preempted d no_ballot) (noting (Coordinator.Collecting ms pages) x)) ∙ sym (begins_anyhow d (Coordinator.Collecting ms pages) x))
+got_fitting ms pages (PageOutcome.TooMany count bytes) x h = h
 
 -- whatever the coordinator is
-pub fitting_anyhow : (got : Got) (m : Coordinator) (x : Draft) → begins_fitting got (noting m x) ≡ begins_fitting got x
+pub fitting_anyhow : (got : PageOutcome) (m : Coordinator) (x : Draft) → begins_fitting got (noting m x) ≡ begins_fitting got x
 unfolding begins_fitting noting begin_proposing ask keep instance
-fitting_anyhow Got.Stranger m x = refl
-fitting_anyhow (Got.More k after) m x = refl
-fitting_anyhow Got.Kept m x = refl
-fitting_anyhow (Got.Complete d) m x = refl
-fitting_anyhow (Got.TooMany count bytes) m x = refl
+fitting_anyhow PageOutcome.Stranger m x = refl
+fitting_anyhow (PageOutcome.More k after) m x = refl
+fitting_anyhow PageOutcome.Kept m x = refl
+fitting_anyhow (PageOutcome.Complete d) m x = refl
+fitting_anyhow (PageOutcome.TooMany count bytes) m x = refl
 
 -- ---- what is got
 
 -- What the pages of epoch e have brought, the last of them of replica k; before there were these.
-abbrev pub IsGot : ℕ → ℕ → List LogPage → List LogPage → Got → Type 0
-IsGot k e before pages Got.Stranger = pages ≡ before
-IsGot k e before pages (Got.More j after) = (j ≡ k) × (cursor pages k ≡ Some after)
-IsGot k e before pages Got.Kept = Unit {0}
-IsGot k e before pages (Got.Complete d) = d.epoch ≡ e + 1
-IsGot k e before pages (Got.TooMany count bytes) = Unit {0}
+abbrev pub IsGot : ℕ → ℕ → List LogPage → List LogPage → PageOutcome → Type 0
+IsGot k e before pages PageOutcome.Stranger = pages ≡ before
+IsGot k e before pages (PageOutcome.More j after) = (j ≡ k) × (cursor pages k ≡ Some after)
+IsGot k e before pages PageOutcome.Kept = Unit {0}
+IsGot k e before pages (PageOutcome.Complete d) = d.epoch ≡ e + 1
+IsGot k e before pages (PageOutcome.TooMany count bytes) = Unit {0}
 
 decided_is : (k e : ℕ) (before pages : List LogPage) (d : Decision) → d.epoch ≡ e + 1 → IsGot k e before pages (got_decided d)
 unfolding got_decided when◌then◌otherwise◌
 decided_is k e before pages d h = go (is_within d.tail)
   where
-    go : (b : Bool) → IsGot k e before pages (when b then Got.Complete d otherwise Got.TooMany (length d.tail) (size_of d.tail))
+    go : (b : Bool) → IsGot k e before pages (when b then PageOutcome.Complete d otherwise PageOutcome.TooMany (length d.tail) (size_of d.tail))
     go true = h
     go false = tt
 
@@ -185,7 +185,7 @@ pub whole_is_got : (k : ℕ) (before : List LogPage) (log : Log) (spec : List �
 unfolding got_whole when◌then◌otherwise◌
 whole_is_got k before log spec named ms pages = go (has_majority spec (whole_ones spec pages))
   where
-    go : (b : Bool) → IsGot k (known log) before pages (when b then got_decided (collected spec named log ms pages) otherwise Got.Kept)
+    go : (b : Bool) → IsGot k (known log) before pages (when b then got_decided (collected spec named log ms pages) otherwise PageOutcome.Kept)
     go true = decided_is k (known log) before pages (collected spec named log ms pages) (collected_next spec named log ms pages)
     go false = tt
 
@@ -210,7 +210,7 @@ taken_is_got log spec named ms pages k (Control.SuspendOk e executed last after 
     p = page_in k executed last whole es
 
     go : (b : Bool) → is_asked log spec pages e after p ≡ b →
-        IsGot k (known log) pages (when b then pages ++ p ∷ [] otherwise pages) (when b then got_page log spec named ms (pages ++ p ∷ []) p otherwise Got.Stranger)
+        IsGot k (known log) pages (when b then pages ++ p ∷ [] otherwise pages) (when b then got_page log spec named ms (pages ++ p ∷ []) p otherwise PageOutcome.Stranger)
     go true h = page_is_got log spec named ms pages e after p h
     go false h = refl
 taken_is_got log spec named ms pages k (Control.Suspend e after) r = absurd r
@@ -224,15 +224,15 @@ taken_is_got log spec named ms pages k (Control.Retrieve e from) r = absurd r
 taken_is_got log spec named ms pages k (Control.Page e from es) r = absurd r
 
 -- what is done by a page, where the coordinator was taken out for it
-pub done_in : (ms : List ℕ) (before pages : List LogPage) (k e : ℕ) (got : Got) (x : Draft) → IsGot k e before pages got → x.replica.coordinator ≡ Coordinator.Collecting ms before →
+pub done_in : (ms : List ℕ) (before pages : List LogPage) (k e : ℕ) (got : PageOutcome) (x : Draft) → IsGot k e before pages got → x.replica.coordinator ≡ Coordinator.Collecting ms before →
     on_got ms pages got (noting (Coordinator.Collecting ms pages) (noting Coordinator.Idle x)) ≡ on_got ms pages got x
 unfolding on_got noting
-done_in ms before pages k e Got.Stranger x g coordinator =
+done_in ms before pages k e PageOutcome.Stranger x g coordinator =
     ap (λ ps. noting (Coordinator.Collecting ms ps) (noting Coordinator.Idle x)) g ∙ ap (λ m. noting m x) (sym coordinator)
-done_in ms before pages k e (Got.More j after) x g coordinator = refl
-done_in ms before pages k e Got.Kept x g coordinator = refl
-done_in ms before pages k e (Got.Complete d) x g coordinator = refl
-done_in ms before pages k e (Got.TooMany count bytes) x g coordinator = refl
+done_in ms before pages k e (PageOutcome.More j after) x g coordinator = refl
+done_in ms before pages k e PageOutcome.Kept x g coordinator = refl
+done_in ms before pages k e (PageOutcome.Complete d) x g coordinator = refl
+done_in ms before pages k e (PageOutcome.TooMany count bytes) x g coordinator = refl
 
 -- ---- the rule of a page
 
@@ -241,7 +241,7 @@ module _ (k : ℕ) (a : Control) (ms : List ℕ) (pages : List LogPage) (x : Dra
   abbrev pub after_report : List LogPage
   after_report = pages_after x.replica.log (spec_decided x.replica.n (decision x.replica.log)) pages k a
 
-  abbrev pub report_got : Got
+  abbrev pub report_got : PageOutcome
   report_got = got_of x.replica.log (spec_decided x.replica.n (decision x.replica.log)) (named_in x.replica.n (decision x.replica.log) ms) ms pages k a
 
 pub by_the_rules : PagesAreTaken → (k : ℕ) (a : Control) (ms : List ℕ) (pages : List LogPage) (x : Draft) → IsReport a → x.replica.coordinator ≡ Coordinator.Collecting ms pages →
@@ -281,21 +281,21 @@ report_ignored k (Control.Page e from es) x r h = absurd r
 
 -- ---- a decision that is complete
 
-pub can_begin : (k : ℕ) (before pages : List LogPage) (got : Got) (x : Draft) → IsGot k (known x.replica.log) before pages got → FitsGot got → has (spec_decided x.replica.n (decision x.replica.log)) x.replica.me ≡ true →
+pub can_begin : (k : ℕ) (before pages : List LogPage) (got : PageOutcome) (x : Draft) → IsGot k (known x.replica.log) before pages got → FitsGot got → has (spec_decided x.replica.n (decision x.replica.log)) x.replica.me ≡ true →
     CanBegin got x
 unfolding known epoch_of
-can_begin k before pages Got.Stranger x g f h = tt
-can_begin k before pages (Got.More j after) x g f h = tt
-can_begin k before pages Got.Kept x g f h = tt
-can_begin k before pages (Got.Complete d) x g f h = (record { counted = h; next = g; spelt = f }, no_fits)
-can_begin k before pages (Got.TooMany count bytes) x g f h = tt
+can_begin k before pages PageOutcome.Stranger x g f h = tt
+can_begin k before pages (PageOutcome.More j after) x g f h = tt
+can_begin k before pages PageOutcome.Kept x g f h = tt
+can_begin k before pages (PageOutcome.Complete d) x g f h = (record { counted = h; next = g; spelt = f }, no_fits)
+can_begin k before pages (PageOutcome.TooMany count bytes) x g f h = tt
 
-pub asks_on : (k e : ℕ) (before pages : List LogPage) (got : Got) → IsGot k e before pages got → AsksOn k pages got
-asks_on k e before pages Got.Stranger g = tt
-asks_on k e before pages (Got.More j after) g = g
-asks_on k e before pages Got.Kept g = tt
-asks_on k e before pages (Got.Complete d) g = tt
-asks_on k e before pages (Got.TooMany count bytes) g = tt
+pub asks_on : (k e : ℕ) (before pages : List LogPage) (got : PageOutcome) → IsGot k e before pages got → AsksOn k pages got
+asks_on k e before pages PageOutcome.Stranger g = tt
+asks_on k e before pages (PageOutcome.More j after) g = g
+asks_on k e before pages PageOutcome.Kept g = tt
+asks_on k e before pages (PageOutcome.Complete d) g = tt
+asks_on k e before pages (PageOutcome.TooMany count bytes) g = tt
 
 -- ---- of another replica
 
@@ -342,15 +342,15 @@ unfolding spec_of spec
 shared x k s mine other apart =
     not_alone (spec_decided x.replica.n (decision x.replica.log)) x.replica.me k (spec_members x.replica.n (decision x.replica.log) s.some s.few (decision_fits x.replica.log s.spelt)) mine other apart
 
-fits_shared : (got : Got) (x : Draft) → IsSound x → CanBegin got x → has_majority (spec_of x.replica) (x.replica.me ∷ []) ≡ false → begins_fitting got x ≡ true
+fits_shared : (got : PageOutcome) (x : Draft) → IsSound x → CanBegin got x → has_majority (spec_of x.replica) (x.replica.me ∷ []) ≡ false → begins_fitting got x ≡ true
 unfolding begins_fitting
-fits_shared Got.Stranger x s c few = refl
-fits_shared (Got.More k after) x s c few = refl
-fits_shared Got.Kept x s c few = refl
-fits_shared (Got.Complete d) x s c few = begins_shared d no_ballot x s c few
-fits_shared (Got.TooMany count bytes) x s c few = refl
+fits_shared PageOutcome.Stranger x s c few = refl
+fits_shared (PageOutcome.More k after) x s c few = refl
+fits_shared PageOutcome.Kept x s c few = refl
+fits_shared (PageOutcome.Complete d) x s c few = begins_shared d no_ballot x s c few
+fits_shared (PageOutcome.TooMany count bytes) x s c few = refl
 
-stranger_is : (log : Log) (spec : List ℕ) (named : Option (List ℕ)) (ms : List ℕ) (pages : List LogPage) (k : ℕ) (a : Control) → IsReport a → has spec k ≡ false → got_of log spec named ms pages k a ≡ Got.Stranger
+stranger_is : (log : Log) (spec : List ℕ) (named : Option (List ℕ)) (ms : List ℕ) (pages : List LogPage) (k : ℕ) (a : Control) → IsReport a → has spec k ≡ false → got_of log spec named ms pages k a ≡ PageOutcome.Stranger
 unfolding is_asked
 stranger_is log spec named ms pages k (Control.SuspendOk e executed last after whole es) r h = when_no _ _ _ (and_none (has spec k) _ h)
 stranger_is log spec named ms pages k (Control.Suspend e after) r h = absurd r
@@ -363,7 +363,7 @@ stranger_is log spec named ms pages k (Control.Decide d) r h = absurd r
 stranger_is log spec named ms pages k (Control.Retrieve e from) r h = absurd r
 stranger_is log spec named ms pages k (Control.Page e from es) r h = absurd r
 
-nothing_begins : (x : Draft) → begins_fitting Got.Stranger x ≡ true
+nothing_begins : (x : Draft) → begins_fitting PageOutcome.Stranger x ≡ true
 unfolding begins_fitting
 nothing_begins x = refl
 
@@ -384,7 +384,7 @@ report_goes_on k a ms pages x s r apart mine f = record {
     after : List LogPage
     after = after_report k a ms pages x
 
-    got : Got
+    got : PageOutcome
     got = report_got k a ms pages x
 
     is : IsGot k (known x.replica.log) pages after got
@@ -395,11 +395,11 @@ report_goes_on k a ms pages x s r apart mine f = record {
     fit false h = ap (λ g. begins_fitting g x) (stranger_is x.replica.log spec (named_in x.replica.n (decision x.replica.log) ms) ms pages k a r h) ∙ nothing_begins x
 
 -- its records fit
-pub report_fitting : (ms : List ℕ) (pages : List LogPage) (got : Got) (m : Coordinator) (x : Draft) → x.fitting ≡ true → begins_fitting got (noting Coordinator.Idle x) ≡ true → (on_got ms pages got (noting m (noting Coordinator.Idle x))).fitting ≡ true
+pub report_fitting : (ms : List ℕ) (pages : List LogPage) (got : PageOutcome) (m : Coordinator) (x : Draft) → x.fitting ≡ true → begins_fitting got (noting Coordinator.Idle x) ≡ true → (on_got ms pages got (noting m (noting Coordinator.Idle x))).fitting ≡ true
 unfolding noting
 report_fitting ms pages got m x fit begins = got_fitting ms pages got (noting m (noting Coordinator.Idle x)) fit ∙ fitting_anyhow got m (noting Coordinator.Idle x) ∙ begins
 
 -- a decision that was got is begun to be proposed
-pub completes : (d : Decision) (got : Got) (x : Draft) → got ≡ Got.Complete d → CanBegin got x → begins_fitting got x ≡ true → CanPropose d no_ballot x × ((begin_proposing d no_ballot x).fitting ≡ true)
+pub completes : (d : Decision) (got : PageOutcome) (x : Draft) → got ≡ PageOutcome.Complete d → CanBegin got x → begins_fitting got x ≡ true → CanPropose d no_ballot x × ((begin_proposing d no_ballot x).fitting ≡ true)
 unfolding begins_fitting
 completes d got x is can fit = (subst (λ r. CanBegin r x) is can, ap (λ r. begins_fitting r x) (sym is) ∙ fit)

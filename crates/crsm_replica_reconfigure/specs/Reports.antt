@@ -11,8 +11,8 @@ use Rattle.crsm_spec.specs.Step.{ask_page}
 use Rattle.crsm_spec.specs.Coordinate.{begin_proposing, may_reconfigure}
 use Rattle.crsm_suspend.specs.Collecting.{CollectStands}
 use Rattle.crsm_suspend.specs.declared.collect.Collect.{Collect}
-use Rattle.crsm_suspend.specs.declared.got.Got.{Got}
-use Rattle.crsm_suspend.specs.declared.got.Got.TheVariants.{More, Complete}
+use Rattle.crsm_suspend.specs.declared.got.PageOutcome.{PageOutcome}
+use Rattle.crsm_suspend.specs.declared.got.PageOutcome.TheVariants.{More, Complete}
 use Rattle.crsm_replica_reconfigure.specs.Rules.{CanPropose}
 
 -- the message is a page of a frozen log
@@ -30,22 +30,22 @@ unfoldable pub ask_missing : List LogPage → Draft → ℕ → Draft
 ask_missing pages x k = when is_whole pages k then x otherwise ask_page pages x k
 
 -- a decision that was got can be proposed
-abbrev pub CanBegin : Got → Draft → Type 0
+abbrev pub CanBegin : PageOutcome → Draft → Type 0
 CanBegin (Complete d) x = CanPropose d no_ballot x
 CanBegin _ x = Unit {0}
 
 -- the records of its proposal fit
-unfoldable pub begins_fitting : Got → Draft → Bool
+unfoldable pub begins_fitting : PageOutcome → Draft → Bool
 begins_fitting (Complete d) x = (begin_proposing d no_ballot x).fitting
 begins_fitting _ x = true
 
 -- the page that is asked for next is the one of replica k above what came of it
-abbrev pub AsksOn : ℕ → List LogPage → Got → Type 0
+abbrev pub AsksOn : ℕ → List LogPage → PageOutcome → Type 0
 AsksOn k pages (More j after) = (j ≡ k) × (cursor pages k ≡ Some after)
 AsksOn k pages _ = Unit {0}
 
 -- what the pages brought can be done
-pub record CanGoOn (k : ℕ) (pages : List LogPage) (got : Got) (x : Draft) : Type 0 where
+pub record CanGoOn (k : ℕ) (pages : List LogPage) (got : PageOutcome) (x : Draft) : Type 0 where
   pub begins : CanBegin got x
   pub fits : begins_fitting got x ≡ true
   pub next : AsksOn k pages got

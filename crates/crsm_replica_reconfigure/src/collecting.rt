@@ -17,7 +17,7 @@ use crate::beginning::begin_proposing;
 use crsm_base::{Ballot, Control, NoMemory};
 use crsm_replica::{ReplicaState, states_are_sound};
 use crsm_replica_coordinator::{Coordinator, Stage};
-use crsm_suspend::{Collect, Got, got_is_by_the_rules};
+use crsm_suspend::{Collect, PageOutcome, got_is_by_the_rules};
 
 /// The ballot at the beginning of an instance, which is below all that are asked for.
 pub(crate) const NO_BALLOT: Ballot = Ballot { round: 0, by: 0 };
@@ -51,30 +51,30 @@ pub(crate) fn go_on(
     state: &mut ReplicaState,
     k: u32,
     collect: Collect,
-    got: Got,
+    got: PageOutcome,
 ) -> Result<(), NoMemory>
     requires { k < 15 }
     ensures { IfOk result (λ _. WhereGathering state.old collect (λ x ms pages. CanGoOn k pages got x → ReplicaStands state.new (on_got ms pages got (noting (CoordinatorOnPaper.Collecting ms pages) x)))) }
 {
     match got {
-        Got::Stranger => {
+        PageOutcome::Stranger => {
             state.set_coordinator(Coordinator::collecting(collect));
             Ok(())
         }
-        Got::More { .. } => {
+        PageOutcome::More { .. } => {
             state.set_coordinator(Coordinator::collecting(collect));
             ask_page(state, k)?;
             Ok(())
         }
-        Got::Kept => {
+        PageOutcome::Kept => {
             state.set_coordinator(Coordinator::collecting(collect));
             Ok(())
         }
-        Got::Complete(decision) => {
+        PageOutcome::Complete(decision) => {
             begin_proposing(state, decision, NO_BALLOT)?;
             Ok(())
         }
-        Got::TooMany { count, bytes } => {
+        PageOutcome::TooMany { count, bytes } => {
             state.refuse_collection(count, bytes)?;
             state.set_coordinator(Coordinator::quiet());
             Ok(())

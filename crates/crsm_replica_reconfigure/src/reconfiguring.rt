@@ -18,7 +18,7 @@ use crate::collecting::{NO_BALLOT, go_on};
 use crate::suspending::suspend_once;
 use crsm_base::{Control, Members, NoMemory, are_among, can_be_members, first_replicas};
 use crsm_replica::{ReplicaState, states_are_sound};
-use crsm_suspend::{Collect, Got, got_is_by_the_rules};
+use crsm_suspend::{Collect, PageOutcome, got_is_by_the_rules};
 
 /// How large a known epoch and its start may be where a collection begins: the numbers behind them stay below the greatest one.
 const MOST_COLLECTED: u64 = u64::MAX - 4_096;
@@ -106,18 +106,18 @@ fn can_be_next(state: &ReplicaState, next: &Members, members: &Members) -> bool
 
 /// Whether the records would fit of what is done by this once the epoch is suspended.
 #[tactic(auto, unfolding(crate::specs::Reports::begins_fitting))]
-fn may_go_on(state: &ReplicaState, got: &Got) -> Result<bool, NoMemory>
+fn may_go_on(state: &ReplicaState, got: &PageOutcome) -> Result<bool, NoMemory>
     ensures { IfOk result (λ fit. (x y : Draft) → ReplicaStands state.now x → CanBegin got.now x → BeginsAlike x y → fit ≡ begins_fitting got.now y) }
 {
     match got {
-        Got::Complete(decision) => {
+        PageOutcome::Complete(decision) => {
             let fits = may_begin(state, decision, NO_BALLOT)?;
             Ok(fits)
         }
-        Got::Stranger => Ok(true),
-        Got::More { .. } => Ok(true),
-        Got::Kept => Ok(true),
-        Got::TooMany { .. } => Ok(true),
+        PageOutcome::Stranger => Ok(true),
+        PageOutcome::More { .. } => Ok(true),
+        PageOutcome::Kept => Ok(true),
+        PageOutcome::TooMany { .. } => Ok(true),
     }
 }
 

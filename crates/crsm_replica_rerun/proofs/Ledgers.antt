@@ -13,8 +13,8 @@ use Rattle.crsm_spec.specs.Log.{Log}
 use Rattle.crsm_spec.specs.Replica.{Replica}
 use Rattle.crsm_text_sheet.specs.declared.line.SheetLine.{SheetLine}
 use Rattle.crsm_replica_rerun.specs.declared.rerun.Rerun.{Rerun}
-use Rattle.crsm_replica_rerun.specs.declared.stage.Stage.{Stage}
-use Rattle.crsm_replica_rerun.specs.declared.stage.Stage.TheVariants as stages
+use Rattle.crsm_replica_rerun.specs.declared.stage.SheetStage.{SheetStage}
+use Rattle.crsm_replica_rerun.specs.declared.stage.SheetStage.TheVariants as stages
 use Rattle.crsm_replica_rerun.specs.Replaying.{RerunStands, SaysLog}
 use Rattle.crsm_replica_rerun.specs.Sheets.{replica_of}
 use Rattle.crsm_replica_rerun.specs.Stages.{StageStands}
@@ -36,6 +36,6 @@ all_fit me n (rec ∷ log) h = (h.0, all_fit me n log h.1)
 pub says : (me n first : ℕ) (old : Rerun) (lines : List SheetLine) (steps : List Draft) → RerunStands me n first old lines steps → (core : Box Core) → old.stage ≡ stages.Running core
     → (ledger : Ledger) → ((r : Replica) → CoreStands core.value r → LedgerStands r.me r.n ledger r.log) → SaysLog me n lines steps ledger
 says me n first old lines steps s core is ledger stands =
-    let runs = subst (λ (x : Stage). StageStands me n x lines steps) is s.stage in
+    let runs = subst (λ (x : SheetStage). StageStands me n x lines steps) is s.stage in
     let r : Replica = replica_of runs.sheet in
     record { sheet = runs.sheet; are = runs.are; says = stands r runs.stands; fit = all_fit r.me r.n r.log (core_fits core.value r runs.stands); spelt = core_spelt core.value r runs.stands }

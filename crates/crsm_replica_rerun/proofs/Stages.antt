@@ -19,8 +19,8 @@ use Rattle.crsm_text_sheet.specs.declared.line.SheetLine.{SheetLine}
 use Rattle.crsm_text_sheet.specs.declared.line.SheetLine.TheVariants.{Entry, Open}
 use Rattle.crsm_text_sheet.specs.Sheets.{turn_line}
 use Rattle.crsm_replica_rerun.specs.declared.error.RerunError.{RerunError}
-use Rattle.crsm_replica_rerun.specs.declared.stage.Stage.{Stage}
-use Rattle.crsm_replica_rerun.specs.declared.stage.Stage.TheVariants as stages
+use Rattle.crsm_replica_rerun.specs.declared.stage.SheetStage.{SheetStage}
+use Rattle.crsm_replica_rerun.specs.declared.stage.SheetStage.TheVariants as stages
 use Rattle.crsm_replica_rerun.specs.declared.rerun.Rerun.{Rerun}
 use Rattle.crsm_replica_rerun.specs.Sheets.{BeginASheet, LeadTo, replica_after, replica_of, steps_of}
 use Rattle.crsm_replica_rerun.specs.Stages.{AnswersAll, BootsOn, IfBadLog, IsNothing, IsRefusal, Runs, StageAdvances, StageStands, TakesLine}
@@ -96,12 +96,12 @@ pub too_late : (me n : ℕ) (core : Box Core) (lines : List SheetLine) (steps : 
 too_late me n core lines steps l none runs = not_behind_open l none lines runs.sheet.bodies runs.sheet.turns runs.sheet.is
 
 -- the same of a stage that is no other
-pub refused_early : (me n : ℕ) (stage : Stage) (lines : List SheetLine) (steps : List Draft) (t : Turn × ℕ)
+pub refused_early : (me n : ℕ) (stage : SheetStage) (lines : List SheetLine) (steps : List Draft) (t : Turn × ℕ)
     → StageStands me n stage lines steps → ((core : Box Core) → stage ≡ stages.Running core → ⊥) → BeginASheet (lines ++ turn_line t ∷ []) → ⊥
 refused_early me n (stages.Finding bodies) lines steps t s not = too_early me n bodies lines steps t s
 refused_early me n (stages.Running core) lines steps t s not = absurd (not core refl)
 
-pub refused_late : (me n : ℕ) (stage : Stage) (lines : List SheetLine) (steps : List Draft) (l : SheetLine) → IsNoTurn l
+pub refused_late : (me n : ℕ) (stage : SheetStage) (lines : List SheetLine) (steps : List Draft) (l : SheetLine) → IsNoTurn l
     → StageStands me n stage lines steps → ((bodies : List (List ℕ)) → stage ≡ stages.Finding bodies → ⊥) → BeginASheet (lines ++ l ∷ []) → ⊥
 refused_late me n (stages.Finding bodies) lines steps l none s not = absurd (not bodies refl)
 refused_late me n (stages.Running core) lines steps l none s not = too_late me n core lines steps l none s
@@ -114,14 +114,14 @@ refused_log me n bodies lines steps (RerunError.BadLog entry why) s bad = (refl,
 refused_log me n bodies lines steps RerunError.NoMemory s bad = tt
 
 -- bodies alone are no sheet
-pub no_sheet : (me n : ℕ) (stage : Stage) (bodies : List (List ℕ)) (lines : List SheetLine) (steps : List Draft)
+pub no_sheet : (me n : ℕ) (stage : SheetStage) (bodies : List (List ℕ)) (lines : List SheetLine) (steps : List Draft)
     → stage ≡ stages.Finding bodies → StageStands me n stage lines steps → IsNoSheet lines
 no_sheet me n stage bodies lines steps is s =
-    let found = subst (λ (x : Stage). StageStands me n x lines steps) is s in bodies_are_no_sheet lines bodies found.0
+    let found = subst (λ (x : SheetStage). StageStands me n x lines steps) is s in bodies_are_no_sheet lines bodies found.0
 
 -- ---- the replay
 
-leads_of : (me n : ℕ) (stage : Stage) (lines : List SheetLine) (steps : List Draft) → StageStands me n stage lines steps → LeadTo me n lines steps
+leads_of : (me n : ℕ) (stage : SheetStage) (lines : List SheetLine) (steps : List Draft) → StageStands me n stage lines steps → LeadTo me n lines steps
 leads_of me n (stages.Finding bodies) lines steps s = inl (record { bodies = bodies; is = s.0 }, s.1)
 leads_of me n (stages.Running core) lines steps s = inr (record { sheet = s.sheet; are = s.are })
 
@@ -164,7 +164,7 @@ module _ (me n first : ℕ) (old : Rerun) (lines : List SheetLine) (steps : List
   pub ends : (core : Box Core) → old.stage ≡ stages.Running core → (line : Line)
       → ((r : Replica) → CoreStands core.value r → line ≡ final_line (old.me, Site.Up r)) → Ends me n first lines steps line
   ends core is line final =
-      let runs = subst (λ (x : Stage). StageStands me n x lines steps) is s.stage in
+      let runs = subst (λ (x : SheetStage). StageStands me n x lines steps) is s.stage in
       let r : Replica = replica_of runs.sheet in
       let last : line ≡ ending_of runs.sheet = final r runs.stands ∙ ap (λ (k : ℕ). final_line (k, Site.Up r)) s.is_me in
       record {

@@ -16,8 +16,8 @@ use Rattle.crsm_text_sheet.specs.declared.line.SheetLine.TheVariants.{Open}
 use Rattle.crsm_text_sheet.specs.Sheets.{entry_line}
 use Rattle.crsm_replica_rerun.specs.declared.error.RerunError.{RerunError}
 use Rattle.crsm_replica_rerun.specs.declared.error.RerunError.TheVariants as errors
-use Rattle.crsm_replica_rerun.specs.declared.stage.Stage.{Stage}
-use Rattle.crsm_replica_rerun.specs.declared.stage.Stage.TheVariants as stages
+use Rattle.crsm_replica_rerun.specs.declared.stage.SheetStage.{SheetStage}
+use Rattle.crsm_replica_rerun.specs.declared.stage.SheetStage.TheVariants as stages
 use Rattle.crsm_replica_rerun.specs.Sheets.{BeginASheet, HoldBadLog, IsSheet, replica_of, steps_of}
 
 -- ---- cores
@@ -81,23 +81,23 @@ pub record Runs (me n : ℕ) (core : Core) (lines : List SheetLine) (steps : Lis
   pub stands : CoreStands core (replica_of sheet)
 
 -- the stage is that behind these lines, which have led to these steps
-abbrev pub StageStands : (me n : ℕ) → Stage → List SheetLine → List Draft → Type 0
+abbrev pub StageStands : (me n : ℕ) → SheetStage → List SheetLine → List Draft → Type 0
 StageStands me n (stages.Finding bodies) lines steps = (lines ≡ map entry_line bodies) × (steps ≡ [])
 StageStands me n (stages.Running core) lines steps = Runs me n core.value lines steps
 
 -- a core that runs is usable
-abbrev pub IsSound : Stage → Type 0
+abbrev pub IsSound : SheetStage → Type 0
 IsSound (stages.Finding bodies) = Unit {0}
 IsSound (stages.Running core) = IsUsable core.value
 
 -- The line leads from the old stage to the new one, with these further steps, which the batch answers.
-pub record StageAdvances (me n : ℕ) (new : Stage) (lines : List SheetLine) (steps : List Draft) (line : SheetLine) (batch : Batch) : Type 0 where
+pub record StageAdvances (me n : ℕ) (new : SheetStage) (lines : List SheetLine) (steps : List Draft) (line : SheetLine) (batch : Batch) : Type 0 where
   pub more : List Draft
   pub answers : AnswersAll batch more
   pub stands : StageStands me n new (lines ++ line ∷ []) (steps ++ more)
 
 -- Whatever lines the old stage stands behind, the line advances it or is refused.
-abbrev pub TakesLine : (me n : ℕ) → Stage → SheetLine → Result Batch RerunError → Stage → Type 0
+abbrev pub TakesLine : (me n : ℕ) → SheetStage → SheetLine → Result Batch RerunError → SheetStage → Type 0
 TakesLine me n old line result new =
     (lines : List SheetLine) (steps : List Draft) → StageStands me n old lines steps →
     MatchResult result (StageAdvances me n new lines steps line) (IsRefusal me n lines line)

@@ -15,14 +15,19 @@ use std::alloc::Global;
 
 /// A replica that has booted, and what the boot made.
 #[derive(Drop)]
-pub(crate) struct Booted {
+pub(crate) struct BootedCore {
     // In a place of its own, since it is large and what holds it is moved.
     pub(crate) core: Box<Core>,
     pub(crate) batch: Batch,
 }
 
 /// Boots replica `me` of a cluster that began with `n` on a log with these bodies.
-pub(crate) fn boot(alloc: Global, me: u32, n: u32, bodies: &Bodies) -> Result<Booted, RerunError>
+pub(crate) fn boot(
+    alloc: Global,
+    me: u32,
+    n: u32,
+    bodies: &Bodies,
+) -> Result<BootedCore, RerunError>
     requires me_below { me < 15 }
     requires some { 1 ≤ n }
     requires few { n ≤ 15 }
@@ -34,7 +39,7 @@ pub(crate) fn boot(alloc: Global, me: u32, n: u32, bodies: &Bodies) -> Result<Bo
     let mut core = Core::new(ledger)?;
     let batch = core.begin()?;
     let core = in_a_place(alloc, core)?;
-    Ok(Booted { core, batch })
+    Ok(BootedCore { core, batch })
 }
 
 /// The core in a place of its own.

@@ -10,7 +10,7 @@ ghost use Rattle.crsm_replica_rerun.specs.Replaying.{AddsText, Advances, Ends, I
 use crate::ending::ending;
 use crate::error::RerunError;
 use crate::rerun::Rerun;
-use crate::stage::Stage;
+use crate::stage::SheetStage;
 use crate::text::push_step;
 use crsm_base::{Bodies, Bytes, Line};
 use crsm_core::Batch;
@@ -31,7 +31,7 @@ impl Rerun {
             me,
             n,
             next: first,
-            stage: Stage::Finding {
+            stage: SheetStage::Finding {
                 bodies: Bodies::new(alloc),
             },
         }
@@ -79,8 +79,8 @@ impl Rerun {
         ensures { WhereStands self.now (λ me n first lines steps. MatchOption result (IsNoSheet lines) (Ends me n first lines steps)) }
     {
         match &self.stage {
-            Stage::Finding { .. } => None,
-            Stage::Running { core } => Some(ending(self.me, core.ledger())),
+            SheetStage::Finding { .. } => None,
+            SheetStage::Running { core } => Some(ending(self.me, core.ledger())),
         }
     }
 
@@ -89,8 +89,8 @@ impl Rerun {
         ensures { WhereStands self.now (λ me n first lines steps. MatchOption result (IsNoSheet lines) (λ ledger. SaysLog me n lines steps ledger.now)) }
     {
         match &self.stage {
-            Stage::Finding { .. } => None,
-            Stage::Running { core } => Some(core.ledger()),
+            SheetStage::Finding { .. } => None,
+            SheetStage::Running { core } => Some(core.ledger()),
         }
     }
 }

@@ -3,7 +3,7 @@
 ghost use Rattle.std.specs.Prelude.{◌<◌, ◌≤◌};
 ghost use Rattle.crsm_replica_rerun.specs.Stages.{IsSound};
 
-use crate::stage::Stage;
+use crate::stage::SheetStage;
 use std::alloc::Global;
 
 /// A replica that is replayed from its sheet, line by line.
@@ -14,7 +14,7 @@ pub struct Rerun {
     pub(crate) n: u32,
     // The number of the next line.
     pub(crate) next: u64,
-    pub(crate) stage: Stage,
+    pub(crate) stage: SheetStage,
     ghost me_below: { me < 15 },
     ghost some: { 1 ≤ n },
     ghost few: { n ≤ 15 },

@@ -14,12 +14,12 @@ use std::alloc::Global;
 
 /// What has come of a sheet so far: bodies of the log alone; or `open` behind them, and the replica runs.
 #[derive(Drop)]
-pub(crate) enum Stage {
+pub(crate) enum SheetStage {
     Finding { bodies: Bodies },
     Running { core: Box<Core> },
 }
 
-impl Stage {
+impl SheetStage {
     /// What replica `me` of a cluster that began with `n` makes at a line.
     pub(crate) fn take(
         &mut self,
@@ -54,7 +54,7 @@ impl Stage {
         ensures sound { IsSound self.old → IsSound self.new }
         ensures spelt { IfOk result IsSpelt }
     {
-        let Stage::Finding { bodies } = self else {
+        let SheetStage::Finding { bodies } = self else {
             return Err(RerunError::Misplaced);
         };
         bodies.push(body)?;
@@ -70,11 +70,11 @@ impl Stage {
         ensures sound { IsSound self.old → IsSound self.new }
         ensures spelt { IfOk result IsSpelt }
     {
-        let Stage::Finding { bodies } = &*self else {
+        let SheetStage::Finding { bodies } = &*self else {
             return Err(RerunError::Misplaced);
         };
         let booted = boot(alloc, me, n, bodies)?;
-        *self = Stage::Running { core: booted.core };
+        *self = SheetStage::Running { core: booted.core };
         Ok(booted.batch)
     }
 
@@ -90,7 +90,7 @@ impl Stage {
         ensures sound { IsSound self.old → IsSound self.new }
         ensures spelt { IsSound self.old → IfOk result IsSpelt }
     {
-        let Stage::Running { core } = self else {
+        let SheetStage::Running { core } = self else {
             return Err(RerunError::Misplaced);
         };
         let batch = come(alloc, core, reading, address, bytes)?;
@@ -103,7 +103,7 @@ impl Stage {
         ensures sound { IsSound self.old → IsSound self.new }
         ensures spelt { IsSound self.old → IfOk result IsSpelt }
     {
-        let Stage::Running { core } = self else {
+        let SheetStage::Running { core } = self else {
             return Err(RerunError::Misplaced);
         };
         let batch = tick(core, reading)?;
@@ -121,7 +121,7 @@ impl Stage {
         ensures sound { IsSound self.old → IsSound self.new }
         ensures spelt { IsSound self.old → IfOk result IsSpelt }
     {
-        let Stage::Running { core } = self else {
+        let SheetStage::Running { core } = self else {
             return Err(RerunError::Misplaced);
         };
         let batch = suspect(alloc, core, reading, members)?;

@@ -2,15 +2,12 @@
 use Rattle.std.specs.Prelude.{ℕ, List, [], ◌∷◌, ◌++◌, codes, decimal}
 use Rattle.std.specs.List.{flat_map}
 use Rattle.hex.specs.Hex.{encode_lower}
-use Rattle.crsm_base.specs.declared.Outcome.{Outcome}
-use Rattle.crsm_base.specs.declared.Outcome.TheVariants.{Answered, Refused}
 use Rattle.crsm_base.specs.declared.SendKind.{SendKind}
 use Rattle.crsm_base.specs.declared.SendKind.TheVariants.{Frame, Ack, Part}
 use Rattle.crsm_base.specs.declared.State.{State}
 use Rattle.crsm_base.specs.declared.State.TheVariants.{Live, Held, Out as IsOut, Down as IsDown}
 use Rattle.crsm_base.specs.declared.Line.{Line}
 use Rattle.crsm_base.specs.declared.Line.TheVariants.{Boot, Submit, Log, Exec, Suspend, Promise, Accept, Decide, Enter, TooMany, Send, ReplyOk, ReplyNo, ReplyDropped, Down, Final, Out, Back}
-use Rattle.crsm_base.specs.Spelling.{refusal_number}
 use Rattle.crsm_text.specs.Words.{named, numbers, commas}
 use Rattle.crsm_text.specs.Values.{answer_text}
 
@@ -63,8 +60,3 @@ line_text at line = numbered at (line_words line)
 
 abbrev pub lines_text : ℕ → List Line → List ℕ
 lines_text at lines = flat_map (line_text at) lines
-
--- the line that shows a client its outcome
-abbrev pub outcome_text : Outcome → List ℕ
-outcome_text (Answered answer) = codes "ok " ++ (answer_text answer ++ 10 ∷ [])
-outcome_text (Refused refusal) = named (codes "no") (refusal_number refusal ∷ []) ++ 10 ∷ []

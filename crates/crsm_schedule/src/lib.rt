@@ -11,5 +11,5 @@ mod single;
 pub use crsm_text::LineError;
 pub use event::{Event, Single};
 pub use numbers::Numbers;
-pub use print::{print_outcome, push_line};
+pub use print::push_line;
 pub use read::{read_event, read_first};

@@ -1,12 +1,11 @@
 //! Formatting of transcript lines.
 
-ghost use Rattle.std.specs.Prelude.{◌≡◌, ◌≤◌, ◌++◌, ◌∷◌, [], OnOk, OnErr, codes, decimal, length};
+ghost use Rattle.std.specs.Prelude.{◌≡◌, ◌≤◌, ◌++◌, ◌∷◌, [], OnOk, codes, decimal, length};
 ghost use Rattle.crsm_text.specs.Words.{named, numbers};
-ghost use Rattle.crsm_schedule.specs.Transcript.{line_text, outcome_text, kind_text, state_text};
+ghost use Rattle.crsm_schedule.specs.Transcript.{line_text, kind_text, state_text};
 
-use crsm_base::{Bytes, Line, NoMemory, Outcome, SendKind, State};
+use crsm_base::{Bytes, Line, NoMemory, SendKind, State};
 use crsm_text::{push_answer, push_hex, push_members, push_named, push_numbered, push_numbers};
-use std::alloc::Global;
 
 /// Returns the word for a kind of datagram, with a space on both sides.
 fn spaced_kind(kind: SendKind) -> &'static [u8]
@@ -224,29 +223,4 @@ pub fn push_line(out: &mut Bytes, at: u64, line: &Line) -> Result<(), NoMemory>
             out.push(b'\n')
         }
     }
-}
-
-fn push_outcome(out: &mut Bytes, outcome: &Outcome) -> Result<(), NoMemory>
-    ensures { OnOk result (out.new ≡ out.old ++ outcome_text outcome.now) }
-{
-    match outcome {
-        Outcome::Answered(answer) => {
-            out.append(b"ok ")?;
-            push_answer(out, answer)?;
-        }
-        Outcome::Refused(refusal) => push_named(out, b"no", &[*refusal as u64])?,
-    }
-    out.push(b'\n')
-}
-
-/// Appends the line that shows a client its outcome, with its line feed. `NoMemory` if memory runs out; `out` is then
-/// unchanged.
-pub fn print_outcome(alloc: Global, outcome: &Outcome, out: &mut Bytes) -> Result<(), NoMemory>
-    ensures ok { OnOk result (out.new ≡ out.old ++ outcome_text outcome.now) }
-    ensures err { OnErr result (out.new ≡ out.old) }
-{
-    let mut text = Bytes::new(alloc);
-    push_outcome(&mut text, outcome)?;
-    out.append(text.as_slice())?;
-    Ok(())
 }

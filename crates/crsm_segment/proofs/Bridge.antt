@@ -5,7 +5,7 @@ use Rattle.crsm_base.specs.Limits.{most_parts}
 use Rattle.crsm_base.specs.Messages.{part_least, part_most}
 use Rattle.crsm_spec.specs.Parts.{Piece, kept_of, is_complete, is_old, is_odd, joined, with_part, whole_with}
 use Rattle.crsm_segment.specs.Taking.{is_sized, after_part, taken_whole, taken_of, whole_of}
-use Rattle.crsm_segment.specs.declared.message.Taken.TheVariants.{Old, Odd}
+use Rattle.crsm_segment.specs.declared.message.PartOutcome.TheVariants.{Old, Odd}
 
 pub parts_after : (p : Piece) (parts : List Piece) → is_sized p ≡ true → after_part p parts ≡ with_part p parts
 unfolding after_part

@@ -13,7 +13,7 @@ use Rattle.crsm_segment.specs.Gathering.{Gathering, has_slot, with_slot, is_fill
 use Rattle.crsm_segment.specs.Answering.{answer_of_add}
 use Rattle.crsm_segment.specs.Taking.{taken_whole}
 use Rattle.crsm_segment.specs.Gather.{is_of, is_newer, bytes_at, AreOnce, EachOnce, IsNewest}
-use Rattle.crsm_segment.specs.declared.message.Taken.TheVariants.{Whole, More}
+use Rattle.crsm_segment.specs.declared.message.PartOutcome.TheVariants.{Whole, More}
 use Rattle.crsm_segment.proofs.Facts.{in_filter, filter_push, some_at, bytes_at_push, bytes_at_other, once_push, bytes_once}
 
 -- a part of the message that is gathered

@@ -13,8 +13,8 @@ use Rattle.crsm_segment.specs.Answering.{answer_of, answer_of_add}
 use Rattle.crsm_segment.specs.Taking.{is_sized, after_part, taken_whole, taken_of}
 use Rattle.crsm_segment.specs.Gather.{is_of, is_newer, bytes_at, EachOnce, IsNewest, PeerStands, GatherStands}
 use Rattle.crsm_segment.specs.declared.message.Heading.{Heading}
-use Rattle.crsm_segment.specs.declared.message.Taken.{Taken}
-use Rattle.crsm_segment.specs.declared.message.Taken.TheVariants.{Old, Odd}
+use Rattle.crsm_segment.specs.declared.message.PartOutcome.{PartOutcome}
+use Rattle.crsm_segment.specs.declared.message.PartOutcome.TheVariants.{Old, Odd}
 use Rattle.crsm_segment.proofs.Facts.{either_false, both_false, any_true, any_false, all_equal, filter_none, in_filter, to_filter}
 use Rattle.crsm_segment.proofs.Slots.{Collects, next_part, empty_slots, newest_add, answer_add}
 use Rattle.crsm_segment.proofs.Peers.{not_false, and_false, unchanged_old, unchanged_odd, unchanged_size, with_is, changed, once_after, other_after, old_itself}
@@ -216,7 +216,7 @@ peer_answer : (from : ℕ) (peer : Option Gathering) (parts : List Piece) (h : H
 unfolding taken_of
 peer_answer from peer parts h bytes s once = go (has_passed peer h) refl (has_other_count peer h) refl (fits h bytes) refl
   where
-    rest : Bool → Bool → Bool → Taken
+    rest : Bool → Bool → Bool → PartOutcome
     rest a b f = cond a Old (cond (b || not f) Odd (taken_whole (whole_with (part_of from h bytes) parts)))
 
     go : (a : Bool) → has_passed peer h ≡ a → (b : Bool) → has_other_count peer h ≡ b → (f : Bool) → fits h bytes ≡ f →
@@ -302,7 +302,7 @@ take_stands r peers view from h bytes old new is within o state =
     subst (λ z. GatherStands (set peers from z) (after_part (part_of from h bytes) parts)) (sym (e ∙ ap (λ o. after_heading o h bytes) at))
     (stands_after peers from h bytes parts low (subst (λ v. GatherStands v parts) (sym is) s))) state
 
-pub take_answers : {E : Type 0} (r : Result Taken E) (peers view : List (Option Gathering)) (from : ℕ) (h : Heading) (bytes : List ℕ) (old : Option Gathering) →
+pub take_answers : {E : Type 0} (r : Result PartOutcome E) (peers view : List (Option Gathering)) (from : ℕ) (h : Heading) (bytes : List ℕ) (old : Option Gathering) →
     peers ≡ view → from < length view → old ≡ get_or peers from old → IfOk r (λ taken. taken ≡ answer_of old h bytes) →
     IfOk r (λ taken. (parts : List Piece) → GatherStands view parts → taken ≡ taken_of (part_of from h bytes) parts)
 take_answers r peers view from h bytes old is within o answered =

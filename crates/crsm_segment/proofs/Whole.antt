@@ -16,7 +16,7 @@ use Rattle.crsm_segment.specs.Pieces.{send_of, piece_of, sends_of}
 use Rattle.crsm_segment.specs.Taking.{piece, is_sized, after_part, taken_whole, taken_of}
 use Rattle.crsm_segment.specs.Gather.{bytes_at, AreOnce, EachOnce}
 use Rattle.crsm_segment.specs.Arriving.{Cut, AreApart, IsOf, IsWholeOf, taken_from}
-use Rattle.crsm_segment.specs.declared.message.Taken.TheVariants.{Whole, More, Old, Odd}
+use Rattle.crsm_segment.specs.declared.message.PartOutcome.TheVariants.{Whole, More, Old, Odd}
 use Rattle.crsm_segment.proofs.Facts.{in_filter, to_filter, bytes_once}
 use Rattle.crsm_segment.proofs.Peers.{not_false, changed, after_cases, once_after, of_key}
 use Rattle.crsm_segment.proofs.Steps.{whole_is}

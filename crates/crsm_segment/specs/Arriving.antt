@@ -4,7 +4,7 @@ use Rattle.std.specs.List.{concat}
 use Rattle.crsm_spec.specs.Parts.{Piece}
 use Rattle.crsm_segment.specs.Pieces.{send_of, sends_of}
 use Rattle.crsm_segment.specs.Taking.{piece, after_part, taken_of}
-use Rattle.crsm_segment.specs.declared.message.Taken.TheVariants.{Whole}
+use Rattle.crsm_segment.specs.declared.message.PartOutcome.TheVariants.{Whole}
 
 -- the parts taken once these have arrived, in order
 abbrev pub taken_from : List Piece → List Piece → List Piece

@@ -3,8 +3,8 @@ use Rattle.std.specs.Prelude.{ℕ, Bool, ◌&&◌, ◌||◌, not, nat_lt, nat_le
 use Rattle.crsm_base.specs.Limits.{most_parts}
 use Rattle.crsm_base.specs.Messages.{part_least, part_most}
 use Rattle.crsm_spec.specs.Parts.{Piece, is_old, is_odd, with_part, whole_with}
-use Rattle.crsm_segment.specs.declared.message.Taken.{Taken}
-use Rattle.crsm_segment.specs.declared.message.Taken.TheVariants.{Whole, More, Old, Odd}
+use Rattle.crsm_segment.specs.declared.message.PartOutcome.{PartOutcome}
+use Rattle.crsm_segment.specs.declared.message.PartOutcome.TheVariants.{Whole, More, Old, Odd}
 
 -- the part with these fields
 abbrev pub piece : ℕ → ℕ → ℕ → ℕ → ℕ → List ℕ → Piece
@@ -21,18 +21,18 @@ is_sized p =
 unfoldable pub after_part : Piece → List Piece → List Piece
 after_part p parts = if is_sized p then with_part p parts else parts
 
-unfoldable pub taken_whole : Option (List ℕ) → Taken
+unfoldable pub taken_whole : Option (List ℕ) → PartOutcome
 taken_whole None = More
 taken_whole (Some message) = Whole message
 
 -- the answer to this part
-unfoldable pub taken_of : Piece → List Piece → Taken
+unfoldable pub taken_of : Piece → List Piece → PartOutcome
 taken_of p parts =
     if is_old p parts then Old
     else (if is_odd p parts || not (is_sized p) then Odd else taken_whole (whole_with p parts))
 
 -- the message that an answer gives
-unfoldable pub whole_of : Taken → Option (List ℕ)
+unfoldable pub whole_of : PartOutcome → Option (List ℕ)
 whole_of (Whole message) = Some message
 whole_of More = None
 whole_of Old = None

@@ -5,7 +5,7 @@ ghost use Rattle.crsm_spec.specs.Parts.{Piece};
 ghost use Rattle.crsm_segment.specs.Taking.{after_part, taken_of, piece};
 ghost use Rattle.crsm_segment.specs.Gather.{GatherStands};
 
-use crate::message::{Heading, Message, Taken, take_part};
+use crate::message::{Heading, Message, PartOutcome, take_part};
 use crsm_base::NoMemory;
 use std::alloc::Global;
 use std::marker::Model;
@@ -53,7 +53,7 @@ impl Gather {
         index: u32,
         count: u32,
         bytes: &[u8],
-    ) -> Result<Taken, NoMemory>
+    ) -> Result<PartOutcome, NoMemory>
         requires { from < length self.old }
         ensures peers { length self.new ≡ length self.old }
         ensures state { OnOk result ((parts : List Piece) → GatherStands self.old parts → GatherStands self.new (after_part (piece from boot number index count bytes.now) parts)) }

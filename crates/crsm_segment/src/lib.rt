@@ -9,4 +9,4 @@ mod message;
 pub use cutting::cut;
 pub use gather::Gather;
 pub use laws::{parts_of_datagrams, whole_messages};
-pub use message::Taken;
+pub use message::PartOutcome;

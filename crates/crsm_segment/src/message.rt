@@ -10,7 +10,7 @@ use std::marker::Model;
 
 /// What became of a part.
 #[derive(Debug, Drop)]
-pub enum Taken {
+pub enum PartOutcome {
     /// It completes its message, which is this.
     Whole(Bytes),
     /// Further parts of its message are missing.
@@ -145,7 +145,7 @@ impl Message {
     }
 
     /// Adds a part. An `Err` changes nothing.
-    fn add(&mut self, alloc: Global, index: u32, bytes: &[u8]) -> Result<Taken, NoMemory>
+    fn add(&mut self, alloc: Global, index: u32, bytes: &[u8]) -> Result<PartOutcome, NoMemory>
         requires open { self.old.given ≡ false }
         requires below { index < self.old.count }
         ensures state { OnOk result (self.new ≡ after_add self.old index bytes.now) }
@@ -154,18 +154,18 @@ impl Message {
     {
         let i = index as usize;
         if self.slots[i].is_some() {
-            return Ok(Taken::More);
+            return Ok(PartOutcome::More);
         }
         let piece = kept(alloc, bytes)?;
         self.slots[i] = Some(piece);
         if !is_all_there(&self.slots) {
-            return Ok(Taken::More);
+            return Ok(PartOutcome::More);
         }
         match join(alloc, &self.slots) {
             Ok(whole) => {
                 self.slots.clear();
                 self.given = true;
-                Ok(Taken::Whole(whole))
+                Ok(PartOutcome::Whole(whole))
             }
             Err(e) => {
                 self.slots[i] = None;
@@ -221,16 +221,16 @@ pub fn take_part(
     peer: &mut Option<Message>,
     h: Heading,
     bytes: &[u8],
-) -> Result<Taken, NoMemory>
+) -> Result<PartOutcome, NoMemory>
     ensures state { OnOk result (peer.new ≡ after_heading peer.old h bytes.now) }
     ensures taken { IfOk result (λ taken. taken ≡ answer_of peer.old h bytes.now) }
     ensures err { OnErr result (peer.new ≡ peer.old) }
 {
     if is_passed(peer, h) {
-        return Ok(Taken::Old);
+        return Ok(PartOutcome::Old);
     }
     if has_count_besides(peer, h) || !is_fit(h, bytes) {
-        return Ok(Taken::Odd);
+        return Ok(PartOutcome::Odd);
     }
     if let Some(message) = peer {
         if message.is_of(h) {
@@ -241,7 +241,7 @@ pub fn take_part(
     if h.count == 1 {
         let whole = kept(alloc, bytes)?;
         *peer = Some(Message::given_at_once(alloc, h));
-        return Ok(Taken::Whole(whole));
+        return Ok(PartOutcome::Whole(whole));
     }
     let mut message = Message::new(alloc, h)?;
     let taken = message.add(alloc, h.index, bytes)?;

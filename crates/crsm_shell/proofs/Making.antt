@@ -11,7 +11,7 @@ use Rattle.crsm_spec.specs.Step.{Input, step}
 use Rattle.crsm_core.specs.declared.replica.Core.{Core}
 use Rattle.crsm_core.specs.Core.{Answers, CoreStands}
 use Rattle.crsm_replica_output.specs.declared.batch.Batch.{Batch}
-use Rattle.crsm_shell.specs.declared.make.Made.{Made}
+use Rattle.crsm_shell.specs.declared.make.StepResult.{StepResult}
 use Rattle.crsm_shell.specs.Taking.{heard_in, sender_of}
 
 -- bytes that are a datagram are stepped on
@@ -30,9 +30,9 @@ turn_nothing r from reading bytes is =
 abbrev pub Steps : Core → Batch → Draft → Type 0
 Steps new batch x = Answers batch x × CoreStands new x.replica
 
-pub as_turn : {E : Type 0} (result : Result Made E) (old new : Core) (from reading : ℕ) (bytes : List ℕ) (d : Datagram) → datagram_of bytes ≡ Some d
-    → IfOk result (λ (made : Made). (r : Replica) → CoreStands old r → Steps new made.batch (step r (Input.Came from d) reading))
-    → IfOk result (λ (made : Made). (r : Replica) → CoreStands old r → Steps new made.batch (turn r (Turn.In from bytes, reading)))
+pub as_turn : {E : Type 0} (result : Result StepResult E) (old new : Core) (from reading : ℕ) (bytes : List ℕ) (d : Datagram) → datagram_of bytes ≡ Some d
+    → IfOk result (λ (made : StepResult). (r : Replica) → CoreStands old r → Steps new made.batch (step r (Input.Came from d) reading))
+    → IfOk result (λ (made : StepResult). (r : Replica) → CoreStands old r → Steps new made.batch (turn r (Turn.In from bytes, reading)))
 as_turn (Ok made) old new from reading bytes d is f = λ r stands.
     subst (Steps new made.batch) (sym (turn_came r from reading bytes d is)) (f r stands)
 as_turn (Err e) old new from reading bytes d is f = f

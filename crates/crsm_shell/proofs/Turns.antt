@@ -12,12 +12,12 @@ use Rattle.crsm_disk.proofs.Moments.{started, weaker}
 use Rattle.crsm_log.specs.Format.{bodies_of}
 use Rattle.crsm_log.specs.Log.{IsSettled, Used, recorded}
 use Rattle.crsm_port.specs.Meaning.{Meaning as PortMeaning}
-use Rattle.crsm_replica_io.specs.declared.input.What.{What}
-use Rattle.crsm_replica_io.specs.declared.input.Taken.{Taken}
+use Rattle.crsm_replica_io.specs.declared.input.WantedInput.{WantedInput}
+use Rattle.crsm_replica_io.specs.declared.input.ReceivedInput.{ReceivedInput}
 use Rattle.crsm_shell.specs.declared.errors.TurnError.{TurnError}
 use Rattle.crsm_shell.specs.declared.errors.TurnError.TheVariants as errors
 use Rattle.crsm_shell.specs.declared.shell.Shell.{Shell}
-use Rattle.crsm_shell.specs.declared.turned.Turned.{Turned}
+use Rattle.crsm_shell.specs.declared.turned.TurnResult.{TurnResult}
 use Rattle.crsm_shell.specs.Flushing.{Adds, IsFull, IsLeft, IsOfPut, IsOneOf, SendsNone, StopsFlush, keep_calls, keep_count}
 use Rattle.crsm_shell.specs.Shell.{HasLog, ShellStands, group_body, records_of}
 use Rattle.crsm_shell.specs.Taking.{Reads, Takes, step_of, turn_of}
@@ -36,39 +36,39 @@ no_send : (m : PortMeaning) → SendsNone m m
 no_send m = record { same = refl; good = λ p told. (p, told, refl) }
 
 -- a take that failed
-take_fails : (what : What) (buffer : List ℕ) (old new : PortMeaning) (why : TurnError) → Takes what buffer old new (Err why) → FailsOnPort what buffer old new why
+take_fails : (what : WantedInput) (buffer : List ℕ) (old new : PortMeaning) (why : TurnError) → Takes what buffer old new (Err why) → FailsOnPort what buffer old new why
 take_fails what buffer old new errors.PortFault h = h
 take_fails what buffer old new errors.Failed h = h
 take_fails what buffer old new errors.NoMemory h = record { input = h.0; between = new; taken = h.1; unsent = no_send new }
 take_fails what buffer old new errors.DiskFault h = absurd h
 take_fails what buffer old new errors.LogFull h = absurd h
 
-pub take_unsent : {A : Type 0} (what : What) (buffer : List ℕ) (old new : PortMeaning) (result : Result A TurnError) (e why : TurnError) → result ≡ Err e → e ≡ why → Takes what buffer old new (Err why) → IfErr result (FailsOnPort what buffer old new)
+pub take_unsent : {A : Type 0} (what : WantedInput) (buffer : List ℕ) (old new : PortMeaning) (result : Result A TurnError) (e why : TurnError) → result ≡ Err e → e ≡ why → Takes what buffer old new (Err why) → IfErr result (FailsOnPort what buffer old new)
 take_unsent what buffer old new result e why is same h = if_err (FailsOnPort what buffer old new) result e why is same (take_fails what buffer old new why h)
 
 -- a flush that failed
-flush_fails : (what : What) (buffer : List ℕ) (old new : PortMeaning) (why : TurnError) → (why ≡ errors.PortFault → ⊥) → (why ≡ errors.Failed → ⊥) → TakesOnly what buffer old new → FailsOnPort what buffer old new why
+flush_fails : (what : WantedInput) (buffer : List ℕ) (old new : PortMeaning) (why : TurnError) → (why ≡ errors.PortFault → ⊥) → (why ≡ errors.Failed → ⊥) → TakesOnly what buffer old new → FailsOnPort what buffer old new why
 flush_fails what buffer old new errors.PortFault port failed h = absurd (port refl)
 flush_fails what buffer old new errors.Failed port failed h = absurd (failed refl)
 flush_fails what buffer old new errors.NoMemory port failed h = h
 flush_fails what buffer old new errors.DiskFault port failed h = h
 flush_fails what buffer old new errors.LogFull port failed h = h
 
-pub flush_unsent : {A : Type 0} (what : What) (buffer : List ℕ) (old new : PortMeaning) (result : Result A TurnError) (e why : TurnError) → result ≡ Err e → e ≡ why →
+pub flush_unsent : {A : Type 0} (what : WantedInput) (buffer : List ℕ) (old new : PortMeaning) (result : Result A TurnError) (e why : TurnError) → result ≡ Err e → e ≡ why →
     (why ≡ errors.PortFault → ⊥) → (why ≡ errors.Failed → ⊥) → TakesOnly what buffer old new → IfErr result (FailsOnPort what buffer old new)
 flush_unsent what buffer old new result e why is same port failed h = if_err (FailsOnPort what buffer old new) result e why is same (flush_fails what buffer old new why port failed h)
 
-flush_reads : (old new : Option Readings) (t : Turned) (why : TurnError) → (why ≡ errors.PortFault → ⊥) → (why ≡ errors.Failed → ⊥) → Gives old new t.reading → Reads old new (Err why)
+flush_reads : (old new : Option Readings) (t : TurnResult) (why : TurnError) → (why ≡ errors.PortFault → ⊥) → (why ≡ errors.Failed → ⊥) → Gives old new t.reading → Reads old new (Err why)
 flush_reads old new t errors.PortFault port failed h = absurd (port refl)
 flush_reads old new t errors.Failed port failed h = absurd (failed refl)
 flush_reads old new t errors.NoMemory port failed h = (t.reading, h)
 flush_reads old new t errors.DiskFault port failed h = (t.reading, h)
 flush_reads old new t errors.LogFull port failed h = (t.reading, h)
 
-pub flush_read : (old new : Option Readings) (t : Turned) (result : Result Turned TurnError) (e why : TurnError) → result ≡ Err e → e ≡ why →
+pub flush_read : (old new : Option Readings) (t : TurnResult) (result : Result TurnResult TurnError) (e why : TurnError) → result ≡ Err e → e ≡ why →
     (why ≡ errors.PortFault → ⊥) → (why ≡ errors.Failed → ⊥) → Gives old new t.reading → Reads old new result
 flush_read old new t result e why is same port failed h =
-    subst (λ (x : Result Turned TurnError). Reads old new x) (sym is) (subst (λ (w : TurnError). Reads old new (Err w)) (sym same) (flush_reads old new t why port failed h))
+    subst (λ (x : Result TurnResult TurnError). Reads old new x) (sym is) (subst (λ (w : TurnError). Reads old new (Err w)) (sym same) (flush_reads old new t why port failed h))
 
 -- ---- a flush that went well
 
@@ -93,7 +93,7 @@ pub record NotFlushed {D : Type 0} (meaning : D → Meaning) (gate : ℕ) (d d' 
 
 -- the take before it left the gate and the disk, and it left the buffer
 module _ {D : Type 0} {g : _} (meaning : D → Meaning) (before mid after : Shell D g) (gate : gate_of mid ≡ gate_of before) (disk : disk_of mid ≡ disk_of before) (buffer : buffer_of after ≡ buffer_of mid)
-    (kept : Log) (r : Replica) (steps : List Draft) (t : Turned) where
+    (kept : Log) (r : Replica) (steps : List Draft) (t : TurnResult) where
   abbrev step_in : List ℕ → Draft
   step_in b = turn r (turn_of b t.taken, t.reading)
 
@@ -143,7 +143,7 @@ module _ {D : Type 0} {g : _} (meaning : D → Meaning) (before after : Shell D 
   spared honest = to_after (λ new. LeavesOnly m new HasKept) (leaves_kept honest)
 
   -- memory ran out in the step
-  pub take_loses : (what : What) (ahead later : Option Readings) (old new : PortMeaning) (why : TurnError) → Takes what (buffer_of after) old new (Err why) → Reads ahead later (Err why) → IsOfPut why →
+  pub take_loses : (what : WantedInput) (ahead later : Option Readings) (old new : PortMeaning) (why : TurnError) → Takes what (buffer_of after) old new (Err why) → Reads ahead later (Err why) → IsOfPut why →
       LosesStep meaning before after what ahead later old new why kept r steps
   take_loses what ahead later old new errors.DiskFault h reads kind = absurd h
   take_loses what ahead later old new errors.LogFull h reads kind = absurd h

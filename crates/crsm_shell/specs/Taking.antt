@@ -14,30 +14,30 @@ use Rattle.crsm_replica_output.specs.declared.batch.Batch.{Batch}
 use Rattle.crsm_disk.specs.Meaning.{Meaning}
 use Rattle.crsm_port.specs.Meaning.{Meaning as PortMeaning}
 use Rattle.crsm_replica_io.specs.Input.{TakesInput}
-use Rattle.crsm_replica_io.specs.declared.input.What.{What}
-use Rattle.crsm_replica_io.specs.declared.input.Taken.{Taken}
-use Rattle.crsm_replica_io.specs.declared.input.Taken.TheVariants as taken
+use Rattle.crsm_replica_io.specs.declared.input.WantedInput.{WantedInput}
+use Rattle.crsm_replica_io.specs.declared.input.ReceivedInput.{ReceivedInput}
+use Rattle.crsm_replica_io.specs.declared.input.ReceivedInput.TheVariants as taken
 use Rattle.crsm_replica_io.specs.declared.input.TakeError.TheVariants as take_error
 use Rattle.crsm_ledger.specs.Recovered.{with_records}
 use Rattle.crsm_shell.specs.declared.errors.TurnError.{TurnError}
 use Rattle.crsm_shell.specs.declared.errors.TurnError.TheVariants as errors
 use Rattle.crsm_shell.specs.declared.shell.Shell.{Shell}
-use Rattle.crsm_shell.specs.declared.turned.Turned.{Turned}
+use Rattle.crsm_shell.specs.declared.turned.TurnResult.{TurnResult}
 use Rattle.crsm_shell.specs.Shell.{ShellStands}
 use Rattle.crsm_shell.specs.Words.{buffer_of}
 
 -- the turn that was taken; a datagram is the prefix of the buffer
-unfoldable pub turn_of : List ℕ → Taken → Turn
+unfoldable pub turn_of : List ℕ → ReceivedInput → Turn
 turn_of buffer (taken.Datagram from len) = Turn.In from (take len buffer)
 turn_of buffer taken.Tick = Turn.Tick
 turn_of buffer (taken.Suspect members) = Turn.Suspect members
 
 -- the step of what was taken into this buffer, at its reading
-abbrev pub step_of : List ℕ → Replica → Turned → Draft
+abbrev pub step_of : List ℕ → Replica → TurnResult → Draft
 step_of buffer r t = turn r (turn_of buffer t.taken, t.reading)
 
 -- the same by its parts
-abbrev pub step_at : List ℕ → Taken → ℕ → Replica → Draft
+abbrev pub step_at : List ℕ → ReceivedInput → ℕ → Replica → Draft
 step_at buffer what reading r = turn r (turn_of buffer what, reading)
 
 -- The step is made, with its batch and the bytes of its records, and is pending behind those before it.
@@ -50,7 +50,7 @@ pub record MakesStep {D : Type 0} {g : _} (new : Shell D g) (m : Meaning) (kept 
   pub log : x.replica.log ≡ with_records r.log x.batch
 
 -- the same of what was taken
-abbrev pub TakesStep : {D : Type 0} {g : _} → Shell D g → Meaning → (kept : Log) → Replica → (steps : List Draft) → Turned → Type 0
+abbrev pub TakesStep : {D : Type 0} {g : _} → Shell D g → Meaning → (kept : Log) → Replica → (steps : List Draft) → TurnResult → Type 0
 TakesStep new m kept r steps t = MakesStep new m kept r steps (step_of (buffer_of new) r t) t.batch t.size
 
 -- how long a datagram may be that is received whole
@@ -78,7 +78,7 @@ heard_in (Turn.Suspect members) = None
 
 -- An input is taken off the port into the buffer as it is wanted; only a receive calls the port, and nothing else stops
 -- it than a fault of the port.
-abbrev pub Receives : What → List ℕ → PortMeaning → PortMeaning → Result Taken TurnError → Type 0
+abbrev pub Receives : WantedInput → List ℕ → PortMeaning → PortMeaning → Result ReceivedInput TurnError → Type 0
 Receives what buffer old new (Ok t) = TakesInput what most_received buffer old new (Ok t)
 Receives what buffer old new (Err errors.PortFault) = TakesInput what most_received buffer old new (Err take_error.PortFault)
 Receives what buffer old new (Err errors.NoMemory) = ⊥
@@ -87,14 +87,14 @@ Receives what buffer old new (Err errors.DiskFault) = ⊥
 Receives what buffer old new (Err errors.LogFull) = ⊥
 
 -- The same of a whole step; where the replica failed before, nothing is taken. Where memory runs out, the input is taken.
-abbrev pub Takes : What → List ℕ → PortMeaning → PortMeaning → Result Turned TurnError → Type 0
+abbrev pub Takes : WantedInput → List ℕ → PortMeaning → PortMeaning → Result TurnResult TurnError → Type 0
 Takes what buffer old new (Ok t) = Receives what buffer old new (Ok t.taken)
 Takes what buffer old new (Err errors.Failed) = new ≡ old
-Takes what buffer old new (Err errors.NoMemory) = (t : Taken) × Receives what buffer old new (Ok t)
+Takes what buffer old new (Err errors.NoMemory) = (t : ReceivedInput) × Receives what buffer old new (Ok t)
 Takes what buffer old new (Err why) = Receives what buffer old new (Err why)
 
 -- The clock is read once, after the input is taken; where none is taken, it is not read.
-abbrev pub Reads : Option Readings → Option Readings → Result Turned TurnError → Type 0
+abbrev pub Reads : Option Readings → Option Readings → Result TurnResult TurnError → Type 0
 Reads old new (Ok t) = Gives old new t.reading
 Reads old new (Err errors.Failed) = new ≡ old
 Reads old new (Err errors.PortFault) = new ≡ old

@@ -11,36 +11,36 @@ use Rattle.crsm_disk.specs.Meaning.{LeavesOnly, Meaning, Same}
 use Rattle.crsm_port.specs.Meaning.{Meaning as PortMeaning}
 use Rattle.crsm_replica_io.specs.Input.{TakesInput}
 use Rattle.crsm_replica_io.specs.Outgoing.{packets_for}
-use Rattle.crsm_replica_io.specs.declared.input.What.{What}
-use Rattle.crsm_replica_io.specs.declared.input.Taken.{Taken}
+use Rattle.crsm_replica_io.specs.declared.input.WantedInput.{WantedInput}
+use Rattle.crsm_replica_io.specs.declared.input.ReceivedInput.{ReceivedInput}
 use Rattle.crsm_replica_io.specs.declared.input.TakeError.TheVariants as take_error
 use Rattle.crsm_shell.specs.declared.errors.TurnError.{TurnError}
 use Rattle.crsm_shell.specs.declared.errors.TurnError.TheVariants as errors
 use Rattle.crsm_shell.specs.declared.shell.Shell.{Shell}
-use Rattle.crsm_shell.specs.declared.turned.Turned.{Turned}
+use Rattle.crsm_shell.specs.declared.turned.TurnResult.{TurnResult}
 use Rattle.crsm_shell.specs.Flushing.{AddsGroup, CallsForGroup, IsFullFor, IsOfPut, LeavesGroup, LeavesLogs, SendsNone, SendsPackets, SpendsForGroup, StopsGroup}
 use Rattle.crsm_shell.specs.Shell.{HasLog, ShellStands, WhereStands, records_of, sends_of}
 use Rattle.crsm_shell.specs.Taking.{most_received, step_of, turn_of}
 use Rattle.crsm_shell.specs.Words.{buffer_of, disk_of, peers_of}
 
 -- The step of what was taken is answered and kept, and nothing is pending.
-pub record KeepsStep {D : Type 0} {g : _} (new : Shell D g) (m : Meaning) (r : Replica) (t : Turned) : Type 0 where
+pub record KeepsStep {D : Type 0} {g : _} (new : Shell D g) (m : Meaning) (r : Replica) (t : TurnResult) : Type 0 where
   pub answers : Answers t.batch (step_of (buffer_of new) r t)
   pub stands : ShellStands new m (step_of (buffer_of new) r t).replica.log (step_of (buffer_of new) r t).replica []
   pub size : t.size ≡ body_size (step_of (buffer_of new) r t).batch
 
 -- the steps that pended, and the one that was taken
-abbrev pub steps_with : {D : Type 0} {g : _} → Shell D g → Replica → List Draft → Turned → List Draft
+abbrev pub steps_with : {D : Type 0} {g : _} → Shell D g → Replica → List Draft → TurnResult → List Draft
 steps_with new r steps t = steps ++ step_of (buffer_of new) r t ∷ []
 
 -- The input is taken off the port into the buffer, and then all that these steps and its own send goes out.
-pub record TakesAndSends {D : Type 0} {g : _} (before after : Shell D g) (what : What) (old new : PortMeaning) (r : Replica) (steps : List Draft) (t : Turned) : Type 0 where
+pub record TakesAndSends {D : Type 0} {g : _} (before after : Shell D g) (what : WantedInput) (old new : PortMeaning) (r : Replica) (steps : List Draft) (t : TurnResult) : Type 0 where
   pub between : PortMeaning
   pub taken : TakesInput what most_received (buffer_of after) old between (Ok t.taken)
   pub sent : SendsPackets (packets_for (peers_of before) (sends_of (steps_with after r steps t))) between new
 
 -- The records of these steps and of its own are kept as one body, or the disk is not called where there is none.
-pub record KeepsGroup {D : Type 0} {g : _} (meaning : D → Meaning) (before after : Shell D g) (kept : Log) (r : Replica) (steps : List Draft) (t : Turned) : Type 0 where
+pub record KeepsGroup {D : Type 0} {g : _} (meaning : D → Meaning) (before after : Shell D g) (kept : Log) (r : Replica) (steps : List Draft) (t : TurnResult) : Type 0 where
   pub calls : CallsForGroup meaning before after (steps_with after r steps t)
   pub quiet : records_of (steps_with after r steps t) ≡ [] → disk_of after ≡ disk_of before
   pub plan : IsTrue (meaning (disk_of before)).honest → SpendsForGroup meaning before after (steps_with after r steps t)
@@ -58,14 +58,14 @@ pub record GoesOn {D : Type 0} {g : _} (meaning : D → Meaning) (before after :
   pub any_moment : IsTrue (meaning (disk_of before)).honest → LeavesOnly (meaning (disk_of before)) (meaning (disk_of after)) (λ file. HasLog r.me r.n file kept)
 
 -- An input is taken off the port into the buffer, and nothing is sent after it.
-pub record TakesOnly (what : What) (buffer : List ℕ) (old new : PortMeaning) : Type 0 where
-  pub input : Taken
+pub record TakesOnly (what : WantedInput) (buffer : List ℕ) (old new : PortMeaning) : Type 0 where
+  pub input : ReceivedInput
   pub between : PortMeaning
   pub taken : TakesInput what most_received buffer old between (Ok input)
   pub unsent : SendsNone between new
 
 -- what a turn that fails does to the port: it sends nothing
-abbrev pub FailsOnPort : What → List ℕ → PortMeaning → PortMeaning → TurnError → Type 0
+abbrev pub FailsOnPort : WantedInput → List ℕ → PortMeaning → PortMeaning → TurnError → Type 0
 FailsOnPort what buffer old new errors.Failed = new ≡ old
 FailsOnPort what buffer old new errors.PortFault = TakesInput what most_received buffer old new (Err take_error.PortFault)
 FailsOnPort what buffer old new errors.DiskFault = TakesOnly what buffer old new
@@ -83,12 +83,12 @@ pub record FailsToFlush {D : Type 0} {g : _} (meaning : D → Meaning) (before a
 
 -- The step of what was taken off the port was made, at the reading of the clock, and could not be flushed with those that
 -- pended.
-pub record LosesStep {D : Type 0} {g : _} (meaning : D → Meaning) (before after : Shell D g) (what : What) (ahead later : Option Readings) (old new : PortMeaning) (why : TurnError) (kept : Log) (r : Replica) (steps : List Draft) : Type 0 where
+pub record LosesStep {D : Type 0} {g : _} (meaning : D → Meaning) (before after : Shell D g) (what : WantedInput) (ahead later : Option Readings) (old new : PortMeaning) (why : TurnError) (kept : Log) (r : Replica) (steps : List Draft) : Type 0 where
   pub reading : ℕ
   pub gives : Gives ahead later reading
   pub took : TakesOnly what (buffer_of after) old new
   pub fails : FailsToFlush meaning before after kept (turn r (turn_of (buffer_of after) took.input, reading)).replica (steps ++ turn r (turn_of (buffer_of after) took.input, reading) ∷ []) why
 
 -- what is lost by an error for good
-abbrev pub Loses : {D : Type 0} {g : _} → (D → Meaning) → (before after : Shell D g) → What → (ahead later : Option Readings) → (old new : PortMeaning) → TurnError → Type 0
+abbrev pub Loses : {D : Type 0} {g : _} → (D → Meaning) → (before after : Shell D g) → WantedInput → (ahead later : Option Readings) → (old new : PortMeaning) → TurnError → Type 0
 Loses meaning before after what ahead later old new why = IsOfPut why → WhereStands meaning before (LosesStep meaning before after what ahead later old new why)

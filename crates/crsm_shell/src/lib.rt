@@ -18,8 +18,8 @@ mod turn;
 mod turned;
 
 pub use boot::Booted;
-pub use crsm_replica_io::{Taken, What};
+pub use crsm_replica_io::{ReceivedInput, WantedInput};
 pub use errors::{BootError, TurnError};
 pub use laws::{empty_files_have_empty_logs, logs_are_not_bad, logs_are_one};
 pub use shell::Shell;
-pub use turned::Turned;
+pub use turned::TurnResult;

@@ -13,14 +13,14 @@ ghost use Rattle.crsm_shell.specs.Taking as shells;
 
 use crsm_base::{Datagram, Lines, NoMemory, Recs, Sends};
 use crsm_core::{Core, Input};
-use crsm_replica_io::Taken;
+use crsm_replica_io::ReceivedInput;
 use crsm_replica_output::Batch;
 use crsm_wire::{WireError, read_datagram};
 use std::alloc::Global;
 
 /// A step that was made, and the replica that was received from in it.
 #[derive(Drop)]
-pub(crate) struct Made {
+pub(crate) struct StepResult {
     pub(crate) batch: Batch,
     pub(crate) received: Option<u32>,
 }
@@ -30,18 +30,18 @@ pub(crate) struct Made {
 pub(crate) fn make(
     alloc: Global,
     core: &mut Core,
-    taken: &Taken,
+    taken: &ReceivedInput,
     buffer: &[u8],
     reading: u64,
-) -> Result<Made, NoMemory>
+) -> Result<StepResult, NoMemory>
     requires { IsWithin (length buffer.now) taken.now }
     ensures step { IfOk result (λ made. (r : Replica) → CoreStands core.old r → Answers made.batch (step_at buffer.now taken.now reading r) × CoreStands core.new (step_at buffer.now taken.now reading r).replica) }
     ensures received { IfOk result (λ made. made.received ≡ heard_in (turn_of buffer.now taken.now)) }
 {
     match taken {
-        Taken::Datagram { from, len } => come(alloc, core, *from, &buffer[..*len], reading),
-        Taken::Tick => step(core, &Input::Tick, reading, None),
-        Taken::Suspect(members) => {
+        ReceivedInput::Datagram { from, len } => come(alloc, core, *from, &buffer[..*len], reading),
+        ReceivedInput::Tick => step(core, &Input::Tick, reading, None),
+        ReceivedInput::Suspect(members) => {
             let members = members.copy(alloc)?;
             step(core, &Input::Suspect { members }, reading, None)
         }
@@ -54,14 +54,14 @@ fn step(
     input: &Input,
     reading: u64,
     received: Option<u32>,
-) -> Result<Made, NoMemory>
+) -> Result<StepResult, NoMemory>
     requires { FitsInput input.now }
     ensures step { IfOk result (λ made. (r : Replica) → CoreStands core.old r →
         Answers made.batch (rules.step r (input_of input.now) reading) × CoreStands core.new (rules.step r (input_of input.now) reading).replica) }
     ensures received { IfOk result (λ made. made.received ≡ received) }
 {
     let batch = core.step(input, reading)?;
-    Ok(Made { batch, received })
+    Ok(StepResult { batch, received })
 }
 
 /// One step of the core on bytes from an address. Bytes that are no datagram change nothing.
@@ -72,7 +72,7 @@ fn come(
     from: u64,
     bytes: &[u8],
     reading: u64,
-) -> Result<Made, NoMemory>
+) -> Result<StepResult, NoMemory>
     ensures step { IfOk result (λ made. (r : Replica) → CoreStands core.old r →
         Answers made.batch (turn r (Turn.In from bytes.now, reading)) × CoreStands core.new (turn r (Turn.In from bytes.now, reading)).replica) }
     ensures received { IfOk result (λ made. made.received ≡ heard_in (Turn.In from bytes.now)) }
@@ -105,11 +105,11 @@ fn sender_of(datagram: &Datagram) -> Option<u32>
 
 /// What a step makes that does nothing.
 #[tactic(auto, unfolding(crsm_spec::specs::Draft::begun))]
-fn nothing(alloc: Global) -> Made
+fn nothing(alloc: Global) -> StepResult
     ensures step { (r : Replica) → Answers result.batch (begun r) }
     ensures received { result.received ≡ None }
 {
-    Made {
+    StepResult {
         batch: Batch {
             records: Recs::new(alloc),
             sends: Sends::new(alloc),

@@ -10,14 +10,14 @@ ghost use Rattle.crsm_replica_io.specs.Input.{IsWithin};
 ghost use Rattle.crsm_shell.specs.Words.{buffer_of, disk_of, gate_of, peers_of, pending_of, has_failed};
 
 use crate::errors::TurnError;
-use crate::make::{Made, make};
+use crate::make::{StepResult, make};
 use crate::shell::Shell;
-use crate::turned::Turned;
+use crate::turned::TurnResult;
 use crsm_base::NoMemory;
 use crsm_clock::Clock;
 use crsm_disk::Disk;
 use crsm_port::Port;
-use crsm_replica_io::{Taken, What, take_input, write_records};
+use crsm_replica_io::{ReceivedInput, WantedInput, take_input, write_records};
 
 impl<D: Disk> Shell<D> {
     /// Takes the input that is wanted and makes its step, at a reading of the clock that is given once the input is there.
@@ -25,10 +25,10 @@ impl<D: Disk> Shell<D> {
     /// port had nothing. After `PortFault` the shell is as before; after another error it has failed for good.
     pub fn take<C: Clock, P: Port>(
         &mut self,
-        what: What,
+        what: WantedInput,
         clock: &mut C,
         port: &mut P,
-    ) -> Result<Turned, TurnError>
+    ) -> Result<TurnResult, TurnError>
         requires few { pending_of self.old < 32 }
 
         // The step of the definitions, behind those that pend.
@@ -63,7 +63,7 @@ impl<D: Disk> Shell<D> {
         // A receive may have waited: an earlier reading would be stale.
         let reading = clock.now();
         let (made, size) = self.step(&taken, reading)?;
-        Ok(Turned {
+        Ok(TurnResult {
             reading,
             taken,
             received: made.received,
@@ -73,7 +73,7 @@ impl<D: Disk> Shell<D> {
     }
 
     /// The step of what was taken, and how many bytes its records take.
-    fn step(&mut self, taken: &Taken, reading: u64) -> Result<(Made, u64), NoMemory>
+    fn step(&mut self, taken: &ReceivedInput, reading: u64) -> Result<(StepResult, u64), NoMemory>
         requires well { self.old.failed ≡ false }
         requires few { self.old.pending < 32 }
         requires within { IsWithin most_received taken.now }
@@ -99,7 +99,11 @@ impl<D: Disk> Shell<D> {
 }
 
 /// The input that is wanted.
-fn receive<P: Port>(what: What, port: &mut P, buffer: &mut [u8]) -> Result<Taken, TurnError>
+fn receive<P: Port>(
+    what: WantedInput,
+    port: &mut P,
+    buffer: &mut [u8],
+) -> Result<ReceivedInput, TurnError>
     requires { length buffer.old ≡ most_received }
     ensures within { IfOk result (IsWithin most_received) }
     ensures taken { Receives what buffer.new (P.meaning port.old) (P.meaning port.new) result }

@@ -15,11 +15,11 @@ ghost use Rattle.crsm_shell.specs.Words.{buffer_of, disk_of, peers_of, pending_o
 
 use crate::errors::TurnError;
 use crate::shell::Shell;
-use crate::turned::Turned;
+use crate::turned::TurnResult;
 use crsm_clock::Clock;
 use crsm_disk::Disk;
 use crsm_port::Port;
-use crsm_replica_io::What;
+use crsm_replica_io::WantedInput;
 
 impl<D: Disk> Shell<D> {
     /// Takes the input that is wanted, and flushes its step with those that pend. After `PortFault` nothing was kept or
@@ -27,10 +27,10 @@ impl<D: Disk> Shell<D> {
     /// sent, and the disk has the records of all these steps or of none.
     pub fn turn<C: Clock, P: Port>(
         &mut self,
-        what: What,
+        what: WantedInput,
         clock: &mut C,
         port: &mut P,
-    ) -> Result<Turned, TurnError>
+    ) -> Result<TurnResult, TurnError>
         requires few { pending_of self.old < 32 }
 
         // The step of the definitions, kept with those before it.

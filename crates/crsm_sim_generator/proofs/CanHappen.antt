@@ -10,7 +10,7 @@ use Rattle.crsm_sim_generator.specs.Sequence.{draw}
 use Rattle.crsm_sim_generator.specs.View.{View, places, is_up_in, up_replicas, down_replicas, fresh_to_any, fresh_to_up, used_to_up}
 use Rattle.crsm_sim_generator.specs.Possible.{CanHappen, CanStart, IsAmong, IsSuspicion}
 use Rattle.crsm_sim_generator.specs.declared.drawing.Drawing.{Drawing}
-use Rattle.crsm_sim_generator.specs.declared.kind.Kind.{Kind}
+use Rattle.crsm_sim_generator.specs.declared.kind.EventKind.{EventKind}
 use Rattle.crsm_schedule.specs.declared.Event.{Event}
 use Rattle.crsm_schedule.specs.declared.Single.{Single}
 use Rattle.crsm_sim_generator.proofs.Places.{numbers, places_from}
@@ -40,19 +40,19 @@ both : (a b : Bool) → a && b ≡ true → (a ≡ true) × (b ≡ true)
 both true b e = (refl, e)
 both false b e = absurd (cc)
 
-asked_can : (kind : Kind) (n : ℕ) (v : View) (r reading : ℕ) (s : Drawing) (e : Event) → (asked kind n v r reading s).0 ≡ Some e → CanHappen n v e
+asked_can : (kind : EventKind) (n : ℕ) (v : View) (r reading : ℕ) (s : Drawing) (e : Event) → (asked kind n v r reading s).0 ≡ Some e → CanHappen n v e
 unfolding asked
-asked_can Kind.Request n v r reading s e h = if_so (CanHappen n v) (is_up_in v r) _ (λ u. u) e h
-asked_can Kind.Go n v r reading s e h = of_list (CanHappen n v) (fresh_to_up v) (one_of 8 (fresh_to_up v) s).0 _ (chosen 8 (fresh_to_up v) s) (λ i is. is) e h
-asked_can Kind.Again n v r reading s e h = of_list (CanHappen n v) (used_to_up v) (one_of (length (used_to_up v)) (used_to_up v) s).0 _ (chosen (length (used_to_up v)) (used_to_up v) s) (λ i is. is) e h
-asked_can Kind.Lose n v r reading s e h = of_list (CanHappen n v) (fresh_to_any v) (one_of 8 (fresh_to_any v) s).0 _ (chosen 8 (fresh_to_any v) s) (λ i is. is) e h
-asked_can Kind.Tick n v r reading s e h = if_so (CanHappen n v) (is_up_in v r) _ (λ u. u) e h
-asked_can Kind.Crash n v r reading s e h = if_so (CanHappen n v) (is_up_in v r) _ (λ u. u) e h
-asked_can Kind.Start n v r reading s e h = of_list (CanHappen n v) (down_replicas v) (slice_get (down_replicas v) 0) _ (λ i g. record { place = 0; is = g }) (λ i is. CanStart.one_down is) e h
-asked_can Kind.Suspect n v r reading s e h =
+asked_can EventKind.Request n v r reading s e h = if_so (CanHappen n v) (is_up_in v r) _ (λ u. u) e h
+asked_can EventKind.Go n v r reading s e h = of_list (CanHappen n v) (fresh_to_up v) (one_of 8 (fresh_to_up v) s).0 _ (chosen 8 (fresh_to_up v) s) (λ i is. is) e h
+asked_can EventKind.Again n v r reading s e h = of_list (CanHappen n v) (used_to_up v) (one_of (length (used_to_up v)) (used_to_up v) s).0 _ (chosen (length (used_to_up v)) (used_to_up v) s) (λ i is. is) e h
+asked_can EventKind.Lose n v r reading s e h = of_list (CanHappen n v) (fresh_to_any v) (one_of 8 (fresh_to_any v) s).0 _ (chosen 8 (fresh_to_any v) s) (λ i is. is) e h
+asked_can EventKind.Tick n v r reading s e h = if_so (CanHappen n v) (is_up_in v r) _ (λ u. u) e h
+asked_can EventKind.Crash n v r reading s e h = if_so (CanHappen n v) (is_up_in v r) _ (λ u. u) e h
+asked_can EventKind.Start n v r reading s e h = of_list (CanHappen n v) (down_replicas v) (slice_get (down_replicas v) 0) _ (λ i g. record { place = 0; is = g }) (λ i is. CanStart.one_down is) e h
+asked_can EventKind.Suspect n v r reading s e h =
     if_so (CanHappen n v) (is_up_in v r && nat_le (majority n) (length (up_replicas v))) _ (λ u. let p = both (is_up_in v r) _ u in record { up = p.0; members_are = refl; enough = leb-true (majority n) (length (up_replicas v)) p.1 }) e h
-asked_can Kind.Settle n v r reading s e h = let same : Event.Settle reading ≡ e = cc in subst (CanHappen n v) same tt
-asked_can Kind.Cut n v r reading s e h = of_list (CanHappen n v) (fresh_to_up v) (slice_get (fresh_to_up v) 0) _ (λ i g. record { place = 0; is = g }) (λ i is. is) e h
+asked_can EventKind.Settle n v r reading s e h = let same : Event.Settle reading ≡ e = cc in subst (CanHappen n v) same tt
+asked_can EventKind.Cut n v r reading s e h = of_list (CanHappen n v) (fresh_to_up v) (slice_get (fresh_to_up v) 0) _ (λ i g. record { place = 0; is = g }) (λ i is. is) e h
 
 -- ---- in place of it
 

@@ -7,8 +7,8 @@ use Rattle.crsm_base.specs.Replicas.{majority}
 use Rattle.crsm_schedule.specs.declared.Event.{Event}
 use Rattle.crsm_schedule.specs.declared.Single.{Single}
 use Rattle.crsm_sim_generator.specs.declared.drawing.Drawing.{Drawing}
-use Rattle.crsm_sim_generator.specs.declared.kind.Head.{Head}
-use Rattle.crsm_sim_generator.specs.declared.kind.Kind.{Kind}
+use Rattle.crsm_sim_generator.specs.declared.kind.EventHead.{EventHead}
+use Rattle.crsm_sim_generator.specs.declared.kind.EventKind.{EventKind}
 use Rattle.crsm_sim_generator.specs.Sequence.{later, draw}
 use Rattle.crsm_sim_generator.specs.View.{View, is_up_in, up_replicas, down_replicas, fresh_to_any, fresh_to_up, used_to_up}
 
@@ -31,24 +31,24 @@ capped_sum a b = min (a + b) (2 ^ 64 - 1)
 -- ---- what every event begins with: time goes by, and a kind, a replica and its reading are drawn
 
 -- how often each kind comes, of a hundred events
-unfoldable pub kind_of : ℕ → Kind
+unfoldable pub kind_of : ℕ → EventKind
 kind_of k =
-    if nat_lt k 25 then Kind.Request
-    else if nat_lt k 70 then Kind.Go
-    else if nat_lt k 75 then Kind.Again
-    else if nat_lt k 80 then Kind.Lose
-    else if nat_lt k 90 then Kind.Tick
-    else if nat_lt k 92 then Kind.Crash
-    else if nat_lt k 95 then Kind.Start
-    else if nat_lt k 97 then Kind.Suspect
-    else if nat_lt k 99 then Kind.Settle
-    else Kind.Cut
+    if nat_lt k 25 then EventKind.Request
+    else if nat_lt k 70 then EventKind.Go
+    else if nat_lt k 75 then EventKind.Again
+    else if nat_lt k 80 then EventKind.Lose
+    else if nat_lt k 90 then EventKind.Tick
+    else if nat_lt k 92 then EventKind.Crash
+    else if nat_lt k 95 then EventKind.Start
+    else if nat_lt k 97 then EventKind.Suspect
+    else if nat_lt k 99 then EventKind.Settle
+    else EventKind.Cut
 
 unfoldable pub after_head : Drawing → Drawing
 after_head s = record s { latest = later s.latest 4; now = capped_sum s.now (draw s.latest 0 20) }
 
 -- in a cluster of n replicas
-unfoldable pub head_of : ℕ → Drawing → Head
+unfoldable pub head_of : ℕ → Drawing → EventHead
 head_of n s =
     record {
       kind = kind_of (draw s.latest 1 100);
@@ -104,22 +104,22 @@ if_possible possible e = if possible then Some e else None
 
 -- What is asked for in a cluster of n replicas that is seen so: an event of this kind, at replica r or at this reading. It is
 -- none where there is nothing to choose from, or where the event is not possible.
-unfoldable pub asked : Kind → (n : ℕ) → View → (r reading : ℕ) → Drawing → Drawn (Option Event)
-asked Kind.Request n v r reading s =
+unfoldable pub asked : EventKind → (n : ℕ) → View → (r reading : ℕ) → Drawing → Drawn (Option Event)
+asked EventKind.Request n v r reading s =
     let command = drawn_command s in (if_possible (is_up_in v r) (Event.One (Single.Request r reading command.0)), command.1)
-asked Kind.Go n v r reading s =
+asked EventKind.Go n v r reading s =
     let number = one_of 8 (fresh_to_up v) s in (option_map (λ i. Event.One (Single.Go i reading)) number.0, number.1)
-asked Kind.Again n v r reading s =
+asked EventKind.Again n v r reading s =
     let number = one_of (length (used_to_up v)) (used_to_up v) s in (option_map (λ i. Event.One (Single.Again i reading)) number.0, number.1)
-asked Kind.Lose n v r reading s = let number = one_of 8 (fresh_to_any v) s in (option_map Event.Lose number.0, number.1)
-asked Kind.Tick n v r reading s = (if_possible (is_up_in v r) (Event.One (Single.Tick r reading)), s)
-asked Kind.Crash n v r reading s = (if_possible (is_up_in v r) (Event.Crash r), s)
-asked Kind.Start n v r reading s = (option_map Event.Start (slice_get (down_replicas v) 0), s)
-asked Kind.Suspect n v r reading s =
+asked EventKind.Lose n v r reading s = let number = one_of 8 (fresh_to_any v) s in (option_map Event.Lose number.0, number.1)
+asked EventKind.Tick n v r reading s = (if_possible (is_up_in v r) (Event.One (Single.Tick r reading)), s)
+asked EventKind.Crash n v r reading s = (if_possible (is_up_in v r) (Event.Crash r), s)
+asked EventKind.Start n v r reading s = (option_map Event.Start (slice_get (down_replicas v) 0), s)
+asked EventKind.Suspect n v r reading s =
     let are_enough = nat_le (majority n) (length (up_replicas v)) in
     (if_possible (is_up_in v r && are_enough) (Event.One (Single.Suspect r reading (up_replicas v))), s)
-asked Kind.Settle n v r reading s = (Some (Event.Settle reading), s)
-asked Kind.Cut n v r reading s = (option_map (λ i. Event.CutKept 0 (Single.Go i reading)) (slice_get (fresh_to_up v) 0), s)
+asked EventKind.Settle n v r reading s = (Some (Event.Settle reading), s)
+asked EventKind.Cut n v r reading s = (option_map (λ i. Event.CutKept 0 (Single.Go i reading)) (slice_get (fresh_to_up v) 0), s)
 
 -- in place of an event that is not possible: a tick of the least replica that is up, or else the start of replica 0
 unfoldable pub otherwise : View → (reading : ℕ) → Event

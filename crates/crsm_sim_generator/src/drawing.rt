@@ -4,7 +4,7 @@ ghost use Rattle.std.specs.Prelude.{◌≡◌, ◌<◌, ◌≤◌, length, slice
 ghost use Rattle.crsm_sim_generator.specs.Drawing.{after_head, begun, behind, capped_sum, head_of};
 ghost use Rattle.crsm_sim_generator.specs.Sequence.{draw, later, next_number};
 
-use crate::kind::{Head, kind_of};
+use crate::kind::{EventHead, kind_of};
 
 const FACTOR: u64 = 6_364_136_223_846_793_005;
 
@@ -59,7 +59,7 @@ impl Drawing {
 
     /// Draws what every event begins with, in a cluster of `n` replicas.
     #[tactic(auto, unfolding(crate::specs::Sequence::draw, crate::specs::Sequence::later, crate::specs::Drawing::behind, crate::specs::Drawing::head_of, crate::specs::Drawing::after_head, crate::specs::Drawing::capped_sum))]
-    pub(crate) fn head(&mut self, n: u32) -> Head
+    pub(crate) fn head(&mut self, n: u32) -> EventHead
         requires { 1 ≤ n }
         ensures head { result ≡ head_of n self.old }
         ensures state { self.new ≡ after_head self.old }
@@ -69,7 +69,7 @@ impl Drawing {
         let kind = kind_of(self.draw(100));
         let replica = self.draw(u64::from(n)) as u32;
         let ahead = self.draw(200);
-        Head {
+        EventHead {
             kind,
             replica,
             reading: self.now.saturating_add(ahead),

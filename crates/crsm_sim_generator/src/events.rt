@@ -9,7 +9,7 @@ ghost use Rattle.crsm_sim_generator.specs.View.{View};
 
 use crate::choice::{least_down, least_up, oldest_fresh, up_replicas};
 use crate::drawing::Drawing;
-use crate::kind::{Head, Kind};
+use crate::kind::{EventHead, EventKind};
 use crate::look::Look;
 use crsm_base::{Members, NoMemory, majority};
 use crsm_schedule::{Event, Single};
@@ -46,7 +46,7 @@ pub(crate) fn otherwise<L: Look>(world: &L, reading: u64) -> Event
 /// A replica that is up has a tick.
 #[tactic(auto, unfolding(crate::specs::Drawing::asked, crate::specs::Drawing::if_possible))]
 fn ticks<L: Look>(replica: u32, reading: u64, world: &L) -> Option<Event>
-    ensures drawn { (n : ℕ) (v : View) (s : Drawing) → L.shows world.now v → (result, s) ≡ asked Kind.Tick n v replica reading s }
+    ensures drawn { (n : ℕ) (v : View) (s : Drawing) → L.shows world.now v → (result, s) ≡ asked EventKind.Tick n v replica reading s }
     ensures fits { IfSome result FitsEvent }
 {
     if !world.is_up(replica) {
@@ -58,7 +58,7 @@ fn ticks<L: Look>(replica: u32, reading: u64, world: &L) -> Option<Event>
 /// A replica that is up goes down.
 #[tactic(auto, unfolding(crate::specs::Drawing::asked, crate::specs::Drawing::if_possible))]
 fn crash<L: Look>(replica: u32, world: &L) -> Option<Event>
-    ensures drawn { (n reading : ℕ) (v : View) (s : Drawing) → L.shows world.now v → (result, s) ≡ asked Kind.Crash n v replica reading s }
+    ensures drawn { (n reading : ℕ) (v : View) (s : Drawing) → L.shows world.now v → (result, s) ≡ asked EventKind.Crash n v replica reading s }
     ensures fits { IfSome result FitsEvent }
 {
     if !world.is_up(replica) {
@@ -71,7 +71,7 @@ fn crash<L: Look>(replica: u32, world: &L) -> Option<Event>
 /// The least replica that is down boots.
 #[tactic(auto, unfolding(crate::specs::Drawing::asked))]
 fn start<L: Look>(world: &L) -> Option<Event>
-    ensures drawn { (n r reading : ℕ) (v : View) (s : Drawing) → L.shows world.now v → (result, s) ≡ asked Kind.Start n v r reading s }
+    ensures drawn { (n r reading : ℕ) (v : View) (s : Drawing) → L.shows world.now v → (result, s) ≡ asked EventKind.Start n v r reading s }
     ensures fits { IfSome result FitsEvent }
 {
     let replica = u64::from(least_down(world)?);
@@ -99,7 +99,7 @@ fn suspect<L: Look>(
 ) -> Result<Option<Event>, NoMemory>
     requires some { 1 ≤ n }
     requires most { n ≤ 15 }
-    ensures drawn { (v : View) (s : Drawing) → L.shows world.now v → IfOk result (λ event. (event, s) ≡ asked Kind.Suspect n v replica reading s) }
+    ensures drawn { (v : View) (s : Drawing) → L.shows world.now v → IfOk result (λ event. (event, s) ≡ asked EventKind.Suspect n v replica reading s) }
     ensures fits { IfOk result (λ event. IfSome event FitsEvent) }
 {
     let ups = up_replicas(alloc, world)?;
@@ -118,7 +118,7 @@ fn suspect<L: Look>(
 /// All that can be delivered is.
 #[tactic(auto, unfolding(crate::specs::Drawing::asked))]
 fn settle(reading: u64) -> Option<Event>
-    ensures drawn { (n r : ℕ) (v : View) (s : Drawing) → (result, s) ≡ asked Kind.Settle n v r reading s }
+    ensures drawn { (n r : ℕ) (v : View) (s : Drawing) → (result, s) ≡ asked EventKind.Settle n v r reading s }
     ensures fits { IfSome result FitsEvent }
 {
     Some(Event::Settle { reading })
@@ -127,7 +127,7 @@ fn settle(reading: u64) -> Option<Event>
 /// The oldest fresh datagram is delivered, and the step is cut when its records are kept.
 #[tactic(auto, unfolding(crate::specs::Drawing::asked))]
 fn cut<L: Look>(reading: u64, world: &L) -> Option<Event>
-    ensures drawn { (n r : ℕ) (v : View) (s : Drawing) → L.shows world.now v → (result, s) ≡ asked Kind.Cut n v r reading s }
+    ensures drawn { (n r : ℕ) (v : View) (s : Drawing) → L.shows world.now v → (result, s) ≡ asked EventKind.Cut n v r reading s }
     ensures fits { IfSome result FitsEvent }
 {
     let number = oldest_fresh(world)?;
@@ -145,7 +145,7 @@ impl Drawing {
         reading: u64,
         world: &L,
     ) -> Result<Option<Event>, NoMemory>
-        ensures drawn { (n : ℕ) (v : View) → L.shows world.now v → IfOk result (λ event. (event, self.new) ≡ asked Kind.Request n v replica reading self.old) }
+        ensures drawn { (n : ℕ) (v : View) → L.shows world.now v → IfOk result (λ event. (event, self.new) ≡ asked EventKind.Request n v replica reading self.old) }
         ensures fits { IfOk result (λ event. IfSome event FitsEvent) }
     {
         let command = self.command(alloc)?;
@@ -163,7 +163,7 @@ impl Drawing {
     /// A datagram is delivered.
     #[tactic(auto, unfolding(crate::specs::Drawing::asked))]
     fn go<L: Look>(&mut self, reading: u64, world: &L) -> Option<Event>
-        ensures drawn { (n r : ℕ) (v : View) → L.shows world.now v → (result, self.new) ≡ asked Kind.Go n v r reading self.old }
+        ensures drawn { (n r : ℕ) (v : View) → L.shows world.now v → (result, self.new) ≡ asked EventKind.Go n v r reading self.old }
         ensures fits { IfSome result FitsEvent }
     {
         let number = self.one_fresh(world, true)?;
@@ -173,7 +173,7 @@ impl Drawing {
     /// A datagram is delivered once more.
     #[tactic(auto, unfolding(crate::specs::Drawing::asked))]
     fn again<L: Look>(&mut self, reading: u64, world: &L) -> Option<Event>
-        ensures drawn { (n r : ℕ) (v : View) → L.shows world.now v → (result, self.new) ≡ asked Kind.Again n v r reading self.old }
+        ensures drawn { (n r : ℕ) (v : View) → L.shows world.now v → (result, self.new) ≡ asked EventKind.Again n v r reading self.old }
         ensures fits { IfSome result FitsEvent }
     {
         let number = self.one_used(world)?;
@@ -183,7 +183,7 @@ impl Drawing {
     /// A datagram is lost.
     #[tactic(auto, unfolding(crate::specs::Drawing::asked))]
     fn lose<L: Look>(&mut self, world: &L) -> Option<Event>
-        ensures drawn { (n r reading : ℕ) (v : View) → L.shows world.now v → (result, self.new) ≡ asked Kind.Lose n v r reading self.old }
+        ensures drawn { (n r reading : ℕ) (v : View) → L.shows world.now v → (result, self.new) ≡ asked EventKind.Lose n v r reading self.old }
         ensures fits { IfSome result FitsEvent }
     {
         let number = self.one_fresh(world, false)?;
@@ -195,7 +195,7 @@ impl Drawing {
         &mut self,
         alloc: Global,
         n: u32,
-        head: Head,
+        head: EventHead,
         world: &L,
     ) -> Result<Option<Event>, NoMemory>
         requires some { 1 ≤ n }
@@ -206,16 +206,16 @@ impl Drawing {
         let replica = head.replica;
         let reading = head.reading;
         match head.kind {
-            Kind::Request => Ok(self.request(alloc, replica, reading, world)?),
-            Kind::Go => Ok(self.go(reading, world)),
-            Kind::Again => Ok(self.again(reading, world)),
-            Kind::Lose => Ok(self.lose(world)),
-            Kind::Tick => Ok(ticks(replica, reading, world)),
-            Kind::Crash => Ok(crash(replica, world)),
-            Kind::Start => Ok(start(world)),
-            Kind::Suspect => Ok(suspect(alloc, n, replica, reading, world)?),
-            Kind::Settle => Ok(settle(reading)),
-            Kind::Cut => Ok(cut(reading, world)),
+            EventKind::Request => Ok(self.request(alloc, replica, reading, world)?),
+            EventKind::Go => Ok(self.go(reading, world)),
+            EventKind::Again => Ok(self.again(reading, world)),
+            EventKind::Lose => Ok(self.lose(world)),
+            EventKind::Tick => Ok(ticks(replica, reading, world)),
+            EventKind::Crash => Ok(crash(replica, world)),
+            EventKind::Start => Ok(start(world)),
+            EventKind::Suspect => Ok(suspect(alloc, n, replica, reading, world)?),
+            EventKind::Settle => Ok(settle(reading)),
+            EventKind::Cut => Ok(cut(reading, world)),
         }
     }
 }

@@ -5,7 +5,7 @@ ghost use Rattle.crsm_sim_generator.specs.Drawing as on_paper;
 
 /// What kind of event is drawn.
 #[derive(Clone, Copy, Debug)]
-pub(crate) enum Kind {
+pub(crate) enum EventKind {
     Request,
     Go,
     Again,
@@ -21,27 +21,27 @@ pub(crate) enum Kind {
 
 /// What the draws of every event begin with.
 #[derive(Clone, Copy, Debug)]
-pub(crate) struct Head {
-    pub kind: Kind,
+pub(crate) struct EventHead {
+    pub kind: EventKind,
     pub replica: u32,
     pub reading: u64,
 }
 
 /// The kind that a number below 100 stands for.
 #[tactic(auto, unfolding(crate::specs::Drawing::kind_of))]
-pub(crate) fn kind_of(number: u64) -> Kind
+pub(crate) fn kind_of(number: u64) -> EventKind
     ensures { result ≡ on_paper.kind_of number }
 {
     match number {
-        0..=24 => Kind::Request,
-        25..=69 => Kind::Go,
-        70..=74 => Kind::Again,
-        75..=79 => Kind::Lose,
-        80..=89 => Kind::Tick,
-        90..=91 => Kind::Crash,
-        92..=94 => Kind::Start,
-        95..=96 => Kind::Suspect,
-        97..=98 => Kind::Settle,
-        _ => Kind::Cut,
+        0..=24 => EventKind::Request,
+        25..=69 => EventKind::Go,
+        70..=74 => EventKind::Again,
+        75..=79 => EventKind::Lose,
+        80..=89 => EventKind::Tick,
+        90..=91 => EventKind::Crash,
+        92..=94 => EventKind::Start,
+        95..=96 => EventKind::Suspect,
+        97..=98 => EventKind::Settle,
+        _ => EventKind::Cut,
     }
 }

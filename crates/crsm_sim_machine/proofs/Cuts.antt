@@ -12,7 +12,7 @@ use Rattle.crsm_sim_machine.specs.Machine.{MachineStands}
 use Rattle.crsm_sim_machine.specs.States.{IsIn}
 
 -- what is left is what the machine has
-pub cut_machine : (calls fill me n : ℕ) (r : Replica) (x : Draft) (step : Option Step) (left : Stopped) (machine : Machine) → machine.me ≡ me → machine.n ≡ n → machine.place ≡ state.Down left →
+pub cut_machine : (calls fill me n : ℕ) (r : Replica) (x : Draft) (step : Option Step) (left : Stopped) (machine : Machine) → machine.me ≡ me → machine.n ≡ n → machine.state ≡ state.Down left →
     LeavesCut calls fill me n r x step left → IsCut calls fill me n r x step machine
 unfolding MachineStands
 cut_machine calls fill me n r x (Some step) left machine number began is cut =

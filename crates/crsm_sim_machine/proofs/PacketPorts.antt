@@ -1,7 +1,7 @@
 -- What a receive takes off an inlet where its datagram waits.
 use Rattle.std.proofs.Common.{◌≡◌, ℕ, min, List, [], ◌++◌, length, take, drop, Option, Some, None, Ok, Bor, refl, sym, ◌∙◌, ap, subst, arith}
 use Rattle.crsm_port_faults.specs.Plan.{Plan}
-use Rattle.crsm_port.specs.declared.port.Got.TheVariants as got
+use Rattle.crsm_port.specs.declared.port.Recv.TheVariants as got
 use Rattle.crsm_port.specs.Meaning.{Packet, Receives, Takes, Traffic, plain}
 use Rattle.crsm_sim_machine.specs.declared.packet_port.PacketPort.{PacketPort}
 use Rattle.crsm_sim_machine.specs.declared.packet_port.Slot.{Slot}

@@ -4,10 +4,10 @@ use mathlib.Core.Bool.{false≢true}
 use Rattle.std.proofs.lemmas.List.{take_all}
 use Rattle.crsm_port.specs.Meaning.{Packet, Traffic, plain}
 use Rattle.crsm_spec.specs.Node.{Turn}
-use Rattle.crsm_replica_io.specs.declared.input.What.{What}
-use Rattle.crsm_replica_io.specs.declared.input.What.TheVariants as what
-use Rattle.crsm_replica_io.specs.declared.input.Taken.{Taken}
-use Rattle.crsm_replica_io.specs.declared.input.Taken.TheVariants as taken
+use Rattle.crsm_replica_io.specs.declared.input.WantedInput.{WantedInput}
+use Rattle.crsm_replica_io.specs.declared.input.WantedInput.TheVariants as what
+use Rattle.crsm_replica_io.specs.declared.input.ReceivedInput.{ReceivedInput}
+use Rattle.crsm_replica_io.specs.declared.input.ReceivedInput.TheVariants as taken
 use Rattle.crsm_replica_io.specs.declared.input.TakeError.{TakeError}
 use Rattle.crsm_replica_io.specs.Input.{TakesInput, IsFirst}
 use Rattle.crsm_shell.specs.Taking.{turn_of as turn_taken}
@@ -18,7 +18,7 @@ use Rattle.crsm_sim_machine.specs.Arriving.{turn_of, IsShort, Asks}
 use Rattle.crsm_sim_machine.specs.PacketPorts.{meaning_of, traffic_of}
 
 -- what was taken, if anything
-abbrev taken_of : Result Taken TakeError → Taken
+abbrev taken_of : Result ReceivedInput TakeError → ReceivedInput
 taken_of (Ok t) = t
 taken_of (Err e) = taken.Tick
 
@@ -34,7 +34,7 @@ nothing : (d : Packet) → [] ≡ d ∷ [] → ⊥
 nothing d e = false≢true (ap (λ (ds : List Packet). is_some (first_packet ds)) e)
 
 -- of one datagram that waits, and is short enough, all is taken
-received : (from : ℕ) (bytes : List ℕ) → length bytes ≤ 8192 → (t u : Traffic) → t.waiting ≡ (record { address = from; bytes = bytes }) ∷ [] → (buffer : List ℕ) (got : Taken) → IsFirst 8192 buffer plain t u got →
+received : (from : ℕ) (bytes : List ℕ) → length bytes ≤ 8192 → (t u : Traffic) → t.waiting ≡ (record { address = from; bytes = bytes }) ∷ [] → (buffer : List ℕ) (got : ReceivedInput) → IsFirst 8192 buffer plain t u got →
     turn_taken buffer got ≡ Turn.In from bytes
 unfolding turn_taken
 received from bytes short t u waits buffer taken.Tick first =
@@ -50,7 +50,7 @@ received from bytes short t u waits buffer (taken.Datagram k len) first =
 received from bytes short t u waits buffer (taken.Suspect ms) first = absurd first
 
 -- what is taken off a port where this waits is the turn of it
-pub turn_arrives : (c : Arrival) (p u : PacketPort) (wanted : What) (buffer : List ℕ) (got : Taken) → IsShort c → Asks c wanted p → TakesInput wanted 8192 buffer (meaning_of p) (meaning_of u) (Ok got) →
+pub turn_arrives : (c : Arrival) (p u : PacketPort) (wanted : WantedInput) (buffer : List ℕ) (got : ReceivedInput) → IsShort c → Asks c wanted p → TakesInput wanted 8192 buffer (meaning_of p) (meaning_of u) (Ok got) →
     turn_taken buffer got ≡ turn_of c
 unfolding turn_of turn_taken
 turn_arrives (arrival.Bytes from bytes) p u wanted buffer got short asks takes =
@@ -58,7 +58,7 @@ turn_arrives (arrival.Bytes from bytes) p u wanted buffer got short asks takes =
     received from bytes.now short (traffic_of p.slot) (traffic_of u.slot) asks.1 buffer got (it.first (traffic_of p.slot) (traffic_of u.slot) refl refl)
 turn_arrives arrival.Tick p u wanted buffer got short asks takes =
     let it : TakesInput what.Tick 8192 buffer (meaning_of p) (meaning_of u) (Ok got) = subst (λ w. TakesInput w 8192 buffer (meaning_of p) (meaning_of u) (Ok got)) asks takes in
-    ap (λ (r : Result Taken TakeError). turn_taken buffer (taken_of r)) it.1
+    ap (λ (r : Result ReceivedInput TakeError). turn_taken buffer (taken_of r)) it.1
 turn_arrives (arrival.Suspect ms) p u wanted buffer got short asks takes =
     let it : TakesInput (what.Suspect ms) 8192 buffer (meaning_of p) (meaning_of u) (Ok got) = subst (λ w. TakesInput w 8192 buffer (meaning_of p) (meaning_of u) (Ok got)) asks takes in
-    ap (λ (r : Result Taken TakeError). turn_taken buffer (taken_of r)) it.1
+    ap (λ (r : Result ReceivedInput TakeError). turn_taken buffer (taken_of r)) it.1

@@ -13,10 +13,10 @@ use Rattle.crsm_shell.specs.Flushing.{StopsGroup}
 use Rattle.crsm_shell.specs.Shell.{ShellStands}
 use Rattle.crsm_shell.specs.Taking.{Takes}
 use Rattle.crsm_shell.specs.Words.{disk_of, has_failed}
-use Rattle.crsm_replica_io.specs.declared.input.What.{What}
-use Rattle.crsm_replica_io.specs.declared.input.What.TheVariants as what
-use Rattle.crsm_replica_io.specs.declared.input.Taken.{Taken}
-use Rattle.crsm_replica_io.specs.declared.input.Taken.TheVariants as taken
+use Rattle.crsm_replica_io.specs.declared.input.WantedInput.{WantedInput}
+use Rattle.crsm_replica_io.specs.declared.input.WantedInput.TheVariants as what
+use Rattle.crsm_replica_io.specs.declared.input.ReceivedInput.{ReceivedInput}
+use Rattle.crsm_replica_io.specs.declared.input.ReceivedInput.TheVariants as taken
 use Rattle.crsm_replica_io.specs.declared.input.TakeError.{TakeError}
 use Rattle.crsm_replica_io.specs.declared.input.TakeError.TheVariants as take_error
 use Rattle.crsm_replica_io.specs.Input.{TakesInput}
@@ -41,15 +41,15 @@ no_stop before after kept r steps well stops = none-some stops.made (sym well �
 
 -- ---- its port does not fail
 
-not_taken : (e : TakeError) (t : Taken) → Err e ≡ Ok t → ⊥
+not_taken : (e : TakeError) (t : ReceivedInput) → Err e ≡ Ok t → ⊥
 not_taken e t is = cc
 
-no_port_fault : (p u : PacketPort) (wanted : What) (buffer : List ℕ) → TakesInput wanted 8192 buffer (meaning_of p) (meaning_of u) (Err take_error.PortFault) → ⊥
+no_port_fault : (p u : PacketPort) (wanted : WantedInput) (buffer : List ℕ) → TakesInput wanted 8192 buffer (meaning_of p) (meaning_of u) (Err take_error.PortFault) → ⊥
 no_port_fault p u what.Receive buffer takes = let rose : Rose 0 0 = takes.fault refl in omega (arith, rose)
 no_port_fault p u what.Tick buffer takes = not_taken take_error.PortFault taken.Tick takes.1
 no_port_fault p u (what.Suspect ms) buffer takes = not_taken take_error.PortFault (taken.Suspect ms) takes.1
 
-module _ (p u : PacketPort) (wanted : What) (buffer : List ℕ) (why : TurnError) (takes : Takes wanted buffer (meaning_of p) (meaning_of u) (Err why)) where
+module _ (p u : PacketPort) (wanted : WantedInput) (buffer : List ℕ) (why : TurnError) (takes : Takes wanted buffer (meaning_of p) (meaning_of u) (Err why)) where
   for_it : (e : TurnError) → why ≡ e → Takes wanted buffer (meaning_of p) (meaning_of u) (Err e)
   for_it e is = subst (λ (x : TurnError). Takes wanted buffer (meaning_of p) (meaning_of u) (Err x)) is takes
 

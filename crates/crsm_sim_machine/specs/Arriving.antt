@@ -1,8 +1,8 @@
 -- What comes to a machine, as the turn of its replica.
 use Rattle.std.specs.Prelude.{◌≡◌, ◌≤◌, [], ◌∷◌, length}
 use Rattle.crsm_spec.specs.Node.{Turn}
-use Rattle.crsm_replica_io.specs.declared.input.What.{What}
-use Rattle.crsm_replica_io.specs.declared.input.What.TheVariants as what
+use Rattle.crsm_replica_io.specs.declared.input.WantedInput.{WantedInput}
+use Rattle.crsm_replica_io.specs.declared.input.WantedInput.TheVariants as what
 use Rattle.crsm_sim_machine.specs.declared.arrival.Arrival.{Arrival}
 use Rattle.crsm_sim_machine.specs.declared.arrival.Arrival.TheVariants as arrival
 use Rattle.crsm_sim_machine.specs.declared.packet_port.PacketPort.{PacketPort}
@@ -21,7 +21,7 @@ IsShort arrival.Tick = Unit {0}
 IsShort (arrival.Suspect members) = Unit {0}
 
 -- what is wanted of a shell where this comes, and the port that it takes it off: bytes wait there
-abbrev pub Asks : Arrival → What → PacketPort → Type 0
+abbrev pub Asks : Arrival → WantedInput → PacketPort → Type 0
 Asks (arrival.Bytes from bytes) wanted port =
     (wanted ≡ what.Receive) × ((traffic_of port.slot).waiting ≡ (record { address = from; bytes = bytes.now }) ∷ [])
 Asks arrival.Tick wanted port = wanted ≡ what.Tick

@@ -9,11 +9,11 @@ use Rattle.crsm_sim_machine.specs.States.{IsIn, IsUpIn}
 
 -- The machine is this site of replica me, in a cluster that began with n.
 unfoldable pub MachineStands : Machine → (me n : ℕ) → Site → Type 0
-MachineStands machine me n s = (machine.me ≡ me) × (machine.n ≡ n) × IsIn me n machine.place s
+MachineStands machine me n s = (machine.me ≡ me) × (machine.n ≡ n) × IsIn me n machine.state s
 
 -- The machine is up with r, whose last steps were these; they are not kept yet.
 unfoldable pub MachinePends : Machine → (me n : ℕ) → Replica → List Draft → Type 0
-MachinePends machine me n r steps = (machine.me ≡ me) × (machine.n ≡ n) × IsUpIn me n machine.place r steps
+MachinePends machine me n r steps = (machine.me ≡ me) × (machine.n ≡ n) × IsUpIn me n machine.state r steps
 
 -- for each replica that is up on the machine, with these steps pending
 abbrev pub WherePending : Machine → ((me n : ℕ) → Replica → List Draft → Type 0) → Type 0

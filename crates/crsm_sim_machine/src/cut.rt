@@ -24,7 +24,7 @@ use crsm_shell::{Shell, TurnError};
 
 /// Where a put stops: after so many device calls, with a byte in the ranges that were not synced.
 #[derive(Clone, Copy)]
-pub(crate) struct Stop {
+pub(crate) struct PutStop {
     pub(crate) calls: u64,
     pub(crate) fill: u8,
 }
@@ -34,7 +34,7 @@ const OPEN: u8 = 1;
 
 /// What is put is kept where all four calls were made, or three and its gate reads open.
 #[tactic(auto, unfolding(crsm_spec::specs::Moments::is_kept))]
-fn keeps(stop: Stop) -> bool
+fn keeps(stop: PutStop) -> bool
     ensures { result ≡ is_kept stop.calls stop.fill }
 {
     if stop.calls == 4 {
@@ -48,7 +48,7 @@ fn keeps(stop: Stop) -> bool
 
 /// Whether a step that stops there is kept. One without records is not.
 #[tactic(auto, unfolding(crate::specs::Outcomes::is_cut_kept))]
-fn is_kept_at(stop: Stop, step: &Step) -> bool
+fn is_kept_at(stop: PutStop, step: &Step) -> bool
     ensures { (x : Draft) → step.now.batch.records ≡ x.batch → result ≡ is_cut_kept stop.calls stop.fill x }
 {
     if !keeps(stop) {
@@ -58,7 +58,7 @@ fn is_kept_at(stop: Stop, step: &Step) -> bool
 }
 
 /// The disk of a shell whose put stops there.
-fn stopped_disk(shell: Shell<MemDisk>, stop: Stop) -> Result<MemDisk, NoMemory>
+fn stopped_disk(shell: Shell<MemDisk>, stop: PutStop) -> Result<MemDisk, NoMemory>
     requires calls { stop.calls ≤ 4 }
     requires up { ∥ IsSomeUp shell ∥₁ }
     ensures stands { IfOk result (λ disk. WhereStepped shell (λ me n kept x. IsDisk me n disk (log_after stop.calls stop.fill kept x))) }
@@ -81,7 +81,7 @@ fn stopped_disk(shell: Shell<MemDisk>, stop: Stop) -> Result<MemDisk, NoMemory>
 /// One step that stops there, and what it leaves. What the step made is answered where it is kept.
 pub(crate) fn cut(
     shell: Shell<MemDisk>,
-    stop: Stop,
+    stop: PutStop,
     arrival: Arrival<'_>,
     reading: u64,
 ) -> Result<(Option<Step>, Stopped), NoMemory>

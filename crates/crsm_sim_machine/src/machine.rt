@@ -15,9 +15,9 @@ pub struct Machine {
     pub(crate) me: u32,
     /// How many replicas the cluster began with.
     pub(crate) n: u32,
-    pub(crate) place: MachineState,
+    pub(crate) state: MachineState,
     ghost below: { me < 15 },
     ghost some: { 1 ≤ n },
     ghost most: { n ≤ 15 },
-    ghost stands: { ∥ IsStateOf me n place ∥₁ },
+    ghost stands: { ∥ IsStateOf me n state ∥₁ },
 }

@@ -3,7 +3,7 @@
 ghost use Rattle.std.specs.Prelude.{◌≡◌, ◌++◌, length, min, take, drop};
 
 use crsm_base::{Failed, NoMemory};
-use crsm_port::{Got, Port};
+use crsm_port::{Port, Recv};
 use crsm_port_faults::raise;
 
 /// The one datagram of a step, if any.
@@ -36,16 +36,16 @@ impl<'a> Port for PacketPort<'a> {
 
     ghost meaning = { meaning_of };
 
-    fn recv(&mut self, buf: &mut [u8]) -> Result<Got, Failed> {
+    fn recv(&mut self, buf: &mut [u8]) -> Result<Recv, Failed> {
         match self.slot {
             Slot::Waits { from, bytes } => {
                 let len = copy(bytes, buf);
                 self.slot = Slot::Taken { from, bytes };
-                Ok(Got::Datagram { from, len })
+                Ok(Recv::Datagram { from, len })
             }
             Slot::Taken { .. } | Slot::Missing => {
                 raise(&mut self.empties);
-                Ok(Got::Nothing)
+                Ok(Recv::Nothing)
             }
         }
     }

@@ -26,7 +26,7 @@ impl Machine {
     pub fn is_up(&self) -> bool
         ensures { WhereStands self.now (λ me n s. result ≡ world.is_up s) }
     {
-        matches!(&self.place, MachineState::Up(_))
+        matches!(&self.state, MachineState::Up(_))
     }
 
     /// The shell of a replica that is up.
@@ -35,7 +35,7 @@ impl Machine {
         ensures up { WhereStands self.now (λ me n s. is_some result ≡ world.is_up s) }
         ensures stands { IfSome result (λ shell. WhereUp self.now (λ me n r. ShellStands shell.now (meaning_of (disk_of shell.now)) r.log r [])) }
     {
-        match &self.place {
+        match &self.state {
             MachineState::Up(shell) => Some(shell),
             MachineState::Down(_) => None,
             MachineState::Spent => None,
@@ -47,7 +47,7 @@ impl Machine {
     fn summary(&self) -> LogSummary
         ensures { WhereStands self.now (λ me n s. SumsUp result (world.log_of s)) }
     {
-        match &self.place {
+        match &self.state {
             MachineState::Up(shell) => summary_of(shell.state()),
             MachineState::Down(left) => left.summary,
             MachineState::Spent => NOTHING,
@@ -73,7 +73,7 @@ impl Machine {
     pub fn state(&self) -> State
         ensures { WhereStands self.now (λ me n s. result ≡ world.state_of s) }
     {
-        match &self.place {
+        match &self.state {
             MachineState::Up(shell) => state_of(shell.state()),
             MachineState::Down(_) => State::Down,
             MachineState::Spent => State::Down,
@@ -85,7 +85,7 @@ impl Machine {
     pub fn spec(&self) -> Result<Option<Members>, NoMemory>
         ensures { IfOk result (λ members. WhereStands self.now (λ me n s. members ≡ spec_at n s)) }
     {
-        match &self.place {
+        match &self.state {
             MachineState::Up(shell) => Ok(Some(shell.state().spec()?)),
             MachineState::Down(_) => Ok(None),
             MachineState::Spent => Ok(None),

@@ -3,7 +3,7 @@
 ghost use Rattle.crsm_port.specs.Unknown.{unknown};
 
 use crsm_base::{Failed, NoMemory};
-use crsm_port::{Got, Port};
+use crsm_port::{Port, Recv};
 use crsm_port_faults::raise;
 
 /// A port that takes each datagram and lets it go: of a step that is stopped within its put nothing goes out. Nothing comes
@@ -16,9 +16,9 @@ pub(crate) struct SinkPort {
 impl Port for SinkPort {
     ghost meaning = { λ p. unknown 0 0 p.empties };
 
-    fn recv(&mut self, _buf: &mut [u8]) -> Result<Got, Failed> {
+    fn recv(&mut self, _buf: &mut [u8]) -> Result<Recv, Failed> {
         raise(&mut self.empties);
-        Ok(Got::Nothing)
+        Ok(Recv::Nothing)
     }
 
     fn send(&mut self, _to: u64, _bytes: &[u8]) -> Result<(), Failed> {

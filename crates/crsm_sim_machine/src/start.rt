@@ -36,7 +36,7 @@ impl Machine {
             alloc,
             me,
             n,
-            place: MachineState::Down(never_booted(alloc)?),
+            state: MachineState::Down(never_booted(alloc)?),
         })
     }
 
@@ -46,10 +46,10 @@ impl Machine {
         ensures { IfOk result (λ boot. WhereDown self.old (λ me n log. HasBooted self.new me n boot (rules.boot me n log))) }
     {
         boots_are_quiet();
-        match mem::replace(&mut self.place, MachineState::Spent) {
+        match mem::replace(&mut self.state, MachineState::Spent) {
             MachineState::Down(left) => {
                 let booted = boot_on(self.alloc, self.me, self.n, left)?;
-                self.place = MachineState::Up(booted.shell);
+                self.state = MachineState::Up(booted.shell);
                 Ok(Boot {
                     lines: booted.lines,
                     size: booted.size,

@@ -11,7 +11,7 @@ ghost use Rattle.crsm_sim_machine.specs.Outcomes.{IsCut};
 ghost use Rattle.crsm_sim_machine.specs.Machine.{MachineStands, WhereStands, WhereUp};
 
 use crate::arrival::Arrival;
-use crate::cut::{Stop, cut};
+use crate::cut::{PutStop, cut};
 use crate::machine::Machine;
 use crate::state::MachineState;
 use crate::step::Step;
@@ -25,13 +25,13 @@ impl Machine {
     pub fn crash(&mut self) -> Result<(), NoMemory>
         ensures { OnOk result (WhereStands self.old (λ me n s. MachineStands self.new me n (world.Site.Down (world.log_of s)))) }
     {
-        match mem::replace(&mut self.place, MachineState::Spent) {
+        match mem::replace(&mut self.state, MachineState::Spent) {
             MachineState::Up(shell) => {
-                self.place = MachineState::Down(stopped_by(shell)?);
+                self.state = MachineState::Down(stopped_by(shell)?);
                 Ok(())
             }
             MachineState::Down(left) => {
-                self.place = MachineState::Down(left);
+                self.state = MachineState::Down(left);
                 Ok(())
             }
             MachineState::Spent => Err(NoMemory),
@@ -55,11 +55,11 @@ impl Machine {
             IsCut calls fill me n r (turn r (turn_of arrival.entry, reading)) step self.new)) }
         ensures spelt { IfOk result (λ step. IfSome step (λ s. AllByRecursion FitsSent s.batch.sends)) }
     {
-        match mem::replace(&mut self.place, MachineState::Spent) {
+        match mem::replace(&mut self.state, MachineState::Spent) {
             MachineState::Up(shell) => {
-                let stop = Stop { calls, fill };
+                let stop = PutStop { calls, fill };
                 let (step, left) = cut(shell, stop, arrival, reading)?;
-                self.place = MachineState::Down(left);
+                self.state = MachineState::Down(left);
                 Ok(step)
             }
             // A world stops a step of what is up.

@@ -34,12 +34,12 @@ impl Machine {
         ensures stands { IfOk result (λ made. WhereUp self.old (λ me n r. HasStepped self.new me n made.0 (turn r (turn_of arrival.entry, reading)))) }
         ensures spelt { IfOk result (λ made. AllByRecursion FitsSent made.0.batch.sends) }
     {
-        match &mut self.place {
+        match &mut self.state {
             MachineState::Up(shell) => match turn::step(shell, arrival, reading, port) {
                 Ok(made) => Ok(made),
                 Err(why) => {
                     // Half a step was made.
-                    self.place = MachineState::Spent;
+                    self.state = MachineState::Spent;
                     Err(why)
                 }
             },
@@ -57,12 +57,12 @@ impl Machine {
         ensures stands { IfOk result (λ step. WherePending self.old (λ me n r steps. HasTaken self.new me n steps step (turn r (turn_of arrival.entry, reading)))) }
         ensures spelt { IfOk result (λ step. AllByRecursion FitsSent step.batch.sends) }
     {
-        match &mut self.place {
+        match &mut self.state {
             MachineState::Up(shell) => match turn::take(shell, arrival, reading) {
                 Ok(step) => Ok(step),
                 Err(why) => {
                     // Half a step was taken.
-                    self.place = MachineState::Spent;
+                    self.state = MachineState::Spent;
                     Err(why)
                 }
             },
@@ -79,12 +79,12 @@ impl Machine {
         ensures stands { OnOk result (WherePending self.old (λ me n r steps. MachineStands self.new me n (world.Site.Up r))) }
         ensures sent { IfOk result (λ first. WherePending self.old (λ me n r steps. IsWell port.old → Sends port.new first steps)) }
     {
-        match &mut self.place {
+        match &mut self.state {
             MachineState::Up(shell) => match turn::flush(shell, port) {
                 Ok(first) => Ok(first),
                 Err(why) => {
                     // Half a flush was made.
-                    self.place = MachineState::Spent;
+                    self.state = MachineState::Spent;
                     Err(why)
                 }
             },

@@ -20,19 +20,22 @@ use crate::step::Step;
 use crsm_base::{NoMemory, never};
 use crsm_disk::MemDisk;
 use crsm_port::{MemPort, Port};
-use crsm_shell::{Shell, TurnError, What};
+use crsm_shell::{Shell, TurnError, WantedInput};
 
 /// So many steps are kept together at most.
 const MOST_PENDING: u32 = 32;
 
 /// What is wanted of the shell where this comes, and the port that it takes it off.
-fn wanted(arrival: Arrival<'_>) -> (What, PacketPort<'_>)
+fn wanted(arrival: Arrival<'_>) -> (WantedInput, PacketPort<'_>)
     ensures { Asks arrival.entry result.0 result.1 }
 {
     match arrival {
-        Arrival::Bytes { from, bytes } => (What::Receive, packet_port(Slot::Waits { from, bytes })),
-        Arrival::Tick => (What::Tick, packet_port(Slot::Missing)),
-        Arrival::Suspect(members) => (What::Suspect(members), packet_port(Slot::Missing)),
+        Arrival::Bytes { from, bytes } => (
+            WantedInput::Receive,
+            packet_port(Slot::Waits { from, bytes }),
+        ),
+        Arrival::Tick => (WantedInput::Tick, packet_port(Slot::Missing)),
+        Arrival::Suspect(members) => (WantedInput::Suspect(members), packet_port(Slot::Missing)),
     }
 }
 

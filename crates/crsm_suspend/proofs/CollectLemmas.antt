@@ -26,7 +26,7 @@ use Rattle.crsm_base.specs.Spelling.{FitsEntry}
 use Rattle.crsm_base.specs.declared.control.Control.TheVariants.{SuspendOk}
 use Rattle.crsm_suspend.specs.Collecting.{CollectStands, CanSend, FitsGot, is_asked, got_decided, got_whole, got_more, got_page, got_from, page_in, got_of, pages_after}
 use Rattle.crsm_suspend.specs.declared.collect.Collect.{Collect}
-use Rattle.crsm_suspend.specs.declared.got.Got.TheVariants as Got
+use Rattle.crsm_suspend.specs.declared.got.PageOutcome.TheVariants as PageOutcome
 use Rattle.crsm_suspend.proofs.WholeLemmas.{report_at}
 use Rattle.crsm_suspend.proofs.FitLemmas.{own_epoch, own_fit}
 use Rattle.crsm_suspend.proofs.GrowLemmas.{whole_more, or_none, cursor_more}
@@ -153,13 +153,13 @@ within_is : (d : Decision) (count bytes : ℕ) → count ≡ length d.tail → b
 unfolding is_within
 within_is d count bytes c b = ap (λ n. nat_le n 4096 && nat_le bytes 2097152) c ∙ ap (λ n. nat_le (length d.tail) 4096 && nat_le n 2097152) b
 
-pub complete_is : (d : Decision) (count bytes : ℕ) → count ≡ length d.tail → bytes ≡ size_of d.tail → (nat_le count 4096 && nat_le bytes 2097152) ≡ true → Got.Complete d ≡ got_decided d
+pub complete_is : (d : Decision) (count bytes : ℕ) → count ≡ length d.tail → bytes ≡ size_of d.tail → (nat_le count 4096 && nat_le bytes 2097152) ≡ true → PageOutcome.Complete d ≡ got_decided d
 unfolding got_decided when◌then◌otherwise◌
 complete_is d count bytes c b h = rw (sym (within_is d count bytes c b) ∙ h) refl
 
-pub too_many_is : (d : Decision) (count bytes : ℕ) → count ≡ length d.tail → bytes ≡ size_of d.tail → (nat_le count 4096 && nat_le bytes 2097152) ≡ false → Got.TooMany count bytes ≡ got_decided d
+pub too_many_is : (d : Decision) (count bytes : ℕ) → count ≡ length d.tail → bytes ≡ size_of d.tail → (nat_le count 4096 && nat_le bytes 2097152) ≡ false → PageOutcome.TooMany count bytes ≡ got_decided d
 unfolding got_decided when◌then◌otherwise◌
-too_many_is d count bytes c b h = ap (λ n. Got.TooMany n bytes) c ∙ ap (λ n. Got.TooMany (length d.tail) n) b ∙ rw (sym (within_is d count bytes c b) ∙ h) refl
+too_many_is d count bytes c b h = ap (λ n. PageOutcome.TooMany n bytes) c ∙ ap (λ n. PageOutcome.TooMany (length d.tail) n) b ∙ rw (sym (within_is d count bytes c b) ∙ h) refl
 
 pub more_is : (log : Log) (spec : List ℕ) (named : Option (List ℕ)) (members : List ℕ) (pages : List LogPage) (k : ℕ) → is_whole pages k ≡ false → got_more k (cursor pages k) ≡ got_from log spec named members pages k
 unfolding got_from when◌then◌otherwise◌
@@ -169,7 +169,7 @@ pub whole_got : (log : Log) (spec : List ℕ) (named : Option (List ℕ)) (membe
 unfolding got_from when◌then◌otherwise◌
 whole_got log spec named members pages k h = rw h refl
 
-pub kept_is : (log : Log) (spec : List ℕ) (named : Option (List ℕ)) (members : List ℕ) (pages : List LogPage) → has_majority spec (whole_ones spec pages) ≡ false → Got.Kept ≡ got_whole log spec named members pages
+pub kept_is : (log : Log) (spec : List ℕ) (named : Option (List ℕ)) (members : List ℕ) (pages : List LogPage) → has_majority spec (whole_ones spec pages) ≡ false → PageOutcome.Kept ≡ got_whole log spec named members pages
 unfolding got_whole when◌then◌otherwise◌
 kept_is log spec named members pages h = rw h refl
 
@@ -233,7 +233,7 @@ asked_told log spec pages e after p h fit =
     }
 
 pub stranger_is : (log : Log) (spec : List ℕ) (named : Option (List ℕ)) (members : List ℕ) (pages : List LogPage) (k e executed : ℕ) (last after : Option Stamp) (whole : Bool) (es : List Entry) →
-    is_asked log spec pages e after (page_in k executed last whole es) ≡ false → Got.Stranger ≡ got_of log spec named members pages k (SuspendOk e executed last after whole es)
+    is_asked log spec pages e after (page_in k executed last whole es) ≡ false → PageOutcome.Stranger ≡ got_of log spec named members pages k (SuspendOk e executed last after whole es)
 unfolding when◌then◌otherwise◌
 stranger_is log spec named members pages k e executed last after whole es h = rw h refl
 

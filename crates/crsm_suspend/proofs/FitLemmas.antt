@@ -16,7 +16,7 @@ use Rattle.crsm_fact_log.proofs.Sorted.{above_from}
 use Rattle.crsm_fact_log.proofs.Logged.{logged_epoch}
 use Rattle.crsm_fact_log.proofs.DecisionsFit.{collected_fits}
 use Rattle.crsm_suspend.specs.Collecting.{CanSend, FitsGot, got_decided}
-use Rattle.crsm_suspend.specs.declared.got.Got.TheVariants as Got
+use Rattle.crsm_suspend.specs.declared.got.PageOutcome.TheVariants as PageOutcome
 
 -- ---- the decision
 
@@ -40,7 +40,7 @@ module _ (log : Log) (spec : List ℕ) (named : Option (List ℕ)) (members : Li
   unfolding got_decided when◌then◌otherwise◌
   fits_got low begins ms naming = go (is_within d.tail) refl
     where
-      go : (b : Bool) → is_within d.tail ≡ b → FitsGot (when b then Got.Complete d otherwise Got.TooMany (length d.tail) (size_of d.tail))
+      go : (b : Bool) → is_within d.tail ≡ b → FitsGot (when b then PageOutcome.Complete d otherwise PageOutcome.TooMany (length d.tail) (size_of d.tail))
       go true e = fits_collected low begins ms naming e
       go false e = tt
 

@@ -12,7 +12,7 @@ use Rattle.crsm_spec.specs.Collect.{whole_ones, collected, cursor, is_whole, is_
 use Rattle.crsm_spec.specs.Coordinate.{on_complete, on_whole}
 use Rattle.crsm_spec.specs.Controls.{is_page_of, take_page, on_suspend_ok, if_spec, on_control}
 use Rattle.crsm_suspend.specs.Collecting.{is_asked, page_in, got_decided, got_whole, got_more, got_page, got_of, pages_after}
-use Rattle.crsm_suspend.specs.declared.got.Got.TheVariants as Got
+use Rattle.crsm_suspend.specs.declared.got.PageOutcome.TheVariants as PageOutcome
 use Rattle.crsm_suspend.specs.Coordinating.{on_got, PagesAreTaken, ReportsAreCounted}
 use Rattle.crsm_suspend.proofs.CollectLemmas.{more_from}
 
@@ -59,7 +59,7 @@ asked_as : (x : Draft) (pages : List LogPage) (e : ℕ) (after : Option Stamp) (
 unfolding is_asked
 asked_as x pages e after p a b f g = ap (λ c. c && (is_page_of (known x.replica.log) e (cursor pages p.from) after p && not (is_whole pages p.from))) f ∙ ap (λ c. a && c) g
 
-same : (ms : List ℕ) (pages : List LogPage) (x : Draft) → x ≡ on_got ms pages Got.Stranger x
+same : (ms : List ℕ) (pages : List LogPage) (x : Draft) → x ≡ on_got ms pages PageOutcome.Stranger x
 unfolding on_got
 same ms pages x = refl
 

@@ -14,8 +14,8 @@ use Rattle.crsm_spec.specs.Controls.{is_page_of}
 use Rattle.crsm_spec.specs.Coordinate.{most_collected}
 use Rattle.crsm_suspend.specs.Reports.{ReportsStand}
 use Rattle.crsm_suspend.specs.declared.collect.Collect.{Collect}
-use Rattle.crsm_suspend.specs.declared.got.Got.{Got}
-use Rattle.crsm_suspend.specs.declared.got.Got.TheVariants.{Stranger, More, Kept, Complete, TooMany}
+use Rattle.crsm_suspend.specs.declared.got.PageOutcome.{PageOutcome}
+use Rattle.crsm_suspend.specs.declared.got.PageOutcome.TheVariants.{Stranger, More, Kept, Complete, TooMany}
 use Rattle.crsm_ledger.specs.declared.ledger.Ledger.{Ledger}
 use Rattle.crsm_ledger.specs.Ledger.{LedgerStands}
 
@@ -47,21 +47,21 @@ is_asked log spec pages e after p =
     has spec p.from && (is_page_of (known log) e (cursor pages p.from) after p && not (is_whole pages p.from))
 
 -- the decision, unless its tail passes a limit
-unfoldable pub got_decided : Decision → Got
+unfoldable pub got_decided : Decision → PageOutcome
 got_decided d = when is_within d.tail then Complete d otherwise TooMany (length d.tail) (size_of d.tail)
 
 -- once a report is whole: the decision, where a majority is
-unfoldable pub got_whole : Log → List ℕ → Option (List ℕ) → List ℕ → List LogPage → Got
+unfoldable pub got_whole : Log → List ℕ → Option (List ℕ) → List ℕ → List LogPage → PageOutcome
 got_whole log spec named members pages =
     when has_majority spec (whole_ones spec pages) then got_decided (collected spec named log members pages) otherwise Kept
 
 -- of a replica whose report is not whole the entries above the cursor are asked for
-abbrev pub got_more : ℕ → Option Stamp → Got
+abbrev pub got_more : ℕ → Option Stamp → PageOutcome
 got_more k None = Stranger
 got_more k (Some after) = More k after
 
 -- what a page brings that was asked for; it is the last of these
-unfoldable pub got_page : Log → List ℕ → Option (List ℕ) → List ℕ → List LogPage → LogPage → Got
+unfoldable pub got_page : Log → List ℕ → Option (List ℕ) → List ℕ → List LogPage → LogPage → PageOutcome
 got_page log spec named members pages p =
     when p.whole then got_whole log spec named members pages otherwise got_more p.from (cursor pages p.from)
 
@@ -70,7 +70,7 @@ abbrev pub page_in : ℕ → ℕ → Option Stamp → Bool → List Entry → Lo
 page_in k executed last whole es = record { from = k; executed = executed; last = last; whole = whole; entries = es }
 
 -- what a message from replica k brings
-abbrev pub got_of : Log → List ℕ → Option (List ℕ) → List ℕ → List LogPage → ℕ → Control → Got
+abbrev pub got_of : Log → List ℕ → Option (List ℕ) → List ℕ → List LogPage → ℕ → Control → PageOutcome
 got_of log spec named members pages k (SuspendOk e executed last after whole es) =
     let p = page_in k executed last whole es in
     when is_asked log spec pages e after p then got_page log spec named members (pages ++ p ∷ []) p otherwise Stranger
@@ -84,12 +84,12 @@ pages_after log spec pages k (SuspendOk e executed last after whole es) =
 pages_after log spec pages k _ = pages
 
 -- what the pages bring of which the last is of replica k
-unfoldable pub got_from : Log → List ℕ → Option (List ℕ) → List ℕ → List LogPage → ℕ → Got
+unfoldable pub got_from : Log → List ℕ → Option (List ℕ) → List ℕ → List LogPage → ℕ → PageOutcome
 got_from log spec named members pages k =
     when is_whole pages k then got_whole log spec named members pages otherwise got_more k (cursor pages k)
 
 -- the decision can be sent
-abbrev pub FitsGot : Got → Type 0
+abbrev pub FitsGot : PageOutcome → Type 0
 FitsGot (Complete d) = FitsDecision d
 FitsGot _ = Unit {0}
 

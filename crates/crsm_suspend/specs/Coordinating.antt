@@ -7,12 +7,12 @@ use Rattle.crsm_spec.specs.Draft.{Draft, noting, send_control}
 use Rattle.crsm_spec.specs.Coordinate.{begin_proposing, on_whole}
 use Rattle.crsm_spec.specs.Controls.{on_control}
 use Rattle.crsm_suspend.specs.Collecting.{got_of, got_whole, pages_after}
-use Rattle.crsm_suspend.specs.declared.got.Got.{Got}
-use Rattle.crsm_suspend.specs.declared.got.Got.TheVariants.{Stranger, More, Kept, Complete, TooMany}
+use Rattle.crsm_suspend.specs.declared.got.PageOutcome.{PageOutcome}
+use Rattle.crsm_suspend.specs.declared.got.PageOutcome.TheVariants.{Stranger, More, Kept, Complete, TooMany}
 
 -- While it collects for these members, with these pages: it asks on, waits, begins to propose the decision, or gives it up
 -- with a line that tells why.
-unfoldable pub on_got : List ℕ → List LogPage → Got → Draft → Draft
+unfoldable pub on_got : List ℕ → List LogPage → PageOutcome → Draft → Draft
 on_got ms pages Stranger x = x
 on_got ms pages (More k after) x = send_control (Control.Suspend (known x.replica.log) (Some after)) (noting (Coordinator.Collecting ms pages) x) k
 on_got ms pages Kept x = noting (Coordinator.Collecting ms pages) x

@@ -6,13 +6,13 @@ use Rattle.crsm_spec.specs.Types.{Stamp, Entry}
 use Rattle.crsm_spec.specs.Lists.{first_of, last_of}
 use Rattle.crsm_spec.specs.Replica.{LogPage}
 use Rattle.crsm_spec.specs.Collect.{pages_of}
-use Rattle.crsm_suspend.specs.declared.report.Head.{Head}
+use Rattle.crsm_suspend.specs.declared.report.ReportHead.{ReportHead}
 use Rattle.crsm_suspend.specs.declared.report.Page.{Page}
 use Rattle.crsm_suspend.specs.declared.report.Report.{Report}
 
 -- what a replica's pages say together: the executed length and the last stamp of the first, the stamp of the last entry,
 -- and whether one is the last page
-unfoldable pub head_of : List LogPage → Head
+unfoldable pub head_of : List LogPage → ReportHead
 head_of pages =
     record {
       executed = option_map_or (λ p. p.executed) (first_of pages) 0;
@@ -34,7 +34,7 @@ unfoldable pub last_stamp_or : Option Stamp → List Entry → Option Stamp
 last_stamp_or stamp es = option_map_or (λ e. Some e.stamp) (last_of es) stamp
 
 -- what is said with a further page, or the first one
-abbrev pub head_with : Bool → Head → Page → Head
+abbrev pub head_with : Bool → ReportHead → Page → ReportHead
 head_with is_first h p =
     record {
       executed = if is_first then p.executed else h.executed;

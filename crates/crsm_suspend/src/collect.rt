@@ -11,8 +11,8 @@ ghost use Rattle.crsm_spec.specs.Coordinate.{most_collected};
 ghost use Rattle.crsm_spec.specs.Log.{known, start as start_of};
 
 use crate::asked::{is_page, own_page};
-use crate::got::{Got, decided, more};
-use crate::report::{Head, Page, Report};
+use crate::got::{PageOutcome, decided, more};
+use crate::report::{Page, Report, ReportHead};
 use crate::reports::{base_of, floor_of, union_of, whole_count};
 use crsm_base::{Control, Decision, Members, NoMemory, Stamp, majority};
 use crsm_ledger::Ledger;
@@ -87,7 +87,7 @@ impl Collect {
 
     /// Takes the replica's own frozen log, whole, and tells whether a majority is whole by it: `Kept`, `Complete` or
     /// `TooMany`. An `Err` changes nothing.
-    pub fn take_own(&mut self, me: u32, ledger: &Ledger) -> Result<Got, NoMemory>
+    pub fn take_own(&mut self, me: u32, ledger: &Ledger) -> Result<PageOutcome, NoMemory>
         requires { me < 15 }
         ensures got { WhereCollectingOver me ledger.now self.old (λ log spec named members pages. IfOk result (λ got. got ≡ got_whole log spec named members (pages ++ own_page me log ∷ []))) }
         ensures state { WhereCollectingOver me ledger.now self.old (λ log spec named members pages. OnOk result (CollectStands log spec named members (pages ++ own_page me log ∷ []) self.new)) }
@@ -100,7 +100,7 @@ impl Collect {
 
     /// Takes a message of a replica: the page that was asked for of a replica of the Spec, or a stranger's. An `Err`
     /// changes nothing; it comes also where the tail has more bytes than any memory.
-    pub fn take(&mut self, from: u32, answer: Control) -> Result<Got, NoMemory>
+    pub fn take(&mut self, from: u32, answer: Control) -> Result<PageOutcome, NoMemory>
         requires from { from < 15 }
         requires fits { FitsControl answer }
         ensures got { WhereCollecting self.old (λ log spec named members pages. IfOk result (λ got. got ≡ got_of log spec named members pages from answer)) }
@@ -117,7 +117,7 @@ impl Collect {
             entries,
         } = answer
         else {
-            return Ok(Got::Stranger);
+            return Ok(PageOutcome::Stranger);
         };
         let page = Page {
             executed,
@@ -126,7 +126,7 @@ impl Collect {
             entries,
         };
         if !self.is_asked(from, epoch, after, &page) {
-            return Ok(Got::Stranger);
+            return Ok(PageOutcome::Stranger);
         }
         self.add(from, page)
     }
@@ -147,7 +147,7 @@ impl Collect {
         self.head(k).is_whole
     }
 
-    fn head(&self, k: u32) -> Head
+    fn head(&self, k: u32) -> ReportHead
         requires { k < 15 }
         ensures { WhereCollecting self.now (λ log spec named members pages. result ≡ head_of (pages_of pages k)) }
     {
@@ -166,7 +166,7 @@ impl Collect {
     }
 
     /// Adds a page, and tells what it brings. An `Err` changes nothing.
-    fn add(&mut self, from: u32, page: Page) -> Result<Got, NoMemory>
+    fn add(&mut self, from: u32, page: Page) -> Result<PageOutcome, NoMemory>
         requires { from < 15 }
         ensures got { WhereCanSend self.old (page_from from page) (λ log spec named members pages. IfOk result (λ got. got ≡ got_from log spec named members (pages ++ page_from from page ∷ []) from)) }
         ensures state { WhereCanSend self.old (page_from from page) (λ log spec named members pages. OnOk result (CollectStands log spec named members (pages ++ page_from from page ∷ []) self.new)) }
@@ -184,7 +184,7 @@ impl Collect {
     }
 
     /// What the pages bring of which the last is this replica's.
-    fn got(&self, from: u32) -> Result<Got, NoMemory>
+    fn got(&self, from: u32) -> Result<PageOutcome, NoMemory>
         requires { from < 15 }
         ensures got { WhereCollecting self.now (λ log spec named members pages. IfOk result (λ got. got ≡ got_from log spec named members pages from)) }
         ensures fits { WhereCollecting self.now (λ log spec named members pages. IfOk result FitsGot) }
@@ -194,7 +194,7 @@ impl Collect {
             return Ok(more(from, head.cursor));
         }
         if !self.has_majority() {
-            return Ok(Got::Kept);
+            return Ok(PageOutcome::Kept);
         }
         decided(self.decision()?)
     }

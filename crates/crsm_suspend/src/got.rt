@@ -8,7 +8,7 @@ use crsm_base::{Decision, MAX_TAIL_BYTES, MAX_TAIL_ENTRIES, NoMemory, Stamp};
 
 /// What a page brings.
 #[derive(Debug, Drop)]
-pub enum Got {
+pub enum PageOutcome {
     /// It is not a page that was asked for, and changes nothing.
     Stranger,
     /// It was taken and is not the last: the replica is to be asked for its entries above this stamp.
@@ -22,25 +22,25 @@ pub enum Got {
 }
 
 /// What is asked of a replica whose last page has not come.
-pub fn more(from: u32, cursor: Option<Stamp>) -> Got
+pub fn more(from: u32, cursor: Option<Stamp>) -> PageOutcome
     ensures { result ≡ got_more from cursor }
 {
     match cursor {
-        Some(after) => Got::More { from, after },
-        None => Got::Stranger,
+        Some(after) => PageOutcome::More { from, after },
+        None => PageOutcome::Stranger,
     }
 }
 
 /// The decision, unless its tail passes a limit. Memory cannot hold entries whose bytes pass the greatest number.
-pub fn decided(decision: Decision) -> Result<Got, NoMemory>
+pub fn decided(decision: Decision) -> Result<PageOutcome, NoMemory>
     ensures { IfOk result (λ got. got ≡ got_decided decision) }
 {
     let count = decision.tail.as_slice().len() as u64;
     let bytes = total_size(decision.tail.as_slice())?;
     let is_within = (count <= MAX_TAIL_ENTRIES as u64) & (bytes <= MAX_TAIL_BYTES as u64);
     if is_within {
-        Ok(Got::Complete(decision))
+        Ok(PageOutcome::Complete(decision))
     } else {
-        Ok(Got::TooMany { count, bytes })
+        Ok(PageOutcome::TooMany { count, bytes })
     }
 }

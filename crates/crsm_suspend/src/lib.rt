@@ -15,5 +15,5 @@ mod union;
 
 pub use collect::Collect;
 pub use frozen::page_of;
-pub use got::Got;
+pub use got::PageOutcome;
 pub use laws::got_is_by_the_rules;

@@ -20,7 +20,7 @@ pub struct Page {
 
 /// What the pages of a replica say beside their entries.
 #[derive(Clone, Copy, Debug)]
-pub struct Head {
+pub struct ReportHead {
     /// The executed length that the first page names, and the stamp of the last executed entry.
     pub executed: u64,
     pub last: Option<Stamp>,
@@ -33,7 +33,7 @@ pub struct Head {
 /// What has come of one replica.
 #[derive(Debug, Drop)]
 pub struct Report {
-    pub head: Head,
+    pub head: ReportHead,
     pub pages: Pages,
 }
 
@@ -45,7 +45,7 @@ impl Report {
     pub fn new(alloc: Global) -> Report
         ensures { result ≡ no_report }
     {
-        let head = Head {
+        let head = ReportHead {
             executed: 0,
             last: None,
             cursor: None,
@@ -58,12 +58,12 @@ impl Report {
     }
 
     /// What is said with a further page.
-    fn head_with(&self, page: &Page) -> Head
+    fn head_with(&self, page: &Page) -> ReportHead
         ensures { result ≡ head_with (length self.now.pages == 0) self.now.head page.now }
     {
         let is_first = self.pages.as_slice().is_empty();
         let cursor = last_stamp_or(self.head.cursor, page.entries.as_slice());
-        Head {
+        ReportHead {
             executed: if is_first {
                 page.executed
             } else {
@@ -87,7 +87,7 @@ impl Report {
     }
 
     /// Takes the last page back, where this was said before it.
-    pub fn take_back(&mut self, head: Head)
+    pub fn take_back(&mut self, head: ReportHead)
         ensures head { self.new.head ≡ head }
         ensures pages { self.new.pages ≡ without_last self.old.pages }
     {

@@ -4,7 +4,7 @@ use crate::fault::Fault;
 use crate::spell;
 use crsm_base::{Bodies, Bytes, Members, MembersError, NoMemory};
 use crsm_codec::{write_u8, write_u32, write_u64};
-use crsm_suspend::{Collect, Got};
+use crsm_suspend::{Collect, PageOutcome};
 use crsm_wire::read_control;
 use std::alloc::Global;
 
@@ -78,8 +78,8 @@ fn collected(alloc: Global, messages: &Bodies) -> Result<u64, Fault> {
         };
         let control = read_control(alloc, bytes)?;
         match collect.take(turn % REPLICAS, control)? {
-            Got::Complete(decision) => return Ok(decision.tail.as_slice().len() as u64),
-            Got::TooMany { count, .. } => return Ok(count),
+            PageOutcome::Complete(decision) => return Ok(decision.tail.as_slice().len() as u64),
+            PageOutcome::TooMany { count, .. } => return Ok(count),
             _ => turn = turn.wrapping_add(1),
         }
     }

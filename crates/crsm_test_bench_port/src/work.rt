@@ -2,7 +2,7 @@
 
 use crate::fault::Fault;
 use crsm_base::Failed;
-use crsm_port::{Got, Port};
+use crsm_port::{Port, Recv};
 
 /// A kind of work on a socket.
 #[derive(Clone, Copy, Debug, PartialEq, Eq)]
@@ -43,10 +43,10 @@ impl Work {
     }
 
     // Whether what a receive gave counts. A datagram is sent back.
-    fn counts(self, port: &mut impl Port, got: Got, buf: &[u8]) -> Result<bool, Fault> {
+    fn counts(self, port: &mut impl Port, got: Recv, buf: &[u8]) -> Result<bool, Fault> {
         match got {
-            Got::Nothing => Ok(self != Work::Echo),
-            Got::Datagram { from, len } => {
+            Recv::Nothing => Ok(self != Work::Echo),
+            Recv::Datagram { from, len } => {
                 send_back(port, from, &buf[..len.min(buf.len())])?;
                 Ok(self == Work::Echo)
             }

@@ -1,4 +1,4 @@
-//! Tests of disks, logs and ports over the system's own, and of each call once with ample memory.
+//! Tests of disks, logs and ports over the system's own, of the shells of a world, and of each call once with ample memory.
 #![tactic(auto)]
 
 #[cfg(test)]
@@ -7,5 +7,7 @@ mod disk;
 mod log;
 #[cfg(test)]
 mod port;
+#[cfg(test)]
+mod shells;
 #[cfg(test)]
 mod turns;

@@ -5,7 +5,7 @@ ghost use Rattle.crsm_port.specs.Cluster.{wrapped};
 ghost use Rattle.crsm_port.specs.Meaning.{with_sent};
 
 use crsm_base::{Failed, NoMemory};
-use crsm_port::{ClusterPort, Got, MemPort, Port, UdpPort, from_number, number};
+use crsm_port::{ClusterPort, MemPort, Port, Recv, UdpPort, from_number, number};
 use std::alloc::Global;
 use std::net::Net;
 use std::test::Fail;
@@ -37,9 +37,9 @@ fn hands_out_in_order(rt: HostRuntime) -> Result<(), Fail> {
     put_two(&mut port)?;
     let mut buf = [0u8; 2];
     for want in [
-        Ok(Got::Datagram { from: 7, len: 2 }),
-        Ok(Got::Datagram { from: 8, len: 1 }),
-        Ok(Got::Nothing),
+        Ok(Recv::Datagram { from: 7, len: 2 }),
+        Ok(Recv::Datagram { from: 8, len: 1 }),
+        Ok(Recv::Nothing),
         Err(Failed),
     ] {
         assert_eq!(rt; port.recv(&mut buf), want);
@@ -74,7 +74,7 @@ fn hands_up(alloc: Global, cluster: u64, wire: &[u8], own: &[u8]) -> Result<bool
     let mut port = ClusterPort::new(alloc, &mut *inner, cluster)?;
     let mut buf = [0u8; 16];
     let len = own.len();
-    Ok(port.recv(&mut buf) == Ok(Got::Datagram { from: 77, len }) && buf.starts_with(own))
+    Ok(port.recv(&mut buf) == Ok(Recv::Datagram { from: 77, len }) && buf.starts_with(own))
 }
 
 #[test]
@@ -156,14 +156,14 @@ fn bound(alloc: Global, net: &impl Net) -> Result<(UdpPort, u64), Fail> {
 }
 
 /// What the first receive gives that finds something, of a hundred.
-fn receive(port: &mut impl Port, buf: &mut [u8]) -> Result<Got, Failed> {
+fn receive(port: &mut impl Port, buf: &mut [u8]) -> Result<Recv, Failed> {
     for _ in 0..100 {
         let got = port.recv(buf);
-        if got != Ok(Got::Nothing) {
+        if got != Ok(Recv::Nothing) {
             return got;
         }
     }
-    Ok(Got::Nothing)
+    Ok(Recv::Nothing)
 }
 
 #[test]
@@ -181,12 +181,12 @@ fn carries_a_large_datagram(rt: HostRuntime) -> Result<(), Fail> {
     assert_eq!(rt; one.send(to, &bytes), Ok(()));
     assert_eq!(rt;
         receive(&mut other, &mut buf),
-        Ok(Got::Datagram { from, len: 8192 })
+        Ok(Recv::Datagram { from, len: 8192 })
     );
     assert!(rt; buf == bytes);
-    assert_eq!(rt; one.recv(&mut buf), Ok(Got::Nothing));
+    assert_eq!(rt; one.recv(&mut buf), Ok(Recv::Nothing));
     one.hurry();
-    assert_eq!(rt; one.recv(&mut buf), Ok(Got::Nothing));
+    assert_eq!(rt; one.recv(&mut buf), Ok(Recv::Nothing));
     assert_eq!(rt; one.send(u64::MAX, &bytes), Err(Failed));
     Ok(())
 }

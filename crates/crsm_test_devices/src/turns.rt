@@ -4,7 +4,7 @@ ghost use Rattle.crsm_replica_io.specs.Outgoing.{FitsSend};
 
 use crsm_base::{Bytes, Datagram, Members, NoMemory, Rec, Send, To};
 use crsm_port::MemPort;
-use crsm_replica_io::{Outbox, TakeError, Taken, What, take_input, write_records};
+use crsm_replica_io::{Outbox, ReceivedInput, TakeError, WantedInput, take_input, write_records};
 use std::alloc::Global;
 use std::test::Fail;
 
@@ -113,23 +113,23 @@ fn writes_one_body(rt: HostRuntime) -> Result<(), Fail> {
 }
 
 /// Whether two bytes came from address 70.
-fn is_datagram(taken: Result<Taken, TakeError>) -> bool {
-    matches!(taken, Ok(Taken::Datagram { from: 70, len: 2 }))
+fn is_datagram(taken: Result<ReceivedInput, TakeError>) -> bool {
+    matches!(taken, Ok(ReceivedInput::Datagram { from: 70, len: 2 }))
 }
 
 /// Whether nothing came, or nothing was wanted.
-fn is_tick(taken: Result<Taken, TakeError>) -> bool {
-    matches!(taken, Ok(Taken::Tick))
+fn is_tick(taken: Result<ReceivedInput, TakeError>) -> bool {
+    matches!(taken, Ok(ReceivedInput::Tick))
 }
 
 /// Whether the port failed.
-fn is_fault(taken: Result<Taken, TakeError>) -> bool {
+fn is_fault(taken: Result<ReceivedInput, TakeError>) -> bool {
     matches!(taken, Err(TakeError::PortFault))
 }
 
 /// Whether replica 1 seems to be down.
-fn is_suspicion(taken: Result<Taken, TakeError>) -> bool {
-    matches!(&taken, Ok(Taken::Suspect(members)) if members.has(1))
+fn is_suspicion(taken: Result<ReceivedInput, TakeError>) -> bool {
+    matches!(&taken, Ok(ReceivedInput::Suspect(members)) if members.has(1))
 }
 
 #[test]
@@ -137,11 +137,11 @@ fn receives_what_came(rt: HostRuntime) -> Result<(), Fail> {
     let mut port = port_failing_at(rt.alloc(), &[3])?;
     port.put(70, &[1, 2, 3])?;
     let mut buf = [0u8; 2];
-    assert!(rt; is_datagram(take_input(What::Receive, &mut *port, &mut buf)));
+    assert!(rt; is_datagram(take_input(WantedInput::Receive, &mut *port, &mut buf)));
     assert_eq!(rt; buf, [1, 2]);
-    assert!(rt; is_tick(take_input(What::Tick, &mut *port, &mut buf)));
-    assert!(rt; is_tick(take_input(What::Receive, &mut *port, &mut buf)));
-    assert!(rt; is_fault(take_input(What::Receive, &mut *port, &mut buf)));
+    assert!(rt; is_tick(take_input(WantedInput::Tick, &mut *port, &mut buf)));
+    assert!(rt; is_tick(take_input(WantedInput::Receive, &mut *port, &mut buf)));
+    assert!(rt; is_fault(take_input(WantedInput::Receive, &mut *port, &mut buf)));
     Ok(())
 }
 
@@ -150,6 +150,6 @@ fn suspects_without_a_receive(rt: HostRuntime) -> Result<(), Fail> {
     let mut port = port_failing_at(rt.alloc(), &[1])?;
     let seen = Members::from_slice(rt.alloc(), &[1])?;
     let mut buf = [0u8; 2];
-    assert!(rt; is_suspicion(take_input(What::Suspect(seen), &mut *port, &mut buf)));
+    assert!(rt; is_suspicion(take_input(WantedInput::Suspect(seen), &mut *port, &mut buf)));
     Ok(())
 }

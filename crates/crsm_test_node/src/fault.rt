@@ -1,20 +1,27 @@
 //! Why the program ends early.
 
 use crsm_base::{Failed, NoMemory};
-use hex::FromHexError;
+use crsm_ledger::LedgerError;
+use crsm_text::LineError;
 use std::alloc::{AllocError, AllocFailed};
 use std::io;
 use thiserror::Error;
 
-/// Why the program ends early.
+/// Why the program ends early, or a row is not run.
 #[derive(Debug, Drop, Error)]
 pub enum Fault {
     #[error("the input cannot be read, or the output not written: {0}")]
     Io(io::Error),
-    #[error("memory ran out")]
+    #[error("out of memory")]
     NoMemory,
-    #[error("a line is not readable")]
+    #[error("a line cannot be read")]
     Unreadable,
+    #[error("the disk failed")]
+    Disk,
+    #[error("more steps are wanted than can pend")]
+    TooMany,
+    #[error("the log is refused: {0}")]
+    BadLog(LedgerError),
 }
 
 impl From<io::Error> for Fault {
@@ -41,18 +48,26 @@ impl<T: Drop> From<AllocFailed<T>> for Fault {
     }
 }
 
-impl From<FromHexError> for Fault {
-    fn from(error: FromHexError) -> Fault {
+impl From<Failed> for Fault {
+    fn from(_: Failed) -> Fault {
+        Fault::Disk
+    }
+}
+
+impl From<LedgerError> for Fault {
+    fn from(error: LedgerError) -> Fault {
         match error {
-            FromHexError::OutOfMemory => Fault::NoMemory,
-            _ => Fault::Unreadable,
+            LedgerError::NoMemory => Fault::NoMemory,
+            refusal => Fault::BadLog(refusal),
         }
     }
 }
 
-/// A file is written before any call of the disk fails.
-impl From<Failed> for Fault {
-    fn from(_: Failed) -> Fault {
-        Fault::Unreadable
+impl From<LineError> for Fault {
+    fn from(error: LineError) -> Fault {
+        match error {
+            LineError::Unreadable => Fault::Unreadable,
+            LineError::NoMemory => Fault::NoMemory,
+        }
     }
 }

@@ -1,58 +1,60 @@
-//! Runs nodes over devices in memory, one for each line of the standard input, and writes what comes of them.
+//! Reads tables from the standard input, and writes what nodes, clients and their ports make of their lines.
 //!
-//! A line is `ME N TURNS PEERS CLUSTER READINGS DATAGRAMS PORT DISK SHEET FILE`: the addresses of the replicas, the
-//! readings of the clock, what comes to the port (each as ADDRESS:HEX), the calls of the port, of the disk and of the
-//! sheet that fail, and the bytes of the log file, or `same` for what a crash leaves of the one before. Parts of a word
-//! stand between commas, and `-` is none. Behind the status stand the sheet, what was sent, and the file.
+//! A line `table NAME` names the table of the lines behind it, up to the next such line, and is written through. The
+//! module of a table says what its lines are: `boot`, `node`, `detector`, `client`, `peer_port` and `paced_port`.
 #![tactic(auto)]
 
+mod boot;
+mod client;
+mod detector;
+mod devices;
+mod disks;
 mod fault;
+mod lock;
+mod node;
+mod paced_port;
+mod packets;
+mod peer_port;
 mod script;
-mod text;
+mod table;
+mod tale;
+mod tale_words;
+mod traces;
+mod words;
 
 use crate::fault::Fault;
-use crate::script::{Devices, Script};
-use crate::text::{push_end, push_file, push_sent};
+use crate::table::{push_heading, read_tables};
 use crsm_base::Bytes;
-use crsm_disk::MemDisk;
-use crsm_node::{Silent, run_node};
 use std::alloc::Global;
 use std::io::{self, Write};
 
-fn main(rt: HostRuntime) -> Result<(), Fault> {
-    let alloc = rt.alloc();
-    let mut before: Option<MemDisk> = None;
-    let mut out = Bytes::new(alloc);
-    for line in rt.lines(alloc) {
-        let line = line?;
-        let script = Script::read(alloc, line.as_str(), before)?;
-        before = Some(run(alloc, script, &mut out)?);
+/// Appends what comes of the lines of the table of this name.
+fn push_table(alloc: Global, name: &str, lines: &str, out: &mut Bytes) -> Result<(), Fault> {
+    match name {
+        "boot" => boot::push_all(alloc, lines, out),
+        "node" => node::push_all(alloc, lines, out),
+        "detector" => detector::push_all(alloc, lines, out),
+        "client" => client::push_all(alloc, lines, out),
+        "peer_port" => peer_port::push_all(alloc, lines, out),
+        "paced_port" => paced_port::push_all(alloc, lines, out),
+        _ => Err(Fault::Unreadable),
     }
-    io::writer(&rt).write_all(out.as_slice())?;
+}
+
+/// Appends what comes of all tables, each behind its heading.
+fn push_tables(alloc: Global, text: &str, out: &mut Bytes) -> Result<(), Fault> {
+    for table in &read_tables(alloc, text)? {
+        push_heading(out, table.name.as_str())?;
+        push_table(alloc, table.name.as_str(), table.lines.as_str(), out)?;
+    }
     Ok(())
 }
 
-/// Runs a node, writes what came of it, and gives what a crash then leaves of its disk.
-fn run(alloc: Global, script: Script, out: &mut Bytes) -> Result<MemDisk, Fault> {
-    let Script { order, devices } = script;
-    let Devices {
-        mut port,
-        mut disk,
-        mut clock,
-        mut sheet,
-    } = devices;
-    let end = run_node(
-        alloc,
-        &order,
-        &mut port,
-        &mut disk,
-        &mut clock,
-        &mut sheet,
-        &mut Silent,
-    );
-    push_end(out, end)?;
-    out.append(sheet.as_slice())?;
-    push_sent(out, port.sent())?;
-    push_file(out, disk.bytes())?;
-    Ok(disk.image()?)
+fn main(rt: HostRuntime) -> Result<(), Fault> {
+    let alloc = rt.alloc();
+    let text = io::read_to_string(alloc, rt.reader())?;
+    let mut out = Bytes::new(alloc);
+    push_tables(alloc, text.as_str(), &mut out)?;
+    io::writer(&rt).write_all(out.as_slice())?;
+    Ok(())
 }

@@ -1,8 +1,11 @@
 //! The line of a run.
 
+use crate::disks::disk_with;
 use crate::fault::Fault;
+use crate::packets::put_packet;
+use crate::words::{bytes_of, number_of, numbers_of};
 use crsm_clock::ListClock;
-use crsm_disk::{Disk, MemDisk};
+use crsm_disk::MemDisk;
 use crsm_io::MemSink;
 use crsm_node::NodeOrder;
 use crsm_port::MemPort;
@@ -42,28 +45,12 @@ fn word<'a>(words: &mut Split<'a, char>) -> Result<&'a str, Fault> {
     words.next().ok_or(Fault::Unreadable)
 }
 
-fn number(text: &str) -> Result<u64, Fault> {
-    text.parse().map_err(|_| Fault::Unreadable)
-}
-
-/// The numbers of a word, `-` for none.
-fn numbers(alloc: Global, text: &str) -> Result<Vec<u64>, Fault> {
-    let mut found = Vec::new(alloc);
-    if text == "-" {
-        return Ok(found);
-    }
-    for part in text.split(',') {
-        found.push(number(part)?)?;
-    }
-    Ok(found)
-}
-
 fn read_order(alloc: Global, words: &mut Split<'_, char>) -> Result<NodeOrder, Fault> {
-    let me = number(word(words)?)?;
-    let n = number(word(words)?)?;
-    let turns = number(word(words)?)?;
-    let peers = numbers(alloc, word(words)?)?;
-    let cluster = number(word(words)?)?;
+    let me = number_of(word(words)?)?;
+    let n = number_of(word(words)?)?;
+    let turns = number_of(word(words)?)?;
+    let peers = numbers_of(alloc, word(words)?)?;
+    let cluster = number_of(word(words)?)?;
     let me = u32::try_from(me).map_err(|_| Fault::Unreadable)?;
     let n = u32::try_from(n).map_err(|_| Fault::Unreadable)?;
     NodeOrder::new(me, n, turns, peers, cluster).ok_or(Fault::Unreadable)
@@ -74,12 +61,12 @@ fn read_devices(
     words: &mut Split<'_, char>,
     before: Option<MemDisk>,
 ) -> Result<Devices, Fault> {
-    let clock = ListClock::new(alloc, &numbers(alloc, word(words)?)?)?;
+    let clock = ListClock::new(alloc, &numbers_of(alloc, word(words)?)?)?;
     let datagrams = word(words)?;
-    let mut port = MemPort::new(alloc, &numbers(alloc, word(words)?)?)?;
+    let mut port = MemPort::new(alloc, &numbers_of(alloc, word(words)?)?)?;
     put_all(alloc, &mut port, datagrams)?;
-    let failing = numbers(alloc, word(words)?)?;
-    let mut sheet = MemSink::new(alloc, &numbers(alloc, word(words)?)?)?;
+    let failing = numbers_of(alloc, word(words)?)?;
+    let mut sheet = MemSink::new(alloc, &numbers_of(alloc, word(words)?)?)?;
     sheet.reserve(SHEET_BYTES)?;
     let disk = disk_of(alloc, word(words)?, failing, before)?;
     Ok(Devices {
@@ -95,8 +82,7 @@ fn put_all(alloc: Global, port: &mut MemPort, text: &str) -> Result<(), Fault> {
         return Ok(());
     }
     for part in text.split(',') {
-        let (from, bytes) = part.split_once(":").ok_or(Fault::Unreadable)?;
-        port.put(number(from)?, &hex::decode(alloc, bytes)?)?;
+        put_packet(alloc, port, part)?;
     }
     Ok(())
 }
@@ -114,20 +100,16 @@ fn disk_of(
     let bytes = match (file, before) {
         ("same", Some(disk)) => Vec::from_slice(alloc, disk.bytes())?,
         ("same", None) => return Err(Fault::Unreadable),
-        (text, _) => hex::decode(alloc, text)?,
+        (text, _) => bytes_of(alloc, text)?,
     };
-    disk_with(alloc, &bytes, failing)
+    disk_with(alloc, &bytes, &later(alloc, &failing)?)
 }
 
-/// Two calls of it write the file, so those that fail have numbers that are greater by two.
-fn disk_with(alloc: Global, bytes: &[u8], failing: Vec<u64>) -> Result<MemDisk, Fault> {
+/// The numbers of the calls that fail, behind the two that write the file.
+fn later(alloc: Global, failing: &[u64]) -> Result<Vec<u64>, Fault> {
     let mut later = Vec::new(alloc);
-    for call in &failing {
+    for call in failing {
         later.push(call.checked_add(2).ok_or(Fault::Unreadable)?)?;
     }
-    let mut disk = MemDisk::new(alloc, &later, None, 0)?;
-    disk.reserve(2, bytes.len() as u64)?;
-    disk.write_at(0, bytes)?;
-    disk.sync()?;
-    Ok(disk)
+    Ok(later)
 }

@@ -1,11 +1,13 @@
 -- The texts of keys, values, operations and answers, and which of these have a text.
-use Rattle.std.specs.Prelude.{ℕ, List, [], ◌∷◌, codes, Option, Some, None}
+use Rattle.std.specs.Prelude.{ℕ, List, [], ◌∷◌, ◌++◌, codes, Option, Some, None}
 use Rattle.hex.specs.Hex.{encode_lower, IsBytes}
 use Rattle.crsm_base.specs.declared.Op.{Op}
 use Rattle.crsm_base.specs.declared.Op.TheVariants.{Get, Put, Delete, Cas}
 use Rattle.crsm_base.specs.declared.Answer.{Answer}
 use Rattle.crsm_base.specs.declared.Answer.TheVariants.{Found, Missing, Done, Differs, Stale, NoRoom}
-use Rattle.crsm_base.specs.Spelling.{FitsOption}
+use Rattle.crsm_base.specs.declared.Outcome.{Outcome}
+use Rattle.crsm_base.specs.declared.Outcome.TheVariants.{Answered, Refused}
+use Rattle.crsm_base.specs.Spelling.{FitsOption, refusal_number}
 use Rattle.crsm_text.specs.Words.{spaced, named}
 
 -- a value: its bytes in lower-case hexadecimal, or `empty`
@@ -31,6 +33,11 @@ answer_text Done = codes "done"
 answer_text (Differs val) = spaced (codes "differs" ∷ option_text val ∷ [])
 answer_text (Stale number) = named (codes "stale") (number ∷ [])
 answer_text NoRoom = codes "noroom"
+
+-- the line that a client is shown, with its line feed
+abbrev pub outcome_text : Outcome → List ℕ
+outcome_text (Answered answer) = codes "ok " ++ (answer_text answer ++ 10 ∷ [])
+outcome_text (Refused refusal) = named (codes "no") (refusal_number refusal ∷ []) ++ 10 ∷ []
 
 -- keys and values of the operation consist of bytes
 abbrev pub HasBytes : Op → Type 0

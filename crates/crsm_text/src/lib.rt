@@ -6,6 +6,7 @@ mod error;
 mod fields;
 mod list;
 mod op;
+mod outcome;
 mod print;
 mod value;
 
@@ -13,6 +14,7 @@ pub use error::LineError;
 pub use fields::{number_field, read_number, split_field, two_fields, two_numbers};
 pub use list::{read_members, read_numbers};
 pub use op::read_op;
+pub use outcome::print_outcome;
 pub use print::{
     push_answer, push_hex, push_members, push_named, push_number, push_numbered, push_numbers,
 };

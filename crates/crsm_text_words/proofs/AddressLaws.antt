@@ -3,10 +3,10 @@ use Rattle.std.proofs.Common.{◌≡◌, ℕ, ◌+◌, ◌*◌, ◌/◌, ◌%◌
 use Rattle.std.proofs.lemmas.Fmt.{decimal_by_steps}
 use Rattle.crsm_text.specs.Words.{Lacks}
 use Rattle.crsm_text.proofs.WordsLemmas.{Lacks-append, Lacks-decimal}
-use Rattle.crsm_text_words.specs.declared.address.Parts.{Parts}
+use Rattle.crsm_text_words.specs.declared.address.AddressParts.{AddressParts}
 use Rattle.crsm_text_words.specs.Addresses.{AreParts, address_text, joined, parts_of, parts_text}
 
-pub joined_below : (p : Parts) → AreParts p → joined p < 2 ^ 48
+pub joined_below : (p : AddressParts) → AreParts p → joined p < 2 ^ 48
 joined_below p are =
     let a = are.first in
     let b = are.second in
@@ -15,7 +15,7 @@ joined_below p are =
     let e = are.port in
     omega (arith, a, b, c, d, e)
 
-pub joined_fits : (p : Parts) → AreParts p → ((p.first * 256 + p.second) * 256 + p.third) * 256 + p.fourth < 2 ^ 32
+pub joined_fits : (p : AddressParts) → AreParts p → ((p.first * 256 + p.second) * 256 + p.third) * 256 + p.fourth < 2 ^ 32
 joined_fits p are =
     let a = are.first in
     let b = are.second in
@@ -31,7 +31,7 @@ pub joined_parts : (a : ℕ) → a < 2 ^ 48 → joined (parts_of a) ≡ a
 joined_parts a below = omega (arith, below)
 
 -- and what parts make has them
-pub parts_joined : (p : Parts) → AreParts p → parts_text p ≡ address_text (joined p)
+pub parts_joined : (p : AddressParts) → AreParts p → parts_text p ≡ address_text (joined p)
 parts_joined p are =
     let a = are.first in
     let b = are.second in

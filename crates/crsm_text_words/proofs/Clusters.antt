@@ -16,8 +16,8 @@ use Rattle.crsm_text_words.specs.Table.{product_app}
 use Rattle.crsm_text_words.specs.declared.order.Order.{Order}
 use Rattle.crsm_text_words.specs.declared.order.Task.{Task}
 use Rattle.crsm_text_words.specs.declared.order.Task.TheVariants.{Show, Replay, ReplayNode, Node, Client, Operate, Soak, Audit, Lock, Delay, DelayTimes, ReplayMp}
-use Rattle.crsm_text_words.specs.declared.read.Refusal.{Refusal}
-use Rattle.crsm_text_words.specs.declared.read.Refusal.TheVariants.{Usage}
+use Rattle.crsm_text_words.specs.declared.read.WordsError.{WordsError}
+use Rattle.crsm_text_words.specs.declared.read.WordsError.TheVariants.{Usage}
 use Rattle.crsm_text_words.proofs.Asking.{one_kind}
 
 -- ---- errors of `clap`
@@ -31,7 +31,7 @@ any_of f k (x ∷ xs) (inr later) holds = go (any_of f k xs later holds) (f x)
     go so true = refl
     go so false = so
 
-pub answered : (words : List Text) (e : Error) (result : Result Task Refusal) → HasKind (fault_of product_app words) e → AnswersError (kind_of e) result → TaskBy words result
+pub answered : (words : List Text) (e : Error) (result : Result Task WordsError) → HasKind (fault_of product_app words) e → AnswersError (kind_of e) result → TaskBy words result
 answered words e (Ok task) (inl out) answer = absurd (true≢false (sym answer.1 ∙ ap asks_text out))
 answered words e (Ok task) (inr among) answer = shown answer.0 (any_of asks_text (kind_of e) (fault_of product_app words) among answer.1)
 answered words e (Err r) has (inl out) = no_memory out
@@ -41,19 +41,19 @@ answered words e (Err r) (inr among) (inr answer) = at_fault answer.0 (any_of is
 -- ---- behind the number of a cluster
 
 -- who answers a task in a cluster
-abbrev pub Made : ℕ → Task → Result Order Refusal → Type 0
+abbrev pub Made : ℕ → Task → Result Order WordsError → Type 0
 Made cluster task result = IfOk result (λ o. NamesCluster task × (o ≡ record { cluster = cluster; task = task }))
 
-abbrev pub Unmade : Task → Result Order Refusal → Type 0
+abbrev pub Unmade : Task → Result Order WordsError → Type 0
 Unmade task result = IfErr result (λ r. (r ≡ Usage) × (NamesCluster task → ⊥))
 
-pub found_in : (result : Result Order Refusal) (cluster : ℕ) (number : Text) (task : Task) (rest : List Text) → 0 < cluster → cluster < 2 ^ 64 → number ≡ decimal cluster → Asks task rest
+pub found_in : (result : Result Order WordsError) (cluster : ℕ) (number : Text) (task : Task) (rest : List Text) → 0 < cluster → cluster < 2 ^ 64 → number ≡ decimal cluster → Asks task rest
     → Made cluster task result → IfOk result (λ o. AsksFor o (codes "cluster" ∷ number ∷ rest))
 found_in (Ok o) cluster number task rest above below is asks made =
     subst (λ (x : Order). AsksFor x (codes "cluster" ∷ number ∷ rest)) (sym made.1) ((above, below, made.0, is), asks)
 found_in (Err r) cluster number task rest above below is asks made = tt
 
-pub only_in : (result : Result Order Refusal) (cluster : ℕ) (number : Text) (task : Task) (rest : List Text) → cluster < 2 ^ 64 → number ≡ decimal cluster → ((other : Task) → Asks other rest → task ≡ other)
+pub only_in : (result : Result Order WordsError) (cluster : ℕ) (number : Text) (task : Task) (rest : List Text) → cluster < 2 ^ 64 → number ≡ decimal cluster → ((other : Task) → Asks other rest → task ≡ other)
     → Made cluster task result → Unmade task result → (asked_for : Order) → AsksFor asked_for (codes "cluster" ∷ number ∷ rest) → Reads result asked_for
 only_in (Ok o) cluster number task rest below is one made unmade asked_for asks =
     let same : cluster ≡ asked_for.cluster = decimal_injective cluster asked_for.cluster below asks.0.1 (sym is ∙ asks.0.3) in
@@ -79,7 +79,7 @@ shown_nowhere ReplayMp is names = names
 some_front : (number : Text) (rest : List Text) → cluster_words (codes "cluster" ∷ number ∷ rest) ≡ [] → ⊥
 some_front number rest e = cc e
 
-pub any_in : (result : Result Order Refusal) (cluster : ℕ) (number : Text) (task : Task) (rest : List Text) → 0 < cluster → cluster < 2 ^ 64 → number ≡ decimal cluster
+pub any_in : (result : Result Order WordsError) (cluster : ℕ) (number : Text) (task : Task) (rest : List Text) → 0 < cluster → cluster < 2 ^ 64 → number ≡ decimal cluster
     → TaskFor rest task → Made cluster task result → Unmade task result → OrderBy (codes "cluster" ∷ number ∷ rest) result
 any_in (Ok o) cluster number task rest above below is (shown is_text why) made unmade = absurd (shown_nowhere task is_text made.0)
 any_in (Ok o) cluster number task rest above below is (asked none asks) made unmade =
@@ -90,7 +90,7 @@ any_in (Err r) cluster number task rest above below is (asked none asks) made un
     nothing unmade.0 (λ asked_for in_front asks_for. unmade.1 (one_kind task asked_for.task (taken rest) asks asks_for in_front.2))
 
 -- memory ran out, or the words behind the number are refused
-pub refused_in : (number : Text) (rest : List Text) (r : Refusal) → RefusedFor rest r → OrderRefused (codes "cluster" ∷ number ∷ rest) r
+pub refused_in : (number : Text) (rest : List Text) (r : WordsError) → RefusedFor rest r → OrderRefused (codes "cluster" ∷ number ∷ rest) r
 refused_in number rest r (no_memory out) = memory out
 refused_in number rest r (at_fault usage why) = fault usage why
 refused_in number rest r (for_nothing usage none) = nothing usage (λ asked_for in_front asks. none asked_for.task asks)
@@ -133,7 +133,7 @@ made_peer : (words : List Text) (o : Order) → OrderMade words o → HasOwnPeer
 made_peer words o (text no_front is_text why) = shown_peer o.task is_text
 made_peer words o (order none in_front asks) = own_peer o.task (taken (task_words words)) asks
 
-pub peer_by : (words : List Text) (result : Result Order Refusal) → OrderBy words result → IfOk result (λ o. HasOwnPeer o.task)
+pub peer_by : (words : List Text) (result : Result Order WordsError) → OrderBy words result → IfOk result (λ o. HasOwnPeer o.task)
 peer_by words (Ok o) by = made_peer words o by
 peer_by words (Err r) by = tt
 

@@ -5,7 +5,7 @@ ghost use Rattle.std.specs.List.{AllByRecursion, IsDistinct};
 ghost use Rattle.std.specs.Option.{IsSomeAnd};
 ghost use Rattle.crsm_text.specs.Words.{Lacks};
 ghost use Rattle.crsm_text.specs.Reads.{ReadsAs};
-ghost use Rattle.crsm_text_words.specs.declared.address.Parts.{Parts};
+ghost use Rattle.crsm_text_words.specs.declared.address.AddressParts.{AddressParts};
 ghost use Rattle.crsm_text_words.specs.Addresses.{AreAddresses, AreParts, address_text, addresses_text, joined, parts_text};
 
 use crsm_text::{LineError, read_number, split_field};
@@ -82,7 +82,7 @@ fn port_field(input: &[u8]) -> Option<(u64, u64)>
 
 /// The parts of an address: the four octets of its IPv4 address, and its port.
 #[derive(Clone, Copy)]
-struct Parts {
+struct AddressParts {
     first: u64,
     second: u64,
     third: u64,
@@ -90,7 +90,7 @@ struct Parts {
     port: u64,
 }
 
-impl Parts {
+impl AddressParts {
     /// Returns the address as IPv4 x 65,536 + port.
     #[tactic(auto, using(crate::proofs::AddressLaws::joined_below, crate::proofs::AddressLaws::joined_fits))]
     fn number(&self) -> u64
@@ -105,15 +105,15 @@ impl Parts {
 }
 
 /// Parses the parts of an address, or returns `None` if the word is none.
-fn read_parts(word: &[u8]) -> Option<Parts>
+fn read_parts(word: &[u8]) -> Option<AddressParts>
     ensures found { IfSome result (λ p. AreParts p × (word.now ≡ parts_text p)) }
-    ensures only { (p : Parts) → AreParts p → word.now ≡ parts_text p → result ≡ Some p }
+    ensures only { (p : AddressParts) → AreParts p → word.now ≡ parts_text p → result ≡ Some p }
 {
     let (first, rest) = octet_field(word)?;
     let (second, rest) = octet_field(rest)?;
     let (third, rest) = octet_field(rest)?;
     let (fourth, port) = port_field(rest)?;
-    Some(Parts {
+    Some(AddressParts {
         first,
         second,
         third,

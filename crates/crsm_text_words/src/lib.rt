@@ -10,6 +10,6 @@ mod usage;
 mod values;
 
 pub use address::{Addresses, read_address, read_addresses};
-pub use order::{LockAction, LockTask, NodeTask, Order, Plan, Task};
-pub use read::{Refusal, read_words};
+pub use order::{DevicePlan, LockAction, LockTask, NodeTask, Order, Task};
+pub use read::{WordsError, read_words};
 pub use usage::usage_text;

@@ -99,7 +99,7 @@ pub struct Order {
 
 /// The system's devices that a task uses.
 #[derive(Clone, Copy, Debug, PartialEq, Eq)]
-pub enum Plan {
+pub enum DevicePlan {
     /// Standard input and output only.
     Plain,
     /// A socket bound to the address `bind` (IPv4 x 65,536 + port), and the log file of replica `me`.
@@ -110,17 +110,17 @@ pub enum Plan {
 
 impl Task {
     /// Returns the devices that the task uses.
-    pub fn plan(&self) -> Plan
+    pub fn plan(&self) -> DevicePlan
         requires { HasOwnPeer self.now }
         ensures { result ≡ plan_of self.now }
     {
         match self {
-            Task::Node(node) => Plan::Node {
+            Task::Node(node) => DevicePlan::Node {
                 me: node.me,
                 bind: node.peers.as_slice()[node.me as usize],
             },
-            Task::Client { .. } | Task::Operate { .. } | Task::Lock(_) => Plan::Socket,
-            _ => Plan::Plain,
+            Task::Client { .. } | Task::Operate { .. } | Task::Lock(_) => DevicePlan::Socket,
+            _ => DevicePlan::Plain,
         }
     }
 }

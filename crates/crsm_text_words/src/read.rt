@@ -21,35 +21,35 @@ use std::alloc::Global;
 
 /// The reason why words were refused.
 #[derive(Clone, Copy, Debug, PartialEq, Eq)]
-pub enum Refusal {
+pub enum WordsError {
     /// They are not those of a command, or a value is outside its limits.
     Usage,
     /// Memory ran out.
     NoMemory,
 }
 
-impl From<LineError> for Refusal {
+impl From<LineError> for WordsError {
     ghost use Rattle.std.specs.Prelude.{◌≡◌};
     ghost use Rattle.crsm_text_words.specs.Answers.{refusal_of};
 
     ghost from_gives = { λ e r. r ≡ refusal_of e };
 
-    fn from(e: LineError) -> Refusal {
+    fn from(e: LineError) -> WordsError {
         match e {
-            LineError::Unreadable => Refusal::Usage,
-            LineError::NoMemory => Refusal::NoMemory,
+            LineError::Unreadable => WordsError::Usage,
+            LineError::NoMemory => WordsError::NoMemory,
         }
     }
 }
 
-impl From<NoMemory> for Refusal {
+impl From<NoMemory> for WordsError {
     ghost use Rattle.std.specs.Prelude.{◌≡◌};
-    ghost use Rattle.crsm_text_words.specs.declared.read.Refusal.TheVariants.{NoMemory as no_memory};
+    ghost use Rattle.crsm_text_words.specs.declared.read.WordsError.TheVariants.{NoMemory as no_memory};
 
     ghost from_gives = { λ _ r. r ≡ no_memory };
 
-    fn from(_e: NoMemory) -> Refusal {
-        Refusal::NoMemory
+    fn from(_e: NoMemory) -> WordsError {
+        WordsError::NoMemory
     }
 }
 
@@ -64,38 +64,38 @@ fn text_of(alloc: Global, error: &Error) -> Result<Bytes, NoMemory> {
 }
 
 /// Converts an error of `clap`: help or the version is shown if it was asked for; otherwise `Usage`.
-fn answer(alloc: Global, error: &Error) -> Result<Task, Refusal>
+fn answer(alloc: Global, error: &Error) -> Result<Task, WordsError>
     ensures { AnswersError (kind_of error.now) result }
 {
     match error.kind() {
-        ErrorKind::OutOfMemory => Err(Refusal::NoMemory),
+        ErrorKind::OutOfMemory => Err(WordsError::NoMemory),
         ErrorKind::DisplayHelp | ErrorKind::DisplayVersion => {
             let text = text_of(alloc, error)?;
             Ok(Task::Show(text))
         }
-        _ => Err(Refusal::Usage),
+        _ => Err(WordsError::Usage),
     }
 }
 
 /// Parses a command's name and values as a task. `Usage` if they are none.
-fn named_task(alloc: Global, name: &str, values: &[&str]) -> Result<Task, Refusal>
+fn named_task(alloc: Global, name: &str, values: &[&str]) -> Result<Task, WordsError>
     ensures found { IfOk result (λ task. Asks task (name.now ∷ texts values.now)) }
     ensures only { (task : Asked) → Asks task (name.now ∷ texts values.now) → Reads result task }
 {
     match read_task(alloc, name.as_bytes(), values) {
         Ok(task) => Ok(task),
-        Err(LineError::Unreadable) => Err(Refusal::Usage),
-        Err(LineError::NoMemory) => Err(Refusal::NoMemory),
+        Err(LineError::Unreadable) => Err(WordsError::Usage),
+        Err(LineError::NoMemory) => Err(WordsError::NoMemory),
     }
 }
 
 /// Parses the name and values that `clap` found as a task. `Usage` if they are none.
-fn matched_task(alloc: Global, matches: &ArgMatches<'_>) -> Result<Task, Refusal>
+fn matched_task(alloc: Global, matches: &ArgMatches<'_>) -> Result<Task, WordsError>
     ensures found { IfOk result (λ task. Asks task (parts (subcommand_rows_of matches.now))) }
     ensures only { (task : Asked) → Asks task (parts (subcommand_rows_of matches.now)) → Reads result task }
 {
     let Some((name, found)) = matches.subcommand() else {
-        return Err(Refusal::Usage);
+        return Err(WordsError::Usage);
     };
     match found.get_raw("values") {
         Some(values) => named_task(alloc, name, values),
@@ -104,7 +104,7 @@ fn matched_task(alloc: Global, matches: &ArgMatches<'_>) -> Result<Task, Refusal
 }
 
 /// Parses words that name no cluster as a task. `Usage` if they are none.
-fn task_of(alloc: Global, words: &[String]) -> Result<Task, Refusal>
+fn task_of(alloc: Global, words: &[String]) -> Result<Task, WordsError>
     ensures any { TaskBy (map string_bytes words.now) result }
     ensures found { All IsPlain (map string_bytes words.now) → IfOk result (λ task. Asks task (map string_bytes words.now)) }
     ensures only { All IsPlain (map string_bytes words.now) → (task : Asked) → Asks task (map string_bytes words.now) → Reads result task }
@@ -129,15 +129,15 @@ fn names_cluster(task: &Task) -> bool
 fn discard(_task: Task) {}
 
 /// Returns the order of a task in a cluster. `Usage` if the task may not name one.
-fn order_of(cluster: u64, task: Task) -> Result<Order, Refusal>
+fn order_of(cluster: u64, task: Task) -> Result<Order, WordsError>
     ensures ok { IfOk result (λ order. NamesCluster task × (order ≡ record { cluster = cluster; task = task })) }
-    ensures err { IfErr result (λ r. (r ≡ Refusal.Usage) × ¬ (NamesCluster task)) }
+    ensures err { IfErr result (λ r. (r ≡ WordsError.Usage) × ¬ (NamesCluster task)) }
 {
     if names_cluster(&task) {
         Ok(Order { cluster, task })
     } else {
         discard(task);
-        Err(Refusal::Usage)
+        Err(WordsError::Usage)
     }
 }
 
@@ -154,13 +154,13 @@ fn cluster_number(word: &str) -> Option<u64>
 }
 
 /// Parses the words after `cluster C`. `Usage` if they ask for no task, or for one that names no cluster.
-fn order_in(alloc: Global, number: &str, rest: &[String]) -> Result<Order, Refusal>
+fn order_in(alloc: Global, number: &str, rest: &[String]) -> Result<Order, WordsError>
     ensures found { All IsPlain (map string_bytes rest.now) → IfOk result (λ order. AsksFor order (codes "cluster" ∷ number.now ∷ map string_bytes rest.now)) }
     ensures only { All IsPlain (map string_bytes rest.now) → (order : AskedOrder) → AsksFor order (codes "cluster" ∷ number.now ∷ map string_bytes rest.now) → Reads result order }
     ensures any { OrderBy (codes "cluster" ∷ number.now ∷ map string_bytes rest.now) result }
 {
     let Some(cluster) = cluster_number(number) else {
-        return Err(Refusal::Usage);
+        return Err(WordsError::Usage);
     };
     let task = task_of(alloc, rest)?;
     order_of(cluster, task)
@@ -182,7 +182,7 @@ pub(crate) fn cluster_words<'a>(words: &'a [String]) -> Option<(&'a str, &'a [St
 
 /// Parses the words of a command line, without the program's name. `Usage` if they ask for no task; `NoMemory` if
 /// memory runs out.
-pub fn read_words(alloc: Global, words: &[String]) -> Result<Order, Refusal>
+pub fn read_words(alloc: Global, words: &[String]) -> Result<Order, WordsError>
     // Words that do not begin with a hyphen: the order returned is what they ask for, and if they ask for one it is
     // returned, unless memory runs out. So they are refused only if they ask for nothing.
     ensures found { All IsPlain (map string_bytes words.now) → IfOk result (λ order. AsksFor order (map string_bytes words.now)) }

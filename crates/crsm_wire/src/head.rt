@@ -7,7 +7,7 @@ use crsm_base::{Bytes, NoMemory, Stamp};
 
 // Encodes a tag byte and a u64.
 #[tactic(auto, unfolding(crsm_base::specs::Spelling::u64_bytes))]
-fn marked(mark: u8, number: u64) -> [u8; 9]
+pub(crate) fn marked(mark: u8, number: u64) -> [u8; 9]
     ensures { result ≡ mark ∷ u64_bytes number }
 {
     let mut cells = [mark; 9];

@@ -24,7 +24,7 @@ use Rattle.crsm_spec.specs.World.{Site, Packet, World as Cluster, Moment, is_ful
 use Rattle.crsm_spec.specs.Moments.{single, begun_at, come, step_at, step_at_site, use_up, go_each, go_all, world_after, lines_of}
 use Rattle.crsm_world.specs.declared.world.World.{World}
 use Rattle.crsm_world.specs.Machines.{MachinesPend, MachinesStand}
-use Rattle.crsm_world.specs.declared.groups.Taken.{Taken}
+use Rattle.crsm_world.specs.declared.groups.DeliveredStep.{DeliveredStep}
 use Rattle.crsm_sim_network.specs.declared.Network.{Network}
 use Rattle.crsm_sim_network.specs.Packets.{AreSpelt, IsPacketView, NetworkStands, used_up, receiver_of}
 use Rattle.crsm_world.specs.Several.{IsFor, AreFor, AreStill, IsStill, Runs, TookAll, all_gone, each_gone, gone, number_of, step_of, together}
@@ -165,7 +165,7 @@ stepped k i v x = record { n = refl; sites = refl; packets = refl }
 steps_as : (k i : ℕ) (v : Cluster) (x : Draft) (m : Moment) → m ≡ begun_at v (whole_step (use_up i v) k x) → Steps k i v m.after x
 steps_as k i v x m e = subst (λ (n : Moment). Steps k i v n.after x) (sym e) (stepped k i v x)
 
-runs_more : (k t : ℕ) (v : Cluster) (taken : List Taken) (steps : List Draft) (now : Cluster) (a : Taken) (x : Draft) → Runs k t v taken steps now
+runs_more : (k t : ℕ) (v : Cluster) (taken : List DeliveredStep) (steps : List Draft) (now : Cluster) (a : DeliveredStep) (x : Draft) → Runs k t v taken steps now
     → gone t a.number now ≡ begun_at now (whole_step (use_up a.number now) k x) → Makes a.step x → Runs k t v (taken ++ a ∷ []) (steps ++ x ∷ []) (gone t a.number now).after
 runs_more k t v [] [] now a x runs e made = subst (λ (u : Cluster). Runs k t u (a ∷ []) (x ∷ []) (gone t a.number now).after) runs (e, made, refl)
 runs_more k t v (b ∷ taken) (y ∷ steps) now a x runs e made = (runs.0, runs.1, runs_more k t (gone t b.number v).after taken steps now a x runs.2 e made)
@@ -176,12 +176,12 @@ pub nothing_left : {X : Type 0} (xs : List X) → length xs ≡ 0 → xs ≡ []
 nothing_left [] h = refl
 nothing_left (x ∷ xs) h = absurd (omega arith)
 
-pub took_none : (k t : ℕ) (v : Cluster) (is : List ℕ) (w : World) (r : Replica) (taken : List Taken) → HoldsBeside k [] w v v.n v.sites → slice_get v.sites k ≡ Some (Site.Up r) → taken ≡ [] → TookAll k t v (take 0 is) w taken
+pub took_none : (k t : ℕ) (v : Cluster) (is : List ℕ) (w : World) (r : Replica) (taken : List DeliveredStep) → HoldsBeside k [] w v v.n v.sites → slice_get v.sites k ≡ Some (Site.Up r) → taken ≡ [] → TookAll k t v (take 0 is) w taken
 took_none k t v is w r taken h e none = record {
   now = v;
   replica = r;
   steps = [];
-  runs = subst (λ (ts : List Taken). Runs k t v ts [] v) (sym none) refl;
+  runs = subst (λ (ts : List DeliveredStep). Runs k t v ts [] v) (sym none) refl;
   numbers = ap (map number_of) none;
   up = e;
   held = h;
@@ -193,7 +193,7 @@ for_one k packets [] i l all = absurd (omega arith)
 for_one k packets (j ∷ is) zero l all = all.0
 for_one k packets (j ∷ is) (suc i) l all = for_one k packets is i (omega arith) all.1
 
-pub took_more : (k t : ℕ) (v : Cluster) (is : List ℕ) (i : ℕ) (w new : World) (taken more : List Taken) (a : Taken) → TookAll k t v (take i is) w taken → i < length is → AreFor k v.packets is → a.number ≡ get_or is i 0
+pub took_more : (k t : ℕ) (v : Cluster) (is : List ℕ) (i : ℕ) (w new : World) (taken more : List DeliveredStep) (a : DeliveredStep) → TookAll k t v (take i is) w taken → i < length is → AreFor k v.packets is → a.number ≡ get_or is i 0
     → ((u : Cluster) (n : ℕ) (places : List Site) (r : Replica) (steps : List Draft) → HoldsBeside k steps w u n places → slice_get places k ≡ Some (Site.Up r) → (p : Packet) → slice_get u.packets (get_or is i 0) ≡ Some p
     → Makes a.step (step_of r p t) × HoldsBeside k (steps ++ step_of r p t ∷ []) new u n (slice_set places k (Site.Up (step_of r p t).replica)))
     → more ≡ taken ++ a ∷ [] → TookAll k t v (take (i + 1) is) new more
@@ -212,7 +212,7 @@ took_more k t v is i w new taken more a g l all number step e =
       now = (gone t a.number g.now).after;
       replica = x.replica;
       steps = g.steps ++ x ∷ [];
-      runs = subst (λ (ts : List Taken). Runs k t v ts (g.steps ++ x ∷ []) (gone t a.number g.now).after) (sym e) (runs_more k t v taken g.steps g.now a x g.runs went_a made.0);
+      runs = subst (λ (ts : List DeliveredStep). Runs k t v ts (g.steps ++ x ∷ []) (gone t a.number g.now).after) (sym e) (runs_more k t v taken g.steps g.now a x g.runs went_a made.0);
       numbers = ap (map number_of) e ∙ map-append number_of taken (a ∷ []) ∙ ap (λ ns. ns ++ a.number ∷ []) g.numbers ∙ ap (λ b. take i is ++ b ∷ []) number ∙ sym (take_more is i 0 l);
       up = ap (λ (ps : List Site). slice_get ps k) after.sites ∙ get_set g.now.sites k _ (Site.Up g.replica) g.up;
       held = subst (λ (ps : List Site). HoldsBeside k (g.steps ++ x ∷ []) new v (gone t a.number g.now).after.n ps) (sym after.sites)
@@ -224,7 +224,7 @@ took_more k t v is i w new taken more a g l all number step e =
 -- ---- let out in turn
 
 -- the world after some of the steps, which are out, and what is still to come of the others
-pub record Out (k t : ℕ) (v now : Cluster) (all rest : List Taken) (sent : List Sent) (place : ℕ) (w : World) (lines : List Line) : Type 0 where
+pub record Out (k t : ℕ) (v now : Cluster) (all rest : List DeliveredStep) (sent : List Sent) (place : ℕ) (w : World) (lines : List Line) : Type 0 where
   pub at : Cluster
   pub left : List Draft
   pub runs : Runs k t at rest left now
@@ -233,10 +233,10 @@ pub record Out (k t : ℕ) (v now : Cluster) (all rest : List Taken) (sent : Lis
   pub after : world_after v (go_all t (map number_of all) v) ≡ world_after at (go_all t (map number_of rest) at)
   pub told : lines ++ lines_of (go_all t (map number_of rest) at) ≡ lines_of (go_all t (map number_of all) v)
 
-pub out_none : (k t : ℕ) (v now : Cluster) (all rest : List Taken) (steps : List Draft) (port : Memory) (first place : ℕ) (w : World) (lines : List Line) → NetworkStands w.network v.packets v.bytes → Runs k t v all steps now
+pub out_none : (k t : ℕ) (v now : Cluster) (all rest : List DeliveredStep) (steps : List Draft) (port : Memory) (first place : ℕ) (w : World) (lines : List Line) → NetworkStands w.network v.packets v.bytes → Runs k t v all steps now
     → Sends port first steps → rest ≡ all → place ≡ first → lines ≡ [] → Out k t v now all rest port.sent place w lines
 out_none k t v now all rest steps port first place w lines h runs sent e f l =
-    subst (λ (ts : List Taken). Out k t v now all ts port.sent place w lines) (sym e) (record {
+    subst (λ (ts : List DeliveredStep). Out k t v now all ts port.sent place w lines) (sym e) (record {
       at = v;
       left = steps;
       runs = runs;
@@ -265,13 +265,13 @@ out_one : (k i : ℕ) (v : Cluster) (x : Draft) (network : Network) (before line
 unfolding begun_at whole_step after_step use_up used_up
 out_one k i v x network before lines o = (o.stands, o.told)
 
-pub out_more : (k t : ℕ) (v now : Cluster) (all rest more : List Taken) (a : Taken) (sent : List Sent) (place next : ℕ) (w new : World) (lines more_lines : List Line) → Out k t v now all rest sent place w lines → rest ≡ a ∷ more
+pub out_more : (k t : ℕ) (v now : Cluster) (all rest more : List DeliveredStep) (a : DeliveredStep) (sent : List Sent) (place next : ℕ) (w new : World) (lines more_lines : List Line) → Out k t v now all rest sent place w lines → rest ≡ a ∷ more
     → next ≡ place + length a.step.batch.sends
     → ((u : Cluster) (x : Draft) → NetworkStands w.network u.packets u.bytes → Makes a.step x → AreSpelt a.step.batch.sends sent place → LetsOut lines (used_up a.number u.packets) u.bytes k x x.sends x.replies new.network more_lines)
     → Out k t v now all more sent next new more_lines
 unfolding sends_of sends_in
 out_more k t v now all rest more a sent place next w new lines more_lines g e n out =
-    go g.left (subst (λ (ts : List Taken). Runs k t g.at ts g.left now) e g.runs) g.texts
+    go g.left (subst (λ (ts : List DeliveredStep). Runs k t g.at ts g.left now) e g.runs) g.texts
   where
     go : (left : List Draft) → Runs k t g.at (a ∷ more) left now → drop place (map (λ d. d.bytes) sent) ≡ map (λ s. datagram_bytes s.datagram) (sends_of left) → Out k t v now all more sent next new more_lines
     go [] runs texts = absurd runs
@@ -282,7 +282,7 @@ out_more k t v now all rest more a sent place next w new lines more_lines g e n 
         texts ∙ map-append (λ s. datagram_bytes s.datagram) (sends_in x) (sends_of left) ∙ ap (λ (ss : List Send). map (λ s. datagram_bytes s.datagram) ss ++ map (λ s. datagram_bytes s.datagram) (sends_of left)) sends in
         let done = out_one k a.number g.at x new.network lines more_lines (out g.at x g.network runs.1 (spelt_here a.step.batch.sends (map (λ s. datagram_bytes s.datagram) (sends_of left)) sent place split)) in
         let both = subst (λ (n : Moment). NetworkStands new.network n.after.packets n.after.bytes × (more_lines ≡ lines ++ n.lines)) (sym runs.0) done in
-        let rest_is : go_all t (map number_of rest) g.at ≡ m ∷ go_all t (map number_of more) m.after = ap (λ (ts : List Taken). go_all t (map number_of ts) g.at) e ∙ gone_first t a.number (map number_of more) g.at in
+        let rest_is : go_all t (map number_of rest) g.at ≡ m ∷ go_all t (map number_of more) m.after = ap (λ (ts : List DeliveredStep). go_all t (map number_of ts) g.at) e ∙ gone_first t a.number (map number_of more) g.at in
         record {
           at = m.after;
           left = left;
@@ -296,16 +296,16 @@ out_more k t v now all rest more a sent place next w new lines more_lines g e n 
               ∙ ap (λ ls. lines ++ ls) (sym (lines_first m _)) ∙ ap (λ ms. lines ++ lines_of ms) (sym rest_is) ∙ g.told;
         }
 
-pub out_all : (k t : ℕ) (v now : Cluster) (all rest : List Taken) (sent : List Sent) (place : ℕ) (w : World) (lines : List Line) → Out k t v now all rest sent place w lines → rest ≡ [] → MachinesStand w.sites now.n now.sites
+pub out_all : (k t : ℕ) (v now : Cluster) (all rest : List DeliveredStep) (sent : List Sent) (place : ℕ) (w : World) (lines : List Line) → Out k t v now all rest sent place w lines → rest ≡ [] → MachinesStand w.sites now.n now.sites
     → Leads (all_gone t (map number_of all) v) w lines
 unfolding all_gone together world_after lines_of go_all
 out_all k t v now all rest sent place w lines g e sites =
-    go g.left (subst (λ (ts : List Taken). Runs k t g.at ts g.left now) e g.runs)
+    go g.left (subst (λ (ts : List DeliveredStep). Runs k t g.at ts g.left now) e g.runs)
   where
     go : (left : List Draft) → Runs k t g.at [] left now → Leads (all_gone t (map number_of all) v) w lines
     go (x ∷ left) runs = absurd runs
     go [] runs =
-        let none : go_all t (map number_of rest) g.at ≡ [] = ap (λ (ts : List Taken). go_all t (map number_of ts) g.at) e in
+        let none : go_all t (map number_of rest) g.at ≡ [] = ap (λ (ts : List DeliveredStep). go_all t (map number_of ts) g.at) e in
         let held : Holds w g.at = record { sites = subst (λ (u : Cluster). MachinesStand w.sites u.n u.sites) runs sites; network = g.network } in
         record {
           after = subst (λ (u : Cluster). Holds w u) (sym (g.after ∙ ap (world_after g.at) none)) held;

@@ -10,7 +10,7 @@ use Rattle.crsm_spec.specs.Replica.{Replica}
 use Rattle.crsm_spec.specs.Step.{Input, step}
 use Rattle.crsm_spec.specs.World.{Packet, Site, World, Moment, whole_step}
 use Rattle.crsm_spec.specs.Moments.{begun_at, go_each, go_all, lines_of, single, use_up, world_after}
-use Rattle.crsm_world.specs.declared.groups.Taken.{Taken}
+use Rattle.crsm_world.specs.declared.groups.DeliveredStep.{DeliveredStep}
 use Rattle.crsm_world.specs.declared.world.World.{World as WorldInMemory}
 use Rattle.crsm_world.specs.Machines.{MachinesStand}
 use Rattle.crsm_world.specs.World.{HoldsBeside}
@@ -46,15 +46,15 @@ gone t i w = single whole_step w (Single.Go i t)
 abbrev pub step_of : Replica → Packet → ℕ → Draft
 step_of r p t = step r (Input.Came p.from p.datagram) t
 
-abbrev pub number_of : Taken → ℕ
+abbrev pub number_of : DeliveredStep → ℕ
 number_of a = a.number
 
 -- what each step sends has a spelling
-abbrev pub FitsTaken : Taken → Type 0
+abbrev pub FitsTaken : DeliveredStep → Type 0
 FitsTaken a = AllByRecursion FitsSent a.step.batch.sends
 
 -- These were delivered to k one behind the other, by these steps, from world v to world u.
-abbrev pub Runs : (k t : ℕ) → World → List Taken → List Draft → World → Type 0
+abbrev pub Runs : (k t : ℕ) → World → List DeliveredStep → List Draft → World → Type 0
 Runs k t v [] [] u = u ≡ v
 Runs k t v (a ∷ taken) (x ∷ steps) u =
     (gone t a.number v ≡ begun_at v (whole_step (use_up a.number v) k x)) × Makes a.step x × Runs k t (gone t a.number v).after taken steps u
@@ -74,7 +74,7 @@ abbrev pub AreStill : List Packet → List Packet → Type 0
 AreStill packets more = (i : ℕ) (p : Packet) → slice_get packets i ≡ Some p → IsStill p more i
 
 -- Replica k has taken these, which are neither kept nor out.
-pub record TookAll (k t : ℕ) (v : World) (is : List ℕ) (w : WorldInMemory) (taken : List Taken) : Type 0 where
+pub record TookAll (k t : ℕ) (v : World) (is : List ℕ) (w : WorldInMemory) (taken : List DeliveredStep) : Type 0 where
   pub now : World
   pub replica : Replica
   pub steps : List Draft
@@ -85,11 +85,11 @@ pub record TookAll (k t : ℕ) (v : World) (is : List ℕ) (w : WorldInMemory) (
   pub still : AreStill v.packets now.packets
 
 -- the step of datagram i of v, which comes to r behind other steps, neither kept nor out
-abbrev pub TakesOne : (k t i : ℕ) → WorldInMemory → Taken → World → ℕ → List Site → Replica → List Draft → Type 0
+abbrev pub TakesOne : (k t i : ℕ) → WorldInMemory → DeliveredStep → World → ℕ → List Site → Replica → List Draft → Type 0
 TakesOne k t i w taken v n places r steps = (p : Packet) → slice_get v.packets i ≡ Some p →
     Makes taken.step (step_of r p t) × HoldsBeside k (steps ++ step_of r p t ∷ []) w v n (slice_set places k (Site.Up (step_of r p t).replica))
 
 -- for whatever replica k has taken from world v on, and has kept and sent from this place on
-abbrev pub WhereTaken : WorldInMemory → ℕ → List Taken → ℕ → (ℕ → World → Type 0) → Type 0
+abbrev pub WhereTaken : WorldInMemory → ℕ → List DeliveredStep → ℕ → (ℕ → World → Type 0) → Type 0
 WhereTaken w k taken first P = (t : ℕ) (v now : World) (steps : List Draft) → NetworkStands w.network v.packets v.bytes → Runs k t v taken steps now →
     MachinesStand w.sites now.n now.sites → Sends w.sites.port first steps → P t v

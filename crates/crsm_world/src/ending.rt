@@ -4,7 +4,7 @@ use crsm_sim_machine::Step;
 
 /// Where the put of a step stops: after so many device calls, with this byte in the ranges that were not synced.
 #[derive(Clone, Copy)]
-pub(crate) struct Stop {
+pub(crate) struct StepStop {
     pub calls: u64,
     pub fill: u8,
 }
@@ -19,7 +19,7 @@ pub(crate) enum Ending {
     /// It stops behind the first write of its put: its records are not kept.
     Lost,
     /// It stops within its put.
-    At { stop: Stop },
+    At { stop: StepStop },
 }
 
 /// What came of a replica where something came to it, before its datagrams and lines are out.

@@ -10,7 +10,7 @@ ghost use Rattle.crsm_world.specs.Effects.{Leaves, FitsEffects, WhereUpIn};
 ghost use Rattle.crsm_world.specs.Turning.{ending_of, FitsEnding, turn_at};
 ghost use Rattle.crsm_world.specs.Machines.{MachinesStand};
 
-use crate::ending::{Effects, Ending, Stop};
+use crate::ending::{Effects, Ending, StepStop};
 use crate::machines::Machines;
 use crsm_base::NoMemory;
 use crsm_sim_machine::Arrival;
@@ -72,7 +72,7 @@ impl Machines {
     fn step_stopped(
         &mut self,
         k: u32,
-        stop: Stop,
+        stop: StepStop,
         arrival: Arrival<'_>,
         reading: u64,
     ) -> Result<Effects, NoMemory>
@@ -116,7 +116,7 @@ impl Machines {
             Ending::Kept { sends } => Ok(self.step_kept(k, sends, arrival, reading)?),
             Ending::Lost => {
                 // What is not synced then reads as an open gate, and its records are lost all the same.
-                let stop = Stop { calls: 1, fill: 1 };
+                let stop = StepStop { calls: 1, fill: 1 };
                 Ok(self.step_stopped(k, stop, arrival, reading)?)
             }
             Ending::At { stop } => Ok(self.step_stopped(k, stop, arrival, reading)?),

@@ -10,7 +10,7 @@ ghost use Rattle.crsm_world.specs.Doing.{act_of};
 ghost use Rattle.crsm_world.specs.World.{Holds, Leads, WhereHolds};
 ghost use Rattle.crsm_world.specs.Starting.{CanStart};
 
-use crate::ending::{Ending, Stop};
+use crate::ending::{Ending, StepStop};
 use crate::outgoing::leave;
 use crate::world::World;
 use crsm_base::{Lines, NoMemory};
@@ -81,7 +81,7 @@ impl World {
                 fill,
                 single,
             } => {
-                let stop = Stop {
+                let stop = StepStop {
                     calls: *calls,
                     fill: *fill,
                 };

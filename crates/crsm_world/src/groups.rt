@@ -16,7 +16,7 @@ use crsm_sim_machine::{Arrival, Step, machines_pend_nothing};
 
 /// A datagram that was delivered, and the step that it made.
 #[derive(Drop)]
-pub(crate) struct Taken {
+pub(crate) struct DeliveredStep {
     number: u64,
     step: Step,
 }
@@ -47,7 +47,7 @@ impl World {
     }
 
     /// Delivers a datagram to replica `k`, which is up, as one of the steps that are kept together.
-    fn take(&mut self, k: u32, number: u64, reading: u64) -> Result<Taken, NoMemory>
+    fn take(&mut self, k: u32, number: u64, reading: u64) -> Result<DeliveredStep, NoMemory>
         requires { k < length self.old.sites.items.items }
         ensures number { IfOk result (λ taken. taken.number ≡ number) }
         ensures stands { IfOk result (λ taken. WhereHeldBeside self.old k (TakesOne k reading number self.new taken)) }
@@ -67,11 +67,16 @@ impl World {
             bytes: packet.bytes,
         };
         let step = self.sites.take(k, arrival, reading)?;
-        Ok(Taken { number, step })
+        Ok(DeliveredStep { number, step })
     }
 
     /// Delivers these to replica `k`, which is up. Their steps are not kept yet.
-    fn take_all(&mut self, k: u32, reading: u64, numbers: &[u64]) -> Result<Vec<Taken>, NoMemory>
+    fn take_all(
+        &mut self,
+        k: u32,
+        reading: u64,
+        numbers: &[u64],
+    ) -> Result<Vec<DeliveredStep>, NoMemory>
         requires { k < length self.old.sites.items.items }
         ensures takes { IfOk result (λ taken. WhereHeldUp self.old k (λ v r. AreFor k v.packets numbers.now → TookAll k reading v numbers.now self.new taken.items)) }
         ensures spelt { IfOk result (λ taken. AllByRecursion FitsTaken taken.items) }
@@ -87,14 +92,19 @@ impl World {
     }
 
     /// Lets out what replica `k` has taken and kept, each step in turn. The port has sent all of it, from `first` on.
-    fn let_each_out(&mut self, k: u32, taken: Vec<Taken>, first: usize) -> Result<Lines, NoMemory>
+    fn let_each_out(
+        &mut self,
+        k: u32,
+        taken: Vec<DeliveredStep>,
+        first: usize,
+    ) -> Result<Lines, NoMemory>
         requires { AllByRecursion FitsTaken taken.items }
         ensures { IfOk result (λ lines. WhereTaken self.old k taken.items first (λ t v. Leads (all_gone t (map number_of taken.items) v) self.new lines)) }
     {
         let mut lines = Lines::new(self.alloc);
         let mut place = first;
         for one in taken {
-            let Taken { number, step } = one;
+            let DeliveredStep { number, step } = one;
             let next = behind(place, &step)?;
             self.network.use_up(number);
             let_all_out(

@@ -14,7 +14,7 @@ ghost use Rattle.crsm_sim_machine.specs.Machine.{MachineStands};
 ghost use Rattle.crsm_port.specs.Sent.{packets_of};
 ghost use Rattle.crsm_world.specs.Machines.{MachinesStand, MachinesPend, MachinesCut, MachinesBoot, is_up_in, up_in, roomed, spec_in, WhereMachinesStand, WhereUp, WherePending, StepsTo, PendsTo, WhereSite, CanBoot};
 
-use crate::ending::Stop;
+use crate::ending::StepStop;
 use crate::founders::Founders;
 use crsm_base::{Line, Lines, MAX_REPLICAS, Members, NoMemory, never};
 use crsm_port::{MemPort, SentPackets};
@@ -126,7 +126,7 @@ impl Machines {
     pub fn cut_at(
         &mut self,
         k: u32,
-        stop: Stop,
+        stop: StepStop,
         arrival: Arrival<'_>,
         reading: u64,
     ) -> Result<Option<Step>, NoMemory>

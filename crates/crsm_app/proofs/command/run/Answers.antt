@@ -1,7 +1,7 @@
 use Rattle.std.proofs.Common.{Err, ap, refl, sym, ◌∙◌, subst, map, string_bytes}
 use Rattle.crsm_text_words.specs.Answers.{OrderRefused}
 use Rattle.crsm_text_words.specs.declared.order.Order.{Order}
-use Rattle.crsm_text_words.specs.declared.read.Refusal.{Refusal}
+use Rattle.crsm_text_words.specs.declared.read.WordsError.{WordsError}
 use Rattle.crsm_app.specs.Run.{at_fault, did, no_memory}
 use Rattle.crsm_app.specs.Tasks.{IsReader}
 use Rattle.crsm_app.proofs.Asked.{not_idle, not_usage, read_so, within_limits}
@@ -56,7 +56,7 @@ returns-in-Ok-clause-clock g c = λ not_running. c.do_order.ensures.clock (λ ru
 
 pub returns-in-Err-Usage-clause-ran : goal.returns-in-Err-Usage-clause-ran
 returns-in-Err-Usage-clause-ran g c =
-    let words = map string_bytes c.args.words.now in at_fault (subst (λ (r : Refusal). OrderRefused words r) c.in-Err-Usage.field-0-is c.in-Err-Usage.ensures.any) refl
+    let words = map string_bytes c.args.words.now in at_fault (subst (λ (r : WordsError). OrderRefused words r) c.in-Err-Usage.field-0-is c.in-Err-Usage.ensures.any) refl
     (record { left = refl; written = refl; read_faults = refl; write_faults = refl; port = refl; disk = record { seen = refl; may_leave = λ bytes left. left; history = refl; faults = refl }; clock = refl })
 
 pub returns-in-Err-Usage-clause-faults : goal.returns-in-Err-Usage-clause-faults
@@ -64,7 +64,7 @@ returns-in-Err-Usage-clause-faults g c = record { read = λ is. absurd (cc is); 
 
 pub returns-in-Err-Usage-clause-usage : goal.returns-in-Err-Usage-clause-usage
 returns-in-Err-Usage-clause-usage g c = λ is.
-    let words = map string_bytes c.args.words.now in subst (λ (r : Refusal). OrderRefused words r) c.in-Err-Usage.field-0-is c.in-Err-Usage.ensures.any
+    let words = map string_bytes c.args.words.now in subst (λ (r : WordsError). OrderRefused words r) c.in-Err-Usage.field-0-is c.in-Err-Usage.ensures.any
 
 pub returns-in-Err-Usage-clause-asked : goal.returns-in-Err-Usage-clause-asked
 returns-in-Err-Usage-clause-asked g c = λ plain order asks is.

@@ -8,7 +8,7 @@ pub run_lines-requires : goal.run_lines-requires
 run_lines-requires g c = begins c.new.result c.new.ensures
 
 pub returns-clause-ran : goal.returns-clause-ran
-returns-clause-ran g c = ran_so c.runs_are_safe.ensures c.run_lines.result _ _ _ _ c.run_lines.ensures.ran
+returns-clause-ran g c = ran_so c.leader_runs_are_safe.ensures c.run_lines.result _ _ _ _ c.run_lines.ensures.ran
 
 pub returns-clause-complete : goal.returns-clause-complete
 returns-clause-complete g c =

@@ -19,7 +19,7 @@ use Rattle.crsm_node.specs.Devices.{node_of}
 use Rattle.crsm_node.specs.Kept.{HasBehind}
 use Rattle.crsm_node.specs.Serving.{Serves}
 use Rattle.crsm_node.specs.Steps.{FailsToTake}
-use Rattle.crsm_node.specs.declared.pending.Pending.{Pending}
+use Rattle.crsm_node.specs.declared.pending.PendingTurns.{PendingTurns}
 use Rattle.crsm_node.specs.declared.errors.NodeError.{NodeError}
 use Rattle.crsm_node.specs.declared.errors.NodeError.TheVariants as errors
 use Rattle.crsm_node.proofs.Ends.{group_if, groups_with}
@@ -106,7 +106,7 @@ loop-turn-preserved g c =
     let now = node_of g.D.Disk.meaning g.P.Port.meaning g.C.Clock.readings g.O.Sink.written g.O.Sink.faults c.loop-turn.shell c.loop-turn.detector c.loop-turn.port c.loop-turn.clock c.loop-turn.sheet in
     let turn = c.loop-turn.turn in
     let below = c.loop-turn-test.true in
-    let Next : Replica → Watch → Shell g.row.D.Denot g.D.Disk → g.row.P.Denot → g.row.O.Denot → Pending → Type 0 = λ r w shell port sheet pending.
+    let Next : Replica → Watch → Shell g.row.D.Denot g.D.Disk → g.row.P.Denot → g.row.O.Denot → PendingTurns → Type 0 = λ r w shell port sheet pending.
     Stage r w start (node_of g.D.Disk.meaning g.P.Port.meaning g.C.Clock.readings g.O.Sink.written g.O.Sink.faults shell c.take_turn.new.detector port c.take_turn.new.clock sheet) pending.lines (turn + 1) c.args.turns in
     elim c.if-ends_group.branch [
       | then-ends_group+in_ok-keep_group-in-Ok v ↦ record {
@@ -210,7 +210,7 @@ returns-in-Err-clause-serves g c r w stands watches =
     let Fails : NodeError → Type 0 = λ why. FailsToTake shell (g.D.Disk.meaning (disk_of shell)) c.take_turn.new.detector (g.C.Clock.readings c.loop-turn.clock) (g.C.Clock.readings c.take_turn.new.clock) (g.P.Port.meaning c.loop-turn.port) (g.P.Port.meaning c.take_turn.new.port)
     c.loop-turn.pending.lines c.take_turn.new.pending.lines q.log (replica_after r all) steps (watch_after w all) why in
     let fails : Fails c.in-Err.why = c.in-Err.ensures.failed q.log (replica_after r all) steps s.pends.stands (replica_after r all).me (watch_after w all) s.pends.watches refl in
-    let Ends : Shell g.row.D.Denot g.D.Disk → g.row.P.Denot → g.row.O.Denot → Pending → Type 0 = λ sh po sheet pending.
+    let Ends : Shell g.row.D.Denot g.D.Disk → g.row.P.Denot → g.row.O.Denot → PendingTurns → Type 0 = λ sh po sheet pending.
     Serves r w c.args.turns start (node_of g.D.Disk.meaning g.P.Port.meaning g.C.Clock.readings g.O.Sink.written g.O.Sink.faults sh c.take_turn.new.detector po c.take_turn.new.clock sheet) (Err c.in-Err.why) in
     let failed = port_failed g.D.Disk.meaning g.P.Port.meaning g.C.Clock.readings g.O.Sink.written g.O.Sink.faults r w start c.loop-turn.shell shell c.loop-turn.detector c.take_turn.new.detector
     c.loop-turn.port c.take_turn.new.port c.loop-turn.clock c.take_turn.new.clock c.loop-turn.sheet c.loop-turn.pending.lines c.take_turn.new.pending.lines s.groups s.ts s.pends c.take_turn.ensures.disk c.take_turn.ensures.peers in

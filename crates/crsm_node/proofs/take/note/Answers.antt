@@ -1,5 +1,5 @@
 use Rattle.std.proofs.Common.{ℕ, List, sym, subst}
-use Rattle.crsm_replica_io.specs.declared.input.Taken.{Taken}
+use Rattle.crsm_replica_io.specs.declared.input.ReceivedInput.{ReceivedInput}
 use Rattle.crsm_replica_detector.specs.Detector.{DetectorStands}
 use Rattle.crsm_replica_detector.specs.Watching.{Watch, heard_at}
 use Rattle.crsm_replica_detector.specs.Wished.{with_turn}
@@ -8,7 +8,7 @@ use Rattle.crsm_shell.specs.Taking.{turn_of}
 use Rattle.crsm_node.proofs.take.note.Goals as goal
 
 -- what is noted where this was taken
-abbrev Notes : Detector → ℕ → Watch → List ℕ → Taken → Type 0
+abbrev Notes : Detector → ℕ → Watch → List ℕ → ReceivedInput → Type 0
 Notes d me w buffer t = DetectorStands d me (with_turn (turn_of buffer t) w)
 
 pub returns-in-Datagram : goal.returns-in-Datagram

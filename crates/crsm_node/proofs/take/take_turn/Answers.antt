@@ -10,7 +10,7 @@ use Rattle.crsm_shell.specs.Words.{buffer_of, disk_of, has_failed}
 use Rattle.crsm_shell.specs.declared.shell.Shell.{Shell}
 use Rattle.crsm_shell.specs.declared.errors.TurnError.{TurnError}
 use Rattle.crsm_shell.specs.declared.errors.TurnError.TheVariants as errors
-use Rattle.crsm_shell.specs.declared.turned.Turned.{Turned}
+use Rattle.crsm_shell.specs.declared.turned.TurnResult.{TurnResult}
 use Rattle.crsm_node.specs.Errors.{turn_failure}
 use Rattle.crsm_node.specs.Steps.{FailsToTake, turn_text}
 use Rattle.crsm_node.specs.declared.errors.NodeError.{NodeError}
@@ -26,7 +26,7 @@ both b is other = cc
 if_err : {A : Type 0} (P : NodeError → Type 0) (result : Result A NodeError) (e why : NodeError) → result ≡ Err e → e ≡ why → P why → IfErr result P
 if_err {A = A} P result e why is same h = subst (λ (x : Result A NodeError). IfErr x P) (sym is) (subst P (sym same) h)
 
-abbrev stopping : TurnError → Result Turned TurnError
+abbrev stopping : TurnError → Result TurnResult TurnError
 stopping why = Err why
 
 not_failed : {D : Type 0} {g : _} (shell : Shell D g) (m : _) (kept : _) (r : _) (steps : _) → ShellStands shell m kept r steps → has_failed shell ≡ false

@@ -1,6 +1,6 @@
 use Rattle.std.proofs.Common.{◌≡◌, Some, ap, sym, ◌∙◌}
 use Rattle.crsm_text_words.specs.Addresses.{joined, parts_of}
-use Rattle.crsm_text_words.specs.declared.address.Parts.{Parts}
+use Rattle.crsm_text_words.specs.declared.address.AddressParts.{AddressParts}
 use Rattle.crsm_text_words.proofs.AddressLaws.{joined_parts, parts_are, parts_joined}
 use Rattle.crsm_text_words.proofs.address.read_address.Goals as goal
 

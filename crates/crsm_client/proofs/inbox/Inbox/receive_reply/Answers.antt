@@ -1,5 +1,5 @@
 use Rattle.std.proofs.Common.{◌≡◌, ◌∙◌, ◌+◌, List, ℕ, length, drop, ap, arith}
-use Rattle.crsm_client.specs.Marks.{mark_in}
+use Rattle.crsm_wire.specs.Marks.{mark_in}
 use Rattle.crsm_client.proofs.Receiving.{brings, brings_nothing, in_buffer, starves}
 use Rattle.crsm_client.proofs.inbox.Inbox.receive_reply.Goals as goal
 

@@ -1,5 +1,5 @@
 use Rattle.std.proofs.Common.{◌∙◌, ap, [], ◌∷◌, ◌++◌, List, ℕ}
-use Rattle.crsm_ledger.specs.declared.spelt.Place.{Place}
+use Rattle.crsm_ledger.specs.declared.spelt.SpellingRange.{SpellingRange}
 use Rattle.crsm_ledger.specs.Pieces.{IsWithin, pieces, piece}
 use Rattle.crsm_fact_log.proofs.Lists.{all-push}
 use Rattle.crsm_ledger.proofs.PiecesLemmas.{all-kept, keeps-trans, pieces-kept, pieces-push}
@@ -29,7 +29,7 @@ invariant_of-self-2 c =
 
 pub returns : goal.returns
 returns c =
-    ap (λ (ps : List Place). pieces c.append.new.chunks.items ps) c.in_ok-push.ensures.items
+    ap (λ (ps : List SpellingRange). pieces c.append.new.chunks.items ps) c.in_ok-push.ensures.items
     ∙ pieces-push c.append.new.chunks.items c.self.inside.places.items c.in_ok-place.place
     ∙ ap (λ (before : List (List ℕ)). before ++ piece c.append.new.chunks.items c.in_ok-place.place ∷ [])
     (pieces-kept c.self.inside.chunks.items c.append.new.chunks.items c.self.inside.places.items

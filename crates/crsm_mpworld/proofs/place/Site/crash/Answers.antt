@@ -1,6 +1,6 @@
 use Rattle.std.proofs.Common.{sym, subst}
 use Rattle.crsm_mpspec.specs.World.{Site as SiteOnPaper, log_of}
-use Rattle.crsm_mpworld.specs.declared.place.Place.TheVariants as place
+use Rattle.crsm_mpworld.specs.declared.place.SiteState.TheVariants as place
 use Rattle.crsm_mpworld.specs.Sites.{IsIn, IsStopped}
 use Rattle.crsm_mpworld.proofs.Places.{moved}
 use Rattle.crsm_mpworld.proofs.place.Site.crash.Goals as goal

@@ -1,7 +1,7 @@
 use Rattle.std.proofs.Common.{◌≡◌, length, subst}
 use Rattle.crsm_mpspec.specs.Log.{executed}
 use Rattle.crsm_mpspec.specs.World.{Site as SiteOnPaper, log_of}
-use Rattle.crsm_mpworld.specs.declared.place.Place.TheVariants as place
+use Rattle.crsm_mpworld.specs.declared.place.SiteState.TheVariants as place
 use Rattle.crsm_mpworld.specs.Sites.{IsIn}
 use Rattle.crsm_mpworld.proofs.place.Site.executed_len.Goals as goal
 

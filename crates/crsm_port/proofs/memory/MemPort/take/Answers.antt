@@ -3,7 +3,7 @@ use Rattle.std.specs.Prelude.{slice_index_or}
 use Rattle.crsm_port.specs.Inside.{arrival_of}
 use Rattle.crsm_port.specs.Meaning.{Packet, Traffic}
 use Rattle.crsm_port.specs.Sent.{packets_of}
-use Rattle.crsm_port.specs.declared.memory.Arrival.{Arrival}
+use Rattle.crsm_port.specs.declared.memory.QueuedDatagram.{QueuedDatagram}
 use Rattle.crsm_port.proofs.Kept.{next_waits, next_taken}
 use Rattle.crsm_port.proofs.memory.MemPort.take.Goals as goal
 
@@ -13,8 +13,8 @@ returns-in-Some-clause-got c =
     let n = c.self.inside.next in
     let l = c.in-Some.arrival.now in
     let here = c.in-Some.ensures.lookup in
-    let inside : c.self.inside.next < length c.self.inside.arrivals.items = subst (λ (xs : List Arrival). c.self.inside.next < length xs) c.deref.ensures.value here.3.0 in
-    let is : c.in-Some.arrival.now ≡ slice_index_or c.self.inside.arrivals.items c.self.inside.next c.in-Some.arrival.now = here.3.1 c.in-Some.arrival.now ∙ ap (λ (xs : List Arrival). slice_index_or xs c.self.inside.next c.in-Some.arrival.now) c.deref.ensures.value in
+    let inside : c.self.inside.next < length c.self.inside.arrivals.items = subst (λ (xs : List QueuedDatagram). c.self.inside.next < length xs) c.deref.ensures.value here.3.0 in
+    let is : c.in-Some.arrival.now ≡ slice_index_or c.self.inside.arrivals.items c.self.inside.next c.in-Some.arrival.now = here.3.1 c.in-Some.arrival.now ∙ ap (λ (xs : List QueuedDatagram). slice_index_or xs c.self.inside.next c.in-Some.arrival.now) c.deref.ensures.value in
     rw (← c.self.view_is) (
       arrival_of l,
       drop (n + 1) (map arrival_of ls),

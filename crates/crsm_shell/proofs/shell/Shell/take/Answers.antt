@@ -2,12 +2,12 @@ use Rattle.std.proofs.Common.{◌≡◌, false, sym, ◌∙◌, ap}
 use Rattle.std.specs.Prelude.{Result, Err}
 use Rattle.crsm_shell.specs.declared.errors.TurnError.{TurnError}
 use Rattle.crsm_shell.specs.declared.errors.TurnError.TheVariants as errors
-use Rattle.crsm_shell.specs.declared.turned.Turned.{Turned}
+use Rattle.crsm_shell.specs.declared.turned.TurnResult.{TurnResult}
 use Rattle.crsm_shell.specs.Errors.{is_lasting}
 use Rattle.crsm_shell.specs.Shell.{ShellStands}
 use Rattle.crsm_shell.proofs.shell.Shell.take.Goals as goal
 
-abbrev failing : TurnError → Result Turned TurnError
+abbrev failing : TurnError → Result TurnResult TurnError
 failing why = Err why
 
 same_err : (a b : TurnError) → failing a ≡ failing b → a ≡ b

@@ -8,7 +8,7 @@ use Rattle.crsm_replica_io.specs.Input.{TakesInput}
 use Rattle.crsm_replica_io.specs.Outgoing.{packets_for}
 use Rattle.crsm_shell.specs.declared.errors.TurnError.{TurnError}
 use Rattle.crsm_shell.specs.declared.errors.TurnError.TheVariants as errors
-use Rattle.crsm_shell.specs.declared.turned.Turned.{Turned}
+use Rattle.crsm_shell.specs.declared.turned.TurnResult.{TurnResult}
 use Rattle.crsm_shell.specs.Flushing.{SendsPackets}
 use Rattle.crsm_shell.specs.Shell.{ShellStands, sends_of}
 use Rattle.crsm_shell.specs.Taking.{heard_in, most_received, step_of, turn_of}
@@ -24,7 +24,7 @@ failing why = Err why
 same_err : (a b : TurnError) → failing a ≡ failing b → a ≡ b
 same_err a b is = cc
 
-abbrev stopping : TurnError → Result Turned TurnError
+abbrev stopping : TurnError → Result TurnResult TurnError
 stopping why = Err why
 
 same_turn : (a b : TurnError) → stopping a ≡ stopping b → a ≡ b

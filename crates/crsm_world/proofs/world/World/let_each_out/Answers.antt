@@ -3,7 +3,7 @@ use Rattle.std.specs.List.{AllByRecursion}
 use Rattle.std.specs.Vec.Iter.{into_iter_items}
 use Rattle.crsm_sim_network.specs.Packets.{AreSpelt}
 use Rattle.crsm_port.specs.Meaning.{Packet as Sent}
-use Rattle.crsm_world.specs.declared.groups.Taken.{Taken}
+use Rattle.crsm_world.specs.declared.groups.DeliveredStep.{DeliveredStep}
 use Rattle.crsm_world.specs.Machines.{MachinesStand}
 use Rattle.crsm_world.specs.Several.{FitsTaken}
 use Rattle.crsm_world.proofs.Series.{nothing_left, out_all, out_more}
@@ -16,7 +16,7 @@ loop-one-preserved c =
     record {
       sites = at.invariant.sites;
       len = let was = at.invariant.len in let gone = c.in-Some.ensures.steps.1 in let short = ap length steps in omega arith;
-      spelt = (subst (λ (ts : List Taken). AllByRecursion FitsTaken ts) steps at.invariant.spelt).1;
+      spelt = (subst (λ (ts : List DeliveredStep). AllByRecursion FitsTaken ts) steps at.invariant.spelt).1;
       out = λ t v now drafts h runs sent.
           let sent_is = c.sent.ensures ∙ ap (λ s. s.port.sent) at.invariant.sites in
           out_more c.args.k t v now _ _ _ c.in-Some.one _ at.place c.in_ok-next.next at.self (record at.self { network = c.let_all_out.new.network }) at.lines c.let_all_out.new.lines (at.invariant.out t v now drafts h runs sent) steps c.in_ok-next.ensures

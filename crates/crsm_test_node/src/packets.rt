@@ -1,0 +1,42 @@
+//! Datagrams with their addresses, as `ADDRESS:HEX`.
+
+use crate::fault::Fault;
+use crate::words::{bytes_of, number_of};
+use crsm_base::{Bytes, NoMemory};
+use crsm_port::MemPort;
+use crsm_text::{push_hex, push_number};
+use std::alloc::Global;
+
+/// Returns the address and the bytes of a word.
+pub fn packet_of(alloc: Global, word: &str) -> Result<(u64, Vec<u8>), Fault> {
+    let Some((address, hex)) = word.split_once(':') else {
+        return Err(Fault::Unreadable);
+    };
+    Ok((number_of(address)?, bytes_of(alloc, hex)?))
+}
+
+/// Lets the datagram of a word wait at a port.
+pub fn put_packet(alloc: Global, port: &mut MemPort, word: &str) -> Result<(), Fault> {
+    let (from, bytes) = packet_of(alloc, word)?;
+    port.put(from, bytes.as_slice())?;
+    Ok(())
+}
+
+/// Appends a space, an address and bytes.
+pub fn push_packet(text: &mut Bytes, address: u64, bytes: &[u8]) -> Result<(), NoMemory> {
+    text.push(b' ')?;
+    push_number(text, address)?;
+    text.push(b':')?;
+    push_hex(text, bytes)
+}
+
+/// Appends what was sent, in order.
+pub fn push_sent(text: &mut Bytes, port: &MemPort) -> Result<(), NoMemory> {
+    let packets = port.sent();
+    for i in 0..packets.len() {
+        if let Some((to, bytes)) = packets.get(i) {
+            push_packet(text, to, bytes)?;
+        }
+    }
+    Ok(())
+}
