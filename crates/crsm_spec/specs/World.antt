@@ -109,7 +109,7 @@ after_step w k x site sends replies =
       lines = ((x.lines ++ x.excess) ++ send_lines k (length w.packets) sends) ++ map (λ a. a.line) replies;
     }
 
--- How a step of a replica ends in the world.
+-- The ending of a replica's step in the world.
 abbrev pub Ending : Type 0
 Ending = World → ℕ → Draft → Moment
 

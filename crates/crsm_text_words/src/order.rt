@@ -6,7 +6,7 @@ ghost use Rattle.crsm_text_words.specs.Plans.{HasOwnPeer, plan_of};
 use crate::address::Addresses;
 use crsm_base::{Bytes, Command, Key, Members};
 
-/// What the command `lock` does with a lock.
+/// An action of the command `lock`.
 #[derive(Clone, Copy, Debug, PartialEq, Eq)]
 pub enum LockAction {
     /// Takes the lock if it is free.
