@@ -13,7 +13,8 @@ use Rattle.crsm_law_agreement.specs.Ballots.{Offer, IsOffered, IsComplete, HasPr
 
 -- ---- coordinators
 
--- Replica k, which knows epoch e by this log, asks for ballot b: it has promised the ballot, and nothing is offered in it yet.
+-- Replica k, which knows epoch e by this log, asks for ballot b: it has promised the ballot, and nothing is offered in
+-- it yet.
 pub record IsAsking (n : ℕ) (logs : ℕ → Log) (offers : List Offer) (k e : ℕ) (log : Log) (b : Ballot) (own : Decision) (answers : List (Answer Decision)) : Type 0 where
   pub complete : IsComplete n logs (e + 1) own
   pub by : b.by ≡ k

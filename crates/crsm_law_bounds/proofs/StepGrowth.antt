@@ -213,7 +213,8 @@ replies_same x =
 
 -- ---- a whole step
 
--- It keeps at most 6 records besides commits, and no more commits than there are other records then; all are in its batch.
+-- It keeps at most 6 records besides commits, and no more commits than there are other records then; all are in its
+-- batch.
 pub record IsKept (old : Log) (x : Draft) : Type 0 where
   pub others : others_in x.replica.log ≤ others_in old + 6
   pub commits : commits_in x.replica.log ≤ commits_in old + (others_in old + 6)

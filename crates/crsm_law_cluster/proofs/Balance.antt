@@ -72,8 +72,8 @@ module _ (r : Replica) (Req : ℕ → Command → Type 0) (epoch : ℕ) (stamp :
   abbrev pub Waits : Draft → Waiting → Type 0
   Waits x f = From x f × Logged x.replica.log f.entry
 
-  -- So many replies on the entry of the key and clients that wait for it there are at most, and it is logged where there
-  -- are as many. The rest of the clients is still to be looked at.
+  -- An upper bound of the replies for the entry of the key plus the clients that wait for it there; the entry is logged
+  -- if the bound is reached. The other clients are still to be counted.
   pub record Balanced (x : Draft) (rest : List Waiting) : Type 0 where
     pub on : List Waiting
     pub told : Told Req x.replica.log x.replies on

@@ -56,8 +56,8 @@ IsSubmitLine _ = ⊥
 
 -- ---- what is right of a line behind others
 
--- What is submitted now, in this epoch with this stamp, was not submitted or replied to before, and stands behind all that was
--- answered before.
+-- An entry submitted now, with this epoch and stamp, was not submitted or replied to before, and is after all that was
+-- answered.
 pub record IsFirst (list : List Entry) (before : List TraceLine) (x : ℕ) (s : Stamp) : Type 0 where
   pub submitted : (u : TraceLine) → Among before u → IsSubmitOf x s u.line → ⊥
   pub replied : (u : TraceLine) → Among before u → IsReplyOn list x s u.line → ⊥

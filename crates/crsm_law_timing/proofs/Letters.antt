@@ -86,8 +86,8 @@ among_get (x ∷ xs) a (inr m) = let t = among_get xs a m in (suc t.0, t.1)
 unfoldable pub tick_of : Plan → ℕ → Timed
 tick_of plan k = tick plan k (stamped plan + 1 - offset_of plan k)
 
--- How far k is, by what has happened: the origin has logged the command if it came; another has if it took the frame of it, and has
--- acknowledged it if its clock is past.
+-- The progress of k by what has happened: the origin has logged the command if it arrived; another replica has if it
+-- received its frame, and has acknowledged it if its clock is past the timestamp.
 pub record AtOrigin (plan : Plan) (before : List Timed) (p : Part) : Type 0 where
   pub begun : HasLogged p → Among before (request plan)
   pub begins : Among before (request plan) → HasLogged p

@@ -26,7 +26,8 @@ the_stamp plan = record { time = stamped plan; origin = plan.origin }
 abbrev pub the_entry : Plan → Entry
 the_entry plan = record { epoch = 0; stamp = the_stamp plan; command = the_command }
 
--- How far it is: nothing is logged; the command is, and its acknowledgement is owed; a time was issued; the command is executed.
+-- The progress of a replica: nothing is logged; the command is, and its acknowledgement is pending; a time was issued;
+-- the command is executed.
 pub data Part : Type 0 where
   Bare : Part
   Owing : Part
