@@ -31,7 +31,7 @@ decision_of w e = find (λ d. d.epoch == e) (decisions_in w)
 unfoldable pub spec_at : World → ℕ → List ℕ
 spec_at w e = spec_decided w.n (decision_of w e)
 
--- ---- what was chosen
+-- ---- chosen decisions
 
 -- k accepted d in this ballot, as the decision after epoch e, and has executed d's base
 pub record HasAccepted (w : World) (e : ℕ) (ballot : Ballot) (d : Decision) (k : ℕ) : Type 0 where
