@@ -61,7 +61,7 @@ pub trait Disk {
 }
 
 impl<D: Disk> Disk for &mut D {
-    ghost meaning = { λ d. record (D.meaning d.now) { lent = Some d.ghost_name } };
+    ghost meaning = { λ d. record (D.meaning d.now) { borrowed_as = Some d.ghost_name } };
 
     fn len(&mut self) -> Result<u64, Failed> {
         (**self).len()

@@ -31,7 +31,7 @@ pub(crate) struct Pacer<P, C> {
     early: Early,
     again: Again,
     // Whether the next receive must not wait.
-    is_hurried: bool,
+    is_soon: bool,
 }
 
 impl<P: Drop, C: Drop> Pacer<P, C> {
@@ -48,7 +48,7 @@ impl<P: Drop, C: Drop> Pacer<P, C> {
             requests: Requests::new(alloc)?,
             early: Early::new(alloc)?,
             again: Again::new(),
-            is_hurried: false,
+            is_soon: false,
         })
     }
 }
@@ -64,7 +64,7 @@ impl<P: Port, C: Clock> Pacer<P, C> {
             Some(got) => Ok(got),
             None => self.next(buf),
         };
-        self.is_hurried = false;
+        self.is_soon = false;
         got
     }
 
@@ -104,8 +104,8 @@ impl<P: Port, C: Clock> Pacer<P, C> {
         if self.ahead.take_failure() {
             return Err(Failed);
         }
-        if self.is_hurried {
-            self.port.hurry();
+        if self.is_soon {
+            self.port.poll_soon();
         }
         self.port.recv(buf)
     }
@@ -185,7 +185,7 @@ impl<P: Port, C: Clock> Pacer<P, C> {
     }
 
     /// Makes the next receive return at once.
-    pub(crate) fn hurry(&mut self) {
-        self.is_hurried = true;
+    pub(crate) fn poll_soon(&mut self) {
+        self.is_soon = true;
     }
 }

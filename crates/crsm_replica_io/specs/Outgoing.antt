@@ -51,18 +51,18 @@ raised_by times count = min (count + times) (2 ^ 64 - 1)
 abbrev pub with_all_sent : List Packet → Traffic → Traffic
 with_all_sent out t = record t { sent = t.sent ++ out }
 
--- at most as many are missing as the count of losses rose by; those that went out are told as the coat has them
+-- at most as many are missing as the count of losses rose by; those that went out are told as the framing has them
 pub record GoesOut (packets : List Packet) (old new : Meaning) : Type 0 where
   pub out : List Packet
   pub missing : ℕ
   pub lacks : Lacks missing packets out
   pub counted : raised_by missing old.losses ≤ new.losses
-  pub traffic : new.traffic ≡ option_map (with_all_sent (map old.coat.wrap out)) old.traffic
+  pub traffic : new.traffic ≡ option_map (with_all_sent (map old.framing.wrap out)) old.traffic
 
 -- all of them go out
 pub record GoesWhole (packets : List Packet) (p : Plan) (old new : Meaning) : Type 0 where
   pub losses : new.losses ≡ old.losses
-  pub traffic : new.traffic ≡ option_map (with_all_sent (map old.coat.wrap packets)) old.traffic
+  pub traffic : new.traffic ≡ option_map (with_all_sent (map old.framing.wrap packets)) old.traffic
   pub plan : new.plan ≡ Some (spent (length packets) (bytes_in packets) p)
 
 -- what sending all of these owes
@@ -70,8 +70,8 @@ pub record SendsAll (packets : List Packet) (old new : Meaning) : Type 0 where
   pub faults : new.faults ≡ old.faults
   pub empties : new.empties ≡ old.empties
   pub later : old.losses ≤ new.losses
-  pub coat : new.coat ≡ old.coat
-  pub lent : new.lent ≡ old.lent
+  pub framing : new.framing ≡ old.framing
+  pub borrowed_as : new.borrowed_as ≡ old.borrowed_as
   pub out : GoesOut packets old new
   -- where all calls of the port go well and there is room
   pub whole : (p : Plan) → old.plan ≡ Some p → p.good ≡ None → length packets ≤ p.calls → bytes_in packets ≤ p.bytes → GoesWhole packets p old new
