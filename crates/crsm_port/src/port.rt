@@ -9,7 +9,9 @@ use crsm_base::{Failed, NoMemory};
 /// port.
 #[derive(Clone, Copy, Debug, PartialEq, Eq)]
 pub enum Recv {
+    /// No datagram has arrived.
     Nothing,
+    /// A datagram was received.
     Datagram { from: u64, len: usize },
 }
 

@@ -1,4 +1,4 @@
-//! The state of a `PacedPort`: what is held back, and what was read ahead.
+//! The state of a `PacedPort`: datagrams that are held back, and those that were read ahead.
 
 ghost use Rattle.std.specs.Prelude.{IfOk, IfSome, length};
 ghost use Rattle.crsm_port.specs.Meaning.{IsWithin};
@@ -16,7 +16,7 @@ use crsm_port::{Port, Recv};
 use crsm_wire::{PacketHead, peek};
 use std::alloc::Global;
 
-/// A port, with what is held back before it and what was read ahead from it.
+/// A port, with the datagrams that are held back before it and those that were read ahead from it.
 #[derive(Drop)]
 pub(crate) struct Pacer<P, C> {
     port: P,
@@ -54,8 +54,8 @@ impl<P: Drop, C: Drop> Pacer<P, C> {
 }
 
 impl<P: Port, C: Clock> Pacer<P, C> {
-    /// Sends what is held back, and returns the next datagram: a kept frame that is no longer early, a request that has
-    /// waited, one that was read ahead, or one from the port.
+    /// Sends the datagrams that are held back, and returns the next one: a kept frame that is no longer early, a
+    /// request that has waited, one that was read ahead, or one from the port.
     pub(crate) fn recv(&mut self, buf: &mut [u8]) -> Result<Recv, Failed>
         ensures { IfOk result (IsWithin (length buf.old)) }
     {
@@ -176,7 +176,7 @@ impl<P: Port, C: Clock> Pacer<P, C> {
         }
     }
 
-    /// Sends what is held back, reads ahead, and reserves memory at the port; sends follow.
+    /// Sends the datagrams that are held back, reads ahead, and reserves memory at the port; sends follow.
     pub(crate) fn reserve(&mut self, sends: u64, bytes: u64) -> Result<(), NoMemory> {
         self.now = self.clock.now();
         self.held.let_go(&mut self.port);
