@@ -1,4 +1,4 @@
--- What a core stands for, and what it answers.
+-- What a core stands for, and the output of its steps.
 use Rattle.std.specs.Prelude.{◌≡◌, ℕ, ◌<◌, true, false}
 use Rattle.std.specs.List.{AllByRecursion}
 use Rattle.crsm_base.specs.declared.send.Send.{Send}

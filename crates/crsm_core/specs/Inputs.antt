@@ -1,4 +1,4 @@
--- Which input of the rules an input is.
+-- The input of the rules that an input in memory stands for.
 use Rattle.crsm_base.specs.Messages.{FitsDatagram}
 use Rattle.crsm_spec.specs.Step.{Input as InputOnPaper}
 use Rattle.crsm_core.specs.declared.input.Input.{Input}

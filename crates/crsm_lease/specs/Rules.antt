@@ -1,4 +1,4 @@
--- What take, give and break do, as a table, and what a client asks and is told by it.
+-- The table of take, give and break, and what a client asks for and reports by it.
 use Rattle.std.specs.Prelude.{◌≡◌, ◌≢◌, ◌⊎◌, ℕ, ◌+◌, ◌<◌, ◌^◌, ◌==◌, nat_lt, if◌then◌else◌, List, Option, Some, None}
 use Rattle.crsm_base.specs.declared.command.Op.{Op}
 use Rattle.crsm_base.specs.declared.answer.Answer.{Answer}
@@ -99,7 +99,7 @@ pub record Returns (action : Action) (me : ℕ) (op : Op) : Type 0 where
   pub give : action ≡ Action.Give
   pub is : op ≡ give_back key fence me
 
--- what is asked grants a lock or gives one back
+-- every operation asked for grants a lock or releases one
 abbrev pub AskedAreGrantsOrReturns : Type 0
 AskedAreGrantsOrReturns =
     (action : Action) (me : ℕ) (op : Op) → Asks action me op → Grants action me op ⊎ Returns action me op

@@ -1,4 +1,4 @@
--- What a ledger's fields say: what its log says.
+-- The relation of a ledger's fields to the log that it stands for.
 use Rattle.std.specs.Prelude.{◌≡◌, ℕ, ◌<◌, ◌≤◌, Bool, true, false, List, [], ◌∷◌, Option, Result, IfOk}
 use Rattle.std.specs.List.{AllByRecursion}
 use Rattle.crsm_base.specs.declared.NoMemory.{NoMemory}

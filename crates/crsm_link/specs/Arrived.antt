@@ -1,4 +1,4 @@
--- What a receiver knows of a link.
+-- What the receiver's end of a link stands for.
 use Rattle.std.specs.Prelude.{◌≡◌, ℕ, List, length}
 use Rattle.crsm_base.specs.declared.InEpoch.{InEpoch}
 use Rattle.crsm_spec.specs.Link.{taken}

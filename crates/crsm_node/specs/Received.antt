@@ -1,4 +1,4 @@
--- What turns take off a clock and a port.
+-- The readings and inputs that turns take from a clock and a port.
 use Rattle.std.specs.Prelude.{◌≡◌, ℕ, List, [], ◌∷◌, ◌++◌, map, take, Option, Some, None}
 use Rattle.std.specs.List.{flat_map}
 use Rattle.crsm_spec.specs.Node.{Turn}

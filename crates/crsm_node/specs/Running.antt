@@ -1,4 +1,4 @@
--- What a node does from its start to its end.
+-- The effects of a node from its start to its end.
 use Rattle.std.specs.Prelude.{◌≡◌, ◌≢◌, ◌⊎◌, ℕ, ◌+◌, ◌<◌, ◌≤◌, List, [], ◌∷◌, ◌++◌, length, true, IsTrue, Option, Some, None, Result, Ok, Err}
 use Rattle.crsm_base.specs.declared.limits.TheConstants.{MAX_LOG_BYTES}
 use Rattle.crsm_port_faults.specs.Counts.{Rose}

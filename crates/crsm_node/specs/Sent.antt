@@ -1,4 +1,4 @@
--- What groups of turns hand out, and which of it goes out.
+-- The datagrams of groups of turns, and which of them are sent.
 use Rattle.std.specs.Prelude.{◌≡◌, ℕ, Bool, List, [], ◌∷◌, length, IsSome, if◌then◌else◌}
 use Rattle.std.specs.List.{AllByRecursion, flat_map}
 use Rattle.crsm_base.specs.declared.send.Send.{Send}

@@ -1,4 +1,4 @@
--- What a node does over so many turns.
+-- The effects of a node over a number of turns.
 use Rattle.std.specs.Prelude.{◌≡◌, ℕ, ◌≤◌, List, [], ◌∷◌, ◌++◌, length, map, IsTrue, Option, Result, Ok, Err}
 use Rattle.crsm_port_faults.specs.Counts.{Rose}
 use Rattle.crsm_spec.specs.Node.{Turn, outputs_from}

@@ -1,4 +1,4 @@
--- What a node does in one turn, and when it keeps a group.
+-- The effects of a node in one turn, and when it flushes a group.
 use Rattle.std.specs.Prelude.{◌≡◌, ◌⊎◌, ◌↔◌, ℕ, ◌≤◌, List, [], ◌∷◌, ◌++◌, Bool, IsTrue, Option, Result, Ok, Err}
 use Rattle.crsm_port_faults.specs.Counts.{Rose}
 use Rattle.crsm_spec.specs.Draft.{Draft}

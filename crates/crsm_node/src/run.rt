@@ -22,8 +22,8 @@ use crsm_shell::{Booted, Shell, logs_are_one};
 use std::alloc::Global;
 
 /// Runs a node: claims its log for the cluster, boots the replica on it, writes the first lines of the sheet, and takes
-/// all turns. Datagrams go over the port of the cluster. Once the replica is booted the reporter is told what the log
-/// held.
+/// all turns. Datagrams use the port of the cluster. The reporter receives the content of the log once the replica is
+/// booted. Returns how the run ended.
 pub fn run_node<P: Port, D: Disk, C: Clock, O: Sink, R: Reporter>(
     alloc: Global,
     order: &NodeOrder,
@@ -45,7 +45,7 @@ pub fn run_node<P: Port, D: Disk, C: Clock, O: Sink, R: Reporter>(
     end
 }
 
-/// The same over the port of the cluster.
+/// Runs a node over the port of the cluster.
 fn run_over<P: Port, D: Disk, C: Clock, O: Sink, R: Reporter>(
     alloc: Global,
     order: &NodeOrder,

@@ -1,4 +1,4 @@
--- What the state of a replica stands for.
+-- What the state of a replica in memory stands for.
 use Rattle.std.specs.Prelude.{◌≡◌, ℕ, ◌<◌, ◌≤◌, Bool, [], map, Option, Result, IfOk, ◌≢◌}
 use Rattle.std.specs.List.{AllByRecursion}
 use Rattle.crsm_base.specs.declared.NoMemory.{NoMemory}

@@ -1,4 +1,4 @@
--- What the coordinator in memory stands for.
+-- The relation of the coordinator in memory to that of the definitions.
 use Rattle.std.specs.Prelude.{◌≡◌, ℕ, ◌+◌, Bool, true, false, ◌&&◌, not, List, [], ◌∷◌, ◌++◌, length, map, count_by, nat_le, if◌then◌else◌, Option, None, Some, bytes_eq}
 use Rattle.std.specs.List.{list_all}
 use Rattle.std.specs.Option.{option_map_or}

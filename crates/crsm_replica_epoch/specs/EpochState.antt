@@ -1,4 +1,4 @@
--- What is kept of an epoch, and what it stands for.
+-- The relation of an epoch's state in memory to the replica of the definitions.
 use Rattle.std.specs.Prelude.{◌≡◌, ℕ, ◌≤◌, Bool, true, List, [], ◌∷◌, Option, None, Some}
 use Rattle.std.specs.List.{AllByRecursion}
 use Rattle.crsm_base.specs.Order.{stamp_lt}

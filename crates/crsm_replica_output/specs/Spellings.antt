@@ -1,4 +1,4 @@
--- Spellings of control messages.
+-- Encodings of control messages.
 use Rattle.std.specs.Prelude.{◌≡◌, ℕ, List}
 use Rattle.crsm_base.specs.declared.Control.{Control}
 use Rattle.crsm_base.specs.Messages.{control_bytes, FitsControl}

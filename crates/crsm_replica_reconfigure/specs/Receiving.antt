@@ -1,4 +1,4 @@
--- What a rule on a message of another replica makes of a replica's state.
+-- The effect of a rule for another replica's message on a replica's state.
 use Rattle.std.specs.Prelude.{◌≢◌, ℕ, Result, IfOk}
 use Rattle.crsm_base.specs.declared.NoMemory.{NoMemory}
 use Rattle.crsm_spec.specs.Draft.{Draft}

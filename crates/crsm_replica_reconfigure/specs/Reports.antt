@@ -1,4 +1,4 @@
--- What pages of frozen logs bring to a replica.
+-- The effect of pages of frozen logs on a replica.
 use Rattle.std.specs.Prelude.{◌≡◌, ℕ, Bool, true, false, List, [], Option, None, Some}
 use Rattle.crsm_spec.specs.Types.{Control}
 use Rattle.crsm_base.specs.declared.control.Control.TheVariants.{SuspendOk}

@@ -1,4 +1,4 @@
--- What the rules that end an epoch make of a replica's state, and which records they would keep.
+-- The effect of the rules that end an epoch on a replica's state, and the records that they would make.
 use Rattle.std.specs.Prelude.{◌≡◌, ◌≢◌, ℕ, ◌+◌, ◌-◌, Bool, true, false, ◌&&◌, nat_lt, nat_le, List, [], length, drop, slice_get, if◌then◌else◌, Option, None, Result, IfOk}
 use Rattle.std.specs.Option.{option_map_or}
 use Rattle.crsm_base.specs.Spelling.{FitsBallot}

@@ -1,4 +1,4 @@
--- The lines of what goes out of a replica.
+-- The lines of a replica's outgoing datagrams.
 use Rattle.std.specs.Prelude.{ℕ, Bool, true, false, List}
 use Rattle.crsm_base.specs.declared.Line.{Line}
 use Rattle.crsm_base.specs.declared.send.Send.{Send}

@@ -1,4 +1,4 @@
--- What a boot answers.
+-- The result of a boot.
 use Rattle.std.specs.Prelude.{◌≡◌, ◌⊎◌, ◌↔◌, ℕ, ◌+◌, ◌<◌, List, [], ◌∷◌, ◌++◌, length, false, IsTrue, Some}
 use Rattle.crsm_base.specs.Records.{body_bytes}
 use Rattle.crsm_spec.specs.Log.{Log}

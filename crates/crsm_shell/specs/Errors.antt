@@ -1,4 +1,4 @@
--- Which errors come of others, and which are for good.
+-- The errors that others become, and which are permanent.
 use Rattle.std.specs.Prelude.{Bool, true, false}
 use Rattle.crsm_shell.specs.declared.errors.TurnError.{TurnError}
 use Rattle.crsm_shell.specs.declared.errors.TurnError.TheVariants as errors

@@ -1,4 +1,4 @@
--- What a flush does to the port and to the disk.
+-- The effect of a flush on the port and on the disk.
 use Rattle.std.specs.Prelude.{◌≡◌, ◌⊎◌, ℕ, ◌+◌, ◌<◌, ◌≤◌, List, [], ◌∷◌, ◌++◌, length, map, take, IsTrue, Option, Some, None, if◌then◌else◌, option_map}
 use Rattle.crsm_spec.specs.Draft.{Draft}
 use Rattle.crsm_spec.specs.Log.{Log}

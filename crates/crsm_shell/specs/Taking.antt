@@ -1,4 +1,4 @@
--- What a shell takes, and the step that it makes of it.
+-- The input that a shell takes, and its step.
 use Rattle.std.specs.Prelude.{◌≡◌, ℕ, List, [], ◌∷◌, ◌++◌, length, take, Option, Some, None, option_and_then, Result, Ok, Err}
 use Rattle.crsm_base.specs.MessageReading.{datagram_of}
 use Rattle.crsm_base.specs.declared.datagram.Datagram.{Datagram}

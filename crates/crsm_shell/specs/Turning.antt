@@ -1,4 +1,4 @@
--- What a turn makes, keeps and sends.
+-- The records and datagrams of a turn.
 use Rattle.std.specs.Prelude.{◌≡◌, ℕ, List, [], ◌∷◌, ◌++◌, IsTrue, Option, Ok, Err}
 use Rattle.crsm_spec.specs.Draft.{Draft}
 use Rattle.crsm_spec.specs.Log.{Log}

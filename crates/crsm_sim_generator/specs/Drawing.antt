@@ -1,4 +1,4 @@
--- How the events of a run are drawn.
+-- The generation of a run's events.
 use Rattle.std.specs.Prelude.{ℕ, ◌+◌, ◌-◌, ◌^◌, Bool, ◌&&◌, ◌||◌, ◌==◌, nat_lt, nat_le, min, if◌then◌else◌, List, [], ◌∷◌, length, Option, None, Some, option_map, slice_get, slice_index, slice_set, unwrap_or}
 use Rattle.std.specs.Option.{option_map_or}
 use Rattle.crsm_base.specs.declared.Command.{Command}

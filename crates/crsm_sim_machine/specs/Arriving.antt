@@ -1,4 +1,4 @@
--- What comes to a machine, as the turn of its replica.
+-- The turn of a replica for an input of its machine.
 use Rattle.std.specs.Prelude.{◌≡◌, ◌≤◌, [], ◌∷◌, length}
 use Rattle.crsm_spec.specs.Node.{Turn}
 use Rattle.crsm_replica_io.specs.declared.input.WantedInput.{WantedInput}

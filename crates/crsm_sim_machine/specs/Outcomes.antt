@@ -1,4 +1,4 @@
--- What a machine answers.
+-- The results of a machine's steps.
 use Rattle.std.specs.Prelude.{◌≡◌, ℕ, Bool, true, false, ◌&&◌, nat_lt, List, [], ◌∷◌, ◌++◌, length, map, drop, Option, Some, None, if◌then◌else◌}
 use Rattle.crsm_spec.specs.Log.{Log, spec}
 use Rattle.crsm_spec.specs.Replica.{Replica}

@@ -1,4 +1,4 @@
--- What an inlet means as a port.
+-- The meaning of a `PacketPort` as a port.
 use Rattle.std.specs.Prelude.{[], ◌∷◌, Some, None}
 use Rattle.crsm_port.specs.Meaning.{Meaning, Traffic, plain}
 use Rattle.crsm_sim_machine.specs.declared.packet_port.PacketPort.{PacketPort}

@@ -1,11 +1,11 @@
-//! What comes to a machine.
+//! The inputs of a machine.
 
 use crsm_base::Members;
 
-/// What comes to a machine.
+/// The input of a machine's step.
 #[derive(Debug, Drop)]
 pub enum Arrival<'a> {
-    /// Bytes from an address. They may spell no datagram.
+    /// Bytes from an address. They need not be the encoding of a datagram.
     Bytes { from: u64, bytes: &'a [u8] },
     /// A tick of the clock.
     Tick,

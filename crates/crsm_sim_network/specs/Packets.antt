@@ -1,4 +1,4 @@
--- The datagrams of a world, and how they are held in memory.
+-- The datagrams of a world, and their representation in memory.
 use Rattle.std.specs.Prelude.{◌≡◌, ◌<◌, ◌≤◌, ◌+◌, ℕ, Bool, true, false, ◌&&◌, not, min, if◌then◌else◌, List, [], ◌∷◌, ◌++◌, length, map, filter, Option, Some, option_map, slice_get, slice_set, slice_range}
 use Rattle.std.specs.List.{AllByRecursion, flat_map, range_with_len}
 use Rattle.std.specs.Option.{option_map_or}

@@ -1,4 +1,4 @@
--- What a collection stands for, and what a page brings.
+-- The relation of a collection to the pages received, and the outcome of a page.
 use Rattle.std.specs.Prelude.{◌≡◌, ℕ, ◌+◌, ◌≤◌, Bool, not, ◌&&◌, List, [], ◌∷◌, ◌++◌, length, Option, None, Some}
 use Rattle.std.specs.List.{AllByRecursion}
 use Rattle.crsm_base.specs.Spelling.{FitsEntry, FitsDecision}

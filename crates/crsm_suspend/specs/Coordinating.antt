@@ -1,4 +1,4 @@
--- What a replica does by what it got.
+-- The replica's steps on the outcome of a page.
 use Rattle.std.specs.Prelude.{◌≡◌, ℕ, Bool, List, [], ◌∷◌, ◌++◌, Option, Some}
 use Rattle.crsm_spec.specs.Types.{Stamp, Entry, Control, Line}
 use Rattle.crsm_spec.specs.Log.{known, no_ballot}

@@ -1,4 +1,4 @@
--- What comes of a replica where something comes to it, and what of that is let out.
+-- The effects of an arrival at a replica, and which of them are sent and written.
 use Rattle.std.specs.Prelude.{◌≡◌, ◌+◌, ◌-◌, ℕ, List, ◌++◌, length, map, take, Some, slice_get, slice_set}
 use Rattle.std.specs.List.{AllByRecursion}
 use Rattle.crsm_core.specs.Core.{FitsSent}

@@ -1,4 +1,4 @@
--- What holds of the acts that a world has done so far.
+-- The laws of the acts that a world has executed.
 use Rattle.std.specs.Prelude.{ℕ, ◌≤◌, List}
 use Rattle.crsm_spec.specs.World.{begin}
 use Rattle.crsm_spec.specs.Acts.{Act}

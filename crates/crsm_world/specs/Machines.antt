@@ -1,4 +1,4 @@
--- The places of the replicas, and how they are held in memory.
+-- The machines of the replicas, and their representation in memory.
 use Rattle.std.specs.Prelude.{◌≡◌, ◌≢◌, ◌≤◌, ℕ, ◌+◌, Bool, true, false, ◌==◌, if◌then◌else◌, List, [], ◌∷◌, ◌++◌, length, Option, Some, None, slice_get, slice_set}
 use Rattle.std.specs.Option.{option_map_or}
 use Rattle.crsm_spec.specs.World.{Site, is_up}

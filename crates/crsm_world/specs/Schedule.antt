@@ -1,4 +1,4 @@
--- Schedules: their text, which of them can be run, and what a run of them writes.
+-- Schedules: their text, which of them can be run, and the transcript of a run.
 use Rattle.std.specs.Prelude.{◌≡◌, ℕ, zero, suc, ◌+◌, List, [], ◌∷◌, ◌++◌, length, map, Option, Some, None, slice_get}
 use Rattle.std.specs.List.{AllByRecursion, flat_map}
 use Rattle.crsm_spec.specs.Types.{Line}

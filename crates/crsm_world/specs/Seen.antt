@@ -1,4 +1,4 @@
--- What is seen of a world by whoever draws its events.
+-- The view of a world from which its events are generated.
 use Rattle.std.specs.Prelude.{◌≡◌, ℕ, Bool, true, false, map}
 use Rattle.crsm_sim_generator.specs.View.{Mark, View}
 use Rattle.crsm_spec.specs.World.{Packet, World as Cluster, is_up, is_up_at}

@@ -1,4 +1,4 @@
--- How a step ends, and what comes of a turn of a replica.
+-- The ending of a step, and the effects of a replica's turn.
 use Rattle.std.specs.Prelude.{◌≡◌, ◌≤◌, ℕ, Option, Some, None, slice_get}
 use Rattle.crsm_base.specs.MessageReading.{datagram_of}
 use Rattle.crsm_base.specs.Messages.{datagram_bytes}
