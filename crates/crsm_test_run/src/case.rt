@@ -46,7 +46,8 @@ fn numbers_behind(alloc: Global, header: &str, word: &str) -> Result<Vec<u64>, F
     Ok(numbers)
 }
 
-/// Returns the words of the command line: those behind `words`, which stands last in a header, or else the word `replay`.
+/// Returns the words of the command line: those behind `words`, which stands last in a header, or else the word
+/// `replay`.
 fn words_of(alloc: Global, words: Option<&str>) -> Result<Vec<String>, Fault> {
     let mut list = Vec::new(alloc);
     match words {
