@@ -20,7 +20,7 @@ struct Devices {
     clock: ListClock,
 }
 
-/// What a run answered, what it wrote, the port that it sent over, and the disk that it left.
+/// A run: what it answered and wrote, the port that it sent over, and the disk that it left.
 #[derive(Drop)]
 pub struct Ran {
     pub status: Status,
@@ -135,7 +135,8 @@ fn run_over(alloc: Global, words: &[String], devices: Devices) -> Ran {
     }
 }
 
-/// Runs an input over memory as the header says. Datagrams come first, then a line `--` and the input.
+/// Runs an input over memory as the header says. Datagrams come first, then a line `--` and the input. A number or
+/// datagram that cannot be read is `Unreadable`.
 pub fn run_case(alloc: Global, header: &str, text: &str) -> Result<Ran, Fault> {
     let (header, words) = match header.split_once(" words") {
         Some((header, words)) => (header, Some(words)),
