@@ -36,7 +36,8 @@ impl Table {
         }
     }
 
-    /// Appends what a row is read as, with its line feed. After a fault the first lines of the answer may have been added.
+    /// Appends what a row is read as, with its line feed. After a fault the first lines of the answer may have been
+    /// added.
     pub fn tell(self, alloc: Global, row: &str, out: &mut Bytes) -> Result<(), Fault> {
         match self {
             Table::Lines => lines::tell(alloc, row, out),
