@@ -14,7 +14,7 @@ use std::test::Fail;
 const LOCAL: u64 = 0x7f00_0001 << 16;
 
 /// A port in memory that fails at these calls.
-fn failing_at(alloc: Global, fails: &[u64]) -> Result<Box<MemPort>, NoMemory> {
+pub fn failing_at(alloc: Global, fails: &[u64]) -> Result<Box<MemPort>, NoMemory> {
     let port = MemPort::new(alloc, fails)?;
     Ok(Box::new(alloc, port)?)
 }
