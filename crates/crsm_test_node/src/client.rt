@@ -1,4 +1,4 @@
-//! The table `client`: how it ends that a replica is asked over a port in memory, what was written, and what was sent.
+//! The table `client`: requests to a replica over a port in memory, how each ended, and what was written and sent.
 //!
 //! `client CLUSTER TO TURNS PORT OUTPUT CLIENT NUMBER OP / DATAGRAMS` is the command of a client,
 //! `ask TO TURNS RESEND PORT CLIENT NUMBER OP / DATAGRAMS` the call below it,
@@ -25,7 +25,7 @@ use std::alloc::Global;
 use std::str::from_utf8;
 
 /// How many bytes an output has at most.
-const ROOM: u64 = 4_096;
+pub const ROOM: u64 = 4_096;
 
 /// Reads a client's number, the command's, and its operation.
 pub fn command(alloc: Global, text: &str) -> Result<Command, Fault>
