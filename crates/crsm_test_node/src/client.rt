@@ -44,8 +44,10 @@ pub fn command(alloc: Global, text: &str) -> Result<Command, Fault>
 pub fn port(alloc: Global, calls: &str, datagrams: &str) -> Result<MemPort, Fault> {
     let fails = numbers_of(alloc, calls)?;
     let mut port = MemPort::new(alloc, fails.as_slice())?;
-    for word in datagrams.split_whitespace() {
-        put_packet(alloc, &mut port, word)?;
+    for word in datagrams.split(' ') {
+        if !word.is_empty() {
+            put_packet(alloc, &mut port, word)?;
+        }
     }
     Ok(port)
 }
