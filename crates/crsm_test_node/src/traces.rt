@@ -42,7 +42,7 @@ fn push_lengths(bodies: &Bodies, out: &mut String) -> Result<(), AllocError> {
 }
 
 /// Appends the numbers of the requests whose replies were sent, in order.
-pub fn push_sent(port: &MemPort, out: &mut String) -> Result<(), Fault> {
+pub fn push_answered(port: &MemPort, out: &mut String) -> Result<(), Fault> {
     if port.sent().len() == 0 {
         out.push_str("sent none")?;
         return Ok(());

@@ -6,8 +6,6 @@
 //! each a command of this number; a stamp is its time, 0 where there is none.
 //! `cursor K` asks where the next page of replica K begins.
 
-ghost use Rattle.std.specs.Prelude.{◌<◌, ◌≤◌};
-
 use crate::fault::Fault;
 use crate::got::text_of;
 use crate::logs::reading_ledger;
