@@ -10,8 +10,8 @@ use crsm_disk::MemDisk;
 use crsm_shell::{BootError, Shell, TurnError, WantedInput};
 use std::alloc::{AllocError, Global};
 
-/// Writes what comes of a replica that boots on an empty disk and does what the words say. The first two words are the calls
-/// of its disk and of its port that fail.
+/// Writes what comes of a replica that boots on an empty disk and does what the words say. The first two words are the
+/// calls of its disk and of its port that fail.
 pub fn tale_of(alloc: Global, script: &str) -> Result<String, Fault> {
     let mut out = String::new(alloc);
     push_tale(alloc, script, &mut out)?;

@@ -8,8 +8,8 @@ use crsm_port::MemPort;
 use crsm_shell::BootError;
 use std::alloc::{AllocError, Global};
 
-/// Appends how many calls of the disk there were, and the lengths of the bodies that a boot finds on it as a crash leaves
-/// it now, in order.
+/// Appends how many calls of the disk there were, and the lengths of the bodies that a boot finds on it as a crash
+/// leaves it now, in order.
 pub fn push_kept(alloc: Global, disk: &MemDisk, out: &mut String) -> Result<(), Fault> {
     write!(out, "{} calls, ", disk.calls())?;
     push_found(alloc, disk.image()?, out)?;

@@ -1,8 +1,8 @@
 //! The table `verdict`: the verdicts on the sheets of each row.
 //!
-//! A row has the accounts of some sheets with ` | ` between them: the number of a node, how many its cluster began with,
-//! and then the bodies of its log in hexadecimal, and `dropped:LINE:EPOCH:TIME:ORIGIN` where a client is told at a line
-//! that a command was dropped.
+//! A row has the accounts of some sheets with ` | ` between them: the number of a node, how many its cluster began
+//! with, and then the bodies of its log in hexadecimal, and `dropped:LINE:EPOCH:TIME:ORIGIN` where a client is told at
+//! a line that a command was dropped.
 
 ghost use Rattle.std.specs.Prelude.{◌≡◌, ◌≤◌, [], IfOk};
 
