@@ -1,4 +1,4 @@
--- What the devices of a run tell.
+-- The state of the devices of a run.
 use Rattle.std.specs.Prelude.{◌≡◌, ℕ, List, Option}
 use Rattle.crsm_clock.specs.Readings.{Readings}
 use Rattle.crsm_disk.specs.Meaning.{Meaning as DiskMeaning}

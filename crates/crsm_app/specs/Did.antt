@@ -1,4 +1,4 @@
--- What a command did, by its status.
+-- The effects of a command, by its status.
 use Rattle.std.specs.Prelude.{◌≡◌, ◌⊎◌, ℕ, List, Option, Result}
 use Rattle.crsm_audit.specs.Handled.{audited}
 use Rattle.crsm_client.specs.Commands.{ClientRan}

@@ -1,4 +1,4 @@
--- Answers that are exact, unless memory ran out.
+-- Results that are exact, unless memory ran out.
 use Rattle.std.specs.Prelude.{◌≡◌, ◌⊎◌, ℕ, ◌+◌, List, Option}
 use Rattle.crsm_audit.specs.Handled.{audited}
 use Rattle.crsm_base.specs.declared.Command.{Command}

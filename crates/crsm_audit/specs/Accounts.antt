@@ -1,4 +1,4 @@
--- What an account of a sheet says.
+-- The relation of an account to its sheet.
 use Rattle.std.specs.Prelude.{◌≡◌, ℕ, ◌+◌, ◌==◌, if◌then◌else◌, List, [], ◌∷◌, ◌++◌, map}
 use Rattle.std.specs.List.{flat_map}
 use Rattle.crsm_base.specs.Spelling.{entry_bytes}

@@ -1,4 +1,4 @@
--- Which audits are done, and which are refused for which line.
+-- The audits that are done, and the lines for which others are refused.
 use Rattle.std.specs.Prelude.{◌≡◌, ℕ, Option}
 use Rattle.crsm_port_lines.specs.Exact.{Exact, IsDone, IsRefused, IsTooLong, WhereBad, WhereFaultless, WhereTooLong, WhereWhole}
 use Rattle.crsm_port_lines.specs.Handling.{Text}

@@ -1,4 +1,4 @@
--- What an audit makes of the lines of an input.
+-- The effect of an audit on the lines of an input.
 use Rattle.std.specs.Prelude.{◌≡◌, List, [], ◌∷◌, ◌++◌, ℕ, Some, map}
 use Rattle.std.specs.List.{AllByRecursion}
 use Rattle.crsm_port_lines.specs.Handling.{Handling, Text}

@@ -1,4 +1,4 @@
--- What the lines of an audit say: the sheets of nodes, and what they come to.
+-- The sheets of nodes in the lines of an audit, and the verdict on them.
 use Rattle.std.specs.Prelude.{◌≡◌, ℕ, ◌+◌, List, [], ◌∷◌, ◌++◌, length, map}
 use Rattle.crsm_ledger.specs.Recovered.{IsBadAt}
 use Rattle.crsm_law_sheets.specs.Laws.{AreSafe}

@@ -1,4 +1,4 @@
--- What becomes of an audit at a line, and at the end.
+-- The effect of a line, and of the end, on an audit.
 use Rattle.std.specs.Prelude.{◌≡◌, ℕ, List, [], ◌∷◌, ◌++◌, Some}
 use Rattle.crsm_law_sheets.specs.Sheets.{Sheet}
 use Rattle.crsm_audit.specs.Accounts.{AccountsStand}

@@ -1,4 +1,4 @@
--- Asking a replica for a command, until its reply comes or all turns are over.
+-- The request of a command, until its reply comes or all turns are over.
 use Rattle.std.specs.Prelude.{◌≡◌, ◌↔◌, ◌⊎◌, ℕ, ◌+◌, ◌*◌, ◌<◌, ◌≤◌, List, [], ◌∷◌, ◌++◌, Some, Result, Ok, Err}
 use Rattle.std.specs.List.{AllByRecursion}
 use Rattle.crsm_base.specs.declared.Command.{Command}

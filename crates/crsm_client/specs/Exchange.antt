@@ -1,4 +1,5 @@
--- What a client and a port exchange in some turns: a request that goes out now and then, and the datagrams that come in.
+-- The datagrams that a client and a port exchange in some turns: a request that is retransmitted, and the datagrams
+-- received.
 use Rattle.std.specs.Prelude.{◌≡◌, ◌↔◌, ℕ, ◌+◌, ◌-◌, ◌^◌, ◌≤◌, min, List, ◌++◌, length, map, take, replicate, Some, IsSome}
 use Rattle.crsm_port.specs.Meaning.{Framing, Meaning, Packet, Traffic}
 

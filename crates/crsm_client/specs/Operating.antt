@@ -1,4 +1,4 @@
--- Asking a replica for another membership: one datagram.
+-- The request of a membership change: one datagram.
 use Rattle.std.specs.Prelude.{◌≡◌, ℕ, ◌≤◌, List, Result, OnOk, OnErr, IsErrOf, option_map}
 use Rattle.crsm_base.specs.declared.Datagram.TheVariants.{Operate}
 use Rattle.crsm_base.specs.Messages.{datagram_bytes}

@@ -1,4 +1,4 @@
--- When a client has its answers: by the datagrams that were taken.
+-- The replies that a client has, by the datagrams it received.
 use Rattle.std.specs.Prelude.{◌≡◌, ℕ, List, ◌∷◌, ◌++◌, map}
 use Rattle.std.specs.List.{AllByRecursion}
 use Rattle.crsm_base.specs.declared.Command.{Command}

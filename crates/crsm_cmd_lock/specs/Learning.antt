@@ -1,4 +1,4 @@
--- What a client asks about a lock, and what it learns.
+-- The requests of a client on a lock, and their results.
 use Rattle.std.specs.Prelude.{◌≡◌, ◌⊎◌, ℕ, ◌+◌, List, Option, Result, Ok, Err}
 use Rattle.crsm_base.specs.declared.Command.{Command}
 use Rattle.crsm_base.specs.declared.command.Op.{Op}

@@ -1,4 +1,4 @@
--- What is replayed of a sheet, and which lines are refused behind it, for which cause.
+-- The lines that are refused after a part of a sheet, and their causes.
 use Rattle.std.specs.Prelude.{◌≡◌, ℕ, List, [], ◌∷◌, ◌++◌, Option, codes}
 use Rattle.std.specs.List.{AllByRecursion}
 use Rattle.crsm_io.specs.Streams.{AtEnd}

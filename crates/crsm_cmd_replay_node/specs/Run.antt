@@ -1,4 +1,4 @@
--- What a replay did, by how it ended.
+-- The effects of a replay, by how it ended.
 use Rattle.std.specs.Prelude.{◌≡◌, ◌⊎◌, ℕ, ◌+◌, ◌<◌, ◌≤◌, List, [], ◌∷◌, ◌++◌, Option, Some, length}
 use Rattle.std.specs.List.{AllByRecursion}
 use Rattle.crsm_io.specs.Streams.{Takes, Puts, PutsPrefix, AtEnd}

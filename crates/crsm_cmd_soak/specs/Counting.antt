@@ -1,4 +1,4 @@
--- What lines tell, as it is counted.
+-- The counts of lines by their kind.
 use Rattle.std.specs.Prelude.{ℕ, Bool, true, false, List, fold, max}
 use Rattle.crsm_spec.specs.Types.{Line}
 

@@ -1,4 +1,4 @@
--- Runs that a number draws, and their summary.
+-- Generated runs, and their summary.
 use Rattle.std.specs.Prelude.{ℕ, ◌+◌, List, length, map}
 use Rattle.std.specs.List.{count_by}
 use Rattle.crsm_spec.specs.Run.{seen}

@@ -1,4 +1,4 @@
--- Plans that are read line by line: which line can follow, and what it adds.
+-- The drafts of plans: which line can follow, and what it adds.
 use Rattle.std.specs.Prelude.{ℕ, Bool, true, false, ◌==◌, ◌&&◌, ◌||◌, not, nat_lt, nat_le, [], ◌∷◌, ◌++◌}
 use Rattle.std.specs.List.{list_any}
 use Rattle.crsm_spec_plan.specs.declared.Plan.{Plan}

@@ -1,4 +1,4 @@
--- What a reader makes of the lines of an input.
+-- The effect of a reader on the lines of an input.
 use Rattle.std.specs.Prelude.{◌≡◌, ◌≢◌, ℕ, true, false, List, [], ◌∷◌, ◌++◌, Option, Some, None}
 use Rattle.crsm_port_lines.specs.Handling.{Handling, Text}
 use Rattle.crsm_port_lines.specs.declared.Stop.{Stop}

@@ -1,4 +1,4 @@
--- What a majority has promised and reported.
+-- The promises and reports of a majority.
 use Rattle.std.specs.Prelude.{◌≡◌, ℕ, ◌-◌, List, map, fold, Option, None, Some, Result, IfOk}
 use Rattle.std.specs.List.{AllByRecursion, range_with_len}
 use Rattle.crsm_base.specs.declared.memory.NoMemory.{NoMemory}

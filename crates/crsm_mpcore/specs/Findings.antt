@@ -1,4 +1,4 @@
--- What reports say, as it is held in memory.
+-- The joint content of reports, in memory.
 use Rattle.std.specs.Prelude.{◌≡◌, ℕ, suc, List, [], ◌∷◌, ◌++◌, map, None}
 use Rattle.std.specs.BTreeMap.{get}
 use Rattle.std.specs.List.{AllByRecursion, flat_map}

@@ -1,4 +1,4 @@
--- What is asked for once more at a tick, replica by replica.
+-- The retransmissions at a tick, replica by replica.
 use Rattle.std.specs.Prelude.{◌==◌, ◌&&◌, Bool, false, not, ℕ, IsTrue, List, [], fold, Option, None, Some}
 use Rattle.std.specs.BTreeMap.{get}
 use Rattle.std.specs.Option.{option_map, option_map_or}

@@ -1,4 +1,4 @@
--- What is executed, as it is held in memory.
+-- The executed slots in memory.
 use Rattle.std.specs.Prelude.{◌≡◌, List, [], ◌∷◌, ◌++◌, Option}
 use Rattle.std.specs.Option.{option_map}
 use Rattle.crsm_mpspec.specs.Types.{Answer, Value}

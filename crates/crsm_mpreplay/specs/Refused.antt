@@ -1,4 +1,4 @@
--- Which lines are refused, for which cause, after what has been read.
+-- The lines that are refused, and their causes, after what has been read.
 use Rattle.std.specs.Prelude.{◌≡◌, ◌≢◌, ℕ, List, [], ◌∷◌, ◌++◌, Option, Some, None}
 use Rattle.crsm_io.specs.Streams.{AtEnd}
 use Rattle.crsm_port_lines.specs.Run.{LongLine}

@@ -1,4 +1,4 @@
--- What a replay did, by how it ended.
+-- The effects of a replay, by how it ended.
 use Rattle.std.specs.Prelude.{◌≡◌, ℕ, ◌+◌, ◌≤◌, ◌⊎◌, List, [], ◌∷◌, ◌++◌, Option, length, ◌<◌, Some}
 use Rattle.crsm_io.specs.Streams.{Takes, Puts, PutsPrefix, AtEnd}
 use Rattle.crsm_text.specs.Words.{Lacks}

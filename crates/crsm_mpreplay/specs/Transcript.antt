@@ -1,4 +1,4 @@
--- How the lines of a transcript are written, each with its line feed, and what a run of a schedule writes.
+-- The text of the lines of a transcript, each with its line feed, and the text that a run of a schedule writes.
 use Rattle.std.specs.Prelude.{◌≡◌, ℕ, zero, suc, ◌+◌, Bool, true, false, List, [], ◌∷◌, ◌++◌, map, codes, Option, None, Some, slice_get}
 use Rattle.std.specs.List.{AllByRecursion, flat_map}
 use Rattle.crsm_schedule.specs.declared.Event.{Event}

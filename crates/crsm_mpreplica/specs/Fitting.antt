@@ -1,4 +1,5 @@
--- Which messages and inputs can be kept and sent: ballots and commands have spellings, and no slot is the last number.
+-- The messages and inputs that can be logged and sent: ballots and commands have encodings, and no slot is the last
+-- number.
 use Rattle.std.specs.Prelude.{ℕ, ◌<◌}
 use Rattle.std.specs.List.{AllByRecursion}
 use Rattle.crsm_base.specs.Spelling.{FitsBallot, FitsCommand, FitsOption}

@@ -1,4 +1,4 @@
--- What a replica is at, in memory.
+-- The stage of a replica in an election, in memory.
 use Rattle.std.specs.Prelude.{◌≡◌, ℕ, Bool, true, false, ◌&&◌, not, IsTrue, List, map, filter}
 use Rattle.std.specs.List.{AllByRecursion}
 use Rattle.crsm_base.specs.Order.{ballot_lt, ballot_eq}

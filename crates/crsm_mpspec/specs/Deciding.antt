@@ -1,4 +1,4 @@
--- How a slot is decided: a leader proposes, the others accept, and a majority of votes chooses.
+-- The decision of a slot: a leader proposes, the others accept, and a majority of votes chooses.
 use Rattle.std.specs.Prelude.{ℕ, ◌+◌, Bool, false, ◌==◌, ◌&&◌, not, nat_le, List, length, Option, None, Some}
 use Rattle.std.specs.Option.{option_map_or}
 use Rattle.crsm_base.specs.Order.{ballot_lt, ballot_eq}

@@ -1,4 +1,4 @@
--- A step while it is made: the replica so far, and what the step has kept, sent and told.
+-- A step in progress: the replica, and the records, messages and lines of the step.
 use Rattle.std.specs.Prelude.{ℕ, ◌+◌, List, [], ◌∷◌, ◌++◌, length, drop, fold, None, Some}
 use Rattle.crsm_mpspec.specs.declared.rec.MpRec.{MpRec}
 use Rattle.crsm_mpspec.specs.declared.message.MpMessage.{MpMessage}

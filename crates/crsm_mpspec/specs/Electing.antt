@@ -1,4 +1,5 @@
--- How a replica comes to lead: it asks for promises of a ballot, and a majority of reports leaves it what to propose.
+-- The election of a leader: a replica asks for promises of a ballot, and the reports of a majority determine what it
+-- proposes.
 use Rattle.std.specs.Prelude.{ℕ, suc, ◌+◌, ◌-◌, ◌==◌, ◌&&◌, not, nat_le, List, [], ◌∷◌, ◌++◌, length, map, filter, flat_map, fold, None, Some}
 use Rattle.std.specs.List.{range_with_len}
 use Rattle.crsm_base.specs.Order.{ballot_lt, ballot_eq}

@@ -1,4 +1,4 @@
--- What a replica's log says. A log is the list of the records that were kept, the newest first.
+-- The state that a replica's log leads to. A log is the list of its records, the newest first.
 use Rattle.std.specs.Prelude.{ℕ, zero, suc, Bool, true, false, ◌==◌, nat_le, List, [], ◌∷◌, map, filter, count_by, Option, None, Some, is_some}
 use Rattle.std.specs.Ordering.{nat_cmp}
 use Rattle.std.specs.Map.{lookup}

@@ -1,4 +1,4 @@
--- What comes of an act: the moments that it makes of a world. Clocks have no part in it, so readings mean nothing here.
+-- The effect of an act: the moments that it adds to a world. Clocks have no part in it, so readings mean nothing here.
 use Rattle.std.specs.Prelude.{ℕ, true, ◌&&◌, not, if◌then◌else◌, List, [], ◌∷◌, map, filter, flat_map, Option, None, Some, slice_get, slice_set}
 use Rattle.std.specs.List.{enumerate_from}
 use Rattle.std.specs.Option.{option_map_or}

@@ -1,4 +1,4 @@
--- The spellings of records and of whole log bodies.
+-- The encodings of records and of whole log bodies.
 use Rattle.std.specs.Prelude.{ℕ, ◌<◌, ◌≤◌, ◌^◌, List, [], ◌∷◌, ◌++◌, length}
 use Rattle.std.specs.List.{flat_map, AllByRecursion}
 use Rattle.crsm_base.specs.Spelling.{Spelt, u64_bytes, ballot_bytes, FitsBallot, command_bytes, FitsCommand, option_bytes, FitsOption}

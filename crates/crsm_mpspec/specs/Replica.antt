@@ -1,4 +1,4 @@
--- A replica on paper: the log that it kept, and what it has in memory.
+-- A replica of the definitions: its log, and its state in memory.
 use Rattle.std.specs.Prelude.{ℕ, ◌==◌, Bool, not, nat_lt, if◌then◌else◌, List, [], ◌∷◌, ◌++◌, map, filter}
 use Rattle.crsm_base.specs.Order.{ballot_lt}
 use Rattle.crsm_spec.specs.Lists.{has, numbers_below}

@@ -1,4 +1,4 @@
--- Whole runs: what acts make of the first world, the lines that are seen, and the executed lists.
+-- Whole runs: the effect of acts on the first world, the lines that are seen, and the executed lists.
 use Rattle.std.specs.Prelude.{◌≡◌, ℕ, nat_lt, if◌then◌else◌, List, [], ◌∷◌, ◌++◌, length, map, flat_map, fold, Option, None, Some}
 use Rattle.crsm_spec.specs.Lists.{numbers_below}
 use Rattle.crsm_spec.specs.Acts.{Act, FitsAct}

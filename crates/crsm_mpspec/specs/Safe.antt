@@ -1,5 +1,5 @@
--- What holds of every run: the laws of agreement, of answers and of real time. They speak of one list of values and
--- of the sequential store, and know no ballots, votes or leaders.
+-- The laws of every run: agreement, answers and real time. They are stated over one list of values and the sequential
+-- store, and mention no ballots, votes or leaders.
 use Rattle.std.specs.Prelude.{◌≡◌, ◌≢◌, ℕ, ◌<◌, ◌≤◌, take, List, Option, None, Some, slice_get}
 use Rattle.std.specs.List.{AllByRecursion}
 use Rattle.crsm_spec.specs.Lists.{IsPrefixOf}

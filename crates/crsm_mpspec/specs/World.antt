@@ -1,4 +1,4 @@
--- The world: the replicas and the messages between them, and what a step leaves in it.
+-- The world: the replicas and the messages between them, and the effect of a step on it.
 use Rattle.std.specs.Prelude.{ℕ, ◌+◌, ◌-◌, Bool, true, false, nat_le, List, [], ◌∷◌, ◌++◌, length, map, take, flat_map, sum_by, slice_get, slice_set}
 use Rattle.std.specs.List.{enumerate_from}
 use Rattle.std.specs.Option.{option_map_or}

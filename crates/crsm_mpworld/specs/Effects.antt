@@ -1,4 +1,4 @@
--- The outcome of an input at a replica, and what of that is let out.
+-- The effects of an input at a replica, and which of them are sent and written.
 use Rattle.std.specs.Prelude.{◌≡◌, ◌+◌, ◌-◌, ℕ, List, ◌++◌, length, map, take, Some, slice_get, slice_set}
 use Rattle.std.specs.List.{AllByRecursion}
 use Rattle.crsm_mpspec.specs.declared.line.MpLine.{MpLine}

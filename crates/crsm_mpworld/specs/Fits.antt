@@ -1,4 +1,4 @@
--- What is sent and what comes has a spelling.
+-- The messages and inputs of a world have encodings.
 use Rattle.crsm_mpreplica.specs.Fitting.{FitsInput, FitsMessage}
 use Rattle.crsm_mpspec.specs.declared.send.MpSend.{MpSend}
 use Rattle.crsm_mpworld.specs.declared.network.Packet.{Packet}

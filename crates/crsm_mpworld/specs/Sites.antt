@@ -1,4 +1,4 @@
--- Where a replica is, in memory, and the places of all.
+-- The simulated replicas in memory.
 use Rattle.std.specs.Prelude.{◌≡◌, ℕ, ◌+◌, suc, Bool, false, List, [], ◌∷◌, length, Option, None, Some, if◌then◌else◌, slice_get, slice_set}
 use Rattle.std.specs.Option.{option_map_or}
 use Rattle.crsm_mpspec.specs.Log.{Log, executed, boots}
