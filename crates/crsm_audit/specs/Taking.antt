@@ -17,7 +17,7 @@ pub record AllDone (n : ℕ) (accounts : List Account) (ls : List AuditLine) : T
   pub are : AreSheetsOf n (sheets_in ls) sheets
   pub stand : AccountsStand n accounts sheets
 
--- Where the old audit stands behind these lines and the line may follow, the new one knows what it is to know with the line.
+-- If the old audit stands for these lines and the line may follow, the new one stands for these lines with it.
 unfoldable pub TakesBehind : List AuditLine → Audit → AuditLine → Audit → Type 0
 TakesBehind ls old line new =
     (p : Progress) → StandsBehind old ls → follows old.progress line ≡ Some p → IsKnown new.n new.bad p new.rerun new.accounts.items (ls ++ line ∷ [])

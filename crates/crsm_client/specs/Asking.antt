@@ -34,7 +34,7 @@ pub record EndsWithReply (to : ℕ) (command : Command) (outcome : Outcome) (rec
   pub none_before : AllByRecursion (IsOther to command) others
   pub is_reply : IsReply to command outcome reply
 
--- one request for turn 0 and for each multiple of `resend` among so many turns
+-- one request for turn 0 and for each multiple of `resend` among this number of turns
 abbrev pub IsPaced : ℕ → ℕ → ℕ → Type 0
 IsPaced resend turns requests = (k : ℕ) → (k < requests) ↔ (k * resend < turns)
 
@@ -76,7 +76,7 @@ module _ (to : ℕ) (command : Command) (turns resend : ℕ) (old new : Meaning)
   Ends (Err PortFault) = Broken
   Ends (Err NoMemory) = Starved
 
--- what asking did over a port on which the cluster's datagrams stand behind its number
+-- the effect of the request over a port whose datagrams begin with the mark of the cluster
 pub record Asks (cluster to : ℕ) (command : Command) (turns resend : ℕ) (old new : Meaning) (result : Result Outcome AskError) : Type 0 where
   pub exchange : Exchange
   pub exchanges : Exchanges (over cluster old.framing) (request_to to command) exchange old new
@@ -93,7 +93,7 @@ pub record TookReply (cluster to : ℕ) (command : Command) (framing : Framing) 
   pub outcome : Outcome
   pub is_reply : IsReply to command outcome (received_of (over cluster framing) reply)
 
--- where the port tells its traffic, and counted no failure
+-- if the traffic of the port is specified, and it counted no failure
 abbrev pub WhereQuiet : (Traffic → Traffic → Type 0) → Meaning → Meaning → Type 0 → Type 0
 WhereQuiet P old new Q =
     (t u : Traffic) → old.traffic ≡ Some t → new.traffic ≡ Some u → P t u → ¬ (Rose old.faults new.faults) → ¬ (Rose old.losses new.losses) → Q

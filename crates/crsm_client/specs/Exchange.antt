@@ -11,7 +11,7 @@ most_received = 8192
 abbrev pub received_of : Framing → Packet → Packet
 received_of framing d = record { address = (framing.unwrap d).address; bytes = take most_received (framing.unwrap d).bytes }
 
--- a count that rose so many times, up to its last value
+-- a counter that rose by this number, up to its last value
 abbrev pub raised_by : ℕ → ℕ → ℕ
 raised_by times count = min (count + times) (2 ^ 64 - 1)
 
@@ -27,8 +27,13 @@ pub record Exchange : Type 0 where
 abbrev pub turns_in : Exchange → ℕ
 turns_in x = length x.received + x.empties
 
+<<<<<<< HEAD
 -- what the port took and sent in an exchange
 pub record Moves (framing : Framing) (request : Packet) (x : Exchange) (t u : Traffic) : Type 0 where
+=======
+-- the datagrams that the port received and sent in an exchange
+pub record Moves (coat : Coat) (request : Packet) (x : Exchange) (t u : Traffic) : Type 0 where
+>>>>>>> 4261a562ce03b75aaffd9f3d29c891abf7de6416
   -- the datagrams received, as they came
   pub packets : List Packet
   pub received_are : x.received ≡ map (received_of framing) packets

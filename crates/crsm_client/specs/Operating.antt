@@ -11,7 +11,7 @@ use Rattle.crsm_client.specs.declared.error.OperateError.TheVariants.{PortFault}
 abbrev pub operate_to : ℕ → List ℕ → Packet
 operate_to to members = record { address = to; bytes = datagram_bytes (Operate members) }
 
--- what it did over a port on which the cluster's datagrams stand behind its number
+-- the effect of the request over a port whose datagrams begin with the mark of the cluster
 pub record Operates {T : Type 0} (cluster to : ℕ) (members : List ℕ) (old new : Meaning) (result : Result T OperateError) : Type 0 where
   pub sent : OnOk result (new.traffic ≡ option_map (with_sent ((over cluster old.framing).wrap (operate_to to members))) old.traffic)
   pub unsent : OnErr result (new.traffic ≡ old.traffic)

@@ -19,7 +19,7 @@ pub record HasFirstReply (to : ℕ) (command : Command) (received : List Packet)
   pub none_before : AllByRecursion (IsOther to command) others
   pub is_reply : IsReply to command outcome reply
 
--- what is asked next is answered among these, if anything is
+-- the next request is answered among these, if there is one
 abbrev pub IsServed : LockOrder → List Packet → NextStep → Type 0
 IsServed order received (NextStep.End told) = Unit {0}
 IsServed order received (NextStep.Ask op) = (outcome : Outcome) × (rest : List Packet) × HasFirstReply order.to (follows_of order op) received outcome rest
@@ -39,7 +39,7 @@ pub record TookAnswers (order : LockOrder) (framing : Framing) (t u : Traffic) :
   pub taken : u.taken ≡ t.taken ++ packets
   pub answers : AreAnswers order (map (received_of (over 0 framing)) packets)
 
--- where the port tells its traffic, counted no failure, and all answers were taken
+-- if the traffic of the port is specified, it counted no failure, and all answers were received
 abbrev pub WhereAnswered : LockOrder → Meaning → Meaning → Type 0 → Type 0
 WhereAnswered order old new Q = WhereQuiet (TookAnswers order old.framing) old new Q
 

@@ -19,7 +19,7 @@ UntrackedDoNotCount =
     (pending : Pending) (tracked : Stamp → Bool) (waiting : List Entry) (votes : List (Stamp × ℕ)) (stamp : Stamp) (k : ℕ) →
     tracked stamp ≡ false → PendingStands pending tracked waiting votes → PendingStands pending tracked waiting ((stamp, k) ∷ votes)
 
--- what stands where some stamps are tracked stands where fewer are
+-- what stands for some tracked stamps stands for fewer
 abbrev pub FewerMayBeTracked : Type 0
 FewerMayBeTracked =
     (pending : Pending) (wide narrow : Stamp → Bool) (waiting : List Entry) (votes : List (Stamp × ℕ)) →

@@ -9,7 +9,7 @@ input_of (Input.Datagram from datagram) = InputOnPaper.Came from datagram
 input_of Input.Tick = InputOnPaper.Ticked
 input_of (Input.Suspect members) = InputOnPaper.Suspected members
 
--- a datagram in it has a spelling
+-- a datagram in it has an encoding
 abbrev pub FitsInput : Input → Type 0
 FitsInput (Input.Datagram from datagram) = FitsDatagram datagram
 FitsInput Input.Tick = Unit {0}

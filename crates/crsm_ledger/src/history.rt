@@ -77,7 +77,7 @@ impl History {
         self.last_stamp
     }
 
-    /// Begins the next epoch, of which no entry is executed yet.
+    /// Begins the next epoch, in which no entry is executed yet.
     pub fn begin_epoch(&mut self, epoch: u64)
         ensures { (x : ℕ) (es : List Entry) → HistoryStands self.old x es → AllByRecursion (λ e. e.epoch < epoch) es → HistoryStands self.new epoch es }
     {

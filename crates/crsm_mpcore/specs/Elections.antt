@@ -31,13 +31,13 @@ abbrev pub IsElection : Option Election → Draft → Type 0
 IsElection None x = lead_at_majority x ≡ x
 IsElection (Some e) x = (reports : List Report) × Elects e reports × (lead_at_majority x ≡ lead e.ballot e.start reports x)
 
--- Whatever the old state stood for, and whichever reports elected, the new one stands for what this makes of both; or
--- memory ran out.
+-- Whatever the old state stood for, and whichever reports elected, the new one stands for the effect of this on both;
+-- or memory ran out.
 abbrev pub MakesBy : Election → (List Report → Draft → Draft) → MpReplica → Result (Unit {0}) NoMemory → MpReplica → Type 0
 MakesBy e change old result new =
     IfOk result (λ _. WhereStands old (λ x. (reports : List Report) → Elects e reports → MpReplicaStands new (change reports x)))
 
--- keeps what is reported to be chosen
+-- records the values reported as chosen
 abbrev pub choose_all : List Report → Draft → Draft
 choose_all reports x = fold choose_reported x (chosen_among reports)
 

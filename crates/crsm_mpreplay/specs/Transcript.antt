@@ -68,7 +68,7 @@ pub record Shown : Type 0 where
 unfoldable pub shown_by : ℕ → Option Act → MpLine → Shown
 shown_by at by line = record { at = at; told = traced by line }
 
--- the lines of events, the first of which stands on this line of the schedule
+-- the lines of events, of which the first is on this line of the schedule
 unfoldable pub shown_from : World → ℕ → List Event → List Shown
 shown_from w at [] = []
 shown_from w at (e ∷ es) =

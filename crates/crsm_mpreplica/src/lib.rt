@@ -1,4 +1,4 @@
-//! The state of one replica of a store with a leader, with the single changes of which its rules consist.
+//! The state of one replica of a store with a leader, and the single changes from which its rules are built.
 #![tactic(auto)]
 
 mod asking;

@@ -3,7 +3,7 @@ use Rattle.crsm_mpreplica.specs.Fitting.{FitsInput, FitsMessage}
 use Rattle.crsm_mpspec.specs.declared.send.MpSend.{MpSend}
 use Rattle.crsm_mpworld.specs.declared.network.Packet.{Packet}
 
--- what comes with the message fits
+-- the input of the message fits
 abbrev pub FitsPacket : Packet → Type 0
 FitsPacket p = FitsInput p.input
 

@@ -38,7 +38,7 @@ pub record Passes (framing : Framing) (took gone : List Packet) (old new : Traff
   pub are : took ≡ map (received framing) came
   pub out : new.sent ≡ old.sent ++ map framing.wrap gone
 
--- a relation of what a port tells before and after, where it tells
+-- a relation of a port's traffic before and after, if it is specified
 abbrev pub BothTell : (Traffic → Traffic → Type 0) → Option Traffic → Option Traffic → Type 0
 BothTell R None None = Unit {0}
 BothTell R None (Some new) = ⊥

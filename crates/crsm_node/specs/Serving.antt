@@ -100,8 +100,8 @@ Ends r w turns groups lost old new (Err LogFull) = Unit {0}
 Ends r w turns groups lost old new (Err Failed) = ⊥
 Ends r w turns groups lost old new (Err NoMemory) = Unit {0}
 
--- The groups that a node kept over at most so many turns, and the last turns, which it took and did not keep: it took
--- them off its port and clock as they were wanted, kept each group, and then sent what that hands out, and wrote its
+-- The groups that a node flushed over at most `turns` turns, and the last turns, which it took and did not flush: it
+-- took them from its port and clock as wanted, put each group into the log, and then sent its output and wrote its
 -- lines.
 pub record Serves (r : Replica) (w : Watch) (turns : ℕ) (old new : Node) (result : Result (Unit {0}) NodeError) : Type 0 where
   pub groups : List Group

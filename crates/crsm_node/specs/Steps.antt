@@ -88,7 +88,7 @@ FailsToTake shell m detector ahead later old new lines printed kept r steps w Fa
 
 -- ---- a group
 
--- the pending steps are kept as one body, and then what they hand out is sent
+-- the pending steps become durable as one body, and then their output is sent
 pub record KeepsSteps {D : Type 0} {g : _} (meaning : D → DiskMeaning) (before after : Shell D g) (old new : PortMeaning) (r : Replica) (steps : List Draft) : Type 0 where
   pub stands : ShellStands after (meaning (disk_of after)) r.log r []
   pub sent : SendsPackets (packets_for (peers_of before) (sends_of steps)) old new
@@ -117,7 +117,7 @@ pub record FailsToWrite (had has : Option (List ℕ)) (faults more : ℕ) (lines
   pub prefix : PutsPrefix had has lines
   pub rose : Rose faults more
 
--- what becomes of the pending steps and of their lines
+-- the effect on the pending steps and on their lines
 abbrev pub KeepsGroup : {D : Type 0} {g : _} → (D → DiskMeaning) → (before after : Shell D g) → (old new : PortMeaning) → (had has : Option (List ℕ)) → (faults more : ℕ) → List ℕ →
     Replica → List Draft → Result (Unit {0}) NodeError → Type 0
 KeepsGroup meaning before after old new had has faults more lines r steps (Ok _) = KeepsSteps meaning before after old new r steps × Puts had has lines

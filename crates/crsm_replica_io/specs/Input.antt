@@ -35,7 +35,7 @@ abbrev pub of_port : Result ReceivedInput TakeError → Result ReceivedInput Fai
 of_port (Ok t) = Ok t
 of_port (Err PortFault) = Err (record {})
 
--- what a receive into a buffer of this length owes, with the buffer after it
+-- the effect of a receive into a buffer of this length, with the buffer after it
 pub record Receives (size : ℕ) (buffer : List ℕ) (old new : Meaning) (result : Result ReceivedInput TakeError) : Type 0 where
   pub losses : new.losses ≡ old.losses
   pub later : old.faults ≤ new.faults
@@ -52,7 +52,7 @@ pub record Receives (size : ℕ) (buffer : List ℕ) (old new : Meaning) (result
   -- a port all of whose calls go well does not fail
   pub well : (p : Plan) → old.plan ≡ Some p → p.good ≡ None → IsErrOf result PortFault → ⊥
 
--- what is taken for what is wanted, with the buffer after it: only a receive calls the port
+-- the effect of taking the wanted input, with the buffer after it: only a receive calls the port
 abbrev pub TakesInput : WantedInput → ℕ → List ℕ → Meaning → Meaning → Result ReceivedInput TakeError → Type 0
 TakesInput what.Receive size buffer old new result = Receives size buffer old new result
 TakesInput what.Tick size buffer old new result = (new ≡ old) × (result ≡ Ok taken.Tick)

@@ -10,7 +10,7 @@ use Rattle.crsm_port.specs.Meaning.{Meaning, Packet, Traffic}
 
 -- ---- where datagrams go
 
--- the datagram has a spelling
+-- the datagram has an encoding
 abbrev pub FitsSend : Send → Type 0
 FitsSend s = FitsDatagram s.datagram
 
@@ -23,7 +23,7 @@ abbrev pub sent_packets : Option ℕ → List ℕ → List Packet
 sent_packets None bytes = []
 sent_packets (Some address) bytes = (record { address = address; bytes = bytes }) ∷ []
 
--- a datagram as it goes out, if its receiver has an address
+-- a datagram as it is sent, if its receiver has an address
 unfoldable pub packet_for : List ℕ → Send → List Packet
 packet_for peers s = sent_packets (address_of peers s.to) (datagram_bytes s.datagram)
 
@@ -37,21 +37,26 @@ bytes_in (d ∷ packets) = length d.bytes + bytes_in packets
 
 -- ---- what sending them does to a port
 
--- so many of these are missing in what went out, and the others went out in their order
+-- the second list is the first without this number of items, in the same order
 abbrev pub Lacks : ℕ → List Packet → List Packet → Type 0
 Lacks missing [] out = (missing ≡ 0) × (out ≡ [])
 Lacks missing (d ∷ packets) out =
     ((rest : List Packet) × (out ≡ d ∷ rest) × Lacks missing packets rest) ⊎ ((fewer : ℕ) × (missing ≡ suc fewer) × Lacks fewer packets out)
 
--- a count that rose so many times, up to its last value
+-- a counter that rose by this number, up to its last value
 abbrev pub raised_by : ℕ → ℕ → ℕ
 raised_by times count = min (count + times) (2 ^ 64 - 1)
 
--- these are told behind those that were sent before
+-- these are recorded as sent, after those that were sent before
 abbrev pub with_all_sent : List Packet → Traffic → Traffic
 with_all_sent out t = record t { sent = t.sent ++ out }
 
+<<<<<<< HEAD
 -- at most as many are missing as the count of losses rose by; those that went out are told as the framing has them
+=======
+-- the lost packets are at most those by which the counter of losses rose; those sent are recorded as the port frames
+-- them
+>>>>>>> 4261a562ce03b75aaffd9f3d29c891abf7de6416
 pub record GoesOut (packets : List Packet) (old new : Meaning) : Type 0 where
   pub out : List Packet
   pub missing : ℕ
@@ -65,7 +70,7 @@ pub record GoesWhole (packets : List Packet) (p : Plan) (old new : Meaning) : Ty
   pub traffic : new.traffic ≡ option_map (with_all_sent (map old.framing.wrap packets)) old.traffic
   pub plan : new.plan ≡ Some (spent (length packets) (bytes_in packets) p)
 
--- what sending all of these owes
+-- the effect of sending all of these
 pub record SendsAll (packets : List Packet) (old new : Meaning) : Type 0 where
   pub faults : new.faults ≡ old.faults
   pub empties : new.empties ≡ old.empties

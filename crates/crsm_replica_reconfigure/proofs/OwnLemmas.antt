@@ -1,4 +1,5 @@
--- A proposer's own acceptance: whether its records fit, told by what they depend on, and the coordinator that it leaves.
+-- A proposer's own acceptance: whether its records fit, told by what they depend on, and the coordinator that it
+-- leaves.
 use Rattle.std.proofs.Common.{◌≡◌, ℕ, ◌+◌, List, [], ◌∷◌, refl, sym, ◌∙◌, ap, subst, Bool, true, false, length}
 use Rattle.std.specs.Prelude.{◌&&◌, ◌==◌, ◌-◌, drop, not, nat_le, nat_lt, Option, Some, None}
 use Rattle.std.specs.Option.{option_map_or}

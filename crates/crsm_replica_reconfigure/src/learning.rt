@@ -83,7 +83,7 @@ fn is_left(base_len: u64, place: u64, end: u64) -> bool
     base_len <= place && place < end
 }
 
-/// Executes these entries, the first of which has the index `place`. `false` if that does not fit, `NoMemory` if memory
+/// Executes these entries, whose first one has the index `place`. `false` if that does not fit, `NoMemory` if memory
 /// runs out; with `false` the state is unchanged.
 pub fn adopt(state: &mut ReplicaState, place: u64, entries: &[Entry]) -> Result<bool, NoMemory>
     ensures { TriesWhere (λ x. FitsEntries entries.now) (keep (RecOnPaper.Adopt place entries.now)) state.old result state.new }

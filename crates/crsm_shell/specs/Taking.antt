@@ -86,7 +86,7 @@ Receives what buffer old new (Err errors.Failed) = ⊥
 Receives what buffer old new (Err errors.DiskFault) = ⊥
 Receives what buffer old new (Err errors.LogFull) = ⊥
 
--- The same of a whole step; where the replica failed before, nothing is taken. Where memory runs out, the input is taken.
+-- The same for a whole step; if the replica failed before, nothing is taken. If memory runs out, the input is taken.
 abbrev pub Takes : WantedInput → List ℕ → PortMeaning → PortMeaning → Result TurnResult TurnError → Type 0
 Takes what buffer old new (Ok t) = Receives what buffer old new (Ok t.taken)
 Takes what buffer old new (Err errors.Failed) = new ≡ old

@@ -10,7 +10,7 @@ use Rattle.crsm_spec.specs.Durable.{KeepsAnswered}
 use Rattle.crsm_world.specs.declared.world.World.{World}
 use Rattle.crsm_world.specs.World.{WorldStands}
 
--- The world stands where a cluster of n replicas is after these acts, each of which was possible.
+-- The world is that of a cluster of n replicas after these acts, each of which was possible.
 pub record HasDone (w : World) (n : ℕ) (acts : List Act) : Type 0 where
   pub some : 1 ≤ n
   pub most : n ≤ 15

@@ -11,7 +11,7 @@ mark_of p = record { to = p.to; used = p.used }
 unfoldable pub view_of : Cluster → View
 view_of v = record { ups = map is_up v.sites; marks = map mark_of v.packets }
 
--- the world in memory is seen as the one on paper that it stands for
+-- the view of the world in memory is that of the world of the definitions that it stands for
 pub record IsSeenAs (w : World) (view : View) : Type 0 where
   pub cluster : Cluster
   pub stands : WorldStands w cluster

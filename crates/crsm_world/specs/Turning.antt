@@ -10,7 +10,7 @@ use Rattle.crsm_spec.specs.Moments.{silent, cut_at}
 use Rattle.crsm_world.specs.declared.ending.Ending.{Ending as EndingInMemory}
 use Rattle.crsm_world.specs.declared.ending.Ending.TheVariants as endings
 
--- how the step ends on paper
+-- the ending of the step in the definitions
 unfoldable pub ending_of : EndingInMemory → Ending
 ending_of endings.Whole = whole_step
 ending_of (endings.Kept sends) = cut_step sends
