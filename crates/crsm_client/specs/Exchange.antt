@@ -27,13 +27,8 @@ pub record Exchange : Type 0 where
 abbrev pub turns_in : Exchange → ℕ
 turns_in x = length x.received + x.empties
 
-<<<<<<< HEAD
--- what the port took and sent in an exchange
-pub record Moves (framing : Framing) (request : Packet) (x : Exchange) (t u : Traffic) : Type 0 where
-=======
 -- the datagrams that the port received and sent in an exchange
-pub record Moves (coat : Coat) (request : Packet) (x : Exchange) (t u : Traffic) : Type 0 where
->>>>>>> 4261a562ce03b75aaffd9f3d29c891abf7de6416
+pub record Moves (framing : Framing) (request : Packet) (x : Exchange) (t u : Traffic) : Type 0 where
   -- the datagrams received, as they came
   pub packets : List Packet
   pub received_are : x.received ≡ map (received_of framing) packets

@@ -189,24 +189,14 @@ abbrev pub devices_of : {C P D O : Type 0} → (D → DiskMeaning) → (P → Po
 devices_of disk port clock written faults d p c o =
     record { disk = unlent_disk (disk d); port = unlent_port (port p); clock = clock c; sheet = written o; faults = faults o }
 
-<<<<<<< HEAD
--- the same over the port of a cluster, where so many sends were too long, and datagrams stand on the wire in this framing
+-- the same over the port of a cluster, where this number of sends were too long, and this framing is on each datagram
 abbrev pub over_cluster : ℕ → ℕ → Framing → Devices → Devices
 over_cluster cluster too_long framing devices = record devices { port = record (clustered cluster too_long devices.port) { framing = over cluster framing } }
-=======
--- the same over the port of a cluster, where this number of sends were too long, and this framing is on each datagram
-abbrev pub over_cluster : ℕ → ℕ → Coat → Devices → Devices
-over_cluster cluster too_long coat devices = record devices { port = record (clustered cluster too_long devices.port) { coat = over cluster coat } }
->>>>>>> 4261a562ce03b75aaffd9f3d29c891abf7de6416
 
 -- memory ran out before the node began
 abbrev pub NotBegun : Devices → Devices → NodeEnd → Type 0
 NotBegun old new end = (end ≡ ends.NoMemory) × Goes old.disk new.disk × (new.disk.seen ≡ old.disk.seen) × (new.clock ≡ old.clock) × (new.sheet ≡ old.sheet)
 
-<<<<<<< HEAD
--- What went over the port of the cluster went over the port below by its framing.
-=======
 -- The traffic of the cluster's port went over the port below with its framing.
->>>>>>> 4261a562ce03b75aaffd9f3d29c891abf7de6416
 abbrev pub RunsOverCluster : NodeOrder → Devices → Devices → NodeEnd → Type 0
 RunsOverCluster order old new end = ((too_long : ℕ) × Runs order (over_cluster order.cluster 0 old.port.framing old) (over_cluster order.cluster too_long old.port.framing new) end) ⊎ NotBegun old new end

@@ -51,12 +51,8 @@ raised_by times count = min (count + times) (2 ^ 64 - 1)
 abbrev pub with_all_sent : List Packet → Traffic → Traffic
 with_all_sent out t = record t { sent = t.sent ++ out }
 
-<<<<<<< HEAD
--- at most as many are missing as the count of losses rose by; those that went out are told as the framing has them
-=======
 -- the lost packets are at most those by which the counter of losses rose; those sent are recorded as the port frames
 -- them
->>>>>>> 4261a562ce03b75aaffd9f3d29c891abf7de6416
 pub record GoesOut (packets : List Packet) (old new : Meaning) : Type 0 where
   pub out : List Packet
   pub missing : ℕ
