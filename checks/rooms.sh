@@ -1,5 +1,6 @@
 #!/usr/bin/env bash
-# docs/CHANGING.md and docs/WORDS.md name crates that there are, and in braces files that they have.
+# docs/CHANGING.md and docs/WORDS.md name crates that there are, and in braces files that they have; and what CHANGING says
+# to search for is found in the crates.
 set -u
 cd "$(dirname "$0")/.." || exit 1
 has() {
@@ -33,6 +34,12 @@ while IFS= read -r word; do
     fi
   done
 done < <(cat docs/CHANGING.md docs/WORDS.md | tr '\n' ' ' | grep -oE '`crsm(_[a-z_]+)?`( *\{[^}]*\})?|\{[^}]*\}')
+for word in $(tr '\n' ' ' < docs/CHANGING.md | grep -oE '[Ss]earch +`[^`]+`' | sed 's/[^`]*`//; s/`//'); do
+  if ! git grep -qwF -e "$word" -- crates; then
+    echo "rooms: $word is nowhere in crates" >&2
+    fail=1
+  fi
+done
 if [ "$seen" = 0 ]; then
   echo "rooms: no file is named" >&2
   fail=1

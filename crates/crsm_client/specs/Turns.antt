@@ -20,11 +20,11 @@ requests n = record { received = []; empties = 0; requests = n }
 
 -- this number of requests was sent, or none
 abbrev pub SendsRequests : {T : Type 0} → ℕ → ℕ → Packet → Meaning → Meaning → Result T AskError → Type 0
-SendsRequests n cluster request old new (Ok x) = Exchanges (over cluster old.coat) request (requests n) old new × IsQuiet old new
+SendsRequests n cluster request old new (Ok x) = Exchanges (over cluster old.framing) request (requests n) old new × IsQuiet old new
 SendsRequests n cluster request old new (Err NoAnswer) = ⊥
 SendsRequests n cluster request old new (Err PortFault) =
-    Exchanges (over cluster old.coat) request (requests 0) old new × Rose old.losses new.losses × IsLater old new
-SendsRequests n cluster request old new (Err NoMemory) = Exchanges (over cluster old.coat) request (requests 0) old new × IsQuiet old new
+    Exchanges (over cluster old.framing) request (requests 0) old new × Rose old.losses new.losses × IsLater old new
+SendsRequests n cluster request old new (Err NoMemory) = Exchanges (over cluster old.framing) request (requests 0) old new × IsQuiet old new
 
 -- the bytes are those of a datagram with the mark of a cluster before it, and its request is sent this number of times
 abbrev pub SendsMarked : {T : Type 0} → ℕ → ℕ → List ℕ → Meaning → Meaning → Result T AskError → Type 0
@@ -47,7 +47,7 @@ ReadsReply to command d (Err e) = Unit {0}
 pub record ReceivesOnce (cluster : ℕ) (x : Exchange) (old new : Meaning) : Type 0 where
   pub once : turns_in x ≡ 1
   pub none_sent : x.requests ≡ 0
-  pub exchanges : (request : Packet) → Exchanges (over cluster old.coat) request x old new
+  pub exchanges : (request : Packet) → Exchanges (over cluster old.framing) request x old new
   pub quiet : IsQuiet old new
 
 -- one receive, and the outcome where it took the reply
@@ -57,5 +57,5 @@ BringsReply cluster to command old new (Ok (Some outcome)) =
 BringsReply cluster to command old new (Ok None) = (x : Exchange) × ReceivesOnce cluster x old new × AllByRecursion (IsOther to command) x.received
 BringsReply cluster to command old new (Err NoAnswer) = ⊥
 BringsReply cluster to command old new (Err PortFault) =
-    ((request : Packet) → Exchanges (over cluster old.coat) request (requests 0) old new) × Rose old.faults new.faults × IsLater old new
+    ((request : Packet) → Exchanges (over cluster old.framing) request (requests 0) old new) × Rose old.faults new.faults × IsLater old new
 BringsReply cluster to command old new (Err NoMemory) = (x : Exchange) × ReceivesOnce cluster x old new

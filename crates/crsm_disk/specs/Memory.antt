@@ -59,7 +59,7 @@ meaning_of m = record {
   plan = Some (record { calls = m.room_calls; bytes = m.room_bytes; good = good_left m });
   fill = Some m.fill;
   faults = m.faults;
-  lent = None;
+  borrowed_as = None;
   as_read = λ _. reads_image m.first m.calls;
   as_told = told_makes m.first m.calls;
   counts_now = counts_now_lem m.first m.calls;

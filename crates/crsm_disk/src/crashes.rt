@@ -1,4 +1,4 @@
-//! What a crash may leave of bytes that were written, cut and synced.
+//! The images that a crash may leave of bytes that were written, cut and synced.
 
 ghost use Rattle.std.specs.Prelude.{ℕ, List};
 ghost use Rattle.crsm_disk.specs.Calls.{Call, contents};

@@ -1,4 +1,4 @@
-//! Disks over memory and over files: what is read, and what a crash at any moment may leave of what was written.
+//! Disks over memory and over files, with contracts of what a crash at any moment may leave of the bytes written.
 #![tactic(auto)]
 
 mod content;

@@ -86,7 +86,7 @@ Serves n (Some good) = n ≤ good
 pub record Goes (old new : Meaning) : Type 0 where
   pub honest : new.honest ≡ old.honest
   pub fill : new.fill ≡ old.fill
-  pub lent : new.lent ≡ old.lent
+  pub borrowed_as : new.borrowed_as ≡ old.borrowed_as
   pub later : old.faults ≤ new.faults
 
 -- Some of these calls were made and the next one failed; on a disk whose plan covers them, because no more succeed.

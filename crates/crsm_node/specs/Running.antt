@@ -16,7 +16,7 @@ use Rattle.crsm_log.specs.Claim.{IsOpenTo, claimed}
 use Rattle.crsm_log.specs.Format.{bodies_of, cluster_of, found, gate_in, reading}
 use Rattle.crsm_log.specs.Log.{Goes}
 use Rattle.crsm_port.specs.Cluster.{clustered, over}
-use Rattle.crsm_port.specs.Meaning.{Coat, Meaning as PortMeaning}
+use Rattle.crsm_port.specs.Meaning.{Framing, Meaning as PortMeaning}
 use Rattle.crsm_replica_detector.specs.Watching.{unwatched}
 use Rattle.crsm_replica_detector.specs.Wished.{replica_after}
 use Rattle.crsm_replica_detector.specs.declared.detector.Detector.{Detector}
@@ -45,10 +45,10 @@ pub record Devices : Type 1 where
 
 -- a device, whoever lends it
 abbrev pub unlent_disk : DiskMeaning → DiskMeaning
-unlent_disk m = record m { lent = None }
+unlent_disk m = record m { borrowed_as = None }
 
 abbrev pub unlent_port : PortMeaning → PortMeaning
-unlent_port m = record m { lent = None }
+unlent_port m = record m { borrowed_as = None }
 
 -- the first lines of a sheet
 abbrev pub opening_text : List (List ℕ) → List ℕ
@@ -190,8 +190,8 @@ devices_of disk port clock written faults d p c o =
     record { disk = unlent_disk (disk d); port = unlent_port (port p); clock = clock c; sheet = written o; faults = faults o }
 
 -- the same over the port of a cluster, where this number of sends were too long, and this framing is on each datagram
-abbrev pub over_cluster : ℕ → ℕ → Coat → Devices → Devices
-over_cluster cluster too_long coat devices = record devices { port = record (clustered cluster too_long devices.port) { coat = over cluster coat } }
+abbrev pub over_cluster : ℕ → ℕ → Framing → Devices → Devices
+over_cluster cluster too_long framing devices = record devices { port = record (clustered cluster too_long devices.port) { framing = over cluster framing } }
 
 -- memory ran out before the node began
 abbrev pub NotBegun : Devices → Devices → NodeEnd → Type 0
@@ -199,4 +199,4 @@ NotBegun old new end = (end ≡ ends.NoMemory) × Goes old.disk new.disk × (new
 
 -- The traffic of the cluster's port went over the port below with its framing.
 abbrev pub RunsOverCluster : NodeOrder → Devices → Devices → NodeEnd → Type 0
-RunsOverCluster order old new end = ((too_long : ℕ) × Runs order (over_cluster order.cluster 0 old.port.coat old) (over_cluster order.cluster too_long old.port.coat new) end) ⊎ NotBegun old new end
+RunsOverCluster order old new end = ((too_long : ℕ) × Runs order (over_cluster order.cluster 0 old.port.framing old) (over_cluster order.cluster too_long old.port.framing new) end) ⊎ NotBegun old new end

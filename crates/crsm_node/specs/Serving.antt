@@ -46,12 +46,12 @@ pub record Takes (r : Replica) (w : Watch) (turns : List (Turn × ℕ)) (before 
 -- The port gave the datagrams among these turns, and sent what went out of the groups. A turn that wanted to receive
 -- took a tick only where a receive was empty, and no more is missing than the count of losses rose by.
 pub record Carries (peers : List ℕ) (r : Replica) (w : Watch) (turns : List (Turn × ℕ)) (groups : List Group) (old new : PortMeaning) : Type 0 where
-  pub traffic : BothTell (Passes old.coat (datagrams_in turns) (packets_gone peers r groups)) old.traffic new.traffic
+  pub traffic : BothTell (Passes old.framing (datagrams_in turns) (packets_gone peers r groups)) old.traffic new.traffic
   pub empties : raised_by (empty_receives w r turns) old.empties ≤ new.empties
   pub losses : raised_by (packets_missing peers r groups) old.losses ≤ new.losses
   pub faults : old.faults ≤ new.faults
-  pub coat : new.coat ≡ old.coat
-  pub lent : new.lent ≡ old.lent
+  pub framing : new.framing ≡ old.framing
+  pub borrowed_as : new.borrowed_as ≡ old.borrowed_as
 
 -- The last group, which was not kept, and why, where this is the file that the groups before it left.
 abbrev pub StopsAt : Replica → List (Turn × ℕ) → List ℕ → Result (Unit {0}) NodeError → Type 0

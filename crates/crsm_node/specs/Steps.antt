@@ -34,12 +34,12 @@ turn_text t = sheet_line_text (turn_line t) ++ 10 ∷ []
 
 -- the turn that was wanted is taken off the port, and nothing is sent
 pub record TakesOff (wanted : WantedInput) (t : Turn) (old new : PortMeaning) : Type 0 where
-  pub traffic : BothTell (Passes old.coat (datagram_in t) []) old.traffic new.traffic
+  pub traffic : BothTell (Passes old.framing (datagram_in t) []) old.traffic new.traffic
   pub empties : raised_by (empty_receive wanted t) old.empties ≤ new.empties
   pub losses : new.losses ≡ old.losses
   pub faults : new.faults ≡ old.faults
-  pub coat : new.coat ≡ old.coat
-  pub lent : new.lent ≡ old.lent
+  pub framing : new.framing ≡ old.framing
+  pub borrowed_as : new.borrowed_as ≡ old.borrowed_as
 
 -- this turn was wanted, and is taken at a reading of the clock
 pub record Took (r : Replica) (w : Watch) (t : Turn × ℕ) (ahead later : Option Readings) (old new : PortMeaning) : Type 0 where
@@ -63,8 +63,8 @@ pub record IsIdle (old new : PortMeaning) : Type 0 where
   pub empties : new.empties ≡ old.empties
   pub losses : new.losses ≡ old.losses
   pub later : old.faults ≤ new.faults
-  pub coat : new.coat ≡ old.coat
-  pub lent : new.lent ≡ old.lent
+  pub framing : new.framing ≡ old.framing
+  pub borrowed_as : new.borrowed_as ≡ old.borrowed_as
 
 -- a receive failed, and the rest is as before
 pub record FailsToReceive {D : Type 0} {g : _} (shell : Shell D g) (m : DiskMeaning) (detector : Detector) (ahead later : Option Readings) (old new : PortMeaning)

@@ -57,8 +57,8 @@ fn run_over<P: Port, D: Disk, C: Clock, O: Sink, R: Reporter>(
 ) -> NodeEnd
     ensures runs { let at = devices_of D.meaning P.meaning C.readings O.written O.faults in
         Runs order.now (at disk.old port.old clock.old sheet.old) (at disk.new port.new clock.new sheet.new) result }
-    ensures coat { (P.meaning port.new).coat ≡ (P.meaning port.old).coat }
-    ensures lent { (P.meaning port.new).lent ≡ (P.meaning port.old).lent }
+    ensures framing { (P.meaning port.new).framing ≡ (P.meaning port.old).framing }
+    ensures borrowed_as { (P.meaning port.new).borrowed_as ≡ (P.meaning port.old).borrowed_as }
 {
     logs_are_one();
     if let Err(why) = claim(alloc, disk, order.cluster) {

@@ -52,7 +52,7 @@ pub(crate) fn take_turn<C: Clock, P: Port, D: Disk>(
         return Err(NodeError::from(never()));
     }
     let what = detector.next(shell.state())?;
-    hurry(port, &what, pending);
+    poll_soon(port, &what, pending);
     let turned = shell.take(what, clock, port)?;
     note(detector, &turned);
     let took_datagram = is_datagram(&turned.taken);
@@ -62,11 +62,11 @@ pub(crate) fn take_turn<C: Clock, P: Port, D: Disk>(
 
 /// Asks the port not to wait if others wait for pending records, which are to be flushed as soon as no datagram has
 /// arrived.
-fn hurry<P: Port>(port: &mut P, what: &WantedInput, pending: &PendingTurns)
+fn poll_soon<P: Port>(port: &mut P, what: &WantedInput, pending: &PendingTurns)
     ensures { P.meaning port.new ≡ P.meaning port.old }
 {
     if pending.has_record && matches!(what, WantedInput::Receive) {
-        port.hurry();
+        port.poll_soon();
     }
 }
 

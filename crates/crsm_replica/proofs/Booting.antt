@@ -116,12 +116,12 @@ boot_spelt : (me n : ℕ) → me < 15 → n ≤ 15 → FitsRec (Rec.Boot me n)
 boot_spelt me n a b = (a, omega (arith, b))
 
 -- once the boot is on record, the state stands
-pub stands_booted : (state : ReplicaState) (me n : ℕ) (log : Log) (ledger : Ledger) (output : Output) (running : EpochState) → AwaitsInside state me n log → boots log < u64_max →
+pub stands_booted : (state : ReplicaState) (me n : ℕ) (log : Log) (ledger : Ledger) (output : Output) (epoch_state : EpochState) → AwaitsInside state me n log → boots log < u64_max →
     InBoth me n log (Rec.Boot me n) nothing ledger output →
-    ((r : Replica) → EachFits r.me r.n r.log → active r.log ≡ false → EpochStands running (forgotten r)) →
-    StandsInside (record state { ledger = ledger; output = output; running = running }) (boot_again me n log)
+    ((r : Replica) → EachFits r.me r.n r.log → active r.log ≡ false → EpochStands epoch_state (forgotten r)) →
+    StandsInside (record state { ledger = ledger; output = output; epoch_state = epoch_state }) (boot_again me n log)
 unfolding boot_again keep begun fresh
-stands_booted state me n log ledger output running s l both_kept inactive =
+stands_booted state me n log ledger output epoch_state s l both_kept inactive =
     let rec : Rec = Rec.Boot me n in
     let fit : fits me n log rec ≡ true = boot_fits me n log l in
     let few : n ≤ 15 = s.ledger.says.few in
@@ -129,7 +129,7 @@ stands_booted state me n log ledger output running s l both_kept inactive =
     record {
       me = s.mine;
       ledger = both_kept.says;
-      running = inactive (record (fresh me n log) { log = rec ∷ log }) (fit, s.each) (boot_sleeps me n me n log);
+      epoch_state = inactive (record (fresh me n log) { log = rec ∷ log }) (fit, s.each) (boot_sleeps me n me n log);
       gathered = s.gathered;
       coordinator = s.coordinator (decision (rec ∷ log));
       made = s.made;

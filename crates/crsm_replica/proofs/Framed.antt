@@ -59,19 +59,19 @@ would-is : (x : Draft) (reading time : ℕ) → would x reading ≡ Some time �
 unfolding would
 would-is x reading time is = issued_above (last_issued x.replica) reading time is
 
-pub pushed : (state : ReplicaState) (x : Draft) (reading time : ℕ) (payload : InEpoch) (output : Output) (running : EpochState) (ks : List ℕ) → StandsInside state x → FitsPayload payload →
+pub pushed : (state : ReplicaState) (x : Draft) (reading time : ℕ) (payload : InEpoch) (output : Output) (epoch_state : EpochState) (ks : List ℕ) → StandsInside state x → FitsPayload payload →
     would x reading ≡ Some time → time < 2 ^ 64 → ks ≡ other_members x.replica → All (λ k. k < 15) ks →
     OutputStands output (record (made_of x) { sends = x.sends ++ map (next_frame x.replica payload) ks }) →
-    EpochStands running (record x.replica { issued = time ∷ x.replica.issued; pushed = x.replica.pushed ++ map (λ k. (k, payload)) (other_members x.replica) }) →
-    StandsInside (record state { running = running; output = output }) (push_to_members payload (issued_at time x))
+    EpochStands epoch_state (record x.replica { issued = time ∷ x.replica.issued; pushed = x.replica.pushed ++ map (λ k. (k, payload)) (other_members x.replica) }) →
+    StandsInside (record state { epoch_state = epoch_state; output = output }) (push_to_members payload (issued_at time x))
 unfolding push_to_members push_to issued_at other_members members_of next_frame frames_to
-pushed state x reading time payload output running ks s fit is small same below holds runs =
+pushed state x reading time payload output epoch_state ks s fit is small same below holds runs =
     let r = x.replica in
     let all : AllByRecursion (λ k. k < 15) (other_members r) = subst (AllByRecursion (λ k. k < 15)) same (recursion_from_All (λ k. k < 15) ks below) in
-    let few : (k : ℕ) → k < 15 → length (frames_to r k) < 2 ^ 64 = λ k within. omega (arith, few_sent state.running r k s.running within, would-is x reading time is) in
-    let first = ran state x running (time ∷ r.issued) r.received r.votes r.owed (r.pushed ++ map (λ k. (k, payload)) (other_members r)) r.acked r.taken s runs s.sound.owed
+    let few : (k : ℕ) → k < 15 → length (frames_to r k) < 2 ^ 64 = λ k within. omega (arith, few_sent state.epoch_state r k s.epoch_state within, would-is x reading time is) in
+    let first = ran state x epoch_state (time ∷ r.issued) r.received r.votes r.owed (r.pushed ++ map (λ k. (k, payload)) (other_members r)) r.acked r.taken s runs s.sound.owed
     (all-append FitsPushed r.pushed (map (λ k. (k, payload)) (other_members r)) s.sound.pushed (pushed-fit payload fit (other_members r) all)) in
-    sent (record state { running = running })
+    sent (record state { epoch_state = epoch_state })
     (record x { replica = record r { issued = time ∷ r.issued; pushed = r.pushed ++ map (λ k. (k, payload)) (other_members r) } })
     output x.excess (x.sends ++ map (next_frame r payload) (other_members r)) x.replies first
     (subst (λ js. OutputStands output (record (made_of x) { sends = x.sends ++ map (next_frame r payload) js })) same holds)

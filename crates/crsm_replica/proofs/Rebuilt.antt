@@ -44,7 +44,7 @@ pub sent : (state : ReplicaState) (x : Draft) (output : Output) (excess : List L
 sent state x output excess sends replies s holds fit fits_too = record {
   me = s.me;
   ledger = s.ledger;
-  running = s.running;
+  epoch_state = s.epoch_state;
   gathered = s.gathered;
   coordinator = s.coordinator;
   made = s.made;
@@ -56,16 +56,16 @@ sent state x output excess sends replies s holds fit fits_too = record {
 
 -- ---- what is kept of the epoch
 
-pub ran : (state : ReplicaState) (x : Draft) (running : EpochState) (issued : List ℕ) (received : List (ℕ × ℕ)) (votes : List (Stamp × ℕ)) (owed : List Stamp)
+pub ran : (state : ReplicaState) (x : Draft) (epoch_state : EpochState) (issued : List ℕ) (received : List (ℕ × ℕ)) (votes : List (Stamp × ℕ)) (owed : List Stamp)
     (pushed : List (ℕ × InEpoch)) (acked : List (ℕ × ℕ)) (taken : List ℕ) → StandsInside state x →
-    EpochStands running (record x.replica { issued = issued; received = received; votes = votes; owed = owed; pushed = pushed; acked = acked; taken = taken }) →
+    EpochStands epoch_state (record x.replica { issued = issued; received = received; votes = votes; owed = owed; pushed = pushed; acked = acked; taken = taken }) →
     AllByRecursion FitsStamp owed → AllByRecursion FitsPushed pushed →
-    StandsInside (record state { running = running })
+    StandsInside (record state { epoch_state = epoch_state })
     (record x { replica = record x.replica { issued = issued; received = received; votes = votes; owed = owed; pushed = pushed; acked = acked; taken = taken } })
-ran state x running issued received votes owed pushed acked taken s runs fit fits_too = record {
+ran state x epoch_state issued received votes owed pushed acked taken s runs fit fits_too = record {
   me = s.me;
   ledger = s.ledger;
-  running = runs;
+  epoch_state = runs;
   gathered = s.gathered;
   coordinator = s.coordinator;
   made = s.made;
@@ -82,7 +82,7 @@ pub noted : (state : ReplicaState) (x : Draft) (coordinator : CoordinatorInMemor
 noted state x coordinator m s is = record {
   me = s.me;
   ledger = s.ledger;
-  running = beside state.running x.replica x.replica.parts m x.replica.made x.replica.waiting s.running;
+  epoch_state = beside state.epoch_state x.replica x.replica.parts m x.replica.made x.replica.waiting s.epoch_state;
   gathered = s.gathered;
   coordinator = is;
   made = s.made;
@@ -97,7 +97,7 @@ pub awaits : (state : ReplicaState) (x : Draft) (now : Vec WaitingInMemory) (wai
 awaits state x now waiting s is fit = record {
   me = s.me;
   ledger = s.ledger;
-  running = beside state.running x.replica x.replica.parts x.replica.coordinator x.replica.made waiting s.running;
+  epoch_state = beside state.epoch_state x.replica x.replica.parts x.replica.coordinator x.replica.made waiting s.epoch_state;
   gathered = s.gathered;
   coordinator = s.coordinator;
   made = s.made;
@@ -112,7 +112,7 @@ pub gathered_one : (state : ReplicaState) (x : Draft) (gathered : Gathered) (par
 gathered_one state x gathered parts s has = record {
   me = s.me;
   ledger = s.ledger;
-  running = beside state.running x.replica parts x.replica.coordinator x.replica.made x.replica.waiting s.running;
+  epoch_state = beside state.epoch_state x.replica parts x.replica.coordinator x.replica.made x.replica.waiting s.epoch_state;
   gathered = has;
   coordinator = s.coordinator;
   made = s.made;
@@ -128,7 +128,7 @@ pub sent_one : (state : ReplicaState) (x : Draft) (output : Output) (more : List
 sent_one state x output more made s holds fit next small = record {
   me = s.me;
   ledger = s.ledger;
-  running = beside state.running x.replica x.replica.parts x.replica.coordinator (x.replica.made + 1) x.replica.waiting s.running;
+  epoch_state = beside state.epoch_state x.replica x.replica.parts x.replica.coordinator (x.replica.made + 1) x.replica.waiting s.epoch_state;
   gathered = s.gathered;
   coordinator = s.coordinator;
   made = next;
@@ -191,24 +191,24 @@ fitting_both true true p q = refl
 fitting_both true false p q = q
 fitting_both false b p q = p
 
-pub recorded : (state : ReplicaState) (x : Draft) (rec : Rec) (ledger : Ledger) (output : Output) (running : EpochState) (coordinator : CoordinatorInMemory) (m : Coordinator)
+pub recorded : (state : ReplicaState) (x : Draft) (rec : Rec) (ledger : Ledger) (output : Output) (epoch_state : EpochState) (coordinator : CoordinatorInMemory) (m : Coordinator)
     (issued : List ℕ) (received : List (ℕ × ℕ)) (votes : List (Stamp × ℕ)) (owed : List Stamp) (pushed : List (ℕ × InEpoch)) (acked : List (ℕ × ℕ)) (taken : List ℕ) →
     StandsInside state x → fits x.replica.me x.replica.n x.replica.log rec ≡ true → FitsRec rec →
     InBoth x.replica.me x.replica.n x.replica.log rec (made_of x) ledger output →
-    EpochStands running (record x.replica { log = rec ∷ x.replica.log; coordinator = m; issued = issued; received = received; votes = votes; owed = owed; pushed = pushed; acked = acked; taken = taken }) →
+    EpochStands epoch_state (record x.replica { log = rec ∷ x.replica.log; coordinator = m; issued = issued; received = received; votes = votes; owed = owed; pushed = pushed; acked = acked; taken = taken }) →
     CoordinatorStands coordinator x.replica.me x.replica.n (decision (rec ∷ x.replica.log)) m →
     AllByRecursion FitsStamp owed → AllByRecursion FitsPushed pushed →
-    StandsInside (record state { ledger = ledger; output = output; running = running; coordinator = coordinator })
+    StandsInside (record state { ledger = ledger; output = output; epoch_state = epoch_state; coordinator = coordinator })
     (record x {
       replica = record x.replica { log = rec ∷ x.replica.log; coordinator = m; issued = issued; received = received; votes = votes; owed = owed; pushed = pushed; acked = acked; taken = taken };
       batch = x.batch ++ rec ∷ [];
       lines = x.lines ++ lines_of x.replica.me x.replica.log rec;
       fitting = x.fitting && fits x.replica.me x.replica.n x.replica.log rec;
     })
-recorded state x rec ledger output running coordinator m issued received votes owed pushed acked taken s fit spelt both runs noted_too fit_owed fit_pushed = record {
+recorded state x rec ledger output epoch_state coordinator m issued received votes owed pushed acked taken s fit spelt both runs noted_too fit_owed fit_pushed = record {
   me = s.me;
   ledger = both.says;
-  running = runs;
+  epoch_state = runs;
   gathered = s.gathered;
   coordinator = noted_too;
   made = s.made;
@@ -258,7 +258,7 @@ pub unrecorded : (state : ReplicaState) (x : Draft) (ledger : Ledger) (output : 
 unrecorded state x ledger output s says holds = record {
   me = s.me;
   ledger = says;
-  running = s.running;
+  epoch_state = s.epoch_state;
   gathered = s.gathered;
   coordinator = s.coordinator;
   made = s.made;
@@ -286,7 +286,7 @@ unfolding begun
 begun_again state x output s holds = record {
   me = s.me;
   ledger = s.ledger;
-  running = s.running;
+  epoch_state = s.epoch_state;
   gathered = s.gathered;
   coordinator = s.coordinator;
   made = s.made;

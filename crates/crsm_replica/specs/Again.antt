@@ -18,4 +18,4 @@ sending sends m = record m { sends = m.sends ++ sends }
 
 -- for replica me in this epoch, whose state this is, and what the output holds
 abbrev pub WhereSending : EpochState → Output → ℕ → ℕ → (Replica → Made → Type 0) → Type 0
-WhereSending running output me epoch P = (r : Replica) (m : Made) → EpochStands running r → OutputStands output m → me ≡ r.me → epoch ≡ known r.log → P r m
+WhereSending epoch_state output me epoch P = (r : Replica) (m : Made) → EpochStands epoch_state r → OutputStands output m → me ≡ r.me → epoch ≡ known r.log → P r m

@@ -28,7 +28,7 @@ on_paper w = record { address = w.address; entry = w.entry }
 pub record StandsInside (state : ReplicaState) (x : Draft) : Type 0 where
   pub me : state.me ≡ x.replica.me
   pub ledger : LedgerStands x.replica.me x.replica.n state.ledger x.replica.log
-  pub running : EpochStands state.running x.replica
+  pub epoch_state : EpochStands state.epoch_state x.replica
   pub gathered : GatherStands state.gathered x.replica.parts
   pub coordinator : CoordinatorStands state.coordinator x.replica.me x.replica.n (decision x.replica.log) x.replica.coordinator
   pub made : state.made ≡ x.replica.made

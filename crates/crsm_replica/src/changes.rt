@@ -21,7 +21,7 @@ impl ReplicaState {
         ensures { Makes (count_vote stamp k) self.old result self.new }
     {
         let last = self.ledger.last_stamp();
-        self.running.count_vote(stamp, k, last)?;
+        self.epoch_state.count_vote(stamp, k, last)?;
         Ok(())
     }
 

@@ -37,7 +37,7 @@ impl ReplicaState {
         if !fit {
             return Ok(false);
         }
-        self.running = EpochState::new(self.alloc);
+        self.epoch_state = EpochState::new(self.alloc);
         self.coordinator = CoordinatorInMemory::quiet();
         Ok(true)
     }
@@ -53,7 +53,7 @@ impl ReplicaState {
         if !fit {
             return Ok(());
         }
-        self.running = EpochState::new(self.alloc);
+        self.epoch_state = EpochState::new(self.alloc);
         Ok(())
     }
 

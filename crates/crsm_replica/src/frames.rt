@@ -15,18 +15,18 @@ use std::alloc::Global;
 pub fn send_next(
     alloc: Global,
     output: &mut Output,
-    running: &EpochState,
+    epoch_state: &EpochState,
     me: u32,
     epoch: u64,
     members: &[u32],
     payload: &InEpoch,
 ) -> Result<(), NoMemory>
     requires { All (λ k. k < 15) members.now }
-    ensures { OnOk result (WhereSending running.now output.old me epoch (λ r m. OutputStands output.new (sending (map (next_frame r payload.now) (others_of me members.now)) m))) }
+    ensures { OnOk result (WhereSending epoch_state.now output.old me epoch (λ r m. OutputStands output.new (sending (map (next_frame r payload.now) (others_of me members.now)) m))) }
 {
     for k in members {
         if *k != me {
-            send_frame(output, running, me, epoch, *k, payload.copy(alloc)?)?;
+            send_frame(output, epoch_state, me, epoch, *k, payload.copy(alloc)?)?;
         }
     }
     Ok(())
@@ -35,16 +35,16 @@ pub fn send_next(
 /// Sends the next frame to replica `k`. `NoMemory` if memory runs out.
 fn send_frame(
     output: &mut Output,
-    running: &EpochState,
+    epoch_state: &EpochState,
     me: u32,
     epoch: u64,
     k: u32,
     payload: InEpoch,
 ) -> Result<(), NoMemory>
     requires { k < 15 }
-    ensures { OnOk result (WhereSending running.now output.old me epoch (λ r m. OutputStands output.new (sending (next_frame r payload k ∷ []) m))) }
+    ensures { OnOk result (WhereSending epoch_state.now output.old me epoch (λ r m. OutputStands output.new (sending (next_frame r payload k ∷ []) m))) }
 {
-    let seq = running.pushed_to(k);
+    let seq = epoch_state.pushed_to(k);
     let datagram = Datagram::Frame {
         from: me,
         to: k,

@@ -24,13 +24,13 @@ impl ReplicaState {
         send_next(
             self.alloc,
             &mut self.output,
-            &self.running,
+            &self.epoch_state,
             number,
             self.ledger.known().epoch,
             self.ledger.known().members.as_slice(),
             &payload,
         )?;
-        self.running
+        self.epoch_state
             .push_at(time, number, &self.ledger.known().members, &payload)?;
         Ok(())
     }
@@ -42,7 +42,7 @@ impl ReplicaState {
         requires { k < 15 }
         ensures { IfOk result (λ _. WhereLater self.old k time (λ x. ReplicaStands self.new (record x { replica = record x.replica { taken = k ∷ x.replica.taken; received = (k, time) ∷ x.replica.received } }))) }
     {
-        self.running.take_next(k, time);
+        self.epoch_state.take_next(k, time);
         Ok(())
     }
 
@@ -54,7 +54,7 @@ impl ReplicaState {
         ensures { Makes (ack k) self.old result self.new }
     {
         let epoch = self.known();
-        let next = self.running.next_from(k);
+        let next = self.epoch_state.next_from(k);
         self.output.send(
             k,
             Datagram::Ack {
@@ -73,7 +73,7 @@ impl ReplicaState {
         requires { k < 15 }
         ensures { IfOk result (λ _. WhereStands self.old (λ x. next ≤ length (frames_to x.replica k) → ReplicaStands self.new (record x { replica = record x.replica { acked = (k, next) ∷ x.replica.acked } }))) }
     {
-        self.running.acked(k, next);
+        self.epoch_state.acked(k, next);
         Ok(())
     }
 
@@ -83,7 +83,7 @@ impl ReplicaState {
         requires { FitsStamp stamp }
         ensures { Makes (owe stamp) self.old result self.new }
     {
-        self.running.owe(stamp)?;
+        self.epoch_state.owe(stamp)?;
         Ok(())
     }
 
@@ -92,7 +92,7 @@ impl ReplicaState {
     pub fn paid(&mut self) -> Result<(), NoMemory>
         ensures { IfOk result (λ _. (x : Draft) (s : Stamp) (ss : List Stamp) → ReplicaStands self.old x → x.replica.owed ≡ s ∷ ss → ReplicaStands self.new (owing ss x)) }
     {
-        self.running.paid();
+        self.epoch_state.paid();
         Ok(())
     }
 
@@ -102,10 +102,10 @@ impl ReplicaState {
         requires { k < 15 }
         ensures { Makes (λ x. again_to x k) self.old result self.new }
     {
-        if self.running.pushed_to(k) == 0 {
+        if self.epoch_state.pushed_to(k) == 0 {
             return Ok(());
         }
-        let due = self.running.due(k)?;
+        let due = self.epoch_state.due(k)?;
         send_again(
             self.alloc,
             &mut self.output,

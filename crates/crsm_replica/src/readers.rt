@@ -138,7 +138,7 @@ impl ReplicaState {
     pub fn would(&self, reading: u64) -> Option<u64>
         ensures { WhereStands self.now (λ x. result ≡ would x reading) }
     {
-        self.running.would(reading)
+        self.epoch_state.would(reading)
     }
 
     #[tactic(auto, unfolding(crate::specs::Replica::ReplicaStands))]
@@ -146,7 +146,7 @@ impl ReplicaState {
     pub fn last_issued(&self) -> u64
         ensures { WhereStands self.now (λ x. result ≡ last_issued x.replica) }
     {
-        self.running.last_issued()
+        self.epoch_state.last_issued()
     }
 
     #[tactic(auto, unfolding(crate::specs::Replica::ReplicaStands))]
@@ -155,7 +155,7 @@ impl ReplicaState {
         requires { k < 15 }
         ensures { WhereStands self.now (λ x. (k ≢ x.replica.me) → result ≡ latest_from x.replica.received k) }
     {
-        self.running.latest_from(k)
+        self.epoch_state.latest_from(k)
     }
 
     #[tactic(auto, unfolding(crate::specs::Replica::ReplicaStands))]
@@ -164,7 +164,7 @@ impl ReplicaState {
         requires { k < 15 }
         ensures { WhereStands self.now (λ x. result ≡ next_from x.replica k) }
     {
-        self.running.next_from(k)
+        self.epoch_state.next_from(k)
     }
 
     #[tactic(auto, unfolding(crate::specs::Replica::ReplicaStands))]
@@ -173,7 +173,7 @@ impl ReplicaState {
         requires { k < 15 }
         ensures { WhereStands self.now (λ x. result ≡ length (frames_to x.replica k)) }
     {
-        self.running.pushed_to(k)
+        self.epoch_state.pushed_to(k)
     }
 
     #[tactic(auto, unfolding(crate::specs::Replica::ReplicaStands))]
@@ -181,7 +181,7 @@ impl ReplicaState {
     pub fn is_congested(&self) -> bool
         ensures { WhereStands self.now (λ x. result ≡ is_congested x.replica) }
     {
-        self.running
+        self.epoch_state
             .is_congested(self.me, &self.ledger.known().members)
     }
 
@@ -190,7 +190,7 @@ impl ReplicaState {
     pub fn own_unexecuted(&self) -> u64
         ensures { WhereStands self.now (λ x. active x.replica.log ≡ true → result ≡ length (own_unexecuted x.replica)) }
     {
-        self.running.own_unexecuted(self.me())
+        self.epoch_state.own_unexecuted(self.me())
     }
 
     #[tactic(auto, unfolding(crate::specs::Replica::ReplicaStands))]
@@ -206,7 +206,7 @@ impl ReplicaState {
     pub fn owed_len(&self) -> u64
         ensures { WhereStands self.now (λ x. result ≡ length x.replica.owed) }
     {
-        self.running.owed_len()
+        self.epoch_state.owed_len()
     }
 
     #[tactic(auto, unfolding(crate::specs::Replica::ReplicaStands))]
@@ -214,7 +214,7 @@ impl ReplicaState {
     pub fn first_owed(&self) -> Option<Stamp>
         ensures { WhereStands self.now (λ x. result ≡ first_of x.replica.owed) }
     {
-        self.running.first_owed()
+        self.epoch_state.first_owed()
     }
 
     #[tactic(auto, unfolding(crate::specs::Replica::ReplicaStands))]
@@ -225,7 +225,7 @@ impl ReplicaState {
         ensures fits { IfOk result (λ r. FitsOption FitsStamp r) }
     {
         let ready = self
-            .running
+            .epoch_state
             .ready(&self.ledger.known().members, self.ledger.counted());
         Ok(of_a_replica(ready))
     }

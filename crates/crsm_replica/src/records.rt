@@ -29,7 +29,7 @@ impl ReplicaState {
         let Some(lines) = apply(&mut self.ledger, &rec)? else {
             return Ok(false);
         };
-        self.running.keep(&rec, last)?;
+        self.epoch_state.keep(&rec, last)?;
         self.output.keep(rec, lines)?;
         Ok(true)
     }

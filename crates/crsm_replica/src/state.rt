@@ -22,7 +22,7 @@ pub struct ReplicaState {
     pub(crate) alloc: Global,
     pub(crate) me: u32,
     pub(crate) ledger: Ledger,
-    pub(crate) running: EpochState,
+    pub(crate) epoch_state: EpochState,
     pub(crate) gathered: Gathered,
     pub(crate) coordinator: Coordinator,
     /// Number of control messages that this boot has made.

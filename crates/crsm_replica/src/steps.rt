@@ -35,7 +35,7 @@ impl ReplicaState {
             alloc,
             me,
             ledger,
-            running: EpochState::new(alloc),
+            epoch_state: EpochState::new(alloc),
             gathered: Gathered::new(alloc)?,
             coordinator: Coordinator::quiet(),
             made: 0,
@@ -79,7 +79,7 @@ impl ReplicaState {
         if !fit {
             return Err(never());
         }
-        self.running = EpochState::new(self.alloc);
+        self.epoch_state = EpochState::new(self.alloc);
         Ok(())
     }
 }

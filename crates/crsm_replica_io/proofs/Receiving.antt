@@ -42,8 +42,8 @@ fails old new before after e r = record {
   not_empty = λ _. r.not_empty;
   none_taken = λ _. r.untaken;
   told = r.told;
-  coat = r.coat;
-  lent = r.lent;
+  framing = r.framing;
+  borrowed_as = r.borrowed_as;
   plan = fails_so old.plan new.plan e (record {}) r.plan;
   well = λ p a good is. none_is_some (sym good ∙ (r.plan.exact p a (omega arith) (omega arith)).0 refl);
 }
@@ -62,8 +62,8 @@ nothing old new before after r = record {
   not_empty = λ is. absurd (ok is);
   none_taken = λ is. absurd (ok is);
   told = r.told;
-  coat = r.coat;
-  lent = r.lent;
+  framing = r.framing;
+  borrowed_as = r.borrowed_as;
   plan = goes_so old.plan new.plan r.plan;
   well = λ p a good is. ok is;
 }
@@ -83,8 +83,8 @@ datagram old new before after from len r = record {
   not_empty = λ is. absurd (ok is);
   none_taken = λ is. absurd (ok is);
   told = r.told;
-  coat = r.coat;
-  lent = r.lent;
+  framing = r.framing;
+  borrowed_as = r.borrowed_as;
   plan = goes_so old.plan new.plan r.plan;
   well = λ p a good is. ok is;
 }
@@ -92,7 +92,7 @@ datagram old new before after from len r = record {
     ok : IsErrOf {E = TakeError} (Ok (taken.Datagram from len)) error.PortFault → ⊥
     ok h = cc
 
-    as_first : (t u : Traffic) → Takes old.coat t u before after (got.Datagram from len) → IsFirst (length before) after old.coat t u (taken.Datagram from len)
+    as_first : (t u : Traffic) → Takes old.framing t u before after (got.Datagram from len) → IsFirst (length before) after old.framing t u (taken.Datagram from len)
     as_first t u (d, rest, waits, address, size, copied, gone) =
-        let bytes = (old.coat.unwrap d).bytes in
+        let bytes = (old.framing.unwrap d).bytes in
         (d, rest, waits, address, ap (take len) copied ∙ prefix len bytes (drop len before) (omega (arith, size)) ∙ cut len (length before) bytes size, gone)

@@ -58,12 +58,12 @@ pub record GoesOut (packets : List Packet) (old new : Meaning) : Type 0 where
   pub missing : ℕ
   pub lacks : Lacks missing packets out
   pub counted : raised_by missing old.losses ≤ new.losses
-  pub traffic : new.traffic ≡ option_map (with_all_sent (map old.coat.wrap out)) old.traffic
+  pub traffic : new.traffic ≡ option_map (with_all_sent (map old.framing.wrap out)) old.traffic
 
 -- all of them go out
 pub record GoesWhole (packets : List Packet) (p : Plan) (old new : Meaning) : Type 0 where
   pub losses : new.losses ≡ old.losses
-  pub traffic : new.traffic ≡ option_map (with_all_sent (map old.coat.wrap packets)) old.traffic
+  pub traffic : new.traffic ≡ option_map (with_all_sent (map old.framing.wrap packets)) old.traffic
   pub plan : new.plan ≡ Some (spent (length packets) (bytes_in packets) p)
 
 -- the effect of sending all of these
@@ -71,8 +71,8 @@ pub record SendsAll (packets : List Packet) (old new : Meaning) : Type 0 where
   pub faults : new.faults ≡ old.faults
   pub empties : new.empties ≡ old.empties
   pub later : old.losses ≤ new.losses
-  pub coat : new.coat ≡ old.coat
-  pub lent : new.lent ≡ old.lent
+  pub framing : new.framing ≡ old.framing
+  pub borrowed_as : new.borrowed_as ≡ old.borrowed_as
   pub out : GoesOut packets old new
   -- where all calls of the port go well and there is room
   pub whole : (p : Plan) → old.plan ≡ Some p → p.good ≡ None → length packets ≤ p.calls → bytes_in packets ≤ p.bytes → GoesWhole packets p old new

@@ -33,10 +33,10 @@ pub record SendsPackets (packets : List Packet) (old new : PortMeaning) : Type 0
   pub faults : new.faults ≡ old.faults
   pub empties : new.empties ≡ old.empties
   pub later : old.losses ≤ new.losses
-  pub coat : new.coat ≡ old.coat
-  pub lent : new.lent ≡ old.lent
+  pub framing : new.framing ≡ old.framing
+  pub borrowed_as : new.borrowed_as ≡ old.borrowed_as
   pub out : GoesOut packets old new
-  pub whole : GoesWell old.plan → (new.traffic ≡ option_map (with_all_sent (map old.coat.wrap packets)) old.traffic) × (new.losses ≡ old.losses) × GoesWell new.plan
+  pub whole : GoesWell old.plan → (new.traffic ≡ option_map (with_all_sent (map old.framing.wrap packets)) old.traffic) × (new.losses ≡ old.losses) × GoesWell new.plan
 
 -- nothing is sent; there may be more room than before
 pub record SendsNone (old new : PortMeaning) : Type 0 where

@@ -9,5 +9,5 @@ use Rattle.crsm_replica.proofs.frames.send_next.Given as goal
 
 abbrev pub invariant-loop-k : goal.invariant-loop-k
 invariant-loop-k l =
-    (r : Replica) (m : Made) → EpochStands l.running r → OutputStands l.initial.output m → l.me ≡ r.me → l.epoch ≡ known r.log →
+    (r : Replica) (m : Made) → EpochStands l.epoch_state r → OutputStands l.initial.output m → l.me ≡ r.me → l.epoch ≡ known r.log →
     OutputStands l.output (record m { sends = m.sends ++ map (next_frame r l.payload) (others_of l.me (take l.k-index l.members)) })

@@ -16,7 +16,7 @@ pub returns : goal.returns
 unfolding ReplicaStands ack send
 returns c x s =
     let epoch : c.known-epoch.result ≡ known x.replica.log = c.known-epoch.ensures x s in
-    let next : c.next_from-next.result ≡ next_from x.replica c.args.k = c.next_from-next.ensures x.replica s.running in
+    let next : c.next_from-next.result ≡ next_from x.replica c.args.k = c.next_from-next.ensures x.replica s.epoch_state in
     let one : Datagram = datagram.Ack x.replica.me c.args.k (known x.replica.log) (next_from x.replica c.args.k) in
     let small : c.known-epoch.result < 18446744073709551616 = c.known-epoch.type_inv in
     let few : c.next_from-next.result < 18446744073709551616 = c.next_from-next.type_inv in

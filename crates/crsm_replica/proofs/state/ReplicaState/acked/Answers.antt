@@ -8,4 +8,4 @@ unfolding ReplicaStands
 returns c x s most =
     let r = x.replica in
     ran c.args.self.now x c.acked.new.self r.issued r.received r.votes r.owed r.pushed ((c.args.k, c.args.next) ∷ r.acked) r.taken s
-    (c.acked.ensures x.replica s.running most) s.sound.owed s.sound.pushed
+    (c.acked.ensures x.replica s.epoch_state most) s.sound.owed s.sound.pushed

@@ -7,5 +7,5 @@ use Rattle.crsm_replica.proofs.state.ReplicaState.is_congested.Goals as goal
 pub returns : goal.returns
 unfolding ReplicaStands members_of
 returns c x s =
-    c.is_congested.ensures x.replica s.running s.me
+    c.is_congested.ensures x.replica s.epoch_state s.me
     (ap (λ d. d.members) (c.known.ensures x.replica.me x.replica.n x.replica.log s.ledger) ∙ known-members x.replica.n x.replica.log)

@@ -9,4 +9,4 @@ unfolding ReplicaStands owe
 returns c x s =
     let r = x.replica in
     ran c.args.self.now x c.owe.new.self r.issued r.received r.votes (with_stamp c.args.stamp r.owed) r.pushed r.acked r.taken s
-    (c.in_ok-owe.ensures x.replica s.running) (owed-one c.args.stamp r.owed c.requires s.sound.owed) s.sound.pushed
+    (c.in_ok-owe.ensures x.replica s.epoch_state) (owed-one c.args.stamp r.owed c.requires s.sound.owed) s.sound.pushed

@@ -13,4 +13,4 @@ returns c x t ts s is =
     let r = x.replica in
     let fit : AllByRecursion FitsStamp (t ∷ ts) = subst (λ (all : List Stamp). AllByRecursion FitsStamp all) is s.sound.owed in
     ran c.args.self.now x c.paid.new.self r.issued r.received r.votes ts r.pushed r.acked r.taken s
-    (c.paid.ensures x.replica t ts s.running is) fit.1 s.sound.pushed
+    (c.paid.ensures x.replica t ts s.epoch_state is) fit.1 s.sound.pushed

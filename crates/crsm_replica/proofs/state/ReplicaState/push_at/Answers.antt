@@ -22,5 +22,5 @@ returns c x reading s fit is =
     let others : others_of c.me-number.result c.as_slice.result.now ≡ other_members r =
     ap (λ me. others_of me c.as_slice.result.now) mine ∙ ap (others_of r.me) (c.as_slice.ensures.value ∙ listed) in
     pushed c.args.self.now x reading c.args.time c.args.payload c.send_next.new.output c.push_at.new.self (others_of c.me-number.result c.as_slice.result.now) s fit is (omega arith)
-    others (All-filter (λ k. not (k == c.me-number.result)) (λ k. k < 15) c.as_slice.result.now c.as_slice.ensures.below) (c.in_ok-send_next.ensures r (made_of x) s.running s.output mine now)
-    (c.in_ok-push_at.ensures r reading s.running mine members is)
+    others (All-filter (λ k. not (k == c.me-number.result)) (λ k. k < 15) c.as_slice.result.now c.as_slice.ensures.below) (c.in_ok-send_next.ensures r (made_of x) s.epoch_state s.output mine now)
+    (c.in_ok-push_at.ensures r reading s.epoch_state mine members is)
