@@ -29,7 +29,7 @@ on_first : (cluster : ℕ) (request : Packet) (x : Exchange) (a b c : Meaning) �
 on_first cluster request x a b c same e = let P : Framing → Type 0 = λ k. Exchanges (over cluster k) request x b c in subst P same e
 
 module _ (cluster to : ℕ) (command : Command) (resend : ℕ) where
-  -- no reply in so many turns
+  -- no reply in this number of turns
   abbrev pub SoFar : ℕ → Meaning → Meaning → Type 0
   SoFar turns old new = Asks cluster to command turns resend old new (Err NoAnswer)
 

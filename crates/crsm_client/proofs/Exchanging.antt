@@ -48,7 +48,7 @@ quiet_on a b c p q = record { faults = q.faults ∙ p.faults; losses = q.losses 
 same_exchange : {r s : List Packet} {e f p q : ℕ} → r ≡ s → e ≡ f → p ≡ q → Path Exchange (record { received = r; empties = e; requests = p }) (record { received = s; empties = f; requests = q })
 same_exchange a b c = rw (a, b, c) refl
 
--- and then so many requests
+-- and then this number of requests
 pub with_requests : (framing : Framing) (request : Packet) (n : ℕ) (x : Exchange) (a b c : Meaning) → Exchanges framing request x a b → Exchanges framing request (requests n) b c
     → Exchanges framing request (record x { requests = x.requests + n }) a c
 with_requests framing request n x a b c e f =
@@ -66,7 +66,7 @@ with_none framing request x a b c e f =
 pub none_moved : (framing : Framing) (request : Packet) (t : Traffic) → Moves framing request (requests 0) t t
 none_moved framing request t = record { packets = []; received_are = refl; waited = refl; taken = sym (append-nil t.taken); sent = sym (append-nil t.sent) }
 
--- what is told of the port is as before
+-- the traffic of the port is as before
 pub none_exchanged : (framing : Framing) (request : Packet) (old new : Meaning) → new.traffic ≡ old.traffic → new.empties ≡ old.empties → new.framing ≡ old.framing → new.borrowed_as ≡ old.borrowed_as
     → Exchanges framing request (requests 0) old new
 none_exchanged framing request old new traffic empties same borrowed_as = record {

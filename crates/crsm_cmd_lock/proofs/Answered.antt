@@ -32,7 +32,7 @@ more_after to command outcome received more e = record {
   is_reply = e.is_reply;
 }
 
--- a port that tells before tells after
+-- a port whose traffic is specified before has it specified after
 told_after : (o : Option Traffic) → IsSome o → (u : Traffic) × (o ≡ Some u)
 told_after None is = absurd (cc)
 told_after (Some u) is = (u, refl)

@@ -115,7 +115,7 @@ fn push_lines(text: &mut Bytes, at: u64, lines: &Lines) -> Result<(), NoMemory>
     Ok(())
 }
 
-/// Returns the lines to the world, which uses their memory.
+/// Gives the lines back to the world, which uses their memory.
 fn give_back(world: &mut Option<World>, lines: Lines)
     ensures { StaysAt world.old world.new }
 {

@@ -28,7 +28,7 @@ begins me n replay stands = record {
 }
 
 module _ (me n : ℕ) (texts : List Text) (shown : Text) where
-  -- a text that spells no line
+  -- a text that is not a line
   pub unread : (stop : Stop SheetCause) (text before : Text) → StopsUnread stop text → Spells me n texts shown
       → StopsAt (sheet_of_node me n) texts shown text before before stop
   unread (Stop.Refused cause) text before stops spells = (

@@ -39,7 +39,7 @@ first_event w e es =
     let m = act w (act_of e) in
     map-append (λ x. x.line) (map (traced (Some (act_of e))) m.lines) (told m.after (map act_of es)) ∙ ap (λ ls. ls ++ lines_from m.after es) (lines_again (Some (act_of e)) m.lines)
 
--- ---- a run that has come so far
+-- ---- a run in progress
 
 pub record Runs (run : SoakRun) (number n steps left : ℕ) : Type 0 where
   pub cluster : World

@@ -72,7 +72,8 @@ run_commits x e es q = rw q refl
 
 -- ---- the loop
 
--- So many are committed: the state stands for a draft from which the run goes on, and so many are unexecuted less.
+-- After these commits the state stands for a draft from which the run continues, and as many entries fewer are
+-- unexecuted.
 pub record Committed (count : ℕ) (state : ReplicaState) (x : Draft) : Type 0 where
   pub left : Draft
   pub stands : ReplicaStands state left

@@ -198,7 +198,7 @@ pub length-map : {A B : Type 0} (f : A → B) (xs : List A) → length (map f xs
 length-map f [] = refl
 length-map f (x ∷ xs) = omega (arith, length-map f xs)
 
--- what is asked for on paper, where the replica asks
+-- the request for promises in the definitions, if the replica asks
 pub record AsksOnPaper (a : Asking) (p : Note) : Type 0 where
   pub b : Ballot
   pub start : ℕ

@@ -14,7 +14,7 @@ use Rattle.crsm_mpreplica.specs.declared.note.Leading.{Leading}
 use Rattle.crsm_mpreplica.specs.declared.note.Note.{Note}
 use Rattle.crsm_mpreplica.specs.Notes.{NoteStands}
 
--- the note on paper of a lead
+-- the stage of a leader in the definitions
 pub record IsLead (l : Leading) (p : NoteOnPaper) : Type 0 where
   pub start : ℕ
   pub reports : List Report

@@ -276,7 +276,7 @@ renews x = by_note x.replica.note refl
         let note = Note.Leading b start next reports votes in
         ap propose_all_again (asks-nothing x note is (λ k. refl)) ∙ proposed x note is ∙ proposes-each b start next reports votes (open_slots votes x.replica) x is
 
--- ---- the slots at hand
+-- ---- the open slots
 
 pub leading-slots : (l : Leading) (r : Replica) (p : Note) → NoteStands (NoteInMemory.Leading l) r.me r.log p → take most_again (keys l.open) ≡ slots_again r p
 unfolding slots_again open_slots open_of

@@ -16,7 +16,7 @@ use Rattle.crsm_mpreplica.specs.declared.note.MpReport.{MpReport as ReportInMemo
 use Rattle.crsm_mpreplica.specs.Fitting.{FitsAccepted, FitsChosen, FitsReport}
 use Rattle.crsm_mpcore.specs.declared.findings.Findings.{Findings}
 
--- ---- what was found so far
+-- ---- the findings before a report
 
 -- the joint content of reports on the slots from one on
 pub record Found : Type 0 where

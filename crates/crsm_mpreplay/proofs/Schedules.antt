@@ -24,7 +24,7 @@ no_events n = record { replicas = n; events = [] }
 unfoldable pub with_event : Schedule → Event → Schedule
 with_event s e = record s { events = s.events ++ e ∷ [] }
 
--- ---- what a line spells is an act
+-- ---- the text of a line is that of an act
 
 others_differ : (n : ℕ) (ms : List ℕ) → AllByRecursion (λ m. n ≢ m) ms → AllByRecursion (λ m. nat_eq n m ≡ false) ms
 others_differ n [] q = tt

@@ -121,7 +121,7 @@ fn push_lines(text: &mut Bytes, at: u64, lines: &MpLines) -> Result<(), NoMemory
     Ok(())
 }
 
-/// Returns the lines to the world, which uses their memory.
+/// Gives the lines back to the world, which uses their memory.
 fn give_back(world: &mut Option<MpWorld>, lines: MpLines)
     ensures { StaysAt world.old world.new }
 {

@@ -147,7 +147,7 @@ impl MpReplica {
     }
 }
 
-/// Adds the lines of the slots executed from `start` on.
+/// Adds the lines of the slots executed from `first` on.
 fn tell_executed(
     alloc: Global,
     me: u32,

@@ -29,7 +29,7 @@ unfolding GivesAll
 gives_more [] reading a b c all one = (c, subst (λ (x : Option Readings). Gives x c reading) all one, refl)
 gives_more (t ∷ readings) reading a b c all one = (all.0, all.1, gives_more readings reading all.0 b c all.2 one)
 
--- ---- what is told
+-- ---- the traffic
 
 pub both_then : (R S T : Traffic → Traffic → Type 0) (a b c : Option Traffic) → ((t u v : Traffic) → R t u → S u v → T t v) → BothTell R a b → BothTell S b c → BothTell T a c
 both_then R S T None None None joins r s = tt
@@ -62,7 +62,7 @@ passes_then framing took more went out t u v p q = record {
       ∙ ap (λ (ps : List Packet). t.sent ++ ps) (sym (map-append framing.wrap went out));
 }
 
--- what goes out is told behind what was sent
+-- the packets sent follow those that were sent before
 sends_pass : (framing : Framing) (out : List Packet) (a : Option Traffic) → BothTell (Passes framing [] out) a (option_map (with_all_sent (map framing.wrap out)) a)
 sends_pass framing out None = tt
 sends_pass framing out (Some t) = record { came = []; waited = refl; told = sym (append-nil t.taken); are = refl; out = refl }

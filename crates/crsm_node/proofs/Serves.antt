@@ -85,7 +85,7 @@ pub record Pends (r : Replica) (w : Watch) (start now : Node) (text : List ℕ) 
   pub watches : now.watches (replica_after r (kept_turns groups ++ ts)).me (watch_after w (kept_turns groups ++ ts))
   pub text_is : text ≡ turns_text ts
 
--- the same between two turns, after so many of them all
+-- the same between two turns, after a number of them
 pub record Stage (r : Replica) (w : Watch) (start now : Node) (text : List ℕ) (taken most : ℕ) : Type 0 where
   pub groups : List Group
   pub ts : List (Turn × ℕ)

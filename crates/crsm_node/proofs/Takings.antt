@@ -31,7 +31,7 @@ use Rattle.crsm_node.specs.Received.{BothTell, Passes, datagram_in}
 use Rattle.crsm_node.specs.Steps.{FailsToReceive, FailsToTake, TakesOff, Took}
 use Rattle.crsm_node.proofs.Ports.{both_same, passes_none, raised_none}
 
--- ---- what is told
+-- ---- the traffic
 
 abbrev none_of : (A : Type 0) → Option A
 none_of A = None

@@ -25,7 +25,7 @@ use Rattle.crsm_replica.specs.Sound.{FitsSend, FitsPushed}
 use Rattle.crsm_replica.specs.Replica.{StandsInside}
 use Rattle.crsm_replica.proofs.Rebuilt.{sent, ran}
 
--- the known epoch has a spelling
+-- the known epoch has an encoding
 pub known-fits : (log : Log) → AllByRecursion FitsRec log → known log < 2 ^ 64
 unfolding known decision
 known-fits [] fit = omega arith

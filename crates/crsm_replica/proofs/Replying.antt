@@ -87,7 +87,7 @@ pub middle-fits : (P : Waiting → Type 0) (ws : List Waiting) (w : Waiting) (vs
 middle-fits P [] w vs all = all.0
 middle-fits P (u ∷ ws) w vs all = middle-fits P ws w vs all.1
 
--- all that wait have a spelling
+-- all waiting clients have encodings
 pub waiting-fits : (state : ReplicaState) (x : Draft) → ReplicaStands state x → AllByRecursion FitsWaiting x.replica.waiting
 unfolding ReplicaStands
 waiting-fits state x s = s.sound.waiting

@@ -119,7 +119,7 @@ CoordinatorStands (Coordinator.Proposing p) me n known (CoordinatorOnPaper.Propo
 CoordinatorStands (Coordinator.Preempted own seen) me n known (CoordinatorOnPaper.Preempted theirs top) = (own ≡ theirs) × (seen ≡ top) × IsOver me n known own seen
 CoordinatorStands _ me n known _ = ⊥
 
--- ---- what a coordinator on paper says
+-- ---- the readers of a coordinator of the definitions
 
 -- which of these the coordinator in memory is
 unfoldable pub stage_of : CoordinatorOnPaper → Stage

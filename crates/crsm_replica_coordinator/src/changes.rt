@@ -34,7 +34,8 @@ impl Coordinator {
     }
 
     /// Returns a coordinator that asks for promises in the round after that of a ballot, which exists, over this
-    /// replica set. The promise of `me` is counted, with the decision that it had accepted.
+    /// replica set. The promise of `me` is counted, with the decision that it had accepted. `NoMemory` if memory runs
+    /// out.
     pub fn asking(
         alloc: Global,
         own: Decision,

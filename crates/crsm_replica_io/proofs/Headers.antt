@@ -54,7 +54,7 @@ added_size headers after l text long bytes size more behind len =
     let lengths = ap length behind ∙ length-append text bytes in
     omega (arith, size, len, sizes, lengths)
 
--- ---- one more goes out
+-- ---- one more is sent
 
 apart : (headers : List Header) (l : Header) (text : List ℕ) → packets_of (headers ++ l ∷ []) text ≡ packets_of headers text ++ (record { address = l.to; bytes = take l.len (drop (size_of headers) text) }) ∷ []
 apart [] l text = refl

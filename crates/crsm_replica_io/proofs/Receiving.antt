@@ -15,7 +15,7 @@ prefix zero d x h = refl
 prefix (suc n) [] x h = absurd (omega arith)
 prefix (suc n) (y ∷ d) x h = ap (λ r. y ∷ r) (prefix n d x (omega arith))
 
--- a prefix up to the end of the list or so many
+-- a prefix up to the end of the list or of this length
 cut : (n most : ℕ) (d : List ℕ) → n ≡ min most (length d) → take n d ≡ take most d
 cut zero zero d h = refl
 cut zero (suc most) [] h = refl

@@ -21,7 +21,7 @@ length_behind : (packets : List Packet) (d : Packet) → length (packets ++ d �
 length_behind [] d = refl
 length_behind (p ∷ packets) d = let on = length_behind packets d in omega arith
 
--- one more goes out
+-- one more is sent
 goes : (missing : ℕ) (packets out : List Packet) (d : Packet) → Lacks missing packets out → Lacks missing (packets ++ d ∷ []) (out ++ d ∷ [])
 goes missing [] out d (none, empty) = inl ([], ap (λ ps. ps ++ d ∷ []) empty, (none, refl))
 goes missing (p ∷ packets) out d (inl (rest, is, l)) = inl (rest ++ d ∷ [], ap (λ ps. ps ++ d ∷ []) is, goes missing packets rest d l)
@@ -33,7 +33,7 @@ lost missing [] out d (none, empty) = inr (missing, refl, (none, empty))
 lost missing (p ∷ packets) out d (inl (rest, is, l)) = inl (rest, is, lost missing packets rest d l)
 lost missing (p ∷ packets) out d (inr (fewer, is, l)) = inr (suc fewer, ap suc is, lost fewer packets out d l)
 
--- ---- what is told
+-- ---- the traffic
 
 none_more : (t : Option Traffic) → t ≡ option_map (with_all_sent []) t
 none_more None = refl

@@ -186,7 +186,7 @@ known_is : (log : Log) (d : Decision) → decision log ≡ Some d → known log 
 unfolding known
 known_is log d e = ap (λ o. option_map_or (λ d. d.epoch) o 0) e
 
--- the places that are left, of which the first is executed next
+-- the entries that are left, the first of them to be executed next
 abbrev left_of : Draft → Decision → List Entry
 left_of x d = drop (length (executed x.replica.log) - d.base_len) d.tail
 

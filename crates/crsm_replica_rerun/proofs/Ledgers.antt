@@ -24,7 +24,7 @@ core_fits : (core : Core) (r : Replica) → CoreStands core r → EachFits r.me 
 unfolding ReplicaStands begun
 core_fits core r s = s.stands.sound.kept
 
--- and has a spelling
+-- and has an encoding
 core_spelt : (core : Core) (r : Replica) → CoreStands core r → AreSpelt r.log
 unfolding ReplicaStands begun
 core_spelt core r s = s.stands.sound.spelt

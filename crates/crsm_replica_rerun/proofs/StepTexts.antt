@@ -59,7 +59,7 @@ own_lines own replies =
     let count : length (own ++ map line_of replies) - length replies ≡ length own = omega (arith, long, many) in
     ap (λ (k : ℕ). take k (own ++ map line_of replies)) count ∙ take-append_seam own (map line_of replies)
 
--- the lines of a batch without those of replies, and those of what goes out
+-- the lines of a batch without those of replies, and those of its datagrams
 abbrev pub batch_lines : Batch → List Line
 batch_lines batch = take (length batch.lines - count_by goes_to_client batch.sends) batch.lines ++ map send_line batch.sends
 

@@ -86,7 +86,7 @@ with_known : (x : ℕ) (e : Entry) (b : Bool) (es : List Entry) → nat_eq e.epo
 with_known x e true es is fits all = with_one (λ f. (f.epoch ≡ x) × FitsEntry f) e es (grind (arith, nat_tests, is), fits) all
 with_known x e false es is fits all = all
 
--- those of an epoch are of that epoch, and have a spelling
+-- the entries of an epoch are of that epoch, and have encodings
 pub logged_fit : (x : ℕ) (log : Log) → AllByRecursion FitsRec log → AllByRecursion (λ f. (f.epoch ≡ x) × FitsEntry f) (logged_in x log)
 unfolding logged_in
 logged_fit x [] spelt = tt

@@ -20,7 +20,7 @@ pub and_false : (x y : Bool) → x ≡ true → (x && y) ≡ false → y ≡ fal
 and_false true y e f = f
 and_false false y e f = cc
 
--- ---- one part: old, odd, or taken
+-- ---- one part: old, invalid, or taken
 
 pub unchanged_old : (p : Piece) (parts : List Piece) → is_old p parts ≡ true → after_part p parts ≡ parts
 unfolding after_part with_part

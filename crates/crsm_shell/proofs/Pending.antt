@@ -19,7 +19,7 @@ use Rattle.crsm_shell.specs.Taking.{MakesStep}
 use Rattle.crsm_shell.proofs.Records.{all_more, body_more, packets_more, records_push, sends_push, with_more}
 use Rattle.crsm_fact_step.specs.Steps.{Grown}
 
--- what is sent has a spelling
+-- each output has an encoding
 pub sent_fit : (sends : List Send) → AllByRecursion FitsSent sends → AllByRecursion FitsSend sends
 sent_fit [] h = tt
 sent_fit (s ∷ sends) h = (h.0.1, sent_fit sends h.1)

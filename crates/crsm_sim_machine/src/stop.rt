@@ -40,8 +40,8 @@ impl Machine {
     }
 
     /// Runs one step that stops after a number of disk calls of its put, with the byte `fill` in the ranges that were
-    /// not synced, and takes the replica down. Returns the output of the step if that is durable. `NoMemory` if memory
-    /// runs out, or if the replica is down.
+    /// not synced, and takes the replica down. Returns the output of the step, or `None` if the step is lost.
+    /// `NoMemory` if memory runs out, or if the replica is down.
     #[tactic(auto, unfolding(crate::specs::Machine::MachineStands))]
     pub fn cut_at(
         &mut self,

@@ -16,7 +16,7 @@ use Rattle.crsm_spec.specs.Run.{traced, ArePossible, after_acts, told, seen, las
 use Rattle.crsm_world.specs.Doing.{single_of, act_of}
 use Rattle.crsm_world.specs.Schedule.{Schedule, no_events, with_event, line_count, ended, schedule_text, acts_of, IsNext, IsSchedule, last_world, Shown, shown_by, shown_from, shown, text_of, transcript, act_on, ShowsAll}
 
--- ---- what a line spells is an act
+-- ---- the text of a line is that of an act
 
 others_differ : (n : ℕ) (ms : List ℕ) → AllByRecursion (λ m. n ≢ m) ms → AllByRecursion (λ m. nat_eq n m ≡ false) ms
 others_differ n [] q = tt

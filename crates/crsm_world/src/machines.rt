@@ -124,8 +124,8 @@ impl Machines {
         Ok(made)
     }
 
-    /// Runs one step of a replica that is up, which stops after a number of disk calls. Returns its output if that is
-    /// durable. `NoMemory` if memory runs out.
+    /// Runs one step of a replica that is up, which stops after a number of disk calls. Returns its output, or `None`
+    /// if the step is lost. `NoMemory` if memory runs out.
     pub fn cut_at(
         &mut self,
         k: u32,
@@ -166,7 +166,8 @@ impl Machines {
         Ok(())
     }
 
-    /// Boots a replica that is down on its disk, or the next new one on an empty disk. `NoMemory` if memory runs out.
+    /// Boots a replica that is down on its disk, or the next new one on an empty disk, and returns the boot's output.
+    /// `None` if there can be no such replica; `NoMemory` if memory runs out.
     pub fn start(&mut self, k: u64) -> Result<Option<Boot>, NoMemory>
         ensures { IfOk result (λ boot. WhereMachinesStand self.old (λ n places. k < 15 → (log : Log) → CanBoot places k log →
             MachinesBoot n (roomed places k) k log boot self.new)) }
