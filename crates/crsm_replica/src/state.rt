@@ -8,7 +8,7 @@ use crsm_replica_epoch::EpochState;
 use crsm_replica_output::Output;
 use std::alloc::Global;
 
-/// A client that waits for an entry submitted here.
+/// A client that waits for an entry submitted here, with its address, IPv4 x 65,536 + port.
 #[derive(Drop)]
 pub struct Waiting {
     pub address: u64,

@@ -9,7 +9,7 @@ use crsm_base::{Datagram, Line, Lines, NoMemory, Outcome, Rec, Recs, Send, Sends
 use std::alloc::Global;
 use std::mem;
 
-/// A reply to a client: its address, the command that it answers, its content, and its line.
+/// A reply to a client: its address, IPv4 x 65,536 + port, the command that it answers, its content, and its line.
 #[derive(Drop)]
 pub struct Reply {
     pub address: u64,

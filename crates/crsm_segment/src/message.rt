@@ -21,7 +21,7 @@ pub enum PartOutcome {
     Odd,
 }
 
-/// The heading of a part: boot and number of its message, and the count of its parts.
+/// The heading of a part: boot and number of its message, its index, and the count of the message's parts.
 #[derive(Clone, Copy, Debug)]
 pub struct Heading {
     pub boot: u64,

@@ -20,8 +20,9 @@ use crsm_base::{NoMemory, never};
 use crsm_port::MemPort;
 
 impl Machine {
-    /// Runs one step and makes its records durable. Returns its output, and the index on the port of the first datagram
-    /// that it sent. `NoMemory` if memory runs out, or if the replica is down.
+    /// Runs one step at this reading of the clock, in microseconds, and makes its records durable. Returns its output,
+    /// and the index on the port of the first datagram that it sent. `NoMemory` if memory runs out, or if the replica
+    /// is down.
     #[tactic(auto, unfolding(crate::specs::Machine::MachineStands))]
     pub fn step(
         &mut self,
