@@ -1,7 +1,7 @@
 -- The model of a disk: what a read returns, what a crash may leave, and what the disk specifies of its calls.
 use Rattle.std.specs.Prelude.{◌≡◌, ◌⊎◌, ◌↔◌, ℕ, ◌≤◌, List, Bool, IsTrue, Option, Some}
 use Rattle.crsm_port_faults.specs.Plan.{Plan}
-use Rattle.crsm_disk.specs.Calls.{History, contents}
+use Rattle.crsm_port_image.specs.Calls.{History, contents}
 
 pub record Meaning : Type 1 where
   -- the bytes that a read returns

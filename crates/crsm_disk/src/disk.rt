@@ -1,8 +1,8 @@
 //! The trait of a disk, with a contract of what a crash may leave.
 
 ghost use Rattle.std.specs.Prelude.{◌≡◌, ◌+◌, ◌-◌, ◌≤◌, length, take, IsTrue, IfOk, OnOk, is_ok, Some, if◌then◌else◌};
-ghost use Rattle.crsm_disk.specs.Bytes.{overwritten, Torn, Shortened, ReadsAt};
-ghost use Rattle.crsm_disk.specs.Calls.{wrote, cut, synced, noted};
+ghost use Rattle.crsm_port_image.specs.Bytes.{overwritten, Torn, Shortened, ReadsAt};
+ghost use Rattle.crsm_port_image.specs.Calls.{wrote, cut, synced, noted};
 ghost use Rattle.crsm_disk.specs.Contract.{Answers, Arms, Goes, Reserves};
 ghost use Rattle.crsm_disk.specs.Meaning.{Meaning, Only, Same};
 

@@ -2,13 +2,11 @@
 #![tactic(auto)]
 
 mod content;
-mod crashes;
 mod disk;
 mod file;
 mod memory;
 mod record;
 
-pub use crashes::{each_image_is_reached, fills_as_image, reads_as_image};
 pub use disk::Disk;
 pub use file::{FileDisk, OpenError};
 pub use memory::MemDisk;

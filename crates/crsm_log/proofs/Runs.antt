@@ -4,10 +4,10 @@ use Rattle.std.specs.Prelude.{Option, Some, None, OnOk}
 use Rattle.crsm_base.specs.declared.memory.Failed.{Failed}
 use Rattle.crsm_port_faults.specs.Failing.{one_less}
 use Rattle.crsm_port_faults.specs.Plan.{HasRoom, Plan, spent}
-use Rattle.crsm_disk.specs.Calls.{Call, noted}
+use Rattle.crsm_port_image.specs.Calls.{Call, noted}
 use Rattle.crsm_disk.specs.Contract.{Answers, Goes as Moves}
 use Rattle.crsm_disk.specs.Meaning.{LeavesOnly, Meaning, Only}
-use Rattle.crsm_disk.specs.Bytes.{Torn, ReadsAt}
+use Rattle.crsm_port_image.specs.Bytes.{Torn, ReadsAt}
 use Rattle.std.proofs.lemmas.List.{take_all, take_at}
 use Rattle.crsm_disk.proofs.Moments.{started, goes_on}
 use Rattle.crsm_log.specs.Log.{less, recorded, Goes, Ran, Serves, HasPlace}

@@ -6,8 +6,8 @@ use Rattle.std.specs.Option.{option_map_or}
 use Rattle.std.proofs.lemmas.List.{length-append}
 use Rattle.std.proofs.Math.Logic.{∥∥₁_elim}
 use Rattle.crsm_port_faults.specs.Plan.{Plan}
-use Rattle.crsm_disk.specs.Calls.{Call, History, contents, wrote, cut, synced}
-use Rattle.crsm_disk.specs.Image.{image_of}
+use Rattle.crsm_port_image.specs.Calls.{Call, History, contents, wrote, cut, synced}
+use Rattle.crsm_port_image.specs.Image.{image_of}
 use Rattle.crsm_disk.specs.Contract.{Arms}
 use Rattle.crsm_disk.specs.Memory.{Memory, meaning_of, good_left, holding}
 use Rattle.crsm_log.specs.Format.{reading, found, bodies_in, bodies_of}

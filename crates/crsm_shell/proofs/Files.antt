@@ -9,8 +9,8 @@ use Rattle.crsm_base.specs.declared.rec.Rec.TheVariants as rec
 use Rattle.crsm_base.specs.Records.{FitsRec, SpeltBody, body_bytes, rec_bytes}
 use Rattle.crsm_spec.specs.Log.{Log}
 use Rattle.crsm_spec.specs.Moments.{is_kept}
-use Rattle.crsm_disk.specs.Calls.{Call, History, contents, noted}
-use Rattle.crsm_disk.specs.Image.{image_of}
+use Rattle.crsm_port_image.specs.Calls.{Call, History, contents, noted}
+use Rattle.crsm_port_image.specs.Image.{image_of}
 use Rattle.crsm_disk.specs.Meaning.{Meaning}
 use Rattle.crsm_ledger.specs.Recovered.{AreKept, FitInTurn, with_records}
 use Rattle.crsm_ledger.proofs.RecoverLemmas.{kept-push}

@@ -8,7 +8,7 @@ use Rattle.crsm_spec.specs.Draft.{Draft}
 use Rattle.crsm_base.specs.Records.{body_bytes}
 use Rattle.crsm_disk.specs.Meaning.{LeavesOnly, Meaning}
 use Rattle.crsm_disk.proofs.Moments.{started, weaker}
-use Rattle.crsm_disk.specs.Image.{image_of}
+use Rattle.crsm_port_image.specs.Image.{image_of}
 use Rattle.crsm_log.specs.Format.{bodies_of, gate_in, reading}
 use Rattle.crsm_log.specs.Log.{IsSettled}
 use Rattle.crsm_shell.specs.declared.shell.Shell.{Shell}

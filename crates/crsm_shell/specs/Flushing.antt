@@ -5,8 +5,8 @@ use Rattle.crsm_spec.specs.Log.{Log}
 use Rattle.crsm_spec.specs.Moments.{is_kept}
 use Rattle.crsm_spec.specs.Replica.{Replica}
 use Rattle.crsm_port_faults.specs.Plan.{Plan}
-use Rattle.crsm_disk.specs.Calls.{Call, History}
-use Rattle.crsm_disk.specs.Image.{image_of}
+use Rattle.crsm_port_image.specs.Calls.{Call, History}
+use Rattle.crsm_port_image.specs.Image.{image_of}
 use Rattle.crsm_port_faults.specs.Counts.{Rose}
 use Rattle.crsm_disk.specs.Meaning.{LeavesOnly, Meaning, Same}
 use Rattle.crsm_log.specs.Log.{Goes, Used, put_calls, recorded}

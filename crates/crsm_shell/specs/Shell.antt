@@ -15,7 +15,7 @@ use Rattle.crsm_replica_io.specs.Outgoing.{packets_for}
 use Rattle.crsm_core.specs.Core.{CoreStands}
 use Rattle.crsm_shell.specs.declared.shell.Shell.{Shell}
 use Rattle.crsm_shell.specs.Words.{disk_of}
-use Rattle.crsm_disk.specs.Calls.{History}
+use Rattle.crsm_port_image.specs.Calls.{History}
 
 -- ---- steps that are pending
 

@@ -3,7 +3,7 @@
 ghost use Rattle.std.specs.Prelude.{◌≡◌, length, false, Some};
 ghost use Rattle.crsm_disk.specs.Contract.{Arms};
 ghost use Rattle.crsm_disk.specs.Meaning.{Only};
-ghost use Rattle.crsm_disk.specs.Image.{image_of};
+ghost use Rattle.crsm_port_image.specs.Image.{image_of};
 ghost use Rattle.crsm_ledger.specs.Ledger.{LedgerStands};
 ghost use Rattle.crsm_shell.specs.Shell.{HasLog, ShellStands, WhereHistory, WhereHonest, WhereStands};
 ghost use Rattle.crsm_shell.specs.Taking.{most_received};

@@ -2,7 +2,7 @@
 use Rattle.std.specs.Prelude.{◌≡◌, ℕ, List, [], ◌∷◌, length, None}
 use Rattle.std.specs.List.{AllByRecursion}
 use Rattle.crsm_core.specs.Core.{FitsSent}
-use Rattle.crsm_disk.specs.Calls.{contents}
+use Rattle.crsm_port_image.specs.Calls.{contents}
 use Rattle.crsm_disk.specs.Memory.{Memory, meaning_of, good_left}
 use Rattle.crsm_ledger.specs.Recovered.{with_records}
 use Rattle.crsm_spec.specs.Log.{Log, known, executed}

@@ -1,7 +1,7 @@
 //! The state that a crash leaves.
 
 ghost use Rattle.std.specs.Prelude.{◌≡◌, ℕ, [], IfOk};
-ghost use Rattle.crsm_disk.specs.Image.{image_of};
+ghost use Rattle.crsm_port_image.specs.Image.{image_of};
 ghost use Rattle.crsm_ledger.specs.Ledger.{LedgerStands};
 ghost use Rattle.crsm_spec.specs.Log.{Log};
 ghost use Rattle.crsm_spec.specs.Replica.{Replica};

@@ -1,7 +1,7 @@
 use Rattle.std.proofs.Common.{refl, IsTrue, ◌≡◌, ◌<◌, ◌+◌, ℕ, List, [], ◌∷◌, length, ◌∙◌, ap, sym, subst, arith}
 use Rattle.std.proofs.lemmas.Result.{err_from_is_err_and}
 use Rattle.std.proofs.lemmas.Bool.Decides.{nat_tests}
-use Rattle.crsm_disk.specs.Calls.{synced, wrote}
+use Rattle.crsm_port_image.specs.Calls.{synced, wrote}
 use Rattle.crsm_log.specs.Log.{Used, mount_calls, mount_count, recorded}
 use Rattle.crsm_log.specs.Format.{found}
 use Rattle.crsm_log.specs.First.{ReadsFile}
