@@ -1,0 +1,5 @@
+mod Serving
+mod Keeping
+mod Places
+mod Laws
+mod Repeats
