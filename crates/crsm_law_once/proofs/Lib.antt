@@ -1,5 +1,5 @@
 mod Serving
 mod Keeping
-mod Places
+pub mod Places
 mod Laws
 mod Repeats
