@@ -3,8 +3,8 @@
     python3 bench/quiet.py PROGRAM
 
 starts three clusters of three nodes, side by side, leaves each alone for 12 seconds, sends one `operate`, and sees that
-the members are those that it names: one cluster grows to five nodes, one goes on without a node that still runs, and one
-has a new node in the place of one that was killed. Ends with 0 where each member answers a command within 20 seconds, and
+the members are those that it names: one cluster grows to five nodes, one has a new node in the place of one that still
+runs, and one in the place of one that was killed. Ends with 0 where each member answers a command within 20 seconds, and
 each node that is no member is refused; with 1 and what was seen where not.
 """
 
@@ -21,7 +21,7 @@ HERE = os.path.dirname(os.path.abspath(__file__))
 sys.path[:0] = [HERE, f"{HERE}/../clients/python"]
 
 from crsm import Client, CrsmError, Refused  # noqa: E402
-from nodes import Node, free_addresses, text_of  # noqa: E402
+from nodes import Address, Node, free_addresses, text_of  # noqa: E402
 
 NODES, ADDRESSES = 3, 5
 QUIET = 12.0
@@ -32,13 +32,13 @@ NO_MEMBER = 1
 class Trial(threading.Thread):
     """A cluster, and what one `operate` made of it."""
 
-    def __init__(self, program: str, folder: str, members: List[int], killed: List[int]):
+    def __init__(self, program: str, folder: str, addresses: List[Address], members: List[int], killed: List[int]):
         super().__init__()
         self.members, self.killed = members, killed
         self.seen = "it was cut off"
         self._program = program
-        self._addresses = free_addresses(ADDRESSES)
-        peers = ",".join(text_of(it) for it in self._addresses)
+        self._addresses = addresses
+        peers = ",".join(text_of(it) for it in addresses)
         self._nodes = [Node(program, f"{folder}/{at}", at, NODES, peers) for at in range(ADDRESSES)]
 
     def _answer(self, at: int) -> str:
@@ -95,8 +95,13 @@ def main() -> int:
     """The three trials."""
     program = os.path.abspath(sys.argv[1])
     folder = tempfile.mkdtemp()
-    wanted = {"grow": ([0, 1, 2, 3, 4], []), "take out": ([0, 1], []), "replace": ([0, 1, 3], [2])}
-    trials = {name: Trial(program, f"{folder}/{name}", *what) for name, what in wanted.items()}
+    wanted = {"grow": ([0, 1, 2, 3, 4], []), "take out": ([0, 1, 3], []), "replace": ([0, 1, 3], [2])}
+    # (all at once: an address that is let go may be given out again)
+    free = free_addresses(ADDRESSES * len(wanted))
+    trials = {
+        name: Trial(program, f"{folder}/{name}", [free.pop() for _ in range(ADDRESSES)], *what)
+        for name, what in wanted.items()
+    }
     for it in trials.values():
         it.start()
     for it in trials.values():

@@ -1,7 +1,7 @@
 #!/usr/bin/env bash
-# Nothing but the log is written into a node's log file, whichever of its standard streams are closed when it starts, and
-# whatever else is open on that file; and each command that is started without some of them ends with the status that
-# docs/OPERATING.md has for it. The nodes are clusters of one, at ports from 27301 on.
+# Nothing but the log is written into a node's log file, whichever of its standard streams are closed when it starts,
+# and whatever else is open on that file; and each command that is started without some of them ends with the status
+# that docs/OPERATING.md has for it. The nodes are clusters of one, at ports from 27301 on.
 set -u
 cd "$(dirname "$0")/.." || exit 1
 . checks/program.bash
@@ -33,8 +33,8 @@ expect() {
   [ "$got" = "$wanted" ] || fail "$what: status $got, wanted $wanted"
 }
 
-# Asks the node at port $1 for the command $2 until it is answered $3: a node that is started again on its log takes no part
-# before it is taken in.
+# Asks the node at port $1 for the command $2 until it is answered $3: a node that is started again on its log takes no
+# part before it is taken in.
 ask() {
   local at=127.0.0.1:$1 number got try
   number=$(date +%s%N)
@@ -55,8 +55,8 @@ put2() { ask "$1" 'put 62 32' 'ok done'; }
 get1() { ask "$1" 'get 61' 'ok found 31'; }
 get2() { ask "$1" 'get 62' 'ok found 32'; }
 
-# Runs a node in folder $1 at port $2 without the streams $3, asks it for what stands behind these, and answers the node's
-# status.
+# Runs a node in folder $1 at port $2 without the streams $3, asks it for what stands behind these, and answers the
+# node's status.
 node() {
   local folder=$1 port=$2 closed=$3 node asked
   shift 3
@@ -108,20 +108,28 @@ commands() {
   expect "operate without $closed" 0 without "$closed" "$program" operate "$at" 0 </dev/null
 }
 
-# The node in folder $1 is refused with status $2 and words that have $3, and the log stays as it was; the redirection $4.
+# Runs a node in folder $1 with the redirections $2, by the words behind them.
+tried() {
+  local folder=$1 redirections=$2
+  shift 2
+  eval "(cd '$folder' && exec '$program' node $* </dev/null 2>errors $redirections)"
+}
+
+# A node in folder $1 with the redirections $4 is refused with status $2 and words that have $3, and its log stays as it
+# was.
 refused() {
-  local folder=$1 wanted=$2 words=$3 redirection=$4
+  local folder=$1 wanted=$2 words=$3 how="a node $4"
   cp "$folder/crsm-0.log" "$folder/before" 2>/dev/null || : >"$folder/before"
   : >"$folder/errors"
-  expect "a node $redirection" "$wanted" eval "(cd '$folder' && exec '$program' node 0 1 50 127.0.0.1:$port </dev/null 2>errors $redirection)"
-  grep -qF -- "$words" "$folder/errors" || fail "a node $redirection: it says '$(tail -n 1 "$folder/errors")'"
-  cmp -s "$folder/before" "$folder/crsm-0.log" || fail "a node $redirection: the log has changed"
+  expect "$how" "$wanted" tried "$folder" "$4" 0 1 50 "127.0.0.1:$port"
+  [ -z "$words" ] || grep -qF "$words" "$folder/errors" || fail "$how: it says '$(tail -n 1 "$folder/errors")'"
+  cmp -s "$folder/before" "$folder/crsm-0.log" || fail "$how: the log has changed"
 }
 
 # What else may be open on the log of a node at port $1, or reach it by another name.
 other_ways() {
-  local port=$1 a=$scratch/a b=$scratch/b running
-  mkdir "$a" "$b" "$scratch/new"
+  local port=$1 a=$scratch/a b=$scratch/b c=$scratch/c running
+  mkdir "$a" "$b" "$c" "$scratch/new"
   expect "$a" 0 node "$a" "$port" - put1
   refused "$scratch/new" 7 'standard output goes to it' '>crsm-0.log'
   refused "$a" 7 'standard output goes to it' '>>crsm-0.log'
@@ -129,16 +137,18 @@ other_ways() {
   refused "$a" 7 '' '>sheet 2>>crsm-0.log'
   refused "$a" 7 '' '>>crsm-0.log 2>&1'
   ln -s nothing "$b/crsm-0.log"
-  expect "a link to no file" 7 eval "(cd '$b' && exec '$program' node 0 1 50 127.0.0.1:$port >sheet 2>errors)"
+  expect "a link to no file" 7 tried "$b" '>sheet' 0 1 50 "127.0.0.1:$port"
   ln -sf "$a/crsm-0.log" "$b/crsm-0.log"
   expect "a link to a log" 0 node "$b" "$port" - get1
-  ln -f "$a/crsm-0.log" "$b/crsm-1.log"
-  expect "another node's log" 10 eval "(cd '$b' && exec '$program' node 1 2 50 127.0.0.1:$((port + 1)),127.0.0.1:$port >sheet 2>errors)"
+  ln "$a/crsm-0.log" "$b/crsm-1.log"
+  expect "another node's log" 10 tried "$b" '>sheet' 1 2 50 "127.0.0.1:$((port + 1)),127.0.0.1:$port"
   keep "$a"
   (cd "$a" && exec "$program" node 0 1 $TURNS "127.0.0.1:$port" </dev/null >sheet 2>errors 9>>crsm-0.log) &
   running=$!
   put2 "$port"
-  expect "a log in use" 7 eval "(cd '$b' && exec '$program' node 0 1 50 127.0.0.1:$((port + 1)) >sheet 2>errors)"
+  ln "$a/crsm-0.log" "$c/crsm-0.log"
+  expect "a log in use" 7 tried "$c" '>sheet' 0 1 50 "127.0.0.1:$((port + 1))"
+  grep -qF 'in use' "$c/errors" || fail "a log in use: it says '$(cat "$c/errors")'"
   expect "a log that is open elsewhere" 0 wait $running
   kept "$a"
   expect "$a, started again" 0 node "$a" "$port" - get1 get2

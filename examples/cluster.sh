@@ -31,9 +31,16 @@ start_node() {
   echo $! >"$folder/pid"
 }
 
-# Waits until node $1 has answered a command; the program is $2 and the folder $3.
+# Waits until node $1 has done a command; the program is $2 and the folder $3. A node that takes no part yet says `no`.
 await_node() {
-  "$2" client "$(address "$1" "$3")" 20000 "$((1000 + $1))" "$(date +%s%N)" get 00 >/dev/null && return
+  local number
+  number=$(date +%s%N)
+  for _ in {1..40}; do
+    case $("$2" client "$(address "$1" "$3")" 500 "$((1000 + $1))" "$number" get 00 2>/dev/null) in
+    ok*) return ;;
+    esac
+    sleep 0.5
+  done
   echo "cluster.sh: node $1 has not answered; see $3/$1/errors" >&2
   exit 1
 }

@@ -1,4 +1,4 @@
--- What words ask for.
+-- The tasks of words.
 use Rattle.std.proofs.Common.{◌≡◌, ℕ, List, Result, Ok, Err, inl, inr, sym, ◌∙◌, subst}
 use Rattle.clap.specs.Words.{Text}
 use Rattle.crsm_text_words.specs.Answers.{IsShown, OrderMade, Reads, order, text}

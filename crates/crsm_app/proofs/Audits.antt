@@ -29,7 +29,7 @@ did n Ending.WriteFault b a d w ran = ran
 did n Ending.NoMemory b a d w ran = ran
 did n Ending.InputTooLong b a d w ran = ran
 
--- the cause that a bad line is told with is that of the audit
+-- the cause to report for a bad line is that of the audit
 cause_is : (n : ℕ) (x : loop.Exact (audited n)) → x.unreadable ≡ SheetCause.Unreadable → (bad : Bad SheetCause) → loop.reason_of (audited n) x bad ≡ cause_in bad
 cause_is n x same (Bad.Refused cause) = refl
 cause_is n x same Bad.TooLong = same

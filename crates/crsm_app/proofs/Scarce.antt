@@ -1,4 +1,4 @@
--- Out of memory before anything was done: that is exact of every task.
+-- Running out of memory before any work is an exact result of every task.
 use Rattle.std.proofs.Common.{ℕ, List, Option, inr, refl}
 use Rattle.crsm_audit.specs.Exactly.{IsDecided}
 use Rattle.crsm_delay.specs.Reading.{plans_of}

@@ -1,4 +1,4 @@
--- What the devices of a run tell.
+-- The state of the devices of a run.
 use Rattle.std.specs.Prelude.{◌≡◌, ℕ, List, Option}
 use Rattle.crsm_clock.specs.Readings.{Readings}
 use Rattle.crsm_disk.specs.Meaning.{Meaning as DiskMeaning}
@@ -6,7 +6,7 @@ use Rattle.crsm_node.specs.Running.{Devices as NodeDevices, unlent_disk, unlent_
 use Rattle.crsm_port.specs.Meaning.{Meaning}
 
 pub record Devices : Type 1 where
-  -- what the input has left, and what the output has written, where that is told
+  -- the rest of the input, and the bytes written to the output, if these are specified
   pub left : Option (List ℕ)
   pub written : Option (List ℕ)
   -- the reads and the writes that failed
@@ -14,7 +14,7 @@ pub record Devices : Type 1 where
   pub write_faults : ℕ
   pub port : Meaning
   pub disk : DiskMeaning
-  -- the readings still to come, where they are told
+  -- the readings still to come, if these are specified
   pub clock : Option Readings
 
 -- nothing was written to the disk, and nothing that it holds has changed
@@ -34,11 +34,11 @@ pub record Untouched (old new : Devices) : Type 0 where
   pub disk : SameDisk old.disk new.disk
   pub clock : new.clock ≡ old.clock
 
--- what a node runs over
+-- the devices of a node
 abbrev pub node_devices : Devices → NodeDevices
 node_devices d = record { disk = unlent_disk d.disk; port = unlent_port d.port; clock = d.clock; sheet = d.written; faults = d.write_faults }
 
--- what these values tell
+-- the devices that these values specify
 abbrev pub devices_of : {I O P D C : Type 0} → (I → Option (List ℕ)) → (I → ℕ) → (O → Option (List ℕ)) → (O → ℕ) → (P → Meaning) → (D → DiskMeaning) → (C → Option Readings) →
     I → O → P → D → C → Devices
 devices_of left read_faults written write_faults port_of disk_of readings input output port disk clock = record {

@@ -1,4 +1,4 @@
--- What a command did, by its status.
+-- The effects of a command, by its status.
 use Rattle.std.specs.Prelude.{◌≡◌, ◌⊎◌, ℕ, List, Option, Result}
 use Rattle.crsm_audit.specs.Handled.{audited}
 use Rattle.crsm_client.specs.Commands.{ClientRan}
@@ -89,8 +89,8 @@ DidAudit n Status.NoMemory before after had has = lines.RanPartly (audited n) be
 DidAudit n Status.InputTooLong before after had has = lines.RanTooLong (audited n) before after had has
 DidAudit n _ before after had has = ⊥
 
--- a plan was read, and what is wanted of it was written: the schedule of a timeline, or the moments at which its
--- command commits
+-- a plan was read, and the wanted text was written: the schedule of a timeline, or the moments at which its command
+-- commits
 unfoldable pub DidPlan : Wanted → Status → (before after had has : Option (List ℕ)) → Type 0
 DidPlan wanted Status.Ok before after had has = lines.RanToEnd (plans_of wanted) before after had has
 DidPlan wanted (Status.BadInput line cause) before after had has =
@@ -101,7 +101,7 @@ DidPlan wanted Status.NoMemory before after had has = lines.RanPartly (plans_of 
 DidPlan wanted Status.InputTooLong before after had has = lines.RanTooLong (plans_of wanted) before after had has
 DidPlan wanted _ before after had has = ⊥
 
--- a replica was asked for a command, over a port on which the datagrams of a cluster stand behind its mark
+-- a command was requested from a replica, over a port whose datagrams begin with the mark of a cluster
 pub record DidClient (cluster : ℕ) (order : ClientOrder) (result : Status) (old new : Meaning) (had has : Option (List ℕ)) : Type 0 where
   pub ended : ClientEnd
   pub status : result ≡ status_of_client ended
@@ -119,14 +119,15 @@ pub record DidLock (t : LockTask) (result : Status) (old new : Meaning) (had has
   pub status : result ≡ status_of_lock ended
   pub ran : LockRan (lock_order t) old new had has ended
 
--- What a number draws was run, and all laws hold of it: its summary was written, or a prefix where the output failed.
+-- The run generated from a number was executed, and all laws hold for it: its summary was written, or a prefix if the
+-- output failed.
 abbrev pub DidSoak : (number n steps : ℕ) → Status → (had has : Option (List ℕ)) → Type 0
 DidSoak number n steps Status.Ok had has = IsLawful n (acts_of (drawn number n steps)) × Puts had has (soak_text (drawn number n steps))
 DidSoak number n steps Status.WriteFault had has = IsLawful n (acts_of (drawn number n steps)) × PutsPrefix had has (soak_text (drawn number n steps))
 DidSoak number n steps Status.NoMemory had has = PutsPrefix had has (soak_text (drawn number n steps))
 DidSoak number n steps _ had has = ⊥
 
--- a node is told what the words say
+-- the parameters of a node are those of the words
 pub record IsNodeOrder (cluster : ℕ) (t : NodeTask) (order : NodeOrder) : Type 0 where
   pub me : order.me ≡ t.me
   pub n : order.n ≡ t.n

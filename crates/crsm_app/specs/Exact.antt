@@ -1,4 +1,4 @@
--- Answers that are exact, unless memory ran out.
+-- Results that are exact, unless memory ran out.
 use Rattle.std.specs.Prelude.{◌≡◌, ◌⊎◌, ℕ, ◌+◌, List, Option}
 use Rattle.crsm_audit.specs.Handled.{audited}
 use Rattle.crsm_base.specs.declared.Command.{Command}
@@ -59,7 +59,8 @@ IsNodeDone _ = ⊥
 abbrev pub WhereNodeFaultless : (port more_port disk more_disk sheet more_sheet : ℕ) → Type 0 → Type 0
 WhereNodeFaultless port more_port disk more_disk sheet more_sheet P = ¬ (Rose port more_port) → ¬ (Rose disk more_disk) → ¬ (Rose sheet more_sheet) → P
 
--- of what is left: a schedule within the limit is done, a bad line is refused, more than the limit is too long
+-- for the rest of the input: a schedule within the limit is done, a bad line is refused, more than the limit is too
+-- long
 pub record ReplaysExactly (left : Option (List ℕ)) (result : Status) : Type 0 where
   pub complete : schedule.WhereSchedule left (λ s. IsDone result)
   pub refused : schedule.WhereBad left (λ read cause. IsRefused (count_of read + 1) cause result)
@@ -77,8 +78,8 @@ pub record SheetsExactly (me n : ℕ) (left : Option (List ℕ)) (result : Statu
   pub refused : sheet.WhereBad me n left (λ line cause. IsRefusedSheet line cause result)
   pub too_long : sheet.WhereTooLong me n left (IsTooLong result)
 
--- The same of sheets that are audited, a bad log among them at the end. Their lines alone decide what is read and what
--- is refused.
+-- The same for sheets that are audited, a bad log among them at the end. Their lines alone determine what is read and
+-- what is refused.
 pub record AuditsExactly (n : ℕ) (left : Option (List ℕ)) (result : Status) : Type 0 where
   pub decided : lines.Exact (audited n)
   pub unreadable : decided.unreadable ≡ SheetCause.Unreadable
@@ -86,7 +87,7 @@ pub record AuditsExactly (n : ℕ) (left : Option (List ℕ)) (result : Status) 
   pub refused : lines.WhereBad (audited n) decided left (λ line cause. IsRefusedSheet line cause result)
   pub too_long : lines.WhereTooLong (audited n) decided left (IsTooLong result)
 
--- The same of a plan. Its lines alone decide what is read and what is refused.
+-- The same for a plan. Its lines alone determine what is read and what is refused.
 pub record PlansExactly (wanted : Wanted) (left : Option (List ℕ)) (result : Status) : Type 0 where
   pub decided : lines.Exact (plans_of wanted)
   pub complete : lines.WhereWhole (plans_of wanted) decided left (IsDone result)

@@ -1,4 +1,4 @@
--- What a task about a lock asks for.
+-- The parameters of a task on a lock.
 use Rattle.crsm_lease.specs.declared.rule.Action.{Action}
 use Rattle.crsm_cmd_lock.specs.declared.command.LockOrder.{LockOrder}
 use Rattle.crsm_text_words.specs.declared.order.LockAction.{LockAction}

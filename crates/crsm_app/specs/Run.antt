@@ -1,4 +1,4 @@
--- What a run did, by its words and its status.
+-- The effects of a run, by its words and its status.
 use Rattle.std.specs.Prelude.{◌≡◌, ◌⊎◌, List}
 use Rattle.std.specs.List.{All}
 use Rattle.clap.specs.Words.{Text}

@@ -1,4 +1,4 @@
--- The number of a status, and the status of a command that ended so.
+-- The exit status of a status, and the status of a command with its end.
 use Rattle.std.specs.Prelude.{ℕ, Result, Ok, Err}
 use Rattle.crsm_client.specs.declared.command.ClientEnd.{ClientEnd}
 use Rattle.crsm_client.specs.declared.error.OperateError.{OperateError}

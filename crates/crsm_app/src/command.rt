@@ -1,4 +1,4 @@
-//! What is done, by the words.
+//! The command that the words of a command line select.
 
 ghost use Rattle.std.specs.Prelude.{◌≡◌, ◌≢◌, ◌⊎◌, ◌<◌, ◌≤◌, ℕ, IfErr, IfOk, List, MatchResult, Some, length, map, string_bytes};
 ghost use Rattle.crsm_spec.specs.Calm.{IsBounded};
@@ -33,7 +33,8 @@ use crsm_port_lines::MAX_INPUT_BYTES;
 use crsm_text_words::{DevicePlan, WordsError, read_words};
 use std::alloc::Global;
 
-/// Which real devices the words want, or why `run` refuses them. Memory may run out.
+/// Returns the real devices that the words need. `Usage` if the words are not those of a command, `NoMemory` if memory
+/// runs out.
 pub fn plan(alloc: Global, words: &[String]) -> Result<DevicePlan, Status>
     ensures planned { IfOk result (λ plan. AskForTask (λ task. plan ≡ plan_of task) (map string_bytes words.now)) }
     ensures refused { IfErr result (λ status. (status ≡ Status.NoMemory) ⊎ ((status ≡ Status.Usage) × AskForNothing (map string_bytes words.now))) }
@@ -46,7 +47,7 @@ pub fn plan(alloc: Global, words: &[String]) -> Result<DevicePlan, Status>
     }
 }
 
-/// What is known of every schedule that is run, whatever its acts.
+/// States the laws of every schedule that is run, whatever its acts. It runs no code.
 fn schedules_are_safe()
     ensures shows { (s : Schedule) → ShowsAll s }
     ensures agreement { (s : Schedule) → IsSchedule s → Agreed s.replicas (acts_of s) }
@@ -62,7 +63,7 @@ fn schedules_are_safe()
     rounds_are_bounded();
 }
 
-/// What is known of every plan of delays and clocks.
+/// States the law of every plan of delays and clocks. It runs no code.
 fn plans_are_in_time()
     ensures exact { (wanted : Wanted) → IsDecided (plans_of wanted) }
     ensures possible { TimelinesArePossible }
@@ -73,14 +74,15 @@ fn plans_are_in_time()
     commands_commit_in_time();
 }
 
-/// Does what the words say: `replay` reads a schedule and writes its transcript, `replay-mp` does so for a store with a
-/// leader, `replay-node ME N` reads the sheet of a replica and writes what it did, `soak NUMBER N STEPS` runs what a
-/// number draws and writes a summary, `node ME N TURNS PEERS` runs a replica and writes its sheet, `client TO TURNS
-/// CLIENT NUMBER OP` asks a replica for a command over the port and writes its outcome, `operate TO MEMBERS` asks one
-/// for another membership, `lock TO TURNS CLIENT NUMBER KEY ACTION` asks one about a lock and writes what it is told,
-/// `audit N` reads the sheets of several nodes and writes what they come to, `delay` reads a plan of delays and clocks
-/// and writes the schedule of its timeline, `delay times` writes when its command commits, and `--help` and `--version`
-/// write a text. The reporter is told what a node's log held.
+/// Executes the command in the words, and returns the status: `replay` reads a schedule and writes its transcript,
+/// `replay-mp` does so for a store with a leader, `replay-node ME N` reads the sheet of a replica and writes its
+/// output, `soak NUMBER N STEPS` runs events generated from a number and writes a summary, `node ME N TURNS PEERS` runs
+/// a replica and writes its sheet, `client TO TURNS CLIENT NUMBER OP` requests a command from a replica over the port
+/// and writes its outcome, `operate TO MEMBERS` requests a membership change, `lock TO TURNS CLIENT NUMBER KEY ACTION`
+/// requests an action on a lock and writes the result, `audit N` reads the sheets of several nodes and writes the
+/// verdict, `delay` reads a plan of delays and clocks and writes the schedule of its timeline, `delay times` writes
+/// when its command commits, and `--help` and `--version` write a text. The reporter receives the content of a node's
+/// log.
 pub fn run<I: Source, O: Sink, P: Port, D: Disk, C: Clock, R: Reporter>(
     alloc: Global,
     words: &[String],
@@ -91,20 +93,20 @@ pub fn run<I: Source, O: Sink, P: Port, D: Disk, C: Clock, R: Reporter>(
     clock: &mut C,
     reporter: &mut R,
 ) -> Status
-    // What was taken, sent and written, by what the words ask for and by the status.
+    // The bytes read, sent and written, by the words and by the status.
     ensures ran { let at = devices_of I.left I.faults O.written O.faults P.meaning D.meaning C.readings in
         Ran (map string_bytes words.now) result (at input.old output.old port.old disk.old clock.old) (at input.new output.new port.new disk.new clock.new) }
 
-    // A fault is answered only where it was counted.
+    // A fault is returned only if it was counted.
     ensures faults { let at = devices_of I.left I.faults O.written O.faults P.meaning D.meaning C.readings in
         FaultsAreCounted (map string_bytes words.now) result (at input.old output.old port.old disk.old clock.old) (at input.new output.new port.new disk.new clock.new) }
 
-    // The words are refused only where they ask for nothing, and not where they ask for something.
+    // The words are refused only if they are not those of a command, and never if they are.
     ensures usage { result ≡ Status.Usage → AskForNothing (map string_bytes words.now) }
     ensures asked { WhereAsked (map string_bytes words.now) (λ order. result ≢ Status.Usage) }
 
-    // Where no fault was counted and memory sufficed, what is asked is done, but for an input that has a bad line, which is
-    // refused for the first one, or more bytes than the limit, and for a replica whose reply was not taken.
+    // If no fault was counted and memory sufficed, the command is done, except for an input with a bad line, which is
+    // refused for the first one, or with more bytes than the limit, and for a replica whose reply was not received.
     ensures exactly { let at = devices_of I.left I.faults O.written O.faults P.meaning D.meaning C.readings in WhereAsked (map string_bytes words.now)
         (λ order. Exactly order.cluster order.task result (at input.old output.old port.old disk.old clock.old) (at input.new output.new port.new disk.new clock.new)) }
 
@@ -113,7 +115,7 @@ pub fn run<I: Source, O: Sink, P: Port, D: Disk, C: Clock, R: Reporter>(
         (bytes : List ℕ) → I.left input.old ≡ Some bytes → MAX_INPUT_BYTES < length bytes → result ≢ Status.Ok) }
     ensures within { (bytes : List ℕ) → I.left input.old ≡ Some bytes → length bytes ≤ MAX_INPUT_BYTES → result ≢ Status.InputTooLong }
 
-    // A device that the command does not use stands as it stood.
+    // A device that the command does not use is unchanged.
     ensures input { ¬ (AskForTask IsReader (map string_bytes words.now)) → input.new ≡ input.old }
     ensures port { ¬ (AskForTask IsOverPort (map string_bytes words.now)) → port.new ≡ port.old }
     ensures disk { ¬ (AskForTask IsRunner (map string_bytes words.now)) → disk.new ≡ disk.old }
@@ -123,19 +125,19 @@ pub fn run<I: Source, O: Sink, P: Port, D: Disk, C: Clock, R: Reporter>(
     ensures shows { (s : Schedule) → ShowsAll s }
 
     // In every schedule that is run all executed lists, at any moments, are prefixes of one list; each answer is the
-    // sequential store's at its place of that list; what is submitted after an answer stands behind the answered
-    // command; what was answered is never lost; and decisions of one epoch are equal.
+    // sequential store's at its index in that list; a command submitted after an answer stands after the answered
+    // command; an answered command is never lost; and decisions of one epoch are equal.
     ensures agreement { (s : Schedule) → IsSchedule s → Agreed s.replicas (acts_of s) }
     ensures answers { (s : Schedule) → IsSchedule s → Answered s.replicas (acts_of s) }
     ensures real_time { (s : Schedule) → IsSchedule s → RealTime s.replicas (acts_of s) }
     ensures durable { (s : Schedule) → IsSchedule s → KeepsAnswered s.replicas (acts_of s) }
     ensures decisions { (s : Schedule) → IsSchedule s → DecisionsAgree s.replicas (acts_of s) }
 
-    // Where a schedule has led to a calm state, two calm rounds more do all that was submitted.
+    // If a schedule has led to a calm state, two further calm rounds execute all that was submitted.
     ensures bounded { (s : Schedule) → IsSchedule s → IsBounded (last_world s.replicas (acts_of s)) }
 
-    // The moments that are written of a plan are those of the protocol: each timeline of a plan is possible, and in it
-    // each replica executes the command once, at its moment.
+    // The moments written of a plan are those of the protocol: each timeline of a plan is possible, and in it each
+    // replica executes the command once, at its moment.
     ensures possible { TimelinesArePossible }
     ensures moments { CommandsCommitInTime }
 {

@@ -1,4 +1,4 @@
-//! What is done over the real streams and clock, and over a port and a disk.
+//! Commands over the real streams and clock, and over a port and a disk.
 
 use crate::command::run;
 use crate::status::Status;
@@ -13,7 +13,7 @@ use std::io::{self, ErrorKind, Input, Print};
 use std::net::Net;
 use std::time::Clock;
 
-/// The address of a socket that the system may bind at any free port.
+/// The address with which the system binds a socket at any free port.
 const ANY_FREE_PORT: u64 = 0;
 
 /// A device that could not be made.
@@ -21,16 +21,16 @@ const ANY_FREE_PORT: u64 = 0;
 pub(crate) enum NoDevice {
     Socket(io::Error),
     Log(OpenError),
-    /// The log file, since this stream goes to it.
+    /// The log file, since this standard stream writes to it.
     LogOf(Stream),
-    /// The log file, since its name is a symbolic link to no file.
+    /// The log file, since its name is a symbolic link to a missing file.
     LogBehindLink,
-    /// The file that stands in for closed streams.
+    /// The file that replaces closed standard streams.
     StandIn(io::Error),
 }
 
 impl NoDevice {
-    /// The status that the program ends with.
+    /// Returns the exit status of the program.
     pub(crate) fn status(&self) -> Status {
         match self {
             NoDevice::Socket(error) if is_of_memory(error) => Status::NoMemory,
@@ -42,13 +42,13 @@ impl NoDevice {
         }
     }
 
-    /// Whether it may be told on standard error, which would write into the log where that is its end.
+    /// Returns whether the error may be written to standard error, which must not be the log.
     pub(crate) fn may_be_told(&self) -> bool {
         !matches!(self, NoDevice::LogOf(Stream::Error))
     }
 }
 
-/// Whether there was no memory for it.
+/// Returns whether the error means that memory ran out.
 fn is_of_memory(error: &io::Error) -> bool {
     error.kind() == ErrorKind::OutOfMemory
 }
@@ -69,7 +69,7 @@ impl Display for NoDevice {
     }
 }
 
-/// The status of what the words say, over standard input and output, the system's clock, and these devices.
+/// Executes the words over standard input and output, the system's clock, and these devices, and returns the status.
 pub(crate) fn status_over<R: AllocGlobal + Clock + Input + Print, P: Port, D: Disk, T: Reporter>(
     rt: &R,
     words: &[String],
@@ -92,7 +92,7 @@ pub(crate) fn status_over<R: AllocGlobal + Clock + Input + Print, P: Port, D: Di
     )
 }
 
-/// A socket as a port.
+/// Opens a socket at an address, IPv4 x 65,536 + port, as a port.
 pub(crate) fn socket_at<R: AllocGlobal + Net>(rt: &R, address: u64) -> Result<UdpPort, NoDevice> {
     if address >= 1 << 48 {
         return Err(NoDevice::Socket(io::Error::from(ErrorKind::InvalidInput)));
@@ -100,7 +100,7 @@ pub(crate) fn socket_at<R: AllocGlobal + Net>(rt: &R, address: u64) -> Result<Ud
     UdpPort::bind(rt.alloc(), rt, address).map_err(NoDevice::Socket)
 }
 
-/// The status of what the words say, over a port and a disk that have nothing.
+/// Executes the words over a port and a disk without content, and returns the status.
 pub(crate) fn status_over_nothing<R: AllocGlobal + Clock + Input + Print>(
     rt: &R,
     words: &[String],
@@ -114,7 +114,7 @@ pub(crate) fn status_over_nothing<R: AllocGlobal + Clock + Input + Print>(
     status_over(rt, words, &mut port, &mut disk, &mut Silent)
 }
 
-/// The status of what the words say, over a socket at any free port.
+/// Executes the words over a socket at any free port, and returns the status.
 pub(crate) fn status_over_socket<R: AllocGlobal + Clock + Input + Net + Print>(
     rt: &R,
     words: &[String],

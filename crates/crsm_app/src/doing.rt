@@ -1,4 +1,4 @@
-//! Does the task of an order.
+//! The execution of each task.
 
 ghost use Rattle.std.specs.Prelude.{◌≡◌, ◌≢◌, ◌<◌, ◌≤◌, ◌⊎◌, ℕ, List, Some, length};
 ghost use Rattle.crsm_base.specs.Spelling.{FitsCommand};
@@ -62,7 +62,7 @@ fn run_replay_mp<I: Source, O: Sink>(alloc: Global, input: &mut I, output: &mut 
     replay_mp_status(replay_mp(alloc, input, output))
 }
 
-/// Runs the sheet of replica `me` of a cluster that began with `n`.
+/// Replays the sheet of replica `me` of a cluster that began with `n`.
 fn run_sheet<I: Source, O: Sink>(
     alloc: Global,
     me: u32,
@@ -85,7 +85,7 @@ fn run_sheet<I: Source, O: Sink>(
     sheet_status(replay_node(alloc, me, n, input, output))
 }
 
-/// Writes what the sheets of nodes of a cluster that began with `n` come to.
+/// Writes the verdict on the sheets of nodes of a cluster that began with `n`.
 fn run_audit<I: Source, O: Sink>(alloc: Global, n: u32, input: &mut I, output: &mut O) -> Status
     requires some { 1 ≤ n }
     requires few { n ≤ 15 }
@@ -132,7 +132,7 @@ fn run_delay_times<I: Source, O: Sink>(alloc: Global, input: &mut I, output: &mu
     delay_status(delay_times(alloc, input, output))
 }
 
-/// Writes a text that was asked for.
+/// Writes a requested text.
 fn show<O: Sink>(text: &[u8], output: &mut O) -> Status
     ensures shows { Shows text.now result (O.written output.old) (O.written output.new) }
     ensures write_fault { result ≡ Status.WriteFault → Rose (O.faults output.old) (O.faults output.new) }
@@ -144,7 +144,7 @@ fn show<O: Sink>(text: &[u8], output: &mut O) -> Status
     }
 }
 
-/// Runs what a number draws.
+/// Runs events generated from a number.
 fn run_soak<O: Sink>(alloc: Global, number: u64, n: u32, steps: u64, output: &mut O) -> Status
     requires some { 1 ≤ n }
     requires few { n ≤ 15 }
@@ -159,7 +159,7 @@ fn run_soak<O: Sink>(alloc: Global, number: u64, n: u32, steps: u64, output: &mu
     }
 }
 
-/// Asks a replica for a command.
+/// Requests a command from a replica.
 fn run_client<O: Sink, P: Port>(
     alloc: Global,
     order: &ClientOrder,
@@ -176,7 +176,7 @@ fn run_client<O: Sink, P: Port>(
     client_status(client(alloc, order, cluster, port, output))
 }
 
-/// Asks a replica for another membership.
+/// Requests a membership change from a replica.
 fn run_operate<P: Port>(
     alloc: Global,
     to: u64,
@@ -224,7 +224,7 @@ fn run_replica<O: Sink, P: Port, D: Disk, C: Clock, R: Reporter>(
     }
 }
 
-/// Does the task of an order.
+/// Executes the task of an order, and returns the status.
 pub(crate) fn do_order<I: Source, O: Sink, P: Port, D: Disk, C: Clock, R: Reporter>(
     alloc: Global,
     order: Order,

@@ -1,4 +1,4 @@
-//! What the program does with the words of its process.
+//! The entry point: the words of the process, its devices and its exit status.
 
 use crate::command::plan;
 use crate::devices::{NoDevice, status_over_nothing, status_over_socket};
@@ -13,7 +13,7 @@ use std::net::Net;
 use std::process::ExitCode;
 use std::time::Clock;
 
-/// The words after the program's name. One that is no text makes a faulty command line.
+/// Returns the words after the program's name. `Usage` if one is not valid text.
 fn words_of<R: AllocGlobal + Env>(rt: &R) -> Result<Vec<String>, Status> {
     let mut words = Vec::new(rt.alloc());
     let args = match env::args(rt) {
@@ -29,8 +29,8 @@ fn words_of<R: AllocGlobal + Env>(rt: &R) -> Result<Vec<String>, Status> {
     Ok(words)
 }
 
-/// Tells on standard error why not all was done: what is wrong with the words, or the status on one line. Where
-/// standard error fails, too, nothing is left to tell.
+/// Writes the reason of a failure to standard error: an error in the words, or the status on one line. If standard
+/// error fails too, nothing is written.
 fn tell<R: AllocGlobal + Eprint>(rt: &R, words: &[String], status: Status) {
     if status == Status::Ok {
         return;
@@ -42,7 +42,7 @@ fn tell<R: AllocGlobal + Eprint>(rt: &R, words: &[String], status: Status) {
     }
 }
 
-/// Tells of what was done, or of the device that could not be made, and answers the status.
+/// Reports the result, or the device that could not be made, and returns the status.
 fn told<R: AllocGlobal + Eprint>(
     rt: &R,
     words: &[String],
@@ -61,7 +61,7 @@ fn told<R: AllocGlobal + Eprint>(
     }
 }
 
-/// The status of what the words say, over the devices that they want. Why not all was done is told.
+/// Executes the words over the devices that they need, reports a failure, and returns the status.
 fn status_of<R: AllocGlobal + Clock + Eprint + Files<File = File> + Input + Net + Print>(
     rt: &R,
     words: &[String],
@@ -74,7 +74,7 @@ fn status_of<R: AllocGlobal + Clock + Eprint + Files<File = File> + Input + Net 
     }
 }
 
-/// Does what the words of the process say, over the devices that they want. Why not all was done is told.
+/// Executes the words of the process over the devices that they need, reports a failure, and returns the status.
 fn done<R: AllocGlobal + Clock + Env + Eprint + Files<File = File> + Input + Net + Print>(
     rt: &R,
 ) -> Status {
@@ -87,9 +87,9 @@ fn done<R: AllocGlobal + Clock + Env + Eprint + Files<File = File> + Input + Net
     }
 }
 
-/// Does what the words of the process say, over the devices that they want, and answers the number that the process
-/// ends with. A number other than 0 comes with words on standard error. The streams that the process was started
-/// without stay closed.
+/// Executes the words of the process over the devices that they need, and returns the exit status of the program. A
+/// status other than 0 comes with a message on standard error. The streams that the process was started without stay
+/// closed.
 pub fn start<R: AllocGlobal + Clock + Env + Eprint + Files<File = File> + Input + Net + Print>(
     rt: &R,
 ) -> ExitCode {

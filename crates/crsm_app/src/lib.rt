@@ -1,4 +1,4 @@
-//! The commands of the program: what the words ask for is done by the crate of its command.
+//! The commands of the program: each is executed by the crate of its command.
 #![tactic(auto)]
 
 mod command;

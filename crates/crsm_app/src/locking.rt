@@ -1,4 +1,4 @@
-//! The task about a lock.
+//! The task on a lock.
 
 ghost use Rattle.std.specs.Prelude.{◌≡◌, ◌⊎◌};
 ghost use Rattle.crsm_port_faults.specs.Counts.{Rose};
@@ -25,7 +25,7 @@ fn action_of(action: LockAction) -> Action
     }
 }
 
-/// What the task asks for.
+/// Returns the parameters of the task.
 fn lock_order(task: LockTask) -> LockOrder
     ensures { result ≡ lock_order task }
 {
@@ -47,7 +47,7 @@ fn lock_order(task: LockTask) -> LockOrder
     }
 }
 
-/// Asks a replica about a lock.
+/// Requests an action on a lock from a replica.
 pub(crate) fn run_lock<O: Sink, P: Port>(
     alloc: Global,
     task: LockTask,

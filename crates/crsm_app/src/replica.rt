@@ -1,5 +1,5 @@
-//! A replica over a socket and a log file, and what it tells on standard error: a line once it is booted, and a line
-//! why it ends.
+//! A replica over a socket and a log file, and its messages on standard error: a line once it is booted, and a line why
+//! it ends.
 
 use crate::devices::{NoDevice, socket_at, status_over};
 use crate::status::Status;
@@ -16,11 +16,11 @@ use std::io::{Eprint, Input, Print};
 use std::net::Net;
 use std::time::Clock;
 
-/// Which replica it is, and where it listens.
+/// The identity of a replica, and the address at which it listens, IPv4 x 65,536 + port.
 #[derive(Clone, Copy, Debug)]
 struct NodeIdentity {
     me: u32,
-    /// How many replicas the cluster began with.
+    /// Number of replicas that the cluster began with.
     n: u32,
     /// The number of the cluster, 0 for none.
     cluster: u64,
@@ -37,7 +37,7 @@ impl Display for NodeIdentity {
     }
 }
 
-/// The line of a replica that was booted.
+/// The line on standard error of a replica that was booted.
 #[derive(Clone, Copy, Debug)]
 struct StartLine {
     place: NodeIdentity,
@@ -62,7 +62,7 @@ impl Display for StartLine {
     }
 }
 
-/// The line of a replica that ends.
+/// The line on standard error of a replica that ends.
 #[derive(Drop)]
 struct Ended<Why> {
     place: NodeIdentity,
@@ -75,7 +75,7 @@ impl<Why: Display> Display for Ended<Why> {
     }
 }
 
-/// Tells on standard error what a log held. Where that fails, nothing is told.
+/// Writes the content of a log to standard error. If that fails, nothing is written.
 #[derive(Drop)]
 struct StderrReporter<'a, R> {
     rt: &'a R,
@@ -89,7 +89,7 @@ impl<R: Eprint> Reporter for StderrReporter<'_, R> {
     }
 }
 
-/// The node that the words ask for, and the number of its cluster.
+/// Returns the node of the words, and the number of its cluster.
 fn node_in(alloc: Global, words: &[String]) -> Result<(u64, NodeTask), Status> {
     match read_words(alloc, words) {
         Ok(
@@ -103,13 +103,13 @@ fn node_in(alloc: Global, words: &[String]) -> Result<(u64, NodeTask), Status> {
     }
 }
 
-/// Whether the name is a symbolic link to no file. A log made behind it would have its name in another folder, which no
-/// sync of the log makes last.
+/// Returns whether the name is a symbolic link to a missing file. A log made through it would have its name in another
+/// folder, which no sync of the log makes durable.
 fn is_dangling<R: Files>(rt: &R, name: &str) -> bool {
     rt.symlink_metadata(name).is_ok() && rt.metadata(name).is_err()
 }
 
-/// Opens the log file of this name, into which nothing but the log may be written.
+/// Opens the log file with this name, to which nothing but the log may be written.
 fn open_log<R: Files<File = File>>(rt: &R, name: &str) -> Result<FileDisk, NoDevice> {
     if let Some(stream) = stream_into(rt, name) {
         return Err(NoDevice::LogOf(stream));
@@ -120,7 +120,8 @@ fn open_log<R: Files<File = File>>(rt: &R, name: &str) -> Result<FileDisk, NoDev
     FileDisk::open(rt, name).map_err(NoDevice::Log)
 }
 
-/// Runs a replica over a socket at its address and its log file. Nobody speaks in another replica's name.
+/// Runs a replica over a socket at its address and its log file. Packets of a replica are accepted only from its own
+/// address.
 fn run_at<R: AllocGlobal + Clock + Eprint + Files<File = File> + Input + Net + Print>(
     rt: &R,
     words: &[String],
@@ -143,8 +144,8 @@ fn run_at<R: AllocGlobal + Clock + Eprint + Files<File = File> + Input + Net + P
     Ok(status_over(rt, words, &mut port, &mut disk, &mut voice))
 }
 
-/// Runs the replica that the words ask for, tells on standard error why it ends, and answers its status. Where standard
-/// error goes to the log, nothing is told.
+/// Runs the replica of the words, writes to standard error why it ends, and returns its status. If standard error goes
+/// to the log, nothing is written.
 pub(crate) fn run_replica_of<
     R: AllocGlobal + Clock + Eprint + Files<File = File> + Input + Net + Print,
 >(rt: &R, words: &[String], me: u32, address: u64) -> Status {

@@ -1,4 +1,4 @@
-//! How a run ends.
+//! The status of a run, and its exit status.
 
 ghost use Rattle.std.specs.Prelude.{◌≡◌};
 ghost use Rattle.crsm_app.specs.Statuses.{number_of, status_of_client, status_of_delay, status_of_lock, status_of_node, status_of_operate, status_of_refused, status_of_replay, status_of_replay_mp, status_of_sheet};
@@ -13,16 +13,16 @@ use crsm_node::NodeEnd;
 use crsm_port_lines::InputEnd;
 use std::fmt::{self, Display, Formatter, Write};
 
-/// How a run ended.
+/// The status of a run.
 #[derive(Clone, Copy, Debug, PartialEq, Eq)]
 pub enum Status {
     /// All was done.
     Ok,
     /// The words are not those of a command.
     Usage,
-    /// This line of the input is the first that is bad, counted from 1.
+    /// This line of the input, counted from 1, is the first that is bad.
     BadInput { line: u64, cause: Cause },
-    /// The same, of a schedule of a store with a leader.
+    /// As `BadInput`, for a schedule of a store with a leader.
     BadMpInput { line: u64, cause: MpCause },
     /// The input failed.
     ReadFault,
@@ -34,21 +34,21 @@ pub enum Status {
     DiskFault,
     /// Memory ran out.
     NoMemory,
-    /// All turns are over, and the replica has not answered.
+    /// No reply came in all turns.
     NoAnswer,
-    /// This entry of the log, counted from 0, is the first that is no list of records (0), or whose first record that
-    /// does not fit is of this kind (1 to 9); or no entry stands behind the open gate there (10).
+    /// The log body with this number, from 0, is the first that is not a list of records (`why` 0), or has a first
+    /// record that does not fit of kind `why` (1 to 9), or is missing after an open gate (`why` 10).
     BadLog { entry: u64, why: u32 },
-    /// The next entry would pass the limit of a log file.
+    /// The next entry would exceed the limit of a log file.
     LogFull,
     /// The input has more than 1,073,741,824 bytes.
     InputTooLong,
-    /// The log belongs to the cluster of this number.
+    /// The log belongs to the cluster with the number `found`.
     OtherCluster { found: u64 },
 }
 
 impl Status {
-    /// The number that the program ends with.
+    /// Returns the exit status of the program.
     pub fn number(&self) -> u8
         ensures { result ≡ number_of self.now }
     {
@@ -70,7 +70,7 @@ impl Status {
     }
 }
 
-/// The status of a schedule that ended so.
+/// Returns the status of a replay with this end.
 pub(crate) fn replay_status(ending: InputEnd<Cause>) -> Status
     ensures { result ≡ status_of_replay ending }
 {
@@ -87,7 +87,7 @@ pub(crate) fn replay_status(ending: InputEnd<Cause>) -> Status
     }
 }
 
-/// The status of a schedule of a store with a leader that ended so.
+/// Returns the status of a replay of a store with a leader with this end.
 pub(crate) fn replay_mp_status(ending: InputEnd<MpCause>) -> Status
     ensures { result ≡ status_of_replay_mp ending }
 {
@@ -104,7 +104,7 @@ pub(crate) fn replay_mp_status(ending: InputEnd<MpCause>) -> Status
     }
 }
 
-/// The status of a line of a sheet that is refused.
+/// Returns the status of a sheet's line that is refused.
 fn refused_status(line: u64, cause: SheetCause) -> Status
     ensures { result ≡ status_of_refused line cause }
 {
@@ -117,7 +117,7 @@ fn refused_status(line: u64, cause: SheetCause) -> Status
     }
 }
 
-/// The status of a sheet that ended so.
+/// Returns the status of a sheet's replay with this end.
 pub(crate) fn sheet_status(ending: InputEnd<SheetCause>) -> Status
     ensures { result ≡ status_of_sheet ending }
 {
@@ -131,7 +131,7 @@ pub(crate) fn sheet_status(ending: InputEnd<SheetCause>) -> Status
     }
 }
 
-/// The status of a plan that ended so.
+/// Returns the status of a plan with this end.
 pub(crate) fn delay_status(ending: InputEnd<PlanCause>) -> Status
     ensures { result ≡ status_of_delay ending }
 {
@@ -148,7 +148,7 @@ pub(crate) fn delay_status(ending: InputEnd<PlanCause>) -> Status
     }
 }
 
-/// The status of a client that ended so.
+/// Returns the status of a client with this end.
 pub(crate) fn client_status(ended: ClientEnd) -> Status
     ensures { result ≡ status_of_client ended }
 {
@@ -161,7 +161,7 @@ pub(crate) fn client_status(ended: ClientEnd) -> Status
     }
 }
 
-/// The status of an operator who ended so.
+/// Returns the status of a request for a membership change with this end.
 pub(crate) fn operate_status(ended: Result<(), OperateError>) -> Status
     ensures { result ≡ status_of_operate ended }
 {
@@ -172,7 +172,7 @@ pub(crate) fn operate_status(ended: Result<(), OperateError>) -> Status
     }
 }
 
-/// The status of a client at a lock who ended so.
+/// Returns the status of an action on a lock with this end.
 pub(crate) fn lock_status(ended: LockEnd) -> Status
     ensures { result ≡ status_of_lock ended }
 {
@@ -185,7 +185,7 @@ pub(crate) fn lock_status(ended: LockEnd) -> Status
     }
 }
 
-/// The status of a node that ended so.
+/// Returns the status of a node with this end.
 pub(crate) fn node_status(ended: NodeEnd) -> Status
     ensures { result ≡ status_of_node ended }
 {
@@ -201,7 +201,7 @@ pub(crate) fn node_status(ended: NodeEnd) -> Status
     }
 }
 
-/// The name of a kind of records, by their first byte.
+/// Returns the name of a kind of records, the first byte of their encoding.
 fn kind_name(kind: u32) -> &'static str {
     match kind {
         1 => "boot",
@@ -217,7 +217,7 @@ fn kind_name(kind: u32) -> &'static str {
     }
 }
 
-/// The status in words, on one line.
+/// Writes the status in words, on one line.
 impl Display for Status {
     fn fmt<W: Write>(&self, f: &mut Formatter<W>) -> fmt::Result {
         match self {

@@ -1,5 +1,5 @@
-//! The standard streams of the process. One that is closed when the process starts leaves its number to the next file
-//! that is opened, and what is written to the stream would go to that file: so files stand in for closed streams.
+//! The standard streams of the process. A stream that is closed when the process starts leaves its number to the next
+//! file that is opened, and output to the stream would go to that file: so other files replace closed streams.
 
 ghost use Rattle.std.specs.Prelude.{◌<ℤ◌, pos, IfOk, IfSome};
 ghost use Rattle.std.specs.Fd.{file_raw_fd};
@@ -10,15 +10,15 @@ use std::io;
 use std::os::fd::{AsRawFd, RawFd};
 use std::os::unix::fs::MetadataExt;
 
-/// The numbers of standard input, output and error are 0, 1 and 2.
+/// The file descriptors of standard input, output and error are 0, 1 and 2.
 const INPUT: RawFd = 0;
 
 const STREAMS: RawFd = 3;
 
-/// The file that stands in for a closed stream.
+/// The file that replaces a closed stream.
 const NULL: &str = "/dev/null";
 
-/// A standard stream that is written to.
+/// A standard stream for output.
 #[derive(Clone, Copy, Debug)]
 pub(crate) enum Stream {
     Output,
@@ -26,7 +26,7 @@ pub(crate) enum Stream {
 }
 
 impl Stream {
-    /// The path at which the system shows the file that the stream goes to.
+    /// Returns the path at which the system shows the file of the stream.
     fn path(self) -> &'static str {
         match self {
             Stream::Output => "/proc/self/fd/1",
@@ -44,12 +44,12 @@ impl Display for Stream {
     }
 }
 
-/// Opens the file that stands in for the lowest stream that is closed, or none where all are open. The stream still
-/// fails: the file in the place of standard input cannot be read, and that in another's cannot be written.
+/// Opens the file that replaces the lowest closed stream, or returns `None` if all are open. The stream still fails:
+/// the file in place of standard input cannot be read, and that of another cannot be written.
 fn stand_in<R: Files<File = File>>(rt: &R) -> io::Result<Option<File>>
     ensures { IfOk result (λ opened. IfSome opened (λ file. file_raw_fd file <ℤ pos 3)) }
 {
-    // A file gets the lowest number that is free.
+    // A file gets the lowest free file descriptor.
     let mut file = File::open(rt, NULL)?;
     if file.as_raw_fd() == INPUT {
         drop(file);
@@ -62,8 +62,8 @@ fn stand_in<R: Files<File = File>>(rt: &R) -> io::Result<Option<File>>
     }
 }
 
-/// Opens the files that stand in for the streams that are closed; each stands in for as long as it is kept. Fails where
-/// `/dev/null` cannot be opened, even if all streams are open.
+/// Opens the files that replace the closed streams; each does so while it is open. Fails if `/dev/null` cannot be
+/// opened, even if all streams are open.
 pub(crate) fn stand_ins<R: Files<File = File>>(rt: &R) -> io::Result<[Option<File>; 3]> {
     let first = stand_in(rt)?;
     let second = stand_in(rt)?;
@@ -71,7 +71,7 @@ pub(crate) fn stand_ins<R: Files<File = File>>(rt: &R) -> io::Result<[Option<Fil
     Ok([first, second, third])
 }
 
-/// Whether a stream goes to this file. Where the system does not tell, it is taken to go elsewhere.
+/// Returns whether a stream goes to this file; `false` if the system does not say.
 fn goes_to<R: Files>(rt: &R, stream: Stream, file: &Metadata) -> bool {
     match rt.metadata(stream.path()) {
         Ok(end) => end.dev() == file.dev() && end.ino() == file.ino(),
@@ -79,7 +79,7 @@ fn goes_to<R: Files>(rt: &R, stream: Stream, file: &Metadata) -> bool {
     }
 }
 
-/// Returns the stream that goes to the file of this name, if one does: standard error, if both do.
+/// Returns the stream that goes to the file with this name, or `None`: standard error, if both do.
 pub(crate) fn stream_into<R: Files>(rt: &R, name: &str) -> Option<Stream> {
     let file = rt.metadata(name).ok()?;
     if goes_to(rt, Stream::Error, &file) {

@@ -1,4 +1,4 @@
--- One line more of a sheet: what becomes of its account.
+-- The account of a sheet after one more line.
 use Rattle.std.proofs.Common.{◌≡◌, ◌≢◌, ℕ, ◌+◌, ◌-◌, List, [], ◌∷◌, ◌++◌, map, length, refl, sym, ◌∙◌, ap, subst, append_assoc, inl, inr, arith}
 use Rattle.std.proofs.lemmas.List.{append-nil, length-append, map-append}
 use Rattle.crsm_base.specs.Records.{SpeltBody}
@@ -61,7 +61,7 @@ no_parts : {A : Type 0} (xs ys : List A) → xs ++ ys ≡ [] → xs ≡ []
 no_parts [] ys e = refl
 no_parts (x ∷ xs) ys e = absurd (cc)
 
--- a sheet of which bodies alone have come has made no step
+-- a sheet with bodies alone has made no step
 only_bodies : (me n : ℕ) (own : List SheetLine) (body : List ℕ) (steps : List Draft) → LeadTo me n (own ++ Entry body ∷ []) steps → steps ≡ []
 only_bodies me n own body steps (inl p) = p.1
 only_bodies me n own body steps (inr p) = absurd (entry_not_last own body p.sheet.bodies p.sheet.turns p.sheet.is)

@@ -1,4 +1,4 @@
--- What comes behind the bodies of a sheet.
+-- The lines after the bodies of a sheet.
 use Rattle.std.proofs.Common.{◌≡◌, ◌≢◌, ℕ, List, [], ◌∷◌, ◌++◌, map, refl, ap, ◌∙◌}
 use Rattle.crsm_text_sheet.specs.declared.line.SheetLine.{SheetLine}
 use Rattle.crsm_text_sheet.specs.declared.line.SheetLine.TheVariants.{Entry, Open}

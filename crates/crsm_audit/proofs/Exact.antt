@@ -17,7 +17,7 @@ module _ (one_text : LinesHaveOneText) (kept : KeptAreNotBad) (one_bad : BadLogs
   same_lines : (texts : List Text) (a b : Spells texts) → a.lines ≡ b.lines
   same_lines texts a b = one_lines one_text a.lines b.lines a.fit b.fit (sym a.are ∙ b.are)
 
-  -- what comes of an audit begins one
+  -- the lines that an audit begins with are the beginning of one
   begins : (ls prefix back : List AuditLine) (l : AuditLine) → BeginAnAudit ls → ls ≡ prefix ++ l ∷ back → BeginAnAudit (prefix ++ l ∷ [])
   begins ls prefix back l b is = record {
     named = b.named;

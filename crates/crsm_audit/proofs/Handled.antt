@@ -1,4 +1,4 @@
--- What an audit makes of one line more of an input, and of its end.
+-- The effect of one more line of an input on an audit, and of its end.
 use Rattle.std.proofs.Common.{◌≡◌, ℕ, ◌+◌, List, [], ◌∷◌, ◌++◌, Result, Ok, Err, IfErr, map, length, refl, ap, sym, ◌∙◌, subst}
 use Rattle.std.proofs.lemmas.List.{append-nil, length-map}
 use Rattle.crsm_port_lines.specs.Handling.{EndsWell, Handles, StopsAt, StopsAtEnd, Text}
@@ -21,7 +21,7 @@ pub number_is : (at : ℕ) (texts : List Text) (s : Spells texts) → at ≡ len
 number_is at texts s is = is ∙ ap (λ (k : ℕ). k + 1) (ap length s.are ∙ length-map s.lines line_text)
 
 module _ (n : ℕ) (texts : List Text) (shown : Text) where
-  -- a text that spells no line
+  -- a text that is not a line
   pub unread : (stop : Stop SheetCause) (text before : Text) → StopsUnread stop text → Spells texts → StopsAt (audited n) texts shown text before before stop
   unread (Stop.Refused cause) text before stops spells = (record { spells = spells; unreadable = stops.0; none = λ line fits is begun. stops.1 line fits is }, refl)
   unread Stop.NoMemory text before stops spells = ([], sym (append-nil before))

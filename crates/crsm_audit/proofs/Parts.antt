@@ -1,4 +1,4 @@
--- The sheets of lines, where one sheet comes behind others.
+-- The sheets of lines, where one sheet follows others.
 use Rattle.std.proofs.Common.{◌≡◌, ℕ, ◌+◌, List, [], ◌∷◌, ◌++◌, map, length, refl, ◌∙◌, ap, arith}
 use Rattle.crsm_law_sheets.specs.Sheets.{Sheet}
 use Rattle.crsm_text_sheet.specs.declared.line.SheetLine.{SheetLine}
@@ -49,7 +49,7 @@ pub parts : (before rest : List AuditLine) (me : ℕ)
 unfolding sheet_at
 parts before rest me = parts_at 1 (length before + 2) before rest me (omega arith)
 
--- the sheets up to the one at hand
+-- the sheets up to the current one
 pub with_last : (before : List AuditLine) (me : ℕ) (own : List SheetLine)
     → sheets_in (before ++ lines.Node me ∷ map lines.Sheet own) ≡ sheets_in before ++ record { me = me; first = length before + 2; lines = own } ∷ []
 with_last before me own =

@@ -1,4 +1,4 @@
--- Which lines an audit begins with, and how far they lead.
+-- The lines with which an audit begins, and their progress.
 use Rattle.std.proofs.Common.{◌≡◌, ◌≢◌, ℕ, List, [], ◌∷◌, ◌++◌, map, refl, sym, ◌∙◌, ap, subst, append_assoc}
 use Rattle.std.specs.Prelude.{Option, Some, None}
 use Rattle.std.specs.List.{flat_map}
@@ -80,7 +80,7 @@ entry_not_last own b bodies turns is =
     go (Some Finding) e = apart e
     go (Some Running) e = none-some Running e
 
--- nor is one whole of which bodies alone have come
+-- nor is a sheet with bodies alone whole
 pub bodies_do_not_run : (before : List AuditLine) (me : ℕ) (bodies : List (List ℕ)) → progress_after Before (before ++ Node me ∷ map Sheet (map entry_line bodies)) ≡ Some Running → ⊥
 unfolding progress_after on_from
 bodies_do_not_run before me bodies runs =
@@ -128,7 +128,7 @@ begin_leads ls b none =
 pub not_followed : (p : Progress) (ls : List AuditLine) (l : AuditLine) → progress_after Before ls ≡ Some p → follows p l ≡ None → BeginAnAudit (ls ++ l ∷ []) → ⊥
 not_followed p ls l e none b = begin_leads (ls ++ l ∷ []) b (progress_more Before p ls l e ∙ none)
 
--- ---- what lines look like that lead so far
+-- ---- the form of lines with this progress
 
 Shape : Progress → List AuditLine → Type 0
 Shape Before ls = ls ≡ []

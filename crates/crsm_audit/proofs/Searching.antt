@@ -1,4 +1,4 @@
--- What holds of each element of a list, place by place.
+-- Facts of each element of a list, index by index.
 use Rattle.std.proofs.Common.{◌≡◌, ℕ, zero, suc, ◌+◌, ◌<◌, ◌≤◌, List, [], ◌∷◌, ◌++◌, length, get_or, take, map, refl, sym, ◌∙◌, ap, subst, inl, inr, arith}
 use Rattle.std.specs.List.{AllByRecursion}
 use Rattle.std.specs.Prelude.{Some, slice_get}
@@ -38,7 +38,7 @@ map_more {A} {B} f xs i x h = let next : suc i ≡ i + 1 = omega arith in subst 
     go (y ∷ xs) zero h = ap (λ z. f z ∷ []) (sym (same_Some y x h))
     go (y ∷ xs) (suc i) h = ap (λ l. f y ∷ l) (go xs i h)
 
--- the element that a map's comes of
+-- the element from which a map's element is made
 pub unmapped : {A B : Type 0} (f : A → B) (xs : List A) (i : ℕ) (b : B) → slice_get (map f xs) i ≡ Some b → (a : A) × (slice_get xs i ≡ Some a) × (f a ≡ b)
 unmapped f [] i b h = absurd (none-some b h)
 unmapped f (y ∷ xs) zero b h = (y, refl, same_Some (f y) b h)

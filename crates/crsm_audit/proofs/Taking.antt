@@ -1,4 +1,4 @@
--- What becomes of an audit at a line, and at the end.
+-- The effect of a line, and of the end, on an audit.
 use Rattle.std.proofs.Common.{◌≡◌, ◌≢◌, ℕ, ◌+◌, ◌-◌, List, [], ◌∷◌, ◌++◌, map, length, refl, sym, ◌∙◌, ap, subst, append_assoc, inl, inr, arith}
 use Rattle.std.specs.Prelude.{Option, Some, None, Result, Ok, Err, IfErr, OnOk}
 use Rattle.std.specs.List.{AllByRecursion}
@@ -107,7 +107,7 @@ account_stands me n first own (x ∷ xs) a p h =
       sound = record { fit = subst (AllFit me n) left h.fit; spelt = subst AreSpelt left h.are_spelt };
     }
 
--- what is at hand has run, so it is a sheet
+-- the current sheet has run, so it is a sheet
 replays : (n : ℕ) (replay : Option Rerun) (accounts : List Account) (ls : List AuditLine) (h : AtHand n replay accounts ls) → progress_after Before ls ≡ Some Running → Replays h.me n h.own h.steps
 replays n replay accounts ls h runs = go h.stands.replayed.leads
   where
@@ -155,7 +155,7 @@ all_done audit ls me p s none next =
     go Finding leads e known = absurd (none-some p e)
     go Running leads e known = done_at_hand audit.n audit.rerun audit.accounts.items ls known leads
 
--- ---- one line more of the sheet at hand
+-- ---- one more line of the current sheet
 
 same_accounts : (xs ys : List Account) (x y : Account) → xs ++ x ∷ [] ≡ ys ++ y ∷ [] → (xs ≡ ys) × (x ≡ y)
 same_accounts [] [] x y e = (refl, cc)
@@ -193,7 +193,7 @@ never_before Running (written.In r a b) e = cc
 never_before Running (written.Tick r) e = cc
 never_before Running (written.Suspect r m) e = cc
 
--- where a line of a sheet may follow, a sheet is at hand
+-- where a line of a sheet may follow, a sheet is current
 pub sheet_at_hand : (audit : Audit) (ls : List AuditLine) (l : SheetLine) (p : Progress) → StandsBehind audit ls → audit.bad ≡ None → follows audit.progress (lines.Sheet l) ≡ Some p
     → AtHand audit.n audit.rerun audit.accounts.items ls
 sheet_at_hand audit ls l p s none next =
@@ -229,7 +229,7 @@ module _ (n : ℕ) (replay : Option Rerun) (accounts rest : List Account) (poppe
   accounts_same : (rest ≡ h.done) × (popped ≡ h.account)
   accounts_same = same_accounts rest h.done popped h.account (sym popped_is ∙ h.accounts_are)
 
-  -- the sheet at hand is that of the account that was taken out
+  -- the current sheet is that of the account that was removed
   pub here : SheetStands h.me n (length h.before + 2) rerun popped h.own h.steps
   here =
       subst (λ (r : Rerun). SheetStands h.me n (length h.before + 2) r popped h.own h.steps) (same_Some h.rerun rerun (sym h.rerun_is ∙ rerun_is))
@@ -307,7 +307,7 @@ takes_any_bad audit ls l some = go audit.bad refl
     go None is = absurd (some is)
     go (Some bad) is = takes_bad audit audit ls l bad is refl refl
 
--- a line of the sheet at hand
+-- a line of the current sheet
 pub takes_sheet : (old new : Audit) (ls : List AuditLine) (l : SheetLine) (rest : List Account) (popped after : Account) (rerun now : Rerun) → old.bad ≡ None → new.n ≡ old.n → new.bad ≡ old.bad
     → old.accounts.items ≡ rest ++ popped ∷ [] → old.rerun ≡ Some rerun → new.rerun ≡ Some now → new.accounts.items ≡ rest ++ after ∷ []
     → WhereSheetStands rerun popped (λ me n first own steps. SheetAdvances me n first now after own steps l) → TakesBehind ls old (lines.Sheet l) new
@@ -321,7 +321,7 @@ takes_sheet old new ls l rest popped after rerun now none n_is same popped_is re
     (subst (λ (k : ℕ). Replayed k p new.rerun new.accounts.items (ls ++ lines.Sheet l ∷ [])) (sym n_is)
     (known_at_hand old.n p old.progress l new.rerun new.accounts.items (ls ++ lines.Sheet l ∷ []) next hand))
 
--- the sheet at hand found a bad log
+-- the log of the current sheet is bad
 pub takes_bad_log : (old new : Audit) (ls : List AuditLine) (l : SheetLine) (rest : List Account) (popped : Account) (rerun : Rerun) (bad : BadLog) → old.bad ≡ None → new.n ≡ old.n → new.bad ≡ Some bad
     → old.accounts.items ≡ rest ++ popped ∷ [] → old.rerun ≡ Some rerun → WhereSheetStands rerun popped (λ me n first own steps. (l ≡ Open) × HasBadLog me n own bad.entry bad.why)
     → TakesBehind ls old (lines.Sheet l) new

@@ -1,4 +1,4 @@
--- What an account of a sheet says.
+-- The relation of an account to its sheet.
 use Rattle.std.specs.Prelude.{◌≡◌, ℕ, ◌+◌, ◌==◌, if◌then◌else◌, List, [], ◌∷◌, ◌++◌, map}
 use Rattle.std.specs.List.{flat_map}
 use Rattle.crsm_base.specs.Spelling.{entry_bytes}
@@ -29,7 +29,7 @@ own_logged me (rec ∷ log) = own_logged me log ++ own_of me rec
 
 -- ---- dropped commands
 
--- what a line calls dropped
+-- the commands that a line reports as dropped
 abbrev pub dropped_of : ℕ → Line → List Dropped
 dropped_of at (Line.ReplyDropped k client number epoch stamp) = record { line = at; epoch = epoch; stamp = stamp } ∷ []
 dropped_of at _ = []
@@ -37,7 +37,7 @@ dropped_of at _ = []
 abbrev pub dropped_in : ℕ → List Line → List Dropped
 dropped_in at lines = flat_map (dropped_of at) lines
 
--- what steps call dropped, the first of them at this line
+-- the commands that steps report as dropped, of which the first is on this line
 unfoldable pub dropped_from : ℕ → List Draft → List Dropped
 dropped_from at [] = []
 dropped_from at (x ∷ xs) = dropped_in at (lines_told x) ++ dropped_from (at + 1) xs

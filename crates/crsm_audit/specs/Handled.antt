@@ -1,4 +1,4 @@
--- What an audit makes of the lines of an input.
+-- The effect of an audit on the lines of an input.
 use Rattle.std.specs.Prelude.{◌≡◌, List, [], ◌∷◌, ◌++◌, ℕ, Some, map}
 use Rattle.std.specs.List.{AllByRecursion}
 use Rattle.crsm_port_lines.specs.Handling.{Handling, Text}
@@ -11,14 +11,14 @@ use Rattle.crsm_audit.specs.declared.state.Audit.{Audit}
 use Rattle.crsm_audit.specs.declared.line.AuditLine.{AuditLine}
 use Rattle.crsm_audit.specs.declared.line.Progress.TheVariants.{Before}
 
--- the texts spell lines with which an audit begins
+-- the texts are those of lines with which an audit begins
 pub record Spells (texts : List Text) : Type 0 where
   pub lines : List AuditLine
   pub fit : AllByRecursion FitsLine lines
   pub are : texts ≡ map line_text lines
   pub begin : BeginAnAudit lines
 
--- the audit stands behind these lines
+-- the audit stands for these lines
 pub record StandsBehind (audit : Audit) (ls : List AuditLine) : Type 0 where
   pub leads : progress_after Before ls ≡ Some audit.progress
   pub known : IsKnown audit.n audit.bad audit.progress audit.rerun audit.accounts.items ls
@@ -30,7 +30,7 @@ pub record HasHandled (n : ℕ) (audit : Audit) (texts : List Text) (shown : Tex
   pub n_is : audit.n ≡ n
   pub stands : StandsBehind audit spells.lines
 
--- no audit goes on with this line
+-- no audit continues with this line
 abbrev pub NoAuditGoesOn : List AuditLine → Text → Type 0
 NoAuditGoesOn ls text = (line : AuditLine) → FitsLine line → text ≡ line_text line → BeginAnAudit (ls ++ line ∷ []) → ⊥
 
@@ -69,7 +69,7 @@ abbrev pub StopsLine : List AuditLine → AuditLine → Stop SheetCause → Type
 StopsLine ls line (Stop.Refused cause) = (cause ≡ SheetCause.Unreadable) × (BeginAnAudit (ls ++ line ∷ []) → ⊥)
 StopsLine ls line Stop.NoMemory = Unit {0}
 
--- no line of an audit is spelt so, or memory ran out
+-- the text is not a line of an audit, or memory ran out
 abbrev pub StopsUnread : Stop SheetCause → Text → Type 0
 StopsUnread (Stop.Refused cause) text = (cause ≡ SheetCause.Unreadable) × ((line : AuditLine) → FitsLine line → text ≡ line_text line → ⊥)
 StopsUnread Stop.NoMemory text = Unit {0}

@@ -1,4 +1,4 @@
--- What is looked for in accounts.
+-- The searches in accounts.
 use Rattle.std.specs.Prelude.{◌≡◌, ◌≢◌, ℕ, ◌<◌, List, Some, None, MatchOption, get_or, slice_get}
 use Rattle.crsm_audit.specs.declared.account.Account.{Account}
 use Rattle.crsm_audit.specs.declared.origins.Origins.{Origins}

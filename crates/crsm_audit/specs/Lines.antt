@@ -1,4 +1,4 @@
--- How the lines of an audit are written, and which may follow which.
+-- The text of the lines of an audit, and their order.
 use Rattle.std.specs.Prelude.{◌≡◌, ◌≢◌, ℕ, ◌<◌, List, [], ◌∷◌, ◌++◌, map, codes, Option, None, Some}
 use Rattle.std.specs.List.{flat_map}
 use Rattle.std.specs.Option.{option_and_then}
@@ -45,7 +45,7 @@ pub record BeginAnAudit (ls : List AuditLine) : Type 0 where
   pub more : List AuditLine
   pub is : ls ++ more ≡ flat_map lines_of named
 
--- ---- how far the sheet at hand has come
+-- ---- the progress of the current sheet
 
 -- behind a line of it, if it may have the line there: bodies, then `open`, then turns
 abbrev pub behind : Progress → SheetLine → Option Progress

@@ -1,4 +1,4 @@
--- Lists of entries as bytes, and their names.
+-- Lists of encoded entries, and their identities.
 use Rattle.std.specs.Prelude.{◌≡◌, ◌≢◌, ◌⊎◌, ℕ, ◌<◌, ◌≤◌, nat_lt, if◌then◌else◌, List, [], fold, length, map, Some, slice_get}
 use Rattle.crsm_spec.specs.Types.{Stamp, Entry}
 use Rattle.crsm_audit.specs.declared.account.Account.{Account}

@@ -1,4 +1,4 @@
--- What the lines of an audit say: the sheets of nodes, and what they come to.
+-- The sheets of nodes in the lines of an audit, and the verdict on them.
 use Rattle.std.specs.Prelude.{◌≡◌, ℕ, ◌+◌, List, [], ◌∷◌, ◌++◌, length, map}
 use Rattle.crsm_ledger.specs.Recovered.{IsBadAt}
 use Rattle.crsm_law_sheets.specs.Laws.{AreSafe}
@@ -27,7 +27,7 @@ own_lines [] = []
 own_lines (lines.Node me ∷ ls) = []
 own_lines (lines.Sheet l ∷ ls) = l ∷ own_lines ls
 
--- The sheets of these lines, the first of which has the number `at`: one behind each line that names a node.
+-- The sheets of these lines, of which the first has the number `at`: one after each line that names a node.
 unfoldable pub sheets_from : ℕ → List AuditLine → List NodeSheet
 sheets_from at [] = []
 sheets_from at (lines.Node me ∷ ls) = record { me = me; first = at + 1; lines = own_lines ls } ∷ sheets_from (at + 1) ls
@@ -64,7 +64,7 @@ pub record IsAudited (n : ℕ) (ls : List AuditLine) (text : List ℕ) : Type 0 
   pub safe : WhereAgreed verdict (AreSafe n sheets)
   pub text_is : text ≡ verdict_text verdict
 
--- The log that a sheet found is bad, those of the sheets before it are not: this body is the first bad one, for this reason.
+-- The log of a sheet is bad, those of the sheets before it are not: this body is the first bad one, for this reason.
 pub record HoldBadLog (n : ℕ) (ls : List AuditLine) (entry why : ℕ) : Type 0 where
   pub before : List AuditLine
   pub sheets : List Sheet

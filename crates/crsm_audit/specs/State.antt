@@ -31,7 +31,8 @@ pub record FoundAccount (me n : ℕ) (bodies : List (List ℕ)) (a : Account) : 
 abbrev pub left_by : List Draft → Log
 left_by steps = log_after [] steps
 
--- The account of node me has what these steps left and told, the first of which is that of the line with this number.
+-- The account of node me has the entries and replies of these steps, of which the first is on the line with this
+-- number.
 pub record StepsAccount (me n opened : ℕ) (steps : List Draft) (a : Account) : Type 0 where
   pub me_is : a.me ≡ me
   pub list : a.list ≡ spelt (executed (left_by steps))
@@ -45,7 +46,8 @@ abbrev pub AccountOf : (me n first : ℕ) → List SheetLine → List Draft → 
 AccountOf me n first own [] a = (bodies : List (List ℕ)) → own ≡ map entry_line bodies → FoundAccount me n bodies a
 AccountOf me n first own (x ∷ xs) a = StepsAccount me n (first + (length own - length (x ∷ xs))) (x ∷ xs) a
 
--- The replay and the account are those of the sheet of node me, of which these lines have come and have led to these steps.
+-- The replay and the account are those of the sheet of node me, of which these lines were read and have led to these
+-- steps.
 pub record SheetStands (me n first : ℕ) (rerun : Rerun) (a : Account) (own : List SheetLine) (steps : List Draft) : Type 0 where
   pub replayed : RerunStands me n first rerun own steps
   pub account : AccountOf me n first own steps a
@@ -61,7 +63,7 @@ pub record SheetAdvances (me n first : ℕ) (rerun : Rerun) (a : Account) (own :
 
 -- ---- all sheets
 
--- The lines are those of sheets, whose accounts are kept, and behind them those of the sheet at hand.
+-- The lines are those of sheets with these accounts, followed by those of the current sheet.
 pub record AtHand (n : ℕ) (replay : Option Rerun) (accounts : List Account) (ls : List AuditLine) : Type 0 where
   pub before : List AuditLine
   pub sheets : List Sheet
@@ -78,13 +80,13 @@ pub record AtHand (n : ℕ) (replay : Option Rerun) (accounts : List Account) (l
   pub steps : List Draft
   pub stands : SheetStands me n (length before + 2) rerun account own steps
 
--- nothing has come, or a sheet is at hand
+-- no line was read, or a sheet is current
 abbrev pub Replayed : ℕ → Progress → Option Rerun → List Account → List AuditLine → Type 0
 Replayed n Before replay accounts ls = (ls ≡ []) × (accounts ≡ [])
 Replayed n Finding replay accounts ls = AtHand n replay accounts ls
 Replayed n Running replay accounts ls = AtHand n replay accounts ls
 
--- what is known of the lines: all sheets are replayed, or one holds a bad log
+-- the known facts of the lines: all sheets are replayed, or one has a bad log
 abbrev pub IsKnown : ℕ → Option BadLog → Progress → Option Rerun → List Account → List AuditLine → Type 0
 IsKnown n None progress replay accounts ls = Replayed n progress replay accounts ls
 IsKnown n (Some bad) progress replay accounts ls = HoldBadLog n ls bad.entry bad.why

@@ -1,4 +1,4 @@
--- What becomes of an audit at a line, and at the end.
+-- The effect of a line, and of the end, on an audit.
 use Rattle.std.specs.Prelude.{◌≡◌, ℕ, List, [], ◌∷◌, ◌++◌, Some}
 use Rattle.crsm_law_sheets.specs.Sheets.{Sheet}
 use Rattle.crsm_audit.specs.Accounts.{AccountsStand}
@@ -17,7 +17,7 @@ pub record AllDone (n : ℕ) (accounts : List Account) (ls : List AuditLine) : T
   pub are : AreSheetsOf n (sheets_in ls) sheets
   pub stand : AccountsStand n accounts sheets
 
--- Where the old audit stands behind these lines and the line may follow, the new one knows what it is to know with the line.
+-- If the old audit stands for these lines and the line may follow, the new one stands for these lines with it.
 unfoldable pub TakesBehind : List AuditLine → Audit → AuditLine → Audit → Type 0
 TakesBehind ls old line new =
     (p : Progress) → StandsBehind old ls → follows old.progress line ≡ Some p → IsKnown new.n new.bad p new.rerun new.accounts.items (ls ++ line ∷ [])

@@ -12,7 +12,7 @@ row name numbers = named name numbers ++ 10 ∷ []
 abbrev pub place_text : ℕ → ExecutedEntry → List ℕ
 place_text at p = row (codes "place") (at ∷ p.epoch ∷ p.stamp.time ∷ p.stamp.origin ∷ p.client ∷ p.number ∷ [])
 
--- entries, the first of which has this place
+-- entries, of which the first has this index
 unfoldable pub places_text : ℕ → List ExecutedEntry → List ℕ
 places_text at [] = []
 places_text at (p ∷ places) = place_text at p ++ places_text (at + 1) places

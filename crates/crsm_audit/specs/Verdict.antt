@@ -1,4 +1,4 @@
--- What a verdict says of sheets.
+-- The relation of a verdict to the sheets.
 use Rattle.std.specs.Prelude.{◌≡◌, ℕ, List}
 use Rattle.crsm_law_sheets.specs.Sheets.{Sheet, one_list}
 use Rattle.crsm_law_sheets.specs.Verdicts.{Agree, AreInOne, IsDropped, IsOddList, IsStranger, NoStranger}

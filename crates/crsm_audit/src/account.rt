@@ -1,4 +1,4 @@
-//! What is kept of one sheet.
+//! The account of one sheet.
 
 ghost use Rattle.std.specs.Prelude.{◌<◌};
 
@@ -6,8 +6,8 @@ use crate::place::Dropped;
 use crsm_base::Bodies;
 use std::alloc::Global;
 
-/// What is kept of the sheet of one node: its executed list, the entries that it logged under its own number, each as its
-/// bytes, and the commands that it called dropped.
+/// The account of one node's sheet: the list of executed entries, the entries that the node logged under its own
+/// number, both encoded, and the commands that it reported as dropped.
 #[derive(Drop)]
 pub struct Account {
     pub(crate) alloc: Global,

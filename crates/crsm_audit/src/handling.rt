@@ -1,4 +1,4 @@
-//! The lines of an audit: each sheet is replayed, and an account is kept of it.
+//! The lines of an audit: each sheet is replayed, and has an account.
 
 ghost use Rattle.std.specs.Prelude.{◌≡◌, ◌<◌, ◌≤◌, ◌+◌, ◌++◌, ◌∷◌, [], List, IfErr, IfOk, MatchOption, OnOk, None, length};
 ghost use Rattle.crsm_audit.specs.Handled.{StandsBehind, StopsEnd, StopsLine, StopsUnread};
@@ -20,7 +20,7 @@ use crsm_replica_rerun::{Rerun, RerunError};
 use crsm_text_sheet::{LineError, SheetLine};
 use std::alloc::Global;
 
-/// The line that a text spells.
+/// Parses a line of an audit. `Unreadable` if it is outside the grammar.
 fn line_of(alloc: Global, text: &[u8]) -> Result<AuditLine, Stop<SheetCause>>
     ensures found { IfOk result (λ line. FitsLine line × (text.now ≡ line_text line)) }
     ensures one { (line : Spelt) → FitsLine line → text.now ≡ line_text line → IfOk result (λ read. read ≡ line) }
@@ -33,18 +33,18 @@ fn line_of(alloc: Global, text: &[u8]) -> Result<AuditLine, Stop<SheetCause>>
     }
 }
 
-/// Takes the last account out.
+/// Removes and returns the last account.
 fn pop_account(accounts: &mut Vec<Account>) -> Option<Account>
     ensures { MatchOption result (accounts.old.items ≡ []) (λ a. accounts.old.items ≡ accounts.new.items ++ a ∷ []) }
 {
     accounts.pop()
 }
 
-/// Lets a value go, in a function of its own, which keeps the cases of the value out of its caller's proof.
+/// Drops a value in its own function, which keeps its cases out of its caller's proof.
 fn discard<T: Drop>(_value: T) {}
 
 impl Audit {
-    /// The sheets of a cluster that began with `n`, before the first line.
+    /// Returns the audit of a cluster that began with `n`, before the first line.
     pub(crate) fn new(alloc: Global, n: u32) -> Audit
         requires some { 1 ≤ n }
         requires few { n ≤ 15 }
@@ -61,7 +61,7 @@ impl Audit {
         }
     }
 
-    /// The sheet of node `me` begins behind the line with this number.
+    /// Begins the sheet of node `me` after the line with number `at`.
     fn begin(&mut self, at: u64, me: u32) -> Result<(), Stop<SheetCause>>
         requires { me < 15 }
         ensures ok { (ls : List Spelt) → at ≡ length ls + 1 → AllDone self.old.n self.old.accounts.items ls
@@ -79,7 +79,7 @@ impl Audit {
         Ok(())
     }
 
-    /// Replays a line of the sheet at hand.
+    /// Replays a line of the current sheet.
     fn replay(&mut self, line: &SheetLine) -> Result<(), Stop<SheetCause>>
         ensures ok { self.old.bad ≡ None → (ls : List Spelt) → OnOk result (TakesBehind ls self.old (Spelt.Sheet line.now) self.new) }
         ensures err { IfErr result (λ stop. stop ≡ Stop.NoMemory) }
@@ -123,7 +123,7 @@ impl Audit {
         }
     }
 
-    /// Takes the line with this number, if it may follow those before it.
+    /// Adds the line with this number if it may follow those before it, else refuses it.
     fn take(&mut self, at: u64, line: &AuditLine) -> Result<(), Stop<SheetCause>>
         requires { FitsLine line.now }
         ensures ok { (ls : List Spelt) → at ≡ length ls + 1 → StandsBehind self.old ls
@@ -139,7 +139,7 @@ impl Audit {
         Ok(())
     }
 
-    /// Adds the text of what the sheets come to, if the lines are an audit and no log is bad.
+    /// Appends the text of the verdict, if the lines are an audit and no log is bad.
     fn conclude(&self, text: &mut Bytes) -> Result<(), Stop<SheetCause>>
         ensures ok { (ls : List Spelt) → StandsBehind self.now ls → OnOk result (EndsWith self.now.n ls text.old text.new) }
         ensures err { (ls : List Spelt) → StandsBehind self.now ls → IfErr result (λ stop. StopsEnd self.now.n ls stop) }

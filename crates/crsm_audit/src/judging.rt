@@ -19,7 +19,7 @@ use crsm_codec::one_spelling_each;
 use crsm_law_sheets::{entries_stand_in_order, one_list_rises};
 use std::alloc::Global;
 
-/// The longer of two lists, the first where they are equally long.
+/// Returns the longer of two lists, the first if they are equally long.
 #[tactic(auto, unfolding(crate::specs::Lists::longer))]
 fn longer<'a>(best: &'a Bodies, other: &'a Bodies) -> &'a Bodies
     ensures { result.now ≡ on_paper.longer best.now other.now }
@@ -31,7 +31,8 @@ fn longer<'a>(best: &'a Bodies, other: &'a Bodies) -> &'a Bodies
     }
 }
 
-/// The longest list of the accounts, the first among equals. None is longer than the given one at first, which is empty.
+/// Returns the longest list of the accounts, the first among equals, or the empty list `none` if there is no longer
+/// one.
 fn longest<'a>(accounts: &'a [Account], none: &'a Bodies) -> &'a Bodies
     requires { none.now ≡ [] }
     ensures { result.now ≡ longest_of accounts.now }
@@ -43,7 +44,7 @@ fn longest<'a>(accounts: &'a [Account], none: &'a Bodies) -> &'a Bodies
     best
 }
 
-/// The first account whose list is not within the one list, and where it differs.
+/// Returns the first account whose list is not a prefix of `one`, and the index where it differs, or `None`.
 fn odd_list(accounts: &[Account], one: &Bodies) -> Option<(usize, usize)>
     ensures found { IfSome result (λ odd. IsOdd accounts.now one.now odd.0 odd.1) }
     ensures none { IfNone result (AreWithin accounts.now one.now) }
@@ -56,7 +57,7 @@ fn odd_list(accounts: &[Account], one: &Bodies) -> Option<(usize, usize)>
     None
 }
 
-/// The first place of the one list whose entry its origin never logged.
+/// Returns the first index of `one` whose entry was never logged by its origin, or `None`.
 fn stranger(accounts: &[Account], one: &Bodies, places: &[ExecutedEntry]) -> Option<usize>
     ensures found { IfSome result (IsFirstStrange accounts.now one.now places.now) }
     ensures none { IfNone result ((p : ℕ) → StrangeAt accounts.now one.now places.now p → ⊥) }
@@ -70,7 +71,7 @@ fn stranger(accounts: &[Account], one: &Bodies, places: &[ExecutedEntry]) -> Opt
     None
 }
 
-/// The line of the first command that an account calls dropped and that is named.
+/// Returns the input line of the account's first command reported as dropped that is among the entries, or `None`.
 fn first_named(account: &Account, places: &[ExecutedEntry]) -> Option<u64>
     ensures found { IsAscending places.now → IfSome result (IsFirstNamed places.now account.now.dropped.items) }
     ensures none { IsAscending places.now → IfNone result (NoneNamed places.now account.now.dropped.items) }
@@ -83,7 +84,7 @@ fn first_named(account: &Account, places: &[ExecutedEntry]) -> Option<u64>
     None
 }
 
-/// The first account that calls an entry of the one list dropped, and at which line.
+/// Returns the first account that reported an entry of the list as dropped, and the input line, or `None`.
 fn first_dropped(accounts: &[Account], places: &[ExecutedEntry]) -> Option<(usize, u64)>
     ensures found { IsAscending places.now → IfSome result (λ first. IsFirstDropped accounts.now places.now first.0 first.1) }
     ensures none { IsAscending places.now → IfNone result (NoneDropped accounts.now places.now) }
@@ -96,7 +97,7 @@ fn first_dropped(accounts: &[Account], places: &[ExecutedEntry]) -> Option<(usiz
     None
 }
 
-/// What sheets with these accounts come to.
+/// Returns the verdict on sheets with these accounts. `NoMemory` if memory runs out.
 pub fn judge(alloc: Global, accounts: &[Account]) -> Result<Verdict, NoMemory>
     ensures { (n : ℕ) (sheets : List Sheet) → AccountsStand n accounts.now sheets → IfOk result (IsVerdict n sheets) }
 {

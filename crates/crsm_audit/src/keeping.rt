@@ -1,4 +1,4 @@
-//! How the account of a sheet is kept, line by line.
+//! Recording of the account of a sheet, line by line.
 
 ghost use Rattle.std.specs.Prelude.{◌≡◌, ◌<◌, ◌∷◌, ◌++◌, ℕ, [], List, Some, OnOk, slice_get};
 ghost use Rattle.std.specs.List.{AllByRecursion};
@@ -19,7 +19,7 @@ use crsm_replica_output::Batch;
 use std::alloc::Global;
 
 impl Account {
-    /// The account of a sheet of node `me` that has no line yet.
+    /// Returns the account of a sheet of node `me` before its first line.
     pub fn new(alloc: Global, me: u32) -> Account
         requires { me < 15 }
         ensures me { result.me ≡ me }
@@ -36,7 +36,8 @@ impl Account {
         }
     }
 
-    /// A body of the log was found. One that is no list of records is left to the replica that boots on it.
+    /// Adds the node's own entries in a body of the log. A body that is not a list of records is left to the replica
+    /// that boots on it. `NoMemory` if memory runs out.
     pub fn find(&mut self, body: &[u8]) -> Result<(), NoMemory>
         ensures held { (recs : List Rec) → SpeltBody recs body.now → OnOk result (self.new.held ≡ self.old.held ++ spelt (own_in self.old.me recs)) }
         ensures me { self.new.me ≡ self.old.me }
@@ -49,7 +50,8 @@ impl Account {
         self.hold_all(recs.as_slice())
     }
 
-    /// The replica made this at the line with this number, and its log says this now.
+    /// Adds the replica's output at the input line `at`, after which its ledger is `ledger`. `NoMemory` if memory runs
+    /// out.
     pub fn take(&mut self, at: u64, batch: &Batch, ledger: &Ledger) -> Result<(), NoMemory>
         requires { AllByRecursion FitsRec batch.now.records }
         ensures held { OnOk result (self.new.held ≡ self.old.held ++ spelt (own_in self.old.me batch.now.records)) }
@@ -63,7 +65,7 @@ impl Account {
         self.follow(ledger)
     }
 
-    /// Holds the entry, if it is the node's own.
+    /// Adds the entry if it is the node's own.
     fn hold_entry(&mut self, entry: &Entry) -> Result<(), NoMemory>
         requires { FitsEntry entry.now }
         ensures held { OnOk result (self.new.held ≡ self.old.held ++ spelt (own_of self.old.me (Rec.Prepare entry.now))) }
@@ -77,7 +79,7 @@ impl Account {
         self.held.push(bytes.as_slice())
     }
 
-    /// Holds the own entries of records.
+    /// Adds the own entries of records.
     fn hold_all(&mut self, recs: &[Rec]) -> Result<(), NoMemory>
         requires { AllByRecursion FitsRec recs.now }
         ensures held { OnOk result (self.new.held ≡ self.old.held ++ spelt (own_in self.old.me recs.now)) }
@@ -89,7 +91,7 @@ impl Account {
         Ok(())
     }
 
-    /// Holds the own entry of a record.
+    /// Adds the own entry of a record.
     fn hold(&mut self, rec: &Rec) -> Result<(), NoMemory>
         requires { FitsRec rec.now }
         ensures held { OnOk result (self.new.held ≡ self.old.held ++ spelt (own_of self.old.me rec.now)) }
@@ -101,7 +103,7 @@ impl Account {
         }
     }
 
-    /// Notes which commands these lines call dropped.
+    /// Adds the commands that these lines report as dropped.
     fn note_dropped(&mut self, at: u64, lines: &[Line]) -> Result<(), NoMemory>
         ensures dropped { OnOk result (self.new.dropped.items ≡ self.old.dropped.items ++ dropped_in at lines.now) }
         ensures same { (self.new.me ≡ self.old.me) × (self.new.list ≡ self.old.list) × (self.new.held ≡ self.old.held) }
@@ -112,7 +114,7 @@ impl Account {
         Ok(())
     }
 
-    /// Notes what a line calls dropped.
+    /// Adds the command that a line reports as dropped.
     fn note(&mut self, at: u64, line: &Line) -> Result<(), NoMemory>
         ensures dropped { OnOk result (self.new.dropped.items ≡ self.old.dropped.items ++ dropped_of at line.now) }
         ensures same { (self.new.me ≡ self.old.me) × (self.new.list ≡ self.old.list) × (self.new.held ≡ self.old.held) }
@@ -128,7 +130,7 @@ impl Account {
         Ok(())
     }
 
-    /// Adds what was executed since the last time.
+    /// Adds the entries executed since the last line.
     fn follow(&mut self, ledger: &Ledger) -> Result<(), NoMemory>
         ensures list { (me n : ℕ) (log : Log) (es : List Entry) → LedgerStands me n ledger.now log → IsPrefixOf es (executed log) → self.old.list ≡ spelt es
             → OnOk result (self.new.list ≡ spelt (executed log)) }
@@ -140,7 +142,7 @@ impl Account {
         Ok(())
     }
 
-    /// Adds the entry that was executed at this place.
+    /// Adds the executed entry with this index.
     fn add_executed(&mut self, ledger: &Ledger, place: u64) -> Result<(), NoMemory>
         ensures list { (me n : ℕ) (log : Log) (e : Entry) → LedgerStands me n ledger.now log → slice_get (executed log) place ≡ Some e
             → OnOk result (self.new.list ≡ self.old.list ++ entry_bytes e ∷ []) }

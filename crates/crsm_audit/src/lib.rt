@@ -1,5 +1,5 @@
-//! The command `audit`: reads the sheets of several nodes of one cluster, keeps an account of each, and writes the verdict
-//! on them all.
+//! The command `audit`: it reads the sheets of several nodes of one cluster, makes an account of each, and writes the
+//! verdict on all of them.
 #![tactic(auto)]
 
 mod account;

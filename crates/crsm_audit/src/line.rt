@@ -1,4 +1,4 @@
-//! The lines of an audit, and which may follow which.
+//! The lines of an audit, and their order.
 
 ghost use Rattle.std.specs.Prelude.{◌≡◌, ◌<◌, IfOk, IfSome, Some};
 ghost use Rattle.std.specs.Prelude.{ℕ, decimal};
@@ -11,27 +11,27 @@ use crsm_text::read_number;
 use crsm_text_sheet::{LineError, SheetLine, read_sheet};
 use std::alloc::Global;
 
-/// A line of the input.
+/// A line of an audit.
 #[derive(Drop)]
 pub(crate) enum AuditLine {
     /// The sheet of this node begins.
     Node { me: u32 },
-    /// A line of the sheet.
+    /// A line of the current sheet.
     Sheet { line: SheetLine },
 }
 
-/// How far the sheet at hand has come.
+/// The progress of the current sheet.
 #[derive(Clone, Copy, Debug, PartialEq, Eq)]
 pub(crate) enum Progress {
-    /// There is none yet.
+    /// No sheet has begun.
     Before,
-    /// Bodies of its log may come.
+    /// Bodies of its log may follow.
     Finding,
-    /// Its log was read to its end, and turns may come.
+    /// Its log was read to its end, and turns may follow.
     Running,
 }
 
-/// The number of a node.
+/// Parses the number of a node.
 fn node_of(word: &[u8]) -> Option<u32>
     ensures found { IfSome result (λ me. (me < 15) × (word.now ≡ decimal me)) }
     ensures only { (me : ℕ) → me < 15 → word.now ≡ decimal me → result ≡ Some me }
@@ -44,7 +44,7 @@ fn node_of(word: &[u8]) -> Option<u32>
     }
 }
 
-/// What a line says.
+/// Parses a line of an audit.
 pub(crate) fn read_line(alloc: Global, text: &[u8]) -> Result<AuditLine, LineError>
     ensures found { IfOk result (λ line. FitsLine line × (text.now ≡ line_text line)) }
     ensures only { (line : Spelt) → FitsLine line → text.now ≡ line_text line → ReadsAs result line }
@@ -59,7 +59,7 @@ pub(crate) fn read_line(alloc: Global, text: &[u8]) -> Result<AuditLine, LineErr
     Ok(AuditLine::Sheet { line })
 }
 
-/// How far a sheet has come behind a line of it: `None` exactly where no sheet has the line there.
+/// Returns the progress of a sheet after this line, or `None` if it cannot follow.
 fn behind(progress: Progress, line: &SheetLine) -> Option<Progress>
     ensures { result ≡ on_paper.behind progress line.now }
 {
@@ -73,7 +73,7 @@ fn behind(progress: Progress, line: &SheetLine) -> Option<Progress>
     }
 }
 
-/// How far the sheet at hand has come behind a line: `None` exactly where no audit has the line there.
+/// Returns the progress of the current sheet after this line, or `None` if it cannot follow.
 pub(crate) fn follows(progress: Progress, line: &AuditLine) -> Option<Progress>
     ensures { result ≡ on_paper.follows progress line.now }
 {

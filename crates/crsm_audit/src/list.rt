@@ -1,4 +1,4 @@
-//! Lists of entries, each as its bytes.
+//! Lists of encoded entries.
 
 ghost use Rattle.std.specs.Prelude.{◌≡◌, ◌≢◌, ◌≤◌, ℕ, false, IsTrue, List, Some, IfOk, IfSome, IfNone, slice_get};
 ghost use Rattle.std.specs.List.{AllByRecursion};
@@ -13,7 +13,7 @@ use crsm_base::{Bodies, Entry, NoMemory, never};
 use crsm_codec::read_entry;
 use std::alloc::Global;
 
-/// Whether the list has these bytes at this place.
+/// Returns whether the list has these bytes at this index.
 pub(crate) fn has_at(list: &Bodies, place: usize, bytes: &[u8]) -> bool
     ensures yes { IsTrue result → slice_get list.now place ≡ Some bytes.now }
     ensures no { result ≡ false → slice_get list.now place ≢ Some bytes.now }
@@ -24,7 +24,8 @@ pub(crate) fn has_at(list: &Bodies, place: usize, bytes: &[u8]) -> bool
     }
 }
 
-/// The first place at which a list has an entry that the other has not there.
+/// Returns the first index at which the other list does not have the list's entry, or `None` if the list is a prefix of
+/// the other.
 pub(crate) fn first_difference(list: &Bodies, one: &Bodies) -> Option<usize>
     ensures found { IfSome result (Differs list.now one.now) }
     ensures none { IfNone result (IsWithin list.now one.now) }
@@ -40,7 +41,7 @@ pub(crate) fn first_difference(list: &Bodies, one: &Bodies) -> Option<usize>
     None
 }
 
-/// A place from this one on at which the list has these bytes.
+/// Returns an index not below `from` at which the list has these bytes, or `None`.
 fn find_from(list: &Bodies, from: usize, bytes: &[u8]) -> Option<usize>
     ensures found { IfSome result (λ p. slice_get list.now p ≡ Some bytes.now) }
     ensures none { IfNone result ((p : ℕ) → from ≤ p → slice_get list.now p ≢ Some bytes.now) }
@@ -53,7 +54,8 @@ fn find_from(list: &Bodies, from: usize, bytes: &[u8]) -> Option<usize>
     None
 }
 
-/// A place at which the list has these bytes; it is looked for from this place on, and then from the beginning.
+/// Returns an index at which the list has these bytes, or `None`. The search starts at `from`, and continues from the
+/// beginning.
 pub(crate) fn find(list: &Bodies, from: usize, bytes: &[u8]) -> Option<usize>
     ensures found { IfSome result (λ p. slice_get list.now p ≡ Some bytes.now) }
     ensures none { IfNone result ((p : ℕ) → slice_get list.now p ≢ Some bytes.now) }
@@ -64,7 +66,7 @@ pub(crate) fn find(list: &Bodies, from: usize, bytes: &[u8]) -> Option<usize>
     }
 }
 
-/// The name of an entry.
+/// Returns the identity of an entry.
 fn name_of(entry: &Entry) -> ExecutedEntry
     ensures { result ≡ on_paper.place_of entry.now }
 {
@@ -76,10 +78,10 @@ fn name_of(entry: &Entry) -> ExecutedEntry
     }
 }
 
-/// Lets a value go, in a function of its own, which keeps the cases of the value out of its caller's proof.
+/// Drops a value in its own function, which keeps its cases out of its caller's proof.
 fn discard<T: Drop>(_value: T) {}
 
-/// The name of an entry with these bytes.
+/// Returns the identity of an encoded entry.
 fn place_of(alloc: Global, bytes: &[u8]) -> Result<ExecutedEntry, NoMemory>
     ensures { (e : Entry) → FitsEntry e → bytes.now ≡ entry_bytes e → IfOk result (λ place. place ≡ on_paper.place_of e) }
 {
@@ -91,7 +93,7 @@ fn place_of(alloc: Global, bytes: &[u8]) -> Result<ExecutedEntry, NoMemory>
     Ok(place)
 }
 
-/// The names of a list's entries.
+/// Returns the identities of a list's entries. `NoMemory` if memory runs out.
 pub(crate) fn places_of(alloc: Global, list: &Bodies) -> Result<Vec<ExecutedEntry>, NoMemory>
     ensures { (es : List Entry) → AllByRecursion FitsEntry es → list.now ≡ spelt es → IfOk result (λ places. places.items ≡ on_paper.places_of es) }
 {

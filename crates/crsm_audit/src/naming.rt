@@ -1,4 +1,4 @@
-//! Whether entries have a name.
+//! The search for a dropped command among executed entries.
 
 ghost use Rattle.std.specs.Prelude.{◌≡◌, ◌<◌, ◌≤◌, ◌-◌, false, IsTrue, length};
 ghost use Rattle.crsm_audit.specs.Judging.{IsNamed};
@@ -6,7 +6,7 @@ ghost use Rattle.crsm_audit.specs.Lists.{IsAscending, IsBeforeName, IsBetween};
 
 use crate::place::{Dropped, ExecutedEntry};
 
-/// Whether the entry is before this name: by epoch, then by stamp.
+/// Returns whether the entry is before this name: by epoch, then by stamp.
 fn is_before(place: &ExecutedEntry, name: &Dropped) -> bool
     ensures yes { IsTrue result → IsBeforeName place.now.epoch place.now.stamp name.now.epoch name.now.stamp }
     ensures no { result ≡ false → IsBeforeName place.now.epoch place.now.stamp name.now.epoch name.now.stamp → ⊥ }
@@ -20,7 +20,7 @@ fn is_before(place: &ExecutedEntry, name: &Dropped) -> bool
     place.stamp.origin < name.stamp.origin
 }
 
-/// Whether the entry has this name.
+/// Returns whether the entry has this name.
 fn has_name(place: &ExecutedEntry, name: &Dropped) -> bool
     ensures yes { IsTrue result → (place.now.epoch ≡ name.now.epoch) × (place.now.stamp ≡ name.now.stamp) }
     ensures no { result ≡ false → place.now.epoch ≡ name.now.epoch → place.now.stamp ≡ name.now.stamp → ⊥ }
@@ -28,7 +28,7 @@ fn has_name(place: &ExecutedEntry, name: &Dropped) -> bool
     place.epoch == name.epoch && place.stamp == name.stamp
 }
 
-/// Half of the places between two, where the name still is if it is anywhere.
+/// Returns the half of `low..high` that can still hold the name: one step of binary search.
 fn halve(places: &[ExecutedEntry], name: &Dropped, low: usize, high: usize) -> (usize, usize)
     requires some { low < high }
     requires within { high ≤ length places.now }
@@ -43,7 +43,7 @@ fn halve(places: &[ExecutedEntry], name: &Dropped, low: usize, high: usize) -> (
     (low, middle)
 }
 
-/// Whether one of the places, which ascend, has this name.
+/// Returns whether one of the entries, which ascend, has this name.
 pub(crate) fn is_named(places: &[ExecutedEntry], name: &Dropped) -> bool
     ensures yes { IsTrue result → IsNamed places.now name.now }
     ensures no { IsAscending places.now → result ≡ false → IsNamed places.now name.now → ⊥ }

@@ -1,4 +1,4 @@
-//! What each node has logged, by its last sheet.
+//! The entries that each node has logged, by its last sheet.
 
 ghost use Rattle.std.specs.Prelude.{◌≡◌, ◌<◌, false, IsTrue, IfSome, IfNone};
 ghost use Rattle.crsm_audit.specs.Judging.{HasNever, HasNeverAt, IsLast, IsOfNone, OriginsStand};
@@ -8,14 +8,14 @@ use crate::list::find;
 use crate::place::ExecutedEntry;
 use crsm_base::Bodies;
 
-/// The last sheet of each node, and how far it was looked through.
+/// The last sheet of each node, and the index from which it is searched next.
 #[derive(Drop)]
 pub(crate) struct Origins {
     last: [Option<usize>; 15],
     seen: [usize; 15],
 }
 
-/// The last sheet of a node.
+/// Returns the index of a node's last sheet, or `None` if it has none.
 fn last_of(accounts: &[Account], node: u32) -> Option<usize>
     ensures found { IfSome result (IsLast accounts.now node) }
     ensures none { IfNone result (IsOfNone accounts.now node) }
@@ -31,7 +31,7 @@ fn last_of(accounts: &[Account], node: u32) -> Option<usize>
 }
 
 impl Origins {
-    /// The last sheet of each node.
+    /// Returns the last sheet of each node.
     pub(crate) fn new(accounts: &[Account]) -> Origins
         ensures { OriginsStand accounts.now result }
     {
@@ -45,8 +45,8 @@ impl Origins {
         }
     }
 
-    /// Whether this node has a sheet, and never logged these bytes by its last one. Entries stand in the order in which they are
-    /// asked for, so each is looked for after the one before it.
+    /// Returns whether this node has a sheet, and never logged these bytes according to its last one. Entries are
+    /// searched in ascending order, so each search starts after the last found.
     pub(crate) fn is_strange(&mut self, accounts: &[Account], node: u32, bytes: &[u8]) -> bool
         ensures yes { OriginsStand accounts.now self.old → IsTrue result → HasNever accounts.now node bytes.now }
         ensures no { OriginsStand accounts.now self.old → result ≡ false → HasNever accounts.now node bytes.now → ⊥ }
@@ -70,7 +70,8 @@ impl Origins {
         }
     }
 
-    /// Whether the node of the entry at this place has a sheet, and never logged the entry by its last one.
+    /// Returns whether the node of the entry with this index has a sheet, and never logged the entry according to its
+    /// last one.
     pub(crate) fn is_strange_at(
         &mut self,
         accounts: &[Account],

@@ -1,8 +1,8 @@
-//! Entries by their names.
+//! The identities of entries.
 
 use crsm_base::Stamp;
 
-/// An entry of an executed list, by its name and its command's.
+/// The identity of an executed entry: its epoch and stamp, with the client and number of its command.
 #[derive(Clone, Copy, Debug, PartialEq, Eq)]
 pub struct ExecutedEntry {
     pub epoch: u64,
@@ -11,7 +11,7 @@ pub struct ExecutedEntry {
     pub number: u64,
 }
 
-/// At this line of the input a client is told that the entry of this name was dropped.
+/// A reply in the input that an entry was dropped: its line number, and the entry's epoch and stamp.
 #[derive(Clone, Copy, Debug, PartialEq, Eq)]
 pub struct Dropped {
     pub line: u64,

@@ -1,4 +1,4 @@
-//! One sheet: each line is replayed, and what the replica makes at it is added to the account.
+//! One sheet: each line is replayed, and the replica's output is added to the account.
 
 ghost use Rattle.std.specs.Prelude.{◌<◌, ◌^◌, ◌-◌, ℕ, List, IfErr, OnOk};
 ghost use Rattle.crsm_replica_rerun.specs.Replaying.{next_of};
@@ -12,7 +12,7 @@ use crsm_law_sheets::executed_lists_grow;
 use crsm_replica_rerun::{Rerun, RerunError};
 use crsm_text_sheet::SheetLine;
 
-/// Takes a line of a sheet. After an error neither the replay nor the account is of use any more.
+/// Takes a line of a sheet. After an error neither the replay nor the account can be used.
 pub(crate) fn advance(
     rerun: &mut Rerun,
     account: &mut Account,
@@ -32,7 +32,7 @@ pub(crate) fn advance(
         account.find(bytes.as_slice())?;
         return Ok(());
     }
-    // Behind a line that is no body the replica has a log.
+    // After a line that is not a body the replica has a log.
     let Some(ledger) = rerun.ledger() else {
         return Err(RerunError::from(never()));
     };

@@ -1,4 +1,4 @@
-//! What is kept of an audit.
+//! The state of an audit.
 
 ghost use Rattle.std.specs.Prelude.{◌≤◌};
 
@@ -7,14 +7,14 @@ use crate::line::Progress;
 use crsm_replica_rerun::Rerun;
 use std::alloc::Global;
 
-/// A log that is bad: this body of it, and why.
+/// The first bad body of a log, numbered from 0, and the reason.
 #[derive(Clone, Copy, Debug, PartialEq, Eq)]
 pub(crate) struct BadLog {
     pub(crate) entry: u64,
     pub(crate) why: u32,
 }
 
-/// Sheets that are audited. Once a log was bad, the lines behind it are only read.
+/// The state of an audit. Once a log was bad, later lines are only parsed.
 #[derive(Drop)]
 pub(crate) struct Audit {
     pub(crate) alloc: Global,

@@ -7,7 +7,7 @@ use crate::{ExecutedEntry, Verdict};
 use crsm_base::{Bytes, NoMemory};
 use crsm_text::push_named;
 
-/// Adds a line of a word and numbers.
+/// Appends a line of a word and numbers. `NoMemory` if memory runs out.
 fn push_row(out: &mut Bytes, name: &[u8], values: &[u64]) -> Result<(), NoMemory>
     ensures { OnOk result (out.new ≡ out.old ++ row name.now values.now) }
 {
@@ -15,7 +15,7 @@ fn push_row(out: &mut Bytes, name: &[u8], values: &[u64]) -> Result<(), NoMemory
     out.push(b'\n')
 }
 
-/// Adds the line of an entry at a place.
+/// Appends the line of the entry with index `at`. `NoMemory` if memory runs out.
 fn push_place(out: &mut Bytes, at: u64, place: &ExecutedEntry) -> Result<(), NoMemory>
     ensures { OnOk result (out.new ≡ out.old ++ place_text at place.now) }
 {
@@ -25,7 +25,7 @@ fn push_place(out: &mut Bytes, at: u64, place: &ExecutedEntry) -> Result<(), NoM
     push_row(out, b"place", &values)
 }
 
-/// Adds the lines of entries, from place 0 on.
+/// Appends the lines of entries, from index 0 on. `NoMemory` if memory runs out.
 fn push_places(out: &mut Bytes, places: &[ExecutedEntry]) -> Result<(), NoMemory>
     ensures { OnOk result (out.new ≡ out.old ++ places_text 0 places.now) }
 {
@@ -35,7 +35,7 @@ fn push_places(out: &mut Bytes, places: &[ExecutedEntry]) -> Result<(), NoMemory
     Ok(())
 }
 
-/// Adds the text of a verdict.
+/// Appends the text of a verdict. `NoMemory` if memory runs out.
 #[tactic(auto, unfolding(crate::specs::Texts::verdict_text))]
 pub(crate) fn push_verdict(out: &mut Bytes, verdict: &Verdict) -> Result<(), NoMemory>
     ensures { OnOk result (out.new ≡ out.old ++ verdict_text verdict.now) }

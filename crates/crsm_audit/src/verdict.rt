@@ -1,16 +1,17 @@
-//! The verdict.
+//! The verdict of an audit.
 
 use crate::place::ExecutedEntry;
 
-/// What sheets come to: the first of these that holds. Sheets and places are counted from 0.
+/// The verdict on sheets: the first of these cases that holds. Sheets and indices of entries are counted from 0.
 #[derive(Debug, Drop)]
 pub enum Verdict {
-    /// The executed list of this sheet is no prefix of the longest one: here they differ first.
+    /// The executed list of this sheet is not a prefix of the longest one: `place` is the first index at which they
+    /// differ.
     List { sheet: u64, place: u64 },
-    /// The longest list has an entry here that its origin never logged, by the origin's last sheet.
+    /// The longest list has an entry at this index that its origin never logged, according to the origin's last sheet.
     Stranger { place: u64 },
-    /// At this line of this sheet a client is told that a command was dropped which the longest list has.
+    /// A reply at this line of this sheet reports a command as dropped that the longest list has.
     Dropped { sheet: u64, line: u64 },
-    /// They agree with the longest list.
+    /// All sheets agree with the longest list, which has these entries.
     Agree { places: Vec<ExecutedEntry> },
 }

@@ -1,11 +1,11 @@
--- What asking comes to, call by call.
+-- The result of a request, call by call.
 use Rattle.std.proofs.Common.{◌≡◌, ℕ, ◌+◌, ◌<◌, List, [], ◌∷◌, ◌++◌, Some, None, Result, Ok, Err, IsErrAnd, refl, sym, ap, subst, inl, inr, arith}
 use Rattle.std.specs.List.{AllByRecursion}
 use Rattle.crsm_base.specs.declared.Command.{Command}
 use Rattle.crsm_base.specs.declared.Outcome.{Outcome}
 use Rattle.crsm_port_faults.specs.Counts.{Rose}
 use Rattle.crsm_port.specs.Cluster.{over}
-use Rattle.crsm_port.specs.Meaning.{Coat, Meaning, Packet}
+use Rattle.crsm_port.specs.Meaning.{Framing, Meaning, Packet}
 use Rattle.crsm_client.specs.Asking.{Asks, IsOther, IsPaced, request_to}
 use Rattle.crsm_client.specs.Exchange.{Exchange, Exchanges, IsLater, IsQuiet, turns_in}
 use Rattle.crsm_client.specs.Turns.{BringsReply, ReceivesOnce, SendsRequests, due, requests}
@@ -24,26 +24,26 @@ same_quiet m = record { faults = refl; losses = refl }
 later_on : (a b c : Meaning) → IsQuiet a b → IsLater b c → IsLater a c
 later_on a b c q l = let f = l.faults in let g = l.losses in record { faults = omega (arith, q.faults, f); losses = omega (arith, q.losses, g) }
 
--- the second exchange is over a port whose coat is that of the first
-on_first : (cluster : ℕ) (request : Packet) (x : Exchange) (a b c : Meaning) → b.coat ≡ a.coat → Exchanges (over cluster b.coat) request x b c → Exchanges (over cluster a.coat) request x b c
-on_first cluster request x a b c same e = let P : Coat → Type 0 = λ k. Exchanges (over cluster k) request x b c in subst P same e
+-- the second exchange is over a port whose framing is that of the first
+on_first : (cluster : ℕ) (request : Packet) (x : Exchange) (a b c : Meaning) → b.framing ≡ a.framing → Exchanges (over cluster b.framing) request x b c → Exchanges (over cluster a.framing) request x b c
+on_first cluster request x a b c same e = let P : Framing → Type 0 = λ k. Exchanges (over cluster k) request x b c in subst P same e
 
 module _ (cluster to : ℕ) (command : Command) (resend : ℕ) where
-  -- no reply in so many turns
+  -- no reply in this number of turns
   abbrev pub SoFar : ℕ → Meaning → Meaning → Type 0
   SoFar turns old new = Asks cluster to command turns resend old new (Err NoAnswer)
 
   -- and the request went out, where it was due
   pub record Sent (turn : ℕ) (old new : Meaning) : Type 0 where
     pub exchange : Exchange
-    pub exchanges : Exchanges (over cluster old.coat) (request_to to command) exchange old new
+    pub exchanges : Exchanges (over cluster old.framing) (request_to to command) exchange old new
     pub none : AllByRecursion (IsOther to command) exchange.received
     pub over_turns : turns_in exchange ≡ turn
     pub paced : IsPaced resend (turn + 1) exchange.requests
     pub quiet : IsQuiet old new
 
-  nothing : (m : Meaning) → Exchanges (over cluster m.coat) (request_to to command) (requests 0) m m
-  nothing m = none_exchanged (over cluster m.coat) (request_to to command) m m refl refl refl refl
+  nothing : (m : Meaning) → Exchanges (over cluster m.framing) (request_to to command) (requests 0) m m
+  nothing m = none_exchanged (over cluster m.framing) (request_to to command) m m refl refl refl refl
 
   pub begins : (m : Meaning) → SoFar 0 m m
   begins m = record {
@@ -74,8 +74,8 @@ module _ (cluster to : ℕ) (command : Command) (resend : ℕ) where
     pub sent : (x : T) → 0 < resend → SendsRequests (due resend turn) cluster (request_to to command) now new (Ok x) → Sent turn old new
     sent x some s = record {
       exchange = record a.exchange { requests = a.exchange.requests + due resend turn };
-      exchanges = with_requests (over cluster old.coat) (request_to to command) (due resend turn) a.exchange old now new a.exchanges
-          (on_first cluster (request_to to command) (requests (due resend turn)) old now new a.exchanges.same_coat s.0);
+      exchanges = with_requests (over cluster old.framing) (request_to to command) (due resend turn) a.exchange old now new a.exchanges
+          (on_first cluster (request_to to command) (requests (due resend turn)) old now new a.exchanges.same_framing s.0);
       none = a.ended.none;
       over_turns = a.ended.over;
       paced = one_paced resend turn a.exchange.requests some a.ended.paced;
@@ -86,7 +86,7 @@ module _ (cluster to : ℕ) (command : Command) (resend : ℕ) where
     not_sent n turns NoAnswer within s = absurd s
     not_sent n turns PortFault within (x, rose, later) = record {
       exchange = a.exchange;
-      exchanges = with_none (over cluster old.coat) (request_to to command) a.exchange old now new a.exchanges (on_first cluster (request_to to command) (requests 0) old now new a.exchanges.same_coat x);
+      exchanges = with_none (over cluster old.framing) (request_to to command) a.exchange old now new a.exchanges (on_first cluster (request_to to command) (requests 0) old now new a.exchanges.same_framing x);
       ended = record {
         none = a.ended.none;
         within = omega (arith, a.ended.over);
@@ -96,7 +96,7 @@ module _ (cluster to : ℕ) (command : Command) (resend : ℕ) where
     }
     not_sent n turns NoMemory within (x, quiet) = record {
       exchange = a.exchange;
-      exchanges = with_none (over cluster old.coat) (request_to to command) a.exchange old now new a.exchanges (on_first cluster (request_to to command) (requests 0) old now new a.exchanges.same_coat x);
+      exchanges = with_none (over cluster old.framing) (request_to to command) a.exchange old now new a.exchanges (on_first cluster (request_to to command) (requests 0) old now new a.exchanges.same_framing x);
       ended = record {
         within = omega (arith, a.ended.over);
         paced = paced_at resend turn (turns_in a.exchange) a.exchange.requests a.exchange.requests (sym a.ended.over) refl a.ended.paced;
@@ -106,10 +106,10 @@ module _ (cluster to : ℕ) (command : Command) (resend : ℕ) where
 
   module _ (turn : ℕ) (old now new : Meaning) (a : Sent turn old now) where
     module _ (x : Exchange) (r : ReceivesOnce cluster x now new) where
-      received : Exchanges (over cluster old.coat) (request_to to command) (both a.exchange x) old new
+      received : Exchanges (over cluster old.framing) (request_to to command) (both a.exchange x) old new
       received =
-          goes_on (over cluster old.coat) (request_to to command) a.exchange x old now new a.exchanges
-          (on_first cluster (request_to to command) x old now new a.exchanges.same_coat (r.exchanges (request_to to command)))
+          goes_on (over cluster old.framing) (request_to to command) a.exchange x old now new a.exchanges
+          (on_first cluster (request_to to command) x old now new a.exchanges.same_framing (r.exchanges (request_to to command)))
 
       turns_are : turns_in (both a.exchange x) ≡ turn + 1
       turns_are = omega (arith, turns_in-both a.exchange x, r.once, a.over_turns)
@@ -149,8 +149,8 @@ module _ (cluster to : ℕ) (command : Command) (resend : ℕ) where
     fails turns NoAnswer within b = absurd b
     fails turns PortFault within (x, rose, later) = record {
       exchange = a.exchange;
-      exchanges = with_none (over cluster old.coat) (request_to to command) a.exchange old now new a.exchanges
-          (on_first cluster (request_to to command) (requests 0) old now new a.exchanges.same_coat (x (request_to to command)));
+      exchanges = with_none (over cluster old.framing) (request_to to command) a.exchange old now new a.exchanges
+          (on_first cluster (request_to to command) (requests 0) old now new a.exchanges.same_framing (x (request_to to command)));
       ended = record {
         none = a.none;
         within = omega (arith, a.over_turns);

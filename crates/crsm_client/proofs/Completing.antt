@@ -1,4 +1,4 @@
--- Where the reply was taken there is an answer, and only there.
+-- There is an answer if and only if the reply was received.
 use Rattle.std.proofs.Common.{◌≡◌, ◌∙◌, ℕ, List, [], ◌∷◌, ◌++◌, map, Result, Ok, Err, inl, inr, refl, sym, ap, subst}
 use Rattle.std.proofs.lemmas.List.{append_cancel_left}
 use Rattle.std.specs.List.{AllByRecursion}
@@ -40,7 +40,7 @@ module _ (cluster to : ℕ) (command : Command) (turns resend : ℕ) (old new : 
   complete (Err NoMemory) a t u is at took no_fault no_loss = tt
   complete (Err NoAnswer) a t u is at took no_fault no_loss =
       let moves = a.exchanges.moves t u is at in
-      let f : Packet → Packet = received_of (over cluster old.coat) in
+      let f : Packet → Packet = received_of (over cluster old.framing) in
       let same : moves.packets ≡ took.before ++ took.reply ∷ took.after = append_cancel_left t.taken moves.packets (took.before ++ took.reply ∷ took.after) (sym moves.taken ∙ took.taken) in
       let all = subst (λ (ds : List Packet). AllByRecursion (IsOther to command) ds) (moves.received_are ∙ ap (map f) same) a.ended.none in
       one_of (IsOther to command) f took.before took.after took.reply all took.outcome took.is_reply
@@ -53,7 +53,7 @@ module _ (cluster to : ℕ) (command : Command) (turns resend : ℕ) (old new : 
   unanswered (Ok outcome) a t u is at none no_fault no_loss =
       let moves = a.exchanges.moves t u is at in
       let reply = a.ended.reply in
-      let cut = split (received_of (over cluster old.coat)) moves.packets reply.others reply.reply (sym moves.received_are ∙ reply.received_are) in
+      let cut = split (received_of (over cluster old.framing)) moves.packets reply.others reply.reply (sym moves.received_are ∙ reply.received_are) in
       none (record {
         before = cut.before;
         reply = cut.at;

@@ -1,4 +1,4 @@
--- What stands behind a mark is what the cluster's port would hand up.
+-- The bytes after a mark are those that the cluster's port would return.
 use Rattle.std.proofs.Common.{◌≡◌, ◌∙◌, ℕ, zero, suc, ◌+◌, ◌≤◌, min, List, [], ◌++◌, length, take, drop, eqb, Bool, true, false, if◌then◌else◌, sym, ap, arith, length-take, length-drop}
 use Rattle.std.proofs.lemmas.List.{take_all, take_min, take_at}
 use Rattle.std.specs.List.{starts_with}

@@ -1,4 +1,4 @@
--- The requests that are due in one turn more.
+-- The requests that are due in one more turn.
 use Rattle.std.proofs.Common.{◌≡◌, ◌∙◌, ℕ, zero, suc, ◌+◌, ◌*◌, ◌%◌, ◌/◌, ◌<◌, ◌≤◌, refl, sym, ap, inl, inr, arith, suc-mul, mul-le-mul_right, div-add-mod', eq-zero-or-pos, eq-or-lt_of_le}
 use Rattle.std.proofs.lemmas.Bool.Decides.{nat_tests}
 use Rattle.std.proofs.lemmas.Nat.{mod-mul-add}

@@ -4,7 +4,7 @@ use Rattle.std.proofs.lemmas.List.{take_at}
 use Rattle.crsm_base.specs.declared.Command.{Command}
 use Rattle.crsm_base.specs.declared.Outcome.{Outcome}
 use Rattle.crsm_port.specs.Cluster.{over}
-use Rattle.crsm_port.specs.Meaning.{Coat, Meaning, Packet, Receives, Takes, Traffic}
+use Rattle.crsm_port.specs.Meaning.{Framing, Meaning, Packet, Receives, Takes, Traffic}
 use Rattle.crsm_port.specs.declared.port.Recv.TheVariants.{Datagram, Nothing}
 use Rattle.crsm_client.specs.Exchange.{Exchange, Moves, received_of}
 use Rattle.crsm_wire.specs.Marks.{mark_in, stripped}
@@ -21,8 +21,8 @@ one_datagram d = record { received = d ∷ []; empties = 0; requests = 0 }
 
 -- ---- where nothing came
 
-empty_moved : (coat : Coat) (request : Packet) (t : Traffic) → Moves coat request one_empty t t
-empty_moved coat request t = record { packets = []; received_are = refl; waited = refl; taken = sym (append-nil t.taken); sent = sym (append-nil t.sent) }
+empty_moved : (framing : Framing) (request : Packet) (t : Traffic) → Moves framing request one_empty t t
+empty_moved framing request t = record { packets = []; received_are = refl; waited = refl; taken = sym (append-nil t.taken); sent = sym (append-nil t.sent) }
 
 nothing_came : (cluster : ℕ) (old new : Meaning) (before after : List ℕ) → Receives old new before after (Ok Nothing) → ReceivesOnce cluster one_empty old new
 nothing_came cluster old new before after r = record {
@@ -30,10 +30,10 @@ nothing_came cluster old new before after r = record {
   none_sent = refl;
   exchanges = λ request. record {
     told = r.told;
-    moves = λ t u is at. subst (λ (v : Traffic). Moves (over cluster old.coat) request one_empty t v) (sym (r.taken t u is at).1) (empty_moved (over cluster old.coat) request t);
+    moves = λ t u is at. subst (λ (v : Traffic). Moves (over cluster old.framing) request one_empty t v) (sym (r.taken t u is at).1) (empty_moved (over cluster old.framing) request t);
     empties = r.empties.0;
-    same_coat = r.coat;
-    lent = r.lent;
+    same_framing = r.framing;
+    borrowed_as = r.borrowed_as;
   };
   quiet = record { faults = r.no_fault; losses = r.losses };
 }
@@ -52,19 +52,19 @@ in_buffer cluster len n own mark kept view buffer rest is same marked seen_is si
 same_packet : {a b : ℕ} {x y : List ℕ} → a ≡ b → x ≡ y → Path Packet (record { address = a; bytes = x }) (record { address = b; bytes = y })
 same_packet e f = rw (e, f) refl
 
-one_moved : (coat : Coat) (request d e : Packet) (rest : List Packet) (t : Traffic) → e ≡ received_of coat d → t.waiting ≡ d ∷ rest
-    → Moves coat request (one_datagram e) t (record t { waiting = rest; taken = t.taken ++ d ∷ [] })
-one_moved coat request d e rest t is waits = record { packets = d ∷ []; received_are = ap (λ (p : Packet). p ∷ []) is; waited = waits; taken = refl; sent = sym (append-nil t.sent) }
+one_moved : (framing : Framing) (request d e : Packet) (rest : List Packet) (t : Traffic) → e ≡ received_of framing d → t.waiting ≡ d ∷ rest
+    → Moves framing request (one_datagram e) t (record t { waiting = rest; taken = t.taken ++ d ∷ [] })
+one_moved framing request d e rest t is waits = record { packets = d ∷ []; received_are = ap (λ (p : Packet). p ∷ []) is; waited = waits; taken = refl; sent = sym (append-nil t.sent) }
 
 module _ (cluster from len : ℕ) (old new : Meaning) (before after own : List ℕ) (r : Receives old new before after (Ok (Datagram from len)))
     (room : length before ≡ 8192 + length (mark_in cluster)) (own_is : own ≡ stripped (mark_in cluster) (take len after)) where
-  moved : (request : Packet) (t u : Traffic) → Takes old.coat t u before after (Datagram from len) → Moves (over cluster old.coat) request (one_datagram (record { address = from; bytes = own })) t u
+  moved : (request : Packet) (t u : Traffic) → Takes old.framing t u before after (Datagram from len) → Moves (over cluster old.framing) request (one_datagram (record { address = from; bytes = own })) t u
   moved request t u (d, rest, waits, address, size, copied, gone) =
-      let bytes = (old.coat.unwrap d).bytes in
+      let bytes = (old.framing.unwrap d).bytes in
       let fits = size ∙ ap (λ (n : ℕ). min n (length bytes)) room in
       let is = same_packet address (own_is ∙ seen cluster len bytes after (drop len before) fits copied) in
-      subst (λ (v : Traffic). Moves (over cluster old.coat) request (one_datagram (record { address = from; bytes = own })) t v) (sym gone)
-      (one_moved (over cluster old.coat) request d (record { address = from; bytes = own }) rest t is waits)
+      subst (λ (v : Traffic). Moves (over cluster old.framing) request (one_datagram (record { address = from; bytes = own })) t v) (sym gone)
+      (one_moved (over cluster old.framing) request d (record { address = from; bytes = own }) rest t is waits)
 
   datagram_came : ReceivesOnce cluster (one_datagram (record { address = from; bytes = own })) old new
   datagram_came = record {
@@ -74,8 +74,8 @@ module _ (cluster from len : ℕ) (old new : Meaning) (before after own : List �
       told = r.told;
       moves = λ t u is at. moved request t u (r.taken t u is at);
       empties = let same : new.empties ≡ old.empties = r.empties in omega arith;
-      same_coat = r.coat;
-      lent = r.lent;
+      same_framing = r.framing;
+      borrowed_as = r.borrowed_as;
     };
     quiet = record { faults = r.no_fault; losses = r.losses };
   }

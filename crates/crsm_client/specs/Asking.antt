@@ -1,4 +1,4 @@
--- Asking a replica for a command, until its reply comes or all turns are over.
+-- The request of a command, until its reply comes or all turns are over.
 use Rattle.std.specs.Prelude.{◌≡◌, ◌↔◌, ◌⊎◌, ℕ, ◌+◌, ◌*◌, ◌<◌, ◌≤◌, List, [], ◌∷◌, ◌++◌, Some, Result, Ok, Err}
 use Rattle.std.specs.List.{AllByRecursion}
 use Rattle.crsm_base.specs.declared.Command.{Command}
@@ -7,7 +7,7 @@ use Rattle.crsm_base.specs.declared.Outcome.{Outcome}
 use Rattle.crsm_base.specs.Messages.{SpeltDatagram, datagram_bytes}
 use Rattle.crsm_port_faults.specs.Counts.{Rose}
 use Rattle.crsm_port.specs.Cluster.{over}
-use Rattle.crsm_port.specs.Meaning.{Coat, Meaning, Packet, Traffic}
+use Rattle.crsm_port.specs.Meaning.{Framing, Meaning, Packet, Traffic}
 use Rattle.crsm_client.specs.Exchange.{Exchange, Exchanges, IsLater, IsQuiet, received_of, turns_in}
 use Rattle.crsm_client.specs.declared.error.AskError.{AskError}
 use Rattle.crsm_client.specs.declared.error.AskError.TheVariants.{NoAnswer, PortFault, NoMemory}
@@ -34,7 +34,7 @@ pub record EndsWithReply (to : ℕ) (command : Command) (outcome : Outcome) (rec
   pub none_before : AllByRecursion (IsOther to command) others
   pub is_reply : IsReply to command outcome reply
 
--- one request for turn 0 and for each multiple of `resend` among so many turns
+-- one request for turn 0 and for each multiple of `resend` among this number of turns
 abbrev pub IsPaced : ℕ → ℕ → ℕ → Type 0
 IsPaced resend turns requests = (k : ℕ) → (k < requests) ↔ (k * resend < turns)
 
@@ -76,35 +76,35 @@ module _ (to : ℕ) (command : Command) (turns resend : ℕ) (old new : Meaning)
   Ends (Err PortFault) = Broken
   Ends (Err NoMemory) = Starved
 
--- what asking did over a port on which the cluster's datagrams stand behind its number
+-- the effect of the request over a port whose datagrams begin with the mark of the cluster
 pub record Asks (cluster to : ℕ) (command : Command) (turns resend : ℕ) (old new : Meaning) (result : Result Outcome AskError) : Type 0 where
   pub exchange : Exchange
-  pub exchanges : Exchanges (over cluster old.coat) (request_to to command) exchange old new
+  pub exchanges : Exchanges (over cluster old.framing) (request_to to command) exchange old new
   pub ended : Ends to command turns resend old new exchange result
 
 -- ---- when it is answered
 
 -- the reply is among the datagrams that were taken
-pub record TookReply (cluster to : ℕ) (command : Command) (coat : Coat) (t u : Traffic) : Type 0 where
+pub record TookReply (cluster to : ℕ) (command : Command) (framing : Framing) (t u : Traffic) : Type 0 where
   pub before : List Packet
   pub reply : Packet
   pub after : List Packet
   pub taken : u.taken ≡ t.taken ++ (before ++ reply ∷ after)
   pub outcome : Outcome
-  pub is_reply : IsReply to command outcome (received_of (over cluster coat) reply)
+  pub is_reply : IsReply to command outcome (received_of (over cluster framing) reply)
 
--- where the port tells its traffic, and counted no failure
+-- if the traffic of the port is specified, and it counted no failure
 abbrev pub WhereQuiet : (Traffic → Traffic → Type 0) → Meaning → Meaning → Type 0 → Type 0
 WhereQuiet P old new Q =
     (t u : Traffic) → old.traffic ≡ Some t → new.traffic ≡ Some u → P t u → ¬ (Rose old.faults new.faults) → ¬ (Rose old.losses new.losses) → Q
 
 -- and the reply was taken
 abbrev pub WhereReplied : ℕ → ℕ → Command → Meaning → Meaning → Type 0 → Type 0
-WhereReplied cluster to command old new Q = WhereQuiet (TookReply cluster to command old.coat) old new Q
+WhereReplied cluster to command old new Q = WhereQuiet (TookReply cluster to command old.framing) old new Q
 
 -- and it was not
 abbrev pub WhereNotReplied : ℕ → ℕ → Command → Meaning → Meaning → Type 0 → Type 0
-WhereNotReplied cluster to command old new Q = WhereQuiet (λ t u. TookReply cluster to command old.coat t u → ⊥) old new Q
+WhereNotReplied cluster to command old new Q = WhereQuiet (λ t u. TookReply cluster to command old.framing t u → ⊥) old new Q
 
 -- answered, unless memory ran out
 abbrev pub IsAnswered : Result Outcome AskError → Type 0

@@ -1,4 +1,4 @@
--- What the command `client` did, by how it ended.
+-- The effects of the command `client`, by how it ended.
 use Rattle.std.specs.Prelude.{◌≡◌, ℕ, List, Option, Result, Ok, Err}
 use Rattle.crsm_base.specs.declared.Outcome.{Outcome}
 use Rattle.crsm_io.specs.Streams.{Puts, PutsPrefix}

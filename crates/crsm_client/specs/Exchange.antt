@@ -1,16 +1,17 @@
--- What a client and a port exchange in some turns: a request that goes out now and then, and the datagrams that come in.
+-- The datagrams that a client and a port exchange in some turns: a request that is retransmitted, and the datagrams
+-- received.
 use Rattle.std.specs.Prelude.{◌≡◌, ◌↔◌, ℕ, ◌+◌, ◌-◌, ◌^◌, ◌≤◌, min, List, ◌++◌, length, map, take, replicate, Some, IsSome}
-use Rattle.crsm_port.specs.Meaning.{Coat, Meaning, Packet, Traffic}
+use Rattle.crsm_port.specs.Meaning.{Framing, Meaning, Packet, Traffic}
 
 -- how many bytes of a datagram are received
 abbrev pub most_received : ℕ
 most_received = 8192
 
 -- a datagram as it is received
-abbrev pub received_of : Coat → Packet → Packet
-received_of coat d = record { address = (coat.unwrap d).address; bytes = take most_received (coat.unwrap d).bytes }
+abbrev pub received_of : Framing → Packet → Packet
+received_of framing d = record { address = (framing.unwrap d).address; bytes = take most_received (framing.unwrap d).bytes }
 
--- a count that rose so many times, up to its last value
+-- a counter that rose by this number, up to its last value
 abbrev pub raised_by : ℕ → ℕ → ℕ
 raised_by times count = min (count + times) (2 ^ 64 - 1)
 
@@ -26,22 +27,22 @@ pub record Exchange : Type 0 where
 abbrev pub turns_in : Exchange → ℕ
 turns_in x = length x.received + x.empties
 
--- what the port took and sent in an exchange
-pub record Moves (coat : Coat) (request : Packet) (x : Exchange) (t u : Traffic) : Type 0 where
+-- the datagrams that the port received and sent in an exchange
+pub record Moves (framing : Framing) (request : Packet) (x : Exchange) (t u : Traffic) : Type 0 where
   -- the datagrams received, as they came
   pub packets : List Packet
-  pub received_are : x.received ≡ map (received_of coat) packets
+  pub received_are : x.received ≡ map (received_of framing) packets
   pub waited : t.waiting ≡ packets ++ u.waiting
   pub taken : u.taken ≡ t.taken ++ packets
-  pub sent : u.sent ≡ t.sent ++ replicate x.requests (coat.wrap request)
+  pub sent : u.sent ≡ t.sent ++ replicate x.requests (framing.wrap request)
 
--- this was exchanged over a port, with this coat, and nothing else
-pub record Exchanges (coat : Coat) (request : Packet) (x : Exchange) (old new : Meaning) : Type 0 where
+-- this was exchanged over a port, with this framing, and nothing else
+pub record Exchanges (framing : Framing) (request : Packet) (x : Exchange) (old new : Meaning) : Type 0 where
   pub told : IsSome old.traffic ↔ IsSome new.traffic
-  pub moves : (t u : Traffic) → old.traffic ≡ Some t → new.traffic ≡ Some u → Moves coat request x t u
+  pub moves : (t u : Traffic) → old.traffic ≡ Some t → new.traffic ≡ Some u → Moves framing request x t u
   pub empties : raised_by x.empties old.empties ≤ new.empties
-  pub same_coat : new.coat ≡ old.coat
-  pub lent : new.lent ≡ old.lent
+  pub same_framing : new.framing ≡ old.framing
+  pub borrowed_as : new.borrowed_as ≡ old.borrowed_as
 
 -- no call of the port failed
 pub record IsQuiet (old new : Meaning) : Type 0 where

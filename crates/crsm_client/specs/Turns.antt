@@ -14,19 +14,19 @@ use Rattle.crsm_client.specs.declared.error.AskError.TheVariants.{NoAnswer, Port
 
 -- ---- sends
 
--- so many requests and nothing else
+-- this number of requests and nothing else
 abbrev pub requests : ℕ → Exchange
 requests n = record { received = []; empties = 0; requests = n }
 
--- so many requests went out, or none
+-- this number of requests was sent, or none
 abbrev pub SendsRequests : {T : Type 0} → ℕ → ℕ → Packet → Meaning → Meaning → Result T AskError → Type 0
-SendsRequests n cluster request old new (Ok x) = Exchanges (over cluster old.coat) request (requests n) old new × IsQuiet old new
+SendsRequests n cluster request old new (Ok x) = Exchanges (over cluster old.framing) request (requests n) old new × IsQuiet old new
 SendsRequests n cluster request old new (Err NoAnswer) = ⊥
 SendsRequests n cluster request old new (Err PortFault) =
-    Exchanges (over cluster old.coat) request (requests 0) old new × Rose old.losses new.losses × IsLater old new
-SendsRequests n cluster request old new (Err NoMemory) = Exchanges (over cluster old.coat) request (requests 0) old new × IsQuiet old new
+    Exchanges (over cluster old.framing) request (requests 0) old new × Rose old.losses new.losses × IsLater old new
+SendsRequests n cluster request old new (Err NoMemory) = Exchanges (over cluster old.framing) request (requests 0) old new × IsQuiet old new
 
--- bytes are those of a datagram behind the mark of a cluster, and its request is sent so many times
+-- the bytes are those of a datagram with the mark of a cluster before it, and its request is sent this number of times
 abbrev pub SendsMarked : {T : Type 0} → ℕ → ℕ → List ℕ → Meaning → Meaning → Result T AskError → Type 0
 SendsMarked n to bytes old new result =
     (cluster : ℕ) (datagram : List ℕ) → bytes ≡ wrapped cluster datagram → SendsRequests n cluster (record { address = to; bytes = datagram }) old new result
@@ -37,7 +37,7 @@ due resend turn = if turn % resend == 0 then 1 else 0
 
 -- ---- receives
 
--- what is read in a datagram
+-- the outcome that is read in a datagram
 abbrev pub ReadsReply : ℕ → Command → Packet → Result (Option Outcome) OutOfMemory → Type 0
 ReadsReply to command d (Ok (Some outcome)) = IsReply to command outcome d
 ReadsReply to command d (Ok None) = IsOther to command d
@@ -47,7 +47,7 @@ ReadsReply to command d (Err e) = Unit {0}
 pub record ReceivesOnce (cluster : ℕ) (x : Exchange) (old new : Meaning) : Type 0 where
   pub once : turns_in x ≡ 1
   pub none_sent : x.requests ≡ 0
-  pub exchanges : (request : Packet) → Exchanges (over cluster old.coat) request x old new
+  pub exchanges : (request : Packet) → Exchanges (over cluster old.framing) request x old new
   pub quiet : IsQuiet old new
 
 -- one receive, and the outcome where it took the reply
@@ -57,5 +57,5 @@ BringsReply cluster to command old new (Ok (Some outcome)) =
 BringsReply cluster to command old new (Ok None) = (x : Exchange) × ReceivesOnce cluster x old new × AllByRecursion (IsOther to command) x.received
 BringsReply cluster to command old new (Err NoAnswer) = ⊥
 BringsReply cluster to command old new (Err PortFault) =
-    ((request : Packet) → Exchanges (over cluster old.coat) request (requests 0) old new) × Rose old.faults new.faults × IsLater old new
+    ((request : Packet) → Exchanges (over cluster old.framing) request (requests 0) old new) × Rose old.faults new.faults × IsLater old new
 BringsReply cluster to command old new (Err NoMemory) = (x : Exchange) × ReceivesOnce cluster x old new

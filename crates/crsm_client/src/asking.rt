@@ -1,4 +1,4 @@
-//! Asking a replica for a command.
+//! The request of a command, sent to a replica until it replies.
 
 ghost use Rattle.std.specs.Prelude.{◌≡◌, ◌<◌, IfOk};
 ghost use Rattle.crsm_base.specs.declared.Datagram.{Datagram as DatagramOnPaper};
@@ -15,7 +15,7 @@ use crsm_base::{Bytes, Command, Datagram, NoMemory, Outcome};
 use crsm_port::Port;
 use std::alloc::Global;
 
-/// The request of a command, behind the mark of its cluster.
+/// Returns the request of a command with the mark of its cluster. `NoMemory` if memory runs out.
 fn request(alloc: Global, cluster: u64, command: &Command) -> Result<Bytes, NoMemory>
     requires { FitsCommand command.now }
     ensures { IfOk result (λ bytes. bytes ≡ wrapped cluster (datagram_bytes (DatagramOnPaper.Request command.now))) }
@@ -24,7 +24,7 @@ fn request(alloc: Global, cluster: u64, command: &Command) -> Result<Bytes, NoMe
     marked(alloc, cluster, &Datagram::Request { command })
 }
 
-/// Makes room for one datagram, and sends it.
+/// Reserves memory for one datagram on the port, and sends it.
 fn send_one<P: Port>(port: &mut P, to: u64, bytes: &[u8]) -> Result<(), AskError>
     ensures { SendsMarked 1 to bytes.now (P.meaning port.old) (P.meaning port.new) result }
 {
@@ -35,7 +35,7 @@ fn send_one<P: Port>(port: &mut P, to: u64, bytes: &[u8]) -> Result<(), AskError
     }
 }
 
-/// Sends the request, if it is due in this turn.
+/// Sends the request if this turn is a multiple of `resend`.
 fn send_due<P: Port>(
     port: &mut P,
     to: u64,
@@ -52,7 +52,7 @@ fn send_due<P: Port>(
     Ok(())
 }
 
-/// Asks over a port on which the datagrams of a cluster stand behind its mark.
+/// Requests a command over a port that clusters share: each datagram begins with the mark of its cluster.
 pub(crate) fn ask_in<P: Port>(
     alloc: Global,
     cluster: u64,
@@ -77,8 +77,10 @@ pub(crate) fn ask_in<P: Port>(
     Err(AskError::NoAnswer)
 }
 
-/// Asks the replica at an address for a command, and answers the outcome of its first reply. There are so many turns,
-/// each with one receive; the request is sent in turn 0 and in each turn that is a multiple of `resend`.
+/// Requests a command from the replica at the address `to`, IPv4 x 65,536 + port, and returns the outcome in its first
+/// reply. Each of the `turns` turns receives once; the request is sent in turn 0 and retransmitted in each turn that is
+/// a multiple of `resend`. `NoAnswer` if no reply came in these turns, `PortFault` if the port failed, `NoMemory` if
+/// memory runs out.
 pub fn ask<P: Port>(
     alloc: Global,
     port: &mut P,

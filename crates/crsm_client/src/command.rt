@@ -14,27 +14,27 @@ use crsm_port::Port;
 use crsm_text::print_outcome;
 use std::alloc::Global;
 
-/// The request is sent again after so many turns.
+/// Number of turns between retransmissions of the request.
 const RESEND: u64 = 100;
 
-/// What the command asks for.
+/// The parameters of the command.
 #[derive(Debug, Drop)]
 pub struct ClientOrder {
-    /// The address of the replica that is asked.
+    /// The address of the replica, IPv4 x 65,536 + port.
     pub to: u64,
-    /// How many turns there are.
+    /// Maximum number of turns, each with one receive.
     pub turns: u64,
     pub command: Command,
 }
 
-/// How the command ended.
+/// The end of the command.
 #[derive(Clone, Copy, Debug, PartialEq, Eq)]
 pub enum ClientEnd {
     /// The outcome was written.
     Done,
-    /// The port failed.
+    /// The port failed in a send or a receive.
     PortFault,
-    /// All turns are over, and no reply came.
+    /// No reply came in all turns.
     NoAnswer,
     /// The output failed.
     WriteFault,
@@ -57,8 +57,8 @@ fn write_outcome<O: Sink>(alloc: Global, outcome: &Outcome, output: &mut O) -> C
     }
 }
 
-/// Asks the replica for the command, over a port on which the datagrams of a cluster stand behind its mark, and writes the
-/// outcome and a line feed.
+/// Requests the command from the replica, over a port that clusters share, and writes the outcome and a line feed.
+/// Returns how that ended.
 pub fn client<P: Port, O: Sink>(
     alloc: Global,
     order: &ClientOrder,

@@ -1,11 +1,11 @@
-//! Why a replica was not asked, or did not answer.
+//! The errors of a client.
 
 use crsm_base::NoMemory;
 
-/// Why there is no outcome.
+/// The reason why a command has no outcome.
 #[derive(Clone, Copy, Debug, PartialEq, Eq)]
 pub enum AskError {
-    /// All turns are over, and no reply came.
+    /// No reply came in all turns.
     NoAnswer,
     /// The port failed in a send or in a receive.
     PortFault,
@@ -23,7 +23,7 @@ impl From<NoMemory> for AskError {
     }
 }
 
-/// Why a membership was not asked for.
+/// The reason why a membership change was not requested.
 #[derive(Clone, Copy, Debug, PartialEq, Eq)]
 pub enum OperateError {
     /// The port failed in the send.

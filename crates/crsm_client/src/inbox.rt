@@ -1,4 +1,4 @@
-//! What comes in for a client.
+//! The receiving of replies.
 
 ghost use Rattle.std.specs.Prelude.{◌≡◌, ◌+◌, length, IfOk};
 ghost use Rattle.crsm_client.specs.Turns.{BringsReply, ReadsReply};
@@ -10,10 +10,10 @@ use crsm_port::{Port, Recv};
 use crsm_wire::{WireError, behind_mark, mark_before, read_datagram};
 use std::alloc::Global;
 
-/// How long a datagram may be that is received whole.
+/// Maximum length in bytes of a datagram that is received whole.
 const MOST_RECEIVED: usize = 8_192;
 
-/// Room for a datagram that comes in, behind the mark of its cluster.
+/// The buffer for a received datagram, with the mark of its cluster.
 #[derive(Drop)]
 pub(crate) struct Inbox {
     pub(crate) cluster: u64,
@@ -23,7 +23,7 @@ pub(crate) struct Inbox {
     ghost room: { length buffer.items ≡ 8192 + length mark },
 }
 
-/// The outcome in a datagram, if that is the reply to the command of the replica at this address.
+/// Returns the outcome in a datagram if it is the reply to the command from the replica at this address, else `None`.
 fn reply_in(
     alloc: Global,
     from: u64,
@@ -50,7 +50,7 @@ fn reply_in(
 }
 
 impl Inbox {
-    /// An inbox for the datagrams of a cluster.
+    /// Returns an inbox for the datagrams of a cluster. `NoMemory` if memory runs out.
     pub(crate) fn new(alloc: Global, cluster: u64) -> Result<Inbox, NoMemory>
         ensures { IfOk result (λ inbox. inbox.cluster ≡ cluster) }
     {
@@ -63,7 +63,8 @@ impl Inbox {
         })
     }
 
-    /// Receives once, and answers the outcome if the reply to the command came from the replica at this address.
+    /// Receives once, and returns the outcome if that is the reply to the command from the replica at this address,
+    /// else `None`.
     pub(crate) fn receive_reply<P: Port>(
         &mut self,
         alloc: Global,

@@ -1,4 +1,4 @@
-//! A client of the store: it asks a replica for a command, or for another membership, over a port.
+//! A client of the store: it requests a command or a membership change from a replica over a port.
 #![tactic(auto)]
 
 mod asking;

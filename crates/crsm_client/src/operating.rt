@@ -1,4 +1,4 @@
-//! Asking a replica for another membership.
+//! The request of a membership change.
 
 ghost use Rattle.crsm_client.specs.Operating.{Operates};
 
@@ -8,7 +8,8 @@ use crsm_base::{Datagram, Members};
 use crsm_port::Port;
 use std::alloc::Global;
 
-/// Asks the replica at an address to change to these members: sends it one datagram.
+/// Requests a change to these members from the replica at the address `to`, IPv4 x 65,536 + port: sends it one
+/// datagram. `PortFault` if the port failed, `NoMemory` if memory runs out.
 pub fn operate<P: Port>(
     alloc: Global,
     port: &mut P,
@@ -20,7 +21,7 @@ pub fn operate<P: Port>(
     operate_command(alloc, to, members, 0, port)
 }
 
-/// The command `operate`: the same over a port on which the datagrams of a cluster stand behind its mark.
+/// Runs the command `operate`: the same request over a port that clusters share.
 pub fn operate_command<P: Port>(
     alloc: Global,
     to: u64,

@@ -15,6 +15,7 @@ pub struct SystemClock<'a, R> {
 }
 
 impl<'a, R: time::Clock> SystemClock<'a, R> {
+    /// Returns a clock of this runtime, with a last reading of 0.
     pub fn new(runtime: &'a R) -> SystemClock<'a, R> {
         SystemClock { runtime, latest: 0 }
     }

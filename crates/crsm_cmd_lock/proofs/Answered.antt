@@ -1,4 +1,4 @@
--- A client has its answers where they are among what was taken, and only there.
+-- A client has its answers if and only if they are among the datagrams received.
 use Rattle.std.proofs.Common.{◌≡◌, ℕ, List, [], ◌∷◌, ◌++◌, map, Option, Some, None, IsSome, Result, Ok, Err, inl, inr, refl, sym, ◌∙◌, ap, subst, append_assoc}
 use Rattle.std.proofs.lemmas.List.{append_cancel_left, map-append}
 use Rattle.crsm_base.specs.declared.Command.{Command}
@@ -12,7 +12,7 @@ use Rattle.crsm_lease.specs.Locks.{LocksHaveOneValue}
 use Rattle.crsm_lease.specs.declared.rule.NextStep.{NextStep}
 use Rattle.crsm_lease.specs.declared.told.Told.{Told}
 use Rattle.crsm_port.specs.Cluster.{over}
-use Rattle.crsm_port.specs.Meaning.{Coat, Meaning, Packet, Traffic}
+use Rattle.crsm_port.specs.Meaning.{Framing, Meaning, Packet, Traffic}
 use Rattle.crsm_cmd_lock.specs.Answers.{HasFirstReply, IsServed, TookAnswers}
 use Rattle.crsm_cmd_lock.specs.Learning.{AsksFor, AsksNext, Fails, IsRuled, Learns, follows_of, look_of}
 use Rattle.crsm_cmd_lock.specs.declared.command.LockOrder.{LockOrder}
@@ -32,7 +32,7 @@ more_after to command outcome received more e = record {
   is_reply = e.is_reply;
 }
 
--- a port that tells before tells after
+-- a port whose traffic is specified before has it specified after
 told_after : (o : Option Traffic) → IsSome o → (u : Traffic) × (o ≡ Some u)
 told_after None is = absurd (cc)
 told_after (Some u) is = (u, refl)
@@ -42,7 +42,7 @@ some_of o t is = subst (λ (x : Option Traffic). IsSome x) (sym is) refl
 
 module _ (order : LockOrder) (old : Meaning) where
   abbrev pub seen : Packet → Packet
-  seen = received_of (over 0 old.coat)
+  seen = received_of (over 0 old.framing)
 
   -- what was taken while one request was asked
   record Took (command : Command) (x : Exchange) (t u : Traffic) : Type 0 where
@@ -67,7 +67,7 @@ module _ (order : LockOrder) (old : Meaning) where
     second : (v : Traffic) → a.between.traffic ≡ Some v → Took (follows_of order op) a.asks.exchange v u
     second v mid =
         let m = a.asks.exchanges.moves v u mid at in
-        record { packets = m.packets; taken = m.taken; received = m.received_are ∙ ap (λ (k : Coat). map (received_of (over 0 k)) m.packets) a.looks.exchanges.same_coat }
+        record { packets = m.packets; taken = m.taken; received = m.received_are ∙ ap (λ (k : Framing). map (received_of (over 0 k)) m.packets) a.looks.exchanges.same_framing }
 
     pub took_both : TookBoth op new result a t u
     took_both =
@@ -93,7 +93,7 @@ same_packets t u xs ys a b = append_cancel_left t.taken xs ys (sym a ∙ b)
 served_is : (order : LockOrder) (rest received : List Packet) (next : NextStep) (op : Op) → rest ≡ received → next ≡ NextStep.Ask op → IsServed order rest next → IsServed order received (NextStep.Ask op)
 served_is order rest received next op same is served = subst (λ (l : List Packet). IsServed order l (NextStep.Ask op)) same (subst (λ (n : NextStep). IsServed order rest n) is served)
 
-module _ (one : LocksHaveOneValue) (order : LockOrder) (old new : Meaning) (t u : Traffic) (is : old.traffic ≡ Some t) (at : new.traffic ≡ Some u) (all : TookAnswers order old.coat t u) where
+module _ (one : LocksHaveOneValue) (order : LockOrder) (old new : Meaning) (t u : Traffic) (is : old.traffic ≡ Some t) (at : new.traffic ≡ Some u) (all : TookAnswers order old.framing t u) where
   look_missed : AsksFor order (look_of order) old new (Err NoAnswer) → ⊥
   look_missed a =
       let mine = took order old (look_of order) (Err NoAnswer) new a t u is at in
@@ -118,7 +118,7 @@ module _ (one : LocksHaveOneValue) (order : LockOrder) (old new : Meaning) (t u 
 -- ---- nor is one made up
 
 module _ (order : LockOrder) (old new : Meaning) (told : Told) (t u : Traffic) (is : old.traffic ≡ Some t) (at : new.traffic ≡ Some u) where
-  pub took_answers : Learns order old new told → TookAnswers order old.coat t u
+  pub took_answers : Learns order old new told → TookAnswers order old.framing t u
   took_answers learnt = elim learnt [
     | inl a ↦ let mine = took order old (look_of order) (Ok a.found) new a.looks t u is at in
         record {

@@ -1,4 +1,4 @@
--- The operation that follows a look, and what comes of it.
+-- The operation that follows a read, and its result.
 use Rattle.std.proofs.Common.{◌≡◌, ℕ, ◌<◌, ◌-◌, ◌^◌, List, length, Option, Some, None, Result, Ok, Err, inl, inr, refl, ◌∙◌, sym, ap, subst, arith}
 use Rattle.crsm_base.specs.declared.command.Op.{Op}
 use Rattle.crsm_base.specs.declared.answer.Answer.{Answer}

@@ -1,4 +1,4 @@
--- When a client has its answers: by the datagrams that were taken.
+-- The replies that a client has, by the datagrams it received.
 use Rattle.std.specs.Prelude.{◌≡◌, ℕ, List, ◌∷◌, ◌++◌, map}
 use Rattle.std.specs.List.{AllByRecursion}
 use Rattle.crsm_base.specs.declared.Command.{Command}
@@ -7,7 +7,7 @@ use Rattle.crsm_client.specs.Asking.{IsOther, IsReply, WhereQuiet}
 use Rattle.crsm_client.specs.Exchange.{received_of}
 use Rattle.crsm_lease.specs.declared.rule.NextStep.{NextStep}
 use Rattle.crsm_port.specs.Cluster.{over}
-use Rattle.crsm_port.specs.Meaning.{Coat, Meaning, Packet, Traffic}
+use Rattle.crsm_port.specs.Meaning.{Framing, Meaning, Packet, Traffic}
 use Rattle.crsm_cmd_lock.specs.Learning.{IsRuled, follows_of, look_of}
 use Rattle.crsm_cmd_lock.specs.declared.command.LockOrder.{LockOrder}
 
@@ -19,7 +19,7 @@ pub record HasFirstReply (to : ℕ) (command : Command) (received : List Packet)
   pub none_before : AllByRecursion (IsOther to command) others
   pub is_reply : IsReply to command outcome reply
 
--- what is asked next is answered among these, if anything is
+-- the next request is answered among these, if there is one
 abbrev pub IsServed : LockOrder → List Packet → NextStep → Type 0
 IsServed order received (NextStep.End told) = Unit {0}
 IsServed order received (NextStep.Ask op) = (outcome : Outcome) × (rest : List Packet) × HasFirstReply order.to (follows_of order op) received outcome rest
@@ -34,15 +34,15 @@ pub record AreAnswers (order : LockOrder) (received : List Packet) : Type 0 wher
   pub served : IsServed order rest next
 
 -- all answers are among what was taken
-pub record TookAnswers (order : LockOrder) (coat : Coat) (t u : Traffic) : Type 0 where
+pub record TookAnswers (order : LockOrder) (framing : Framing) (t u : Traffic) : Type 0 where
   pub packets : List Packet
   pub taken : u.taken ≡ t.taken ++ packets
-  pub answers : AreAnswers order (map (received_of (over 0 coat)) packets)
+  pub answers : AreAnswers order (map (received_of (over 0 framing)) packets)
 
--- where the port tells its traffic, counted no failure, and all answers were taken
+-- if the traffic of the port is specified, it counted no failure, and all answers were received
 abbrev pub WhereAnswered : LockOrder → Meaning → Meaning → Type 0 → Type 0
-WhereAnswered order old new Q = WhereQuiet (TookAnswers order old.coat) old new Q
+WhereAnswered order old new Q = WhereQuiet (TookAnswers order old.framing) old new Q
 
 -- and they were not all taken
 abbrev pub WhereNotAnswered : LockOrder → Meaning → Meaning → Type 0 → Type 0
-WhereNotAnswered order old new Q = WhereQuiet (λ t u. TookAnswers order old.coat t u → ⊥) old new Q
+WhereNotAnswered order old new Q = WhereQuiet (λ t u. TookAnswers order old.framing t u → ⊥) old new Q

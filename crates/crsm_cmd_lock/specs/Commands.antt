@@ -1,4 +1,4 @@
--- What the command `lock` did, by how it ended.
+-- The effects of the command `lock`, by how it ended.
 use Rattle.std.specs.Prelude.{◌≡◌, ◌⊎◌, ℕ, List, [], ◌∷◌, ◌++◌, Option}
 use Rattle.crsm_client.specs.declared.error.AskError.TheVariants.{NoAnswer, PortFault}
 use Rattle.crsm_io.specs.Streams.{Puts, PutsPrefix}

@@ -1,4 +1,4 @@
--- What a client asks about a lock, and what it learns.
+-- The requests of a client on a lock, and their results.
 use Rattle.std.specs.Prelude.{◌≡◌, ◌⊎◌, ℕ, ◌+◌, List, Option, Result, Ok, Err}
 use Rattle.crsm_base.specs.declared.Command.{Command}
 use Rattle.crsm_base.specs.declared.command.Op.{Op}
@@ -18,7 +18,7 @@ use Rattle.crsm_cmd_lock.specs.declared.command.LockOrder.{LockOrder}
 abbrev pub look_of : LockOrder → Command
 look_of order = record { client = order.client; number = order.number; op = Op.Get order.key }
 
--- what follows the look, under the next number
+-- the command that follows the read, under the next number
 abbrev pub follows_of : LockOrder → Op → Command
 follows_of order op = record { client = order.client; number = order.number + 1; op = op }
 
@@ -26,7 +26,7 @@ follows_of order op = record { client = order.client; number = order.number + 1;
 abbrev pub AsksFor : LockOrder → Command → Meaning → Meaning → Result Outcome AskError → Type 0
 AsksFor order command old new result = Asks 0 order.to command order.turns 100 old new result
 
--- what the rule says about an outcome of the look
+-- the rule's next step on an outcome of the read
 abbrev pub IsRuled : LockOrder → Outcome → NextStep → Type 0
 IsRuled order found next = FollowsGet order.action order.client order.key found next
 
@@ -46,13 +46,13 @@ pub record AsksNext (order : LockOrder) (op : Op) (old new : Meaning) (result : 
 
 -- ---- what is learnt
 
--- this is told after the look, and nothing more is asked
+-- this result follows the read, and nothing more is requested
 pub record LearnsAtOnce (order : LockOrder) (old new : Meaning) (told : Told) : Type 0 where
   pub found : Outcome
   pub looks : AsksFor order (look_of order) old new (Ok found)
   pub ruled : IsRuled order found (NextStep.End told)
 
--- this is told of what the operation was answered that followed the look
+-- this result follows the answer to the operation after the read
 pub record LearnsNext (order : LockOrder) (old new : Meaning) (told : Told) : Type 0 where
   pub op : Op
   pub outcome : Outcome
@@ -62,7 +62,7 @@ pub record LearnsNext (order : LockOrder) (old new : Meaning) (told : Told) : Ty
 abbrev pub Learns : LockOrder → Meaning → Meaning → Told → Type 0
 Learns order old new told = LearnsAtOnce order old new told ⊎ LearnsNext order old new told
 
--- what the replica was asked for and told about the operation, and what the client learns of it
+-- the replica was asked for the operation and answered, and this is the client's result
 abbrev pub TellsNext : LockOrder → Op → Meaning → Meaning → Result Told AskError → Type 0
 TellsNext order op old new (Ok told) = (outcome : Outcome) × AsksFor order (follows_of order op) old new (Ok outcome) × FollowsCas op outcome told
 TellsNext order op old new (Err e) = AsksFor order (follows_of order op) old new (Err e)
@@ -79,7 +79,7 @@ Starves order old new =
     (new ≡ old)
     ⊎ (((found : Outcome) × AsksFor order (look_of order) old new (Ok found)) ⊎ Fails order old new NoMemory)
 
--- what came of it
+-- the result, or the error
 abbrev pub LearnsOr : LockOrder → Meaning → Meaning → Result Told AskError → Type 0
 LearnsOr order old new (Ok told) = Learns order old new told
 LearnsOr order old new (Err NoAnswer) = Fails order old new NoAnswer

@@ -14,14 +14,14 @@ use crsm_lease::{Action, Told, locks_have_one_value, print_told};
 use crsm_port::Port;
 use std::alloc::Global;
 
-/// What the command asks for.
+/// The parameters of the command.
 #[derive(Debug, Drop)]
 pub struct LockOrder {
-    /// The address of the replica that is asked.
+    /// The address of the replica, IPv4 x 65,536 + port.
     pub to: u64,
-    /// How many turns there are for each of the two requests.
+    /// Maximum number of turns for each of the two requests, each turn with one receive.
     pub turns: u64,
-    /// The client, who is the owner of what is taken.
+    /// The number of the client, which owns the lock if it is granted.
     pub client: u64,
     /// The number of the first request. The second has the next one.
     pub number: u64,
@@ -29,21 +29,21 @@ pub struct LockOrder {
     pub action: Action,
 }
 
-/// How the command ended.
+/// The end of the command.
 #[derive(Clone, Copy, Debug, PartialEq, Eq)]
 pub enum LockEnd {
-    /// What the client is told was written.
+    /// The result was written.
     Done,
-    /// The port failed.
+    /// The port failed in a send or a receive.
     PortFault,
-    /// All turns of a request are over, and no reply came.
+    /// No reply to a request came in all its turns.
     NoAnswer,
     /// The output failed.
     WriteFault,
     NoMemory,
 }
 
-/// Writes the line of what the client is told.
+/// Writes the line of the result.
 fn write_told<O: Sink>(alloc: Global, told: Told, output: &mut O) -> LockEnd
     ensures wrote { WritesTold told (O.written output.old) (O.written output.new) result }
     ensures later { O.faults output.old ≤ O.faults output.new }
@@ -59,8 +59,8 @@ fn write_told<O: Sink>(alloc: Global, told: Told, output: &mut O) -> LockEnd
     }
 }
 
-/// Asks the replica for the key of the lock, and then for what follows by the rule, if anything does. Writes what the
-/// client is told, and a line feed.
+/// Reads the key of the lock at the replica, and then requests the operation of the rule, if there is one. Writes the
+/// result and a line feed. Returns how that ended.
 pub fn lock<P: Port, O: Sink>(
     alloc: Global,
     order: &LockOrder,

@@ -1,4 +1,4 @@
-//! What a client learns of a lock: by a look at its key, and by the operation that follows.
+//! The two requests of an action on a lock: a read of its key, and the operation that follows.
 
 ghost use Rattle.std.specs.Prelude.{◌≡◌, ◌<◌, ◌-◌, ◌^◌, IfOk};
 ghost use Rattle.crsm_base.specs.Spelling.{FitsCommand, FitsKey};
@@ -12,10 +12,10 @@ use crsm_lease::{NextStep, Told, after_cas, after_get, locks_have_one_value};
 use crsm_port::Port;
 use std::alloc::Global;
 
-/// A request is sent again after so many turns.
+/// Number of turns between retransmissions of a request.
 const RESEND: u64 = 100;
 
-/// The command of a client that looks at a key.
+/// Returns the command of a client that reads a key.
 fn get(client: u64, number: u64, key: Key) -> Command
     requires { FitsKey key }
     ensures fits { FitsCommand result }
@@ -28,7 +28,7 @@ fn get(client: u64, number: u64, key: Key) -> Command
     }
 }
 
-/// The look at the key.
+/// Returns the command that reads the key of the lock. `NoMemory` if memory runs out.
 fn look(alloc: Global, order: &LockOrder) -> Result<Command, NoMemory>
     requires { FitsKey order.now.key }
     ensures fits { IfOk result FitsCommand }
@@ -38,7 +38,7 @@ fn look(alloc: Global, order: &LockOrder) -> Result<Command, NoMemory>
     Ok(get(order.client, order.number, key))
 }
 
-/// Asks for a command.
+/// Requests a command.
 fn request<P: Port>(
     alloc: Global,
     order: &LockOrder,
@@ -51,7 +51,7 @@ fn request<P: Port>(
     ask(alloc, port, order.to, command, order.turns, RESEND)
 }
 
-/// Asks for the operation that follows the look, under the next number, and answers what the client is told of it.
+/// Requests the operation that follows the read, under the next number, and returns the result to report.
 fn follow<P: Port>(alloc: Global, order: &LockOrder, op: Op, port: &mut P) -> Result<Told, AskError>
     requires key { FitsKey order.now.key }
     requires number { order.now.number < 2 ^ 64 - 1 }
@@ -69,7 +69,8 @@ fn follow<P: Port>(alloc: Global, order: &LockOrder, op: Op, port: &mut P) -> Re
     Ok(after_cas(&command.op, &outcome))
 }
 
-/// Looks at the key, asks for what follows by the rule, and answers what the client is told.
+/// Reads the key, requests the operation of the rule, and returns the result to report. `NoAnswer` if a reply does not
+/// come in its turns, `PortFault` if the port failed, `NoMemory` if memory runs out.
 pub(crate) fn learn<P: Port>(
     alloc: Global,
     order: &LockOrder,

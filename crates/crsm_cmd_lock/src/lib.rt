@@ -1,4 +1,4 @@
-//! Locks over a port: a client looks at a lock, asks for what follows by the rule, and is told how that went.
+//! Locks over a port: a client reads a lock, requests the operation of the rule, and reports the result.
 #![tactic(auto)]
 
 mod command;

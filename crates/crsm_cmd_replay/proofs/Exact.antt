@@ -1,5 +1,5 @@
--- Nothing of a schedule that can be run is refused, and nothing is refused for two causes: so the loop over lines answers
--- exactly.
+-- Nothing of a schedule that can be run is refused, and nothing is refused for two causes: so the loop over lines
+-- answers exactly.
 use Rattle.std.proofs.Common.{◌≡◌, ℕ, ◌+◌, ◌≤◌, inl, inr, List, [], ◌∷◌, ◌++◌, Option, Some, None, map, length, refl, ap, sym, ◌∙◌, subst}
 use Rattle.std.specs.List.{AllByRecursion}
 use Rattle.crsm_port_lines.specs.Exact as loop

@@ -17,7 +17,7 @@ cause_of Bad.IsUp = Cause.IsUp
 cause_of Bad.TooFew = Cause.TooFew
 cause_of Bad.Forged = Cause.Forged
 
--- the cause that a bad line is told with
+-- the cause to report for a bad line
 abbrev pub cause_in : BadLine Cause → Cause
 cause_in (Refused cause) = cause
 cause_in TooLong = Cause.Unreadable

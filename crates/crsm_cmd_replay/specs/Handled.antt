@@ -1,4 +1,4 @@
--- A line that is handled: what it adds to what has been read, and its lines of the transcript.
+-- The handling of a line: its effect on what has been read, and its lines of the transcript.
 use Rattle.std.specs.Prelude.{◌≡◌, ℕ, List, Option, Some, None}
 use Rattle.crsm_base.specs.declared.Line.{Line}
 use Rattle.crsm_schedule.specs.declared.Event.{Event}

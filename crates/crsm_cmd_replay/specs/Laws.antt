@@ -1,4 +1,4 @@
--- What the text of a schedule tells.
+-- The statements of the laws about the text of a schedule.
 use Rattle.std.specs.Prelude.{◌≡◌}
 use Rattle.std.specs.List.{AllByRecursion}
 use Rattle.crsm_schedule.specs.Grammar.{IsSize, FitsEvent}

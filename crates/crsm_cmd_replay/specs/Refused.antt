@@ -1,4 +1,4 @@
--- Which lines are refused, for which cause, after what has been read.
+-- The lines that are refused, and their causes, after what has been read.
 use Rattle.std.specs.Prelude.{◌≡◌, ◌≢◌, ℕ, List, [], ◌∷◌, ◌++◌, Option, Some, None}
 use Rattle.crsm_io.specs.Streams.{AtEnd}
 use Rattle.crsm_port_lines.specs.Run.{LongLine}
@@ -15,7 +15,7 @@ use Rattle.crsm_cmd_replay.specs.declared.cause.Cause.{Cause}
 
 -- ---- the first line
 
--- no number of replicas is spelt so
+-- the line is not the text of a number of replicas
 abbrev pub UnreadableFirst : List ℕ → Type 0
 UnreadableFirst line = (n : ℕ) → IsSize n → line ≢ first_text n
 
@@ -62,7 +62,7 @@ pub record CutLine (read : Option Schedule) (left : Option (List ℕ)) (text : L
   pub cut : CutShort read text
   pub ended : AtEnd left
 
--- What comes after what has been read begins with a bad line, for this cause. `left` is what is left behind the text.
+-- The input continues, after what has been read, with a bad line, for this cause. `left` is the rest of the input.
 pub data BeginsBad (read : Option Schedule) (left : Option (List ℕ)) (cause : Cause) (text : List ℕ) : Type 0 where
   bad_line : BadLine read cause text → BeginsBad read left cause text
   long_line : cause ≡ Cause.Unreadable → LongLine text → BeginsBad read left cause text

@@ -1,4 +1,4 @@
--- What a replay makes of the lines of an input.
+-- The effect of a replay on the lines of an input.
 use Rattle.std.specs.Prelude.{◌≡◌, List, [], Option, Some}
 use Rattle.crsm_port_lines.specs.Handling.{Handling, Text}
 use Rattle.crsm_world.specs.declared.World.{World}

@@ -1,4 +1,4 @@
--- What a replay did, by how it ended.
+-- The effects of a replay, by how it ended.
 use Rattle.std.specs.Prelude.{◌≡◌, ℕ, ◌+◌, ◌≤◌, ◌⊎◌, List, [], ◌∷◌, ◌++◌, Option, length, ◌<◌, Some}
 use Rattle.crsm_io.specs.Streams.{Takes, Puts, PutsPrefix, AtEnd}
 use Rattle.crsm_text.specs.Words.{Lacks}
@@ -62,7 +62,7 @@ pub data WrotePart (read : Option Schedule) (rest : List ℕ) (after had has : O
   of_transcript : PutsPrefix had has (shown_text read) → WrotePart read rest after had has
   of_all : rest ≡ [] → AtEnd after → PutsPrefix had has (whole_text read) → WrotePart read rest after had has
 
--- a part of what is to be written was written
+-- a part of the output was written
 pub record RanPartly (before after had has : Option (List ℕ)) : Type 0 where
   pub read : Option Schedule
   pub good : IsGood read
@@ -70,7 +70,7 @@ pub record RanPartly (before after had has : Option (List ℕ)) : Type 0 where
   pub takes : Takes before after (read_text read ++ rest)
   pub wrote : WrotePart read rest after had has
 
--- What a run did. It is shut, as the words below are: a proof opens it where it needs what is in it.
+-- The effect of a run. It is shut, as the words below are: a proof opens it where it needs its content.
 unfoldable pub Ran : Ending Cause → Option (List ℕ) → Option (List ℕ) → Option (List ℕ) → Option (List ℕ) → Type 0
 Ran Ending.Done before after had has = RanToEnd before after had has
 Ran (Ending.BadLine line why) before after had has = RanToBad before after had has line (cause_in why)
@@ -91,7 +91,7 @@ pub record Names (line : ℕ) (cause : Cause) (result : Ending Cause) : Type 0 w
 abbrev pub IsRefused : ℕ → Cause → Ending Cause → Type 0
 IsRefused line cause result = Names line cause result ⊎ (result ≡ Ending.NoMemory)
 
--- for a schedule within the limit, where its text is what is left
+-- for a schedule within the limit whose text is the rest of the input
 abbrev pub WhereSchedule : Option (List ℕ) → (Schedule → Type 0) → Type 0
 WhereSchedule left P = (s : Schedule) → IsSchedule s → left ≡ Some (schedule_text s) → length (schedule_text s) ≤ 1073741824 → P s
 

@@ -1,4 +1,4 @@
-//! What is wrong with a line of a schedule.
+//! The causes for which a line of a schedule is refused.
 
 ghost use Rattle.std.specs.Prelude.{◌≡◌};
 ghost use Rattle.crsm_cmd_replay.specs.Causes.{cause_in};
@@ -6,12 +6,12 @@ ghost use Rattle.crsm_cmd_replay.specs.Causes.{cause_in};
 use crsm_port_lines::LineRefusal;
 use std::fmt::{self, Display, Formatter, Write};
 
-/// What is wrong with a line.
+/// The cause for which a line of a schedule is refused.
 #[derive(Clone, Copy, Debug, PartialEq, Eq)]
 pub enum Cause {
-    /// It is outside the grammar.
+    /// The line is outside the grammar.
     Unreadable,
-    /// The datagrams and the log bodies have so many bytes, which is the limit or above it.
+    /// The datagrams and the log bodies have `bytes` bytes together, which is the limit or above it.
     Full { bytes: u64 },
     /// No replica has this number.
     NoSuchReplica,
@@ -21,7 +21,7 @@ pub enum Cause {
     Used,
     /// The datagram was neither delivered nor lost before.
     Fresh,
-    /// The datagrams have not all one receiver.
+    /// The datagrams do not all have one receiver.
     Mixed,
     /// The replica is down.
     IsDown,
@@ -29,11 +29,11 @@ pub enum Cause {
     IsUp,
     /// The members are fewer than a majority.
     TooFew,
-    /// The bytes are a datagram.
+    /// The bytes are the encoding of a datagram.
     Forged,
 }
 
-/// The cause that a bad line is told with.
+/// Returns the cause to report for a bad line.
 pub fn told_cause(why: LineRefusal<Cause>) -> Cause
     ensures { result ≡ cause_in why }
 {
@@ -43,7 +43,7 @@ pub fn told_cause(why: LineRefusal<Cause>) -> Cause
     }
 }
 
-/// The cause in words.
+/// Writes the cause in words.
 impl Display for Cause {
     fn fmt<W: Write>(&self, f: &mut Formatter<W>) -> fmt::Result {
         match self {

@@ -1,4 +1,4 @@
-//! A schedule from its beginning to its end.
+//! The replay of a schedule from its beginning to its end.
 
 ghost use Rattle.std.specs.Prelude.{◌≡◌, ◌≢◌, ◌<◌, ◌≤◌, ◌+◌, ℕ, List, Some, length};
 ghost use Rattle.crsm_port_faults.specs.Counts.{Rose};
@@ -13,22 +13,22 @@ use crsm_law_texts::{events_have_one_text, first_lines_have_one_text, spelt_are_
 use crsm_port_lines::{InputEnd, MAX_INPUT_BYTES, run_lines};
 use std::alloc::Global;
 
-/// Reads a schedule to its end, and writes its transcript and final lines.
+/// Reads a schedule to its end, and writes its transcript and final lines. Returns how that ended.
 pub fn replay<I: Source, O: Sink>(alloc: Global, input: &mut I, output: &mut O) -> InputEnd<Cause>
-    // What was taken and what was written, by how it ended.
+    // The bytes read and written, by how it ended.
     ensures ran { Ran result (I.left input.old) (I.left input.new) (O.written output.old) (O.written output.new) }
 
-    // A fault is answered only where it was counted.
+    // A fault is returned only if it was counted.
     ensures read_fault { result ≡ InputEnd.ReadFault → Rose (I.faults input.old) (I.faults input.new) }
     ensures write_fault { result ≡ InputEnd.WriteFault → Rose (O.faults output.old) (O.faults output.new) }
 
-    // A schedule within the limit is done, where no fault was counted.
+    // A schedule within the limit is done, if no fault was counted.
     ensures complete { WhereSchedule (I.left input.old) (λ s. WhereFaultless (I.faults input.old) (I.faults input.new) (O.faults output.old) (O.faults output.new) (IsDone result)) }
 
-    // An input that has a bad line within the limit is refused for the first one, where no fault was counted.
+    // An input with a bad line within the limit is refused for the first one, if no fault was counted.
     ensures refused { WhereBad (I.left input.old) (λ read cause. WhereFaultless (I.faults input.old) (I.faults input.new) (O.faults output.old) (O.faults output.new) (IsRefused (count_of read + 1) cause result)) }
 
-    // An input whose lines are good up to the limit and that has more bytes is too long, where no fault was counted.
+    // An input whose lines are good up to the limit and that has more bytes is too long, if no fault was counted.
     ensures too_long { WhereTooLong (I.left input.old) (WhereFaultless (I.faults input.old) (I.faults input.new) (O.faults output.old) (O.faults output.new) (IsTooLong result)) }
 
     // An input beyond the limit is never done, and one within it is never too long.

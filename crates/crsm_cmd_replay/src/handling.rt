@@ -17,10 +17,10 @@ use crsm_schedule::{Event, LineError, push_line, read_event, read_first};
 use crsm_world::{Bad, World};
 use std::alloc::Global;
 
-/// The room that is made for the text of a line, in bytes: few lines take more.
+/// Memory in bytes reserved for the text of a line; few lines are longer.
 const LINE_ROOM: usize = 96;
 
-/// The cause that the world names. Running out of memory is none.
+/// Returns the cause for a reason of the world, or `None` for `NoMemory`.
 #[tactic(auto, unfolding(crate::specs::Causes::cause_of, crsm_world::specs::Doing::bad_of))]
 fn named_cause(bad: Bad) -> Option<Cause>
     ensures { result ≡ option_map cause_of (bad_of bad) }
@@ -40,7 +40,7 @@ fn named_cause(bad: Bad) -> Option<Cause>
     }
 }
 
-/// Begins a world by the first line, and gives the lines of its boots.
+/// Begins a world by the first line, and returns the lines of its boots.
 fn begin_world(alloc: Global, line: &[u8]) -> Result<(World, Lines), Stop<Cause>>
     ensures ok { IfOk result (λ made. BeginsWorld line.now made.0 made.1) }
     ensures err { IfErr result (λ stop. StopsFirst stop line.now) }
@@ -54,10 +54,10 @@ fn begin_world(alloc: Global, line: &[u8]) -> Result<(World, Lines), Stop<Cause>
     Ok(made)
 }
 
-/// Lets an event go, in a function of its own, which keeps the cases of an event out of its callers' proofs.
+/// Drops an event in its own function, which keeps its cases out of its callers' proofs.
 fn discard(_event: Event) {}
 
-/// The event that a line spells.
+/// Parses the event of a line. `Unreadable` if it has none.
 fn event_of(alloc: Global, line: &[u8]) -> Result<Event, Stop<Cause>>
     ensures fits { IfOk result (λ event. FitsEvent event) }
     ensures text { IfOk result (λ event. line.now ≡ event_text event) }
@@ -70,7 +70,7 @@ fn event_of(alloc: Global, line: &[u8]) -> Result<Event, Stop<Cause>>
     }
 }
 
-/// Does the event that a line spells, and gives its lines.
+/// Executes the event of a line, and returns its lines.
 fn do_line(alloc: Global, world: &mut World, line: &[u8]) -> Result<Lines, Stop<Cause>>
     ensures ok { (w : on_paper.World) → WorldStands world.old w → IfOk result (λ lines. DoesEvent w line.now world.new lines) }
     ensures err { (w : on_paper.World) → WorldStands world.old w → IfErr result (λ stop. StopsNext stop w line.now) }
@@ -90,7 +90,7 @@ fn do_line(alloc: Global, world: &mut World, line: &[u8]) -> Result<Lines, Stop<
     }
 }
 
-/// Handles a whole line, which is the first where there is no world yet, and gives its lines.
+/// Handles a whole line, which is the first if there is no world yet, and returns its lines.
 fn take_line(alloc: Global, world: &mut Option<World>, line: &[u8]) -> Result<Lines, Stop<Cause>>
     ensures ok { IfOk result (λ lines. Advances world.old line.now world.new lines) }
     ensures err { IfErr result (λ stop. StopsAt stop world.old line.now) }
@@ -105,7 +105,7 @@ fn take_line(alloc: Global, world: &mut Option<World>, line: &[u8]) -> Result<Li
     }
 }
 
-/// Adds the text of the lines of a transcript. After an error what is there is of no use.
+/// Appends the text of the lines of a transcript. After an error the text is not usable.
 fn push_lines(text: &mut Bytes, at: u64, lines: &Lines) -> Result<(), NoMemory>
     ensures { OnOk result (text.new ≡ text.old ++ lines_text at lines.now) }
 {
@@ -115,7 +115,7 @@ fn push_lines(text: &mut Bytes, at: u64, lines: &Lines) -> Result<(), NoMemory>
     Ok(())
 }
 
-/// Gives the lines back to the world, which uses their room.
+/// Gives the lines back to the world, which uses their memory.
 fn give_back(world: &mut Option<World>, lines: Lines)
     ensures { StaysAt world.old world.new }
 {
@@ -125,7 +125,7 @@ fn give_back(world: &mut Option<World>, lines: Lines)
     }
 }
 
-/// A schedule that is replayed: the world, once the first line has begun it.
+/// The replay of a schedule: the world, once the first line has begun it.
 #[derive(Drop)]
 pub(crate) struct Replaying {
     alloc: Global,
@@ -139,7 +139,7 @@ impl Replaying {
         Replaying { alloc, world: None }
     }
 
-    /// Handles a line, and gives its lines of the transcript with room for their text.
+    /// Handles a line, and returns its lines of the transcript, with memory reserved for their text.
     fn advance(&mut self, line: &[u8], text: &mut Bytes) -> Result<Lines, Stop<Cause>>
         ensures ok { IfOk result (λ lines. Advances self.old.world line.now self.new.world lines) }
         ensures err { IfErr result (λ stop. StopsAt stop self.old.world line.now) }

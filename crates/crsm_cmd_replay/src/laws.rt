@@ -1,10 +1,10 @@
-//! What the text of a schedule tells.
+//! Laws of the text of a schedule.
 
 ghost use Rattle.crsm_cmd_replay.specs.Laws.{SchedulesAreOne};
 
 use crsm_law_texts::{events_have_one_text, first_lines_have_one_text, spelt_are_lines};
 
-/// A text is that of one schedule at most.
+/// States that a text is that of at most one schedule. It runs no code.
 pub fn schedules_are_one()
     ensures { SchedulesAreOne }
 {

@@ -1,4 +1,4 @@
-//! The command `replay`: a schedule is read, and its transcript and final lines are written.
+//! The command `replay`: it reads a schedule, and writes its transcript and final lines.
 #![tactic(auto)]
 
 mod cause;

@@ -1,4 +1,4 @@
--- When a sheet is done, refused for which line and cause, and too long: by what the loop over lines answers.
+-- When a sheet is done, refused for which line and cause, and too long: by the result of the loop over lines.
 use Rattle.std.proofs.Common.{◌≡◌, ℕ, ◌+◌, ◌≤◌, inl, inr, ◌++◌, Option, Some, map, length, refl, ap, sym, ◌∙◌, subst}
 use Rattle.crsm_port_lines.specs.Exact as loop
 use Rattle.crsm_port_lines.specs.Handling.{Text}

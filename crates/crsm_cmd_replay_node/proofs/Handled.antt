@@ -1,4 +1,4 @@
--- What the reader and the replay answer makes a line handled or refused.
+-- A line is handled or refused by the results of the reader and the replay.
 use Rattle.std.proofs.Common.{◌≡◌, ℕ, List, [], ◌∷◌, ◌++◌, Result, Ok, Err, IfErr, OnOk, map, refl, ap, sym, ◌∙◌, subst, append-nil}
 use Rattle.crsm_base.specs.declared.Line.{Line}
 use Rattle.crsm_port_lines.specs.Handling.{EndsWell, Handles, StopsAt, Text}
@@ -28,7 +28,7 @@ begins me n replay stands = record {
 }
 
 module _ (me n : ℕ) (texts : List Text) (shown : Text) where
-  -- a text that spells no line
+  -- a text that is not a line
   pub unread : (stop : Stop SheetCause) (text before : Text) → StopsUnread stop text → Spells me n texts shown
       → StopsAt (sheet_of_node me n) texts shown text before before stop
   unread (Stop.Refused cause) text before stops spells = (

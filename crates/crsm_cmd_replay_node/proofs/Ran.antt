@@ -1,4 +1,4 @@
--- What the loop over lines did is what a replay does.
+-- The effect of the loop over lines is that of a replay.
 use Rattle.std.proofs.Common.{◌≡◌, ℕ, ◌+◌, ◌≤◌, List, [], ◌∷◌, ◌++◌, Option, length, refl, ap, sym, ◌∙◌, subst}
 use Rattle.crsm_io.specs.Streams.{Takes, Puts}
 use Rattle.crsm_text.specs.Words.{Lacks}

@@ -1,4 +1,4 @@
--- How the lines of a sheet go on, and where they are no log.
+-- The lines that can follow in a sheet, and where they are not a log.
 use Rattle.std.proofs.Common.{◌≡◌, ℕ, List, [], ◌∷◌, ◌++◌, map, refl, ap, sym, ◌∙◌, subst, append_assoc, inl, inr}
 use Rattle.crsm_spec.specs.Draft.{Draft}
 use Rattle.crsm_spec.specs.Node.{Turn}

@@ -33,7 +33,7 @@ pub fit_push : (lines : List SheetLine) (line : SheetLine) → AllByRecursion Fi
 fit_push [] line fit fits = (fits, tt)
 fit_push (l ∷ lines) line fit fits = (fit.0, fit_push lines line fit.1 fits)
 
--- ---- which lines texts spell
+-- ---- the lines of texts
 
 -- of the texts of lines, those before one text, it, and those behind it
 pub record Cut (lines : List SheetLine) (before : List Text) (text : Text) : Type 0 where
@@ -80,7 +80,7 @@ cut (l ∷ lines) (t ∷ before) more text fit e =
       line_fits = c.line_fits;
     }
 
--- texts spell one list of lines
+-- texts are those of one list of lines
 pub one_lines : LinesHaveOneText → (ls ms : List SheetLine) → AllByRecursion FitsSheetLine ls → AllByRecursion FitsSheetLine ms
     → map sheet_line_text ls ≡ map sheet_line_text ms → ls ≡ ms
 one_lines law [] [] p q e = refl

@@ -1,4 +1,4 @@
--- The cause that a bad line is told with.
+-- The cause to report for a bad line.
 use Rattle.crsm_port_lines.specs.declared.Bad.{Bad}
 use Rattle.crsm_port_lines.specs.declared.Bad.TheVariants.{Refused, TooLong, Cut}
 use Rattle.crsm_cmd_replay_node.specs.declared.cause.SheetCause.{SheetCause}

@@ -1,4 +1,4 @@
--- What a replay makes of the lines of an input.
+-- The effect of a replay on the lines of an input.
 use Rattle.std.specs.Prelude.{◌≡◌, ℕ, List, [], ◌∷◌, ◌++◌, map}
 use Rattle.crsm_port_lines.specs.Handling.{Handling, Text}
 use Rattle.crsm_port_lines.specs.declared.Stop.{Stop}
@@ -12,7 +12,7 @@ use Rattle.crsm_cmd_replay_node.specs.Refused.{IsReplayed, Refused}
 use Rattle.crsm_cmd_replay_node.specs.declared.cause.SheetCause.{SheetCause}
 use Rattle.crsm_cmd_replay_node.specs.declared.handling.SheetReplay.{SheetReplay}
 
--- no line of a sheet is spelt so, or memory ran out
+-- the text is not a line of a sheet, or memory ran out
 abbrev pub StopsUnread : Stop SheetCause → Text → Type 0
 StopsUnread (Stop.Refused cause) text = (cause ≡ SheetCause.Unreadable) × Unreadable text
 StopsUnread Stop.NoMemory text = Unit {0}
@@ -29,13 +29,13 @@ StopsLine me n lines line before after Stop.NoMemory = (lost : Text) × (before 
 
 -- ---- the lines of an input
 
--- they spell these lines, and this is their text
+-- the texts are those of these lines, and this is the text of their steps
 pub record Spells (me n : ℕ) (texts : List Text) (shown : Text) : Type 0 where
   pub lines : List SheetLine
   pub texts_are : texts ≡ map sheet_line_text lines
   pub is : IsReplayed me n lines shown
 
--- the replay stands behind them
+-- the replay stands for the lines of these texts
 pub record StandsBehind (me n : ℕ) (replay : SheetReplay) (texts : List Text) (shown : Text) : Type 0 where
   pub spells : Spells me n texts shown
   pub stands : RerunStands me n 1 replay.rerun spells.lines spells.is.steps

@@ -1,4 +1,4 @@
--- What a replay did, by how it ended.
+-- The effects of a replay, by how it ended.
 use Rattle.std.specs.Prelude.{◌≡◌, ◌⊎◌, ℕ, ◌+◌, ◌<◌, ◌≤◌, List, [], ◌∷◌, ◌++◌, Option, Some, length}
 use Rattle.std.specs.List.{AllByRecursion}
 use Rattle.crsm_io.specs.Streams.{Takes, Puts, PutsPrefix, AtEnd}
@@ -70,7 +70,7 @@ module _ (me n : ℕ) where
     of_lines : PutsPrefix had has shown → WrotePart lines shown rest after had has
     of_all : (text : Text) → IsNodeText me n 1 lines text → rest ≡ [] → AtEnd after → PutsPrefix had has text → WrotePart lines shown rest after had has
 
-  -- a part of what is to be written was written
+  -- a part of the output was written
   pub record RanPartly (before after had has : Option Text) : Type 0 where
     pub lines : List SheetLine
     pub shown : Text
@@ -79,7 +79,7 @@ module _ (me n : ℕ) where
     pub takes : Takes before after (sheet_text lines ++ rest)
     pub wrote : WrotePart lines shown rest after had has
 
-  -- What a replay did. It is shut, as the words below are: a proof opens it where it needs what is in it.
+  -- The effect of a replay. It is shut, as the words below are: a proof opens it where it needs its content.
   unfoldable pub Ran : Ending SheetCause → Option Text → Option Text → Option Text → Option Text → Type 0
   Ran Ending.Done before after had has = RanToEnd before after had has
   Ran (Ending.BadLine line why) before after had has = RanToBad before after had has line (cause_in why)
@@ -94,7 +94,7 @@ module _ (me n : ℕ) where
   abbrev pub AreShort : List SheetLine → Type 0
   AreShort lines = AllByRecursion (λ l. length (sheet_line_text l) ≤ 16777216) lines
 
-  -- for a sheet whose bodies fit, within the limits, where its text is what is left
+  -- for a sheet whose bodies fit, within the limits, whose text is the rest of the input
   abbrev pub WhereSheet : Option Text → Type 0 → Type 0
   WhereSheet left P =
       (lines : List SheetLine) → AllByRecursion FitsSheetLine lines → AreShort lines → IsSheet me n lines →

@@ -1,21 +1,21 @@
-//! Why a line of a sheet is refused.
+//! The causes for which a line of a sheet is refused.
 
 ghost use Rattle.std.specs.Prelude.{◌≡◌};
 ghost use Rattle.crsm_cmd_replay_node.specs.Causes.{cause_in};
 
 use crsm_port_lines::LineRefusal;
 
-/// Why a line of a sheet is refused.
+/// The cause for which a line of a sheet is refused.
 #[derive(Clone, Copy, Debug, PartialEq, Eq)]
 pub enum SheetCause {
-    /// It is outside the grammar, or no sheet has it there.
+    /// The line is outside the grammar, or stands at a wrong place.
     Unreadable,
-    /// It is `open`, and of the bodies before it this one is the first that is no list of records (0), or whose first
-    /// record that does not fit is of this kind (1 to 9). The bodies are counted from 0.
+    /// The line is `open`, and the body with this number before it, from 0, is the first that is not a list of records
+    /// (`why` 0), or has a first record that does not fit of kind `why` (1 to 9).
     BadLog { entry: u64, why: u32 },
 }
 
-/// The cause that a bad line is told with.
+/// Returns the cause to report for a bad line.
 pub fn told_cause(why: LineRefusal<SheetCause>) -> SheetCause
     ensures { result ≡ cause_in why }
 {

@@ -1,4 +1,4 @@
-//! The lines of a sheet: each is handed to the replica that is replayed.
+//! The lines of a sheet: each is passed to the replica that is replayed.
 
 ghost use Rattle.std.specs.Prelude.{◌≡◌, ◌≢◌, ◌<◌, ◌≤◌, ◌^◌, ◌-◌, ◌++◌, [], ℕ, List, IfErr, IfOk, OnOk};
 ghost use Rattle.crsm_replica_rerun.specs.Replaying.{RerunStands, WhereStands, AddsText};
@@ -14,7 +14,7 @@ use crsm_schedule::push_line;
 use crsm_text_sheet::{LineError, SheetLine, read_sheet};
 use std::alloc::Global;
 
-/// The line that a text spells.
+/// Parses a line of a sheet. `Unreadable` if it is outside the grammar.
 fn line_of(alloc: Global, text: &[u8]) -> Result<SheetLine, Stop<SheetCause>>
     ensures found { IfOk result (λ line. FitsSheetLine line × (text.now ≡ sheet_line_text line)) }
     ensures one { (line : Spelt) → FitsSheetLine line → text.now ≡ sheet_line_text line → IfOk result (λ read. read ≡ line) }
@@ -27,10 +27,10 @@ fn line_of(alloc: Global, text: &[u8]) -> Result<SheetLine, Stop<SheetCause>>
     }
 }
 
-/// Lets a value go, in a function of its own, which keeps the cases of the value out of its caller's proof.
+/// Drops a value in its own function, which keeps its cases out of its caller's proof.
 fn discard<T: Drop>(_value: T) {}
 
-/// A sheet that is replayed.
+/// The replay of a sheet.
 #[derive(Drop)]
 pub(crate) struct SheetReplay {
     alloc: Global,
@@ -40,7 +40,7 @@ pub(crate) struct SheetReplay {
 }
 
 impl SheetReplay {
-    /// The sheet of replica `me` of a cluster that began with `n`, before its first line.
+    /// Returns the replay of the sheet of replica `me`, of a cluster that began with `n`, before its first line.
     pub(crate) fn new(alloc: Global, me: u32, n: u32) -> SheetReplay
         requires me_below { me < 15 }
         requires some { 1 ≤ n }
@@ -58,7 +58,7 @@ impl SheetReplay {
         }
     }
 
-    /// Replays a line, and adds the text of what the replica makes at it.
+    /// Replays a line, and appends the text of the replica's output.
     fn advance(&mut self, line: &SheetLine, text: &mut Bytes) -> Result<(), Stop<SheetCause>>
         ensures same { (self.new.me ≡ self.old.me) × (self.new.n ≡ self.old.n) }
         ensures ok { WhereStands self.old.rerun (λ me n first lines steps. OnOk result (AddsText me n first self.new.rerun lines steps line.now text.old text.new)) }

@@ -1,4 +1,4 @@
-//! The command `replay-node`: a node's sheet is read, and what the replica kept, sent and told is written.
+//! The command `replay-node`: it reads a node's sheet, and writes the records, datagrams and replies of its replica.
 #![tactic(auto)]
 
 mod cause;

@@ -1,4 +1,4 @@
--- A run, event by event: what has been drawn and done, and what is still ahead.
+-- A run, event by event: the events generated and executed, and those still to come.
 use Rattle.std.proofs.Common.{◌≡◌, ◌+◌, ℕ, zero, suc, true, false, List, [], ◌∷◌, ◌++◌, length, map, refl, ap, sym, ◌∙◌, subst, arith, append_assoc, append-nil, Option, None, Some}
 use Rattle.std.proofs.lemmas.List.{map-append}
 use Rattle.crsm_sim_generator.specs.Drawing.{begun, drawn_next}
@@ -39,7 +39,7 @@ first_event w e es =
     let m = act w (act_of e) in
     map-append (λ x. x.line) (map (traced (Some (act_of e))) m.lines) (told m.after (map act_of es)) ∙ ap (λ ls. ls ++ lines_from m.after es) (lines_again (Some (act_of e)) m.lines)
 
--- ---- a run that has come so far
+-- ---- a run in progress
 
 pub record Runs (run : SoakRun) (number n steps left : ℕ) : Type 0 where
   pub cluster : World

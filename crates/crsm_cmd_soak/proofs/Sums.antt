@@ -1,4 +1,4 @@
--- Counts of more lines, and the greatest number of one line more.
+-- Counts of more lines, and the greatest number with one more line.
 use Rattle.std.proofs.Common.{◌≡◌, ◌<◌, ◌+◌, ℕ, Bool, cond, List, [], ◌∷◌, ◌++◌, length, get_or, take, ap, sym, ◌∙◌, arith}
 use Rattle.std.specs.Prelude.{fold, max}
 use Rattle.std.specs.List.{count_by}

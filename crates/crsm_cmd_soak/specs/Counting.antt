@@ -1,4 +1,4 @@
--- What lines tell, as it is counted.
+-- The counts of lines by their kind.
 use Rattle.std.specs.Prelude.{ℕ, Bool, true, false, List, fold, max}
 use Rattle.crsm_spec.specs.Types.{Line}
 
@@ -17,7 +17,7 @@ unfoldable pub is_refusal : Line → Bool
 is_refusal (Line.ReplyNo replica client number code) = true
 is_refusal _ = false
 
--- a client was told that its command is dropped
+-- a client received the reply that its command is dropped
 unfoldable pub is_drop : Line → Bool
 is_drop (Line.ReplyDropped replica client number epoch stamp) = true
 is_drop _ = false

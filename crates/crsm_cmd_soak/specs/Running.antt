@@ -1,4 +1,4 @@
--- A run in memory that has come so far.
+-- The state of a run in memory.
 use Rattle.std.specs.Prelude.{◌≡◌, ℕ, List, [], ◌∷◌, ◌++◌, length, None}
 use Rattle.crsm_sim_generator.specs.Drawing.{begun, drawn_next}
 use Rattle.crsm_spec.specs.Acts.{Act}

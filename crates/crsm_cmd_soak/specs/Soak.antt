@@ -1,4 +1,4 @@
--- Runs that a number draws, and their summary.
+-- Generated runs, and their summary.
 use Rattle.std.specs.Prelude.{ℕ, ◌+◌, List, length, map}
 use Rattle.std.specs.List.{count_by}
 use Rattle.crsm_spec.specs.Run.{seen}
@@ -15,7 +15,7 @@ use Rattle.crsm_cmd_soak.specs.declared.summary.Summary.{Summary}
 unfoldable pub nothing : Summary
 nothing = record { steps = 0; submitted = 0; executed = 0; answered = 0; refused = 0; dropped = 0; epoch = 0; datagrams = 0 }
 
--- so many events more have led to these lines
+-- the summary after further events, which led to these lines
 unfoldable pub more : Summary → (steps : ℕ) → List Line → Summary
 more s steps lines =
     record s {
@@ -31,7 +31,7 @@ more s steps lines =
 unfoldable pub lines_of : Schedule → List Line
 lines_of s = map (λ x. x.line) (seen s.replicas (acts_of s))
 
--- What is told of a run: how many events it has, what its lines tell, and the greatest numbers of its final lines.
+-- The summary of a run: the number of its events, the counts of its lines, and the greatest numbers of its final lines.
 unfoldable pub summary_of : Schedule → Summary
 summary_of s =
     record (more nothing (length s.events) (lines_of s)) {

@@ -1,4 +1,4 @@
--- What is written of a run.
+-- The text written of a run.
 use Rattle.std.specs.Prelude.{ℕ, List, [], ◌∷◌, ◌++◌, codes}
 use Rattle.crsm_text.specs.Words.{named}
 use Rattle.crsm_world.specs.Schedule.{Schedule, finals_text}

@@ -1,4 +1,4 @@
-//! Lines, counted by what they tell.
+//! Counts of lines by their kind.
 
 ghost use Rattle.std.specs.Prelude.{◌≡◌};
 ghost use Rattle.std.specs.List.{count_by};
@@ -7,7 +7,7 @@ ghost use Rattle.crsm_cmd_soak.specs.Counting.{greatest, is_answer, is_drop, is_
 
 use crsm_base::Line;
 
-/// How many of these are submitted commands.
+/// Returns the number of submitted commands among the lines.
 #[tactic(auto, unfolding(crate::specs::Counting::is_submission))]
 pub(crate) fn submissions(lines: &[Line]) -> u64
     ensures { result ≡ count_by is_submission lines.now }
@@ -18,7 +18,7 @@ pub(crate) fn submissions(lines: &[Line]) -> u64
         .count() as u64
 }
 
-/// How many of these are answers.
+/// Returns the number of answers among the lines.
 #[tactic(auto, unfolding(crate::specs::Counting::is_answer))]
 pub(crate) fn answers(lines: &[Line]) -> u64
     ensures { result ≡ count_by is_answer lines.now }
@@ -29,7 +29,7 @@ pub(crate) fn answers(lines: &[Line]) -> u64
         .count() as u64
 }
 
-/// How many of these are refusals.
+/// Returns the number of refusals among the lines.
 #[tactic(auto, unfolding(crate::specs::Counting::is_refusal))]
 pub(crate) fn refusals(lines: &[Line]) -> u64
     ensures { result ≡ count_by is_refusal lines.now }
@@ -40,7 +40,7 @@ pub(crate) fn refusals(lines: &[Line]) -> u64
         .count() as u64
 }
 
-/// How many of these tell that a command is dropped.
+/// Returns the number of replies among the lines that a command is dropped.
 #[tactic(auto, unfolding(crate::specs::Counting::is_drop))]
 pub(crate) fn drops(lines: &[Line]) -> u64
     ensures { result ≡ count_by is_drop lines.now }
@@ -51,7 +51,7 @@ pub(crate) fn drops(lines: &[Line]) -> u64
         .count() as u64
 }
 
-/// How many of these are datagrams.
+/// Returns the number of datagrams sent among the lines.
 #[tactic(auto, unfolding(crate::specs::Counting::is_send))]
 pub(crate) fn sends(lines: &[Line]) -> u64
     ensures { result ≡ count_by is_send lines.now }
@@ -62,7 +62,7 @@ pub(crate) fn sends(lines: &[Line]) -> u64
         .count() as u64
 }
 
-/// How much its replica has executed, by a final line. Other lines do not say it.
+/// Returns the executed length in a final line, 0 for other lines.
 #[tactic(auto, unfolding(crate::specs::Counting::executed_in))]
 fn executed_in(line: &Line) -> u64
     ensures { result ≡ on_paper.executed_in line.now }
@@ -73,7 +73,7 @@ fn executed_in(line: &Line) -> u64
     }
 }
 
-/// The epoch that its replica knows, by a final line. Other lines do not say it.
+/// Returns the known epoch in a final line, 0 for other lines.
 #[tactic(auto, unfolding(crate::specs::Counting::known_in))]
 fn known_in(line: &Line) -> u64
     ensures { result ≡ on_paper.known_in line.now }
@@ -84,7 +84,7 @@ fn known_in(line: &Line) -> u64
     }
 }
 
-/// The greatest executed length.
+/// Returns the greatest executed length in the lines.
 pub(crate) fn greatest_executed(lines: &[Line]) -> u64
     ensures { result ≡ greatest on_paper.executed_in lines.now }
 {
@@ -95,7 +95,7 @@ pub(crate) fn greatest_executed(lines: &[Line]) -> u64
     greatest
 }
 
-/// The greatest known epoch.
+/// Returns the greatest known epoch in the lines.
 pub(crate) fn greatest_known(lines: &[Line]) -> u64
     ensures { result ≡ greatest on_paper.known_in lines.now }
 {

@@ -1,4 +1,4 @@
-//! Runs a generated world, and tells what became of it.
+//! The command `soak`: it runs a generated world, and writes a summary.
 #![tactic(auto)]
 
 mod counting;

@@ -1,4 +1,4 @@
-//! One generated event after another.
+//! The run of generated events.
 
 ghost use Rattle.std.specs.Prelude.{◌≡◌, ◌≤◌, ℕ, IfErr, IfOk, List, Ok, OnOk};
 ghost use Rattle.crsm_spec.specs.Acts.{Act};
@@ -15,10 +15,10 @@ use crsm_sim_generator::Generator;
 use crsm_world::{Bad, World};
 use std::alloc::Global;
 
-/// Lets an event go, in a function of its own, which keeps the cases of an event out of its callers' proofs.
+/// Drops an event in its own function, which keeps its cases out of its callers' proofs.
 fn discard(_event: Event) {}
 
-/// What an event led to that was not refused.
+/// Returns the lines of an event that was not refused.
 fn unless_refused(stepped: Result<Lines, Bad>) -> Result<Lines, NoMemory>
     requires { IfErr stepped (λ bad. bad ≡ Bad.NoMemory) }
     ensures { IfOk result (λ lines. stepped ≡ Ok lines) }
@@ -32,7 +32,7 @@ fn unless_refused(stepped: Result<Lines, Bad>) -> Result<Lines, NoMemory>
     }
 }
 
-/// A run as far as it has come.
+/// The state of a run: its generator, its world and its summary.
 #[derive(Drop)]
 pub(crate) struct SoakRun {
     pub world: World,
@@ -41,7 +41,7 @@ pub(crate) struct SoakRun {
 }
 
 impl SoakRun {
-    /// The replicas have booted.
+    /// Returns the run once the replicas have booted.
     fn begin(alloc: Global, number: u64, n: u32) -> Result<SoakRun, NoMemory>
         requires some { 1 ≤ n }
         requires most { n ≤ 15 }
@@ -58,7 +58,7 @@ impl SoakRun {
         })
     }
 
-    /// Draws an event and does it. The event is possible, so it is not refused.
+    /// Generates an event and executes it. The event is possible, so it is not refused.
     fn step(&mut self) -> Result<(), NoMemory>
         requires { CanGoOn self.old }
         ensures { (v : on_paper.World) (n : ℕ) (acts : List Act) → WorldStands self.old.world v → HasDone self.old.world n acts → OnOk result (StepsOn v n acts self.old self.new) }
@@ -73,7 +73,7 @@ impl SoakRun {
     }
 }
 
-/// Runs up to so many generated events: it ends early where the world is full.
+/// Runs up to `steps` generated events: it ends early if the world is full. `NoMemory` if memory runs out.
 pub(crate) fn run_all(alloc: Global, number: u64, n: u32, steps: u64) -> Result<SoakRun, NoMemory>
     requires some { 1 ≤ n }
     requires most { n ≤ 15 }

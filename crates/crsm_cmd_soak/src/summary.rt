@@ -1,4 +1,4 @@
-//! What is told of a whole run.
+//! The summary of a run.
 
 ghost use Rattle.std.specs.Prelude.{◌≡◌, ◌+◌, IfOk, OnOk};
 ghost use Rattle.crsm_cmd_soak.specs.Counting.{executed_in, greatest, known_in};
@@ -9,26 +9,27 @@ use crate::counting::{
 };
 use crsm_base::{Line, NoMemory, never};
 
-/// What is told of a whole run. A replica that is down counts with what it has executed and known.
+/// The summary of a run: counts over all its events. A replica that is down counts with its last executed length and
+/// epoch.
 #[derive(Clone, Copy, Debug)]
 pub(crate) struct Summary {
-    /// Events that were done.
+    /// Number of events executed.
     pub steps: u64,
-    /// Commands that a replica has logged.
+    /// Number of commands that a replica has logged.
     pub submitted: u64,
-    /// The greatest executed length.
+    /// The greatest executed length, in entries.
     pub executed: u64,
     pub answered: u64,
     pub refused: u64,
-    /// Commands whose client was told that they are dropped.
+    /// Number of replies that a command is dropped.
     pub dropped: u64,
     /// The greatest known epoch.
     pub epoch: u64,
-    /// Datagrams that were sent.
+    /// Number of datagrams sent.
     pub datagrams: u64,
 }
 
-/// The sum of what was counted. All of it was in memory, so that the sum stays in its range.
+/// Returns the sum of two counts. All that was counted was in memory, so that the sum does not overflow.
 fn sum(before: u64, more: u64) -> Result<u64, NoMemory>
     ensures { IfOk result (λ sum. sum ≡ before + more) }
 {
@@ -36,7 +37,7 @@ fn sum(before: u64, more: u64) -> Result<u64, NoMemory>
 }
 
 impl Summary {
-    /// Nothing has happened.
+    /// Returns the summary before any event.
     #[tactic(auto, unfolding(crate::specs::Soak::nothing))]
     pub fn new() -> Summary
         ensures { result ≡ nothing }
@@ -53,7 +54,7 @@ impl Summary {
         }
     }
 
-    /// So many events more have led to these lines.
+    /// Adds `steps` events, which led to these lines. `NoMemory` if memory runs out.
     #[tactic(auto, unfolding(crate::specs::Soak::more))]
     pub fn add(&mut self, steps: u64, lines: &[Line]) -> Result<(), NoMemory>
         ensures { OnOk result (self.new ≡ more self.old steps lines.now) }
@@ -67,7 +68,7 @@ impl Summary {
         Ok(())
     }
 
-    /// The run has ended with these lines, one of each replica.
+    /// Adds the final lines of the run, one of each replica.
     pub fn end(&mut self, finals: &[Line])
         ensures { self.new ≡ record self.old { executed = greatest executed_in finals.now; epoch = greatest known_in finals.now } }
     {

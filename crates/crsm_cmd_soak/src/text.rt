@@ -10,7 +10,7 @@ use crsm_schedule::push_line;
 use crsm_text::push_named;
 use std::alloc::Global;
 
-/// Adds a line of a word and a number.
+/// Appends a line of a word and a number.
 fn push_row(text: &mut Bytes, name: &[u8], value: u64) -> Result<(), NoMemory>
     ensures { OnOk result (text.new ≡ text.old ++ row name.now value) }
 {
@@ -19,7 +19,7 @@ fn push_row(text: &mut Bytes, name: &[u8], value: u64) -> Result<(), NoMemory>
     Ok(())
 }
 
-/// The text of a summary.
+/// Returns the text of a summary. `NoMemory` if memory runs out.
 #[tactic(auto, unfolding(crate::specs::Text::summary_text))]
 pub(crate) fn text_of(alloc: Global, summary: &Summary) -> Result<Bytes, NoMemory>
     ensures { IfOk result (λ text. text ≡ summary_text summary.now) }
@@ -36,7 +36,7 @@ pub(crate) fn text_of(alloc: Global, summary: &Summary) -> Result<Bytes, NoMemor
     Ok(text)
 }
 
-/// Adds the text of final lines.
+/// Appends the text of final lines. `NoMemory` if memory runs out.
 pub(crate) fn push_finals(text: &mut Bytes, finals: &[Line]) -> Result<(), NoMemory>
     ensures { OnOk result (text.new ≡ text.old ++ lines_text 0 finals.now) }
 {

@@ -1,4 +1,4 @@
-//! The whole of a soak: a generated run, and what is written of it.
+//! The soak from its first event to the text that it writes.
 
 ghost use Rattle.std.specs.Prelude.{◌≡◌, ◌≢◌, ◌≤◌, IfOk};
 ghost use Rattle.crsm_port_faults.specs.Counts.{Rose};
@@ -14,17 +14,17 @@ use crsm_base::{Bytes, NoMemory};
 use crsm_io::{Sink, put_all};
 use std::alloc::Global;
 
-/// How a soak ended.
+/// The end of a soak.
 #[derive(Clone, Copy, Debug, PartialEq, Eq)]
 pub enum SoakEnd {
-    /// All events were done, or the world was full before one, and the summary was written.
+    /// All events were executed, or the world was full before one, and the summary was written.
     Done,
     /// A prefix of the summary was written.
     WriteFault,
     NoMemory,
 }
 
-/// The text of a run that was drawn.
+/// Returns the text of a generated run.
 fn run_to_text(alloc: Global, number: u64, n: u32, steps: u64) -> Result<Bytes, NoMemory>
     requires some { 1 ≤ n }
     requires most { n ≤ 15 }
@@ -39,19 +39,19 @@ fn run_to_text(alloc: Global, number: u64, n: u32, steps: u64) -> Result<Bytes, 
     Ok(text)
 }
 
-/// Runs up to so many events that a number draws for a cluster of `n` replicas, and writes the summary of the run and the
-/// final lines. Equal arguments give equal bytes.
+/// Runs up to `steps` events generated from the seed `number` for a cluster of `n` replicas, and writes the summary of
+/// the run and the final lines. Equal arguments give equal bytes. Returns how that ended.
 pub fn soak<O: Sink>(alloc: Global, number: u64, n: u32, steps: u64, output: &mut O) -> SoakEnd
     requires some { 1 ≤ n }
     requires most { n ≤ 15 }
-    // What is written: all of it, or a prefix.
+    // The bytes written: all of the text, or a prefix.
     ensures done { result ≡ SoakEnd.Done → Puts (O.written output.old) (O.written output.new) (soak_text (drawn number n steps)) }
     ensures prefix { PutsPrefix (O.written output.old) (O.written output.new) (soak_text (drawn number n steps)) }
 
-    // A fault is answered only where it was counted.
+    // A fault is returned only if it was counted.
     ensures write_fault { result ≡ SoakEnd.WriteFault → Rose (O.faults output.old) (O.faults output.new) }
 
-    // Of the run all laws hold.
+    // All laws hold for the run.
     ensures laws { result ≢ SoakEnd.NoMemory → IsLawful n (acts_of (drawn number n steps)) }
 {
     let Ok(text) = run_to_text(alloc, number, n, steps) else {

@@ -1,4 +1,4 @@
--- The commit rule of the first entry, and which votes matter.
+-- The commit rule of the first entry, and the votes that matter for it.
 use Rattle.std.proofs.Common.{◌≡◌, ℕ, Bool, true, false, refl, sym, ◌∙◌, ap, subst, List, [], ◌∷◌, inl, inr, Some, None, IsTrue}
 use Rattle.std.specs.Prelude.{◌&&◌, ◌↔◌, if◌then◌else◌}
 use Rattle.crsm_base.specs.declared.Stamp.{Stamp}

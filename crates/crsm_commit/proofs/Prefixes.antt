@@ -1,4 +1,4 @@
--- A list behind a prefix that is passed over, changed at a place.
+-- A list after a prefix that is passed over, changed at an index.
 use Rattle.std.proofs.Common.{◌≡◌, ℕ, ◌+◌, ◌<◌, ◌≤◌, refl, ◌∙◌, ap, arith, List, [], ◌∷◌, length, take, drop, zero, suc, zero-add, subst, true, false, length-drop, get_or}
 use Rattle.std.specs.Prelude.{insert, remove}
 use Rattle.std.specs.List.{AllByRecursion}

@@ -1,4 +1,4 @@
--- Masks that stand for all votes, one more vote, and a stamp that is tracked no more.
+-- Masks that stand for all votes, one more vote, and a stamp that is not tracked any more.
 use Rattle.std.proofs.Common.{◌≡◌, ℕ, ◌^◌, ◌<◌, Bool, true, false, refl, sym, ◌∙◌, ap, arith, List, ◌∷◌, inl, inr, bit_or}
 use Rattle.std.specs.Prelude.{◌&&◌, not, if◌then◌else◌}
 use Rattle.std.proofs.lemmas.Bool.Decides.{nat_tests}

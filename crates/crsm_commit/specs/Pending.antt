@@ -37,7 +37,7 @@ WhereStands pending P =
     (tracked : Stamp → Bool) (waiting : List Entry) (votes : List (Stamp × ℕ)) →
     PendingStands pending tracked waiting votes → P tracked waiting votes
 
--- the same where these times were received, of which each is 1 or more
+-- the same where these times, each at least 1, were received
 abbrev pub WhereHeard : Pending → Latest → ((Stamp → Bool) → List Entry → List (Stamp × ℕ) → List (ℕ × ℕ) → Type 0) → Type 0
 WhereHeard pending latest P =
     (tracked : Stamp → Bool) (waiting : List Entry) (votes : List (Stamp × ℕ)) (received : List (ℕ × ℕ)) →

@@ -1,4 +1,4 @@
--- What the kept times stand for.
+-- What the recorded times stand for.
 use Rattle.std.specs.Prelude.{◌≡◌, ℕ, ◌<◌, List, slice_index}
 use Rattle.crsm_spec.specs.Replica.{latest_from}
 use Rattle.crsm_commit.specs.declared.latest.Latest.{Latest}

@@ -1,4 +1,4 @@
-//! The latest time received from each replica.
+//! The latest time of each replica.
 
 ghost use Rattle.std.specs.Prelude.{◌≡◌, ℕ, ◌^◌, ◌<◌, ◌≤◌, [], ◌∷◌, List, nat_le};
 ghost use Rattle.std.specs.List.{list_all};
@@ -7,24 +7,24 @@ ghost use Rattle.crsm_spec.specs.Ready.{reached};
 
 use crsm_base::Members;
 
-/// The latest time that was received from each replica, or issued by this one.
+/// The latest time received from each replica, or issued by this one, in units of their clocks.
 #[derive(Debug, Drop)]
 pub struct Latest {
-    /// By the number of the replica; 0 before the first.
+    /// By replica number; 0 before the first.
     times: [u64; 15],
 }
 
 impl Latest {
     ghost use Rattle.crsm_commit.specs.Received.{LatestStands};
 
-    /// Nothing was received.
+    /// Returns the times before any was received.
     pub fn new() -> Latest
         ensures { LatestStands result [] }
     {
         Latest { times: [0; 15] }
     }
 
-    /// A time of k was received. An older one changes nothing.
+    /// Records a time received from replica `k`. An older one changes nothing.
     pub fn receive(&mut self, k: u32, time: u64)
         requires { k < 15 }
         ensures { (received : List (ℕ × ℕ)) → LatestStands self.old received → LatestStands self.new ((k, time) ∷ received) }
@@ -35,7 +35,7 @@ impl Latest {
         }
     }
 
-    /// The latest time of k, 0 where none was received.
+    /// Returns the latest time of replica `k`, 0 if none was received.
     pub fn of(&self, k: u32) -> u64
         requires { k < 15 }
         ensures { (received : List (ℕ × ℕ)) → LatestStands self.now received → result ≡ latest_from received k }
@@ -43,7 +43,7 @@ impl Latest {
         self.times[k as usize]
     }
 
-    /// The least of the latest times of the members: each of them has reached it, and nothing above it.
+    /// Returns the least of the members' latest times.
     pub fn least(&self, members: &Members) -> u64
         ensures { (received : List (ℕ × ℕ)) (time : ℕ) → LatestStands self.now received → 1 ≤ time → time < 2 ^ 64 →
             nat_le time result ≡ list_all (reached received time) members.now }

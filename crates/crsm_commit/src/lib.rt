@@ -1,8 +1,8 @@
 //! The commit rule: which logged entry is executed next, and when.
 //!
-//! `Latest` keeps the latest time that was received from each replica, `Pending` the entries that are not executed and
-//! who has logged them. An entry is ready when a majority has logged it, no member issues a lesser time any more, and
-//! no entry with a lesser stamp is pending.
+//! `Latest` has the latest time received from each replica, `Pending` the entries that are not executed and the
+//! replicas that have logged them. An entry is ready when a majority has logged it, each member's latest time has
+//! reached its time, and no entry with a lesser stamp is pending.
 #![tactic(auto)]
 
 mod latest;

@@ -17,17 +17,17 @@ use crate::votes::Votes;
 use crsm_base::{Entry, Members, NoMemory, Stamp, majority};
 use std::alloc::Global;
 
-/// How many queues there are: one for each replica, and the last for any other origin.
+/// Number of queues: one for each replica, and the last for any other origin.
 const QUEUES: usize = 16;
 
-/// The entries that were added and not taken, by their stamps, and who has logged which stamp.
+/// The entries that were added and not taken, by their stamps, and which replicas have logged which stamp.
 ///
-/// Some stamps are tracked: what it answers for these is what all votes say. One that is taken is tracked no more, so
-/// votes for it need not be counted from then on.
+/// Some stamps are tracked: for these the votes are complete. A stamp is not tracked any more once its entry is taken,
+/// so later votes for it need not be counted.
 #[derive(Drop)]
 pub struct Pending {
     queues: [Stamps; 16],
-    /// The least stamp of all queues: the one that each step asks for.
+    /// The least stamp of all queues, which each step asks for.
     first: Option<Stamp>,
     votes: Votes,
 }
@@ -35,7 +35,7 @@ pub struct Pending {
 impl Pending {
     ghost use Rattle.crsm_commit.specs.Pending.{PendingStands, WhereHeard, WhereStands, first_ready};
 
-    /// Nothing is pending.
+    /// Returns the state without entries and votes.
     pub fn new(alloc: Global) -> Pending
         ensures { (tracked : Stamp → Bool) → PendingStands result tracked [] [] }
     {
@@ -63,7 +63,7 @@ impl Pending {
         }
     }
 
-    /// Adds an entry that was logged. An `Err` changes nothing.
+    /// Adds an entry that was logged. `NoMemory` if memory runs out; nothing has changed then.
     pub fn add(&mut self, entry: &Entry) -> Result<(), NoMemory>
         ensures ok { OnOk result (WhereStands self.old (λ tracked waiting votes. PendingStands self.new tracked (with_entry entry.now waiting) votes)) }
         ensures err { OnErr result ((tracked : Stamp → Bool) (waiting : List Entry) (votes : List (Stamp × ℕ)) → PendingStands self.old tracked waiting votes → PendingStands self.new tracked waiting votes) }
@@ -74,7 +74,8 @@ impl Pending {
         Ok(())
     }
 
-    /// Replica k has logged the stamp, whether its entry was added or not. An `Err` changes nothing.
+    /// Records that replica `k` has logged the stamp, whether its entry was added or not. `NoMemory` if memory runs
+    /// out; nothing has changed then.
     pub fn voted(&mut self, stamp: Stamp, k: u32) -> Result<(), NoMemory>
         requires { k < 15 }
         ensures ok { OnOk result (WhereStands self.old (λ tracked waiting votes. PendingStands self.new tracked waiting ((stamp, k) ∷ votes))) }
@@ -85,13 +86,13 @@ impl Pending {
         Ok(())
     }
 
-    /// The stamp of the entry that is executed next, where it is ready: a majority of the Spec has logged it, each
-    /// member's latest time has reached its time, and no entry that is pending has a lesser stamp.
+    /// Returns the stamp of the next entry to execute if it is ready, else `None`. It is ready when a majority of
+    /// `spec` has logged it, each member's latest time has reached its time, and no pending entry has a lesser stamp.
     pub fn ready(&self, latest: &Latest, members: &Members, spec: &Members) -> Option<Stamp>
         ensures { WhereHeard self.now latest.now (λ tracked waiting votes received. AllByRecursion (λ e. tracked e.stamp ≡ true) waiting → result ≡ first_ready spec.now members.now received votes waiting) }
     {
         let stamp = self.first?;
-        // Mostly this is what is waited for, so it is looked at first.
+        // This is the condition that mostly fails, so it is tested first.
         if stamp.time.max(1) > latest.least(members) {
             return None;
         }
@@ -103,7 +104,7 @@ impl Pending {
         }
     }
 
-    /// Takes the entry of this stamp, which is tracked no more from then on, and answers whether one was pending.
+    /// Removes the entry of this stamp, which is not tracked from then on, and returns whether one was pending.
     pub fn take(&mut self, stamp: Stamp) -> bool
         ensures entry { WhereStands self.old (λ tracked waiting votes. result ≡ is_some (find (is_at stamp) waiting)) }
         ensures rest { WhereStands self.old (λ tracked waiting votes. PendingStands self.new (λ s. tracked s && not (stamp_eq stamp s)) (without_entry stamp waiting) votes) }
@@ -115,7 +116,7 @@ impl Pending {
         taken
     }
 
-    /// The stamps of the pending entries of an origin, in rising time.
+    /// Returns the stamps of the pending entries of an origin, by ascending time.
     pub fn queue(&self, origin: u32) -> &[Stamp]
         requires { origin < 15 }
         ensures { WhereStands self.now (λ tracked waiting votes. result.now ≡ map stamp_of (filter (λ e. e.stamp.origin == origin) waiting)) }
@@ -124,14 +125,14 @@ impl Pending {
     }
 }
 
-/// The queue of an origin.
+/// Returns the index of an origin's queue.
 fn queue_of(origin: u32) -> usize
     ensures { result ≡ min origin 15 }
 {
     (origin as usize).min(QUEUES - 1)
 }
 
-/// The mask with replica k in it.
+/// Returns the mask with the bit of replica `k` set.
 fn with_vote(mask: u16, k: u32) -> u16
     requires { k < 15 }
     ensures { result ≡ bit_or mask (2 ^ k) }
@@ -139,7 +140,7 @@ fn with_vote(mask: u16, k: u32) -> u16
     mask | (1 << k)
 }
 
-/// How many of these replicas the mask has.
+/// Returns how many of these replicas have their bit set in the mask.
 fn count_in(mask: u16, replicas: &Members) -> u32
     ensures { (votes : List (Stamp × ℕ)) (s : Stamp) → mask ≡ mask_of votes s → result ≡ votes_for replicas.now votes s }
 {
@@ -152,7 +153,7 @@ fn count_in(mask: u16, replicas: &Members) -> u32
     count
 }
 
-/// The lesser of two stamps, where there are two.
+/// Returns the lesser of two stamps, the only one if one is missing.
 fn lesser(a: Option<Stamp>, b: Option<Stamp>) -> Option<Stamp>
     ensures { result ≡ lesser_of a b }
 {
@@ -163,7 +164,7 @@ fn lesser(a: Option<Stamp>, b: Option<Stamp>) -> Option<Stamp>
     }
 }
 
-/// The least of the first stamps of the queues.
+/// Returns the least of the queues' first stamps, or `None` if all are empty.
 fn least_first(queues: &[Stamps; 16]) -> Option<Stamp>
     ensures { IsLeastFirst result queues.now 16 }
 {

@@ -9,12 +9,12 @@ use crsm_base::{NoMemory, Stamp};
 use std::alloc::Global;
 use std::marker::Model;
 
-/// Stamps in ascending order, in one piece. The first is dropped without moving the others; room that was left in front
-/// is given back once it is half of all.
+/// A list of stamps in ascending order, in one piece. Removing the first does not move the others; once half of the
+/// items are removed ones, the stamps are moved to the start.
 #[derive(Drop)]
 pub struct Stamps {
     items: Vec<Stamp>,
-    /// How many items in front are dropped.
+    /// Number of removed items at the start.
     prefix: usize,
 }
 
@@ -31,6 +31,7 @@ impl Model for Stamps {
 }
 
 impl Stamps {
+    /// Returns the empty list.
     pub fn new(alloc: Global) -> Stamps
         ensures { result ≡ [] }
     {
@@ -40,6 +41,7 @@ impl Stamps {
         }
     }
 
+    /// Returns the stamps in ascending order.
     pub fn as_slice(&self) -> &[Stamp]
         ensures value { result.now ≡ self.now }
         ensures ascending { IsAscending self.now }
@@ -47,7 +49,7 @@ impl Stamps {
         &self.items[self.prefix..]
     }
 
-    /// Adds a stamp, and answers its place. An `Err` changes nothing.
+    /// Adds a stamp and returns its index. `NoMemory` if memory runs out; nothing has changed then.
     pub fn add(&mut self, stamp: Stamp) -> Result<usize, NoMemory>
         ensures place { IfOk result (λ place. IsPlace stamp self.old place) }
         ensures ok { OnOk result (self.new ≡ with_stamp stamp self.old) }
@@ -58,7 +60,7 @@ impl Stamps {
         Ok(place)
     }
 
-    /// Drops the first stamp that is equal to this one, and answers where it was.
+    /// Removes the first stamp that is equal to this one, and returns its index, or `None` if there is none.
     pub fn remove(&mut self, stamp: Stamp) -> Option<usize>
         ensures place { IfSome result (λ place. IsFirst stamp self.old place) }
         ensures none { IfNone result (without stamp self.old ≡ self.old) }
@@ -74,7 +76,7 @@ impl Stamps {
         Some(place)
     }
 
-    /// Moves the stamps to the first place, where at least half of the items are dropped ones.
+    /// Moves the stamps to the start if at least half of the items are removed ones.
     fn compact(&mut self)
         ensures { self.new ≡ self.old }
     {
@@ -87,7 +89,8 @@ impl Stamps {
     }
 }
 
-/// How many of the stamps are not above this one. The times of new stamps rise, so the search begins at the end.
+/// Returns how many of the stamps are not above this one. The times of new stamps rise, so the search begins at the
+/// end.
 fn place_for(stamps: &[Stamp], stamp: Stamp) -> usize
     requires { IsAscending stamps.now }
     ensures { IsPlace stamp stamps.now result }
@@ -99,7 +102,7 @@ fn place_for(stamps: &[Stamp], stamp: Stamp) -> usize
     place
 }
 
-/// The first place of the stamp.
+/// Returns the first index of the stamp, or `None` if it is not in the list.
 fn place_of(stamps: &[Stamp], stamp: Stamp) -> Option<usize>
     ensures some { IfSome result (λ place. IsFirst stamp stamps.now place) }
     ensures none { IfNone result (without stamp stamps.now ≡ stamps.now) }

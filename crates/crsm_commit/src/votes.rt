@@ -1,4 +1,4 @@
-//! Who has logged which stamp.
+//! The replicas that have logged each stamp.
 
 ghost use Rattle.std.specs.Prelude.{◌≡◌, ℕ, [], ◌^◌, ◌<◌, OnOk, OnErr, if◌then◌else◌};
 ghost use Rattle.crsm_base.specs.Order.{stamp_eq};
@@ -10,8 +10,8 @@ use std::alloc::Global;
 use std::collections::BTreeMap;
 use std::marker::Model;
 
-/// For each stamp the replicas that have logged it, as a mask: bit k is that of replica k. No bit is set of a stamp
-/// that has no mask here.
+/// For each stamp a mask of the replicas that have logged it: bit k is that of replica k. A stamp without a mask has no
+/// bit set.
 #[derive(Drop)]
 pub struct Votes {
     masks: BTreeMap<Stamp, u16>,
@@ -27,7 +27,7 @@ impl Model for Votes {
 }
 
 impl Votes {
-    /// No replica has logged a stamp.
+    /// Returns the state without masks.
     pub fn new(alloc: Global) -> Votes
         ensures { result ≡ [] }
     {
@@ -36,14 +36,14 @@ impl Votes {
         }
     }
 
-    /// The mask of the stamp.
+    /// Returns the mask of the stamp, 0 if it has none.
     pub fn of(&self, stamp: Stamp) -> u16
         ensures { result ≡ mask_at self.now stamp }
     {
         self.masks.get(&stamp).copied().unwrap_or(0)
     }
 
-    /// Gives the stamp a mask. An `Err` changes nothing.
+    /// Sets the mask of the stamp. `NoMemory` if memory runs out; nothing has changed then.
     pub fn set(&mut self, stamp: Stamp, mask: u16) -> Result<(), NoMemory>
         ensures ok { OnOk result ((s : Stamp) → mask_at self.new s ≡ (if stamp_eq stamp s then mask else mask_at self.old s)) }
         ensures err { OnErr result (self.new ≡ self.old) }
@@ -52,7 +52,7 @@ impl Votes {
         Ok(())
     }
 
-    /// Drops the stamp's mask.
+    /// Removes the mask of the stamp.
     pub fn forget(&mut self, stamp: Stamp)
         ensures { (s : Stamp) → mask_at self.new s ≡ (if stamp_eq stamp s then 0 else mask_at self.old s) }
     {

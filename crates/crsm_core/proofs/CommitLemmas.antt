@@ -1,4 +1,4 @@
--- Commits: the run of them, one entry after another.
+-- The commits of a step, one entry after another.
 use Rattle.std.proofs.Common.{◌≡◌, ◌∙◌, ℕ, ◌+◌, ◌≤◌, refl, ap, sym, length, Bool, true, false, arith, List, [], ◌∷◌, cond}
 use Rattle.std.specs.Prelude.{◌&&◌, None, Some}
 use Rattle.std.proofs.lemmas.Bool.{and_parts}
@@ -72,7 +72,8 @@ run_commits x e es q = rw q refl
 
 -- ---- the loop
 
--- So many are committed: the state stands for a draft from which the run goes on, and so many are unexecuted less.
+-- After these commits the state stands for a draft from which the run continues, and as many entries fewer are
+-- unexecuted.
 pub record Committed (count : ℕ) (state : ReplicaState) (x : Draft) : Type 0 where
   pub left : Draft
   pub stands : ReplicaStands state left

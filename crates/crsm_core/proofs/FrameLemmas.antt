@@ -1,4 +1,4 @@
--- Frames and Acks: which rule applies, and what taking a frame comes to where its record is kept first.
+-- Frames and acknowledgements: the rule that applies, and the effect of a frame whose record comes first.
 use Rattle.std.proofs.Common.{◌≡◌, ◌∙◌, ℕ, ◌<◌, ◌≤◌, refl, ap, sym, length, Bool, true, false, arith, ◌∷◌}
 use Rattle.std.specs.Prelude.{◌≢◌, ◌==◌, ◌&&◌, ◌||◌, not, nat_le}
 use Rattle.crsm_spec.specs.Types.{Stamp, Entry, Rec, InEpoch}
@@ -14,7 +14,7 @@ use Rattle.crsm_replica.specs.Replica.{ReplicaStands}
 use Rattle.std.proofs.lemmas.Bool.{leb-false}
 use Rattle.crsm_core.proofs.Fitting.{if_not, stands_as, done, ignored, is_lt, not_lt, is_le, not_le, is_eq, not_eq}
 
--- ---- which payloads are odd
+-- ---- the invalid payloads
 
 pub part_of : (a h : Bool) → a ≡ true → h ≡ a && h
 part_of true h e = refl
@@ -48,7 +48,7 @@ pub wrong_time : (r : Replica) (k at : ℕ) → false ≡ is_wrong r k (InEpoch.
 unfolding is_wrong
 wrong_time r k at = refl
 
--- a payload that is not odd has a later time
+-- a valid payload has a later time
 pub later : (r : Replica) (k : ℕ) (p : InEpoch) → is_odd_frame r k p ≡ false → latest_from r.received k < time_of p
 unfolding is_odd_frame
 later r k p h = go (nat_le (time_of p) (latest_from r.received k)) refl h

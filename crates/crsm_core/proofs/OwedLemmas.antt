@@ -1,4 +1,4 @@
--- Owed acknowledgements: the run of them, one payment after another.
+-- The acknowledgements sent in a step, one after another.
 use Rattle.std.proofs.Common.{◌≡◌, ◌∙◌, ℕ, ◌+◌, ◌<◌, ◌≤◌, refl, ap, sym, subst, length, true, false, arith, List, [], ◌∷◌}
 use Rattle.std.specs.Prelude.{nat_lt, Option, None, Some}
 use Rattle.std.specs.List.{AllByRecursion}
@@ -15,7 +15,7 @@ use Rattle.crsm_replica.specs.declared.state.ReplicaState.{ReplicaState}
 use Rattle.crsm_replica.specs.Replica.{ReplicaStands}
 use Rattle.crsm_core.proofs.Fitting.{stands_as, is_lt, not_lt}
 
--- ---- the run does not look at what is owed
+-- ---- the run does not depend on the pending acknowledgements
 
 pay_owing : (s : Stamp) (t : ℕ) (ts : List Stamp) (x : Draft) → pay s t (owing ts x) ≡ owing ts (pay s t x)
 unfolding pay owing push_to_members push_to issued_at other_members members_of next_frame frames_to
@@ -70,7 +70,8 @@ has_first s (r ∷ ss) h = (ss, cc)
 
 -- ---- the loop
 
--- So many are paid: the state stands for a draft from which the run goes on, and so many are owed less.
+-- After these acknowledgements the state stands for a draft from which the run continues, and as many fewer are
+-- pending.
 pub record Paid (reading count : ℕ) (state : ReplicaState) (x : Draft) : Type 0 where
   pub left : Draft
   pub stands : ReplicaStands state left
@@ -150,7 +151,7 @@ pub all_paid : (reading count : ℕ) (state : ReplicaState) (x : Draft) (p : Pai
 all_paid reading count state x p a l =
     over reading count state x p a (ends reading p.left (empty p.left.replica.owed (omega (arith, p.fewer, l))))
 
--- the first of stamps that have spellings has one
+-- the first of stamps that have encodings has one
 pub first_fits : (s : Stamp) (ss : List Stamp) → AllByRecursion FitsStamp ss → Some s ≡ first_of ss → FitsStamp s
 unfolding first_of
 first_fits s [] all h = absurd (cc)

@@ -1,4 +1,4 @@
--- Requests: why they are refused, and how they are submitted.
+-- Requests: the reasons for refusing them, and how they are submitted.
 use Rattle.std.proofs.Common.{◌≡◌, ◌∙◌, ℕ, ◌<◌, ◌≤◌, ◌^◌, refl, ap, sym, subst, length, true, false}
 use Rattle.std.specs.Prelude.{◌≢◌, None, Some}
 use Rattle.crsm_base.specs.Limits.{most_own}

@@ -26,7 +26,7 @@ use Rattle.crsm_core.specs.Inputs.{input_of}
 use Rattle.crsm_core.specs.Core.{Answers, FitsSent}
 use Rattle.crsm_core.proofs.Fitting.{stands_as, is_lt, not_lt, is_eq, not_eq}
 
--- ---- astray
+-- ---- datagrams for another replica
 
 pub no_replica : (r : Replica) (from to : ℕ) → 14 < from → true ≡ is_astray r from to
 unfolding is_astray

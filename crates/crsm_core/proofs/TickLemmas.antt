@@ -1,4 +1,4 @@
--- Ticks: the clock of an idle replica, and frames that are sent again.
+-- Ticks: the clock of an idle replica, and retransmissions.
 use Rattle.std.proofs.Common.{◌≡◌, ◌∙◌, ℕ, zero, suc, ◌+◌, ◌<◌, ◌≤◌, refl, ap, sym, length, true, false, arith, List, [], ◌∷◌, take, get_or}
 use Rattle.std.specs.Prelude.{not, None, Some, fold}
 use Rattle.crsm_base.specs.Limits.{idle_after}

@@ -1,4 +1,4 @@
--- What a core stands for, and what it answers.
+-- What a core stands for, and the output of its steps.
 use Rattle.std.specs.Prelude.{◌≡◌, ℕ, ◌<◌, true, false}
 use Rattle.std.specs.List.{AllByRecursion}
 use Rattle.crsm_base.specs.declared.send.Send.{Send}
@@ -14,7 +14,7 @@ use Rattle.crsm_replica_output.specs.Made.{made_of, IsBatchOf}
 use Rattle.crsm_replica.specs.Replica.{ReplicaStands, AwaitsBoot}
 use Rattle.crsm_core.specs.declared.replica.Core.{Core}
 
--- memory ran out, and the core says nothing any more
+-- memory ran out, and the fields of the core are unspecified
 unfoldable pub IsSpent : Core → Type 0
 IsSpent core = core.is_spent ≡ true
 
@@ -23,7 +23,7 @@ pub record CoreAwaits (core : Core) (me n : ℕ) (log : Log) : Type 0 where
   pub unspent : core.is_spent ≡ false
   pub waits : AwaitsBoot core.state me n log
 
--- The core stands for the replica: all that it keeps is what the replica's lists say.
+-- The core stands for the replica: all its fields agree with the replica's lists.
 pub record CoreStands (core : Core) (r : Replica) : Type 0 where
   pub unspent : core.is_spent ≡ false
   pub stands : ReplicaStands core.state (begun r)
@@ -33,11 +33,11 @@ abbrev pub FitsTo : To → Type 0
 FitsTo (to_whom.Replica k) = k < 15
 FitsTo (to_whom.Address a) = Unit {0}
 
--- the datagram has a spelling
+-- the datagram has an encoding
 abbrev pub FitsSent : Send → Type 0
 FitsSent s = FitsTo s.to × FitsDatagram s.datagram
 
--- The batch is what the draft has made, and each record and each datagram of it has a spelling.
+-- The batch is the output of the draft, and each record and each datagram of it has an encoding.
 pub record Answers (batch : Batch) (x : Draft) : Type 0 where
   pub made : IsBatchOf batch (made_of x)
   pub records : AllByRecursion FitsRec batch.records

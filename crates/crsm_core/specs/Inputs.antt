@@ -1,4 +1,4 @@
--- Which input of the rules an input is.
+-- The input of the rules that an input in memory stands for.
 use Rattle.crsm_base.specs.Messages.{FitsDatagram}
 use Rattle.crsm_spec.specs.Step.{Input as InputOnPaper}
 use Rattle.crsm_core.specs.declared.input.Input.{Input}
@@ -9,7 +9,7 @@ input_of (Input.Datagram from datagram) = InputOnPaper.Came from datagram
 input_of Input.Tick = InputOnPaper.Ticked
 input_of (Input.Suspect members) = InputOnPaper.Suspected members
 
--- a datagram in it has a spelling
+-- a datagram in it has an encoding
 abbrev pub FitsInput : Input → Type 0
 FitsInput (Input.Datagram from datagram) = FitsDatagram datagram
 FitsInput Input.Tick = Unit {0}

@@ -1,4 +1,4 @@
-//! Commits.
+//! The rule that executes ready entries.
 
 ghost use Rattle.crsm_spec.specs.Clients as clients;
 ghost use Rattle.crsm_replica.specs.Replica.{Makes};
@@ -7,7 +7,7 @@ use crate::records::commit;
 use crsm_base::NoMemory;
 use crsm_replica::{ReplicaState, commits_go_on, states_are_sound};
 
-/// While active: executes what is ready.
+/// Executes all ready entries while the replica is active. `NoMemory` if memory runs out.
 pub(crate) fn commits(state: &mut ReplicaState) -> Result<(), NoMemory>
     ensures { Makes clients.commits state.old result state.new }
 {
@@ -16,7 +16,7 @@ pub(crate) fn commits(state: &mut ReplicaState) -> Result<(), NoMemory>
     if !state.is_active() {
         return Ok(());
     }
-    // Mostly nothing is ready, and then nothing need be counted.
+    // Mostly no entry is ready, and then nothing has to be counted.
     let next = state.ready()?;
     if next.is_none() {
         return Ok(());

@@ -18,7 +18,7 @@ use crate::records::log_entry;
 use crsm_base::{Entry, InEpoch, NoMemory};
 use crsm_replica::{ReplicaState, states_are_sound};
 
-/// A frame of an epoch from k.
+/// Handles a frame of an epoch from replica `k`. `NoMemory` if memory runs out.
 pub(crate) fn on_frame(
     state: &mut ReplicaState,
     k: u32,
@@ -54,7 +54,7 @@ pub(crate) fn on_frame(
     Ok(())
 }
 
-/// The replica is active, and k is a member of its epoch.
+/// Returns whether the replica is active, and `k` is a member of its epoch.
 fn takes_part_with(state: &ReplicaState, k: u32) -> bool
     ensures { (x : Draft) → ReplicaStands state.now x → result ≡ active x.replica.log && has (members_of x.replica) k }
 {
@@ -65,7 +65,7 @@ fn takes_part_with(state: &ReplicaState, k: u32) -> bool
     }
 }
 
-/// The sender's own time of a payload.
+/// Returns the sender's time in a payload.
 fn time_of(payload: &InEpoch) -> u64
     ensures { result ≡ frames.time_of payload.now }
 {
@@ -76,7 +76,8 @@ fn time_of(payload: &InEpoch) -> u64
     }
 }
 
-/// At the next number: its time is not above the latest of k, or it is none that k may send.
+/// Returns whether the next frame in sequence is invalid: a time no later than k's last, or a payload that `k` may not
+/// send.
 fn is_odd(state: &ReplicaState, k: u32, payload: &InEpoch) -> bool
     requires { k < 15 }
     ensures { (x : Draft) → ReplicaStands state.now x → k ≢ x.replica.me → result ≡ frames.is_odd_frame x.replica k payload.now }
@@ -87,7 +88,7 @@ fn is_odd(state: &ReplicaState, k: u32, payload: &InEpoch) -> bool
     is_wrong(state, k, payload)
 }
 
-/// A payload that k may not send.
+/// Returns whether `k` may not send this payload.
 fn is_wrong(state: &ReplicaState, k: u32, payload: &InEpoch) -> bool
     ensures { (x : Draft) → ReplicaStands state.now x → result ≡ frames.is_wrong x.replica k payload.now }
 {
@@ -103,7 +104,7 @@ fn is_wrong(state: &ReplicaState, k: u32, payload: &InEpoch) -> bool
     }
 }
 
-/// Takes the next frame of k: the link moves on, its time is received, it is acknowledged, and what it says is done.
+/// Takes the next frame of replica `k`: records its time, acknowledges it, and acts on its payload.
 fn take_frame(state: &mut ReplicaState, k: u32, payload: &InEpoch) -> Result<(), NoMemory>
     requires from { k < 15 }
     requires spelt { FitsPayload payload.now }
@@ -129,7 +130,7 @@ fn take_frame(state: &mut ReplicaState, k: u32, payload: &InEpoch) -> Result<(),
     }
 }
 
-/// Takes a frame that carries an entry. Its record comes first, so that nothing is to be undone where it does not fit.
+/// Takes a frame with an entry. Its record comes first, so that nothing has to be undone if it does not fit.
 fn take_prepare(state: &mut ReplicaState, k: u32, entry: &Entry) -> Result<(), NoMemory>
     requires from { k < 15 }
     requires spelt { FitsEntry entry.now }
@@ -147,7 +148,8 @@ fn take_prepare(state: &mut ReplicaState, k: u32, entry: &Entry) -> Result<(), N
     Ok(())
 }
 
-/// An Ack of an epoch from k: the frames below `next` have come.
+/// Handles an acknowledgement of an epoch from replica `k`: the frames below `next` were received. `NoMemory` if memory
+/// runs out.
 pub(crate) fn on_ack(
     state: &mut ReplicaState,
     k: u32,

@@ -1,4 +1,4 @@
-//! The clock of a replica that is idle.
+//! The rule by which an idle replica sends its time.
 
 ghost use Rattle.std.specs.Prelude.{◌≡◌};
 ghost use Rattle.crsm_spec.specs.Draft.{Draft};
@@ -8,7 +8,7 @@ ghost use Rattle.crsm_replica.specs.Replica.{ReplicaStands, Makes};
 use crsm_base::{IDLE_UNITS, InEpoch, NoMemory};
 use crsm_replica::ReplicaState;
 
-/// At a tick a replica that has been idle sends its time.
+/// Sends the replica's time at a tick if it has been idle. `NoMemory` if memory runs out.
 pub(crate) fn idle(state: &mut ReplicaState, reading: u64) -> Result<(), NoMemory>
     ensures { Makes (frames.idle reading) state.old result state.new }
 {
@@ -25,7 +25,7 @@ pub(crate) fn idle(state: &mut ReplicaState, reading: u64) -> Result<(), NoMemor
     Ok(())
 }
 
-/// Its reading is so far ahead of the last issued time that it sends its time.
+/// Returns whether the reading is at least `IDLE_UNITS` above the time issued last, and no link is congested.
 fn is_idle(state: &ReplicaState, reading: u64) -> bool
     ensures { (x : Draft) → ReplicaStands state.now x → result ≡ frames.is_idle x.replica reading }
 {

@@ -1,14 +1,14 @@
-//! What comes to a replica.
+//! The inputs of a replica.
 
 use crsm_base::{Datagram, Members};
 
-/// What comes to a replica.
+/// The input of one step.
 #[derive(Debug, Drop)]
 pub enum Input {
-    /// A datagram from an address.
+    /// A datagram from an address, IPv4 x 65,536 + port.
     Datagram { from: u64, datagram: Datagram },
     /// A tick of the clock.
     Tick,
-    /// A suspicion: these are to be the members of the next epoch.
+    /// A suspicion or an operator's request: these are to be the members of the next epoch.
     Suspect { members: Members },
 }

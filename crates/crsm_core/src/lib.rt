@@ -1,4 +1,4 @@
-//! One replica in memory: each step is the rule of its input.
+//! One replica in memory: each step follows the rule of its input.
 #![tactic(auto)]
 
 mod commits;

@@ -1,4 +1,4 @@
-//! Acknowledgements that are owed.
+//! Sending of pending acknowledgements.
 
 ghost use Rattle.crsm_spec.specs.Frames as frames;
 ghost use Rattle.crsm_replica.specs.Replica.{Makes};
@@ -6,7 +6,8 @@ ghost use Rattle.crsm_replica.specs.Replica.{Makes};
 use crsm_base::{InEpoch, NoMemory};
 use crsm_replica::{ReplicaState, states_are_sound};
 
-/// Sends the acknowledgements that are due: while the least owed stamp's time is below the time that would be issued.
+/// Sends the pending acknowledgements that are due: while the least stamp's time is below the time that the clock would
+/// issue at `reading`. `NoMemory` if memory runs out.
 pub(crate) fn owed_oks(state: &mut ReplicaState, reading: u64) -> Result<(), NoMemory>
     ensures { Makes (frames.owed_oks reading) state.old result state.new }
 {

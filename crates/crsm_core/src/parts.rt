@@ -1,4 +1,4 @@
-//! Parts of control messages.
+//! Handling of parts of control messages.
 
 ghost use Rattle.std.specs.Prelude.{◌≡◌, ◌<◌, true};
 ghost use Rattle.crsm_segment.specs.Taking.{is_sized, piece};
@@ -12,7 +12,7 @@ use crsm_replica::{ReplicaState, states_are_sound};
 use crsm_replica_reconfigure::on_control;
 use crsm_wire::{WireError, read_control};
 
-/// What a part of a control message says of itself.
+/// The heading of a part of a control message.
 #[derive(Clone, Copy)]
 pub(crate) struct PartHead {
     pub boot: u64,
@@ -21,7 +21,8 @@ pub(crate) struct PartHead {
     pub count: u32,
 }
 
-/// A part: the message that is whole with it is received. One whose records would not fit is ignored, and its part is kept.
+/// Takes a part, and handles the message that it completes. A message whose records would not fit is ignored, but its
+/// part is kept. `NoMemory` if memory runs out.
 pub(crate) fn on_part(
     state: &mut ReplicaState,
     from: u32,
@@ -48,7 +49,7 @@ pub(crate) fn on_part(
     Ok(())
 }
 
-/// The bytes of a whole message. Those that are no control message do nothing.
+/// Handles the bytes of a whole message. Bytes that are not a control message change nothing.
 fn on_message(state: &mut ReplicaState, from: u32, bytes: &[u8]) -> Result<(), NoMemory>
     requires { from < 15 }
     ensures { FollowsFrom from (rules.on_whole_message from (control_of bytes.now)) state.old result state.new }

@@ -1,4 +1,4 @@
-//! The core.
+//! The replica in memory: its boot and its steps.
 
 ghost use Rattle.std.specs.Prelude.{◌<◌, ◌≤◌, ℕ, IfOk, OnErr, IsErr};
 ghost use Rattle.std.specs.List.{AllByRecursion};
@@ -19,7 +19,7 @@ use crsm_ledger::Ledger;
 use crsm_replica::{ReplicaState, states_are_sound};
 use crsm_replica_output::Batch;
 
-/// One replica in memory. After an error it is spent, and a new one is made of its log.
+/// One replica in memory. After an error it is spent, and a new one must be booted from its log.
 #[derive(Drop)]
 pub struct Core {
     state: ReplicaState,
@@ -27,7 +27,7 @@ pub struct Core {
 }
 
 impl Core {
-    /// The replica of a ledger, before its boot is on record.
+    /// Returns the replica of a ledger, before its boot is recorded. `NoMemory` if memory runs out.
     pub fn new(ledger: Ledger) -> Result<Core, NoMemory>
         ensures { IfOk result (λ core. (me n : ℕ) (log : Log) → LedgerStands me n ledger log → EachFits me n log → AllByRecursion FitsRec log →
             me < 15 → 1 ≤ n → CoreAwaits core me n log) }
@@ -39,7 +39,8 @@ impl Core {
     }
 
     #[tactic(auto, unfolding(crate::specs::Core::IsSpent))]
-    /// Puts the boot on record; the first one of a replica that began the cluster enters epoch 0.
+    /// Records the boot and returns its output. The first boot of a replica that began the cluster enters epoch 0.
+    /// `NoMemory` if memory runs out; the replica is then spent.
     pub fn begin(&mut self) -> Result<Batch, NoMemory>
         ensures ruled { IfOk result (λ batch. (me n : ℕ) (log : Log) → CoreAwaits self.old me n log → boots log < u64_max →
             Answers batch (boot me n log) × CoreStands self.new (boot me n log).replica) }
@@ -50,7 +51,7 @@ impl Core {
         if self.is_spent {
             return Err(NoMemory);
         }
-        // Whoever sees the error below must not go on from half a boot.
+        // A caller that sees the error below must not continue from half a boot.
         self.is_spent = true;
         self.state.begin()?;
         let batch = self.state.take_batch()?;
@@ -59,7 +60,9 @@ impl Core {
     }
 
     #[tactic(auto, unfolding(crate::specs::Core::IsSpent))]
-    /// One step, at this reading of the clock. What it has made is to be kept and then sent.
+    /// Runs one step at this reading of the clock, in microseconds since 1970 at a running node, and returns its
+    /// output. The records must be durable before the datagrams are sent. `NoMemory` if memory runs out; the replica is
+    /// then spent.
     pub fn step(&mut self, input: &Input, reading: u64) -> Result<Batch, NoMemory>
         requires { FitsInput input.now }
         ensures ruled { IfOk result (λ batch. (r : Replica) → CoreStands self.old r →
@@ -71,7 +74,7 @@ impl Core {
         if self.is_spent {
             return Err(NoMemory);
         }
-        // Whoever sees the error below must not go on from half a step.
+        // A caller that sees the error below must not continue from half a step.
         self.is_spent = true;
         step::step(&mut self.state, input, reading)?;
         let batch = self.state.take_batch()?;
@@ -79,7 +82,7 @@ impl Core {
         Ok(batch)
     }
 
-    /// What the records of its log say.
+    /// Returns the ledger, the state of its log.
     pub fn ledger(&self) -> &Ledger
         ensures awaiting { (me n : ℕ) (log : Log) → CoreAwaits self.now me n log → LedgerStands me n result.now log }
         ensures standing { (r : Replica) → CoreStands self.now r → LedgerStands r.me r.n result.now r.log }

@@ -1,4 +1,4 @@
-//! Requests of clients.
+//! The rule for requests of clients.
 
 ghost use Rattle.std.specs.Prelude.{◌≡◌, ℕ, Some, IfOk};
 ghost use Rattle.crsm_base.specs.Spelling.{FitsCommand};
@@ -12,7 +12,8 @@ use crate::records::log_entry;
 use crsm_base::{Command, Entry, InEpoch, MAX_OWN_UNEXECUTED, NoMemory, Refusal, Stamp};
 use crsm_replica::{ReplicaState, states_are_sound};
 
-/// A client's request: refused for the first cause that there is, and otherwise submitted.
+/// Handles a client's request: refuses it for the first reason that applies, else submits it. `NoMemory` if memory runs
+/// out.
 pub(crate) fn on_request(
     state: &mut ReplicaState,
     address: u64,
@@ -34,7 +35,7 @@ pub(crate) fn on_request(
     Ok(())
 }
 
-/// Why a request is not taken.
+/// Returns the reason for refusing a request, or `None` to accept it.
 fn refusal(state: &ReplicaState) -> Option<Refusal>
     ensures { (x : Draft) → ReplicaStands state.now x → result ≡ clients.refusal x.replica }
 {
@@ -56,7 +57,7 @@ fn refusal(state: &ReplicaState) -> Option<Refusal>
     None
 }
 
-/// Logs the command under a time of its own, which the replica would issue, and pushes it to the members.
+/// Logs the command under a new time of this replica, and pushes it to the members.
 fn submit(
     state: &mut ReplicaState,
     address: u64,

@@ -1,4 +1,4 @@
-//! One step: the rule of the input, and what follows in every step.
+//! One step: the rule of the input, and the rules of every step.
 
 ghost use Rattle.std.specs.Prelude.{◌≡◌, IfOk};
 ghost use Rattle.crsm_base.specs.Messages.{FitsDatagram};
@@ -23,7 +23,8 @@ use crsm_replica::ReplicaState;
 use crsm_replica_reconfigure::on_suspect;
 use crsm_segment::parts_of_datagrams;
 
-/// One step: the rule of the input, the acknowledgements that are due, at a tick the clock's time, the commits, the replies.
+/// Runs one step: the rule of the input, the acknowledgements that are due, at a tick the replica's time, then commits
+/// and replies. `NoMemory` if memory runs out.
 pub(crate) fn step(state: &mut ReplicaState, input: &Input, reading: u64) -> Result<(), NoMemory>
     requires { FitsInput input.now }
     ensures { IfOk result (λ _. (r : Replica) → ReplicaStands state.old (begun r) → ReplicaStands state.new (rules.step r (input_of input.now) reading)) }
@@ -36,7 +37,7 @@ pub(crate) fn step(state: &mut ReplicaState, input: &Input, reading: u64) -> Res
     Ok(())
 }
 
-/// The rule of an input.
+/// Applies the rule of an input.
 fn on_input(state: &mut ReplicaState, input: &Input, reading: u64) -> Result<(), NoMemory>
     requires { FitsInput input.now }
     ensures { Follows (rules.on_input (input_of input.now) reading) state.old result state.new }
@@ -57,7 +58,7 @@ fn on_input(state: &mut ReplicaState, input: &Input, reading: u64) -> Result<(),
     }
 }
 
-/// The idle rule, at a tick.
+/// Applies the idle rule, at a tick.
 fn idle_at(state: &mut ReplicaState, input: &Input, reading: u64) -> Result<(), NoMemory>
     ensures { Makes (rules.idle_at (input_of input.now) reading) state.old result state.new }
 {
@@ -71,7 +72,7 @@ fn idle_at(state: &mut ReplicaState, input: &Input, reading: u64) -> Result<(), 
     }
 }
 
-/// A datagram of no other replica, or for another.
+/// Returns whether a datagram is not from another replica, or is addressed to another.
 fn is_astray(state: &ReplicaState, from: u32, to: u32) -> bool
     ensures { (x : Draft) → ReplicaStands state.now x → result ≡ frames.is_astray x.replica from to }
 {
@@ -85,7 +86,7 @@ fn is_astray(state: &ReplicaState, from: u32, to: u32) -> bool
     to != me
 }
 
-/// A datagram from an address.
+/// Handles a datagram from an address.
 fn on_datagram(
     state: &mut ReplicaState,
     address: u64,

@@ -1,4 +1,4 @@
-//! Ticks of the clock.
+//! The rule for ticks.
 
 ghost use Rattle.crsm_spec.specs.Frames as frames;
 ghost use Rattle.crsm_spec.specs.Step as rules;
@@ -9,7 +9,8 @@ use crsm_base::NoMemory;
 use crsm_replica::{ReplicaState, states_are_sound};
 use crsm_replica_reconfigure::renew_and_ask;
 
-/// A tick: frames again while active, and otherwise the coordinator's messages and a question to all.
+/// Handles a tick: an active replica retransmits frames; any other retries its coordinator's stage and asks all for
+/// decisions and executed entries. `NoMemory` if memory runs out.
 pub(crate) fn on_tick(state: &mut ReplicaState) -> Result<(), NoMemory>
     ensures { Follows rules.on_tick state.old result state.new }
 {
@@ -22,7 +23,7 @@ pub(crate) fn on_tick(state: &mut ReplicaState) -> Result<(), NoMemory>
     Ok(())
 }
 
-/// The first unacknowledged frames of each link again.
+/// Retransmits the first unacknowledged frames of each link.
 fn send_again(state: &mut ReplicaState) -> Result<(), NoMemory>
     ensures { Makes frames.send_again state.old result state.new }
 {

@@ -1,4 +1,4 @@
--- The lines of an input are those of one plan at most, so that what is read and what is refused is exact.
+-- The lines of an input are those of at most one plan, so that what is read and what is refused is exact.
 use Rattle.std.proofs.Common.{◌≡◌, ℕ, List, [], ◌∷◌, ◌++◌, get_or, decimal, refl, sym, ◌∙◌, ap, subst, inl, inr, true, arith}
 use Rattle.std.specs.Prelude.{◌⊎◌, Option, Some}
 use Rattle.std.proofs.lemmas.Bool.{false≢true}

@@ -1,4 +1,4 @@
--- The first of a list that a test passes.
+-- The first element of a list that passes a test.
 use Rattle.std.proofs.Common.{ℕ, List, Bool}
 use Rattle.std.specs.Prelude.{find}
 use Rattle.std.specs.Option.{option_map_or}

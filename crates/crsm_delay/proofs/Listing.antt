@@ -1,4 +1,4 @@
--- Lists of upcoming events: one is put in, and datagrams that lines tell of are looked at one after another.
+-- Lists of upcoming events: one is inserted, and the datagrams reported by lines are looked at one after another.
 use Rattle.std.proofs.Common.{◌≡◌, ℕ, zero, suc, ◌+◌, ◌<◌, ◌≤◌, List, [], ◌∷◌, ◌++◌, length, refl, sym, ◌∙◌, ap, subst, arith, map, take, drop, get_or}
 use Rattle.std.specs.List.{AllByRecursion, insert}
 use Rattle.std.proofs.lemmas.List.{map-append}
@@ -59,7 +59,7 @@ unfolding posts
 none_posted = refl
 
 module _ (law : AgendasGoOn) (plan : Plan) (fit : FitsPlan plan) (es : List Timed) (moment : ℕ) (lines : List Line) (i : ℕ) where
-  -- the line tells of a datagram, whose delivery is put in
+  -- the line reports a datagram, whose delivery is inserted
   pub line_told : (line : Line) (p : Post) (f : Timed) (old new : List Timed) → i < length lines → line ≡ get_or lines i line → post_of line ≡ p ∷ [] → f ≡ delivery_of plan moment p → IsPut f old new →
       LacksPosts plan es old (posts (drop i lines)) moment → LacksPosts plan es new (posts (drop (i + 1) lines)) moment
   line_told line p f old new lt is tells f_is put h =
@@ -67,11 +67,11 @@ module _ (law : AgendasGoOn) (plan : Plan) (fit : FitsPlan plan) (es : List Time
       (subst (λ ps. LacksPosts plan es old ps moment) (one_line lines i line lt is ∙ ap (λ ps. ps ++ posts (drop (i + 1) lines)) tells) h)
       (subst (λ g. IsPut g old new) f_is put)
 
-  -- it tells of none
+  -- it reports none
   pub line_silent : (line : Line) (old : List Timed) → i < length lines → line ≡ get_or lines i line → post_of line ≡ [] →
       LacksPosts plan es old (posts (drop i lines)) moment → LacksPosts plan es old (posts (drop (i + 1) lines)) moment
   line_silent line old lt is none h = subst (λ ps. LacksPosts plan es old ps moment) (one_line lines i line lt is ∙ ap (λ ps. ps ++ posts (drop (i + 1) lines)) none) h
 
-  -- all lines have told
+  -- all lines were looked at
   pub lines_end : (pending : List Timed) → length lines ≤ i → LacksPosts plan es pending (posts (drop i lines)) moment → IsAgenda plan es pending
   lines_end pending le h = law.whole plan es pending moment (subst (λ ps. LacksPosts plan es pending ps moment) (ap posts (no_line lines i le) ∙ none_posted) h)

@@ -115,7 +115,7 @@ module _ (possibly : EventsCanHappen) (law : AgendasGoOn) (plan : Plan) (fit : F
   pub possible_here : possible (world_after plan es) (act_of (event_of u)) ≡ None
   possible_here = ap (possible (world_after plan es)) (act_is u) ∙ can.possible_here
 
-  -- the lines of the event tell what it sends
+  -- the lines of the event report the datagrams that it sends
   pub told : LacksPosts plan (map timed_of (done ++ u ∷ [])) rest (posts (act (world_after plan es) (act_of (event_of u))).lines) u.moment
   told =
       subst (λ a. LacksPosts plan (map timed_of (done ++ u ∷ [])) rest (posts (act (world_after plan es) a).lines) u.moment) (sym (act_is u))
@@ -154,7 +154,7 @@ text_more plan us u text =
 
 -- ---- the whole of it
 
--- the loop so far: these are done and written, one each time
+-- the loop in progress: these are executed and written, one each time
 pub record Written (plan : Plan) (run : TimelineRun) (start text : List ℕ) (count : ℕ) : Type 0 where
   pub done : List Upcoming
   pub follows : Follows plan done run

@@ -1,4 +1,4 @@
--- Plans that are read line by line: which line can follow, and what it adds.
+-- The drafts of plans: which line can follow, and what it adds.
 use Rattle.std.specs.Prelude.{ℕ, Bool, true, false, ◌==◌, ◌&&◌, ◌||◌, not, nat_lt, nat_le, [], ◌∷◌, ◌++◌}
 use Rattle.std.specs.List.{list_any}
 use Rattle.crsm_spec_plan.specs.declared.Plan.{Plan}
@@ -7,7 +7,7 @@ use Rattle.crsm_delay.specs.declared.line.PlanLine.{PlanLine}
 use Rattle.crsm_delay.specs.declared.line.PlanLine.TheVariants.{Offset, Delay, Command}
 use Rattle.crsm_delay.specs.declared.draft.Draft.{Draft}
 
--- so many replicas, and nothing else yet
+-- a number of replicas, and no further line
 abbrev pub empty : ℕ → Draft
 empty n = record { plan = record { n = n; offsets = []; delays = []; origin = 0; at = 0 }; is_whole = false }
 
@@ -31,7 +31,7 @@ is_allowed plan (Command replica at) =
 abbrev pub can_follow : Draft → PlanLine → Bool
 can_follow d line = not d.is_whole && is_allowed d.plan line
 
--- what has been read, with one line more
+-- the draft with one line more
 abbrev pub with_line : Draft → PlanLine → Draft
 with_line d (Offset replica by) = record d { plan = record d.plan { offsets = d.plan.offsets ++ record { replica = replica; by = by } ∷ [] } }
 with_line d (Delay from to by) = record d { plan = record d.plan { delays = d.plan.delays ++ record { from = from; to = to; by = by } ∷ [] } }

@@ -1,4 +1,4 @@
--- A plan that is followed over a world, and what is written of it.
+-- The run of a plan over a world, and the text written of it.
 use Rattle.std.specs.Prelude.{◌≡◌, ℕ, List, ◌++◌, map}
 use Rattle.crsm_spec_plan.specs.declared.Plan.{Plan}
 use Rattle.crsm_spec_plan.specs.Timelines.{Timed, IsTimeline, acts_of}

@@ -1,4 +1,4 @@
--- How the lines of a plan are written, each without its line feed.
+-- The text of the lines of a plan, each without its line feed.
 use Rattle.std.specs.Prelude.{ℕ, ◌<◌, ◌^◌, List, [], ◌∷◌, codes}
 use Rattle.crsm_text.specs.Words.{named}
 use Rattle.crsm_delay.specs.declared.line.PlanLine.{PlanLine}

@@ -1,4 +1,4 @@
--- What a reader makes of the lines of an input.
+-- The effect of a reader on the lines of an input.
 use Rattle.std.specs.Prelude.{◌≡◌, ◌≢◌, ℕ, true, false, List, [], ◌∷◌, ◌++◌, Option, Some, None}
 use Rattle.crsm_port_lines.specs.Handling.{Handling, Text}
 use Rattle.crsm_port_lines.specs.declared.Stop.{Stop}
@@ -26,7 +26,7 @@ pub data Advanced : Option Draft → Text → Option Draft → Type 0 where
 unfoldable pub Advances : Option Draft → Text → Option Draft → Type 0
 Advances old text new = Advanced old text new
 
--- no line that can stand there is spelt so
+-- the text is not that of a line that can follow
 abbrev pub RefusedAfter : Option Draft → Text → Type 0
 RefusedAfter None text = (n : ℕ) → IsSize n → text ≢ first_text n
 RefusedAfter (Some d) text = (line : PlanLine) → FitsLine line → can_follow d line ≡ true → text ≢ line_text line
@@ -38,7 +38,7 @@ StopsUnread Stop.NoMemory old text = Unit {0}
 
 -- ---- the lines of an input
 
--- the lines are those of a plan so far
+-- the lines of a plan that were read
 pub data Reads : List Text → Option Draft → Type 0 where
   nothing : Reads [] None
   more : {texts : List Text} {old new : Option Draft} (text : Text) → Reads texts old → Advanced old text new → Reads (texts ++ text ∷ []) new
@@ -59,7 +59,7 @@ pub record RefusedBehind (texts : List Text) (shown : Text) (cause : PlanCause) 
   pub refused : RefusedAfter draft text
   pub unreadable : cause ≡ PlanCause.Unreadable
 
--- what is written of a plan
+-- the wanted text of a plan
 abbrev pub IsWritten : Wanted → Plan → Text → Type 0
 IsWritten Wanted.Times plan last = last ≡ times_text plan
 IsWritten Wanted.Schedule plan last = WritesTimeline plan last
@@ -70,7 +70,7 @@ pub record AddsWritten (wanted : Wanted) (plan : Plan) (old new : Text) : Type 0
   pub added : new ≡ old ++ more
   pub written : IsWritten wanted plan more
 
--- the lines are a whole plan, and the text of the end is what is wanted of it
+-- the lines are a whole plan, and the text of the end is the wanted one
 pub record EndsBehind (wanted : Wanted) (texts : List Text) (shown last : Text) : Type 0 where
   pub draft : Draft
   pub so : ReadsSo (Some draft) texts shown

@@ -1,4 +1,4 @@
--- What is written of a plan.
+-- The texts of a plan.
 use Rattle.std.specs.Prelude.{ℕ, List, [], ◌∷◌, ◌++◌, codes}
 use Rattle.std.specs.List.{flat_map}
 use Rattle.crsm_spec.specs.Lists.{numbers_below}

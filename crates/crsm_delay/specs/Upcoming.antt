@@ -12,7 +12,7 @@ use Rattle.crsm_delay.specs.declared.upcoming.Upcoming.{Upcoming}
 use Rattle.crsm_delay.specs.declared.agenda.Agenda.{Agenda}
 use Rattle.crsm_delay.specs.declared.agenda.Post.{Post as Told}
 
--- what happens
+-- the step of the event
 abbrev pub does_of : UpcomingKind → Single
 does_of (UpcomingKind.Request replica reading) = Single.Request replica reading the_command
 does_of (UpcomingKind.Tick replica reading) = Single.Tick replica reading
@@ -31,7 +31,7 @@ spelt_of (UpcomingKind.Go number reading) = Spelt.Go number reading
 abbrev pub event_of : Upcoming → Event
 event_of u = Event.One (spelt_of u.kind)
 
--- what is still to happen
+-- the events still to happen
 abbrev pub listed : Agenda → List Timed
 listed a = map timed_of a.events.items
 
@@ -40,7 +40,7 @@ abbrev pub IsAheadOf : Upcoming → List Upcoming → Type 0
 IsAheadOf u [] = Unit {0}
 IsAheadOf u (g ∷ gs) = Precedes (timed_of u) (timed_of g)
 
--- the datagram that is told of
+-- the datagram whose sending is reported
 abbrev pub on_paper : Told → Post
 on_paper p = record { number = p.number; from = p.from; to = p.to }
 

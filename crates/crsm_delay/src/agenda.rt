@@ -1,4 +1,4 @@
-//! What is still to happen by a plan, in order.
+//! The events still to happen by a plan, in order.
 
 ghost use Rattle.std.specs.Prelude.{◌≡◌, ◌≤◌, ◌<◌, ◌+◌, ◌∷◌, [], ℕ, List, IfOk, OnOk, MatchOption, length, take, drop};
 ghost use Rattle.std.specs.List.{AllByRecursion};
@@ -15,7 +15,7 @@ use crsm_law_pending::{agendas_begin, agendas_go_on};
 use crsm_spec_plan::Plan;
 use std::alloc::Global;
 
-/// A datagram that was sent.
+/// A datagram that was sent: its number, sender and receiver.
 #[derive(Clone, Copy, Debug, PartialEq, Eq)]
 pub(crate) struct Post {
     pub number: u64,
@@ -23,7 +23,7 @@ pub(crate) struct Post {
     pub to: u64,
 }
 
-/// The datagram that a line tells of, if it tells of one.
+/// Returns the datagram whose sending a line reports, or `None`.
 #[tactic(auto, unfolding(crsm_law_pending::specs::Posts::post_of))]
 fn post_of(line: &Line) -> Option<Post>
     ensures { MatchOption result (sends.post_of line.now ≡ []) (λ p. sends.post_of line.now ≡ on_paper p ∷ []) }
@@ -43,7 +43,7 @@ fn post_of(line: &Line) -> Option<Post>
     }
 }
 
-/// The delivery of a datagram that was sent at a moment.
+/// Returns the delivery of a datagram that was sent at the moment `sent`.
 #[tactic(auto, unfolding(crsm_law_pending::specs::Agendas::delivery_of))]
 fn delivery(plan: &Plan, post: Post, sent: u64) -> Upcoming
     requires fits { FitsPlan plan.now }
@@ -60,7 +60,7 @@ fn delivery(plan: &Plan, post: Post, sent: u64) -> Upcoming
     }
 }
 
-/// How many events of a list in order happen before this one.
+/// Returns the number of events in an ordered list that happen before this one.
 fn place_of(events: &[Upcoming], event: Upcoming) -> usize
     ensures bound { result ≤ length events.now }
     ensures behind { AllByRecursion (λ g. Precedes (timed_of event) (timed_of g) → ⊥) (take result events.now) }
@@ -74,14 +74,14 @@ fn place_of(events: &[Upcoming], event: Upcoming) -> usize
     events.len()
 }
 
-/// Events that are still to happen, the first one in front.
+/// A list of events still to happen, the next one first.
 #[derive(Drop)]
 pub(crate) struct Agenda {
     events: Vec<Upcoming>,
 }
 
 impl Agenda {
-    /// What has to happen by a plan before anything was sent: the command and the ticks.
+    /// Returns the events of a plan before anything was sent: the command and the ticks. `NoMemory` if memory runs out.
     pub(crate) fn new(alloc: Global, plan: &Plan) -> Result<Agenda, NoMemory>
         requires { FitsPlan plan.now }
         ensures { IfOk result (λ agenda. IsAgenda plan.now [] (listed agenda)) }
@@ -97,7 +97,7 @@ impl Agenda {
         Ok(agenda)
     }
 
-    /// Adds an event in its place.
+    /// Inserts an event by its moment. `NoMemory` if memory runs out.
     fn add(&mut self, event: Upcoming) -> Result<(), NoMemory>
         ensures { OnOk result (IsPut (timed_of event) (listed self.old) (listed self.new)) }
     {
@@ -106,7 +106,7 @@ impl Agenda {
         Ok(())
     }
 
-    /// Adds the tick of a replica, if it has one.
+    /// Inserts the tick of a replica, if it has one. `NoMemory` if memory runs out.
     fn add_tick(&mut self, plan: &Plan, k: u64) -> Result<(), NoMemory>
         requires fits { FitsPlan plan.now }
         requires below { k < plan.now.n }
@@ -122,7 +122,8 @@ impl Agenda {
         self.add(event)
     }
 
-    /// Adds the delivery of each datagram that these lines say was sent, at this moment.
+    /// Inserts the delivery of each datagram that these lines report as sent at this moment. `NoMemory` if memory runs
+    /// out.
     pub(crate) fn add_sent(
         &mut self,
         plan: &Plan,
@@ -142,7 +143,7 @@ impl Agenda {
         Ok(())
     }
 
-    /// Takes the event that happens next, if there is one.
+    /// Removes and returns the next event, or `None` if no event is left.
     pub(crate) fn next(&mut self) -> Option<Upcoming>
         ensures { MatchOption result (listed self.old ≡ []) (λ u. listed self.old ≡ timed_of u ∷ listed self.new) }
     {

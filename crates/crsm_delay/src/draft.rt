@@ -11,29 +11,29 @@ use crsm_base::NoMemory;
 use crsm_spec_plan::{Delay, Delays, Offset, Offsets, Plan};
 use std::alloc::Global;
 
-/// The greatest moment of a command, and the greatest offset of a clock.
+/// Greatest moment of a command, and greatest offset of a clock, in microseconds.
 const MOST_MOMENT: u64 = 1_000_000_000_000;
 
-/// The longest that a datagram takes.
+/// Greatest delay of a datagram in microseconds.
 const MOST_DELAY: u64 = 1_000_000_000;
 
-/// The lines of a plan so far.
+/// The lines of a plan that were read.
 #[derive(Debug, Drop)]
 pub struct Draft {
     /// The origin and its moment are 0 before the line of the command.
     pub plan: Plan,
-    /// The line of the command has come.
+    /// Whether the line of the command was read.
     pub is_whole: bool,
 }
 
-/// Whether an offset of the replica is named.
+/// Returns whether the plan has an offset of the replica.
 fn has_offset_of(plan: &Plan, replica: u64) -> bool
     ensures { result ≡ has_offset plan.now replica }
 {
     plan.offsets.as_slice().iter().any(|o| o.replica == replica)
 }
 
-/// Whether a delay between the two replicas is named.
+/// Returns whether the plan has a delay between the two replicas.
 fn has_delay_of(plan: &Plan, from: u64, to: u64) -> bool
     ensures { result ≡ has_delay plan.now from to }
 {
@@ -43,21 +43,21 @@ fn has_delay_of(plan: &Plan, from: u64, to: u64) -> bool
         .any(|d| d.from == from && d.to == to)
 }
 
-/// Whether each offset is within its bound.
+/// Returns whether each offset is within its bound.
 fn are_offsets_within(plan: &Plan) -> bool
     ensures { result ≡ list_all (λ o. nat_le o.by most_moment) plan.now.offsets }
 {
     plan.offsets.as_slice().iter().all(|o| o.by <= MOST_MOMENT)
 }
 
-/// Whether each delay is within its bound.
+/// Returns whether each delay is within its bound.
 fn are_delays_within(plan: &Plan) -> bool
     ensures { result ≡ list_all (λ d. nat_le d.by most_delay) plan.now.delays }
 {
     plan.delays.as_slice().iter().all(|d| d.by <= MOST_DELAY)
 }
 
-/// Whether the numbers of a plan are within their bounds.
+/// Returns whether the numbers of a plan are within their bounds.
 pub(crate) fn is_within(plan: &Plan) -> bool
     ensures { result ≡ true → FitsPlan plan.now }
 {
@@ -84,7 +84,7 @@ pub(crate) fn is_within(plan: &Plan) -> bool
 }
 
 impl Draft {
-    /// So many replicas, and nothing else yet.
+    /// Returns the draft of a plan with `n` replicas and no further line.
     pub(crate) fn new(alloc: Global, n: u64) -> Draft
         ensures { result ≡ empty n }
     {
@@ -101,7 +101,8 @@ impl Draft {
         }
     }
 
-    /// Whether the line can follow: its numbers are within their bounds, it names nothing twice, and the command is the last.
+    /// Returns whether the line can follow: its numbers are within their bounds, it repeats no line, and no command was
+    /// read.
     pub(crate) fn allows(&self, line: PlanLine) -> bool
         ensures { result ≡ can_follow self.now line }
     {
@@ -127,7 +128,7 @@ impl Draft {
         }
     }
 
-    /// Adds a line.
+    /// Adds a line. `NoMemory` if memory runs out.
     pub(crate) fn add(&mut self, line: PlanLine) -> Result<(), NoMemory>
         ensures { OnOk result (self.new ≡ with_line self.old line) }
     {

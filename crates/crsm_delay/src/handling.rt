@@ -1,4 +1,4 @@
-//! The lines of a plan: each is added to what has been read.
+//! The lines of a plan: each is added to those read before.
 
 ghost use Rattle.std.specs.Prelude.{◌≡◌, None, Some, IfErr, IfOk, IfSome, OnOk};
 ghost use Rattle.crsm_delay.specs.Following.{AddsTimeline};
@@ -15,7 +15,7 @@ use crsm_schedule::read_first;
 use crsm_spec_plan::Plan;
 use std::alloc::Global;
 
-/// What is written of a plan.
+/// The text that is written of a plan.
 #[derive(Clone, Copy, Debug, PartialEq, Eq)]
 pub enum Wanted {
     /// The moment at which each replica executes the command.
@@ -24,10 +24,10 @@ pub enum Wanted {
     Schedule,
 }
 
-/// What is wrong with a line of a plan.
+/// The cause for which a line of a plan is refused.
 #[derive(Clone, Copy, Debug, PartialEq, Eq)]
 pub enum PlanCause {
-    /// No line that can stand there is spelt so.
+    /// The line is outside the grammar, or cannot follow.
     Unreadable,
 }
 
@@ -48,7 +48,7 @@ fn add_line(draft: &mut Draft, text: &[u8]) -> Result<(), Stop<PlanCause>>
     Ok(())
 }
 
-/// Begins a plan by its first line.
+/// Begins a plan by its first line. `None` if it is not one.
 fn first_line(alloc: Global, text: &[u8]) -> Option<Draft>
     ensures ok { IfSome result (λ draft. Advances None text.now (Some draft)) }
     ensures err { result ≡ None → RefusedAfter None text.now }
@@ -57,7 +57,7 @@ fn first_line(alloc: Global, text: &[u8]) -> Option<Draft>
     Some(Draft::new(alloc, u64::from(n)))
 }
 
-/// Adds the schedule of a plan's timeline.
+/// Appends the schedule of a plan's timeline.
 fn push_schedule(alloc: Global, text: &mut Bytes, plan: &Plan) -> Result<(), NoMemory>
     ensures { OnOk result (AddsTimeline plan.now text.old text.new) }
 {
@@ -68,7 +68,7 @@ fn push_schedule(alloc: Global, text: &mut Bytes, plan: &Plan) -> Result<(), NoM
     push_timeline(alloc, text, plan)
 }
 
-/// A plan that is read.
+/// The reading of a plan, and the text that is wanted of it.
 #[derive(Drop)]
 pub(crate) struct PlanReader {
     alloc: Global,
@@ -88,7 +88,7 @@ impl PlanReader {
         }
     }
 
-    /// Adds a line, which is the first where there is none yet.
+    /// Adds a line, which is the first if none was read.
     fn advance(&mut self, text: &[u8]) -> Result<(), Stop<PlanCause>>
         ensures ok { IfOk result (λ done. Advances self.old.draft text.now self.new.draft) }
         ensures err { IfErr result (λ stop. StopsUnread stop self.old.draft text.now) }
@@ -106,7 +106,7 @@ impl PlanReader {
         }
     }
 
-    /// Adds what is wanted of a plan.
+    /// Appends the wanted text of a plan.
     fn push_wanted(&self, text: &mut Bytes, plan: &Plan) -> Result<(), NoMemory>
         ensures { OnOk result (FitsPlan plan.now → AddsWritten self.now.wanted plan.now text.old text.new) }
     {

@@ -1,5 +1,5 @@
-//! The commands `delay` and `delay times`: a plan of delays and clocks is read, and the schedule of its timeline is written, or
-//! the moments at which its command commits.
+//! The commands `delay` and `delay times`: they read a plan of delays and clocks, and write the schedule of its
+//! timeline, or the moments at which its command commits.
 #![tactic(auto)]
 
 mod agenda;

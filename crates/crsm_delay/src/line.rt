@@ -9,11 +9,11 @@ use crsm_text::{read_number, two_fields, two_numbers};
 /// A line of a plan.
 #[derive(Clone, Copy, Debug, PartialEq, Eq)]
 pub enum PlanLine {
-    /// The clock of a replica is ahead.
+    /// The clock of the replica is ahead by `by` microseconds.
     Offset { replica: u64, by: u64 },
-    /// Datagrams take a time from one replica to another.
+    /// Datagrams from replica `from` to replica `to` take `by` microseconds.
     Delay { from: u64, to: u64, by: u64 },
-    /// The command reaches a replica at a moment.
+    /// The command reaches the replica at the moment `at`, in microseconds.
     Command { replica: u64, at: u64 },
 }
 
@@ -42,7 +42,7 @@ fn command_of(text: &[u8]) -> Option<PlanLine>
     Some(PlanLine::Command { replica, at })
 }
 
-/// The line that a text spells, if there is one.
+/// Parses a line of a plan. `None` if it is outside the grammar.
 pub fn read_line(text: &[u8]) -> Option<PlanLine>
     ensures found { IfSome result (λ l. FitsLine l × (text.now ≡ line_text l)) }
     ensures only { (l : Spelt) → FitsLine l → text.now ≡ line_text l → result ≡ Some l }

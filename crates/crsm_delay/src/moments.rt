@@ -1,4 +1,4 @@
-//! The moments of a plan, and their text. A plan beyond the bounds has moments that stay within 64 bits.
+//! The moments of a plan, and their text. For a plan beyond the bounds the sums saturate at 64 bits.
 
 ghost use Rattle.std.specs.Prelude.{◌≡◌, ◌≤◌, ◌<◌, ◌+◌, ◌++◌, ◌∷◌, [], ℕ, OnOk};
 ghost use Rattle.crsm_spec_plan.specs.Plans as timing;
@@ -8,7 +8,7 @@ use crsm_base::{Bytes, NoMemory};
 use crsm_spec_plan::Plan;
 use crsm_text::push_named;
 
-/// How far the clock of a replica is ahead.
+/// Returns how far the clock of a replica is ahead, in microseconds.
 #[tactic(auto, unfolding(crsm_spec_plan::specs::Plans::offset_of))]
 pub(crate) fn offset_of(plan: &Plan, k: u64) -> u64
     ensures { result ≡ timing.offset_of plan.now k }
@@ -21,7 +21,7 @@ pub(crate) fn offset_of(plan: &Plan, k: u64) -> u64
     0
 }
 
-/// How long a datagram takes from one replica to another.
+/// Returns the delay of a datagram from replica `a` to replica `b`, in microseconds.
 #[tactic(auto, unfolding(crsm_spec_plan::specs::Plans::delay_of))]
 pub(crate) fn delay_of(plan: &Plan, a: u64, b: u64) -> u64
     ensures { result ≡ timing.delay_of plan.now a b }
@@ -37,7 +37,7 @@ pub(crate) fn delay_of(plan: &Plan, a: u64, b: u64) -> u64
     0
 }
 
-/// What the clock of a replica reads at a moment.
+/// Returns the reading of a replica's clock at a moment, in microseconds.
 #[tactic(auto, unfolding(crsm_spec_plan::specs::Plans::reading))]
 pub(crate) fn reading_of(plan: &Plan, k: u64, moment: u64) -> u64
     requires fits { timing.FitsPlan plan.now }
@@ -47,7 +47,7 @@ pub(crate) fn reading_of(plan: &Plan, k: u64, moment: u64) -> u64
     moment + offset_of(plan, k)
 }
 
-/// When replica `k` acknowledges the command.
+/// Returns the moment at which replica `k` acknowledges the command, in microseconds.
 fn ok_at(plan: &Plan, k: u64) -> u64
     ensures { timing.FitsPlan plan.now → result ≡ timing.ok_at plan.now k }
 {
@@ -57,7 +57,7 @@ fn ok_at(plan: &Plan, k: u64) -> u64
     arrival.max(past.saturating_sub(offset_of(plan, k)))
 }
 
-/// When replica `i` executes it.
+/// Returns the moment at which replica `i` executes the command, in microseconds.
 pub fn commit_at(plan: &Plan, i: u64) -> u64
     ensures { timing.FitsPlan plan.now → result ≡ timing.commit_at plan.now i }
 {
@@ -71,7 +71,7 @@ pub fn commit_at(plan: &Plan, i: u64) -> u64
     last
 }
 
-/// Adds the line of a replica.
+/// Appends the line of a replica. `NoMemory` if memory runs out.
 fn push_row(text: &mut Bytes, plan: &Plan, i: u64) -> Result<(), NoMemory>
     ensures { OnOk result (timing.FitsPlan plan.now → text.new ≡ text.old ++ row plan.now i) }
 {
@@ -80,7 +80,7 @@ fn push_row(text: &mut Bytes, plan: &Plan, i: u64) -> Result<(), NoMemory>
     Ok(())
 }
 
-/// Adds the moment at which each replica executes the command.
+/// Appends the moment at which each replica executes the command. `NoMemory` if memory runs out.
 pub(crate) fn push_times(text: &mut Bytes, plan: &Plan) -> Result<(), NoMemory>
     ensures { OnOk result (timing.FitsPlan plan.now → text.new ≡ text.old ++ times_text plan.now) }
 {

@@ -1,4 +1,4 @@
-//! The timeline of a plan: a world is driven by the plan, and each datagram that it sends is delivered in time.
+//! The timeline of a plan: a world follows the plan, and each datagram that it sends is delivered in time.
 
 ghost use Rattle.std.specs.Prelude.{◌≡◌, ◌∷◌, ◌++◌, [], List, IfErr, IfOk, MatchOption, Ok, OnOk};
 ghost use Rattle.crsm_spec_plan.specs.Plans.{FitsPlan};
@@ -17,13 +17,13 @@ use crsm_text::push_named;
 use crsm_world::{Bad, World};
 use std::alloc::Global;
 
-/// More events than a timeline has.
+/// Upper bound of the number of events in a timeline.
 const MORE_EVENTS: u64 = 1_000_000;
 
-/// Lets an event go, in a function of its own, which keeps the cases of an event out of its callers' proofs.
+/// Drops an event in its own function, which keeps its cases out of its callers' proofs.
 fn discard(_event: Event) {}
 
-/// What an event led to that was not refused.
+/// Returns the lines of an event that was not refused.
 fn unless_refused(stepped: Result<Lines, Bad>) -> Result<Lines, NoMemory>
     requires { IfErr stepped (λ bad. bad ≡ Bad.NoMemory) }
     ensures { IfOk result (λ lines. stepped ≡ Ok lines) }
@@ -37,7 +37,7 @@ fn unless_refused(stepped: Result<Lines, Bad>) -> Result<Lines, NoMemory>
     }
 }
 
-/// A plan as far as it has been followed.
+/// The run of a plan's timeline: the world, and the events still to happen.
 #[derive(Drop)]
 pub(crate) struct TimelineRun {
     alloc: Global,
@@ -46,7 +46,7 @@ pub(crate) struct TimelineRun {
 }
 
 impl TimelineRun {
-    /// The replicas have booted.
+    /// Returns the run once the replicas have booted.
     fn new(alloc: Global, plan: &Plan) -> Result<TimelineRun, NoMemory>
         requires { FitsPlan plan.now }
         ensures { IfOk result (λ run. Follows plan.now [] run) }
@@ -61,7 +61,7 @@ impl TimelineRun {
         })
     }
 
-    /// Does the event that comes next, which is possible, and gives it, if there is one.
+    /// Executes the next event, which is possible, and returns it, or `None` if no event is left.
     fn step(&mut self, plan: &Plan) -> Result<Option<Upcoming>, NoMemory>
         requires fits { FitsPlan plan.now }
         requires followed { IsFollowed plan.now self.old }
@@ -83,7 +83,7 @@ impl TimelineRun {
     }
 }
 
-/// Adds the schedule of a plan's timeline: how many replicas there are, and each event.
+/// Appends the schedule of a plan's timeline: the number of replicas, and each event. `NoMemory` if memory runs out.
 pub(crate) fn push_timeline(alloc: Global, text: &mut Bytes, plan: &Plan) -> Result<(), NoMemory>
     requires { FitsPlan plan.now }
     ensures { OnOk result (AddsTimeline plan.now text.old text.new) }

@@ -1,4 +1,4 @@
-//! Events that a plan has still ahead.
+//! The events still to happen by a plan.
 
 ghost use Rattle.std.specs.Prelude.{◌≡◌, ◌≤◌, ◌<◌, ◌++◌, ◌∷◌, [], IsTrue, ◌↔◌, None, IfOk, IfSome, OnOk};
 ghost use Rattle.crsm_schedule.specs.Grammar.{event_text};
@@ -14,10 +14,10 @@ use crsm_spec_plan::Plan;
 use crsm_text::push_named;
 use std::alloc::Global;
 
-/// What happens at a replica. A reading is that of its clock.
+/// The kind of an event at a replica. A reading is of the replica's clock, in microseconds.
 #[derive(Clone, Copy, Debug, PartialEq, Eq)]
 pub(crate) enum UpcomingKind {
-    /// The command comes.
+    /// The command arrives.
     Request { replica: u64, reading: u64 },
     /// The clock has passed the command's timestamp.
     Tick { replica: u64, reading: u64 },
@@ -26,8 +26,8 @@ pub(crate) enum UpcomingKind {
 }
 
 impl UpcomingKind {
-    /// Whether it happens before another at the same moment: the command is the first, then come ticks by replica, and then
-    /// deliveries by number.
+    /// Returns whether it happens before another one at the same moment: the command is first, then ticks by replica,
+    /// and then deliveries by number.
     fn precedes(self, other: UpcomingKind) -> bool
         ensures { IsTrue result ↔ IsBefore (does_of self) (does_of other) }
     {
@@ -49,7 +49,7 @@ impl UpcomingKind {
     }
 }
 
-/// An event, and its moment.
+/// An event, and its moment in microseconds.
 #[derive(Clone, Copy, Debug, PartialEq, Eq)]
 pub(crate) struct Upcoming {
     pub moment: u64,
@@ -57,7 +57,7 @@ pub(crate) struct Upcoming {
 }
 
 impl Upcoming {
-    /// Whether it happens before another.
+    /// Returns whether it happens before another one.
     pub(crate) fn precedes(self, other: Upcoming) -> bool
         ensures { IsTrue result ↔ Precedes (timed_of self) (timed_of other) }
     {
@@ -68,7 +68,7 @@ impl Upcoming {
         }
     }
 
-    /// The event of a schedule.
+    /// Returns the event of a schedule. `NoMemory` if memory runs out.
     pub(crate) fn event(self, alloc: Global) -> Result<Event, NoMemory>
         ensures { IfOk result (λ event. event ≡ event_of self) }
     {
@@ -84,7 +84,7 @@ impl Upcoming {
         Ok(Event::One { single })
     }
 
-    /// Adds the line of the event.
+    /// Appends the line of the event. `NoMemory` if memory runs out.
     pub(crate) fn push_to(self, text: &mut Bytes) -> Result<(), NoMemory>
         ensures { OnOk result (text.new ≡ text.old ++ (event_text (event_of self) ++ 10 ∷ [])) }
     {
@@ -106,7 +106,7 @@ impl Upcoming {
     }
 }
 
-/// The command of a plan: client 7 puts a value, as its command 1.
+/// Returns the command of a plan: client 7 puts a value, as its command 1.
 #[tactic(auto, unfolding(crsm_spec_plan::specs::Timelines::the_command))]
 fn command(alloc: Global) -> Result<Command, NoMemory>
     ensures { IfOk result (λ c. c ≡ the_command) }
@@ -120,7 +120,7 @@ fn command(alloc: Global) -> Result<Command, NoMemory>
     })
 }
 
-/// The command comes to the origin.
+/// Returns the arrival of the command at the origin.
 #[tactic(auto, unfolding(crsm_spec_plan::specs::Timelines::request, crsm_spec_plan::specs::Plans::stamped))]
 pub(crate) fn request(plan: &Plan) -> Upcoming
     requires { FitsPlan plan.now }
@@ -135,7 +135,8 @@ pub(crate) fn request(plan: &Plan) -> Upcoming
     }
 }
 
-/// The tick of another replica, if its clock is not past the timestamp when the command comes: as soon as it is.
+/// Returns the tick of another replica at the first moment at which its clock is past the timestamp, or `None` if it
+/// already is when the command arrives.
 pub(crate) fn tick(plan: &Plan, k: u64) -> Option<Upcoming>
     requires { FitsPlan plan.now }
     ensures some { IfSome result (λ u. IsTick plan.now k u) }

@@ -1,10 +1,10 @@
 -- The effect of a sync on a disk in memory.
 use Rattle.std.proofs.Common.{◌≡◌, inl, inr, ⊎_elim, ℕ, List, ◌∷◌, length, sym, ap, subst, arith}
-use Rattle.crsm_disk.specs.Calls.{Call, synced, contents}
+use Rattle.crsm_port_image.specs.Calls.{Call, synced, contents}
 use Rattle.crsm_disk.specs.Contract.{Goes}
-use Rattle.crsm_disk.specs.Image.{IsImage, IsLeftSince}
+use Rattle.crsm_port_image.specs.Image.{IsImage, IsLeftSince}
 use Rattle.crsm_disk.specs.Memory.{Memory, meaning_of}
-use Rattle.crsm_disk.proofs.Images.{reads_image}
+use Rattle.crsm_port_image.proofs.Images.{reads_image}
 
 -- a sync leaves what a read gives
 module _ (m n : Memory) (first : n.first ≡ m.first) (calls : n.calls ≡ synced ∷ m.calls) where

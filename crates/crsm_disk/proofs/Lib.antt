@@ -1,6 +1,3 @@
-pub mod Images
-pub mod Painted
-mod Reached
 mod Answered
 pub mod Moments
 mod Told

@@ -2,8 +2,8 @@
 use Rattle.std.proofs.Common.{◌≡◌, ℕ, zero, suc, true, false, ◌+◌, ◌-◌, ◌≤◌, ◌<◌, List, [], ◌∷◌, ◌++◌, length, take, drop, refl, ◌∙◌, ap, sym, subst, arith, length-drop, length-take}
 use Rattle.std.proofs.Math.ListN.{get_or}
 use Rattle.std.proofs.lemmas.List.{drop_more, take_all, nil_from_length, take-append-le, drop-append-le}
-use Rattle.crsm_disk.specs.Calls.{Call, wrote, cut, synced, contents}
-use Rattle.crsm_disk.specs.Image.{painted, ranged, image_of}
+use Rattle.crsm_port_image.specs.Calls.{Call, wrote, cut, synced, contents}
+use Rattle.crsm_port_image.specs.Image.{painted, ranged, image_of}
 use Rattle.crsm_disk.specs.Records.{told, total, painted_by, painted_on, redone, syncs}
 use Rattle.crsm_disk.specs.declared.record.Record.{Record}
 use Rattle.crsm_disk.specs.declared.record.Record.TheVariants.{Write, Cut, Sync}

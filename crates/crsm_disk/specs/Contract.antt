@@ -16,7 +16,7 @@ pub record Goes (step : List ℕ → List ℕ → Type 0) (old new : Meaning) : 
 pub record Answers {T : Type 0} (calls bytes : ℕ) (old new : Meaning) (result : Result T Failed) : Type 0 where
   pub honest : new.honest ≡ old.honest
   pub fill : new.fill ≡ old.fill
-  pub lent : new.lent ≡ old.lent
+  pub borrowed_as : new.borrowed_as ≡ old.borrowed_as
   pub later : old.faults ≤ new.faults
   pub failed : OnErr result (Rose old.faults new.faults)
   pub plan : Spends calls bytes old.plan new.plan result

@@ -1,7 +1,7 @@
 -- The invariant of a disk in memory.
 use Rattle.std.specs.Prelude.{◌≡◌, ◌+◌, ◌≤◌, [], length, vec_len, vec_capacity}
 use Rattle.crsm_disk.specs.declared.memory.MemDisk.TheInside.{Inside}
-use Rattle.crsm_disk.specs.Calls.{contents}
+use Rattle.crsm_port_image.specs.Calls.{contents}
 use Rattle.crsm_disk.specs.Memory.{Memory}
 use Rattle.crsm_disk.specs.Records.{told, total}
 

@@ -1,7 +1,3 @@
-pub mod Bytes
-pub mod Calls
-pub mod Image
-pub mod Torn
 pub mod Meaning
 pub mod Contract
 pub mod Unknown

@@ -1,7 +1,7 @@
 -- The model of a disk: what a read returns, what a crash may leave, and what the disk specifies of its calls.
 use Rattle.std.specs.Prelude.{◌≡◌, ◌⊎◌, ◌↔◌, ℕ, ◌≤◌, List, Bool, IsTrue, Option, Some}
 use Rattle.crsm_port_faults.specs.Plan.{Plan}
-use Rattle.crsm_disk.specs.Calls.{History, contents}
+use Rattle.crsm_port_image.specs.Calls.{History, contents}
 
 pub record Meaning : Type 1 where
   -- the bytes that a read returns
@@ -21,7 +21,7 @@ pub record Meaning : Type 1 where
   pub fill : Option ℕ
   pub faults : ℕ
   -- the ghost name of the reference by which the disk is borrowed
-  pub lent : Option ℕ
+  pub borrowed_as : Option ℕ
   -- the bytes that a read returns are one of the images
   pub as_read : IsTrue honest → may_leave seen
   -- the calls specified make the bytes that a read returns
@@ -56,4 +56,4 @@ pub record Same (old new : Meaning) : Type 0 where
   pub left : (t : ℕ) (c : List ℕ) → new.left_since t c ↔ old.left_since t c
   pub history : new.history ≡ old.history
   pub honest : new.honest ≡ old.honest
-  pub lent : new.lent ≡ old.lent
+  pub borrowed_as : new.borrowed_as ≡ old.borrowed_as

@@ -1,10 +1,10 @@
 -- The model of a disk in memory.
 use Rattle.std.specs.Prelude.{ℕ, ◌+◌, ◌-◌, List, [], ◌∷◌, length, Option, Some, None, true}
 use Rattle.crsm_port_faults.specs.Failing.{Failing, good_of, least}
-use Rattle.crsm_disk.specs.Calls.{Call, contents}
-use Rattle.crsm_disk.specs.Image.{IsImage, IsLeftSince, image_of}
+use Rattle.crsm_port_image.specs.Calls.{Call, contents}
+use Rattle.crsm_port_image.specs.Image.{IsImage, IsLeftSince, image_of}
 use Rattle.crsm_disk.specs.Meaning.{Meaning}
-use Rattle.crsm_disk.proofs.Images.{reads_image, counts_now_lem, only_now_lem, told_makes}
+use Rattle.crsm_port_image.proofs.Images.{reads_image, counts_now_lem, only_now_lem, told_makes}
 
 pub record Memory : Type 0 where
   -- the initial bytes, and the successful calls, the newest first
@@ -59,7 +59,7 @@ meaning_of m = record {
   plan = Some (record { calls = m.room_calls; bytes = m.room_bytes; good = good_left m });
   fill = Some m.fill;
   faults = m.faults;
-  lent = None;
+  borrowed_as = None;
   as_read = λ _. reads_image m.first m.calls;
   as_told = told_makes m.first m.calls;
   counts_now = counts_now_lem m.first m.calls;

@@ -1,8 +1,8 @@
 -- The records of a disk in memory about its calls.
 use Rattle.std.specs.Prelude.{ℕ, ◌+◌, List, [], ◌∷◌, take, drop, Bool, true, false}
-use Rattle.crsm_disk.specs.Bytes.{overwritten}
-use Rattle.crsm_disk.specs.Calls.{Call, wrote, cut, synced}
-use Rattle.crsm_disk.specs.Image.{ranged}
+use Rattle.crsm_port_image.specs.Bytes.{overwritten}
+use Rattle.crsm_port_image.specs.Calls.{Call, wrote, cut, synced}
+use Rattle.crsm_port_image.specs.Image.{ranged}
 use Rattle.crsm_disk.specs.declared.record.Record.{Record}
 use Rattle.crsm_disk.specs.declared.record.Record.TheVariants.{Write, Cut, Sync}
 

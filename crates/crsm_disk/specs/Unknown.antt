@@ -2,7 +2,7 @@
 use Rattle.std.specs.Prelude.{ℕ, [], false, None}
 use mathlib.Core.Bool.{false≢true}
 use Rattle.crsm_disk.specs.Meaning.{Meaning}
-use Rattle.crsm_disk.proofs.Images.{not_told}
+use Rattle.crsm_port_image.proofs.Images.{not_told}
 
 abbrev pub unknown : ℕ → Meaning
 unknown faults = record {
@@ -15,7 +15,7 @@ unknown faults = record {
   plan = None;
   fill = None;
   faults = faults;
-  lent = None;
+  borrowed_as = None;
   as_read = false≢true;
   as_told = not_told;
   counts_now = λ t c le left. left;

@@ -1,8 +1,8 @@
 //! The effect of calls on the bytes of a disk in memory.
 
 ghost use Rattle.std.specs.Prelude.{◌≡◌, ◌+◌, ◌-◌, ◌≤◌, ◌∷◌, ℕ, List, length, vec_len, vec_capacity, IfOk, OnOk};
-ghost use Rattle.crsm_disk.specs.Bytes.{overwritten, ReadsAt};
-ghost use Rattle.crsm_disk.specs.Image.{ranged};
+ghost use Rattle.crsm_port_image.specs.Bytes.{overwritten, ReadsAt};
+ghost use Rattle.crsm_port_image.specs.Image.{ranged};
 ghost use Rattle.crsm_disk.specs.Records.{painted_by, painted_on, redone};
 ghost use Rattle.crsm_disk.specs.declared.record.Record.{Record};
 

@@ -1,8 +1,8 @@
-//! The trait of a disk: what is read, what is written, and what a crash may leave.
+//! The trait of a disk, with a contract of what a crash may leave.
 
 ghost use Rattle.std.specs.Prelude.{◌≡◌, ◌+◌, ◌-◌, ◌≤◌, length, take, IsTrue, IfOk, OnOk, is_ok, Some, if◌then◌else◌};
-ghost use Rattle.crsm_disk.specs.Bytes.{overwritten, Torn, Shortened, ReadsAt};
-ghost use Rattle.crsm_disk.specs.Calls.{wrote, cut, synced, noted};
+ghost use Rattle.crsm_port_image.specs.Bytes.{overwritten, Torn, Shortened, ReadsAt};
+ghost use Rattle.crsm_port_image.specs.Calls.{wrote, cut, synced, noted};
 ghost use Rattle.crsm_disk.specs.Contract.{Answers, Arms, Goes, Reserves};
 ghost use Rattle.crsm_disk.specs.Meaning.{Meaning, Only, Same};
 
@@ -61,7 +61,7 @@ pub trait Disk {
 }
 
 impl<D: Disk> Disk for &mut D {
-    ghost meaning = { λ d. record (D.meaning d.now) { lent = Some d.ghost_name } };
+    ghost meaning = { λ d. record (D.meaning d.now) { borrowed_as = Some d.ghost_name } };
 
     fn len(&mut self) -> Result<u64, Failed> {
         (**self).len()

@@ -4,8 +4,8 @@ ghost use Rattle.std.specs.Prelude.{◌≡◌, ◌≤◌, [], length, IfOk, OnOk
 ghost use Rattle.std.specs.Bool.{OnTrue, OnFalse};
 ghost use Rattle.crsm_port_faults.specs.Counts.{raised, Rose};
 ghost use Rattle.crsm_port_faults.specs.Failing.{IsNotEnd, good_of, least, one_less};
-ghost use Rattle.crsm_disk.specs.Calls.{contents, wrote, cut, synced};
-ghost use Rattle.crsm_disk.specs.Image.{IsImage};
+ghost use Rattle.crsm_port_image.specs.Calls.{contents, wrote, cut, synced};
+ghost use Rattle.crsm_port_image.specs.Image.{IsImage};
 ghost use Rattle.crsm_disk.specs.Memory.{good_left, holding, left_by_crash, meaning_of, room_for_write, with_call};
 
 use crate::Disk;

@@ -1,4 +1,4 @@
--- What is read off a log can be encoded if each of its records can.
+-- The values read off a log can be encoded if each of its records can.
 use Rattle.std.proofs.Common.{◌≡◌, ℕ, ◌*◌, ◌<◌, ◌≤◌, List, [], ◌∷◌, ◌++◌, length, drop, refl, sym, ◌∙◌, subst, inl, inr, Bool, true, false, cond, arith}
 use Rattle.std.specs.Prelude.{◌⊎◌, ◌^◌, IsTrue, Option, Some, None, nat_le, nat_lt, ◌==◌, find, filter, option_to_list, option_map}
 use Rattle.std.specs.List.{AllByRecursion, list_all, last_or}

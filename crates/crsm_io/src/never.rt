@@ -47,7 +47,7 @@ impl Source for NeverSource {
     }
 }
 
-/// A sink that discards what is written and counts its bytes. Its writes never fail.
+/// A sink that discards all bytes written and counts them. Its writes never fail.
 #[derive(Drop)]
 pub struct NeverSink {
     count: u64,

@@ -10,7 +10,7 @@ client_of e = record { client = e.0; number = e.1.number; answer = e.1.answer }
 unfoldable pub clients_of : List (ℕ × Kept) → List Client
 clients_of es = map client_of es
 
--- the row of a client, of which this is kept
+-- the row of a client with this last command
 abbrev pub row_of : ℕ → Option Kept → Option Client
 row_of client None = None
 row_of client (Some kept) = Some (client_of (client, kept))

@@ -1,4 +1,4 @@
-//! The clients in first-seen order, each with its last command.
+//! The clients in first-seen order, each with its last command and the answer to it.
 
 ghost use Rattle.std.specs.Prelude.{◌≡◌, ◌<◌, ℕ, IsOk, OnOk, length};
 ghost use Rattle.std.specs.Option.{option_copied};
@@ -9,7 +9,7 @@ ghost use Rattle.crsm_kv.specs.Clients.{clients_of, row_of, client_of};
 use crsm_base::{Answer, NoMemory};
 use indexmap::IndexMap;
 
-/// A client's last command, and the answer to it.
+/// A client's last command: its number, and the answer to it.
 #[derive(Drop)]
 pub struct Kept {
     pub number: u64,
@@ -19,7 +19,7 @@ pub struct Kept {
 /// The clients' last commands, in the order in which the clients were first seen.
 pub type Clients = IndexMap<u64, Kept>;
 
-/// The client's last command.
+/// Returns the client's last command, or `None` if the client is unknown.
 #[tactic(auto, using(crate::proofs::ClientsLemmas::clients_rules))]
 pub fn last_of(clients: &Clients, client: u64) -> Option<&Kept>
     ensures { client_row client (clients_of clients.now.entries) ≡ row_of client (option_copied result) }
@@ -27,7 +27,7 @@ pub fn last_of(clients: &Clients, client: u64) -> Option<&Kept>
     clients.get(&client)
 }
 
-/// How many clients there are.
+/// Returns the number of clients.
 #[tactic(auto, using(crate::proofs::ClientsLemmas::clients_rules))]
 pub fn count(clients: &Clients) -> usize
     ensures { result ≡ length (clients_of clients.now.entries) }
@@ -35,7 +35,8 @@ pub fn count(clients: &Clients) -> usize
     clients.len()
 }
 
-/// Keeps the client's last command. With room for one client more it succeeds.
+/// Records the client's last command. `NoMemory` if memory runs out, which cannot happen if the map has room for one
+/// more client.
 #[tactic(auto, using(crate::proofs::ClientsLemmas::clients_rules))]
 pub fn keep(clients: &mut Clients, client: u64, kept: Kept) -> Result<(), NoMemory>
     ensures kept { OnOk result (clients_of clients.new.entries ≡ with_client (client_of (client, kept)) (clients_of clients.old.entries)) }

@@ -1,4 +1,4 @@
-//! The keys in their order, and what an operation does to them.
+//! The key map of the store, and the effect of an operation on it.
 
 ghost use Rattle.std.specs.Prelude.{◌≡◌, ℕ, List, ◌||◌, nat_lt, length, is_some, IfOk, OnOk, OnErr, bytes_eq};
 ghost use Rattle.std.specs.Option.{option_copied, option_eq};
@@ -9,10 +9,10 @@ use crsm_base::{Answer, Key, MAX_KEYS, NoMemory, Op, Val};
 use std::alloc::Global;
 use std::collections::BTreeMap;
 
-/// The values of the keys, in the keys' order.
+/// The values by their keys, in ascending key order.
 pub type Keys = BTreeMap<Key, Val>;
 
-/// The value of the key.
+/// Returns the value of the key, or `None` if the key is missing.
 #[tactic(auto, using(crate::proofs::KeysLemmas::keys_rules))]
 pub fn value_of<'a>(keys: &'a Keys, key: &Key) -> Option<&'a Val>
     ensures { option_copied result ≡ value_at key.now keys.now.entries }
@@ -20,14 +20,15 @@ pub fn value_of<'a>(keys: &'a Keys, key: &Key) -> Option<&'a Val>
     keys.get(key)
 }
 
-/// Whether the key is there, or one more has room. Mostly there is room, so the key is not sought.
+/// Returns whether the key exists or one more key fits. There is nearly always room, so the count is tested before the
+/// key is looked up.
 fn has_room(keys: &Keys, key: &Key) -> bool
     ensures { result ≡ (is_some (value_at key.now keys.now.entries) || nat_lt (length keys.now.entries) most_keys) }
 {
     keys.len() < MAX_KEYS as usize || value_of(keys, key).is_some()
 }
 
-/// Whether the value, or its absence, is the expected one.
+/// Returns whether the value, or its absence, is the expected one.
 fn is_expected(current: Option<&Val>, expected: &Option<Val>) -> bool
     ensures { result ≡ option_eq bytes_eq (option_copied current.entry) expected.now }
 {
@@ -38,7 +39,7 @@ fn is_expected(current: Option<&Val>, expected: &Option<Val>) -> bool
     }
 }
 
-/// What is answered to setting the key.
+/// Returns the answer to setting the key: `Done`, or `NoRoom` if the key is new and the store is full.
 #[tactic(auto, unfolding(crsm_base::specs::Store::put_key))]
 fn answer_to_put(keys: &Keys, key: &Key) -> Answer
     ensures { (value : List ℕ) → result ≡ (put_key key.now value keys.now.entries).1 }
@@ -59,7 +60,7 @@ fn copy_of(alloc: Global, value: Option<&Val>) -> Result<Option<Val>, NoMemory>
     }
 }
 
-/// What the operation is answered.
+/// Returns the answer to the operation, which is not executed. `NoMemory` if memory runs out.
 #[tactic(auto, unfolding(crsm_base::specs::Store::operate, crsm_base::specs::Store::change_key, crsm_base::specs::Store::found))]
 pub fn answer_to(alloc: Global, keys: &Keys, op: &Op) -> Result<Answer, NoMemory>
     ensures { IfOk result (λ answer. answer ≡ (operate keys.now.entries op.now).1) }
@@ -87,7 +88,7 @@ pub fn answer_to(alloc: Global, keys: &Keys, op: &Op) -> Result<Answer, NoMemory
     }
 }
 
-/// Sets the key, unless it is new and there is no room.
+/// Sets the key, unless it is new and the store is full. `NoMemory` if memory runs out; the keys are then unchanged.
 #[tactic(auto, using(crate::proofs::KeysLemmas::keys_rules), unfolding(crsm_base::specs::Store::put_key))]
 fn put(alloc: Global, keys: &mut Keys, key: &Key, value: &Val) -> Result<(), NoMemory>
     ensures ok { OnOk result (keys.new.entries ≡ (put_key key.now value.now keys.old.entries).0) }
@@ -106,7 +107,7 @@ fn remove(keys: &mut Keys, key: &Key)
     let _ = keys.remove(key);
 }
 
-/// Does the operation.
+/// Executes the operation on the keys. `NoMemory` if memory runs out.
 #[tactic(auto, unfolding(crsm_base::specs::Store::operate, crsm_base::specs::Store::change_key))]
 pub fn change(alloc: Global, keys: &mut Keys, op: &Op) -> Result<(), NoMemory>
     ensures ok { OnOk result (keys.new.entries ≡ (operate keys.old.entries op.now).0) }

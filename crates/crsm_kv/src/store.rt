@@ -1,4 +1,4 @@
-//! The store.
+//! The sequential store with its contract: one command at a time, each executed at most once.
 
 ghost use Rattle.std.specs.Prelude.{◌≡◌, IfOk, OnErr, OnOk, length};
 ghost use Rattle.std.specs.Option.{option_copied};
@@ -12,8 +12,8 @@ use std::alloc::Global;
 use std::collections::BTreeMap;
 use std::marker::Model;
 
-/// The sequential store: the keys with their values, and the last command of each client in
-/// first-seen order. A contract sees the two as lists of rows.
+/// The sequential store: the keys with their values, and the last command of each client in first-seen order. A
+/// contract sees the two as lists of rows.
 #[derive(Drop)]
 pub struct Store {
     alloc: Global,
@@ -32,7 +32,7 @@ impl Model for Store {
 
 impl Store {
     #[tactic(auto, unfolding(crsm_base::specs::Store::no_rows, crate::specs::Clients::clients_of))]
-    /// A store with no key and no client.
+    /// Returns a store without keys and clients. `NoMemory` if memory runs out.
     pub fn new(alloc: Global) -> Result<Store, NoMemory>
         ensures { IfOk result (λ s. s ≡ no_rows) }
     {
@@ -44,8 +44,9 @@ impl Store {
     }
 
     #[tactic(auto, unfolding(crsm_base::specs::Store::apply, crsm_base::specs::Store::serve))]
-    /// Does the command, unless its client was answered already, and answers it. A client's answer
-    /// is kept for the same number again. After an error the store is as before.
+    /// Executes the command and returns its answer. A command with its client's last number is not executed again: the
+    /// recorded answer is returned. A lower number is answered by `Stale`, a new client in a full store by `NoRoom`.
+    /// `NoMemory` if memory runs out; the store is then unchanged.
     pub fn apply(&mut self, command: &Command) -> Result<Answer, NoMemory>
         ensures done { IfOk result (λ answer. (self.new, answer) ≡ apply self.old command.now) }
         ensures err { OnErr result (self.new ≡ self.old) }
@@ -59,7 +60,7 @@ impl Store {
     }
 
     #[tactic(auto, unfolding(crsm_base::specs::Store::done))]
-    /// Does the command of a client that is kept or has room.
+    /// Executes the command of a client that is known or has room, and records its answer. `NoMemory` changes nothing.
     fn execute(&mut self, command: &Command) -> Result<Answer, NoMemory>
         ensures done { IfOk result (λ answer. (self.new, answer) ≡ done self.old command.now (operate self.old.keys command.now.op)) }
         ensures err { OnErr result (self.new ≡ self.old) }
@@ -69,28 +70,28 @@ impl Store {
             number: command.number,
             answer: answer.copy(self.alloc)?,
         };
-        // The client's row has its room before a key changes, so that nothing is to be undone.
+        // The client's row gets its room before a key changes, so that nothing has to be undone.
         self.clients.reserve(1)?;
         keys::change(self.alloc, &mut self.keys, &command.op)?;
         clients::keep(&mut self.clients, command.client, kept)?;
         Ok(answer)
     }
 
-    /// The value of the key.
+    /// Returns the value of the key, or `None` if the key is missing.
     pub fn get(&self, key: &Key) -> Option<&Val>
         ensures { option_copied result ≡ value_at key.now self.now.keys }
     {
         keys::value_of(&self.keys, key)
     }
 
-    /// How many clients are kept.
+    /// Returns the number of clients.
     pub fn clients(&self) -> u64
         ensures { result ≡ length self.now.clients }
     {
         clients::count(&self.clients) as u64
     }
 
-    /// How many keys there are.
+    /// Returns the number of keys.
     pub fn keys(&self) -> u64
         ensures { result ≡ length self.now.keys }
     {

@@ -1,4 +1,4 @@
--- At a tick all unacknowledged frames go out, in order.
+-- At a tick all unacknowledged frames are sent, in order.
 use Rattle.std.proofs.Common.{◌≡◌, ℕ, zero, suc, ◌+◌, ◌≤◌, List, [], ◌∷◌, ◌++◌, length, refl, sym, ◌∙◌, ap, subst, inl, inr, Bool, true, false, cond, arith, map, take, drop, append_assoc, length-append}
 use Rattle.std.specs.Prelude.{Option, Some, None, filter, fold, ◌==◌}
 use Rattle.std.specs.Option.{option_map_or}

@@ -1,4 +1,4 @@
--- What commits, replies, debts that are paid and clock times leave of a draft.
+-- The effect of commits, replies, sent acknowledgements and clock times on a draft.
 use Rattle.std.proofs.Common.{◌≡◌, ℕ, ◌+◌, ◌≤◌, List, [], ◌∷◌, ◌++◌, length, refl, sym, ◌∙◌, ap, subst, Bool, true, false, arith, append_assoc}
 use Rattle.std.specs.Prelude.{Option, Some, None}
 use Rattle.std.specs.Option.{option_map_or}
@@ -174,8 +174,8 @@ ends_log x = subst (GrowsBy x.replica.me x.replica.log []) (sym (all_replied (co
 
 -- ---- debts and clock times
 
--- Times are issued, stamps are owed no longer, and frames are pushed; all else stays. `left` is how many times may be issued, and
--- how many stamps owed, in the end.
+-- Times are issued, pending stamps are removed, and frames are pushed; all else stays. `left` is how many times may
+-- still be issued, and how many stamps are pending, in the end.
 pub record IsPaid (left : ℕ) (x y : Draft) : Type 0 where
   pub me : y.replica.me ≡ x.replica.me
   pub n : y.replica.n ≡ x.replica.n

@@ -1,4 +1,4 @@
--- After a step of an active replica nothing is ready.
+-- After a step of an active replica no entry is ready.
 use Rattle.std.proofs.Common.{◌≡◌, ℕ, List, [], ◌∷◌, ◌++◌, refl, sym, ◌∙◌, ap, subst, inl, inr, Bool, true, false, cond, append_assoc}
 use Rattle.std.specs.Prelude.{IsTrue, Option, Some, None, find, filter, option_map, option_to_list, ◌==◌, ◌&&◌}
 use Rattle.std.proofs.lemmas.Bool.{false≢true, eq-eqb, and_parts}

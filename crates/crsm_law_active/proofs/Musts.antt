@@ -1,4 +1,4 @@
--- A frame of the next number that is not odd is taken.
+-- A valid frame with the next number is received.
 use Rattle.std.proofs.Common.{◌≡◌, ◌≢◌, ℕ, ◌≤◌, ◌∷◌, refl, ◌∙◌, ap, Bool, true, false, arith}
 use Rattle.std.specs.Prelude.{IsTrue, nat_lt, not, ◌==◌, ◌||◌}
 use Rattle.std.proofs.lemmas.Bool.{false≢true, eq-eqb, ne_eqb}

@@ -1,4 +1,4 @@
--- At a tick all that is owed is paid.
+-- At a tick all pending acknowledgements are sent.
 use Rattle.std.proofs.Common.{◌≡◌, ℕ, ◌+◌, ◌<◌, ◌≤◌, List, [], ◌∷◌, length, refl, sym, ◌∙◌, ap, subst, inl, inr, Bool, cond, arith, max}
 use Rattle.std.specs.Prelude.{IsTrue, Option, Some, None, nat_lt}
 use Rattle.std.specs.Option.{option_map_or}

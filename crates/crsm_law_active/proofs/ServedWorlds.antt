@@ -1,4 +1,4 @@
--- Nothing is left to do in any world that is reached.
+-- Nothing is left to do in any world reached.
 use Rattle.std.proofs.Common.{◌≡◌, ℕ, [], ◌∷◌, length, refl, sym, ◌∙◌, ap, subst, inl, inr, Bool, true, false}
 use Rattle.std.specs.Prelude.{◌⊎◌, Some, slice_get, slice_set, nat_lt}
 use Rattle.std.proofs.lemmas.Bool.{false≢true}

@@ -1,4 +1,4 @@
--- After a step nobody waits whose entry is executed or dropped.
+-- After a step no client waits whose entry is executed or dropped.
 use Rattle.std.proofs.Common.{◌≡◌, ℕ, ◌≤◌, List, [], ◌∷◌, ◌++◌, length, refl, sym, ◌∙◌, ap, subst, inl, inr, Bool, true, false, arith, length-append}
 use Rattle.std.specs.Prelude.{◌⊎◌, IsTrue, Option, Some, None, nat_lt, nat_le, ◌&&◌, option_to_list}
 use Rattle.std.proofs.lemmas.Bool.{and_parts, false≢true, ltb-false, le-leb}

@@ -1,4 +1,4 @@
--- A step on a link tells little.
+-- A step on a frame or an acknowledgement sends little besides frames.
 use Rattle.std.proofs.Common.{◌≡◌, ℕ, List, [], ◌∷◌, ◌++◌, length, refl, sym, ap, subst, inl, inr, map, take}
 use Rattle.std.specs.Prelude.{IsTrue, Option, Some, None, fold}
 use Rattle.crsm_base.specs.Limits.{most_again}

@@ -1,4 +1,4 @@
-//! What active replicas do in a step, and what they have counted between steps.
+//! The effects of a step of an active replica, and its counts of received datagrams between steps.
 //!
 //! The changes of a step (`crsm_fact_step`) are what it may do. These laws say what it must do: which frames it
 //! receives, which acknowledgements it sends, what it executes, retransmits and answers. The laws of worlds say what an

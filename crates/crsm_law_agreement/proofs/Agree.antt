@@ -1,4 +1,4 @@
--- Every epoch holds, by induction over epochs, and so all executed lists agree.
+-- Every epoch has the properties of `EpochHolds`, by induction over epochs, so all executed lists agree.
 use Rattle.std.proofs.Common.{◌≡◌, ℕ, zero, suc, ◌+◌, ◌-◌, ◌<◌, ◌≤◌, List, [], ◌∷◌, length, refl, sym, ◌∙◌, ap, subst, inl, inr, arith}
 use Rattle.std.specs.Prelude.{◌⊎◌, IsTrue, Option, Some, None, slice_get, nat_le}
 use Rattle.std.proofs.lemmas.Bool.{and_parts, leb-true, cases_lt}

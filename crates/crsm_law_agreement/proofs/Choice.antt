@@ -1,4 +1,4 @@
--- After an epoch of one Spec all that is chosen is one decision.
+-- After an epoch with one Spec all chosen decisions are equal.
 use Rattle.std.proofs.Common.{◌≡◌, ℕ, zero, suc, ◌+◌, ◌<◌, ◌≤◌, List, [], ◌∷◌, refl, sym, ◌∙◌, ap, subst, inl, inr, true, false, arith, map, length, get_or}
 use Rattle.std.specs.Prelude.{IsTrue, Option, Some, None, count_by}
 use Rattle.std.specs.List.{Contains}
@@ -64,7 +64,8 @@ one_value n logs os h i b c d p q =
     let e = same_offer n logs os h p.offer q.offer p.among q.among (p.instance ∙ sym q.instance) (p.ballot ∙ sym q.ballot) in
     sym p.value ∙ ap (λ (o : Offer). value_of o.own o.answers) e ∙ q.value
 
--- the value that answers leave is the own one, or was named by one of them, in a ballot that is not below any that was named
+-- the value that answers leave is the own one, or was named by one of them, in a ballot that is not below any that was
+-- named
 pub data Leaves (own : Decision) (answers : List (Answer Decision)) : Decision → Type 0 where
   Own : ((a : Answer Decision) → Among answers a → a.accepted ≡ None) → Leaves own answers own
   Named : (a : Answer Decision) (b : Ballot) (d : Decision) → Among answers a → a.accepted ≡ Some (b, d) →

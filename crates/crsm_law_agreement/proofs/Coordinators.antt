@@ -1,4 +1,4 @@
--- What a coordinator has of the ballots of its instance, and how that stays while logs go on and offers are made.
+-- The relation of a coordinator to the ballots of its instance, and that it stays while logs grow and offers are made.
 use Rattle.std.proofs.Common.{◌≡◌, ℕ, ◌+◌, List, [], ◌∷◌, ◌∙◌, ap, inr}
 use Rattle.crsm_spec.specs.Types.{Ballot, Decision, Rec}
 use Rattle.crsm_spec.specs.Lists.{Among}
@@ -13,7 +13,8 @@ use Rattle.crsm_law_agreement.specs.Ballots.{Offer, IsOffered, IsComplete, HasPr
 
 -- ---- coordinators
 
--- Replica k, which knows epoch e by this log, asks for ballot b: it has promised the ballot, and nothing is offered in it yet.
+-- Replica k, which knows epoch e by this log, asks for ballot b: it has promised the ballot, and nothing is offered in
+-- it yet.
 pub record IsAsking (n : ℕ) (logs : ℕ → Log) (offers : List Offer) (k e : ℕ) (log : Log) (b : Ballot) (own : Decision) (answers : List (Answer Decision)) : Type 0 where
   pub complete : IsComplete n logs (e + 1) own
   pub by : b.by ≡ k

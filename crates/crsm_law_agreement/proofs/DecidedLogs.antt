@@ -1,4 +1,4 @@
--- What the records of ballots in one log say of one another.
+-- The relations between the records of ballots in one log.
 use Rattle.std.proofs.Common.{◌≡◌, ℕ, ◌+◌, ◌<◌, ◌≤◌, [], ◌∷◌, refl, sym, ◌∙◌, ap, subst, inl, inr, Bool, true, false, arith}
 use Rattle.std.specs.Prelude.{IsTrue, Option, Some, None, ◌==◌, not}
 use Rattle.std.specs.Option.{option_map_or}

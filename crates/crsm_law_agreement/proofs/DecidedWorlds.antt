@@ -1,4 +1,4 @@
--- The ballots in every world that is reached.
+-- The ballots in every world reached.
 use Rattle.std.proofs.Common.{◌≡◌, ℕ, ◌<◌, List, [], ◌∷◌, length, refl, sym, ◌∙◌, ap, subst, inl, inr, Bool, true, false, arith}
 use Rattle.std.specs.Prelude.{◌⊎◌, ◌^◌, Option, Some, None, slice_get, slice_set, nat_lt}
 use Rattle.std.specs.Option.{option_map_or}

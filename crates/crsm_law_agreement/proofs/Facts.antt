@@ -1,4 +1,4 @@
--- An epoch that has an opening and one Spec has all that the law of collection asks of it.
+-- An epoch with an opening and one Spec meets the premises of the law of collection.
 use Rattle.std.proofs.Common.{◌≡◌, ℕ, ◌<◌, ◌≤◌, List, ◌∷◌, length, refl, sym, ◌∙◌, ap, subst, inl, inr, Bool, arith}
 use Rattle.std.specs.Prelude.{◌⊎◌, IsTrue, Some, slice_get, count_by}
 use Rattle.std.specs.Option.{option_map_or}

@@ -1,4 +1,4 @@
--- Each epoch has an opening: what the decision before it begins it with.
+-- Each epoch has an opening: the beginning that the decision before it gives.
 use Rattle.std.proofs.Common.{◌≡◌, ℕ, suc, ◌+◌, ◌<◌, ◌≤◌, List, [], ◌++◌, length, take, refl, sym, ◌∙◌, ap, subst, inl, inr, arith, length-append}
 use Rattle.std.specs.Prelude.{◌⊎◌, Option, Some, None, slice_get}
 use Rattle.std.specs.Option.{option_map_or}

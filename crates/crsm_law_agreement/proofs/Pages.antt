@@ -1,4 +1,4 @@
--- A page that is taken is the answer of its sender's frozen log.
+-- A page that is accepted is the answer of its sender's suspended log.
 use Rattle.std.proofs.Common.{◌≡◌, ℕ, List, [], ◌∷◌, ◌++◌, length, refl, sym, ◌∙◌, ap, subst, Bool, false}
 use Rattle.std.specs.Prelude.{IsTrue, Option, Some, None, ◌==◌, ◌||◌, nat_lt}
 use Rattle.std.specs.Option.{option_eq}

@@ -1,4 +1,4 @@
--- Where the executed entries of a log stand, record by record.
+-- The places of the executed entries of a log, record by record.
 use Rattle.std.proofs.Common.{◌≡◌, ℕ, zero, suc, ◌+◌, ◌-◌, ◌≤◌, List, [], ◌∷◌, ◌++◌, length, drop, take, refl, sym, ◌∙◌, ap, subst, inl, inr, Bool, true, false, cond, arith}
 use Rattle.std.specs.Prelude.{◌⊎◌, IsTrue, Option, Some, None, slice_get, nat_lt, nat_le, ◌&&◌, find, option_to_list}
 use Rattle.std.specs.Option.{option_map_or}

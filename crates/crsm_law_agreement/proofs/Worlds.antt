@@ -1,4 +1,4 @@
--- In every world that is reached executed entries stand at their places.
+-- In every world reached executed entries are at their places.
 use Rattle.std.proofs.Common.{◌≡◌, ℕ, ◌<◌, List, [], ◌∷◌, length, refl, sym, ◌∙◌, ap, subst, inl, inr, Bool, true, false}
 use Rattle.std.specs.Prelude.{◌⊎◌, Some, slice_get, slice_set, nat_lt}
 use Rattle.std.proofs.lemmas.Bool.{cases_eq}

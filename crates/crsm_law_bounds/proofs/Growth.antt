@@ -1,4 +1,4 @@
--- How many records the rules of control messages keep.
+-- The number of records that the rules of control messages write.
 use Rattle.std.proofs.Common.{ℕ, ◌+◌, List, [], ◌∷◌, ◌++◌, length, refl, false, arith, map}
 use Rattle.std.specs.Prelude.{Option, None, nat_lt, nat_le, ◌==◌, ◌&&◌, not}
 use Rattle.std.specs.Option.{option_map_or}

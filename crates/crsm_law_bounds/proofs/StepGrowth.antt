@@ -1,4 +1,4 @@
--- How many records a step keeps.
+-- The number of records that a step writes.
 use Rattle.std.proofs.Common.{◌≡◌, ℕ, suc, ◌+◌, ◌≤◌, List, [], ◌∷◌, length, refl, ap, Bool, true, false, arith, take}
 use Rattle.std.specs.Prelude.{Option, Some, None, nat_lt, nat_le, ◌==◌, ◌&&◌, ◌||◌, not}
 use Rattle.std.specs.Option.{option_map_or}
@@ -213,7 +213,8 @@ replies_same x =
 
 -- ---- a whole step
 
--- It keeps at most 6 records besides commits, and no more commits than there are other records then; all are in its batch.
+-- It keeps at most 6 records besides commits, and no more commits than there are other records then; all are in its
+-- batch.
 pub record IsKept (old : Log) (x : Draft) : Type 0 where
   pub others : others_in x.replica.log ≤ others_in old + 6
   pub commits : commits_in x.replica.log ≤ commits_in old + (others_in old + 6)

@@ -1,4 +1,4 @@
--- A step leaves everything with a spelling, on record and in its coordinator, and sends only what has one.
+-- A step leaves records and a coordinator that can be encoded, and sends only messages that can be.
 use Rattle.std.proofs.Common.{◌≡◌, ℕ, ◌+◌, ◌-◌, ◌<◌, ◌≤◌, List, [], ◌∷◌, ◌++◌, length, drop, take, refl, sym, ◌∙◌, subst, inl, inr, Bool, true, false, cond, arith, max}
 use Rattle.std.specs.Prelude.{◌⊎◌, ◌≢◌, ◌^◌, IsTrue, Option, Some, None, nat_le, nat_lt, ◌==◌, ◌&&◌, unwrap_or}
 use Rattle.std.specs.List.{AllByRecursion}

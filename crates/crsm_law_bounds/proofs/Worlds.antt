@@ -1,4 +1,4 @@
--- In every world with short logs, all that is on record and all that was sent has a spelling.
+-- In every world with short logs, all records and all messages sent can be encoded.
 use Rattle.std.proofs.Common.{◌≡◌, ℕ, suc, ◌+◌, ◌<◌, ◌≤◌, List, [], ◌∷◌, ◌++◌, length, refl, sym, ◌∙◌, subst, inl, inr, Bool, true, false, cond, arith}
 use Rattle.std.specs.Prelude.{◌⊎◌, ◌^◌, Option, Some, None, slice_get, slice_set, nat_lt, ◌==◌, count_by}
 use Rattle.std.specs.Option.{option_map_or}

@@ -1,4 +1,4 @@
--- What of a worked history is checked by computation.
+-- The parts of a worked history that are checked by computation.
 use Rattle.std.proofs.Common.{◌≡◌, ℕ, zero, suc, ◌<◌, ◌≤◌, List, [], ◌∷◌, length, refl, subst, Bool, true, false, cond, arith}
 use Rattle.std.specs.Prelude.{◌^◌, nat_lt, nat_le, Some, slice_get}
 use Rattle.std.specs.List.{AllByRecursion}

@@ -1,4 +1,4 @@
--- A history in which all kinds of events happen, by computation.
+-- A history in which every kind of event happens, by computation.
 use Rattle.std.proofs.Common.{◌≡◌, ℕ, List, [], ◌∷◌, refl, true, arith, ◌++◌, sym, subst, inl, inr}
 use Rattle.std.specs.Prelude.{Contains, Some, Option}
 use Rattle.std.proofs.lemmas.Option.{none-some, same_Some}

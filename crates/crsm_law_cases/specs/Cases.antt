@@ -77,8 +77,7 @@ pub record AnswersWaitForKeeps : Type 0 where
   pub list : one_list 1 (h ++ more) ≡ other ∷ []
   pub client : other.command.client ≡ 8
 
--- Two processes of one replica, of which the second finds an older log than the first left: their executed lists
--- differ.
+-- Two processes of one replica: the second finds an older log than the first left, and their executed lists differ.
 pub record OldLogsBreak : Type 0 where
   pub before : Life
   pub behind : Life

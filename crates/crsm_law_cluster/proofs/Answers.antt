@@ -1,4 +1,4 @@
--- What goes out to clients is right, and what was answered is durable.
+-- Replies sent to clients are right, and answered entries are durable.
 use Rattle.std.proofs.Common.{◌≡◌, ℕ, List, [], ◌∷◌, refl, sym, ◌∙◌, ap, subst, inl, arith}
 use Rattle.std.specs.Prelude.{Option, Some, None, slice_get}
 use Rattle.std.specs.Option.{option_map_or}

@@ -1,4 +1,5 @@
--- In a step the clients that wait are those before it and those whose requests it logs, and each is answered once.
+-- After a step the clients that wait are those from before and those whose requests it logged, and each is answered
+-- once.
 use Rattle.std.proofs.Common.{◌≡◌, ℕ, ◌+◌, ◌≤◌, List, [], ◌∷◌, ◌++◌, length, take, refl, sym, ◌∙◌, ap, subst, inl, inr, Bool, true, false, arith}
 use Rattle.std.specs.Prelude.{◌⊎◌, ◌==◌, ◌&&◌, nat_le, nat_lt, IsTrue, Option, Some, None, slice_get}
 use Rattle.std.proofs.lemmas.Bool.{and_parts, eqb-true, eq-eqb, leb-true, ltb-true, false≢true, cases_lt}
@@ -71,8 +72,8 @@ module _ (r : Replica) (Req : ℕ → Command → Type 0) (epoch : ℕ) (stamp :
   abbrev pub Waits : Draft → Waiting → Type 0
   Waits x f = From x f × Logged x.replica.log f.entry
 
-  -- So many replies on the entry of the key and clients that wait for it there are at most, and it is logged where there
-  -- are as many. The rest of the clients is still to be looked at.
+  -- An upper bound of the replies for the entry of the key plus the clients that wait for it there; the entry is logged
+  -- if the bound is reached. The other clients are still to be counted.
   pub record Balanced (x : Draft) (rest : List Waiting) : Type 0 where
     pub on : List Waiting
     pub told : Told Req x.replica.log x.replies on

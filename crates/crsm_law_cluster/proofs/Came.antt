@@ -1,4 +1,4 @@
--- What a node takes, if nobody forged it, can come to its replica in a world that shows what went out.
+-- A turn of a node, unless it was forged, is an input that its replica can receive in a world that shows what was sent.
 use Rattle.std.proofs.Common.{◌≡◌, ℕ, refl, sym, ◌∙◌, Bool, true, false}
 use Rattle.crsm_base.specs.Messages.{FitsDatagram}
 use Rattle.crsm_spec.specs.Types.{Datagram, Outcome, Refusal}

@@ -1,4 +1,4 @@
--- Decisions of log files agree, and what is executed is durable.
+-- Decisions of log files agree, and executed entries are durable.
 use Rattle.std.proofs.Common.{◌≡◌, ℕ, ◌<◌, ◌≤◌, List, length, sym, subst, arith}
 use Rattle.std.specs.Prelude.{Some, slice_get, Contains}
 use Rattle.std.specs.List.{AllByRecursion}

@@ -1,4 +1,4 @@
--- What each change of a step does to the entries of its replica's own, to the waiting clients and to the replies.
+-- The effect of each change of a step on its replica's own entries, the waiting clients and the replies.
 use Rattle.std.proofs.Common.{◌≡◌, ℕ, ◌∷◌, refl, sym, ◌∙◌, ap, subst, inl, inr}
 use Rattle.std.specs.Prelude.{◌==◌}
 use Rattle.crsm_spec.specs.Clock.{u64_max}

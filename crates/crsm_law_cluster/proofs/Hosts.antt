@@ -1,4 +1,4 @@
--- What holds of each host of a history: whose entries it logs, and who waits for which of them.
+-- Properties of each host of a history: whose entries it logs, and which clients wait for which of them.
 use Rattle.std.proofs.Common.{◌≡◌, ℕ, zero, suc, ◌+◌, ◌≤◌, List, [], ◌∷◌, ◌++◌, map, refl, sym, ◌∙◌, ap, subst, inl, inr, Bool, true, false, arith}
 use Rattle.std.specs.Prelude.{◌⊎◌, Some, None, slice_get, drop, nat_lt}
 use Rattle.std.specs.Option.{option_map_or}

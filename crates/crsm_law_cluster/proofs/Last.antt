@@ -1,4 +1,4 @@
--- The world that shows the end of a history is the last one of the laws of runs, with the history's list.
+-- The world that shows the end of a history is a last world of the laws of runs, with the history's list.
 use Rattle.std.proofs.Common.{◌≡◌, ℕ, ◌<◌, ◌≤◌, List, [], ◌∷◌, length, map, refl, sym, ◌∙◌, ap, subst, inl, inr, arith}
 use Rattle.std.specs.Prelude.{◌⊎◌, Option, Some, None, slice_get}
 use Rattle.std.specs.List.{AllByRecursion, range_with_len}

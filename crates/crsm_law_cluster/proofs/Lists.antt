@@ -1,4 +1,4 @@
--- Lists of which one place is changed, and lists of numbers.
+-- Lists with one element changed, and lists of numbers.
 use Rattle.std.proofs.Common.{◌≡◌, ℕ, zero, suc, ◌+◌, ◌<◌, ◌≤◌, List, [], ◌∷◌, ◌++◌, length, map, refl, sym, ◌∙◌, ap, inl, inr, arith}
 use Rattle.std.specs.Prelude.{◌⊎◌, Some, None, slice_get, slice_set}
 use Rattle.std.specs.List.{range_with_len}

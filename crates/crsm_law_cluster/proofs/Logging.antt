@@ -1,4 +1,4 @@
--- What a step logs of its replica's own: entries of requests that it takes, each with a stamp that no logged entry has.
+-- The own entries that a step logs: those of requests that it received, each with a stamp that no logged entry has.
 use Rattle.std.proofs.Common.{◌≡◌, ℕ, [], ◌∷◌, ◌++◌, refl, sym, ◌∙◌, subst, inl, inr}
 use Rattle.std.specs.Prelude.{◌⊎◌, ◌&&◌, IsTrue}
 use Rattle.std.proofs.lemmas.Bool.{and_parts}

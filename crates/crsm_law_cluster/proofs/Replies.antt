@@ -1,4 +1,4 @@
--- What a step says to clients is what its lines tell.
+-- The replies of a step are those of its lines.
 use Rattle.std.proofs.Common.{◌≡◌, ℕ, List, [], ◌∷◌, ◌++◌, refl, subst, inl, inr, Bool, true, false}
 use Rattle.std.specs.Prelude.{Option, Some, None}
 use Rattle.crsm_spec.specs.Choice.{when◌then◌otherwise◌}

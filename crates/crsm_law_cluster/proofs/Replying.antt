@@ -1,4 +1,4 @@
--- To whom a step replies: each answer is on an entry for which a client waits, who then waits no longer.
+-- The clients to whom a step replies: each answer is for an entry for which a client waits, which then waits no longer.
 use Rattle.std.proofs.Common.{◌≡◌, ℕ, ◌+◌, ◌<◌, ◌≤◌, List, [], ◌∷◌, ◌++◌, length, refl, ap, subst, inl, inr, Bool, true, false, arith}
 use Rattle.std.specs.Prelude.{◌⊎◌, ◌==◌, ◌&&◌, Some, slice_get}
 use Rattle.std.proofs.lemmas.Bool.{and_parts, eqb-true, eq-eqb}

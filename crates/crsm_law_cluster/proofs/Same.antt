@@ -1,4 +1,4 @@
--- Inputs whose steps are the same: what comes to a running node, as what can come to a replica of a world.
+-- Inputs with the same step: those of a running node, and those that a replica of a world can receive.
 use Rattle.std.proofs.Common.{◌≡◌, ℕ, List, refl, ap, true}
 use Rattle.crsm_spec.specs.Types.{Datagram, InEpoch, Outcome}
 use Rattle.crsm_spec.specs.Choice.{when◌then◌otherwise◌}

@@ -1,4 +1,4 @@
--- How a world shows the hosts of a cluster, and what it is for it to go on at one of them.
+-- When a world shows the hosts of a cluster, and the changes that keep this at one of them.
 use Rattle.std.proofs.Common.{◌≡◌, ℕ, ◌<◌, ◌≤◌, List, [], length, refl, sym, ap, subst, inl, inr, arith}
 use Rattle.std.specs.Prelude.{Option, Some, None, slice_get}
 use Rattle.std.specs.Option.{option_map_or}

@@ -1,4 +1,4 @@
--- Turns, groups that are kept, and what goes out.
+-- Turns, groups that are kept, and the datagrams and replies sent.
 use Rattle.std.proofs.Common.{◌≡◌, ℕ, zero, suc, ◌<◌, ◌≤◌, List, [], ◌∷◌, ◌++◌, length, refl, sym, ap, subst, inl, inr, arith}
 use Rattle.std.specs.Prelude.{◌^◌, Option, Some, None, slice_get, option_map, drop}
 use Rattle.std.specs.Option.{option_map_or}

@@ -1,4 +1,4 @@
--- A turn is a step on an input that is a request where its bytes are one, or it does nothing.
+-- A turn is a step on its input, which is a request if its bytes are one, or it changes nothing.
 use Rattle.std.proofs.Common.{◌≡◌, ℕ, List, [], refl, ◌∙◌, ap}
 use Rattle.std.specs.Prelude.{Option, Some, None, option_map}
 use Rattle.std.specs.Option.{option_map_or}

@@ -1,4 +1,4 @@
--- The log files of a cluster, as a world, and the world that shows them: what decisions and entries they keep.
+-- The log files of a cluster, as a world, and the world that shows them: the decisions and entries that they hold.
 use Rattle.std.proofs.Common.{◌≡◌, ℕ, zero, suc, List, [], ◌∷◌, ◌++◌, map, refl, sym, ◌∙◌, ap, subst, inl, inr}
 use Rattle.std.specs.Prelude.{◌==◌, slice_get, flat_map, find, Contains}
 use Rattle.std.specs.Option.{option_map_or}

@@ -1,4 +1,4 @@
--- Worlds that are reached, with what was told on the way to them.
+-- Worlds reached, with the lines on the way to them.
 use Rattle.std.proofs.Common.{ℕ, List, ◌++◌, refl, map}
 use Rattle.std.specs.Prelude.{Some}
 use Rattle.crsm_spec.specs.Lists.{Among}

@@ -36,7 +36,7 @@ RealTimeIsKept =
     IsReplied n h i k reply → reply.line ≡ Line.ReplyOk m client number place a →
     IsSubmitted n h j address e → slice_get (one_list n h) q ≡ Some e → place < q
 
--- ---- who is told
+-- ---- receivers of replies
 
 -- Each reply is sent to the address from which its command was requested at its replica; an answer, and the reply that
 -- an entry was dropped, to the address whose request submitted the entry.

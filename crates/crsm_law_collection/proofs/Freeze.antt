@@ -1,4 +1,4 @@
--- A suspended replica logs no more.
+-- A suspended replica logs no more entries.
 use Rattle.std.proofs.Common.{◌≡◌, ℕ, ◌<◌, Bool, true, false, refl, ◌∙◌, ap, ◌⊎◌, inl, inr, arith, ◌∷◌, cond}
 use Rattle.std.proofs.lemmas.Bool.{ltb-true, ne_eqb, and_parts, false≢true}
 use Rattle.std.specs.Prelude.{IsTrue, not, ◌&&◌, nat_lt, Some}

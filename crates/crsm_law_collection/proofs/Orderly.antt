@@ -1,5 +1,5 @@
--- While a replica is active in an epoch, it has executed the epoch's first places, and then, by commits of its own,
--- a prefix of what it has logged.
+-- While a replica is active in an epoch, it has executed the epoch's start and then, by its own commits, a prefix of
+-- what it has logged.
 use Rattle.std.proofs.Common.{◌≡◌, ℕ, suc, ◌+◌, ◌<◌, Bool, true, false, refl, sym, ◌∙◌, subst, ap, ◌⊎◌, inl, inr, arith, List, [], ◌∷◌, ◌++◌, length, cond, append_assoc, length-append}
 use Rattle.std.proofs.lemmas.List.{append-nil}
 use Rattle.std.proofs.lemmas.Bool.{eqb-true, eq-eqb, ne_eqb, and_parts, false≢true}

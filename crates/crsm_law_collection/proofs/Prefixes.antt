@@ -1,4 +1,4 @@
--- What a collection gives the next epoch.
+-- The beginning of the next epoch, by a collection.
 use Rattle.std.proofs.Common.{◌≡◌, ℕ, zero, suc, ◌-◌, ◌<◌, ◌≤◌, refl, sym, ◌∙◌, subst, ap, ◌⊎◌, inl, inr, arith, List, [], ◌∷◌, ◌++◌, length, take, map}
 use Rattle.std.proofs.lemmas.Bool.{leb-true, cases_lt, and_parts, and_from, or_left, or_right, eq-eqb, lt-ltb}
 use Rattle.std.proofs.lemmas.Option.{same_Some, none-some}

@@ -1,4 +1,4 @@
--- What holds of replicas' states gives what holds of their logs.
+-- Properties of replicas' states imply those of their logs.
 use Rattle.std.proofs.Common.{◌≡◌, ℕ, zero, suc, ◌+◌, ◌<◌, ◌≤◌, Bool, true, false, refl, sym, ◌∙◌, subst, ap, ◌⊎◌, inl, inr, arith, List, [], ◌∷◌, ◌++◌, length, cond, length-append}
 use Rattle.std.proofs.lemmas.Bool.{eqb-true, leb-true, and_parts, false≢true, cases_lt}
 use Rattle.std.proofs.lemmas.Option.{same_Some, none-some}

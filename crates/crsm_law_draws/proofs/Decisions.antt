@@ -1,4 +1,4 @@
--- A step leaves decisions that name no replica set, on record, in its coordinator and in what it sends.
+-- A step leaves decisions that name no replica set, in its records, its coordinator and what it sends.
 use Rattle.std.proofs.Common.{◌≡◌, ℕ, List, [], ◌∷◌, ◌++◌, refl, sym, ◌∙◌, subst, inl, inr, Bool, true, false, cond}
 use Rattle.std.specs.Prelude.{◌⊎◌, Option, Some, None, fold, bytes_eq}
 use Rattle.std.specs.List.{list_all}

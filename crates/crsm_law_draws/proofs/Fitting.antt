@@ -1,4 +1,4 @@
--- What is drawn can be spelt in a line.
+-- A schedule line can express each drawn event.
 use Rattle.std.proofs.Common.{◌≡◌, ◌<◌, ◌≤◌, ◌+◌, ◌^◌, ℕ, zero, suc, Bool, true, false, cond, List, [], ◌∷◌, length, map, Option, None, Some, refl, subst, arith, mod-lt}
 use Rattle.std.specs.Prelude.{◌/◌, ◌==◌, ◌&&◌, ◌||◌, filter, min, nat_eq, nat_le, nat_lt, option_map, slice_get, slice_index, slice_set, unwrap_or}
 use Rattle.std.specs.List.{AllByRecursion, enumerate_from}

@@ -1,4 +1,4 @@
--- Every moment of a possible act that starts no replica but the first ones is a happening among these.
+-- Every moment of a possible act that starts no replica but the first ones is such a happening.
 use Rattle.std.proofs.Common.{◌≡◌, ℕ, ◌<◌, List, [], ◌∷◌, length, refl, sym, subst, inl, Bool, true, false, cond, arith}
 use Rattle.std.specs.Prelude.{◌^◌, Option, Some, None, ◌&&◌, nat_lt, nat_le, fold, slice_get}
 use Rattle.std.specs.List.{list_any}

@@ -1,4 +1,4 @@
--- What can happen as the world is seen is possible in the world.
+-- What is possible in the generator's view of a world is possible in the world.
 use Rattle.std.proofs.Common.{◌≡◌, ◌<◌, ◌≤◌, ◌+◌, ℕ, zero, suc, Bool, true, false, cond, not, ◌&&◌, List, [], ◌∷◌, length, map, None, Some, refl, ap, sym, ◌∙◌, subst, arith}
 use Rattle.std.specs.Prelude.{filter, nat_le, slice_get}
 use Rattle.std.specs.List.{enumerate_from, list_all, list_any}

@@ -1,4 +1,4 @@
--- In a run that starts no replica but the first ones, these stay alone and majorities are counted over all of them.
+-- In a run that starts no replica but the first ones, there are no others and majorities are counted over all of them.
 use Rattle.std.proofs.Common.{◌≡◌, ◌≤◌, ◌<◌, ℕ, List, [], ◌∷◌, length, ◌∙◌, ap, arith}
 use Rattle.std.specs.List.{AllByRecursion, range_with_len}
 use Rattle.std.proofs.lemmas.List.{length-map}

@@ -1,4 +1,4 @@
--- What each change of a step does to the log and to the times, in the few kinds that a witness tells apart.
+-- The effect of each change of a step on the log and the times, in the few cases that witnesses distinguish.
 use Rattle.std.proofs.Common.{◌≡◌, ℕ, ◌∷◌, refl, sym, ◌∙◌, ap, subst, inr, Bool, true, false}
 use Rattle.std.specs.Prelude.{IsTrue, Option, Some, None, ◌&&◌, ◌||◌, not, ◌==◌}
 use Rattle.std.proofs.lemmas.Bool.{false≢true, eqb-true}

@@ -1,4 +1,4 @@
--- What logs say of their commits.
+-- The commits recorded in logs.
 use Rattle.std.proofs.Common.{◌≡◌, ℕ, List, [], ◌∷◌, refl, sym, ◌∙◌, ap, inl, inr, Bool, true, false, cond}
 use Rattle.std.specs.Prelude.{◌⊎◌, IsTrue, Option, Some, None, not, ◌&&◌, ◌==◌}
 use Rattle.std.proofs.lemmas.Bool.{and_parts, not-true, eqb-true}

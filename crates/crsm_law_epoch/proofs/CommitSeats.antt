@@ -1,4 +1,4 @@
--- Witnesses where one seat changes.
+-- Witnesses after a change at one seat.
 use Rattle.std.proofs.Common.{◌≡◌, ℕ, ◌≤◌, List, ◌∷◌, sym, ◌∙◌, subst, inl, inr}
 use Rattle.std.specs.Prelude.{◌⊎◌, IsTrue, Some}
 use Rattle.std.proofs.lemmas.Bool.{cases_eq}

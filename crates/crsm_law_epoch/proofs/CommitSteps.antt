@@ -1,4 +1,4 @@
--- Each change of a step keeps the witnesses of all commits, and a commit brings its own.
+-- Each change of a step keeps the witnesses of all commits, and a commit adds its own.
 use Rattle.std.proofs.Common.{◌≡◌, ℕ, ◌<◌, ◌≤◌, List, ◌∷◌, ◌++◌, refl, sym, ◌∙◌, ap, subst, inl, inr, arith, map}
 use Rattle.std.specs.Prelude.{◌⊎◌, IsTrue, Some, not, ◌&&◌, ◌==◌, nat_le, length, count_by}
 use Rattle.std.proofs.lemmas.Bool.{and_parts, false≢true, eqb-true, leb-true, cases_eq}

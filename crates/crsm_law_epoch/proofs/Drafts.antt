@@ -1,4 +1,4 @@
--- The facts while a replica makes a step: of the world in which its draft stands in its place and its sends are out.
+-- The facts during a step: of the world with the step's draft in the replica's place and its sends in the network.
 use Rattle.std.proofs.Common.{◌≡◌, ℕ, zero, suc, ◌<◌, List, [], ◌∷◌, ◌++◌, refl, sym, ◌∙◌, ap, subst, inl, inr, Bool, true, false, cond, eqb, take, map}
 use Rattle.std.specs.Prelude.{◌⊎◌, IsTrue}
 use Rattle.std.proofs.lemmas.List.{map-append}

@@ -1,4 +1,4 @@
--- The decisions that a control message names, where it can be read, have members that rise.
+-- The decision in a control message that can be parsed has members that rise.
 use Rattle.std.proofs.Common.{◌≡◌, ℕ, zero, suc, List, [], ◌∷◌, refl, ap, subst, Bool, true, false, cond}
 use Rattle.std.specs.Prelude.{Option, Some, None, nat_lt, ◌==◌}
 use Rattle.std.proofs.lemmas.Option.{none-some, same_Some}

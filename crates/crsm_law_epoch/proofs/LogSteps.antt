@@ -1,4 +1,4 @@
--- A step leaves decisions in order, on record and in its coordinator, and sends only what goes between replicas.
+-- A step leaves well-formed decisions in its records and its coordinator, and sends only datagrams between replicas.
 use Rattle.std.proofs.Common.{◌≡◌, ℕ, ◌+◌, List, [], ◌∷◌, ◌++◌, length, refl, sym, ◌∙◌, subst, inl, inr, Bool, true, false, cond, map}
 use Rattle.std.specs.Prelude.{◌⊎◌, Option, Some, None, fold}
 use Rattle.std.specs.List.{enumerate_from}

@@ -1,4 +1,4 @@
--- What holds of every log of every world that is reached.
+-- Properties of every log of every world reached.
 use Rattle.std.proofs.Common.{◌≡◌, ℕ, zero, suc, ◌+◌, ◌<◌, ◌≤◌, List, [], ◌∷◌, ◌++◌, length, refl, sym, ◌∙◌, ap, subst, inl, inr, Bool, true, false, cond, arith, take, map}
 use Rattle.std.specs.Prelude.{◌⊎◌, Option, Some, None, slice_get, slice_set, ◌==◌}
 use Rattle.std.specs.Option.{option_map_or}

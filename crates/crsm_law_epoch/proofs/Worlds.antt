@@ -1,4 +1,4 @@
--- The facts hold of every world that is reached.
+-- The facts hold of every world reached.
 use Rattle.std.proofs.Common.{◌≡◌, ℕ, zero, suc, ◌+◌, ◌<◌, ◌≤◌, List, [], ◌∷◌, ◌++◌, length, refl, sym, ◌∙◌, ap, subst, inl, inr, Bool, true, false, cond, arith, take, map}
 use Rattle.std.specs.Prelude.{◌⊎◌, IsTrue, Option, Some, None, slice_get, slice_set, ◌==◌, nat_lt}
 use Rattle.std.specs.Option.{option_map_or}

@@ -1,4 +1,4 @@
--- A proposal whose acceptance does not fit is ignored whole.
+-- A proposal whose acceptance record does not fit is ignored whole.
 use Rattle.std.proofs.Common.{◌≡◌, List, [], ◌∷◌, ◌++◌, ℕ, refl}
 use Rattle.crsm_spec.specs.Types.{Line}
 use Rattle.crsm_spec.specs.Node.{Turn}

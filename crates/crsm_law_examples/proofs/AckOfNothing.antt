@@ -1,4 +1,4 @@
--- An acknowledgement of frames that were never pushed says nothing; one of a frame that was ends its repeats.
+-- An acknowledgement of frames that were never pushed is ignored; one of a pushed frame ends its retransmission.
 use Rattle.std.proofs.Common.{◌≡◌, List, [], ◌∷◌, ◌++◌, ℕ, refl}
 use Rattle.crsm_spec.specs.Types.{Line}
 use Rattle.crsm_spec.specs.Node.{Turn}

@@ -1,4 +1,4 @@
--- A replica that is asked by one that knows more answers with a page and asks back.
+-- A replica that receives RETRIEVE from one that knows more replies with a page and a RETRIEVE of its own.
 use Rattle.std.proofs.Common.{◌≡◌, List, [], ◌∷◌, ◌++◌, ℕ, refl}
 use Rattle.crsm_spec.specs.Types.{Answer, Line}
 use Rattle.crsm_spec.specs.Node.{Turn}

@@ -1,4 +1,4 @@
--- A proposer without the base proposes all the same; its own vote comes late and chooses.
+-- A proposer without the base still proposes; its own vote is late and completes the majority.
 use Rattle.std.proofs.Common.{◌≡◌, List, [], ◌∷◌, ◌++◌, ℕ, refl}
 use Rattle.crsm_spec.specs.Types.{Answer, Line}
 use Rattle.crsm_spec.specs.Node.{Turn}

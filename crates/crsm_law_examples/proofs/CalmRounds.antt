@@ -1,4 +1,4 @@
--- Two calm rounds after a request: it is executed everywhere and answered.
+-- Two calm rounds after a request: its entry is executed everywhere and answered.
 use Rattle.std.proofs.Common.{◌≡◌, List, [], ◌∷◌, ◌++◌, refl}
 use Rattle.std.specs.Prelude.{Some}
 use Rattle.crsm_spec.specs.Types.{Op, Answer, Line, State, SendKind}

@@ -1,4 +1,4 @@
--- The run with a new epoch is a possible one: its decision is kept, and the command that the decision saved is answered.
+-- The run with a new epoch is possible: its decision is recorded, and the command that it carried over is answered.
 use Rattle.std.proofs.Common.{ℕ, ◌≤◌, [], ◌∷◌, refl, arith}
 use Rattle.std.specs.Prelude.{Some, None}
 use Rattle.crsm_spec.specs.Types.{Op}

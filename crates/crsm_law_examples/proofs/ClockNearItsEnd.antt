@@ -1,4 +1,4 @@
--- Times at the end of the numbers.
+-- Times near 2^64.
 use Rattle.std.proofs.Common.{◌≡◌, List, [], ◌∷◌, ◌++◌, refl}
 use Rattle.std.specs.Prelude.{Some}
 use Rattle.crsm_spec.specs.Types.{Op, Answer, Line, State, SendKind}

@@ -1,4 +1,4 @@
--- A replica that is down comes before too few members.
+-- That a replica is down is reported before that the members are too few.
 use Rattle.std.proofs.Common.{◌≡◌, List, [], ◌∷◌, refl}
 use Rattle.std.specs.Prelude.{Some}
 use Rattle.crsm_spec.specs.Acts.{Act, Single, Bad}

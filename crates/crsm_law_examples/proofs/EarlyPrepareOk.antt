@@ -1,4 +1,4 @@
--- A PREPAREOK that comes before its PREPARE.
+-- A PREPAREOK is received before its PREPARE.
 use Rattle.std.proofs.Common.{◌≡◌, List, [], ◌∷◌, ◌++◌, refl}
 use Rattle.std.specs.Prelude.{Some}
 use Rattle.crsm_spec.specs.Types.{Op, Answer, Line, State, SendKind}

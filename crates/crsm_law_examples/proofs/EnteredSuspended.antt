@@ -1,4 +1,4 @@
--- A replica that is suspended before it enters is live and held.
+-- A replica that is suspended before it enters an epoch is live and held.
 use Rattle.std.proofs.Common.{◌≡◌, List, [], ◌∷◌, ◌++◌, ℕ, refl}
 use Rattle.crsm_spec.specs.Types.{Answer, Line}
 use Rattle.crsm_spec.specs.Node.{Turn}

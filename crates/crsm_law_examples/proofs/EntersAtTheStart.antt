@@ -1,4 +1,4 @@
--- A page that goes beyond the start is taken up to it, and the epoch is entered.
+-- A page that extends beyond the start is used up to it, and the epoch is entered.
 use Rattle.std.proofs.Common.{◌≡◌, List, [], ◌∷◌, ◌++◌, ℕ, refl}
 use Rattle.crsm_spec.specs.Types.{Answer, Line}
 use Rattle.crsm_spec.specs.Node.{Turn}

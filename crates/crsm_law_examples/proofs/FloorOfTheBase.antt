@@ -1,4 +1,4 @@
--- What the base has executed is in no tail, though a report has it.
+-- An entry that the base has executed is in no tail, though a report has it.
 use Rattle.std.proofs.Common.{◌≡◌, List, [], ◌∷◌, ◌++◌, ℕ, refl}
 use Rattle.crsm_spec.specs.Types.{Line}
 use Rattle.crsm_spec.specs.Node.{Turn}

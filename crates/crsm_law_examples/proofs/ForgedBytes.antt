@@ -1,4 +1,4 @@
--- Bytes that are a datagram cannot come from nowhere.
+-- Bytes that are a datagram are refused as junk.
 use Rattle.std.proofs.Common.{◌≡◌, List, [], ◌∷◌, refl}
 use Rattle.std.specs.Prelude.{Some}
 use Rattle.crsm_spec.specs.Acts.{Act, Single, Bad}

@@ -1,4 +1,4 @@
--- An ignored datagram still ends its step with what is owed.
+-- An ignored datagram still has the rest of its step: pending acknowledgements are sent.
 use Rattle.std.proofs.Common.{◌≡◌, List, [], ◌∷◌, ◌++◌, ℕ, refl}
 use Rattle.crsm_spec.specs.Types.{Line}
 use Rattle.crsm_spec.specs.Node.{Turn}

@@ -1,4 +1,4 @@
--- Bytes that are no datagram do nothing at all.
+-- Bytes that are no datagram change nothing.
 use Rattle.std.proofs.Common.{◌≡◌, List, [], ◌∷◌, ◌++◌, ℕ, refl}
 use Rattle.crsm_spec.specs.Types.{Line}
 use Rattle.crsm_spec.specs.Node.{Turn}

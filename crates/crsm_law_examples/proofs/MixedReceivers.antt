@@ -1,4 +1,4 @@
--- Datagrams of different receivers cannot be delivered together.
+-- Datagrams to different receivers cannot be delivered together.
 use Rattle.std.proofs.Common.{◌≡◌, List, [], ◌∷◌, refl}
 use Rattle.std.specs.Prelude.{Some}
 use Rattle.crsm_spec.specs.Types.{Op}

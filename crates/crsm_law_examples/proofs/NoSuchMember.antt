@@ -1,4 +1,4 @@
--- A member that is not there comes before a replica that is down.
+-- That a member does not exist is reported before that a replica is down.
 use Rattle.std.proofs.Common.{◌≡◌, List, [], ◌∷◌, refl}
 use Rattle.std.specs.Prelude.{Some}
 use Rattle.crsm_spec.specs.Acts.{Act, Single, Bad}

@@ -1,4 +1,4 @@
--- A replica that is not there cannot crash.
+-- A replica that does not exist cannot crash.
 use Rattle.std.proofs.Common.{◌≡◌, List, [], refl}
 use Rattle.std.specs.Prelude.{Some}
 use Rattle.crsm_spec.specs.Acts.{Act, Bad}

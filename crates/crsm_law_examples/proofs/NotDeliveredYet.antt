@@ -1,4 +1,4 @@
--- A datagram cannot come once more before it has come.
+-- A datagram cannot be delivered once more before it was delivered.
 use Rattle.std.proofs.Common.{◌≡◌, List, [], ◌∷◌, refl}
 use Rattle.std.specs.Prelude.{Some}
 use Rattle.crsm_spec.specs.Types.{Op}

@@ -1,4 +1,4 @@
--- A control message that was overtaken is ignored.
+-- A control message that a later one of its sender overtook is ignored.
 use Rattle.std.proofs.Common.{◌≡◌, List, [], ◌∷◌, ◌++◌, ℕ, refl}
 use Rattle.crsm_spec.specs.Types.{Line}
 use Rattle.crsm_spec.specs.Node.{Turn}

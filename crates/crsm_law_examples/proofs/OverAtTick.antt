@@ -1,4 +1,4 @@
--- A ballot that is over at a tick begins again at the next one.
+-- A ballot that is preempted at a tick is started again at the next one.
 use Rattle.std.proofs.Common.{◌≡◌, List, [], ◌∷◌, ◌++◌, ℕ, refl}
 use Rattle.crsm_spec.specs.Types.{Line}
 use Rattle.crsm_spec.specs.Node.{Turn}

@@ -1,4 +1,4 @@
--- A clock reading that goes back: stamps rise all the same.
+-- A clock reading that goes back: stamps still rise.
 use Rattle.std.proofs.Common.{◌≡◌, List, [], ◌∷◌, refl}
 use Rattle.std.specs.Prelude.{Some}
 use Rattle.crsm_spec.specs.Types.{Op, Answer, Line, State}

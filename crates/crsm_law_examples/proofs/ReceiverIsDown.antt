@@ -1,4 +1,4 @@
--- A datagram cannot come to a replica that is down.
+-- A datagram cannot be delivered to a replica that is down.
 use Rattle.std.proofs.Common.{◌≡◌, List, [], ◌∷◌, refl}
 use Rattle.std.specs.Prelude.{Some}
 use Rattle.crsm_spec.specs.Types.{Op}

@@ -1,4 +1,4 @@
--- Requests that are refused: too many of its own unexecuted, not live, suspended.
+-- Refused requests: too many own entries unexecuted, not live, suspended.
 use Rattle.std.proofs.Common.{◌≡◌, List, [], ◌∷◌, ◌++◌, refl}
 use Rattle.std.specs.Prelude.{Some}
 use Rattle.crsm_spec.specs.Types.{Op, Line, State, SendKind}

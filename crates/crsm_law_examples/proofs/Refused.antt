@@ -1,4 +1,4 @@
--- Acts that are not possible, and why: what has no meaning here comes before every other cause.
+-- Acts that are not possible, and the reason: that an act has no meaning here comes before every other reason.
 use Rattle.std.proofs.Common.{◌≡◌, List, [], ◌∷◌, refl}
 use Rattle.std.specs.Prelude.{None, Some}
 use Rattle.crsm_spec.specs.Acts.{Act, Single, Bad}

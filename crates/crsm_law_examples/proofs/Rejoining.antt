@@ -1,4 +1,4 @@
--- A replica that was down learns the new epoch, and a further epoch takes it in again.
+-- A replica that was down learns the new epoch, and a later epoch makes it a member again.
 use Rattle.std.proofs.Common.{◌≡◌, List, [], ◌∷◌, ◌++◌, refl}
 use Rattle.std.specs.Prelude.{Some}
 use Rattle.crsm_spec.specs.Types.{Op, Answer, Line, State, SendKind}

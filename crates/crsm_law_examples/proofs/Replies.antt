@@ -1,4 +1,4 @@
--- The run in which another value is chosen is a possible one, and both kinds of replies are seen in it.
+-- The run in which another value is chosen is possible, and has both kinds of replies.
 use Rattle.std.proofs.Common.{ℕ, ◌≤◌, arith, refl}
 use Rattle.std.specs.Prelude.{Some}
 use Rattle.crsm_spec.specs.Acts.{Act, IsU64}

@@ -1,4 +1,4 @@
--- A replica whose clock is behind holds the others up until it sends a later time.
+-- A replica with a slow clock delays the others until it sends a later time.
 use Rattle.std.proofs.Common.{◌≡◌, List, [], ◌∷◌, ◌++◌, refl}
 use Rattle.std.specs.Prelude.{Some}
 use Rattle.crsm_spec.specs.Types.{Op, Answer, Line, State, SendKind}

@@ -1,4 +1,4 @@
--- A stop at the last device call of a put: the batch is kept where its gate reads open.
+-- A stop at the last device call of a log write: the batch is kept if its gate reads as open.
 use Rattle.std.proofs.Common.{◌≡◌, List, [], ◌∷◌, ◌++◌, refl}
 use Rattle.std.specs.Prelude.{Some}
 use Rattle.crsm_spec.specs.Types.{Op, Answer, Line, State, SendKind}

@@ -1,4 +1,4 @@
--- The same stop where the gate reads closed: the batch is lost.
+-- The same stop where the gate reads as closed: the batch is lost.
 use Rattle.std.proofs.Common.{◌≡◌, List, [], ◌∷◌, ◌++◌, refl}
 use Rattle.std.specs.Prelude.{Some}
 use Rattle.crsm_spec.specs.Types.{Op, Line, State, SendKind}

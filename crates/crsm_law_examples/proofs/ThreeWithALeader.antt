@@ -1,4 +1,4 @@
--- A leader of three: promises, votes, and what was chosen is learnt by the others.
+-- A leader of three: promises and votes, and the others learn the chosen value.
 use Rattle.std.proofs.Common.{◌≡◌, List, [], ◌∷◌, refl}
 use Rattle.std.specs.Prelude.{true, Some}
 use Rattle.crsm_spec.specs.Acts.{Act, Single}

@@ -1,4 +1,4 @@
--- Two commands of one time: the lesser origin goes first, everywhere.
+-- Two commands with one time: the one with the lesser origin is first, everywhere.
 use Rattle.std.proofs.Common.{◌≡◌, List, [], ◌∷◌, ◌++◌, refl}
 use Rattle.std.specs.Prelude.{Some}
 use Rattle.crsm_spec.specs.Types.{Op, Answer, Line, State, SendKind}

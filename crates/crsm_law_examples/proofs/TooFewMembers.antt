@@ -1,4 +1,4 @@
--- Fewer members than a majority cannot be asked for.
+-- Members that are fewer than a majority are refused.
 use Rattle.std.proofs.Common.{◌≡◌, List, [], ◌∷◌, refl}
 use Rattle.std.specs.Prelude.{Some}
 use Rattle.crsm_spec.specs.Acts.{Act, Single, Bad}

@@ -1,4 +1,4 @@
--- What processes of nodes have as executed is of one list.
+-- The executed lists of nodes' processes are prefixes of one list.
 use Rattle.std.proofs.Common.{ℕ, ◌≤◌, List, [], ◌∷◌, sym, ◌∙◌, ap, subst, inl, inr, arith}
 use Rattle.crsm_spec.specs.Lists.{Among, IsPrefixOf}
 use Rattle.crsm_spec.specs.Log.{executed}

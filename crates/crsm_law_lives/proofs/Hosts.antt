@@ -1,4 +1,4 @@
--- A node's host is what the events of this node make of it.
+-- A node's host is the result of the events of this node.
 use Rattle.std.proofs.Common.{◌≡◌, ℕ, List, [], ◌∷◌, ◌++◌, refl, sym, ◌∙◌, ap, subst, inl, inr, Bool, cond}
 use Rattle.std.specs.Prelude.{◌==◌, filter, Some, None, slice_get}
 use Rattle.std.proofs.lemmas.Bool.{cases_eq, eq-eqb, ne_eqb}

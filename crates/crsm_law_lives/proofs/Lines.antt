@@ -1,4 +1,4 @@
--- The lines of a step are right of each list that its executed list is a prefix of.
+-- The lines of a step are right for each list that extends its executed list.
 use Rattle.std.proofs.Common.{◌≡◌, ℕ, List, [], ◌∷◌, ◌++◌, refl, ◌∙◌, subst, inl, inr, Bool, true, false, cond}
 use Rattle.std.specs.Prelude.{◌==◌, nat_lt, Option, Some, None, option_to_list}
 use Rattle.std.specs.Option.{option_map_or}

@@ -1,4 +1,4 @@
--- Each kept step of a process is right: what it executed, what it tells of it, and what it answers.
+-- Each kept step of a process is right: what it executed, reported and answered.
 use Rattle.std.proofs.Common.{◌≡◌, ℕ, suc, ◌<◌, ◌≤◌, List, [], ◌∷◌, refl, sym, ◌∙◌, ap, subst, inl, inr, arith}
 use Rattle.std.specs.Prelude.{◌⊎◌, nat_lt, Bool, true, false, Option, Some, None, slice_get}
 use Rattle.std.specs.Option.{option_map_or}

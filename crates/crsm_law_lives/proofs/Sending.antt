@@ -1,4 +1,4 @@
--- What goes out at a node in a history is what its processes sent.
+-- The datagrams and replies sent at a node in a history are those of its processes.
 use Rattle.std.proofs.Common.{◌≡◌, ℕ, zero, suc, List, [], ◌∷◌, ◌++◌, length, refl, sym, ◌∙◌, ap, inl, inr, Bool, true, false, cond, arith, append_assoc}
 use Rattle.std.specs.Prelude.{nat_lt, Some, None, slice_get, drop, option_to_list}
 use Rattle.std.specs.Option.{option_map_or}

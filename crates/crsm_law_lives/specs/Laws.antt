@@ -38,7 +38,7 @@ pub record AreLawful (n : ℕ) (ls : List Life) (h : List Event) : Type 0 where
 abbrev pub LivesAreLawful : Type 0
 LivesAreLawful = (n : ℕ) (ls : List Life) (h : List Event) → n ≤ 15 → Ran n ls h → AreLawful n ls h
 
--- ---- what goes out
+-- ---- datagrams and replies sent
 
 -- The datagrams and replies sent at a node in the history are those of its processes, one after another.
 abbrev pub SendsAreTheirs : Type 0

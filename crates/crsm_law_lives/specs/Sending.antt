@@ -25,7 +25,7 @@ unfoldable pub sent_from : Replica → List Group → List Outgoing
 sent_from r [] = []
 sent_from r (g ∷ groups) = gone (handed_by r g.turns) g.fates ++ sent_from (after_turns r g.turns) groups
 
--- what a process sends, in a cluster that began with n replicas
+-- the datagrams and replies that a process sends, in a cluster that began with n replicas
 unfoldable pub sent_by : ℕ → Life → List Outgoing
 sent_by n l = sent_from (boot l.me n l.found).replica l.groups
 

@@ -1,4 +1,4 @@
--- What a place of a lawful list does to a key: nothing, a grant, or a return.
+-- The effect of an entry of a lawful list on a key: none, a grant, or a return.
 use Rattle.std.proofs.Common.{◌≡◌, ℕ, zero, suc, ◌+◌, ◌⊎◌, inl, inr, List, [], ◌∷◌, ◌++◌, take, Option, Some, refl, sym, ap, subst, ◌∙◌}
 use Rattle.std.specs.Prelude.{slice_get}
 use Rattle.std.proofs.lemmas.Grind.{fold-append}

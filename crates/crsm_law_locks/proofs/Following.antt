@@ -1,4 +1,4 @@
--- What is known of a key after each place of a lawful list: nothing yet, or its last grant and if it was given back.
+-- The state of a key after each entry of a lawful list: none, or its last grant and whether it was given back.
 use Rattle.std.proofs.Common.{◌≡◌, ℕ, zero, suc, ◌+◌, ◌<◌, ◌≤◌, ◌⊎◌, inl, inr, List, length, get_or, Option, Some, None, refl, sym, ap, subst, ◌∙◌, arith}
 use Rattle.std.specs.Prelude.{slice_get}
 use Rattle.std.proofs.lemmas.Bool.{cases_lt}

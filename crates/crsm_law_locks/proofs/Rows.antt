@@ -1,4 +1,4 @@
--- The value of a key in rows where a key was set or removed.
+-- The value of a key in rows after a key was set or removed.
 use Rattle.std.proofs.Common.{◌≡◌, ℕ, Bool, true, false, List, [], ◌∷◌, Option, Some, None, refl, ap, sym, ◌∙◌}
 use Rattle.std.specs.Prelude.{bytes_eq, if◌then◌else◌}
 use Rattle.std.specs.Option.{option_eq}

@@ -1,4 +1,4 @@
--- What one command that keeps to the rules does to the value of a key: nothing, or what its Cas says.
+-- The effect of one command that keeps the rules on the value of a key: none, or that of its Cas.
 use Rattle.std.proofs.Common.{◌≡◌, ℕ, ◌⊎◌, inl, inr, Bool, true, false, List, length, Option, Some, None, refl, ap, sym, subst, ◌∙◌}
 use Rattle.std.specs.Prelude.{◌==◌, ◌||◌, bytes_eq, if◌then◌else◌, is_some, nat_lt}
 use Rattle.std.specs.Option.{IsSomeAnd, option_eq}

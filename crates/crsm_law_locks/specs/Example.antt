@@ -36,7 +36,8 @@ changing_hands =
     ∷ asks_again 5
     ∷ []
 
--- What is true of it: a grant after a return, a grant by a break, and a repeat that is answered and grants nothing.
+-- The properties of the example: a grant after a return, a grant by a break, and a repeat that is answered and grants
+-- nothing.
 pub record LocksChangeHands : Type 0 where
   pub lawful : IsLawful the_key changing_hands
   pub taken : IsGrant the_key changing_hands 0 1 5

@@ -1,4 +1,4 @@
--- Answers and votes that were counted are true of the logs of those who gave them.
+-- Counted answers and votes are true of the logs of the replicas that sent them.
 use Rattle.std.proofs.Common.{◌≡◌, ℕ, sym, ◌∙◌, subst, inl, inr}
 use Rattle.std.specs.Prelude.{Some, slice_get}
 use Rattle.crsm_spec.specs.Types.{Control}

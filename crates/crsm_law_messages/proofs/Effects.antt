@@ -1,4 +1,4 @@
--- What a change does to the parts and the numbers of a replica, and to the parts that it sends.
+-- The effect of a change on a replica's received parts and message numbers, and on the parts that it sends.
 use Rattle.std.proofs.Common.{◌≡◌, ℕ, ◌+◌, List, [], ◌∷◌, ◌++◌, refl, ◌∙◌, ap, subst, inl, inr, Bool, true, false, cond, arith, map}
 use Rattle.std.specs.Prelude.{◌⊎◌, Option, Some, None, count_by}
 use Rattle.std.proofs.lemmas.List.Sums.{sum_by-cons}

@@ -1,4 +1,4 @@
--- The parts of one message that were gathered, each once, are the message.
+-- The parts of one message, each received once, make up the message.
 use Rattle.std.proofs.Common.{◌≡◌, ℕ, zero, suc, ◌+◌, List, [], ◌∷◌, ◌++◌, length, refl, sym, ◌∙◌, ap, subst, inl, inr, Bool, true, false, cond, arith, get_or, not}
 use Rattle.std.specs.Prelude.{◌⊎◌, IsTrue, Some, None, ◌==◌, ◌&&◌, ◌||◌, filter, flat_map}
 use Rattle.std.specs.List.{concat, list_any, list_all, range_with_len}

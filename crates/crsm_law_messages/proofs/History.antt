@@ -1,4 +1,4 @@
--- What was sent on the way to a world, in the steps of one history that leads there.
+-- The messages sent on the way to a world, in the steps of one history that leads there.
 use Rattle.std.proofs.Common.{ℕ}
 use Rattle.std.specs.Prelude.{◌⊎◌}
 use Rattle.crsm_spec.specs.Replica.{Replica}

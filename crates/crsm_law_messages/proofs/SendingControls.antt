@@ -1,4 +1,4 @@
--- What was sent, while a replica makes a step: all that was sent before it and in it, and where its parts are.
+-- The messages sent during a step: those sent before it and in it, and the positions of their parts.
 use Rattle.std.proofs.Common.{◌≡◌, ℕ, suc, ◌+◌, ◌<◌, List, [], ◌∷◌, ◌++◌, length, refl, sym, ◌∙◌, ap, subst, inl, inr, Bool, true, false, arith, get_or}
 use Rattle.std.specs.Prelude.{◌⊎◌, ◌==◌}
 use Rattle.std.specs.List.{enumerate_from}

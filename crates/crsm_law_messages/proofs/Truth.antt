@@ -1,4 +1,4 @@
--- What was sent is true of an earlier log of its sender.
+-- A message sent is true of an earlier log of its sender.
 use Rattle.std.proofs.Common.{◌≡◌, ℕ, sym, ap, subst, false}
 use Rattle.std.specs.Prelude.{IsTrue, Option, Some, None}
 use Rattle.std.specs.Option.{option_map_or}

@@ -1,4 +1,4 @@
--- In every world that is reached each part was sent, and what is received was sent.
+-- In every world reached each part was sent, and each message received was sent.
 use Rattle.std.proofs.Common.{◌≡◌, ℕ, zero, suc, ◌+◌, ◌<◌, ◌≤◌, List, [], ◌∷◌, ◌++◌, length, refl, sym, ◌∙◌, ap, subst, inl, inr, Bool, true, false, cond, arith, take, map, get_or}
 use Rattle.std.specs.Prelude.{◌⊎◌, IsTrue, Some, slice_get, slice_set, ◌==◌, ◌^◌, nat_lt}
 use Rattle.std.specs.Option.{option_map_or}

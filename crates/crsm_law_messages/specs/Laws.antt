@@ -14,7 +14,7 @@ use Rattle.crsm_fact_log.specs.Logs.{Extends}
 use Rattle.crsm_law_steps.specs.Happenings.{Marks, CanCome, IsReached}
 use Rattle.crsm_law_messages.specs.SentMessages.{SentMessage, WasSentBefore}
 
--- ---- what is received was sent
+-- ---- messages received were sent
 
 -- k sent j a message whose bytes are read as c
 pub record IsSource (n : ℕ) (w : World) (k j : ℕ) (c : Control) : Type 0 where

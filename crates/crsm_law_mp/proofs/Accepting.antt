@@ -1,4 +1,4 @@
--- The rules of a replica that follows a leader keep what holds.
+-- The rules of a replica that follows a leader keep the invariant.
 use Rattle.std.proofs.Common.{◌≡◌, ◌≢◌, ℕ, ◌⊎◌, Bool, true, false, ◌∷◌, arith, inl, inr, refl, sym, subst, ◌∙◌, Some, None}
 use Rattle.std.specs.List.{Contains}
 use Rattle.std.specs.Option.{ForSome, option_map_or}

@@ -1,4 +1,4 @@
--- What holds of a run holds at its beginning.
+-- The invariant of a run holds at its beginning.
 use Rattle.std.proofs.Common.{◌≡◌, ℕ, [], ◌∷◌, map, length, arith, inl, inr, refl, sym, subst, ◌∙◌, Option, Some, None}
 use Rattle.std.specs.List.{Contains, slice_get, range_with_len}
 use Rattle.std.specs.Option.{option_map_or}

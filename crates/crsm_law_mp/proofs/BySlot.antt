@@ -1,4 +1,4 @@
--- Lists by slot: what stands at a slot, and that a report says what was accepted and chosen.
+-- Lists by slot: the value at a slot, and that a report has what was accepted and chosen.
 use Rattle.std.proofs.Common.{◌≡◌, ℕ, ◌<◌, ◌⊎◌, Bool, true, false, cond, ◌==◌, List, [], ◌∷◌, arith, inl, inr, refl, sym, subst, ap, ◌∙◌, Some}
 use Rattle.std.specs.List.{Contains, AllByRecursion}
 use Rattle.std.specs.BTreeMap.{insert_entry}

@@ -1,4 +1,4 @@
--- A step is a chain of few kinds of changes: what each of them keeps, the step keeps.
+-- A step is a sequence of changes of few kinds: what each of them keeps, the step keeps.
 use Rattle.std.proofs.Common.{◌≡◌, ℕ, ◌+◌, ◌-◌, Bool, true, false, not, ◌&&◌, ◌==◌, leb, List, [], ◌∷◌, length, take, drop, refl, Some, None}
 use Rattle.std.specs.List.{fold, range_with_len, enumerate_from}
 use Rattle.std.specs.Option.{option_map_or}

@@ -1,4 +1,4 @@
--- The single things that a step does: each keeps what holds in the middle of a step.
+-- The single changes of a step: each keeps the invariant within a step.
 use Rattle.std.proofs.Common.{◌≡◌, ◌≢◌, ℕ, ◌⊎◌, Bool, true, false, cond, ◌==◌, List, [], ◌∷◌, ◌++◌, inl, inr, refl, sym, subst, ◌∙◌, Some}
 use Rattle.std.specs.List.{Contains}
 use Rattle.crsm_base.specs.Order.{ballot_lt}

@@ -1,4 +1,4 @@
--- Whatever happens at a moment keeps what holds of a run.
+-- Each happening keeps the invariant of a run.
 use Rattle.std.proofs.Common.{◌≡◌, ℕ, ◌-◌, ◌<◌, ◌⊎◌, List, [], ◌∷◌, ◌++◌, map, length, take, append_assoc, append-nil, inl, inr, refl, sym, subst, ap, ◌∙◌, Some}
 use Rattle.std.specs.List.{Contains, slice_get, slice_set, enumerate_from}
 use Rattle.std.specs.Option.{option_map_or}

@@ -1,4 +1,4 @@
--- A moment keeps what holds of a run.
+-- A moment keeps the invariant of a run.
 use Rattle.std.proofs.Common.{◌≡◌, ℕ, ◌+◌, ◌<◌, ◌≤◌, ◌⊎◌, Bool, true, false, List, [], ◌∷◌, ◌++◌, map, length, take, arith, inl, inr, refl, sym, subst, ap, ◌∙◌, Option, Some, None, length-append}
 use Rattle.std.specs.List.{Contains, slice_get, flat_map, enumerate_from}
 use Rattle.std.proofs.lemmas.List.{length-map}

@@ -1,4 +1,4 @@
--- Reports and votes as lists: who is among them, and what they say of a slot.
+-- Reports and votes as lists: whose they are, and their values at a slot.
 use Rattle.std.proofs.Common.{suc, ◌≡◌, ℕ, ◌≤◌, ◌⊎◌, Bool, true, false, cond, ◌==◌, ◌||◌, nat_eq, List, [], ◌∷◌, ◌++◌, map, filter, arith, inl, inr, refl, sym, subst, ap, ◌∙◌, append-nil, append_assoc, None}
 use Rattle.std.specs.List.{Contains, IsDistinct, list_any, fold, flat_map}
 use Rattle.std.proofs.lemmas.Bool.Decides.{nat_tests}

@@ -1,4 +1,4 @@
--- Places in lists, and what stays right when a run goes on.
+-- Places in lists, and that lines stay right when a run is extended.
 use Rattle.std.proofs.Common.{zero, suc, ◌≡◌, ℕ, ◌+◌, ◌<◌, ◌≤◌, ◌⊎◌, List, [], ◌∷◌, ◌++◌, map, length, arith, inl, inr, refl, sym, subst, ap, Some, None}
 use Rattle.std.specs.List.{Contains, slice_get, flat_map, enumerate_from, range_with_len}
 use Rattle.std.proofs.lemmas.List.Elements.{Contains-append_left, Contains-append_right}

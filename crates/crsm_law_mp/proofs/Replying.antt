@@ -1,4 +1,4 @@
--- The replies of a step are to clients whose slots are executed, and say what stands there.
+-- The replies of a step are to clients whose slots are executed, and have the values there.
 use Rattle.std.proofs.Common.{◌≡◌, ◌≢◌, ℕ, ◌⊎◌, true, false, List, [], ◌∷◌, inl, inr, refl, sym, subst, ap, ◌∙◌, Option, Some, None}
 use Rattle.std.specs.List.{Contains, slice_get}
 use Rattle.std.specs.Prelude.{bytes_eq}

@@ -1,4 +1,4 @@
--- Reports and votes that are counted: what a replica is at stays true of it.
+-- Counted reports and votes: the invariant of a replica's phase is kept.
 use Rattle.std.proofs.Common.{◌≡◌, ℕ, ◌<◌, ◌≤◌, ◌⊎◌, Bool, true, false, cond, nat_eq, ltb, List, [], ◌∷◌, ◌++◌, map, length, arith, inl, inr, refl, sym, subst, ap, ◌∙◌, Option, Some, None}
 use Rattle.std.specs.List.{Contains, IsDistinct, AllByRecursion}
 use Rattle.std.proofs.lemmas.List.{length-map}

@@ -1,4 +1,4 @@
--- A whole step of a replica keeps what holds.
+-- A whole step of a replica keeps the invariant.
 use Rattle.std.proofs.Common.{◌≡◌, ℕ, ◌⊎◌, true, false, not, ◌==◌, List, [], ◌∷◌, filter, take, drop, length, inl, inr, refl, sym, subst, ◌∙◌, Option, Some, None}
 use Rattle.std.specs.List.{Contains, fold, slice_get, enumerate_from}
 use Rattle.std.specs.Option.{option_map_or}

@@ -1,4 +1,4 @@
--- What a replica reports, and what it tells of its executed list, is what its log says.
+-- The report of a replica, and its executed list in messages, are those of its log.
 use Rattle.std.proofs.Common.{zero, suc, ◌≡◌, ℕ, ◌+◌, ◌≤◌, Bool, true, false, cond, ◌==◌, leb, List, [], ◌∷◌, map, filter, take, drop, arith, inl, inr, refl, sym, subst, ap, ◌∙◌, Option, Some, None, add-zero}
 use Rattle.std.specs.List.{Contains, slice_get, enumerate_from, flat_map}
 use Rattle.std.proofs.lemmas.Bool.Decides.{nat_tests}

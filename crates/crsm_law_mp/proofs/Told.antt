@@ -1,4 +1,4 @@
--- What the lines of a step tell is right, and who waits was told to be submitted.
+-- The lines of a step are right, and each client that waits has a line of its submission.
 use Rattle.std.proofs.Common.{zero, suc, ◌≡◌, ℕ, ◌<◌, ◌≤◌, ◌⊎◌, Bool, true, false, cond, ◌==◌, List, [], ◌∷◌, ◌++◌, length, take, drop, append_assoc, arith, inl, inr, refl, sym, subst, ap, ◌∙◌, Option, Some, None}
 use Rattle.std.specs.List.{Contains, slice_get}
 use Rattle.std.proofs.lemmas.List.Elements.{Contains-append_left, Contains-append_right, Contains-append_cases, Contains-push_cases}

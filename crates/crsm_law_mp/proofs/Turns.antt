@@ -1,4 +1,4 @@
--- A change at one replica: what it needs so that all still holds.
+-- A change at one replica: the conditions under which it keeps the invariant.
 use Rattle.std.proofs.Common.{◌≡◌, ◌≢◌, ℕ, ◌⊎◌, Bool, true, false, nat_eq, List, inl, inr, refl, sym, subst, ◌∙◌, Some}
 use Rattle.std.specs.List.{Contains}
 use Rattle.crsm_base.specs.Order.{ballot_lt}

@@ -1,4 +1,4 @@
--- What happens in a world at one moment keeps it sound.
+-- Each happening keeps the world sound.
 use Rattle.std.proofs.Common.{zero, suc, ◌≡◌, ◌≢◌, ℕ, ◌+◌, ◌<◌, ◌≤◌, ◌⊎◌, Bool, true, false, nat_eq, List, [], ◌∷◌, ◌++◌, map, length, take, leb, append-nil, arith, inl, inr, refl, sym, subst, ap, ◌∙◌, Option, Some, None}
 use Rattle.std.specs.List.{Contains, slice_get, slice_set, range_with_len}
 use Rattle.std.specs.Option.{option_map_or}

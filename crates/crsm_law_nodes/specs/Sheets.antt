@@ -22,7 +22,7 @@ pub record IsSheetOf (n : ℕ) (l : Life) (lines : List SheetLine) : Type 0 wher
   pub prefix : IsPrefixOf turns (kept_turns l.groups)
   pub is : lines ≡ sheet_of bodies turns
 
--- The text is that of these steps, each of which is right, and of a final line.
+-- The text is that of these steps, all of them right, and of a final line.
 pub record ShowsRight (n : ℕ) (h : List Event) (me first : ℕ) (lines : List SheetLine) (text : List ℕ) : Type 0 where
   pub steps : List Draft
   pub final : List ℕ

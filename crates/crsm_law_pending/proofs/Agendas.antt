@@ -1,4 +1,4 @@
--- What is still to happen, while a plan is followed.
+-- The pending events while a plan is followed.
 use Rattle.std.proofs.Common.{◌≡◌, ◌≢◌, ℕ, ◌+◌, ◌<◌, List, [], ◌∷◌, ◌++◌, length, refl, sym, ◌∙◌, ap, subst, inl, inr, arith, map, drop, append_assoc, append-nil}
 use Rattle.std.specs.Prelude.{◌⊎◌, Some, slice_get}
 use Rattle.std.specs.List.{AllByRecursion}

@@ -1,4 +1,4 @@
--- Few events happen: each has a number of its own.
+-- A bounded number of events happen: each has a number of its own.
 use Rattle.std.proofs.Common.{◌≡◌, ◌≢◌, ℕ, zero, suc, ◌+◌, ◌<◌, ◌≤◌, List, [], ◌∷◌, ◌++◌, length, refl, sym, ◌∙◌, ap, subst, inl, inr, cond, arith, map}
 use Rattle.std.specs.Prelude.{◌⊎◌, filter, not, ◌==◌}
 use Rattle.std.proofs.lemmas.Bool.{cases_eq, eq-eqb, ne_eqb}

@@ -1,4 +1,4 @@
--- The lines that a step makes of its records and replies tell of no datagram.
+-- The lines that a step makes of its records and replies name no datagram.
 use Rattle.std.proofs.Common.{◌≡◌, ℕ, List, [], ◌∷◌, ◌++◌, refl, sym, ◌∙◌, ap, Bool, true, false, map, Option, None, Some, append_assoc}
 use Rattle.std.specs.Prelude.{option_to_list, ◌==◌, if◌then◌else◌}
 use Rattle.crsm_spec.specs.Choice.{when◌then◌otherwise◌}

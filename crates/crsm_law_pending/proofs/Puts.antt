@@ -1,4 +1,4 @@
--- An event that is put into a list in order leaves it in order.
+-- An event inserted into a list in order leaves it in order.
 use Rattle.std.proofs.Common.{◌≡◌, List, [], ◌∷◌, ◌++◌, refl, sym, subst, inl, inr}
 use Rattle.std.specs.Prelude.{◌⊎◌}
 use Rattle.std.specs.List.{AllByRecursion}

@@ -1,4 +1,4 @@
--- The lines of a step tell of the datagrams that it sends.
+-- The lines of a step name the datagrams that it sends.
 use Rattle.std.proofs.Common.{◌≡◌, ℕ, zero, suc, ◌+◌, List, [], ◌∷◌, ◌++◌, length, refl, sym, ◌∙◌, ap, subst, true, map, drop, Option, None, Some}
 use Rattle.std.specs.Prelude.{slice_get, slice_set}
 use Rattle.std.specs.Option.{option_map_or}

@@ -24,7 +24,7 @@ pub record IsPut (f : Timed) (old new : List Timed) : Type 0 where
   pub behind : AllByRecursion (λ g. Precedes f g → ⊥) before
   pub ahead : IsAhead f after
 
--- ---- what is to happen
+-- ---- pending events
 
 -- the events of a plan, numbered: the command, the ticks by replica, the deliveries
 unfoldable pub number_of : Single → ℕ

@@ -1,4 +1,5 @@
--- What an active replica has executed of its epoch it has logged, and all that it has logged where nothing is left.
+-- An active replica has logged all that it has executed of its epoch, and executed all that it has logged if nothing is
+-- left to do.
 use Rattle.std.proofs.Common.{◌≡◌, ℕ, ◌<◌, List, [], ◌∷◌, ◌++◌, length, refl, sym, ◌∙◌, ap, subst, inl, inr, cond, arith}
 use Rattle.std.specs.Prelude.{IsTrue, Option, Some, None, slice_get, filter, option_map, ◌==◌}
 use Rattle.std.specs.Option.{option_map_or}

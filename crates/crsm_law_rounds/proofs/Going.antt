@@ -1,4 +1,4 @@
--- What a world keeps that goes on calmly.
+-- The properties that a world keeps through calm rounds.
 use Rattle.std.proofs.Common.{◌≡◌, ℕ, ◌+◌, ◌<◌, List, ◌∷◌, ◌++◌, refl, sym, ◌∙◌, ap, subst, inl, inr, Bool, true, cond, arith, map}
 use Rattle.std.specs.Prelude.{◌^◌, Option, Some, None, slice_get, slice_set, count_by, ◌==◌}
 use Rattle.std.specs.Option.{option_map_or}

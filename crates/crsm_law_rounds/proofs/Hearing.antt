@@ -1,4 +1,4 @@
--- A message whose parts were all sent within a calm round is the one that is made whole of them.
+-- A control message whose parts were all sent within a calm round is the one that its parts complete.
 use Rattle.std.proofs.Common.{◌≡◌, ℕ, suc, ◌<◌, List, [], ◌∷◌, length, refl, sym, ◌∙◌, ap, subst, inl, inr, arith, get_or}
 use Rattle.std.specs.Prelude.{IsTrue, Some, slice_get}
 use Rattle.std.proofs.lemmas.Option.{same_Some}

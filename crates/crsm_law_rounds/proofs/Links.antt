@@ -1,4 +1,4 @@
--- A frame of the next number of a link between members is not odd, and fits.
+-- The next frame on a link between members is valid, and its record fits.
 use Rattle.std.proofs.Common.{◌≡◌, ℕ, ◌+◌, ◌<◌, ◌≤◌, List, [], ◌∷◌, refl, sym, ◌∙◌, ap, subst, inl, inr, Bool, true, false, arith, map}
 use Rattle.std.specs.Prelude.{◌≢◌, IsTrue, Some, slice_get, not, nat_lt, nat_le, ◌==◌, ◌||◌, filter, count_by}
 use Rattle.std.specs.List.{list_all}

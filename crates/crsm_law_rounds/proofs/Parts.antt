@@ -1,4 +1,4 @@
--- In a calm round no message is told but known decisions and questions.
+-- In a calm round no control messages are sent but known decisions and RETRIEVE.
 use Rattle.std.proofs.Common.{◌≡◌, ℕ, zero, suc, ◌+◌, ◌<◌, ◌≤◌, List, [], ◌∷◌, length, refl, sym, ◌∙◌, ap, subst, inl, inr, true, false, arith, map, get_or}
 use Rattle.std.specs.Prelude.{◌⊎◌, ◌^◌, IsTrue, Option, Some, None, slice_get, slice_set}
 use Rattle.std.specs.List.{enumerate_from}

@@ -1,4 +1,4 @@
--- One calm round: each frame that was pushed before its settle is taken in it.
+-- One calm round: each frame that was pushed before its settle is received in it.
 use Rattle.std.proofs.Common.{◌≡◌, ℕ, zero, suc, ◌+◌, ◌<◌, ◌≤◌, List, [], ◌∷◌, ◌++◌, length, refl, sym, ◌∙◌, ap, subst, inl, inr, Bool, true, false, arith, map, drop}
 use Rattle.std.specs.Prelude.{◌^◌, IsTrue, Some, slice_get, filter, not, ◌==◌, count_by}
 use Rattle.std.specs.Option.{option_map_or}
@@ -278,8 +278,8 @@ module _ (n e t : ℕ) (ms : List ℕ) (lt : t < 2 ^ 64) (distinct : Distinct ms
 
 -- ---- what a round has done
 
--- From v by the ticks to w1 and by the settle to w2: the members stay up, each ticks once, and each frame of a link between them
--- that was pushed before the settle is taken.
+-- From v by the ticks to w1 and by the settle to w2: the members stay up, each ticks once, and each frame of a link
+-- between them that was pushed before the settle is received.
 pub record RoundDone (n e t : ℕ) (ms : List ℕ) (v w1 w2 : World) : Type 0 where
   pub up1 : AllUp n e ms w1
   pub up2 : AllUp n e ms w2

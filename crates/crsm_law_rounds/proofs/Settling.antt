@@ -1,4 +1,4 @@
--- The settle of a calm round: what it carries in order is taken.
+-- The settle of a calm round: the frames that it delivers in order are received.
 use Rattle.std.proofs.Common.{◌≡◌, ℕ, ◌+◌, ◌<◌, ◌≤◌, List, [], ◌∷◌, refl, sym, ◌∙◌, ap, subst, Bool, true, false, cond, arith, inl, inr}
 use Rattle.std.specs.Prelude.{◌^◌, Option, Some, None, slice_get, slice_set}
 use Rattle.std.specs.Option.{option_map_or}

@@ -49,8 +49,8 @@ abbrev pub IsAcknowledged : List ℕ → ℕ → Replica → Entry → Type 0
 IsAcknowledged members k r f =
     (j : ℕ) → Contains members j → k ≢ j → (time : ℕ) × Contains (frames_to r j) (InEpoch.PrepareOk f.stamp time)
 
--- After the first round each member has logged each entry of the epoch that its origin had logged before; and when the members have
--- ticked in the second round, each but the origin has pushed its PREPAREOK to each other member.
+-- After the first round each member has logged each entry of the epoch that its origin had logged before; and after the
+-- members' ticks in the second round, each but the origin has pushed its PREPAREOK to each other member.
 abbrev pub EntriesAreSpread : Type 0
 EntriesAreSpread =
     (n : ℕ) (acts : List Act) (e : ℕ) (members : List ℕ) (t u : ℕ) → AreCalmRounds n acts e members t u → (f : Entry) → f.epoch ≡ e →

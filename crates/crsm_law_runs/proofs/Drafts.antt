@@ -1,4 +1,4 @@
--- Each change of a step keeps what holds of its drafts.
+-- Each change of a step keeps the invariant of its drafts.
 use Rattle.std.proofs.Common.{◌≡◌, ℕ, zero, suc, ◌+◌, ◌-◌, ◌<◌, ◌≤◌, List, [], ◌∷◌, ◌++◌, length, drop, take, refl, sym, ◌∙◌, ap, subst, inl, inr, Bool, true, false, cond, arith, map}
 use Rattle.std.specs.Prelude.{◌⊎◌, IsTrue, Option, Some, None, slice_get, nat_lt, nat_le, find}
 use Rattle.std.specs.List.{enumerate_from}

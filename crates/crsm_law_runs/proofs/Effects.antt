@@ -1,4 +1,4 @@
--- What each change of a step does to the log, the lines, the replies and the waiting clients.
+-- The effect of each change of a step on the log, the lines, the replies and the waiting clients.
 use Rattle.std.proofs.Common.{◌≡◌, ℕ, ◌-◌, List, [], ◌∷◌, ◌++◌, length, drop, refl, sym, subst, Bool, true, false}
 use Rattle.std.specs.Prelude.{◌≢◌, Some, ◌==◌}
 use Rattle.crsm_spec.specs.Choice.{when◌then◌otherwise◌}

@@ -1,4 +1,4 @@
--- A step keeps what holds of all that is seen.
+-- A step keeps the invariant of the transcript.
 use Rattle.std.proofs.Common.{◌≡◌, ℕ, List, [], ◌++◌, sym, ◌∙◌, subst, inr}
 use Rattle.std.specs.Prelude.{Some, slice_get}
 use Rattle.std.proofs.lemmas.List.{append-nil}

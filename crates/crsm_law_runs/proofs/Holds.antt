@@ -1,4 +1,4 @@
--- What holds of all that is seen on the way to a world, and of the drafts of a step in it.
+-- The invariant of the transcript on the way to a world, and of the drafts of a step in it.
 use Rattle.std.proofs.Common.{◌≡◌, ℕ, ◌<◌, ◌≤◌, List, [], ◌∷◌, ◌++◌, length, map, sym, subst, arith}
 use Rattle.std.specs.Prelude.{◌⊎◌, Some, slice_get}
 use Rattle.crsm_spec.specs.Types.{Stamp, Entry, Line}

@@ -1,4 +1,4 @@
--- What was executed is in the records of a log.
+-- Executed entries are in the records of a log.
 use Rattle.std.proofs.Common.{◌≡◌, ℕ, zero, suc, [], ◌∷◌, refl, inl, inr}
 use Rattle.std.specs.Prelude.{Option, Some, None, slice_get, option_to_list}
 use Rattle.std.proofs.lemmas.Option.{none-some, same_Some}

@@ -1,4 +1,4 @@
--- The kinds of lines, and what each cannot say.
+-- The kinds of lines, and the kinds that each is not.
 use Rattle.std.proofs.Common.{ℕ, List, sym, ◌∙◌, ap, subst}
 use Rattle.std.specs.Prelude.{slice_get}
 use Rattle.crsm_spec.specs.Types.{Stamp, Entry, Line, Answer}

@@ -1,4 +1,4 @@
--- Each executed entry is logged at its origin, and no list has entries of an earlier epoch behind a later epoch's start.
+-- Each executed entry is logged at its origin, and no list has entries of an earlier epoch after a later epoch's start.
 use Rattle.std.proofs.Common.{◌≡◌, ℕ, zero, suc, ◌+◌, ◌-◌, ◌<◌, ◌≤◌, List, [], ◌∷◌, length, refl, sym, ◌∙◌, ap, subst, inl, inr, arith}
 use Rattle.std.specs.Prelude.{Option, Some, None, slice_get}
 use Rattle.std.specs.Option.{option_map_or}

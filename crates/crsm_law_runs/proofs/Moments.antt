@@ -1,4 +1,4 @@
--- What holds of all that is seen is so at the beginning, and each moment keeps it.
+-- The invariant of the transcript holds at the beginning, and each moment keeps it.
 use Rattle.std.proofs.Common.{◌≡◌, ℕ, zero, suc, ◌-◌, ◌<◌, List, [], ◌∷◌, ◌++◌, length, take, refl, sym, ◌∙◌, ap, subst, inl, inr, Bool, true, false, map, append_assoc}
 use Rattle.std.specs.Prelude.{◌⊎◌, ◌^◌, Option, Some, None, slice_get, slice_set, nat_lt, flat_map}
 use Rattle.std.specs.List.{enumerate_from, range_with_len}

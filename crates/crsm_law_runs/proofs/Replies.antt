@@ -1,4 +1,4 @@
--- What is answered to clients in a step keeps what holds of its drafts.
+-- The replies of a step keep the invariant of its drafts.
 use Rattle.std.proofs.Common.{◌≡◌, ℕ, ◌<◌, ◌≤◌, List, [], ◌∷◌, ◌++◌, length, take, refl, sym, ◌∙◌, ap, subst, inl, inr, Bool, true, false, arith, map, append_assoc}
 use Rattle.std.specs.Prelude.{IsTrue, Option, Some, None, slice_get, nat_lt, nat_le, ◌==◌, ◌&&◌}
 use Rattle.std.proofs.lemmas.Bool.{eq-eqb, and_parts, leb-true, ltb-true, eqb-true, false≢true}

@@ -1,4 +1,4 @@
--- The longest of lists, and what holds of each element.
+-- The longest of several lists, and properties of each element.
 use Rattle.std.proofs.Common.{◌≡◌, ℕ, ◌≤◌, List, [], ◌∷◌, ◌++◌, length, refl, sym, ap, subst, inl, inr, Bool, true, false, cond, arith, length-append, append-nil, ◌∙◌}
 use Rattle.std.specs.Prelude.{◌⊎◌, nat_lt, fold}
 use Rattle.std.specs.List.{AllByRecursion}

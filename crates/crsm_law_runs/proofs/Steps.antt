@@ -1,4 +1,4 @@
--- Each change of a step keeps what holds of its drafts.
+-- Each change of a step keeps the invariant of its drafts.
 use Rattle.std.proofs.Common.{◌≡◌, ℕ, ◌-◌, ◌<◌, ◌≤◌, List, [], ◌∷◌, ◌++◌, length, drop, refl, sym, ◌∙◌, ap, subst, inl, inr, cond, arith, map, append_assoc}
 use Rattle.std.specs.Prelude.{◌⊎◌, ◌≢◌, Option, Some, None, slice_get, option_to_list}
 use Rattle.std.specs.Option.{option_map_or}

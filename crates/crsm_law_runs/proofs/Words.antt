@@ -1,4 +1,4 @@
--- What lines say of the one list of a run.
+-- The relation of lines to the one list of a run.
 use Rattle.std.proofs.Common.{◌≡◌, ℕ, ◌<◌, ◌≤◌, List, [], ◌∷◌, ◌++◌, length, take, refl, sym, ◌∙◌, ap, subst, inl, inr, append_assoc, map}
 use Rattle.std.specs.Prelude.{Some, slice_get}
 use Rattle.std.proofs.lemmas.List.{take_at}
@@ -56,8 +56,8 @@ IsSubmitLine _ = ⊥
 
 -- ---- what is right of a line behind others
 
--- What is submitted now, in this epoch with this stamp, was not submitted or replied to before, and stands behind all that was
--- answered before.
+-- An entry submitted now, with this epoch and stamp, was not submitted or replied to before, and is after all that was
+-- answered.
 pub record IsFirst (list : List Entry) (before : List TraceLine) (x : ℕ) (s : Stamp) : Type 0 where
   pub submitted : (u : TraceLine) → Among before u → IsSubmitOf x s u.line → ⊥
   pub replied : (u : TraceLine) → Among before u → IsReplyOn list x s u.line → ⊥

@@ -1,4 +1,4 @@
--- Each moment keeps what holds of all that is seen.
+-- Each moment keeps the invariant of the transcript.
 use Rattle.std.proofs.Common.{◌≡◌, ℕ, zero, suc, ◌≤◌, List, [], ◌∷◌, ◌++◌, length, take, refl, sym, ◌∙◌, ap, subst, inl, inr, arith, map, append_assoc}
 use Rattle.std.specs.Prelude.{◌⊎◌, Some, slice_get, option_to_list}
 use Rattle.std.proofs.lemmas.Bool.{cases_eq}

@@ -1,4 +1,4 @@
--- What holds of each draft of a step: who waits, what was replied and what was submitted.
+-- The invariant of each draft of a step: which clients wait, what was replied and what was submitted.
 use Rattle.std.proofs.Common.{◌≡◌, ◌≢◌, ℕ, suc, ◌+◌, List, [], ◌∷◌, ◌++◌, take, refl, sym, ◌∙◌, ap, subst, inl, inr, Bool, true, false, cond, arith}
 use Rattle.std.specs.Prelude.{◌⊎◌, IsTrue, Option, Some, None, slice_get, find, ◌==◌, ◌&&◌, option_to_list}
 use Rattle.std.specs.List.{enumerate_from}

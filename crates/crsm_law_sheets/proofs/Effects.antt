@@ -1,4 +1,4 @@
--- What each change of a step does to the log, the lines, the replies and the clients that wait.
+-- The effect of each change of a step on the log, the lines, the replies and the waiting clients.
 use Rattle.std.proofs.Common.{◌≡◌, ◌≢◌, ℕ, ◌∷◌, ◌++◌, refl, ◌∙◌, Bool, true, false}
 use Rattle.std.specs.Prelude.{Some, Option, None, ◌==◌, not, nat_le, length}
 use Rattle.std.proofs.lemmas.Option.{none-some, same_Some}

@@ -1,4 +1,4 @@
--- What a log has as executed is a prefix of what a longer one has.
+-- The executed list of a log is a prefix of that of a longer log.
 use Rattle.std.proofs.Common.{◌≡◌, ℕ, zero, suc, List, [], ◌∷◌, ◌++◌, take, refl, sym, ◌∙◌, ap, subst, inl, inr, append_assoc}
 use Rattle.std.specs.Prelude.{Some, slice_get, option_to_list}
 use Rattle.std.proofs.lemmas.List.{append-nil}

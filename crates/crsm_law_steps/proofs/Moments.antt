@@ -1,4 +1,4 @@
--- Logs over moments and runs, and what a stopped step leaves.
+-- Logs grow over moments and runs, and the effect of a step that stops.
 use Rattle.std.proofs.Common.{◌≡◌, ℕ, zero, suc, ◌<◌, List, [], ◌∷◌, ◌++◌, length, refl, sym, ◌∙◌, ap, subst, inl, inr, Bool, true, false, cond, arith, map}
 use Rattle.std.specs.Prelude.{◌⊎◌, Some, ◌==◌, nat_lt, slice_get, slice_set}
 use Rattle.std.specs.Option.{option_map_or}

@@ -1,4 +1,4 @@
--- The text of a transcript tells its lines: cut at line feeds and spaces it is words, and each word tells its value.
+-- The text of a transcript determines its lines: cut at line feeds and spaces it is words, and each word has one value.
 use Rattle.std.proofs.Common.{◌≡◌, ◌≢◌, ℕ, ◌+◌, ◌*◌, ◌^◌, ◌<◌, ◌≤◌, List, [], ◌∷◌, ◌++◌, Option, Some, None, true, nat_lt, map, length, get_or, codes, decimal, refl, ap, sym, ◌∙◌, arith, append_assoc}
 use Rattle.std.specs.List.{AllByRecursion, list_all}
 use Rattle.std.proofs.lemmas.Fmt.{decimal_injective}

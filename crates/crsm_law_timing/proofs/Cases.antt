@@ -1,4 +1,4 @@
--- Each event of a timeline is possible, and the timeline goes on as it should: the command and the ticks.
+-- Each event of a timeline is possible and extends it: the command's arrival and the ticks.
 use Rattle.std.proofs.Common.{◌≡◌, ◌≢◌, ℕ, ◌+◌, ◌-◌, ◌<◌, ◌≤◌, List, [], ◌∷◌, ◌++◌, refl, sym, ◌∙◌, ap, subst, inl, inr, arith}
 use Rattle.std.specs.Prelude.{◌^◌, Some, None, slice_get}
 use Rattle.crsm_base.specs.Records.{body_bytes}

@@ -1,4 +1,4 @@
--- The end of each step of a timeline: the command is executed where it is ready, and who waits is answered.
+-- The end of each step of a timeline: the command is executed if it is ready, and the waiting client is answered.
 use Rattle.std.proofs.Common.{◌≡◌, ℕ, ◌≤◌, ◌<◌, List, [], ◌∷◌, ◌++◌, refl, sym, ◌∙◌, ap, subst, Bool, true, false, map}
 use Rattle.std.specs.Prelude.{IsTrue, Option, Some, None, filter, option_to_list}
 use Rattle.std.proofs.lemmas.Bool.{false≢true}

@@ -1,4 +1,4 @@
--- The delivery of the command.
+-- The delivery of the command's entry.
 use Rattle.std.proofs.Common.{◌≡◌, ◌≢◌, ℕ, ◌+◌, ◌<◌, ◌≤◌, List, [], ◌∷◌, ◌++◌, length, refl, sym, ◌∙◌, ap, subst, inl, inr, true, arith}
 use Rattle.std.specs.Prelude.{◌⊎◌, Some, slice_get, slice_set}
 use Rattle.std.proofs.lemmas.Bool.{cases_lt}

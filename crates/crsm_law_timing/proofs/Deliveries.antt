@@ -1,4 +1,4 @@
--- Each delivery of a timeline is possible, and the timeline goes on as it should.
+-- Each delivery of a timeline is possible and extends it.
 use Rattle.std.proofs.Common.{◌≡◌, ◌≢◌, ℕ, ◌+◌, ◌-◌, ◌<◌, ◌≤◌, List, [], ◌∷◌, ◌++◌, length, refl, sym, ◌∙◌, ap, subst, inl, inr, true, false, arith}
 use Rattle.std.specs.Prelude.{◌^◌, Some, None, slice_get, slice_set}
 use Rattle.std.proofs.lemmas.Bool.{cases_eq, cases_lt}

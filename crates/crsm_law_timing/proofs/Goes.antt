@@ -1,4 +1,4 @@
--- Each event that comes next goes on as it should.
+-- Each event that is next extends the timeline.
 use Rattle.std.proofs.Common.{◌≡◌, ℕ, List, sym, subst, arith}
 use Rattle.std.specs.Prelude.{Some, slice_get}
 use Rattle.crsm_spec.specs.World.{World}

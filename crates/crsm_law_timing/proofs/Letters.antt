@@ -1,4 +1,5 @@
--- What replicas of a timeline have sent to each other, what came, and when a replica executes by it.
+-- The datagrams that replicas of a timeline have sent to each other, those delivered, and when a replica executes by
+-- them.
 use Rattle.std.proofs.Common.{◌≡◌, ◌≢◌, ℕ, zero, suc, ◌+◌, ◌-◌, ◌<◌, ◌≤◌, List, [], ◌∷◌, ◌++◌, length, refl, sym, ◌∙◌, ap, subst, inl, inr, Bool, true, false, cond, arith, map}
 use Rattle.std.specs.Prelude.{◌⊎◌, Some, slice_get, not, ◌==◌}
 use Rattle.std.proofs.lemmas.Bool.{cases_eq, eq-eqb, ne_eqb, false≢true}
@@ -85,8 +86,8 @@ among_get (x ∷ xs) a (inr m) = let t = among_get xs a m in (suc t.0, t.1)
 unfoldable pub tick_of : Plan → ℕ → Timed
 tick_of plan k = tick plan k (stamped plan + 1 - offset_of plan k)
 
--- How far k is, by what has happened: the origin has logged the command if it came; another has if it took the frame of it, and has
--- acknowledged it if its clock is past.
+-- The progress of k by what has happened: the origin has logged the command if it arrived; another replica has if it
+-- received its frame, and has acknowledged it if its clock is past the timestamp.
 pub record AtOrigin (plan : Plan) (before : List Timed) (p : Part) : Type 0 where
   pub begun : HasLogged p → Among before (request plan)
   pub begins : Among before (request plan) → HasLogged p

@@ -1,4 +1,4 @@
--- A replica of a timeline, by how far it is with the command.
+-- The state of a replica of a timeline, by its progress with the command.
 use Rattle.std.proofs.Common.{◌≡◌, ◌≢◌, ℕ, zero, suc, ◌+◌, ◌<◌, ◌≤◌, List, [], ◌∷◌, ◌++◌, length, refl, sym, ◌∙◌, ap, subst, inl, inr, Bool, true, false, cond, arith, map}
 use Rattle.std.specs.Prelude.{IsTrue, ◌⊎◌, Some, None, nat_le, ◌==◌, ◌&&◌, ◌||◌, count_by, filter, option_map, option_to_list}
 use Rattle.std.specs.List.{list_all, list_any, range_with_len}
@@ -26,7 +26,8 @@ the_stamp plan = record { time = stamped plan; origin = plan.origin }
 abbrev pub the_entry : Plan → Entry
 the_entry plan = record { epoch = 0; stamp = the_stamp plan; command = the_command }
 
--- How far it is: nothing is logged; the command is, and its acknowledgement is owed; a time was issued; the command is executed.
+-- The progress of a replica: nothing is logged; the command is, and its acknowledgement is pending; a time was issued;
+-- the command is executed.
 pub data Part : Type 0 where
   Bare : Part
   Owing : Part

@@ -1,4 +1,4 @@
--- What the moments of a plan are.
+-- The moments of a plan in its own terms.
 use Rattle.std.proofs.Common.{◌≡◌, ℕ, ◌+◌, ◌<◌, ◌≤◌, List, [], ◌∷◌, refl, sym, ◌∙◌, ap, inl, inr, arith, map, max}
 use Rattle.std.proofs.lemmas.Bool.{cases_eq}
 use Rattle.crsm_spec.specs.Lists.{Among, greatest}

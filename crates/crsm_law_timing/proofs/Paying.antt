@@ -1,4 +1,4 @@
--- How a replica of a timeline pays what it owes.
+-- How a replica of a timeline sends its pending acknowledgement.
 use Rattle.std.proofs.Common.{◌≡◌, ℕ, ◌<◌, ◌≤◌, List, [], ◌∷◌, ◌++◌, length, refl, sym, ◌∙◌, ap, subst, arith, map, max}
 use Rattle.std.specs.Prelude.{IsTrue, Option, Some, filter, not, ◌==◌, nat_lt, unwrap_or}
 use Rattle.std.specs.Option.{option_map_or}

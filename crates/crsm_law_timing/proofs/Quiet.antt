@@ -1,4 +1,4 @@
--- Who executes by a step: nobody by its sends and replies.
+-- The replicas that execute by a step: none by its sends and replies.
 use Rattle.std.proofs.Common.{◌≡◌, ℕ, ◌+◌, List, [], ◌∷◌, ◌++◌, length, refl, ◌∙◌, ap, Bool, true, false, cond, map}
 use Rattle.std.specs.Prelude.{filter, ◌==◌}
 use Rattle.std.proofs.lemmas.List.{append-nil}

@@ -1,4 +1,4 @@
--- What has happened so far was possible and leaves the replicas as a timeline does; and timelines come about so.
+-- The events that have happened were possible and leave the replicas as a timeline does; and timelines arise so.
 use Rattle.std.proofs.Common.{◌≡◌, ◌≤◌, List, [], ◌∷◌, ◌++◌, refl, sym, ◌∙◌, ap, subst, inl, inr, arith, append_assoc, append-nil}
 use Rattle.std.specs.Prelude.{◌⊎◌, None}
 use Rattle.crsm_spec.specs.Lists.{Among}

@@ -1,4 +1,4 @@
--- The state of a timeline after some events, and after one event more.
+-- The state of a timeline after some events, and after one more.
 use Rattle.std.proofs.Common.{◌≡◌, ◌≢◌, ℕ, zero, suc, ◌+◌, ◌<◌, ◌≤◌, List, [], ◌∷◌, ◌++◌, length, refl, sym, ◌∙◌, ap, subst, inl, inr, Bool, true, false, cond, arith, map, drop, length-append}
 use Rattle.std.specs.Prelude.{◌⊎◌, Some, slice_get, slice_set, filter, ◌==◌}
 use Rattle.std.proofs.lemmas.Bool.{cases_eq, eq-eqb, ne_eqb, false≢true}
@@ -106,7 +106,8 @@ other_facts plan before e new is k j p tk ne acts numbered from h = facts_more p
 
 -- ---- one event more
 
--- What an event of k is to show: what it keeps and sends, the facts of k after it, and when the command commits if it does.
+-- The obligations of an event at k: what it keeps and sends, the facts of k after it, and when the command commits if
+-- it does.
 pub record Shows (plan : Plan) (before : List Timed) (e : Timed) (w v : World) (k : ℕ) (a : Actor plan before w k) (x : Draft) (q : Part) (now : List ℕ) (kept : List Rec) (out : List (ℕ × Datagram)) : Type 0 where
   pub acts : Acts plan before e k
   pub step : IsStep w e v k a.replica x

@@ -1,4 +1,4 @@
--- Where a replica is after a delivery that does not change its part.
+-- The state of a replica after a delivery that does not change its progress.
 use Rattle.std.proofs.Common.{ℕ, List, [], ◌∷◌, ◌++◌}
 use Rattle.crsm_spec.specs.Lists.{Among}
 use Rattle.crsm_fact_log.proofs.Lists.{among_left}

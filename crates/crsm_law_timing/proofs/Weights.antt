@@ -1,4 +1,4 @@
--- A timeline does not fill the world: what a replica has still to send, and what comes of a datagram, takes few bytes.
+-- A timeline does not fill the world: what a replica still has to send, and what a delivery causes, takes few bytes.
 use Rattle.std.proofs.Common.{◌≡◌, ℕ, zero, suc, ◌+◌, ◌*◌, ◌≤◌, List, [], ◌∷◌, ◌++◌, length, refl, ap, Bool, true, false, cond, arith, map}
 use Rattle.std.specs.Prelude.{Some, slice_get, slice_set, sum_by, filter, flat_map, not, ◌==◌}
 use Rattle.std.proofs.lemmas.Option.{none-some, same_Some}

@@ -1,4 +1,4 @@
--- One event more of a timeline: the world after it, what it sends, and who executes.
+-- One more event of a timeline: the world after it, what it sends, and which replica executes.
 use Rattle.std.proofs.Common.{◌≡◌, ℕ, zero, suc, List, [], ◌∷◌, ◌++◌, length, refl, sym, ◌∙◌, ap, true, map, drop, append_assoc}
 use Rattle.std.specs.Prelude.{Some, filter, slice_get, slice_set}
 use Rattle.std.specs.Option.{option_map_or}

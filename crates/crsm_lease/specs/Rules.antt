@@ -1,4 +1,4 @@
--- What take, give and break do, as a table, and what a client asks and is told by it.
+-- The table of take, give and break, and what a client asks for and reports by it.
 use Rattle.std.specs.Prelude.{◌≡◌, ◌≢◌, ◌⊎◌, ℕ, ◌+◌, ◌<◌, ◌^◌, ◌==◌, nat_lt, if◌then◌else◌, List, Option, Some, None}
 use Rattle.crsm_base.specs.declared.command.Op.{Op}
 use Rattle.crsm_base.specs.declared.answer.Answer.{Answer}
@@ -14,7 +14,7 @@ use Rattle.crsm_lease.specs.Locks.{FitsLock, HasLock, lock_bytes}
 
 -- ---- the table
 
--- what a client finds: a lock that is free, its own, or another's, with the fence
+-- the lock as a client finds it: free, its own, or another's, with the fence
 pub data Finding : Type 0 where
   Vacant : ℕ → Finding
   Own : ℕ → Finding
@@ -30,7 +30,7 @@ unfoldable pub granted : ℕ → ℕ → Ruling
 granted me fence =
     if nat_lt fence u64_max then Ruling.Becomes (Lock.Held (fence + 1) me) else Ruling.Tells Told.Spent
 
--- for each action what is done about each finding
+-- the ruling for each action and each finding
 unfoldable pub rule : Action → ℕ → Finding → Ruling
 rule Action.Take me (Finding.Vacant fence) = granted me fence
 rule Action.Take me (Finding.Own fence) = Ruling.Tells (Told.Granted fence)
@@ -99,25 +99,25 @@ pub record Returns (action : Action) (me : ℕ) (op : Op) : Type 0 where
   pub give : action ≡ Action.Give
   pub is : op ≡ give_back key fence me
 
--- what is asked grants a lock or gives one back
+-- every operation asked for grants a lock or releases one
 abbrev pub AskedAreGrantsOrReturns : Type 0
 AskedAreGrantsOrReturns =
     (action : Action) (me : ℕ) (op : Op) → Asks action me op → Grants action me op ⊎ Returns action me op
 
 -- ---- after the Get
 
--- what follows a ruling about a key with this value
+-- the next step after a ruling on a key with this value
 abbrev pub next_of : List ℕ → Option (List ℕ) → Ruling → NextStep
 next_of key found (Ruling.Becomes lock) = NextStep.Ask (cas_to key found lock)
 next_of key found (Ruling.Tells told) = NextStep.End told
 
--- what follows where a key has this value: the table's ruling on its lock, or it is told that it has none
+-- the next step where a key has this value: by the table's ruling on its lock, or the report that it has none
 abbrev pub IsRuled : Action → ℕ → List ℕ → Option (List ℕ) → NextStep → Type 0
 IsRuled action me key found next =
     ((lock : Lock) × HasLock found lock × (next ≡ next_of key found (rule action me (found_by me lock))))
     ⊎ (((lock : Lock) → HasLock found lock → ⊥) × (next ≡ NextStep.End Told.NotALock))
 
--- what follows the outcome of a Get
+-- the next step after the outcome of a Get
 abbrev pub FollowsGet : Action → ℕ → List ℕ → Outcome → NextStep → Type 0
 FollowsGet action me key (Outcome.Answered (Answer.Found value)) next = IsRuled action me key (Some value) next
 FollowsGet action me key (Outcome.Answered Answer.Missing) next = IsRuled action me key None next
@@ -129,12 +129,12 @@ FollowsGet action me key (Outcome.Refused why) next = next ≡ NextStep.End (Tol
 
 -- ---- after the Cas
 
--- what is told of a key that has become this lock
+-- the result to report of a key that has become this lock
 abbrev pub done_of : Lock → Told
 done_of (Lock.Free fence) = Told.Released fence
 done_of (Lock.Held fence owner) = Told.Granted fence
 
--- what is told after the outcome of a Cas
+-- the result to report after the outcome of a Cas
 abbrev pub FollowsCas : Op → Outcome → Told → Type 0
 FollowsCas op (Outcome.Answered Answer.Done) told =
     (key : List ℕ) (found : Option (List ℕ)) (lock : Lock) → FitsLock lock → op ≡ cas_to key found lock → told ≡ done_of lock

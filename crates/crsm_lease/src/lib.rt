@@ -1,4 +1,5 @@
-//! Locks over the store, with fencing numbers: what a client asks for, by what it found, and what it is told.
+//! Locks over the store, with fencing tokens: which operation a client asks for after it read the key, and the result
+//! that is printed for it.
 #![tactic(auto)]
 
 mod laws;

@@ -1,4 +1,4 @@
-//! The value of a lock.
+//! The value of a lock, written to bytes and read back.
 
 ghost use Rattle.std.specs.Prelude.{◌≡◌, ◌++◌, ◌∷◌, IfOk, IfSome, OnOk, Some};
 ghost use Rattle.crsm_base.specs.Spelling.{u64_bytes};
@@ -9,11 +9,11 @@ use crsm_base::{Bytes, NoMemory, Val};
 use crsm_text_fields::{put_u8, put_u64, take_u8, take_u64};
 use std::alloc::Global;
 
-/// A lock. Its fence is the number of the last grant: each grant raises it by one.
+/// A lock. Its fence is the fencing token of the last grant: each grant raises it by 1.
 #[derive(Clone, Copy, Debug, PartialEq, Eq)]
 pub enum Lock {
     Free { fence: u64 },
-    /// The owner is the client to whom it was granted.
+    /// The owner is the number of the client that holds it.
     Held { fence: u64, owner: u64 },
 }
 
@@ -25,7 +25,7 @@ fn put_fields(state: u8, fence: u64, owner: u64, out: &mut Bytes) -> Result<(), 
     put_u64(owner, out)
 }
 
-/// The value of a lock: its state, its fence and its owner, 17 bytes.
+/// Returns the value of a lock, 17 bytes: its state, its fence and its owner. `NoMemory` if memory runs out.
 #[tactic(auto, unfolding(crate::specs::Locks::lock_bytes))]
 pub fn write_lock(alloc: Global, lock: Lock) -> Result<Val, NoMemory>
     ensures { IfOk result (λ value. value ≡ lock_bytes lock) }
@@ -62,7 +62,7 @@ fn lock_of_fields(state: u8, fence: u64, owner: u64) -> Option<Lock>
     }
 }
 
-/// The lock that has this value, or `None` if no lock has it.
+/// Returns the lock that has this value, or `None` if no lock has it.
 pub fn read_lock(value: &[u8]) -> Option<Lock>
     ensures found { IfSome result (IsLock value.now) }
     ensures only { (lock : Written) → IsLock value.now lock → result ≡ Some lock }

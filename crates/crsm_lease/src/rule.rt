@@ -1,4 +1,4 @@
-//! What an action asks for, and what its client is told.
+//! The rules of locks: the operation for an action, and the result to report.
 
 ghost use Rattle.std.specs.Prelude.{◌≡◌, ℕ, IfOk, List, None, Option, Some};
 ghost use Rattle.std.specs.Option.{option_copied};
@@ -14,30 +14,30 @@ use crate::told::Told;
 use crsm_base::{Answer, Key, NoMemory, Op, Outcome, Refusal, Val};
 use std::alloc::Global;
 
-/// What a client does about a lock.
+/// The action of a client on a lock.
 #[derive(Clone, Copy, Debug, PartialEq, Eq)]
 pub enum Action {
     Take,
     Give,
-    /// Takes it from its owner.
+    /// Takes the lock from its owner.
     Break,
 }
 
-/// What is to be done about a lock.
+/// The ruling on an action, given the state of the lock.
 #[derive(Clone, Copy, Debug, PartialEq, Eq)]
 pub enum Ruling {
-    /// It is to become this one.
+    /// The lock is to become this one.
     Becomes(Lock),
-    /// Nothing: the client is told this.
+    /// The lock stays as it is, and this result is reported.
     Tells(Told),
 }
 
-/// What follows the look at the key.
+/// The next step after the key was read.
 #[derive(Debug, Drop)]
 pub enum NextStep {
-    /// This is asked, under the client's next number.
+    /// Send this operation under the client's next number.
     Ask(Op),
-    /// The client is told this, and nothing more is asked.
+    /// Report this result and stop.
     End(Told),
 }
 
@@ -142,7 +142,8 @@ fn refused(why: Refusal) -> Told
     Told::Refused { code }
 }
 
-/// What follows the outcome of a Get of the key. `me` is the client.
+/// Returns the next step after the outcome of a Get of the key. `me` is the number of the client. `NoMemory` if memory
+/// runs out.
 pub fn after_get(
     alloc: Global,
     action: Action,
@@ -179,7 +180,7 @@ fn after_done(op: &Op) -> Told
     }
 }
 
-/// What the client is told after the outcome of a Cas that was asked for it.
+/// Returns the result to report after the outcome of the Cas `op`.
 pub fn after_cas(op: &Op, outcome: &Outcome) -> Told
     requires { IsAsked op.now }
     ensures { FollowsCas op.now outcome.now result }

@@ -1,4 +1,4 @@
-//! What a client is told, and the line that says it.
+//! The result of an action on a lock, and the line that prints it.
 
 ghost use Rattle.std.specs.Prelude.{◌≡◌, ◌++◌, ◌∷◌, [], OnErr, OnOk};
 ghost use Rattle.crsm_lease.specs.Texts.{told_text};
@@ -7,30 +7,30 @@ use crsm_base::{Bytes, NoMemory};
 use crsm_text::push_named;
 use std::alloc::Global;
 
-/// What a client is told of its action.
+/// The result of a client's action on a lock.
 #[derive(Clone, Copy, Debug, PartialEq, Eq)]
 pub enum Told {
-    /// The client holds the lock, by the grant of this fence.
+    /// The client holds the lock, granted under this fence.
     Granted { fence: u64 },
-    /// The client has given the lock back that it held by this fence.
+    /// The client has released the lock that it held under this fence.
     Released { fence: u64 },
-    /// Another client holds it.
+    /// Another client holds the lock.
     Held { owner: u64, fence: u64 },
-    /// There is nothing to give back. The fence of the last grant, 0 if there was none.
+    /// The lock is free, so there is nothing to release. The fence is that of the last grant, 0 if there was none.
     Free { fence: u64 },
-    /// The key has a value that is no lock's.
+    /// The key has a value that is not a lock's.
     NotALock,
-    /// The answer is of another kind than the operation's own.
+    /// The answer does not belong to this kind of operation.
     Odd,
-    /// The fence is the last number, and there is no next one.
+    /// The fence is 2^64 - 1, so there is no next one.
     Spent,
-    /// The key has changed since it was looked up.
+    /// The key has changed since it was read.
     Raced,
-    /// The client has asked under a greater number before: that number.
+    /// The client has already used a greater number, which is this.
     Stale { number: u64 },
-    /// There are as many keys or clients as there may be.
+    /// The store is full: no further key or client fits.
     NoRoom,
-    /// The replica took no command: the number of the refusal.
+    /// The replica refused the command with this code.
     Refused { code: u32 },
 }
 
@@ -52,7 +52,7 @@ fn push_told(out: &mut Bytes, told: Told) -> Result<(), NoMemory>
     }
 }
 
-/// Adds the line with its line feed. After an error `out` is as before.
+/// Appends the line of a result with its line feed. `NoMemory` if memory runs out; `out` is then unchanged.
 pub fn print_told(alloc: Global, told: Told, out: &mut Bytes) -> Result<(), NoMemory>
     ensures ok { OnOk result (out.new ≡ out.old ++ (told_text told ++ 10 ∷ [])) }
     ensures err { OnErr result (out.new ≡ out.old) }

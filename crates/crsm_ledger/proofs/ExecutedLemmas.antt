@@ -1,4 +1,4 @@
--- One entry more is executed.
+-- The history with one more executed entry.
 use Rattle.std.proofs.Common.{◌≡◌, ℕ, suc, zero, Bool, true, false, ◌<◌, List, [], ◌∷◌, ◌++◌, refl, ap, sym, ◌∙◌, arith, length, append_assoc, subst}
 use Rattle.std.specs.Prelude.{filter, slice_get, Option, None, Some, ◌==◌, ◌||◌, ◌&&◌, nat_lt, if◌then◌else◌}
 use Rattle.std.specs.List.{AllByRecursion}
@@ -100,7 +100,7 @@ fits_at [] i e all is = cc
 fits_at (f ∷ es) zero e all is = let same : f ≡ e = cc in subst FitsEntry same all.0
 fits_at (f ∷ es) (suc i) e all is = fits_at es i e all.1 is
 
--- the entry that is spelt so at a place
+-- the entry with this encoding at an index
 by_found : (o : Option Entry) (bytes : List ℕ) → Some bytes ≡ option_map entry_bytes o → (e : Entry) × (o ≡ Some e) × (bytes ≡ entry_bytes e)
 by_found None bytes is = cc
 by_found (Some e) bytes is = (e, refl, (cc))

@@ -1,4 +1,4 @@
--- What a record that fits makes of the fields, and its lines.
+-- The effect of a record that fits on the fields, and its lines.
 use Rattle.std.proofs.Common.{◌≡◌, ℕ, Bool, true, false, ◌<◌, ◌≤◌, ◌+◌, List, [], ◌∷◌, ◌++◌, refl, ap, sym, subst, arith, length}
 use Rattle.std.specs.Prelude.{◌==◌, ◌&&◌, nat_lt, nat_le, Option, None, Some, filter, if◌then◌else◌}
 use Rattle.std.specs.List.{AllByRecursion, list_all}

@@ -1,4 +1,4 @@
--- What stood in chunks stays where chunks grow.
+-- The bytes of ranges stay when chunks grow.
 use Rattle.std.proofs.Common.{◌≡◌, ℕ, suc, zero, ◌<◌, ◌≤◌, ◌+◌, List, [], ◌∷◌, ◌++◌, refl, ap, sym, ◌∙◌, arith, length, get_or, set, length-append, subst}
 use Rattle.std.specs.Prelude.{slice_range, slice_get, Some, None}
 use Rattle.std.specs.List.{AllByRecursion}

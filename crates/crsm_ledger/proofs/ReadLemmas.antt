@@ -1,4 +1,4 @@
--- What each field says of the log.
+-- The fact of the log in each field.
 use Rattle.std.proofs.Common.{◌≡◌, ℕ, ap}
 use Rattle.std.specs.Prelude.{unwrap_or}
 use Rattle.crsm_spec.specs.Lists.{numbers_below}

@@ -32,7 +32,7 @@ pub taken_more : (r : Result (Unit {0}) LedgerError) (P Q : Type 0) (A B : ℕ �
 taken_more (Ok u) P Q A B ok bad h = ok h
 taken_more (Err e) P Q A B ok bad h = bad_more e A B bad h
 
--- the records of which one does not fit
+-- records with one that does not fit
 pub misfit-at : (me n : ℕ) (log : Log) (recs : List Rec) (i : ℕ) (rec : Rec) (entry at why : ℕ) → take (i + 1) recs ≡ take i recs ++ rec ∷ [] → FitInTurn me n log (take i recs) → (at ≡ entry) × (fits me n (with_records log (take i recs)) rec ≡ false) × (why ≡ kind rec) → (at ≡ entry) × Misfit me n log recs why
 misfit-at me n log recs i rec entry at why more fit bad = (
   bad.0,
@@ -47,7 +47,7 @@ misfit-at me n log recs i rec entry at why more fit bad = (
   },
 )
 
--- the bodies of which one is bad
+-- bodies with one that is bad
 pub bad-at : (me n : ℕ) (bodies items : List (List ℕ)) (i : ℕ) (item body : List ℕ) (log : Log) (entry at why : ℕ) → items ≡ bodies → i < length items → take (i + 1) items ≡ take i items ++ item ∷ [] → body ≡ item → entry ≡ i → AreKept me n [] (take i items) log → (at ≡ entry) × IsBad me n log body why → IsBadAt me n bodies at why
 bad-at me n bodies items i item body log entry at why all within more same number kept bad =
     let place : at ≡ i = bad.0 ∙ number in

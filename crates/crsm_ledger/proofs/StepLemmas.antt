@@ -1,4 +1,4 @@
--- A record more: the fields that say what the longer log says.
+-- The fields after one more record: the facts of the longer log.
 use Rattle.std.proofs.Common.{◌≡◌, ℕ, Bool, true, false, ◌<◌, ◌≤◌, ◌+◌, List, [], ◌∷◌, ◌++◌, refl, ap, sym, ◌∙◌, subst, arith, length, zero-add, add_comm, cond}
 use Rattle.std.proofs.lemmas.List.Sums.{sum_by-cons}
 use Rattle.std.specs.Prelude.{◌==◌, ◌||◌, None, Some, find, if◌then◌else◌}

@@ -1,4 +1,4 @@
--- Records that are taken off the prefix of a body one by one.
+-- Records read one by one from the prefix of a body.
 use Rattle.std.proofs.Common.{◌≡◌, ℕ, false, List, [], ◌∷◌, ◌++◌, refl, ap, sym, ◌∙◌, subst, arith, append_assoc, Some, inr}
 use Rattle.std.specs.List.{flat_map, AllByRecursion}
 use Rattle.std.proofs.lemmas.Grind.{flat_map-append}
@@ -20,7 +20,7 @@ pub taken_fits : (body : List ℕ) (recs : List Rec) (rest : List ℕ) (rec : Re
 taken_fits body recs rest rec after ok h e =
     (rec_parses.takes rest rec after (IsBytes-back (flat_map rec_bytes recs) rest body h.is ok) (sym e)).0
 
--- the body of which a record was taken that does not fit
+-- a body with a record that was read and does not fit
 pub bad_behind : (me n : ℕ) (log : Log) (body : List ℕ) (recs : List Rec) (rest : List ℕ) (rec : Rec) (after : List ℕ) (all : List Rec) (entry at why : ℕ) → IsBytes body → HasRead rec_bytes FitsRec body recs rest → Some (rec, after) ≡ rec_at rest
     → SpeltBody all body → FitInTurn me n log recs → (at ≡ entry) × (fits me n (with_records log recs) rec ≡ false) × (why ≡ kind rec) → (at ≡ entry) × IsBad me n log body why
 unfolding body_bytes

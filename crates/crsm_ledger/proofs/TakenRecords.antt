@@ -1,4 +1,4 @@
--- Records whose bytes are at hand.
+-- Records whose encodings were read before.
 use Rattle.std.proofs.Common.{◌≡◌, ℕ, ◌<◌, ◌+◌, ◌-◌, ◌≤◌, List, [], ◌++◌, length, take, Option, None, Some, Result, Err, refl, sym, ap, ◌∙◌, subst, arith, length-append, append_assoc, drop}
 use Rattle.std.proofs.lemmas.List.{drop_at, take-append-le, take_all}
 use Rattle.std.specs.Prelude.{IfErr}
@@ -19,12 +19,12 @@ use Rattle.crsm_spec.specs.Types.{Ballot, Decision, Entry, Rec}
 use Rattle.crsm_ledger.specs.declared.error.LedgerError.{LedgerError}
 use Rattle.crsm_ledger.specs.Taken.{HasRead, IsAtHand, IsTail}
 
--- no bytes are at hand of whatever was accepted
+-- no accepted decision was read before
 pub none_at_hand : (a : Option (Ballot × Decision)) → IsAtHand [] a
 none_at_hand None = tt
 none_at_hand (Some a) = λ some. absurd (let no : 0 < length {A = ℕ} [] = some in omega (arith, no))
 
--- the bytes that spell what was accepted, with others behind them, are read as that
+-- the encoding of the accepted decision, followed by other bytes, is read as that decision
 pub again_at : (at_hand bytes rest : List ℕ) (b : Ballot) (d : Decision) (a : Option (Ballot × Decision)) → a ≡ Some (b, d) → IsAtHand at_hand a → (0 < length at_hand) × (bytes ≡ at_hand ++ rest) → FitsDecision d × (decision_at bytes ≡ Some (d, rest)) × (at_hand ≡ decision_bytes d)
 again_at at_hand bytes rest b d a is spelt starts =
     let known = subst (IsAtHand at_hand) is spelt starts.0 in
@@ -63,7 +63,7 @@ pub accept_is : (bytes mid text rest : List ℕ) (i : ℕ) (b : Ballot) (d : Dec
 unfolding accept_at
 accept_is bytes mid text rest i b d number ballot decision = rw (number, ballot, decision) refl
 
--- the record that was read has a spelling
+-- the record that was read has an encoding
 pub rec_fits : (bytes rest : List ℕ) (rec : Rec) → IsBytes bytes → rec_at bytes ≡ Some (rec, rest) → FitsRec rec
 rec_fits bytes rest rec ok is = (rec_parses.takes bytes rec rest ok is).0
 
@@ -75,11 +75,11 @@ read_so_far h = record { fit = h.fit; is = h.is }
 pub is_error : {T : Type 0} (r : Result T LedgerError) (e : LedgerError) (P : LedgerError → Type 0) → r ≡ Err e → P e → IfErr r P
 is_error {T = T} r e P is bad = subst (λ (a : Result T LedgerError). IfErr a P) (sym is) bad
 
--- no bytes are at hand of a tail
+-- no tail was read before
 pub none_of_tail : (d : Decision) → IsTail [] d
 none_of_tail d some = absurd (let no : 0 < length {A = ℕ} [] = some in omega (arith, no))
 
--- the bytes that spell the tail, with others behind them, are read as it
+-- the encoding of the tail, followed by other bytes, is read as that tail
 pub tail_at : (tail bytes rest : List ℕ) (d : Decision) → IsTail tail d → (0 < length tail) × (bytes ≡ tail ++ rest) → FitsEntries d.tail × (entries_at bytes ≡ Some (d.tail, rest))
 tail_at tail bytes rest d spelt starts =
     let known = spelt starts.0 in

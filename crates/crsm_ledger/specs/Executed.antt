@@ -1,4 +1,4 @@
--- What the fields of the history say of the executed entries.
+-- The relation of the history's fields to the executed entries.
 use Rattle.std.specs.Prelude.{◌≡◌, ℕ, Bool, true, false, ◌==◌, ◌||◌, ◌&&◌, nat_lt, List, [], ◌∷◌, map, filter, Option}
 use Rattle.std.specs.List.{AllByRecursion}
 use Rattle.std.specs.Option.{option_map, option_map_or}
@@ -27,7 +27,7 @@ pub record HistoryStands (h : History) (x : ℕ) (es : List Entry) : Type 0 wher
   pub last_stamp : h.last_stamp ≡ last_stamp_in x es
   pub fit : AllByRecursion FitsEntry es
 
--- whether entries stand behind a position, in order
+-- whether entries follow a position, in order
 unfoldable pub goes_on_behind : Option Position → List Entry → Bool
 goes_on_behind last [] = false
 goes_on_behind last (e ∷ es) =

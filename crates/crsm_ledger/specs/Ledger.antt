@@ -1,4 +1,4 @@
--- What a ledger's fields say: what its log says.
+-- The relation of a ledger's fields to the log that it stands for.
 use Rattle.std.specs.Prelude.{◌≡◌, ℕ, ◌<◌, ◌≤◌, Bool, true, false, List, [], ◌∷◌, Option, Result, IfOk}
 use Rattle.std.specs.List.{AllByRecursion}
 use Rattle.crsm_base.specs.declared.NoMemory.{NoMemory}
@@ -18,7 +18,7 @@ pub record NoneAbove (log : Log) : Type 0 where
   pub entered : (x : ℕ) → known log < x → has_entered x log ≡ false
   pub executed : AllByRecursion (λ e. e.epoch ≤ known log) (executed log)
 
--- what a log says that a ledger keeps as fields
+-- the facts of a log that a ledger keeps as fields
 pub record Facts : Type 0 where
   pub me : ℕ
   pub n : ℕ
@@ -33,7 +33,7 @@ pub record Facts : Type 0 where
   pub accepted : Option (Ballot × Decision)
   pub logged : List Entry
 
--- what the fields of a ledger say
+-- the facts in the fields of a ledger
 abbrev pub fields_of : Ledger → Facts
 fields_of l = record {
   me = l.me;
@@ -50,7 +50,7 @@ fields_of l = record {
   logged = l.logged;
 }
 
--- what the log of replica me says, in a cluster that began with n
+-- the facts of the log of replica me, in a cluster that began with n
 unfoldable pub facts_of : ℕ → ℕ → Log → Facts
 facts_of me n log = record {
   me = me;
@@ -74,14 +74,15 @@ pub record FieldsStand (me n : ℕ) (ledger : Ledger) (log : Log) : Type 0 where
   pub executed : HistoryStands ledger.history (known log) (executed log)
   pub none_above : NoneAbove log
 
--- Where the old ledger says what a log says behind which the record fits, the lines are the record's, and the new ledger
--- says what the log with the record says; or memory ran out.
+-- If the old ledger's fields are the facts of a log after which the record fits, the lines are the record's, and the
+-- new ledger's fields are the facts of the log with the record; or memory ran out.
 abbrev pub Keeps : Ledger → Rec → Result (List Line) NoMemory → Ledger → Type 0
 Keeps old rec result new =
     (me n : ℕ) (log : Log) → FieldsStand me n old log → fits me n log rec ≡ true →
     IfOk result (λ lines. (lines ≡ lines_of me log rec) × FieldsStand me n new (rec ∷ log))
 
--- Where the old ledger says what a log says behind which the record fits, the new one says what the log with the record says.
+-- If the old ledger's fields are the facts of a log after which the record fits, the new one's fields are the facts of
+-- the log with the record.
 abbrev pub Follows : Ledger → Rec → Ledger → Type 0
 Follows old rec new =
     (me n : ℕ) (log : Log) → FieldsStand me n old log → fits me n log rec ≡ true → FieldsStand me n new (rec ∷ log)

@@ -16,7 +16,7 @@ pub record IsWithin (chunks : List (List ℕ)) (p : SpellingRange) : Type 0 wher
   pub order : p.start ≤ p.end
   pub end : p.end ≤ length (slice_index_or chunks p.chunk [])
 
--- what stood at a place of the old chunks stands there in the new ones
+-- the bytes of each range of the old chunks are the same in the new ones
 pub record Keeps (old new : List (List ℕ)) : Type 0 where
   pub within : (p : SpellingRange) → IsWithin old p → IsWithin new p
   pub same : (p : SpellingRange) → IsWithin old p → piece new p ≡ piece old p

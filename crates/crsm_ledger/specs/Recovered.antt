@@ -1,4 +1,4 @@
--- The log that bodies hold, and what is bad about bodies that hold none.
+-- The log in bodies, and the first fault of bodies that are not a log.
 use Rattle.std.specs.Prelude.{◌≡◌, ℕ, true, false, List, [], ◌∷◌, ◌++◌, take, slice_get, Some, ◌⊎◌, Result, MatchResult}
 use Rattle.crsm_base.specs.Records.{SpeltBody}
 use Rattle.crsm_spec.specs.Types.{Rec}
@@ -30,7 +30,8 @@ pub record Misfit (me n : ℕ) (log : Log) (recs : List Rec) (why : ℕ) : Type 
   pub misfit : fits me n (with_records log before) rec ≡ false
   pub why_is : why ≡ kind rec
 
--- why a body cannot follow this log: it is no list of records (0), or the first record that does not fit is of this kind
+-- the reason why a body cannot follow this log: it is not a list of records (0), or the first record that does not fit
+-- is of this kind
 abbrev pub IsBad : ℕ → ℕ → Log → List ℕ → ℕ → Type 0
 IsBad me n log body why =
     ((why ≡ 0) × ((recs : List Rec) → SpeltBody recs body → ⊥)) ⊎ ((recs : List Rec) × SpeltBody recs body × Misfit me n log recs why)

@@ -14,7 +14,7 @@ abbrev pub IsSortedByStamp : List Entry → Type 0
 IsSortedByStamp [] = Unit {0}
 IsSortedByStamp (e ∷ es) = AllByRecursion (IsNotBelow e) es × IsSortedByStamp es
 
--- entries with a spelling, by ascending stamp
+-- entries with encodings, by ascending stamp
 pub record IsLogged (es : List Entry) : Type 0 where
   pub sorted : IsSortedByStamp es
   pub fit : AllByRecursion FitsEntry es

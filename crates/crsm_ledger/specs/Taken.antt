@@ -16,7 +16,7 @@ use Rattle.crsm_ledger.specs.Recovered.{FitInTurn, IfBadLog, IsBad, with_records
 abbrev pub KeepsRecord : Rec → Ledger → Ledger → Type 0
 KeepsRecord rec old new = (me n : ℕ) (log : Log) → LedgerStands me n old log → (fits me n log rec ≡ true) × LedgerStands me n new (rec ∷ log)
 
--- what was read is a record, with these bytes behind it, that is kept, and nothing is accepted or decided
+-- the record that was read, followed by these bytes, is applied, and nothing is accepted or decided
 pub record IsTaken (read : Option (Rec × List ℕ)) (rest : List ℕ) (old new : Ledger) : Type 0 where
   pub rec : Rec
   pub is : read ≡ Some (rec, rest)
@@ -33,8 +33,8 @@ IsAtHand bytes (Some a) = 0 < length bytes → FitsDecision a.1 × (bytes ≡ de
 abbrev pub IsTail : List ℕ → Decision → Type 0
 IsTail bytes d = 0 < length bytes → FitsEntries d.tail × (bytes ≡ entries_bytes d.tail)
 
--- what was read is a record, with these bytes behind it, that is kept, and the bytes at hand are those of what is
--- accepted and known then
+-- the record that was read, followed by these bytes, is applied, and `at_hand` and `tail` are the encodings of the
+-- decision accepted last and of the known tail
 pub record IsNext (read : Option (Rec × List ℕ)) (at_hand tail rest : List ℕ) (old new : Ledger) : Type 0 where
   pub rec : Rec
   pub is : read ≡ Some (rec, rest)

@@ -1,4 +1,5 @@
-//! Which record may come next. A check reads all that its kind of record depends on, and joins it by `&`.
+//! The tests of whether a record may come next. Each reads all fields that its kind of record depends on, and joins
+//! them by `&`.
 
 ghost use Rattle.std.specs.Prelude.{◌≡◌, ◌==◌, ◌+◌, ◌≤◌, ℕ, true, false, List, [], ◌∷◌, nat_lt, nat_le, ◌||◌, ◌&&◌, unwrap_or};
 ghost use Rattle.std.specs.List.{list_all};
@@ -18,7 +19,7 @@ use crsm_base::{
 };
 
 impl Ledger {
-    /// Whether the record may come next: the test of `apply`.
+    /// Returns whether the record may come next, so that `apply` accepts it.
     pub fn fits(&self, rec: &Rec) -> bool
         ensures { WhereFieldsStand self.now (λ me n log. result ≡ fits me n log rec.now) }
     {
@@ -114,7 +115,7 @@ impl Ledger {
     }
 }
 
-/// Whether the first entry has this stamp.
+/// Returns whether the first entry has this stamp.
 #[tactic(auto, unfolding(crsm_spec::specs::Lists::first_of))]
 fn begins_with(entries: &[Entry], stamp: Stamp) -> bool
     ensures { result ≡ option_map_or (λ e. stamp_eq e.stamp stamp) (first_of entries.now) false }
@@ -125,14 +126,14 @@ fn begins_with(entries: &[Entry], stamp: Stamp) -> bool
     }
 }
 
-/// Whether no entry is of a later epoch.
+/// Returns whether no entry is of a later epoch.
 fn all_up_to(entries: &[Entry], epoch: u64) -> bool
     ensures { result ≡ list_all (λ e. nat_le e.epoch epoch) entries.now }
 {
     entries.iter().all(|entry| entry.epoch <= epoch)
 }
 
-/// Whether there are entries, and the first stands behind the position.
+/// Returns whether the list is not empty and its first entry is after `last`.
 #[tactic(auto, unfolding(crate::specs::Executed::goes_on_behind))]
 fn stand_behind(last: Option<Position>, entries: &[Entry]) -> bool
     ensures { result ≡ goes_on_behind last entries.now }
@@ -144,7 +145,7 @@ fn stand_behind(last: Option<Position>, entries: &[Entry]) -> bool
     }
 }
 
-/// Whether the entry stands behind the position, or there is none.
+/// Returns whether the entry is after `last` in the global order, or there is no `last`.
 #[tactic(auto, unfolding(crate::specs::Executed::goes_on_behind))]
 pub fn stands_behind(last: Option<Position>, entry: &Entry) -> bool
     ensures { result ≡ goes_on_behind last (entry.now ∷ []) }
@@ -162,14 +163,14 @@ fn is_behind(last: Position, entry: &Entry) -> bool
     last.epoch < entry.epoch || (last.epoch == entry.epoch && is_later)
 }
 
-/// Whether the number is that of the epoch after this one.
+/// Returns whether `number` is the epoch after `epoch`.
 fn is_after(number: u64, epoch: u64) -> bool
     ensures { result ≡ (number == epoch + 1) }
 {
     0 < number && number - 1 == epoch
 }
 
-/// Whether the ballot is above that of what was accepted, if any was.
+/// Returns whether the ballot is above the accepted one, if any.
 fn is_above(ballot: Ballot, accepted: &Option<(Ballot, Decision)>) -> bool
     ensures { result ≡ option_map_or (λ a. ballot_lt a.0 ballot) accepted.now true }
 {
@@ -179,7 +180,7 @@ fn is_above(ballot: Ballot, accepted: &Option<(Ballot, Decision)>) -> bool
     }
 }
 
-/// Whether the decision's members may be those of its epoch, in a cluster that began with `n` replicas.
+/// Returns whether the decision's members are valid for its epoch, in a cluster that began with `n` replicas.
 fn has_members(n: u32, decision: &Decision) -> bool
     ensures { n ≤ 15 → result ≡ can_be_members (unwrap_or decision.now.spec (numbers_below n)) decision.now.members }
 {

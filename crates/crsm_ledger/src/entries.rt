@@ -1,4 +1,4 @@
-//! What a record changes, and its lines: the records that name entries.
+//! The effect and the lines of the records that contain entries.
 
 ghost use Rattle.std.specs.Prelude.{◌≡◌, ℕ, ◌∷◌, [], List};
 ghost use Rattle.crsm_base.specs.declared.Rec.{Rec};
@@ -67,7 +67,7 @@ impl Ledger {
     }
 }
 
-/// The line of an entry that is logged at replica `me`.
+/// Returns the line of an entry that replica `me` logs.
 #[tactic(auto, unfolding(crsm_spec::specs::Lines::lines_of))]
 fn prepare_line(me: u32, entry: &Entry) -> Line
     ensures { (log : List Rec) → result ∷ [] ≡ lines_of me log (Rec.Prepare entry.now) }

@@ -1,15 +1,16 @@
-//! Why a record is not applied, or a log not recovered.
+//! The errors of applying a record and of recovering a log.
 
 use crsm_base::NoMemory;
 use thiserror::Error;
 
-/// Why a record is not applied, or a log is not recovered.
+/// The reason why a record is not applied or a log is not recovered.
 #[derive(Debug, Drop, Error)]
 pub enum LedgerError {
-    /// The record of this kind may not come next.
+    /// A record of this kind may not come next. The kind is the first byte of its encoding.
     #[error("a record of kind {why} does not fit")]
     NotFit { why: u32 },
-    /// The body of this number is no list of records (0), or its record of this kind does not fit.
+    /// The log body with this number, from 0, is not a list of records (`why` 0), or its first record that does not fit
+    /// is of kind `why`.
     #[error("body {entry} of the log is bad ({why})")]
     BadLog { entry: u64, why: u32 },
     /// Memory ran out.

@@ -1,4 +1,4 @@
-//! What a record changes, where its lines are made elsewhere or nobody asks for them.
+//! The effect of records whose lines are not wanted.
 
 ghost use Rattle.std.specs.Prelude.{◌≡◌, ℕ, None, OnOk, Option, Some};
 ghost use Rattle.crsm_spec.specs.Types.{Ballot as BallotOnPaper, Decision as DecisionOnPaper};
@@ -12,7 +12,7 @@ use crate::ledger::{Ledger, NO_BALLOT};
 use crsm_base::{Ballot, Decision, Entries, Entry, NoMemory, Rec};
 
 impl Ledger {
-    /// Keeps a record that may come next, by value. After an error the fields say nothing.
+    /// Applies a record that may come next, by value. `NoMemory` if memory runs out; the fields are then unspecified.
     pub(crate) fn follow(&mut self, rec: Rec) -> Result<(), NoMemory>
         requires { FitsRec rec }
         ensures kept { OnOk result (Follows self.old rec self.new) }

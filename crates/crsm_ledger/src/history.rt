@@ -1,4 +1,4 @@
-//! What is executed: the entries as bytes, the store after them, and the last one.
+//! The executed entries as bytes, the store that they lead to, and the last one.
 
 ghost use Rattle.std.specs.Prelude.{◌≡◌, ◌<◌, ℕ, [], ◌∷◌, ◌++◌, List, length, slice_get, Some, IfOk, OnOk};
 ghost use Rattle.std.specs.List.{AllByRecursion};
@@ -16,23 +16,23 @@ use crsm_kv::Store;
 use crsm_text_fields::put_entry;
 use std::alloc::Global;
 
-/// Where an entry stands in the global order.
+/// The position of an entry in the global order.
 #[derive(Clone, Copy)]
 pub struct Position {
     pub epoch: u64,
     pub stamp: Stamp,
 }
 
-/// The executed entries, and what they made of the store.
+/// The executed entries, and the store that they lead to.
 #[derive(Drop)]
 pub struct History {
     alloc: Global,
     spelt: Spelt,
-    // Where an entry is spelt before it is kept.
+    // A buffer in which an entry is encoded before it is recorded.
     spelling: Bytes,
     store: Store,
     last: Option<Position>,
-    /// The known epoch.
+    /// The number of the known epoch.
     epoch: u64,
     /// The stamp of the last executed entry of the known epoch.
     last_stamp: Option<Stamp>,
@@ -40,7 +40,7 @@ pub struct History {
 
 #[tactic(auto, using(crate::proofs::ExecutedLemmas::executed_rules))]
 impl History {
-    /// Nothing is executed.
+    /// Returns the history before any entry was executed. `NoMemory` if memory runs out.
     #[tactic(auto, unfolding(crsm_base::specs::Store::after, crate::specs::Executed::position_of, crate::specs::Executed::last_stamp_in, crsm_spec::specs::Lists::last_of))]
     pub fn new(alloc: Global) -> Result<History, NoMemory>
         ensures { IfOk result (λ history. HistoryStands history 0 []) }
@@ -56,28 +56,28 @@ impl History {
         })
     }
 
-    /// How many entries are executed.
+    /// Returns the number of executed entries.
     pub fn len(&self) -> u64
         ensures { (x : ℕ) (es : List Entry) → HistoryStands self.now x es → result ≡ length es }
     {
         self.spelt.len() as u64
     }
 
-    /// Where the last executed entry stands in the global order.
+    /// Returns the position of the last executed entry in the global order, or `None` if there is none.
     pub fn last(&self) -> Option<Position>
         ensures { (x : ℕ) (es : List Entry) → HistoryStands self.now x es → result ≡ position_of es }
     {
         self.last
     }
 
-    /// The stamp of the last executed entry of the known epoch.
+    /// Returns the stamp of the last executed entry of the known epoch, or `None` if there is none.
     pub fn last_stamp(&self) -> Option<Stamp>
         ensures { (x : ℕ) (es : List Entry) → HistoryStands self.now x es → result ≡ last_stamp_in x es }
     {
         self.last_stamp
     }
 
-    /// A further epoch is known, of which nothing is executed.
+    /// Begins the next epoch, in which no entry is executed yet.
     pub fn begin_epoch(&mut self, epoch: u64)
         ensures { (x : ℕ) (es : List Entry) → HistoryStands self.old x es → AllByRecursion (λ e. e.epoch < epoch) es → HistoryStands self.new epoch es }
     {
@@ -85,14 +85,14 @@ impl History {
         self.last_stamp = None;
     }
 
-    /// The bytes of the entry at this place.
+    /// Returns the encoding of the executed entry with this index, or `None` if there are not that many.
     pub fn spelt(&self, place: u64) -> Option<&[u8]>
         ensures { (x : ℕ) (es : List Entry) → HistoryStands self.now x es → option_copied result ≡ option_map entry_bytes (slice_get es place) }
     {
         self.spelt.get(place as usize)
     }
 
-    /// The entry at this place.
+    /// Returns the executed entry with this index, or `None` if there are not that many. `NoMemory` if memory runs out.
     pub fn entry(&self, place: u64) -> Result<Option<Entry>, NoMemory>
         ensures { (x : ℕ) (es : List Entry) → HistoryStands self.now x es → IfOk result (λ r. r ≡ slice_get es place) }
     {
@@ -102,7 +102,7 @@ impl History {
         }
     }
 
-    /// Executes an entry, and adds its line.
+    /// Executes an entry and appends its line. `NoMemory` if memory runs out.
     pub fn execute(&mut self, me: u32, entry: &Entry, lines: &mut Lines) -> Result<(), NoMemory>
         requires { FitsEntry entry.now }
         ensures { (x : ℕ) (es : List Entry) → HistoryStands self.old x es → OnOk result (HistoryStands self.new x (es ++ entry.now ∷ []) × (lines.new ≡ lines.old ++ exec_line me es entry.now ∷ [])) }
@@ -120,7 +120,7 @@ impl History {
         })
     }
 
-    /// Executes an entry, and gives the store's answer.
+    /// Executes an entry and returns the store's answer. `NoMemory` if memory runs out.
     pub fn run(&mut self, entry: &Entry) -> Result<Answer, NoMemory>
         requires { FitsEntry entry.now }
         ensures executed { (x : ℕ) (es : List Entry) → HistoryStands self.old x es → OnOk result (HistoryStands self.new x (es ++ entry.now ∷ [])) }
@@ -140,7 +140,7 @@ impl History {
         Ok(answer)
     }
 
-    /// Executes entries whose lines nobody asks for.
+    /// Executes entries without writing their lines. `NoMemory` if memory runs out.
     pub fn run_all(&mut self, entries: &[Entry]) -> Result<(), NoMemory>
         requires { AllByRecursion FitsEntry entries.now }
         ensures { (x : ℕ) (es : List Entry) → HistoryStands self.old x es → OnOk result (HistoryStands self.new x (es ++ entries.now)) }
@@ -151,7 +151,7 @@ impl History {
         Ok(())
     }
 
-    /// Executes entries, and adds their lines.
+    /// Executes entries and appends their lines. `NoMemory` if memory runs out.
     pub fn execute_all(
         &mut self,
         me: u32,
@@ -168,7 +168,7 @@ impl History {
     }
 }
 
-/// The entry that these bytes spell.
+/// Decodes an entry. `None` if the bytes are not the encoding of one; `NoMemory` if memory runs out.
 fn read_back(alloc: Global, bytes: &[u8]) -> Result<Option<Entry>, NoMemory>
     ensures { (e : Entry) → FitsEntry e → bytes.now ≡ entry_bytes e → IfOk result (λ r. r ≡ Some e) }
 {

@@ -1,4 +1,4 @@
-//! The ledger of one replica.
+//! The ledger of one replica: its fields, its readers, and how a record changes it.
 
 ghost use Rattle.std.specs.Prelude.{◌≡◌, ℕ, ◌≤◌, ◌<◌, true, false, List, [], ◌∷◌, length, slice_get, IfOk};
 ghost use Rattle.std.specs.Option.{option_map, option_copied};
@@ -20,7 +20,8 @@ use crsm_base::{
 };
 use std::alloc::Global;
 
-/// What the records of a replica's log say. Once memory ran out it is spent, and says nothing.
+/// The state that the records of a replica's log lead to. After `NoMemory` the ledger is spent, and its fields are
+/// unspecified.
 #[derive(Drop)]
 pub struct Ledger {
     pub(crate) alloc: Global,
@@ -34,7 +35,7 @@ pub struct Ledger {
     pub(crate) start: u64,
     pub(crate) is_live: bool,
     pub(crate) is_suspended: bool,
-    /// Some boot has entered the known epoch.
+    /// Whether a boot of this replica has entered the known epoch.
     pub(crate) has_entered: bool,
     pub(crate) promised: Ballot,
     pub(crate) accepted: Option<(Ballot, Decision)>,
@@ -43,10 +44,10 @@ pub struct Ledger {
     pub(crate) history: History,
 }
 
-/// No ballot is promised.
+/// The promise before any ballot was promised.
 pub(crate) const NO_BALLOT: Ballot = Ballot { round: 0, by: 0 };
 
-/// These numbers as members; out of memory also where they are none.
+/// Returns these numbers as members. `NoMemory` if memory runs out, or if they are not valid members.
 fn members_of(alloc: Global, numbers: &[u32]) -> Result<Members, NoMemory>
     ensures { IfOk result (λ members. members ≡ numbers.now) }
 {
@@ -56,7 +57,8 @@ fn members_of(alloc: Global, numbers: &[u32]) -> Result<Members, NoMemory>
 impl Ledger {
     ghost use Rattle.crsm_ledger.specs.Ledger.{LedgerStands, IsSpent, known_decision};
 
-    /// The ledger of an empty log, of replica `me` in a cluster that began with `n` replicas.
+    /// Returns the ledger of an empty log, of replica `me` in a cluster that began with `n` replicas. `NoMemory` if
+    /// memory runs out.
     pub fn new(alloc: Global, me: u32, n: u32) -> Result<Ledger, NoMemory>
         requires me_below { me < 15 }
         requires some { 1 ≤ n }
@@ -92,70 +94,71 @@ impl Ledger {
         })
     }
 
-    /// How many boots are on record.
+    /// Returns the number of boots on record.
     pub fn boot(&self) -> u64
         ensures { WhereStands self.now (λ me n log. result ≡ boots log) }
     {
         self.boots
     }
 
-    /// The decision of the known epoch. Epoch 0 has all replicas that began the cluster, no base and no tail.
+    /// Returns the decision of the known epoch. Epoch 0 has all replicas that began the cluster, no base and no tail.
     pub fn known(&self) -> &Decision
         ensures { WhereStands self.now (λ me n log. result.now ≡ known_decision n log) }
     {
         &self.known
     }
 
-    /// How many entries are executed where the known epoch begins.
+    /// Returns the number of entries that were executed when the known epoch began.
     pub fn start(&self) -> u64
         ensures { WhereStands self.now (λ me n log. result ≡ start log) }
     {
         self.start
     }
 
-    /// Whether this boot has entered the known epoch.
+    /// Returns whether this boot has entered the known epoch.
     pub fn live(&self) -> bool
         ensures { WhereStands self.now (λ me n log. result ≡ live log) }
     {
         self.is_live
     }
 
-    /// Whether the replica takes no more part in the known epoch.
+    /// Returns whether the replica is suspended: it takes no further part in the known epoch.
     pub fn suspended(&self) -> bool
         ensures { WhereStands self.now (λ me n log. result ≡ suspended log) }
     {
         self.is_suspended
     }
 
-    /// How many entries are executed.
+    /// Returns the number of executed entries.
     pub fn executed_len(&self) -> u64
         ensures { WhereStands self.now (λ me n log. result ≡ length (executed log)) }
     {
         self.history.len()
     }
 
-    /// The executed entry at this place: `None` exactly where the place is not below `executed_len`.
+    /// Returns the executed entry with this index, or `None` if the index is not below `executed_len`. `NoMemory` if
+    /// memory runs out.
     pub fn executed(&self, place: u64) -> Result<Option<Entry>, NoMemory>
         ensures { WhereStands self.now (λ me n log. IfOk result (λ r. r ≡ slice_get (executed log) place)) }
     {
         self.history.entry(place)
     }
 
-    /// Whether the entry stands behind all that are executed, and so is not one of them.
+    /// Returns whether the entry is after all executed ones, and so is not one of them.
     pub fn is_ahead(&self, entry: &Entry) -> bool
         ensures { WhereStands self.now (λ me n log. result ≡ goes_on (executed log) (entry.now ∷ [])) }
     {
         stands_behind(self.history.last(), entry)
     }
 
-    /// The bytes of the executed entry at this place: `None` exactly where the place is not below `executed_len`.
+    /// Returns the encoding of the executed entry with this index, or `None` if the index is not below `executed_len`.
     pub fn spelt(&self, place: u64) -> Option<&[u8]>
         ensures { WhereStands self.now (λ me n log. option_copied result ≡ option_map entry_bytes (slice_get (executed log) place)) }
     {
         self.history.spelt(place)
     }
 
-    /// The logged entries of the known epoch, by ascending stamp.
+    /// Returns the logged entries of the known epoch by ascending stamp.
     pub fn logged(&self) -> &[Entry]
         ensures value { WhereStands self.now (λ me n log. result.now ≡ logged log) }
         ensures fit { AllByRecursion FitsEntry result.now }
@@ -163,7 +166,7 @@ impl Ledger {
         self.logged.as_slice()
     }
 
-    /// The logged entries of the known epoch that are not executed, by ascending stamp.
+    /// Returns the logged entries of the known epoch that are not executed, by ascending stamp.
     #[tactic(auto, unfolding(crsm_spec::specs::Log::unexecuted))]
     pub fn unexecuted(&self) -> &[Entry]
         ensures value { WhereStands self.now (λ me n log. result.now ≡ unexecuted log) }
@@ -172,21 +175,21 @@ impl Ledger {
         self.logged.above(self.history.last_stamp())
     }
 
-    /// The stamp of the last executed entry of the known epoch.
+    /// Returns the stamp of the last executed entry of the known epoch, or `None` if there is none.
     pub fn last_stamp(&self) -> Option<Stamp>
         ensures { WhereStands self.now (λ me n log. result ≡ last_stamp log) }
     {
         self.history.last_stamp()
     }
 
-    /// The ballot that is promised on the next decision; round 0 of replica 0 where none is.
+    /// Returns the ballot that is promised for the next decision, or round 0 of replica 0 if none is.
     pub fn promised(&self) -> Ballot
         ensures { WhereStands self.now (λ me n log. result ≡ promised log) }
     {
         self.promised
     }
 
-    /// The next decision that was accepted last, with its ballot.
+    /// Returns the decision of the next epoch that was accepted last, with its ballot, or `None` if none was.
     pub fn accepted(&self) -> Option<(&Ballot, &Decision)>
         ensures { WhereStands self.now (λ me n log. option_map (λ p. (p.0.now, p.1.now)) result ≡ accepted log) }
     {
@@ -196,7 +199,7 @@ impl Ledger {
         }
     }
 
-    /// The replicas whose majorities count in the known epoch.
+    /// Returns the replicas whose majorities count in the known epoch.
     pub fn counted(&self) -> &Members
         ensures { WhereStands self.now (λ me n log. result.now ≡ spec n log) }
     {
@@ -206,7 +209,7 @@ impl Ledger {
         }
     }
 
-    /// A copy of the replicas whose majorities count in the known epoch.
+    /// Returns a copy of the replicas whose majorities count in the known epoch. `NoMemory` if memory runs out.
     pub fn spec(&self) -> Result<Members, NoMemory>
         ensures { WhereStands self.now (λ me n log. IfOk result (λ members. members ≡ spec n log)) }
     {
@@ -214,8 +217,8 @@ impl Ledger {
         Ok(members)
     }
 
-    /// Keeps a record and gives its lines. It is `NotFit` exactly if the record may not come next, with its kind,
-    /// and changes nothing. After `NoMemory` the ledger is spent.
+    /// Applies a record and returns its lines. `NotFit`, with the record's kind, if the record may not come next;
+    /// nothing has changed then. `NoMemory` if memory runs out; the ledger is then spent.
     pub fn apply(&mut self, rec: &Rec) -> Result<Lines, LedgerError>
         requires { FitsRec rec.now }
         ensures kept { WhereStands self.old (λ me n log. IfOk result (λ lines. (fits me n log rec.now ≡ true) × (lines ≡ lines_of me log rec.now) × LedgerStands me n self.new (rec.now ∷ log))) }
@@ -231,7 +234,7 @@ impl Ledger {
         if !self.fits(rec) {
             return Err(LedgerError::NotFit { why: kind_of(rec) });
         }
-        // Whoever sees the error below must not read half a record.
+        // A caller that sees the error below must not read the effect of half a record.
         self.is_spent = true;
         let lines = self.keep(rec)?;
         self.is_spent = false;
@@ -239,7 +242,7 @@ impl Ledger {
     }
 }
 
-/// The record's kind, its first byte.
+/// Returns the record's kind, the first byte of its encoding.
 #[tactic(auto, unfolding(crate::specs::Ledger::kind))]
 pub(crate) fn kind_of(rec: &Rec) -> u32
     ensures { result ≡ kind rec.now }

@@ -1,4 +1,4 @@
-//! What the records of a log say: the known epoch, its entries, what is executed and what was promised.
+//! The state that the records of a log lead to: the known epoch, its entries, the executed entries and the promises.
 #![tactic(auto)]
 
 mod checks;

@@ -1,4 +1,4 @@
-//! The entries of one epoch that were logged, by ascending stamp.
+//! The logged entries of one epoch by ascending stamp.
 
 ghost use Rattle.std.specs.Prelude.{◌≡◌, ◌<◌, ◌≤◌, ◌==◌, nat_lt, true, false, [], insert, length, get_or, not, IfSome, OnOk, OnErr};
 ghost use Rattle.std.specs.List.{list_any, AllByRecursion};
@@ -16,7 +16,7 @@ use crsm_base::{Entry, NoMemory, Stamp, stamp_precedes};
 use std::alloc::Global;
 use std::marker::Model;
 
-/// Entries by ascending stamp.
+/// A list of entries by ascending stamp.
 #[derive(Drop)]
 pub struct Logged {
     items: Vec<Entry>,
@@ -35,7 +35,7 @@ impl Model for Logged {
 }
 
 impl Logged {
-    /// No entries.
+    /// Returns the empty list.
     pub fn new(alloc: Global) -> Logged
         ensures { result ≡ [] }
     {
@@ -44,7 +44,7 @@ impl Logged {
         }
     }
 
-    /// The entries, by ascending stamp.
+    /// Returns the entries by ascending stamp.
     pub fn as_slice(&self) -> &[Entry]
         ensures value { result.now ≡ self.now }
         ensures fit { AllByRecursion FitsEntry result.now }
@@ -53,7 +53,7 @@ impl Logged {
     }
 
     #[tactic(auto, using(crate::proofs::LoggedLemmas::logged_rules))]
-    /// Adds an entry at its place. After an error the entries are as before.
+    /// Inserts an entry by its stamp. `NoMemory` if memory runs out; the entries are then unchanged.
     pub fn insert(&mut self, entry: Entry) -> Result<(), NoMemory>
         requires { FitsEntry entry }
         ensures ok { OnOk result (self.new ≡ with_entry entry self.old) }
@@ -64,14 +64,14 @@ impl Logged {
         Ok(())
     }
 
-    /// Lets all entries go, and keeps their room.
+    /// Removes all entries, and keeps the memory for further ones.
     pub fn clear(&mut self)
         ensures { self.new ≡ [] }
     {
         self.items.clear();
     }
 
-    /// The entries above a stamp, all of them where there is none.
+    /// Returns the entries above a stamp, or all of them at `None`.
     pub fn above(&self, stamp: Option<Stamp>) -> &[Entry]
         ensures value { result.now ≡ above stamp self.now }
         ensures fit { AllByRecursion FitsEntry result.now }
@@ -79,7 +79,7 @@ impl Logged {
         entries_above(self.items.as_slice(), stamp)
     }
 
-    /// The first entry above a stamp.
+    /// Returns the first entry above a stamp (at `None` the first of all), or `None` if there is none.
     pub fn first_above(&self, stamp: Option<Stamp>) -> Option<&Entry>
         ensures value { option_copied result ≡ first_of (above stamp self.now) }
         ensures fit { IfSome result (λ e. FitsEntry e.now) }
@@ -87,7 +87,7 @@ impl Logged {
         first(entries_above(self.items.as_slice(), stamp))
     }
 
-    /// Whether each entry of the same origin has a smaller time.
+    /// Returns whether each entry of the same origin has a smaller time.
     pub fn is_newest(&self, entry: &Entry) -> bool
         ensures { result ≡ is_newest entry.now self.now }
     {
@@ -95,7 +95,7 @@ impl Logged {
     }
 }
 
-/// Puts an entry at a place, which is mostly the end. After an error the entries are as before.
+/// Inserts an entry at an index, which is nearly always the end. `NoMemory` changes nothing.
 #[tactic(auto, using(std::proofs::lemmas::List::Edits::insert_end))]
 fn put_at(items: &mut Vec<Entry>, place: usize, entry: Entry) -> Result<(), NoMemory>
     requires { place ≤ length items.old.items }
@@ -122,8 +122,8 @@ fn first(entries: &[Entry]) -> Option<&Entry>
     }
 }
 
-/// How many entries have no greater stamp. Mostly all but a few at the end: so the place is sought from there, at first
-/// by doubled steps, then by halves.
+/// Returns the number of entries with no greater stamp. These are nearly always all but a few at the end: so the search
+/// starts there, in doubled steps and then in halves.
 fn count_up_to(entries: &[Entry], stamp: Stamp) -> usize
     requires { IsLogged entries.now }
     ensures bound { result ≤ length entries.now }
@@ -144,7 +144,7 @@ fn count_up_to(entries: &[Entry], stamp: Stamp) -> usize
     low
 }
 
-/// A place below `high`: so many places before the last one below it, or halfway down to `low` where that is nearer.
+/// Returns an index below `high`: `back` before the last one, or halfway down to `low` if that is nearer.
 fn middle_of(low: usize, high: usize, back: usize) -> usize
     requires { low < high }
     ensures above { low ≤ result }
@@ -153,7 +153,7 @@ fn middle_of(low: usize, high: usize, back: usize) -> usize
     high - 1 - back.min((high - low) / 2)
 }
 
-/// Whether the entry at this place has a greater stamp.
+/// Returns whether the entry at this index has a greater stamp.
 fn is_above_at(entries: &[Entry], place: usize, stamp: Stamp) -> bool
     requires { place < length entries.now }
     ensures { (d : Entry) → result ≡ stamp_lt stamp (get_or entries.now place d).stamp }
@@ -173,7 +173,7 @@ fn entries_above(entries: &[Entry], stamp: Option<Stamp>) -> &[Entry]
     }
 }
 
-/// How many entries have a smaller time.
+/// Returns the number of entries with a smaller time.
 fn count_before(entries: &[Entry], time: u64) -> usize
     requires { IsLogged entries.now }
     ensures bound { result ≤ length entries.now }
@@ -181,13 +181,13 @@ fn count_before(entries: &[Entry], time: u64) -> usize
 {
     let count = entries.len();
     if count > 0 && is_before_at(entries, count - 1, time) {
-        // Mostly all have.
+        // Nearly always all have.
         return count;
     }
     entries.partition_point(|entry| entry.stamp.time < time)
 }
 
-/// Whether the entry at this place has a smaller time.
+/// Returns whether the entry at this index has a smaller time.
 fn is_before_at(entries: &[Entry], place: usize, time: u64) -> bool
     requires { place < length entries.now }
     ensures { (d : Entry) → result ≡ nat_lt (get_or entries.now place d).stamp.time time }

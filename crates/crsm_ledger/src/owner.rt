@@ -1,4 +1,4 @@
-//! Whose ledger it is.
+//! The replica that the ledger belongs to, and its allocator.
 
 ghost use Rattle.std.specs.Prelude.{◌≡◌, ℕ, List};
 ghost use Rattle.crsm_base.specs.declared.Rec.{Rec};
@@ -8,19 +8,19 @@ use crate::ledger::Ledger;
 use std::alloc::Global;
 
 impl Ledger {
-    /// Where its memory is from.
+    /// Returns the allocator of its memory.
     pub fn alloc(&self) -> Global {
         self.alloc
     }
 
-    /// The replica's number.
+    /// Returns the number of the replica.
     pub fn me(&self) -> u32
         ensures { WhereStands self.now (λ me n log. result ≡ me) }
     {
         self.me
     }
 
-    /// How many replicas began the cluster.
+    /// Returns the number of replicas that began the cluster.
     pub fn n(&self) -> u32
         ensures { WhereStands self.now (λ me n log. result ≡ n) }
     {

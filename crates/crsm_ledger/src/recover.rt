@@ -1,4 +1,4 @@
-//! A ledger from the bodies of a log.
+//! Recovery of a ledger from the bodies of a log.
 
 ghost use Rattle.std.specs.Prelude.{◌≡◌, ◌<◌, ◌≤◌, ℕ, [], List, length, IfOk, IfErr};
 ghost use Rattle.crsm_base.specs.declared.Rec.{Rec};
@@ -17,8 +17,9 @@ use crsm_text_fields::take_rec;
 use std::alloc::Global;
 
 impl Ledger {
-    /// The ledger of a log with these bodies, of replica `me` in a cluster that began with `n` replicas. `BadLog`
-    /// names the first body that is no list of records (0), or whose first record that does not fit is of that kind.
+    /// Returns the ledger of a log with these bodies, of replica `me` in a cluster that began with `n` replicas.
+    /// `BadLog` names the first body that is not a list of records (`why` 0) or has a record that does not fit (`why`
+    /// the kind of the first such record). `NoMemory` if memory runs out.
     pub fn recover(alloc: Global, me: u32, n: u32, bodies: &Bodies) -> Result<Ledger, LedgerError>
         requires me_below { me < 15 }
         requires some { 1 ≤ n }
@@ -74,7 +75,7 @@ impl Ledger {
         Ok(next)
     }
 
-    /// Keeps the next record of a body, and tells where the one behind it begins.
+    /// Applies the next record of a body, and returns the bytes after it.
     fn take_one<'a>(
         &mut self,
         entry: u64,
@@ -96,7 +97,7 @@ impl Ledger {
             return Err(LedgerError::BadLog { entry, why: 0 });
         };
         if let Err(error) = self.take_record(entry, rec) {
-            // Whether it is a list of records comes before whether they fit.
+            // A body that is not a list of records is reported before a record that does not fit.
             return match read_recs(self.alloc, body)? {
                 Some(_) => Err(error),
                 None => Err(LedgerError::BadLog { entry, why: 0 }),

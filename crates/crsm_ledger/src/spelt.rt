@@ -1,4 +1,4 @@
-//! Executed entries as bytes, one after the other in chunks, with an index.
+//! Encodings of executed entries, joined in chunks, with an index.
 
 ghost use Rattle.std.specs.Prelude.{◌≡◌, ◌<◌, ◌+◌, [], ◌∷◌, ◌++◌, List, length, slice_get, OnOk, IfOk};
 ghost use Rattle.std.specs.List.{AllByRecursion};
@@ -9,10 +9,10 @@ use crsm_base::{Bytes, NoMemory};
 use std::alloc::Global;
 use std::marker::Model;
 
-/// Bytes of a chunk at the most, if no entry has more.
+/// Length of a chunk in bytes; a longer entry has a chunk of its own length.
 const CHUNK_BYTES: usize = 65_536;
 
-/// Where an entry's bytes stand: in which chunk, and from where up to where.
+/// The location of an entry's bytes: the chunk, and the range in it.
 #[derive(Clone, Copy)]
 pub struct SpellingRange {
     pub chunk: usize,
@@ -20,7 +20,7 @@ pub struct SpellingRange {
     pub end: usize,
 }
 
-/// The spellings of the executed entries, in their order. No spelling lies in two chunks.
+/// The encodings of the executed entries, in their order. No encoding lies in two chunks.
 #[derive(Drop)]
 pub struct Spelt {
     alloc: Global,
@@ -42,7 +42,7 @@ impl Model for Spelt {
 
 #[tactic(auto, using(crate::proofs::PiecesLemmas::pieces_rules))]
 impl Spelt {
-    /// No spellings.
+    /// Returns the empty list.
     pub fn new(alloc: Global) -> Spelt
         ensures { result ≡ [] }
     {
@@ -53,21 +53,21 @@ impl Spelt {
         }
     }
 
-    /// How many spellings there are.
+    /// Returns the number of encodings.
     pub fn len(&self) -> usize
         ensures { result ≡ length self.now }
     {
         self.places.len()
     }
 
-    /// The spelling at this index.
+    /// Returns the encoding with this index, or `None` if there are not that many.
     pub fn get(&self, index: usize) -> Option<&[u8]>
         ensures { option_copied result ≡ slice_get self.now index }
     {
         piece_at(self.chunks.as_slice(), self.places.as_slice(), index)
     }
 
-    /// Adds a spelling at the end.
+    /// Appends an encoding. `NoMemory` if memory runs out.
     pub fn push(&mut self, bytes: &[u8]) -> Result<(), NoMemory>
         ensures { OnOk result (self.new ≡ self.old ++ bytes.now ∷ []) }
     {
@@ -78,7 +78,7 @@ impl Spelt {
     }
 }
 
-/// The bytes at the place of this index.
+/// Returns the bytes of the range with this index.
 #[tactic(auto, using(crate::proofs::PiecesLemmas::pieces_rules))]
 fn piece_at<'a>(chunks: &'a [Bytes], places: &[SpellingRange], index: usize) -> Option<&'a [u8]>
     requires { AllByRecursion (IsWithin chunks.now) places.now }
@@ -91,7 +91,7 @@ fn piece_at<'a>(chunks: &'a [Bytes], places: &[SpellingRange], index: usize) -> 
     }
 }
 
-/// The bytes at this place.
+/// Returns the bytes of this range.
 fn bytes_at(chunks: &[Bytes], place: SpellingRange) -> &[u8]
     requires { IsWithin chunks.now place }
     ensures { result.now ≡ piece chunks.now place }
@@ -99,7 +99,7 @@ fn bytes_at(chunks: &[Bytes], place: SpellingRange) -> &[u8]
     &chunks[place.chunk].as_slice()[place.start..place.end]
 }
 
-/// Makes the last chunk one that has room for so many bytes more.
+/// Makes the last chunk one that has room for `more` bytes. `NoMemory` if memory runs out.
 #[tactic(auto, using(crate::proofs::PiecesLemmas::pieces_rules))]
 fn make_room(alloc: Global, chunks: &mut Vec<Bytes>, more: usize) -> Result<(), NoMemory>
     ensures keeps { Keeps chunks.old.items chunks.new.items }
@@ -115,7 +115,7 @@ fn make_room(alloc: Global, chunks: &mut Vec<Bytes>, more: usize) -> Result<(), 
     Ok(())
 }
 
-/// Appends these bytes to the last chunk.
+/// Appends these bytes to the last chunk and returns their range. `NoMemory` if memory runs out.
 #[tactic(auto, using(crate::proofs::PiecesLemmas::pieces_rules))]
 fn append(chunks: &mut Vec<Bytes>, bytes: &[u8]) -> Result<SpellingRange, NoMemory>
     requires { 0 < length chunks.old.items }

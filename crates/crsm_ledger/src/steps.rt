@@ -1,4 +1,4 @@
-//! What a record changes, and its lines: the records that name no entry.
+//! The effect and the lines of the records that contain no entry.
 
 ghost use Rattle.std.specs.Prelude.{◌≡◌, ℕ, ◌∷◌, [], IfOk};
 ghost use Rattle.crsm_base.specs.declared.Rec.{Rec};
@@ -9,7 +9,7 @@ use crate::ledger::Ledger;
 use crsm_base::{Ballot, Decision, Line, Lines, NoMemory, Rec};
 use std::alloc::Global;
 
-/// A list of one line.
+/// Returns a list of one line. `NoMemory` if memory runs out.
 pub(crate) fn one_line(alloc: Global, line: Line) -> Result<Lines, NoMemory>
     ensures { IfOk result (λ lines. lines ≡ line ∷ []) }
 {
@@ -19,7 +19,8 @@ pub(crate) fn one_line(alloc: Global, line: Line) -> Result<Lines, NoMemory>
 }
 
 impl Ledger {
-    /// Keeps a record that may come next, and gives its lines. After an error the fields say nothing.
+    /// Applies a record that may come next, and returns its lines. `NoMemory` if memory runs out; the fields are then
+    /// unspecified.
     pub(crate) fn keep(&mut self, rec: &Rec) -> Result<Lines, NoMemory>
         requires { FitsRec rec.now }
         ensures kept { Keeps self.old rec.now result self.new }

@@ -1,5 +1,5 @@
-//! Records that are taken off the bytes of a body one by one, each as the fields of its kind: as a `Rec`, each would be moved
-//! several times. What does not fit, or is rare, is left to whoever reads it as a `Rec`.
+//! Records read one by one from the bytes of a body, each as the fields of its kind: as a `Rec`, each would be moved
+//! several times. A record that does not fit, or is rare, is left to the caller, which reads it as a `Rec`.
 
 ghost use Rattle.std.specs.Prelude.{◌≡◌, ◌<◌, ◌≤◌, ◌+◌, ◌++◌, ℕ, None, Some, length, IfOk, IfSome, MatchOption, OnOk};
 ghost use Rattle.std.specs.List.{AllByRecursion};
@@ -17,8 +17,8 @@ use crsm_text_fields::{
 };
 use std::mem;
 
-/// Where the next record begins, and the bytes of the decision that was accepted last and of the tail of the known one, if
-/// they are at hand: a log mostly has them again.
+/// The bytes still to be read, with the encodings of the last accepted decision and of the tail of the known one, if
+/// they were read before: a log mostly repeats them.
 #[derive(Clone, Copy)]
 pub(crate) struct Remaining<'a> {
     pub rest: &'a [u8],
@@ -28,7 +28,8 @@ pub(crate) struct Remaining<'a> {
 
 impl Ledger {
     #[tactic(auto, unfolding(crsm_base::specs::RecordReading::rec_at))]
-    /// Keeps the record that these bytes begin with, and tells where the next one begins. At `None` nothing has changed.
+    /// Applies the record that these bytes begin with, and returns the bytes after it. `None` changes nothing;
+    /// `NoMemory` if memory runs out.
     pub(crate) fn take_next<'a>(
         &mut self,
         accepted: &'a [u8],
@@ -181,7 +182,7 @@ impl Ledger {
         }))
     }
 
-    /// Accepts what was accepted last, where these are the bytes of it.
+    /// Accepts the last accepted decision again, if these are its bytes.
     fn accept_again<'a>(
         &mut self,
         accepted: &[u8],
@@ -224,7 +225,7 @@ impl Ledger {
         })
     }
 
-    /// Executes the tail of the known decision, where the bytes are those of it.
+    /// Executes the tail of the known decision, if the bytes are its encoding.
     #[tactic(auto, unfolding(crsm_base::specs::RecordReading::adopt_at))]
     fn take_adopt<'a>(&mut self, tail: &[u8], bytes: &'a [u8]) -> Result<Option<&'a [u8]>, NoMemory>
         requires { IsTail tail.now self.old.known }
@@ -243,7 +244,7 @@ impl Ledger {
         Ok(Some(rest))
     }
 
-    /// The entries of the tail of the known decision are executed.
+    /// Executes the entries of the tail of the known decision.
     fn follow_tail(&mut self) -> Result<(), NoMemory>
         requires { AllByRecursion FitsEntry self.old.known.tail }
         ensures kept { (place : ℕ) → OnOk result (Follows self.old (Rec.Adopt place self.old.known.tail) self.new) }
@@ -255,7 +256,7 @@ impl Ledger {
         Ok(())
     }
 
-    /// The decision that was accepted last is accepted again, by this ballot.
+    /// Accepts the last accepted decision again, in this ballot.
     fn follow_again(&mut self, ballot: Ballot)
         ensures kept { (i : ℕ) (b : BallotOnPaper) (d : DecisionOnPaper) → self.old.accepted ≡ Some (b, d) → Follows self.old (Rec.Accept i ballot d) self.new }
         ensures accepted { (b : BallotOnPaper) (d : DecisionOnPaper) → self.old.accepted ≡ Some (b, d) → self.new.accepted ≡ Some (ballot, d) }
@@ -267,7 +268,7 @@ impl Ledger {
         }
     }
 
-    /// The decision that was accepted last is decided.
+    /// Makes the last accepted decision the known one.
     fn follow_accepted(&mut self)
         requires { IfSome self.old.accepted (λ a. FitsDecision a.1) }
         ensures kept { (b : BallotOnPaper) (d : DecisionOnPaper) → self.old.accepted ≡ Some (b, d) → Follows self.old (Rec.Decide d) self.new }
@@ -281,7 +282,7 @@ impl Ledger {
     }
 }
 
-/// What is behind the first of these bytes, if they are these.
+/// Returns the bytes after the prefix `first`, or `None` if the bytes do not begin with it.
 fn behind<'a>(first: &[u8], bytes: &'a [u8]) -> Option<&'a [u8]>
     ensures { IfSome result (λ rest. (0 < length first.now) × (bytes.now ≡ first.now ++ rest.now)) }
 {
@@ -292,7 +293,7 @@ fn behind<'a>(first: &[u8], bytes: &'a [u8]) -> Option<&'a [u8]>
     if start == first { Some(rest) } else { None }
 }
 
-/// How many bytes spell a set of replicas that a decision may name.
+/// Returns the encoded length in bytes of a set of replicas that a decision may name.
 #[tactic(auto, unfolding(crsm_base::specs::Spelling::spec_bytes))]
 fn spec_len(spec: &Option<Members>) -> usize
     ensures len { result ≡ length (spec_bytes spec.now) }
@@ -304,7 +305,7 @@ fn spec_len(spec: &Option<Members>) -> usize
     }
 }
 
-/// How many bytes spell members.
+/// Returns the encoded length of members in bytes.
 #[tactic(auto, unfolding(crsm_base::specs::Spelling::members_bytes))]
 fn members_len(members: &Members) -> usize
     ensures len { result ≡ length (members_bytes members.now) }
@@ -313,14 +314,14 @@ fn members_len(members: &Members) -> usize
     1 + members.count() as usize
 }
 
-/// How many bytes of a decision come before its tail.
+/// Returns the encoded length in bytes of a decision without its tail.
 fn head_of(decision: &Decision) -> usize
     ensures { result ≡ 8 + (length (spec_bytes decision.now.spec) + (length (members_bytes decision.now.members) + 8)) }
 {
     8 + spec_len(&decision.spec) + members_len(&decision.members) + 8
 }
 
-/// Of the bytes of a decision those of its tail.
+/// Returns the bytes of the tail among the bytes of a decision.
 fn tail_of<'a>(decision: &Decision, bytes: &'a [u8]) -> &'a [u8]
     requires { bytes.now ≡ decision_bytes decision.now }
     ensures { result.now ≡ entries_bytes decision.now.tail }

@@ -1,4 +1,4 @@
--- What is taken of frames, one more frame, and of frames of one sender.
+-- The frames taken, with one more frame, and from the frames of one sender.
 use Rattle.std.proofs.Common.{◌≡◌, ℕ, ◌+◌, Bool, true, false, cond, refl, sym, ◌∙◌, ap, subst, arith, List, [], ◌∷◌, ◌++◌, length, length-append, drop, Some, suc, add-zero}
 use Rattle.std.specs.Prelude.{◌==◌, slice_get, if◌then◌else◌}
 use Rattle.std.specs.List.{AllByRecursion}

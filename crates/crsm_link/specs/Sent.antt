@@ -1,4 +1,4 @@
--- What a sender knows of a link.
+-- What the sender's end of a link stands for.
 use Rattle.std.specs.Prelude.{◌≡◌, ℕ, ◌+◌, ◌≤◌, List, length, drop, Some, slice_get}
 use Rattle.std.specs.List.{enumerate_from}
 use Rattle.crsm_base.specs.declared.InEpoch.{InEpoch}

@@ -6,7 +6,7 @@ use crsm_base::{InEpoch, NoMemory};
 use std::alloc::Global;
 use std::marker::Model;
 
-/// Payloads, each behind its number.
+/// A list of payloads with their sequence numbers.
 #[derive(Debug, Drop)]
 pub struct Frames {
     items: Vec<(u64, InEpoch)>,
@@ -22,6 +22,7 @@ impl Model for Frames {
 }
 
 impl Frames {
+    /// Returns the empty list.
     pub fn new(alloc: Global) -> Frames
         ensures { result ≡ [] }
     {
@@ -30,6 +31,7 @@ impl Frames {
         }
     }
 
+    /// Appends a frame. `NoMemory` if memory runs out; the list is then unchanged.
     pub fn push(&mut self, item: (u64, InEpoch)) -> Result<(), NoMemory>
         ensures ok { OnOk result (self.new ≡ self.old ++ item ∷ []) }
         ensures err { OnErr result (self.new ≡ self.old) }
@@ -38,7 +40,7 @@ impl Frames {
         Ok(())
     }
 
-    /// Makes room for so many frames more. The list stays as it is.
+    /// Reserves memory for `additional` more frames. `NoMemory` if memory runs out; the list stays as it is.
     pub fn reserve(&mut self, additional: usize) -> Result<(), NoMemory>
         ensures { self.new ≡ self.old }
     {
@@ -46,6 +48,7 @@ impl Frames {
         Ok(())
     }
 
+    /// Returns the frames in order.
     pub fn as_slice(&self) -> &[(u64, InEpoch)]
         ensures { result.now ≡ self.now }
     {

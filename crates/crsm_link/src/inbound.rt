@@ -7,18 +7,18 @@ ghost use Rattle.crsm_spec.specs.Link.{taken};
 ghost use Rattle.crsm_spec.specs.Lists.{IsPrefixOf};
 ghost use Rattle.crsm_link.specs.Sent.{IsFrameOf};
 
-/// Whether a frame is taken.
+/// The result of offering a frame to the receiver's end.
 #[derive(Clone, Copy, Debug, PartialEq, Eq)]
 pub enum Take {
-    /// It is the next one, and is taken.
+    /// The frame has the next number, and is taken.
     Next,
-    /// Its number is below the next one.
+    /// The frame's number is below the next one: it was taken before.
     Old,
-    /// Its number is above the next one.
+    /// The frame's number is above the next one: it is not taken.
     Early,
 }
 
-/// Takes the frames of a link in the order of their numbers, each once.
+/// The receiver's end: it takes the frames of a link in the order of their numbers, each once.
 #[derive(Debug, Drop)]
 pub struct In {
     next: u64,
@@ -27,7 +27,7 @@ pub struct In {
 impl In {
     ghost use Rattle.crsm_link.specs.Arrived.{InStands};
 
-    /// The end of a new link.
+    /// Returns the end of a new link.
     pub fn new() -> In
         ensures arrived { InStands result [] }
         ensures next { result.next ≡ 0 }
@@ -35,7 +35,7 @@ impl In {
         In { next: 0 }
     }
 
-    /// The number of the next frame: how many were taken.
+    /// Returns the number of the next frame, which is the number of frames taken.
     pub fn next(&self) -> u64
         ensures arrived { (arrived : List (ℕ × InEpoch)) → InStands self.now arrived → result ≡ length (taken arrived) }
         ensures next { result ≡ self.now.next }
@@ -43,7 +43,7 @@ impl In {
         self.next
     }
 
-    /// Takes a frame where its number is the next one.
+    /// Takes a frame if its number is the next one.
     pub fn take(&mut self, seq: u64) -> Take
         requires { ¬ ((seq ≡ u64.MAX) × (self.old.next ≡ u64.MAX)) }
         ensures arrived { (arrived : List (ℕ × InEpoch)) (payload : InEpoch) → InStands self.old arrived → InStands self.new (arrived ++ (seq, payload) ∷ []) }
@@ -66,8 +66,8 @@ impl In {
     }
 }
 
-/// Whichever frames of a sender arrive, lost, repeated and in any order, what is taken of them is a prefix of what the
-/// sender pushed.
+/// States that whichever frames of a sender arrive, lost, repeated or in any order, the frames taken are a prefix of
+/// the frames that the sender pushed. It runs no code.
 pub fn taken_is_a_prefix()
     ensures { (pushed : List InEpoch) (arrived : List (ℕ × InEpoch)) → AllByRecursion (IsFrameOf pushed) arrived → IsPrefixOf (taken arrived) pushed }
 {}

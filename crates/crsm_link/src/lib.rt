@@ -1,5 +1,5 @@
-//! The two ends of a numbered link: the sender keeps what is not acknowledged, the receiver takes each frame once and
-//! in order.
+//! The two ends of a numbered link: the sender keeps the frames that are not acknowledged, the receiver takes each
+//! frame once and in order.
 #![tactic(auto)]
 
 mod frames;

@@ -9,11 +9,11 @@ use crsm_base::{InEpoch, MAX_SENT_AGAIN, NoMemory};
 use std::alloc::Global;
 use std::collections::VecDeque;
 
-/// The frames that were pushed and are not acknowledged, numbered from 0.
+/// The sender's end: the frames that were pushed and are not acknowledged, numbered from 0.
 #[derive(Drop)]
 pub struct Out {
     alloc: Global,
-    /// The number of the first frame that is kept.
+    /// The number of the first unacknowledged frame.
     first: u64,
     frames: VecDeque<InEpoch>,
     ghost counted: { first + deque_len frames < 2 ^ 64 },
@@ -22,7 +22,7 @@ pub struct Out {
 impl Out {
     ghost use Rattle.crsm_link.specs.Sent.{OutStands, unacked, pushed_count, WhereStands};
 
-    /// The end of a new link.
+    /// Returns the end of a new link.
     pub fn new(alloc: Global) -> Out
         ensures fresh { OutStands result [] 0 }
     {
@@ -33,7 +33,8 @@ impl Out {
         }
     }
 
-    /// Adds a frame, and answers its number: how many were pushed before. An `Err` changes nothing.
+    /// Appends a frame and returns its number, which is the number of frames pushed before. `NoMemory` if memory runs
+    /// out; nothing has changed then.
     pub fn push(&mut self, payload: InEpoch) -> Result<u64, NoMemory>
         requires { pushed_count self.old < u64.MAX }
         ensures ok { OnOk result (WhereStands self.old (λ pushed acked. OutStands self.new (pushed ++ payload ∷ []) acked)) }
@@ -46,7 +47,7 @@ impl Out {
         Ok(number)
     }
 
-    /// All frames below this number have come. A number above what was pushed changes nothing.
+    /// Removes all frames below this number, which are acknowledged. A number above the frames pushed changes nothing.
     pub fn acked(&mut self, next: u64)
         ensures within { WhereStands self.old (λ pushed acked. next ≤ length pushed → OutStands self.new pushed (max next acked)) }
         ensures past { WhereStands self.old (λ pushed acked. length pushed < next → OutStands self.new pushed acked) }
@@ -59,7 +60,7 @@ impl Out {
         self.first += count;
     }
 
-    /// The first 64 frames that are not acknowledged, with their numbers.
+    /// Returns the first 64 unacknowledged frames with their numbers. `NoMemory` if memory runs out.
     pub fn due(&self) -> Result<Frames, NoMemory>
         ensures { IfOk result (λ frames. WhereStands self.now (λ pushed acked. frames ≡ take 64 (unacked pushed acked))) }
     {
@@ -73,7 +74,7 @@ impl Out {
         Ok(due)
     }
 
-    /// How many frames were pushed.
+    /// Returns the number of frames pushed.
     pub fn count(&self) -> u64
         ensures pushed { WhereStands self.now (λ pushed acked. result ≡ length pushed) }
         ensures value { result ≡ pushed_count self.now }
@@ -81,7 +82,7 @@ impl Out {
         self.first + self.frames.len() as u64
     }
 
-    /// How many frames are not acknowledged.
+    /// Returns the number of unacknowledged frames.
     pub fn len(&self) -> u64
         ensures { WhereStands self.now (λ pushed acked. result ≡ length (unacked pushed acked)) }
     {
@@ -89,7 +90,7 @@ impl Out {
     }
 }
 
-/// Drops the first frames, so many.
+/// Removes the first `count` frames.
 fn drop_front(frames: &mut VecDeque<InEpoch>, count: u64)
     requires { count ≤ deque_len frames.old }
     ensures items { frames.new.items ≡ drop count frames.old.items }

@@ -4,7 +4,7 @@ use Rattle.std.specs.Prelude.{Option, Some, None}
 use Rattle.std.proofs.lemmas.Bool.Decides.{nat_tests}
 use Rattle.crsm_base.specs.declared.memory.Failed.{Failed}
 use Rattle.crsm_port_faults.specs.Plan.{Plan}
-use Rattle.crsm_disk.specs.Calls.{Call, History, noted}
+use Rattle.crsm_port_image.specs.Calls.{Call, History, noted}
 use Rattle.crsm_disk.specs.Meaning.{LeavesOnly, Meaning}
 use Rattle.crsm_disk.proofs.Moments.{joined, weaker}
 use Rattle.crsm_log.specs.Format.{bodies_in, bodies_of, cluster_among, cluster_entry, cluster_of, entries_in, found, gate_in, reading, reading_in}

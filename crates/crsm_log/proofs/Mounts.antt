@@ -5,8 +5,8 @@ use Rattle.std.proofs.lemmas.Bool.Decides.{nat_tests}
 use Rattle.crsm_log.specs.declared.entry.LogContents.{LogContents}
 use Rattle.crsm_log.specs.First.{ReadsFile, all_entries}
 use Rattle.crsm_log.specs.Claim.{Holds}
-use Rattle.crsm_disk.specs.Bytes.{Torn, overwritten}
-use Rattle.crsm_disk.specs.Calls.{History, noted, synced, wrote}
+use Rattle.crsm_port_image.specs.Bytes.{Torn, overwritten}
+use Rattle.crsm_port_image.specs.Calls.{History, noted, synced, wrote}
 use Rattle.crsm_port_faults.specs.Failing.{one_less}
 use Rattle.crsm_port_faults.specs.Plan.{Plan, spent}
 use Rattle.crsm_disk.specs.Meaning.{Meaning, LeavesOnly, Only}

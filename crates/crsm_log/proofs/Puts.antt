@@ -4,13 +4,13 @@ use Rattle.std.proofs.lemmas.Bool.{cases_eq}
 use Rattle.std.proofs.lemmas.Bool.Decides.{nat_tests}
 use Rattle.std.proofs.lemmas.List.{take_at, drop_at, drop_more, take_more, append-nil, length-replicate}
 use Rattle.std.proofs.Math.Seq.{get_or-append_seam}
-use Rattle.crsm_disk.specs.Bytes.{Torn, overwritten}
+use Rattle.crsm_port_image.specs.Bytes.{Torn, overwritten}
 use Rattle.crsm_disk.specs.Meaning.{Meaning, Only, LeavesOnly}
 use Rattle.crsm_disk.proofs.Moments.{weaker}
 use Rattle.crsm_log.specs.Format.{four_bytes, found, reading, reading_in, size, bodies_among, bodies_in, bodies_of, cluster_among, cluster_entry, cluster_of, body_entry, eight_bytes, has_after, length_of, may_stand, Entry, Items, whole, broken, entries_in, entries_of, items_of, is_cluster}
 use Rattle.crsm_log.specs.Log.{Follows, IsSettled, IsBeforeOrAfter, IsWithOrWithout, HasCluster, entry_bytes, is_quiet, recorded}
 use Rattle.crsm_log.proofs.Quiet.{pair_quiet}
-use Rattle.crsm_disk.specs.Calls.{synced, wrote}
+use Rattle.crsm_port_image.specs.Calls.{synced, wrote}
 use Rattle.crsm_log.proofs.Entries.{size-push, body_field, body_length, body_may, bodies-push_body, bodies-push_cluster, cluster-push_body, cluster-push_cluster, no_cluster}
 use Rattle.crsm_log.proofs.Crash.{IsRun, run_of, items_long, items_short, shut_reads, open_reads, staged, length_staged, eight_back}
 use Rattle.crsm_log.specs.Claim.{IsClaimed, claimed}

@@ -1,7 +1,7 @@
 -- After a sync a crash leaves what a read returns.
 use Rattle.std.proofs.Common.{◌≡◌, IsTrue, [], ◌∷◌, refl, ◌∙◌, ap}
 use Rattle.std.specs.Prelude.{Option, Some, None, true}
-use Rattle.crsm_disk.specs.Calls.{Call, History, noted, synced}
+use Rattle.crsm_port_image.specs.Calls.{Call, History, noted, synced}
 use Rattle.crsm_log.specs.Log.{is_quiet, recorded}
 
 sync_quiet : (h : Option History) → is_quiet (noted synced h) ≡ true

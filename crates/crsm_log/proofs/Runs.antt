@@ -4,10 +4,10 @@ use Rattle.std.specs.Prelude.{Option, Some, None, OnOk}
 use Rattle.crsm_base.specs.declared.memory.Failed.{Failed}
 use Rattle.crsm_port_faults.specs.Failing.{one_less}
 use Rattle.crsm_port_faults.specs.Plan.{HasRoom, Plan, spent}
-use Rattle.crsm_disk.specs.Calls.{Call, noted}
+use Rattle.crsm_port_image.specs.Calls.{Call, noted}
 use Rattle.crsm_disk.specs.Contract.{Answers, Goes as Moves}
 use Rattle.crsm_disk.specs.Meaning.{LeavesOnly, Meaning, Only}
-use Rattle.crsm_disk.specs.Bytes.{Torn, ReadsAt}
+use Rattle.crsm_port_image.specs.Bytes.{Torn, ReadsAt}
 use Rattle.std.proofs.lemmas.List.{take_all, take_at}
 use Rattle.crsm_disk.proofs.Moments.{started, goes_on}
 use Rattle.crsm_log.specs.Log.{less, recorded, Goes, Ran, Serves, HasPlace}
@@ -35,7 +35,7 @@ not_zero good x iff is = let e = iff.1 is in cc
 
 module _ {T : Type 0} (first second : Call) (bytes : ℕ) (old mid new : Meaning) (x : T) (one : Answers 1 bytes old mid (Ok x)) (told : mid.history ≡ noted first old.history) where
   goes : {r : Result T Failed} → Answers 1 0 mid new r → Goes old new
-  goes two = record { honest = two.honest ∙ one.honest; fill = two.fill ∙ one.fill; lent = two.lent ∙ one.lent; later = omega (arith, one.later, two.later) }
+  goes two = record { honest = two.honest ∙ one.honest; fill = two.fill ∙ one.fill; borrowed_as = two.borrowed_as ∙ one.borrowed_as; later = omega (arith, one.later, two.later) }
 
   served : (p : Plan) → old.plan ≡ Some p → HasPlace 2 bytes p → Serves 1 p.good
   served p is place = serves_one p.good (not_zero p.good x (one.plan.exact p is (omega arith) place.1))
@@ -141,7 +141,7 @@ module _ {T : Type 0} (c1 c2 c3 c4 : Call) (serves : Plan → Type 0) (old : Mea
 
   module _ (place2 : (p : Plan) → serves p → HasPlace 2 b2 (spent 1 0 (spent 1 b1 p))) (mid new : Meaning) (x : T) (r1 : Ran (c1 ∷ c2 ∷ []) (HasPlace 2 b1) old mid (Ok x)) (left : (p : Plan) → old.plan ≡ Some p → mid.plan ≡ Some (spent 1 0 (spent 1 b1 p))) where
     both_go : Goes mid new → Goes old new
-    both_go g = record { honest = g.honest ∙ r1.goes.honest; fill = g.fill ∙ r1.goes.fill; lent = g.lent ∙ r1.goes.lent; later = omega (arith, g.later, r1.goes.later) }
+    both_go g = record { honest = g.honest ∙ r1.goes.honest; fill = g.fill ∙ r1.goes.fill; borrowed_as = g.borrowed_as ∙ r1.goes.borrowed_as; later = omega (arith, g.later, r1.goes.later) }
 
     pub second_pair_fails : (f : Failed) → Ran {T = T} (c3 ∷ c4 ∷ []) (HasPlace 2 b2) mid new (Err f) → Ran {T = T} (c1 ∷ c2 ∷ c3 ∷ c4 ∷ []) serves old new (Err f)
     second_pair_fails f r = record {

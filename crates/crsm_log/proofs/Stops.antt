@@ -3,9 +3,9 @@ use Rattle.std.proofs.Common.{false, ◌≡◌, IsTrue, inl, inr, ℕ, zero, suc
 use Rattle.std.proofs.lemmas.Bool.{cases_eq}
 use Rattle.std.proofs.lemmas.Bool.Decides.{nat_tests}
 use Rattle.std.proofs.lemmas.List.{take_at, drop_at}
-use Rattle.crsm_disk.specs.Bytes.{overwritten}
-use Rattle.crsm_disk.specs.Calls.{Call, wrote, cut, synced, History, contents}
-use Rattle.crsm_disk.specs.Image.{painted, ranged}
+use Rattle.crsm_port_image.specs.Bytes.{overwritten}
+use Rattle.crsm_port_image.specs.Calls.{Call, wrote, cut, synced, History, contents}
+use Rattle.crsm_port_image.specs.Image.{painted, ranged}
 use Rattle.crsm_log.specs.Format.{four_bytes, reading, reading_in, found, bodies_in, bodies_among, bodies_of, body_entry, Entry, whole, entries_of, items_of}
 use Rattle.crsm_log.specs.Log.{entry_bytes, is_synced}
 use Rattle.crsm_log.specs.Stop.{StopKeeps, IsWhole, kept}

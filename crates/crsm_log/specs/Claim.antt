@@ -2,7 +2,7 @@
 use Rattle.std.specs.Prelude.{◌≡◌, ◌≢◌, ◌⊎◌, ℕ, ◌+◌, ◌<◌, List, [], ◌++◌, Bool, false, not, Option, Some, None, if◌then◌else◌, ◌==◌, IsTrue}
 use Rattle.crsm_base.specs.declared.limits.TheConstants.{MAX_LOG_BYTES}
 use Rattle.crsm_port_faults.specs.Plan.{Plan}
-use Rattle.crsm_disk.specs.Calls.{Call}
+use Rattle.crsm_port_image.specs.Calls.{Call}
 use Rattle.crsm_disk.specs.Meaning.{LeavesOnly, Meaning, Only}
 use Rattle.crsm_log.specs.Format.{bad, bodies_of, cluster_entry, cluster_of, found, gate_in, reading}
 use Rattle.crsm_log.specs.Log.{IsAsBefore, MeetsIn, Serves, Used, entry_calls, mount_calls, mount_count, recorded, IsSettled}

@@ -4,7 +4,7 @@ use Rattle.crsm_base.specs.declared.memory.Failed.{Failed}
 use Rattle.crsm_base.specs.declared.limits.TheConstants.{MAX_LOG_BYTES}
 use Rattle.crsm_port_faults.specs.Counts.{Rose}
 use Rattle.crsm_port_faults.specs.Plan.{Plan}
-use Rattle.crsm_disk.specs.Calls.{Call, wrote, cut, synced, History, noted}
+use Rattle.crsm_port_image.specs.Calls.{Call, wrote, cut, synced, History, noted}
 use Rattle.crsm_disk.specs.Meaning.{LeavesOnly, Meaning, Only}
 use Rattle.crsm_log.specs.Format.{found, bad, reading, bodies_of, body_entry, cluster_of, gate_in, items_of, four_bytes, has_after, length_of, may_stand, whole, Entry, entries_of}
 use Rattle.crsm_log.specs.declared.errors.MountError.{MountError}
@@ -86,7 +86,7 @@ Serves n (Some good) = n ≤ good
 pub record Goes (old new : Meaning) : Type 0 where
   pub honest : new.honest ≡ old.honest
   pub fill : new.fill ≡ old.fill
-  pub lent : new.lent ≡ old.lent
+  pub borrowed_as : new.borrowed_as ≡ old.borrowed_as
   pub later : old.faults ≤ new.faults
 
 -- Some of these calls were made and the next one failed; on a disk whose plan covers them, because no more succeed.

@@ -1,7 +1,7 @@
 -- The bodies on a disk that was stopped during a put.
 use Rattle.std.specs.Prelude.{◌≡◌, ◌≢◌, ℕ, ◌<◌, List, [], ◌∷◌, ◌++◌, length, take, Some, IfSome, slice_index, nat_le, ◌==◌, ◌||◌, ◌&&◌, if◌then◌else◌}
-use Rattle.crsm_disk.specs.Calls.{History, contents}
-use Rattle.crsm_disk.specs.Image.{image_of}
+use Rattle.crsm_port_image.specs.Calls.{History, contents}
+use Rattle.crsm_port_image.specs.Image.{image_of}
 use Rattle.crsm_log.specs.Format.{reading, found, bodies_of, gate_in}
 use Rattle.crsm_log.specs.Log.{recorded, put_calls}
 

@@ -1,10 +1,10 @@
 //! The disk calls of a log.
 
 ghost use Rattle.std.specs.Prelude.{◌≡◌, ◌+◌, ◌-◌, ◌^◌, ◌<◌, ◌≤◌, ℕ, List, [], ◌∷◌, length, IsTrue, IfOk, IfErr, OnOk, IsErrOf, Some, None};
-ghost use Rattle.crsm_disk.specs.Bytes.{overwritten, Torn};
+ghost use Rattle.crsm_port_image.specs.Bytes.{overwritten, Torn};
 ghost use Rattle.crsm_port_faults.specs.Counts.{Rose};
 ghost use Rattle.crsm_port_faults.specs.Plan.{Plan, spent};
-ghost use Rattle.crsm_disk.specs.Calls.{wrote, synced};
+ghost use Rattle.crsm_port_image.specs.Calls.{wrote, synced};
 ghost use Rattle.crsm_disk.specs.Meaning.{LeavesOnly};
 ghost use Rattle.crsm_log.specs.Format.{Entry, body_entry, bodies_of, cluster_entry, cluster_of, entries_of};
 ghost use Rattle.crsm_log.specs.Claim.{Holds, IsClaimed, AddsCluster, WhereUnclaimed};

@@ -137,7 +137,7 @@ fn stands(has_one: bool, field: u64, bytes: &[u8]) -> bool
     length < bytes.len() as u64 && may_stand(has_one, field, &bytes[..length as usize])
 }
 
-/// What begins at a gate.
+/// A closed gate, an open gate without an entry, or an entry, at the beginning of some bytes.
 #[derive(Drop)]
 enum First<'a> {
     Closed,

@@ -107,8 +107,8 @@ impl<D: Disk> Log<D> {
         }
     }
 
-    /// Makes a disk that can be stopped fail after `stop` further calls; `fill` then stands in all ranges that were not
-    /// synced.
+    /// Makes a disk that can be stopped fail after `stop` further calls; ranges that were not synced then read as
+    /// `fill`.
     pub fn arm(&mut self, stop: Option<u64>, fill: u8)
         ensures armed { Arms stop fill (D.meaning self.old.disk) (D.meaning self.new.disk) }
         ensures same { (self.new.end ≡ self.old.end) × (self.new.failed ≡ self.old.failed) }

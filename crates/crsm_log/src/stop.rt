@@ -1,8 +1,8 @@
 //! The bodies on a disk that was stopped during a put.
 
 ghost use Rattle.std.specs.Prelude.{◌<◌, ◌≤◌, List, ℕ, IsTrue, length};
-ghost use Rattle.crsm_disk.specs.Calls.{History};
-ghost use Rattle.crsm_disk.specs.Calls.{contents};
+ghost use Rattle.crsm_port_image.specs.Calls.{History};
+ghost use Rattle.crsm_port_image.specs.Calls.{contents};
 ghost use Rattle.crsm_log.specs.Log.{is_synced};
 ghost use Rattle.crsm_log.specs.Stop.{IsWhole, StopKeeps};
 

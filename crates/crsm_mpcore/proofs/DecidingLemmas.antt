@@ -1,4 +1,4 @@
--- The rules that decide a slot, against what a state is tested for.
+-- The rules that decide a slot, by the tests of a state.
 use Rattle.std.proofs.Common.{◌≡◌, ℕ, true, false, refl}
 use Rattle.std.specs.Prelude.{Bool, not, nat_le, length}
 use Rattle.std.proofs.lemmas.Bool.{and_parts}

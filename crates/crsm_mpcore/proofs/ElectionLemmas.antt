@@ -1,4 +1,4 @@
--- How a majority elects, and what its election does.
+-- The election by a majority, and its effects.
 use Rattle.std.proofs.Common.{◌≡◌, ℕ, zero, suc, ◌+◌, ◌-◌, ◌<◌, ◌≤◌, Bool, true, false, List, [], ◌∷◌, ◌++◌, Some, refl, ap, sym, subst, ◌∙◌, append_assoc, length, arith}
 use Rattle.std.specs.Prelude.{◌==◌, cond, map, filter, fold, take, slice_get, Option, None, nat_le, if◌then◌else◌}
 use Rattle.std.specs.List.{AllByRecursion, flat_map, range_with_len}
@@ -198,7 +198,7 @@ pub length-map : {A B : Type 0} (f : A → B) (xs : List A) → length (map f xs
 length-map f [] = refl
 length-map f (x ∷ xs) = omega (arith, length-map f xs)
 
--- what is asked for on paper, where the replica asks
+-- the request for promises in the definitions, if the replica asks
 pub record AsksOnPaper (a : Asking) (p : Note) : Type 0 where
   pub b : Ballot
   pub start : ℕ

@@ -1,4 +1,4 @@
--- What was found so far, with one value more.
+-- The findings of reports, with one more value.
 use Rattle.std.proofs.Common.{◌≡◌, ℕ, suc, Bool, true, false, List, [], ◌∷◌, ◌++◌, Some, refl, ap, sym, subst, ◌∙◌, arith}
 use Rattle.std.specs.Prelude.{◌==◌, cond, max, map, filter, fold, None, is_some, if◌then◌else◌}
 use Rattle.std.specs.Ordering.{nat_cmp}

@@ -1,4 +1,4 @@
--- What is executed from a slot on, one value more.
+-- The executed values from a slot on, with one more.
 use Rattle.std.proofs.Common.{◌≡◌, ℕ, zero, suc, ◌+◌, ◌-◌, ◌<◌, ◌≤◌, List, [], ◌∷◌, ◌++◌, Some, refl, ap, ◌∙◌, length, arith}
 use Rattle.std.specs.Prelude.{Bool, true, false, nat_le, Option, min, drop, fold, slice_get, take}
 use Rattle.std.specs.List.{enumerate_from}
@@ -79,7 +79,7 @@ teach-replica k (s ∷ ss) x = teach-replica k ss (teach k x s)
 pub taught-replica : (k : ℕ) (xs : List (ℕ × Value)) (x : Draft) → (fold (teach k) x xs).replica ≡ x.replica
 taught-replica k xs x = teach-replica k xs x
 
--- at the end of a loop from a slot on, so many values are taken as there are, but no more than there may be
+-- at the end of a loop from a slot on, all values there are were sent, but no more than the limit
 pub settled : (a k sum len end rest : ℕ) → len < 18446744073709551616 → sum ≡ min (a + 64) 18446744073709551615 → end ≡ min sum len → rest ≡ len - a → a ≤ k → (a ≤ end → k ≤ end) → end ≤ k
     → min (k - a) rest ≡ min 64 rest
 settled a k sum len end rest below sums ends rests least most last = by_test (nat_le a end) refl

@@ -1,4 +1,4 @@
--- Replies, one waiting client after the other, and equal commands.
+-- Replies, one waiting client after another, and equal commands.
 use Rattle.std.proofs.Common.{◌≡◌, ℕ, zero, suc, ◌+◌, ◌≤◌, true, false, List, [], ◌∷◌, ◌++◌, Some, None, length, refl, ap, ap₂, sym, ◌∙◌, append_assoc, arith}
 use Rattle.std.specs.Prelude.{◌==◌, ◌&&◌, Bool, Option, bytes_eq, slice_get, take}
 use Rattle.std.specs.List.{AllByRecursion}
@@ -123,8 +123,8 @@ module _ (me me' : ℕ) (done : List Value) (slot : ℕ) (c : Command) (v : Valu
 
 -- ---- the loop over the clients
 
--- The state is some replies on the way from this draft: so many clients wait no more, and the other replies are the
--- same.
+-- The state is some replies after this draft: the clients replied to do not wait any more, and the other replies are
+-- the same.
 pub record IsOnWay (state : MpReplica) (x : Draft) (count : ℕ) : Type 0 where
   pub draft : Draft
   pub stands : MpReplicaStands state draft

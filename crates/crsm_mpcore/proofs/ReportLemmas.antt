@@ -1,4 +1,4 @@
--- What reports leave, from what was found in all of them.
+-- The values that reports determine, by the findings in all of them.
 use Rattle.std.proofs.Common.{◌≡◌, ℕ, suc, ◌<◌, Bool, true, false, List, [], ◌∷◌, ◌++◌, Some, refl, ap, sym, ◌∙◌, arith}
 use Rattle.std.specs.Prelude.{◌==◌, ◌||◌, ◌&&◌, not, nat_lt, cond, max, map, filter, fold, Option, None, if◌then◌else◌}
 use Rattle.std.specs.List.{AllByRecursion, flat_map}

@@ -1,4 +1,4 @@
--- Which requests are taken, and which are refused.
+-- The requests that are accepted, and those that are refused.
 use Rattle.std.proofs.Common.{◌≡◌, ℕ, ◌+◌, true, false, List, refl, ap, ap₂, sym, subst, ◌∙◌}
 use Rattle.std.specs.Prelude.{◌==◌}
 use Rattle.crsm_base.specs.Order.{ballot_eq}
@@ -14,7 +14,7 @@ use Rattle.crsm_mpreplica.specs.declared.note.Leading.{Leading}
 use Rattle.crsm_mpreplica.specs.declared.note.Note.{Note}
 use Rattle.crsm_mpreplica.specs.Notes.{NoteStands}
 
--- the note on paper of a lead
+-- the stage of a leader in the definitions
 pub record IsLead (l : Leading) (p : NoteOnPaper) : Type 0 where
   pub start : ℕ
   pub reports : List Report

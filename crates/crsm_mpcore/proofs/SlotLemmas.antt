@@ -1,4 +1,4 @@
--- Lists by slot, one entry more at the end.
+-- Lists by slot, with one more entry at the end.
 use Rattle.std.proofs.Common.{◌≡◌, ℕ, ◌<◌, Bool, true, false, List, [], ◌∷◌, ◌++◌, Some, refl, ap, sym, ◌∙◌, arith}
 use Rattle.std.specs.Prelude.{cond, nat_lt, is_some}
 use Rattle.std.specs.Ordering.{nat_cmp}

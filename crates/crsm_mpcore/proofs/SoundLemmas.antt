@@ -1,4 +1,4 @@
--- What a sound log holds has a spelling.
+-- The content of a sound log has encodings.
 use Rattle.std.proofs.Common.{◌≡◌, ℕ, zero, suc, ◌+◌, Bool, true, false, List, [], ◌∷◌, Some, refl, ap, subst, ◌∙◌, arith}
 use Rattle.std.specs.Prelude.{◌==◌, cond, map, filter, slice_get, Option, None}
 use Rattle.std.specs.BTreeMap.{insert_entry}

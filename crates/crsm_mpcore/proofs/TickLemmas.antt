@@ -1,4 +1,4 @@
--- What is sent again at a tick, one replica more.
+-- The retransmissions at a tick, with one more replica.
 use Rattle.std.proofs.Common.{Vec, Global, get_or, length, ◌≡◌, ℕ, zero, suc, ◌+◌, ◌<◌, Bool, true, false, List, [], ◌∷◌, ◌++◌, IsTrue, Some, refl, ap, sym, subst, ◌∙◌, arith}
 use Rattle.std.specs.Prelude.{◌==◌, ◌&&◌, ◌||◌, not, cond, is_some, map, filter, fold, take, Option, None}
 use Rattle.std.specs.BTreeMap.{get, is_at, keys}
@@ -276,7 +276,7 @@ renews x = by_note x.replica.note refl
         let note = Note.Leading b start next reports votes in
         ap propose_all_again (asks-nothing x note is (λ k. refl)) ∙ proposed x note is ∙ proposes-each b start next reports votes (open_slots votes x.replica) x is
 
--- ---- the slots at hand
+-- ---- the open slots
 
 pub leading-slots : (l : Leading) (r : Replica) (p : Note) → NoteStands (NoteInMemory.Leading l) r.me r.log p → take most_again (keys l.open) ≡ slots_again r p
 unfolding slots_again open_slots open_of

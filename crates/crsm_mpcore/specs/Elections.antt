@@ -1,4 +1,4 @@
--- What a majority has promised and reported.
+-- The promises and reports of a majority.
 use Rattle.std.specs.Prelude.{◌≡◌, ℕ, ◌-◌, List, map, fold, Option, None, Some, Result, IfOk}
 use Rattle.std.specs.List.{AllByRecursion, range_with_len}
 use Rattle.crsm_base.specs.declared.memory.NoMemory.{NoMemory}
@@ -31,13 +31,13 @@ abbrev pub IsElection : Option Election → Draft → Type 0
 IsElection None x = lead_at_majority x ≡ x
 IsElection (Some e) x = (reports : List Report) × Elects e reports × (lead_at_majority x ≡ lead e.ballot e.start reports x)
 
--- Whatever the old state stood for, and whichever reports elected, the new one stands for what this makes of both; or
--- memory ran out.
+-- Whatever the old state stood for, and whichever reports elected, the new one stands for the effect of this on both;
+-- or memory ran out.
 abbrev pub MakesBy : Election → (List Report → Draft → Draft) → MpReplica → Result (Unit {0}) NoMemory → MpReplica → Type 0
 MakesBy e change old result new =
     IfOk result (λ _. WhereStands old (λ x. (reports : List Report) → Elects e reports → MpReplicaStands new (change reports x)))
 
--- keeps what is reported to be chosen
+-- records the values reported as chosen
 abbrev pub choose_all : List Report → Draft → Draft
 choose_all reports x = fold choose_reported x (chosen_among reports)
 

@@ -1,4 +1,4 @@
--- What reports say, as it is held in memory.
+-- The joint content of reports, in memory.
 use Rattle.std.specs.Prelude.{◌≡◌, ℕ, suc, List, [], ◌∷◌, ◌++◌, map, None}
 use Rattle.std.specs.BTreeMap.{get}
 use Rattle.std.specs.List.{AllByRecursion, flat_map}
@@ -16,9 +16,9 @@ use Rattle.crsm_mpreplica.specs.declared.note.MpReport.{MpReport as ReportInMemo
 use Rattle.crsm_mpreplica.specs.Fitting.{FitsAccepted, FitsChosen, FitsReport}
 use Rattle.crsm_mpcore.specs.declared.findings.Findings.{Findings}
 
--- ---- what was found so far
+-- ---- the findings before a report
 
--- what reports said so far of the slots from one on
+-- the joint content of reports on the slots from one on
 pub record Found : Type 0 where
   pub start : ℕ
   pub accepted : List MpAccepted
@@ -41,7 +41,7 @@ and_report found r = and_accepted (and_chosen found r.chosen) r.accepted
 abbrev pub FitsInside : ReportInMemory → Type 0
 FitsInside r = AllByRecursion FitsAccepted r.accepted × AllByRecursion FitsChosen r.chosen
 
--- what all of these reports say
+-- the joint content of all these reports
 abbrev pub found_in : ℕ → List Report → Found
 found_in start reports =
     record { start = start; accepted = flat_map (λ r. r.accepted) reports; chosen = flat_map (λ r. r.chosen) reports }

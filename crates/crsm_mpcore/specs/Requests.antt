@@ -1,4 +1,4 @@
--- Which commands are taken, and at which slot.
+-- The commands that are accepted, and their slots.
 use Rattle.std.specs.Prelude.{◌≡◌, ℕ, ◌<◌, true, List}
 use Rattle.crsm_base.specs.Order.{ballot_eq}
 use Rattle.crsm_base.specs.Spelling.{FitsBallot}

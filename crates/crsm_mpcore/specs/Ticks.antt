@@ -1,4 +1,4 @@
--- What is asked for once more at a tick, replica by replica.
+-- The retransmissions at a tick, replica by replica.
 use Rattle.std.specs.Prelude.{◌==◌, ◌&&◌, Bool, false, not, ℕ, IsTrue, List, [], fold, Option, None, Some}
 use Rattle.std.specs.BTreeMap.{get}
 use Rattle.std.specs.Option.{option_map, option_map_or}
@@ -23,7 +23,7 @@ send_where message n x = fold (send_if message) x (numbers_below n)
 
 -- ---- promises
 
--- what is asked of replica k, where it has not reported
+-- the request to replica k, if it has not reported
 unfoldable pub question : ℕ → Note → ℕ → Option MpMessage
 question me (Note.Asking b start reports) k =
     when not (k == me) && not (has_reported reports k) then Some (MpMessage.Prep b start) otherwise None
@@ -39,7 +39,7 @@ ask_again x = send_where (question x.replica.me x.replica.note) x.replica.n x
 unfoldable pub is_voter : Leading → ℕ → ℕ → Bool
 is_voter l slot k = option_map_or (λ voters. has voters.items k) (get nat_cmp l.open slot) false
 
--- what is proposed at the slot to replica k, where it has not voted
+-- the proposal at the slot for replica k, if it has not voted
 unfoldable pub proposal : ℕ → Replica → Note → ℕ → Option MpMessage
 proposal slot r (Note.Leading b start next reports votes) k =
     when not (k == r.me) && not (has (voters_at slot votes) k)

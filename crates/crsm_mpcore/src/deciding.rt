@@ -1,4 +1,4 @@
-//! How a slot is decided: a leader proposes, the others accept, and a majority of votes chooses.
+//! The decision of a slot: a leader proposes, the others accept, and a majority of votes chooses.
 
 ghost use Rattle.std.specs.Prelude.{◌≡◌, Some};
 ghost use Rattle.crsm_mpspec.specs.Deciding as deciding;
@@ -11,7 +11,7 @@ use crsm_base::{Ballot, Command, NoMemory, ballot_precedes};
 use crsm_mpreplica::MpReplica;
 use crsm_mpspec::{MpMessage, copy_value};
 
-/// Proposes what an earlier ballot may have proposed at a slot, or a noop.
+/// Proposes the value that an earlier ballot may have proposed at a slot, or a noop.
 pub(crate) fn propose(
     state: &mut MpReplica,
     ballot: Ballot,
@@ -25,7 +25,7 @@ pub(crate) fn propose(
     Ok(())
 }
 
-/// Proposes a client's command at a slot, at which the client waits from now on.
+/// Proposes a client's command at a slot, and records that the client waits there.
 pub(crate) fn submit(
     state: &mut MpReplica,
     ballot: Ballot,
@@ -62,7 +62,7 @@ fn ask_to_accept(
     Ok(())
 }
 
-/// At a majority of votes the leader's value is chosen, and the others learn it.
+/// Chooses the leader's value at a majority of votes, and sends it to the others.
 fn choose_voted(state: &mut MpReplica, slot: u64) -> Result<(), NoMemory>
     ensures { Makes (deciding.choose_voted slot) state.old result state.new }
 {
@@ -78,8 +78,8 @@ fn choose_voted(state: &mut MpReplica, slot: u64) -> Result<(), NoMemory>
     Ok(())
 }
 
-/// A leader asks to accept a value at a slot in a ballot, which is accepted unless a greater ballot is promised. A
-/// repeat is answered again.
+/// Handles a leader's request to accept a value at a slot in a ballot: accepts it unless a greater ballot is promised.
+/// A repeated request is answered again.
 pub(crate) fn on_acc(
     state: &mut MpReplica,
     from: u32,
@@ -115,7 +115,7 @@ fn accept_once(
     Ok(())
 }
 
-/// The value that was accepted last at a slot is that of this ballot.
+/// Returns whether the value accepted last at a slot is that of this ballot.
 fn has_accepted(state: &MpReplica, ballot: Ballot, slot: u64) -> bool
     ensures { WhereStands state.now (λ x. result ≡ deciding.has_accepted ballot slot x.replica.log) }
 {
@@ -125,7 +125,7 @@ fn has_accepted(state: &MpReplica, ballot: Ballot, slot: u64) -> bool
     }
 }
 
-/// A replica has accepted what is proposed at a slot in a ballot.
+/// Handles a vote for the proposal at a slot in a ballot.
 pub(crate) fn on_accd(
     state: &mut MpReplica,
     from: u32,

@@ -1,4 +1,5 @@
-//! How a replica comes to lead: it asks for promises of a ballot, and a majority of reports leaves it what to propose.
+//! The election of a leader: a replica asks for promises of a ballot, and the reports of a majority determine what it
+//! proposes.
 
 ghost use Rattle.std.specs.Prelude.{◌<◌, IfOk};
 ghost use Rattle.crsm_base.specs.Spelling.{FitsBallot};
@@ -17,8 +18,8 @@ use crsm_mpreplica::{Asking, MpReplica, Note};
 use crsm_mpspec::{MpAccepts, MpChoices, MpMessage};
 use std::alloc::Global;
 
-/// The replica is to lead: a lead that it has ends, and it asks in a ballot of its own above its promise, if there is
-/// one.
+/// Handles a request to become the leader: ends a lead, and asks for promises in a ballot of its own above its promise,
+/// if there is one.
 pub(crate) fn on_lead(state: &mut MpReplica) -> Result<(), NoMemory>
     ensures { Makes electing.on_lead state.old result state.new }
 {
@@ -35,7 +36,7 @@ pub(crate) fn on_lead(state: &mut MpReplica) -> Result<(), NoMemory>
     Ok(())
 }
 
-/// Asks all for promises of the ballot, its own first.
+/// Asks all replicas for promises of the ballot, its own first.
 fn ask(state: &mut MpReplica, ballot: Ballot) -> Result<(), NoMemory>
     ensures { MakesWhere (λ x. FitsBallot ballot) (electing.ask ballot) state.old result state.new }
 {
@@ -47,7 +48,7 @@ fn ask(state: &mut MpReplica, ballot: Ballot) -> Result<(), NoMemory>
     Ok(())
 }
 
-/// A replica asks for a promise, and for a report from a slot on.
+/// Handles a replica's request for a promise, and for a report from a slot on.
 pub(crate) fn on_prep(
     state: &mut MpReplica,
     from: u32,
@@ -90,7 +91,7 @@ fn report_to(state: &mut MpReplica, to: u32, ballot: Ballot, start: u64) -> Resu
     Ok(())
 }
 
-/// A replica promises a ballot, and reports what it has accepted and knows to be chosen.
+/// Handles the promise of a replica, with its report of accepted and chosen values.
 pub(crate) fn on_prom(
     state: &mut MpReplica,
     from: u32,
@@ -108,7 +109,7 @@ pub(crate) fn on_prom(
     Ok(())
 }
 
-/// What a majority has promised and reported.
+/// The ballot that a majority has promised, and the content of its reports.
 #[derive(Drop)]
 pub(crate) struct Election {
     ballot: Ballot,
@@ -116,7 +117,7 @@ pub(crate) struct Election {
     findings: Findings,
 }
 
-/// What a majority has promised and reported, where a ballot is asked for.
+/// Returns the election, if promises are asked for and a majority has reported.
 fn election_of(state: &MpReplica) -> Result<Option<Election>, NoMemory>
     ensures { IfOk result (λ election. WhereStands state.now (IsElection election)) }
 {
@@ -133,7 +134,7 @@ fn election_of(state: &MpReplica) -> Result<Option<Election>, NoMemory>
     }))
 }
 
-/// What all reports say.
+/// Returns the joint content of all reports.
 fn findings_of(alloc: Global, asking: &Asking) -> Result<Findings, NoMemory>
     ensures { IfOk result (λ findings. AreTheirs findings asking.now) }
 {
@@ -144,7 +145,7 @@ fn findings_of(alloc: Global, asking: &Asking) -> Result<Findings, NoMemory>
     Ok(findings)
 }
 
-/// A majority of reports makes a leader.
+/// Becomes the leader if a majority has reported.
 fn lead_at_majority(state: &mut MpReplica) -> Result<(), NoMemory>
     ensures { Makes electing.lead_at_majority state.old result state.new }
 {
@@ -155,7 +156,8 @@ fn lead_at_majority(state: &mut MpReplica) -> Result<(), NoMemory>
     Ok(())
 }
 
-/// Leads: keeps what is reported to be chosen, and proposes again at the other slots up to the last that is reported.
+/// Becomes the leader: records the values reported as chosen, and proposes again at the other slots up to the last that
+/// is reported.
 fn lead(state: &mut MpReplica, election: &Election) -> Result<(), NoMemory>
     ensures { MakesBy election.now (electing.lead election.now.ballot election.now.start) state.old result state.new }
 {
@@ -165,7 +167,7 @@ fn lead(state: &mut MpReplica, election: &Election) -> Result<(), NoMemory>
     Ok(())
 }
 
-/// Keeps what is reported to be chosen.
+/// Records the values reported as chosen.
 fn choose_all(state: &mut MpReplica, election: &Election) -> Result<(), NoMemory>
     ensures { MakesBy election.now elections.choose_all state.old result state.new }
 {
@@ -175,7 +177,7 @@ fn choose_all(state: &mut MpReplica, election: &Election) -> Result<(), NoMemory
     Ok(())
 }
 
-/// Proposes what the reports leave at each slot up to the last that is reported.
+/// Proposes the value that the reports determine at each slot up to the last that is reported.
 fn propose_all(state: &mut MpReplica, election: &Election) -> Result<(), NoMemory>
     ensures { MakesBy election.now (elections.propose_all election.now.ballot election.now.start) state.old result state.new }
 {
@@ -185,7 +187,7 @@ fn propose_all(state: &mut MpReplica, election: &Election) -> Result<(), NoMemor
     Ok(())
 }
 
-/// Proposes what the reports leave at a slot, unless its value is known.
+/// Proposes the value that the reports determine at a slot, unless its value is known.
 fn propose_reported(state: &mut MpReplica, election: &Election, slot: u64) -> Result<(), NoMemory>
     ensures { slot < u64_max → MakesBy election.now (λ reports x. electing.propose_reported election.now.ballot reports x slot) state.old result state.new }
 {

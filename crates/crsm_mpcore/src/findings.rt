@@ -1,4 +1,4 @@
-//! What the promises of a majority report.
+//! The joint content of the reports of a majority.
 
 ghost use Rattle.std.specs.Prelude.{◌≡◌, ℕ, List, [], ◌∷◌, Some, OnOk, IfOk, if◌then◌else◌};
 ghost use Rattle.std.specs.List.{AllByRecursion};
@@ -12,12 +12,12 @@ use crsm_mpspec::{MpAccepted, MpChosen, copy_value};
 use std::alloc::Global;
 use std::collections::BTreeMap;
 
-/// What reports say of each slot: the value that is known to be chosen, and the accepted value of the greatest ballot.
-/// Of reports that differ the first one counts.
+/// The content of reports for each slot: the value known to be chosen, and the accepted value of the greatest ballot.
+/// If reports differ, the first one counts.
 #[derive(Drop)]
 pub(crate) struct Findings {
     alloc: Global,
-    /// The slot behind all that are reported.
+    /// The slot after all that are reported.
     next: u64,
     chosen: BTreeMap<u64, Option<Command>>,
     best: BTreeMap<u64, (Ballot, Option<Command>)>,
@@ -26,7 +26,7 @@ pub(crate) struct Findings {
 impl Findings {
     ghost use Rattle.crsm_mpcore.specs.Findings.{AreFindings, FindingsStand, FitsInside, Found, and_accepted, and_chosen, and_report, as_held, best_at, none_found};
 
-    /// There are no reports of the slots from this one on.
+    /// Returns the findings before any report, for the slots from `start` on.
     pub(crate) fn new(alloc: Global, start: u64) -> Findings
         ensures { FindingsStand result (none_found start) }
     {
@@ -38,7 +38,7 @@ impl Findings {
         }
     }
 
-    /// One report more.
+    /// Adds a report.
     pub(crate) fn add(&mut self, report: &MpReport) -> Result<(), NoMemory>
         ensures { OnOk result ((found : Found) → FindingsStand self.old found → FitsInside report.now → FindingsStand self.new (and_report found report.now)) }
     {
@@ -47,7 +47,7 @@ impl Findings {
         Ok(())
     }
 
-    /// What a report says to be chosen.
+    /// Adds the chosen values of a report.
     fn add_all_chosen(&mut self, all: &[MpChosen]) -> Result<(), NoMemory>
         ensures { OnOk result ((found : Found) → FindingsStand self.old found → AllByRecursion FitsChosen all.now → FindingsStand self.new (and_chosen found all.now)) }
     {
@@ -57,7 +57,7 @@ impl Findings {
         Ok(())
     }
 
-    /// What a report says to be accepted.
+    /// Adds the accepted values of a report.
     fn add_all_accepted(&mut self, all: &[MpAccepted]) -> Result<(), NoMemory>
         ensures { OnOk result ((found : Found) → FindingsStand self.old found → AllByRecursion FitsAccepted all.now → FindingsStand self.new (and_accepted found all.now)) }
     {
@@ -67,7 +67,7 @@ impl Findings {
         Ok(())
     }
 
-    /// A chosen value.
+    /// Adds a chosen value.
     fn add_chosen(&mut self, chosen: &MpChosen) -> Result<(), NoMemory>
         ensures { OnOk result ((found : Found) → FindingsStand self.old found → FitsChosen chosen.now → FindingsStand self.new (and_chosen found (chosen.now ∷ []))) }
     {
@@ -80,7 +80,7 @@ impl Findings {
         Ok(())
     }
 
-    /// An accepted value.
+    /// Adds an accepted value.
     fn add_accepted(&mut self, accepted: &MpAccepted) -> Result<(), NoMemory>
         ensures { OnOk result ((found : Found) → FindingsStand self.old found → FitsAccepted accepted.now → FindingsStand self.new (and_accepted found (accepted.now ∷ []))) }
     {
@@ -93,7 +93,7 @@ impl Findings {
         Ok(())
     }
 
-    /// The value is of a greater ballot than all that were found at its slot.
+    /// Returns whether the value has a greater ballot than all found at its slot.
     fn is_greater(&self, accepted: &MpAccepted) -> bool
         ensures { greater_held (best_at self.now accepted.now.slot) (as_held accepted.now) ≡
             (if result then Some (as_held accepted.now) else best_at self.now accepted.now.slot) }
@@ -104,14 +104,14 @@ impl Findings {
         }
     }
 
-    /// The values that are known to be chosen, by slot.
+    /// Returns the values known to be chosen, by slot.
     pub(crate) fn chosen(&self) -> &BTreeMap<u64, Option<Command>>
         ensures { result.now ≡ self.now.chosen }
     {
         &self.chosen
     }
 
-    /// The value that a slot has to get: a noop where none is reported.
+    /// Returns the value that must be proposed at a slot: a noop if none is reported.
     pub(crate) fn value_at(&self, slot: u64) -> Result<Option<Command>, NoMemory>
         ensures { IfOk result (λ value. (start : ℕ) (reports : List ReportOnPaper) → AreFindings self.now start reports → value ≡ reported_at slot reports) }
     {
@@ -121,7 +121,7 @@ impl Findings {
         }
     }
 
-    /// The slot behind all that are reported.
+    /// Returns the slot after all that are reported.
     pub(crate) fn next(&self) -> u64
         ensures { result ≡ self.now.next }
     {

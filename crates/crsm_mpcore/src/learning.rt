@@ -1,4 +1,4 @@
-//! What is executed, told from one replica to another.
+//! Transfer of executed values from one replica to another.
 
 ghost use Rattle.std.specs.Prelude.{◌≡◌, Some, slice_get};
 ghost use Rattle.crsm_mpspec.specs.Draft as drafts;
@@ -12,7 +12,7 @@ use crsm_base::{MAX_SENT_AGAIN, NoMemory};
 use crsm_mpreplica::MpReplica;
 use crsm_mpspec::{MpMessage, copy_value};
 
-/// A replica asks for executed values from a slot on, and gets the first of them.
+/// Handles a replica's request for executed values from a slot on: sends the first of them.
 pub(crate) fn on_ask(state: &mut MpReplica, from: u32, start: u64) -> Result<(), NoMemory>
     ensures { Makes (steps.on_ask from start) state.old result state.new }
 {
@@ -25,12 +25,12 @@ pub(crate) fn on_ask(state: &mut MpReplica, from: u32, start: u64) -> Result<(),
     Ok(())
 }
 
-/// Tells a replica the value of an executed slot.
+/// Sends a replica the value of an executed slot.
 fn teach(state: &mut MpReplica, to: u32, slot: u64) -> Result<(), NoMemory>
     ensures { (v : Value) → MakesWhere (λ x. slice_get (executed x.replica.log) slot ≡ Some v) (λ x. drafts.send (Message.Learn slot v) x to) state.old result state.new }
 {
     let Some(executed) = state.ledger().executed(slot) else {
-        // Only an executed slot is asked for.
+        // Only executed slots are passed.
         return Ok(());
     };
     let value = copy_value(state.alloc(), executed)?;

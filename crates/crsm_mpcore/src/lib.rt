@@ -1,4 +1,5 @@
-//! One replica of a store with a leader, in memory: each step is the rule of its input, and the replies to clients.
+//! One replica of a store with a leader, in memory: each step is the rule of its input, followed by the replies to
+//! clients.
 #![tactic(auto)]
 
 mod deciding;

@@ -1,4 +1,4 @@
-//! A replica in memory, as others hold it: an input and its address become a batch. After an error it is spent.
+//! The replica in memory: its boot and its steps.
 
 ghost use Rattle.std.specs.Prelude.{◌<◌, ◌≤◌, [], IfOk, IsErr};
 ghost use Rattle.crsm_mpspec.specs.Log.{Log};
@@ -17,7 +17,8 @@ use crsm_mpreplica::MpReplica;
 use crsm_mpspec::{MpBatch, MpInput};
 use std::alloc::Global;
 
-/// One replica of a store with a leader, in memory. After an error it is spent, and a new one is made of its log.
+/// One replica of a store with a leader, in memory. After an error it is spent, and a new one must be booted from its
+/// log.
 #[derive(Drop)]
 pub struct MpCore {
     state: MpReplica,
@@ -25,7 +26,7 @@ pub struct MpCore {
 }
 
 impl MpCore {
-    /// Replica `me` of `n`, of the bodies of its own log. Its boot is logged.
+    /// Boots replica `me` of `n` on the bodies of its own log, and records the boot. `NoMemory` if memory runs out.
     pub fn recover(alloc: Global, me: u32, n: u32, bodies: &Bodies) -> Result<MpCore, NoMemory>
         requires mine { me < n }
         requires most { n ≤ 15 }
@@ -38,7 +39,8 @@ impl MpCore {
         })
     }
 
-    /// One step. A message comes from replica `from`. What it has made is to be kept and then sent.
+    /// Runs one step and returns its output; a message comes from replica `from`. The records must be durable before
+    /// the messages are sent. `NoMemory` if memory runs out; the replica is then spent.
     #[tactic(auto, unfolding(crate::specs::Core::IsSpent))]
     pub fn step(&mut self, input: &MpInput, from: u32) -> Result<MpBatch, NoMemory>
         ensures made { FitsInput input.now → WhereCore self.old (λ r. IfOk result (λ batch. Answers batch (outcome_of (steps.step r input.now from)))) }
@@ -48,7 +50,7 @@ impl MpCore {
         if self.is_spent {
             return Err(NoMemory);
         }
-        // Whoever sees the error below must not go on from half a step.
+        // A caller that sees the error below must not continue from half a step.
         self.is_spent = true;
         step::step(&mut self.state, input, from)?;
         let batch = self.state.take_batch();
@@ -56,7 +58,7 @@ impl MpCore {
         Ok(batch)
     }
 
-    /// What the records of its log say.
+    /// Returns its ledger.
     pub fn ledger(&self) -> &MpLedger
         ensures { WhereCore self.now (λ r. MpLedgerStands result.now r.log) }
     {

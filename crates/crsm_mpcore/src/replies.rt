@@ -1,4 +1,4 @@
-//! Replies to clients that wait.
+//! Replies to waiting clients.
 
 ghost use Rattle.std.specs.Prelude.{◌≡◌, Some, None, slice_get, take, IfOk};
 ghost use Rattle.crsm_spec.specs.Choice.{when◌then◌otherwise◌};
@@ -16,7 +16,7 @@ use crsm_mpreplica::MpReplica;
 use crsm_mpspec::MpLine;
 use std::alloc::Global;
 
-/// Answers each waiting client whose slot is executed. The others wait on.
+/// Answers each waiting client whose slot is executed. The others continue to wait.
 pub(crate) fn replies(state: &mut MpReplica) -> Result<(), NoMemory>
     ensures { Makes steps.replies state.old result state.new }
 {
@@ -30,7 +30,7 @@ pub(crate) fn replies(state: &mut MpReplica) -> Result<(), NoMemory>
     Ok(())
 }
 
-/// The reply to a command whose slot is executed: its answer, or that another value was chosen there.
+/// Returns the reply to a command whose slot is executed: its answer, or that another value was chosen there.
 #[tactic(auto, unfolding(crsm_mpspec::specs::Step::reply_line))]
 fn reply_line(state: &MpReplica, slot: u64, command: &Command) -> Result<MpLine, NoMemory>
     ensures { IfOk result (λ line. (x : Draft) (v : Value) → MpReplicaStands state.now x → slice_get (executed x.replica.log) slot ≡ Some v →
@@ -54,7 +54,7 @@ fn reply_line(state: &MpReplica, slot: u64, command: &Command) -> Result<MpLine,
     }
 }
 
-/// The answer to a command, where it is what was executed at the slot.
+/// Returns the answer to a command, or `None` if another value was executed at the slot.
 fn answer_to(state: &MpReplica, slot: u64, command: &Command) -> Result<Option<Answer>, NoMemory>
     ensures { IfOk result (λ answer. (x : Draft) (v : Value) → MpReplicaStands state.now x → slice_get (executed x.replica.log) slot ≡ Some v →
         answer ≡ (when values.is_command command.now v then Some (values.answer_after (take slot (executed x.replica.log)) command.now) otherwise None)) }
@@ -75,7 +75,7 @@ fn answer_to(state: &MpReplica, slot: u64, command: &Command) -> Result<Option<A
     }
 }
 
-/// An equal answer.
+/// Returns a copy of an answer.
 fn copy_answer(alloc: Global, answer: &Option<Answer>) -> Result<Option<Answer>, NoMemory>
     ensures { IfOk result (λ copy. copy ≡ answer.now) }
 {

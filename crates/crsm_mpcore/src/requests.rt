@@ -1,4 +1,4 @@
-//! Requests of clients: refused, or accepted at the next slot of who leads.
+//! The rule for requests of clients: they are refused, or accepted at the leader's next slot.
 
 ghost use Rattle.std.specs.Prelude.{◌≡◌, IfOk, IfErr};
 ghost use Rattle.crsm_base.specs.Spelling.{FitsCommand};
@@ -12,14 +12,14 @@ use crsm_base::{Ballot, Command, NoMemory};
 use crsm_mpreplica::{MpReplica, Note};
 use crsm_mpspec::MpLine;
 
-/// Why a command is not taken, with the number that stands for it in the reply.
+/// The reason for refusing a command, with its code in the reply.
 #[derive(Clone, Copy)]
 enum MpRefusal {
     NotLeading = 1,
     NoSlotLeft = 5,
 }
 
-/// A client's command: only a leader in the promised ballot takes it, at the next slot.
+/// Handles a client's command: only a leader in the promised ballot accepts it, at the next slot.
 pub(crate) fn on_request(state: &mut MpReplica, command: &Command) -> Result<(), NoMemory>
     ensures { MakesWhere (λ x. FitsCommand command.now) (deciding.on_request command.now) state.old result state.new }
 {
@@ -36,7 +36,8 @@ pub(crate) fn on_request(state: &mut MpReplica, command: &Command) -> Result<(),
     }
 }
 
-/// The ballot in which the replica leads, and the slot of the next command.
+/// Returns the ballot in which the replica leads, and the slot of the next command. The error is the reason for
+/// refusing it.
 fn next_slot(state: &MpReplica) -> Result<(Ballot, u64), MpRefusal>
     ensures ok { IfOk result (λ next. WhereStands state.now (λ x. IsNext next.0 next.1 x)) }
     ensures err { IfErr result (λ why. WhereStands state.now (λ x. (command : CommandOnPaper) → deciding.on_request command x ≡ deciding.refuse (refusal_code why) command x)) }
@@ -53,7 +54,7 @@ fn next_slot(state: &MpReplica) -> Result<(Ballot, u64), MpRefusal>
     Ok((leading.ballot, leading.next))
 }
 
-/// Tells the client why its command is not taken.
+/// Refuses a client's command.
 fn refuse(state: &mut MpReplica, command: &Command, why: MpRefusal) -> Result<(), NoMemory>
     ensures { Makes (deciding.refuse (refusal_code why) command.now) state.old result state.new }
 {
@@ -67,7 +68,7 @@ fn refuse(state: &mut MpReplica, command: &Command, why: MpRefusal) -> Result<()
     Ok(())
 }
 
-/// The number that stands for a refusal in its line.
+/// Returns the code of a refusal in its line.
 fn code_of(why: MpRefusal) -> u32
     ensures { result ≡ refusal_code why }
 {

@@ -1,4 +1,4 @@
-//! Whether two commands are equal, byte for byte: of one slot another command may be chosen than was asked for.
+//! Comparison of commands, byte for byte: a slot may get another command than the one proposed there.
 
 ghost use Rattle.std.specs.Prelude.{◌≡◌, bytes_eq};
 ghost use Rattle.std.specs.Option.{option_eq};
@@ -6,7 +6,7 @@ ghost use Rattle.crsm_mpspec.specs.Values as values;
 
 use crsm_base::{Command, Key, Op, Val};
 
-/// The value of a slot is this command.
+/// Returns whether the value of a slot is this command.
 #[tactic(auto, unfolding(crsm_mpspec::specs::Values::is_command))]
 pub(crate) fn is_command(command: &Command, value: &Option<Command>) -> bool
     ensures { result ≡ values.is_command command.now value.now }
@@ -17,7 +17,7 @@ pub(crate) fn is_command(command: &Command, value: &Option<Command>) -> bool
     }
 }
 
-/// Both commands are equal.
+/// Returns whether both commands are equal.
 #[tactic(auto, unfolding(crsm_mpspec::specs::Values::command_eq))]
 fn is_same(a: &Command, b: &Command) -> bool
     ensures { result ≡ values.command_eq a.now b.now }

@@ -17,7 +17,7 @@ use crsm_base::NoMemory;
 use crsm_mpreplica::MpReplica;
 use crsm_mpspec::{MpInput, MpMessage};
 
-/// One step: the rule of the input, and the replies to those whose slots are executed at its end.
+/// Runs one step: the rule of the input, and the replies to the clients whose slots are then executed.
 #[tactic(auto, unfolding(crsm_mpspec::specs::Step::step))]
 pub(crate) fn step(state: &mut MpReplica, input: &MpInput, from: u32) -> Result<(), NoMemory>
     ensures { IfOk result (λ _. (r : Replica) → FitsInput input.now → MpReplicaStands state.old (begun r) → MpReplicaStands state.new (steps.step r input.now from)) }
@@ -27,7 +27,7 @@ pub(crate) fn step(state: &mut MpReplica, input: &MpInput, from: u32) -> Result<
     Ok(())
 }
 
-/// The rule of an input.
+/// Applies the rule of an input.
 #[tactic(auto, unfolding(crsm_mpspec::specs::Step::on_input))]
 fn on_input(state: &mut MpReplica, input: &MpInput, from: u32) -> Result<(), NoMemory>
     ensures { MakesWhere (λ x. FitsInput input.now) (steps.on_input input.now from) state.old result state.new }
@@ -52,7 +52,7 @@ fn on_input(state: &mut MpReplica, input: &MpInput, from: u32) -> Result<(), NoM
     }
 }
 
-/// The rule of a message of another replica.
+/// Applies the rule of another replica's message.
 #[tactic(auto, unfolding(crsm_mpspec::specs::Step::on_message))]
 fn on_message(state: &mut MpReplica, from: u32, message: &MpMessage) -> Result<(), NoMemory>
     ensures { MakesWhere (λ x. FitsMessage message.now) (steps.on_message from message.now) state.old result state.new }

@@ -1,4 +1,4 @@
-//! Ticks: what is asked for is sent again.
+//! The rule for ticks: requests that are not answered are retransmitted.
 
 ghost use Rattle.std.specs.Prelude.{◌≡◌, take, IfOk};
 ghost use Rattle.std.specs.BTreeMap.{keys};
@@ -14,7 +14,8 @@ use crsm_mpspec::{MpMessage, copy_value};
 use std::alloc::Global;
 use std::collections::BTreeMap;
 
-/// A tick: what is asked for is sent again, and all are asked for what is executed beyond here.
+/// Handles a tick: retransmits the requests that are not answered, and asks all replicas for executed values that this
+/// one does not have.
 pub(crate) fn on_tick(state: &mut MpReplica) -> Result<(), NoMemory>
     ensures { Makes steps.on_tick state.old result state.new }
 {
@@ -25,7 +26,7 @@ pub(crate) fn on_tick(state: &mut MpReplica) -> Result<(), NoMemory>
     Ok(())
 }
 
-/// Asks those for promises again who have not reported.
+/// Asks the replicas that have not reported again for their promises.
 fn ask_again(state: &mut MpReplica) -> Result<(), NoMemory>
     ensures { Makes ticks.ask_again state.old result state.new }
 {
@@ -37,7 +38,7 @@ fn ask_again(state: &mut MpReplica) -> Result<(), NoMemory>
     Ok(())
 }
 
-/// What is asked of a replica, where a ballot is asked for that it has not promised.
+/// Returns the request for a promise of a replica, or `None` if no promise of it is missing.
 fn question_to(state: &MpReplica, to: u32) -> Option<MpMessage>
     ensures { WhereStands state.now (λ x. result ≡ question x.replica.me x.replica.note to) }
 {
@@ -56,7 +57,7 @@ fn question_to(state: &MpReplica, to: u32) -> Option<MpMessage>
     })
 }
 
-/// Proposes again at the first slots that are open.
+/// Proposes again at the first open slots.
 fn propose_all_again(state: &mut MpReplica) -> Result<(), NoMemory>
     ensures { Makes ticks.propose_all_again state.old result state.new }
 {
@@ -67,7 +68,7 @@ fn propose_all_again(state: &mut MpReplica) -> Result<(), NoMemory>
     Ok(())
 }
 
-/// The first slots that this lead proposed at and that are not chosen yet.
+/// Returns the first slots at which this lead has proposed and which are not chosen yet.
 fn open_slots(state: &MpReplica) -> Result<Vec<u64>, NoMemory>
     ensures { IfOk result (λ slots. WhereStands state.now (λ x. slots.items ≡ slots_again x.replica x.replica.note)) }
 {
@@ -77,7 +78,7 @@ fn open_slots(state: &MpReplica) -> Result<Vec<u64>, NoMemory>
     }
 }
 
-/// The first slots of a map.
+/// Returns the first slots of a map.
 fn first_slots(alloc: Global, slots: &BTreeMap<u64, Vec<u32>>) -> Result<Vec<u64>, NoMemory>
     ensures { IfOk result (λ first. first.items ≡ take most_again (keys slots.now)) }
 {
@@ -89,7 +90,7 @@ fn first_slots(alloc: Global, slots: &BTreeMap<u64, Vec<u32>>) -> Result<Vec<u64
     Ok(first)
 }
 
-/// Proposes the accepted value at an open slot once more to those that have not voted.
+/// Proposes the accepted value at an open slot again to the replicas that have not voted.
 fn propose_again(state: &mut MpReplica, slot: u64) -> Result<(), NoMemory>
     ensures { MakesWhere (λ x. IsOpen slot x.replica x.replica.note) (propose_slot slot) state.old result state.new }
 {
@@ -101,7 +102,7 @@ fn propose_again(state: &mut MpReplica, slot: u64) -> Result<(), NoMemory>
     Ok(())
 }
 
-/// What is proposed at an open slot, to a replica that has not voted there.
+/// Returns the proposal at an open slot for a replica, or `None` if it has voted there.
 fn proposal_to(state: &MpReplica, slot: u64, to: u32) -> Result<Option<MpMessage>, NoMemory>
     ensures { IfOk result (λ message. WhereStands state.now (λ x. IsOpen slot x.replica x.replica.note → message ≡ proposal slot x.replica x.replica.note to)) }
 {
@@ -124,7 +125,7 @@ fn proposal_to(state: &MpReplica, slot: u64, to: u32) -> Result<Option<MpMessage
     }))
 }
 
-/// The replica has voted at an open slot.
+/// Returns whether the replica has voted at an open slot.
 fn has_voted(leading: &Leading, slot: u64, replica: u32) -> bool
     ensures { result ≡ ticks.is_voter leading.now slot replica }
 {

@@ -1,4 +1,4 @@
--- Boots, and records that are followed one behind the other.
+-- Boots, and records that are applied one after another.
 use Rattle.std.proofs.Common.{◌≡◌, ℕ, zero, suc, ◌+◌, Bool, List, [], ◌∷◌, Option, Some, refl, ap, sym, subst, ◌∙◌, arith}
 use Rattle.std.specs.Prelude.{fold, slice_get, drop, if◌then◌else◌}
 use Rattle.crsm_mpspec.specs.declared.rec.MpRec.{MpRec}

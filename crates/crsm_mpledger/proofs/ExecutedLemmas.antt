@@ -1,4 +1,4 @@
--- What is executed, one slot more.
+-- The executed slots with one more.
 use Rattle.std.proofs.Common.{◌≡◌, ℕ, zero, suc, List, [], ◌∷◌, ◌++◌, length, Some, refl, ap, sym, ◌∙◌, append_assoc}
 use Rattle.std.specs.Prelude.{Option, slice_get, take}
 use Rattle.std.specs.Option.{option_map}

@@ -1,4 +1,4 @@
--- What a ledger stands for, one record more.
+-- The relation of a ledger to its log, with one more record.
 use Rattle.std.proofs.Common.{◌≡◌, List, [], ◌∷◌, ◌++◌, Option, refl, ap, sym, subst, ◌∙◌}
 use Rattle.std.specs.Option.{option_map}
 use Rattle.crsm_base.specs.Spelling.{FitsBallot}

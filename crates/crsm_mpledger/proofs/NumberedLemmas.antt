@@ -1,4 +1,4 @@
--- Values that stand in a list up to a slot, and in a map beyond.
+-- Values in a list up to a slot, and in a map beyond.
 use Rattle.std.proofs.Common.{◌≡◌, ℕ, zero, suc, ◌+◌, ◌<◌, ◌≤◌, true, false, List, [], ◌∷◌, ◌++◌, length, Option, None, Some, refl, ap, sym, subst, ◌∙◌, arith, Bor}
 use Rattle.std.specs.Prelude.{nat_eq, nat_le, nat_lt, is_some, IfSome, filter, map, slice_get, slice_set, slice_index_or, All, take}
 use Rattle.std.specs.Option.{option_copied}

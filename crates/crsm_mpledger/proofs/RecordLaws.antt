@@ -1,4 +1,4 @@
--- The reader of records reads their spellings.
+-- The reader of records reads their encodings.
 use Rattle.std.proofs.Common.{◌≡◌, ℕ, ◌≤◌, List, ◌++◌, length, Some, refl, arith}
 use Rattle.crsm_base.specs.Spelling.{option_bytes, FitsOption, command_bytes, FitsCommand}
 use Rattle.crsm_base.specs.Parser.{u8_at}

@@ -11,7 +11,7 @@ use Rattle.crsm_mpspec.specs.Types.{Value}
 use Rattle.crsm_mpspec.specs.Log.{Log, at_slot, choices, chosen_at, is_chosen, end, and_then, run_from, executed}
 use Rattle.crsm_mpledger.specs.Sound.{IsSound}
 
--- a run of so many values begins with a known one
+-- a run of at least one value begins with a known one
 begins : (o : Option Value) (rest : List Value) (k : ℕ) → length (and_then o rest) ≡ suc k → (v : Value) × (o ≡ Some v) × (length rest ≡ k)
 unfolding and_then
 begins None rest k e = absurd (omega (arith, e))

@@ -1,4 +1,4 @@
--- Records that are taken from a body one behind the other.
+-- Records read from a body one after another.
 use Rattle.std.proofs.Common.{◌≡◌, ℕ, ◌<◌, ◌≤◌, List, [], ◌∷◌, ◌++◌, length, Some, refl, ap, sym, subst, ◌∙◌, arith}
 use Rattle.std.specs.List.{flat_map, AllByRecursion}
 use Rattle.std.proofs.lemmas.List.{length-append}
@@ -21,7 +21,7 @@ value_parses : IsParser value_at (option_bytes command_bytes) (FitsOption FitsCo
 unfolding value_at
 value_parses = option_parses command_parses
 
--- a record is read from its spelling
+-- a record is read from its encoding
 rec_again : (x : MpRec) (rest : List ℕ) → FitsRec x → rec_at (rec_bytes x ++ rest) ≡ Some (x, rest)
 unfolding rec_at rec_bytes u8_at boot_at promise_at accept_at choose_at
 rec_again MpRec.Boot rest fits = refl
@@ -40,7 +40,7 @@ rec_long (MpRec.Choose slot v) = omega arith
 
 -- ---- what is left of a body
 
--- behind this log the rest spells the records that are missing of the whole
+-- after this log the rest is the encoding of the missing records of the whole
 pub record IsLeft (part : Log) (more : List MpRec) (rest : List ℕ) (whole : Log) : Type 0 where
   pub fit : AllByRecursion FitsRec more
   pub is : rest ≡ flat_map rec_bytes more

@@ -1,4 +1,4 @@
--- Values by slot, as they are held in memory: those of the first slots in a list, those beyond a gap in a map.
+-- Values by slot in memory: those of the first slots in a list, those beyond a gap in a map.
 use Rattle.std.specs.Prelude.{◌≡◌, ℕ, suc, ◌≤◌, List, [], ◌∷◌, ◌++◌, length}
 use Rattle.crsm_mpledger.specs.declared.by_slot.BySlot.{BySlot}
 

@@ -1,11 +1,11 @@
--- What is executed, as it is held in memory.
+-- The executed slots in memory.
 use Rattle.std.specs.Prelude.{◌≡◌, List, [], ◌∷◌, ◌++◌, Option}
 use Rattle.std.specs.Option.{option_map}
 use Rattle.crsm_mpspec.specs.Types.{Answer, Value}
 use Rattle.crsm_mpspec.specs.Values.{answer_after, rows_after}
 use Rattle.crsm_mpledger.specs.declared.executions.Executions.{Executions}
 
--- the answers to values that come behind these; a noop has none
+-- the answers to values after these; a noop has none
 unfoldable pub answers_behind : List Value → List Value → List (Option Answer)
 answers_behind done [] = []
 answers_behind done (v ∷ vs) = option_map (answer_after done) v ∷ answers_behind (done ++ v ∷ []) vs

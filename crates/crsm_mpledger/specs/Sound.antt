@@ -6,7 +6,7 @@ use Rattle.crsm_mpspec.specs.declared.rec.MpRec.{MpRec}
 use Rattle.crsm_mpspec.specs.Log.{Log, is_chosen}
 use Rattle.crsm_mpspec.specs.Records.{SpeltBody}
 
--- the record may come behind this log: it has a spelling, its slot is not the last number, and no slot is chosen twice
+-- the record may follow this log: it has an encoding, its slot is not the last number, and no slot is chosen twice
 abbrev pub MayFollow : Log → MpRec → Type 0
 MayFollow log MpRec.Boot = Unit {0}
 MayFollow log (MpRec.Promise b) = FitsBallot b
@@ -23,7 +23,7 @@ abbrev pub with_records : Log → List MpRec → Log
 with_records log [] = log
 with_records log (rec ∷ recs) = with_records (rec ∷ log) recs
 
--- behind a log, these bodies spell the rest of another
+-- after a log, these bodies are the encoding of the rest of another
 abbrev pub AreBodies : Log → List (List ℕ) → Log → Type 0
 AreBodies log [] whole = log ≡ whole
 AreBodies log (body ∷ bodies) whole = (recs : List MpRec) × SpeltBody recs body × AreBodies (with_records log recs) bodies whole

@@ -11,7 +11,7 @@ use crsm_mpspec::{MpRec, MpRecs};
 use std::alloc::Global;
 
 #[tactic(auto, unfolding(crsm_mpspec::specs::Records::body_bytes))]
-/// Appends the spelling of records, one behind the other.
+/// Appends the encodings of records. `NoMemory` if memory runs out.
 pub fn put_body(records: &[MpRec], out: &mut Bytes) -> Result<(), NoMemory>
     requires { AllByRecursion FitsRec records.now }
     ensures { OnOk result (out.new ≡ out.old ++ body_bytes records.now) }
@@ -22,7 +22,8 @@ pub fn put_body(records: &[MpRec], out: &mut Bytes) -> Result<(), NoMemory>
     Ok(())
 }
 
-/// Takes the records of a whole log body, up to its end: `None` exactly where the bytes are not one or more records.
+/// Parses the records of a whole log body. `None` if the bytes are not one or more records; `NoMemory` if memory runs
+/// out.
 pub fn take_body(alloc: Global, body: &[u8]) -> Result<Option<MpRecs>, NoMemory>
     ensures found { IfOk result (λ r. IfSome r (λ recs. SpeltBody recs body.now)) }
     ensures none { IfOk result (λ r. IfNone r ((recs : List MpRec) → SpeltBody recs body.now → ⊥)) }

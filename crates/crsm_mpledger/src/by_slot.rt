@@ -1,4 +1,4 @@
-//! Values by slot. Most slots are filled one behind the other, and stand in a list; what lies beyond a gap stands in a map.
+//! Values by slot. Most slots are filled in order, and are in a list; those beyond a gap are in a map.
 
 ghost use Rattle.std.specs.Prelude.{◌≡◌, ◌<◌, [], ◌++◌, suc, length, slice_get, is_some, OnOk, true, false};
 ghost use Rattle.std.specs.Option.{option_copied};
@@ -11,17 +11,17 @@ use crsm_base::NoMemory;
 use std::alloc::Global;
 use std::collections::BTreeMap;
 
-/// A value for some slots.
+/// The values of some slots.
 #[derive(Drop)]
 pub(crate) struct BySlot<V> {
-    /// Those of the first slots, up to the first that has none.
+    /// The values of the first slots, up to the first that has none.
     prefix: Vec<V>,
-    /// Those of later slots.
+    /// The values of later slots.
     beyond: BTreeMap<u64, V>,
 }
 
 impl<V: Drop> BySlot<V> {
-    /// No slot has a value.
+    /// Returns the state without values.
     pub(crate) fn new(alloc: Global) -> BySlot<V>
         ensures { SlotsStand result [] }
     {
@@ -31,7 +31,7 @@ impl<V: Drop> BySlot<V> {
         }
     }
 
-    /// Makes room for so many values more. Nothing else changes.
+    /// Reserves memory for `additional` more values. Nothing else changes.
     pub(crate) fn reserve(&mut self, additional: usize) -> Result<(), NoMemory>
         ensures { WhereSlots self.old (λ entries. SlotsStand self.new entries) }
     {
@@ -39,7 +39,7 @@ impl<V: Drop> BySlot<V> {
         Ok(())
     }
 
-    /// The value of a slot.
+    /// Returns the value of a slot, or `None` if it has none.
     pub(crate) fn get(&self, slot: u64) -> Option<&V>
         ensures value { WhereSlots self.now (λ entries. option_copied result ≡ lookup (is_at (nat_cmp slot)) entries) }
         ensures listed { slot < length self.now.prefix.items → option_copied result ≡ slice_get self.now.prefix.items slot }
@@ -51,28 +51,28 @@ impl<V: Drop> BySlot<V> {
         }
     }
 
-    /// The slot has a value.
+    /// Returns whether the slot has a value.
     pub(crate) fn has(&self, slot: u64) -> bool
         ensures { WhereSlots self.now (λ entries. result ≡ is_some (lookup (is_at (nat_cmp slot)) entries)) }
     {
         self.get(slot).is_some()
     }
 
-    /// How many of the first slots have a value: the first slot that has none.
+    /// Returns the first slot that has no value, which is the length of the list.
     pub(crate) fn prefix_len(&self) -> u64
         ensures { result ≡ length self.now.prefix.items }
     {
         self.prefix.len() as u64
     }
 
-    /// The values beyond the first slot that has none.
+    /// Returns the values beyond the first slot that has none.
     pub(crate) fn beyond(&self) -> &BTreeMap<u64, V>
         ensures { result.now.entries ≡ self.now.beyond.entries }
     {
         &self.beyond
     }
 
-    /// The slot has this value from now on.
+    /// Sets the value of the slot. `NoMemory` if memory runs out.
     pub(crate) fn insert(&mut self, slot: u64, value: V) -> Result<(), NoMemory>
         ensures { OnOk result (WhereSlots self.old (λ entries. SlotsStand self.new (insert_entry nat_cmp entries slot value))) }
     {
@@ -90,7 +90,7 @@ impl<V: Drop> BySlot<V> {
         Ok(())
     }
 
-    /// What follows the list without a gap goes there.
+    /// Moves the values that follow the list without a gap to the list.
     fn close_gap(&mut self) -> Result<(), NoMemory>
         ensures { OnOk result (AreFrom (length self.old.prefix.items) self.old.beyond.entries →
             SlotsStand self.new (numbered 0 self.old.prefix.items ++ self.old.beyond.entries)) }
@@ -104,7 +104,7 @@ impl<V: Drop> BySlot<V> {
         Ok(())
     }
 
-    /// The slot behind the list has a value.
+    /// Returns whether the slot after the list has a value.
     fn is_next_beyond(&self) -> bool
         ensures next { result ≡ true → BeginsAt (length self.now.prefix.items) self.now.beyond.entries }
         ensures apart { result ≡ false → AreFrom (length self.now.prefix.items) self.now.beyond.entries → AreFrom (suc (length self.now.prefix.items)) self.now.beyond.entries }

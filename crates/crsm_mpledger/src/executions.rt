@@ -1,4 +1,4 @@
-//! What is executed.
+//! The executed slots.
 
 ghost use Rattle.std.specs.Prelude.{◌≡◌, ℕ, List, [], ◌∷◌, ◌++◌, length, slice_get, IfOk, OnOk};
 ghost use Rattle.std.specs.Option.{option_copied};
@@ -9,7 +9,7 @@ use crsm_base::{Answer, Command, NoMemory};
 use crsm_kv::Store;
 use std::alloc::Global;
 
-/// The store behind the executed slots, which are the first ones, and its answers by slot. A noop has no answer.
+/// The store after the executed slots, which are the first ones, and its answers by slot. A noop has no answer.
 #[derive(Drop)]
 pub(crate) struct Executions {
     store: Store,
@@ -17,7 +17,7 @@ pub(crate) struct Executions {
 }
 
 impl Executions {
-    /// Nothing is executed.
+    /// Returns the state before any slot was executed. `NoMemory` if memory runs out.
     #[tactic(auto, unfolding(crate::specs::Executed::answers_of, crate::specs::Executed::answers_behind, crsm_mpspec::specs::Values::rows_after))]
     pub(crate) fn new(alloc: Global) -> Result<Executions, NoMemory>
         ensures { IfOk result (λ executions. ExecutionsStand executions []) }
@@ -28,7 +28,7 @@ impl Executions {
         })
     }
 
-    /// How many slots are executed.
+    /// Returns the number of executed slots.
     #[tactic(auto, using(crate::proofs::ExecutedLemmas::executed_rules))]
     pub(crate) fn len(&self) -> u64
         ensures { WhereExecuted self.now (λ values. result ≡ length values) }
@@ -36,14 +36,14 @@ impl Executions {
         self.answers.len() as u64
     }
 
-    /// The answer at an executed slot.
+    /// Returns the answer at a slot, or `None` if it is not executed.
     pub(crate) fn answer(&self, slot: u64) -> Option<&Option<Answer>>
         ensures { WhereExecuted self.now (λ values. option_copied result ≡ slice_get (answers_of values) slot) }
     {
         self.answers.get(slot as usize)
     }
 
-    /// The next slot is executed.
+    /// Executes the next slot. `NoMemory` if memory runs out.
     #[tactic(auto, unfolding(crsm_mpspec::specs::Values::rows_after, crsm_mpspec::specs::Values::apply_value, crsm_mpspec::specs::Values::answer_after))]
     pub(crate) fn execute(&mut self, value: &Option<Command>) -> Result<(), NoMemory>
         ensures { OnOk result (WhereExecuted self.old (λ values. ExecutionsStand self.new (values ++ value.now ∷ []))) }

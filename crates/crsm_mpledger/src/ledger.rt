@@ -1,4 +1,4 @@
-//! The ledger of a log.
+//! The ledger of a log, and how a record changes it.
 
 ghost use Rattle.std.specs.Prelude.{◌≡◌, ◌∷◌, [], ℕ, List, length, IfOk, OnOk};
 ghost use Rattle.crsm_mpspec.specs.declared.rec.MpRec.{MpRec as Record};
@@ -14,7 +14,7 @@ use crsm_base::{Ballot, Command, NoMemory, never};
 use crsm_mpspec::{MpRec, copy_value};
 use std::alloc::Global;
 
-/// Executes the slots behind the executed ones, up to the first whose value is not known.
+/// Executes the slots after the executed ones, up to the first whose value is not known.
 fn execute_known(
     chosen: &BySlot<Option<Command>>,
     executions: &mut Executions,
@@ -31,22 +31,22 @@ fn execute_known(
     Ok(())
 }
 
-/// What the records of a log say. After an error it says nothing any more.
+/// The state that the records of a log lead to. After an error its fields are unspecified.
 #[derive(Drop)]
 pub struct MpLedger {
     pub(crate) alloc: Global,
     pub(crate) boots: u64,
     pub(crate) promised: Ballot,
-    /// The value that was accepted last at each slot, with its ballot.
+    /// The value accepted last at each slot, with its ballot.
     pub(crate) accepted: BySlot<(Ballot, Option<Command>)>,
     /// The value of each slot that is known to be chosen.
     pub(crate) chosen: BySlot<Option<Command>>,
-    /// All slots up to the first whose value is not known are executed.
+    /// The executed slots: all up to the first whose value is not known.
     pub(crate) executions: Executions,
 }
 
 impl MpLedger {
-    /// The ledger of an empty log.
+    /// Returns the ledger of an empty log. `NoMemory` if memory runs out.
     pub fn new(alloc: Global) -> Result<MpLedger, NoMemory>
         ensures { IfOk result (λ ledger. MpLedgerStands ledger []) }
     {
@@ -60,19 +60,19 @@ impl MpLedger {
         })
     }
 
-    /// A boot more.
+    /// Counts one more boot.
     fn boot(&mut self) -> Result<(), NoMemory>
         ensures { OnOk result (WhereLedger self.old (λ log. MpLedgerStands self.new (Record.Boot ∷ log))) }
     {
         if self.boots == u64::MAX {
-            // No log has so many boots.
+            // No log has that many boots.
             return Err(never());
         }
         self.boots += 1;
         Ok(())
     }
 
-    /// A value is accepted, and its ballot promised.
+    /// Records the acceptance of a value, and the promise of its ballot.
     fn accept(&mut self, slot: u64, ballot: Ballot, value: Option<Command>) -> Result<(), NoMemory>
         ensures { OnOk result (WhereLedger self.old (λ log. MayFollow log (Record.Accept slot ballot value) → MpLedgerStands self.new (Record.Accept slot ballot value ∷ log))) }
     {
@@ -81,7 +81,7 @@ impl MpLedger {
         Ok(())
     }
 
-    /// The value of a slot is known. It is executed, and what follows it, once all before it are.
+    /// Records the chosen value of a slot, and executes it and its successors once all before it are executed.
     fn choose(&mut self, slot: u64, value: Option<Command>) -> Result<(), NoMemory>
         ensures { OnOk result (WhereLedger self.old (λ log. MayFollow log (Record.Choose slot value) → MpLedgerStands self.new (Record.Choose slot value ∷ log))) }
     {
@@ -90,7 +90,7 @@ impl MpLedger {
         Ok(())
     }
 
-    /// One record more.
+    /// Applies a record. `NoMemory` if memory runs out; the ledger is then spent.
     pub fn follow(&mut self, rec: &MpRec) -> Result<(), NoMemory>
         ensures { OnOk result (WhereLedger self.old (λ log. MayFollow log rec.now → MpLedgerStands self.new (rec.now ∷ log))) }
     {
@@ -120,7 +120,7 @@ impl MpLedger {
         }
     }
 
-    /// One record more, which is not used any further.
+    /// Applies a record, by value.
     pub(crate) fn take(&mut self, rec: MpRec) -> Result<(), NoMemory>
         ensures { OnOk result (WhereLedger self.old (λ log. MayFollow log rec → MpLedgerStands self.new (rec ∷ log))) }
     {

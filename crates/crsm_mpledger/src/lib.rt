@@ -1,6 +1,6 @@
-//! What the records of a replica's log say in the store with a leader (Multi-Paxos): its promise, what it has accepted and
-//! what it knows to be chosen at each slot, and the answers of the store to what is executed. Each record and each log body
-//! has one encoding.
+//! The state that the records of a replica's log lead to in the store with a leader (Multi-Paxos): its promise, the
+//! values that it has accepted and those that it knows to be chosen at each slot, and the answers of the store to the
+//! executed ones. Each record and each log body has one encoding.
 #![tactic(auto)]
 
 mod body;

@@ -1,4 +1,4 @@
-//! What a ledger says of single slots.
+//! Readers of a ledger.
 
 ghost use Rattle.std.specs.Prelude.{◌≡◌, length, slice_get};
 ghost use Rattle.std.specs.Option.{option_copied};
@@ -10,42 +10,42 @@ use crate::ledger::MpLedger;
 use crsm_base::{Answer, Ballot, Command};
 
 impl MpLedger {
-    /// How often the replica has booted.
+    /// Returns the number of boots of the replica.
     pub fn boots(&self) -> u64
         ensures { WhereLedger self.now (λ log. result ≡ logs.boots log) }
     {
         self.boots
     }
 
-    /// The ballot that was promised last.
+    /// Returns the ballot that was promised last.
     pub fn promised(&self) -> Ballot
         ensures { WhereLedger self.now (λ log. result ≡ logs.promised log) }
     {
         self.promised
     }
 
-    /// The value that was accepted last at a slot, with its ballot.
+    /// Returns the value accepted last at a slot, with its ballot, or `None` if none was.
     pub fn accepted(&self, slot: u64) -> Option<&(Ballot, Option<Command>)>
         ensures { WhereLedger self.now (λ log. option_copied result ≡ logs.accepted_at slot log) }
     {
         self.accepted.get(slot)
     }
 
-    /// The value of a slot is known to be chosen.
+    /// Returns whether the value of a slot is known to be chosen.
     pub fn is_chosen(&self, slot: u64) -> bool
         ensures { WhereLedger self.now (λ log. result ≡ logs.is_chosen slot log) }
     {
         self.chosen.has(slot)
     }
 
-    /// How many slots are executed.
+    /// Returns the number of executed slots.
     pub fn executed_len(&self) -> u64
         ensures { WhereLedger self.now (λ log. result ≡ length (logs.executed log)) }
     {
         self.executions.len()
     }
 
-    /// The value at an executed slot.
+    /// Returns the value at a slot, or `None` if it is not executed.
     pub fn executed(&self, slot: u64) -> Option<&Option<Command>>
         ensures { WhereLedger self.now (λ log. option_copied result ≡ slice_get (logs.executed log) slot) }
     {
@@ -56,7 +56,7 @@ impl MpLedger {
         }
     }
 
-    /// The answer of the store at an executed slot. A noop has none.
+    /// Returns the store's answer at a slot, which a noop has not, or `None` if the slot is not executed.
     pub fn answer(&self, slot: u64) -> Option<&Option<Answer>>
         ensures { WhereLedger self.now (λ log. option_copied result ≡ slice_get (answers_of (logs.executed log)) slot) }
     {

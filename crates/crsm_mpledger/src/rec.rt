@@ -1,4 +1,4 @@
-//! Records.
+//! Records, written to bytes and read back.
 
 ghost use Rattle.std.specs.Prelude.{◌≡◌, ◌++◌, IfOk, OnOk};
 ghost use Rattle.std.specs.Option.{option_map};
@@ -11,7 +11,7 @@ use crsm_mpspec::MpRec;
 use crsm_text_fields::{put_ballot, put_u8, put_u64, take_ballot, take_u8, take_u64};
 use std::alloc::Global;
 
-/// Appends the spelling of a record.
+/// Appends the encoding of a record. `NoMemory` if memory runs out.
 #[tactic(auto, unfolding(crsm_mpspec::specs::Records::rec_bytes))]
 pub fn put_rec(rec: &MpRec, out: &mut Bytes) -> Result<(), NoMemory>
     requires { FitsRec rec.now }
@@ -85,7 +85,8 @@ fn take_choose(alloc: Global, bytes: &[u8]) -> Result<Option<(MpRec, &[u8])>, No
     Ok(Some((MpRec::Choose { slot, value }, rest)))
 }
 
-/// Takes a record off the prefix of the bytes: the value and the bytes after it.
+/// Parses a record from the prefix of the bytes, and returns it with the bytes after it. `None` if no record begins
+/// there; `NoMemory` if memory runs out.
 #[tactic(auto, unfolding(crate::specs::Reading::rec_at, crate::specs::Reading::boot_at))]
 pub fn take_rec(alloc: Global, bytes: &[u8]) -> Result<Option<(MpRec, &[u8])>, NoMemory>
     ensures { IfOk result (λ r. option_map (λ x. (x.0, x.1.now)) r ≡ rec_at bytes.now) }

@@ -1,4 +1,4 @@
-//! The ledger of the bodies of a log.
+//! Recovery of a ledger from the bodies of a log.
 
 ghost use Rattle.std.specs.Prelude.{[], List, IfOk, OnOk};
 ghost use Rattle.crsm_mpspec.specs.declared.rec.MpRec.{MpRec as Record};
@@ -13,7 +13,7 @@ use crsm_base::{Bodies, NoMemory, never};
 use std::alloc::Global;
 
 impl MpLedger {
-    /// The ledger of these bodies, which are those of a replica's own log.
+    /// Returns the ledger of these bodies, which are those of a replica's own log. `NoMemory` if memory runs out.
     pub fn recover(alloc: Global, bodies: &Bodies) -> Result<MpLedger, NoMemory>
         ensures { IfOk result (λ ledger. (log : Log) → AreBodies [] bodies.now log → IsSound log → MpLedgerStands ledger log) }
     {
@@ -28,7 +28,7 @@ impl MpLedger {
         Ok(ledger)
     }
 
-    /// Makes room for what so many bodies say: mostly a value that is accepted, and then that it is chosen.
+    /// Reserves memory for the records of `bodies` bodies: mostly a value that is accepted, and then that it is chosen.
     fn make_room(&mut self, bodies: usize) -> Result<(), NoMemory>
         ensures { WhereLedger self.old (λ log. MpLedgerStands self.new log) }
     {
@@ -37,13 +37,13 @@ impl MpLedger {
         Ok(())
     }
 
-    /// The records of one body more.
+    /// Applies the records of one body.
     fn follow_body(&mut self, alloc: Global, body: &[u8]) -> Result<(), NoMemory>
         ensures { OnOk result (WhereLedger self.old (λ log. (recs : List Record) → SpeltBody recs body.now → IsSound (with_records log recs) →
             MpLedgerStands self.new (with_records log recs))) }
     {
         let mut rest = body;
-        // A record has a byte at least: there are no more of them than bytes.
+        // A record has at least one byte: there are no more of them than bytes.
         for _taken in 0..body.len() {
             if rest.is_empty() {
                 return Ok(());

@@ -1,4 +1,4 @@
-//! What a replica reports of its log.
+//! The reports of a replica on its log.
 
 ghost use Rattle.std.specs.Prelude.{◌≡◌, IfOk};
 ghost use Rattle.crsm_mpspec.specs.Log as logs;
@@ -9,7 +9,7 @@ use crsm_base::{NoMemory, never};
 use crsm_mpspec::{MpAccepted, MpAccepts, MpChoices, MpChosen, copy_value};
 
 impl MpLedger {
-    /// What was accepted last at each slot from this one on, by slot.
+    /// Returns the value accepted last at each slot from `start` on, by slot. `NoMemory` if memory runs out.
     #[tactic(auto, unfolding(crsm_mpspec::specs::Log::accepted_from))]
     pub fn accepted_from(&self, start: u64) -> Result<MpAccepts, NoMemory>
         ensures { IfOk result (λ accepts. WhereLedger self.now (λ log. accepts ≡ logs.accepted_from start log)) }
@@ -17,7 +17,7 @@ impl MpLedger {
         let mut accepts = MpAccepts::new(self.alloc);
         for slot in start..self.accepted.prefix_len() {
             let Some((ballot, value)) = self.accepted.get(slot) else {
-                // It is within the prefix.
+                // The slot is within the prefix.
                 return Err(never());
             };
             accepts.push(MpAccepted {
@@ -36,7 +36,7 @@ impl MpLedger {
         Ok(accepts)
     }
 
-    /// The values of the slots from this one on that are known to be chosen, by slot.
+    /// Returns the values known to be chosen at the slots from `start` on, by slot. `NoMemory` if memory runs out.
     #[tactic(auto, unfolding(crsm_mpspec::specs::Log::chosen_from))]
     pub fn chosen_from(&self, start: u64) -> Result<MpChoices, NoMemory>
         ensures { IfOk result (λ choices. WhereLedger self.now (λ log. choices ≡ logs.chosen_from start log)) }
@@ -44,7 +44,7 @@ impl MpLedger {
         let mut choices = MpChoices::new(self.alloc);
         for slot in start..self.chosen.prefix_len() {
             let Some(value) = self.chosen.get(slot) else {
-                // It is within the prefix.
+                // The slot is within the prefix.
                 return Err(never());
             };
             choices.push(MpChosen {

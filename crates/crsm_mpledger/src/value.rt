@@ -1,4 +1,4 @@
-//! The value of a slot: a command, or nothing where the slot is a noop.
+//! The value of a slot, written to bytes and read back: a command, or nothing if the slot is a noop.
 
 ghost use Rattle.std.specs.Prelude.{◌≡◌, ◌++◌, IfOk, OnOk};
 ghost use Rattle.std.specs.Option.{option_map};
@@ -9,7 +9,7 @@ use crsm_base::{Bytes, Command, NoMemory};
 use crsm_text_fields::{put_command, put_u8, take_command};
 use std::alloc::Global;
 
-/// Appends the spelling of the value of a slot.
+/// Appends the encoding of the value of a slot. `NoMemory` if memory runs out.
 pub(crate) fn put_value(value: &Option<Command>, out: &mut Bytes) -> Result<(), NoMemory>
     requires { FitsOption FitsCommand value.now }
     ensures { OnOk result (out.new ≡ out.old ++ option_bytes command_bytes value.now) }
@@ -24,7 +24,8 @@ pub(crate) fn put_value(value: &Option<Command>, out: &mut Bytes) -> Result<(), 
 }
 
 #[tactic(auto, unfolding(crate::specs::Reading::value_at))]
-/// Takes the value of a slot off the prefix of the bytes: the value and the bytes after it.
+/// Parses the value of a slot from the prefix of the bytes, and returns it with the bytes after it. `None` if none
+/// begins there; `NoMemory` if memory runs out.
 pub(crate) fn take_value(
     alloc: Global,
     bytes: &[u8],

@@ -1,4 +1,4 @@
--- What the readers and the world answer makes a line handled or refused.
+-- A line is handled or refused by the results of the readers and the world.
 use Rattle.std.specs.Option.{option_map}
 use Rattle.std.proofs.Common.{◌≡◌, ◌≢◌, ℕ, List, Option, Some, None, Result, Ok, Err, IfOk, IfErr, refl, ap, sym, ◌∙◌, subst}
 use Rattle.crsm_mpspec.specs.declared.MpLine.{MpLine}

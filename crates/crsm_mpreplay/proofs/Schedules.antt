@@ -1,4 +1,4 @@
--- Schedules that grow by one event at their end, and what a schedule shows.
+-- Schedules that grow by one event at their end, and their transcripts.
 use Rattle.std.proofs.Common.{◌≡◌, ◌≢◌, ℕ, suc, ◌+◌, List, [], ◌∷◌, ◌++◌, Option, Some, None, map, length, slice_get, false, nat_eq, refl, ap, sym, ◌∙◌, arith, append_assoc, length-append}
 use Rattle.std.specs.List.{AllByRecursion, IsDistinct, flat_map}
 use Rattle.std.proofs.lemmas.List.{append-nil, map-append, length-map, flat_map_more}
@@ -24,7 +24,7 @@ no_events n = record { replicas = n; events = [] }
 unfoldable pub with_event : Schedule → Event → Schedule
 with_event s e = record s { events = s.events ++ e ∷ [] }
 
--- ---- what a line spells is an act
+-- ---- the text of a line is that of an act
 
 others_differ : (n : ℕ) (ms : List ℕ) → AllByRecursion (λ m. n ≢ m) ms → AllByRecursion (λ m. nat_eq n m ≡ false) ms
 others_differ n [] q = tt

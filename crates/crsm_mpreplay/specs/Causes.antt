@@ -20,7 +20,7 @@ cause_told (Cause.Met Bad.IsUp) = MpCause.IsUp
 cause_told (Cause.Met Bad.TooFew) = MpCause.TooFew
 cause_told (Cause.Met Bad.Forged) = MpCause.NotHere
 
--- the cause that a bad line is told with
+-- the cause to report for a bad line
 abbrev pub cause_in : BadLine MpCause → MpCause
 cause_in (Refused cause) = cause
 cause_in TooLong = MpCause.Unreadable

@@ -1,4 +1,4 @@
--- What the text of a schedule tells, and what holds of one that was run.
+-- The statements of the laws about the text of a schedule, and about a schedule that was run.
 use Rattle.std.specs.Prelude.{◌≡◌, Option, None, Some}
 use Rattle.std.specs.List.{AllByRecursion}
 use Rattle.crsm_schedule.specs.Grammar.{IsSize, FitsEvent}

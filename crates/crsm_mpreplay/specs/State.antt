@@ -1,4 +1,4 @@
--- What has been read of an input: nothing whole, or a schedule.
+-- The state of an input: nothing whole has been read, or a schedule.
 use Rattle.std.specs.Prelude.{ℕ, List, [], ◌∷◌, ◌++◌, map, Option, Some, None}
 use Rattle.crsm_schedule.specs.Grammar.{first_text, event_text}
 use Rattle.crsm_mpworld.specs.declared.MpWorld.{MpWorld}

@@ -1,4 +1,4 @@
--- How the lines of a transcript are written, each with its line feed, and what a run of a schedule writes.
+-- The text of the lines of a transcript, each with its line feed, and the text that a run of a schedule writes.
 use Rattle.std.specs.Prelude.{◌≡◌, ℕ, zero, suc, ◌+◌, Bool, true, false, List, [], ◌∷◌, ◌++◌, map, codes, Option, None, Some, slice_get}
 use Rattle.std.specs.List.{AllByRecursion, flat_map}
 use Rattle.crsm_schedule.specs.declared.Event.{Event}
@@ -68,7 +68,7 @@ pub record Shown : Type 0 where
 unfoldable pub shown_by : ℕ → Option Act → MpLine → Shown
 shown_by at by line = record { at = at; told = traced by line }
 
--- the lines of events, the first of which stands on this line of the schedule
+-- the lines of events, of which the first is on this line of the schedule
 unfoldable pub shown_from : World → ℕ → List Event → List Shown
 shown_from w at [] = []
 shown_from w at (e ∷ es) =

@@ -1,4 +1,4 @@
-//! What is wrong with a line of a schedule.
+//! The causes for which a line of a schedule is refused.
 
 ghost use Rattle.std.specs.Prelude.{◌≡◌};
 ghost use Rattle.crsm_mpreplay.specs.Causes.{cause_in};
@@ -6,14 +6,14 @@ ghost use Rattle.crsm_mpreplay.specs.Causes.{cause_in};
 use crsm_port_lines::LineRefusal;
 use std::fmt::{self, Display, Formatter, Write};
 
-/// What is wrong with a line.
+/// The cause for which a line of a schedule is refused.
 #[derive(Clone, Copy, Debug, PartialEq, Eq)]
 pub enum MpCause {
-    /// It is outside the grammar.
+    /// The line is outside the grammar.
     Unreadable,
-    /// The event has no meaning here: bytes from nowhere, a group of deliveries, or a stop at a call of the device.
+    /// The event is not supported: bytes from no replica, a group of deliveries, or a stop at a call of the device.
     NotHere,
-    /// The log bodies have so many bytes, which is the limit or above it.
+    /// The log bodies have `bytes` bytes together, which is the limit or above it.
     Full { bytes: u64 },
     /// No replica has this number.
     NoSuchReplica,
@@ -31,7 +31,7 @@ pub enum MpCause {
     TooFew,
 }
 
-/// The cause that a bad line is told with.
+/// Returns the cause to report for a bad line.
 pub fn told_cause(why: LineRefusal<MpCause>) -> MpCause
     ensures { result ≡ cause_in why }
 {
@@ -41,7 +41,7 @@ pub fn told_cause(why: LineRefusal<MpCause>) -> MpCause
     }
 }
 
-/// The cause in words.
+/// Writes the cause in words.
 impl Display for MpCause {
     fn fmt<W: Write>(&self, f: &mut Formatter<W>) -> fmt::Result {
         match self {

@@ -19,11 +19,11 @@ use crsm_port_lines::{Handler, Stop};
 use crsm_schedule::{Event, LineError, read_event, read_first};
 use std::alloc::Global;
 
-/// The room that is made for the text of a line, in bytes: few lines take more.
+/// Memory in bytes reserved for the text of a line; few lines are longer.
 const LINE_ROOM: usize = 32;
 
-/// The cause that the world names. Running out of memory is none. No event meets the causes of bytes and of groups,
-/// since such events have no meaning here.
+/// Returns the cause for a reason of the world, or `None` for `NoMemory`. No event is refused for the reasons of bytes
+/// and of groups, since such events are not supported here.
 #[tactic(auto, unfolding(crate::specs::Causes::cause_told, crsm_mpworld::specs::Doing::cause_of))]
 fn named_cause(bad: MpBad) -> Option<MpCause>
     ensures { result ≡ option_map cause_told (cause_of bad) }
@@ -42,7 +42,7 @@ fn named_cause(bad: MpBad) -> Option<MpCause>
     }
 }
 
-/// Begins a world by the first line, and gives the lines of its boots.
+/// Begins a world by the first line, and returns the lines of its boots.
 fn begin_world(alloc: Global, line: &[u8]) -> Result<(MpWorld, MpLines), Stop<MpCause>>
     ensures ok { IfOk result (λ made. BeginsWorld line.now made.0 made.1) }
     ensures err { IfErr result (λ stop. StopsFirst stop line.now) }
@@ -56,10 +56,10 @@ fn begin_world(alloc: Global, line: &[u8]) -> Result<(MpWorld, MpLines), Stop<Mp
     Ok(made)
 }
 
-/// Drops an event in its own function, which keeps the cases of an event out of its callers' proofs.
+/// Drops an event in its own function, which keeps its cases out of its callers' proofs.
 fn discard(_event: Event) {}
 
-/// The event that a line spells.
+/// Parses the event of a line. `Unreadable` if it has none.
 fn event_of(alloc: Global, line: &[u8]) -> Result<Event, Stop<MpCause>>
     ensures fits { IfOk result (λ event. FitsEvent event) }
     ensures text { IfOk result (λ event. line.now ≡ event_text event) }
@@ -72,7 +72,7 @@ fn event_of(alloc: Global, line: &[u8]) -> Result<Event, Stop<MpCause>>
     }
 }
 
-/// Does the event that a line spells, and gives its lines.
+/// Executes the event of a line, and returns its lines.
 fn do_line(alloc: Global, world: &mut MpWorld, line: &[u8]) -> Result<MpLines, Stop<MpCause>>
     ensures ok { (w : on_paper.World) → MpWorldStands world.old w → IfOk result (λ lines. DoesEvent w line.now world.new lines) }
     ensures err { (w : on_paper.World) → MpWorldStands world.old w → IfErr result (λ stop. StopsNext stop w line.now) }
@@ -92,7 +92,7 @@ fn do_line(alloc: Global, world: &mut MpWorld, line: &[u8]) -> Result<MpLines, S
     }
 }
 
-/// Handles a whole line, which is the first where there is no world yet, and gives its lines.
+/// Handles a whole line, which is the first if there is no world yet, and returns its lines.
 fn take_line(
     alloc: Global,
     world: &mut Option<MpWorld>,
@@ -111,7 +111,7 @@ fn take_line(
     }
 }
 
-/// Adds the text of the lines of a transcript. After an error what is there is of no use.
+/// Appends the text of the lines of a transcript. After an error the text is not usable.
 fn push_lines(text: &mut Bytes, at: u64, lines: &MpLines) -> Result<(), NoMemory>
     ensures { OnOk result (text.new ≡ text.old ++ lines_text at lines.now) }
 {
@@ -121,7 +121,7 @@ fn push_lines(text: &mut Bytes, at: u64, lines: &MpLines) -> Result<(), NoMemory
     Ok(())
 }
 
-/// Gives the lines back to the world, which uses their room.
+/// Gives the lines back to the world, which uses their memory.
 fn give_back(world: &mut Option<MpWorld>, lines: MpLines)
     ensures { StaysAt world.old world.new }
 {
@@ -131,7 +131,7 @@ fn give_back(world: &mut Option<MpWorld>, lines: MpLines)
     }
 }
 
-/// A schedule that is replayed: the world, once the first line has begun it.
+/// The replay of a schedule: the world, once the first line has begun it.
 #[derive(Drop)]
 pub(crate) struct MpReplaying {
     alloc: Global,
@@ -145,7 +145,7 @@ impl MpReplaying {
         MpReplaying { alloc, world: None }
     }
 
-    /// Handles a line, and gives its lines of the transcript with room for their text.
+    /// Handles a line, and returns its lines of the transcript, with memory reserved for their text.
     fn advance(&mut self, line: &[u8], text: &mut Bytes) -> Result<MpLines, Stop<MpCause>>
         ensures ok { IfOk result (λ lines. Advances self.old.world line.now self.new.world lines) }
         ensures err { IfErr result (λ stop. StopsAt stop self.old.world line.now) }

@@ -1,5 +1,4 @@
-//! The command `replay-mp`: a schedule of a store with a leader is read, and its transcript and final lines are
-//! written.
+//! The command `replay-mp`: it reads a schedule of a store with a leader, and writes its transcript and final lines.
 #![tactic(auto)]
 
 mod cause;

@@ -1,4 +1,4 @@
-//! Prints the lines of a transcript.
+//! Printing of the lines of a transcript.
 
 ghost use Rattle.std.specs.Prelude.{◌≡◌, ◌≤◌, ◌++◌, ◌∷◌, [], OnOk, codes, decimal, length};
 ghost use Rattle.crsm_text.specs.Words.{named, numbers};
@@ -8,7 +8,7 @@ use crsm_base::{Bytes, NoMemory};
 use crsm_mpspec::{MpKind, MpLine};
 use crsm_text::{push_answer, push_named, push_numbered, push_numbers};
 
-/// The kind of a message, behind a space and with a line feed.
+/// Returns the word for a kind of message, with a space before it and a line feed after it.
 fn ended_kind(kind: MpKind) -> &'static [u8]
     ensures text { result.now ≡ 32 ∷ (kind_text kind ++ 10 ∷ []) }
     ensures short { length result.now ≤ 8 }
@@ -24,7 +24,7 @@ fn ended_kind(kind: MpKind) -> &'static [u8]
     }
 }
 
-/// Adds the number of a line, the part that the lines of all replies begin with, and a space.
+/// Appends the number of a line, the part that the lines of all replies begin with, and a space.
 fn push_reply(
     out: &mut Bytes,
     at: u64,
@@ -58,8 +58,8 @@ fn push_final(out: &mut Bytes, replica: u32, up: bool, executed: u64) -> Result<
     out.push(b'\n')
 }
 
-/// Adds a line of the transcript with its line feed, behind the number of the line of input that caused it. A final
-/// line has no number. After an error a prefix of the line may have been added.
+/// Appends a line of the transcript with its line feed, after the number of the input line that caused it. A final line
+/// has no number. `NoMemory` if memory runs out; a prefix of the line may then have been appended.
 pub fn push_line(out: &mut Bytes, at: u64, line: &MpLine) -> Result<(), NoMemory>
     ensures { OnOk result (out.new ≡ out.old ++ line_text at line.now) }
 {

@@ -1,4 +1,4 @@
--- The lines of what is executed, one slot more.
+-- The lines of executed slots, with one more.
 use Rattle.std.proofs.Common.{◌≡◌, ℕ, zero, suc, ◌+◌, ◌-◌, ◌≤◌, List, [], ◌∷◌, ◌++◌, Some, refl, ap, sym, ◌∙◌, append_assoc, arith}
 use Rattle.std.specs.Prelude.{Option, slice_get, take, drop}
 use Rattle.crsm_fact_log.proofs.Lists.{append-none}

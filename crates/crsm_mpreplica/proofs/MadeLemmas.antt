@@ -1,4 +1,4 @@
--- What a step makes, one more.
+-- The output of a step, with one item more.
 use Rattle.std.proofs.Common.{◌≡◌, ℕ, List, [], ◌∷◌, ◌++◌, ap, sym, ◌∙◌}
 use Rattle.crsm_fact_log.proofs.Lists.{all-push, map-push}
 use Rattle.crsm_mpspec.specs.declared.line.MpLine.{MpLine}

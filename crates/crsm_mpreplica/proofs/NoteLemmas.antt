@@ -1,4 +1,4 @@
--- Notes that end.
+-- Stages that end.
 use Rattle.std.proofs.Common.{◌≡◌, Bool, true, false, refl}
 use Rattle.crsm_spec.specs.Choice.{when◌then◌otherwise◌}
 use Rattle.crsm_mpspec.specs.Types.{Ballot}

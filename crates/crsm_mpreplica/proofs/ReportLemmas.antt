@@ -1,4 +1,4 @@
--- Reports with promises: those that a log gives, and one more.
+-- Reports with promises: those of a log, and one more.
 use Rattle.std.proofs.Common.{BTreeMap, ◌≡◌, ℕ, ◌<◌, Bool, true, false, List, [], ◌∷◌, Some, refl, ap, sym, subst, ◌∙◌}
 use Rattle.std.specs.Prelude.{◌==◌, ◌&&◌, nat_le, nat_lt, not, cond, map, Option, is_some, if◌then◌else◌}
 use Rattle.std.specs.List.{AllByRecursion}

@@ -1,4 +1,4 @@
--- Maps to which slots are added behind all others.
+-- Maps to which slots are added after all others.
 use Rattle.std.proofs.Common.{◌≡◌, ℕ, zero, suc, ◌+◌, ◌<◌, List, [], ◌∷◌, ◌++◌, refl, ap, ◌∙◌, arith}
 use Rattle.std.specs.List.{All, range_with_len}
 use Rattle.std.specs.Map.{keys_of}

@@ -1,4 +1,4 @@
--- What a state stands for, one change more.
+-- The replica that a state stands for, after one change more.
 use Rattle.std.proofs.Common.{◌≡◌, ℕ, zero, suc, ◌+◌, List, [], ◌∷◌, ◌++◌, length, drop, refl, ap, ◌∙◌}
 use Rattle.std.specs.Prelude.{Bool, true, false, ◌==◌, not, filter, fold, map, if◌then◌else◌}
 use Rattle.std.proofs.lemmas.Grind.{fold-append}
@@ -58,7 +58,7 @@ executed-promise log b = run-quiet (MpRec.Promise b) log (λ q. refl) (end log) 
 promise-executes : (me : ℕ) (log : Log) (b : Ballot) → executions me log (MpRec.Promise b) ≡ []
 promise-executes me log b = exec-none me log (MpRec.Promise b) (executed-promise log b)
 
--- a promise tells its line alone
+-- a promise adds its line alone
 pub promise-tells : (x : Draft) (b : Ballot) (me : ℕ) → me ≡ x.replica.me
     → record (outcome_of x) { batch = x.batch ++ MpRec.Promise b ∷ []; lines = x.lines ++ MpLine.Promise me b.round b.by ∷ [] } ≡ outcome_of (keep (MpRec.Promise b) x)
 unfolding keep keep_as line_of
@@ -68,7 +68,7 @@ executed-accept : (log : Log) (slot : ℕ) (b : Ballot) (v : Value) → executed
 unfolding executed end choices chosen_at
 executed-accept log slot b v = run-quiet (MpRec.Accept slot b v) log (λ q. refl) (end log) 0
 
--- an accept tells its line alone
+-- an acceptance adds its line alone
 pub accept-tells : (x : Draft) (line : MpLine) (slot : ℕ) (b : Ballot) (v : Value)
     → record (outcome_of x) { batch = x.batch ++ MpRec.Accept slot b v ∷ []; lines = x.lines ++ line ∷ [] } ≡ outcome_of (keep_as line (MpRec.Accept slot b v) x)
 unfolding keep_as

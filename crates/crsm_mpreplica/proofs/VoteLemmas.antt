@@ -1,4 +1,4 @@
--- A lead: what it knows of a slot, and one vote more.
+-- A lead: its facts about a slot, and one more vote.
 use Rattle.std.proofs.Common.{BTreeMap, Vec, Global, ◌≡◌, ℕ, suc, ◌<◌, Bool, inl, true, false, List, [], ◌∷◌, ◌++◌, Some, None, refl, ap, sym, subst, ◌∙◌, arith}
 use Rattle.std.specs.Prelude.{◌==◌, ◌&&◌, IsTrue, nat_le, not, length, map, filter, if◌then◌else◌, cond}
 use Rattle.std.specs.List.{All, AllByRecursion}
@@ -77,7 +77,7 @@ get-lead l slot me log b next votes s =
     ∙ get-voters slot votes (open_of me log votes)
     ∙ ap (λ (t : Bool). if t then Some (voters_at slot votes) else None) (has-open slot me log votes)
 
--- ---- what a search tells
+-- ---- the results of a search
 
 yes_if : {X : Type 0} (t : Bool) (w v : X) → Some w ≡ (if t then Some v else None) → (t ≡ true) × (w ≡ v)
 yes_if true w v e = (refl, one_some w v e)
@@ -399,7 +399,7 @@ opened l rest voters slot me log (NoteOnPaper.Asking b start reports) unknown is
 few : (n : ℕ) → nat_le (majority n) 0 ≡ false
 few n = grind (arith, nat_tests)
 
--- the voters at an open slot, against the votes on paper
+-- the voters at an open slot, against the votes of the definitions
 pub voted-is : (l : Leading) (w : Vec ℕ Global) (slot n me : ℕ) (log : Log) (p : NoteOnPaper) → NoteStands (Note.Leading l) me log p → lookup (is_at (nat_cmp slot)) l.open.entries ≡ Some w
     → nat_le (majority n) (length w.items) ≡ (nat_le (majority n) (length (voters_at slot (votes_of p))) && not (is_chosen slot log))
 unfolding votes_of

@@ -1,4 +1,4 @@
--- Clients that wait, by slot.
+-- Waiting clients, by slot.
 use Rattle.std.proofs.Common.{◌≡◌, ℕ, suc, ◌<◌, ◌≤◌, List, [], ◌∷◌, Some, None, IfSome, IfNone, refl, ap, sym, subst, ◌∙◌, arith, All}
 use Rattle.std.specs.Prelude.{map, drop, Option, slice_get}
 use Rattle.std.specs.List.{AllByRecursion}

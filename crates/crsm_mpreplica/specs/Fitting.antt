@@ -1,4 +1,5 @@
--- Which messages and inputs can be kept and sent: ballots and commands have spellings, and no slot is the last number.
+-- The messages and inputs that can be logged and sent: ballots and commands have encodings, and no slot is the last
+-- number.
 use Rattle.std.specs.Prelude.{ℕ, ◌<◌}
 use Rattle.std.specs.List.{AllByRecursion}
 use Rattle.crsm_base.specs.Spelling.{FitsBallot, FitsCommand, FitsOption}
@@ -10,15 +11,15 @@ use Rattle.crsm_mpspec.specs.declared.input.MpInput.{MpInput}
 use Rattle.crsm_mpspec.specs.Types.{Ballot, Value}
 use Rattle.crsm_mpspec.specs.Replica.{Report}
 
--- the value has a spelling
+-- the value has an encoding
 abbrev pub FitsValue : Value → Type 0
 FitsValue v = FitsOption FitsCommand v
 
--- what is accepted at a slot fits
+-- the value accepted at a slot fits
 abbrev pub FitsAccept : ℕ → Ballot → Value → Type 0
 FitsAccept slot b v = (slot < u64_max) × FitsBallot b × FitsValue v
 
--- what is chosen at a slot fits
+-- the value chosen at a slot fits
 abbrev pub FitsChoice : ℕ → Value → Type 0
 FitsChoice slot v = (slot < u64_max) × FitsValue v
 

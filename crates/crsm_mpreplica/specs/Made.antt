@@ -1,4 +1,4 @@
--- What a step has made so far, in memory.
+-- The output of a step while it runs, in memory.
 use Rattle.std.specs.Prelude.{◌≡◌, ℕ, List, [], map}
 use Rattle.std.specs.List.{AllByRecursion}
 use Rattle.crsm_mpspec.specs.declared.batch.MpBatch.{MpBatch}

@@ -1,4 +1,4 @@
--- What a replica is at, in memory.
+-- The stage of a replica in an election, in memory.
 use Rattle.std.specs.Prelude.{◌≡◌, ℕ, Bool, true, false, ◌&&◌, not, IsTrue, List, map, filter}
 use Rattle.std.specs.List.{AllByRecursion}
 use Rattle.crsm_base.specs.Order.{ballot_lt, ballot_eq}
@@ -18,7 +18,7 @@ use Rattle.crsm_mpreplica.specs.Fitting.{FitsReport}
 unfoldable pub report_of : ℕ × MpReport → ReportOnPaper
 report_of r = record { from = r.0; accepted = r.1.accepted; chosen = r.1.chosen }
 
--- the promises that are asked for, with the reports so far
+-- the request for promises, with the reports received
 pub record IsAsking (a : Asking) (b : Ballot) (start : ℕ) (reports : List ReportOnPaper) : Type 0 where
   pub ballot : a.ballot ≡ b
   pub start_is : a.start ≡ start
@@ -34,7 +34,8 @@ open_of k log votes = filter (λ s. not (is_chosen s log)) (slots_of k votes)
 unfoldable pub with_voters : List (ℕ × ℕ) → ℕ → ℕ × List ℕ
 with_voters votes slot = (slot, voters_at slot votes)
 
--- The lead of replica me over this log: the open slots with their voters. Each vote is for a slot that the leader proposed at.
+-- The lead of replica me over this log: the open slots with their voters. Each vote is for a slot at which the leader
+-- has proposed.
 pub record IsLeading (l : Leading) (me : ℕ) (log : Log) (b : Ballot) (next : ℕ) (votes : List (ℕ × ℕ)) : Type 0 where
   pub ballot : l.ballot ≡ b
   pub next_is : l.next ≡ next
@@ -42,7 +43,7 @@ pub record IsLeading (l : Leading) (me : ℕ) (log : Log) (b : Ballot) (next : �
   pub proposed : AllByRecursion (λ v. IsTrue (has (slots_of me votes) v.0)) votes
   pub ballot_fits : FitsBallot b
 
--- what replica me of this log is at
+-- the stage of replica me with this log
 abbrev pub NoteStands : Note → ℕ → Log → NoteOnPaper → Type 0
 NoteStands Note.Idle me log NoteOnPaper.Idle = Unit {0}
 NoteStands (Note.Asking a) me log (NoteOnPaper.Asking b start reports) = IsAsking a b start reports
@@ -72,7 +73,7 @@ unfoldable pub note_report : ReportOnPaper → NoteOnPaper → NoteOnPaper
 note_report r (NoteOnPaper.Asking a start reports) = NoteOnPaper.Asking a start (with_report r reports)
 note_report r note = note
 
--- the replica, which is at this, leads in ballot b, and the vote of replica k at the slot counts
+-- the replica, in this stage, leads in ballot b, and the vote of replica k at the slot counts
 unfoldable pub awaits_vote : Ballot → ℕ → ℕ → Replica → NoteOnPaper → Bool
 awaits_vote b slot k r (NoteOnPaper.Leading a start next reports votes) = ballot_eq a b && counts slot k votes r
 awaits_vote b slot k r _ = false

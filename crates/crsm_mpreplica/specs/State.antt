@@ -29,11 +29,11 @@ pub record MpReplicaStands (state : MpReplica) (x : Draft) : Type 0 where
 abbrev pub WhereStands : MpReplica → (Draft → Type 0) → Type 0
 WhereStands state P = (x : Draft) → MpReplicaStands state x → P x
 
--- Whatever the old state stood for, the new one stands for what this makes of it; or memory ran out.
+-- Whatever the old state stood for, the new one stands for the effect of this on it; or memory ran out.
 abbrev pub Makes : (Draft → Draft) → MpReplica → Result (Unit {0}) NoMemory → MpReplica → Type 0
 Makes change old result new = IfOk result (λ _. WhereStands old (λ x. MpReplicaStands new (change x)))
 
--- The same of the drafts of which this holds.
+-- The same for the drafts that satisfy this.
 abbrev pub MakesWhere : (Draft → Type 0) → (Draft → Draft) → MpReplica → Result (Unit {0}) NoMemory → MpReplica → Type 0
 MakesWhere Premise change old result new = IfOk result (λ _. WhereStands old (λ x. Premise x → MpReplicaStands new (change x)))
 

@@ -1,4 +1,4 @@
-//! Promises that are asked for.
+//! Requests for promises.
 
 ghost use Rattle.std.specs.Prelude.{◌≡◌, ◌∷◌, [], true};
 ghost use Rattle.crsm_base.specs.Spelling.{FitsBallot};
@@ -17,7 +17,8 @@ use crsm_mpspec::{MpAccepts, MpChoices};
 use std::collections::BTreeMap;
 
 impl MpReplica {
-    /// Asks for promises of a ballot, of all slots from a first one on. The replica's own report is the first.
+    /// Begins to ask for promises of a ballot, for all slots from `start` on. The replica's own report is the first.
+    /// `NoMemory` if memory runs out.
     pub fn begin_asking(&mut self, ballot: Ballot, start: u64) -> Result<(), NoMemory>
         ensures { MakesWhere (λ x. FitsBallot ballot) (λ x. drafts.noting (NoteOnPaper.Asking ballot start (electing.report start x.replica ∷ [])) x) self.old result self.new }
     {
@@ -35,8 +36,8 @@ impl MpReplica {
         Ok(())
     }
 
-    /// Counts the report of a replica with its promise of a ballot, where this is asked for, once for each replica. `false` where
-    /// it does not count.
+    /// Counts the report of a replica with its promise of a ballot, once for each replica, if promises of this ballot
+    /// are asked for. Returns whether it counted. `NoMemory` if memory runs out.
     pub fn take_report(
         &mut self,
         from: u32,
@@ -58,7 +59,7 @@ impl MpReplica {
         Ok(true)
     }
 
-    /// Promises of this ballot are asked for, and that replica has not reported.
+    /// Returns whether promises of this ballot are asked for, and the replica has not reported.
     fn awaits_report(&self, from: u32, ballot: Ballot) -> bool
         ensures { WhereStands self.now (λ x. result ≡ awaits_report ballot from x.replica.note) }
     {

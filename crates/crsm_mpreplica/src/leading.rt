@@ -1,4 +1,4 @@
-//! A lead.
+//! The state of a leader.
 
 ghost use Rattle.std.specs.Prelude.{◌≡◌, ◌+◌, ◌<◌, ℕ, true, List, []};
 ghost use Rattle.crsm_base.specs.Spelling.{FitsBallot};
@@ -19,7 +19,7 @@ use crsm_base::{Ballot, NoMemory, majority};
 use std::collections::BTreeMap;
 
 impl MpReplica {
-    /// From now on the replica leads in a ballot, and `next` is the slot of the next command.
+    /// Makes the replica the leader in a ballot; `next` is the slot of the next command.
     pub fn lead(&mut self, ballot: Ballot, next: u64)
         ensures { (x : Draft) (start : ℕ) (reports : List Report) → MpReplicaStands self.old x → FitsBallot ballot → MpReplicaStands self.new (drafts.noting (NoteOnPaper.Leading ballot start next reports []) x) }
     {
@@ -30,21 +30,21 @@ impl MpReplica {
         });
     }
 
-    /// The replica leads no more.
+    /// Ends the lead of the replica.
     pub fn end_lead(&mut self)
         ensures { WhereStands self.old (λ x. MpReplicaStands self.new (drafts.noting (without_lead x.replica.note) x)) }
     {
         note::end_lead(&mut self.note);
     }
 
-    /// A replica has promised a ballot: a lead in a lesser one is over.
+    /// Ends the lead in a ballot below one that another replica has promised.
     pub fn end_lead_below(&mut self, promised: Ballot)
         ensures { WhereStands self.old (λ x. MpReplicaStands self.new (on_no promised x)) }
     {
         note::end_lead_below(&mut self.note, promised);
     }
 
-    /// The slot of the next command of a leader is one further from now on.
+    /// Advances the slot of the leader's next command by 1.
     pub fn pass_slot(&mut self)
         ensures { (x : Draft) (b : Ballot) (start next : ℕ) (reports : List Report) (votes : List (ℕ × ℕ)) → MpReplicaStands self.old x → x.replica.note ≡ NoteOnPaper.Leading b start next reports votes →
             next < u64_max → MpReplicaStands self.new (drafts.noting (NoteOnPaper.Leading b start (next + 1) reports votes) x) }
@@ -54,7 +54,8 @@ impl MpReplica {
         }
     }
 
-    /// The replica itself votes for what it proposes at a slot. One whose value is known needs no votes.
+    /// Records the replica's own vote for its proposal at a slot. A slot with a known value needs no votes. `NoMemory`
+    /// if memory runs out.
     pub fn open_slot(&mut self, slot: u64) -> Result<(), NoMemory>
         ensures { Makes (λ x. drafts.count_vote slot x.replica.me x) self.old result self.new }
     {
@@ -69,8 +70,8 @@ impl MpReplica {
         Ok(())
     }
 
-    /// Counts the vote of a replica for an open slot of a lead in this ballot, once for each replica. `false` where it does not
-    /// count.
+    /// Counts the vote of a replica for an open slot of a lead in this ballot, once for each replica. Returns whether
+    /// it counted. `NoMemory` if memory runs out.
     pub fn take_vote(&mut self, from: u32, ballot: Ballot, slot: u64) -> Result<bool, NoMemory>
         ensures { MakesIf (λ x. awaits_vote ballot slot from x.replica x.replica.note) (drafts.count_vote slot from) self.old result self.new }
     {
@@ -81,7 +82,7 @@ impl MpReplica {
         Ok(true)
     }
 
-    /// The replica leads in this ballot, and the vote of that replica for a slot counts.
+    /// Returns whether the replica leads in this ballot, and the vote of replica `from` for the slot counts.
     fn awaits_vote(&self, from: u32, ballot: Ballot, slot: u64) -> bool
         ensures { WhereStands self.now (λ x. result ≡ awaits_vote ballot slot from x.replica x.replica.note) }
     {
@@ -108,7 +109,7 @@ impl MpReplica {
         Ok(())
     }
 
-    /// A majority has voted for what is proposed at a slot, whose value is not known yet.
+    /// Returns whether a majority has voted for the proposal at a slot whose value is not known yet.
     pub fn is_voted(&self, slot: u64) -> bool
         ensures { WhereStands self.now (λ x. result ≡ deciding.is_voted slot x.replica) }
     {

@@ -1,4 +1,4 @@
-//! The state of one replica of a store with a leader, with the single changes that its rules are made of.
+//! The state of one replica of a store with a leader, and the single changes from which its rules are built.
 #![tactic(auto)]
 
 mod asking;

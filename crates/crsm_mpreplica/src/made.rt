@@ -1,4 +1,4 @@
-//! What a step has made so far.
+//! The output of a step while it runs.
 
 ghost use Rattle.std.specs.Prelude.{◌≡◌, ◌++◌, ◌∷◌, [], OnOk};
 ghost use Rattle.crsm_mpspec.specs.Records.{FitsRec};
@@ -9,7 +9,7 @@ use crsm_mpspec::{MpBatch, MpLine, MpLines, MpMessage, MpRec, MpRecs, MpSend, Mp
 use std::alloc::Global;
 use std::mem;
 
-/// What a step has made so far: records and their lines, messages, and lines of replies.
+/// The output that a step has produced until now: records and their lines, messages, and lines of replies.
 #[derive(Drop)]
 pub(crate) struct StepOutput {
     alloc: Global,
@@ -22,7 +22,7 @@ pub(crate) struct StepOutput {
 impl StepOutput {
     ghost use Rattle.crsm_mpreplica.specs.Made.{MadeStands, Answers, Outcome, nothing};
 
-    /// Nothing is made.
+    /// Returns the empty output.
     pub(crate) fn new(alloc: Global) -> StepOutput
         ensures { MadeStands result nothing }
     {
@@ -35,7 +35,7 @@ impl StepOutput {
         }
     }
 
-    /// One record more, behind its line.
+    /// Appends a record, after its line.
     pub(crate) fn record(&mut self, rec: MpRec) -> Result<(), NoMemory>
         ensures { OnOk result ((o : Outcome) → MadeStands self.old o → FitsRec rec → MadeStands self.new (record o { batch = o.batch ++ rec ∷ [] })) }
     {
@@ -43,7 +43,7 @@ impl StepOutput {
         Ok(())
     }
 
-    /// One line of a record more.
+    /// Appends a line of a record.
     pub(crate) fn tell(&mut self, line: MpLine) -> Result<(), NoMemory>
         ensures { OnOk result ((o : Outcome) → MadeStands self.old o → MadeStands self.new (record o { lines = o.lines ++ line ∷ [] })) }
     {
@@ -51,7 +51,7 @@ impl StepOutput {
         Ok(())
     }
 
-    /// One message more.
+    /// Appends a message.
     pub(crate) fn send(&mut self, to: u32, message: MpMessage) -> Result<(), NoMemory>
         ensures { OnOk result ((o : Outcome) → MadeStands self.old o → FitsMessage message → MadeStands self.new (record o { sends = o.sends ++ (to, message) ∷ [] })) }
     {
@@ -59,7 +59,7 @@ impl StepOutput {
         Ok(())
     }
 
-    /// One reply more.
+    /// Appends a reply.
     pub(crate) fn reply(&mut self, line: MpLine) -> Result<(), NoMemory>
         ensures { OnOk result ((o : Outcome) → MadeStands self.old o → MadeStands self.new (record o { replies = o.replies ++ line ∷ [] })) }
     {
@@ -67,7 +67,7 @@ impl StepOutput {
         Ok(())
     }
 
-    /// Hands all of it out, so that nothing is made.
+    /// Returns all output and leaves the empty one.
     pub(crate) fn take(&mut self) -> MpBatch
         ensures out { (o : Outcome) → MadeStands self.old o → Answers result o }
         ensures none { (o : Outcome) → MadeStands self.old o → MadeStands self.new nothing }

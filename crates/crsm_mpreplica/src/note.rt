@@ -1,4 +1,4 @@
-//! What a replica does about leading.
+//! The stages of a replica in an election.
 
 ghost use Rattle.std.specs.Prelude.{◌≡◌, ℕ, ◌∷◌};
 ghost use Rattle.crsm_mpspec.specs.Log.{Log};
@@ -11,19 +11,19 @@ use crsm_base::{Ballot, ballot_precedes};
 use crsm_mpspec::{MpAccepts, MpChoices};
 use std::collections::BTreeMap;
 
-/// What a replica answered with its promise.
+/// The report that a replica sent with its promise.
 #[derive(Debug, Drop)]
 pub struct MpReport {
     pub accepted: MpAccepts,
     pub chosen: MpChoices,
 }
 
-/// A ballot for which promises are asked, of all slots from a first one on.
+/// A ballot for which promises are asked, for all slots from a first one on.
 #[derive(Drop)]
 pub struct Asking {
     pub ballot: Ballot,
     pub start: u64,
-    /// What was reported so far, by replica.
+    /// The reports received, by replica.
     pub reports: BTreeMap<u32, MpReport>,
 }
 
@@ -33,11 +33,11 @@ pub struct Leading {
     pub ballot: Ballot,
     /// The slot of the next command.
     pub next: u64,
-    /// The slots that were proposed and are not known to be chosen, with those who have accepted.
+    /// The slots that were proposed and are not known to be chosen, with the replicas that have accepted.
     pub open: BTreeMap<u64, Vec<u32>>,
 }
 
-/// What a replica does about leading.
+/// The stage of a replica in an election: idle, asking for promises, or leading.
 #[derive(Drop)]
 pub enum Note {
     Idle,
@@ -45,14 +45,14 @@ pub enum Note {
     Leading(Leading),
 }
 
-/// The replica leads.
+/// Returns whether the replica leads.
 fn is_leading(note: &Note) -> bool
     ensures { (me : ℕ) (log : Log) (p : NoteOnPaper) → NoteStands note.now me log p → result ≡ is_lead p }
 {
     matches!(note, Note::Leading(_))
 }
 
-/// The replica asks or leads in a ballot below this one.
+/// Returns whether the replica asks or leads in a ballot below this one.
 #[tactic(auto, unfolding(crsm_base::specs::Order::ballot_lt))]
 fn is_below(note: &Note, ballot: Ballot) -> bool
     ensures { (me : ℕ) (log : Log) (p : NoteOnPaper) → NoteStands note.now me log p → result ≡ is_lesser ballot p }
@@ -64,7 +64,7 @@ fn is_below(note: &Note, ballot: Ballot) -> bool
     }
 }
 
-/// The replica leads no more.
+/// Ends the lead of the replica.
 pub(crate) fn end_lead(note: &mut Note)
     ensures { (me : ℕ) (log : Log) (p : NoteOnPaper) → NoteStands note.old me log p → NoteStands note.new me log (without_lead p) }
 {
@@ -73,7 +73,7 @@ pub(crate) fn end_lead(note: &mut Note)
     }
 }
 
-/// A ballot is promised: this ends what is under way in a lesser one.
+/// Ends a request for promises, or a lead, in a ballot below one that is promised here.
 pub(crate) fn end_below(note: &mut Note, ballot: Ballot)
     ensures { (me : ℕ) (log : Log) (p : NoteOnPaper) → NoteStands note.old me log p → NoteStands note.new me log (ended_by ballot p) }
 {
@@ -82,7 +82,7 @@ pub(crate) fn end_below(note: &mut Note, ballot: Ballot)
     }
 }
 
-/// A ballot is promised elsewhere: this ends a lead in a lesser one.
+/// Ends a lead in a ballot below one that is promised elsewhere.
 pub(crate) fn end_lead_below(note: &mut Note, ballot: Ballot)
     ensures { (me : ℕ) (log : Log) (p : NoteOnPaper) → NoteStands note.old me log p → NoteStands note.new me log (refused_by ballot p) }
 {
@@ -91,7 +91,7 @@ pub(crate) fn end_lead_below(note: &mut Note, ballot: Ballot)
     }
 }
 
-/// The value of a slot is known: it is not open any more.
+/// Closes a slot whose value is known.
 pub(crate) fn close(note: &mut Note, slot: u64)
     ensures { (me : ℕ) (log : Log) (v : Value) (p : NoteOnPaper) → NoteStands note.old me log p → NoteStands note.new me (Record.Choose slot v ∷ log) p }
 {

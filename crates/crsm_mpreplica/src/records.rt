@@ -1,4 +1,4 @@
-//! Records that are made, and their lines.
+//! The records of a step, and their lines.
 
 ghost use Rattle.std.specs.Prelude.{◌≡◌, ◌<◌, ◌≤◌, ◌++◌, ◌∷◌, [], List, Some, length, slice_get, take, drop, OnOk, IfOk};
 ghost use Rattle.std.specs.Option.{option_map};
@@ -27,7 +27,7 @@ use crsm_mpledger::{MpLedger, answers_are_by_slot, executed_slots_grow};
 use crsm_mpspec::{MpLine, MpRec, copy_value};
 use std::alloc::Global;
 
-/// Keeps a record, with its own line.
+/// Applies a record, and adds it with its line to the output.
 fn keep(
     ledger: &mut MpLedger,
     made: &mut StepOutput,
@@ -44,7 +44,7 @@ fn keep(
 }
 
 impl MpReplica {
-    /// Promises a ballot.
+    /// Promises a ballot. `NoMemory` if memory runs out.
     pub fn promise(&mut self, ballot: Ballot) -> Result<(), NoMemory>
         ensures { MakesWhere (λ x. FitsBallot ballot) (drafts.keep (Record.Promise ballot)) self.old result self.new }
     {
@@ -63,7 +63,7 @@ impl MpReplica {
         Ok(())
     }
 
-    /// Accepts a value, told by this line.
+    /// Accepts a value, with this line.
     fn accept_as(
         &mut self,
         line: MpLine,
@@ -83,7 +83,7 @@ impl MpReplica {
         Ok(())
     }
 
-    /// Accepts a value, which no client of this replica has asked for.
+    /// Accepts a value that is not a command of a client of this replica. `NoMemory` if memory runs out.
     pub fn accept(
         &mut self,
         slot: u64,
@@ -103,7 +103,7 @@ impl MpReplica {
         Ok(())
     }
 
-    /// Accepts a client's command.
+    /// Accepts a client's command. `NoMemory` if memory runs out.
     pub fn submit(&mut self, slot: u64, ballot: Ballot, command: &Command) -> Result<(), NoMemory>
         ensures { MakesWhere (λ x. FitsAccept slot ballot (Some command.now)) (λ x. drafts.keep_as (Line.Submit x.replica.me slot ballot.round ballot.by command.now.client command.now.number) (Record.Accept slot ballot (Some command.now)) x) self.old result self.new }
     {
@@ -120,8 +120,8 @@ impl MpReplica {
         Ok(())
     }
 
-    /// The value of a slot is known to be chosen, unless it was before: it is executed, and what follows it, once all before it
-    /// are.
+    /// Records the chosen value of a slot, unless it is known, and executes it and its successors once all before it
+    /// are executed. `NoMemory` if memory runs out.
     pub fn choose(&mut self, slot: u64, value: &Option<Command>) -> Result<(), NoMemory>
         ensures { MakesWhere (λ x. FitsChoice slot value.now) (deciding.choose slot value.now) self.old result self.new }
     {
@@ -147,7 +147,7 @@ impl MpReplica {
     }
 }
 
-/// Tells of what is executed from a slot on.
+/// Adds the lines of the slots executed from `first` on.
 fn tell_executed(
     alloc: Global,
     me: u32,
@@ -165,14 +165,14 @@ fn tell_executed(
     Ok(())
 }
 
-/// The line of an executed slot.
+/// Returns the line of an executed slot.
 fn exec_line(alloc: Global, me: u32, ledger: &MpLedger, slot: u64) -> Result<MpLine, NoMemory>
     ensures { IfOk result (λ line. (log : Log) (v : Value) → MpLedgerStands ledger.now log → slice_get (executed log) slot ≡ Some v →
         line ≡ drafts.exec_line me (take slot (executed log)) v) }
 {
     answers_are_by_slot();
     let (Some(value), Some(answer)) = (ledger.executed(slot), ledger.answer(slot)) else {
-        // It is executed.
+        // The slot is executed.
         return Err(never());
     };
     let line = line_of(alloc, me, slot, value, answer)?;
@@ -180,7 +180,7 @@ fn exec_line(alloc: Global, me: u32, ledger: &MpLedger, slot: u64) -> Result<MpL
 }
 
 #[tactic(auto, unfolding(crsm_mpspec::specs::Draft::exec_line))]
-/// The line of a value that is executed at a slot, with the answer of the store.
+/// Returns the line of a value executed at a slot, with the answer of the store.
 fn line_of(
     alloc: Global,
     replica: u32,

@@ -9,7 +9,7 @@ use crsm_base::NoMemory;
 use crsm_mpspec::{MpLine, MpMessage};
 
 impl MpReplica {
-    /// Sends a message to a replica.
+    /// Sends a message to a replica. `NoMemory` if memory runs out.
     pub fn send(&mut self, to: u32, message: MpMessage) -> Result<(), NoMemory>
         ensures { MakesWhere (λ x. FitsMessage message) (λ x. drafts.send message x to) self.old result self.new }
     {
@@ -17,7 +17,7 @@ impl MpReplica {
         Ok(())
     }
 
-    /// Sends a message to each other replica.
+    /// Sends a message to each other replica. `NoMemory` if memory runs out.
     pub fn send_to_others(&mut self, message: &MpMessage) -> Result<(), NoMemory>
         ensures { MakesWhere (λ x. FitsMessage message.now) (drafts.send_to_others message.now) self.old result self.new }
     {
@@ -30,7 +30,7 @@ impl MpReplica {
         Ok(())
     }
 
-    /// Replies to a client.
+    /// Replies to a client. `NoMemory` if memory runs out.
     pub fn reply(&mut self, line: MpLine) -> Result<(), NoMemory>
         ensures { Makes (drafts.reply line) self.old result self.new }
     {

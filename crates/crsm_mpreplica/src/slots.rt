@@ -7,7 +7,7 @@ ghost use Rattle.std.specs.BTreeMap.{keys};
 use crsm_base::{NoMemory, never};
 use std::collections::BTreeMap;
 
-/// The slot is behind all of a map.
+/// Returns whether the slot is after all slots of a map.
 fn is_behind<V>(map: &BTreeMap<u64, V>, slot: u64) -> bool
     ensures { IsTrue result → All (λ other. other < slot) (keys map.now) }
 {
@@ -17,7 +17,7 @@ fn is_behind<V>(map: &BTreeMap<u64, V>, slot: u64) -> bool
     }
 }
 
-/// Adds a value at a slot behind all others.
+/// Adds a value at a slot after all others.
 pub(crate) fn push_slot<V: Drop>(
     map: &mut BTreeMap<u64, V>,
     slot: u64,

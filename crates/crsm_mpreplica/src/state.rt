@@ -1,4 +1,4 @@
-//! The state of a replica.
+//! The state of a replica in memory.
 
 ghost use Rattle.std.specs.Prelude.{◌≡◌, ◌<◌, ◌≤◌};
 ghost use Rattle.crsm_mpspec.specs.Draft as drafts;
@@ -14,7 +14,7 @@ use crsm_mpspec::MpBatch;
 use std::alloc::Global;
 use std::collections::BTreeMap;
 
-/// A replica, and what its step has made so far.
+/// A replica in memory, with the output of the current step.
 #[derive(Drop)]
 pub struct MpReplica {
     pub(crate) alloc: Global,
@@ -22,7 +22,7 @@ pub struct MpReplica {
     pub(crate) n: u32,
     pub(crate) ledger: MpLedger,
     pub(crate) note: Note,
-    /// The commands whose clients wait, by slot.
+    /// The commands of waiting clients, by slot.
     pub(crate) waiting: BTreeMap<u64, Command>,
     pub(crate) made: StepOutput,
     ghost mine: { me < n },
@@ -34,7 +34,7 @@ impl MpReplica {
     ghost use Rattle.crsm_mpreplica.specs.Notes.{NoteStands};
     ghost use Rattle.crsm_mpreplica.specs.State.{MpReplicaStands, WhereStands};
 
-    /// The replica of a ledger, at the beginning of a boot.
+    /// Returns the replica of a ledger, at the beginning of a boot.
     pub fn new(alloc: Global, me: u32, n: u32, ledger: MpLedger) -> MpReplica
         requires mine { me < n }
         requires most { n ≤ 15 }
@@ -51,14 +51,14 @@ impl MpReplica {
         }
     }
 
-    /// Where the state takes its memory from.
+    /// Returns its allocator.
     pub fn alloc(&self) -> Global
         ensures { result ≡ self.now.alloc }
     {
         self.alloc
     }
 
-    /// The number of the replica.
+    /// Returns the number of the replica.
     pub fn me(&self) -> u32
         ensures is { WhereStands self.now (λ x. result ≡ x.replica.me) }
         ensures small { result < 15 }
@@ -66,7 +66,7 @@ impl MpReplica {
         self.me
     }
 
-    /// How many replicas there are.
+    /// Returns the number of replicas.
     pub fn n(&self) -> u32
         ensures is { WhereStands self.now (λ x. result ≡ x.replica.n) }
         ensures some { 1 ≤ result }
@@ -75,21 +75,21 @@ impl MpReplica {
         self.n
     }
 
-    /// What the records of its log say.
+    /// Returns its ledger.
     pub fn ledger(&self) -> &MpLedger
         ensures { WhereStands self.now (λ x. MpLedgerStands result.now x.replica.log) }
     {
         &self.ledger
     }
 
-    /// What it does about leading.
+    /// Returns its stage in an election.
     pub fn note(&self) -> &Note
         ensures { WhereStands self.now (λ x. NoteStands result.now x.replica.me x.replica.log x.replica.note) }
     {
         &self.note
     }
 
-    /// Hands out what the step has made, so that nothing is made.
+    /// Returns the output of the step and leaves the empty one.
     pub fn take_batch(&mut self) -> MpBatch
         ensures out { WhereStands self.old (λ x. Answers result (outcome_of x)) }
         ensures none { WhereStands self.old (λ x. MpReplicaStands self.new (drafts.begun x.replica)) }

@@ -1,4 +1,4 @@
-//! Clients that wait.
+//! Waiting clients.
 
 ghost use Rattle.std.specs.Prelude.{◌≡◌, ◌∷◌, ◌<◌, true, false, drop, length, IfSome, IfNone};
 ghost use Rattle.crsm_mpspec.specs.Draft as drafts;
@@ -10,7 +10,7 @@ use crate::state::MpReplica;
 use crsm_base::{Command, NoMemory};
 
 impl MpReplica {
-    /// A client waits for its command at a slot.
+    /// Records that a client waits for its command at a slot. `NoMemory` if memory runs out.
     pub fn await_command(&mut self, slot: u64, command: Command) -> Result<(), NoMemory>
         ensures { Makes (drafts.await slot command) self.old result self.new }
     {
@@ -18,14 +18,15 @@ impl MpReplica {
         Ok(())
     }
 
-    /// How many clients wait.
+    /// Returns the number of waiting clients.
     pub fn waiting_len(&self) -> usize
         ensures { WhereStands self.now (λ x. result ≡ length x.replica.waiting) }
     {
         self.waiting.len()
     }
 
-    /// The command of the client that waits first, and its slot, where this is executed. The client waits no more.
+    /// Removes and returns the command of the client that waits at the least slot, with the slot, if that is executed.
+    /// `None` changes nothing.
     pub fn next_due(&mut self) -> Option<(u64, Command)>
         ensures first { IfSome result (λ due. WhereStands self.old (λ x. x.replica.waiting ≡ waiting_of due ∷ drop 1 x.replica.waiting)) }
         ensures executed { IfSome result (λ due. WhereStands self.old (λ x. due.0 < length (executed x.replica.log))) }
@@ -38,7 +39,7 @@ impl MpReplica {
         self.waiting.pop_first()
     }
 
-    /// The slot of the client that waits first is executed.
+    /// Returns whether the least slot at which a client waits is executed.
     fn is_one_due(&self) -> bool
         ensures one { result ≡ true → WhereStands self.now IsFirstDue }
         ensures none { result ≡ false → WhereStands self.now NoneDue }

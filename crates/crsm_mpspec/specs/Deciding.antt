@@ -1,4 +1,4 @@
--- How a slot is decided: a leader proposes, the others accept, and a majority of votes chooses.
+-- The decision of a slot: a leader proposes, the others accept, and a majority of votes chooses.
 use Rattle.std.specs.Prelude.{ℕ, ◌+◌, Bool, false, ◌==◌, ◌&&◌, not, nat_le, List, length, Option, None, Some}
 use Rattle.std.specs.Option.{option_map_or}
 use Rattle.crsm_base.specs.Order.{ballot_lt, ballot_eq}
@@ -37,7 +37,7 @@ choose_voted slot x =
 
 -- ---- proposing
 
--- accepts the value in the leader's own ballot, told by this line, and asks the others to accept it
+-- accepts the value in the leader's own ballot, with this line, and asks the others to accept it
 unfoldable pub propose_as : MpLine → Ballot → ℕ → Value → Draft → Draft
 propose_as line b slot v x =
     let y = count_vote slot x.replica.me (keep_as line (MpRec.Accept slot b v) x) in
@@ -49,7 +49,7 @@ propose b slot v x = propose_as (MpLine.Accept x.replica.me slot b.round b.by) b
 
 -- ---- requests
 
--- tells the client why its command is not taken: 1 where the replica does not lead, 5 where no slot is left
+-- refuses the client's command: 1 if the replica does not lead, 5 if no slot is left
 unfoldable pub refuse : ℕ → Command → Draft → Draft
 refuse code c x = reply (MpLine.ReplyNo x.replica.me c.client c.number code) x
 

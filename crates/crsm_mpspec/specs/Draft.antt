@@ -1,4 +1,4 @@
--- A step while it is made: the replica so far, and what the step has kept, sent and told.
+-- A step in progress: the replica, and the records, messages and lines of the step.
 use Rattle.std.specs.Prelude.{ℕ, ◌+◌, List, [], ◌∷◌, ◌++◌, length, drop, fold, None, Some}
 use Rattle.crsm_mpspec.specs.declared.rec.MpRec.{MpRec}
 use Rattle.crsm_mpspec.specs.declared.message.MpMessage.{MpMessage}
@@ -32,7 +32,7 @@ unfoldable pub exec_lines : ℕ → List Value → List Value → List MpLine
 exec_lines me done [] = []
 exec_lines me done (v ∷ vs) = exec_line me done v ∷ exec_lines me (done ++ v ∷ []) vs
 
--- the lines of what is executed once a record is kept behind this log
+-- the lines of the slots that are executed once a record follows this log
 unfoldable pub executions : ℕ → Log → MpRec → List MpLine
 executions me log rec = exec_lines me (executed log) (drop (length (executed log)) (executed (rec ∷ log)))
 
@@ -45,7 +45,7 @@ line_of me log (MpRec.Choose slot v) = MpLine.Choose me slot
 
 -- ---- the single things that a step does
 
--- keeps a record, told by this line
+-- adds a record, with this line
 unfoldable pub keep_as : MpLine → MpRec → Draft → Draft
 keep_as line rec x =
     let r = x.replica in
@@ -75,7 +75,7 @@ send_to_others m x = send_to_each (others x.replica) m x
 unfoldable pub reply : MpLine → Draft → Draft
 reply line x = record x { replies = x.replies ++ line ∷ [] }
 
--- changes what the replica is at
+-- changes the stage of the replica
 unfoldable pub noting : Note → Draft → Draft
 noting note x = record x { replica = record x.replica { note = note } }
 

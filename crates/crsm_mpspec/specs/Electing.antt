@@ -1,4 +1,5 @@
--- How a replica comes to lead: it asks for promises of a ballot, and a majority of reports leaves it what to propose.
+-- The election of a leader: a replica asks for promises of a ballot, and the reports of a majority determine what it
+-- proposes.
 use Rattle.std.specs.Prelude.{ℕ, suc, ◌+◌, ◌-◌, ◌==◌, ◌&&◌, not, nat_le, List, [], ◌∷◌, ◌++◌, length, map, filter, flat_map, fold, None, Some}
 use Rattle.std.specs.List.{range_with_len}
 use Rattle.crsm_base.specs.Order.{ballot_lt, ballot_eq}
@@ -18,7 +19,7 @@ use Rattle.crsm_mpspec.specs.Deciding.{choose, propose}
 
 -- ---- reports
 
--- what a replica reports from a slot on
+-- the report of a replica from a slot on
 unfoldable pub report : ℕ → Replica → Report
 report start r =
     record { from = r.me; accepted = accepted_from start r.log; chosen = chosen_from start r.log }
@@ -28,7 +29,7 @@ unfoldable pub greater_held : Held Value → Ballot × Value → Held Value
 greater_held None a = Some a
 greater_held (Some held) a = when ballot_lt held.0 a.0 then Some a otherwise Some held
 
--- what a report says was accepted at the slot
+-- the value that a report has as accepted at the slot
 unfoldable pub held_at : ℕ → List MpAccepted → Held Value
 held_at slot accepted =
     fold greater_held None (map (λ a. (a.ballot, a.value)) (filter (λ a. a.slot == slot) accepted))
@@ -37,7 +38,7 @@ held_at slot accepted =
 unfoldable pub answers_at : ℕ → List Report → List (Answer Value)
 answers_at slot reports = map (λ r. record { replica = r.from; accepted = held_at slot r.accepted }) reports
 
--- what the leader has to propose at the slot: a noop where no report names a value
+-- the value that the leader must propose at the slot: a noop if no report names a value
 unfoldable pub reported_at : ℕ → List Report → Value
 reported_at slot reports = value_of None (answers_at slot reports)
 
@@ -64,7 +65,7 @@ unfoldable pub propose_reported : Ballot → List Report → Draft → ℕ → D
 propose_reported b reports x slot =
     when is_chosen slot x.replica.log then x otherwise propose b slot (reported_at slot reports) x
 
--- Leads: keeps what is reported to be chosen, and proposes anew at the other slots up to the last that is reported.
+-- Leads: records the values reported as chosen, and proposes again at the other slots up to the last that is reported.
 unfoldable pub lead : Ballot → ℕ → List Report → Draft → Draft
 lead b start reports x =
     let next = next_slot start reports in

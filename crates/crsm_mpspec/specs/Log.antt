@@ -1,4 +1,4 @@
--- What a replica's log says. A log is the list of the records that were kept, the newest first.
+-- The state that a replica's log leads to. A log is the list of its records, the newest first.
 use Rattle.std.specs.Prelude.{ℕ, zero, suc, Bool, true, false, ◌==◌, nat_le, List, [], ◌∷◌, map, filter, count_by, Option, None, Some, is_some}
 use Rattle.std.specs.Ordering.{nat_cmp}
 use Rattle.std.specs.Map.{lookup}
@@ -15,7 +15,7 @@ Log = List MpRec
 
 -- ---- lists by slot
 
--- what stands first at a slot
+-- the first item at a slot
 unfoldable pub at_slot : {A : Type 0} → ℕ → List (ℕ × A) → Option A
 at_slot slot xs = lookup (λ s. s == slot) xs
 
@@ -49,11 +49,11 @@ accepts [] = []
 accepts (MpRec.Accept slot b v ∷ log) = (slot, (b, v)) ∷ accepts log
 accepts (_ ∷ log) = accepts log
 
--- what was accepted last at a slot
+-- the value accepted last at a slot
 unfoldable pub accepted_at : ℕ → Log → Option (Ballot × Value)
 accepted_at slot log = at_slot slot (accepts log)
 
--- what was accepted last at each slot from this one on, by ascending slot
+-- the value accepted last at each slot from this one on, by ascending slot
 unfoldable pub accepted_from : ℕ → Log → List MpAccepted
 accepted_from start log =
     map (λ x. record { slot = x.0; ballot = x.1.0; value = x.1.1 }) (from_slot start (by_slot (accepts log)))
@@ -87,7 +87,7 @@ unfoldable pub and_then : Option Value → List Value → List Value
 and_then None vs = []
 and_then (Some v) vs = v ∷ vs
 
--- the known values of at most so many slots from this one on, up to the first slot that is not known
+-- the known values of at most this number of slots from this one on, up to the first slot that is not known
 unfoldable pub run_from : ℕ → ℕ → Log → List Value
 run_from zero slot log = []
 run_from (suc most) slot log = and_then (chosen_at slot log) (run_from most (suc slot) log)

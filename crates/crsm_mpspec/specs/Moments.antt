@@ -1,4 +1,4 @@
--- What comes of an act: the moments that it makes of a world. Clocks have no part in it, so readings mean nothing here.
+-- The effect of an act: the moments that it adds to a world. Clocks have no part in it, so readings mean nothing here.
 use Rattle.std.specs.Prelude.{ℕ, true, ◌&&◌, not, if◌then◌else◌, List, [], ◌∷◌, map, filter, flat_map, Option, None, Some, slice_get, slice_set}
 use Rattle.std.specs.List.{enumerate_from}
 use Rattle.std.specs.Option.{option_map_or}
@@ -32,13 +32,13 @@ step_at_site ends w k input from _ = silent w w
 unfoldable pub step_at : Ending → World → ℕ → MpInput → ℕ → Moment
 step_at ends w k input from = step_at_site ends w k input from (slice_get w.sites k)
 
--- a message comes to its receiver
+-- the delivery of a message to its receiver
 unfoldable pub come : Ending → World → Option Packet → Moment
 come ends w None = silent w w
 come ends w (Some m) = step_at ends w m.to (MpInput.Message m.message) m.from
 
--- What comes of an act of one step, which ends whole or is stopped. A suspicion makes its replica try to lead. Bytes
--- from nowhere are not possible.
+-- The effect of an act of one step, which ends whole or is stopped. A suspicion makes its replica try to lead. Bytes
+-- from no replica are not possible.
 unfoldable pub single : Ending → World → Single → Moment
 single ends w (Single.Request k t c) = step_at ends w k (MpInput.Request c) 0
 single ends w (Single.Go i t) = begun_at w (come ends (use_up i w) (slice_get w.packets i))

@@ -1,4 +1,4 @@
--- Which acts are possible in a world, and why another is not.
+-- The acts that are possible in a world, and the reason why another is not.
 use Rattle.std.specs.Prelude.{ℕ, Bool, true, false, not, nat_lt, nat_le, List, [], ◌∷◌, length, Option, Some, slice_get}
 use Rattle.std.specs.List.{list_any}
 use Rattle.std.specs.Option.{option_map_or, option_map}

@@ -1,4 +1,4 @@
--- The spellings of records and of whole log bodies.
+-- The encodings of records and of whole log bodies.
 use Rattle.std.specs.Prelude.{ℕ, ◌<◌, ◌≤◌, ◌^◌, List, [], ◌∷◌, ◌++◌, length}
 use Rattle.std.specs.List.{flat_map, AllByRecursion}
 use Rattle.crsm_base.specs.Spelling.{Spelt, u64_bytes, ballot_bytes, FitsBallot, command_bytes, FitsCommand, option_bytes, FitsOption}
@@ -11,7 +11,7 @@ rec_bytes (MpRec.Promise b) = 2 ∷ ballot_bytes b
 rec_bytes (MpRec.Accept slot b v) = 3 ∷ (u64_bytes slot ++ (ballot_bytes b ++ option_bytes command_bytes v))
 rec_bytes (MpRec.Choose slot v) = 4 ∷ (u64_bytes slot ++ option_bytes command_bytes v)
 
--- the record has a spelling
+-- the record has an encoding
 abbrev pub FitsRec : MpRec → Type 0
 FitsRec MpRec.Boot = Unit {0}
 FitsRec (MpRec.Promise b) = FitsBallot b

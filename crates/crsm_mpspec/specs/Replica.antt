@@ -1,4 +1,4 @@
--- A replica on paper: the log that it kept, and what it has in memory.
+-- A replica of the definitions: its log, and its state in memory.
 use Rattle.std.specs.Prelude.{ℕ, ◌==◌, Bool, not, nat_lt, if◌then◌else◌, List, [], ◌∷◌, ◌++◌, map, filter}
 use Rattle.crsm_base.specs.Order.{ballot_lt}
 use Rattle.crsm_spec.specs.Lists.{has, numbers_below}
@@ -9,14 +9,14 @@ use Rattle.crsm_mpspec.specs.declared.choices.MpChosen.{MpChosen}
 use Rattle.crsm_mpspec.specs.Types.{Ballot, Command}
 use Rattle.crsm_mpspec.specs.Log.{Log}
 
--- what a replica reports with its promise, from the slot on that it was asked for
+-- the report of a replica with its promise, from the requested slot on
 pub record Report : Type 0 where
   pub from : ℕ
   pub accepted : List MpAccepted
   pub chosen : List MpChosen
 
--- What a replica is at: it asks for promises of a ballot, or leads in one. It keeps the slot from which on it asked and
--- the reports, by ascending replica; a leader also the slot of the next request, and each vote behind its slot.
+-- The stage of a replica: it asks for promises of a ballot, or leads in one. It keeps the slot from which on it asked
+-- and the reports, by ascending replica; a leader also the slot of the next request, and each vote with its slot.
 pub data Note : Type 0 where
   Idle : Note
   Asking : (b : Ballot) (start : ℕ) (reports : List Report) → Note
@@ -27,7 +27,7 @@ pub record Waiting : Type 0 where
   pub slot : ℕ
   pub command : Command
 
--- One replica: what is on its disk is `log` alone; the rest is lost with a boot.
+-- One replica: only `log` is on its disk; the rest is lost at a boot.
 pub record Replica : Type 0 where
   pub me : ℕ  -- its number
   pub n : ℕ  -- how many replicas there are
@@ -45,7 +45,7 @@ others r = filter (λ k. not (k == r.me)) (numbers_below r.n)
 
 -- ---- what ends an asking and a lead
 
--- a promise of ballot b ends what is under way in a lesser one
+-- a promise of ballot b ends a request or a lead in a lesser one
 unfoldable pub ended_by : Ballot → Note → Note
 ended_by b Note.Idle = Note.Idle
 ended_by b (Note.Asking a start reports) = when ballot_lt a b then Note.Idle otherwise Note.Asking a start reports

@@ -1,4 +1,4 @@
--- Whole runs: what acts make of the first world, the lines that are seen, and the executed lists.
+-- Whole runs: the effect of acts on the first world, the lines that are seen, and the executed lists.
 use Rattle.std.specs.Prelude.{◌≡◌, ℕ, nat_lt, if◌then◌else◌, List, [], ◌∷◌, ◌++◌, length, map, flat_map, fold, Option, None, Some}
 use Rattle.crsm_spec.specs.Lists.{numbers_below}
 use Rattle.crsm_spec.specs.Acts.{Act, FitsAct}
@@ -14,7 +14,7 @@ unfoldable pub after_acts : World → List Act → World
 after_acts w [] = w
 after_acts w (a ∷ acts) = after_acts (act w a).after acts
 
--- a line spells each act, and each is possible in the world so far
+-- each act has a line of text, and is possible in the world of those before
 abbrev pub ArePossible : World → List Act → Type 0
 ArePossible w [] = Unit {0}
 ArePossible w (a ∷ acts) = FitsAct a × (possible w a ≡ None) × ArePossible (act w a).after acts

@@ -1,5 +1,5 @@
--- What holds of every run: the laws of agreement, of answers and of real time. They speak of one list of values and
--- of the sequential store, and know no ballots, votes or leaders.
+-- The laws of every run: agreement, answers and real time. They are stated over one list of values and the sequential
+-- store, and mention no ballots, votes or leaders.
 use Rattle.std.specs.Prelude.{◌≡◌, ◌≢◌, ℕ, ◌<◌, ◌≤◌, take, List, Option, None, Some, slice_get}
 use Rattle.std.specs.List.{AllByRecursion}
 use Rattle.crsm_spec.specs.Lists.{IsPrefixOf}
@@ -61,7 +61,7 @@ pub record Answered (n : ℕ) (acts : List Act) : Type 0 where
 
 -- ---- real time
 
--- A command that is submitted for the first time after another was answered stands behind it, if it is executed at all.
+-- A command that is submitted for the first time after another was answered is executed after it, if at all.
 abbrev pub RealTime : ℕ → List Act → Type 0
 RealTime n acts =
     (i j k client number slot k' slot' : ℕ) (a : Answer) (c : Command) → i < j →
@@ -72,8 +72,8 @@ RealTime n acts =
 
 -- ---- the law
 
--- Every run is safe, of every cluster of 1 to 15 replicas, over every list of acts that a schedule can spell and that
--- are possible: its executed lists agree, its answers are right, and it keeps real time.
+-- Every run is safe, of every cluster of 1 to 15 replicas, over every list of acts that have a text and are possible:
+-- its executed lists agree, its answers are right, and it keeps real time.
 abbrev pub IsSafe : Type 0
 IsSafe =
     (n : ℕ) → 1 ≤ n → n ≤ 15 → (acts : List Act) → ArePossible (begin n) acts →

@@ -19,7 +19,7 @@ use Rattle.crsm_mpspec.specs.Electing.{on_lead, on_prep, on_prom, on_no}
 
 -- ---- what a replica asks for
 
--- tells k the value of a slot
+-- sends replica k the value of a slot
 unfoldable pub teach : ℕ → Draft → ℕ × Value → Draft
 teach k x s = send (MpMessage.Learn s.0 s.1) x k
 
@@ -47,13 +47,14 @@ propose_again b votes x slot =
     option_map_or (λ a. send_to_each (unvoted slot votes x.replica) (MpMessage.Acc b slot a.1) x)
     (accepted_at slot x.replica.log) x
 
--- what the replica asks for once more
+-- the retransmitted requests of the replica
 unfoldable pub renew : Note → Draft → Draft
 renew Note.Idle x = x
 renew (Note.Asking b start reports) x = send_to_each (unreported reports x.replica) (MpMessage.Prep b start) x
 renew (Note.Leading b start next reports votes) x = fold (propose_again b votes) x (open_slots votes x.replica)
 
--- A tick: what is asked for is sent again, and all are asked for what is executed beyond here.
+-- A tick: requests that are not answered are retransmitted, and all are asked for executed values that are missing
+-- here.
 unfoldable pub on_tick : Draft → Draft
 on_tick x =
     let y = renew x.replica.note x in send_to_others (MpMessage.Ask (length (executed x.replica.log))) y

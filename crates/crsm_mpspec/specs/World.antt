@@ -1,4 +1,4 @@
--- The world: the replicas and the messages between them, and what a step leaves in it.
+-- The world: the replicas and the messages between them, and the effect of a step on it.
 use Rattle.std.specs.Prelude.{ℕ, ◌+◌, ◌-◌, Bool, true, false, nat_le, List, [], ◌∷◌, ◌++◌, length, map, take, flat_map, sum_by, slice_get, slice_set}
 use Rattle.std.specs.List.{enumerate_from}
 use Rattle.std.specs.Option.{option_map_or}
@@ -33,7 +33,7 @@ pub record World : Type 0 where
   pub packets : List Packet  -- all messages ever sent, by number
   pub bytes : ℕ  -- of all log bodies kept
 
--- A change of the world, and the lines that tell it.
+-- A change of the world, and its lines.
 pub record Moment : Type 0 where
   pub before : World
   pub after : World
@@ -97,7 +97,7 @@ send_lines k i sends = map (λ s. send_line k s.0 s.1) (enumerate_from i sends)
 unfoldable pub packet_of : ℕ → ℕ × MpMessage → Packet
 packet_of k s = record { from = k; to = s.0; message = s.1; used = false }
 
--- A step of replica k, of which these messages and replies went out.
+-- A step of replica k, after which these messages and replies were sent.
 unfoldable pub after_step : World → ℕ → Draft → Site → List (ℕ × MpMessage) → List MpLine → Moment
 after_step w k x site sends replies =
     record {
@@ -115,7 +115,7 @@ after_step w k x site sends replies =
 abbrev pub Ending : Type 0
 Ending = World → ℕ → Draft → Moment
 
--- A whole step: all goes out, and the replica goes on.
+-- A whole step: all output is sent, and the replica continues.
 unfoldable pub whole_step : Ending
 whole_step w k x = after_step w k x (Site.Up x.replica) x.sends x.replies
 

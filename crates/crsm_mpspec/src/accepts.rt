@@ -1,4 +1,4 @@
-//! What a replica has accepted.
+//! The values that a replica has accepted.
 
 ghost use Rattle.std.specs.Prelude.{◌≡◌, [], ◌∷◌, ◌++◌, IfOk, OnOk, OnErr};
 
@@ -16,7 +16,7 @@ pub struct MpAccepted {
 }
 
 impl MpAccepted {
-    /// An equal value.
+    /// Returns a copy. `NoMemory` if memory runs out.
     pub fn copy(&self, alloc: Global) -> Result<MpAccepted, NoMemory>
         ensures { IfOk result (λ copy. copy ≡ self.now) }
     {
@@ -28,7 +28,7 @@ impl MpAccepted {
     }
 }
 
-/// What a replica has accepted from a slot on, by slot.
+/// A list of the values that a replica has accepted from a slot on, by slot.
 #[derive(Debug, Drop)]
 pub struct MpAccepts {
     items: Vec<MpAccepted>,
@@ -44,7 +44,7 @@ impl Model for MpAccepts {
 }
 
 impl MpAccepts {
-    /// An empty list, which takes its memory from this allocator.
+    /// Returns the empty list.
     pub fn new(alloc: Global) -> MpAccepts
         ensures { result ≡ [] }
     {
@@ -53,7 +53,7 @@ impl MpAccepts {
         }
     }
 
-    /// Adds an item at the end. After `NoMemory` the list is as before.
+    /// Appends a value. `NoMemory` if memory runs out; the list is then unchanged.
     pub fn push(&mut self, item: MpAccepted) -> Result<(), NoMemory>
         ensures ok { OnOk result (self.new ≡ self.old ++ item ∷ []) }
         ensures err { OnErr result (self.new ≡ self.old) }
@@ -62,14 +62,14 @@ impl MpAccepts {
         Ok(())
     }
 
-    /// The items in their order.
+    /// Returns the values by slot.
     pub fn as_slice(&self) -> &[MpAccepted]
         ensures { result.now ≡ self.now }
     {
         self.items.as_slice()
     }
 
-    /// An equal value.
+    /// Returns a copy. `NoMemory` if memory runs out.
     pub fn copy(&self, alloc: Global) -> Result<MpAccepts, NoMemory>
         ensures { IfOk result (λ copy. copy ≡ self.now) }
     {

@@ -1,13 +1,13 @@
-//! Why an event is not possible.
+//! The reasons why an event is not possible.
 
 use crsm_base::NoMemory;
 
-/// Why an event is not possible.
+/// The reason why an event is not possible.
 #[derive(Clone, Copy, Debug, PartialEq, Eq)]
 pub enum MpBad {
-    /// The event has no meaning here: bytes from nowhere, a group of deliveries, or a stop at a call of the device.
+    /// The event is not supported: bytes from no replica, a group of deliveries, or a stop at a call of the device.
     NotHere,
-    /// The log bodies have so many bytes, which is the limit or above it.
+    /// The log bodies have `bytes` bytes together, which is the limit or above it.
     Full { bytes: u64 },
     /// No replica has this number.
     NoSuchReplica,
@@ -17,7 +17,7 @@ pub enum MpBad {
     Used,
     /// The message was neither delivered nor lost before.
     Fresh,
-    /// The messages have not all one receiver. No event meets this cause.
+    /// The messages do not all have one receiver. No event is refused for this reason.
     Mixed,
     /// The replica is down.
     IsDown,
@@ -25,9 +25,9 @@ pub enum MpBad {
     IsUp,
     /// The members are fewer than a majority.
     TooFew,
-    /// The bytes are a datagram. No event meets this cause.
+    /// The bytes are the encoding of a datagram. No event is refused for this reason.
     Forged,
-    /// Memory ran out. From then on the world answers nothing else.
+    /// Memory ran out. From then on the world returns no other result.
     NoMemory,
 }
 

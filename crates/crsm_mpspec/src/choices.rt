@@ -1,4 +1,4 @@
-//! What a replica knows to be chosen.
+//! The values that a replica knows to be chosen.
 
 ghost use Rattle.std.specs.Prelude.{◌≡◌, [], ◌∷◌, ◌++◌, IfOk, OnOk, OnErr};
 
@@ -15,7 +15,7 @@ pub struct MpChosen {
 }
 
 impl MpChosen {
-    /// An equal value.
+    /// Returns a copy. `NoMemory` if memory runs out.
     pub fn copy(&self, alloc: Global) -> Result<MpChosen, NoMemory>
         ensures { IfOk result (λ copy. copy ≡ self.now) }
     {
@@ -26,7 +26,7 @@ impl MpChosen {
     }
 }
 
-/// What a replica knows to be chosen from a slot on, by slot.
+/// A list of the values that a replica knows to be chosen from a slot on, by slot.
 #[derive(Debug, Drop)]
 pub struct MpChoices {
     items: Vec<MpChosen>,
@@ -42,7 +42,7 @@ impl Model for MpChoices {
 }
 
 impl MpChoices {
-    /// An empty list, which takes its memory from this allocator.
+    /// Returns the empty list.
     pub fn new(alloc: Global) -> MpChoices
         ensures { result ≡ [] }
     {
@@ -51,7 +51,7 @@ impl MpChoices {
         }
     }
 
-    /// Adds an item at the end. After `NoMemory` the list is as before.
+    /// Appends a value. `NoMemory` if memory runs out; the list is then unchanged.
     pub fn push(&mut self, item: MpChosen) -> Result<(), NoMemory>
         ensures ok { OnOk result (self.new ≡ self.old ++ item ∷ []) }
         ensures err { OnErr result (self.new ≡ self.old) }
@@ -60,14 +60,14 @@ impl MpChoices {
         Ok(())
     }
 
-    /// The items in their order.
+    /// Returns the values by slot.
     pub fn as_slice(&self) -> &[MpChosen]
         ensures { result.now ≡ self.now }
     {
         self.items.as_slice()
     }
 
-    /// An equal value.
+    /// Returns a copy. `NoMemory` if memory runs out.
     pub fn copy(&self, alloc: Global) -> Result<MpChoices, NoMemory>
         ensures { IfOk result (λ copy. copy ≡ self.now) }
     {

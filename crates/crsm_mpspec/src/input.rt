@@ -1,17 +1,17 @@
-//! What comes to a replica.
+//! The inputs of a replica.
 
 use crate::message::MpMessage;
 use crsm_base::Command;
 
-/// What comes to a replica.
+/// The input of one step.
 #[derive(Debug, Drop)]
 pub enum MpInput {
     /// A client's command.
     Request { command: Command },
-    /// A message of another replica.
+    /// A message from another replica.
     Message { message: MpMessage },
-    /// Some time went by.
+    /// A tick of the clock.
     Tick,
-    /// The replica is to try to lead.
+    /// A request to the replica to become the leader.
     Lead,
 }

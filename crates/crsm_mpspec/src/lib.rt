@@ -1,5 +1,6 @@
-//! A store with a leader, for comparison: replicas that decide the slots of a list, in ballots of a leader. Its
-//! plain values; and in `specs/` the rules of a replica, the world, what may happen in it, and what must hold.
+//! A store with a leader, for comparison: replicas that decide the slots of a list, in ballots of a leader. Its plain
+//! values; and in `specs/` the rules of a replica, the world, the acts that are possible in it, and the laws of its
+//! runs.
 #![tactic(auto)]
 
 mod accepts;

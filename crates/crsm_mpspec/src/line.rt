@@ -14,15 +14,15 @@ pub enum MpKind {
     Ask,
 }
 
-/// A line of the transcript, without its number.
+/// A line of the transcript, without its line number.
 #[derive(Debug, Drop)]
 pub enum MpLine {
-    /// A boot, with how many there were.
+    /// A boot, with the number of boots of the replica.
     Boot {
         replica: u32,
         count: u64,
     },
-    /// A client's command is accepted by its leader, at a slot in a ballot.
+    /// The leader accepts a client's command at a slot in a ballot.
     Submit {
         replica: u32,
         slot: u64,
@@ -31,14 +31,14 @@ pub enum MpLine {
         client: u64,
         number: u64,
     },
-    /// Another value is accepted, at a slot in a ballot.
+    /// A replica accepts another value at a slot in a ballot.
     Accept {
         replica: u32,
         slot: u64,
         round: u64,
         by: u32,
     },
-    /// A ballot is promised.
+    /// A replica promises a ballot.
     Promise {
         replica: u32,
         round: u64,
@@ -69,7 +69,7 @@ pub enum MpLine {
         to: u32,
         kind: MpKind,
     },
-    /// A client gets its answer.
+    /// A client receives its answer.
     ReplyOk {
         replica: u32,
         client: u64,
@@ -77,7 +77,7 @@ pub enum MpLine {
         place: u64,
         answer: Answer,
     },
-    /// A client is refused: 1 where the replica does not lead, 5 where it has no slot left.
+    /// A client is refused: code 1 if the replica does not lead, 5 if it has no slot left.
     ReplyNo {
         replica: u32,
         client: u64,
@@ -91,11 +91,11 @@ pub enum MpLine {
         number: u64,
         slot: u64,
     },
-    /// The replica goes down.
+    /// A replica goes down.
     Down {
         replica: u32,
     },
-    /// How a replica stands at the end, and how many slots it has executed.
+    /// The state of a replica at the end, and the number of slots that it has executed.
     Final {
         replica: u32,
         up: bool,

@@ -23,7 +23,7 @@ impl Model for MpLines {
 }
 
 impl MpLines {
-    /// An empty list, which takes its memory from this allocator.
+    /// Returns the empty list.
     pub fn new(alloc: Global) -> MpLines
         ensures { result ≡ [] }
     {
@@ -32,7 +32,7 @@ impl MpLines {
         }
     }
 
-    /// Adds an item at the end. After `NoMemory` the list is as before.
+    /// Appends a line. `NoMemory` if memory runs out; the list is then unchanged.
     pub fn push(&mut self, item: MpLine) -> Result<(), NoMemory>
         ensures ok { OnOk result (self.new ≡ self.old ++ item ∷ []) }
         ensures err { OnErr result (self.new ≡ self.old) }
@@ -41,7 +41,7 @@ impl MpLines {
         Ok(())
     }
 
-    /// Moves the items of another list behind these. After `NoMemory` both are as before.
+    /// Moves the lines of another list to the end of this one. `NoMemory` if memory runs out; both are then unchanged.
     pub fn append(&mut self, other: &mut MpLines) -> Result<(), NoMemory>
         ensures ok { OnOk result (self.new ≡ self.old ++ other.old) }
         ensures emptied { OnOk result (other.new ≡ []) }
@@ -52,21 +52,21 @@ impl MpLines {
         Ok(())
     }
 
-    /// The items in their order.
+    /// Returns the lines in order.
     pub fn as_slice(&self) -> &[MpLine]
         ensures { result.now ≡ self.now }
     {
         self.items.as_slice()
     }
 
-    /// Keeps the first items, so many of them.
+    /// Keeps the first `count` lines, and removes the others.
     pub fn truncate(&mut self, count: usize)
         ensures { self.new ≡ take count self.old }
     {
         self.items.truncate(count);
     }
 
-    /// Lets all items go, and keeps their room.
+    /// Removes all lines, and keeps the memory for further ones.
     pub fn clear(&mut self)
         ensures { self.new ≡ [] }
     {

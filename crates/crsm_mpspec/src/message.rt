@@ -11,18 +11,18 @@ use std::alloc::Global;
 /// A message from one replica to another.
 #[derive(Debug, Drop)]
 pub enum MpMessage {
-    /// Asks to promise the ballot, and for all that was accepted or chosen from a slot on.
+    /// Asks for a promise of the ballot, and for all values accepted or chosen from a slot on.
     Prep {
         ballot: Ballot,
         start: u64,
     },
-    /// A promise, with what the sender has accepted and what it knows to be chosen.
+    /// Promises the ballot, with the values that the sender has accepted and those that it knows to be chosen.
     Prom {
         ballot: Ballot,
         accepted: MpAccepts,
         chosen: MpChoices,
     },
-    /// The sender has promised this greater ballot.
+    /// Refuses: the sender has promised this greater ballot.
     No {
         promised: Ballot,
     },
@@ -32,12 +32,12 @@ pub enum MpMessage {
         slot: u64,
         value: Option<Command>,
     },
-    /// The sender has accepted at the slot in this ballot.
+    /// Votes: the sender has accepted at the slot in this ballot.
     Accd {
         ballot: Ballot,
         slot: u64,
     },
-    /// The value of a slot that was chosen.
+    /// Reports the chosen value of a slot.
     Learn {
         slot: u64,
         value: Option<Command>,
@@ -49,7 +49,7 @@ pub enum MpMessage {
 }
 
 impl MpMessage {
-    /// An equal value.
+    /// Returns a copy. `NoMemory` if memory runs out.
     pub fn copy(&self, alloc: Global) -> Result<MpMessage, NoMemory>
         ensures { IfOk result (λ copy. copy ≡ self.now) }
     {

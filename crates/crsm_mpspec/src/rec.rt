@@ -11,7 +11,7 @@ pub enum MpRec {
     Promise {
         ballot: Ballot,
     },
-    /// The replica accepts a value at a slot in a ballot, which it promises with it.
+    /// The replica accepts a value at a slot in a ballot, and promises the ballot.
     Accept {
         slot: u64,
         ballot: Ballot,

@@ -7,7 +7,7 @@ use crsm_base::NoMemory;
 use std::alloc::Global;
 use std::marker::Model;
 
-/// A list of records, as a log body has them.
+/// A list of records, as in a log body.
 #[derive(Debug, Drop)]
 pub struct MpRecs {
     items: Vec<MpRec>,
@@ -23,7 +23,7 @@ impl Model for MpRecs {
 }
 
 impl MpRecs {
-    /// An empty list, which takes its memory from this allocator.
+    /// Returns the empty list.
     pub fn new(alloc: Global) -> MpRecs
         ensures { result ≡ [] }
     {
@@ -32,7 +32,7 @@ impl MpRecs {
         }
     }
 
-    /// Adds an item at the end. After `NoMemory` the list is as before.
+    /// Appends a record. `NoMemory` if memory runs out; the list is then unchanged.
     pub fn push(&mut self, item: MpRec) -> Result<(), NoMemory>
         ensures ok { OnOk result (self.new ≡ self.old ++ item ∷ []) }
         ensures err { OnErr result (self.new ≡ self.old) }
@@ -41,7 +41,8 @@ impl MpRecs {
         Ok(())
     }
 
-    /// Moves the items of another list behind these. After `NoMemory` both are as before.
+    /// Moves the records of another list to the end of this one. `NoMemory` if memory runs out; both are then
+    /// unchanged.
     pub fn append(&mut self, other: &mut MpRecs) -> Result<(), NoMemory>
         ensures ok { OnOk result (self.new ≡ self.old ++ other.old) }
         ensures emptied { OnOk result (other.new ≡ []) }
@@ -52,7 +53,7 @@ impl MpRecs {
         Ok(())
     }
 
-    /// The items in their order.
+    /// Returns the records in order.
     pub fn as_slice(&self) -> &[MpRec]
         ensures { result.now ≡ self.now }
     {

@@ -1,11 +1,11 @@
-//! Messages and where they go.
+//! Messages with their receivers.
 
 use crate::message::MpMessage;
 
-/// A message to be sent.
+/// A message to be sent to a replica.
 #[derive(Debug, Drop)]
 pub struct MpSend {
-    /// The replica that it goes to.
+    /// The number of the receiver.
     pub to: u32,
     pub message: MpMessage,
 }

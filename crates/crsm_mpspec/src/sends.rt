@@ -7,7 +7,7 @@ use crsm_base::NoMemory;
 use std::alloc::Global;
 use std::marker::Model;
 
-/// A list of messages to be sent, in their order.
+/// A list of messages to be sent, in order.
 #[derive(Debug, Drop)]
 pub struct MpSends {
     items: Vec<MpSend>,
@@ -23,7 +23,7 @@ impl Model for MpSends {
 }
 
 impl MpSends {
-    /// An empty list, which takes its memory from this allocator.
+    /// Returns the empty list.
     pub fn new(alloc: Global) -> MpSends
         ensures { result ≡ [] }
     {
@@ -32,7 +32,7 @@ impl MpSends {
         }
     }
 
-    /// Adds an item at the end. After `NoMemory` the list is as before.
+    /// Appends a message. `NoMemory` if memory runs out; the list is then unchanged.
     pub fn push(&mut self, item: MpSend) -> Result<(), NoMemory>
         ensures ok { OnOk result (self.new ≡ self.old ++ item ∷ []) }
         ensures err { OnErr result (self.new ≡ self.old) }
@@ -41,7 +41,8 @@ impl MpSends {
         Ok(())
     }
 
-    /// Moves the items of another list behind these. After `NoMemory` both are as before.
+    /// Moves the messages of another list to the end of this one. `NoMemory` if memory runs out; both are then
+    /// unchanged.
     pub fn append(&mut self, other: &mut MpSends) -> Result<(), NoMemory>
         ensures ok { OnOk result (self.new ≡ self.old ++ other.old) }
         ensures emptied { OnOk result (other.new ≡ []) }
@@ -52,21 +53,21 @@ impl MpSends {
         Ok(())
     }
 
-    /// The items in their order.
+    /// Returns the messages in order.
     pub fn as_slice(&self) -> &[MpSend]
         ensures { result.now ≡ self.now }
     {
         self.items.as_slice()
     }
 
-    /// Keeps the first items, so many of them.
+    /// Keeps the first `count` messages, and removes the others.
     pub fn truncate(&mut self, count: usize)
         ensures { self.new ≡ take count self.old }
     {
         self.items.truncate(count);
     }
 
-    /// The items in their order, as a vector.
+    /// Returns the messages in order, as a vector.
     pub fn into_items(self) -> Vec<MpSend>
         ensures { result.items ≡ self }
     {

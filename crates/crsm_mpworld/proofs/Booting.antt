@@ -1,4 +1,4 @@
--- What a boot leads to.
+-- The effect of a boot.
 use Rattle.std.proofs.Common.{◌≡◌, ◌+◌, ℕ, zero, suc, List, [], ◌∷◌, ◌++◌, drop, length, refl, ap, sym, ◌∙◌, subst, append-nil, Some}
 use Rattle.std.specs.Prelude.{slice_get, slice_set}
 use Rattle.crsm_mpspec.specs.declared.line.MpLine.{MpLine}

@@ -1,4 +1,4 @@
--- What a boot makes.
+-- The output of a boot.
 use Rattle.std.proofs.Common.{◌≡◌, ℕ, ◌<◌, ◌+◌, cond, List, [], ◌∷◌, ◌++◌, length, refl, sym, ap, ◌∙◌, subst, arith}
 use Rattle.std.specs.Prelude.{fold}
 use Rattle.crsm_disk.specs.Memory.{Memory}

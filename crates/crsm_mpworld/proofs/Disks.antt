@@ -1,4 +1,4 @@
--- Logs on disks on which nothing fails, and what is left on them.
+-- Logs on disks whose calls do not fail, and what is left on them.
 use Rattle.std.proofs.Common.{◌≡◌, ℕ, ◌<◌, ◌≤◌, IsTrue, Bool, true, false, List, [], ◌∷◌, ◌++◌, length, map, take, Option, Some, None, refl, sym, ◌∙◌, ap, subst, arith}
 use Rattle.std.specs.Prelude.{unwrap_or}
 use Rattle.std.specs.List.{AllByRecursion, flat_map}
@@ -6,8 +6,8 @@ use Rattle.std.specs.Option.{option_map_or}
 use Rattle.std.proofs.lemmas.List.{length-append}
 use Rattle.std.proofs.Math.Logic.{∥∥₁_elim}
 use Rattle.crsm_port_faults.specs.Plan.{Plan}
-use Rattle.crsm_disk.specs.Calls.{Call, History, contents, wrote, cut, synced}
-use Rattle.crsm_disk.specs.Image.{image_of}
+use Rattle.crsm_port_image.specs.Calls.{Call, History, contents, wrote, cut, synced}
+use Rattle.crsm_port_image.specs.Image.{image_of}
 use Rattle.crsm_disk.specs.Contract.{Arms}
 use Rattle.crsm_disk.specs.Memory.{Memory, meaning_of, good_left, holding}
 use Rattle.crsm_log.specs.Format.{reading, found, bodies_in, bodies_of}
@@ -41,7 +41,7 @@ both b is other = cc
 
 -- ---- calls that go well
 
--- what a disk in memory tells ahead of its calls
+-- the plan of a disk in memory for its calls
 abbrev pub plan_of : Memory → Plan
 plan_of m = record { calls = m.room_calls; bytes = m.room_bytes; good = good_left m }
 
@@ -51,7 +51,7 @@ well_after k p new well used =
     let told : Some (plan_of new) ≡ Some used.left.0 = used.left.1 in
     ap (λ (o : Option Plan). option_map_or (λ (q : Plan). q.good) o None) told ∙ used.left.2 ∙ ap (less k) well
 
--- armed where all its calls went well, so many further ones do
+-- if all calls of an armed disk succeeded, this number of further ones do
 pub armed_good : (calls : ℕ) (old new : Memory) (fill : ℕ) → good_left old ≡ None → Arms (Some calls) fill (meaning_of old) (meaning_of new) → good_left new ≡ Some calls
 armed_good calls old new fill well arms =
     let q = arms.stops (plan_of old) refl in

@@ -1,4 +1,4 @@
--- That records and messages have spellings has one proof at most.
+-- The proof that a record or a message has an encoding is unique.
 use Rattle.std.proofs.Common.{◌≡◌, ℕ, zero, suc, true, ltb, List, [], ◌∷◌, ◌++◌, ◌∙◌, ap, get_or, length, set, subst, sym, Bor}
 use Rattle.std.specs.Prelude.{Option, Some, None, IfSome, is_some, slice_get}
 use Rattle.std.specs.List.{AllByRecursion}

@@ -1,4 +1,4 @@
--- The log of a replica after a step: the records of the step are behind those before.
+-- The log of a replica after a step: the records of the step follow those before.
 use Rattle.std.proofs.Common.{◌≡◌, ℕ, ◌-◌, ◌==◌, not, nat_le, Bool, true, false, List, [], ◌∷◌, ◌++◌, length, take, drop, Option, None, Some, refl, ap, ◌∙◌}
 use Rattle.std.specs.Prelude.{◌&&◌, fold}
 use Rattle.std.specs.List.{enumerate_from, range_with_len}
@@ -26,7 +26,7 @@ with_one log [] x = refl
 with_one log (y ∷ ys) x = with_one (y ∷ log) ys x
 
 module _ (base : Log) where
-  -- the records of the step so far are behind those of the log before
+  -- the records of the step in progress follow those of the log before
   pub record Grows (x : Draft) : Type 0 where
     pub log : x.replica.log ≡ with_records base x.batch
 

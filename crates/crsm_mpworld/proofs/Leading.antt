@@ -1,4 +1,4 @@
--- What the endings of a step lead to.
+-- The effects of the endings of a step.
 use Rattle.std.proofs.Common.{◌≡◌, ◌-◌, ℕ, List, [], ◌∷◌, ◌++◌, length, take, Some, append_assoc, ap, sym, ◌∙◌, subst, append-nil, refl}
 use Rattle.std.specs.Prelude.{slice_get, slice_set}
 use Rattle.crsm_mpspec.specs.declared.input.MpInput.{MpInput}

@@ -1,4 +1,4 @@
--- What a step lets out.
+-- The sending of a step's output.
 use Rattle.std.proofs.Common.{◌≡◌, ◌≤◌, ◌+◌, ◌-◌, ℕ, zero, suc, min, List, [], ◌∷◌, ◌++◌, length, map, take, refl, sym, ap, ◌∙◌, subst, arith, append_assoc, append-nil, length-append}
 use Rattle.std.specs.List.{AllByRecursion}
 use Rattle.std.proofs.lemmas.List.{take-map, length-map, take_all}
@@ -90,7 +90,7 @@ pub nothing_left : {A : Type 0} (xs : List A) → 0 ≡ length xs → xs ≡ []
 nothing_left [] e = refl
 nothing_left (x ∷ xs) e = absurd (omega (arith, e))
 
--- ---- so many
+-- ---- the first of a list
 
 take_same : {X : Type 0} (xs : List X) (a b : ℕ) → min a (length xs) ≡ min b (length xs) → take a xs ≡ take b xs
 take_same [] zero zero e = refl

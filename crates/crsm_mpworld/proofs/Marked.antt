@@ -1,4 +1,4 @@
--- How the network stands after a change.
+-- The network after a change.
 use Rattle.std.proofs.Common.{◌≡◌, ◌≤◌, ℕ, true, List, [], ◌∷◌, ◌++◌, length, map, Some, None, Bool, ap, sym, ◌∙◌, subst, arith, Vec, Global}
 use Rattle.std.specs.Prelude.{slice_get, filter}
 use Rattle.std.specs.Vec.{with_item}

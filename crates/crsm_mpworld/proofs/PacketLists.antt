@@ -1,4 +1,4 @@
--- Messages in memory and on paper, one by one.
+-- Messages in memory and in the definitions, one by one.
 use Rattle.std.proofs.Common.{◌≡◌, ℕ, zero, suc, List, [], ◌∷◌, ◌++◌, length, map, get_or, set, true, Option, Some, None, refl, ap, sym, ◌∙◌, subst, ltb, Bor}
 use Rattle.std.specs.Prelude.{slice_get, option_map, is_some, IfSome, MatchOption}
 use Rattle.std.specs.List.{AllByRecursion}
@@ -45,7 +45,7 @@ all_more P (y ∷ ys) x all p = (all.0, all_more P ys x all.1 p)
 pub packets_length : (ms : List Packet) (ps : List PacketOnPaper) → ms ≡ map in_memory ps → length ms ≡ length ps
 packets_length ms ps e = ap length e ∙ length-map ps in_memory
 
--- message i in memory is message i on paper
+-- message i in memory is message i of the definitions
 some_mapped : {A B : Type 0} (f : A → B) (o : Option A) (y : B) → option_map f o ≡ Some y → (x : A) × (o ≡ Some x) × (y ≡ f x)
 some_mapped f (Some x) y e = (x, refl, let same : f x ≡ y = cc in sym same)
 some_mapped f None y e = absurd (cc)

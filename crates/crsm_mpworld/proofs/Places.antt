@@ -1,4 +1,4 @@
--- Sites in memory and their places on paper, one by one.
+-- Sites in memory and in the definitions, one by one.
 use Rattle.std.proofs.Common.{◌≡◌, ◌<◌, ◌≤◌, ◌+◌, ℕ, zero, suc, Bool, true, false, cond, ltb, List, [], ◌∷◌, ◌++◌, length, map, take, get_or, set, replicate, Some, None, Result, Ok, Err, refl, ap, sym, ◌∙◌, subst, arith, take_all}
 use Rattle.std.specs.Prelude.{slice_get}
 use Rattle.std.specs.List.{enumerate_from}
@@ -143,7 +143,7 @@ module _ (n : ℕ) where
 pub moved : (old new : Site) (me n : ℕ) (s t : Place) (place : PlaceInMemory) → SiteStands old me n s → new.me ≡ old.me → new.n ≡ old.n → new.place ≡ place → IsIn place t → SiteStands new me n t
 moved old new me n s t place h same_me same_n same is = record { me_is = same_me ∙ h.me_is; n_is = same_n ∙ h.n_is; place = subst (λ p. IsIn p t) (sym same) is }
 
--- ---- who is up, on paper
+-- ---- who is up, in the definitions
 
 pub up_got : (places : List Place) (k : ℕ) (p : Place) → slice_get places k ≡ Some p → is_up_in places k ≡ is_up p
 unfolding is_up_in

@@ -1,4 +1,4 @@
--- The causes, one by one.
+-- The reasons of refusals, one by one.
 use Rattle.std.proofs.Common.{◌≡◌, ◌<◌, ◌≤◌, ℕ, Bool, true, false, ◌||◌, not, cond, List, [], ◌∷◌, length, Option, Some, None, refl, ap, sym, ◌∙◌, arith}
 use Rattle.std.specs.Prelude.{nat_le, nat_lt, slice_get, option_map}
 use Rattle.std.specs.List.{list_any}

@@ -1,8 +1,8 @@
 -- Logs on disks.
 use Rattle.std.specs.Prelude.{◌≡◌, List, [], ℕ}
 use Rattle.crsm_disk.specs.Memory.{Memory}
-use Rattle.crsm_disk.specs.Calls.{contents}
-use Rattle.crsm_disk.specs.Image.{image_of}
+use Rattle.crsm_port_image.specs.Calls.{contents}
+use Rattle.crsm_port_image.specs.Image.{image_of}
 use Rattle.crsm_log.specs.Format.{reading, found, bodies_of}
 use Rattle.crsm_log.specs.Words.{disk_of}
 use Rattle.crsm_log.specs.declared.log.Log.{Log as DiskLog}

@@ -1,4 +1,4 @@
--- Which act each event is, and which cause each refusal names.
+-- The act of each event, and the reason of each refusal.
 use Rattle.std.specs.Prelude.{Option, None, Some}
 use Rattle.crsm_schedule.specs.declared.Single.{Single}
 use Rattle.crsm_schedule.specs.declared.Event.{Event}

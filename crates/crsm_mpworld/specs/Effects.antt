@@ -1,4 +1,4 @@
--- The outcome of an input at a replica, and what of that is let out.
+-- The effects of an input at a replica, and which of them are sent and written.
 use Rattle.std.specs.Prelude.{◌≡◌, ◌+◌, ◌-◌, ℕ, List, ◌++◌, length, map, take, Some, slice_get, slice_set}
 use Rattle.std.specs.List.{AllByRecursion}
 use Rattle.crsm_mpspec.specs.declared.line.MpLine.{MpLine}
@@ -19,7 +19,7 @@ use Rattle.crsm_mpworld.specs.Fits.{FitsSend}
 use Rattle.crsm_mpworld.specs.Packets.{MpNetworkStands}
 use Rattle.crsm_mpworld.specs.Sites.{Makes, StandFor}
 
--- how the step ends on paper
+-- the ending of the step in the definitions
 unfoldable pub ending_of : EndingInMemory → Ending
 ending_of endings.Whole = whole_step
 ending_of (endings.Kept sends) = cut_step sends
@@ -27,29 +27,29 @@ ending_of endings.Lost = lost_step
 
 -- ---- what goes out
 
--- Replica k has sent these messages: they stand behind the packets, and their lines behind those before.
+-- Replica k has sent these messages: they follow the packets, and their lines follow those before.
 pub record HasSent (k : ℕ) (sends : List (ℕ × MpMessage)) (packets : List Packet) (bytes : ℕ) (before : List MpLine) (network : MpNetwork) (lines : List MpLine) : Type 0 where
   pub stands : MpNetworkStands network (packets ++ map (packet_of k) sends) bytes
   pub told : lines ≡ before ++ send_lines k (length packets) sends
 
--- The step of replica k is kept, and these messages and replies of it are out. Its lines stand behind those before.
+-- The step of replica k is durable, and these messages and replies of it are sent. Its lines follow those before.
 pub record LetsOut (before : List MpLine) (packets : List Packet) (bytes k : ℕ) (x : Draft) (sends : List (ℕ × MpMessage)) (replies : List MpLine) (network : MpNetwork) (lines : List MpLine) : Type 0 where
   pub stands : MpNetworkStands network (packets ++ map (packet_of k) sends) (bytes + body_size x.batch)
   pub told : lines ≡ before ++ ((x.lines ++ send_lines k (length packets) sends) ++ replies)
 
--- the same where so many of the draft's messages and replies are out, the messages first
+-- the same where this number of the draft's messages and replies are sent, the messages first
 abbrev pub LetsOutSome : ℕ → List MpLine → List Packet → (bytes k : ℕ) → Draft → MpNetwork → List MpLine → Type 0
 LetsOutSome count before packets bytes k x network lines =
     LetsOut before packets bytes k x (take count x.sends) (take (count - length x.sends) x.replies) network lines
 
--- for the packets and the count of bytes so far, and the draft that made the step
+-- for the packets and the count of bytes before, and the draft of the step
 abbrev pub WhereMade : MpNetwork → MpStep → (List Packet → ℕ → Draft → Type 0) → Type 0
 WhereMade network step P =
     (packets : List Packet) (bytes : ℕ) (x : Draft) → MpNetworkStands network packets bytes → Makes step x → P packets bytes x
 
 -- ---- what is left of a step
 
--- What was left leads to the moment where it goes out, and the sites are already as they are then.
+-- The effects lead to the moment at which they are sent, and the sites are already in that state.
 abbrev pub Leaves : Moment → World → MpEffects → Sites → Type 0
 Leaves m v effects.Nothing sites = (m ≡ silent v v) × StandFor sites v.n v.sites
 Leaves m v (effects.Whole k step) sites =
@@ -59,13 +59,13 @@ Leaves m v (effects.Cut k step count) sites =
 Leaves m v (effects.Down k) sites =
     (p : Site) × (m ≡ down v k) × (slice_get v.sites k ≡ Some p) × StandFor sites v.n (slice_set v.sites k (Site.Down (log_of p)))
 
--- each message of the step has a spelling
+-- each message of the step has an encoding
 abbrev pub FitsEffects : MpEffects → Type 0
 FitsEffects (effects.Whole k step) = AllByRecursion FitsSend step.batch.sends
 FitsEffects (effects.Cut k step count) = AllByRecursion FitsSend step.batch.sends
 FitsEffects _ = Unit {0}
 
--- for a world on paper that has these sites
+-- for a world of the definitions that has these sites
 abbrev pub WhereSites : Sites → (World → Type 0) → Type 0
 WhereSites sites P = (v : World) → StandFor sites v.n v.sites → P v
 
@@ -86,8 +86,7 @@ unfoldable pub each_gone : ℕ → List ℕ → World → Moment
 each_gone t is w =
     let ms = go_each t is w in record { before = w; after = world_after w ms; lines = lines_of ms }
 
--- a world of n replicas with these sites and this network is what the moment leads to, and its lines stand behind those
--- before
+-- the moment leads to a world of n replicas with these sites and this network, and its lines follow those before
 pub record LeadsOn (m : Moment) (n : ℕ) (sites : Sites) (network : MpNetwork) (before lines : List MpLine) : Type 0 where
   pub count : n ≡ m.after.n
   pub places : StandFor sites m.after.n m.after.sites

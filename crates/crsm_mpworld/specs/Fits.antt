@@ -1,9 +1,9 @@
--- What is sent and what comes has a spelling.
+-- The messages and inputs of a world have encodings.
 use Rattle.crsm_mpreplica.specs.Fitting.{FitsInput, FitsMessage}
 use Rattle.crsm_mpspec.specs.declared.send.MpSend.{MpSend}
 use Rattle.crsm_mpworld.specs.declared.network.Packet.{Packet}
 
--- what comes with the message fits
+-- the input of the message fits
 abbrev pub FitsPacket : Packet → Type 0
 FitsPacket p = FitsInput p.input
 

@@ -10,11 +10,11 @@ use Rattle.crsm_mpworld.specs.declared.network.Packet.{Packet}
 
 -- ---- single messages
 
--- the packet in memory that one on paper is
+-- the packet in memory for one of the definitions
 unfoldable pub in_memory : PacketOnPaper → Packet
 in_memory p = record { from = p.from; to = p.to; input = MpInput.Message p.message; is_used = p.used }
 
--- the packet in memory is this one on paper, and its message fits
+-- the packet in memory is this one of the definitions, and its message fits
 pub record IsPacket (m : Packet) (p : PacketOnPaper) : Type 0 where
   pub is : m ≡ in_memory p
   pub fits : FitsMessage p.message
@@ -56,7 +56,7 @@ pub record HasFresh (test : ℕ → Bool) (packets : List PacketOnPaper) (number
 
 -- ---- all of them
 
--- The network holds these packets, each of whose messages fits, and so many bytes are counted.
+-- The network holds these packets, each of whose messages fits, and this number of bytes is counted.
 pub record MpNetworkStands (network : MpNetwork) (packets : List PacketOnPaper) (bytes : ℕ) : Type 0 where
   pub held : network.packets.items ≡ map in_memory packets
   pub fit : AllByRecursion (λ p. FitsMessage p.message) packets

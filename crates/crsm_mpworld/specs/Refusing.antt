@@ -1,4 +1,4 @@
--- What a test of an event answers.
+-- The result of the check of an event.
 use Rattle.std.specs.Prelude.{◌≡◌, List, Bool, Option, None, Result, Ok, Err, option_map}
 use Rattle.crsm_spec.specs.Acts.{Bad}
 use Rattle.crsm_spec.specs.Possible.{first_bad}

@@ -26,16 +26,16 @@ ended line = line ++ 10 ∷ []
 unfoldable pub schedule_text : Schedule → List ℕ
 schedule_text s = ended (first_text s.replicas) ++ flat_map (λ e. ended (event_text e)) s.events
 
--- what happens, as acts of the world
+-- the events, as acts of the world
 unfoldable pub acts_of : Schedule → List Act
 acts_of s = map act_of s.events
 
--- a line spells the event, and it is possible here
+-- a line is the text of the event, which is possible here
 pub record IsNext (w : World) (e : Event) : Type 0 where
   pub fits : FitsEvent e
   pub possible_here : possible w (act_of e) ≡ None
 
--- Lines spell the schedule, and all of it is possible, each event in the world so far.
+-- Lines are the text of the schedule, and each event is possible in the world of those before.
 pub record IsSchedule (s : Schedule) : Type 0 where
   pub size : IsSize s.replicas
   pub fit : AllByRecursion FitsEvent s.events

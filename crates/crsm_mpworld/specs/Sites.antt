@@ -1,4 +1,4 @@
--- Where a replica is, in memory, and the places of all.
+-- The simulated replicas in memory.
 use Rattle.std.specs.Prelude.{◌≡◌, ℕ, ◌+◌, suc, Bool, false, List, [], ◌∷◌, length, Option, None, Some, if◌then◌else◌, slice_get, slice_set}
 use Rattle.std.specs.Option.{option_map_or}
 use Rattle.crsm_mpspec.specs.Log.{Log, executed, boots}
@@ -39,13 +39,13 @@ IsIn (SiteState.Down left) (SiteOnPaper.Up r) = ⊥
 IsIn (SiteState.Down left) (SiteOnPaper.Down log) = IsStopped left log
 IsIn SiteState.Spent s = ⊥
 
--- the site of replica me of n is this one on paper
+-- the site of replica me of n is this one of the definitions
 pub record SiteStands (site : Site) (me n : ℕ) (s : SiteOnPaper) : Type 0 where
   pub me_is : site.me ≡ me
   pub n_is : site.n ≡ n
   pub place : IsIn site.place s
 
--- for each site on paper that the site stands for
+-- for each site of the definitions that the site stands for
 abbrev pub WhereSiteStands : Site → ((me n : ℕ) → SiteOnPaper → Type 0) → Type 0
 WhereSiteStands site P = (me n : ℕ) (s : SiteOnPaper) → SiteStands site me n s → P me n s
 
@@ -71,7 +71,7 @@ pub record Boots (made : BootSize) (me n : ℕ) (log : Log) : Type 0 where
 
 -- ---- the places of all
 
--- each site is this one on paper, by number from k on
+-- each site is this one of the definitions, by number from k on
 abbrev pub SitesStand : ℕ → ℕ → List Site → List SiteOnPaper → Type 0
 SitesStand n k [] [] = Unit {0}
 SitesStand n k (site ∷ sites) (s ∷ ss) = SiteStands site k n s × SitesStand n (suc k) sites ss
@@ -109,7 +109,7 @@ abbrev pub WhereDown : Sites → ℕ → (ℕ → List SiteOnPaper → Log → T
 WhereDown sites k P =
     (n : ℕ) (places : List SiteOnPaper) (log : Log) → StandFor sites n places → slice_get places k ≡ Some (SiteOnPaper.Down log) → P n places log
 
--- the step is what the draft has made, and replica k goes on as it leaves it
+-- the step is the output of the draft, and replica k continues as it leaves it
 abbrev pub StepsTo : MpStep → Draft → Sites → ℕ → List SiteOnPaper → ℕ → Type 0
 StepsTo step x sites n places k = Makes step x × StandFor sites n (slice_set places k (SiteOnPaper.Up x.replica))
 

@@ -6,7 +6,7 @@ use Rattle.crsm_mpworld.specs.declared.world.MpWorld.{MpWorld}
 use Rattle.crsm_mpworld.specs.Sites.{StandFor}
 use Rattle.crsm_mpworld.specs.Packets.{MpNetworkStands}
 
--- The world has the sites, the messages and the bytes of this one on paper.
+-- The world has the sites, the messages and the bytes of this one of the definitions.
 pub record Holds (w : MpWorld) (v : World) : Type 0 where
   pub n : w.n ≡ v.n
   pub sites : StandFor w.sites v.n v.sites
@@ -17,7 +17,7 @@ pub record Leads (m : Moment) (w : MpWorld) (lines : List MpLine) : Type 0 where
   pub after : Holds w m.after
   pub told : lines ≡ m.lines
 
--- The world in memory stands for this one on paper.
+-- The world in memory stands for this one of the definitions.
 pub record StandsInside (w : MpWorld) (v : World) : Type 0 where
   pub unspent : w.is_spent ≡ false
   pub holds : Holds w v
@@ -29,10 +29,10 @@ MpWorldStands w v = StandsInside w v
 unfoldable pub IsSpent : MpWorld → Type 0
 IsSpent w = w.is_spent ≡ true
 
--- for each world on paper that the world stands for
+-- for each world of the definitions that the world stands for
 abbrev pub WhereStands : MpWorld → (World → Type 0) → Type 0
 WhereStands w P = (v : World) → MpWorldStands w v → P v
 
--- for each world on paper whose parts the world holds
+-- for each world of the definitions whose parts the world holds
 abbrev pub WhereHolds : MpWorld → (World → Type 0) → Type 0
 WhereHolds w P = (v : World) → Holds w v → P v

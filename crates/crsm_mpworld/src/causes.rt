@@ -1,4 +1,4 @@
-//! Why an event is not possible here: the causes, in their order.
+//! The checks whether an event is possible, in the order of their reasons.
 
 ghost use Rattle.std.specs.Prelude.{◌≡◌, ℕ, false, nat_le, nat_lt};
 ghost use Rattle.std.specs.List.{list_any};
@@ -15,7 +15,7 @@ use crsm_base::Members;
 use crsm_mpspec::MpBad;
 use crsm_schedule::{Event, Single};
 
-/// The step has no meaning in a world whose messages are values.
+/// Returns whether the step is not supported in a world whose messages are values.
 #[tactic(auto, unfolding(crate::specs::Doing::single_of, crsm_mpspec::specs::Possible::is_junk))]
 fn is_foreign(single: &Single) -> bool
     ensures { result ≡ possible.is_junk (single_of single.now) }
@@ -23,7 +23,8 @@ fn is_foreign(single: &Single) -> bool
     matches!(single, Single::Junk { .. })
 }
 
-/// The event has no meaning here: bytes from nowhere, a group of deliveries, or a stop at a call of the device.
+/// Returns whether the event is not supported: bytes from no replica, a group of deliveries, or a stop at a call of the
+/// device.
 #[tactic(auto, unfolding(crate::specs::Doing::act_of, crsm_mpspec::specs::Possible::is_not_here))]
 fn is_not_here(event: &Event) -> bool
     ensures { result ≡ possible.is_not_here (act_of event.now) }
@@ -39,14 +40,14 @@ fn is_not_here(event: &Event) -> bool
     }
 }
 
-/// One of these is not below the count.
+/// Returns whether one of the members is not below the count.
 fn one_is_past(count: u64, members: &[u32]) -> bool
     ensures { result ≡ list_any (nat_le count) members.now }
 {
     members.iter().any(|member| count <= u64::from(*member))
 }
 
-/// So many members are fewer than a majority of n replicas.
+/// Returns whether `count` members are fewer than a majority of `n` replicas.
 fn are_too_few(count: u32, n: u32) -> bool
     ensures { result ≡ nat_lt count (paxos.majority n) }
 {
@@ -54,7 +55,7 @@ fn are_too_few(count: u32, n: u32) -> bool
 }
 
 impl MpWorld {
-    /// Replica `k` is there and up.
+    /// Checks that replica `k` exists and is up.
     fn check_up(&self, k: u64) -> Result<(), MpBad>
         ensures { WhereHolds self.now (λ v. Answers result (first_met (possible.causes_at v k))) }
     {
@@ -67,7 +68,7 @@ impl MpWorld {
         Ok(())
     }
 
-    /// The receiver of a message is down.
+    /// Returns whether the receiver of a message is down.
     fn is_receiver_down(&self, number: u64) -> bool
         ensures { WhereHolds self.now (λ v. result ≡ possible.is_receiver_down v number) }
     {
@@ -77,7 +78,7 @@ impl MpWorld {
         }
     }
 
-    /// A message is fresh.
+    /// Checks that a message is fresh.
     fn check_fresh(&self, number: u64) -> Result<(), MpBad>
         ensures { WhereHolds self.now (λ v. Answers result (first_met (possible.causes_of v (Act.Lose number)))) }
     {
@@ -90,7 +91,7 @@ impl MpWorld {
         Ok(())
     }
 
-    /// A message is fresh, and its receiver is up.
+    /// Checks that a message is fresh, and its receiver is up.
     fn check_go(&self, number: u64) -> Result<(), MpBad>
         ensures { (v : on_paper.World) (t : ℕ) → Holds self.now v → Answers result (first_met (possible.causes_of_single v (OneStep.Go number t))) }
     {
@@ -106,7 +107,7 @@ impl MpWorld {
         Ok(())
     }
 
-    /// A message was used, and its receiver is up.
+    /// Checks that a message was used, and its receiver is up.
     fn check_again(&self, number: u64) -> Result<(), MpBad>
         ensures { (v : on_paper.World) (t : ℕ) → Holds self.now v → Answers result (first_met (possible.causes_of_single v (OneStep.Again number t))) }
     {
@@ -122,7 +123,7 @@ impl MpWorld {
         Ok(())
     }
 
-    /// A replica can boot.
+    /// Checks that a replica can boot.
     fn check_start(&self, k: u64) -> Result<(), MpBad>
         ensures { WhereHolds self.now (λ v. Answers result (first_met (possible.causes_of v (Act.Start k)))) }
     {
@@ -135,14 +136,14 @@ impl MpWorld {
         Ok(())
     }
 
-    /// One of these is no replica.
+    /// Returns whether one of these is not a replica.
     fn lacks_one(&self, members: &[u32]) -> bool
         ensures { WhereHolds self.now (λ v. result ≡ list_any (possible.is_none_of v) members.now) }
     {
         one_is_past(self.sites.count(), members)
     }
 
-    /// A replica can try to lead, with these members.
+    /// Checks that a replica can try to lead, with these members.
     fn check_suspect(&self, k: u64, members: &Members) -> Result<(), MpBad>
         ensures { (v : on_paper.World) (t : ℕ) → Holds self.now v →
             Answers result (first_met (possible.causes_of_single v (OneStep.Suspect k t members.now))) }
@@ -162,7 +163,7 @@ impl MpWorld {
         Ok(())
     }
 
-    /// A step of one replica is possible.
+    /// Checks that a step of one replica is possible.
     fn check_single(&self, single: &Single) -> Result<(), MpBad>
         ensures { WhereHolds self.now (λ v. possible.is_junk (single_of single.now) ≡ false →
             Answers result (first_met (possible.causes_of_single v (single_of single.now)))) }
@@ -181,7 +182,7 @@ impl MpWorld {
         }
     }
 
-    /// An event is possible in a world that is not full.
+    /// Checks that an event is possible in a world that is not full.
     fn check_event(&self, event: &Event) -> Result<(), MpBad>
         ensures { WhereHolds self.now (λ v. possible.is_not_here (act_of event.now) ≡ false →
             Answers result (first_met (possible.causes_of v (act_of event.now)))) }
@@ -200,7 +201,7 @@ impl MpWorld {
         }
     }
 
-    /// An event is possible; else the first cause why not.
+    /// Checks that an event is possible. The error is the first reason why it is not.
     pub(crate) fn check(&self, event: &Event) -> Result<(), MpBad>
         ensures { WhereHolds self.now (λ v. Answers result (possible.possible v (act_of event.now))) }
     {

@@ -1,4 +1,4 @@
-//! The effect of an event at a replica.
+//! The events of one replica: deliveries, requests, ticks and elections.
 
 ghost use Rattle.std.specs.Prelude.{◌≡◌, ℕ, slice_get, IfOk, OnOk};
 ghost use Rattle.crsm_mpreplica.specs.Fitting.{FitsInput};
@@ -19,7 +19,8 @@ use crsm_mpspec::{MpInput, MpLines};
 use crsm_schedule::Single;
 
 impl MpWorld {
-    /// Something that is no message comes to a replica, whose step ends so. Nothing happens where it is not up.
+    /// Runs a step of replica `k` on an input that is not a message, and ends it as `ending` says. Nothing happens if
+    /// the replica is down.
     fn arrive(
         &mut self,
         k: u64,
@@ -36,7 +37,7 @@ impl MpWorld {
         Ok(())
     }
 
-    /// The message of this number comes to its receiver. Nothing happens where it is not up.
+    /// Delivers the message with this number to its receiver. Nothing happens if that is down.
     fn come(&mut self, ending: MpEnding, number: u64, lines: &mut MpLines) -> Result<(), NoMemory>
         ensures { OnOk result (WhereHolds self.old (λ v.
             WorldLeadsOn (moments.come (ending_of ending) v (slice_get v.packets number)) self.new lines.old lines.new)) }
@@ -51,7 +52,7 @@ impl MpWorld {
         Ok(())
     }
 
-    /// The message of this number is used, and comes to its receiver.
+    /// Marks the message with this number as used, and delivers it to its receiver.
     fn go(&mut self, ending: MpEnding, number: u64, lines: &mut MpLines) -> Result<(), NoMemory>
         ensures { OnOk result (WhereHolds self.old (λ v. (reading : ℕ) →
             WorldLeadsOn (moments.single (ending_of ending) v (OneStep.Go number reading)) self.new lines.old lines.new)) }
@@ -61,7 +62,7 @@ impl MpWorld {
         Ok(())
     }
 
-    /// A client's command comes to a replica.
+    /// Delivers a client's command to a replica.
     fn request(
         &mut self,
         ending: MpEnding,
@@ -78,7 +79,7 @@ impl MpWorld {
         Ok(())
     }
 
-    /// One step of one replica, which ends so. Its lines go behind those so far.
+    /// Runs one step at one replica, ends it as `ending` says, and appends its lines.
     fn add_single(
         &mut self,
         ending: MpEnding,
@@ -103,12 +104,12 @@ impl MpWorld {
             Single::Suspect { replica, .. } => {
                 Ok(self.arrive(*replica, ending, &MpInput::Lead, lines)?)
             }
-            // Bytes from nowhere say nothing here.
+            // Bytes from no replica have no effect here.
             Single::Junk { .. } => Ok(()),
         }
     }
 
-    /// One step of one replica, which ends so.
+    /// Runs one step at one replica and ends it as `ending` says. Returns its lines.
     pub(crate) fn do_single(
         &mut self,
         ending: MpEnding,
@@ -122,7 +123,7 @@ impl MpWorld {
         Ok(lines)
     }
 
-    /// Delivers these in their order, each as a moment of its own, up to where the world is full.
+    /// Delivers these messages in order, each as a moment of its own, until the world is full.
     fn deliver_each(&mut self, due: &[u64]) -> Result<MpLines, NoMemory>
         ensures { IfOk result (λ lines. WhereHolds self.old (λ v. (reading : ℕ) → Leads (each_gone reading due.now v) self.new lines)) }
     {
@@ -136,7 +137,7 @@ impl MpWorld {
         Ok(lines)
     }
 
-    /// Delivers all that is fresh now and whose receiver is up.
+    /// Delivers all messages that are fresh now and whose receivers are up.
     pub(crate) fn settle(&mut self) -> Result<MpLines, NoMemory>
         ensures { IfOk result (λ lines. WhereHolds self.old (λ v. (reading : ℕ) → Leads (moments.act v (Act.Settle reading)) self.new lines)) }
     {

@@ -1,27 +1,27 @@
-//! How a step ends, and what it leaves to be let out.
+//! The ending of a step, and its effects before they are sent and written.
 
 use crate::site::MpStep;
 
 /// How a step of a replica ends.
 #[derive(Clone, Copy)]
 pub(crate) enum MpEnding {
-    /// It is kept, and all that it sends goes out.
+    /// Its records are durable, and all its output is sent.
     Whole,
-    /// It is kept, and its first `sends` messages and replies go out; the replica goes down.
+    /// Its records are durable, and the first `sends` of its messages and replies are sent; the replica goes down.
     Kept { sends: u64 },
-    /// It is lost; the replica goes down.
+    /// Its records are lost; the replica goes down.
     Lost,
 }
 
-/// The outcome of an input at a replica, before its messages and lines are out.
+/// The effects of an input at a replica, before its messages are sent and its lines are written.
 #[derive(Drop)]
 pub(crate) enum MpEffects {
-    /// It was not up.
+    /// None: the replica was down.
     Nothing,
-    /// All of its step goes out.
+    /// All output of the step.
     Whole { k: u32, step: MpStep },
-    /// The first `sends` of the messages and replies of its step go out. It is down.
+    /// The first `sends` messages and replies of the step. The replica is down.
     Cut { k: u32, step: MpStep, sends: u64 },
-    /// It is down, and nothing goes out.
+    /// None: the replica is down.
     Down { k: u32 },
 }

@@ -1,4 +1,4 @@
-//! Steps of replicas, each with its ending.
+//! Steps of replicas with each ending.
 
 ghost use Rattle.std.specs.Prelude.{◌≡◌, Some, slice_get, IfOk};
 ghost use Rattle.crsm_mpreplica.specs.Fitting.{FitsInput};
@@ -14,7 +14,7 @@ use crsm_base::NoMemory;
 use crsm_mpspec::MpInput;
 
 impl Sites {
-    /// A whole step of a replica that is up.
+    /// Runs a whole step of a replica that is up.
     fn step_whole(&mut self, k: u32, input: &MpInput, from: u32) -> Result<MpEffects, NoMemory>
         requires { FitsInput input.now }
         ensures leaves { IfOk result (λ effects. WhereUpIn self.old k (λ v r.
@@ -25,8 +25,8 @@ impl Sites {
         Ok(MpEffects::Whole { k, step })
     }
 
-    /// A step of a replica that is up, which stops when its records are kept and so many of its messages and replies
-    /// are out.
+    /// Runs a step of a replica that is up, which stops once its records are durable and its first `sends` messages and
+    /// replies are sent.
     fn step_kept(
         &mut self,
         k: u32,
@@ -44,7 +44,7 @@ impl Sites {
         Ok(MpEffects::Cut { k, step, sends })
     }
 
-    /// A step of a replica that is up, whose records are lost.
+    /// Runs a step of a replica that is up, whose records are lost.
     fn step_stopped(&mut self, k: u32, input: &MpInput, from: u32) -> Result<MpEffects, NoMemory>
         requires { FitsInput input.now }
         ensures leaves { IfOk result (λ effects. WhereUpIn self.old k (λ v r.
@@ -55,7 +55,7 @@ impl Sites {
         Ok(MpEffects::Down { k })
     }
 
-    /// A replica goes down with what is on its disk.
+    /// Takes a replica down with the content of its disk.
     pub(crate) fn go_down(&mut self, k: u32) -> Result<MpEffects, NoMemory>
         ensures leaves { IfOk result (λ effects. WhereSites self.old (λ v. (p : on_paper.Site) → slice_get v.sites k ≡ Some p →
             Leaves (on_paper.down v k) v effects self.new)) }
@@ -65,8 +65,8 @@ impl Sites {
         Ok(MpEffects::Down { k })
     }
 
-    /// Something comes to a replica, whose step ends so. A message comes from replica `from`. Nothing happens where it
-    /// is not up.
+    /// Runs a step of replica `k` on an input, and ends it as `ending` says. A message comes from replica `from`.
+    /// Nothing happens if the replica is down.
     pub(crate) fn arrive(
         &mut self,
         k: u64,

@@ -1,4 +1,4 @@
-//! Events, each with its change.
+//! The effect of each event.
 
 ghost use Rattle.std.specs.Prelude.{◌≡◌, true, None, Some, slice_get, IfOk};
 ghost use Rattle.crsm_mpspec.specs.Log.{Log};
@@ -18,7 +18,7 @@ use crsm_mpspec::{MpLine, MpLines};
 use crsm_schedule::Event;
 
 impl MpWorld {
-    /// A message is lost.
+    /// Marks a message as lost.
     fn lose(&mut self, number: u64) -> MpLines
         ensures { WhereHolds self.old (λ v. Leads (act v (Act.Lose number)) self.new result) }
     {
@@ -27,7 +27,7 @@ impl MpWorld {
         lines
     }
 
-    /// A replica that is up goes down.
+    /// Takes down a replica that is up.
     fn crash(&mut self, replica: u64) -> Result<MpLines, NoMemory>
         ensures { IfOk result (λ lines. WhereHolds self.old (λ v. on_paper.is_up_at v replica ≡ true → Leads (on_paper.down v replica) self.new lines)) }
     {
@@ -40,13 +40,13 @@ impl MpWorld {
         Ok(lines)
     }
 
-    /// A replica that is down boots.
+    /// Boots a replica that is down.
     pub(crate) fn start(&mut self, replica: u64) -> Result<MpLines, NoMemory>
         ensures { IfOk result (λ lines. WhereHolds self.old (λ v. (log : Log) → slice_get v.sites replica ≡ Some (on_paper.Site.Down log) →
             Leads (start_at v replica) self.new lines)) }
     {
         let mut lines = self.no_lines();
-        // There are no more than 15.
+        // There are at most 15.
         let Ok(k) = u32::try_from(replica) else {
             return Err(never());
         };
@@ -59,7 +59,7 @@ impl MpWorld {
         Ok(lines)
     }
 
-    /// Does an event that is possible.
+    /// Executes an event that is possible, and returns its lines.
     pub(crate) fn happen(&mut self, event: &Event) -> Result<MpLines, NoMemory>
         requires { FitsEvent event.now }
         ensures { IfOk result (λ lines. WhereHolds self.old (λ v. possible v (act_of event.now) ≡ None → Leads (act v (act_of event.now)) self.new lines)) }
@@ -74,7 +74,7 @@ impl MpWorld {
             Event::CutKept { sends, single } => {
                 Ok(self.do_single(MpEnding::Kept { sends: *sends }, single)?)
             }
-            // Groups of deliveries, and stops at a call of the device, mean nothing here.
+            // Groups of deliveries, and stops at a call of the device, are not supported here.
             Event::Batch { .. } => Ok(self.no_lines()),
             Event::CutLostBatch { .. } => Ok(self.no_lines()),
             Event::CutAt { .. } => Ok(self.no_lines()),

@@ -1,5 +1,5 @@
-//! Which messages can be delivered. Each time that this is asked costs no more than what was sent and delivered since
-//! the last time, unless other replicas are up now: those for a replica that stays down are not looked at again.
+//! The messages that can be delivered. A query costs no more than the messages sent and delivered since the last one,
+//! unless other replicas are up now: messages to a replica that stays down are not looked at again.
 
 ghost use Rattle.std.specs.Prelude.{◌≡◌, ◌++◌, ◌∷◌, [], true, filter, IfOk, OnOk};
 ghost use Rattle.crsm_mpworld.specs.Packets.{MpNetworkStands, WhereNetwork, is_fresh_for, is_up_among, numbers_of};
@@ -8,7 +8,7 @@ use crate::network::MpNetwork;
 use crsm_base::NoMemory;
 
 impl MpNetwork {
-    /// The message of this number is fresh.
+    /// Returns whether the message with this number is fresh.
     #[tactic(auto, unfolding(crate::specs::Packets::is_fresh_for))]
     fn is_fresh(&self, number: u64) -> bool
         ensures { WhereNetwork self.now (λ packets bytes. result ≡ is_fresh_for (λ k. true) packets number) }
@@ -19,7 +19,7 @@ impl MpNetwork {
         }
     }
 
-    /// One number more, if its message is still fresh.
+    /// Adds a number, if its message is still fresh.
     fn add_fresh(&self, number: u64, kept: &mut Vec<u64>) -> Result<(), NoMemory>
         ensures { OnOk result (WhereNetwork self.now (λ packets bytes.
             kept.new.items ≡ kept.old.items ++ filter (is_fresh_for (λ k. true) packets) (number ∷ []))) }
@@ -30,7 +30,7 @@ impl MpNetwork {
         Ok(())
     }
 
-    /// The numbers of those that are still fresh.
+    /// Returns the numbers of those in `fresh` that are still fresh.
     fn still_fresh(&self) -> Result<Vec<u64>, NoMemory>
         ensures { IfOk result (λ kept. WhereNetwork self.now (λ packets bytes.
             kept.items ≡ filter (is_fresh_for (λ k. true) packets) self.now.fresh.items)) }
@@ -42,7 +42,7 @@ impl MpNetwork {
         Ok(kept)
     }
 
-    /// From now on these are the replicas that are up. All that is fresh is near again.
+    /// Sets the replicas that are up, and makes all fresh messages candidates again.
     fn turn_to(&mut self, ups: &[bool]) -> Result<(), NoMemory>
         ensures stands { OnOk result (WhereNetwork self.old (λ packets bytes. MpNetworkStands self.new packets bytes)) }
         ensures ups { OnOk result (self.new.ups.items ≡ ups.now) }
@@ -54,7 +54,7 @@ impl MpNetwork {
         Ok(())
     }
 
-    /// The same where others were up so far.
+    /// Does the same as `turn_to` if other replicas were up before.
     fn see(&mut self, ups: &[bool]) -> Result<(), NoMemory>
         ensures stands { OnOk result (WhereNetwork self.old (λ packets bytes. MpNetworkStands self.new packets bytes)) }
         ensures ups { OnOk result (self.new.ups.items ≡ ups.now) }
@@ -66,7 +66,7 @@ impl MpNetwork {
         Ok(())
     }
 
-    /// The message of this number is fresh, and its receiver was up when that was last asked.
+    /// Returns whether the message with this number is fresh, and its receiver was up at the last query.
     #[tactic(auto, unfolding(crate::specs::Packets::is_fresh_for))]
     fn is_due(&self, number: u64) -> bool
         ensures { WhereNetwork self.now (λ packets bytes. result ≡ is_fresh_for (is_up_among self.now.ups.items) packets number) }
@@ -77,7 +77,7 @@ impl MpNetwork {
         }
     }
 
-    /// One number more, if its message can be delivered.
+    /// Adds a number, if its message can be delivered.
     fn add_due(&self, number: u64, due: &mut Vec<u64>) -> Result<(), NoMemory>
         ensures { OnOk result (WhereNetwork self.now (λ packets bytes.
             due.new.items ≡ due.old.items ++ filter (is_fresh_for (is_up_among self.now.ups.items) packets) (number ∷ []))) }
@@ -88,7 +88,7 @@ impl MpNetwork {
         Ok(())
     }
 
-    /// Of those that are near the ones that can be delivered.
+    /// Returns the candidates that can be delivered.
     fn still_due(&self) -> Result<Vec<u64>, NoMemory>
         ensures { IfOk result (λ due. WhereNetwork self.now (λ packets bytes.
             due.items ≡ filter (is_fresh_for (is_up_among self.now.ups.items) packets) self.now.near.items)) }
@@ -100,7 +100,8 @@ impl MpNetwork {
         Ok(due)
     }
 
-    /// The numbers of the fresh ones whose receivers are up, ascending. `ups` says of each replica whether it is up.
+    /// Returns the numbers of the fresh messages whose receivers are up, in ascending order. `ups` says of each replica
+    /// whether it is up.
     pub(crate) fn due(&mut self, ups: &[bool]) -> Result<Vec<u64>, NoMemory>
         ensures stands { OnOk result (WhereNetwork self.old (λ packets bytes. MpNetworkStands self.new packets bytes)) }
         ensures due { IfOk result (λ due. WhereNetwork self.old (λ packets bytes.
@@ -113,7 +114,7 @@ impl MpNetwork {
     }
 }
 
-/// Whether replica `k` is up, where `ups` says it of each.
+/// Returns whether replica `k` is up by `ups`.
 #[tactic(auto, unfolding(crate::specs::Packets::is_up_among))]
 fn is_up(ups: &[bool], k: u32) -> bool
     ensures { result ≡ is_up_among ups.now k }

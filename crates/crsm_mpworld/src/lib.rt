@@ -1,4 +1,5 @@
-//! A store with a leader that a schedule drives: its replicas, and the messages between them.
+//! A store with a leader in one process, driven by the events of a schedule: its replicas, and the messages between
+//! them.
 #![tactic(auto)]
 
 mod causes;

@@ -1,11 +1,11 @@
-//! Lines of a step.
+//! The lines of a step.
 
 ghost use Rattle.std.specs.Prelude.{◌≡◌};
 ghost use Rattle.crsm_mpspec.specs.World as on_paper;
 
 use crsm_mpspec::{MpKind, MpMessage};
 
-/// The kind of a message.
+/// Returns the kind of a message.
 #[tactic(auto, unfolding(crsm_mpspec::specs::World::kind_of))]
 pub(crate) fn kind_of(message: &MpMessage) -> MpKind
     ensures { result ≡ on_paper.kind_of message.now }

@@ -1,4 +1,4 @@
-//! The messages that were sent, and how many bytes of log bodies were kept.
+//! The messages by number, and the size of the log bodies.
 
 ghost use Rattle.std.specs.List.{AllByRecursion};
 ghost use Rattle.crsm_mpworld.specs.Fits.{FitsPacket};
@@ -6,29 +6,30 @@ ghost use Rattle.crsm_mpworld.specs.Fits.{FitsPacket};
 use crsm_mpspec::MpInput;
 use std::alloc::Global;
 
-/// A message that was sent.
+/// A message that was sent, with its sender and receiver.
 #[derive(Drop)]
 pub(crate) struct Packet {
     pub(crate) from: u32,
     pub(crate) to: u32,
-    /// What comes to its receiver.
+    /// The input of its receiver.
     pub(crate) input: MpInput,
-    /// It was delivered or lost.
+    /// Whether it was delivered or lost.
     pub(crate) is_used: bool,
 }
 
-/// All messages that were sent, by number, and how many bytes the world has.
+/// All messages sent, by number, and the world's size in bytes.
 #[derive(Drop)]
 pub(crate) struct MpNetwork {
     pub(crate) alloc: Global,
     pub(crate) packets: Vec<Packet>,
-    /// The numbers of the fresh ones, ascending. A used one may stand here too.
+    /// The numbers of the fresh messages, in ascending order. It may also have used ones.
     pub(crate) fresh: Vec<u64>,
-    /// Which replicas were up when those that are due were last asked for.
+    /// The replicas that were up at the last query of `due`.
     pub(crate) ups: Vec<bool>,
-    /// Of the fresh ones those whose receivers were up then, and some others, ascending.
+    /// The candidates of the next query, in ascending order: the fresh messages whose receivers were up then, and some
+    /// others.
     pub(crate) near: Vec<u64>,
-    /// Of all log bodies that were kept.
+    /// The bytes of all log bodies together.
     pub(crate) bytes: u64,
     ghost fits: { ∥ AllByRecursion FitsPacket packets.items ∥₁ },
 }

@@ -1,4 +1,4 @@
-//! What a step lets out.
+//! The sending of a step's output.
 
 ghost use Rattle.std.specs.Prelude.{◌≡◌, [], ◌∷◌, ℕ, List, map, OnOk};
 ghost use Rattle.std.specs.List.{AllByRecursion};
@@ -15,7 +15,7 @@ use crate::site::MpStep;
 use crsm_base::NoMemory;
 use crsm_mpspec::{MpLine, MpLines, MpSend, MpSends};
 
-/// A message leaves replica `k`, and its line goes behind the lines so far.
+/// Records a message from replica `k`, and appends its line.
 fn send_one(
     network: &mut MpNetwork,
     k: u32,
@@ -35,7 +35,7 @@ fn send_one(
     Ok(())
 }
 
-/// Messages leave replica `k` in their order, and their lines go behind the lines so far.
+/// Records messages from replica `k` in order, and appends their lines.
 fn send_all(
     network: &mut MpNetwork,
     k: u32,
@@ -52,8 +52,8 @@ fn send_all(
     Ok(())
 }
 
-/// A step of replica `k` is kept, and so many of its messages and replies go out. The lines of its records come first,
-/// then those of the messages, then those of the replies, all behind the lines so far.
+/// Sends the first messages and replies of a durable step of replica `k`. The lines of its records are appended first,
+/// then those of the messages, then those of the replies.
 fn let_out(
     network: &mut MpNetwork,
     k: u32,
@@ -78,7 +78,7 @@ fn let_out(
     Ok(())
 }
 
-/// The same where all of it goes out.
+/// Does the same for all messages and replies of the step.
 fn let_all_out(
     network: &mut MpNetwork,
     k: u32,
@@ -98,7 +98,7 @@ fn let_all_out(
     Ok(())
 }
 
-/// What a replica left goes out, behind the lines so far.
+/// Sends the effects of an input and appends their lines.
 pub(crate) fn leave(
     network: &mut MpNetwork,
     effects: MpEffects,

@@ -1,4 +1,4 @@
-//! Sending messages, and looking at those that were sent.
+//! Recording of sent messages, and their readers.
 
 ghost use Rattle.std.specs.Prelude.{◌≡◌, ◌+◌, ◌++◌, ◌∷◌, [], nat_le, length, slice_get, None, IfSome, MatchOption, OnOk};
 ghost use Rattle.crsm_base.specs.Limits.{most_world};
@@ -13,7 +13,7 @@ use crsm_base::{MAX_WORLD_BYTES, NoMemory, never};
 use crsm_mpspec::{MpInput, MpSend};
 use std::alloc::Global;
 
-/// One packet more behind the others.
+/// Appends a message.
 fn add(packets: &mut Vec<Packet>, packet: Packet) -> Result<(), NoMemory>
     ensures ok { OnOk result (packets.new.items ≡ packets.old.items ++ packet ∷ []) }
     ensures fit { FitsPacket packet → ∥ AllByRecursion FitsPacket packets.old.items ∥₁ → ∥ AllByRecursion FitsPacket packets.new.items ∥₁ }
@@ -23,7 +23,7 @@ fn add(packets: &mut Vec<Packet>, packet: Packet) -> Result<(), NoMemory>
 }
 
 impl MpNetwork {
-    /// Nothing is sent, and nothing is kept.
+    /// Returns the network before anything was sent.
     pub(crate) fn new(alloc: Global) -> MpNetwork
         ensures { MpNetworkStands result [] 0 }
     {
@@ -37,37 +37,37 @@ impl MpNetwork {
         }
     }
 
-    /// How many bytes the world has.
+    /// Returns the world's size in bytes: of all log bodies.
     pub(crate) fn bytes(&self) -> u64
         ensures { WhereNetwork self.now (λ packets bytes. result ≡ bytes) }
     {
         self.bytes
     }
 
-    /// The world has as many bytes as it may.
+    /// Returns whether the world's size is at its limit or above.
     pub(crate) fn is_full(&self) -> bool
         ensures { WhereNetwork self.now (λ packets bytes. result ≡ nat_le most_world bytes) }
     {
         MAX_WORLD_BYTES <= self.bytes
     }
 
-    /// So many bytes more are kept on a disk.
+    /// Adds `size` bytes of log bodies to the world's size.
     pub(crate) fn keep(&mut self, size: u64) -> Result<(), NoMemory>
         ensures { OnOk result (WhereNetwork self.old (λ packets bytes. MpNetworkStands self.new packets (bytes + size))) }
     {
-        // All of them are in memory, so that the sum stays in its range.
+        // All these bytes are in memory, so that the sum does not overflow.
         self.bytes = self.bytes.checked_add(size).ok_or(never())?;
         Ok(())
     }
 
-    /// How many messages were sent.
+    /// Returns the number of messages sent.
     pub(crate) fn count(&self) -> u64
         ensures { WhereNetwork self.now (λ packets bytes. result ≡ length packets) }
     {
         self.packets.len() as u64
     }
 
-    /// The message of this number.
+    /// Returns the message with this number, or `None` if it was not sent.
     pub(crate) fn get(&self, number: u64) -> Option<&Packet>
         ensures at { WhereNetwork self.now (λ packets bytes.
             MatchOption result (slice_get packets number ≡ None) (λ m. IsPacketAt packets number m.now)) }
@@ -76,7 +76,7 @@ impl MpNetwork {
         self.packets.get(number as usize)
     }
 
-    /// The message of this number was delivered or lost.
+    /// Returns whether the message with this number was delivered or lost.
     #[tactic(auto, unfolding(crate::specs::Packets::is_used_at))]
     pub(crate) fn is_used(&self, number: u64) -> bool
         ensures { WhereNetwork self.now (λ packets bytes. result ≡ is_used_at packets number) }
@@ -87,7 +87,7 @@ impl MpNetwork {
         }
     }
 
-    /// The receiver of the message of this number.
+    /// Returns the receiver of the message with this number, or `None` if it was not sent.
     #[tactic(auto, unfolding(crate::specs::Packets::receiver_of))]
     pub(crate) fn receiver(&self, number: u64) -> Option<u32>
         ensures { WhereNetwork self.now (λ packets bytes. result ≡ receiver_of packets number) }
@@ -98,7 +98,7 @@ impl MpNetwork {
         }
     }
 
-    /// The message of this number is used from now on.
+    /// Marks the message with this number as used.
     pub(crate) fn use_up(&mut self, number: u64)
         ensures { WhereNetwork self.old (λ packets bytes. MpNetworkStands self.new (used_up number packets) bytes) }
     {
@@ -108,7 +108,7 @@ impl MpNetwork {
         }
     }
 
-    /// A replica sends a message.
+    /// Records a message from replica `from`.
     pub(crate) fn send(&mut self, from: u32, send: MpSend) -> Result<(), NoMemory>
         requires { FitsMessage send.message }
         ensures { OnOk result (WhereNetwork self.old (λ packets bytes.

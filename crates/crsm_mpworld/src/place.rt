@@ -1,4 +1,4 @@
-//! Where the replicas are.
+//! The states of a simulated replica.
 
 ghost use Rattle.std.specs.Prelude.{◌≡◌, ◌<◌, ◌≤◌, None, false};
 ghost use Rattle.crsm_disk.specs.Memory.{good_left};
@@ -10,7 +10,7 @@ use crsm_log::Log;
 use crsm_mpcore::MpCore;
 use std::alloc::Global;
 
-/// A replica that is up: its core, and its log on a disk, no call of which fails. After an error it is spent.
+/// A replica that is up: its core, and its log on a disk whose calls do not fail. After an error it is spent.
 #[derive(Drop)]
 pub(crate) struct Running {
     pub(crate) alloc: Global,
@@ -22,7 +22,7 @@ pub(crate) struct Running {
     ghost stands: { is_spent ≡ false → ∥ IsSomeUp core log ∥₁ },
 }
 
-/// What is left of a replica that is down: its disk, and how many slots are executed by its log.
+/// A replica that is down: its disk, and the number of slots executed by its log.
 #[derive(Drop)]
 pub(crate) struct MpStopped {
     pub(crate) disk: MemDisk,
@@ -31,16 +31,16 @@ pub(crate) struct MpStopped {
     ghost stands: { ∥ HasSomeLog disk ∥₁ },
 }
 
-/// Where a replica is.
+/// The state of a simulated replica: up, down, or spent.
 #[derive(Drop)]
 pub(crate) enum SiteState {
     Up(Running),
     Down(MpStopped),
-    /// Memory ran out while it changed.
+    /// Memory ran out while the state changed.
     Spent,
 }
 
-/// One replica's place in a world. After an error it says nothing any more.
+/// A simulated replica. After an error its fields are unspecified.
 #[derive(Drop)]
 pub(crate) struct Site {
     pub(crate) alloc: Global,

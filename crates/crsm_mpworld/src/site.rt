@@ -1,4 +1,4 @@
-//! Steps of one replica.
+//! The steps of one replica.
 
 ghost use Rattle.std.specs.Prelude.{◌≡◌, ◌++◌, ◌∷◌, ◌<◌, [], None, false, length, IfOk, OnOk};
 ghost use Rattle.std.specs.List.{AllByRecursion};
@@ -24,14 +24,14 @@ use crsm_mpledger::put_body;
 use crsm_mpspec::{MpBatch, MpInput, MpRec};
 use std::alloc::Global;
 
-/// What a step made, and how many bytes its log body has.
+/// The output of a step, and the length of its log body in bytes.
 #[derive(Drop)]
 pub(crate) struct MpStep {
     pub(crate) batch: MpBatch,
     pub(crate) size: u64,
 }
 
-/// The log body of records.
+/// Returns the log body of records.
 pub(crate) fn body_of(alloc: Global, records: &[MpRec]) -> Result<Bytes, NoMemory>
     requires { AllByRecursion FitsRec records.now }
     ensures { IfOk result (λ body. body ≡ body_bytes records.now) }
@@ -41,7 +41,7 @@ pub(crate) fn body_of(alloc: Global, records: &[MpRec]) -> Result<Bytes, NoMemor
     Ok(body)
 }
 
-/// Puts a body on a log, no call of whose disk fails.
+/// Puts a body into a log on a disk whose calls do not fail.
 pub(crate) fn keep(alloc: Global, log: &mut Log<MemDisk>, body: &[u8]) -> Result<(), NoMemory>
     requires some { 0 < length body.now }
     requires unfailed { has_failed log.old ≡ false }
@@ -60,7 +60,7 @@ pub(crate) fn keep(alloc: Global, log: &mut Log<MemDisk>, body: &[u8]) -> Result
     }
 }
 
-/// Keeps the records of a step, if there are any, and gives how many bytes they have.
+/// Puts the records of a step into the log, if there are any, and returns their length in bytes.
 fn keep_records(alloc: Global, log: &mut Log<MemDisk>, records: &[MpRec]) -> Result<u64, NoMemory>
     requires fit { AllByRecursion FitsRec records.now }
     requires unfailed { has_failed log.old ≡ false }
@@ -79,8 +79,8 @@ fn keep_records(alloc: Global, log: &mut Log<MemDisk>, records: &[MpRec]) -> Res
     Ok(body.as_slice().len() as u64)
 }
 
-/// Puts the records of a step, if there are any, on a disk that stops after one call, with 1 in what was not synced: a crash
-/// then leaves the log without them.
+/// Puts the records of a step, if there are any, on a disk that stops after one call, with the byte 1 in the ranges
+/// that were not synced: a crash then leaves the log without them.
 fn put_in_vain(alloc: Global, log: &mut Log<MemDisk>, records: &[MpRec]) -> Result<(), NoMemory>
     requires fit { AllByRecursion FitsRec records.now }
     requires unfailed { has_failed log.old ≡ false }
@@ -103,7 +103,7 @@ fn put_in_vain(alloc: Global, log: &mut Log<MemDisk>, records: &[MpRec]) -> Resu
     }
 }
 
-/// What a crash leaves on the disk of a log.
+/// Returns the disk of a log as a crash leaves it.
 fn left_on(log: Log<MemDisk>) -> Result<MemDisk, NoMemory>
     ensures well { IfOk result (λ disk. good_left disk ≡ None) }
     ensures image { IfOk result (λ disk. bytes_of disk ≡ image (disk_of log)) }
@@ -112,7 +112,7 @@ fn left_on(log: Log<MemDisk>) -> Result<MemDisk, NoMemory>
     Ok(disk.into_image()?)
 }
 
-/// How many slots are executed.
+/// Returns the number of executed slots.
 fn executed_by(core: &MpCore) -> u64
     ensures { WhereCore core.now (λ r. result ≡ length (executed r.log)) }
 {
@@ -122,14 +122,14 @@ fn executed_by(core: &MpCore) -> u64
 impl Running {
     ghost use Rattle.crsm_mpworld.specs.Sites.{IsStopped, IsUpAs, Makes, WhereUpAs};
 
-    /// How many slots are executed.
+    /// Returns the number of executed slots.
     pub(crate) fn executed_len(&self) -> u64
         ensures { WhereUpAs self.now (λ r. result ≡ length (executed r.log)) }
     {
         executed_by(&self.core)
     }
 
-    /// One step, whose records are kept.
+    /// Runs one step and makes its records durable.
     pub(crate) fn step(&mut self, input: &MpInput, from: u32) -> Result<MpStep, NoMemory>
         requires { FitsInput input.now }
         ensures fits { IfOk result (λ step. AllByRecursion FitsSend step.batch.sends) }
@@ -139,7 +139,7 @@ impl Running {
         if self.is_spent {
             return Err(NoMemory);
         }
-        // Whoever sees an error below must not go on from half a step.
+        // A caller that sees an error below must not continue from half a step.
         self.is_spent = true;
         let batch = self.core.step(input, from)?;
         let size = keep_records(self.alloc, &mut self.log, batch.records.as_slice())?;
@@ -147,7 +147,7 @@ impl Running {
         Ok(MpStep { batch, size })
     }
 
-    /// The replica goes down now.
+    /// Takes the replica down.
     pub(crate) fn stop(self) -> Result<MpStopped, NoMemory>
         ensures { IfOk result (λ left. WhereUpAs self (λ r. IsStopped left r.log)) }
     {
@@ -165,7 +165,7 @@ impl Running {
         Ok(MpStopped { disk, executed })
     }
 
-    /// One step that is stopped after one call of its put: its records are lost.
+    /// Runs one step that stops after one disk call of its put: its records are lost.
     pub(crate) fn step_lost(self, input: &MpInput, from: u32) -> Result<MpStopped, NoMemory>
         requires { FitsInput input.now }
         ensures { IfOk result (λ left. WhereUpAs self (λ r. IsStopped left r.log)) }

@@ -1,4 +1,4 @@
-//! The places of the replicas.
+//! The simulated replicas.
 
 ghost use Rattle.std.specs.Prelude.{◌≡◌, ◌≤◌, ◌<◌, [], length, map, replicate, slice_set, IfOk, IfSome, IsTrue, OnOk};
 ghost use Rattle.std.specs.List.{AllByRecursion, enumerate_from};
@@ -15,7 +15,7 @@ use crsm_base::{NoMemory, never};
 use crsm_mpspec::{MpInput, MpLine, MpLines};
 use std::alloc::Global;
 
-/// The place of each replica, by number.
+/// The simulated replicas, by number.
 #[derive(Drop)]
 pub(crate) struct Sites {
     alloc: Global,
@@ -23,7 +23,7 @@ pub(crate) struct Sites {
 }
 
 impl Sites {
-    /// The places of so many replicas, which are down and have empty disks.
+    /// Returns `n` replicas that are down and have empty disks.
     pub(crate) fn new(alloc: Global, n: u32) -> Result<Sites, NoMemory>
         requires { n ≤ 15 }
         ensures { IfOk result (λ sites. StandFor sites n (replicate n (on_paper.Site.Down []))) }
@@ -35,14 +35,14 @@ impl Sites {
         Ok(Sites { alloc, items })
     }
 
-    /// How many replicas there are.
+    /// Returns the number of replicas.
     pub(crate) fn count(&self) -> u64
         ensures { WhereSitesStand self.now (λ n places. result ≡ length places) }
     {
         self.items.len() as u64
     }
 
-    /// A replica is up.
+    /// Returns whether a replica is up.
     pub(crate) fn is_up(&self, k: u64) -> bool
         ensures up { WhereSitesStand self.now (λ n places. result ≡ is_up_in places k) }
         ensures within { IsTrue result → k < length self.now.items.items }
@@ -53,18 +53,18 @@ impl Sites {
         }
     }
 
-    /// The number of a replica that is up.
+    /// Returns `k` as the number of a replica that is up, or `None` if it is not up.
     pub(crate) fn up(&self, k: u64) -> Option<u32>
         ensures { WhereSitesStand self.now (λ n places. result ≡ up_in places k) }
     {
         if !self.is_up(k) {
             return None;
         }
-        // There are no more than 15.
+        // There are at most 15.
         u32::try_from(k).ok()
     }
 
-    /// Which replicas are up, by number.
+    /// Returns for each replica whether it is up, by number.
     pub(crate) fn ups(&self) -> Result<Vec<bool>, NoMemory>
         ensures { IfOk result (λ ups. WhereSitesStand self.now (λ n places. ups.items ≡ map on_paper.is_up places)) }
     {
@@ -75,7 +75,7 @@ impl Sites {
         Ok(ups)
     }
 
-    /// Whoever has a place is asked for.
+    /// Checks that there is a replica `k`, as there is for all callers.
     fn check(&self, k: u32) -> Result<(), NoMemory>
         ensures { IfOk result (λ _. k < length self.now.items.items) }
     {
@@ -85,7 +85,7 @@ impl Sites {
         Ok(())
     }
 
-    /// A replica that is down boots on its disk.
+    /// Boots a replica that is down on its disk.
     pub(crate) fn start(&mut self, k: u32) -> Result<BootSize, NoMemory>
         ensures { IfOk result (λ made. WhereDown self.old k (λ n places log. BootsTo made log self.new n places k)) }
     {
@@ -94,7 +94,7 @@ impl Sites {
         Ok(boot)
     }
 
-    /// A replica goes down. One that is down stays so.
+    /// Takes a replica down. A replica that is down stays down.
     pub(crate) fn crash(&mut self, k: u32) -> Result<(), NoMemory>
         ensures { OnOk result (WherePlace self.old k (λ n places p. StandFor self.new n (slice_set places k (on_paper.Site.Down (on_paper.log_of p))))) }
     {
@@ -103,7 +103,7 @@ impl Sites {
         Ok(())
     }
 
-    /// One step of a replica that is up.
+    /// Runs one step of a replica that is up.
     pub(crate) fn step(&mut self, k: u32, input: &MpInput, from: u32) -> Result<MpStep, NoMemory>
         requires { FitsInput input.now }
         ensures fits { IfOk result (λ step. AllByRecursion FitsSend step.batch.sends) }
@@ -114,7 +114,7 @@ impl Sites {
         Ok(step)
     }
 
-    /// One step of a replica that is up, whose records are lost: it goes down.
+    /// Runs one step of a replica that is up, whose records are lost, and takes it down.
     pub(crate) fn step_lost(&mut self, k: u32, input: &MpInput, from: u32) -> Result<(), NoMemory>
         requires { FitsInput input.now }
         ensures { OnOk result (WhereUp self.old k (λ n places r. StandFor self.new n (slice_set places k (on_paper.Site.Down r.log)))) }
@@ -124,13 +124,13 @@ impl Sites {
         Ok(())
     }
 
-    /// The last line of each replica.
+    /// Returns the final line of each replica.
     pub(crate) fn finals(&self) -> Result<MpLines, NoMemory>
         ensures { IfOk result (λ lines. WhereSitesStand self.now (λ n places. lines ≡ map on_paper.final_line (enumerate_from 0 places))) }
     {
         let mut lines = MpLines::new(self.alloc);
         for (k, site) in self.items.iter().enumerate() {
-            // There are no more than 15.
+            // There are at most 15.
             let Ok(replica) = u32::try_from(k) else {
                 return Err(never());
             };
@@ -140,7 +140,7 @@ impl Sites {
     }
 }
 
-/// The last line of a replica.
+/// Returns the final line of a replica.
 fn final_line(replica: u32, site: &Site) -> MpLine
     ensures { WhereSiteStands site.now (λ me n p. result ≡ on_paper.final_line (replica, p)) }
 {

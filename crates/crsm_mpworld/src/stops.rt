@@ -20,7 +20,7 @@ use crsm_mpspec::{MpInput, MpRec};
 use std::alloc::Global;
 use std::mem;
 
-/// A boot: how many there were, and how many bytes its log body has.
+/// A boot: its number, and the length of its log body in bytes.
 #[derive(Clone, Copy)]
 pub(crate) struct BootSize {
     pub(crate) count: u64,
@@ -28,7 +28,7 @@ pub(crate) struct BootSize {
 }
 
 impl Site {
-    /// The place of replica `me` of `n`: down, with an empty disk.
+    /// Returns replica `me` of `n`: down, with an empty disk.
     pub(crate) fn new(alloc: Global, me: u32, n: u32) -> Result<Site, NoMemory>
         requires mine { me < n }
         requires most { n ≤ 15 }
@@ -43,7 +43,7 @@ impl Site {
         })
     }
 
-    /// The replica is up.
+    /// Returns whether the replica is up.
     #[tactic(auto, unfolding(crsm_mpspec::specs::World::is_up))]
     pub(crate) fn is_up(&self) -> bool
         ensures { WhereSiteStands self.now (λ me n s. result ≡ on_paper.is_up s) }
@@ -51,7 +51,7 @@ impl Site {
         matches!(&self.place, SiteState::Up(_))
     }
 
-    /// How many slots are executed by its log.
+    /// Returns the number of slots executed by its log.
     pub(crate) fn executed_len(&self) -> u64
         ensures { WhereSiteStands self.now (λ me n s. result ≡ length (executed (on_paper.log_of s))) }
     {
@@ -62,7 +62,7 @@ impl Site {
         }
     }
 
-    /// From now on the replica is here.
+    /// Sets the state of the replica.
     fn move_to(&mut self, place: SiteState)
         ensures me { self.new.me ≡ self.old.me }
         ensures n { self.new.n ≡ self.old.n }
@@ -71,7 +71,7 @@ impl Site {
         self.place = place;
     }
 
-    /// The replica, which is down, boots on its disk.
+    /// Boots the replica, which is down, on its disk.
     pub(crate) fn start(&mut self) -> Result<BootSize, NoMemory>
         ensures { IfOk result (λ made. WhereSiteIsDown self.old (λ me n log.
             Boots made me n log × SiteStands self.new me n (on_paper.Site.Up (steps.boot me n log).replica))) }
@@ -82,13 +82,13 @@ impl Site {
                 self.move_to(SiteState::Up(running));
                 Ok(boot)
             }
-            // A world starts what is down.
+            // A world starts only replicas that are down.
             SiteState::Up(_) => Err(never()),
             SiteState::Spent => Err(NoMemory),
         }
     }
 
-    /// The replica goes down. One that is down stays so.
+    /// Takes the replica down. A replica that is down stays down.
     pub(crate) fn crash(&mut self) -> Result<(), NoMemory>
         ensures { OnOk result (WhereSiteStands self.old (λ me n s. SiteStands self.new me n (on_paper.Site.Down (on_paper.log_of s)))) }
     {
@@ -105,7 +105,7 @@ impl Site {
         }
     }
 
-    /// One step of the replica, which is up.
+    /// Runs one step of the replica, which is up.
     pub(crate) fn step(&mut self, input: &MpInput, from: u32) -> Result<MpStep, NoMemory>
         requires { FitsInput input.now }
         ensures fits { IfOk result (λ step. AllByRecursion FitsSend step.batch.sends) }
@@ -114,13 +114,13 @@ impl Site {
     {
         match &mut self.place {
             SiteState::Up(running) => Ok(running.step(input, from)?),
-            // A world steps what is up.
+            // A world steps only replicas that are up.
             SiteState::Down(_) => Err(never()),
             SiteState::Spent => Err(NoMemory),
         }
     }
 
-    /// One step of the replica, which is up, whose records are lost: it goes down.
+    /// Runs one step of the replica, which is up, whose records are lost, and takes it down.
     pub(crate) fn step_lost(&mut self, input: &MpInput, from: u32) -> Result<(), NoMemory>
         requires { FitsInput input.now }
         ensures { OnOk result (WhereSiteIsUp self.old (λ me n r. SiteStands self.new me n (on_paper.Site.Down r.log))) }
@@ -130,14 +130,14 @@ impl Site {
                 self.move_to(SiteState::Down(running.step_lost(input, from)?));
                 Ok(())
             }
-            // A world stops a step of what is up.
+            // A world stops only steps of replicas that are up.
             SiteState::Down(_) => Err(never()),
             SiteState::Spent => Err(NoMemory),
         }
     }
 }
 
-/// A boot on what was left. The log that was kept is read again, and no call of the disk fails.
+/// Boots a replica on what a crash left. Its log is read again, and no call of the disk fails.
 fn boot_on(alloc: Global, me: u32, n: u32, left: MpStopped) -> Result<(Running, BootSize), NoMemory>
     requires mine { me < n }
     requires most { n ≤ 15 }

@@ -1,4 +1,4 @@
-//! The world of a store with a leader.
+//! The world of a simulated store with a leader.
 
 ghost use Rattle.std.specs.Prelude.{◌≡◌, ◌≢◌, ◌≤◌, None, [], IfOk, IfErr, IsErr, IsErrOf};
 ghost use Rattle.crsm_schedule.specs.Grammar.{FitsEvent};
@@ -16,21 +16,22 @@ use crsm_schedule::Event;
 use std::alloc::Global;
 use std::mem;
 
-/// A store with a leader: its replicas, and every message that was sent.
+/// A simulated store with a leader: its replicas, and every message that was sent.
 #[derive(Drop)]
 pub struct MpWorld {
     pub(crate) alloc: Global,
-    /// How many replicas there are.
+    /// Number of replicas.
     pub(crate) n: u32,
     pub(crate) sites: Sites,
     pub(crate) network: MpNetwork,
     is_spent: bool,
-    /// Lines that were taken back: only their room is of use.
+    /// Lines that were taken back: only their memory is used.
     spare: MpLines,
 }
 
 impl MpWorld {
-    /// A world of so many replicas, which have just booted, and the lines of their boots.
+    /// Returns a world of `n` replicas that have just booted, and the lines of their boots. `NoMemory` if memory runs
+    /// out.
     pub fn new(alloc: Global, n: u32) -> Result<(MpWorld, MpLines), NoMemory>
         requires some { 1 ≤ n }
         requires most { n ≤ 15 }
@@ -43,7 +44,7 @@ impl MpWorld {
             n,
             sites,
             network: MpNetwork::new(alloc),
-            // It is none before all have booted.
+            // It is not usable before all have booted.
             is_spent: true,
             spare: MpLines::new(alloc),
         };
@@ -56,7 +57,8 @@ impl MpWorld {
         Ok((world, lines))
     }
 
-    /// Does an event, and gives its lines. After a cause other than memory the world is as before.
+    /// Executes an event and returns its lines. After an error other than `NoMemory` the world is unchanged; after
+    /// `NoMemory` it is spent.
     #[tactic(auto, unfolding(crate::specs::World::MpWorldStands, crate::specs::World::IsSpent))]
     pub fn step(&mut self, event: &Event) -> Result<MpLines, MpBad>
         requires { FitsEvent event.now }
@@ -76,7 +78,7 @@ impl MpWorld {
             return Err(bad);
         }
         let Ok(lines) = self.happen(event) else {
-            // Nobody is to go on from half an event.
+            // A caller must not continue from half an event.
             self.is_spent = true;
             return Err(MpBad::NoMemory);
         };
@@ -84,7 +86,7 @@ impl MpWorld {
         Ok(lines)
     }
 
-    /// Takes back the lines of a step, so that the next step uses their room.
+    /// Takes back the lines of a step, so that the next step uses their memory.
     #[tactic(auto, unfolding(crate::specs::World::MpWorldStands, crate::specs::World::IsSpent))]
     pub fn take_back(&mut self, lines: MpLines)
         ensures stands { WhereStands self.old (λ v. MpWorldStands self.new v) }
@@ -93,7 +95,7 @@ impl MpWorld {
         self.spare = lines;
     }
 
-    /// No lines yet, with the room of those that were taken back.
+    /// Returns empty lines with the memory of those that were taken back.
     pub(crate) fn no_lines(&mut self) -> MpLines
         ensures none { result ≡ [] }
         ensures holds { WhereHolds self.old (λ v. Holds self.new v) }
@@ -103,7 +105,7 @@ impl MpWorld {
         lines
     }
 
-    /// The last lines.
+    /// Returns the final line of each replica. `NoMemory` if memory runs out.
     #[tactic(auto, unfolding(crate::specs::World::MpWorldStands, crate::specs::World::IsSpent, crsm_mpspec::specs::World::finals))]
     pub fn finals(&self) -> Result<MpLines, NoMemory>
         ensures lines { WhereStands self.now (λ v. IfOk result (λ lines. lines ≡ on_paper.finals v)) }

@@ -1,4 +1,4 @@
--- Bodies that are put one behind another, and what a crash leaves of them.
+-- Bodies that are put one after another, and what a crash leaves of them.
 use Rattle.std.proofs.Common.{◌≡◌, inl, inr, ⊎_elim, ℕ, List, [], ◌∷◌, ◌++◌, refl, sym, ◌∙◌, ap, subst, arith, append_assoc}
 use Rattle.std.proofs.lemmas.List.{append-nil}
 use Rattle.crsm_disk.specs.Meaning.{LeavesOnly, Meaning, Only, Same}

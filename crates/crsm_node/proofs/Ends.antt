@@ -1,4 +1,4 @@
--- How a node ends, from what it has done so far.
+-- The end of a node, from its turns before.
 use Rattle.std.proofs.Common.{◌≡◌, IsTrue, Bool, ℕ, ◌≤◌, List, [], ◌∷◌, ◌++◌, length, refl, sym, ◌∙◌, ap, subst, arith}
 use Rattle.std.proofs.lemmas.List.{append-nil}
 use Rattle.std.specs.Prelude.{Option, Result, Ok, Err, ◌≢◌}
@@ -227,7 +227,7 @@ group_kept r w groups ts start mid now s k =
     let all : List Group = groups ++ g ∷ [] in
     let same : kept_turns groups ++ ts ≡ kept_turns all ++ [] = sym (kept_more groups g) ∙ sym (append-nil (kept_turns all)) in
     let carried : Carries start.peers r w (kept_turns groups ++ ts) all start.port now.port =
-    carries_group start.peers r w (kept_turns groups ++ ts) groups ts start.port mid.port now.port s.fates out k.sent.coat k.sent.lent k.sent.empties k.sent.faults f s.carries in (
+    carries_group start.peers r w (kept_turns groups ++ ts) groups ts start.port mid.port now.port s.fates out k.sent.framing k.sent.borrowed_as k.sent.empties k.sent.faults f s.carries in (
       f.fates,
       record {
         takes = subst (λ (us : List (Turn × ℕ)). Takes r w us start.clock now.clock) same (subst (λ (c : Option Readings). Takes r w (kept_turns groups ++ ts) start.clock c) (sym k.clock) s.takes);

@@ -1,4 +1,4 @@
--- Which of what is handed out goes out.
+-- Which part of the output is sent.
 use Rattle.std.proofs.Common.{◌≡◌, inl, inr, ℕ, suc, ◌+◌, Bool, true, false, List, [], ◌∷◌, ◌++◌, length, refl, sym, ◌∙◌, ap, subst, arith, length-append}
 use Rattle.std.proofs.lemmas.List.{append-nil}
 use Rattle.std.proofs.lemmas.Grind.{flat_map-append}
@@ -30,7 +30,7 @@ sends_append a b = flat_map-append sends_in a b
 
 -- ---- the fates of some sends
 
--- these are the fates of what is handed out, where so many packets are missing and these went out
+-- these are the fates of the output, if this number of packets are lost and these were sent
 pub record AreFates (peers : List ℕ) (sends : List Send) (missing : ℕ) (out : List Packet) : Type 0 where
   pub fates : List Bool
   pub each : length fates ≡ length sends
@@ -86,7 +86,7 @@ at_address peers s sends finds (Some a) some missing out (inl h) =
 at_address peers s sends finds (Some a) some missing out (inr h) =
     subst (λ (m : ℕ). AreFates peers (s ∷ sends) m out) (sym h.1) (was_lost peers s sends h.0 out a some (finds h.0 out h.2))
 
--- so many packets of these are missing: there are fates that say which
+-- this number of packets are lost: there are fates that say which
 pub fates_for : (peers : List ℕ) (sends : List Send) (missing : ℕ) (out : List Packet) → Lacks missing (packets_for peers sends) out → AreFates peers sends missing out
 unfolding packets_for gone not_gone packet_for
 fates_for peers [] missing out h = record { fates = []; each = refl; went = sym h.1; lost = sym h.0; addressed = tt }

@@ -1,4 +1,4 @@
--- How turns come to be groups.
+-- The division of turns into groups.
 use Rattle.std.proofs.Common.{◌≡◌, ℕ, ◌+◌, ◌<◌, List, [], ◌∷◌, ◌++◌, length, refl, ◌∙◌, ap, subst, arith, length-append}
 use Rattle.std.specs.List.{AllByRecursion}
 use Rattle.crsm_spec.specs.Node.{Turn}

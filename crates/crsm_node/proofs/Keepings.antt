@@ -1,4 +1,4 @@
--- Why a group is not kept, in the words of a node.
+-- The reasons why a group is not durable, as errors of a node.
 use Rattle.std.proofs.Common.{◌≡◌, IsTrue, ℕ, List, refl}
 use Rattle.std.specs.Prelude.{Option, Err}
 use Rattle.crsm_disk.specs.Meaning.{Meaning as DiskMeaning, Same}
@@ -14,7 +14,7 @@ use Rattle.crsm_shell.specs.declared.shell.Shell.{Shell}
 use Rattle.crsm_node.specs.Errors.{turn_failure}
 use Rattle.crsm_node.specs.Steps.{KeepsGroup}
 
--- what a flush that failed tells
+-- the error of a failed flush
 pub record FlushFails {D : Type 0} {g : _} (meaning : D → DiskMeaning) (before after : Shell D g) (old new : PortMeaning) (steps : List Draft) (why : TurnError) : Type 0 where
   pub no_port_fault : why ≡ errors.PortFault → ⊥
   pub not_failed : why ≡ errors.Failed → ⊥

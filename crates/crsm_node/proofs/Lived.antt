@@ -128,7 +128,7 @@ module _ (order : NodeOrder) (life : Life) (m n o p : Meaning) (result : Result 
 
 -- what was sent and received, whoever lends the port
 carries_unlent : (peers : List ℕ) (r : Replica) (w : Watch) (ts : List (Turn × ℕ)) (groups : List Group) (a b : PortMeaning) → Carries peers r w ts groups a b → Carries peers r w ts groups (unlent_port a) (unlent_port b)
-carries_unlent peers r w ts groups a b h = record { traffic = h.traffic; empties = h.empties; losses = h.losses; faults = h.faults; coat = h.coat; lent = refl }
+carries_unlent peers r w ts groups a b h = record { traffic = h.traffic; empties = h.empties; losses = h.losses; faults = h.faults; framing = h.framing; borrowed_as = refl }
 
 -- what a life did to the devices, but for its sheet and its end
 pub record Lived (order : NodeOrder) (found_log : Log) (groups : List Group) (lost : List (Turn × ℕ)) (before after : Option Readings) (a b : PortMeaning) (o p : Meaning) (result : Result (Unit {0}) NodeError) : Type 0 where
@@ -199,12 +199,12 @@ unfolding kept_turns AreWished GivesAll datagrams_in packets_gone packets_missin
 lived_still order log before after a b o result port clock stops maybe has only =
     let r : Replica = booted order log in
     let still : Carries (peers_in order) r unwatched [] [] a a = record {
-      traffic = both_same (Passes a.coat [] []) a.traffic (passes_none a.coat);
+      traffic = both_same (Passes a.framing [] []) a.traffic (passes_none a.framing);
       empties = raised_none a.empties a.empties (omega arith);
       losses = raised_none a.losses a.losses (omega arith);
       faults = omega arith;
-      coat = refl;
-      lent = refl;
+      framing = refl;
+      borrowed_as = refl;
     } in
     record {
       most = omega arith;
@@ -213,7 +213,7 @@ lived_still order log before after a b o result port clock stops maybe has only 
       addressed = tt;
       takes = record { wished = tt; readings = clock };
       carries = subst (λ (x : PortMeaning). Carries (peers_in order) r unwatched [] [] a x) (sym port) still;
-      goes = record { honest = refl; fill = refl; lent = refl; later = omega arith };
+      goes = record { honest = refl; fill = refl; borrowed_as = refl; later = omega arith };
       keeps = λ honest. record {
         file = o.seen;
         put = refl;

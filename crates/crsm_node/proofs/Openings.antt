@@ -1,4 +1,4 @@
--- The first lines of a sheet, one behind another.
+-- The first lines of a sheet, one after another.
 use Rattle.std.proofs.Common.{◌≡◌, ℕ, ◌+◌, List, [], ◌∷◌, ◌++◌, length, take, drop, map, refl, sym, ◌∙◌, ap, subst, append_assoc}
 use Rattle.std.proofs.lemmas.List.{append-nil, map-append, take-append-drop, take_more}
 use Rattle.std.proofs.Math.Seq.{take-length}
@@ -12,7 +12,7 @@ use Rattle.crsm_text_sheet.specs.Sheets.{entry_line, sheet_of, sheet_text}
 use Rattle.crsm_node.specs.Running.{opening_text}
 use Rattle.crsm_node.proofs.SoFar.{puts_then}
 
--- the text of the lines of so many bodies, and of what stands behind them
+-- the text of the lines of these bodies, and of the lines after them
 abbrev pub entries_text : List (List ℕ) → ℕ → List ℕ
 entries_text bodies i = sheet_text (map entry_line (take i bodies))
 

@@ -1,10 +1,10 @@
--- What a port tells, and its counts, over calls that follow one another.
+-- The traffic and the counters of a port over consecutive calls.
 use Rattle.std.proofs.Common.{◌≡◌, ℕ, ◌+◌, ◌≤◌, List, [], ◌∷◌, ◌++◌, map, refl, sym, ◌∙◌, ap, subst, arith, append_assoc}
 use Rattle.std.proofs.lemmas.List.{append-nil, map-append}
 use Rattle.std.specs.Prelude.{Option, Some, None, option_map}
 use Rattle.crsm_clock.specs.Readings.{Gives, Readings}
 use Rattle.crsm_port_faults.specs.Counts.{Rose}
-use Rattle.crsm_port.specs.Meaning.{Coat, Packet, Traffic}
+use Rattle.crsm_port.specs.Meaning.{Framing, Packet, Traffic}
 use Rattle.crsm_replica_io.specs.Outgoing.{raised_by, with_all_sent}
 use Rattle.crsm_node.specs.Received.{BothTell, GivesAll, Passes, received}
 
@@ -29,7 +29,7 @@ unfolding GivesAll
 gives_more [] reading a b c all one = (c, subst (λ (x : Option Readings). Gives x c reading) all one, refl)
 gives_more (t ∷ readings) reading a b c all one = (all.0, all.1, gives_more readings reading all.0 b c all.2 one)
 
--- ---- what is told
+-- ---- the traffic
 
 pub both_then : (R S T : Traffic → Traffic → Type 0) (a b c : Option Traffic) → ((t u v : Traffic) → R t u → S u v → T t v) → BothTell R a b → BothTell S b c → BothTell T a c
 both_then R S T None None None joins r s = tt
@@ -49,23 +49,23 @@ pub both_same : (R : Traffic → Traffic → Type 0) (a : Option Traffic) → ((
 both_same R None here = tt
 both_same R (Some t) here = here t
 
-pub passes_none : (coat : Coat) (t : Traffic) → Passes coat [] [] t t
-passes_none coat t = record { came = []; waited = refl; told = sym (append-nil t.taken); are = refl; out = sym (append-nil t.sent) }
+pub passes_none : (framing : Framing) (t : Traffic) → Passes framing [] [] t t
+passes_none framing t = record { came = []; waited = refl; told = sym (append-nil t.taken); are = refl; out = sym (append-nil t.sent) }
 
-pub passes_then : (coat : Coat) (took more went out : List Packet) (t u v : Traffic) → Passes coat took went t u → Passes coat more out u v → Passes coat (took ++ more) (went ++ out) t v
-passes_then coat took more went out t u v p q = record {
+pub passes_then : (framing : Framing) (took more went out : List Packet) (t u v : Traffic) → Passes framing took went t u → Passes framing more out u v → Passes framing (took ++ more) (went ++ out) t v
+passes_then framing took more went out t u v p q = record {
   came = p.came ++ q.came;
   waited = p.waited ∙ ap (λ (ps : List Packet). p.came ++ ps) q.waited ∙ sym (append_assoc p.came q.came v.waiting);
   told = q.told ∙ ap (λ (ps : List Packet). ps ++ q.came) p.told ∙ append_assoc t.taken p.came q.came;
-  are = ap (λ (ps : List Packet). ps ++ more) p.are ∙ ap (λ (ps : List Packet). map (received coat) p.came ++ ps) q.are ∙ sym (map-append (received coat) p.came q.came);
-  out = q.out ∙ ap (λ (ps : List Packet). ps ++ map coat.wrap out) p.out ∙ append_assoc t.sent (map coat.wrap went) (map coat.wrap out)
-      ∙ ap (λ (ps : List Packet). t.sent ++ ps) (sym (map-append coat.wrap went out));
+  are = ap (λ (ps : List Packet). ps ++ more) p.are ∙ ap (λ (ps : List Packet). map (received framing) p.came ++ ps) q.are ∙ sym (map-append (received framing) p.came q.came);
+  out = q.out ∙ ap (λ (ps : List Packet). ps ++ map framing.wrap out) p.out ∙ append_assoc t.sent (map framing.wrap went) (map framing.wrap out)
+      ∙ ap (λ (ps : List Packet). t.sent ++ ps) (sym (map-append framing.wrap went out));
 }
 
--- what goes out is told behind what was sent
-sends_pass : (coat : Coat) (out : List Packet) (a : Option Traffic) → BothTell (Passes coat [] out) a (option_map (with_all_sent (map coat.wrap out)) a)
-sends_pass coat out None = tt
-sends_pass coat out (Some t) = record { came = []; waited = refl; told = sym (append-nil t.taken); are = refl; out = refl }
+-- the packets sent follow those that were sent before
+sends_pass : (framing : Framing) (out : List Packet) (a : Option Traffic) → BothTell (Passes framing [] out) a (option_map (with_all_sent (map framing.wrap out)) a)
+sends_pass framing out None = tt
+sends_pass framing out (Some t) = record { came = []; waited = refl; told = sym (append-nil t.taken); are = refl; out = refl }
 
-pub sent_passes : (coat : Coat) (out : List Packet) (a b : Option Traffic) → b ≡ option_map (with_all_sent (map coat.wrap out)) a → BothTell (Passes coat [] out) a b
-sent_passes coat out a b is = subst (λ (x : Option Traffic). BothTell (Passes coat [] out) a x) (sym is) (sends_pass coat out a)
+pub sent_passes : (framing : Framing) (out : List Packet) (a b : Option Traffic) → b ≡ option_map (with_all_sent (map framing.wrap out)) a → BothTell (Passes framing [] out) a b
+sent_passes framing out a b is = subst (λ (x : Option Traffic). BothTell (Passes framing [] out) a x) (sym is) (sends_pass framing out a)

@@ -1,4 +1,4 @@
--- The turns of a node one after another: what stands between two turns, and how they end.
+-- The turns of a node one after another: the state between two turns, and how they end.
 use Rattle.std.proofs.Common.{◌≡◌, ◌≢◌, ◌⊎◌, inl, inr, IsTrue, ℕ, ◌+◌, ◌-◌, ◌<◌, ◌≤◌, List, [], ◌∷◌, ◌++◌, length, refl, sym, ◌∙◌, ap, subst, arith, append_assoc, Bool}
 use Rattle.std.proofs.lemmas.List.{append-nil, map-append}
 use Rattle.std.specs.Prelude.{Option, Some, None, Result, Ok, Err}
@@ -48,12 +48,12 @@ carries_idle peers r w ts groups a b c carries idle =
     let before = carries.faults in
     let after = idle.later in
     record {
-      traffic = subst (λ (x : Option Traffic). BothTell (Passes a.coat (datagrams_in ts) (packets_gone peers r groups)) a.traffic x) (sym idle.traffic) carries.traffic;
+      traffic = subst (λ (x : Option Traffic). BothTell (Passes a.framing (datagrams_in ts) (packets_gone peers r groups)) a.traffic x) (sym idle.traffic) carries.traffic;
       empties = subst (λ (k : ℕ). raised_by (empty_receives w r ts) a.empties ≤ k) (sym idle.empties) carries.empties;
       losses = subst (λ (k : ℕ). raised_by (packets_missing peers r groups) a.losses ≤ k) (sym idle.losses) carries.losses;
       faults = omega (arith, before, after);
-      coat = idle.coat ∙ carries.coat;
-      lent = idle.lent ∙ carries.lent;
+      framing = idle.framing ∙ carries.framing;
+      borrowed_as = idle.borrowed_as ∙ carries.borrowed_as;
     }
 
 idle_unsent : (a b : PortMeaning) → SendsNone a b → IsIdle a b
@@ -62,8 +62,8 @@ idle_unsent a b none = record {
   empties = ap (λ (m : PortMeaning). m.empties) none.same;
   losses = ap (λ (m : PortMeaning). m.losses) none.same;
   later = subst (λ (k : ℕ). a.faults ≤ k) (sym (ap (λ (m : PortMeaning). m.faults) none.same)) (omega arith);
-  coat = ap (λ (m : PortMeaning). m.coat) none.same;
-  lent = ap (λ (m : PortMeaning). m.lent) none.same;
+  framing = ap (λ (m : PortMeaning). m.framing) none.same;
+  borrowed_as = ap (λ (m : PortMeaning). m.borrowed_as) none.same;
 }
 
 disk_same : (r : Replica) (groups : List Group) (a b c : DiskMeaning) → OnDisk r groups a b → Goes b c → Same b c → OnDisk r groups a c
@@ -85,7 +85,7 @@ pub record Pends (r : Replica) (w : Watch) (start now : Node) (text : List ℕ) 
   pub watches : now.watches (replica_after r (kept_turns groups ++ ts)).me (watch_after w (kept_turns groups ++ ts))
   pub text_is : text ≡ turns_text ts
 
--- the same between two turns, after so many of them all
+-- the same between two turns, after a number of them
 pub record Stage (r : Replica) (w : Watch) (start now : Node) (text : List ℕ) (taken most : ℕ) : Type 0 where
   pub groups : List Group
   pub ts : List (Turn × ℕ)
@@ -108,17 +108,17 @@ unfolding kept_turns AreWished GivesAll datagrams_in packets_gone packets_missin
 starts disk port clock written faults r w s d p c o has only = record {
   takes = record { wished = tt; readings = refl };
   carries = record {
-    traffic = both_same (Passes (port p).coat [] []) (port p).traffic (passes_none (port p).coat);
+    traffic = both_same (Passes (port p).framing [] []) (port p).traffic (passes_none (port p).framing);
     empties = raised_none (port p).empties (port p).empties (omega arith);
     losses = raised_none (port p).losses (port p).losses (omega arith);
     faults = omega arith;
-    coat = refl;
-    lent = refl;
+    framing = refl;
+    borrowed_as = refl;
   };
   fates = tt;
   addressed = tt;
   disk = record {
-    goes = record { honest = refl; fill = refl; lent = refl; later = omega arith };
+    goes = record { honest = refl; fill = refl; borrowed_as = refl; later = omega arith };
     put = λ honest. refl;
     has = has;
     any_moment = λ honest. not_begun (disk (disk_of s)) (disk (disk_of s)).seen (has honest) (only honest);

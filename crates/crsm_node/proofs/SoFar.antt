@@ -1,4 +1,4 @@
--- What a node has done so far, with some turns pending, and how that goes on.
+-- The turns that a node has taken, some of them pending, and further ones.
 use Rattle.std.proofs.Common.{◌≡◌, IsTrue, ℕ, ◌≤◌, List, [], ◌∷◌, ◌++◌, map, sym, ◌∙◌, ap, subst, arith, append_assoc}
 use Rattle.std.proofs.lemmas.List.{append-nil, map-append}
 use Rattle.std.proofs.lemmas.Grind.{flat_map-append}
@@ -10,7 +10,7 @@ use Rattle.crsm_io.specs.Streams.{Puts, PutsPrefix}
 use Rattle.crsm_spec_process.specs.Lives.{Group, kept_turns}
 use Rattle.crsm_log.specs.Format.{bodies_of}
 use Rattle.crsm_log.specs.Log.{Goes}
-use Rattle.crsm_port.specs.Meaning.{Coat, Meaning as PortMeaning, Packet}
+use Rattle.crsm_port.specs.Meaning.{Framing, Meaning as PortMeaning, Packet}
 use Rattle.crsm_text_sheet.specs.declared.line.SheetLine.{SheetLine}
 use Rattle.crsm_text_sheet.specs.Grammar.{sheet_line_text}
 use Rattle.crsm_text_sheet.specs.Sheets.{sheet_text, turn_line}
@@ -49,23 +49,23 @@ pub carries_more : (peers : List ℕ) (r : Replica) (w : Watch) (ts : List (Turn
 carries_more peers r w ts t groups a b c carries off =
     let out : List Packet = packets_gone peers r groups in
     let took : List Packet = datagrams_in ts in
-    let here : BothTell (Passes a.coat (datagram_in t.0) []) b.traffic c.traffic = subst (λ (coat : Coat). BothTell (Passes coat (datagram_in t.0) []) b.traffic c.traffic) carries.coat off.traffic in
-    let all : BothTell (Passes a.coat (took ++ datagram_in t.0) (out ++ [])) a.traffic c.traffic =
-    both_then (Passes a.coat took out) (Passes a.coat (datagram_in t.0) []) (Passes a.coat (took ++ datagram_in t.0) (out ++ [])) a.traffic b.traffic c.traffic
-    (passes_then a.coat took (datagram_in t.0) out []) carries.traffic here in
+    let here : BothTell (Passes a.framing (datagram_in t.0) []) b.traffic c.traffic = subst (λ (framing : Framing). BothTell (Passes framing (datagram_in t.0) []) b.traffic c.traffic) carries.framing off.traffic in
+    let all : BothTell (Passes a.framing (took ++ datagram_in t.0) (out ++ [])) a.traffic c.traffic =
+    both_then (Passes a.framing took out) (Passes a.framing (datagram_in t.0) []) (Passes a.framing (took ++ datagram_in t.0) (out ++ [])) a.traffic b.traffic c.traffic
+    (passes_then a.framing took (datagram_in t.0) out []) carries.traffic here in
     let losses = off.losses in
     let faults = off.faults in
     let lost = carries.losses in
     let failed = carries.faults in
     record {
-      traffic = subst (λ (ps : List Packet). BothTell (Passes a.coat ps out) a.traffic c.traffic) (sym (datagrams_more ts t))
-          (subst (λ (ps : List Packet). BothTell (Passes a.coat (took ++ datagram_in t.0) ps) a.traffic c.traffic) (append-nil out) all);
+      traffic = subst (λ (ps : List Packet). BothTell (Passes a.framing ps out) a.traffic c.traffic) (sym (datagrams_more ts t))
+          (subst (λ (ps : List Packet). BothTell (Passes a.framing (took ++ datagram_in t.0) ps) a.traffic c.traffic) (append-nil out) all);
       empties = subst (λ (k : ℕ). raised_by k a.empties ≤ c.empties) (sym (empty_more w r ts t))
           (raised_then (empty_receives w r ts) (empty_receive (wish_of (watch_after w ts) (replica_after r ts)) t.0) a.empties b.empties c.empties carries.empties off.empties);
       losses = subst (λ (k : ℕ). raised_by (packets_missing peers r groups) a.losses ≤ k) (sym off.losses) carries.losses;
       faults = subst (λ (k : ℕ). a.faults ≤ k) (sym off.faults) carries.faults;
-      coat = off.coat ∙ carries.coat;
-      lent = off.lent ∙ carries.lent;
+      framing = off.framing ∙ carries.framing;
+      borrowed_as = off.borrowed_as ∙ carries.borrowed_as;
     }
 
 -- ---- one group more
@@ -99,7 +99,7 @@ pub goes_then : (a b c : DiskMeaning) → Goes a b → Goes b c → Goes a c
 goes_then a b c one two =
     let first = one.later in
     let second = two.later in
-    record { honest = two.honest ∙ one.honest; fill = two.fill ∙ one.fill; lent = two.lent ∙ one.lent; later = omega (arith, first, second) }
+    record { honest = two.honest ∙ one.honest; fill = two.fill ∙ one.fill; borrowed_as = two.borrowed_as ∙ one.borrowed_as; later = omega (arith, first, second) }
 
 -- what groups left on a disk
 pub record OnDisk (r : Replica) (groups : List Group) (old new : DiskMeaning) : Type 0 where
@@ -130,24 +130,24 @@ disk_more r groups g a b c on goes adds leaves fits =
     }
 
 pub carries_group : (peers : List ℕ) (r : Replica) (w : Watch) (ts : List (Turn × ℕ)) (groups : List Group) (us : List (Turn × ℕ)) (a b c : PortMeaning) → (have : HaveFates r groups) →
-    (f : GoesOut (packets_for peers (sends_of (outputs_from (replica_after r (kept_turns groups)) us))) b c) → c.coat ≡ b.coat → c.lent ≡ b.lent → c.empties ≡ b.empties → c.faults ≡ b.faults →
+    (f : GoesOut (packets_for peers (sends_of (outputs_from (replica_after r (kept_turns groups)) us))) b c) → c.framing ≡ b.framing → c.borrowed_as ≡ b.borrowed_as → c.empties ≡ b.empties → c.faults ≡ b.faults →
     (k : AreFates peers (sends_of (outputs_from (replica_after r (kept_turns groups)) us)) f.missing f.out) →
     Carries peers r w ts groups a b → Carries peers r w ts (with_group peers r groups have us f.missing f.out k) a c
-carries_group peers r w ts groups us a b c have f coat lent empties faults k carries =
+carries_group peers r w ts groups us a b c have f framing borrowed_as empties faults k carries =
     let out : List Packet = packets_gone peers r groups in
     let took : List Packet = datagrams_in ts in
-    let more : BothTell (Passes b.coat [] f.out) b.traffic c.traffic = sent_passes b.coat f.out b.traffic c.traffic f.traffic in
-    let here : BothTell (Passes a.coat [] f.out) b.traffic c.traffic = subst (λ (x : Coat). BothTell (Passes x [] f.out) b.traffic c.traffic) carries.coat more in
-    let all : BothTell (Passes a.coat (took ++ []) (out ++ f.out)) a.traffic c.traffic =
-    both_then (Passes a.coat took out) (Passes a.coat [] f.out) (Passes a.coat (took ++ []) (out ++ f.out)) a.traffic b.traffic c.traffic
-    (passes_then a.coat took [] out f.out) carries.traffic here in
+    let more : BothTell (Passes b.framing [] f.out) b.traffic c.traffic = sent_passes b.framing f.out b.traffic c.traffic f.traffic in
+    let here : BothTell (Passes a.framing [] f.out) b.traffic c.traffic = subst (λ (x : Framing). BothTell (Passes x [] f.out) b.traffic c.traffic) carries.framing more in
+    let all : BothTell (Passes a.framing (took ++ []) (out ++ f.out)) a.traffic c.traffic =
+    both_then (Passes a.framing took out) (Passes a.framing [] f.out) (Passes a.framing (took ++ []) (out ++ f.out)) a.traffic b.traffic c.traffic
+    (passes_then a.framing took [] out f.out) carries.traffic here in
     record {
-      traffic = subst (λ (ps : List Packet). BothTell (Passes a.coat took ps) a.traffic c.traffic) (sym (gone_more peers r groups have us f.missing f.out k))
-          (subst (λ (ps : List Packet). BothTell (Passes a.coat ps (out ++ f.out)) a.traffic c.traffic) (append-nil took) all);
+      traffic = subst (λ (ps : List Packet). BothTell (Passes a.framing took ps) a.traffic c.traffic) (sym (gone_more peers r groups have us f.missing f.out k))
+          (subst (λ (ps : List Packet). BothTell (Passes a.framing ps (out ++ f.out)) a.traffic c.traffic) (append-nil took) all);
       empties = subst (λ (x : ℕ). raised_by (empty_receives w r ts) a.empties ≤ x) (sym empties) carries.empties;
       losses = subst (λ (x : ℕ). raised_by x a.losses ≤ c.losses) (sym (missing_more peers r groups have us f.missing f.out k))
           (raised_then (packets_missing peers r groups) f.missing a.losses b.losses c.losses carries.losses f.counted);
       faults = subst (λ (x : ℕ). a.faults ≤ x) (sym faults) carries.faults;
-      coat = coat ∙ carries.coat;
-      lent = lent ∙ carries.lent;
+      framing = framing ∙ carries.framing;
+      borrowed_as = borrowed_as ∙ carries.borrowed_as;
     }

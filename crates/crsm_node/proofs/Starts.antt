@@ -29,7 +29,7 @@ use Rattle.crsm_node.proofs.Disks.{runs_on}
 -- ---- whoever lends a disk
 
 pub unlent_goes : (m n : Meaning) → m.honest ≡ n.honest → m.fill ≡ n.fill → n.faults ≤ m.faults → Goes (unlent_disk n) (unlent_disk m)
-unlent_goes m n honest fill later = record { honest = honest; fill = fill; lent = refl; later = later }
+unlent_goes m n honest fill later = record { honest = honest; fill = fill; borrowed_as = refl; later = later }
 
 pub unlent_run : (m n : Meaning) (P : List ℕ → Type 0) → LeavesOnly m n P → LeavesOnly (unlent_disk m) (unlent_disk n) P
 unlent_run m n P run = record { later = run.later; each = run.each; before = run.before }
@@ -133,7 +133,7 @@ start_run order m n o claimed first second =
     runs_on m n o (IsClaimedOrBefore m order.cluster) (IsLeftByBoot order.me order.n n) (IsLeftAtStart order m) first second (claim_left order m) (boot_left order m n claimed before)
 
 -- a claim is one of a disk that is lent then
-pub claims_lent : (m n : Meaning) (cluster : ℕ) (k : Option ℕ) → Claims m n cluster → Claims m (record n { lent = k }) cluster
+pub claims_lent : (m n : Meaning) (cluster : ℕ) (k : Option ℕ) → Claims m n cluster → Claims m (record n { borrowed_as = k }) cluster
 claims_lent m n cluster k h = record {
   whole = h.whole;
   open_to = h.open_to;
@@ -144,7 +144,7 @@ claims_lent m n cluster k h = record {
   good = h.good;
 }
 
-pub run_lent : (m n : Meaning) (P : List ℕ → Type 0) (k : Option ℕ) → LeavesOnly m n P → LeavesOnly m (record n { lent = k }) P
+pub run_lent : (m n : Meaning) (P : List ℕ → Type 0) (k : Option ℕ) → LeavesOnly m n P → LeavesOnly m (record n { borrowed_as = k }) P
 run_lent m n P k run = record { later = run.later; each = run.each; before = run.before }
 
 pub boot_refused : (order : NodeOrder) (m n o : Meaning) (why : BootError) → n.honest ≡ m.honest → n.fill ≡ m.fill → m.faults ≤ n.faults → (IsTrue m.honest → Claims m n order.cluster) →

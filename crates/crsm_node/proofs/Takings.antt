@@ -1,10 +1,10 @@
--- What a turn takes off a port, in the words of a node.
+-- The input that a turn takes from a port, as a node's.
 use Rattle.std.proofs.Common.{◌≡◌, inr, ℕ, ◌≤◌, ◌↔◌, List, [], ◌∷◌, ◌++◌, take, refl, sym, ◌∙◌, ap, subst, arith}
 use Rattle.std.proofs.lemmas.List.{append-nil}
 use Rattle.std.specs.Prelude.{Option, Some, None, IsSome, Result, Ok, Err}
 use Rattle.crsm_clock.specs.Readings.{Gives, Readings}
 use Rattle.crsm_disk.specs.Meaning.{Meaning as DiskMeaning}
-use Rattle.crsm_port.specs.Meaning.{Coat, Meaning as PortMeaning, Packet, Traffic}
+use Rattle.crsm_port.specs.Meaning.{Framing, Meaning as PortMeaning, Packet, Traffic}
 use Rattle.crsm_spec.specs.Draft.{Draft}
 use Rattle.crsm_spec.specs.Log.{Log}
 use Rattle.crsm_spec.specs.Node.{Turn}
@@ -31,7 +31,7 @@ use Rattle.crsm_node.specs.Received.{BothTell, Passes, datagram_in}
 use Rattle.crsm_node.specs.Steps.{FailsToReceive, FailsToTake, TakesOff, Took}
 use Rattle.crsm_node.proofs.Ports.{both_same, passes_none, raised_none}
 
--- ---- what is told
+-- ---- the traffic
 
 abbrev none_of : (A : Type 0) → Option A
 none_of A = None
@@ -46,23 +46,23 @@ told_both R (Some t) None told each = absurd (none_some Traffic (told.0 refl))
 told_both R (Some t) (Some u) told each = each t u refl refl
 
 -- the first datagram that waits is taken, or none waits
-first_passes : (buffer : List ℕ) (coat : Coat) (t u : Traffic) (it : ReceivedInput) → IsFirst most_received buffer coat t u it → Passes coat (datagram_in (turn_of buffer it)) [] t u
+first_passes : (buffer : List ℕ) (framing : Framing) (t u : Traffic) (it : ReceivedInput) → IsFirst most_received buffer framing t u it → Passes framing (datagram_in (turn_of buffer it)) [] t u
 unfolding turn_of
-first_passes buffer coat t u taken.Tick h = subst (λ (x : Traffic). Passes coat [] [] t x) (sym h.1) (passes_none coat t)
-first_passes buffer coat t u (taken.Datagram from len) h =
+first_passes buffer framing t u taken.Tick h = subst (λ (x : Traffic). Passes framing [] [] t x) (sym h.1) (passes_none framing t)
+first_passes buffer framing t u (taken.Datagram from len) h =
     let d = h.0 in
-    let address : from ≡ (coat.unwrap d).address = h.3 in
-    let bytes : take len buffer ≡ take most_received (coat.unwrap d).bytes = h.4 in
+    let address : from ≡ (framing.unwrap d).address = h.3 in
+    let bytes : take len buffer ≡ take most_received (framing.unwrap d).bytes = h.4 in
     let after : Traffic = record t { waiting = h.1; taken = t.taken ++ d ∷ [] } in
-    subst (λ (x : Traffic). Passes coat ((record { address = from; bytes = take len buffer }) ∷ []) [] t x) (sym h.5) (record {
+    subst (λ (x : Traffic). Passes framing ((record { address = from; bytes = take len buffer }) ∷ []) [] t x) (sym h.5) (record {
       came = d ∷ [];
       waited = h.2;
       told = refl;
       are = ap (λ (a : ℕ). (record { address = a; bytes = take len buffer }) ∷ []) address
-          ∙ ap (λ (bs : List ℕ). (record { address = (coat.unwrap d).address; bytes = bs }) ∷ []) bytes;
+          ∙ ap (λ (bs : List ℕ). (record { address = (framing.unwrap d).address; bytes = bs }) ∷ []) bytes;
       out = sym (append-nil t.sent);
     })
-first_passes buffer coat t u (taken.Suspect members) h = absurd h
+first_passes buffer framing t u (taken.Suspect members) h = absurd h
 
 -- ---- what is taken
 
@@ -81,12 +81,12 @@ counts old new buffer (taken.Suspect members) h = absurd h
 -- nothing is taken off the port
 stays_off : (wanted : WantedInput) (t : Turn) (m : PortMeaning) → datagram_in t ≡ [] → empty_receive wanted t ≡ 0 → TakesOff wanted t m m
 stays_off wanted t m none zero = record {
-  traffic = subst (λ (ps : List Packet). BothTell (Passes m.coat ps []) m.traffic m.traffic) (sym none) (both_same (Passes m.coat [] []) m.traffic (passes_none m.coat));
+  traffic = subst (λ (ps : List Packet). BothTell (Passes m.framing ps []) m.traffic m.traffic) (sym none) (both_same (Passes m.framing [] []) m.traffic (passes_none m.framing));
   empties = subst (λ (k : ℕ). raised_by k m.empties ≤ m.empties) (sym zero) (raised_none m.empties m.empties (omega arith));
   losses = refl;
   faults = refl;
-  coat = refl;
-  lent = refl;
+  framing = refl;
+  borrowed_as = refl;
 }
 
 same_input : (t u : ReceivedInput) → taking t ≡ taking u → t ≡ u
@@ -96,12 +96,12 @@ same_input t u is = cc
 pub takes_off : (wanted : WantedInput) (buffer : List ℕ) (old new : PortMeaning) (t : ReceivedInput) → TakesInput wanted most_received buffer old new (Ok t) → TakesOff wanted (turn_of buffer t) old new
 unfolding turn_of
 takes_off what.Receive buffer old new t h = record {
-  traffic = told_both (Passes old.coat (datagram_in (turn_of buffer t)) []) old.traffic new.traffic h.told (λ a b is other. first_passes buffer old.coat a b t (h.first a b is other));
+  traffic = told_both (Passes old.framing (datagram_in (turn_of buffer t)) []) old.traffic new.traffic h.told (λ a b is other. first_passes buffer old.framing a b t (h.first a b is other));
   empties = counts old.empties new.empties buffer t h.counted;
   losses = h.losses;
   faults = h.no_fault (no_fault t);
-  coat = h.coat;
-  lent = h.lent;
+  framing = h.framing;
+  borrowed_as = h.borrowed_as;
 }
 takes_off what.Tick buffer old new t h =
     subst (λ (m : PortMeaning). TakesOff what.Tick (turn_of buffer t) old m) (sym h.0)
@@ -138,7 +138,7 @@ module _ {D : Type 0} {g : _} (shell : Shell D g) (m : DiskMeaning) (detector : 
       DetectorStands detector r.me (chosen wanted w) → FailsToReceive shell m detector ahead later old new lines lines kept r steps w
   receive_fails what.Receive old new h unread stands watches = record {
     fault = h.fault refl;
-    idle = record { traffic = h.none_taken refl; empties = h.not_empty refl; losses = h.losses; later = h.later; coat = h.coat; lent = h.lent };
+    idle = record { traffic = h.none_taken refl; empties = h.not_empty refl; losses = h.losses; later = h.later; framing = h.framing; borrowed_as = h.borrowed_as };
     unread = unread;
     stands = stands;
     watches = watches;

@@ -22,7 +22,7 @@ pub record Node : Type 1 where
   pub peers : List ℕ
   pub disk : DiskMeaning
   pub port : PortMeaning
-  -- the readings still to come, and what is written, where that is told
+  -- the readings still to come, and the bytes written, if these are specified
   pub clock : Option Readings
   pub sheet : Option (List ℕ)
   -- how many writes failed

@@ -10,7 +10,7 @@ use Rattle.crsm_node.specs.declared.errors.NodeEnd.TheVariants as ends
 use Rattle.crsm_node.specs.declared.errors.NodeError.{NodeError}
 use Rattle.crsm_node.specs.declared.errors.NodeError.TheVariants as errors
 
--- what a failed take or flush is
+-- the error of a failed take or flush
 abbrev pub turn_failure : TurnError → NodeError
 turn_failure turns.PortFault = errors.PortFault
 turn_failure turns.DiskFault = errors.DiskFault

@@ -1,4 +1,4 @@
--- What groups of turns leave on a disk.
+-- The effect of groups of turns on a disk.
 use Rattle.std.specs.Prelude.{◌≡◌, ℕ, List, [], ◌∷◌, ◌++◌}
 use Rattle.std.specs.List.{flat_map}
 use Rattle.crsm_spec.specs.Draft.{Draft}
@@ -18,7 +18,7 @@ body_if_some (b ∷ body) = (b ∷ body) ∷ []
 abbrev pub body_in_log : List Draft → List (List ℕ)
 body_in_log steps = body_if_some (group_body steps)
 
--- the bodies of groups, the first of which this replica takes
+-- the bodies of groups, of which this replica takes the first
 unfoldable pub bodies_in_log : Replica → List (List (Turn × ℕ)) → List (List ℕ)
 bodies_in_log r groups = flat_map body_in_log (steps_by_group r groups)
 

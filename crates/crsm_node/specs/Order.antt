@@ -1,4 +1,4 @@
--- What a node is told.
+-- The parameters of a node.
 use Rattle.std.specs.Prelude.{ℕ, List}
 use Rattle.crsm_node.specs.declared.order.NodeOrder.{NodeOrder}
 

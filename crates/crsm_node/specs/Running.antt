@@ -1,4 +1,4 @@
--- What a node does from its start to its end.
+-- The effects of a node from its start to its end.
 use Rattle.std.specs.Prelude.{◌≡◌, ◌≢◌, ◌⊎◌, ℕ, ◌+◌, ◌<◌, ◌≤◌, List, [], ◌∷◌, ◌++◌, length, true, IsTrue, Option, Some, None, Result, Ok, Err}
 use Rattle.crsm_base.specs.declared.limits.TheConstants.{MAX_LOG_BYTES}
 use Rattle.crsm_port_faults.specs.Counts.{Rose}
@@ -16,7 +16,7 @@ use Rattle.crsm_log.specs.Claim.{IsOpenTo, claimed}
 use Rattle.crsm_log.specs.Format.{bodies_of, cluster_of, found, gate_in, reading}
 use Rattle.crsm_log.specs.Log.{Goes}
 use Rattle.crsm_port.specs.Cluster.{clustered, over}
-use Rattle.crsm_port.specs.Meaning.{Coat, Meaning as PortMeaning}
+use Rattle.crsm_port.specs.Meaning.{Framing, Meaning as PortMeaning}
 use Rattle.crsm_replica_detector.specs.Watching.{unwatched}
 use Rattle.crsm_replica_detector.specs.Wished.{replica_after}
 use Rattle.crsm_replica_detector.specs.declared.detector.Detector.{Detector}
@@ -35,7 +35,7 @@ use Rattle.crsm_node.specs.declared.errors.NodeError.{NodeError}
 use Rattle.crsm_node.specs.declared.errors.NodeError.TheVariants as errors
 use Rattle.crsm_node.specs.declared.order.NodeOrder.{NodeOrder}
 
--- what a node runs over
+-- the devices of a node
 pub record Devices : Type 1 where
   pub disk : DiskMeaning
   pub port : PortMeaning
@@ -45,10 +45,10 @@ pub record Devices : Type 1 where
 
 -- a device, whoever lends it
 abbrev pub unlent_disk : DiskMeaning → DiskMeaning
-unlent_disk m = record m { lent = None }
+unlent_disk m = record m { borrowed_as = None }
 
 abbrev pub unlent_port : PortMeaning → PortMeaning
-unlent_port m = record m { lent = None }
+unlent_port m = record m { borrowed_as = None }
 
 -- the first lines of a sheet
 abbrev pub opening_text : List (List ℕ) → List ℕ
@@ -96,7 +96,7 @@ StaysOut order old new ends.Done = ⊥
 StaysOut order old new ends.PortFault = ⊥
 StaysOut order old new ends.WriteFault = ⊥
 
--- what a crash might have left before, or the bodies of before, or these with a boot on their log behind them
+-- what a crash could leave before, or the bodies of before, or these followed by a boot on their log
 abbrev pub IsLeftAtStart : NodeOrder → DiskMeaning → List ℕ → Type 0
 IsLeftAtStart order old file =
     ReadsAsBefore old file ⊎ ((log : Log) × HasLog order.me order.n old.seen log × (reading file ≡ found (bodies_of old.seen ++ boot_body order.me order.n log ∷ [])))
@@ -122,14 +122,13 @@ abbrev pub end_of : Result (Unit {0}) NodeError → NodeEnd
 end_of (Ok _) = ends.Done
 end_of (Err why) = serve_end why
 
--- what a crash leaves: what it might have left before, or the bodies that were found, with a prefix of the life's
--- behind them
+-- what a crash leaves: what it could leave before, or the bodies that were found, followed by a prefix of the life's
 abbrev pub IsLeftInLife : NodeOrder → Life → DiskMeaning → Result (Unit {0}) NodeError → List ℕ → Type 0
 IsLeftInLife order life old result file =
     ReadsAsBefore old file ⊎ IsLeftOf old.seen (boot_body order.me order.n life.found ∷ bodies_in_log (booted order life.found) (maybe_kept life.groups life.lost result)) file
 
--- What is on the disk: behind the bodies that were found the boot's, and then one for each group that has a record,
--- each put where the log was not full; and a crash at any moment leaves a prefix of these.
+-- The content of the disk: the bodies that were found, followed by the boot's, and then one for each group that has a
+-- record, each put while the log was not full; and a crash at any moment leaves a prefix of these.
 pub record KeepsLife (order : NodeOrder) (life : Life) (old new : DiskMeaning) (result : Result (Unit {0}) NodeError) : Type 0 where
   pub begun : List ℕ
   pub file : List ℕ
@@ -190,14 +189,14 @@ abbrev pub devices_of : {C P D O : Type 0} → (D → DiskMeaning) → (P → Po
 devices_of disk port clock written faults d p c o =
     record { disk = unlent_disk (disk d); port = unlent_port (port p); clock = clock c; sheet = written o; faults = faults o }
 
--- the same over the port of a cluster, where so many sends were too long, and datagrams stand on the wire in this coat
-abbrev pub over_cluster : ℕ → ℕ → Coat → Devices → Devices
-over_cluster cluster too_long coat devices = record devices { port = record (clustered cluster too_long devices.port) { coat = over cluster coat } }
+-- the same over the port of a cluster, where this number of sends were too long, and this framing is on each datagram
+abbrev pub over_cluster : ℕ → ℕ → Framing → Devices → Devices
+over_cluster cluster too_long framing devices = record devices { port = record (clustered cluster too_long devices.port) { framing = over cluster framing } }
 
 -- memory ran out before the node began
 abbrev pub NotBegun : Devices → Devices → NodeEnd → Type 0
 NotBegun old new end = (end ≡ ends.NoMemory) × Goes old.disk new.disk × (new.disk.seen ≡ old.disk.seen) × (new.clock ≡ old.clock) × (new.sheet ≡ old.sheet)
 
--- What went over the port of the cluster went over the port below by its coat.
+-- The traffic of the cluster's port went over the port below with its framing.
 abbrev pub RunsOverCluster : NodeOrder → Devices → Devices → NodeEnd → Type 0
-RunsOverCluster order old new end = ((too_long : ℕ) × Runs order (over_cluster order.cluster 0 old.port.coat old) (over_cluster order.cluster too_long old.port.coat new) end) ⊎ NotBegun old new end
+RunsOverCluster order old new end = ((too_long : ℕ) × Runs order (over_cluster order.cluster 0 old.port.framing old) (over_cluster order.cluster too_long old.port.framing new) end) ⊎ NotBegun old new end

@@ -1,4 +1,4 @@
--- What groups of turns hand out, and which of it goes out.
+-- The datagrams of groups of turns, and which of them are sent.
 use Rattle.std.specs.Prelude.{◌≡◌, ℕ, Bool, List, [], ◌∷◌, length, IsSome, if◌then◌else◌}
 use Rattle.std.specs.List.{AllByRecursion, flat_map}
 use Rattle.crsm_base.specs.declared.send.Send.{Send}
@@ -11,19 +11,19 @@ use Rattle.crsm_port.specs.Meaning.{Packet}
 use Rattle.crsm_shell.specs.Shell.{sends_of}
 use Rattle.crsm_replica_io.specs.Outgoing.{address_of, packets_for}
 
--- the steps of each of these lists of turns, the first of which this replica takes
+-- the steps of each of these lists of turns, of which this replica takes the first
 unfoldable pub steps_by_group : Replica → List (List (Turn × ℕ)) → List (List Draft)
 steps_by_group r [] = []
 steps_by_group r (turns ∷ groups) = outputs_from r turns ∷ steps_by_group (replica_after r turns) groups
 
--- what the turns of groups hand out, in order, and the fate of each
+-- the output of the turns of groups, in order, and the fate of each
 unfoldable pub handed_out : Replica → List Group → List Send
 handed_out r groups = sends_of (outputs_from r (kept_turns groups))
 
 unfoldable pub fates_of : List Group → List Bool
 fates_of groups = flat_map (λ g. g.fates) groups
 
--- of what is handed out, that which went out, and that which did not
+-- the part of the output that was sent, and the part that was not
 unfoldable pub gone : List Send → List Bool → List Send
 gone [] fates = []
 gone (s ∷ sends) [] = []
@@ -38,7 +38,7 @@ not_gone (s ∷ sends) (fate ∷ fates) = if fate then not_gone sends fates else
 abbrev pub HasAddress : List ℕ → Send → Type 0
 HasAddress peers s = IsSome (address_of peers s.to)
 
--- each group has a fate for all that it hands out
+-- each group has a fate for all its output
 unfoldable pub HaveFates : Replica → List Group → Type 0
 HaveFates r [] = Unit {0}
 HaveFates r (g ∷ groups) = (length g.fates ≡ length (sends_of (outputs_from r g.turns))) × HaveFates (replica_after r g.turns) groups
@@ -51,6 +51,6 @@ packets_gone peers r groups = packets_for peers (gone (handed_out r groups) (fat
 unfoldable pub packets_missing : List ℕ → Replica → List Group → ℕ
 packets_missing peers r groups = length (packets_for peers (not_gone (handed_out r groups) (fates_of groups)))
 
--- what went out has an address
+-- all that was sent has an address
 abbrev pub AreAddressed : List ℕ → Replica → List Group → Type 0
 AreAddressed peers r groups = AllByRecursion (HasAddress peers) (gone (handed_out r groups) (fates_of groups))

@@ -1,4 +1,4 @@
--- What a node does over so many turns.
+-- The effects of a node over a number of turns.
 use Rattle.std.specs.Prelude.{◌≡◌, ℕ, ◌≤◌, List, [], ◌∷◌, ◌++◌, length, map, IsTrue, Option, Result, Ok, Err}
 use Rattle.crsm_port_faults.specs.Counts.{Rose}
 use Rattle.crsm_spec.specs.Node.{Turn, outputs_from}
@@ -46,12 +46,12 @@ pub record Takes (r : Replica) (w : Watch) (turns : List (Turn × ℕ)) (before 
 -- The port gave the datagrams among these turns, and sent what went out of the groups. A turn that wanted to receive
 -- took a tick only where a receive was empty, and no more is missing than the count of losses rose by.
 pub record Carries (peers : List ℕ) (r : Replica) (w : Watch) (turns : List (Turn × ℕ)) (groups : List Group) (old new : PortMeaning) : Type 0 where
-  pub traffic : BothTell (Passes old.coat (datagrams_in turns) (packets_gone peers r groups)) old.traffic new.traffic
+  pub traffic : BothTell (Passes old.framing (datagrams_in turns) (packets_gone peers r groups)) old.traffic new.traffic
   pub empties : raised_by (empty_receives w r turns) old.empties ≤ new.empties
   pub losses : raised_by (packets_missing peers r groups) old.losses ≤ new.losses
   pub faults : old.faults ≤ new.faults
-  pub coat : new.coat ≡ old.coat
-  pub lent : new.lent ≡ old.lent
+  pub framing : new.framing ≡ old.framing
+  pub borrowed_as : new.borrowed_as ≡ old.borrowed_as
 
 -- The last group, which was not kept, and why, where this is the file that the groups before it left.
 abbrev pub StopsAt : Replica → List (Turn × ℕ) → List ℕ → Result (Unit {0}) NodeError → Type 0
@@ -100,8 +100,8 @@ Ends r w turns groups lost old new (Err LogFull) = Unit {0}
 Ends r w turns groups lost old new (Err Failed) = ⊥
 Ends r w turns groups lost old new (Err NoMemory) = Unit {0}
 
--- The groups that a node kept over at most so many turns, and the last turns, which it took and did not keep: it took
--- them off its port and clock as they were wanted, kept each group, and then sent what that hands out, and wrote its
+-- The groups that a node flushed over at most `turns` turns, and the last turns, which it took and did not flush: it
+-- took them from its port and clock as wanted, put each group into the log, and then sent its output and wrote its
 -- lines.
 pub record Serves (r : Replica) (w : Watch) (turns : ℕ) (old new : Node) (result : Result (Unit {0}) NodeError) : Type 0 where
   pub groups : List Group

@@ -1,4 +1,4 @@
--- What a node does in one turn, and when it keeps a group.
+-- The effects of a node in one turn, and when it flushes a group.
 use Rattle.std.specs.Prelude.{◌≡◌, ◌⊎◌, ◌↔◌, ℕ, ◌≤◌, List, [], ◌∷◌, ◌++◌, Bool, IsTrue, Option, Result, Ok, Err}
 use Rattle.crsm_port_faults.specs.Counts.{Rose}
 use Rattle.crsm_spec.specs.Draft.{Draft}
@@ -34,12 +34,12 @@ turn_text t = sheet_line_text (turn_line t) ++ 10 ∷ []
 
 -- the turn that was wanted is taken off the port, and nothing is sent
 pub record TakesOff (wanted : WantedInput) (t : Turn) (old new : PortMeaning) : Type 0 where
-  pub traffic : BothTell (Passes old.coat (datagram_in t) []) old.traffic new.traffic
+  pub traffic : BothTell (Passes old.framing (datagram_in t) []) old.traffic new.traffic
   pub empties : raised_by (empty_receive wanted t) old.empties ≤ new.empties
   pub losses : new.losses ≡ old.losses
   pub faults : new.faults ≡ old.faults
-  pub coat : new.coat ≡ old.coat
-  pub lent : new.lent ≡ old.lent
+  pub framing : new.framing ≡ old.framing
+  pub borrowed_as : new.borrowed_as ≡ old.borrowed_as
 
 -- this turn was wanted, and is taken at a reading of the clock
 pub record Took (r : Replica) (w : Watch) (t : Turn × ℕ) (ahead later : Option Readings) (old new : PortMeaning) : Type 0 where
@@ -63,8 +63,8 @@ pub record IsIdle (old new : PortMeaning) : Type 0 where
   pub empties : new.empties ≡ old.empties
   pub losses : new.losses ≡ old.losses
   pub later : old.faults ≤ new.faults
-  pub coat : new.coat ≡ old.coat
-  pub lent : new.lent ≡ old.lent
+  pub framing : new.framing ≡ old.framing
+  pub borrowed_as : new.borrowed_as ≡ old.borrowed_as
 
 -- a receive failed, and the rest is as before
 pub record FailsToReceive {D : Type 0} {g : _} (shell : Shell D g) (m : DiskMeaning) (detector : Detector) (ahead later : Option Readings) (old new : PortMeaning)
@@ -88,7 +88,7 @@ FailsToTake shell m detector ahead later old new lines printed kept r steps w Fa
 
 -- ---- a group
 
--- the pending steps are kept as one body, and then what they hand out is sent
+-- the pending steps become durable as one body, and then their output is sent
 pub record KeepsSteps {D : Type 0} {g : _} (meaning : D → DiskMeaning) (before after : Shell D g) (old new : PortMeaning) (r : Replica) (steps : List Draft) : Type 0 where
   pub stands : ShellStands after (meaning (disk_of after)) r.log r []
   pub sent : SendsPackets (packets_for (peers_of before) (sends_of steps)) old new
@@ -117,7 +117,7 @@ pub record FailsToWrite (had has : Option (List ℕ)) (faults more : ℕ) (lines
   pub prefix : PutsPrefix had has lines
   pub rose : Rose faults more
 
--- what becomes of the pending steps and of their lines
+-- the effect on the pending steps and on their lines
 abbrev pub KeepsGroup : {D : Type 0} {g : _} → (D → DiskMeaning) → (before after : Shell D g) → (old new : PortMeaning) → (had has : Option (List ℕ)) → (faults more : ℕ) → List ℕ →
     Replica → List Draft → Result (Unit {0}) NodeError → Type 0
 KeepsGroup meaning before after old new had has faults more lines r steps (Ok _) = KeepsSteps meaning before after old new r steps × Puts had has lines

@@ -1,4 +1,4 @@
-//! How a node ends.
+//! The errors and the ends of a node.
 
 ghost use Rattle.std.specs.Prelude.{◌≡◌, true, false};
 ghost use Rattle.crsm_node.specs.declared.errors.NodeEnd.TheVariants.{NoMemory as EndWithoutMemory};
@@ -10,19 +10,19 @@ use crsm_log::ClaimError;
 use crsm_shell::{BootError, TurnError};
 use thiserror::Error;
 
-/// Why a node stops before its last turn.
+/// The reason why a node stops before its last turn.
 #[derive(Clone, Copy, Debug, PartialEq, Eq, Error)]
 pub enum NodeError {
-    /// The port failed in a receive. What was pending is kept and written.
+    /// The port failed in a receive. The pending turns are durable, and their lines are written.
     #[error("the port failed")]
     PortFault,
-    /// The disk failed. The last group is kept or lost as a whole, and nothing of it was sent.
+    /// The disk failed. The last group is durable or lost as a whole, and none of its datagrams was sent.
     #[error("the disk failed")]
     DiskFault,
-    /// The records of the last group would pass the limit of a log file.
+    /// The records of the last group would exceed the limit of a log file.
     #[error("the log is full")]
     LogFull,
-    /// The sheet failed. All turns are kept.
+    /// The sheet failed. All turns are durable.
     #[error("the sheet cannot be written")]
     WriteFault,
     /// The shell had failed before.
@@ -55,7 +55,7 @@ impl From<TurnError> for NodeError {
 }
 
 impl NodeError {
-    /// Whether the port failed, so that the turns before it may be kept.
+    /// Returns whether the port failed, so that the turns before it can be flushed.
     pub(crate) fn is_port_fault(self) -> bool
         ensures yes { result ≡ true → self ≡ NodeError.PortFault }
         ensures no { result ≡ false → self ≡ NodeError.PortFault → ⊥ }
@@ -64,7 +64,7 @@ impl NodeError {
     }
 }
 
-/// How a node ends.
+/// The end of a node's run.
 #[derive(Clone, Copy, Debug, PartialEq, Eq)]
 pub enum NodeEnd {
     /// All turns were taken.
@@ -73,14 +73,14 @@ pub enum NodeEnd {
     PortFault,
     /// The disk failed.
     DiskFault,
-    /// The next entry would pass the limit of a log file.
+    /// The next entry would exceed the limit of a log file.
     LogFull,
     /// The sheet cannot be written.
     WriteFault,
-    /// The body of this number is no list of records (0), its record of this kind does not fit, or no entry stands
-    /// behind an open gate behind so many bodies (10).
+    /// The body with this number, from 0, is not a list of records (`why` 0), has a first record that does not fit of
+    /// kind `why`, or is missing after an open gate (`why` 10).
     BadLog { entry: u64, why: u32 },
-    /// The log belongs to the cluster of this number.
+    /// The log belongs to the cluster with the number `found`.
     OtherCluster { found: u64 },
     NoMemory,
 }
@@ -129,7 +129,7 @@ impl From<NodeError> for NodeEnd {
             NodeError::DiskFault => NodeEnd::DiskFault,
             NodeError::LogFull => NodeEnd::LogFull,
             NodeError::WriteFault => NodeEnd::WriteFault,
-            // A shell that was booted has not failed.
+            // A booted shell has not failed.
             NodeError::Failed => NodeEnd::NoMemory,
             NodeError::NoMemory => NodeEnd::NoMemory,
         }

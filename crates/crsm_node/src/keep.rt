@@ -1,4 +1,4 @@
-//! The turns that are pending are kept.
+//! The flush of the pending turns.
 
 ghost use Rattle.std.specs.Prelude.{◌≡◌, ◌≤◌, [], true, false, OnOk, IsErrOf};
 ghost use Rattle.crsm_log.specs.Log.{Goes};
@@ -13,7 +13,7 @@ use crsm_io::{Sink, put_all};
 use crsm_port::Port;
 use crsm_shell::Shell;
 
-/// Keeps the turns that are pending, sends what they send, and then writes their lines.
+/// Makes the pending turns durable, sends their datagrams, and then writes their lines.
 pub(crate) fn keep_group<P: Port, D: Disk, O: Sink>(
     shell: &mut Shell<D>,
     port: &mut P,

@@ -1,4 +1,4 @@
-//! A running node: it boots a replica on its log, takes turn after turn, keeps them in groups, and writes its sheet.
+//! A running node: it boots a replica on its log, takes turn after turn, flushes them in groups, and writes its sheet.
 #![tactic(auto)]
 
 mod errors;

@@ -12,7 +12,7 @@ use crsm_io::{Sink, put_all};
 use crsm_text_sheet::{SheetLine, print_sheet};
 use std::alloc::Global;
 
-/// Writes the lines of the bodies that were found in the log, and the line behind them.
+/// Writes the lines of the bodies that the log had, and the `open` line after them.
 pub(crate) fn write_opening<O: Sink>(
     alloc: Global,
     bodies: &Bodies,

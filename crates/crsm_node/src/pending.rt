@@ -1,4 +1,4 @@
-//! What is known of the turns that are pending.
+//! The pending turns of a node.
 
 ghost use Rattle.std.specs.Prelude.{◌≡◌, ◌++◌, [], OnOk, length};
 ghost use Rattle.crsm_shell.specs.Taking.{turn_of};
@@ -10,7 +10,7 @@ use crsm_shell::{ReceivedInput, TurnResult};
 use crsm_text_sheet::{SheetLine, print_sheet, push_in};
 use std::alloc::Global;
 
-/// The turns that are pending, as their node needs them.
+/// The pending turns of a node: their lines, and whether others wait for them.
 #[derive(Drop)]
 pub(crate) struct PendingTurns {
     alloc: Global,
@@ -21,7 +21,7 @@ pub(crate) struct PendingTurns {
 }
 
 impl PendingTurns {
-    /// No turn.
+    /// Returns the state without turns.
     pub(crate) fn new(alloc: Global) -> PendingTurns
         ensures { result.lines ≡ [] }
     {
@@ -32,8 +32,8 @@ impl PendingTurns {
         }
     }
 
-    /// One turn more, whose datagram is a prefix of the buffer. Its line is printed at once, so that once the turn is
-    /// kept no memory is needed any more.
+    /// Adds a turn whose datagram is a prefix of the buffer. Its line is printed at once, so that no memory is needed
+    /// any more once the turn is durable. `NoMemory` if memory runs out.
     #[tactic(auto, unfolding(crsm_shell::specs::Taking::turn_of))]
     pub(crate) fn add(&mut self, turned: TurnResult, buffer: &[u8]) -> Result<(), NoMemory>
         requires { IsWithin (length buffer.now) turned.taken }
@@ -69,7 +69,7 @@ impl PendingTurns {
         }
     }
 
-    /// No turn is pending any more. The room stays.
+    /// Removes all turns, and keeps the memory for further ones.
     pub(crate) fn clear(&mut self)
         ensures { self.new.lines ≡ [] }
     {

@@ -1,4 +1,4 @@
-//! What a node tells once its replica is booted.
+//! The report of a node's boot.
 
 ghost use Rattle.std.specs.Prelude.{◌≡◌, length};
 
@@ -6,23 +6,23 @@ use crsm_base::Bodies;
 use crsm_disk::Disk;
 use crsm_shell::Shell;
 
-/// What the log of a node held when its replica was booted on it.
+/// The content of a node's log when its replica was booted.
 #[derive(Clone, Copy, Debug, PartialEq, Eq)]
 pub struct BootReport {
-    /// How many bodies.
+    /// Number of log bodies.
     pub bodies: u64,
     /// The epoch of the latest decision.
     pub epoch: u64,
-    /// How many commands were executed.
+    /// Number of executed commands.
     pub executed: u64,
 }
 
-/// Whom a node tells what its log held. Nothing that a node does depends on it.
+/// Receives the content of the log at the boot of a node. A node's work does not depend on it.
 pub trait Reporter {
     fn booted(&mut self, held: BootReport);
 }
 
-/// A reporter that tells nobody.
+/// A reporter without effect.
 #[derive(Clone, Copy, Debug)]
 pub struct Silent;
 
@@ -30,7 +30,7 @@ impl Reporter for Silent {
     fn booted(&mut self, _held: BootReport) {}
 }
 
-/// What the log held, of these bodies, on which the shell was booted.
+/// Returns the report on a shell that was booted on these bodies.
 pub(crate) fn held_in<D: Disk>(bodies: &Bodies, shell: &Shell<D>) -> BootReport
     ensures { result.bodies ≡ length bodies.now }
 {

@@ -22,8 +22,8 @@ use crsm_shell::{Booted, Shell, logs_are_one};
 use std::alloc::Global;
 
 /// Runs a node: claims its log for the cluster, boots the replica on it, writes the first lines of the sheet, and takes
-/// all turns. Datagrams go over the port of the cluster. Once the replica is booted the reporter is told what the log
-/// held.
+/// all turns. Datagrams use the port of the cluster. The reporter receives the content of the log once the replica is
+/// booted. Returns how the run ended.
 pub fn run_node<P: Port, D: Disk, C: Clock, O: Sink, R: Reporter>(
     alloc: Global,
     order: &NodeOrder,
@@ -45,7 +45,7 @@ pub fn run_node<P: Port, D: Disk, C: Clock, O: Sink, R: Reporter>(
     end
 }
 
-/// The same over the port of the cluster.
+/// Runs a node over the port of the cluster.
 fn run_over<P: Port, D: Disk, C: Clock, O: Sink, R: Reporter>(
     alloc: Global,
     order: &NodeOrder,
@@ -57,8 +57,8 @@ fn run_over<P: Port, D: Disk, C: Clock, O: Sink, R: Reporter>(
 ) -> NodeEnd
     ensures runs { let at = devices_of D.meaning P.meaning C.readings O.written O.faults in
         Runs order.now (at disk.old port.old clock.old sheet.old) (at disk.new port.new clock.new sheet.new) result }
-    ensures coat { (P.meaning port.new).coat ≡ (P.meaning port.old).coat }
-    ensures lent { (P.meaning port.new).lent ≡ (P.meaning port.old).lent }
+    ensures framing { (P.meaning port.new).framing ≡ (P.meaning port.old).framing }
+    ensures borrowed_as { (P.meaning port.new).borrowed_as ≡ (P.meaning port.old).borrowed_as }
 {
     logs_are_one();
     if let Err(why) = claim(alloc, disk, order.cluster) {

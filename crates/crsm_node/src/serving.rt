@@ -1,4 +1,4 @@
-//! Turns of a node, one after another.
+//! The turns of a node, one after another.
 
 ghost use Rattle.std.specs.Prelude.{◌≡◌, ◌≢◌, ◌⊎◌, ◌<◌, ◌≤◌, ◌↔◌, true, false, IsErrOf};
 ghost use Rattle.crsm_shell.specs.Words.{disk_of, has_failed};
@@ -17,14 +17,14 @@ use crsm_replica_detector::Detector;
 use crsm_shell::Shell;
 use std::alloc::Global;
 
-/// Takes so many turns, each as the detector wants it, and keeps them in groups: a group ends with a turn that took no
-/// datagram, with 32 turns, or with the last turn. Once a group is kept its datagrams go out, and then its lines are
-/// written. Nothing is to be pending, and the detector is that of the same replica.
+/// Takes `turns` turns, each with the input that the detector wants, and flushes them in groups: a group ends with a
+/// turn that took no datagram, with 32 turns, or with the last turn. Once a group is durable its datagrams are sent,
+/// and then its lines are written. No step may be pending at the call, and the detector is that of the same replica.
 ///
 /// # Errors
-/// After `PortFault` and `WriteFault` the shell and the detector may serve on: all turns that were taken are kept.
-/// After the others the turns of the last group are lost, but for a `DiskFault`, which leaves all of them or none, and
-/// nothing of them was sent. `Failed` comes of a shell that had failed before, and nothing is done.
+/// After `PortFault` and `WriteFault` the shell and the detector can continue: all turns taken are durable. After the
+/// others the turns of the last group are lost, except after `DiskFault`, which leaves all of them or none, and none of
+/// their datagrams was sent. `Failed` if the shell had failed before; nothing is done then.
 pub fn serve<C: Clock, P: Port, D: Disk, O: Sink>(
     alloc: Global,
     shell: &mut Shell<D>,
@@ -34,7 +34,7 @@ pub fn serve<C: Clock, P: Port, D: Disk, O: Sink>(
     sheet: &mut O,
     turns: u64,
 ) -> Result<(), NodeError>
-    // What it took, kept, sent and wrote, of the replica that it stands for with nothing pending.
+    // What it took, made durable, sent and wrote, for the replica that it stands for with no step pending.
     ensures serves { let node = node_of D.meaning P.meaning C.readings O.written O.faults in
         WhereIdle (node shell.old detector.old port.old clock.old sheet.old) (λ r w.
         Serves r w turns (node shell.old detector.old port.old clock.old sheet.old) (node shell.new detector.new port.new clock.new sheet.new) result) }
@@ -66,7 +66,7 @@ pub fn serve<C: Clock, P: Port, D: Disk, O: Sink>(
     Ok(())
 }
 
-/// Whether a group ends behind a turn, where so many turns are left and so many are pending.
+/// Returns whether a group ends after a turn, with `left` turns left and `pending` pending.
 fn ends_group(took_datagram: bool, left: u64, pending: u32) -> bool
     ensures yes { result ≡ true → (took_datagram ≡ false) ⊎ ((left ≡ 0) ⊎ (32 ≤ pending)) }
     ensures no { result ≡ false → (took_datagram ≡ true) × (left ≢ 0) × (pending < 32) }

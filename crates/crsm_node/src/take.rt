@@ -1,4 +1,4 @@
-//! One turn is taken.
+//! The taking of one turn.
 
 ghost use Rattle.std.specs.Prelude.{◌≡◌, ◌↔◌, IsTrue, ◌∷◌, [], ℕ, List, true, false, is_err, IfOk, IfErr, OnOk, IsErrOf};
 ghost use Rattle.crsm_spec.specs.Draft.{Draft};
@@ -23,11 +23,11 @@ use crsm_port::Port;
 use crsm_replica_detector::{Detector, inputs_are_wished, turns_are_watched};
 use crsm_shell::{ReceivedInput, Shell, TurnResult, WantedInput};
 
-/// So many turns are kept together at most.
+/// Maximum number of turns in a group.
 pub(crate) const MOST_PENDING: u32 = 32;
 
-/// Takes the turn that the detector wants, and prints its line behind those that are pending. Answers whether it took a
-/// datagram.
+/// Takes the turn that the detector wants, and appends its line to those of the pending turns. Returns whether it took
+/// a datagram.
 pub(crate) fn take_turn<C: Clock, P: Port, D: Disk>(
     shell: &mut Shell<D>,
     detector: &mut Detector,
@@ -48,11 +48,11 @@ pub(crate) fn take_turn<C: Clock, P: Port, D: Disk>(
     inputs_are_wished();
     turns_are_watched();
     if shell.pending() >= MOST_PENDING {
-        // Whoever takes 32 turns flushes them.
+        // A group of 32 turns is flushed before.
         return Err(NodeError::from(never()));
     }
     let what = detector.next(shell.state())?;
-    hurry(port, &what, pending);
+    poll_soon(port, &what, pending);
     let turned = shell.take(what, clock, port)?;
     note(detector, &turned);
     let took_datagram = is_datagram(&turned.taken);
@@ -60,12 +60,13 @@ pub(crate) fn take_turn<C: Clock, P: Port, D: Disk>(
     Ok(took_datagram)
 }
 
-/// Others wait for the records that are pending: these are to be kept as soon as nothing more comes.
-fn hurry<P: Port>(port: &mut P, what: &WantedInput, pending: &PendingTurns)
+/// Asks the port not to wait if others wait for pending records, which are to be flushed as soon as no datagram has
+/// arrived.
+fn poll_soon<P: Port>(port: &mut P, what: &WantedInput, pending: &PendingTurns)
     ensures { P.meaning port.new ≡ P.meaning port.old }
 {
     if pending.has_record && matches!(what, WantedInput::Receive) {
-        port.hurry();
+        port.poll_soon();
     }
 }
 
@@ -80,7 +81,7 @@ fn is_datagram(taken: &ReceivedInput) -> bool
     }
 }
 
-/// Notes the reading of a turn and what it took.
+/// Records the reading of a turn and its input in the detector.
 #[tactic(auto, unfolding(crsm_shell::specs::Taking::turn_of))]
 fn note(detector: &mut Detector, turned: &TurnResult)
     ensures { WhereWatches detector.old (λ me w. (buffer : List ℕ) →

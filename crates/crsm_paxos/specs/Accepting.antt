@@ -1,4 +1,4 @@
--- What an acceptor's answers say.
+-- The answers of an acceptor.
 use Rattle.std.specs.Prelude.{◌≡◌, false}
 use Rattle.std.specs.Option.{ForSome, IsSomeAnd}
 use Rattle.crsm_base.specs.declared.stamp.Ballot.{Ballot}

@@ -1,4 +1,4 @@
--- What a proposer does next.
+-- The next step of a proposer.
 use Rattle.std.specs.Prelude.{ℕ, ◌+◌, ◌&&◌, nat_le, length, if◌then◌else◌}
 use Rattle.crsm_base.specs.declared.stamp.Ballot.{Ballot}
 use Rattle.crsm_base.specs.declared.decision.Decision.{Decision}

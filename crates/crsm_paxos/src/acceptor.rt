@@ -1,4 +1,4 @@
-//! What a replica promises and accepts.
+//! The acceptor: what a replica promises and accepts in one instance.
 
 ghost use Rattle.std.specs.Prelude.{◌≡◌, ◌≢◌, ◌↔◌, IsTrue, Option, Some, None, false};
 ghost use Rattle.std.specs.Option.{IsSomeAnd};
@@ -12,9 +12,9 @@ use std::marker::Model;
 /// The answer to a ballot that asks for a promise.
 #[derive(Clone, Copy, Debug, PartialEq, Eq)]
 pub enum Promised {
-    /// It is above the promise, and is promised now.
+    /// The ballot is above the promise, and is promised now.
     Yes,
-    /// The ballot is promised already.
+    /// The ballot was promised already.
     Repeat,
     /// A greater ballot is promised, which is this.
     No(Ballot),
@@ -23,16 +23,16 @@ pub enum Promised {
 /// The answer to a proposal.
 #[derive(Clone, Copy, Debug, PartialEq, Eq)]
 pub enum Accepted {
-    /// It is accepted now.
+    /// The proposal is accepted now.
     Yes,
-    /// The proposal of this ballot is accepted already.
+    /// The proposal of this ballot was accepted already.
     Repeat,
     /// A greater ballot is promised, which is this.
     No(Ballot),
 }
 
-/// One replica's promise in an instance, and what it has accepted there. No call takes memory. A library type: a replica
-/// reads its own promise off its log (`crsm_replica_reconfigure`, promising).
+/// The promise of one replica in an instance, and the decision that it accepted. No call allocates. A library type: a
+/// replica reads its own promise from its log (`crsm_replica_reconfigure`, promising).
 #[derive(Debug, Drop)]
 pub struct Acceptor {
     promised: Ballot,
@@ -52,7 +52,7 @@ impl Model for Acceptor {
 }
 
 impl Acceptor {
-    /// One that has promised this ballot and accepted this decision in the ballot beside it, which is
+    /// Returns an acceptor that has promised this ballot and accepted this decision in the ballot beside it, which is
     /// not above the promise.
     pub fn new(promised: Ballot, accepted: Option<(Ballot, Decision)>) -> Acceptor
         requires { NotAbove accepted promised }
@@ -61,7 +61,7 @@ impl Acceptor {
         Acceptor { promised, accepted }
     }
 
-    /// Promises a ballot above the promise. Anything else changes nothing.
+    /// Promises the ballot if it is above the promise, and returns the answer. Otherwise nothing changes.
     #[tactic(auto, unfolding(crsm_base::specs::Order::ballot_lt))]
     pub fn promise(&mut self, b: Ballot) -> Promised
         ensures yes { (result ≡ Promised.Yes) ↔ MayPromise self.old b }
@@ -80,8 +80,8 @@ impl Acceptor {
         }
     }
 
-    /// Accepts a decision in a ballot that is not below the promise, which it raises to that ballot.
-    /// Anything else changes nothing.
+    /// Accepts the decision if the ballot is not below the promise, raises the promise to the ballot, and returns the
+    /// answer. Otherwise nothing changes.
     pub fn accept(&mut self, b: Ballot, d: Decision) -> Accepted
         ensures yes { (result ≡ Accepted.Yes) ↔ TakesVote self.old b }
         ensures repeat { (result ≡ Accepted.Repeat) ↔ IsAcceptedNow self.old b }
@@ -101,7 +101,7 @@ impl Acceptor {
     }
 }
 
-/// Whether a decision is accepted in this ballot.
+/// Returns whether a decision is accepted in this ballot.
 fn holds(accepted: &Option<(Ballot, Decision)>, b: Ballot) -> bool
     ensures { IsTrue result ↔ IsSomeAnd accepted.now (λ held. held.0 ≡ b) }
 {

@@ -1,4 +1,4 @@
-//! One instance of the consensus at one replica: what it promises and accepts, and its own proposal.
+//! One instance of consensus at one replica: what it promises and accepts, and its own proposal.
 #![tactic(auto)]
 
 mod acceptor;

@@ -1,4 +1,4 @@
-//! A proposal under way.
+//! The proposer: a proposal in progress.
 
 ghost use Rattle.std.specs.Prelude.{◌≡◌, ◌↔◌, ◌+◌, ◌^◌, ◌<◌, ◌≤◌, Option, Some, None, IfOk, OnOk, OnErr};
 ghost use Rattle.crsm_base.specs.Order.{ballot_lt};
@@ -11,28 +11,28 @@ use crsm_base::{Ballot, Decision, NoMemory, ballot_precedes};
 use std::alloc::Global;
 use std::marker::Model;
 
-/// What a proposer does next.
+/// The next step of a proposer.
 #[derive(Debug, Drop)]
 pub enum Next {
-    /// No majority is reached by this answer, or it does not count.
+    /// This answer makes no majority, or it does not count.
     Wait,
-    /// A majority has promised: this is proposed in this ballot.
+    /// A majority has promised: propose this decision in this ballot.
     Propose(Ballot, Decision),
-    /// A majority has accepted it.
+    /// A majority has accepted this decision.
     Chosen(Decision),
-    /// A greater ballot is promised, which is this.
+    /// The proposal is preempted by this greater ballot.
     Over(Ballot),
 }
 
-/// Why no proposal begins.
+/// The reason why no proposal begins.
 #[derive(Clone, Copy, Debug, PartialEq, Eq)]
 pub enum StartError {
-    /// There is no round above.
+    /// The round is the greatest number, so there is no next one.
     Spent,
     NoMemory,
 }
 
-/// The accepted decision that counts so far, and who named it.
+/// The accepted decision with the greatest ballot among the promises, and the replica that reported it.
 #[derive(Debug, Drop)]
 pub(crate) struct Best {
     pub(crate) ballot: Ballot,
@@ -40,8 +40,8 @@ pub(crate) struct Best {
     pub(crate) value: Decision,
 }
 
-/// A proposal under way in one ballot of an instance. It counts each replica's promise and each
-/// replica's vote once, and leaves it to its caller that they are replicas of the Spec.
+/// A proposal in progress in one ballot of an instance. It counts each replica's promise and vote once. Its caller
+/// ensures that these replicas belong to the replica set whose majority counts.
 #[derive(Drop)]
 pub struct Proposer {
     pub(crate) alloc: Global,
@@ -67,8 +67,8 @@ impl Model for Proposer {
 }
 
 impl Proposer {
-    /// A proposal of replica `me` in the round after that of this ballot, over a Spec of n
-    /// replicas. It proposes its own decision where no answer names another.
+    /// Begins a proposal of replica `me` in the round after that of the ballot, over a replica set of `n`. It proposes
+    /// its own decision unless a promise names an accepted one. `Spent` if there is no next round.
     pub fn start(
         alloc: Global,
         own: Decision,
@@ -101,8 +101,8 @@ impl Proposer {
         })
     }
 
-    /// Counts the promise of a replica, with what it had accepted. `Propose` comes with the promise
-    /// that makes the majority. An `Err` changes nothing.
+    /// Counts the promise of a replica, with the decision that it had accepted, and returns the next step: `Propose` at
+    /// the promise that makes the majority. `NoMemory` if memory runs out; nothing has changed then.
     #[tactic(auto, unfolding(crsm_base::specs::Order::ballot_eq))]
     pub fn on_p1b(
         &mut self,
@@ -130,8 +130,8 @@ impl Proposer {
         Ok(Next::Propose(self.ballot, value))
     }
 
-    /// Counts the vote of a replica for the proposed decision. `Chosen` comes with the vote that makes
-    /// the majority. An `Err` changes nothing.
+    /// Counts the vote of a replica for the proposed decision, and returns the next step: `Chosen` at the vote that
+    /// makes the majority. `NoMemory` if memory runs out; nothing has changed then.
     #[tactic(auto, unfolding(crsm_base::specs::Order::ballot_eq))]
     pub fn on_p2b(&mut self, from: u32, b: Ballot) -> Result<Next, NoMemory>
         requires { from < 15 }
@@ -151,8 +151,8 @@ impl Proposer {
         Ok(Next::Chosen(value))
     }
 
-    /// A replica has refused this ballot, since it promised another. A library call: a replica's coordinator is preempted as a
-    /// whole (`crsm_replica_coordinator`).
+    /// Returns the next step after a replica has refused ballot `b` because it promised another. A library call: a
+    /// replica's coordinator is preempted as a whole (`crsm_replica_coordinator`).
     #[tactic(auto, unfolding(crsm_base::specs::Order::ballot_eq))]
     pub fn on_no(&mut self, b: Ballot, promised: Ballot) -> Next
         ensures next { result ≡ next_of_no self.old b promised }
@@ -166,7 +166,7 @@ impl Proposer {
     }
 }
 
-/// Whether the first counts before the second.
+/// Returns whether the first takes precedence over the second.
 fn is_first(x: &Best, y: &Best) -> bool
     ensures { result ≡ is_before x.now y.now }
 {
@@ -174,7 +174,7 @@ fn is_first(x: &Best, y: &Best) -> bool
         || (!ballot_precedes(x.ballot, y.ballot) && x.replica < y.replica)
 }
 
-/// What counts of the best so far and a further answer.
+/// Returns the one that takes precedence: the best before, or the accepted decision of a further answer.
 fn better(best: Option<Best>, replica: u32, accepted: Option<(Ballot, Decision)>) -> Option<Best>
     ensures { found_of result ≡ better_held (found_of best) replica accepted }
 {
@@ -198,7 +198,7 @@ fn better(best: Option<Best>, replica: u32, accepted: Option<(Ballot, Decision)>
     }
 }
 
-/// The value that counts: the best, or one's own.
+/// Returns the value to propose: the best accepted one, or the proposer's own.
 pub(crate) fn value_of<'a>(own: &'a Decision, best: &'a Option<Best>) -> &'a Decision
     ensures { result.now ≡ value_of_best own.now (found_of best.now) }
 {
@@ -208,7 +208,7 @@ pub(crate) fn value_of<'a>(own: &'a Decision, best: &'a Option<Best>) -> &'a Dec
     }
 }
 
-/// The value that counts once a further answer is in.
+/// Returns the value to propose after a further answer.
 pub(crate) fn value_with<'a>(
     own: &'a Decision,
     best: &'a Option<Best>,

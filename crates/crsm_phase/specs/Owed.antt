@@ -1,4 +1,4 @@
--- Stamps that are owed an acknowledgement.
+-- The list of stamps with a pending acknowledgement.
 use Rattle.std.specs.Prelude.{◌≡◌, ℕ, false, nat_lt, List, [], ◌∷◌, Option, None, Some, if◌then◌else◌}
 use Rattle.std.specs.List.{AllByRecursion}
 use Rattle.crsm_base.specs.declared.Stamp.{Stamp}

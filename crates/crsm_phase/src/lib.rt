@@ -1,4 +1,4 @@
-//! The acknowledgements that a replica owes, and when it sends its time unasked.
+//! The pending acknowledgements of a replica, and the rule by which it sends its time unasked.
 #![tactic(auto)]
 
 mod unasked;

@@ -1,4 +1,4 @@
-//! The stamps whose acknowledgement is owed.
+//! The stamps with a pending acknowledgement.
 
 ghost use Rattle.std.specs.Prelude.{◌≡◌, ◌<◌, ◌≤◌, [], length, OnOk, OnErr, IfNone, IfSome, insert, remove};
 ghost use Rattle.std.specs.VecDeque.{deque_len};
@@ -13,7 +13,8 @@ use std::alloc::Global;
 use std::collections::VecDeque;
 use std::marker::Model;
 
-/// The stamps that a replica logged for others and has not acknowledged yet, seen as their list in ascending order.
+/// The stamps that a replica logged for others and has not acknowledged yet. A contract sees their list in ascending
+/// order.
 #[derive(Drop)]
 pub struct Waits {
     owed: VecDeque<Stamp>,
@@ -32,7 +33,7 @@ impl Model for Waits {
 }
 
 impl Waits {
-    /// Nothing is owed.
+    /// Returns the empty list.
     pub fn new(alloc: Global) -> Waits
         ensures { result ≡ [] }
     {
@@ -41,7 +42,7 @@ impl Waits {
         }
     }
 
-    /// Owes one more. An `Err` changes nothing.
+    /// Adds a stamp. `NoMemory` if memory runs out; nothing has changed then.
     pub fn add(&mut self, stamp: Stamp) -> Result<(), NoMemory>
         ensures ok { OnOk result (self.new ≡ with_stamp stamp self.old) }
         ensures err { OnErr result (self.new ≡ self.old) }
@@ -51,14 +52,14 @@ impl Waits {
         Ok(())
     }
 
-    /// How many are owed.
+    /// Returns the number of pending acknowledgements.
     pub fn len(&self) -> u64
         ensures { result ≡ length self.now }
     {
         self.owed.len() as u64
     }
 
-    /// The least stamp that is owed.
+    /// Returns the least stamp with a pending acknowledgement, or `None` if none is pending.
     #[tactic(auto, unfolding(crsm_spec::specs::Lists::first_of))]
     pub fn first(&self) -> Option<Stamp>
         ensures { result ≡ first_of self.now }
@@ -67,7 +68,8 @@ impl Waits {
         Some(least)
     }
 
-    /// The least stamp that is owed, where the time that `clock` would issue at this reading exceeds its time.
+    /// Returns the least stamp with a pending acknowledgement if its time is below the time that `clock` would issue at
+    /// this reading, else `None`.
     pub fn due(&self, clock: &Rising, reading: u64) -> Option<Stamp>
         ensures due { result ≡ due_of self.now (issue clock.now reading) }
         ensures ascending { IsAscending self.now }
@@ -77,7 +79,7 @@ impl Waits {
         if stamp.time < time { Some(stamp) } else { None }
     }
 
-    /// Owes this stamp no more.
+    /// Removes a stamp that is acknowledged.
     pub fn done(&mut self, stamp: Stamp)
         ensures { self.new ≡ without stamp self.old }
     {
@@ -87,8 +89,8 @@ impl Waits {
     }
 }
 
-/// How many of the stamps, which ascend, are not above this one. The times of new stamps rise, so the search begins at
-/// the end.
+/// Returns how many of the ascending stamps are not above this one. The times of new stamps rise, so the search begins
+/// at the end.
 fn place_for(owed: &VecDeque<Stamp>, stamp: Stamp) -> usize
     requires { IsAscending owed.now.items }
     ensures within { result ≤ deque_len owed.now }
@@ -101,7 +103,7 @@ fn place_for(owed: &VecDeque<Stamp>, stamp: Stamp) -> usize
     place
 }
 
-/// The first place of the stamp.
+/// Returns the first index of the stamp, or `None` if it is not in the list.
 fn place_of(owed: &VecDeque<Stamp>, stamp: Stamp) -> Option<usize>
     ensures within { IfSome result (λ place. place < deque_len owed.now) }
     ensures found { IfSome result (λ place. remove owed.now.items place ≡ without stamp owed.now.items) }

@@ -43,14 +43,14 @@ came (suc c) too_long old new room wire before after own from len own_len some s
   taken = λ t u a b. takes t u (r.taken t u a b);
   untaken = tt;
   told = r.told;
-  coat = ap (over (suc c)) r.coat;
-  lent = r.lent;
+  framing = ap (over (suc c)) r.framing;
+  borrowed_as = r.borrowed_as;
   plan = no_plan 0 0 (Ok (Datagram from own_len));
 }
   where
-    takes : (t u : Traffic) → Takes old.coat t u room wire (Datagram from len) → Takes (over (suc c) old.coat) t u before after (Datagram from own_len)
+    takes : (t u : Traffic) → Takes old.framing t u room wire (Datagram from len) → Takes (over (suc c) old.framing) t u before after (Datagram from own_len)
     takes t u (d, rest, waits, address, whole, wired, gone) =
-        let bytes = (old.coat.unwrap d).bytes in
+        let bytes = (old.framing.unwrap d).bytes in
         let first : take len wire ≡ take most_on_the_wire bytes =
         ap (take len) wired ∙ prefix len bytes (drop len room) (omega (arith, whole)) ∙ cut len most_on_the_wire bytes (omega (arith, whole, sized)) in
         let mine : own ≡ unwrapped (suc c) (take most_on_the_wire bytes) = is ∙ ap (unwrapped (suc c)) first in

@@ -2,7 +2,7 @@
 use Rattle.std.specs.Prelude.{◌≡◌, ◌≤◌, ◌⊎◌, ℕ, zero, suc, ◌+◌, ◌-◌, ◌^◌, min, List, [], ◌∷◌, ◌++◌, length, take, drop, None, eqb, if◌then◌else◌}
 use Rattle.std.specs.List.{starts_with}
 use Rattle.crsm_wire.specs.Marks.{mark_of}
-use Rattle.crsm_port.specs.Meaning.{Coat, Meaning}
+use Rattle.crsm_port.specs.Meaning.{Framing, Meaning}
 
 -- a datagram on the wire; those of cluster 0 have no mark
 abbrev pub wrapped : ℕ → List ℕ → List ℕ
@@ -28,12 +28,12 @@ unwrapped_first zero bytes = bytes
 unwrapped_first (suc c) bytes = unwrapped (suc c) (take most_on_the_wire bytes)
 
 -- the framing of a cluster over that of the inner port
-abbrev pub over : ℕ → Coat → Coat
-over c coat = record {
-  wrap = λ d. coat.wrap (record d { bytes = wrapped c d.bytes });
-  unwrap = λ d. record (coat.unwrap d) { bytes = unwrapped_first c (coat.unwrap d).bytes };
+abbrev pub over : ℕ → Framing → Framing
+over c framing = record {
+  wrap = λ d. framing.wrap (record d { bytes = wrapped c d.bytes });
+  unwrap = λ d. record (framing.unwrap d) { bytes = unwrapped_first c (framing.unwrap d).bytes };
 }
 
 -- the model of the port after this many sends that were too long; it tells no plan
 abbrev pub clustered : ℕ → ℕ → Meaning → Meaning
-clustered c too_long m = record m { coat = over c m.coat; plan = None; losses = min (m.losses + too_long) (2 ^ 64 - 1) }
+clustered c too_long m = record m { framing = over c m.framing; plan = None; losses = min (m.losses + too_long) (2 ^ 64 - 1) }

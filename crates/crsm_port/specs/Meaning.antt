@@ -13,12 +13,12 @@ pub record Packet : Type 0 where
   pub bytes : List ℕ
 
 -- the framing of datagrams: how one is sent on the wire, and how a received one is read
-pub record Coat : Type 0 where
+pub record Framing : Type 0 where
   pub wrap : Packet → Packet
   pub unwrap : Packet → Packet
 
 -- no framing
-abbrev pub plain : Coat
+abbrev pub plain : Framing
 plain = record { wrap = λ d. d; unwrap = λ d. d }
 
 -- the datagrams that wait, those received and those sent, each list with the oldest first
@@ -31,7 +31,7 @@ pub record Meaning : Type 0 where
   -- the traffic, where the port specifies it
   pub traffic : Option Traffic
   -- between the datagrams of calls and those of the traffic
-  pub coat : Coat
+  pub framing : Framing
   -- the reserve for sends and the number of calls that succeed, where the port specifies them
   pub plan : Option Plan
   -- the receives that failed, the sends that failed, and the empty receives
@@ -39,13 +39,13 @@ pub record Meaning : Type 0 where
   pub losses : ℕ
   pub empties : ℕ
   -- the ghost name of the reference by which the port is borrowed
-  pub lent : Option ℕ
+  pub borrowed_as : Option ℕ
 
 -- a receive of the first waiting datagram, or of none
-abbrev pub Takes : Coat → Traffic → Traffic → List ℕ → List ℕ → Recv → Type 0
-Takes coat old new before after Nothing = (old.waiting ≡ []) × (new ≡ old) × (after ≡ before)
-Takes coat old new before after (Datagram from len) = (d : Packet) × (rest : List Packet) × (old.waiting ≡ d ∷ rest) × (from ≡ (coat.unwrap d).address)
-    × (len ≡ min (length before) (length (coat.unwrap d).bytes)) × (after ≡ take len (coat.unwrap d).bytes ++ drop len before)
+abbrev pub Takes : Framing → Traffic → Traffic → List ℕ → List ℕ → Recv → Type 0
+Takes framing old new before after Nothing = (old.waiting ≡ []) × (new ≡ old) × (after ≡ before)
+Takes framing old new before after (Datagram from len) = (d : Packet) × (rest : List Packet) × (old.waiting ≡ d ∷ rest) × (from ≡ (framing.unwrap d).address)
+    × (len ≡ min (length before) (length (framing.unwrap d).bytes)) × (after ≡ take len (framing.unwrap d).bytes ++ drop len before)
     × (new ≡ record old { waiting = rest; taken = old.taken ++ d ∷ [] })
 
 -- Nothing is returned if and only if `empties` rose
@@ -66,11 +66,11 @@ pub record Receives (old new : Meaning) (before after : List ℕ) (result : Resu
   pub no_fault : OnOk result (new.faults ≡ old.faults)
   pub empties : IfOk result (CountsEmpty old.empties new.empties)
   pub not_empty : OnErr result (new.empties ≡ old.empties)
-  pub taken : (t u : Traffic) → old.traffic ≡ Some t → new.traffic ≡ Some u → IfOk result (Takes old.coat t u before after)
+  pub taken : (t u : Traffic) → old.traffic ≡ Some t → new.traffic ≡ Some u → IfOk result (Takes old.framing t u before after)
   pub untaken : OnErr result (new.traffic ≡ old.traffic)
   pub told : IsSome old.traffic ↔ IsSome new.traffic
-  pub coat : new.coat ≡ old.coat
-  pub lent : new.lent ≡ old.lent
+  pub framing : new.framing ≡ old.framing
+  pub borrowed_as : new.borrowed_as ≡ old.borrowed_as
   pub plan : Spends 0 0 old.plan new.plan result
 
 -- the traffic with one more datagram sent
@@ -84,10 +84,10 @@ pub record Sends {T : Type 0} (to : ℕ) (bytes : List ℕ) (old new : Meaning) 
   pub failed : OnErr result (Rose old.losses new.losses)
   pub no_loss : OnOk result (new.losses ≡ old.losses)
   pub empties : new.empties ≡ old.empties
-  pub sent : OnOk result (new.traffic ≡ option_map (with_sent (old.coat.wrap (record { address = to; bytes = bytes }))) old.traffic)
+  pub sent : OnOk result (new.traffic ≡ option_map (with_sent (old.framing.wrap (record { address = to; bytes = bytes }))) old.traffic)
   pub unsent : OnErr result (new.traffic ≡ old.traffic)
-  pub coat : new.coat ≡ old.coat
-  pub lent : new.lent ≡ old.lent
+  pub framing : new.framing ≡ old.framing
+  pub borrowed_as : new.borrowed_as ≡ old.borrowed_as
   pub plan : Spends 1 (length bytes) old.plan new.plan result
 
 -- memory is reserved, and nothing else changes

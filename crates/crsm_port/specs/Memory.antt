@@ -23,10 +23,10 @@ traffic_of m = record { waiting = drop m.next m.arrivals; taken = take m.next m.
 abbrev pub meaning_of : Memory → Meaning
 meaning_of m = record {
   traffic = Some (traffic_of m);
-  coat = plain;
+  framing = plain;
   plan = Some (record { calls = m.room_sends; bytes = m.room_bytes; good = good_of m.failing });
   faults = m.faults;
   losses = m.losses;
   empties = m.empties;
-  lent = None;
+  borrowed_as = None;
 }

@@ -5,10 +5,10 @@ use Rattle.crsm_port.specs.Meaning.{Meaning, plain}
 abbrev pub unknown : ℕ → ℕ → ℕ → Meaning
 unknown faults losses empties = record {
   traffic = None;
-  coat = plain;
+  framing = plain;
   plan = None;
   faults = faults;
   losses = losses;
   empties = empties;
-  lent = None;
+  borrowed_as = None;
 }

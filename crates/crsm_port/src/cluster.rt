@@ -140,8 +140,8 @@ impl<P: Port> Port for ClusterPort<P> {
         }
     }
 
-    fn hurry(&mut self) {
-        self.inner.hurry()
+    fn poll_soon(&mut self) {
+        self.inner.poll_soon()
     }
 }
 

@@ -9,7 +9,9 @@ use crsm_base::{Failed, NoMemory};
 /// port.
 #[derive(Clone, Copy, Debug, PartialEq, Eq)]
 pub enum Recv {
+    /// No datagram has arrived.
     Nothing,
+    /// A datagram was received.
     Datagram { from: u64, len: usize },
 }
 
@@ -32,13 +34,13 @@ pub trait Port {
         ensures { Reserves sends bytes (meaning self.old) (meaning self.new) result };
 
     /// Asks that the next receive returns at once if no datagram has arrived. Ports that never wait ignore it.
-    fn hurry(&mut self)
+    fn poll_soon(&mut self)
         ensures { meaning self.new ≡ meaning self.old }
     {}
 }
 
 impl<P: Port> Port for &mut P {
-    ghost meaning = { λ p. record (P.meaning p.now) { lent = Some p.ghost_name } };
+    ghost meaning = { λ p. record (P.meaning p.now) { borrowed_as = Some p.ghost_name } };
 
     fn recv(&mut self, buf: &mut [u8]) -> Result<Recv, Failed> {
         (**self).recv(buf)
@@ -52,7 +54,7 @@ impl<P: Port> Port for &mut P {
         (**self).reserve(sends, bytes)
     }
 
-    fn hurry(&mut self) {
-        (**self).hurry()
+    fn poll_soon(&mut self) {
+        (**self).poll_soon()
     }
 }

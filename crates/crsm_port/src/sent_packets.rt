@@ -32,6 +32,7 @@ impl SentPackets {
         }
     }
 
+    /// Returns the number of datagrams.
     pub fn len(&self) -> usize
         ensures { result ≡ length (packets self.now.labels.items self.now.bytes.items) }
     {

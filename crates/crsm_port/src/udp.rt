@@ -67,8 +67,8 @@ pub struct UdpPort {
 }
 
 impl UdpPort {
-    /// Binds a socket to an address (IPv4 x 65,536 + port; port 0 stands for any free one), or returns the system's
-    /// error. A receive waits up to a millisecond for a datagram, and does not wait after `hurry`.
+    /// Binds a socket to an address (IPv4 x 65,536 + port; with port 0 the system picks a free one), or returns the
+    /// system's error. A receive waits up to a millisecond for a datagram, and does not wait after `poll_soon`.
     pub fn bind(alloc: Global, net: &impl Net, address: u64) -> io::Result<UdpPort>
         requires { address < 2 ^ 48 }
     {
@@ -149,7 +149,7 @@ impl Port for UdpPort {
         Ok(())
     }
 
-    fn hurry(&mut self) {
+    fn poll_soon(&mut self) {
         self.inlet.hurried = true;
     }
 }

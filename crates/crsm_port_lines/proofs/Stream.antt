@@ -1,4 +1,4 @@
--- The loop in mid-stream goes on, or ends at a bad line.
+-- The loop continues within the input, or ends at a bad line.
 use Rattle.std.proofs.Common.{◌≡◌, ℕ, ◌+◌, ◌<◌, ◌≤◌, List, [], ◌∷◌, ◌++◌, Option, length, refl, ap, sym, ◌∙◌, subst, arith, append_assoc, length-append, take, drop}
 use Rattle.std.proofs.lemmas.List.{append-nil, length-take-le, take-append-drop}
 use Rattle.crsm_text.specs.Words.{Lacks}

@@ -52,8 +52,8 @@ pub data BeginsBad {H R : Type 0} (h : Handling H R) (lines : List Text) (shown 
 module _ {H R : Type 0} (h : Handling H R) where
   -- ---- within the input
 
-  -- The lines were handled, and their text is what was written and what is pending; `total` bytes were read, of which
-  -- `ahead` are still to be handled.
+  -- The lines were handled, and their text is the written text and then the pending text; `total` bytes were read, and
+  -- `ahead` is the part of them that is not handled yet.
   pub record SoFar (before after had has : Option Text) (state : State H) (ahead : Text) (total : ℕ) : Type 0 where
     pub lines : List Text
     pub shown : Text

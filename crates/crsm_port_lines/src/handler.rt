@@ -1,4 +1,4 @@
-//! The trait of what is done with the lines of an input.
+//! The trait of handlers of an input's lines.
 
 ghost use Rattle.std.specs.Prelude.{◌≡◌, ◌+◌, ◌++◌, ◌∷◌, [], ℕ, List, IfErr, OnOk, length};
 ghost use Rattle.crsm_port_lines.specs.Handling.{Handling, Handles, EndsWell, StopsAt, StopsAtEnd};
@@ -10,6 +10,7 @@ use crsm_base::{Bytes, NoMemory};
 pub enum Stop<R> {
     /// The handler refuses it, for this reason.
     Refused(R),
+    /// Memory ran out.
     NoMemory,
 }
 

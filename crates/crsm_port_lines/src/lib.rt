@@ -1,5 +1,6 @@
-//! The loop over the lines of an input. Input is read in pieces; each whole line is passed to a handler once it is
-//! complete, and the handler's text for the lines of a piece is written at the end of the piece.
+//! The loop over the lines of an input, which passes each whole line to a handler and writes the handler's text. Input
+//! is read in pieces; a line is passed on once it is complete, and the text for the lines of a piece is written at the
+//! end of the piece.
 #![tactic(auto)]
 
 mod handler;

@@ -35,7 +35,9 @@ pub enum LineRefusal<R> {
 pub enum Halt<R> {
     /// The first bad line, by its number from 1, and the reason.
     BadLine { line: u64, why: LineRefusal<R> },
+    /// A write failed.
     WriteFault,
+    /// Memory ran out.
     NoMemory,
 }
 

@@ -17,7 +17,7 @@ pub const MAX_INPUT_BYTES: u64 = 1_073_741_824;
 /// Number of bytes read at a time.
 const PIECE_BYTES: usize = 65_536;
 
-/// How a run over an input ends.
+/// The ending of a run over an input.
 #[derive(Clone, Copy, Debug, PartialEq, Eq)]
 pub enum InputEnd<R> {
     /// The input was read to its end.
@@ -28,6 +28,7 @@ pub enum InputEnd<R> {
     ReadFault,
     /// A write failed.
     WriteFault,
+    /// Memory ran out.
     NoMemory,
     /// The input has more than `MAX_INPUT_BYTES` bytes.
     InputTooLong,

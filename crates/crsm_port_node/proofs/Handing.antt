@@ -29,17 +29,17 @@ module _ (peers : List ℕ) (before after : List ℕ) (from len : ℕ) where
     pub whole : SpeaksForItself peers from (take len after) → IsOfFirst peers old new (length before) after (Datagram from len)
     whole own = record { told = r.told; first = λ t u a b. is t u (r.taken t u a b) }
       where
-        is : (t u : Traffic) → Takes old.coat t u before after (Datagram from len) → IsFirst peers old.coat (length before) t u after (Datagram from len)
+        is : (t u : Traffic) → Takes old.framing t u before after (Datagram from len) → IsFirst peers old.framing (length before) t u after (Datagram from len)
         is t u (d, rest, waits, address, size, filled, gone) =
-            let seen = old.coat.unwrap d in
+            let seen = old.framing.unwrap d in
             let bytes = copied (length before) len seen.bytes after (drop len before) size filled in
             (d, rest, waits, gone, record { address = address; own = λ _. (size, bytes); foreign = λ no. absurd (no (of_datagram seen address bytes own)) })
 
     pub nothing : (SpeaksForItself peers from (take len after) → ⊥) → IsOfFirst peers old new (length before) after (Datagram from 0)
     nothing foreign = record { told = r.told; first = λ t u a b. is t u (r.taken t u a b) }
       where
-        is : (t u : Traffic) → Takes old.coat t u before after (Datagram from len) → IsFirst peers old.coat (length before) t u after (Datagram from 0)
+        is : (t u : Traffic) → Takes old.framing t u before after (Datagram from len) → IsFirst peers old.framing (length before) t u after (Datagram from 0)
         is t u (d, rest, waits, address, size, filled, gone) =
-            let seen = old.coat.unwrap d in
+            let seen = old.framing.unwrap d in
             let bytes = copied (length before) len seen.bytes after (drop len before) size filled in
             (d, rest, waits, gone, record { address = address; own = λ own. absurd (foreign (of_received seen address bytes own)); foreign = λ _. refl })

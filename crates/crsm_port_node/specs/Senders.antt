@@ -1,6 +1,6 @@
 -- The sender of a datagram, by its bytes and by the address that it came from.
 use Rattle.std.specs.Prelude.{◌≡◌, ◌↔◌, ℕ, min, List, [], ◌∷◌, ◌++◌, drop, length, take, Option, Some, None, IsSome, ◌&&◌, if◌then◌else◌, slice_get, nat_eq, nat_le}
-use Rattle.crsm_port.specs.Meaning.{Coat, Meaning, Packet, Traffic}
+use Rattle.crsm_port.specs.Meaning.{Framing, Meaning, Packet, Traffic}
 use Rattle.crsm_port.specs.Unknown.{unknown}
 use Rattle.crsm_wire.specs.Marks.{behind_any_mark, named_sender}
 use Rattle.crsm_port.specs.declared.port.Recv.{Recv}
@@ -25,16 +25,16 @@ pub record HandsUp (peers : List ℕ) (d : Packet) (room : ℕ) (buffer : List �
   pub foreign : (SpeaksForItself peers d.address (take room d.bytes) → ⊥) → len ≡ 0
 
 -- The inner port receives the first waiting datagram, and that is the one returned; or none waits.
-abbrev pub IsFirst : List ℕ → Coat → ℕ → Traffic → Traffic → List ℕ → Recv → Type 0
-IsFirst peers coat room t u buffer Nothing = (t.waiting ≡ []) × (u ≡ t)
-IsFirst peers coat room t u buffer (Datagram from len) = (d : Packet) × (rest : List Packet) × (t.waiting ≡ d ∷ rest)
+abbrev pub IsFirst : List ℕ → Framing → ℕ → Traffic → Traffic → List ℕ → Recv → Type 0
+IsFirst peers framing room t u buffer Nothing = (t.waiting ≡ []) × (u ≡ t)
+IsFirst peers framing room t u buffer (Datagram from len) = (d : Packet) × (rest : List Packet) × (t.waiting ≡ d ∷ rest)
     × (u ≡ record t { waiting = rest; taken = t.taken ++ d ∷ [] })
-    × HandsUp peers (coat.unwrap d) room buffer from len
+    × HandsUp peers (framing.unwrap d) room buffer from len
 
 -- the same, where the inner port specifies its traffic, which it does after the receive if and only if it did before
 pub record IsOfFirst (peers : List ℕ) (old new : Meaning) (room : ℕ) (buffer : List ℕ) (got : Recv) : Type 0 where
   pub told : IsSome old.traffic ↔ IsSome new.traffic
-  pub first : (t u : Traffic) → old.traffic ≡ Some t → new.traffic ≡ Some u → IsFirst peers old.coat room t u buffer got
+  pub first : (t u : Traffic) → old.traffic ≡ Some t → new.traffic ≡ Some u → IsFirst peers old.framing room t u buffer got
 
 -- the counters of a port, and nothing else of it
 abbrev pub counts_of : Meaning → Meaning

@@ -1,17 +1,17 @@
-//! The newest request for a membership change, which is handed up once more.
+//! The latest request for a membership change, which is delivered once more.
 
 ghost use Rattle.std.specs.Prelude.{IfSome, length};
 ghost use Rattle.crsm_port.specs.Meaning.{IsWithin};
 
 use crsm_port::Recv;
 
-/// A request for a membership change has 2 bytes and 1 for each of at most 15 members, behind 9 of its cluster's mark.
+/// Maximum length of such a request in bytes: 2, 1 for each of at most 15 members, and 9 for the mark of its cluster.
 const MOST_BYTES: usize = 26;
 
-/// It is handed up again after this many microseconds.
+/// Time in microseconds after which the request is delivered again.
 const PAUSE: u64 = 1_000_000;
 
-/// A request that came, the address that it came from and the reading when it came.
+/// A received request, the address that it came from, and the clock reading at which it came, in microseconds.
 #[derive(Clone, Copy)]
 struct Operate {
     from: u64,
@@ -21,22 +21,22 @@ struct Operate {
 }
 
 impl Operate {
-    /// Whether its time to be handed up again has come. A clock that went back holds nothing.
+    /// Returns whether the request is due again. It is due at once if the clock went back.
     fn is_due(&self, now: u64) -> bool {
         now < self.at || now - self.at >= PAUSE
     }
 }
 
-/// A replica that has suspected nobody for 5 seconds ends its epoch at such a request, and at its next tick asks for
-/// the replicas that it hears, in place of those that were asked for. The same request within the next 5 seconds
-/// stands. So the newest one is kept, and handed up once more.
+/// The latest request for a membership change. A replica that has suspected nobody for 5 seconds ends its epoch at such
+/// a request, but at its next tick asks for the replicas that it has heard from, in place of the requested ones; the
+/// same request within the next 5 seconds takes effect. So the latest request is kept, and delivered once more.
 #[derive(Drop)]
 pub(crate) struct Again {
     newest: Option<Operate>,
 }
 
 impl Again {
-    /// None.
+    /// Returns a state without a request.
     pub(crate) fn new() -> Again {
         Again { newest: None }
     }
@@ -56,7 +56,7 @@ impl Again {
         self.newest = Some(operate);
     }
 
-    /// The request that is kept, once its time has come, cut to the buffer.
+    /// Returns the kept request once it is due, cut to the buffer, or `None`.
     pub(crate) fn take(&mut self, buf: &mut [u8], now: u64) -> Option<Recv>
         ensures { IfSome result (IsWithin (length buf.old)) }
     {

@@ -53,7 +53,7 @@ impl Ahead {
             {
                 return;
             }
-            port.hurry();
+            port.poll_soon();
             match port.recv(&mut self.room) {
                 Ok(Recv::Datagram { from, len }) => self.keep(from, len),
                 Ok(Recv::Nothing) => return,

@@ -1,6 +1,6 @@
-//! The ports between a node's socket and its replica. `PeerPort` accepts a datagram that names a replica as its sender
-//! from that replica's address only. `PacedPort` limits retransmission and does flow control, so that repeats do not
-//! crowd out new datagrams.
+//! The ports between a node's socket and its replica, which check senders and limit retransmission. `PeerPort` accepts
+//! a datagram that names a replica as its sender from that replica's address only. `PacedPort` limits retransmission
+//! and does flow control, so that repeats do not crowd out new datagrams.
 #![tactic(auto)]
 
 mod again;

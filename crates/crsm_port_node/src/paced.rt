@@ -76,7 +76,7 @@ impl<P: Port, C: Clock> Port for PacedPort<P, C> {
         self.pacer.reserve(sends, bytes)
     }
 
-    fn hurry(&mut self) {
-        self.pacer.hurry()
+    fn poll_soon(&mut self) {
+        self.pacer.poll_soon()
     }
 }

@@ -1,4 +1,4 @@
-//! The state of a `PacedPort`: what is held back, and what was read ahead.
+//! The state of a `PacedPort`: datagrams that are held back, and those that were read ahead.
 
 ghost use Rattle.std.specs.Prelude.{IfOk, IfSome, length};
 ghost use Rattle.crsm_port.specs.Meaning.{IsWithin};
@@ -16,7 +16,7 @@ use crsm_port::{Port, Recv};
 use crsm_wire::{PacketHead, peek};
 use std::alloc::Global;
 
-/// A port, with what is held back before it and what was read ahead from it.
+/// A port, with the datagrams that are held back before it and those that were read ahead from it.
 #[derive(Drop)]
 pub(crate) struct Pacer<P, C> {
     port: P,
@@ -31,7 +31,7 @@ pub(crate) struct Pacer<P, C> {
     early: Early,
     again: Again,
     // Whether the next receive must not wait.
-    is_hurried: bool,
+    is_soon: bool,
 }
 
 impl<P: Drop, C: Drop> Pacer<P, C> {
@@ -48,14 +48,14 @@ impl<P: Drop, C: Drop> Pacer<P, C> {
             requests: Requests::new(alloc)?,
             early: Early::new(alloc)?,
             again: Again::new(),
-            is_hurried: false,
+            is_soon: false,
         })
     }
 }
 
 impl<P: Port, C: Clock> Pacer<P, C> {
-    /// Sends what is held back, and returns the next datagram: a kept frame that is no longer early, a request that has
-    /// waited, one that was read ahead, or one from the port.
+    /// Sends the datagrams that are held back, and returns the next one: a kept frame that is no longer early, a
+    /// request that has waited, one that was read ahead, or one from the port.
     pub(crate) fn recv(&mut self, buf: &mut [u8]) -> Result<Recv, Failed>
         ensures { IfOk result (IsWithin (length buf.old)) }
     {
@@ -64,7 +64,7 @@ impl<P: Port, C: Clock> Pacer<P, C> {
             Some(got) => Ok(got),
             None => self.next(buf),
         };
-        self.is_hurried = false;
+        self.is_soon = false;
         got
     }
 
@@ -104,8 +104,8 @@ impl<P: Port, C: Clock> Pacer<P, C> {
         if self.ahead.take_failure() {
             return Err(Failed);
         }
-        if self.is_hurried {
-            self.port.hurry();
+        if self.is_soon {
+            self.port.poll_soon();
         }
         self.port.recv(buf)
     }
@@ -176,7 +176,7 @@ impl<P: Port, C: Clock> Pacer<P, C> {
         }
     }
 
-    /// Sends what is held back, reads ahead, and reserves memory at the port; sends follow.
+    /// Sends the datagrams that are held back, reads ahead, and reserves memory at the port; sends follow.
     pub(crate) fn reserve(&mut self, sends: u64, bytes: u64) -> Result<(), NoMemory> {
         self.now = self.clock.now();
         self.held.let_go(&mut self.port);
@@ -185,7 +185,7 @@ impl<P: Port, C: Clock> Pacer<P, C> {
     }
 
     /// Makes the next receive return at once.
-    pub(crate) fn hurry(&mut self) {
-        self.is_hurried = true;
+    pub(crate) fn poll_soon(&mut self) {
+        self.is_soon = true;
     }
 }

@@ -77,11 +77,11 @@ impl<P: Port> Port for PeerPort<P> {
         self.inner.reserve(sends, bytes)
     }
 
-    fn hurry(&mut self)
+    fn poll_soon(&mut self)
         ensures tells { counts_of (P.meaning self.new.inner) ≡ counts_of (P.meaning self.old.inner) }
         ensures below { P.meaning self.new.inner ≡ P.meaning self.old.inner }
         ensures peers { self.new.peers ≡ self.old.peers }
     {
-        self.inner.hurry()
+        self.inner.poll_soon()
     }
 }

@@ -1,4 +1,4 @@
--- A boot on a log that was kept: what holds of the log, and what stands once the boot is on record.
+-- A boot on a durable log: the facts of the log, and the state once the boot is recorded.
 use Rattle.std.proofs.Common.{◌≡◌, ◌∙◌, ℕ, ◌+◌, ◌<◌, ◌≤◌, refl, ap, sym, subst, List, [], ◌∷◌, ◌++◌, map, Bool, true, false, arith, cond, count_by, lit<}
 use Rattle.std.specs.Prelude.{◌&&◌, nat_lt, nat_le, Some, option_to_list}
 use Rattle.std.specs.List.{AllByRecursion, list_all}

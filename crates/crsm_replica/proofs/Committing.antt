@@ -1,4 +1,4 @@
--- What is unexecuted once the first of the unexecuted entries is executed.
+-- The unexecuted entries after the first of them is executed.
 use Rattle.std.proofs.Common.{◌≡◌, ℕ, refl, List, ◌∷◌, Bool, true, false, arith}
 use Rattle.std.specs.Prelude.{◌==◌, ◌&&◌}
 use Rattle.std.proofs.lemmas.Bool.Decides.{nat_tests}

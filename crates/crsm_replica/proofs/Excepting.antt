@@ -1,4 +1,4 @@
--- Replicas but for one, and those below a number.
+-- Replicas without one, and those below a number.
 use Rattle.std.proofs.Common.{◌≡◌, ◌∙◌, ℕ, zero, suc, ◌+◌, ◌<◌, ◌≤◌, refl, ap, sym, List, [], ◌∷◌, ◌++◌, length, take, get_or, Bool, true, false, arith}
 use Rattle.std.specs.Prelude.{◌≢◌, ◌==◌, ◌||◌, ◌&&◌, not, nat_lt, filter, Option, None, Some, unwrap_or}
 use Rattle.std.specs.List.{list_any, range_with_len}

@@ -1,4 +1,4 @@
--- A state that has pushed a payload, or sent frames again.
+-- A state that has pushed a payload, or retransmitted frames.
 use Rattle.std.proofs.Common.{◌≡◌, ℕ, ◌+◌, ◌<◌, ◌^◌, Bool, true, false, List, [], ◌∷◌, ◌++◌, refl, sym, ◌∙◌, ap, subst, arith, length, drop, take, map, All, suc, zero}
 use Rattle.std.specs.Prelude.{◌==◌, filter, fold, if◌then◌else◌, Some}
 use Rattle.std.specs.List.{AllByRecursion, enumerate_from}
@@ -25,7 +25,7 @@ use Rattle.crsm_replica.specs.Sound.{FitsSend, FitsPushed}
 use Rattle.crsm_replica.specs.Replica.{StandsInside}
 use Rattle.crsm_replica.proofs.Rebuilt.{sent, ran}
 
--- the known epoch has a spelling
+-- the known epoch has an encoding
 pub known-fits : (log : Log) → AllByRecursion FitsRec log → known log < 2 ^ 64
 unfolding known decision
 known-fits [] fit = omega arith

@@ -1,4 +1,4 @@
--- What a state stands for once one thing of it is changed.
+-- The replica that a state stands for after one change.
 use Rattle.std.proofs.Common.{◌≡◌, ◌<◌, ◌≤◌, ℕ, ◌+◌, Bool, true, false, List, [], ◌∷◌, ◌++◌, map, refl, sym, ◌∙◌, subst, arith, cond, count_by}
 use Rattle.std.specs.Prelude.{◌&&◌, ◌==◌, nat_eq, Option, None, Some}
 use Rattle.std.specs.Global.{Vec}

@@ -1,4 +1,4 @@
--- What a waiting client is told.
+-- The replies to a waiting client.
 use Rattle.std.proofs.Common.{◌≡◌, ℕ, true, false, List, [], ◌∷◌, ◌++◌, refl, sym, ap, ◌∙◌, map, take, append-nil, append_assoc}
 use Rattle.std.specs.Prelude.{Option, Some, None}
 use Rattle.std.specs.List.{AllByRecursion}
@@ -87,7 +87,7 @@ pub middle-fits : (P : Waiting → Type 0) (ws : List Waiting) (w : Waiting) (vs
 middle-fits P [] w vs all = all.0
 middle-fits P (u ∷ ws) w vs all = middle-fits P ws w vs all.1
 
--- all that wait have a spelling
+-- all waiting clients have encodings
 pub waiting-fits : (state : ReplicaState) (x : Draft) → ReplicaStands state x → AllByRecursion FitsWaiting x.replica.waiting
 unfolding ReplicaStands
 waiting-fits state x s = s.sound.waiting

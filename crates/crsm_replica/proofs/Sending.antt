@@ -1,4 +1,4 @@
--- Datagrams sent one after the other.
+-- Datagrams sent one after another.
 use Rattle.std.proofs.Common.{◌≡◌, ℕ, ◌+◌, ◌<◌, List, [], ◌∷◌, ◌++◌, sym, ◌∙◌, ap, subst, length, get_or, take, map, refl}
 use Rattle.std.specs.Prelude.{◌≢◌}
 use Rattle.std.proofs.lemmas.List.{map-append, append-nil, append_assoc, take_more}

@@ -1,4 +1,4 @@
--- Control messages of what is known.
+-- Control messages about the known epoch.
 use Rattle.std.proofs.Common.{◌≡◌, ◌+◌, ◌<◌, ℕ, List, [], ◌∷◌, refl, sym, ap, ◌∙◌, length, take, get_or}
 use Rattle.std.specs.Prelude.{fold, Option, Some, None}
 use Rattle.std.specs.Option.{option_map_or}

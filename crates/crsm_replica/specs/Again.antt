@@ -12,7 +12,7 @@ use Rattle.crsm_replica_output.specs.Made.{Made, OutputStands}
 unfoldable pub frame_again : ℕ → ℕ → ℕ → ℕ × InEpoch → ℕ × Datagram
 frame_again me epoch k f = (k, Datagram.Frame me k epoch f.0 f.1)
 
--- what was made, and these are sent besides
+-- the output, with these sent besides
 abbrev pub sending : List (ℕ × Datagram) → Made → Made
 sending sends m = record m { sends = m.sends ++ sends }
 

@@ -1,4 +1,4 @@
--- What a record leaves in the ledger and in the output.
+-- The effect of a record on the ledger and on the output.
 use Rattle.std.specs.Prelude.{◌≡◌, ℕ, Bool, true, false, List, ◌∷◌, [], ◌++◌, Option, None, Some}
 use Rattle.crsm_ledger.specs.declared.ledger.Ledger.{Ledger}
 use Rattle.crsm_ledger.specs.Ledger.{LedgerStands}

@@ -1,4 +1,4 @@
--- What the state of a replica stands for.
+-- What the state of a replica in memory stands for.
 use Rattle.std.specs.Prelude.{◌≡◌, ℕ, ◌<◌, ◌≤◌, Bool, [], map, Option, Result, IfOk, ◌≢◌}
 use Rattle.std.specs.List.{AllByRecursion}
 use Rattle.crsm_base.specs.declared.NoMemory.{NoMemory}
@@ -24,7 +24,7 @@ pub use Rattle.crsm_replica_epoch.specs.First.{ready_first, ready_of}
 unfoldable pub on_paper : WaitingInMemory → Waiting
 on_paper w = record { address = w.address; entry = w.entry }
 
--- what the state keeps, part by part
+-- the fields of the state, part by part
 pub record StandsInside (state : ReplicaState) (x : Draft) : Type 0 where
   pub me : state.me ≡ x.replica.me
   pub ledger : LedgerStands x.replica.me x.replica.n state.ledger x.replica.log
@@ -63,7 +63,7 @@ AwaitsBoot state me n log = AwaitsInside state me n log
 unfoldable pub IsSpent : ReplicaState → Type 0
 IsSpent state = Unit {0}
 
--- Whatever the old state stood for, the new one stands for what this makes of it; or memory ran out.
+-- Whatever the old state stood for, the new one stands for the effect of this on it; or memory ran out.
 abbrev pub Makes : (Draft → Draft) → ReplicaState → Result (Unit {0}) NoMemory → ReplicaState → Type 0
 Makes change old result new = IfOk result (λ _. (x : Draft) → ReplicaStands old x → ReplicaStands new (change x))
 

@@ -1,4 +1,4 @@
--- What holds of every draft that a state stands for.
+-- The soundness of every draft that a state stands for.
 use Rattle.std.specs.Prelude.{◌≡◌, ℕ, ◌<◌, ◌≤◌, ◌^◌, true, Some}
 use Rattle.std.specs.List.{AllByRecursion}
 use Rattle.crsm_base.specs.Spelling.{FitsEntry, FitsStamp}
@@ -12,7 +12,7 @@ use Rattle.crsm_spec.specs.Draft.{Draft, Reply}
 pub use Rattle.crsm_replica_results.specs.Rising.{RisesStrictly}
 pub use Rattle.crsm_replica_epoch.specs.EpochState.{EachFits}
 
--- a datagram to a replica has a spelling
+-- a datagram to a replica has an encoding
 abbrev pub FitsSend : ℕ × Datagram → Type 0
 FitsSend s = (s.0 < 15) × FitsDatagram s.1
 
@@ -26,7 +26,7 @@ FitsWaiting w = (w.address < 2 ^ 64) × FitsEntry w.entry
 abbrev pub FitsPushed : ℕ × InEpoch → Type 0
 FitsPushed f = (f.0 < 15) × FitsPayload f.1
 
--- All that the draft holds has a spelling, and each of its records fitted.
+-- All content of the draft has an encoding, and each of its records fitted.
 pub record IsSound (x : Draft) : Type 0 where
   pub number : x.replica.me < 15
   pub some : 1 ≤ x.replica.n

@@ -1,4 +1,4 @@
-//! The single changes of a step that are no records: votes, datagrams and waiting clients.
+//! The changes of a step that are not records: votes, datagrams, refusals and waiting clients.
 
 ghost use Rattle.std.specs.Prelude.{◌≡◌, ◌<◌, [], ◌∷◌, ◌++◌, IfOk};
 ghost use Rattle.crsm_base.specs.Messages.{FitsDatagram};
@@ -15,7 +15,7 @@ use crsm_replica_output::Reply;
 
 impl ReplicaState {
     #[tactic(auto, unfolding(crate::specs::Replica::ReplicaStands))]
-    /// Counts a vote.
+    /// Counts the vote of replica `k` for the stamp. `NoMemory` if memory runs out.
     pub fn count_vote(&mut self, stamp: Stamp, k: u32) -> Result<(), NoMemory>
         requires { k < 15 }
         ensures { Makes (count_vote stamp k) self.old result self.new }
@@ -26,7 +26,7 @@ impl ReplicaState {
     }
 
     #[tactic(auto, unfolding(crate::specs::Replica::ReplicaStands))]
-    /// Sends a datagram to a replica.
+    /// Sends a datagram to replica `k`. `NoMemory` if memory runs out.
     pub fn send(&mut self, k: u32, datagram: Datagram) -> Result<(), NoMemory>
         requires to { k < 15 }
         requires spelt { FitsDatagram datagram }
@@ -37,7 +37,7 @@ impl ReplicaState {
     }
 
     #[tactic(auto, unfolding(crate::specs::Replica::ReplicaStands))]
-    /// Tells a client why its command is not taken.
+    /// Refuses the command of the client at `address`, for the reason `why`. `NoMemory` if memory runs out.
     pub fn refuse(&mut self, address: u64, command: &Command, why: Refusal) -> Result<(), NoMemory>
         requires { FitsCommand command.now }
         ensures { Makes (refuse address command.now why) self.old result self.new }
@@ -58,7 +58,7 @@ impl ReplicaState {
     }
 
     #[tactic(auto, unfolding(crate::specs::Replica::ReplicaStands))]
-    /// A client waits for the entry.
+    /// Records that the client at `address` waits for the entry. `NoMemory` if memory runs out.
     pub fn await_entry(&mut self, address: u64, entry: Entry) -> Result<(), NoMemory>
         requires { FitsEntry entry }
         ensures { Makes (await address entry) self.old result self.new }
@@ -68,7 +68,8 @@ impl ReplicaState {
     }
 
     #[tactic(auto, unfolding(crate::specs::Replica::ReplicaStands))]
-    /// A collection is past its limits: so many entries, of so many bytes.
+    /// Writes the line of a collection that exceeds its limits: `count` entries of `bytes` bytes together. `NoMemory`
+    /// if memory runs out.
     pub fn refuse_collection(&mut self, count: u64, bytes: u64) -> Result<(), NoMemory>
         ensures { Makes (λ x. record x { excess = x.excess ++ Line.TooMany x.replica.me (known x.replica.log) count bytes ∷ [] }) self.old result self.new }
     {
@@ -83,7 +84,7 @@ impl ReplicaState {
     }
 }
 
-/// The number that stands for a refusal in its line.
+/// Returns the code of a refusal in its line.
 fn code_of(why: Refusal) -> u32
     ensures { result ≡ refusal_number why }
 {

@@ -22,7 +22,8 @@ use crsm_wire::is_rec_spelt;
 
 impl ReplicaState {
     #[tactic(auto, unfolding(crate::specs::Replica::ReplicaStands))]
-    /// Learns a decision: the old epoch is over, and with it any coordinator. `false` if it does not fit, and the state is as before.
+    /// Learns a decision, which ends the old epoch and any coordinator. `false` if its record does not fit, `NoMemory`
+    /// if memory runs out; with `false` the state is unchanged.
     pub fn learn_decision(&mut self, decision: &Decision) -> Result<bool, NoMemory>
         ensures { IfOk result (λ fit. WhereStands self.old (λ x. FitsDecision decision.now → (fit ≡ (learnt decision.now x).fitting) × ReplicaStands self.new (if_fitting x (learnt decision.now x)))) }
     {
@@ -42,7 +43,7 @@ impl ReplicaState {
     }
 
     #[tactic(auto, unfolding(crate::specs::Replica::ReplicaStands))]
-    /// Enters the known epoch where that fits.
+    /// Enters the known epoch, if the record of that fits. `NoMemory` if memory runs out.
     pub fn enter(&mut self) -> Result<(), NoMemory>
         ensures { Makes (enter) self.old result self.new }
     {
@@ -57,7 +58,7 @@ impl ReplicaState {
     }
 
     #[tactic(auto, unfolding(crate::specs::Replica::ReplicaStands))]
-    /// What the coordinator is at.
+    /// Returns the coordinator.
     pub fn coordinator(&self) -> &CoordinatorInMemory
         ensures { WhereStands self.now (λ x. CoordinatorStands result.now x.replica.me x.replica.n (decision x.replica.log) x.replica.coordinator) }
     {
@@ -65,7 +66,7 @@ impl ReplicaState {
     }
 
     #[tactic(auto, unfolding(crate::specs::Replica::ReplicaStands))]
-    /// The coordinator is at this from now on, where it stands for a coordinator on paper.
+    /// Replaces the coordinator by one that stands for a coordinator of the definitions.
     pub fn set_coordinator(&mut self, coordinator: CoordinatorInMemory)
         ensures { (x : Draft) (m : Coordinator) → ReplicaStands self.old x → CoordinatorStands coordinator x.replica.me x.replica.n (decision x.replica.log) m → ReplicaStands self.new (noting m x) }
     {
@@ -73,7 +74,7 @@ impl ReplicaState {
     }
 
     #[tactic(auto, unfolding(crate::specs::Replica::ReplicaStands))]
-    /// Takes the coordinator out: the coordinator is at nothing then.
+    /// Returns the coordinator and leaves an idle one.
     pub fn take_coordinator(&mut self) -> CoordinatorInMemory
         ensures coordinator { WhereStands self.old (λ x. CoordinatorStands result x.replica.me x.replica.n (decision x.replica.log) x.replica.coordinator) }
         ensures quiet { WhereStands self.old (λ x. ReplicaStands self.new (noting Coordinator.Idle x)) }
@@ -82,7 +83,7 @@ impl ReplicaState {
     }
 
     #[tactic(auto, unfolding(crate::specs::Replica::ReplicaStands, crate::specs::Replica::AwaitsBoot))]
-    /// The ledger.
+    /// Returns the ledger.
     pub fn ledger(&self) -> &Ledger
         ensures before { (me n : ℕ) (log : Log) → AwaitsBoot self.now me n log → LedgerStands me n result.now log }
         ensures stands { WhereStands self.now (λ x. LedgerStands x.replica.me x.replica.n result.now x.replica.log) }

@@ -1,4 +1,4 @@
-//! The frames of a step: new ones, and those that go again.
+//! The frames of a step: new ones and retransmissions.
 
 ghost use Rattle.std.specs.Prelude.{◌<◌, [], ◌∷◌, map, All, OnOk};
 ghost use Rattle.crsm_replica_output.specs.Made.{Made, OutputStands};
@@ -11,7 +11,7 @@ use crsm_replica_epoch::EpochState;
 use crsm_replica_output::Output;
 use std::alloc::Global;
 
-/// Sends the next frame to each of these members but me.
+/// Sends the next frame to each of these members but `me`. `NoMemory` if memory runs out.
 pub fn send_next(
     alloc: Global,
     output: &mut Output,
@@ -32,7 +32,7 @@ pub fn send_next(
     Ok(())
 }
 
-/// Sends the next frame to replica `k`.
+/// Sends the next frame to replica `k`. `NoMemory` if memory runs out.
 fn send_frame(
     output: &mut Output,
     epoch_state: &EpochState,
@@ -56,7 +56,7 @@ fn send_frame(
     Ok(())
 }
 
-/// Sends frames to replica `to` again.
+/// Retransmits frames to replica `to`. `NoMemory` if memory runs out.
 pub fn send_again(
     alloc: Global,
     output: &mut Output,

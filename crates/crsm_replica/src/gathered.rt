@@ -1,4 +1,4 @@
-//! The parts of control messages that have come, of all replicas that there can be.
+//! The parts of control messages from all possible replicas.
 
 ghost use Rattle.std.specs.Prelude.{◌≡◌, ◌<◌, true, List, [], IfOk};
 ghost use Rattle.crsm_segment.specs.Gather.{GatherStands};
@@ -10,7 +10,7 @@ use crsm_segment::{Gather, PartOutcome, parts_of_datagrams};
 use std::alloc::Global;
 use std::marker::Model;
 
-/// The parts of control messages that have come.
+/// The parts of control messages that were received.
 #[derive(Drop)]
 pub struct Gathered {
     inside: Gather,
@@ -28,7 +28,7 @@ impl Model for Gathered {
 }
 
 impl Gathered {
-    /// None has come.
+    /// Returns the state before any part was received. `NoMemory` if memory runs out.
     pub fn new(alloc: Global) -> Result<Gathered, NoMemory>
         ensures { IfOk result (λ gathered. GatherStands gathered []) }
     {
@@ -37,7 +37,8 @@ impl Gathered {
         })
     }
 
-    /// Takes a part, which is as long as it has to be, and gives the message that is whole with it.
+    /// Takes a part of a valid length, and returns the message that it completes, if any. `NoMemory` if memory runs
+    /// out.
     pub fn take(
         &mut self,
         from: u32,
@@ -57,7 +58,7 @@ impl Gathered {
     }
 }
 
-/// The message that an answer gives.
+/// Returns the message that an outcome completes, if any.
 #[tactic(auto, unfolding(crsm_segment::specs::Taking::whole_of))]
 fn whole_message(taken: PartOutcome) -> Option<Bytes>
     ensures { result ≡ whole_of taken }

@@ -1,4 +1,4 @@
-//! One replica in memory, and the single changes that a step makes of it.
+//! One replica in memory, and the single changes that a step makes to it.
 #![tactic(auto)]
 
 mod changes;

@@ -1,4 +1,4 @@
-//! The changes that concern the numbered links and the clock.
+//! The changes of the numbered links and of the clock.
 
 ghost use Rattle.std.specs.Prelude.{◌≡◌, ℕ, ◌<◌, ◌≤◌, List, ◌∷◌, length, Some, IfOk};
 ghost use Rattle.crsm_base.specs.Messages.{FitsPayload};
@@ -15,7 +15,8 @@ use crsm_base::{Datagram, InEpoch, NoMemory, Stamp};
 
 impl ReplicaState {
     #[tactic(auto, unfolding(crate::specs::Replica::ReplicaStands))]
-    /// Issues this time, which it would issue at some reading, and pushes a payload to the other members.
+    /// Issues `time`, which the clock would issue at some reading, and pushes a payload to the other members.
+    /// `NoMemory` if memory runs out.
     pub fn push_at(&mut self, time: u64, payload: InEpoch) -> Result<(), NoMemory>
         ensures { IfOk result (λ _. (x : Draft) (reading : ℕ) → ReplicaStands self.old x → FitsPayload payload → would x reading ≡ Some time → ReplicaStands self.new (push_to_members payload (issued_at time x))) }
     {
@@ -35,7 +36,8 @@ impl ReplicaState {
     }
 
     #[tactic(auto, unfolding(crate::specs::Replica::ReplicaStands))]
-    /// Takes the next frame of another replica k, and with it this time, which is above the latest of k.
+    /// Takes the next frame of another replica `k`, and records its time, which is above k's latest. `NoMemory` if
+    /// memory runs out.
     pub fn take_next(&mut self, k: u32, time: u64) -> Result<(), NoMemory>
         requires { k < 15 }
         ensures { IfOk result (λ _. WhereLater self.old k time (λ x. ReplicaStands self.new (record x { replica = record x.replica { taken = k ∷ x.replica.taken; received = (k, time) ∷ x.replica.received } }))) }
@@ -45,7 +47,8 @@ impl ReplicaState {
     }
 
     #[tactic(auto, unfolding(crate::specs::Replica::ReplicaStands))]
-    /// Tells k by an acknowledgement which frame is expected next.
+    /// Sends replica `k` an acknowledgement with the number of the frame that is expected next. `NoMemory` if memory
+    /// runs out.
     pub fn ack(&mut self, k: u32) -> Result<(), NoMemory>
         requires { k < 15 }
         ensures { Makes (ack k) self.old result self.new }
@@ -65,7 +68,7 @@ impl ReplicaState {
     }
 
     #[tactic(auto, unfolding(crate::specs::Replica::ReplicaStands))]
-    /// All frames to k below this number, of those that were pushed, have come.
+    /// Removes the frames to `k` below the number `next`, which are acknowledged. `NoMemory` if memory runs out.
     pub fn acked(&mut self, k: u32, next: u64) -> Result<(), NoMemory>
         requires { k < 15 }
         ensures { IfOk result (λ _. WhereStands self.old (λ x. next ≤ length (frames_to x.replica k) → ReplicaStands self.new (record x { replica = record x.replica { acked = (k, next) ∷ x.replica.acked } }))) }
@@ -75,7 +78,7 @@ impl ReplicaState {
     }
 
     #[tactic(auto, unfolding(crate::specs::Replica::ReplicaStands))]
-    /// Owes an acknowledgement.
+    /// Adds a pending acknowledgement. `NoMemory` if memory runs out.
     pub fn owe(&mut self, stamp: Stamp) -> Result<(), NoMemory>
         requires { FitsStamp stamp }
         ensures { Makes (owe stamp) self.old result self.new }
@@ -85,7 +88,7 @@ impl ReplicaState {
     }
 
     #[tactic(auto, unfolding(crate::specs::Replica::ReplicaStands))]
-    /// The acknowledgement that was owed first is owed no more.
+    /// Removes the oldest pending acknowledgement. `NoMemory` if memory runs out.
     pub fn paid(&mut self) -> Result<(), NoMemory>
         ensures { IfOk result (λ _. (x : Draft) (s : Stamp) (ss : List Stamp) → ReplicaStands self.old x → x.replica.owed ≡ s ∷ ss → ReplicaStands self.new (owing ss x)) }
     {
@@ -94,7 +97,7 @@ impl ReplicaState {
     }
 
     #[tactic(auto, unfolding(crate::specs::Replica::ReplicaStands))]
-    /// Sends the first unacknowledged frames to k again.
+    /// Retransmits the first unacknowledged frames to replica `k`. `NoMemory` if memory runs out.
     pub fn again_to(&mut self, k: u32) -> Result<(), NoMemory>
         requires { k < 15 }
         ensures { Makes (λ x. again_to x k) self.old result self.new }

@@ -1,4 +1,4 @@
-//! Which replicas are members of the known epoch, and which are counted.
+//! The members of the known epoch, and the replicas whose majorities count.
 
 ghost use Rattle.std.specs.Prelude.{◌≡◌, ◌==◌, ◌<◌, ◌≤◌, not, filter, All, IfOk};
 ghost use Rattle.crsm_spec.specs.Lists.{has};
@@ -12,7 +12,7 @@ use std::alloc::Global;
 
 impl ReplicaState {
     #[tactic(auto, unfolding(crate::specs::Replica::ReplicaStands))]
-    /// Whether k is a member of the known epoch.
+    /// Returns whether replica `k` is a member of the known epoch.
     pub fn is_member(&self, k: u32) -> bool
         ensures { WhereStands self.now (λ x. result ≡ has (members_of x.replica) k) }
     {
@@ -20,7 +20,7 @@ impl ReplicaState {
     }
 
     #[tactic(auto, unfolding(crate::specs::Replica::ReplicaStands))]
-    /// Whether k is counted in the known epoch.
+    /// Returns whether replica `k` counts in majorities of the known epoch.
     pub fn is_of_spec(&self, k: u32) -> bool
         ensures { WhereStands self.now (λ x. result ≡ has (spec_of x.replica) k) }
     {
@@ -31,7 +31,7 @@ impl ReplicaState {
     }
 
     #[tactic(auto, unfolding(crate::specs::Replica::ReplicaStands))]
-    /// The other replicas that are counted, ascending.
+    /// Returns the other counted replicas in ascending order. `NoMemory` if memory runs out.
     pub fn others(&self) -> Result<Vec<u32>, NoMemory>
         ensures value { WhereStands self.now (λ x. IfOk result (λ ks. ks.items ≡ others x.replica)) }
         ensures below { IfOk result (λ ks. All (λ k. k < 15) ks.items) }
@@ -41,7 +41,7 @@ impl ReplicaState {
     }
 
     #[tactic(auto, unfolding(crate::specs::Replica::ReplicaStands))]
-    /// The other members, ascending.
+    /// Returns the other members in ascending order. `NoMemory` if memory runs out.
     pub fn other_members(&self) -> Result<Vec<u32>, NoMemory>
         ensures value { WhereStands self.now (λ x. IfOk result (λ ks. ks.items ≡ other_members x.replica)) }
         ensures below { IfOk result (λ ks. All (λ k. k < 15) ks.items) }
@@ -51,7 +51,7 @@ impl ReplicaState {
     }
 
     #[tactic(auto, unfolding(crate::specs::Replica::ReplicaStands))]
-    /// The replicas that are counted, ascending.
+    /// Returns the counted replicas in ascending order. `NoMemory` if memory runs out.
     pub fn spec(&self) -> Result<Members, NoMemory>
         ensures { WhereStands self.now (λ x. IfOk result (λ ks. ks ≡ spec_of x.replica)) }
     {
@@ -60,7 +60,7 @@ impl ReplicaState {
     }
 
     #[tactic(auto, unfolding(crate::specs::Replica::ReplicaStands))]
-    /// The members, ascending.
+    /// Returns the members in ascending order. `NoMemory` if memory runs out.
     pub fn members(&self) -> Result<Members, NoMemory>
         ensures { WhereStands self.now (λ x. IfOk result (λ ks. ks ≡ members_of x.replica)) }
     {
@@ -69,7 +69,7 @@ impl ReplicaState {
     }
 }
 
-/// These replicas but for one.
+/// Returns these replicas without `me`. `NoMemory` if memory runs out.
 fn except(alloc: Global, replicas: &[u32], me: u32) -> Result<Vec<u32>, NoMemory>
     ensures value { IfOk result (λ ks. ks.items ≡ filter (λ k. not (k == me)) replicas.now) }
     ensures below { All (λ k. k < 15) replicas.now → IfOk result (λ ks. All (λ k. k < 15) ks.items) }

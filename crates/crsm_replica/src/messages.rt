@@ -1,4 +1,4 @@
-//! Control messages that are sent.
+//! Sending of control messages.
 
 ghost use Rattle.std.specs.Prelude.{◌<◌, IfOk, All};
 ghost use Rattle.crsm_base.specs.declared.Control.{Control as ControlOnPaper};
@@ -13,7 +13,8 @@ use crsm_replica_output::{parts_are_spelt, send_parts, spell, spell_decision};
 
 impl ReplicaState {
     #[tactic(auto, unfolding(crate::specs::Replica::ReplicaStands))]
-    /// Makes a control message for k, of this spelling, unless this boot has made as many as can be numbered.
+    /// Sends replica `k` the control message with this encoding, unless this boot has used all message numbers.
+    /// `NoMemory` if memory runs out.
     fn send_spelt(&mut self, k: u32, spelling: &[u8]) -> Result<(), NoMemory>
         requires below { k < 15 }
         requires spelling { IsSpelling spelling.now }
@@ -37,7 +38,8 @@ impl ReplicaState {
         Ok(())
     }
 
-    /// Makes a control message for k, unless this boot has made as many as can be numbered.
+    /// Sends replica `k` a control message, unless this boot has used all message numbers. `NoMemory` if memory runs
+    /// out.
     pub fn send_control(&mut self, k: u32, control: &Control) -> Result<(), NoMemory>
         requires { k < 15 }
         ensures { IfOk result (λ _. WhereStands self.old (λ x. FitsControl control.now → ReplicaStands self.new (send_control control.now x k))) }
@@ -47,7 +49,7 @@ impl ReplicaState {
         Ok(())
     }
 
-    /// Makes one for each of these. It is spelt once.
+    /// Sends a control message to each of these replicas; it is encoded once. `NoMemory` if memory runs out.
     pub fn send_to_each(&mut self, replicas: &[u32], control: &Control) -> Result<(), NoMemory>
         requires { All (λ k. k < 15) replicas.now }
         ensures { IfOk result (λ _. WhereStands self.old (λ x. FitsControl control.now → ReplicaStands self.new (send_to_each replicas.now control.now x))) }
@@ -63,7 +65,7 @@ impl ReplicaState {
     }
 
     #[tactic(auto, unfolding(crate::specs::Replica::ReplicaStands))]
-    /// Makes one for each other replica that is counted.
+    /// Sends a control message to each other counted replica. `NoMemory` if memory runs out.
     pub fn send_to_all(&mut self, control: &Control) -> Result<(), NoMemory>
         ensures { IfOk result (λ _. WhereStands self.old (λ x. FitsControl control.now → ReplicaStands self.new (send_to_all control.now x))) }
     {
@@ -73,7 +75,7 @@ impl ReplicaState {
     }
 
     #[tactic(auto, unfolding(crate::specs::Replica::ReplicaStands))]
-    /// Sends k the known decision, if there is one.
+    /// Sends replica `k` the known decision, if there is one. `NoMemory` if memory runs out.
     pub fn send_decision(&mut self, k: u32) -> Result<(), NoMemory>
         requires { k < 15 }
         ensures { Makes (send_decision k) self.old result self.new }
@@ -88,7 +90,8 @@ impl ReplicaState {
     }
 
     #[tactic(auto, unfolding(crate::specs::Replica::ReplicaStands))]
-    /// Asks k for what is known and executed beyond here.
+    /// Asks replica `k` for the decisions and executed entries that this replica does not have. `NoMemory` if memory
+    /// runs out.
     pub fn send_retrieve(&mut self, k: u32) -> Result<(), NoMemory>
         requires { k < 15 }
         ensures { Makes (send_retrieve k) self.old result self.new }

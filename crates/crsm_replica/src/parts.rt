@@ -1,4 +1,4 @@
-//! Parts of control messages.
+//! Receiving of parts of control messages.
 
 ghost use Rattle.std.specs.Prelude.{◌≡◌, ◌<◌, true, IfOk};
 ghost use Rattle.crsm_segment.specs.Taking.{is_sized, piece};
@@ -11,7 +11,8 @@ use crsm_base::{Bytes, NoMemory};
 
 impl ReplicaState {
     #[tactic(auto, unfolding(crate::specs::Replica::ReplicaStands))]
-    /// Takes a part of a control message, which is as long as a part at its index has to be, and answers the bytes of the message that is whole with it.
+    /// Takes a part of a control message, of the length that its index requires, and returns the bytes of the message
+    /// that it completes, if any. `NoMemory` if memory runs out.
     pub fn take_part(
         &mut self,
         from: u32,

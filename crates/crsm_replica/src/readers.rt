@@ -1,4 +1,4 @@
-//! What the state says of the replica.
+//! Readers of a replica in memory.
 
 ghost use Rattle.std.specs.Prelude.{◌≡◌, ◌≢◌, ◌<◌, true, length, All, IfOk, Some};
 ghost use Rattle.crsm_base.specs.Order.{ballot_eq};
@@ -17,13 +17,13 @@ use crsm_base::{Ballot, Decision, MAX_REPLICAS, NoMemory, Stamp, is_same_ballot}
 use std::alloc::Global;
 
 impl ReplicaState {
-    /// Where memory is taken from.
+    /// Returns its allocator.
     pub fn alloc(&self) -> Global {
         self.alloc
     }
 
     #[tactic(auto, unfolding(crate::specs::Replica::ReplicaStands))]
-    /// Its number.
+    /// Returns the number of the replica.
     pub fn me(&self) -> u32
         ensures value { WhereStands self.now (λ x. result ≡ x.replica.me) }
         ensures below { result < 15 }
@@ -32,7 +32,7 @@ impl ReplicaState {
     }
 
     #[tactic(auto, unfolding(crate::specs::Replica::ReplicaStands))]
-    /// The known epoch.
+    /// Returns the number of the known epoch.
     pub fn known(&self) -> u64
         ensures { WhereStands self.now (λ x. result ≡ known x.replica.log) }
     {
@@ -40,7 +40,7 @@ impl ReplicaState {
     }
 
     #[tactic(auto, unfolding(crate::specs::Replica::ReplicaStands))]
-    /// How many entries are executed where the known epoch begins.
+    /// Returns the number of entries that were executed when the known epoch began.
     pub fn start(&self) -> u64
         ensures { WhereStands self.now (λ x. result ≡ start x.replica.log) }
     {
@@ -48,7 +48,7 @@ impl ReplicaState {
     }
 
     #[tactic(auto, unfolding(crate::specs::Replica::ReplicaStands))]
-    /// How many entries are executed.
+    /// Returns the number of executed entries.
     pub fn executed_len(&self) -> u64
         ensures { WhereStands self.now (λ x. result ≡ length (executed x.replica.log)) }
     {
@@ -56,7 +56,7 @@ impl ReplicaState {
     }
 
     #[tactic(auto, unfolding(crate::specs::Replica::ReplicaStands))]
-    /// How many executed entries the known epoch's decision takes for granted; 0 in the first epoch.
+    /// Returns the number of executed entries on which the known epoch's decision builds, 0 in the first epoch.
     pub fn base_len(&self) -> u64
         ensures { WhereStands self.now (λ x. result ≡ option_map_or (λ d. d.base_len) (decision x.replica.log) 0) }
     {
@@ -64,7 +64,7 @@ impl ReplicaState {
     }
 
     #[tactic(auto, unfolding(crate::specs::Replica::ReplicaStands))]
-    /// This boot has entered the known epoch.
+    /// Returns whether this boot has entered the known epoch.
     pub fn is_live(&self) -> bool
         ensures { WhereStands self.now (λ x. result ≡ live x.replica.log) }
     {
@@ -72,7 +72,7 @@ impl ReplicaState {
     }
 
     #[tactic(auto, unfolding(crate::specs::Replica::ReplicaStands))]
-    /// The replica takes no more part in the known epoch.
+    /// Returns whether the replica is suspended: it takes no further part in the known epoch.
     pub fn is_suspended(&self) -> bool
         ensures { WhereStands self.now (λ x. result ≡ suspended x.replica.log) }
     {
@@ -80,7 +80,7 @@ impl ReplicaState {
     }
 
     #[tactic(auto, unfolding(crate::specs::Replica::ReplicaStands))]
-    /// The replica is live and not suspended.
+    /// Returns whether the replica is live and not suspended.
     pub fn is_active(&self) -> bool
         ensures { WhereStands self.now (λ x. result ≡ active x.replica.log) }
     {
@@ -91,7 +91,7 @@ impl ReplicaState {
     }
 
     #[tactic(auto, unfolding(crate::specs::Replica::ReplicaStands))]
-    /// The ballot that was promised on the next decision.
+    /// Returns the ballot that is promised for the next decision, or round 0 of replica 0 if none is.
     pub fn promised(&self) -> Ballot
         ensures { WhereStands self.now (λ x. result ≡ promised x.replica.log) }
     {
@@ -99,7 +99,7 @@ impl ReplicaState {
     }
 
     #[tactic(auto, unfolding(crate::specs::Replica::ReplicaStands))]
-    /// This ballot's decision was accepted here.
+    /// Returns whether a decision was accepted here in this ballot.
     pub fn has_accepted(&self, b: Ballot) -> bool
         ensures { WhereStands self.now (λ x. result ≡ has_accepted b x) }
     {
@@ -110,7 +110,7 @@ impl ReplicaState {
     }
 
     #[tactic(auto, unfolding(crate::specs::Replica::ReplicaStands))]
-    /// The accepted decision with its ballot.
+    /// Returns the accepted decision with its ballot, or `None` if none was accepted. `NoMemory` if memory runs out.
     pub fn accepted(&self) -> Result<Option<(Ballot, Decision)>, NoMemory>
         ensures { WhereStands self.now (λ x. IfOk result (λ r. r ≡ accepted x.replica.log)) }
     {
@@ -121,7 +121,8 @@ impl ReplicaState {
     }
 
     #[tactic(auto, unfolding(crate::specs::Replica::ReplicaStands))]
-    /// The decision of the known epoch, of which the first has none.
+    /// Returns the decision of the known epoch, or `None` in the first epoch, which has none. `NoMemory` if memory runs
+    /// out.
     pub fn decision(&self) -> Result<Option<Decision>, NoMemory>
         ensures { WhereStands self.now (λ x. IfOk result (λ r. r ≡ decision x.replica.log)) }
     {
@@ -133,7 +134,7 @@ impl ReplicaState {
     }
 
     #[tactic(auto, unfolding(crate::specs::Replica::ReplicaStands))]
-    /// The time that would be issued at this reading.
+    /// Returns the time that the clock would issue at this reading, or `None` if the latest is 2^64 - 1.
     pub fn would(&self, reading: u64) -> Option<u64>
         ensures { WhereStands self.now (λ x. result ≡ would x reading) }
     {
@@ -141,7 +142,7 @@ impl ReplicaState {
     }
 
     #[tactic(auto, unfolding(crate::specs::Replica::ReplicaStands))]
-    /// The time that was issued last, 0 before the first.
+    /// Returns the time issued last, 0 before the first.
     pub fn last_issued(&self) -> u64
         ensures { WhereStands self.now (λ x. result ≡ last_issued x.replica) }
     {
@@ -149,7 +150,7 @@ impl ReplicaState {
     }
 
     #[tactic(auto, unfolding(crate::specs::Replica::ReplicaStands))]
-    /// The latest time received from another replica, 0 before the first.
+    /// Returns the latest time received from another replica `k`, 0 before the first.
     pub fn latest_from(&self, k: u32) -> u64
         requires { k < 15 }
         ensures { WhereStands self.now (λ x. (k ≢ x.replica.me) → result ≡ latest_from x.replica.received k) }
@@ -158,7 +159,7 @@ impl ReplicaState {
     }
 
     #[tactic(auto, unfolding(crate::specs::Replica::ReplicaStands))]
-    /// The number of the next frame from k.
+    /// Returns the number of the next frame from replica `k`.
     pub fn next_from(&self, k: u32) -> u64
         requires { k < 15 }
         ensures { WhereStands self.now (λ x. result ≡ next_from x.replica k) }
@@ -167,7 +168,7 @@ impl ReplicaState {
     }
 
     #[tactic(auto, unfolding(crate::specs::Replica::ReplicaStands))]
-    /// How many frames were pushed to k.
+    /// Returns the number of frames pushed to replica `k`.
     pub fn pushed_to(&self, k: u32) -> u64
         requires { k < 15 }
         ensures { WhereStands self.now (λ x. result ≡ length (frames_to x.replica k)) }
@@ -176,7 +177,7 @@ impl ReplicaState {
     }
 
     #[tactic(auto, unfolding(crate::specs::Replica::ReplicaStands))]
-    /// Some link to a member holds as many frames as it may.
+    /// Returns whether a link to a member is at `MAX_LINK_FRAMES` or above.
     pub fn is_congested(&self) -> bool
         ensures { WhereStands self.now (λ x. result ≡ is_congested x.replica) }
     {
@@ -185,7 +186,7 @@ impl ReplicaState {
     }
 
     #[tactic(auto, unfolding(crate::specs::Replica::ReplicaStands))]
-    /// How many of its own entries are not executed, while it is active.
+    /// Returns the number of its own entries that are not executed; specified while the replica is active.
     pub fn own_unexecuted(&self) -> u64
         ensures { WhereStands self.now (λ x. active x.replica.log ≡ true → result ≡ length (own_unexecuted x.replica)) }
     {
@@ -193,7 +194,7 @@ impl ReplicaState {
     }
 
     #[tactic(auto, unfolding(crate::specs::Replica::ReplicaStands))]
-    /// How many entries are not executed, while it is active.
+    /// Returns the number of entries that are not executed; specified while the replica is active.
     pub fn unexecuted_len(&self) -> u64
         ensures { WhereStands self.now (λ x. active x.replica.log ≡ true → result ≡ length (unexecuted x.replica.log)) }
     {
@@ -201,7 +202,7 @@ impl ReplicaState {
     }
 
     #[tactic(auto, unfolding(crate::specs::Replica::ReplicaStands))]
-    /// How many acknowledgements are owed.
+    /// Returns the number of pending acknowledgements.
     pub fn owed_len(&self) -> u64
         ensures { WhereStands self.now (λ x. result ≡ length x.replica.owed) }
     {
@@ -209,7 +210,7 @@ impl ReplicaState {
     }
 
     #[tactic(auto, unfolding(crate::specs::Replica::ReplicaStands))]
-    /// The least stamp whose acknowledgement is owed.
+    /// Returns the least stamp with a pending acknowledgement, or `None` if none is pending.
     pub fn first_owed(&self) -> Option<Stamp>
         ensures { WhereStands self.now (λ x. result ≡ first_of x.replica.owed) }
     {
@@ -217,7 +218,8 @@ impl ReplicaState {
     }
 
     #[tactic(auto, unfolding(crate::specs::Replica::ReplicaStands))]
-    /// The stamp of the entry that is executed next, where it is ready, while the replica is active.
+    /// Returns the stamp of the next entry to execute if it is ready, else `None`; specified while the replica is
+    /// active. `NoMemory` if memory runs out.
     pub fn ready(&self) -> Result<Option<Stamp>, NoMemory>
         ensures value { WhereStands self.now (λ x. active x.replica.log ≡ true → IfOk result (λ r. r ≡ ready_of x.replica)) }
         ensures fits { IfOk result (λ r. FitsOption FitsStamp r) }
@@ -229,7 +231,7 @@ impl ReplicaState {
     }
 }
 
-/// The stamp, where its origin can be a replica.
+/// Returns the stamp if its origin is the number of a replica, else `None`.
 fn of_a_replica(stamp: Option<Stamp>) -> Option<Stamp>
     ensures same { FitsOption FitsStamp stamp → result ≡ stamp }
     ensures fits { FitsOption FitsStamp result }

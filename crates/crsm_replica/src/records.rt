@@ -18,7 +18,8 @@ use crsm_wire::is_rec_spelt;
 
 impl ReplicaState {
     #[tactic(auto, unfolding(crate::specs::Replica::ReplicaStands))]
-    /// Keeps a record, which gives its lines. `false` if it does not fit, and the state is as before.
+    /// Applies a record and adds it with its lines to the output. `false` if it does not fit, `NoMemory` if memory runs
+    /// out; with `false` the state is unchanged.
     pub fn keep(&mut self, rec: Rec) -> Result<bool, NoMemory>
         requires plain { IsPlain rec }
         requires spelt { FitsRec rec }
@@ -33,8 +34,8 @@ impl ReplicaState {
         Ok(true)
     }
 
-    /// Keeps a record that has a spelling by what the state stands for. `false` if it does not fit, and
-    /// the state is as before.
+    /// Applies a record that has an encoding because of what the state stands for. `false` if it does not fit,
+    /// `NoMemory` if memory runs out; with `false` the state is unchanged.
     pub fn keep_known(&mut self, rec: Rec) -> Result<bool, NoMemory>
         requires { IsPlain rec }
         ensures { IfOk result (λ fit. WhereStands self.old (λ x. FitsRec rec → (fit ≡ (keep rec x).fitting) × ReplicaStands self.new (if_fitting x (keep rec x)))) }
@@ -47,7 +48,7 @@ impl ReplicaState {
     }
 }
 
-/// Puts a record into the ledger, and answers its lines. `None` if it does not fit, and changes nothing.
+/// Applies a record to the ledger and returns its lines. `None` if it does not fit; nothing has changed then.
 fn apply(ledger: &mut Ledger, rec: &Rec) -> Result<Option<Lines>, NoMemory>
     requires { FitsRec rec.now }
     ensures kept { (me n : ℕ) (log : List Rec) → LedgerStands me n ledger.old log → IfOk result (λ lines. Applied lines me n log rec.now ledger.new) }
@@ -61,7 +62,8 @@ fn apply(ledger: &mut Ledger, rec: &Rec) -> Result<Option<Lines>, NoMemory>
     }
 }
 
-/// Puts a record into the ledger and into the output. `false` if it does not fit, and changes nothing.
+/// Applies a record to the ledger and adds it to the output. `false` if it does not fit, `NoMemory` if memory runs out;
+/// with `false` nothing has changed.
 pub fn put(ledger: &mut Ledger, output: &mut Output, rec: Rec) -> Result<bool, NoMemory>
     requires { FitsRec rec }
     ensures kept { WhereBothStand ledger.old output.old (λ me n log m. IfOk result (λ fit. (fit ≡ fits me n log rec) × Recorded fit me n log rec m ledger.new output.new)) }

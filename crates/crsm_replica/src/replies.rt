@@ -16,7 +16,8 @@ use crsm_replica_results::{answer_to, executions, has_dropped, has_no_answer};
 use std::mem;
 
 impl ReplicaState {
-    /// Answers each waiting client whose entry is executed or dropped. The others wait on.
+    /// Answers each waiting client whose entry is executed or dropped. The others continue to wait. `NoMemory` if
+    /// memory runs out.
     pub fn replies(&mut self) -> Result<(), NoMemory>
         ensures { Makes (replies) self.old result self.new }
     {
@@ -27,7 +28,7 @@ impl ReplicaState {
         Ok(())
     }
 
-    /// No waiting client's entry is executed or dropped.
+    /// Returns whether no waiting client's entry is executed or dropped.
     fn all_wait(&self) -> bool
         ensures { IsTrue result → WhereStands self.now (λ x. replies x ≡ x) }
     {
@@ -39,7 +40,7 @@ impl ReplicaState {
         true
     }
 
-    /// The entry is neither executed nor dropped.
+    /// Returns whether the entry is neither executed nor dropped.
     fn waits_on(&self, entry: &Entry) -> bool
         ensures { IsTrue result → WhereStands self.now (λ x. (None ≡ answered (executed x.replica.log) entry.now) × (is_dropped x.replica entry.now ≡ false)) }
     {
@@ -49,7 +50,7 @@ impl ReplicaState {
         has_no_answer(&self.ledger, entry)
     }
 
-    /// Answers the clients in turn.
+    /// Answers the clients in order.
     fn answer_waiting(&mut self) -> Result<(), NoMemory>
         ensures { Makes (replies) self.old result self.new }
     {
@@ -61,7 +62,8 @@ impl ReplicaState {
         Ok(())
     }
 
-    /// Answers a client whose entry is executed or dropped, or lets it wait on. `executions` are those of the step's lines.
+    /// Answers a client if its entry is executed or dropped, else lets it wait. `executions` are the indices of the
+    /// step's execution lines.
     fn answer_client(&mut self, client: Waiting, executions: &[usize]) -> Result<(), NoMemory>
         ensures { IfOk result (λ _. WhereStands self.old (λ x. FitsWaiting (on_paper client) →
             ReplicaStands self.new (answer_found (on_paper client) (find_executed (executed x.replica.log) client.entry) x))) }
@@ -80,7 +82,7 @@ impl ReplicaState {
         Ok(())
     }
 
-    /// Answers a client whose entry is dropped, and lets any other wait on.
+    /// Answers a client if its entry is dropped, else lets it wait.
     fn drop_or_wait(&mut self, client: Waiting) -> Result<(), NoMemory>
         ensures { IfOk result (λ _. WhereStands self.old (λ x. FitsWaiting (on_paper client) → ReplicaStands self.new (answer_found (on_paper client) None x))) }
     {
@@ -92,7 +94,7 @@ impl ReplicaState {
         Ok(())
     }
 
-    /// Tells a client the answer at this place.
+    /// Sends a client the answer to the executed entry with this index.
     fn reply_ok(&mut self, client: &Waiting, place: u64, answer: Answer) -> Result<(), NoMemory>
         ensures { IfOk result (λ _. WhereStands self.old (λ x. FitsWaiting (on_paper client.now) → ReplicaStands self.new (reply_ok (on_paper client.now) place answer x))) }
     {
@@ -137,21 +139,21 @@ impl ReplicaState {
     }
 }
 
-/// Whether the value is no longer than a value may be.
+/// Returns whether the value is within its length limit.
 fn is_val_spelt(val: &Val) -> bool
     ensures { IsTrue result → FitsVal val.now }
 {
     val.as_slice().len() <= MAX_VAL_BYTES as usize
 }
 
-/// Each number of the store has a spelling.
+/// Returns whether a number of the store has an encoding, which each has.
 fn is_number_spelt(_number: u64) -> bool
     ensures { IsTrue result → _number < 2 ^ 64 }
 {
     true
 }
 
-/// Whether the answer has a spelling, which each one of the store has.
+/// Returns whether the answer has an encoding, which each answer of the store has.
 fn is_answer_spelt(answer: &Answer) -> bool
     ensures { IsTrue result → FitsAnswer answer.now }
 {

@@ -8,15 +8,15 @@ use crsm_replica_epoch::EpochState;
 use crsm_replica_output::Output;
 use std::alloc::Global;
 
-/// A client that waits for an entry which was submitted here.
+/// A client that waits for an entry submitted here, with its address, IPv4 x 65,536 + port.
 #[derive(Drop)]
 pub struct Waiting {
     pub address: u64,
     pub entry: Entry,
 }
 
-/// What a replica keeps at hand while it runs, and what the step under way has made so far. After an error it is spent:
-/// it says nothing any more.
+/// The state of a running replica with the output of the current step. After an error it is spent, and its fields are
+/// unspecified.
 #[derive(Drop)]
 pub struct ReplicaState {
     pub(crate) alloc: Global,
@@ -25,7 +25,7 @@ pub struct ReplicaState {
     pub(crate) epoch_state: EpochState,
     pub(crate) gathered: Gathered,
     pub(crate) coordinator: Coordinator,
-    /// How many control messages this boot has made.
+    /// Number of control messages that this boot has made.
     pub(crate) made: u64,
     /// In order of submission.
     pub(crate) waiting: Vec<Waiting>,

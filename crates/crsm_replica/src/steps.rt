@@ -1,4 +1,4 @@
-//! Where a boot and a step begin and end.
+//! The beginning and end of a boot and of a step.
 
 ghost use Rattle.std.specs.Prelude.{◌≡◌, ◌<◌, ◌≤◌, ℕ, List, IfOk};
 ghost use Rattle.std.specs.List.{AllByRecursion};
@@ -24,7 +24,7 @@ use crsm_replica_output::{Batch, Output};
 
 impl ReplicaState {
     #[tactic(auto, unfolding(crate::specs::Replica::AwaitsBoot))]
-    /// The state of a ledger, before its boot is on record.
+    /// Returns the state of a ledger, before its boot is recorded. `NoMemory` if memory runs out.
     pub fn new(ledger: Ledger) -> Result<ReplicaState, NoMemory>
         ensures { IfOk result (λ state. (me n : ℕ) (log : List Rec) → LedgerStands me n ledger log → EachFits me n log → AllByRecursion FitsRec log →
             me < 15 → 1 ≤ n → AwaitsBoot state me n log) }
@@ -45,7 +45,8 @@ impl ReplicaState {
     }
 
     #[tactic(auto, unfolding(crate::specs::Replica::ReplicaStands))]
-    /// Puts the boot on record; the first one of a replica that began the cluster enters epoch 0.
+    /// Records the boot. The first boot of a replica that began the cluster enters epoch 0. `NoMemory` if memory runs
+    /// out.
     pub fn begin(&mut self) -> Result<(), NoMemory>
         ensures { IfOk result (λ _. (me n : ℕ) (log : List Rec) → AwaitsBoot self.old me n log → boots log < u64_max → ReplicaStands self.new (boot me n log)) }
     {
@@ -58,7 +59,7 @@ impl ReplicaState {
     }
 
     #[tactic(auto, unfolding(crate::specs::Replica::ReplicaStands))]
-    /// Hands out what the step has made; the next one begins.
+    /// Returns the output of the step, and begins the next one. `NoMemory` if memory runs out.
     pub fn take_batch(&mut self) -> Result<Batch, NoMemory>
         ensures { IfOk result (λ batch. WhereStands self.old (λ x. IsBatchOf batch (made_of x) × ReplicaStands self.new (begun x.replica))) }
     {
@@ -66,7 +67,7 @@ impl ReplicaState {
         Ok(batch)
     }
 
-    /// Puts the boot on record, where that fits.
+    /// Records the boot, if the record fits.
     #[tactic(auto, unfolding(crate::specs::Replica::ReplicaStands, crate::specs::Replica::AwaitsBoot))]
     fn boot_again(&mut self) -> Result<(), NoMemory>
         ensures { IfOk result (λ _. (me n : ℕ) (log : List Rec) → AwaitsBoot self.old me n log → boots log < u64_max → ReplicaStands self.new (boot_again me n log)) }

@@ -1,4 +1,4 @@
--- What the coordinator in memory says of the coordinator on paper that it stands for.
+-- The facts of the coordinator in memory about that of the definitions.
 use Rattle.std.proofs.Common.{◌≡◌, ℕ, ◌+◌, List, [], ◌∷◌, ◌++◌, length, refl, sym, ◌∙◌, ap, subst, arith, Bool, true, false, length-append}
 use Rattle.std.specs.Prelude.{◌&&◌, not, nat_le, map, Option, Some, None, if◌then◌else◌}
 use Rattle.std.proofs.lemmas.List.{map-append}
@@ -288,7 +288,7 @@ module _ (me n : ℕ) (known : Option Decision) where
       many_counted (spec_decided n known) (p.received ++ a.replica ∷ []) (map (λ f. f.replica) (answers ++ a ∷ [])) p.size (length p.received + 1)
       (counted_with p b own answers a s h new) (λ j. ap (λ ks. has ks j) (received_with p b own answers a s)) s.size (omega (arith, length-append p.received (a.replica ∷ [])))
 
-  -- the two forms of what comes of an answer
+  -- the two forms of the effect of an answer
   either_stands : (q : Proposing Decision) (b : Ballot) (own : Decision) (all : List (Answer Decision)) (t : Bool) → t ≡ has_majority (spec_decided n known) (map (λ f. f.replica) all) →
       (t ≡ true → IsProposing q me n known b own (value_of own all) []) → (t ≡ false → IsAsking q me n known b own all) →
       CoordinatorStands (Coordinator.Proposing q) me n known (answered (spec_decided n known) b own all)

@@ -1,4 +1,4 @@
--- Distinct replicas of a Spec are as many as are counted over it.
+-- The number of distinct counted replicas is the count over them.
 use Rattle.std.proofs.Common.{◌≡◌, ℕ, ◌+◌, ◌<◌, List, [], ◌∷◌, ◌++◌, length, refl, sym, ◌∙◌, ap, cond, arith, Bool, true, false, length-append}
 use Rattle.std.specs.Prelude.{◌==◌, ◌||◌, nat_le, count_by}
 use Rattle.std.proofs.lemmas.Bool.{eqb-true, eq-eqb, false≢true}
@@ -121,7 +121,7 @@ push_counted spec ks k c of_spec new =
 pub none_counted : (spec : List ℕ) → IsMembers spec → IsCounted spec []
 none_counted spec m = record { members = m; once = count_nothing spec }
 
--- the majority of a Spec is reached by so many
+-- whether this number of counted replicas is a majority
 pub many_counted : (spec ks others : List ℕ) (size many : ℕ) → IsCounted spec ks → ((j : ℕ) → has ks j ≡ has others j) → size ≡ length spec → many ≡ length ks → nat_le (majority size) many ≡ has_majority spec others
 unfolding has_majority
 many_counted spec ks others size many c h s m =

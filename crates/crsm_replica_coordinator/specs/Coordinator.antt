@@ -1,4 +1,4 @@
--- What the coordinator in memory stands for.
+-- The relation of the coordinator in memory to that of the definitions.
 use Rattle.std.specs.Prelude.{◌≡◌, ℕ, ◌+◌, Bool, true, false, ◌&&◌, not, List, [], ◌∷◌, ◌++◌, length, map, count_by, nat_le, if◌then◌else◌, Option, None, Some, bytes_eq}
 use Rattle.std.specs.List.{list_all}
 use Rattle.std.specs.Option.{option_map_or}
@@ -38,7 +38,7 @@ pub record IsOwn (me n : ℕ) (known : Option Decision) (own : Decision) : Type 
   pub next : own.epoch ≡ epoch_of known + 1
   pub spelt : FitsDecision own
 
--- what was found has a spelling
+-- the accepted decision found has an encoding
 abbrev pub FitsFound : Option (Found Decision) → Type 0
 FitsFound None = Unit {0}
 FitsFound (Some f) = FitsDecision f.value
@@ -67,11 +67,11 @@ counted_by p = if p.has_proposed then p.voters else p.received
 abbrev pub is_chosen_with : Proposing Decision → ℕ → Bool
 is_chosen_with p k = if has p.voters k then nat_le (majority p.size) (length p.voters) else nat_le (majority p.size) (length p.voters + 1)
 
--- what it proposes
+-- its proposal
 abbrev pub proposal_by : Proposing Decision → Option (Ballot × Decision)
 proposal_by p = if p.has_proposed then Some (p.ballot, value_proposed p) else None
 
--- what it proposes once the answer of a replica is in
+-- its proposal after the answer of a replica
 abbrev pub proposal_by_with : Proposing Decision → ℕ → Held Decision → Option (Ballot × Decision)
 proposal_by_with p k accepted = if p.has_proposed then None else Some (p.ballot, value_proposed (after_answer p k accepted))
 
@@ -109,7 +109,8 @@ pub record IsOver (me n : ℕ) (known : Option Decision) (own : Decision) (seen 
   pub mine : IsOwn me n known own
   pub round : FitsBallot seen
 
--- At replica me of a cluster that began with n, where this is the decision of the known epoch, the coordinator stands for one on paper.
+-- At replica me of a cluster that began with n, whose known epoch has this decision, the coordinator stands for one of
+-- the definitions.
 unfoldable pub CoordinatorStands : Coordinator → ℕ → ℕ → Option Decision → CoordinatorOnPaper → Type 0
 CoordinatorStands Coordinator.Idle me n known CoordinatorOnPaper.Idle = Unit {0}
 CoordinatorStands (Coordinator.Collecting c) me n known (CoordinatorOnPaper.Collecting ms pages) = IsGathering c me n known ms pages
@@ -118,7 +119,7 @@ CoordinatorStands (Coordinator.Proposing p) me n known (CoordinatorOnPaper.Propo
 CoordinatorStands (Coordinator.Preempted own seen) me n known (CoordinatorOnPaper.Preempted theirs top) = (own ≡ theirs) × (seen ≡ top) × IsOver me n known own seen
 CoordinatorStands _ me n known _ = ⊥
 
--- ---- what a coordinator on paper says
+-- ---- the readers of a coordinator of the definitions
 
 -- which of these the coordinator in memory is
 unfoldable pub stage_of : CoordinatorOnPaper → Stage
@@ -156,12 +157,12 @@ ballot_of (CoordinatorOnPaper.Preparing b own answers) = Some b
 ballot_of (CoordinatorOnPaper.Proposing b own value acceptors) = Some b
 ballot_of _ = None
 
--- what is proposed
+-- the proposal
 unfoldable pub proposal_of : CoordinatorOnPaper → Option (Ballot × Decision)
 proposal_of (CoordinatorOnPaper.Proposing b own value acceptors) = Some (b, value)
 proposal_of _ = None
 
--- what is proposed once this answer is in
+-- the proposal after this answer
 unfoldable pub proposal_with : CoordinatorOnPaper → Answer Decision → Option (Ballot × Decision)
 proposal_with (CoordinatorOnPaper.Preparing b own answers) a = Some (b, value_of own (answers ++ a ∷ []))
 proposal_with _ a = None
@@ -178,7 +179,7 @@ preempted_by (CoordinatorOnPaper.Preparing b own answers) top = CoordinatorOnPap
 preempted_by (CoordinatorOnPaper.Proposing b own value acceptors) top = CoordinatorOnPaper.Preempted own top
 preempted_by m top = m
 
--- what comes of a further vote
+-- the result of a further vote
 unfoldable pub VotedIs : Voted → ℕ → ℕ → Option Decision → Ballot → Decision → Decision → List ℕ → Type 0
 VotedIs (Voted.More coordinator) me n known b own value acceptors =
     (has_majority (spec_decided n known) acceptors ≡ false) × CoordinatorStands coordinator me n known (CoordinatorOnPaper.Proposing b own value acceptors)

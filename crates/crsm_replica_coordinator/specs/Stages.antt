@@ -1,4 +1,4 @@
--- For each coordinator on paper of one stage that the one in memory stands for.
+-- For each coordinator of the definitions of one stage that the one in memory stands for.
 use Rattle.std.specs.Prelude.{◌≡◌, ℕ, ◌+◌, List, Option, true, false, map}
 use Rattle.crsm_base.specs.Messages.{FitsVote}
 use Rattle.crsm_base.specs.Spelling.{FitsBallot, FitsOption}

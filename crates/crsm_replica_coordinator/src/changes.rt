@@ -1,4 +1,4 @@
-//! How a coordinator changes.
+//! The transitions of a coordinator.
 
 ghost use Rattle.std.specs.Prelude.{◌≡◌, ◌<◌, ◌+◌, ℕ, Option, Some, [], ◌∷◌, ◌++◌, true, IfOk};
 ghost use Rattle.crsm_base.specs.declared.Decision.{Decision};
@@ -19,22 +19,23 @@ use std::alloc::Global;
 
 impl Coordinator {
     #[tactic(auto, unfolding(crate::specs::Coordinator::CoordinatorStands))]
-    /// A coordinator that is at nothing.
+    /// Returns an idle coordinator.
     pub fn quiet() -> Coordinator
         ensures { (me n : ℕ) (known : Option Decision) → CoordinatorStands result me n known CoordinatorOnPaper.Idle }
     {
         Coordinator::Idle
     }
 
-    /// A coordinator that is to propose its own decision above this ballot.
+    /// Returns a coordinator that is to propose its own decision above the ballot `seen`.
     pub fn over(own: Decision, seen: Ballot) -> Coordinator
         ensures { (me n : ℕ) (known : Option Decision) → IsOwn me n known own → FitsBallot seen → CoordinatorStands result me n known (CoordinatorOnPaper.Preempted own seen) }
     {
         Coordinator::Preempted { own, seen }
     }
 
-    /// Asks for the ballot of replica `me` in the round after that of a ballot, over this Spec, and counts its own
-    /// promise, with what it had accepted. There is such a round.
+    /// Returns a coordinator that asks for promises in the round after that of a ballot, which exists, over this
+    /// replica set. The promise of `me` is counted, with the decision that it had accepted. `NoMemory` if memory runs
+    /// out.
     pub fn asking(
         alloc: Global,
         own: Decision,
@@ -57,7 +58,7 @@ impl Coordinator {
         Ok(Coordinator::Proposing(proposer))
     }
 
-    /// Counts the promise of a replica, with what it had accepted.
+    /// Counts the promise of a replica, with the decision that it had accepted. `NoMemory` if memory runs out.
     pub fn with_answer(
         self,
         k: u32,
@@ -76,7 +77,7 @@ impl Coordinator {
         }
     }
 
-    /// Counts the vote of a replica, once.
+    /// Counts the vote of a replica, once. `NoMemory` if memory runs out.
     pub fn with_vote(self, k: u32) -> Result<Voted, NoMemory>
         requires { k < 15 }
         ensures { WhereProposing self (λ me n known b own value acceptors. has (spec_decided n known) k ≡ true → IfOk result (λ voted. VotedIs voted me n known b own value (k ∷ acceptors))) }
@@ -94,7 +95,7 @@ impl Coordinator {
         }
     }
 
-    /// Its ballot is over, since this one was seen.
+    /// Ends the proposal, which is preempted by the ballot `top`.
     pub fn preempted(self, top: Ballot) -> Coordinator
         ensures { WhereStands self (λ me n known m. FitsBallot top → CoordinatorStands result me n known (preempted_by m top)) }
     {
@@ -107,7 +108,8 @@ impl Coordinator {
         }
     }
 
-    /// The decision of one's own that is to be proposed again, and the ballot that was seen.
+    /// Returns the coordinator's own decision, to be proposed again, and the ballot that preempted it. `None` unless it
+    /// is preempted.
     pub fn into_own(self) -> Option<(Decision, Ballot)>
         ensures { WherePreempted self (λ me n known own seen. (result ≡ Some (own, seen)) × IsOwn me n known own × FitsBallot seen) }
     {

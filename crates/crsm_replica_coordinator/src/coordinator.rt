@@ -1,23 +1,23 @@
-//! The phases of a replica that ends an epoch.
+//! The stages of a replica that ends an epoch.
 
 use crsm_base::{Ballot, Decision};
 use crsm_paxos::Proposer;
 use crsm_suspend::Collect;
 
-/// What a coordinator is at.
+/// The coordinator of a replica: the stage of a membership change or of the end of an epoch.
 #[derive(Drop)]
 pub enum Coordinator {
-    /// Nothing.
+    /// It does nothing.
     Idle,
-    /// The frozen logs of a majority are collected.
+    /// It collects the frozen logs of a majority.
     Collecting(Collect),
-    /// Promises are asked for, or a decision is proposed.
+    /// It asks for promises, or proposes a decision.
     Proposing(Proposer),
-    /// A ballot is over. Its own decision is proposed again, above the greater ballot that was seen.
+    /// Its ballot was preempted. It proposes its own decision again, above the ballot `seen`.
     Preempted { own: Decision, seen: Ballot },
 }
 
-/// Which of these a coordinator is.
+/// The stage of a coordinator.
 #[derive(Clone, Copy, Debug, PartialEq, Eq)]
 pub enum Stage {
     Idle,
@@ -27,10 +27,10 @@ pub enum Stage {
     Preempted,
 }
 
-/// What comes of a vote for a proposal.
+/// The result of counting a vote.
 #[derive(Drop)]
 pub enum Voted {
-    /// It waits for more.
+    /// More votes are needed.
     More(Coordinator),
     /// A majority has voted for this decision.
     Chosen(Decision),

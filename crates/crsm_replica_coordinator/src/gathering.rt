@@ -1,4 +1,4 @@
-//! A coordinator that collects.
+//! A coordinator that collects frozen logs.
 
 ghost use Rattle.std.specs.Prelude.{◌≡◌, ◌<◌, ℕ, List, Option, true};
 ghost use Rattle.std.specs.Option.{IsSomeAnd};
@@ -15,14 +15,14 @@ use crsm_base::Stamp;
 use crsm_suspend::Collect;
 
 impl Coordinator {
-    /// A coordinator that collects.
+    /// Returns a coordinator that collects.
     pub fn collecting(collect: Collect) -> Coordinator
         ensures { (me n : ℕ) (log : Log) (ms : List ℕ) (pages : List LogPage) → has (spec_decided n (decision log)) me ≡ true → Collects collect n log ms pages → CollectsOver result me n log ms pages }
     {
         Coordinator::Collecting(collect)
     }
 
-    /// The collection under way.
+    /// Returns the collection in progress, or `None` if there is none.
     pub fn into_collect(self) -> Option<Collect>
         ensures { WhereCollecting self (λ me n known ms pages. IsSomeAnd result (λ c. IsGathering c me n known ms pages)) }
     {
@@ -32,7 +32,7 @@ impl Coordinator {
         }
     }
 
-    /// The stamp of the last entry that came of replica k, while collecting.
+    /// Returns the stamp of the last entry received from replica `k` in the collection, or `None`.
     pub fn cursor(&self, k: u32) -> Option<Stamp>
         requires { k < 15 }
         ensures { (me n : ℕ) (log : Log) (ms : List ℕ) (pages : List LogPage) → CollectsOver self.now me n log ms pages → result ≡ cursor pages k }
@@ -43,7 +43,7 @@ impl Coordinator {
         }
     }
 
-    /// Whether the last page of replica k has come, while collecting.
+    /// Returns whether the last page of replica `k` was received in the collection.
     pub fn is_whole(&self, k: u32) -> bool
         requires { k < 15 }
         ensures { (me n : ℕ) (log : Log) (ms : List ℕ) (pages : List LogPage) → CollectsOver self.now me n log ms pages → result ≡ is_whole pages k }

@@ -1,4 +1,4 @@
-//! What a coordinator is at: the collection of an epoch, or the proposal of a decision.
+//! The coordinator of a replica: the collection of an epoch's frozen logs, or the proposal of a decision.
 #![tactic(auto)]
 
 mod changes;

@@ -1,4 +1,4 @@
-//! What a coordinator proposes, and to whom it is sent.
+//! The proposal of a coordinator, and the replicas that have not answered it.
 
 ghost use Rattle.std.specs.Prelude.{◌≡◌, ◌<◌, ℕ, Option, List, not, filter, All, IfOk};
 ghost use Rattle.crsm_base.specs.declared.Decision.{Decision};
@@ -14,7 +14,8 @@ use crsm_paxos::Proposer;
 use std::alloc::Global;
 
 impl Coordinator {
-    /// The ballot that proposes, and what it proposes.
+    /// Returns the ballot in which it proposes and the decision, or `None` if it proposes nothing. `NoMemory` if memory
+    /// runs out.
     pub fn proposal(&self, alloc: Global) -> Result<Option<(Ballot, Decision)>, NoMemory>
         ensures value { WhereStands self.now (λ me n known m. IfOk result (λ p. p ≡ proposal_of m)) }
         ensures spelt { WhereStands self.now (λ me n known m. IfOk result (λ p. FitsOption FitsVote p)) }
@@ -25,7 +26,8 @@ impl Coordinator {
         }
     }
 
-    /// What is proposed once the answer of a replica is in, which is not counted yet.
+    /// Returns the proposal after the promise of replica `k`, which is not counted yet, or `None` if it proposes
+    /// nothing. `NoMemory` if memory runs out.
     pub fn proposal_with(
         &self,
         alloc: Global,
@@ -41,7 +43,7 @@ impl Coordinator {
         }
     }
 
-    /// Those of the replicas whose promise or vote is not counted.
+    /// Returns the replicas whose promise or vote is not counted. `NoMemory` if memory runs out.
     pub fn missing(&self, alloc: Global, replicas: &[u32]) -> Result<Vec<u32>, NoMemory>
         requires { All (λ k. k < 15) replicas.now }
         ensures value { WhereStands self.now (λ me n known m. IfOk result (λ ks. ks.items ≡ filter (λ k. not (has (counted_of m) k)) replicas.now)) }
@@ -56,7 +58,7 @@ impl Coordinator {
         Ok(missing)
     }
 
-    /// Whether the promise or vote of a replica is counted.
+    /// Returns whether the promise or vote of a replica is counted.
     fn counts(&self, k: u32) -> bool
         ensures { WhereStands self.now (λ me n known m. result ≡ has (counted_of m) k) }
     {

@@ -1,4 +1,4 @@
-//! What a coordinator says.
+//! Readers of a coordinator.
 
 ghost use Rattle.std.specs.Prelude.{◌≡◌, ◌&&◌, Option, [], ◌∷◌, ◌++◌, true, false, not, map};
 ghost use Rattle.crsm_base.specs.declared.Ballot.{Ballot};
@@ -13,7 +13,7 @@ use crsm_base::{Ballot, ballot_precedes, is_same_ballot};
 use crsm_paxos::Proposer;
 
 impl Coordinator {
-    /// Which of the stages it is.
+    /// Returns the coordinator's stage.
     pub fn stage(&self) -> Stage
         ensures { WhereStands self.now (λ me n known m. result ≡ stage_of m) }
     {
@@ -25,7 +25,7 @@ impl Coordinator {
         }
     }
 
-    /// Whether the promise of this ballot by a replica counts.
+    /// Returns whether the promise of replica `k` in this ballot counts.
     pub fn takes_answer(&self, b: Ballot, k: u32) -> bool
         ensures { WhereStands self.now (λ me n known m. result ≡ takes_answer m b k) }
     {
@@ -35,7 +35,7 @@ impl Coordinator {
         }
     }
 
-    /// Whether the vote in this ballot by a replica counts.
+    /// Returns whether the vote of replica `k` in this ballot counts.
     pub fn takes_vote(&self, b: Ballot, k: u32) -> bool
         ensures { WhereStands self.now (λ me n known m. result ≡ takes_vote m b k) }
     {
@@ -45,7 +45,7 @@ impl Coordinator {
         }
     }
 
-    /// Whether this ballot is the one at work, and the greater promise ends it.
+    /// Returns whether `b` is the ballot of its proposal, and the promised ballot `top` preempts it.
     pub fn is_ended_by(&self, b: Ballot, top: Ballot) -> bool
         ensures { WhereStands self.now (λ me n known m. result ≡ is_ended_by m b top) }
     {
@@ -55,7 +55,7 @@ impl Coordinator {
         }
     }
 
-    /// The ballot that is asked for or proposes.
+    /// Returns the ballot in which it asks for promises or proposes, or `None` in other stages.
     pub fn ballot(&self) -> Option<Ballot>
         ensures { WhereStands self.now (λ me n known m. result ≡ ballot_of m) }
     {
@@ -65,7 +65,7 @@ impl Coordinator {
         }
     }
 
-    /// Whether one more promise, of a replica that is counted, makes a majority.
+    /// Returns whether one more promise of a counted replica makes a majority.
     pub fn is_last_answer(&self) -> bool
         ensures { WhereAnswerCounts self.now (λ me n known answers a. result ≡ has_majority (spec_decided n known) (map (λ f. f.replica) (answers ++ a ∷ []))) }
     {
@@ -75,7 +75,7 @@ impl Coordinator {
         }
     }
 
-    /// Whether the vote of a replica that is counted makes a majority, with those before.
+    /// Returns whether the vote of replica `k`, which counts, makes a majority with the votes before.
     pub fn is_last_vote(&self, k: u32) -> bool
         ensures { WhereProposing self.now (λ me n known b own value acceptors. has (spec_decided n known) k ≡ true → result ≡ has_majority (spec_decided n known) (k ∷ acceptors)) }
     {
@@ -118,7 +118,7 @@ fn is_end(proposer: &Proposer, b: Ballot, top: Ballot) -> bool
 }
 
 #[tactic(auto, unfolding(crsm_spec::specs::Lists::has))]
-/// Whether the votes are a majority with this one, which may be counted already.
+/// Returns whether the votes are a majority together with this one, which may be counted already.
 pub(crate) fn is_chosen_with(proposer: &Proposer, k: u32) -> bool
     ensures { result ≡ is_chosen_with proposer.now k }
 {

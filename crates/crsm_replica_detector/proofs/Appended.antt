@@ -1,4 +1,4 @@
--- Turns that stand behind others.
+-- Turns appended to others.
 use Rattle.std.proofs.Common.{◌≡◌, ◌↔◌, ℕ, ◌+◌, List, [], ◌∷◌, ◌++◌, refl, ap, sym, zero-add, add_assoc, ◌∙◌}
 use Rattle.crsm_spec.specs.Replica.{Replica}
 use Rattle.crsm_spec.specs.Node.{Turn, turn}

@@ -1,4 +1,4 @@
--- Turns that fulfil a wish.
+-- Turns that take the wanted input.
 use Rattle.std.proofs.Common.{◌≡◌, ℕ, List, Ok, refl, ap, arith}
 use Rattle.crsm_port.specs.Meaning.{Meaning}
 use Rattle.crsm_spec.specs.Node.{Turn}

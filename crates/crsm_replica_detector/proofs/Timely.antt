@@ -1,4 +1,4 @@
--- Wishes by their parts.
+-- Wanted inputs by their parts.
 use Rattle.std.proofs.Common.{◌≡◌, ℕ, true, List, nat_le, refl, ap, subst, ◌∙◌, false, Option, Some, None, unwrap_or}
 use Rattle.std.specs.List.{list_all}
 use Rattle.std.specs.Option.{option_map_or}

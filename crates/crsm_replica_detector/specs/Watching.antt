@@ -1,4 +1,4 @@
--- What a node keeps of the readings of its turns, in microseconds.
+-- The readings that a node remembers of its turns, in microseconds.
 use Rattle.std.specs.Prelude.{ℕ, ◌==◌, if◌then◌else◌, Option, Some, None}
 use Rattle.crsm_spec.specs.Node.{Turn}
 use Rattle.crsm_shell.specs.Taking.{heard_in}

@@ -8,7 +8,7 @@ use Rattle.crsm_replica_io.specs.declared.input.WantedInput.TheVariants as what
 use Rattle.crsm_replica_detector.specs.Watching.{Watch, watched, with_suspicion, with_tick}
 use Rattle.crsm_replica_detector.specs.Wishing.{wish}
 
--- what a node with this replica wants next
+-- the next input of a node with this replica
 abbrev pub wish_of : Watch → Replica → WantedInput
 wish_of w r = wish r.me r.n w r.log
 
@@ -24,7 +24,7 @@ with_turn Turn.Tick w = with_tick w
 with_turn (Turn.In address bytes) w = w
 with_turn (Turn.Suspect ms) w = w
 
--- The turn is one of what is wanted: of a receive, a datagram, or a tick where none came.
+-- The turn takes the wanted input: for a receive a datagram, or a tick if none has arrived.
 abbrev pub Fulfils : WantedInput → Turn → Type 0
 Fulfils what.Receive (Turn.In address bytes) = Unit {0}
 Fulfils what.Receive Turn.Tick = Unit {0}

@@ -46,7 +46,7 @@ abbrev pub Suspects : ℕ → ℕ → Times → Log → Option (List ℕ) → Ty
 Suspects me n t log None = suspects me n t log (wanted me n t log) ≡ false
 Suspects me n t log (Some ms) = (suspects me n t log ms ≡ true) × (ms ≡ wanted me n t log)
 
--- what replica me wants next, in a cluster that began with n, at these times and with this log
+-- the next input of replica me, in a cluster that began with n, at these times and with this log
 unfoldable pub wish_at : ℕ → ℕ → Times → Log → WantedInput
 wish_at me n t log =
     let ms = wanted me n t log in

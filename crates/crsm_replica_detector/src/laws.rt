@@ -1,4 +1,4 @@
-//! What the crates above need to know of wishes.
+//! Laws of the wanted inputs, for the crates above.
 
 ghost use Rattle.std.specs.Prelude.{◌≡◌, ◌+◌, ◌++◌, ◌↔◌, ℕ, true, List};
 ghost use Rattle.crsm_base.specs.Replicas.{can_be_members, has};
@@ -14,24 +14,27 @@ ghost use Rattle.crsm_replica_detector.specs.Wishing.{wish};
 ghost use Rattle.crsm_replica_detector.specs.Wished.{AreWished, CountsWished, Fulfils, chosen, empty_receives, watch_after, replica_after, with_turn};
 ghost use Rattle.crsm_shell.specs.Taking.{heard_in, turn_of};
 
-/// A suspicion that is wanted names the replica itself and can be the members of the next epoch.
+/// States that a suspicion includes the replica itself, and that its replicas can be the members of the next epoch. It
+/// runs no code.
 pub fn suspicions_can_be_members()
     ensures can_be { (me n : ℕ) (w : Watch) (log : Log) (ms : List ℕ) → wish me n w log ≡ WantedInput.Suspect ms → can_be_members (spec n log) ms ≡ true }
     ensures own { (me n : ℕ) (w : Watch) (log : Log) (ms : List ℕ) → wish me n w log ≡ WantedInput.Suspect ms → has ms me ≡ true }
 {}
 
-/// What is taken as it is wanted is such a turn, and the port has counted a tick in place of a datagram.
+/// States that taking a wanted input is such a turn, and that the port has counted an empty receive if a tick was taken
+/// in place of a datagram. It runs no code.
 pub fn inputs_are_wished()
     ensures fulfils { (what : WantedInput) (size : ℕ) (buffer : List ℕ) (p q : Meaning) (t : ReceivedInput) → TakesInput what size buffer p q (Ok t) → Fulfils what (turn_of buffer t) }
     ensures counted { (what : WantedInput) (size : ℕ) (buffer : List ℕ) (p q : Meaning) (t : ReceivedInput) → TakesInput what size buffer p q (Ok t) → CountsWished what (turn_of buffer t) p.empties q.empties }
 {}
 
-/// What is noted of a turn that fulfils a wish is the times after it.
+/// States that the detector's state after a turn that took the wanted input is that of the definitions. It runs no
+/// code.
 pub fn turns_are_watched()
     ensures { (w : Watch) (what : WantedInput) (t : Turn) (reading : ℕ) → Fulfils what t → with_turn t (heard_at (heard_in t) reading (chosen what w)) ≡ watched w (t, reading) }
 {}
 
-/// Turns that stand behind others begin where those end.
+/// States that turns appended to others begin where those end. It runs no code.
 pub fn turns_append()
     ensures wished { (w : Watch) (r : Replica) (ts us : List (Turn × ℕ)) → AreWished w r (ts ++ us) ↔ (AreWished w r ts × AreWished (watch_after w ts) (replica_after r ts) us) }
     ensures empty { (w : Watch) (r : Replica) (ts us : List (Turn × ℕ)) → empty_receives w r (ts ++ us) ≡ empty_receives w r ts + empty_receives (watch_after w ts) (replica_after r ts) us }

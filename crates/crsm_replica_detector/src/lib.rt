@@ -1,4 +1,4 @@
-//! What the node of a replica waits for: the input that it takes next, by the readings at which it heard others.
+//! The failure detector of a node: the input to take next, by the readings at which it received from others.
 #![tactic(auto)]
 
 mod detector;

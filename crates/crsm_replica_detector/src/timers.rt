@@ -1,4 +1,4 @@
-//! When a node heard others, took a tick and suspected.
+//! The timers of a node: when it received from others, took a tick and suspected.
 
 ghost use Rattle.std.specs.Prelude.{◌≡◌, ℕ, ◌+◌, ◌≤◌, ◌<◌, ◌↔◌, IsTrue, IfOk, All, filter, nat_le};
 ghost use Rattle.std.specs.List.{list_all};
@@ -14,12 +14,14 @@ use crsm_ledger::Ledger;
 use crsm_replica_io::WantedInput;
 use std::alloc::Global;
 
-/// A tick is due so many microseconds behind the last one.
+/// Period of ticks in microseconds.
 const TICK: u64 = 10_000;
-/// A replica that was not heard for so many microseconds is suspected, once in as many.
+/// Time in microseconds without a packet from a replica after which it is suspected, and the least time between
+/// suspicions.
 const SILENCE: u64 = 5_000_000;
 
-/// The newest reading, and when each other replica was heard last, a tick was taken and a suspicion was chosen.
+/// The newest reading, and the readings at which each other replica was last received from, a tick was last taken and a
+/// suspicion was last chosen.
 #[derive(Clone, Copy, Debug)]
 pub(crate) struct Timers {
     pub(crate) newest: u64,
@@ -31,7 +33,7 @@ pub(crate) struct Timers {
 impl Timers {
     ghost use Rattle.crsm_replica_detector.specs.Detector.{AreAlike, TimersStand, times_of};
 
-    /// The timers at a reading, at which a replica was heard or none.
+    /// Returns the timers after a reading, with the replica from which was received, if any.
     pub(crate) fn at(timers: Option<Timers>, reading: u64, from: Option<u32>) -> Timers
         ensures { (w : Watch) → TimersStand timers w → TimersStand (Some result) (heard_at from reading w) }
     {
@@ -41,7 +43,7 @@ impl Timers {
         }
     }
 
-    /// All at the first reading.
+    /// Returns the timers at the first reading.
     fn begun(reading: u64) -> Timers
         ensures { AreAlike (times_of result) (begun reading) }
     {
@@ -53,7 +55,7 @@ impl Timers {
         }
     }
 
-    /// A further reading, at which a replica was heard or none.
+    /// Returns the timers after a further reading, with the replica from which was received, if any.
     fn further(mut self, reading: u64, from: Option<u32>) -> Timers
         ensures { (t : Times) → AreAlike (times_of self) t → AreAlike (times_of result) (further from reading t) }
     {
@@ -66,7 +68,7 @@ impl Timers {
         self
     }
 
-    /// The input that is wanted next.
+    /// Returns the input to take next.
     #[tactic(auto, unfolding(crate::specs::Wishing::wish_at))]
     pub(crate) fn wish(&self, me: u32, ledger: &Ledger) -> Result<WantedInput, NoMemory>
         ensures { (n : ℕ) (log : Log) (t : Times) → LedgerStands me n ledger.now log → AreAlike (times_of self.now) t → IfOk result (λ what. what ≡ wish_at me n t log) }
@@ -87,7 +89,7 @@ impl Timers {
         has_passed(self.ticked, TICK, self.newest)
     }
 
-    /// The replicas that are wanted, where this is the time to suspect all others.
+    /// Returns the replicas that should remain, if it is time to suspect all others, else `None`.
     #[tactic(auto, unfolding(crate::specs::Wishing::suspects, crate::specs::Wishing::wanted))]
     fn suspicion(&self, me: u32, ledger: &Ledger) -> Result<Option<Members>, NoMemory>
         ensures { (n : ℕ) (log : Log) (t : Times) → LedgerStands me n ledger.now log → AreAlike (times_of self.now) t → IfOk result (Suspects me n t log) }
@@ -111,7 +113,7 @@ impl Timers {
         is_among(spec, me) && has_passed(self.suspected, SILENCE, self.newest)
     }
 
-    /// Those of the replicas that are wanted.
+    /// Returns those of the replicas that should remain.
     fn wanted(&self, alloc: Global, me: u32, spec: &[u32]) -> Result<Vec<u32>, NoMemory>
         requires { All (λ k. k < 15) spec.now }
         ensures { (t : Times) → AreAlike (times_of self.now) t → IfOk result (λ ms. ms.items ≡ filter (is_wanted me t) spec.now) }
@@ -134,7 +136,7 @@ impl Timers {
     }
 }
 
-/// Whether so many microseconds, at least one, have passed since a reading.
+/// Returns whether `micros` microseconds, at least 1, have passed since a reading.
 fn has_passed(since: u64, micros: u64, reading: u64) -> bool
     requires { 1 ≤ micros }
     ensures { IsTrue result ↔ (since + micros ≤ reading) }
@@ -142,7 +144,7 @@ fn has_passed(since: u64, micros: u64, reading: u64) -> bool
     reading.saturating_sub(since) >= micros
 }
 
-/// These replicas as members.
+/// Returns these replicas as members.
 fn members_of(alloc: Global, replicas: &[u32]) -> Result<Members, NoMemory>
     requires { IsMembers replicas.now }
     ensures { IfOk result (λ members. members ≡ replicas.now) }
@@ -154,7 +156,7 @@ fn members_of(alloc: Global, replicas: &[u32]) -> Result<Members, NoMemory>
     }
 }
 
-/// Whether these should be the members of the next epoch.
+/// Returns whether these should be the members of the next epoch.
 #[tactic(auto, unfolding(crate::specs::Wishing::should_be_members))]
 fn should_be_members(me: u32, ledger: &Ledger, wanted: &[u32]) -> bool
     ensures { WhereStands ledger.now (λ _ n log. result ≡ should_be_members me n log wanted.now) }
@@ -163,7 +165,7 @@ fn should_be_members(me: u32, ledger: &Ledger, wanted: &[u32]) -> bool
     are_majority && should_end(ledger, wanted) && is_up_to(me, ledger, wanted)
 }
 
-/// Whether the replica takes no part in the known epoch, or some member is not wanted.
+/// Returns whether the replica takes no part in the known epoch, or a member should not remain.
 #[tactic(auto, unfolding(crate::specs::Wishing::should_end))]
 fn should_end(ledger: &Ledger, wanted: &[u32]) -> bool
     ensures { WhereStands ledger.now (λ me n log. result ≡ should_end n log wanted.now) }
@@ -184,7 +186,7 @@ fn are_members_among(ledger: &Ledger, wanted: &[u32]) -> bool
     are_among(ledger.known().members.as_slice(), wanted)
 }
 
-/// Whether the replica is the least that is wanted, or has not entered the known epoch.
+/// Returns whether the replica is the least that should remain, or has not entered the known epoch.
 #[tactic(auto, unfolding(crate::specs::Wishing::is_up_to))]
 fn is_up_to(me: u32, ledger: &Ledger, wanted: &[u32]) -> bool
     ensures { WhereStands ledger.now (λ _ n log. result ≡ is_up_to me log wanted.now) }

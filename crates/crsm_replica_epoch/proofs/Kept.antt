@@ -1,4 +1,4 @@
--- What a replica that runs is, when one thing of it changes.
+-- A running replica when one part of it changes.
 use Rattle.std.proofs.Common.{◌≡◌, ℕ, ◌<◌, ◌≤◌, true, refl, sym, ◌∙◌, ap, subst, arith, List, [], ◌∷◌, length, Option, Some, None, IfSome}
 use Rattle.std.specs.Prelude.{Result, Ok, Err, IfOk}
 use Rattle.crsm_base.specs.Order.{stamp_eq}

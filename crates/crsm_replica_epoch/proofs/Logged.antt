@@ -1,4 +1,4 @@
--- Of an epoch the logged entries strictly rise, and there is none where it was not entered.
+-- The logged entries of an epoch strictly ascend, and there is none if it was not entered.
 use Rattle.std.proofs.Common.{◌≡◌, ℕ, Bool, true, false, refl, sym, ◌∙◌, ap, subst, arith, List, [], ◌∷◌, inl, inr, Option, Some, None}
 use Rattle.std.specs.Prelude.{◌==◌, ◌&&◌, ◌||◌, not, nat_lt, if◌then◌else◌}
 use Rattle.std.specs.List.{AllByRecursion, list_all, list_any}

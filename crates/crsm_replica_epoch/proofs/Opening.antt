@@ -1,4 +1,4 @@
--- An epoch in which nothing has happened.
+-- The state at the beginning of an epoch.
 use Rattle.std.proofs.Common.{◌≡◌, ℕ, Bool, true, false, refl, sym, ◌∙◌, subst, List, [], ◌∷◌}
 use Rattle.crsm_spec.specs.Types.{Stamp, Entry, Rec}
 use Rattle.crsm_spec.specs.Log.{Log, active, unexecuted, last_stamp, known, decision, executed, logged, logged_in}

@@ -1,4 +1,4 @@
--- What a record changes in the unexecuted entries.
+-- The effect of a record on the unexecuted entries.
 use Rattle.std.proofs.Common.{◌≡◌, ℕ, Bool, true, false, refl, sym, ◌∙◌, ap, subst, arith, List, [], ◌∷◌, ◌++◌, inl, inr, Option, Some, None}
 use Rattle.std.specs.Prelude.{◌==◌, ◌&&◌, ◌||◌, not, filter, find, if◌then◌else◌, option_map, option_to_list}
 use Rattle.std.specs.List.{AllByRecursion, last_or}

@@ -1,4 +1,4 @@
--- What is kept of an epoch, and what it stands for.
+-- The relation of an epoch's state in memory to the replica of the definitions.
 use Rattle.std.specs.Prelude.{◌≡◌, ℕ, ◌≤◌, Bool, true, List, [], ◌∷◌, Option, None, Some}
 use Rattle.std.specs.List.{AllByRecursion}
 use Rattle.crsm_base.specs.Order.{stamp_lt}
@@ -41,8 +41,8 @@ pub record StandsInside (running : EpochState) (r : Replica) : Type 0 where
   pub links : LinksStand running.links r
   pub waiting : active r.log ≡ true → PendingStands running.pending (is_above (last_stamp r.log)) (unexecuted r.log) r.votes
 
--- What is kept stands for the replica: for its times, votes, debts and links, and while it is active for its
--- unexecuted entries. Each record of its log fits.
+-- The state stands for the replica: for its times, votes, pending acknowledgements and links, and while it is active
+-- for its unexecuted entries. Each record of its log fits.
 unfoldable pub EpochStands : EpochState → Replica → Type 0
 EpochStands running r = StandsInside running r
 

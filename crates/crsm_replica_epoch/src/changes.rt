@@ -1,4 +1,4 @@
-//! What else changes, one thing at a time.
+//! Changes of an epoch's state other than by records.
 
 ghost use Rattle.std.specs.Prelude.{◌≡◌, ◌<◌, ◌≤◌, List, ◌∷◌, length, IfOk};
 ghost use Rattle.crsm_base.specs.declared.Stamp.{Stamp};
@@ -13,7 +13,8 @@ use crate::state::EpochState;
 use crsm_base::{InEpoch, Members, NoMemory, Stamp};
 
 impl EpochState {
-    /// Counts a vote, where `last` is the stamp of the last executed entry.
+    /// Counts the vote of replica `k` for the stamp. `last` is the stamp of the last executed entry. `NoMemory` if
+    /// memory runs out.
     pub fn count_vote(&mut self, stamp: Stamp, k: u32, last: Option<Stamp>) -> Result<(), NoMemory>
         requires { k < 15 }
         ensures { IfOk result (λ _. WhereStands self.old (λ r. last ≡ last_stamp r.log →
@@ -25,7 +26,8 @@ impl EpochState {
         Ok(())
     }
 
-    /// Issues this time, which would be issued at some reading, and pushes a payload to each other member.
+    /// Issues `time`, which the clock would issue at some reading, and pushes a payload to each other member.
+    /// `NoMemory` if memory runs out.
     pub fn push_at(
         &mut self,
         time: u64,
@@ -42,7 +44,8 @@ impl EpochState {
         Ok(())
     }
 
-    /// Takes the next frame of another replica k, and with it this time, which is above the latest of k. Needs no memory.
+    /// Takes the next frame of another replica `k`, and records its time, which is above k's latest. It allocates
+    /// nothing.
     pub fn take_next(&mut self, k: u32, time: u64)
         requires { k < 15 }
         ensures { WhereStands self.old (λ r. latest_from r.received k < time →
@@ -52,7 +55,7 @@ impl EpochState {
         self.latest.receive(k, time);
     }
 
-    /// All frames to k below this number, of those that were pushed, have come.
+    /// Removes the frames to `k` below the number `next`, which are acknowledged.
     pub fn acked(&mut self, k: u32, next: u64)
         requires { k < 15 }
         ensures { WhereStands self.old (λ r. next ≤ length (frames_to r k) → EpochStands self.new (record r { acked = (k, next) ∷ r.acked })) }
@@ -60,7 +63,7 @@ impl EpochState {
         self.links.acked(k, next);
     }
 
-    /// Owes an acknowledgement.
+    /// Adds a pending acknowledgement. `NoMemory` if memory runs out.
     pub fn owe(&mut self, stamp: Stamp) -> Result<(), NoMemory>
         ensures { IfOk result (λ _. WhereStands self.old (λ r. EpochStands self.new (record r { owed = with_stamp stamp r.owed }))) }
     {
@@ -68,7 +71,7 @@ impl EpochState {
         Ok(())
     }
 
-    /// The acknowledgement that was owed first is owed no more.
+    /// Removes the oldest pending acknowledgement.
     pub fn paid(&mut self)
         ensures { (r : Replica) (s : Stamp) (ss : List Stamp) → EpochStands self.old r → r.owed ≡ s ∷ ss → EpochStands self.new (record r { owed = ss }) }
     {

@@ -1,5 +1,5 @@
-//! What a replica keeps of its epoch while it runs: its clock, the times that it received, the entries that are not
-//! executed, the acknowledgements that it owes, and its links.
+//! The state of an epoch at a running replica: its clock, the times received, the entries that are not executed, the
+//! pending acknowledgements, and its links.
 #![tactic(auto)]
 
 mod changes;

@@ -8,7 +8,7 @@ use crsm_base::{InEpoch, NoMemory};
 use crsm_link::{In, Out};
 use std::alloc::Global;
 
-/// This replica's end of the link to another one, and of the link from there.
+/// This replica's ends of the links to and from another one.
 #[derive(Drop)]
 pub(crate) struct Link {
     pub(crate) sender: Out,
@@ -16,7 +16,7 @@ pub(crate) struct Link {
 }
 
 impl Link {
-    /// The ends of new links.
+    /// Returns the ends of new links.
     pub(crate) fn new(alloc: Global) -> Link
         ensures sent { OutStands result.sender [] 0 }
         ensures next { result.receiver.next ≡ 0 }
@@ -27,8 +27,8 @@ impl Link {
         }
     }
 
-    /// Pushes a payload of this time. Times rise from 1 on, so fewer frames were pushed than it says; where that is not
-    /// so, this does nothing.
+    /// Pushes a payload with this time. Times rise from 1 on, so fewer frames were pushed than `time` says; otherwise
+    /// nothing changes. `NoMemory` if memory runs out.
     pub(crate) fn push(&mut self, payload: InEpoch, time: u64) -> Result<(), NoMemory>
         ensures sent { OnOk result ((pushed : List InEpoch) (acked : ℕ) → OutStands self.old.sender pushed acked → length pushed < time →
             OutStands self.new.sender (pushed ++ payload ∷ []) acked) }
@@ -40,8 +40,8 @@ impl Link {
         Ok(())
     }
 
-    /// Takes the next frame, which is of this time. Times rise from 1 on, so fewer frames were taken than it says; where
-    /// that is not so, this does nothing.
+    /// Takes the next frame, which has this time. Times rise from 1 on, so fewer frames were taken than `time` says;
+    /// otherwise nothing changes.
     pub(crate) fn take_next(&mut self, time: u64)
         ensures next { self.old.receiver.next < time → self.new.receiver.next ≡ self.old.receiver.next + 1 }
         ensures sender { self.new.sender ≡ self.old.sender }
@@ -52,7 +52,7 @@ impl Link {
         }
     }
 
-    /// All frames below this number have come.
+    /// Removes the frames below the number `next`, which are acknowledged.
     pub(crate) fn acked(&mut self, next: u64)
         ensures sent { (pushed : List InEpoch) (acked : ℕ) → OutStands self.old.sender pushed acked → next ≤ length pushed →
             OutStands self.new.sender pushed (max next acked) }

@@ -11,7 +11,7 @@ use crsm_base::{InEpoch, MAX_LINK_FRAMES, Members, NoMemory};
 use crsm_link::Frames;
 use std::alloc::Global;
 
-/// The links with each of fifteen replicas, by its number. Nothing goes over the one with the replica itself.
+/// The links with each of 15 replicas, by its number. The one with the replica itself is unused.
 #[derive(Drop)]
 pub(crate) struct Links {
     alloc: Global,
@@ -19,7 +19,7 @@ pub(crate) struct Links {
 }
 
 impl Links {
-    /// New links.
+    /// Returns new links.
     pub(crate) fn new(alloc: Global) -> Links
         ensures { (r : Replica) → r.pushed ≡ [] → r.acked ≡ [] → r.taken ≡ [] → LinksStand result r }
     {
@@ -45,7 +45,7 @@ impl Links {
         }
     }
 
-    /// The number of the next frame from k.
+    /// Returns the number of the next frame from replica `k`.
     pub(crate) fn next_from(&self, k: u32) -> u64
         requires { k < 15 }
         ensures { (r : Replica) → LinksStand self.now r → result ≡ next_from r k }
@@ -53,7 +53,7 @@ impl Links {
         self.links[k as usize].receiver.next()
     }
 
-    /// How many frames were pushed to k.
+    /// Returns the number of frames pushed to replica `k`.
     pub(crate) fn pushed_to(&self, k: u32) -> u64
         requires { k < 15 }
         ensures { (r : Replica) → LinksStand self.now r → result ≡ length (frames_to r k) }
@@ -61,7 +61,7 @@ impl Links {
         self.links[k as usize].sender.count()
     }
 
-    /// The first 64 frames to k that are not acknowledged, with their numbers.
+    /// Returns the first 64 unacknowledged frames to replica `k` with their numbers. `NoMemory` if memory runs out.
     pub(crate) fn due(&self, k: u32) -> Result<Frames, NoMemory>
         requires { k < 15 }
         ensures { IfOk result (λ frames. (r : Replica) → LinksStand self.now r → frames ≡ take most_again (unacked r k)) }
@@ -69,7 +69,7 @@ impl Links {
         self.links[k as usize].sender.due()
     }
 
-    /// Whether the link to k holds as many frames as it may.
+    /// Returns whether the link to replica `k` is at `MAX_LINK_FRAMES` or above.
     fn is_full(&self, k: u32) -> bool
         requires { k < 15 }
         ensures { (r : Replica) → LinksStand self.now r → result ≡ nat_le most_frames (length (unacked r k)) }
@@ -77,7 +77,7 @@ impl Links {
         self.links[k as usize].sender.len() >= MAX_LINK_FRAMES as u64
     }
 
-    /// Some link of me to a member holds as many frames as it may.
+    /// Returns whether a link of `me` to a member is at `MAX_LINK_FRAMES` or above.
     pub(crate) fn is_congested(&self, me: u32, members: &Members) -> bool
         ensures { (r : Replica) → LinksStand self.now r → result ≡ list_any (λ k. nat_le most_frames (length (unacked r k))) (others_of me members.now) }
     {
@@ -89,7 +89,8 @@ impl Links {
         false
     }
 
-    /// Pushes a payload of this time, which is above the one before, to each member but me.
+    /// Pushes a payload with this time, which is above the one before, to each member but `me`. `NoMemory` if memory
+    /// runs out.
     pub(crate) fn push(
         &mut self,
         me: u32,
@@ -107,7 +108,7 @@ impl Links {
         Ok(())
     }
 
-    /// Takes the next frame of k, which is of this time, above the latest of k.
+    /// Takes the next frame of replica `k`, whose time is above k's latest.
     pub(crate) fn take_next(&mut self, k: u32, time: u64)
         requires { k < 15 }
         ensures { (r : Replica) → LinksStand self.old r → latest_from r.received k < time →
@@ -116,7 +117,7 @@ impl Links {
         self.links[k as usize].take_next(time);
     }
 
-    /// All frames to k below this number, of those that were pushed, have come.
+    /// Removes the frames to `k` below the number `next`, which are acknowledged.
     pub(crate) fn acked(&mut self, k: u32, next: u64)
         requires { k < 15 }
         ensures { (r : Replica) → LinksStand self.old r → next ≤ length (frames_to r k) → LinksStand self.new (record r { acked = (k, next) ∷ r.acked }) }

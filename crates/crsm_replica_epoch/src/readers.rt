@@ -1,4 +1,4 @@
-//! What is kept, as questions.
+//! Readers of an epoch's state.
 
 ghost use Rattle.std.specs.Prelude.{◌≡◌, ◌≢◌, ◌<◌, true, length, take, IfOk};
 ghost use Rattle.crsm_base.specs.Limits.{most_again};
@@ -15,7 +15,7 @@ use crsm_base::{Members, NoMemory, Stamp};
 use crsm_link::Frames;
 
 impl EpochState {
-    /// The time that would be issued at this reading.
+    /// Returns the time that the clock would issue at this reading, or `None` if the latest is 2^64 - 1.
     #[tactic(auto, unfolding(crate::specs::EpochState::EpochStands))]
     pub fn would(&self, reading: u64) -> Option<u64>
         ensures { WhereStands self.now (λ r. result ≡ issue (last_issued r) reading) }
@@ -23,7 +23,7 @@ impl EpochState {
         self.clock.would(reading)
     }
 
-    /// The time that was issued last, 0 before the first.
+    /// Returns the time issued last, 0 before the first.
     #[tactic(auto, unfolding(crate::specs::EpochState::EpochStands))]
     pub fn last_issued(&self) -> u64
         ensures { WhereStands self.now (λ r. result ≡ last_issued r) }
@@ -31,7 +31,7 @@ impl EpochState {
         self.clock.last()
     }
 
-    /// The latest time received from another replica, 0 before the first.
+    /// Returns the latest time received from another replica `k`, 0 before the first.
     pub fn latest_from(&self, k: u32) -> u64
         requires { k < 15 }
         ensures { WhereStands self.now (λ r. k ≢ r.me → result ≡ latest_from r.received k) }
@@ -39,7 +39,7 @@ impl EpochState {
         self.latest.of(k)
     }
 
-    /// The number of the next frame from k.
+    /// Returns the number of the next frame from replica `k`.
     #[tactic(auto, unfolding(crate::specs::EpochState::EpochStands))]
     pub fn next_from(&self, k: u32) -> u64
         requires { k < 15 }
@@ -48,7 +48,7 @@ impl EpochState {
         self.links.next_from(k)
     }
 
-    /// How many frames were pushed to k.
+    /// Returns the number of frames pushed to replica `k`.
     #[tactic(auto, unfolding(crate::specs::EpochState::EpochStands))]
     pub fn pushed_to(&self, k: u32) -> u64
         requires { k < 15 }
@@ -57,7 +57,7 @@ impl EpochState {
         self.links.pushed_to(k)
     }
 
-    /// The first 64 frames to k that are not acknowledged, with their numbers.
+    /// Returns the first 64 unacknowledged frames to replica `k` with their numbers. `NoMemory` if memory runs out.
     #[tactic(auto, unfolding(crate::specs::EpochState::EpochStands))]
     pub fn due(&self, k: u32) -> Result<Frames, NoMemory>
         requires { k < 15 }
@@ -66,14 +66,14 @@ impl EpochState {
         self.links.due(k)
     }
 
-    /// Some link of me to a member holds as many frames as it may.
+    /// Returns whether a link of `me` to a member is at `MAX_LINK_FRAMES` or above.
     pub fn is_congested(&self, me: u32, members: &Members) -> bool
         ensures { WhereStands self.now (λ r. me ≡ r.me → members.now ≡ members_of r → result ≡ is_congested r) }
     {
         self.links.is_congested(me, members)
     }
 
-    /// How many entries of me are not executed, while it is active.
+    /// Returns the number of entries of `me` that are not executed; specified while the replica is active.
     pub fn own_unexecuted(&self, me: u32) -> u64
         requires { me < 15 }
         ensures { WhereStands self.now (λ r. me ≡ r.me → active r.log ≡ true → result ≡ length (own_unexecuted r)) }
@@ -81,7 +81,7 @@ impl EpochState {
         self.pending.queue(me).len() as u64
     }
 
-    /// The least stamp whose acknowledgement is owed.
+    /// Returns the least stamp with a pending acknowledgement, or `None` if none is pending.
     #[tactic(auto, unfolding(crate::specs::EpochState::EpochStands))]
     pub fn first_owed(&self) -> Option<Stamp>
         ensures { WhereStands self.now (λ r. result ≡ first_of r.owed) }
@@ -89,7 +89,7 @@ impl EpochState {
         self.owed.first()
     }
 
-    /// How many acknowledgements are owed.
+    /// Returns the number of pending acknowledgements.
     #[tactic(auto, unfolding(crate::specs::EpochState::EpochStands))]
     pub fn owed_len(&self) -> u64
         ensures { WhereStands self.now (λ r. result ≡ length r.owed) }
@@ -97,7 +97,8 @@ impl EpochState {
         self.owed.len()
     }
 
-    /// The stamp of the entry that is executed next, where it is ready, while the replica is active.
+    /// Returns the stamp of the next entry to execute if it is ready, else `None`; specified while the replica is
+    /// active.
     pub fn ready(&self, members: &Members, spec: &Members) -> Option<Stamp>
         ensures { WhereStands self.now (λ r. members.now ≡ members_of r → spec.now ≡ spec_of r → active r.log ≡ true → result ≡ ready_of r) }
     {

@@ -1,4 +1,4 @@
-//! What a record changes.
+//! The effect of a record on an epoch's state.
 
 ghost use Rattle.std.specs.Prelude.{◌≡◌, true, ◌∷◌, IfOk};
 ghost use Rattle.crsm_spec.specs.Types.{Rec};
@@ -11,8 +11,8 @@ use crate::state::EpochState;
 use crsm_base::{Entry, NoMemory, Rec, Stamp};
 
 impl EpochState {
-    /// A record was kept behind which the stamp of the last executed entry was `last`. For the record of entering an
-    /// epoch there is `new`.
+    /// Applies a record other than that of entering an epoch, for which `new` makes the state. `last` is the stamp of
+    /// the last executed entry before it. `NoMemory` if memory runs out.
     pub fn keep(&mut self, rec: &Rec, last: Option<Stamp>) -> Result<(), NoMemory>
         ensures { IfOk result (λ _. WhereStands self.old (λ r. last ≡ last_stamp r.log → fits r.me r.n r.log rec.now ≡ true → IsNoEnter rec.now →
             EpochStands self.new (record r { log = rec.now ∷ r.log }))) }
@@ -25,7 +25,7 @@ impl EpochState {
         Ok(())
     }
 
-    /// An entry was logged.
+    /// Adds an entry that was logged.
     fn log_entry(&mut self, entry: &Entry, last: Option<Stamp>) -> Result<(), NoMemory>
         ensures { IfOk result (λ _. WhereStands self.old (λ r. last ≡ last_stamp r.log → fits r.me r.n r.log (Rec.Prepare entry.now) ≡ true →
             EpochStands self.new (record r { log = Rec.Prepare entry.now ∷ r.log }))) }
@@ -36,7 +36,7 @@ impl EpochState {
         Ok(())
     }
 
-    /// The first entry that was not executed is.
+    /// Removes the first entry that was not executed, which now is.
     fn commit(&mut self, stamp: Stamp)
         ensures { WhereStands self.old (λ r. fits r.me r.n r.log (Rec.Commit stamp) ≡ true → EpochStands self.new (record r { log = Rec.Commit stamp ∷ r.log })) }
     {
@@ -44,7 +44,7 @@ impl EpochState {
     }
 }
 
-/// Whether a stamp is above the last executed one.
+/// Returns whether a stamp is above the last executed one.
 pub(crate) fn is_above(last: Option<Stamp>, stamp: Stamp) -> bool
     ensures { result ≡ is_above last stamp }
 {

@@ -1,4 +1,4 @@
-//! What is kept of an epoch.
+//! The state of an epoch at a running replica.
 
 ghost use Rattle.std.specs.Prelude.{◌≡◌, false, true, ◌∷◌};
 ghost use Rattle.crsm_spec.specs.Types.{Rec};
@@ -13,21 +13,21 @@ use crsm_commit::{Latest, Pending};
 use crsm_phase::Waits;
 use std::alloc::Global;
 
-/// What a replica keeps of its epoch while it runs.
+/// The state of an epoch at a running replica; it is lost at a restart.
 #[derive(Drop)]
 pub struct EpochState {
     pub(crate) clock: Rising,
-    /// The latest times, its own too.
+    /// The latest times, the replica's own included.
     pub(crate) latest: Latest,
-    /// The entries that are not executed, and all votes for stamps above the last executed one. While the replica is
-    /// not active this says nothing.
+    /// The entries that are not executed, and all votes for stamps above the last executed one. Unspecified while the
+    /// replica is not active.
     pub(crate) pending: Pending,
     pub(crate) owed: Waits,
     pub(crate) links: Links,
 }
 
 impl EpochState {
-    /// An epoch in which nothing has happened yet.
+    /// Returns the state at the beginning of an epoch.
     pub fn new(alloc: Global) -> EpochState
         ensures inactive { (r : Replica) → EachFits r.me r.n r.log → active r.log ≡ false → EpochStands result (forgotten r) }
         ensures entered { (r : Replica) → EachFits r.me r.n r.log → fits r.me r.n r.log (Rec.Enter (known r.log)) ≡ true →

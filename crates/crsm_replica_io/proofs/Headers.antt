@@ -1,4 +1,4 @@
--- One letter more in an outbox, and one more that goes out of it.
+-- An outbox with one more datagram, and with one sent.
 use Rattle.std.proofs.Common.{◌≡◌, ◌∙◌, ℕ, ◌+◌, ◌<◌, ◌≤◌, List, [], ◌∷◌, ◌++◌, length, take, drop, get_or, zero, suc, refl, sym, ap, ap₂, arith, length-drop, length-append}
 use Rattle.std.proofs.Math.Seq.{take-length}
 use Rattle.std.proofs.lemmas.List.{take_more, take-append-le, drop-append-le, drop-drop, length-take-le}
@@ -54,7 +54,7 @@ added_size headers after l text long bytes size more behind len =
     let lengths = ap length behind ∙ length-append text bytes in
     omega (arith, size, len, sizes, lengths)
 
--- ---- one more goes out
+-- ---- one more is sent
 
 apart : (headers : List Header) (l : Header) (text : List ℕ) → packets_of (headers ++ l ∷ []) text ≡ packets_of headers text ++ (record { address = l.to; bytes = take l.len (drop (size_of headers) text) }) ∷ []
 apart [] l text = refl

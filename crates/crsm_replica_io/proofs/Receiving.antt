@@ -1,4 +1,4 @@
--- What a receive of a port is, as the input of a step.
+-- A receive of a port, as the input of a step.
 use Rattle.std.proofs.Common.{◌≡◌, ◌≤◌, ℕ, zero, suc, min, List, [], ◌∷◌, ◌++◌, length, take, drop, Option, Some, None, Ok, Err, refl, sym, ◌∙◌, ap, IsErrOf, arith}
 use Rattle.crsm_base.specs.declared.memory.Failed.{Failed}
 use Rattle.crsm_port.specs.Meaning.{Meaning, Traffic, Receives as PortReceives, Takes}
@@ -15,7 +15,7 @@ prefix zero d x h = refl
 prefix (suc n) [] x h = absurd (omega arith)
 prefix (suc n) (y ∷ d) x h = ap (λ r. y ∷ r) (prefix n d x (omega arith))
 
--- a prefix up to the end of the list or so many
+-- a prefix up to the end of the list or of this length
 cut : (n most : ℕ) (d : List ℕ) → n ≡ min most (length d) → take n d ≡ take most d
 cut zero zero d h = refl
 cut zero (suc most) [] h = refl
@@ -42,8 +42,8 @@ fails old new before after e r = record {
   not_empty = λ _. r.not_empty;
   none_taken = λ _. r.untaken;
   told = r.told;
-  coat = r.coat;
-  lent = r.lent;
+  framing = r.framing;
+  borrowed_as = r.borrowed_as;
   plan = fails_so old.plan new.plan e (record {}) r.plan;
   well = λ p a good is. none_is_some (sym good ∙ (r.plan.exact p a (omega arith) (omega arith)).0 refl);
 }
@@ -62,8 +62,8 @@ nothing old new before after r = record {
   not_empty = λ is. absurd (ok is);
   none_taken = λ is. absurd (ok is);
   told = r.told;
-  coat = r.coat;
-  lent = r.lent;
+  framing = r.framing;
+  borrowed_as = r.borrowed_as;
   plan = goes_so old.plan new.plan r.plan;
   well = λ p a good is. ok is;
 }
@@ -83,8 +83,8 @@ datagram old new before after from len r = record {
   not_empty = λ is. absurd (ok is);
   none_taken = λ is. absurd (ok is);
   told = r.told;
-  coat = r.coat;
-  lent = r.lent;
+  framing = r.framing;
+  borrowed_as = r.borrowed_as;
   plan = goes_so old.plan new.plan r.plan;
   well = λ p a good is. ok is;
 }
@@ -92,7 +92,7 @@ datagram old new before after from len r = record {
     ok : IsErrOf {E = TakeError} (Ok (taken.Datagram from len)) error.PortFault → ⊥
     ok h = cc
 
-    as_first : (t u : Traffic) → Takes old.coat t u before after (got.Datagram from len) → IsFirst (length before) after old.coat t u (taken.Datagram from len)
+    as_first : (t u : Traffic) → Takes old.framing t u before after (got.Datagram from len) → IsFirst (length before) after old.framing t u (taken.Datagram from len)
     as_first t u (d, rest, waits, address, size, copied, gone) =
-        let bytes = (old.coat.unwrap d).bytes in
+        let bytes = (old.framing.unwrap d).bytes in
         (d, rest, waits, address, ap (take len) copied ∙ prefix len bytes (drop len before) (omega (arith, size)) ∙ cut len (length before) bytes size, gone)

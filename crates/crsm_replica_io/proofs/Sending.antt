@@ -1,11 +1,11 @@
--- One datagram after another goes out.
+-- Sending of one datagram after another.
 use Rattle.std.proofs.Common.{◌≡◌, ◌+◌, ◌≤◌, ◌<◌, take, drop, get_or, ℕ, suc, List, [], ◌∷◌, ◌++◌, map, length, Option, Some, None, Result, Ok, Err, refl, sym, ◌∙◌, ap, subst, option_map, append-nil, append_assoc, inl, inr, arith}
 use Rattle.std.proofs.lemmas.List.{map-append}
 use Rattle.crsm_base.specs.declared.memory.Failed.{Failed}
 use Rattle.crsm_port_faults.specs.Counts.{Rose}
 use Rattle.crsm_port_faults.specs.Plan.{Plan, spent}
 use Rattle.crsm_port_faults.specs.Failing.{one_less}
-use Rattle.crsm_port.specs.Meaning.{Coat, Meaning, Packet, Traffic, Sends, with_sent}
+use Rattle.crsm_port.specs.Meaning.{Framing, Meaning, Packet, Traffic, Sends, with_sent}
 use Rattle.crsm_replica_io.proofs.Headers.{one_header}
 use Rattle.crsm_replica_io.specs.Headers.{packets_of, size_of}
 use Rattle.crsm_replica_io.specs.declared.outbox.Header.{Header}
@@ -21,7 +21,7 @@ length_behind : (packets : List Packet) (d : Packet) → length (packets ++ d �
 length_behind [] d = refl
 length_behind (p ∷ packets) d = let on = length_behind packets d in omega arith
 
--- one more goes out
+-- one more is sent
 goes : (missing : ℕ) (packets out : List Packet) (d : Packet) → Lacks missing packets out → Lacks missing (packets ++ d ∷ []) (out ++ d ∷ [])
 goes missing [] out d (none, empty) = inl ([], ap (λ ps. ps ++ d ∷ []) empty, (none, refl))
 goes missing (p ∷ packets) out d (inl (rest, is, l)) = inl (rest ++ d ∷ [], ap (λ ps. ps ++ d ∷ []) is, goes missing packets rest d l)
@@ -33,24 +33,24 @@ lost missing [] out d (none, empty) = inr (missing, refl, (none, empty))
 lost missing (p ∷ packets) out d (inl (rest, is, l)) = inl (rest, is, lost missing packets rest d l)
 lost missing (p ∷ packets) out d (inr (fewer, is, l)) = inr (suc fewer, ap suc is, lost fewer packets out d l)
 
--- ---- what is told
+-- ---- the traffic
 
 none_more : (t : Option Traffic) → t ≡ option_map (with_all_sent []) t
 none_more None = refl
 none_more (Some t) = ap (λ ps. Some (record t { sent = ps })) (sym (append-nil t.sent))
 
--- one more, behind those that went out, each with the coat on
-one_told : (c : Coat) (t : Option Traffic) (out : List Packet) (d : Packet)
+-- one more, behind those that went out, each with the framing on
+one_told : (c : Framing) (t : Option Traffic) (out : List Packet) (d : Packet)
     → option_map (with_sent (c.wrap d)) (option_map (with_all_sent (map c.wrap out)) t) ≡ option_map (with_all_sent (map c.wrap (out ++ d ∷ []))) t
 one_told c None out d = refl
 one_told c (Some t) out d =
     ap (λ ps. Some (record t { sent = ps })) (append_assoc t.sent (map c.wrap out) (c.wrap d ∷ []) ∙ ap (λ ps. t.sent ++ ps) (sym (map-append c.wrap out (d ∷ []))))
 
--- the coat of the second port is that of the first
-told_on : (a c : Coat) (t u v : Option Traffic) (out : List Packet) (d : Packet) → c ≡ a → u ≡ option_map (with_all_sent (map a.wrap out)) t → v ≡ option_map (with_sent (c.wrap d)) u
+-- the framing of the second port is that of the first
+told_on : (a c : Framing) (t u v : Option Traffic) (out : List Packet) (d : Packet) → c ≡ a → u ≡ option_map (with_all_sent (map a.wrap out)) t → v ≡ option_map (with_sent (c.wrap d)) u
     → v ≡ option_map (with_all_sent (map a.wrap (out ++ d ∷ []))) t
 told_on a c t u v out d same before more =
-    more ∙ ap (λ (k : Coat). option_map (with_sent (k.wrap d)) u) same ∙ ap (option_map (with_sent (a.wrap d))) before ∙ one_told a t out d
+    more ∙ ap (λ (k : Framing). option_map (with_sent (k.wrap d)) u) same ∙ ap (option_map (with_sent (a.wrap d))) before ∙ one_told a t out d
 
 -- ---- plans without an end
 
@@ -73,8 +73,8 @@ nothing_sent m = record {
   faults = refl;
   empties = refl;
   later = omega arith;
-  coat = refl;
-  lent = refl;
+  framing = refl;
+  borrowed_as = refl;
   out = record { out = []; missing = 0; lacks = (refl, refl); counted = omega arith; traffic = none_more m.traffic };
   whole = λ p told good room bytes. record { losses = refl; traffic = none_more m.traffic; plan = told ∙ ap Some (sym (spent_none p good)) };
 }
@@ -86,7 +86,7 @@ module _ {T : Type 0} (packets : List Packet) (d : Packet) (a b c : Meaning) (s 
     missing = s.out.missing;
     lacks = goes _ packets _ d s.out.lacks;
     counted = let on = s.out.counted in let same = r.no_loss in omega arith;
-    traffic = told_on a.coat b.coat a.traffic b.traffic c.traffic s.out.out d s.coat s.out.traffic r.sent;
+    traffic = told_on a.framing b.framing a.traffic b.traffic c.traffic s.out.out d s.framing s.out.traffic r.sent;
   }
 
   lost_out : (e : Failed) → Sends {T = T} d.address d.bytes b c (Err e) → GoesOut (packets ++ d ∷ []) a c
@@ -103,8 +103,8 @@ module _ {T : Type 0} (packets : List Packet) (d : Packet) (a b c : Meaning) (s 
     faults = r.faults ∙ s.faults;
     empties = r.empties ∙ s.empties;
     later = let one = s.later in let two = r.later in omega arith;
-    coat = r.coat ∙ s.coat;
-    lent = r.lent ∙ s.lent;
+    framing = r.framing ∙ s.framing;
+    borrowed_as = r.borrowed_as ∙ s.borrowed_as;
     out = by_result result r;
     whole = λ p told good room size.
         let more = length_behind packets d in
@@ -115,7 +115,7 @@ module _ {T : Type 0} (packets : List Packet) (d : Packet) (a b c : Meaning) (s 
       all_well : (p : Plan) → p.good ≡ None → length packets + 1 ≤ p.calls → bytes_in packets + length d.bytes ≤ p.bytes → GoesWhole packets p a b → (result : Result T Failed) → Sends d.address d.bytes b c result → GoesWhole (packets ++ d ∷ []) p a c
       all_well p good room size before (Ok x) r = record {
         losses = r.no_loss ∙ before.losses;
-        traffic = told_on a.coat b.coat a.traffic b.traffic c.traffic packets d s.coat before.traffic r.sent;
+        traffic = told_on a.framing b.framing a.traffic b.traffic c.traffic packets d s.framing before.traffic r.sent;
         plan = rw (length_behind packets d, bytes_behind packets d) (r.plan.spends _ before.plan ∙ ap Some (spent_more p (length packets) (bytes_in packets) (length d.bytes) good));
       }
       all_well p good room size before (Err e) r =

@@ -1,4 +1,4 @@
--- The headers of an outbox's datagrams, whose bytes stand one behind another, as datagrams.
+-- The datagrams of an outbox, by their headers and their joined bytes.
 use Rattle.std.specs.Prelude.{ℕ, ◌+◌, List, [], ◌∷◌, take, drop}
 use Rattle.crsm_port.specs.Meaning.{Packet}
 use Rattle.crsm_replica_io.specs.declared.outbox.Header.{Header}

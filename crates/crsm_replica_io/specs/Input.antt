@@ -3,7 +3,7 @@ use Rattle.std.specs.Prelude.{◌≡◌, ◌↔◌, ◌≤◌, ℕ, List, [], �
 use Rattle.crsm_base.specs.declared.memory.Failed.{Failed}
 use Rattle.crsm_port_faults.specs.Counts.{Rose}
 use Rattle.crsm_port_faults.specs.Plan.{Plan, Spends}
-use Rattle.crsm_port.specs.Meaning.{Coat, Meaning, Packet, Traffic}
+use Rattle.crsm_port.specs.Meaning.{Framing, Meaning, Packet, Traffic}
 use Rattle.crsm_replica_io.specs.declared.input.WantedInput.{WantedInput}
 use Rattle.crsm_replica_io.specs.declared.input.WantedInput.TheVariants as what
 use Rattle.crsm_replica_io.specs.declared.input.ReceivedInput.{ReceivedInput}
@@ -24,18 +24,18 @@ IsWithin size (taken.Datagram from len) = len ≤ size
 IsWithin size (taken.Suspect members) = Unit {0}
 
 -- the first datagram that waits, cut to a length, is the prefix of the buffer; a tick where none waits
-abbrev pub IsFirst : ℕ → List ℕ → Coat → Traffic → Traffic → ReceivedInput → Type 0
-IsFirst size buffer coat old new taken.Tick = (old.waiting ≡ []) × (new ≡ old)
-IsFirst size buffer coat old new (taken.Datagram from len) = (d : Packet) × (rest : List Packet) × (old.waiting ≡ d ∷ rest) × (from ≡ (coat.unwrap d).address)
-    × (take len buffer ≡ take size (coat.unwrap d).bytes) × (new ≡ record old { waiting = rest; taken = old.taken ++ d ∷ [] })
-IsFirst size buffer coat old new (taken.Suspect members) = ⊥
+abbrev pub IsFirst : ℕ → List ℕ → Framing → Traffic → Traffic → ReceivedInput → Type 0
+IsFirst size buffer framing old new taken.Tick = (old.waiting ≡ []) × (new ≡ old)
+IsFirst size buffer framing old new (taken.Datagram from len) = (d : Packet) × (rest : List Packet) × (old.waiting ≡ d ∷ rest) × (from ≡ (framing.unwrap d).address)
+    × (take len buffer ≡ take size (framing.unwrap d).bytes) × (new ≡ record old { waiting = rest; taken = old.taken ++ d ∷ [] })
+IsFirst size buffer framing old new (taken.Suspect members) = ⊥
 
 -- the same answer, as the port has it
 abbrev pub of_port : Result ReceivedInput TakeError → Result ReceivedInput Failed
 of_port (Ok t) = Ok t
 of_port (Err PortFault) = Err (record {})
 
--- what a receive into a buffer of this length owes, with the buffer after it
+-- the effect of a receive into a buffer of this length, with the buffer after it
 pub record Receives (size : ℕ) (buffer : List ℕ) (old new : Meaning) (result : Result ReceivedInput TakeError) : Type 0 where
   pub losses : new.losses ≡ old.losses
   pub later : old.faults ≤ new.faults
@@ -43,16 +43,16 @@ pub record Receives (size : ℕ) (buffer : List ℕ) (old new : Meaning) (result
   pub not_empty : IsErrOf result PortFault → new.empties ≡ old.empties
   pub fault : IsErrOf result PortFault → Rose old.faults new.faults
   pub no_fault : (IsErrOf result PortFault → ⊥) → new.faults ≡ old.faults
-  pub first : (t u : Traffic) → old.traffic ≡ Some t → new.traffic ≡ Some u → IfOk result (IsFirst size buffer old.coat t u)
+  pub first : (t u : Traffic) → old.traffic ≡ Some t → new.traffic ≡ Some u → IfOk result (IsFirst size buffer old.framing t u)
   pub none_taken : IsErrOf result PortFault → new.traffic ≡ old.traffic
   pub told : IsSome old.traffic ↔ IsSome new.traffic
-  pub coat : new.coat ≡ old.coat
-  pub lent : new.lent ≡ old.lent
+  pub framing : new.framing ≡ old.framing
+  pub borrowed_as : new.borrowed_as ≡ old.borrowed_as
   pub plan : Spends 0 0 old.plan new.plan (of_port result)
   -- a port all of whose calls go well does not fail
   pub well : (p : Plan) → old.plan ≡ Some p → p.good ≡ None → IsErrOf result PortFault → ⊥
 
--- what is taken for what is wanted, with the buffer after it: only a receive calls the port
+-- the effect of taking the wanted input, with the buffer after it: only a receive calls the port
 abbrev pub TakesInput : WantedInput → ℕ → List ℕ → Meaning → Meaning → Result ReceivedInput TakeError → Type 0
 TakesInput what.Receive size buffer old new result = Receives size buffer old new result
 TakesInput what.Tick size buffer old new result = (new ≡ old) × (result ≡ Ok taken.Tick)

@@ -10,7 +10,7 @@ use Rattle.crsm_port.specs.Meaning.{Meaning, Packet, Traffic}
 
 -- ---- where datagrams go
 
--- the datagram has a spelling
+-- the datagram has an encoding
 abbrev pub FitsSend : Send → Type 0
 FitsSend s = FitsDatagram s.datagram
 
@@ -23,7 +23,7 @@ abbrev pub sent_packets : Option ℕ → List ℕ → List Packet
 sent_packets None bytes = []
 sent_packets (Some address) bytes = (record { address = address; bytes = bytes }) ∷ []
 
--- a datagram as it goes out, if its receiver has an address
+-- a datagram as it is sent, if its receiver has an address
 unfoldable pub packet_for : List ℕ → Send → List Packet
 packet_for peers s = sent_packets (address_of peers s.to) (datagram_bytes s.datagram)
 
@@ -37,41 +37,42 @@ bytes_in (d ∷ packets) = length d.bytes + bytes_in packets
 
 -- ---- what sending them does to a port
 
--- so many of these are missing in what went out, and the others went out in their order
+-- the second list is the first without this number of items, in the same order
 abbrev pub Lacks : ℕ → List Packet → List Packet → Type 0
 Lacks missing [] out = (missing ≡ 0) × (out ≡ [])
 Lacks missing (d ∷ packets) out =
     ((rest : List Packet) × (out ≡ d ∷ rest) × Lacks missing packets rest) ⊎ ((fewer : ℕ) × (missing ≡ suc fewer) × Lacks fewer packets out)
 
--- a count that rose so many times, up to its last value
+-- a counter that rose by this number, up to its last value
 abbrev pub raised_by : ℕ → ℕ → ℕ
 raised_by times count = min (count + times) (2 ^ 64 - 1)
 
--- these are told behind those that were sent before
+-- these are recorded as sent, after those that were sent before
 abbrev pub with_all_sent : List Packet → Traffic → Traffic
 with_all_sent out t = record t { sent = t.sent ++ out }
 
--- at most as many are missing as the count of losses rose by; those that went out are told as the coat has them
+-- the lost packets are at most those by which the counter of losses rose; those sent are recorded as the port frames
+-- them
 pub record GoesOut (packets : List Packet) (old new : Meaning) : Type 0 where
   pub out : List Packet
   pub missing : ℕ
   pub lacks : Lacks missing packets out
   pub counted : raised_by missing old.losses ≤ new.losses
-  pub traffic : new.traffic ≡ option_map (with_all_sent (map old.coat.wrap out)) old.traffic
+  pub traffic : new.traffic ≡ option_map (with_all_sent (map old.framing.wrap out)) old.traffic
 
 -- all of them go out
 pub record GoesWhole (packets : List Packet) (p : Plan) (old new : Meaning) : Type 0 where
   pub losses : new.losses ≡ old.losses
-  pub traffic : new.traffic ≡ option_map (with_all_sent (map old.coat.wrap packets)) old.traffic
+  pub traffic : new.traffic ≡ option_map (with_all_sent (map old.framing.wrap packets)) old.traffic
   pub plan : new.plan ≡ Some (spent (length packets) (bytes_in packets) p)
 
--- what sending all of these owes
+-- the effect of sending all of these
 pub record SendsAll (packets : List Packet) (old new : Meaning) : Type 0 where
   pub faults : new.faults ≡ old.faults
   pub empties : new.empties ≡ old.empties
   pub later : old.losses ≤ new.losses
-  pub coat : new.coat ≡ old.coat
-  pub lent : new.lent ≡ old.lent
+  pub framing : new.framing ≡ old.framing
+  pub borrowed_as : new.borrowed_as ≡ old.borrowed_as
   pub out : GoesOut packets old new
   -- where all calls of the port go well and there is room
   pub whole : (p : Plan) → old.plan ≡ Some p → p.good ≡ None → length packets ≤ p.calls → bytes_in packets ≤ p.bytes → GoesWhole packets p old new

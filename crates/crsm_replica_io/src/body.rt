@@ -1,4 +1,4 @@
-//! The records of a group of steps as one log body.
+//! The log body of a group of steps.
 
 ghost use Rattle.std.specs.Prelude.{◌≡◌, ◌++◌, List, OnOk};
 ghost use Rattle.std.specs.List.{AllByRecursion};
@@ -8,8 +8,8 @@ ghost use Rattle.crsm_base.specs.Records.{FitsRec, body_bytes};
 use crsm_base::{Bytes, NoMemory, Rec};
 use crsm_text_fields::put_rec;
 
-/// Writes the records of one more step behind those of the steps before it. After `NoMemory` some of them, and a
-/// prefix of the next, may stand there.
+/// Appends the encodings of one more step's records to the body. `NoMemory` if memory runs out; a prefix of them may
+/// then have been appended.
 #[tactic(auto, unfolding(crsm_base::specs::Records::body_bytes))]
 pub fn write_records(records: &[Rec], body: &mut Bytes) -> Result<(), NoMemory>
     requires { AllByRecursion FitsRec records.now }

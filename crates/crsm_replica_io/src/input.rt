@@ -6,34 +6,35 @@ ghost use Rattle.crsm_replica_io.specs.Input.{IsWithin, TakesInput};
 use crsm_base::Members;
 use crsm_port::{Port, Recv};
 
-/// The input that is wanted.
+/// The input that the next step is to take.
 #[derive(Debug, Drop)]
 pub enum WantedInput {
-    /// The next datagram of the port; a tick where none came.
+    /// The next datagram of the port, or a tick if none has arrived.
     Receive,
     Tick,
-    /// Replicas that seem to be down.
+    /// A suspicion: these are to be the members of the next epoch.
     Suspect(Members),
 }
 
-/// The input that is taken.
+/// The input that a step took.
 #[derive(Debug, Drop)]
 pub enum ReceivedInput {
-    /// So many bytes that came from an address: the prefix of the buffer. They may spell no datagram.
+    /// `len` bytes from an address, IPv4 x 65,536 + port: the prefix of the buffer. They need not be the encoding of a
+    /// datagram.
     Datagram { from: u64, len: usize },
     Tick,
     Suspect(Members),
 }
 
-/// Why no input is taken.
+/// The reason why no input was taken.
 #[derive(Clone, Copy, Debug, PartialEq, Eq)]
 pub enum TakeError {
     /// The port failed in a receive.
     PortFault,
 }
 
-/// Takes the input that is wanted. A datagram is left in the buffer; one that is longer is cut to it. Nothing is
-/// received but for `Receive`, and nothing is sent.
+/// Takes the wanted input. A datagram is left in the buffer, cut to its length if it is longer. Only `Receive` calls
+/// the port, and nothing is sent. `PortFault` if the port failed, `NoMemory` if memory runs out.
 pub fn take_input<P: Port>(
     what: WantedInput,
     port: &mut P,

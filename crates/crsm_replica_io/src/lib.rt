@@ -1,5 +1,5 @@
-//! What stands around a step of a running replica: the input that it takes, the log body of its records, and its
-//! datagrams on their way out.
+//! The devices around a step of a running replica: the input that it takes, the log body of its records, and its
+//! outgoing datagrams.
 #![tactic(auto)]
 
 mod body;

@@ -1,4 +1,4 @@
-//! Datagrams on their way out.
+//! The queue of outgoing datagrams.
 
 ghost use Rattle.std.specs.Prelude.{◌≡◌, ◌++◌, [], ◌∷◌, length, IfOk, OnOk};
 ghost use Rattle.std.specs.List.{AllByRecursion};
@@ -13,19 +13,19 @@ use crsm_wire::put_datagram;
 use std::alloc::Global;
 use std::marker::Model;
 
-// The address that a datagram goes to, and how many bytes it has.
+// The address of a datagram, IPv4 x 65,536 + port, and its length in bytes.
 #[derive(Clone, Copy)]
 pub(crate) struct Header {
     pub(crate) to: u64,
     pub(crate) len: usize,
 }
 
-/// Datagrams that go out together, in their order. They are written as bytes when they are added, so that sending
-/// takes no memory.
+/// A list of datagrams to be sent together, in order. They are encoded when they are added, so that sending needs no
+/// memory.
 #[derive(Drop)]
 pub struct Outbox {
     headers: Vec<Header>,
-    // The bytes of the datagrams, one behind another.
+    // The bytes of the datagrams, joined.
     text: Bytes,
 }
 
@@ -43,7 +43,7 @@ impl Model for Outbox {
 }
 
 impl Outbox {
-    /// An empty outbox.
+    /// Returns the empty outbox.
     pub fn new(alloc: Global) -> Outbox
         ensures { result ≡ [] }
     {
@@ -53,9 +53,9 @@ impl Outbox {
         }
     }
 
-    /// Adds the datagrams of a step, each for the address of its receiver; replica `k` has the address `peers[k]`.
-    /// One to a replica without an address is left out. After `NoMemory` some of them may have been added, or all may be
-    /// gone.
+    /// Adds the datagrams of a step, each with the address of its receiver; replica `k` has the address `peers[k]`. A
+    /// datagram to a replica without an address is left out. `NoMemory` if memory runs out; some of them may then have
+    /// been added, or all may have been removed.
     #[tactic(auto, unfolding(crate::specs::Outgoing::packets_for, crate::specs::Outgoing::packet_for))]
     pub fn add(&mut self, sends: &[Send], peers: &[u64]) -> Result<(), NoMemory>
         requires { AllByRecursion FitsSend sends.now }
@@ -88,7 +88,7 @@ impl Outbox {
                 Ok(())
             }
             Err(NoMemory) => {
-                // A prefix of the datagram may stand there.
+                // A prefix of the datagram may be in the buffer.
                 self.headers.clear();
                 self.text.clear();
                 Err(NoMemory)
@@ -96,7 +96,7 @@ impl Outbox {
         }
     }
 
-    /// Lets all of them go, and keeps their room.
+    /// Removes all datagrams, and keeps the memory for further ones.
     pub fn clear(&mut self)
         ensures { self.new ≡ [] }
     {
@@ -104,7 +104,7 @@ impl Outbox {
         self.text.clear();
     }
 
-    /// Makes room for them on the port.
+    /// Reserves memory for them on the port. `NoMemory` if memory runs out.
     pub fn make_room<P: Port>(&self, port: &mut P) -> Result<(), NoMemory>
         ensures { Reserves (length self.now) (bytes_in self.now) (P.meaning port.old) (P.meaning port.new) result }
     {
@@ -112,7 +112,7 @@ impl Outbox {
         port.reserve(self.headers.len() as u64, bytes)
     }
 
-    /// Sends them all. One that the port fails to send is lost, as others are on their way.
+    /// Sends them all. A datagram that the port fails to send is lost, as any packet may be.
     pub fn send_all<P: Port>(&self, port: &mut P)
         ensures { SendsAll self.now (P.meaning port.old) (P.meaning port.new) }
     {
@@ -129,7 +129,7 @@ fn address(peers: &[u64], to: To) -> Option<u64>
     }
 }
 
-// Writes a datagram behind the others, and tells how many bytes that are.
+// Appends the encoding of a datagram, and returns its length in bytes.
 fn write(datagram: &Datagram, text: &mut Bytes) -> Result<usize, NoMemory>
     requires { FitsDatagram datagram.now }
     ensures { IfOk result (λ len. (text.new ≡ text.old ++ datagram_bytes datagram.now) × (len ≡ length (datagram_bytes datagram.now))) }

@@ -1,4 +1,4 @@
--- What is left to an iterator over a list by value.
+-- The rest of an iterator over a list by value.
 use Rattle.std.proofs.Common.{◌≡◌, [], ◌∷◌, ◌++◌, List, length, refl, append_assoc, arith}
 
 pub nothing_left : {X : Type 0} (xs : List X) → length xs ≡ 0 → xs ≡ []

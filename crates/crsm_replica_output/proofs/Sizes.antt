@@ -1,4 +1,4 @@
--- How long control messages are.
+-- The lengths of control messages.
 use Rattle.std.proofs.Common.{◌≤◌, ℕ, ◌+◌, List, ◌∷◌, ◌++◌, length, Bool, true, false, arith}
 use Rattle.std.specs.Prelude.{Option, Some, None}
 use Rattle.std.proofs.lemmas.List.{length-append}

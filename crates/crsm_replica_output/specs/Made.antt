@@ -1,4 +1,4 @@
--- What a step has made so far, and what it hands out in the end.
+-- The output of a step while it runs, and the batch that it ends in.
 use Rattle.std.specs.Prelude.{◌≡◌, ℕ, List, [], ◌++◌, map}
 use Rattle.crsm_base.specs.declared.send.Send.{Send}
 use Rattle.crsm_base.specs.declared.send.To.TheVariants as to_whom

@@ -1,4 +1,4 @@
--- Spellings of control messages.
+-- Encodings of control messages.
 use Rattle.std.specs.Prelude.{◌≡◌, ℕ, List}
 use Rattle.crsm_base.specs.declared.Control.{Control}
 use Rattle.crsm_base.specs.Messages.{control_bytes, FitsControl}
@@ -16,7 +16,8 @@ pub record IsSpelling (bytes : List ℕ) : Type 0 where
   pub control : Control
   pub of : IsSpellingOf bytes control
 
--- for a replica whose next control message has these numbers, what the output holds, and the message that is so spelt
+-- for a replica whose next control message has these numbers, the content of the output, and the message with this
+-- encoding
 abbrev pub WhereNext : Output → (from boot number : ℕ) → List ℕ → (Replica → Made → Control → Type 0) → Type 0
 WhereNext output from boot number spelling P =
     (r : Replica) (m : Made) (c : Control) → OutputStands output m → from ≡ r.me → boot ≡ boots r.log → number ≡ r.made → IsSpellingOf spelling c → P r m c

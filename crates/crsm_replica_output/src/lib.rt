@@ -1,4 +1,4 @@
-//! What a step of a replica makes: records, datagrams, and the lines of the transcript.
+//! The output of a replica's step: records, datagrams, and the lines of the transcript.
 #![tactic(auto)]
 
 mod batch;

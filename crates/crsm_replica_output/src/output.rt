@@ -1,4 +1,4 @@
-//! What a step has made so far.
+//! The output of a step while it runs.
 
 ghost use Rattle.std.specs.Prelude.{◌≡◌, ◌++◌, [], ◌∷◌, ℕ, List, IfOk, OnOk, map};
 ghost use Rattle.crsm_base.specs.declared.Datagram.{Datagram};
@@ -9,7 +9,7 @@ use crsm_base::{Datagram, Line, Lines, NoMemory, Outcome, Rec, Recs, Send, Sends
 use std::alloc::Global;
 use std::mem;
 
-/// A reply to a client: where it goes, which command it is on, what it says, and its line.
+/// A reply to a client: its address, IPv4 x 65,536 + port, the command that it answers, its content, and its line.
 #[derive(Drop)]
 pub struct Reply {
     pub address: u64,
@@ -19,7 +19,7 @@ pub struct Reply {
     pub line: Line,
 }
 
-/// What a step has made so far. After an error it says nothing any more.
+/// The output that a step has produced until now. After an error its fields are unspecified.
 #[derive(Drop)]
 pub struct Output {
     alloc: Global,
@@ -34,7 +34,7 @@ pub struct Output {
 }
 
 impl Output {
-    /// Nothing is made.
+    /// Returns the empty output.
     pub fn new(alloc: Global) -> Output
         ensures { OutputStands result nothing }
     {
@@ -48,14 +48,14 @@ impl Output {
         }
     }
 
-    /// The lines of the records so far.
+    /// Returns the lines of the records.
     pub fn lines(&self) -> &[Line]
         ensures { (m : Made) → OutputStands self.now m → result.now ≡ m.lines }
     {
         self.lines.as_slice()
     }
 
-    /// A record is kept, which gives these lines.
+    /// Appends a record with its lines. `NoMemory` if memory runs out.
     pub fn keep(&mut self, rec: Rec, lines: Lines) -> Result<(), NoMemory>
         ensures { OnOk result ((m : Made) → OutputStands self.old m → OutputStands self.new (record m { batch = m.batch ++ rec ∷ []; lines = m.lines ++ lines })) }
     {
@@ -69,7 +69,7 @@ impl Output {
         Ok(())
     }
 
-    /// A collection is refused, with this line.
+    /// Appends the line of a refused collection. `NoMemory` if memory runs out.
     pub fn exceed(&mut self, line: Line) -> Result<(), NoMemory>
         ensures { OnOk result ((m : Made) → OutputStands self.old m → OutputStands self.new (record m { excess = m.excess ++ line ∷ [] })) }
     {
@@ -77,7 +77,7 @@ impl Output {
         Ok(())
     }
 
-    /// A datagram goes to replica `k`.
+    /// Appends a datagram to replica `k`. `NoMemory` if memory runs out.
     pub fn send(&mut self, k: u32, datagram: Datagram) -> Result<(), NoMemory>
         ensures { OnOk result ((m : Made) → OutputStands self.old m → OutputStands self.new (record m { sends = m.sends ++ (k, datagram) ∷ [] })) }
     {
@@ -88,7 +88,7 @@ impl Output {
         Ok(())
     }
 
-    /// These datagrams go to replicas.
+    /// Appends datagrams to replicas. `NoMemory` if memory runs out.
     pub fn send_all(&mut self, sends: Sends) -> Result<(), NoMemory>
         ensures { OnOk result ((m : Made) (sent : List (ℕ × Datagram)) → OutputStands self.old m → sends ≡ map to_replica sent → OutputStands self.new (record m { sends = m.sends ++ sent })) }
     {
@@ -97,7 +97,7 @@ impl Output {
         Ok(())
     }
 
-    /// A client is told something.
+    /// Appends a reply to a client. `NoMemory` if memory runs out.
     pub fn reply(&mut self, reply: Reply) -> Result<(), NoMemory>
         ensures { OnOk result ((m : Made) → OutputStands self.old m → OutputStands self.new (record m { replies = m.replies ++ on_paper reply ∷ [] })) }
     {
@@ -105,7 +105,7 @@ impl Output {
         Ok(())
     }
 
-    /// Hands out all that was made, and begins anew.
+    /// Returns all output and leaves the empty one. `NoMemory` if memory runs out.
     pub fn take(&mut self) -> Result<Batch, NoMemory>
         ensures batch { IfOk result (λ batch. (m : Made) → OutputStands self.old m → IsBatchOf batch m) }
         ensures nothing { OnOk result (OutputStands self.new nothing) }
@@ -129,7 +129,7 @@ impl Output {
     }
 }
 
-/// Adds lines behind others.
+/// Appends `more` to `lines`. `NoMemory` if memory runs out.
 fn add(more: Vec<Line>, lines: &mut Lines) -> Result<(), NoMemory>
     ensures { OnOk result (lines.new ≡ lines.old ++ more.items) }
 {
@@ -139,7 +139,7 @@ fn add(more: Vec<Line>, lines: &mut Lines) -> Result<(), NoMemory>
     Ok(())
 }
 
-/// Adds the datagrams and the lines of replies.
+/// Appends the datagrams and the lines of replies. `NoMemory` if memory runs out.
 fn hand_out(replies: Vec<Reply>, sends: &mut Sends, lines: &mut Lines) -> Result<(), NoMemory>
     ensures sends { OnOk result (sends.new ≡ sends.old ++ map to_address (map on_paper replies.items)) }
     ensures lines { OnOk result (lines.new ≡ lines.old ++ map line_of (map on_paper replies.items)) }

@@ -1,4 +1,4 @@
-//! A control message on its way.
+//! Encoding and sending of control messages.
 
 ghost use Rattle.std.specs.Prelude.{[], ◌∷◌, ◌++◌, IfOk, OnOk};
 ghost use Rattle.crsm_base.specs.declared.Control.{Control};
@@ -15,7 +15,8 @@ use crsm_segment::cut;
 use crsm_wire::{is_control_spelt, is_decision_spelt, put_control, put_decide};
 use std::alloc::Global;
 
-/// The spelling of a control message. Each that a replica sends has one.
+/// Returns the encoding of a control message. `NoMemory` if memory runs out, or if the message has none, which no
+/// message that a replica sends is.
 pub fn spell(alloc: Global, message: &Message) -> Result<Bytes, NoMemory>
     ensures { IfOk result (λ bytes. IsSpellingOf bytes message.now) }
 {
@@ -27,7 +28,8 @@ pub fn spell(alloc: Global, message: &Message) -> Result<Bytes, NoMemory>
     Ok(bytes)
 }
 
-/// The spelling of the control message that carries a decision. Each that a replica sends has one.
+/// Returns the encoding of the control message that carries a decision. `NoMemory` if memory runs out, or if it has
+/// none, which no decision that a replica sends is.
 pub fn spell_decision(alloc: Global, decision: &Decision) -> Result<Bytes, NoMemory>
     ensures { IfOk result (λ bytes. IsSpellingOf bytes (Control.Decide decision.now)) }
 {
@@ -39,7 +41,7 @@ pub fn spell_decision(alloc: Global, decision: &Decision) -> Result<Bytes, NoMem
     Ok(bytes)
 }
 
-/// Sends a control message whose spelling is no longer than a part: its only part.
+/// Sends a control message that fits in one part.
 fn send_at_once(
     alloc: Global,
     output: &mut Output,
@@ -67,8 +69,8 @@ fn send_at_once(
     Ok(())
 }
 
-/// Sends the parts of the control message with this spelling to replica `to`: the `number`th that boot `boot` of
-/// replica `from` makes.
+/// Sends the parts of a control message with this encoding to replica `to`. It is the `number`th control message that
+/// boot `boot` of replica `from` makes. `NoMemory` if memory runs out.
 pub fn send_parts(
     alloc: Global,
     output: &mut Output,

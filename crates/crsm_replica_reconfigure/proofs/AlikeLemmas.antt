@@ -1,4 +1,4 @@
--- Drafts that are alike in what the records of a begun proposal depend on.
+-- Drafts that are alike in all on which the records of a begun proposal depend.
 use Rattle.std.proofs.Common.{◌≡◌, ℕ, ◌+◌, List, [], ◌∷◌, refl, sym, ◌∙◌, subst, Bool, true, false}
 use Rattle.std.specs.Prelude.{◌&&◌, ◌==◌, ◌++◌, not}
 use Rattle.std.proofs.lemmas.Bool.{false≢true, eq-eqb}

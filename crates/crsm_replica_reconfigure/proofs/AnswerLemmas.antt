@@ -1,4 +1,4 @@
--- Promises to the ballot at work are counted.
+-- The counting of promises for the ballot in progress.
 use Rattle.std.proofs.Common.{◌≡◌, ℕ, ◌+◌, List, [], ◌∷◌, ◌++◌, refl, sym, ◌∙◌, ap, Bool, true, false, map}
 use Rattle.std.specs.Prelude.{◌==◌, ◌&&◌, not, Some}
 use Rattle.std.proofs.lemmas.Bool.{false≢true}

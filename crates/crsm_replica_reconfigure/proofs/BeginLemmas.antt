@@ -1,4 +1,4 @@
--- A decision of one's own begins to be proposed: what becomes of it, and whether its records fit.
+-- The beginning of a proposal of an own decision: its effect, and whether its records fit.
 use Rattle.std.proofs.Common.{◌≡◌, ℕ, ◌+◌, ◌<◌, List, [], ◌∷◌, ◌++◌, refl, sym, ◌∙◌, ap, subst, arith, Bool, true, false, map}
 use Rattle.std.specs.Prelude.{◌&&◌, ◌==◌, ◌^◌, Option, Some, None}
 use Rattle.std.proofs.lemmas.Bool.{false≢true, eq-eqb}
@@ -112,7 +112,7 @@ promise_kept seen x fit on =
     both true false r h i j = absurd (false≢true i)
     both false q r h i j = absurd (false≢true h)
 
--- whether the records fit, told by what they depend on
+-- whether the records fit, by the facts on which they depend
 unfoldable begin_fits : Decision → Ballot → ℕ → ℕ → Option Decision → Held Decision → List Entry → Bool
 begin_fits own top me n d held done =
     when top.round == u64_max then true
@@ -208,7 +208,7 @@ begins_shared own seen x s c few = go ((greater_ballot (promised x.replica.log) 
 
 -- ---- on a state
 
--- the ballot in the next round has a spelling
+-- the ballot in the next round has an encoding
 pub top_fits : (x : Draft) (seen : Ballot) → IsSound x → FitsBallot seen → (top : Ballot) → top ≡ greater_ballot (promised x.replica.log) seen → (top.round ≡ u64_max → ⊥) →
     FitsBallot (after (greater_ballot (promised x.replica.log) seen) x.replica.me)
 unfolding greater_ballot when◌then◌otherwise◌

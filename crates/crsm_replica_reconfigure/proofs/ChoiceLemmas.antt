@@ -1,4 +1,4 @@
--- Votes and refusals are counted, and a decision is chosen.
+-- The counting of votes and refusals, and the choice of a decision.
 use Rattle.std.proofs.Common.{◌≡◌, ℕ, ◌+◌, List, ◌∷◌, refl, sym, ◌∙◌, ap, subst, Bool, true, false}
 use Rattle.std.specs.Prelude.{◌==◌, ◌&&◌, ◌||◌, not, filter, Option, Some}
 use Rattle.std.proofs.lemmas.Bool.{false≢true}

@@ -1,4 +1,4 @@
--- Drafts: choices, what fits, and what sending and entering leave.
+-- Drafts: choices, the records that fit, and the effects of sending and entering.
 use Rattle.std.proofs.Common.{◌≡◌, ℕ, zero, suc, ◌+◌, ◌<◌, ◌≤◌, List, [], ◌∷◌, length, drop, refl, sym, ◌∙◌, ap, subst, cond, arith, Bool, true, false}
 use Rattle.std.specs.Prelude.{◌-◌, ◌==◌, ◌&&◌, ◌||◌, not, nat_lt, nat_le, Option, Some, None, if◌then◌else◌}
 use Rattle.std.specs.List.{AllByRecursion, list_all}
@@ -186,7 +186,7 @@ known_is : (log : Log) (d : Decision) → decision log ≡ Some d → known log 
 unfolding known
 known_is log d e = ap (λ o. option_map_or (λ d. d.epoch) o 0) e
 
--- the places that are left, of which the first is executed next
+-- the entries that are left, the first of them to be executed next
 abbrev left_of : Draft → Decision → List Entry
 left_of x d = drop (length (executed x.replica.log) - d.base_len) d.tail
 

@@ -1,4 +1,5 @@
--- A proposer's own acceptance: whether its records fit, told by what they depend on, and the coordinator that it leaves.
+-- A proposer's own acceptance: whether its records fit, by the facts on which they depend, and the coordinator after
+-- it.
 use Rattle.std.proofs.Common.{◌≡◌, ℕ, ◌+◌, List, [], ◌∷◌, refl, sym, ◌∙◌, ap, subst, Bool, true, false, length}
 use Rattle.std.specs.Prelude.{◌&&◌, ◌==◌, ◌-◌, drop, not, nat_le, nat_lt, Option, Some, None}
 use Rattle.std.specs.Option.{option_map_or}
@@ -20,7 +21,7 @@ use Rattle.crsm_replica_reconfigure.proofs.DraftLemmas.{when_yes, when_no, when_
 use Rattle.crsm_replica_reconfigure.proofs.ProposeLemmas.{own_preempted, own_waits, own_accepts, accepted_spec}
 use Rattle.crsm_replica_reconfigure.proofs.FitLemmas.{count_few, count_many, not_after, kept_learns}
 
--- ---- the records of the own acceptance, told by what they depend on
+-- ---- the records of the own acceptance, by the facts on which they depend
 
 -- the conditions of both, where a boot is on record or not, and a greater ballot is promised or not
 unfoldable pub accept_fits : Bool → Bool → Ballot → Decision → Option Decision → Held Decision → List Entry → Bool

@@ -1,4 +1,4 @@
--- Executed entries are sent and taken.
+-- The transfer of executed entries.
 use Rattle.std.proofs.Common.{◌≡◌, ℕ, ◌<◌, List, [], ◌∷◌, ◌++◌, length, drop, refl, sym, ◌∙◌, ap, subst, arith, Bool, true, false}
 use Rattle.std.specs.Prelude.{◌-◌, ◌^◌, ◌==◌, ◌&&◌, ◌||◌, not, nat_lt, nat_le, take, Option, Some, None, if◌then◌else◌}
 use Rattle.std.specs.Option.{option_map_or}

@@ -1,4 +1,4 @@
--- A proposal: the proposer's own acceptance, and what is sent.
+-- A proposal: the proposer's own acceptance, and the messages sent.
 use Rattle.std.proofs.Common.{◌≡◌, ℕ, ◌+◌, ◌<◌, List, ◌∷◌, refl, sym, ◌∙◌, ap, subst, Bool, true, false, length, map}
 use Rattle.std.specs.Prelude.{◌&&◌, ◌^◌, not, nat_le, filter, Option, Some, None}
 use Rattle.std.proofs.lemmas.Option.{none-some, same_Some}
@@ -57,7 +57,7 @@ pub kept_me : (rec : Rec) (x : Draft) → (keep rec x).replica.me ≡ x.replica.
 unfolding keep
 kept_me rec x = refl
 
--- the next instance is a number where a decision for it has a spelling
+-- the next instance is a number if a decision for it has an encoding
 pub own_small : (x : Draft) (me n : ℕ) (own : Decision) (i : ℕ) → IsOwn me n (decision x.replica.log) own → i ≡ instance x → i < 2 ^ 64
 unfolding instance known epoch_of
 own_small x me n own i o e = subst (λ m. m < 2 ^ 64) (o.next ∙ sym e) o.spelt.epoch

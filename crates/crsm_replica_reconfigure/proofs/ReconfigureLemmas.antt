@@ -1,4 +1,4 @@
--- A collection begins.
+-- The beginning of a collection.
 use Rattle.std.proofs.Common.{◌≡◌, ℕ, ◌+◌, ◌<◌, ◌≤◌, List, [], ◌∷◌, refl, sym, ◌∙◌, ap, subst, arith, Bool, true, false, length, cond}
 use Rattle.std.specs.Prelude.{◌==◌, ◌&&◌, nat_le, fold, Option, Some, None, bytes_eq}
 use Rattle.std.specs.Option.{option_map_or}

@@ -1,4 +1,4 @@
--- What a coordinator says to do again, by its stage.
+-- The retries of a coordinator, by its stage.
 use Rattle.std.proofs.Common.{◌≡◌, ◌∙◌, ℕ, refl, sym, ap, subst, List, [], ◌∷◌, Bool, true}
 use Rattle.std.specs.Prelude.{fold}
 use Rattle.crsm_spec.specs.Types.{Ballot, Decision}

@@ -1,4 +1,4 @@
--- What pages of frozen logs bring.
+-- The outcomes of pages of frozen logs.
 use Rattle.std.proofs.Common.{◌≡◌, ℕ, zero, suc, ◌+◌, ◌<◌, ◌≤◌, List, [], ◌∷◌, ◌++◌, refl, sym, ◌∙◌, ap, subst, arith, Bool, true, false, length, take, get_or}
 use Rattle.std.specs.Prelude.{◌≢◌, ◌==◌, ◌||◌, ◌/◌, not, nat_le, fold, filter, Option, Some, None, count_by, unwrap_or}
 use Rattle.std.specs.List.{AllByRecursion, range_with_len}
@@ -63,7 +63,7 @@ page_fit x p h = record { executed = h.low; entries = λ z a. (all_at FitsEntry 
 pages_fit : (x : ℕ) (pages : List LogPage) → AllByRecursion (CanSend x) pages → FitPages x pages
 pages_fit x pages h p a = page_fit x p (all_at (CanSend x) pages p h a)
 
--- what is asked for next has a spelling
+-- the next request has an encoding
 pub asked_fits : (x : Draft) (me n : ℕ) (c : Collect) (ms : List ℕ) (pages : List LogPage) (k : ℕ) → IsGathering c me n (decision x.replica.log) ms pages → FitsOption FitsStamp (cursor pages k)
 asked_fits x me n c ms pages k g = cursor_fits (known x.replica.log) pages k (pages_fit (known x.replica.log) pages (g.collects x.replica.log refl).told)
 

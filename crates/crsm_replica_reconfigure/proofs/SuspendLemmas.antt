@@ -1,4 +1,4 @@
--- The known epoch is ended here.
+-- The suspension of the known epoch.
 use Rattle.std.proofs.Common.{◌≡◌, ℕ, ◌<◌, ◌∙◌, subst, arith, true, false, length}
 use Rattle.std.specs.Prelude.{◌^◌, Option}
 use Rattle.std.proofs.lemmas.Bool.Decides.{nat_tests}

@@ -1,4 +1,4 @@
--- The rest of a tail goes on where its first entry stands behind the last executed one.
+-- The rest of a tail follows the executed entries if its first entry is after the last of them.
 use Rattle.std.proofs.Common.{◌≡◌, ℕ, zero, suc, ◌+◌, ◌<◌, ◌≤◌, List, [], ◌∷◌, ◌++◌, length, drop, get_or, refl, sym, ◌∙◌, ap, arith, Bool, true, false, length-append}
 use Rattle.std.specs.Prelude.{◌-◌, ◌&&◌, nat_lt, nat_le, Option, Some, None, slice_get, if◌then◌else◌}
 use Rattle.std.specs.List.{last_or}

@@ -1,4 +1,4 @@
--- What a rule on a message of another replica makes of a replica's state.
+-- The effect of a rule for another replica's message on a replica's state.
 use Rattle.std.specs.Prelude.{◌≢◌, ℕ, Result, IfOk}
 use Rattle.crsm_base.specs.declared.NoMemory.{NoMemory}
 use Rattle.crsm_spec.specs.Draft.{Draft}
@@ -6,7 +6,7 @@ use Rattle.crsm_spec.specs.Step.{if_fitting}
 use Rattle.crsm_replica.specs.declared.state.ReplicaState.{ReplicaState}
 use Rattle.crsm_replica.specs.Replica.{ReplicaStands}
 
--- Whatever the old state stood for, a replica other than k, the new one stands for what the rule makes of it; where a
+-- Whatever the old state stood for, a replica other than k, the new one stands for the effect of the rule on it; if a
 -- record would not fit, nothing is changed. Or memory ran out.
 abbrev pub FollowsFrom : ℕ → (Draft → Draft) → ReplicaState → Result (Unit {0}) NoMemory → ReplicaState → Type 0
 FollowsFrom k rule old result new =

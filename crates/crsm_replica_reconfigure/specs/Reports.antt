@@ -1,4 +1,4 @@
--- What pages of frozen logs bring to a replica.
+-- The effect of pages of frozen logs on a replica.
 use Rattle.std.specs.Prelude.{◌≡◌, ℕ, Bool, true, false, List, [], Option, None, Some}
 use Rattle.crsm_spec.specs.Types.{Control}
 use Rattle.crsm_base.specs.declared.control.Control.TheVariants.{SuspendOk}
@@ -44,7 +44,7 @@ abbrev pub AsksOn : ℕ → List LogPage → PageOutcome → Type 0
 AsksOn k pages (More j after) = (j ≡ k) × (cursor pages k ≡ Some after)
 AsksOn k pages _ = Unit {0}
 
--- what the pages brought can be done
+-- the outcome of the pages can be acted on
 pub record CanGoOn (k : ℕ) (pages : List LogPage) (got : PageOutcome) (x : Draft) : Type 0 where
   pub begins : CanBegin got x
   pub fits : begins_fitting got x ≡ true

@@ -1,4 +1,4 @@
--- What the rules that end an epoch make of a replica's state, and which records they would keep.
+-- The effect of the rules that end an epoch on a replica's state, and the records that they would make.
 use Rattle.std.specs.Prelude.{◌≡◌, ◌≢◌, ℕ, ◌+◌, ◌-◌, Bool, true, false, ◌&&◌, nat_lt, nat_le, List, [], length, drop, slice_get, if◌then◌else◌, Option, None, Result, IfOk}
 use Rattle.std.specs.Option.{option_map_or}
 use Rattle.crsm_base.specs.Spelling.{FitsBallot}
@@ -16,8 +16,8 @@ use Rattle.crsm_replica.specs.declared.state.ReplicaState.{ReplicaState}
 use Rattle.crsm_replica.specs.Replica.{ReplicaStands}
 use Rattle.crsm_replica_coordinator.specs.Coordinator.{IsOwn}
 
--- Whatever the old state stood for, the new one stands for what the rule makes of it, and for the same where its records
--- would not fit; or memory ran out.
+-- Whatever the old state stood for, the new one stands for the effect of the rule on it, and for the same if its
+-- records would not fit; or memory ran out.
 abbrev pub Follows : (Draft → Draft) → ReplicaState → Result (Unit {0}) NoMemory → ReplicaState → Type 0
 Follows rule old result new = IfOk result (λ _. (x : Draft) → ReplicaStands old x → ReplicaStands new (if_fitting x (rule x)))
 
@@ -30,11 +30,11 @@ abbrev pub TriesWhere : (Draft → Type 0) → (Draft → Draft) → ReplicaStat
 TriesWhere P rule old result new =
     IfOk result (λ fit. (x : Draft) → ReplicaStands old x → P x → (fit ≡ (rule x).fitting) × ReplicaStands new (if_fitting x (rule x)))
 
--- a rule that fits wherever the draft so far does
+-- a rule that fits whenever the draft before it does
 abbrev pub MakesWhere : (Draft → Type 0) → (Draft → Draft) → ReplicaState → Result (Unit {0}) NoMemory → ReplicaState → Type 0
 MakesWhere P rule old result new = IfOk result (λ _. (x : Draft) → ReplicaStands old x → P x → ReplicaStands new (rule x))
 
--- Behind these executed entries the rest of a decision's tail goes on, where its base is executed and the tail is not.
+-- The rest of a decision's tail follows these executed entries, if its base is executed and the tail is not.
 unfoldable pub tail_goes_on : Decision → List Entry → Bool
 tail_goes_on d done =
     when nat_le d.base_len (length done) && nat_lt (length done) (d.base_len + length d.tail)
@@ -44,7 +44,7 @@ tail_goes_on d done =
 unfoldable pub rest_goes_on : Option Decision → List Entry → Bool
 rest_goes_on decision done = option_map_or (λ d. tail_goes_on d done) decision true
 
--- the first entry of the tail that is left where so many are executed, while the base is
+-- the first entry of the tail that is not among the executed ones, if the base is executed
 unfoldable pub first_left : Decision → ℕ → Option Entry
 first_left d done = if nat_lt done d.base_len then None else slice_get d.tail (done - d.base_len)
 
@@ -83,11 +83,11 @@ unfoldable pub receives_answer : ℕ → ℕ → Ballot → Held Decision → Dr
 receives_answer k i b accepted x =
     if_spec k x (on_p1b i b (record { replica = k; accepted = accepted }) x.replica.coordinator x)
 
--- the decision is one of the replica's own for the next epoch, and the ballot that was seen has a spelling
+-- the decision is one of the replica's own for the next epoch, and the ballot that was seen has an encoding
 abbrev pub CanPropose : Decision → Ballot → Draft → Type 0
 CanPropose own seen x = IsOwn x.replica.me x.replica.n (decision x.replica.log) own × FitsBallot seen
 
--- y is like x in all that the records of a begun proposal depend on, and its own records so far fit
+-- y is like x in all on which the records of a begun proposal depend, and its own records fit
 pub record BeginsAlike (x y : Draft) : Type 0 where
   pub me : y.replica.me ≡ x.replica.me
   pub n : y.replica.n ≡ x.replica.n

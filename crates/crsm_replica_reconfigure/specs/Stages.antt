@@ -1,4 +1,4 @@
--- For each draft that a state stands for and whose coordinator is at one stage.
+-- For each draft that a state stands for and whose coordinator has a given stage.
 use Rattle.std.specs.Prelude.{◌≡◌, ℕ, ◌+◌, Bool, true, false, ◌==◌, ◌&&◌, ◌||◌, not, List, ◌∷◌, [], ◌++◌, filter, map}
 use Rattle.crsm_base.specs.Messages.{FitsVote}
 use Rattle.crsm_base.specs.Spelling.{FitsBallot, FitsDecision, FitsOption}

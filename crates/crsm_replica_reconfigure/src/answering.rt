@@ -1,4 +1,4 @@
-//! Promises to the ballot at work are counted.
+//! Counting of promises for the ballot in progress.
 
 ghost use Rattle.std.specs.Prelude.{◌≡◌, ◌<◌, ◌++◌, ◌∷◌, [], false, IfOk};
 ghost use Rattle.crsm_base.specs.Messages.{FitsVote};
@@ -21,8 +21,8 @@ use crsm_base::{Ballot, Decision, NoMemory};
 use crsm_replica::{ReplicaState, states_are_sound};
 use std::alloc::Global;
 
-/// A promise of k counts while its ballot is asked for, the first of each replica. At a majority the value that the
-/// promises leave is proposed.
+/// Counts a promise of replica `k` while its ballot asks for promises, the first of each replica. At a majority it
+/// proposes the value that the promises determine. `NoMemory` if memory runs out.
 pub fn on_p1b(
     state: &mut ReplicaState,
     k: u32,
@@ -45,8 +45,8 @@ pub fn on_p1b(
     Ok(())
 }
 
-/// Counts the promise of a replica. Where it makes a majority the value that the promises leave is proposed; where the
-/// records of that would not fit nothing changes.
+/// Counts the promise of a replica. If it makes a majority, the value that the promises determine is proposed; if the
+/// records for that would not fit, nothing changes.
 fn count_answer(
     state: &mut ReplicaState,
     k: u32,
@@ -70,7 +70,7 @@ fn count_answer(
     Ok(())
 }
 
-/// Whether the records would fit of the own acceptance of what is proposed once this promise makes the majority.
+/// Returns whether the records of the replica's own acceptance would fit once this promise makes the majority.
 fn may_propose_with(
     state: &ReplicaState,
     k: u32,
@@ -89,7 +89,7 @@ fn may_propose_with(
     Ok(fits)
 }
 
-/// The coordinator counts the promise of a replica.
+/// Adds the promise of a replica to the coordinator.
 fn put_answer(
     state: &mut ReplicaState,
     k: u32,
@@ -105,7 +105,7 @@ fn put_answer(
     Ok(())
 }
 
-/// Equal to what was accepted.
+/// Returns a copy of the accepted decision.
 fn copied(
     alloc: Global,
     accepted: &Option<(Ballot, Decision)>,

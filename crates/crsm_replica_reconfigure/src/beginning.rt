@@ -1,4 +1,4 @@
-//! A decision of one's own begins to be proposed.
+//! The beginning of a proposal of one's own decision.
 
 ghost use Rattle.std.specs.Prelude.{◌≡◌, ◌+◌, ◌<◌, ◌^◌, ℕ, [], ◌∷◌, true, IfOk};
 ghost use Rattle.crsm_spec.specs.Log.{accepted};
@@ -20,8 +20,9 @@ use crsm_base::{Ballot, Decision, NoMemory, ballot_precedes};
 use crsm_replica::{ReplicaState, states_are_sound};
 use crsm_replica_coordinator::Coordinator;
 
-/// Whether the records would fit that come of beginning to propose this decision of one's own, one round above what was
-/// promised and seen. They fit alike in whatever the coordinator is and whether the epoch is suspended.
+/// Returns whether the records for proposing this own decision fit, one round above the ballots promised and seen. They
+/// fit alike for each stage of the coordinator, and whether the epoch is suspended or not. `NoMemory` if memory runs
+/// out.
 pub fn may_begin(state: &ReplicaState, own: &Decision, seen: Ballot) -> Result<bool, NoMemory>
     ensures { IfOk result (λ fit. (x y : Draft) → ReplicaStands state.now x → CanPropose own.now seen x → BeginsAlike x y → fit ≡ (begin_proposing own.now seen y).fitting) }
 {
@@ -41,8 +42,8 @@ pub fn may_begin(state: &ReplicaState, own: &Decision, seen: Ballot) -> Result<b
     Ok(fits)
 }
 
-/// Begins proposing a decision of one's own, one round above what was promised and seen. Where there is no such round the
-/// coordinator is at nothing.
+/// Begins to propose an own decision, one round above the ballots promised and seen. If there is no such round, the
+/// coordinator becomes idle. `NoMemory` if memory runs out.
 pub fn begin_proposing(
     state: &mut ReplicaState,
     own: Decision,
@@ -70,7 +71,7 @@ pub fn begin_proposing(
     Ok(())
 }
 
-/// A coordinator that asks for a ballot in the round after this one, with its own promise counted.
+/// Returns a coordinator that asks for promises in the round after this ballot's, with its own promise counted.
 fn asking(state: &ReplicaState, own: Decision, top: Ballot) -> Result<Coordinator, NoMemory>
     ensures { IfOk result (λ coordinator. WhereNextRound state.now own top (λ x b. CoordinatesAs coordinator x (answered (spec_of x.replica) b own (own_answer x ∷ [])))) }
 {
@@ -82,7 +83,7 @@ fn asking(state: &ReplicaState, own: Decision, top: Ballot) -> Result<Coordinato
     Ok(coordinator)
 }
 
-/// Whether this replica alone is a majority.
+/// Returns whether this replica alone is a majority.
 pub(crate) fn is_alone(state: &ReplicaState) -> Result<bool, NoMemory>
     ensures { IfOk result (λ alone. (x : Draft) → ReplicaStands state.now x → alone ≡ has_majority (spec_of x.replica) (x.replica.me ∷ [])) }
 {
@@ -90,7 +91,7 @@ pub(crate) fn is_alone(state: &ReplicaState) -> Result<bool, NoMemory>
     Ok(is_majority_of(spec.as_slice(), state.me()))
 }
 
-/// Whether one replica is a majority of these.
+/// Returns whether this replica alone is a majority of these.
 #[tactic(auto, unfolding(crsm_spec::specs::Quorum::has_majority, crsm_spec::specs::Lists::has))]
 fn is_majority_of(spec: &[u32], replica: u32) -> bool
     ensures { result ≡ has_majority spec.now (replica ∷ []) }
@@ -99,7 +100,7 @@ fn is_majority_of(spec: &[u32], replica: u32) -> bool
     spec.len() / 2 < votes
 }
 
-/// The value that a replica proposes which only itself has answered.
+/// Returns the value that a replica proposes when only itself has answered.
 fn value_alone<'a>(own: &'a Decision, accepted: &'a Option<(Ballot, Decision)>) -> &'a Decision
     ensures { (me : ℕ) → result.now ≡ value_of own.now (record { replica = me; accepted = accepted.now } ∷ []) }
 {
@@ -109,14 +110,14 @@ fn value_alone<'a>(own: &'a Decision, accepted: &'a Option<(Ballot, Decision)>) 
     }
 }
 
-/// Of two ballots the greater one.
+/// Returns the greater of two ballots.
 fn greater(a: Ballot, b: Ballot) -> Ballot
     ensures { result ≡ greater_ballot a b }
 {
     if ballot_precedes(a, b) { b } else { a }
 }
 
-/// The ballot of a replica in the round after that of another ballot, which is not the last one.
+/// Returns the ballot of a replica in the round after another ballot's, which is not the last.
 fn above(top: Ballot, me: u32) -> Ballot
     requires { top.round + 1 < 2 ^ 64 }
     ensures { result ≡ record { round = top.round + 1; by = me } }

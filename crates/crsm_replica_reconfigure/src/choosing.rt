@@ -1,4 +1,4 @@
-//! A decision is chosen.
+//! The choice of a decision.
 
 ghost use Rattle.std.specs.Prelude.{◌≡◌, ◌<◌, ◌==◌, ◌&&◌, ◌||◌, not, All, IfOk};
 ghost use Rattle.crsm_base.specs.Spelling.{FitsDecision};
@@ -14,8 +14,8 @@ use crsm_base::{Control, Decision, MAX_REPLICAS, Members, NoMemory, first_replic
 use crsm_replica::ReplicaState;
 use std::alloc::Global;
 
-/// A decision that is chosen is learnt and sent to all, of the old Spec and of the new one. `false` if its
-/// records do not fit, and the state is as before.
+/// Learns a chosen decision and sends it to all counted replicas of the old epoch and of the new one. `false` if its
+/// records do not fit, `NoMemory` if memory runs out; with `false` the state is unchanged.
 pub fn choose(state: &mut ReplicaState, decision: &Decision) -> Result<bool, NoMemory>
     ensures { TriesWhere (λ x. FitsDecision decision.now) (on_chosen decision.now) state.old result state.new }
 {
@@ -30,7 +30,7 @@ pub fn choose(state: &mut ReplicaState, decision: &Decision) -> Result<bool, NoM
     Ok(true)
 }
 
-/// Sends the decision to all replicas of two Specs but this one.
+/// Sends the decision to the replicas of both sets but this one.
 fn send_both(
     state: &mut ReplicaState,
     old: &Members,
@@ -47,7 +47,7 @@ fn send_both(
     Ok(())
 }
 
-/// The replicas of two Specs but this one, ascending.
+/// Returns the replicas of both sets without `me`, in ascending order.
 fn both_specs(alloc: Global, old: &Members, new: &Members, me: u32) -> Result<Vec<u32>, NoMemory>
     ensures value { IfOk result (λ ks. ks.items ≡ others_of_both old.now new.now me) }
     ensures below { IfOk result (λ ks. All (λ k. k < 15) ks.items) }
@@ -68,7 +68,7 @@ fn is_other(old: &Members, new: &Members, me: u32, k: u32) -> bool
     is_of_either & (k != me)
 }
 
-/// All replicas that there can be.
+/// Returns the numbers of all possible replicas.
 #[tactic(auto, unfolding(crsm_base::specs::Replicas::numbers_below))]
 fn all_replicas() -> &'static [u32]
     ensures value { result.now ≡ numbers_below 15 }

@@ -1,4 +1,4 @@
-//! The frozen logs of a Spec are collected, page by page, until those of a majority are whole.
+//! The collection of frozen logs, page by page, until those of a majority are whole.
 
 ghost use Rattle.std.specs.Prelude.{◌≡◌, ◌≢◌, ◌<◌, IfOk};
 ghost use Rattle.crsm_base.specs.Messages.{FitsControl};
@@ -19,10 +19,11 @@ use crsm_replica::{ReplicaState, states_are_sound};
 use crsm_replica_coordinator::{Coordinator, Stage};
 use crsm_suspend::{Collect, PageOutcome, got_is_by_the_rules};
 
-/// The ballot at the beginning of an instance, which is below all that are asked for.
+/// The ballot at the beginning of an instance, below each that asks for promises.
 pub(crate) const NO_BALLOT: Ballot = Ballot { round: 0, by: 0 };
 
-/// A page of the frozen log of another replica k, of which it counts the one that was asked for.
+/// Takes a page of the frozen log of another replica `k`; only the page that was asked for counts. `NoMemory` if memory
+/// runs out.
 pub fn on_suspend_ok(state: &mut ReplicaState, k: u32, answer: &Control) -> Result<(), NoMemory>
     requires from { k < 15 }
     requires is { IsReport answer.now }
@@ -45,8 +46,8 @@ pub fn on_suspend_ok(state: &mut ReplicaState, k: u32, answer: &Control) -> Resu
     Ok(())
 }
 
-/// Does what the pages of a collection have brought, the last of them replica k's: the next page is asked for, more is
-/// waited for, the decision is proposed, or the collection is given up.
+/// Acts on the outcome of a page, the last one from replica `k`: asks for the next page, waits, proposes the decision,
+/// or gives the collection up. `NoMemory` if memory runs out.
 pub(crate) fn go_on(
     state: &mut ReplicaState,
     k: u32,
@@ -82,7 +83,8 @@ pub(crate) fn go_on(
     }
 }
 
-/// Asks each other replica of the Spec for its next page, while collecting, whose last page has not come.
+/// Asks each other counted replica whose report is not whole for its next page, if a collection is in progress.
+/// `NoMemory` if memory runs out.
 pub fn send_collect(state: &mut ReplicaState) -> Result<(), NoMemory>
     ensures { IfOk result (λ _. WhereCollecting state.old (λ x ms pages. ReplicaStands state.new (rules.send_collect pages x))) }
 {
@@ -93,7 +95,7 @@ pub fn send_collect(state: &mut ReplicaState) -> Result<(), NoMemory>
     Ok(())
 }
 
-/// Asks replica k for its next page, while collecting, unless its last page has come.
+/// Asks replica `k` for its next page, if a collection is in progress and its report is not whole.
 fn ask_missing(state: &mut ReplicaState, k: u32) -> Result<(), NoMemory>
     requires { k < 15 }
     ensures { IfOk result (λ _. WhereCollecting state.old (λ x ms pages. ReplicaStands state.new (ask_missing pages x k))) }
@@ -106,7 +108,7 @@ fn ask_missing(state: &mut ReplicaState, k: u32) -> Result<(), NoMemory>
     Ok(())
 }
 
-/// Asks replica k for its next page, while collecting.
+/// Asks replica `k` for its next page, if a collection is in progress.
 fn ask_page(state: &mut ReplicaState, k: u32) -> Result<(), NoMemory>
     requires { k < 15 }
     ensures { IfOk result (λ _. WhereCollecting state.old (λ x ms pages. ReplicaStands state.new (rules.ask_page pages x k))) }
@@ -118,7 +120,7 @@ fn ask_page(state: &mut ReplicaState, k: u32) -> Result<(), NoMemory>
     Ok(())
 }
 
-/// Whether frozen logs are collected.
+/// Returns whether a collection is in progress.
 fn is_collecting(state: &ReplicaState) -> bool
     ensures { (x : Draft) → ReplicaStands state.now x → result ≡ is_collecting x.replica.coordinator }
 {

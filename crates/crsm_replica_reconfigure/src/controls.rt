@@ -1,4 +1,4 @@
-//! A control message is received.
+//! The rule for each kind of control message.
 
 ghost use Rattle.std.specs.Prelude.{◌<◌};
 ghost use Rattle.crsm_base.specs.Messages.{FitsControl};
@@ -15,7 +15,8 @@ use crate::suspending::on_suspend;
 use crsm_base::{Control, NoMemory};
 use crsm_replica::{ReplicaState, states_are_sound};
 
-/// A control message of replica k. One whose records would not fit changes nothing.
+/// Handles a control message of replica `k`. One whose records would not fit changes nothing. `NoMemory` if memory runs
+/// out.
 pub fn on_control(state: &mut ReplicaState, k: u32, control: &Control) -> Result<(), NoMemory>
     requires from { k < 15 }
     requires spelt { FitsControl control.now }

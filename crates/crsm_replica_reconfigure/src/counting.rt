@@ -1,4 +1,4 @@
-//! Answers to the ballot at work are counted.
+//! Counting of refusals and votes for the ballot in progress.
 
 ghost use Rattle.std.specs.Prelude.{◌≡◌, ◌<◌, ◌+◌, ◌==◌, ◌&&◌, true, false, IfOk};
 ghost use Rattle.crsm_base.specs.Spelling.{FitsBallot};
@@ -16,7 +16,8 @@ use crsm_base::{Ballot, NoMemory};
 use crsm_replica::{ReplicaState, states_are_sound};
 use crsm_replica_coordinator::Voted;
 
-/// A refusal of k ends the ballot where more was promised.
+/// Handles a refusal of replica `k`: it preempts the ballot if a greater one was promised. `NoMemory` if memory runs
+/// out.
 pub fn on_p1no(
     state: &mut ReplicaState,
     k: u32,
@@ -40,7 +41,7 @@ pub fn on_p1no(
     Ok(())
 }
 
-/// A vote of k counts while its ballot proposes.
+/// Counts a vote of replica `k` while its ballot proposes. `NoMemory` if memory runs out.
 pub fn on_p2b(
     state: &mut ReplicaState,
     k: u32,
@@ -62,8 +63,8 @@ pub fn on_p2b(
     Ok(())
 }
 
-/// Counts the vote of a replica for the proposal: at a majority it is chosen. `false` if the records of that
-/// do not fit, and the state is as before.
+/// Counts the vote of a replica for the proposal, which is chosen at a majority. `false` if the records for that do not
+/// fit, `NoMemory` if memory runs out; with `false` the state is unchanged.
 pub fn count_vote(state: &mut ReplicaState, k: u32) -> Result<bool, NoMemory>
     requires { k < 15 }
     ensures { IfOk result (λ fit. WhereProposing state.old (λ x b own value acceptors. has (spec_of x.replica) k ≡ true → TriesTo fit state.new x (count_acceptor b own value acceptors k x))) }
@@ -87,7 +88,7 @@ pub fn count_vote(state: &mut ReplicaState, k: u32) -> Result<bool, NoMemory>
     Ok(true)
 }
 
-/// Whether replica k is counted, and the instance is the next one.
+/// Returns whether replica `k` counts, and the instance is the next one.
 pub(crate) fn is_counted(state: &ReplicaState, k: u32, instance: u64) -> bool
     ensures { (x : Draft) → ReplicaStands state.now x → result ≡ (has (spec_of x.replica) k && (instance == known x.replica.log + 1)) }
 {

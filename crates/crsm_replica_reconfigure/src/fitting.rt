@@ -1,4 +1,4 @@
-//! Whether the records of a proposer's own acceptance fit.
+//! The test whether the records of a proposer's own acceptance fit.
 
 ghost use Rattle.std.specs.Prelude.{◌≡◌, IfOk};
 ghost use Rattle.crsm_base.specs.declared.Rec.{Rec as RecOnPaper};
@@ -14,7 +14,8 @@ use crate::tails::tail_goes_on;
 use crsm_base::{Ballot, Decision, NoMemory, Rec, ballot_precedes};
 use crsm_replica::{ReplicaState, states_are_sound};
 
-/// Whether the records of the own acceptance of this proposal would fit, which is chosen by it or not.
+/// Returns whether the records of the replica's own acceptance of this proposal would fit, whether it makes the
+/// decision chosen or not. `NoMemory` if memory runs out.
 pub fn fits_own(
     state: &ReplicaState,
     ballot: Ballot,

@@ -1,4 +1,4 @@
-//! A decision is learnt, and its epoch entered.
+//! Learning of a decision, and entering of its epoch.
 
 ghost use Rattle.std.specs.Prelude.{◌≡◌, ◌<◌, ◌&&◌, nat_lt, nat_le, true, drop, IfOk};
 ghost use Rattle.crsm_base.specs.declared.Rec.{Rec as RecOnPaper};
@@ -14,7 +14,7 @@ use crsm_base::{Decision, Entries, Entry, NoMemory, Rec};
 use crsm_replica::{ReplicaState, states_are_sound};
 use std::alloc::Global;
 
-/// A decision of replica k is learnt where it is of a later epoch.
+/// Learns a decision from replica `k` if it is of a later epoch. `NoMemory` if memory runs out.
 pub fn on_decide(state: &mut ReplicaState, k: u32, decision: &Decision) -> Result<(), NoMemory>
     requires { k < 15 }
     ensures { FollowsWhere (λ x. FitsDecision decision.now) (on_decide k decision.now) state.old result state.new }
@@ -32,7 +32,8 @@ pub fn on_decide(state: &mut ReplicaState, k: u32, decision: &Decision) -> Resul
     Ok(())
 }
 
-/// Learns a decision. `false` if its records do not fit, and the state is as before.
+/// Learns a decision. `false` if its records do not fit, `NoMemory` if memory runs out; with `false` the state is
+/// unchanged.
 pub fn learn(state: &mut ReplicaState, decision: &Decision) -> Result<bool, NoMemory>
     ensures { TriesWhere (λ x. FitsDecision decision.now) (learn decision.now) state.old result state.new }
 {
@@ -49,8 +50,8 @@ pub fn learn(state: &mut ReplicaState, decision: &Decision) -> Result<bool, NoMe
     Ok(true)
 }
 
-/// Executes the rest of the known decision's tail once its base is executed, where that fits, and enters the epoch
-/// where that fits.
+/// Executes the rest of the known decision's tail once its base is executed, and enters the epoch, each if its records
+/// fit. `NoMemory` if memory runs out.
 pub fn advance(state: &mut ReplicaState) -> Result<(), NoMemory>
     ensures { MakesWhere (λ x. (adopt_tail x).fitting ≡ true) advance state.old result state.new }
 {
@@ -75,14 +76,15 @@ fn adopt_tail(state: &mut ReplicaState) -> Result<(), NoMemory>
     Ok(())
 }
 
-/// Whether the base is executed, and the tail, which ends at this place, is not.
+/// Returns whether the base is executed, and the tail, which ends at index `end`, is not.
 fn is_left(base_len: u64, place: u64, end: u64) -> bool
     ensures { result ≡ (nat_le base_len place && nat_lt place end) }
 {
     base_len <= place && place < end
 }
 
-/// Executes these entries from a place on. `false` if that does not fit, and the state is as before.
+/// Executes these entries, whose first one has the index `place`. `false` if that does not fit, `NoMemory` if memory
+/// runs out; with `false` the state is unchanged.
 pub fn adopt(state: &mut ReplicaState, place: u64, entries: &[Entry]) -> Result<bool, NoMemory>
     ensures { TriesWhere (λ x. FitsEntries entries.now) (keep (RecOnPaper.Adopt place entries.now)) state.old result state.new }
 {
@@ -92,7 +94,7 @@ pub fn adopt(state: &mut ReplicaState, place: u64, entries: &[Entry]) -> Result<
     Ok(fits)
 }
 
-/// What lies behind so many of the entries.
+/// Returns the entries after the first `count`.
 fn behind(entries: &[Entry], count: u64) -> &[Entry]
     ensures { result.now ≡ drop count entries.now }
 {
@@ -104,7 +106,7 @@ fn behind(entries: &[Entry], count: u64) -> &[Entry]
     }
 }
 
-/// Equal entries.
+/// Returns a copy of the entries.
 fn copied(alloc: Global, entries: &[Entry]) -> Result<Entries, NoMemory>
     ensures { IfOk result (λ copy. copy ≡ entries.now) }
 {
@@ -115,7 +117,7 @@ fn copied(alloc: Global, entries: &[Entry]) -> Result<Entries, NoMemory>
     Ok(copy)
 }
 
-/// Asks k for what is missing below the base.
+/// Asks replica `k` for the missing entries below the base.
 fn retrieve_base(state: &mut ReplicaState, k: u32) -> Result<(), NoMemory>
     requires { k < 15 }
     ensures { Makes (retrieve_base k) state.old result state.new }

@@ -1,5 +1,5 @@
-//! What a step does to end an epoch, and with control messages: suspend, collect, promise, propose, count promises and votes,
-//! learn and page. `on_control` hands each kind of message to its rule.
+//! The rules of a step that end an epoch or handle control messages: suspend, collect, promise, propose, count promises
+//! and votes, learn, and transfer pages. `on_control` dispatches each kind of message to its rule.
 #![tactic(auto)]
 
 mod answering;

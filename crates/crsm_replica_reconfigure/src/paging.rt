@@ -1,4 +1,4 @@
-//! Executed entries are asked for, and taken, page by page.
+//! State transfer: executed entries are asked for and adopted page by page.
 
 ghost use Rattle.std.specs.Prelude.{◌<◌};
 ghost use Rattle.crsm_base.specs.Messages.{FitsControl};
@@ -15,7 +15,8 @@ use crsm_base::{Control, Entries, NoMemory};
 use crsm_replica::{ReplicaState, states_are_sound};
 use crsm_transfer::{Fit, fit, page};
 
-/// Replica k, which knows this epoch and has executed so many entries, asks for what is beyond.
+/// Answers replica `k`, which knows the epoch `known` and has executed `from` entries: with the known decision if it is
+/// later, else with a page of executed entries. `NoMemory` if memory runs out.
 pub fn on_retrieve(state: &mut ReplicaState, k: u32, known: u64, from: u64) -> Result<(), NoMemory>
     requires { k < 15 }
     ensures { Makes (on_retrieve k known from) state.old result state.new }
@@ -33,7 +34,7 @@ pub fn on_retrieve(state: &mut ReplicaState, k: u32, known: u64, from: u64) -> R
     Ok(())
 }
 
-/// Sends k the first page of the executed entries from a place on, if there is one.
+/// Sends replica `k` the first page of the executed entries from index `from` on, if there is one.
 fn send_page(state: &mut ReplicaState, k: u32, from: u64) -> Result<(), NoMemory>
     requires { k < 15 }
     ensures { Makes (send_executed k from) state.old result state.new }
@@ -47,7 +48,7 @@ fn send_page(state: &mut ReplicaState, k: u32, from: u64) -> Result<(), NoMemory
     Ok(())
 }
 
-/// A page of executed entries from k.
+/// Handles a page of executed entries from replica `k`. `NoMemory` if memory runs out.
 pub fn on_page(state: &mut ReplicaState, k: u32, page: &Control) -> Result<(), NoMemory>
     requires to { k < 15 }
     requires is { IsPage page.now }
@@ -61,7 +62,7 @@ pub fn on_page(state: &mut ReplicaState, k: u32, page: &Control) -> Result<(), N
     Ok(())
 }
 
-/// Executes the entries, which follow the executed ones, and asks k for more.
+/// Executes the entries, which follow the executed ones, and asks replica `k` for more.
 fn take_entries(state: &mut ReplicaState, k: u32, entries: &Entries) -> Result<(), NoMemory>
     requires { k < 15 }
     ensures { FollowsWhere (λ x. FitsEntries entries.now × CanAdopt x entries.now) (take_executed k entries.now) state.old result state.new }

@@ -1,4 +1,4 @@
-//! What an acceptor promises and accepts.
+//! The rules of an acceptor: promises and acceptances.
 
 ghost use Rattle.std.specs.Prelude.{◌≡◌, ◌<◌, IfOk};
 ghost use Rattle.crsm_base.specs.Order.{ballot_lt, ballot_eq};
@@ -13,7 +13,7 @@ ghost use Rattle.crsm_replica_reconfigure.specs.Rules.{FollowsWhere, MakesWhere,
 use crsm_base::{Ballot, Control, Decision, NoMemory, Rec, ballot_precedes, is_same_ballot};
 use crsm_replica::{ReplicaState, states_are_sound};
 
-/// A ballot of k asks for a promise.
+/// Handles a ballot of replica `k` that asks for a promise. `NoMemory` if memory runs out.
 pub fn on_p1a(
     state: &mut ReplicaState,
     k: u32,
@@ -45,7 +45,7 @@ pub fn on_p1a(
     Ok(())
 }
 
-/// A ballot of k proposes a decision.
+/// Handles a ballot of replica `k` that proposes a decision. `NoMemory` if memory runs out.
 pub fn on_p2a(
     state: &mut ReplicaState,
     k: u32,
@@ -85,7 +85,8 @@ pub fn on_p2a(
     Ok(())
 }
 
-/// Keeps that the ballot is promised. `false` if that does not fit, and the state is as before.
+/// Records the promise of a ballot. `false` if the record does not fit, `NoMemory` if memory runs out; with `false` the
+/// state is unchanged.
 pub fn promise(state: &mut ReplicaState, instance: u64, ballot: Ballot) -> Result<bool, NoMemory>
     ensures { TriesWhere (λ x. FitsBallot ballot) (keep (RecOnPaper.Promise instance ballot)) state.old result state.new }
 {
@@ -94,8 +95,8 @@ pub fn promise(state: &mut ReplicaState, instance: u64, ballot: Ballot) -> Resul
     Ok(fits)
 }
 
-/// Keeps that the decision is accepted in this ballot. `false` if that does not fit, and the state is as
-/// before.
+/// Records the acceptance of a decision in this ballot. `false` if the record does not fit, `NoMemory` if memory runs
+/// out; with `false` the state is unchanged.
 pub fn accept(
     state: &mut ReplicaState,
     instance: u64,
@@ -114,7 +115,7 @@ pub fn accept(
     Ok(fits)
 }
 
-/// Whether the instance is the next one. Any other one of k is answered.
+/// Returns whether the instance is the next one. If not, replica `k` is answered.
 fn if_next(state: &mut ReplicaState, k: u32, instance: u64) -> Result<bool, NoMemory>
     requires { k < 15 }
     ensures { IfOk result (λ next. (x : Draft) → ReplicaStands state.old x → IsNextOr k instance x next state.new) }
@@ -132,7 +133,7 @@ fn if_next(state: &mut ReplicaState, k: u32, instance: u64) -> Result<bool, NoMe
     Ok(true)
 }
 
-/// Answers k that the ballot is promised, and what was accepted.
+/// Sends replica `k` the promise of the ballot, with the accepted decision.
 fn send_promise(
     state: &mut ReplicaState,
     k: u32,
@@ -153,7 +154,7 @@ fn send_promise(
     Ok(())
 }
 
-/// Answers k that a greater ballot was promised.
+/// Sends replica `k` a refusal: a greater ballot was promised.
 fn refuse(
     state: &mut ReplicaState,
     k: u32,
@@ -173,7 +174,7 @@ fn refuse(
     Ok(())
 }
 
-/// Answers k that its ballot's decision is accepted.
+/// Sends replica `k` the vote for its ballot's decision.
 fn vote(state: &mut ReplicaState, k: u32, instance: u64, ballot: Ballot) -> Result<(), NoMemory>
     requires { k < 15 }
     ensures { MakesWhere (λ x. FitsBallot ballot) (λ x. send_control (ControlOnPaper.P2b instance ballot) x k) state.old result state.new }

@@ -1,4 +1,4 @@
-//! A proposer's own acceptance.
+//! The proposer's own acceptance.
 
 ghost use Rattle.std.specs.Prelude.{◌≡◌, ◌&&◌, not, nat_le, length, IfOk};
 ghost use Rattle.crsm_spec.specs.Log.{executed};
@@ -13,8 +13,8 @@ use crate::sending::next_instance;
 use crsm_base::{Ballot, Decision, NoMemory, ballot_precedes};
 use crsm_replica::{ReplicaState, states_are_sound};
 
-/// The proposer's own acceptance, where its records fit: over where more was promised, otherwise accepted where the base is
-/// executed.
+/// Accepts the proposer's own proposal if the base is executed, and counts its vote; if a greater ballot was promised,
+/// the proposal is preempted. The records must fit. `NoMemory` if memory runs out.
 pub fn accept_own(state: &mut ReplicaState) -> Result<(), NoMemory>
     ensures { IfOk result (λ _. WhereProposing state.old (λ x b own value acceptors. CanAcceptOwn b own value acceptors x → ReplicaStands state.new (accept_own b own value acceptors x))) }
 {
@@ -40,7 +40,7 @@ pub fn accept_own(state: &mut ReplicaState) -> Result<(), NoMemory>
     Ok(())
 }
 
-/// Whether the base is executed, and nothing is accepted in this ballot.
+/// Returns whether the base is executed, and nothing is accepted in this ballot.
 pub fn is_due(state: &ReplicaState, ballot: Ballot, value: &Decision) -> bool
     ensures { (x : Draft) → ReplicaStands state.now x → result ≡ (nat_le value.now.base_len (length (executed x.replica.log)) && not (has_accepted ballot x)) }
 {

@@ -1,4 +1,4 @@
-//! A new epoch is wished for: the known one is suspended, and its frozen logs are collected.
+//! The beginning of a membership change: the known epoch is suspended, and its frozen logs are collected.
 
 ghost use Rattle.std.specs.Prelude.{◌≡◌, ◌≤◌, ◌&&◌, ℕ, None, List, IfOk};
 ghost use Rattle.std.specs.List.{list_all};
@@ -20,10 +20,11 @@ use crsm_base::{Control, Members, NoMemory, are_among, can_be_members, first_rep
 use crsm_replica::{ReplicaState, states_are_sound};
 use crsm_suspend::{Collect, PageOutcome, got_is_by_the_rules};
 
-/// How large a known epoch and its start may be where a collection begins: the numbers behind them stay below the greatest one.
+/// Greatest known epoch, and greatest start in entries, at which a collection begins: that plus a tail stays below
+/// 2^64.
 const MOST_COLLECTED: u64 = u64::MAX - 4_096;
 
-/// A suspicion, or an operator's wish: these are to be the members of the next epoch.
+/// Begins a membership change to `members`, on a suspicion or an operator's request. `NoMemory` if memory runs out.
 pub fn on_suspect(state: &mut ReplicaState, members: &Members) -> Result<(), NoMemory>
     ensures { Follows (coordinate.on_suspect members.now) state.old result state.new }
 {
@@ -44,7 +45,7 @@ pub fn on_suspect(state: &mut ReplicaState, members: &Members) -> Result<(), NoM
     Ok(())
 }
 
-/// A collection for the next epoch without pages, where these may be its members.
+/// Returns a collection for the next epoch without pages, or `None` if these cannot be its members.
 fn begin(state: &ReplicaState, members: &Members) -> Result<Option<Collect>, NoMemory>
     ensures { IfOk result (λ found. (x : Draft) → ReplicaStands state.now x → Begun found members.now x) }
 {
@@ -68,7 +69,8 @@ fn begin(state: &ReplicaState, members: &Members) -> Result<Option<Collect>, NoM
     Ok(Some(collect))
 }
 
-/// The Spec after this one, where these are to be the members: this one where they are all of it, and otherwise they.
+/// Returns the counted replicas of the next epoch with these members: the present ones if they include all members,
+/// else the members.
 #[tactic(auto, unfolding(crsm_spec::specs::Replica::next_spec))]
 fn next_spec(state: &ReplicaState, spec: &Members, members: &Members) -> Result<Members, NoMemory>
     ensures { IfOk result (λ next. (x : Draft) → spec.now ≡ spec_of x.replica → next ≡ next_spec x.replica members.now) }
@@ -82,7 +84,8 @@ fn next_spec(state: &ReplicaState, spec: &Members, members: &Members) -> Result<
     Ok(next)
 }
 
-/// How a decision names the next Spec: not at all where it is the first one.
+/// Returns the counted replicas of the next epoch as a decision names them: `None` if they are the replicas that began
+/// the cluster.
 fn named_spec(state: &ReplicaState, next: Members) -> Option<Members>
     ensures { (x : Draft) (ms : List ℕ) → ReplicaStands state.now x → next ≡ next_spec x.replica ms → result ≡ named_spec x.replica ms }
 {
@@ -95,7 +98,7 @@ fn named_spec(state: &ReplicaState, next: Members) -> Option<Members>
     Some(next)
 }
 
-/// Whether this replica is counted, and these may be the members of an epoch of the next Spec.
+/// Returns whether this replica counts, and these can be the members of an epoch whose counted replicas are `next`.
 fn can_be_next(state: &ReplicaState, next: &Members, members: &Members) -> bool
     ensures { (x : Draft) → ReplicaStands state.now x → result ≡ (has (spec_of x.replica) x.replica.me && can_be_members next.now members.now) }
 {
@@ -104,7 +107,7 @@ fn can_be_next(state: &ReplicaState, next: &Members, members: &Members) -> bool
     is_of_spec & can_be_members(next.as_slice(), members.as_slice())
 }
 
-/// Whether the records would fit of what is done by this once the epoch is suspended.
+/// Returns whether the records for acting on this outcome would fit once the epoch is suspended.
 #[tactic(auto, unfolding(crate::specs::Reports::begins_fitting))]
 fn may_go_on(state: &ReplicaState, got: &PageOutcome) -> Result<bool, NoMemory>
     ensures { IfOk result (λ fit. (x y : Draft) → ReplicaStands state.now x → CanBegin got.now x → BeginsAlike x y → fit ≡ begins_fitting got.now y) }
@@ -121,7 +124,7 @@ fn may_go_on(state: &ReplicaState, got: &PageOutcome) -> Result<bool, NoMemory>
     }
 }
 
-/// Asks each other replica of the Spec for its frozen log.
+/// Asks each other counted replica for its frozen log.
 fn send_suspend(state: &mut ReplicaState) -> Result<(), NoMemory>
     ensures { Makes (λ x. send_to_all (ControlOnPaper.Suspend (known x.replica.log) None) x) state.old result state.new }
 {

@@ -1,4 +1,4 @@
-//! What a coordinator does again that proposes, or whose ballot is over.
+//! Retries of a coordinator that proposes or was preempted.
 
 ghost use Rattle.std.specs.Prelude.{◌≡◌, true, IfOk, Some};
 ghost use Rattle.crsm_spec.specs.Replica.{Coordinator as CoordinatorOnPaper};
@@ -16,8 +16,9 @@ use crsm_base::{Ballot, Decision, NoMemory};
 use crsm_replica::{ReplicaState, states_are_sound};
 use crsm_replica_coordinator::Coordinator;
 
-/// A proposal is renewed: the proposer's own acceptance is made up where it is due, and it is sent to all that have not accepted.
-/// `false` if the records of that do not fit, and the state is as before.
+/// Retries the proposal: records the replica's own acceptance if missing, then resends the proposal to all that have
+/// not accepted it. `false` if the records do not fit, `NoMemory` if memory runs out; with `false` the state is
+/// unchanged.
 pub fn renew_proposal(state: &mut ReplicaState) -> Result<bool, NoMemory>
     ensures { IfOk result (λ fit. WhereProposing state.old (λ x b own value acceptors. TriesTo fit state.new x (renew (CoordinatorOnPaper.Proposing b own value acceptors) x))) }
 {
@@ -36,8 +37,8 @@ pub fn renew_proposal(state: &mut ReplicaState) -> Result<bool, NoMemory>
     Ok(true)
 }
 
-/// A decision of one's own whose ballot is over is proposed again, above the ballot that was seen. `false` if
-/// where the records of that do not fit, and the state is as before.
+/// Proposes an own decision again after preemption, above the ballot that was seen. `false` if the records do not fit,
+/// `NoMemory` if memory runs out; with `false` the state is unchanged.
 pub fn renew_over(state: &mut ReplicaState) -> Result<bool, NoMemory>
     ensures { IfOk result (λ fit. WherePreempted state.old (λ x own seen. TriesTo fit state.new x (renew (CoordinatorOnPaper.Preempted own seen) x))) }
 {
@@ -54,7 +55,7 @@ pub fn renew_over(state: &mut ReplicaState) -> Result<bool, NoMemory>
     Ok(true)
 }
 
-/// The decision of one's own that is to be proposed again, and the ballot that was seen.
+/// Returns the own decision to be proposed again, and the ballot that preempted it, or `None` if there is none.
 fn own_again(state: &ReplicaState) -> Result<Option<(Decision, Ballot)>, NoMemory>
     ensures { IfOk result (λ found. WherePreempted state.now (λ x own seen. (found ≡ Some (own, seen)) × CanPropose own seen x)) }
 {
@@ -64,8 +65,8 @@ fn own_again(state: &ReplicaState) -> Result<Option<(Decision, Ballot)>, NoMemor
     }
 }
 
-/// The proposer's own acceptance, where its records fit. Then the proposal is sent to all that have not accepted it, where
-/// there still is one.
+/// Records the proposer's own acceptance, whose records must fit, and sends the proposal, if it still exists, to all
+/// that have not accepted it. `NoMemory` if memory runs out.
 pub fn accept_and_send(state: &mut ReplicaState) -> Result<(), NoMemory>
     ensures { IfOk result (λ _. WhereProposing state.old (λ x b own value acceptors. CanAcceptOwn b own value acceptors x → ReplicaStands state.new (renew (CoordinatorOnPaper.Proposing b own value acceptors) x))) }
 {

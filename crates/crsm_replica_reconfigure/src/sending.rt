@@ -1,4 +1,4 @@
-//! What a ballot at work sends to those that it still needs.
+//! Messages of the ballot in progress to the replicas that have not answered.
 
 ghost use Rattle.std.specs.Prelude.{◌≡◌, IfOk};
 ghost use Rattle.crsm_spec.specs.Replica.{Coordinator as CoordinatorOnPaper};
@@ -11,7 +11,7 @@ ghost use Rattle.crsm_replica_reconfigure.specs.Stages.{WherePreparing};
 use crsm_base::{Control, NoMemory, never};
 use crsm_replica::{ReplicaState, states_are_sound};
 
-/// Asks all for a promise that have not given it.
+/// Asks each counted replica that has not promised for its promise. `NoMemory` if memory runs out.
 pub fn send_ask(state: &mut ReplicaState) -> Result<(), NoMemory>
     ensures { IfOk result (λ _. WherePreparing state.old (λ x b own answers. ReplicaStands state.new (send_ask (CoordinatorOnPaper.Preparing b own answers) x))) }
 {
@@ -27,7 +27,8 @@ pub fn send_ask(state: &mut ReplicaState) -> Result<(), NoMemory>
     Ok(())
 }
 
-/// Sends the proposal to all that have not accepted it, where there is one.
+/// Sends the proposal, if there is one, to each counted replica that has not accepted it. `NoMemory` if memory runs
+/// out.
 pub fn send_proposal(state: &mut ReplicaState) -> Result<(), NoMemory>
     ensures { Makes (λ x. send_proposal x.replica.coordinator x) state.old result state.new }
 {
@@ -47,7 +48,8 @@ pub fn send_proposal(state: &mut ReplicaState) -> Result<(), NoMemory>
     Ok(())
 }
 
-/// Asks all for what is known and executed beyond here, while not active.
+/// Asks all other counted replicas for decisions and executed entries, unless this replica is active. `NoMemory` if
+/// memory runs out.
 pub fn ask_all(state: &mut ReplicaState) -> Result<(), NoMemory>
     ensures { Makes (ask_all) state.old result state.new }
 {
@@ -63,7 +65,8 @@ pub fn ask_all(state: &mut ReplicaState) -> Result<(), NoMemory>
     Ok(())
 }
 
-/// The instance that is decided next. No replica knows the last epoch that there can be.
+/// Returns the number of the instance that is decided next: the known epoch plus 1. `NoMemory` at the last epoch, which
+/// no replica knows.
 pub fn next_instance(state: &ReplicaState) -> Result<u64, NoMemory>
     ensures { IfOk result (λ i. (x : Draft) → ReplicaStands state.now x → i ≡ instance x) }
 {

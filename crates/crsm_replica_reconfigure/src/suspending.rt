@@ -1,4 +1,4 @@
-//! The known epoch is ended here.
+//! Suspension of the known epoch.
 
 ghost use Rattle.std.specs.Prelude.{◌≡◌, ◌<◌};
 ghost use Rattle.crsm_base.specs.Spelling.{FitsOption, FitsStamp};
@@ -13,7 +13,8 @@ use crsm_base::{NoMemory, Rec, Stamp};
 use crsm_replica::{ReplicaState, states_are_sound};
 use crsm_suspend::page_of;
 
-/// A coordinator k ends an epoch and asks for the logged entries above a stamp.
+/// Handles the request of coordinator `k`, which ends an epoch, for the logged entries above a stamp. `NoMemory` if
+/// memory runs out.
 pub fn on_suspend(
     state: &mut ReplicaState,
     k: u32,
@@ -41,7 +42,8 @@ pub fn on_suspend(
     Ok(())
 }
 
-/// Suspends the known epoch, unless that is done. `false` if that does not fit, and the state is as before.
+/// Suspends the known epoch, unless it is suspended. `false` if the record does not fit, `NoMemory` if memory runs out;
+/// with `false` the state is unchanged.
 pub fn suspend_once(state: &mut ReplicaState) -> Result<bool, NoMemory>
     ensures { MakesFitting suspend_once state.old result state.new }
 {
@@ -56,7 +58,7 @@ pub fn suspend_once(state: &mut ReplicaState) -> Result<bool, NoMemory>
     Ok(fits)
 }
 
-/// Sends k the first page of the frozen log above a stamp.
+/// Sends replica `k` the first page of the frozen log above a stamp.
 fn send_frozen(state: &mut ReplicaState, k: u32, after: Option<Stamp>) -> Result<(), NoMemory>
     requires { k < 15 }
     ensures { MakesWhere (λ x. FitsOption FitsStamp after) (λ x. send_control (suspend_ok x.replica.log after) x k) state.old result state.new }

@@ -1,4 +1,4 @@
-//! Whether the rest of a decision's tail goes on behind the executed entries.
+//! The tests whether the rest of a decision's tail follows the executed entries.
 
 ghost use Rattle.std.specs.Prelude.{◌≡◌, ◌≢◌, ◌-◌, [], ◌++◌, true, length, IfOk, slice_get};
 ghost use Rattle.std.specs.Option.{option_map_or, option_copied};
@@ -14,7 +14,8 @@ use crsm_base::{Decision, Entries, Entry, NoMemory, entry_precedes, never};
 use crsm_ledger::Ledger;
 use crsm_replica::ReplicaState;
 
-/// Whether the rest of the decision's tail goes on behind the executed entries, where its base is executed.
+/// Returns whether the rest of the decision's tail follows the executed entries, if its base is executed. `NoMemory` if
+/// memory runs out.
 pub fn tail_goes_on(state: &ReplicaState, decision: &Decision) -> Result<bool, NoMemory>
     ensures { IfOk result (λ b. (x : Draft) → ReplicaStands state.now x → b ≡ tail_goes_on decision.now (executed x.replica.log)) }
 {
@@ -25,7 +26,8 @@ pub fn tail_goes_on(state: &ReplicaState, decision: &Decision) -> Result<bool, N
     Ok(is_behind)
 }
 
-/// Whether the rest of the known decision's tail goes on behind the executed entries and these, of which there is one.
+/// Returns whether the rest of the known decision's tail follows the executed entries and `entries`, which is not
+/// empty. `NoMemory` if memory runs out.
 pub fn rest_goes_on(state: &ReplicaState, entries: &Entries) -> Result<bool, NoMemory>
     requires { entries.now ≢ [] }
     ensures { IfOk result (λ b. (x : Draft) → ReplicaStands state.now x → b ≡ rest_goes_on (decision x.replica.log) (executed x.replica.log ++ entries.now)) }
@@ -36,7 +38,7 @@ pub fn rest_goes_on(state: &ReplicaState, entries: &Entries) -> Result<bool, NoM
     let entries = entries.as_slice();
     let more = entries.len() as u64;
     let before = state.executed_len();
-    // No memory holds so many.
+    // No memory holds that many.
     if before > u64::MAX - more {
         return Err(never());
     }
@@ -48,7 +50,8 @@ pub fn rest_goes_on(state: &ReplicaState, entries: &Entries) -> Result<bool, NoM
     Ok(is_behind)
 }
 
-/// The first entry of the tail that is left where so many are executed, while the base is.
+/// Returns the first entry of the tail that is not among the `done` executed ones, or `None` if the base is not
+/// executed or no entry is left.
 #[tactic(auto, unfolding(crate::specs::Rules::first_left))]
 fn first_left(decision: &Decision, done: u64) -> Option<&Entry>
     ensures { option_copied result ≡ first_left decision.now done }
@@ -62,7 +65,7 @@ fn first_left(decision: &Decision, done: u64) -> Option<&Entry>
         .get((done - decision.base_len) as usize)
 }
 
-/// Whether the entry stands behind the last executed one, if there is one.
+/// Returns whether the entry is after the last executed one, if any.
 fn stands_behind(ledger: &Ledger, entry: &Entry) -> Result<bool, NoMemory>
     ensures { IfOk result (λ b. (me n : ℕ) (log : Log) → LedgerStands me n ledger.now log → b ≡ option_map_or (λ f. entry_lt f entry.now) (slice_get (executed log) (length (executed log) - 1)) true) }
 {
@@ -74,7 +77,7 @@ fn stands_behind(ledger: &Ledger, entry: &Entry) -> Result<bool, NoMemory>
     Ok(is_behind)
 }
 
-/// Whether the entry stands behind the last of these, if there is one.
+/// Returns whether the entry is after the last of these, if any.
 fn ends_before(entries: &[Entry], entry: &Entry) -> bool
     ensures { result ≡ option_map_or (λ f. entry_lt f entry.now) (slice_get entries.now (length entries.now - 1)) true }
 {

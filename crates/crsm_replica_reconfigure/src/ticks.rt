@@ -1,4 +1,4 @@
-//! A tick of a replica that does not take part in its epoch.
+//! The tick of a replica that does not take part in its epoch.
 
 ghost use Rattle.crsm_spec.specs.Step as rules;
 ghost use Rattle.crsm_replica.specs.Replica.{MakesFitting};
@@ -11,8 +11,8 @@ use crsm_base::NoMemory;
 use crsm_replica::{ReplicaState, states_are_sound};
 use crsm_replica_coordinator::Stage;
 
-/// What the coordinator says is done again, and all are asked for what is known and executed beyond here. Where the records of that
-/// would not fit, nothing is done.
+/// Retries the coordinator's stage, and asks all for decisions and executed entries. If the records for that would not
+/// fit, nothing changes. `NoMemory` if memory runs out.
 pub fn renew_and_ask(state: &mut ReplicaState) -> Result<(), NoMemory>
     ensures { Follows (λ x. rules.ask_all (rules.renew x.replica.coordinator x)) state.old result state.new }
 {
@@ -24,7 +24,7 @@ pub fn renew_and_ask(state: &mut ReplicaState) -> Result<(), NoMemory>
     Ok(())
 }
 
-/// What the coordinator says is done again. `false` if its records do not fit, and the state is as before.
+/// Retries the coordinator's stage. `false` if its records do not fit; the state is then unchanged.
 fn renew(state: &mut ReplicaState) -> Result<bool, NoMemory>
     ensures { MakesFitting (λ x. rules.renew x.replica.coordinator x) state.old result state.new }
 {

@@ -1,4 +1,4 @@
--- Bodies that hold no log are so for one body and one reason.
+-- Bodies that are not a log have one first bad body and one reason.
 use Rattle.std.proofs.Common.{◌≡◌, ℕ, zero, suc, List, [], ◌∷◌, ◌++◌, true, false, take, refl, sym, ◌∙◌, ap, subst, inl, inr}
 use Rattle.std.specs.Prelude.{Some, slice_get}
 use Rattle.crsm_base.specs.Records.{SpeltBody}

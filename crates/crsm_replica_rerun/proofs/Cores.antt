@@ -1,4 +1,4 @@
--- A step on bytes from an address is the turn of them.
+-- A step on bytes from an address is the turn that receives them.
 use Rattle.std.proofs.Common.{◌≡◌, ℕ, List, Result, Ok, Err, IfOk, sym, ap, subst}
 use Rattle.std.specs.Prelude.{Option, Some, None, option_map}
 use Rattle.std.specs.Option.{option_map_or}

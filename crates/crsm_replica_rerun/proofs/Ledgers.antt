@@ -1,4 +1,4 @@
--- What the log of a replica says whose sheet was replayed.
+-- The facts of the log of a replica whose sheet was replayed.
 use Rattle.std.proofs.Common.{◌≡◌, ℕ, List, [], ◌∷◌, subst}
 use Rattle.std.specs.Global.{Box}
 use Rattle.crsm_core.specs.declared.replica.Core.{Core}
@@ -24,7 +24,7 @@ core_fits : (core : Core) (r : Replica) → CoreStands core r → EachFits r.me 
 unfolding ReplicaStands begun
 core_fits core r s = s.stands.sound.kept
 
--- and has a spelling
+-- and has an encoding
 core_spelt : (core : Core) (r : Replica) → CoreStands core r → AreSpelt r.log
 unfolding ReplicaStands begun
 core_spelt core r s = s.stands.sound.spelt

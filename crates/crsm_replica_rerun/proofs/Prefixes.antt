@@ -1,4 +1,4 @@
--- How sheets begin, and how they go on.
+-- The prefixes of sheets, and the lines that can follow.
 use Rattle.std.proofs.Common.{◌≡◌, ◌≢◌, ℕ, List, [], ◌∷◌, ◌++◌, map, refl, sym, ◌∙◌, ap, append_assoc}
 use Rattle.std.proofs.lemmas.List.{map-append}
 use Rattle.crsm_spec.specs.Node.{Turn}

@@ -1,4 +1,4 @@
--- That records and datagrams have spellings has one proof at most.
+-- The proof that a record or a datagram has an encoding is unique.
 use Rattle.std.proofs.Common.{◌≡◌, ◌⊎◌, ◌+◌, ◌<◌, ℕ, List, [], ◌∷◌, ap, inl, inr, arith}
 use Rattle.std.specs.Prelude.{Option, Some, None}
 use Rattle.std.specs.List.{AllByRecursion}

@@ -1,4 +1,4 @@
--- What a line does to a stage, and to the replay that holds it.
+-- The effect of a line on a stage, and on its replay.
 use Rattle.std.proofs.Common.{◌≡◌, ℕ, ◌+◌, List, [], ◌∷◌, ◌++◌, refl, sym, ◌∙◌, ap, subst, arith, inl, inr}
 use Rattle.std.specs.Prelude.{Ok}
 use Rattle.std.specs.Global.{Box}

@@ -1,4 +1,4 @@
--- The text of steps, one after another, and of what a batch has.
+-- The text of steps, one after another, and of a batch.
 use Rattle.std.proofs.Common.{◌≡◌, ℕ, ◌+◌, ◌-◌, suc, List, [], ◌∷◌, ◌++◌, map, length, take, refl, sym, ◌∙◌, ap, arith, append_assoc, inl, inr}
 use Rattle.std.specs.Prelude.{cond, count_by}
 use Rattle.std.proofs.lemmas.List.Sums.{sum_by-cons}
@@ -59,7 +59,7 @@ own_lines own replies =
     let count : length (own ++ map line_of replies) - length replies ≡ length own = omega (arith, long, many) in
     ap (λ (k : ℕ). take k (own ++ map line_of replies)) count ∙ take-append_seam own (map line_of replies)
 
--- the lines of a batch without those of replies, and those of what goes out
+-- the lines of a batch without those of replies, and those of its datagrams
 abbrev pub batch_lines : Batch → List Line
 batch_lines batch = take (length batch.lines - count_by goes_to_client batch.sends) batch.lines ++ map send_line batch.sends
 

@@ -1,4 +1,4 @@
--- The lines of what goes out of a replica.
+-- The lines of a replica's outgoing datagrams.
 use Rattle.std.specs.Prelude.{ℕ, Bool, true, false, List}
 use Rattle.crsm_base.specs.declared.Line.{Line}
 use Rattle.crsm_base.specs.declared.send.Send.{Send}
@@ -11,7 +11,7 @@ abbrev pub line_to : To → List ℕ → Line
 line_to (to_whom.Replica k) bytes = Line.Out k bytes
 line_to (to_whom.Address a) bytes = Line.Back a bytes
 
--- the line of a datagram that goes out
+-- the line of an outgoing datagram
 abbrev pub send_line : Send → Line
 send_line s = line_to s.to (datagram_bytes s.datagram)
 

@@ -1,4 +1,4 @@
--- What is known of the replay of a sheet.
+-- The statements of the laws about the replay of a sheet.
 use Rattle.std.specs.Prelude.{◌≡◌, ℕ, List, []}
 use Rattle.crsm_spec.specs.Log.{Log}
 use Rattle.crsm_ledger.specs.Recovered.{AreKept, IsBadAt}

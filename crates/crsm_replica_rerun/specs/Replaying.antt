@@ -15,8 +15,8 @@ use Rattle.crsm_replica_rerun.specs.Sheets.{IsSheet, LeadTo, replica_of, steps_o
 use Rattle.crsm_replica_rerun.specs.Stages.{AnswersAll, StageStands}
 use Rattle.crsm_replica_rerun.specs.Texts.{IsNodeText, ending_of, shown_text}
 
--- The replay is that of a sheet of replica me, in a cluster that began with n. Of the sheet these lines have come, the
--- first of which has the number `first`, and they have led to these steps.
+-- The replay is that of a sheet of replica me, in a cluster that began with n. These lines of the sheet were read, the
+-- first with the number `first`, and they have led to these steps.
 pub record RerunStands (me n first : ℕ) (rerun : Rerun) (lines : List SheetLine) (steps : List Draft) : Type 0 where
   pub is_me : rerun.me ≡ me
   pub began : rerun.n ≡ n
@@ -24,7 +24,7 @@ pub record RerunStands (me n first : ℕ) (rerun : Rerun) (lines : List SheetLin
   pub stage : StageStands me n rerun.stage lines steps
   pub leads : LeadTo me n lines steps
 
--- for each sheet so far that the replay stands for
+-- for each prefix of a sheet that the replay stands for
 abbrev pub WhereStands : Rerun → ((me n first : ℕ) → List SheetLine → List Draft → Type 0) → Type 0
 WhereStands rerun P = (me n first : ℕ) (lines : List SheetLine) (steps : List Draft) → RerunStands me n first rerun lines steps → P me n first lines steps
 
@@ -63,8 +63,8 @@ pub record Ends (me n first : ℕ) (lines : List SheetLine) (steps : List Draft)
 
 -- ---- the log
 
--- The lines are a sheet, these are its steps, and the ledger says what its log says, each record of which fits and has a
--- spelling.
+-- The lines are a sheet, these are its steps, and the ledger is the state of its log, each record of which fits and has
+-- an encoding.
 pub record SaysLog (me n : ℕ) (lines : List SheetLine) (steps : List Draft) (ledger : Ledger) : Type 0 where
   pub sheet : IsSheet me n lines
   pub are : steps ≡ steps_of sheet

@@ -1,4 +1,4 @@
--- What a line does to a replica in memory.
+-- The effect of a line on a replica in memory.
 use Rattle.std.specs.Prelude.{◌≡◌, ℕ, List, [], ◌∷◌, ◌++◌, map, Result, MatchResult, IfOk}
 use Rattle.std.specs.List.{AllByRecursion}
 use Rattle.crsm_base.specs.declared.NoMemory.{NoMemory}
@@ -44,7 +44,7 @@ TakesTurn old t result new =
 
 -- ---- what a line leads to
 
--- each record and each datagram of the batch has a spelling
+-- each record and each datagram of the batch has an encoding
 abbrev pub IsSpelt : Batch → Type 0
 IsSpelt batch = AllByRecursion FitsRec batch.records × AllByRecursion FitsSent batch.sends
 
@@ -74,7 +74,7 @@ IfBadLog errors.NoMemory P = Unit {0}
 
 -- ---- stages
 
--- the core of a replica with this sheet, and these are the steps so far
+-- the core of a replica with this sheet, after these steps
 pub record Runs (me n : ℕ) (core : Core) (lines : List SheetLine) (steps : List Draft) : Type 0 where
   pub sheet : IsSheet me n lines
   pub are : steps ≡ steps_of sheet
@@ -96,7 +96,7 @@ pub record StageAdvances (me n : ℕ) (new : SheetStage) (lines : List SheetLine
   pub answers : AnswersAll batch more
   pub stands : StageStands me n new (lines ++ line ∷ []) (steps ++ more)
 
--- Whatever lines the old stage stands behind, the line advances it or is refused.
+-- Whatever lines the old stage stands for, the line advances it or is refused.
 abbrev pub TakesLine : (me n : ℕ) → SheetStage → SheetLine → Result Batch RerunError → SheetStage → Type 0
 TakesLine me n old line result new =
     (lines : List SheetLine) (steps : List Draft) → StageStands me n old lines steps →

@@ -1,4 +1,4 @@
-//! The boot on the bodies that a sheet begins with.
+//! The boot from the bodies that a sheet begins with.
 
 ghost use Rattle.std.specs.Prelude.{◌≡◌, ◌<◌, ◌≤◌, ℕ, [], IfOk, IfErr};
 ghost use Rattle.crsm_ledger.specs.Ledger.{LedgerStands};
@@ -13,10 +13,10 @@ use crsm_core::{Batch, Core, found_logs_fit};
 use crsm_ledger::{Ledger, LedgerError};
 use std::alloc::Global;
 
-/// A replica that has booted, and what the boot made.
+/// A replica that has booted, and the output of the boot.
 #[derive(Drop)]
 pub(crate) struct BootedCore {
-    // In a place of its own, since it is large and what holds it is moved.
+    // On the heap, since it is large and its owner is moved.
     pub(crate) core: Box<Core>,
     pub(crate) batch: Batch,
 }
@@ -42,14 +42,15 @@ pub(crate) fn boot(
     Ok(BootedCore { core, batch })
 }
 
-/// The core in a place of its own.
+/// Moves the core to the heap. `NoMemory` if memory runs out.
 fn in_a_place(alloc: Global, core: Core) -> Result<Box<Core>, NoMemory>
     ensures { IfOk result (λ boxed. boxed.value ≡ core) }
 {
     Ok(Box::new(alloc, core)?)
 }
 
-/// The ledger of the bodies, if one more boot can be counted. No memory has room for a log of which that is false.
+/// Returns the ledger of the bodies. Its boots can be counted further: no memory has room for a log with 2^64 - 1
+/// boots.
 fn recovered(alloc: Global, me: u32, n: u32, bodies: &Bodies) -> Result<Ledger, RerunError>
     requires me_below { me < 15 }
     requires some { 1 ≤ n }
@@ -61,12 +62,12 @@ fn recovered(alloc: Global, me: u32, n: u32, bodies: &Bodies) -> Result<Ledger, 
         Ok(ledger) => with_room(ledger),
         Err(LedgerError::BadLog { entry, why }) => Err(RerunError::BadLog { entry, why }),
         Err(LedgerError::NoMemory) => Err(RerunError::NoMemory),
-        // No body is refused so.
+        // Recovery never returns this error.
         Err(LedgerError::NotFit { .. }) => unreachable!(),
     }
 }
 
-/// The ledger, if one more boot can be counted.
+/// Returns the ledger if one more boot can be counted.
 fn with_room(ledger: Ledger) -> Result<Ledger, RerunError>
     ensures same { IfOk result (λ same. same ≡ ledger) }
     ensures room { IfOk result (λ _. (me n : ℕ) (log : Log) → LedgerStands me n ledger log → boots log < u64_max) }

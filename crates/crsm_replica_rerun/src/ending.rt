@@ -1,4 +1,4 @@
-//! How a replica stands at the end of its sheet.
+//! The state of a replica at the end of its sheet.
 
 ghost use Rattle.std.specs.Prelude.{◌≡◌, ℕ};
 ghost use Rattle.crsm_ledger.specs.Ledger.{LedgerStands};
@@ -9,7 +9,7 @@ ghost use Rattle.crsm_spec.specs.World as world;
 use crsm_base::{Line, State};
 use crsm_ledger::Ledger;
 
-/// How the replica of a ledger stands.
+/// Returns the state of a ledger's replica.
 fn state_of(ledger: &Ledger) -> State
     ensures { (r : Replica) → LedgerStands r.me r.n ledger.now r.log → result ≡ world.state_of (Site.Up r) }
 {
@@ -22,7 +22,7 @@ fn state_of(ledger: &Ledger) -> State
     State::Live
 }
 
-/// The final line of replica `me`, which is up.
+/// Returns the final line of replica `me`, which is up.
 pub(crate) fn ending(me: u32, ledger: &Ledger) -> Line
     ensures { (r : Replica) → LedgerStands r.me r.n ledger.now r.log → result ≡ final_line (me, Site.Up r) }
 {

@@ -1,16 +1,16 @@
-//! Why a line of a sheet is not replayed.
+//! The errors of replaying a line of a sheet.
 
 ghost use Rattle.std.specs.Prelude.{◌≡◌};
 
 use crsm_base::NoMemory;
 
-/// Why a line of a sheet is not replayed.
+/// The reason why a line of a sheet is not replayed.
 #[derive(Clone, Copy, Debug, PartialEq, Eq)]
 pub enum RerunError {
-    /// No sheet has this line here: a turn before `open`, or a body or `open` behind it.
+    /// The line stands at a wrong place: a turn before `open`, or a body or `open` after it.
     Misplaced,
-    /// Of the bodies before `open`, this one is the first that is no list of records (0), or whose first record that
-    /// does not fit is of this kind. The bodies are counted from 0.
+    /// The body with this number before `open`, from 0, is not a list of records (`why` 0), or its first record that
+    /// does not fit is of kind `why`.
     BadLog { entry: u64, why: u32 },
     NoMemory,
 }

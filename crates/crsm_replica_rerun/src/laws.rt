@@ -1,11 +1,11 @@
-//! What is known of the replay of a sheet, for the crates above.
+//! Laws of the replay of a sheet.
 
 ghost use Rattle.crsm_replica_rerun.specs.Laws.{BadLogsAreOne, KeptAreNotBad, SheetsHaveOneText};
 
 use crsm_codec::one_spelling_each;
 use crsm_text_sheet::sheets_are_one;
 
-/// A sheet is replayed to one text.
+/// States that a sheet has one replayed text. It runs no code.
 pub fn sheets_have_one_text()
     ensures { SheetsHaveOneText }
 {
@@ -13,7 +13,7 @@ pub fn sheets_have_one_text()
     sheets_are_one();
 }
 
-/// Bodies that hold no log are so for one body and one reason.
+/// States that bodies which are not a log have one first bad body and one reason. It runs no code.
 pub fn bad_logs_are_one()
     ensures kept { KeptAreNotBad }
     ensures one { BadLogsAreOne }

@@ -1,4 +1,4 @@
-//! The replay of a node's sheet: what a replica kept, sent and told at each line.
+//! The replay of a node's sheet: the records, datagrams and replies of a replica at each line.
 #![tactic(auto)]
 
 mod boot;

@@ -1,4 +1,4 @@
-//! The lines of a sheet, one after another.
+//! The replay of a sheet line by line.
 
 ghost use Rattle.std.specs.Prelude.{◌≡◌, ◌≢◌, ◌<◌, ◌≤◌, ◌+◌, ◌-◌, ◌^◌, ℕ, [], List, IfOk, IfErr, OnOk, MatchOption};
 ghost use Rattle.std.specs.List.{AllByRecursion};
@@ -19,7 +19,8 @@ use crsm_text_sheet::SheetLine;
 use std::alloc::Global;
 
 impl Rerun {
-    /// Replica `me` of a cluster that began with `n`, before the first line of its sheet, which has this number.
+    /// Returns the replay of replica `me`, in a cluster that began with `n`, before the first line of its sheet, which
+    /// has the number `first`.
     pub fn new(alloc: Global, me: u32, n: u32, first: u64) -> Rerun
         requires me_below { me < 15 }
         requires some { 1 ≤ n }
@@ -37,15 +38,15 @@ impl Rerun {
         }
     }
 
-    /// The number of the next line.
+    /// Returns the number of the next line.
     pub fn next_line(&self) -> u64
         ensures { result ≡ next_of self.now }
     {
         self.next
     }
 
-    /// What the replica makes at a line: nothing at a body, its boot at `open`, a step at each line behind it. After an
-    /// error it is of no use any more.
+    /// Replays a line and returns the replica's output: none at a body, its boot at `open`, a step at each later line.
+    /// After an error the replay cannot continue.
     pub fn feed(&mut self, line: &SheetLine) -> Result<Batch, RerunError>
         requires { next_of self.old < 2 ^ 64 - 1 }
         ensures advances { WhereStands self.old (λ me n first lines steps. IfOk result (Advances me n first self.new lines steps line.now)) }
@@ -59,8 +60,8 @@ impl Rerun {
         Ok(batch)
     }
 
-    /// Replays a line, and adds the text of what the replica makes at it. After an error it is of no use any more, and
-    /// where memory ran out the text is of none.
+    /// Replays a line and appends the text of the replica's output. After an error the replay cannot continue; after
+    /// `NoMemory` part of the text may have been appended.
     pub fn replay(&mut self, line: &SheetLine, out: &mut Bytes) -> Result<(), RerunError>
         requires { next_of self.old < 2 ^ 64 - 1 }
         ensures adds { WhereStands self.old (λ me n first lines steps. OnOk result (AddsText me n first self.new lines steps line.now out.old out.new)) }
@@ -74,7 +75,7 @@ impl Rerun {
         Ok(())
     }
 
-    /// The final line of the replica: `None` exactly where the lines so far are no sheet.
+    /// Returns the final line of the replica, or `None` if the lines replayed are not a sheet.
     pub fn final_line(&self) -> Option<Line>
         ensures { WhereStands self.now (λ me n first lines steps. MatchOption result (IsNoSheet lines) (Ends me n first lines steps)) }
     {
@@ -84,7 +85,7 @@ impl Rerun {
         }
     }
 
-    /// What the log of the replica says: `None` exactly where the lines so far are no sheet.
+    /// Returns the ledger of the replica, or `None` if the lines replayed are not a sheet.
     pub fn ledger(&self) -> Option<&Ledger>
         ensures { WhereStands self.now (λ me n first lines steps. MatchOption result (IsNoSheet lines) (λ ledger. SaysLog me n lines steps ledger.now)) }
     {

@@ -1,4 +1,4 @@
-//! A replica that is replayed line by line.
+//! The state of a replay.
 
 ghost use Rattle.std.specs.Prelude.{◌<◌, ◌≤◌};
 ghost use Rattle.crsm_replica_rerun.specs.Stages.{IsSound};
@@ -6,7 +6,7 @@ ghost use Rattle.crsm_replica_rerun.specs.Stages.{IsSound};
 use crate::stage::SheetStage;
 use std::alloc::Global;
 
-/// A replica that is replayed from its sheet, line by line.
+/// The replay of a replica from its sheet, line by line.
 #[derive(Drop)]
 pub struct Rerun {
     pub(crate) alloc: Global,

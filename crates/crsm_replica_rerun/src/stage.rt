@@ -1,4 +1,4 @@
-//! What has come of a sheet so far.
+//! The stages of a replay.
 
 ghost use Rattle.std.specs.Prelude.{◌≡◌, ◌<◌, ◌≤◌, ℕ, IfOk};
 ghost use Rattle.crsm_text_sheet.specs.declared.line.SheetLine.{SheetLine};
@@ -12,7 +12,7 @@ use crsm_core::{Batch, Core};
 use crsm_text_sheet::SheetLine;
 use std::alloc::Global;
 
-/// What has come of a sheet so far: bodies of the log alone; or `open` behind them, and the replica runs.
+/// The stage of a replay: bodies of the log before `open`, or the running replica after it.
 #[derive(Drop)]
 pub(crate) enum SheetStage {
     Finding { bodies: Bodies },
@@ -20,7 +20,7 @@ pub(crate) enum SheetStage {
 }
 
 impl SheetStage {
-    /// What replica `me` of a cluster that began with `n` makes at a line.
+    /// Replays a line of replica `me` of a cluster that began with `n`, and returns the output.
     pub(crate) fn take(
         &mut self,
         alloc: Global,
@@ -48,7 +48,7 @@ impl SheetStage {
         }
     }
 
-    /// A body of the log is found.
+    /// Adds a body of the log.
     fn find(&mut self, alloc: Global, body: &[u8]) -> Result<Batch, RerunError>
         ensures takes { (me n : ℕ) → TakesLine me n self.old (SheetLine.Entry body.now) result self.new }
         ensures sound { IsSound self.old → IsSound self.new }
@@ -61,7 +61,7 @@ impl SheetStage {
         Ok(nothing(alloc))
     }
 
-    /// Replica `me` of a cluster that began with `n` boots on the bodies that were found.
+    /// Boots replica `me` of a cluster that began with `n` on the bodies.
     fn open(&mut self, alloc: Global, me: u32, n: u32) -> Result<Batch, RerunError>
         requires me_below { me < 15 }
         requires some { 1 ≤ n }
@@ -78,7 +78,7 @@ impl SheetStage {
         Ok(booted.batch)
     }
 
-    /// The replica takes bytes from an address.
+    /// Steps the replica on bytes from an address.
     fn come(
         &mut self,
         alloc: Global,
@@ -97,7 +97,7 @@ impl SheetStage {
         Ok(batch)
     }
 
-    /// The replica takes a tick.
+    /// Steps the replica on a tick.
     fn tick(&mut self, reading: u64) -> Result<Batch, RerunError>
         ensures takes { (me n : ℕ) → TakesLine me n self.old (SheetLine.Tick reading) result self.new }
         ensures sound { IsSound self.old → IsSound self.new }
@@ -110,7 +110,7 @@ impl SheetStage {
         Ok(batch)
     }
 
-    /// The replica takes a suspicion.
+    /// Steps the replica on a suspicion.
     fn suspect(
         &mut self,
         alloc: Global,

@@ -1,4 +1,4 @@
-//! The step of a turn.
+//! The steps of turns.
 
 ghost use Rattle.std.specs.Prelude.{IfOk};
 ghost use Rattle.crsm_core.specs.Core.{Answers, CoreStands};
@@ -14,7 +14,7 @@ use crsm_core::{Batch, Core, Input};
 use crsm_wire::{WireError, read_datagram};
 use std::alloc::Global;
 
-/// What a step makes that does nothing.
+/// Returns the empty output.
 #[tactic(auto, unfolding(crsm_spec::specs::Draft::begun))]
 pub(crate) fn nothing(alloc: Global) -> Batch
     ensures nothing { IsNothing result }
@@ -28,7 +28,7 @@ pub(crate) fn nothing(alloc: Global) -> Batch
     }
 }
 
-/// One step of the core on an input.
+/// Runs one step of the core on an input.
 fn step(core: &mut Core, input: &Input, reading: u64) -> Result<Batch, NoMemory>
     requires { FitsInput input.now }
     ensures ruled { IfOk result (λ batch. (r : Replica) → CoreStands core.old r →
@@ -40,7 +40,7 @@ fn step(core: &mut Core, input: &Input, reading: u64) -> Result<Batch, NoMemory>
     Ok(batch)
 }
 
-/// The turn that takes bytes from an address. Bytes that are no datagram change nothing.
+/// Runs the step of a turn that received bytes from an address. Bytes that are not a datagram change nothing.
 #[tactic(auto, unfolding(crsm_core::specs::Inputs::input_of))]
 pub(crate) fn come(
     alloc: Global,
@@ -64,7 +64,7 @@ pub(crate) fn come(
     }
 }
 
-/// The turn that takes a tick.
+/// Runs the step of a turn that took a tick.
 #[tactic(auto, unfolding(crsm_core::specs::Inputs::input_of, crsm_spec::specs::Node::turn, crsm_spec::specs::Node::input_of))]
 pub(crate) fn tick(core: &mut Core, reading: u64) -> Result<Batch, NoMemory>
     ensures turn { TakesTurn core.old (Turn.Tick, reading) result core.new }
@@ -74,7 +74,7 @@ pub(crate) fn tick(core: &mut Core, reading: u64) -> Result<Batch, NoMemory>
     step(core, &Input::Tick, reading)
 }
 
-/// The turn that takes a suspicion.
+/// Runs the step of a turn that took a suspicion.
 #[tactic(auto, unfolding(crsm_core::specs::Inputs::input_of, crsm_spec::specs::Node::turn, crsm_spec::specs::Node::input_of))]
 pub(crate) fn suspect(
     alloc: Global,

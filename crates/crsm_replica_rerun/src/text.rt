@@ -1,5 +1,5 @@
 //! The text of a step: the lines of its records and of refused collections, then its datagrams to replicas, and then
-//! its replies. The lines of replies are left out, since the replies themselves are there.
+//! its replies. The lines of replies are left out, since the replies are printed as datagrams.
 
 ghost use Rattle.std.specs.Prelude.{◌≡◌, ◌≤◌, ◌-◌, ◌++◌, List, OnOk, count_by, length, map, take};
 ghost use Rattle.std.specs.List.{AllByRecursion};
@@ -18,7 +18,7 @@ use crsm_schedule::push_line;
 use crsm_wire::put_datagram;
 use std::alloc::Global;
 
-/// Adds lines behind a number.
+/// Appends lines with a line number before each.
 fn push_lines(out: &mut Bytes, at: u64, lines: &[Line]) -> Result<(), NoMemory>
     ensures { OnOk result (out.new ≡ out.old ++ lines_text at lines.now) }
 {
@@ -28,7 +28,7 @@ fn push_lines(out: &mut Bytes, at: u64, lines: &[Line]) -> Result<(), NoMemory>
     Ok(())
 }
 
-/// The line of a datagram with these bytes that goes out.
+/// Returns the line of an outgoing datagram with these bytes.
 fn line_to(to: To, bytes: Bytes) -> Line
     ensures { result ≡ batches.line_to to bytes }
 {
@@ -38,7 +38,7 @@ fn line_to(to: To, bytes: Bytes) -> Line
     }
 }
 
-/// Adds the line of a datagram that goes out.
+/// Appends the line of an outgoing datagram.
 fn push_send(alloc: Global, out: &mut Bytes, at: u64, send: &Send) -> Result<(), NoMemory>
     requires { FitsDatagram send.now.datagram }
     ensures { OnOk result (out.new ≡ out.old ++ line_text at (send_line send.now)) }
@@ -50,7 +50,7 @@ fn push_send(alloc: Global, out: &mut Bytes, at: u64, send: &Send) -> Result<(),
     Ok(())
 }
 
-/// Adds the lines of datagrams that go out.
+/// Appends the lines of outgoing datagrams.
 fn push_sends(alloc: Global, out: &mut Bytes, at: u64, sends: &[Send]) -> Result<(), NoMemory>
     requires { AllByRecursion FitsSent sends.now }
     ensures { OnOk result (out.new ≡ out.old ++ lines_text at (map send_line sends.now)) }
@@ -70,7 +70,7 @@ fn goes_to_client(send: &Send) -> bool
     }
 }
 
-/// How many of a step's lines are not those of replies, which come last, one for each reply.
+/// Returns the number of a step's lines without those of replies, which are the last ones, one for each reply.
 fn own_lines(lines: &[Line], sends: &[Send]) -> usize
     ensures value { result ≡ length lines.now - count_by batches.goes_to_client sends.now }
     ensures within { result ≤ length lines.now }
@@ -79,7 +79,7 @@ fn own_lines(lines: &[Line], sends: &[Send]) -> usize
     lines.len().saturating_sub(replies)
 }
 
-/// Adds the lines of a step but for those of its replies, and those of what goes out.
+/// Appends the lines of a step without those of its replies, and the lines of its datagrams.
 fn push_all(
     alloc: Global,
     out: &mut Bytes,
@@ -96,8 +96,8 @@ fn push_all(
     Ok(())
 }
 
-/// Adds the text of what a replica has made at the line of this number. After an error a prefix of it may have been
-/// added.
+/// Appends the text of a replica's output at the line with the number `at`. `NoMemory` if memory runs out; a prefix of
+/// the text may then have been appended.
 pub fn push_step(alloc: Global, out: &mut Bytes, at: u64, batch: &Batch) -> Result<(), NoMemory>
     requires { AllByRecursion FitsSent batch.now.sends }
     ensures { (steps : List Draft) → AnswersAll batch.now steps → OnOk result (out.new ≡ out.old ++ steps_text at steps) }

@@ -1,4 +1,4 @@
--- What one more record leaves as it was: executed entries rise, and lines are true of them.
+-- The facts that one more record keeps: executed entries ascend, and lines are true of them.
 use Rattle.std.proofs.Common.{◌≡◌, ◌<◌, ◌≤◌, ℕ, zero, suc, Bool, true, false, cond, List, [], ◌∷◌, ◌++◌, length, take, refl, sym, ap, ◌∙◌, subst, arith, inl, inr, append_assoc, append-nil}
 use Rattle.std.specs.Prelude.{◌==◌, ◌&&◌, nat_eq, slice_get, Option, None, Some, filter, option_to_list}
 use Rattle.std.specs.List.{AllByRecursion, last_or}
@@ -86,7 +86,7 @@ with_known : (x : ℕ) (e : Entry) (b : Bool) (es : List Entry) → nat_eq e.epo
 with_known x e true es is fits all = with_one (λ f. (f.epoch ≡ x) × FitsEntry f) e es (grind (arith, nat_tests, is), fits) all
 with_known x e false es is fits all = all
 
--- those of an epoch are of that epoch, and have a spelling
+-- the entries of an epoch are of that epoch, and have encodings
 pub logged_fit : (x : ℕ) (log : Log) → AllByRecursion FitsRec log → AllByRecursion (λ f. (f.epoch ≡ x) × FitsEntry f) (logged_in x log)
 unfolding logged_in
 logged_fit x [] spelt = tt

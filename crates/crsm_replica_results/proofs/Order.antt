@@ -1,4 +1,4 @@
--- Where an entry belongs in a list that rises.
+-- The index of an entry in an ascending list.
 use Rattle.std.proofs.Common.{◌≡◌, ℕ, zero, suc, ◌+◌, Bool, cond, true, false, List, [], ◌∷◌, take, drop, refl, sym, ap, ◌∙◌, subst, arith}
 use Rattle.std.specs.Prelude.{slice_get, Option, None, Some, find, IsTrue}
 use Rattle.std.specs.List.{AllByRecursion, enumerate_from}

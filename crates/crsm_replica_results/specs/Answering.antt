@@ -1,4 +1,4 @@
--- The answer to an executed entry, and what a line says of it.
+-- The answer to an executed entry, and the line that has it.
 use Rattle.std.specs.Prelude.{◌≡◌, ℕ, List, take, slice_get, Option, Some}
 use Rattle.std.specs.Option.{option_map}
 use Rattle.crsm_base.specs.Store.{answer_after}

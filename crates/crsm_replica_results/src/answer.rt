@@ -15,9 +15,9 @@ use crsm_base::{Answer, Entry, Line, NoMemory};
 use crsm_ledger::Ledger;
 use std::alloc::Global;
 
-/// The place of an entry among the executed ones, where it is there, and what the store answered. The lines are of a
-/// step that executed entries, and `executions` says which of them say so: an entry that was executed in an earlier
-/// step is executed again in a store of its own.
+/// Returns the index of an entry among the executed ones and the store's answer to it, or `None` if it is not executed.
+/// `lines` are those of a step that executed entries, and `executions` the indices of their execution lines. An entry
+/// of an earlier step is executed again in a separate store. `NoMemory` if memory runs out.
 pub fn answer_to(
     alloc: Global,
     ledger: &Ledger,
@@ -36,14 +36,14 @@ pub fn answer_to(
     }
 }
 
-/// Whether the entry stands behind all that are executed. Then it has no answer yet.
+/// Returns whether the entry is after all executed ones, and so has no answer yet.
 pub fn has_no_answer(ledger: &Ledger, entry: &Entry) -> bool
     ensures { WhereRising ledger.now (λ log. IsTrue result → None ≡ answered (executed log) entry.now) }
 {
     ledger.is_ahead(entry)
 }
 
-/// The answer to the executed entry at this place.
+/// Returns the answer to the executed entry with this index.
 fn answer_at(
     alloc: Global,
     ledger: &Ledger,

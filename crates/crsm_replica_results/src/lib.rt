@@ -1,4 +1,4 @@
-//! What becomes of an entry: where it stands among the executed ones, what the store answered there, or that it is dropped.
+//! The result of an entry: its index among the executed ones and the store's answer, or that it is dropped.
 #![tactic(auto)]
 
 mod answer;

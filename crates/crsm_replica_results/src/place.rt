@@ -1,4 +1,4 @@
-//! Where an entry stands among the executed ones.
+//! The search for an entry among the executed ones.
 
 ghost use Rattle.std.specs.Prelude.{◌≡◌, ◌<◌, ◌≤◌, ℕ, false, List, slice_get, IfOk};
 ghost use Rattle.std.specs.Option.{option_map, option_map_or};
@@ -11,7 +11,8 @@ ghost use Rattle.crsm_replica_results.specs.Rising.{WhereRising, IsBeforeAt, is_
 use crsm_base::{Entry, NoMemory, entry_precedes, is_same_stamp, never};
 use crsm_ledger::Ledger;
 
-/// The place of the entry, where it is executed.
+/// Returns the index of the entry among the executed ones, or `None` if it is not executed. `NoMemory` if memory runs
+/// out.
 pub fn place_of(ledger: &Ledger, entry: &Entry) -> Result<Option<u64>, NoMemory>
     ensures { WhereRising ledger.now (λ log. IfOk result (λ r. r ≡ option_map (λ p. p.0) (find_executed (executed log) entry.now))) }
 {
@@ -21,8 +22,8 @@ pub fn place_of(ledger: &Ledger, entry: &Entry) -> Result<Option<u64>, NoMemory>
     Ok(seek(ledger, entry)?)
 }
 
-/// The place of the entry, where it is executed. Executed entries rise, and one that is asked for is mostly among the
-/// last: so it is sought from the end, at first by doubled steps, then by halves.
+/// Searches for the entry. Executed entries ascend, and the one asked for is nearly always among the last: so the
+/// search starts at the end, in doubled steps and then in halves.
 fn seek(ledger: &Ledger, entry: &Entry) -> Result<Option<u64>, NoMemory>
     ensures { WhereRising ledger.now (λ log. IfOk result (λ r. r ≡ option_map (λ p. p.0) (find_executed (executed log) entry.now))) }
 {
@@ -45,7 +46,7 @@ fn seek(ledger: &Ledger, entry: &Entry) -> Result<Option<u64>, NoMemory>
     }
 }
 
-/// A place below `high`: so many places before the last one below it, or halfway down to `low` where that is nearer.
+/// Returns an index below `high`: `back` before the last one, or halfway down to `low` if that is nearer.
 fn middle_of(low: u64, high: u64, back: u64) -> u64
     requires { low < high }
     ensures above { low ≤ result }
@@ -54,7 +55,7 @@ fn middle_of(low: u64, high: u64, back: u64) -> u64
     high - 1 - back.min((high - low) / 2)
 }
 
-/// Whether the entry is executed at this place.
+/// Returns whether the executed entry with this index is the entry.
 fn is_at(ledger: &Ledger, place: u64, entry: &Entry) -> Result<bool, NoMemory>
     ensures { (me n : ℕ) (log : List Rec) → LedgerStands me n ledger.now log → IfOk result (λ at. at ≡ option_map_or (is_same entry.now) (slice_get (executed log) place) false) }
 {
@@ -64,7 +65,7 @@ fn is_at(ledger: &Ledger, place: u64, entry: &Entry) -> Result<bool, NoMemory>
     }
 }
 
-/// Whether the executed entry at this place, which has one, comes before the entry.
+/// Returns whether the executed entry with this index, which exists, comes before the entry.
 fn is_before_at(ledger: &Ledger, place: u64, entry: &Entry) -> Result<bool, NoMemory>
     ensures { (me n : ℕ) (log : List Rec) → LedgerStands me n ledger.now log → IfOk result (IsBeforeAt (executed log) place entry.now) }
 {
@@ -74,7 +75,7 @@ fn is_before_at(ledger: &Ledger, place: u64, entry: &Entry) -> Result<bool, NoMe
     }
 }
 
-/// Whether they are at one point of the order.
+/// Returns whether both have the same position in the global order.
 #[tactic(auto, unfolding(crate::specs::Rising::is_same))]
 fn are_same(a: &Entry, b: &Entry) -> bool
     ensures { result ≡ is_same b.now a.now }

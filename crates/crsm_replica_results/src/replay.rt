@@ -1,4 +1,4 @@
-//! The answer to an entry that was executed in an earlier step.
+//! The answer to an entry of an earlier step.
 
 ghost use Rattle.std.specs.Prelude.{◌≡◌, ℕ, List, slice_get, Some, IfOk};
 ghost use Rattle.crsm_ledger.specs.Ledger.{LedgerStands};
@@ -11,7 +11,8 @@ use crsm_kv::Store;
 use crsm_ledger::Ledger;
 use std::alloc::Global;
 
-/// Executes the entries up to this place in a store of their own, and gives the last answer.
+/// Executes the entries up to this index in a separate store, and returns the last answer. `NoMemory` if memory runs
+/// out.
 pub fn replay(alloc: Global, ledger: &Ledger, place: u64) -> Result<Answer, NoMemory>
     ensures { (me n : ℕ) (log : List Rec) → LedgerStands me n ledger.now log → IfOk result (IsAnswerAt (executed log) place) }
 {
@@ -25,7 +26,7 @@ pub fn replay(alloc: Global, ledger: &Ledger, place: u64) -> Result<Answer, NoMe
     Ok(answer)
 }
 
-/// The executed entry at this place, which has one.
+/// Returns the executed entry with this index, which exists. `NoMemory` if memory runs out.
 fn executed_at(ledger: &Ledger, place: u64) -> Result<Entry, NoMemory>
     ensures { (me n : ℕ) (log : List Rec) → LedgerStands me n ledger.now log → IfOk result (λ e. slice_get (executed log) place ≡ Some e) }
 {

@@ -1,4 +1,4 @@
-//! What the lines of a step say of its executed entries.
+//! The answers in the lines of a step.
 
 ghost use Rattle.std.specs.Prelude.{List, IfSome};
 ghost use Rattle.std.specs.List.{AllByRecursion};
@@ -8,7 +8,8 @@ ghost use Rattle.crsm_replica_results.specs.Answering.{IsTrueOf, IsAnswerAt};
 use crsm_base::{Answer, Line, NoMemory};
 use std::alloc::Global;
 
-/// Which of the lines are those of executed entries, in their order. It is a hint: `answer_to` reads the line itself.
+/// Returns the indices of the lines of executed entries, in order. It is a hint: `answer_to` reads the line itself.
+/// `NoMemory` if memory runs out.
 pub fn executions(alloc: Global, lines: &[Line]) -> Result<Vec<usize>, NoMemory> {
     let mut indices = Vec::new(alloc);
     for index in 0..lines.len() {
@@ -19,7 +20,8 @@ pub fn executions(alloc: Global, lines: &[Line]) -> Result<Vec<usize>, NoMemory>
     Ok(indices)
 }
 
-/// The answer at this place, where a line tells it. The executed entries of one step stand one behind the other.
+/// Returns the answer to the executed entry with index `place`, or `None` if no line has it. The executed entries of
+/// one step have consecutive indices.
 pub fn told_at<'a>(lines: &'a [Line], executions: &[usize], place: u64) -> Option<&'a Answer>
     ensures { (done : List Entry) → AllByRecursion (IsTrueOf done) lines.now → IfSome result (λ answer. IsAnswerAt done place answer.now) }
 {
@@ -31,7 +33,7 @@ pub fn told_at<'a>(lines: &'a [Line], executions: &[usize], place: u64) -> Optio
     answer_in(line, place)
 }
 
-/// The line of this execution.
+/// Returns the line of this execution.
 fn line_at<'a>(lines: &'a [Line], executions: &[usize], index: u64) -> Option<&'a Line>
     ensures { (done : List Entry) → AllByRecursion (IsTrueOf done) lines.now → IfSome result (λ line. IsTrueOf done line.now) }
 {
@@ -46,7 +48,7 @@ fn place_told(line: &Line) -> Option<u64> {
     }
 }
 
-/// The answer that a line tells of this place.
+/// Returns the answer that a line has for the index `at`.
 fn answer_in(line: &Line, at: u64) -> Option<&Answer>
     ensures { (done : List Entry) → IsTrueOf done line.now → IfSome result (λ answer. IsAnswerAt done at answer.now) }
 {

@@ -1,4 +1,4 @@
--- Lists in which no number stands twice, one number at a time.
+-- Lists of distinct numbers, one number at a time.
 use Rattle.std.proofs.Common.{◌≡◌, ◌≢◌, ℕ, ◌+◌, ◌<◌, ◌≤◌, zero, suc, List, [], ◌∷◌, length, get_or, drop, true, false, Bool, ◌||◌, nat_eq, refl, ap, sym, subst, arith, ◌∙◌}
 use Rattle.std.specs.List.{AllByRecursion, list_any}
 use Rattle.std.proofs.lemmas.List.{drop_more}

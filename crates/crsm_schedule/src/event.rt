@@ -96,6 +96,7 @@ pub enum Event {
 }
 
 impl Single {
+    /// Returns a copy in memory from `alloc`, or `NoMemory` if that runs out.
     pub fn copy(&self, alloc: Global) -> Result<Single, NoMemory>
         ensures { IfOk result (λ copy. copy ≡ self.now) }
     {
@@ -144,6 +145,7 @@ impl Single {
 }
 
 impl Event {
+    /// Returns a copy in memory from `alloc`, or `NoMemory` if that runs out.
     pub fn copy(&self, alloc: Global) -> Result<Event, NoMemory>
         ensures { IfOk result (λ copy. copy ≡ self.now) }
     {

@@ -21,6 +21,7 @@ impl Model for Numbers {
 }
 
 impl Numbers {
+    /// Returns an empty list that allocates from `alloc`.
     pub fn new(alloc: Global) -> Numbers
         ensures { result ≡ [] }
     {
@@ -35,6 +36,7 @@ impl Numbers {
         Numbers { items }
     }
 
+    /// Appends a number. `NoMemory` if memory runs out; the list is then unchanged.
     pub fn push(&mut self, item: u64) -> Result<(), NoMemory>
         ensures ok { OnOk result (self.new ≡ self.old ++ item ∷ []) }
         ensures err { OnErr result (self.new ≡ self.old) }
@@ -43,12 +45,14 @@ impl Numbers {
         Ok(())
     }
 
+    /// Returns the numbers in order.
     pub fn as_slice(&self) -> &[u64]
         ensures { result.now ≡ self.now }
     {
         self.items.as_slice()
     }
 
+    /// Returns a copy in memory from `alloc`, or `NoMemory` if that runs out.
     pub fn copy(&self, alloc: Global) -> Result<Numbers, NoMemory>
         ensures { IfOk result (λ copy. copy ≡ self.now) }
     {

@@ -1,4 +1,4 @@
--- What an answer tells of a part that is as long as it has to be.
+-- The outcome of a part of a valid length.
 use Rattle.std.proofs.Common.{◌≡◌, ℕ, ◌<◌, ◌≤◌, Bool, true, false, cond, not, ◌&&◌, ◌||◌, List, ◌∙◌, length, nat_lt, nat_le, arith, refl, ap, Some, None}
 use Rattle.std.proofs.lemmas.Bool.Decides.{nat_tests}
 use Rattle.crsm_base.specs.Limits.{most_parts}

@@ -1,4 +1,4 @@
--- What is kept of the peers stands for the parts taken, part by part.
+-- The state of the peers stands for the parts taken, part by part.
 use Rattle.std.proofs.Common.{◌≡◌, ℕ, Bool, true, false, cond, not, ◌&&◌, ◌||◌, ◌==◌, nat_lt, List, [], ◌∷◌, ◌++◌, map, filter, arith, inl, inr, refl, sym, subst, ap, ◌∙◌, Option, Some, None}
 use Rattle.std.specs.List.{Contains, list_any, list_all}
 use Rattle.std.proofs.lemmas.Bool.Decides.{nat_tests}
@@ -20,7 +20,7 @@ pub and_false : (x y : Bool) → x ≡ true → (x && y) ≡ false → y ≡ fal
 and_false true y e f = f
 and_false false y e f = cc
 
--- ---- one part: old, odd, or taken
+-- ---- one part: old, invalid, or taken
 
 pub unchanged_old : (p : Piece) (parts : List Piece) → is_old p parts ≡ true → after_part p parts ≡ parts
 unfolding after_part with_part

@@ -24,7 +24,7 @@ next_part from g i bytes = record { from = from; boot = g.boot; number = g.numbe
 abbrev pub kept_parts : ℕ → Gathering → List Piece → List Piece
 kept_parts from g parts = filter (is_of from g.boot g.number) parts
 
--- it is the newest message, of which parts may have been taken
+-- the message is the newest, and some of its parts may have been taken
 pub record Collects (from : ℕ) (g : Gathering) (parts : List Piece) : Type 0 where
   pub none_newer : (q : Piece) → Contains parts q → is_newer from g.boot g.number q ≡ false
   pub counts : (q : Piece) → Contains parts q → is_of from g.boot g.number q ≡ true → q.count ≡ g.count
@@ -97,7 +97,7 @@ any_found f (x ∷ xs) e = go (f x) refl e (any_found f xs)
     go true is e rest = (x, (0, omega arith, refl), is)
     go false is e rest = let (y, c, k) = rest e in (y, Contains-append_right (x ∷ []) xs y c, k)
 
--- ---- a part that is neither old nor odd
+-- ---- a part that is neither old nor invalid
 
 module _ (from : ℕ) (g : Gathering) (parts : List Piece) (i : ℕ) (bytes : List ℕ) (c : Collects from g parts) (below : i < g.count) (is_open : g.given ≡ false) where
   slot_is : has_slot g i ≡ has_index (kept_parts from g parts) i

@@ -1,4 +1,4 @@
--- What is kept of the peers stands for the parts taken, after each part that comes.
+-- The state of the peers stands for the parts taken, after each part.
 use Rattle.std.proofs.Common.{◌≡◌, ◌≢◌, ℕ, zero, suc, ◌<◌, Bool, true, false, cond, not, ◌&&◌, ◌||◌, ◌==◌, nat_eq, nat_lt, List, [], ◌∷◌, ◌++◌, map, length, get_or, filter, replicate, arith, refl, sym, subst, ap, ◌∙◌, Option, Some, None, Result}
 use Rattle.std.specs.List.{Contains, list_any, list_all}
 use Rattle.std.proofs.Math.ListN.{set}

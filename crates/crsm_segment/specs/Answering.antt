@@ -1,4 +1,4 @@
--- What the slots of a peer's newest message answer to a part.
+-- The outcome of a part, by the slots of a peer's newest message.
 use Rattle.std.specs.Prelude.{ℕ, if◌then◌else◌, List, Option}
 use Rattle.crsm_segment.specs.Gathering.{Gathering, has_passed, is_refused, gathering_for, is_filled, all_bytes, has_slot, with_slot}
 use Rattle.crsm_segment.specs.declared.message.Heading.{Heading}

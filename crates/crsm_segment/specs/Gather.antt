@@ -1,4 +1,4 @@
--- Which parts taken what is kept stands for.
+-- The parts taken that the state of a `Gather` stands for.
 use Rattle.std.specs.Prelude.{◌≡◌, ℕ, ◌<◌, Bool, true, false, ◌==◌, ◌||◌, ◌&&◌, nat_lt, if◌then◌else◌, List, [], ◌∷◌, length, map, filter, Contains, Option, Some, None, slice_index_or}
 use Rattle.std.specs.List.{list_all}
 use Rattle.crsm_spec.specs.Lists.{numbers_below}
@@ -27,7 +27,7 @@ AreOnce (q ∷ qs) = (has_index qs q.index ≡ false) × AreOnce qs
 abbrev pub EachOnce : List Piece → Type 0
 EachOnce parts = (p : Piece) → AreOnce (kept_of p parts)
 
--- the message is the newest of which a part was taken; its slots have its parts, and it is given out once all are there
+-- the message is the newest with a part taken; its slots have its parts, and it is returned once all are received
 pub record IsNewest (from : ℕ) (g : Gathering) (parts : List Piece) : Type 0 where
   pub none_newer : (q : Piece) → Contains parts q → is_newer from g.boot g.number q ≡ false
   pub some : (q : Piece) × Contains parts q × (is_of from g.boot g.number q ≡ true)
@@ -35,12 +35,12 @@ pub record IsNewest (from : ℕ) (g : Gathering) (parts : List Piece) : Type 0 w
   pub given : list_all (has_index (filter (is_of from g.boot g.number) parts)) (numbers_below g.count) ≡ g.given
   pub slots : g.given ≡ false → g.slots ≡ map (bytes_at (filter (is_of from g.boot g.number) parts)) (numbers_below g.count)
 
--- what is kept of a peer stands for its parts taken
+-- the state of a peer stands for its parts taken
 abbrev pub PeerStands : ℕ → Option Gathering → List Piece → Type 0
 PeerStands from None parts = (q : Piece) → Contains parts q → (from == q.from) ≡ false
 PeerStands from (Some g) parts = IsNewest from g parts
 
--- what is kept of all peers stands for all parts taken
+-- the state of all peers stands for all parts taken
 pub record GatherStands (peers : List (Option Gathering)) (parts : List Piece) : Type 0 where
   pub once : EachOnce parts
   pub peer : (from : ℕ) → from < length peers → PeerStands from (slice_index_or peers from None) parts

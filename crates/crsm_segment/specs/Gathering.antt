@@ -1,11 +1,11 @@
--- What is kept of the newest message of a peer: a slot for each of its parts.
+-- The state of the newest message of a peer: a slot for each of its parts.
 use Rattle.std.specs.Prelude.{ℕ, Bool, true, false, ◌==◌, ◌||◌, ◌&&◌, not, nat_lt, if◌then◌else◌, List, [], replicate, Option, Some, None, is_some, unwrap_or, slice_index_or, slice_set}
 use Rattle.std.specs.List.{list_all, flat_map}
 use Rattle.crsm_spec.specs.Parts.{Piece}
 use Rattle.crsm_segment.specs.Taking.{is_sized}
 use Rattle.crsm_segment.specs.declared.message.Heading.{Heading}
 
--- its parts so far by index, until it is given out
+-- its parts by index, until it is returned
 pub record Gathering : Type 0 where
   pub boot : ℕ
   pub number : ℕ
@@ -41,11 +41,11 @@ fits h bytes = is_sized (part_of 0 h bytes)
 abbrev pub is_refused : Option Gathering → Heading → List ℕ → Bool
 is_refused peer h bytes = has_other_count peer h || not (fits h bytes)
 
--- a message of which no part has come
+-- a message without parts
 abbrev pub empty_gathering : Heading → Gathering
 empty_gathering h = record { boot = h.boot; number = h.number; count = h.count; slots = replicate h.count None; given = false }
 
--- a message that was given out
+-- a message that was returned
 abbrev pub given_gathering : Heading → Gathering
 given_gathering h = record { boot = h.boot; number = h.number; count = h.count; slots = []; given = true }
 

@@ -1,4 +1,4 @@
--- What becomes of a part, over the parts that were taken before it.
+-- The outcome of a part, by the parts that were taken before it.
 use Rattle.std.specs.Prelude.{ℕ, Bool, ◌&&◌, ◌||◌, not, nat_lt, nat_le, if◌then◌else◌, List, length, Option, None, Some}
 use Rattle.crsm_base.specs.Limits.{most_parts}
 use Rattle.crsm_base.specs.Messages.{part_least, part_most}

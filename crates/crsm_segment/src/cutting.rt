@@ -1,4 +1,4 @@
-//! A control message cut into parts.
+//! Cutting a control message into parts.
 
 ghost use Rattle.std.specs.Prelude.{◌≡◌, ◌<◌, ◌≤◌, length, IfOk};
 ghost use Rattle.crsm_segment.specs.Pieces.{sends_of};
@@ -6,9 +6,9 @@ ghost use Rattle.crsm_segment.specs.Pieces.{sends_of};
 use crsm_base::{Bytes, Datagram, NoMemory, PART_BYTES, Send, Sends, To};
 use std::alloc::Global;
 
-/// The datagrams that carry a control message from one replica to another, in order: 8,000 bytes
-/// each, but the last, which has what is left. The message is the `number`th that this boot of its
-/// sender made.
+/// Returns the datagrams that carry a control message from replica to replica, in order. Each part has 8,000 bytes, and
+/// the last one the rest. `number` counts the control messages that this boot of the sender has made. `NoMemory` if
+/// memory runs out.
 pub fn cut(
     alloc: Global,
     from: u32,

@@ -1,4 +1,4 @@
-//! Messages of all peers, gathered from their parts.
+//! Control messages of all peers, reassembled from their parts.
 
 ghost use Rattle.std.specs.Prelude.{◌≡◌, ◌<◌, ◌≤◌, List, [], length, IfOk, OnOk, OnErr, None, replicate};
 ghost use Rattle.crsm_spec.specs.Parts.{Piece};
@@ -10,8 +10,7 @@ use crsm_base::NoMemory;
 use std::alloc::Global;
 use std::marker::Model;
 
-/// The parts of messages that have come from each peer. A contract sees it by the list of all parts
-/// that were taken, which it stands for.
+/// The parts of control messages received from each peer. A contract sees it by the list of all parts taken.
 #[derive(Drop)]
 pub struct Gather {
     alloc: Global,
@@ -28,7 +27,7 @@ impl Model for Gather {
 }
 
 impl Gather {
-    /// One that has taken no part, for n peers.
+    /// Returns the state before any part was received, for `n` peers. `NoMemory` if memory runs out.
     pub fn new(alloc: Global, n: u32) -> Result<Gather, NoMemory>
         requires one { 1 ≤ n }
         requires few { n ≤ 15 }
@@ -42,9 +41,8 @@ impl Gather {
         Ok(Gather { alloc, peers })
     }
 
-    /// Takes the part with this index, of so many parts, of the `number`th message that this boot
-    /// of the peer made. A part of a newer message drops what was kept of the older one. An `Err`
-    /// changes nothing.
+    /// Takes part `index`, of `count`, of the peer's message `number`. A part of a newer message drops the parts of the
+    /// older one. `NoMemory` if memory runs out; nothing has changed then.
     pub fn take(
         &mut self,
         from: u32,

@@ -1,4 +1,4 @@
-//! Control messages cut into parts, and gathered again.
+//! Control messages cut into parts and reassembled.
 #![tactic(auto)]
 
 mod cutting;

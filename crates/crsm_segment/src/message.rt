@@ -1,4 +1,4 @@
-//! The newest message of a peer, by its parts.
+//! The newest control message of a peer, by its parts.
 
 ghost use Rattle.std.specs.Prelude.{◌≡◌, ◌<◌, IfOk, OnOk, OnErr, None, false, replicate};
 ghost use Rattle.crsm_segment.specs.Gathering.{has_passed, is_before, is_same, has_other_count, fits, empty_gathering, given_gathering, is_filled, all_bytes, after_add, after_heading};
@@ -8,20 +8,20 @@ use crsm_base::{Bytes, MAX_CONTROL_BYTES, MAX_PARTS, NoMemory, PART_BYTES};
 use std::alloc::Global;
 use std::marker::Model;
 
-/// What became of a part.
+/// The outcome of taking a part.
 #[derive(Debug, Drop)]
 pub enum PartOutcome {
-    /// It completes its message, which is this.
+    /// The part completes its message, which is this.
     Whole(Bytes),
     /// Further parts of its message are missing.
     More,
-    /// Its message is older than the newest of its sender, or was given out.
+    /// The message is older than the newest of its sender, or was returned before.
     Old,
-    /// It counts its message's parts otherwise than those before, or is not as long as it has to be.
+    /// The part contradicts the count of its message's other parts, or has an invalid length.
     Odd,
 }
 
-/// What a part says of itself.
+/// The heading of a part: boot and number of its message, its index, and the count of the message's parts.
 #[derive(Clone, Copy, Debug)]
 pub struct Heading {
     pub boot: u64,
@@ -30,7 +30,7 @@ pub struct Heading {
     pub count: u32,
 }
 
-/// The newest message of a peer. Its parts are let go once it is given out.
+/// The newest message of a peer. Its parts are dropped once it is returned.
 #[derive(Drop)]
 pub struct Message {
     boot: u64,
@@ -51,14 +51,14 @@ impl Model for Message {
     ghost invariant = { λ m. m.given ≡ false → length m.slots.items ≡ m.count };
 }
 
-/// Whether all parts are there.
+/// Returns whether all parts have been received.
 fn is_all_there(slots: &[Option<Bytes>]) -> bool
     ensures { result ≡ is_filled slots.now }
 {
     slots.iter().all(|slot| slot.is_some())
 }
 
-/// The parts that are there, joined.
+/// Returns the parts, joined. `NoMemory` if memory runs out.
 fn join(alloc: Global, slots: &[Option<Bytes>]) -> Result<Bytes, NoMemory>
     ensures { IfOk result (λ whole. whole ≡ all_bytes slots.now) }
 {
@@ -71,7 +71,7 @@ fn join(alloc: Global, slots: &[Option<Bytes>]) -> Result<Bytes, NoMemory>
     Ok(whole)
 }
 
-/// Room for so many parts.
+/// Returns `count` empty slots. `NoMemory` if memory runs out.
 fn room(alloc: Global, count: u32) -> Result<Vec<Option<Bytes>>, NoMemory>
     ensures { IfOk result (λ v. v.items ≡ replicate count None) }
 {
@@ -82,7 +82,7 @@ fn room(alloc: Global, count: u32) -> Result<Vec<Option<Bytes>>, NoMemory>
     Ok(slots)
 }
 
-/// A copy of a part's bytes.
+/// Returns a copy of a part's bytes. `NoMemory` if memory runs out.
 fn kept(alloc: Global, bytes: &[u8]) -> Result<Bytes, NoMemory>
     ensures { IfOk result (λ copy. copy ≡ bytes.now) }
 {
@@ -93,7 +93,7 @@ fn kept(alloc: Global, bytes: &[u8]) -> Result<Bytes, NoMemory>
 }
 
 impl Message {
-    /// One with no part yet.
+    /// Returns a message without parts. `NoMemory` if memory runs out.
     fn new(alloc: Global, h: Heading) -> Result<Message, NoMemory>
         ensures { IfOk result (λ made. made ≡ empty_gathering h) }
     {
@@ -107,7 +107,7 @@ impl Message {
         })
     }
 
-    /// One whose only part has come and was given out.
+    /// Returns a message whose only part was received and returned.
     fn given_at_once(alloc: Global, h: Heading) -> Message
         ensures { result ≡ given_gathering h }
     {
@@ -144,7 +144,7 @@ impl Message {
         self.count
     }
 
-    /// Adds a part. An `Err` changes nothing.
+    /// Adds a part and returns its outcome. `NoMemory` if memory runs out; nothing has changed then.
     fn add(&mut self, alloc: Global, index: u32, bytes: &[u8]) -> Result<PartOutcome, NoMemory>
         requires open { self.old.given ≡ false }
         requires below { index < self.old.count }
@@ -193,8 +193,8 @@ fn has_count_besides(peer: &Option<Message>, h: Heading) -> bool
     }
 }
 
-/// Whether a part is as long as it has to be: each but the last is full, and all together are no
-/// more than a message may have.
+/// Returns whether a part has a valid length: each but the last is full, and together they are no longer than a control
+/// message may be.
 #[tactic(auto, unfolding(crate::specs::Taking::is_sized))]
 fn is_fit(h: Heading, bytes: &[u8]) -> bool
     ensures { result ≡ fits h bytes.now }
@@ -214,7 +214,7 @@ fn is_fit(h: Heading, bytes: &[u8]) -> bool
     0 < bytes.len() && bytes.len() <= most
 }
 
-/// Takes a part of a peer. An `Err` changes nothing.
+/// Takes a part of a peer and returns its outcome. `NoMemory` if memory runs out; nothing has changed then.
 #[tactic(auto, unfolding(crate::specs::Taking::is_sized))]
 pub fn take_part(
     alloc: Global,
@@ -237,7 +237,7 @@ pub fn take_part(
             return message.add(alloc, h.index, bytes);
         }
     }
-    // The only part of its message is the message: no slot is made for it.
+    // The only part of its message is the message: it needs no slot.
     if h.count == 1 {
         let whole = kept(alloc, bytes)?;
         *peer = Some(Message::given_at_once(alloc, h));

@@ -1,4 +1,4 @@
--- A boot that is kept on a mounted log, or is not.
+-- A boot that becomes durable on a mounted log, or does not.
 use Rattle.std.proofs.Common.{◌≡◌, IsTrue, ℕ, ◌+◌, ◌<◌, List, [], ◌∷◌, ◌++◌, length, refl, sym, ◌∙◌, ap, subst, inl, inr, arith}
 use Rattle.std.specs.Prelude.{◌⊎◌, Some}
 use Rattle.crsm_base.specs.declared.rec.Rec.{Rec}
@@ -12,7 +12,7 @@ use Rattle.crsm_core.specs.Core.{CoreStands}
 use Rattle.crsm_port_faults.specs.Plan.{Plan}
 use Rattle.crsm_disk.specs.Meaning.{LeavesOnly, Meaning}
 use Rattle.crsm_disk.proofs.Moments.{joined, weaker}
-use Rattle.crsm_disk.specs.Calls.{Call, History}
+use Rattle.crsm_port_image.specs.Calls.{Call, History}
 use Rattle.crsm_ledger.specs.Recovered.{AreKept, IsBadAt}
 use Rattle.crsm_log.specs.declared.errors.MountError.{MountError}
 use Rattle.crsm_log.specs.declared.errors.MountError.TheVariants as mount

@@ -1,4 +1,4 @@
--- What a boot makes, and what its mount and its put do to the disk.
+-- The output of a boot, and the effects of its mount and put on the disk.
 use Rattle.std.proofs.Common.{◌≡◌, IsTrue, ℕ, zero, suc, ◌+◌, ◌-◌, ◌<◌, ◌≤◌, min, List, [], ◌∷◌, ◌++◌, length, refl, sym, ◌∙◌, ap, subst, arith, Bool, true, false, map, append-nil}
 use Rattle.std.specs.Prelude.{Option, Some, None, nat_lt}
 use Rattle.std.proofs.lemmas.Option.{none-some, same_Some}
@@ -66,7 +66,7 @@ pub rose_behind : (a b c : ℕ) → a ≤ b → Rose b c → Rose a c
 rose_behind a b c le rose = omega (arith, le, rose)
 
 pub goes_behind : (a b c : Meaning) → Goes a b → Goes b c → Goes a c
-goes_behind a b c p q = let l = p.later in let m = q.later in record { honest = q.honest ∙ p.honest; fill = q.fill ∙ p.fill; lent = q.lent ∙ p.lent; later = omega (arith, l, m) }
+goes_behind a b c p q = let l = p.later in let m = q.later in record { honest = q.honest ∙ p.honest; fill = q.fill ∙ p.fill; borrowed_as = q.borrowed_as ∙ p.borrowed_as; later = omega (arith, l, m) }
 
 -- ---- what a boot hands out
 

@@ -1,4 +1,4 @@
--- What is known of the log of a core.
+-- The facts of the log of a core.
 use Rattle.crsm_core.specs.declared.replica.Core.{Core}
 use Rattle.crsm_core.specs.Core.{CoreStands}
 use Rattle.crsm_replica.specs.Replica.{ReplicaStands}

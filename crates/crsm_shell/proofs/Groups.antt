@@ -1,4 +1,4 @@
--- The steps that pend on a shell, as a group of records behind the log that is kept.
+-- The pending steps of a shell, as a group of records after the durable log.
 use Rattle.std.proofs.Common.{◌≡◌, IsTrue, ℕ, ◌<◌, List, length, sym, ◌∙◌, ap, subst, inl}
 use Rattle.crsm_replica_epoch.specs.EpochState.{EachFits}
 use Rattle.crsm_spec.specs.Log.{Log}
@@ -8,7 +8,7 @@ use Rattle.crsm_spec.specs.Draft.{Draft}
 use Rattle.crsm_base.specs.Records.{body_bytes}
 use Rattle.crsm_disk.specs.Meaning.{LeavesOnly, Meaning}
 use Rattle.crsm_disk.proofs.Moments.{started, weaker}
-use Rattle.crsm_disk.specs.Image.{image_of}
+use Rattle.crsm_port_image.specs.Image.{image_of}
 use Rattle.crsm_log.specs.Format.{bodies_of, gate_in, reading}
 use Rattle.crsm_log.specs.Log.{IsSettled}
 use Rattle.crsm_shell.specs.declared.shell.Shell.{Shell}

@@ -1,4 +1,4 @@
--- What putting a body, or none, does to the disk.
+-- The effect of putting a body, or none, on the disk.
 use Rattle.std.proofs.Common.{◌≡◌, IsTrue, ℕ, ◌+◌, ◌<◌, ◌≤◌, List, [], ◌∷◌, ◌++◌, length, refl, sym, ◌∙◌, ap, subst, inl, inr, arith}
 use Rattle.std.specs.Prelude.{◌⊎◌, Option, None, Some}
 use Rattle.crsm_port_faults.specs.Plan.{Plan}

@@ -1,4 +1,4 @@
--- Bodies that hold a log are not bad.
+-- Bodies of a log are not bad.
 use Rattle.std.proofs.Common.{◌≡◌, ℕ, zero, suc, List, [], ◌∷◌, ◌++◌, take, refl, sym, ◌∙◌, subst, inl, inr, Bool, true, false}
 use Rattle.std.specs.Prelude.{◌⊎◌, Option, Some, slice_get}
 use Rattle.std.proofs.lemmas.Option.{none-some, same_Some}

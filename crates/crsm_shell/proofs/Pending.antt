@@ -1,4 +1,4 @@
--- One step more that is pending, and a core that stands for some replica.
+-- One more pending step, and a core that stands for some replica.
 use Rattle.std.proofs.Common.{◌≡◌, IsTrue, ℕ, ◌+◌, List, [], ◌∷◌, ◌++◌, length, refl, sym, ◌∙◌, ap, subst, false, length-append}
 use Rattle.std.specs.List.{AllByRecursion}
 use Rattle.crsm_base.specs.declared.rec.Rec.{Rec}
@@ -19,7 +19,7 @@ use Rattle.crsm_shell.specs.Taking.{MakesStep}
 use Rattle.crsm_shell.proofs.Records.{all_more, body_more, packets_more, records_push, sends_push, with_more}
 use Rattle.crsm_fact_step.specs.Steps.{Grown}
 
--- what is sent has a spelling
+-- each output has an encoding
 pub sent_fit : (sends : List Send) → AllByRecursion FitsSent sends → AllByRecursion FitsSend sends
 sent_fit [] h = tt
 sent_fit (s ∷ sends) h = (h.0.1, sent_fit sends h.1)

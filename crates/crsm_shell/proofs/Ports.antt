@@ -1,4 +1,4 @@
--- What a flush does to the port: room, and then the sends.
+-- The effect of a flush on the port: the reservation, and then the sends.
 use Rattle.std.proofs.Common.{◌≡◌, ℕ, ◌≤◌, List, length, map, refl, sym, ◌∙◌, ap, subst}
 use Rattle.std.specs.Prelude.{Option, Some, None, option_map}
 use Rattle.std.proofs.lemmas.Option.{none-some}
@@ -23,16 +23,16 @@ module _ (packets : List Packet) (old mid new : Meaning) (same : mid ≡ record 
     missing = o.missing;
     lacks = o.lacks;
     counted = subst (λ (k : ℕ). raised_by o.missing k ≤ new.losses) (ap (λ (m : Meaning). m.losses) same) o.counted;
-    traffic = o.traffic ∙ ap (λ (m : Meaning). option_map (with_all_sent (map m.coat.wrap o.out)) m.traffic) same;
+    traffic = o.traffic ∙ ap (λ (m : Meaning). option_map (with_all_sent (map m.framing.wrap o.out)) m.traffic) same;
   }
 
-  whole_of : SendsAll packets mid new → GoesWell old.plan → (new.traffic ≡ option_map (with_all_sent (map old.coat.wrap packets)) old.traffic) × (new.losses ≡ old.losses) × GoesWell new.plan
+  whole_of : SendsAll packets mid new → GoesWell old.plan → (new.traffic ≡ option_map (with_all_sent (map old.framing.wrap packets)) old.traffic) × (new.losses ≡ old.losses) × GoesWell new.plan
   whole_of s well =
       let p = well_some old.plan well in
       let q = room p.0 p.1 in
       let none : q.0.good ≡ None = q.2.good ∙ p.2 in
       let w = s.whole q.0 q.1 none q.2.calls q.2.bytes in (
-        w.traffic ∙ ap (λ (m : Meaning). option_map (with_all_sent (map m.coat.wrap packets)) m.traffic) same,
+        w.traffic ∙ ap (λ (m : Meaning). option_map (with_all_sent (map m.framing.wrap packets)) m.traffic) same,
         w.losses ∙ ap (λ (m : Meaning). m.losses) same,
         subst GoesWell (sym w.plan) (ap one_less none),
       )
@@ -42,8 +42,8 @@ module _ (packets : List Packet) (old mid new : Meaning) (same : mid ≡ record 
     faults = s.faults ∙ ap (λ (m : Meaning). m.faults) same;
     empties = s.empties ∙ ap (λ (m : Meaning). m.empties) same;
     later = subst (λ (k : ℕ). k ≤ new.losses) (ap (λ (m : Meaning). m.losses) same) s.later;
-    coat = s.coat ∙ ap (λ (m : Meaning). m.coat) same;
-    lent = s.lent ∙ ap (λ (m : Meaning). m.lent) same;
+    framing = s.framing ∙ ap (λ (m : Meaning). m.framing) same;
+    borrowed_as = s.borrowed_as ∙ ap (λ (m : Meaning). m.borrowed_as) same;
     out = out_of s.out;
     whole = whole_of s;
   }

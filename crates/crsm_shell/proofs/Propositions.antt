@@ -1,4 +1,4 @@
--- That a record has a spelling has one proof at most, and so for a datagram.
+-- The proof that a record or a datagram has an encoding is unique.
 use Rattle.std.proofs.Common.{◌≡◌, ◌+◌, ◌<◌, ℕ, List, [], ◌∷◌, ap, inl, inr, arith}
 use Rattle.std.specs.Prelude.{◌⊎◌, Option, Some, None}
 use Rattle.std.specs.List.{AllByRecursion}
@@ -36,7 +36,7 @@ all_prop : {X : Type 0} (P : X → Type 0) → ((x : X) → IsProp (P x)) → (x
 all_prop P h [] = Unit-prop
 all_prop P h (x ∷ xs) = ×_prop (h x) (all_prop P h xs)
 
--- two facts of which only one can hold
+-- two facts that exclude each other
 either_prop : {A B : Type 0} → IsProp A → IsProp B → (A → B → ⊥) → IsProp (A ⊎ B)
 either_prop p q apart (inl a) (inl b) = ap inl (p a b)
 either_prop p q apart (inl a) (inr b) = absurd (apart a b)

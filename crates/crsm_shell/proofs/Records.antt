@@ -1,4 +1,4 @@
--- Records of steps, and the logs that bodies make.
+-- Records of steps, and the logs of bodies.
 use Rattle.std.proofs.Common.{◌≡◌, ℕ, true, List, [], ◌∷◌, ◌++◌, refl, sym, ◌∙◌, ap, subst, append-nil}
 use Rattle.std.specs.List.{flat_map, AllByRecursion}
 use Rattle.std.proofs.lemmas.List.Concat.{flat_map-append}
@@ -54,7 +54,7 @@ pub spelt_behind : (log : Log) (recs : List Rec) → AllByRecursion FitsRec log 
 spelt_behind log [] a b = a
 spelt_behind log (rec ∷ recs) a b = spelt_behind (rec ∷ log) recs (b.0, a) b.1
 
--- what bodies hold fits and has a spelling
+-- the records in bodies fit and have encodings
 pub kept_fit : (me n : ℕ) (log end : Log) (bodies : List (List ℕ)) → AreKept me n log bodies end → EachFits me n log → EachFits me n end
 kept_fit me n log end [] k e = subst (EachFits me n) (sym k) e
 kept_fit me n log end (body ∷ bodies) k e = kept_fit me n (with_records log k.0) end bodies k.3 (fit_behind me n log k.0 e k.2)

@@ -1,4 +1,4 @@
--- What a turn does, of what its take and its flush do.
+-- The effect of a turn, by those of its take and its flush.
 use Rattle.std.proofs.Common.{◌≡◌, IsTrue, ℕ, List, [], ◌∷◌, ◌++◌, refl, sym, subst, inl}
 use Rattle.std.specs.Prelude.{Option, Result, Ok, Err, IfErr, Some}
 use Rattle.crsm_port_faults.specs.Plan.{Plan}
@@ -120,7 +120,7 @@ module _ {D : Type 0} {g : _} (meaning : D → Meaning) (before mid after : Shel
 -- ---- where the disk is not called
 
 same_disk : (m : Meaning) → Same m m
-same_disk m = record { seen = refl; images = λ c. (λ h. h, λ h. h); moment = refl; left = λ t c. (λ h. h, λ h. h); history = refl; honest = refl; lent = refl }
+same_disk m = record { seen = refl; images = λ c. (λ h. h, λ h. h); moment = refl; left = λ t c. (λ h. h, λ h. h); history = refl; honest = refl; borrowed_as = refl }
 
 pub untouched : {D : Type 0} {g : _} (meaning : D → Meaning) (before after : Shell D g) → disk_of after ≡ disk_of before → Same (meaning (disk_of before)) (meaning (disk_of after))
 untouched meaning before after disk = subst (λ d. Same (meaning (disk_of before)) (meaning d)) (sym disk) (same_disk (meaning (disk_of before)))

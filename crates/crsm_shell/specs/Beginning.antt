@@ -1,4 +1,4 @@
--- What a boot makes before it is kept.
+-- The boot of a core before it is durable.
 use Rattle.std.specs.Prelude.{◌≡◌, ◌≢◌, ℕ, List, length}
 use Rattle.std.specs.List.{AllByRecursion}
 use Rattle.crsm_base.specs.Records.{FitsRec, body_bytes}

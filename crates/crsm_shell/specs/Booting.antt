@@ -1,4 +1,4 @@
--- What a boot answers.
+-- The result of a boot.
 use Rattle.std.specs.Prelude.{◌≡◌, ◌⊎◌, ◌↔◌, ℕ, ◌+◌, ◌<◌, List, [], ◌∷◌, ◌++◌, length, false, IsTrue, Some}
 use Rattle.crsm_base.specs.Records.{body_bytes}
 use Rattle.crsm_spec.specs.Log.{Log}
@@ -62,13 +62,13 @@ pub record RefusesBoot (me n : ℕ) (old new : Meaning) (why : BootError) : Type
   -- the log reads as before
   pub stays : IsTrue old.honest → (why ≡ boots.DiskFault → ⊥) → reading new.seen ≡ reading old.seen
 
--- What a boot on this log does to the disk: the calls of a mount and of a put.
+-- The effect of a boot from this log on the disk: the calls of a mount and of a put.
 pub record BootsOn (me n : ℕ) (log : Log) (old new : Meaning) : Type 0 where
   pub history : new.history ≡ recorded (put_calls (gate_in old.seen) (boot_body me n log)) (recorded (mount_calls old.seen) old.history)
   pub plan : (p : Plan) → old.plan ≡ Some p → Used (mount_count old.seen + 4) p new.plan
   pub fits : IsFull old.seen (boot_body me n log) → ⊥
 
--- what a crash might have left before, or a file that reads as the one before
+-- what a crash could leave before, or a file that reads as the one before
 abbrev pub ReadsAsBefore : Meaning → List ℕ → Type 0
 ReadsAsBefore old file = old.may_leave file ⊎ (reading file ≡ reading old.seen)
 

@@ -1,4 +1,4 @@
--- Which errors come of others, and which are for good.
+-- The errors that others become, and which are permanent.
 use Rattle.std.specs.Prelude.{Bool, true, false}
 use Rattle.crsm_shell.specs.declared.errors.TurnError.{TurnError}
 use Rattle.crsm_shell.specs.declared.errors.TurnError.TheVariants as errors
@@ -11,13 +11,13 @@ use Rattle.crsm_log.specs.declared.errors.PutError.TheVariants as put
 use Rattle.crsm_replica_io.specs.declared.input.TakeError.{TakeError}
 use Rattle.crsm_replica_io.specs.declared.input.TakeError.TheVariants as take
 
--- what a failed mount is
+-- the error of a failed mount
 abbrev pub mount_failure : MountError → BootError
 mount_failure mount.DiskFault = boots.DiskFault
 mount_failure (mount.BadGate entry) = boots.BadLog entry 10
 mount_failure mount.NoMemory = boots.NoMemory
 
--- what a boot is that is not kept
+-- the error of a boot that is not durable
 abbrev pub keep_failure : TurnError → BootError
 keep_failure errors.DiskFault = boots.DiskFault
 keep_failure errors.LogFull = boots.LogFull
@@ -25,11 +25,11 @@ keep_failure errors.PortFault = boots.NoMemory
 keep_failure errors.Failed = boots.NoMemory
 keep_failure errors.NoMemory = boots.NoMemory
 
--- what a failed input is
+-- the error of a failed input
 abbrev pub take_failure : TakeError → TurnError
 take_failure take.PortFault = errors.PortFault
 
--- what a failed put is
+-- the error of a failed put
 abbrev pub put_failure : PutError → TurnError
 put_failure put.DiskFault = errors.DiskFault
 put_failure put.Failed = errors.Failed

@@ -1,12 +1,12 @@
--- What a flush does to the port and to the disk.
+-- The effect of a flush on the port and on the disk.
 use Rattle.std.specs.Prelude.{◌≡◌, ◌⊎◌, ℕ, ◌+◌, ◌<◌, ◌≤◌, List, [], ◌∷◌, ◌++◌, length, map, take, IsTrue, Option, Some, None, if◌then◌else◌, option_map}
 use Rattle.crsm_spec.specs.Draft.{Draft}
 use Rattle.crsm_spec.specs.Log.{Log}
 use Rattle.crsm_spec.specs.Moments.{is_kept}
 use Rattle.crsm_spec.specs.Replica.{Replica}
 use Rattle.crsm_port_faults.specs.Plan.{Plan}
-use Rattle.crsm_disk.specs.Calls.{Call, History}
-use Rattle.crsm_disk.specs.Image.{image_of}
+use Rattle.crsm_port_image.specs.Calls.{Call, History}
+use Rattle.crsm_port_image.specs.Image.{image_of}
 use Rattle.crsm_port_faults.specs.Counts.{Rose}
 use Rattle.crsm_disk.specs.Meaning.{LeavesOnly, Meaning, Same}
 use Rattle.crsm_log.specs.Log.{Goes, Used, put_calls, recorded}
@@ -22,7 +22,7 @@ use Rattle.crsm_shell.specs.Words.{disk_of, gate_of}
 
 -- ---- the port
 
--- where the port tells, all its calls go well
+-- the port's plan is specified, and none of its calls fails
 abbrev pub GoesWell : Option Plan → Type 0
 GoesWell None = ⊥
 GoesWell (Some p) = p.good ≡ None
@@ -33,10 +33,10 @@ pub record SendsPackets (packets : List Packet) (old new : PortMeaning) : Type 0
   pub faults : new.faults ≡ old.faults
   pub empties : new.empties ≡ old.empties
   pub later : old.losses ≤ new.losses
-  pub coat : new.coat ≡ old.coat
-  pub lent : new.lent ≡ old.lent
+  pub framing : new.framing ≡ old.framing
+  pub borrowed_as : new.borrowed_as ≡ old.borrowed_as
   pub out : GoesOut packets old new
-  pub whole : GoesWell old.plan → (new.traffic ≡ option_map (with_all_sent (map old.coat.wrap packets)) old.traffic) × (new.losses ≡ old.losses) × GoesWell new.plan
+  pub whole : GoesWell old.plan → (new.traffic ≡ option_map (with_all_sent (map old.framing.wrap packets)) old.traffic) × (new.losses ≡ old.losses) × GoesWell new.plan
 
 -- nothing is sent; there may be more room than before
 pub record SendsNone (old new : PortMeaning) : Type 0 where
@@ -76,13 +76,13 @@ IsLeft bodies body file = (reading file ≡ found bodies) ⊎ ((0 < length body)
 abbrev pub IsPast : ℕ → List ℕ → Type 0
 IsPast gate body = (0 < length body) × logs.IsPast gate (length body)
 
--- no entry of this body may stand behind those of the file
+-- no entry with this body fits after those of the file
 abbrev pub IsFull : List ℕ → List ℕ → Type 0
 IsFull file body = IsPast (gate_in file) body
 
--- The put of this body stopped: of its four calls so many were made, and the next one failed. The image of such a disk,
--- whatever fills what was not synced, reads as before or, where all but the last sync were made and the fill is the byte
--- of an open gate, with the body.
+-- The put of this body stopped: these calls of its four were made, and the next one failed. The image of such a disk,
+-- whatever fills the ranges that were not synced, reads as before or, if all but the last sync were made and the fill
+-- is the byte of an open gate, with the body.
 pub record StopsPut (gate : ℕ) (body : List ℕ) (old new : Meaning) : Type 0 where
   pub made : ℕ
   pub short : made < 4
@@ -116,9 +116,9 @@ pub record NotKept (why : TurnError) (gate : ℕ) (body : List ℕ) (old new : M
 abbrev pub IsOneOf : (me n : ℕ) → (kept log : Log) → List ℕ → Type 0
 IsOneOf me n kept log file = HasLog me n file kept ⊎ HasLog me n file log
 
--- The put of the pending records stopped: of its calls so many were made, and the next one failed. The image of such a
--- disk, whatever fills what was not synced, has the log without them or, where all but the last sync were made and the
--- fill is the byte of an open gate, with them.
+-- The put of the pending records stopped: these of its calls were made, and the next one failed. The image of such a
+-- disk, whatever fills the ranges that were not synced, has the log without them or, if all but the last sync were made
+-- and the fill is the byte of an open gate, with them.
 pub record StopsFlush (gate : ℕ) (body : List ℕ) (kept : Log) (r : Replica) (old new : Meaning) : Type 0 where
   pub made : ℕ
   pub short : made < 4
@@ -154,6 +154,6 @@ StopsGroup meaning before after kept r steps = StopsFlush (gate_of before) (grou
 abbrev pub CallsForGroup : {D : Type 0} {g : _} → (D → Meaning) → (before after : Shell D g) → List Draft → Type 0
 CallsForGroup meaning before after steps = (meaning (disk_of after)).history ≡ recorded (keep_calls (gate_of before) (group_body steps)) (meaning (disk_of before)).history
 
--- so many calls went well
+-- the calls for the group are counted off the disk's plan, if it has one
 abbrev pub SpendsForGroup : {D : Type 0} {g : _} → (D → Meaning) → (before after : Shell D g) → List Draft → Type 0
 SpendsForGroup meaning before after steps = (p : Plan) → (meaning (disk_of before)).plan ≡ Some p → Used (keep_count (group_body steps)) p (meaning (disk_of after)).plan

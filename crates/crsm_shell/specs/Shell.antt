@@ -15,7 +15,7 @@ use Rattle.crsm_replica_io.specs.Outgoing.{packets_for}
 use Rattle.crsm_core.specs.Core.{CoreStands}
 use Rattle.crsm_shell.specs.declared.shell.Shell.{Shell}
 use Rattle.crsm_shell.specs.Words.{disk_of}
-use Rattle.crsm_disk.specs.Calls.{History}
+use Rattle.crsm_port_image.specs.Calls.{History}
 
 -- ---- steps that are pending
 
@@ -27,11 +27,11 @@ records_of steps = flat_map (λ x. x.batch) steps
 abbrev pub group_body : List Draft → List ℕ
 group_body steps = body_bytes (records_of steps)
 
--- what a step sends: the datagrams to replicas, and then the replies
+-- the datagrams that a step sends to replicas, and then the replies
 unfoldable pub sends_in : Draft → List Send
 sends_in x = map to_replica x.sends ++ map to_address x.replies
 
--- what these steps send, in order
+-- the datagrams that these steps send, in order
 unfoldable pub sends_of : List Draft → List Send
 sends_of steps = flat_map sends_in steps
 

@@ -1,4 +1,4 @@
--- What a shell takes, and the step that it makes of it.
+-- The input that a shell takes, and its step.
 use Rattle.std.specs.Prelude.{◌≡◌, ℕ, List, [], ◌∷◌, ◌++◌, length, take, Option, Some, None, option_and_then, Result, Ok, Err}
 use Rattle.crsm_base.specs.MessageReading.{datagram_of}
 use Rattle.crsm_base.specs.declared.datagram.Datagram.{Datagram}
@@ -86,7 +86,7 @@ Receives what buffer old new (Err errors.Failed) = ⊥
 Receives what buffer old new (Err errors.DiskFault) = ⊥
 Receives what buffer old new (Err errors.LogFull) = ⊥
 
--- The same of a whole step; where the replica failed before, nothing is taken. Where memory runs out, the input is taken.
+-- The same for a whole step; if the replica failed before, nothing is taken. If memory runs out, the input is taken.
 abbrev pub Takes : WantedInput → List ℕ → PortMeaning → PortMeaning → Result TurnResult TurnError → Type 0
 Takes what buffer old new (Ok t) = Receives what buffer old new (Ok t.taken)
 Takes what buffer old new (Err errors.Failed) = new ≡ old

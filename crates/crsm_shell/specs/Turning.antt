@@ -1,4 +1,4 @@
--- What a turn makes, keeps and sends.
+-- The records and datagrams of a turn.
 use Rattle.std.specs.Prelude.{◌≡◌, ℕ, List, [], ◌∷◌, ◌++◌, IsTrue, Option, Ok, Err}
 use Rattle.crsm_spec.specs.Draft.{Draft}
 use Rattle.crsm_spec.specs.Log.{Log}
@@ -33,7 +33,7 @@ pub record KeepsStep {D : Type 0} {g : _} (new : Shell D g) (m : Meaning) (r : R
 abbrev pub steps_with : {D : Type 0} {g : _} → Shell D g → Replica → List Draft → TurnResult → List Draft
 steps_with new r steps t = steps ++ step_of (buffer_of new) r t ∷ []
 
--- The input is taken off the port into the buffer, and then all that these steps and its own send goes out.
+-- The input is taken from the port into the buffer, and then all output of these steps and its own is sent.
 pub record TakesAndSends {D : Type 0} {g : _} (before after : Shell D g) (what : WantedInput) (old new : PortMeaning) (r : Replica) (steps : List Draft) (t : TurnResult) : Type 0 where
   pub between : PortMeaning
   pub taken : TakesInput what most_received (buffer_of after) old between (Ok t.taken)
@@ -51,7 +51,7 @@ pub record KeepsGroup {D : Type 0} {g : _} (meaning : D → Meaning) (before aft
 
 -- ---- errors
 
--- A receive failed: the shell goes on as it was, its disk was not called, and a crash leaves the log that is kept.
+-- A receive failed: the shell is unchanged, its disk was not called, and a crash leaves the durable log.
 pub record GoesOn {D : Type 0} {g : _} (meaning : D → Meaning) (before after : Shell D g) (kept : Log) (r : Replica) (steps : List Draft) : Type 0 where
   pub stands : ShellStands after (meaning (disk_of after)) kept r steps
   pub disk : disk_of after ≡ disk_of before
@@ -64,7 +64,7 @@ pub record TakesOnly (what : WantedInput) (buffer : List ℕ) (old new : PortMea
   pub taken : TakesInput what most_received buffer old between (Ok input)
   pub unsent : SendsNone between new
 
--- what a turn that fails does to the port: it sends nothing
+-- the effect of a failed turn on the port: it sends nothing
 abbrev pub FailsOnPort : WantedInput → List ℕ → PortMeaning → PortMeaning → TurnError → Type 0
 FailsOnPort what buffer old new errors.Failed = new ≡ old
 FailsOnPort what buffer old new errors.PortFault = TakesInput what most_received buffer old new (Err take_error.PortFault)
@@ -72,7 +72,7 @@ FailsOnPort what buffer old new errors.DiskFault = TakesOnly what buffer old new
 FailsOnPort what buffer old new errors.LogFull = TakesOnly what buffer old new
 FailsOnPort what buffer old new errors.NoMemory = TakesOnly what buffer old new
 
--- What an error leaves of these steps on the disk, behind the log that is kept: all of them or none.
+-- The effect of an error on the disk: all of these steps follow the durable log, or none.
 pub record FailsToFlush {D : Type 0} {g : _} (meaning : D → Meaning) (before after : Shell D g) (kept : Log) (r : Replica) (steps : List Draft) (why : TurnError) : Type 0 where
   pub stopped : why ≡ errors.DiskFault → StopsGroup meaning before after kept r steps
   pub unwritten : (why ≡ errors.DiskFault → ⊥) → Same (meaning (disk_of before)) (meaning (disk_of after))
@@ -81,14 +81,14 @@ pub record FailsToFlush {D : Type 0} {g : _} (meaning : D → Meaning) (before a
   pub left : IsTrue (meaning (disk_of before)).honest → LeavesGroup meaning before after steps
   pub any_moment : IsTrue (meaning (disk_of before)).honest → LeavesLogs meaning before after kept r
 
--- The step of what was taken off the port was made, at the reading of the clock, and could not be flushed with those that
--- pended.
+-- The step of the input taken from the port was made, at the reading of the clock, and could not be flushed with the
+-- pending ones.
 pub record LosesStep {D : Type 0} {g : _} (meaning : D → Meaning) (before after : Shell D g) (what : WantedInput) (ahead later : Option Readings) (old new : PortMeaning) (why : TurnError) (kept : Log) (r : Replica) (steps : List Draft) : Type 0 where
   pub reading : ℕ
   pub gives : Gives ahead later reading
   pub took : TakesOnly what (buffer_of after) old new
   pub fails : FailsToFlush meaning before after kept (turn r (turn_of (buffer_of after) took.input, reading)).replica (steps ++ turn r (turn_of (buffer_of after) took.input, reading) ∷ []) why
 
--- what is lost by an error for good
+-- the loss by a permanent error
 abbrev pub Loses : {D : Type 0} {g : _} → (D → Meaning) → (before after : Shell D g) → WantedInput → (ahead later : Option Readings) → (old new : PortMeaning) → TurnError → Type 0
 Loses meaning before after what ahead later old new why = IsOfPut why → WhereStands meaning before (LosesStep meaning before after what ahead later old new why)

@@ -14,17 +14,17 @@ use crsm_ledger::{Ledger, LedgerError};
 use crsm_replica_io::write_records;
 use std::alloc::Global;
 
-/// A core whose boot is made and not kept yet.
+/// A core that has booted, whose boot is not durable yet.
 #[derive(Drop)]
 pub(crate) struct Begun {
     pub(crate) core: Box<Core>,
-    /// The address of each replica.
+    /// The address of each replica, IPv4 x 65,536 + port.
     pub(crate) peers: Vec<u64>,
-    /// Room for a datagram that is received.
+    /// The buffer for received datagrams.
     pub(crate) buffer: Vec<u8>,
-    /// The records of the boot.
+    /// The encodings of the boot's records.
     pub(crate) body: Bytes,
-    /// Their lines.
+    /// The lines of these records.
     pub(crate) lines: Lines,
 }
 
@@ -59,14 +59,14 @@ pub(crate) fn begin(
     })
 }
 
-/// The core in a place of its own.
+/// Moves the core to the heap. `NoMemory` if memory runs out.
 fn in_a_place(alloc: Global, core: Core) -> Result<Box<Core>, NoMemory>
     ensures { IfOk result (λ boxed. boxed.value ≡ core) }
 {
     Ok(Box::new(alloc, core)?)
 }
 
-/// The ledger of the bodies.
+/// Returns the ledger of the bodies.
 fn recovered(alloc: Global, me: u32, n: u32, bodies: &Bodies) -> Result<Ledger, BootError>
     requires me_below { me < 15 }
     requires some { 1 ≤ n }
@@ -78,12 +78,12 @@ fn recovered(alloc: Global, me: u32, n: u32, bodies: &Bodies) -> Result<Ledger, 
         Ok(ledger) => with_room(ledger),
         Err(LedgerError::BadLog { entry, why }) => Err(BootError::BadLog { entry, why }),
         Err(LedgerError::NoMemory) => Err(BootError::NoMemory),
-        // No body is refused so.
+        // Recovery never returns this error.
         Err(LedgerError::NotFit { .. }) => Err(BootError::NoMemory),
     }
 }
 
-/// The ledger, if one more boot can be counted. No memory has room for a log of which that is false.
+/// Returns the ledger if one more boot can be counted. No memory has room for a log with 2^64 - 1 boots.
 fn with_room(ledger: Ledger) -> Result<Ledger, BootError>
     ensures same { IfOk result (λ same. same ≡ ledger) }
     ensures room { IfOk result (λ _. (me n : ℕ) (log : Log) → LedgerStands me n ledger log → boots log < u64_max) }
@@ -95,10 +95,10 @@ fn with_room(ledger: Ledger) -> Result<Ledger, BootError>
     Ok(ledger)
 }
 
-// How long a datagram may be that is received whole.
+// Maximum length in bytes of a datagram that is received whole.
 const MOST_RECEIVED: usize = 8192;
 
-/// The addresses, and room for a datagram that is received.
+/// Returns a copy of the addresses, and the buffer for received datagrams.
 fn room_for(alloc: Global, peers: &[u64]) -> Result<(Vec<u64>, Vec<u8>), NoMemory>
     ensures peers { IfOk result (λ r. r.0.items ≡ peers.now) }
     ensures buffer { IfOk result (λ r. length r.1.items ≡ 8192) }

@@ -24,22 +24,22 @@ use crsm_log::Log;
 use crsm_replica_io::Outbox;
 use std::alloc::Global;
 
-/// A replica that was booted.
+/// A booted replica.
 #[derive(Drop)]
 pub struct Booted<D: Disk> {
     pub shell: Shell<D>,
-    /// The bodies that were found in the log.
+    /// The bodies that the log had before the boot.
     pub bodies: Bodies,
     /// The lines of the boot's records.
     pub lines: Lines,
-    /// How many bytes these records take in the log.
+    /// The length in bytes of these records in the log.
     pub size: u64,
 }
 
 impl<D: Disk> Shell<D> {
-    /// Boots replica `me` of a cluster that began with `n`, where replica `k` has the address `peers[k]`, on the log of
-    /// its disk: an empty file is an empty log. The boot is put on record. A refusal hands the disk back as the last
-    /// call left it.
+    /// Boots replica `me` of a cluster that began with `n`, where replica `k` has the address `peers[k]`, IPv4 x 65,536
+    /// + port, on the log of its disk: an empty file is an empty log. The boot is recorded in the log. An error returns
+    /// the disk as the last call left it.
     pub fn boot(
         alloc: Global,
         me: u32,
@@ -63,10 +63,10 @@ impl<D: Disk> Shell<D> {
         ensures goes { IfOk result (λ b. Goes (D.meaning disk) (D.meaning (disk_of b.shell))) }
         ensures added { IsTrue (D.meaning disk).honest → IfOk result (λ b. AddsBoot me n b (D.meaning (disk_of b.shell))) }
 
-        // Why it refuses, and when.
+        // The reason of a refusal.
         ensures refused { IfErr result (λ e. RefusesBoot me n (D.meaning disk) (D.meaning e.1) e.0) }
 
-        // A crash at any moment leaves the log as it was, or with the boot behind it.
+        // A crash at any moment leaves the log as it was, or with the boot appended.
         ensures any_moment { WhereHasLog me n (D.meaning disk) (λ log. IfOk result (λ b. LeavesOnly (D.meaning disk) (D.meaning (disk_of b.shell)) (IsBootedOrBefore me n log (D.meaning disk)))) }
         ensures any_moment_refused { WhereHasLog me n (D.meaning disk) (λ log. IfErr result (λ e. LeavesOnly (D.meaning disk) (D.meaning e.1) (IsBootedOrBefore me n log (D.meaning disk)))) }
         ensures left { IsTrue (D.meaning disk).honest → IfOk result (λ b. LeavesOnly (D.meaning disk) (D.meaning (disk_of b.shell)) (IsLeftByBoot me n (D.meaning disk))) }
@@ -84,7 +84,7 @@ impl<D: Disk> Shell<D> {
     }
 }
 
-/// Keeps the boot on the log of these bodies.
+/// Puts the boot on the log of these bodies.
 fn keep_boot<D: Disk>(
     alloc: Global,
     log: Log<D>,

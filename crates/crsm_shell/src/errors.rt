@@ -1,4 +1,4 @@
-//! Why a shell refuses.
+//! The errors of a shell.
 
 ghost use Rattle.std.specs.Prelude.{◌≡◌};
 ghost use Rattle.crsm_shell.specs.declared.errors.BootError.TheVariants.{NoMemory as BootWithoutMemory};
@@ -10,16 +10,16 @@ use crsm_log::{MountError, PutError};
 use crsm_replica_io::TakeError;
 use thiserror::Error;
 
-/// Why a replica is not booted.
+/// The reason why a replica is not booted.
 #[derive(Clone, Copy, Debug, PartialEq, Eq, Error)]
 pub enum BootError {
     #[error("the disk failed")]
     DiskFault,
-    /// The record of the boot would pass the limit of a log file.
+    /// The record of the boot would exceed the limit of a log file.
     #[error("the log is full")]
     LogFull,
-    /// The body of this number is no list of records (0), its record of this kind does not fit, or its entry passes
-    /// the end of the file (10).
+    /// The body with this number, from 0, is not a list of records (`why` 0), has a first record that does not fit of
+    /// kind `why`, or exceeds the end of the file (`why` 10).
     #[error("body {entry} of the log is bad ({why})")]
     BadLog { entry: u64, why: u32 },
     #[error("out of memory")]
@@ -46,7 +46,7 @@ impl From<MountError> for BootError {
     }
 }
 
-/// Only the three errors of a disk come of a boot that is kept.
+/// Of a step's errors only the three of a disk come from the put of a boot.
 impl From<TurnError> for BootError {
     ghost from_gives = { λ why e. e ≡ keep_failure why };
 
@@ -61,18 +61,18 @@ impl From<TurnError> for BootError {
     }
 }
 
-/// Why a step is not taken, or steps are not flushed.
+/// The reason why a step is not taken, or steps are not flushed.
 #[derive(Clone, Copy, Debug, PartialEq, Eq, Error)]
 pub enum TurnError {
-    /// The port failed in a receive. The shell goes on.
+    /// The port failed in a receive. The shell can continue.
     #[error("the port failed")]
     PortFault,
     #[error("the disk failed")]
     DiskFault,
-    /// The records would pass the limit of a log file.
+    /// The records would exceed the limit of a log file.
     #[error("the log is full")]
     LogFull,
-    /// The shell failed before.
+    /// The shell had failed before.
     #[error("the replica failed before")]
     Failed,
     #[error("out of memory")]
@@ -111,7 +111,7 @@ impl From<PutError> for TurnError {
 }
 
 impl TurnError {
-    /// Whether the shell has failed for good.
+    /// Returns whether the shell has failed permanently, as after all errors but `PortFault`.
     pub fn is_lasting(self) -> bool
         ensures { result ≡ is_lasting self }
     {

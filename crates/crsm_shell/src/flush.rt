@@ -1,4 +1,4 @@
-//! A flush: the pending steps are kept together, and then all that they send goes out.
+//! The flush: the records of the pending steps become durable together, and then their datagrams are sent.
 
 ghost use Rattle.std.specs.Prelude.{◌≡◌, ◌↔◌, [], true, is_err, IsErr, OnOk, OnErr, IsErrOf};
 ghost use Rattle.crsm_port_faults.specs.Counts.{Rose};
@@ -16,22 +16,22 @@ use crsm_disk::Disk;
 use crsm_port::Port;
 
 impl<D: Disk> Shell<D> {
-    /// Makes room on the port for what the pending steps send, keeps their records as one body of the log, and then
-    /// sends, in order. Where no pending step has a record the disk is not called. A send that fails is a loss. After an
-    /// error nothing was sent, and the shell has failed for good.
+    /// Reserves memory on the port for the pending steps' datagrams, puts their records as one body into the log, and
+    /// then sends, in order. If no pending step has a record, the disk is not called. A send that fails is a lost
+    /// packet. After an error nothing was sent, and the shell has failed permanently.
     pub fn flush<P: Port>(&mut self, port: &mut P) -> Result<(), TurnError>
-        // Nothing is pending any more, and the log on the disk is the replica's.
+        // No step is pending any more, and the log on the disk is the replica's.
         ensures stands { WhereStands D.meaning self.old (λ kept r steps. OnOk result (ShellStands self.new (D.meaning (disk_of self.new)) r.log r [])) }
         ensures added { WhereHonest D.meaning self.old (λ kept r steps. OnOk result (AddsGroup D.meaning self.old self.new steps)) }
         ensures peers { peers_of self.new ≡ peers_of self.old }
         ensures buffer { buffer_of self.new ≡ buffer_of self.old }
 
-        // What is sent, once all is kept; and nothing else is.
+        // The datagrams are sent once all is durable; and nothing else is.
         ensures sent { WhereStands D.meaning self.old (λ kept r steps.
             OnOk result (SendsPackets (packets_for (peers_of self.old) (sends_of steps)) (P.meaning port.old) (P.meaning port.new))) }
         ensures unsent { OnErr result (SendsNone (P.meaning port.old) (P.meaning port.new)) }
 
-        // One body for all records, by the four calls of a put; no call where there is none.
+        // One body for all records, by the four calls of a put; no call if there is none.
         ensures calls { WhereStands D.meaning self.old (λ kept r steps. OnOk result (CallsForGroup D.meaning self.old self.new steps)) }
         ensures plan { WhereHonest D.meaning self.old (λ kept r steps. OnOk result (SpendsForGroup D.meaning self.old self.new steps)) }
         ensures quiet { WhereStands D.meaning self.old (λ kept r steps. records_of steps ≡ [] → disk_of self.new ≡ disk_of self.old) }
@@ -54,7 +54,7 @@ impl<D: Disk> Shell<D> {
         if self.failed {
             return Err(TurnError::Failed);
         }
-        // Whoever sees an error below must not go on from half a flush.
+        // A caller that sees an error below must not continue from half a flush.
         self.failed = true;
         self.outbox.make_room(port)?;
         keep(&mut self.log, self.alloc, self.body.as_slice())?;

@@ -1,4 +1,4 @@
-//! Records on their way into the log.
+//! The put of records into the log.
 
 ghost use Rattle.std.specs.Prelude.{◌≡◌, [], false, IfErr, OnErr, OnOk};
 ghost use Rattle.crsm_log.specs.Words as logs;
@@ -9,7 +9,7 @@ use crsm_disk::Disk;
 use crsm_log::{Log, stop_keeps};
 use std::alloc::Global;
 
-/// Puts the records of a group as one body; where there is none, the disk is not called.
+/// Puts the records of a group into the log as one body; if there is none, the disk is not called.
 pub(crate) fn keep<D: Disk>(log: &mut Log<D>, alloc: Global, body: &[u8]) -> Result<(), TurnError>
     requires { logs.has_failed log.old ≡ false }
     ensures well { OnOk result (logs.has_failed log.new ≡ false) }

@@ -1,7 +1,7 @@
-//! One running replica: the core of its log, its disk, and the steps whose records are not kept yet.
+//! One running replica: the core of its log, its disk, and the steps whose records are not durable yet.
 //!
-//! A step is taken, and pends; a flush keeps the records of all that pend as one body of the log, and then sends. So a
-//! crash leaves all of them or none, and nothing is sent whose records may be lost.
+//! A step is taken, and is pending; a flush puts the records of all pending steps into the log as one body, and then
+//! sends. So a crash leaves all of them or none, and nothing is sent whose records may be lost.
 #![tactic(auto)]
 
 mod begin;

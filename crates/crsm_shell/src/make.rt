@@ -1,4 +1,4 @@
-//! The step of the core for what was taken.
+//! The step of the core for the input that was taken.
 
 ghost use Rattle.std.specs.Prelude.{◌≡◌, length, IfOk, None};
 ghost use Rattle.crsm_spec.specs.Draft.{begun};
@@ -18,14 +18,14 @@ use crsm_replica_output::Batch;
 use crsm_wire::{WireError, read_datagram};
 use std::alloc::Global;
 
-/// A step that was made, and the replica that was received from in it.
+/// The output of a step, and the replica from which its input was received.
 #[derive(Drop)]
 pub(crate) struct StepResult {
     pub(crate) batch: Batch,
     pub(crate) received: Option<u32>,
 }
 
-/// One step of the core on what was taken into this buffer.
+/// Runs one step of the core on the input, whose bytes are in this buffer.
 #[tactic(auto, unfolding(crsm_spec::specs::Node::turn, crsm_spec::specs::Node::input_of, crsm_core::specs::Inputs::input_of, crate::specs::Taking::turn_of, crate::specs::Taking::heard_in))]
 pub(crate) fn make(
     alloc: Global,
@@ -48,7 +48,7 @@ pub(crate) fn make(
     }
 }
 
-/// One step of the core on an input, which was received from this replica.
+/// Runs one step of the core on an input received from this replica.
 fn step(
     core: &mut Core,
     input: &Input,
@@ -64,7 +64,7 @@ fn step(
     Ok(StepResult { batch, received })
 }
 
-/// One step of the core on bytes from an address. Bytes that are no datagram change nothing.
+/// Runs one step of the core on bytes from an address. Bytes that are not a datagram change nothing.
 #[tactic(auto, unfolding(crsm_core::specs::Inputs::input_of, crate::specs::Taking::heard_in))]
 fn come(
     alloc: Global,
@@ -88,7 +88,7 @@ fn come(
     }
 }
 
-/// The replica that a datagram comes from: none where it is a client's or an operator's.
+/// Returns the replica that sent a datagram, or `None` for a client's or an operator's.
 #[tactic(auto, unfolding(crate::specs::Taking::sender_of))]
 fn sender_of(datagram: &Datagram) -> Option<u32>
     ensures { result ≡ shells.sender_of datagram.now }
@@ -103,7 +103,7 @@ fn sender_of(datagram: &Datagram) -> Option<u32>
     }
 }
 
-/// What a step makes that does nothing.
+/// Returns the result of a step without effect.
 #[tactic(auto, unfolding(crsm_spec::specs::Draft::begun))]
 fn nothing(alloc: Global) -> StepResult
     ensures step { (r : Replica) → Answers result.batch (begun r) }

@@ -1,4 +1,4 @@
-//! One running replica.
+//! The state of one running replica.
 
 ghost use Rattle.std.specs.Prelude.{◌≡◌, false, length};
 ghost use Rattle.crsm_log.specs.Words.{has_failed};
@@ -11,19 +11,19 @@ use crsm_log::Log;
 use crsm_replica_io::Outbox;
 use std::alloc::Global;
 
-/// One running replica over its disk. Once the disk failed, the log was full or memory ran out, it has failed for good,
-/// and a new one is booted on the disk.
+/// One running replica over its disk. Once the disk failed, the log was full or memory ran out, it has failed
+/// permanently, and a new one must be booted on the disk.
 #[derive(Drop)]
 pub struct Shell<D: Disk> {
     pub(crate) alloc: Global,
-    // In a place of its own, since it is large and a shell is moved.
+    // On the heap, since it is large and a shell is moved.
     pub(crate) core: Box<Core>,
     pub(crate) log: Log<D>,
-    // The address of each replica.
+    // The address of each replica, IPv4 x 65,536 + port.
     pub(crate) peers: Vec<u64>,
-    // Where a datagram is received, and read.
+    // The buffer in which datagrams are received and read.
     pub(crate) buffer: Vec<u8>,
-    // The records and the datagrams of the steps that are pending.
+    // The records and the datagrams of the pending steps.
     pub(crate) body: Bytes,
     pub(crate) outbox: Outbox,
     pub(crate) pending: u32,

@@ -1,4 +1,4 @@
-//! A step that is taken.
+//! The taking of a step.
 
 ghost use Rattle.std.specs.Prelude.{◌≡◌, ◌<◌, ◌+◌, ◌↔◌, true, false, length, is_err, IfOk, OnOk, IsErrOf, MatchResult};
 ghost use Rattle.std.specs.List.{AllByRecursion};
@@ -20,9 +20,9 @@ use crsm_port::Port;
 use crsm_replica_io::{ReceivedInput, WantedInput, take_input, write_records};
 
 impl<D: Disk> Shell<D> {
-    /// Takes the input that is wanted and makes its step, at a reading of the clock that is given once the input is there.
-    /// The step pends until it is flushed: its records are not kept yet, and nothing is sent. A receive is a tick where the
-    /// port had nothing. After `PortFault` the shell is as before; after another error it has failed for good.
+    /// Takes the wanted input and runs its step. The clock is read after the input was received. The step is pending
+    /// until it is flushed: its records are not durable yet, and nothing is sent. A receive becomes a tick if no
+    /// datagram has arrived. After `PortFault` the shell is unchanged; after any other error it has failed permanently.
     pub fn take<C: Clock, P: Port>(
         &mut self,
         what: WantedInput,
@@ -31,21 +31,21 @@ impl<D: Disk> Shell<D> {
     ) -> Result<TurnResult, TurnError>
         requires few { pending_of self.old < 32 }
 
-        // The step of the definitions, behind those that pend.
+        // The step of the definitions, after the pending ones.
         ensures stands { WhereStands D.meaning self.old (λ kept r steps. IfOk result (TakesStep self.new (D.meaning (disk_of self.new)) kept r steps)) }
         ensures spelt { IfOk result (λ t. AllByRecursion FitsSent t.batch.sends) }
         ensures counted { OnOk result (pending_of self.new ≡ pending_of self.old + 1) }
         ensures within { IfOk result (λ t. IsWithin most_received t.taken) }
         ensures received { IfOk result (λ t. t.received ≡ heard_in (turn_of (buffer_of self.new) t.taken)) }
 
-        // One reading; the input off the port, if any; the disk is not touched.
+        // One reading; the input from the port, if any; the disk is not called.
         ensures clock { Reads (C.readings clock.old) (C.readings clock.new) result }
         ensures port { Takes what (buffer_of self.new) (P.meaning port.old) (P.meaning port.new) result }
         ensures disk { disk_of self.new ≡ disk_of self.old }
         ensures gate { gate_of self.new ≡ gate_of self.old }
         ensures peers { peers_of self.new ≡ peers_of self.old }
 
-        // It answers Failed exactly where it failed before. It goes on after a fault of the port, as it was.
+        // `Failed` if and only if the shell had failed before. After a fault of the port it can continue, unchanged.
         ensures failed { IsErrOf result TurnError.Failed ↔ (has_failed self.old ≡ true) }
         ensures lasting { MatchResult result (λ _. has_failed self.new ≡ false) (λ why. has_failed self.new ≡ is_lasting why) }
         ensures usable { IsErrOf result TurnError.PortFault → WhereStands D.meaning self.old (λ kept r steps. ShellStands self.new (D.meaning (disk_of self.new)) kept r steps) }
@@ -72,7 +72,7 @@ impl<D: Disk> Shell<D> {
         })
     }
 
-    /// The step of what was taken, and how many bytes its records take.
+    /// Runs the step of the input, and returns its result with the length in bytes of its records.
     fn step(&mut self, taken: &ReceivedInput, reading: u64) -> Result<(StepResult, u64), NoMemory>
         requires well { self.old.failed ≡ false }
         requires few { self.old.pending < 32 }
@@ -86,7 +86,7 @@ impl<D: Disk> Shell<D> {
         ensures buffer { self.new.buffer ≡ self.old.buffer }
         ensures lasting { self.new.failed ≡ is_err result }
     {
-        // Whoever sees an error below must not go on from half a step.
+        // A caller that sees an error below must not continue from half a step.
         self.failed = true;
         let made = make(self.alloc, &mut *self.core, taken, &self.buffer, reading)?;
         let before = self.body.as_slice().len() as u64;
@@ -98,7 +98,7 @@ impl<D: Disk> Shell<D> {
     }
 }
 
-/// The input that is wanted.
+/// Takes the wanted input.
 fn receive<P: Port>(
     what: WantedInput,
     port: &mut P,

@@ -1,4 +1,4 @@
-//! A turn: a step that is taken and flushed.
+//! The turn: a step that is taken and flushed.
 
 ghost use Rattle.std.specs.Prelude.{◌≡◌, ◌<◌, ◌↔◌, true, false, IfOk, IfErr, IsErr, IsErrOf, MatchResult};
 ghost use Rattle.std.specs.List.{AllByRecursion};
@@ -22,9 +22,9 @@ use crsm_port::Port;
 use crsm_replica_io::WantedInput;
 
 impl<D: Disk> Shell<D> {
-    /// Takes the input that is wanted, and flushes its step with those that pend. After `PortFault` nothing was kept or
-    /// sent, and the shell is as before; after another error it has failed for good: what was taken is lost, nothing was
-    /// sent, and the disk has the records of all these steps or of none.
+    /// Takes the wanted input, and flushes its step together with the pending ones. After `PortFault` nothing was put
+    /// or sent, and the shell is unchanged; after any other error it has failed permanently: the input is lost, nothing
+    /// was sent, and the disk has the records of all these steps or of none.
     pub fn turn<C: Clock, P: Port>(
         &mut self,
         what: WantedInput,
@@ -33,7 +33,7 @@ impl<D: Disk> Shell<D> {
     ) -> Result<TurnResult, TurnError>
         requires few { pending_of self.old < 32 }
 
-        // The step of the definitions, kept with those before it.
+        // The step of the definitions, durable with those before it.
         ensures stands { WhereStands D.meaning self.old (λ kept r steps. IfOk result (KeepsStep self.new (D.meaning (disk_of self.new)) r)) }
         ensures kept { WhereStands D.meaning self.old (λ kept r steps. IfOk result (KeepsGroup D.meaning self.old self.new kept r steps)) }
         ensures spelt { IfOk result (λ t. AllByRecursion FitsSent t.batch.sends) }
@@ -41,7 +41,7 @@ impl<D: Disk> Shell<D> {
         ensures received { IfOk result (λ t. t.received ≡ heard_in (turn_of (buffer_of self.new) t.taken)) }
         ensures peers { peers_of self.new ≡ peers_of self.old }
 
-        // One reading, one input, and then the sends: none at an error.
+        // One reading, one input, and then the sends: none after an error.
         ensures clock { Reads (C.readings clock.old) (C.readings clock.new) result }
         ensures port { WhereStands D.meaning self.old (λ kept r steps.
             IfOk result (TakesAndSends self.old self.new what (P.meaning port.old) (P.meaning port.new) r steps)) }

@@ -1,17 +1,17 @@
-//! What a turn gives.
+//! The result of a turn.
 
 use crsm_replica_io::ReceivedInput;
 use crsm_replica_output::Batch;
 
-/// A step that was made: the reading of the clock, what was taken, and what came of it.
+/// The result of a step: the reading of the clock, the input that was taken, and the output.
 #[derive(Drop)]
 pub struct TurnResult {
-    /// In microseconds.
+    /// The reading of the clock in microseconds, since 1970 from `SystemClock`.
     pub reading: u64,
     pub taken: ReceivedInput,
-    /// The replica that sent the frame, the acknowledgement or the part that was taken.
+    /// The replica that sent the input, if it is a frame, an acknowledgement or a part.
     pub received: Option<u32>,
     pub batch: Batch,
-    /// How many bytes its records take in the log.
+    /// The length in bytes of its records in the log.
     pub size: u64,
 }

@@ -1,4 +1,4 @@
--- Each event that is drawn can happen.
+-- Each generated event is possible.
 use Rattle.std.proofs.Common.{◌≡◌, ◌≤◌, ◌+◌, ℕ, zero, suc, Bool, true, false, cond, not, ◌&&◌, List, [], ◌∷◌, length, map, Option, None, Some, refl, ap, sym, ◌∙◌, subst, arith}
 use Rattle.std.specs.Prelude.{filter, min, nat_eq, nat_le, option_map, slice_get, unwrap_or}
 use Rattle.std.specs.List.{enumerate_from}

@@ -1,4 +1,4 @@
--- Places in a list: one element more, and the first that passes a test.
+-- Indices in a list: one more element, and the first that passes a test.
 use Rattle.std.proofs.Common.{◌≡◌, ◌<◌, ◌+◌, ℕ, zero, suc, Bool, true, false, not, cond, List, [], ◌∷◌, ◌++◌, length, map, take, Some, None, refl, ap, sym, ◌∙◌, subst, arith, take_all}
 use Rattle.std.specs.Prelude.{slice_get, filter, ◌≤◌}
 use Rattle.std.specs.List.{enumerate_from}

@@ -1,4 +1,4 @@
--- What operations hold that are drawn: single bytes.
+-- The keys and values of generated operations: single bytes.
 use Rattle.std.specs.Prelude.{◌≡◌, ◌<◌, ℕ, List, [], ◌∷◌}
 use Rattle.crsm_base.specs.declared.Op.{Op}
 use Rattle.crsm_base.specs.Spelling.{FitsOption}

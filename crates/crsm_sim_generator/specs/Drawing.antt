@@ -1,4 +1,4 @@
--- How the events of a run are drawn.
+-- The generation of a run's events.
 use Rattle.std.specs.Prelude.{ℕ, ◌+◌, ◌-◌, ◌^◌, Bool, ◌&&◌, ◌||◌, ◌==◌, nat_lt, nat_le, min, if◌then◌else◌, List, [], ◌∷◌, length, Option, None, Some, option_map, slice_get, slice_index, slice_set, unwrap_or}
 use Rattle.std.specs.Option.{option_map_or}
 use Rattle.crsm_base.specs.declared.Command.{Command}
@@ -16,11 +16,11 @@ use Rattle.crsm_sim_generator.specs.View.{View, is_up_in, up_replicas, down_repl
 unfoldable pub begun : ℕ → Drawing
 begun number = record { latest = number; now = 0; numbers = 0 ∷ 0 ∷ 0 ∷ 0 ∷ [] }
 
--- what is drawn, and the state behind it
+-- the result of a draw, and the state after it
 abbrev pub Drawn : Type 0 → Type 0
 Drawn A = A × Drawing
 
--- the state behind so many draws
+-- the state after this number of draws
 unfoldable pub behind : ℕ → Drawing → Drawing
 behind draws s = record s { latest = later s.latest draws }
 
@@ -62,7 +62,7 @@ head_of n s =
 unfoldable pub number_behind : (number tenth : ℕ) → ℕ
 number_behind number tenth = if number == 0 || nat_lt 0 tenth then capped_sum number 1 else number
 
--- what a compare-and-set expects: nothing, or a byte
+-- the expected value of a compare-and-set: none, or a byte
 unfoldable pub drawn_expected : ℕ → Option (List ℕ) × ℕ
 drawn_expected x = if draw x 0 2 == 0 then (None, later x 1) else (Some (draw x 1 256 ∷ []), later x 2)
 
@@ -92,7 +92,7 @@ drawn_command s =
 
 -- ---- events
 
--- One of the first of these, of so many at most, by one draw. Nothing is drawn where there is none.
+-- One of the first of these, at most `most`, by one draw. Nothing is drawn if there is none.
 unfoldable pub one_of : ℕ → List ℕ → Drawing → Drawn (Option ℕ)
 one_of most numbers s =
     if length numbers == 0 then (None, s)
@@ -102,8 +102,8 @@ one_of most numbers s =
 unfoldable pub if_possible : Bool → Event → Option Event
 if_possible possible e = if possible then Some e else None
 
--- What is asked for in a cluster of n replicas that is seen so: an event of this kind, at replica r or at this reading. It is
--- none where there is nothing to choose from, or where the event is not possible.
+-- The event of this kind in a cluster of n replicas with this view, at replica r or at this reading. It is none if
+-- there is nothing to choose from, or the event is not possible.
 unfoldable pub asked : EventKind → (n : ℕ) → View → (r reading : ℕ) → Drawing → Drawn (Option Event)
 asked EventKind.Request n v r reading s =
     let command = drawn_command s in (if_possible (is_up_in v r) (Event.One (Single.Request r reading command.0)), command.1)

@@ -1,4 +1,4 @@
--- What can happen in a world that is seen so.
+-- The events that are possible in a world with this view.
 use Rattle.std.specs.Prelude.{◌≡◌, ◌≤◌, ◌⊎◌, ℕ, true, List, length, None, Some, slice_get}
 use Rattle.crsm_base.specs.Replicas.{majority}
 use Rattle.crsm_sim_generator.specs.Drawing.{drawn_next}

@@ -1,4 +1,4 @@
--- What is seen of a world by whoever draws its events.
+-- The view of a world from which its events are generated.
 use Rattle.std.specs.Prelude.{ℕ, Bool, true, false, ◌&&◌, not, List, map, filter, slice_get}
 use Rattle.std.specs.List.{enumerate_from}
 use Rattle.std.specs.Option.{option_map_or}

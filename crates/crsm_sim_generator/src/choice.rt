@@ -1,4 +1,4 @@
-//! What can be chosen of a world.
+//! Random choices among the replicas and datagrams of a world.
 
 ghost use Rattle.std.specs.Prelude.{◌≡◌, ◌++◌, ◌∷◌, [], IfOk, OnOk, if◌then◌else◌, length, slice_get};
 ghost use Rattle.crsm_sim_generator.specs.Drawing.{one_of};
@@ -9,10 +9,10 @@ use crate::look::Look;
 use crsm_base::NoMemory;
 use std::alloc::Global;
 
-/// Of the fresh datagrams one of the oldest is chosen, of so many.
+/// A fresh datagram is chosen among at most this number of oldest ones.
 const OLDEST: u64 = 8;
 
-/// Adds a replica, if it is up.
+/// Adds the number of a replica, if it is up.
 fn add_up<L: Look>(world: &L, replica: u32, ups: &mut Vec<u32>) -> Result<(), NoMemory>
     ensures { (v : View) → L.shows world.now v → OnOk result (ups.new.items ≡ ups.old.items ++ (if is_up_in v replica then replica ∷ [] else [])) }
 {
@@ -22,7 +22,7 @@ fn add_up<L: Look>(world: &L, replica: u32, ups: &mut Vec<u32>) -> Result<(), No
     Ok(())
 }
 
-/// The replicas that are up, ascending.
+/// Returns the numbers of the replicas that are up, in ascending order.
 pub(crate) fn up_replicas<L: Look>(alloc: Global, world: &L) -> Result<Vec<u32>, NoMemory>
     ensures { (v : View) → L.shows world.now v → IfOk result (λ ups. ups.items ≡ up_replicas v) }
 {
@@ -33,7 +33,7 @@ pub(crate) fn up_replicas<L: Look>(alloc: Global, world: &L) -> Result<Vec<u32>,
     Ok(ups)
 }
 
-/// The least replica that is up.
+/// Returns the least replica that is up, or `None` if all are down.
 pub(crate) fn least_up<L: Look>(world: &L) -> Option<u32>
     ensures { (v : View) → L.shows world.now v → result ≡ slice_get (up_replicas v) 0 }
 {
@@ -45,7 +45,7 @@ pub(crate) fn least_up<L: Look>(world: &L) -> Option<u32>
     None
 }
 
-/// The least replica that is down.
+/// Returns the least replica that is down, or `None` if all are up.
 pub(crate) fn least_down<L: Look>(world: &L) -> Option<u32>
     ensures { (v : View) → L.shows world.now v → result ≡ slice_get (down_replicas v) 0 }
 {
@@ -57,7 +57,7 @@ pub(crate) fn least_down<L: Look>(world: &L) -> Option<u32>
     None
 }
 
-/// The oldest fresh datagram whose receiver is up.
+/// Returns the number of the oldest fresh datagram whose receiver is up, or `None` if there is none.
 pub(crate) fn oldest_fresh<L: Look>(world: &L) -> Option<u64>
     ensures { (v : View) → L.shows world.now v → result ≡ slice_get (fresh_to_up v) 0 }
 {
@@ -68,7 +68,7 @@ pub(crate) fn oldest_fresh<L: Look>(world: &L) -> Option<u64>
 }
 
 impl Drawing {
-    /// One of the oldest fresh datagrams; with `up`, of those whose receiver is up.
+    /// Draws one of the oldest fresh datagrams; with `up`, of those whose receiver is up. `None` if there is none.
     #[tactic(auto, unfolding(crate::specs::Drawing::one_of))]
     pub(crate) fn one_fresh<L: Look>(&mut self, world: &L, up: bool) -> Option<u64>
         ensures number { (v : View) → L.shows world.now v → result ≡ (one_of 8 (fresh_seen up v) self.old).0 }
@@ -82,7 +82,7 @@ impl Drawing {
         Some(world.nth_fresh(j, up))
     }
 
-    /// One of the used datagrams whose receiver is up.
+    /// Draws one of the used datagrams whose receiver is up. `None` if there is none.
     #[tactic(auto, unfolding(crate::specs::Drawing::one_of))]
     pub(crate) fn one_used<L: Look>(&mut self, world: &L) -> Option<u64>
         ensures number { (v : View) → L.shows world.now v → result ≡ (one_of (length (used_to_up v)) (used_to_up v) self.old).0 }

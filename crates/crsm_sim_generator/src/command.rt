@@ -1,4 +1,4 @@
-//! The commands of the clients.
+//! Random commands of clients.
 
 ghost use Rattle.std.specs.Prelude.{◌≡◌, ◌+◌, ◌∷◌, [], ◌<◌, IfOk, IfSome, OnOk};
 ghost use Rattle.crsm_base.specs.Spelling.{FitsCommand};
@@ -12,12 +12,12 @@ use crate::drawing::Drawing;
 use crsm_base::{Command, Key, NoMemory, Op, Val};
 use std::alloc::Global;
 
-/// The keys are the bytes from `a` to `h`.
+/// The keys are the bytes from this one, `a`, to `h`.
 const FIRST_KEY: u64 = 97;
 
 const KEYS: u64 = 8;
 
-/// The number of a client's next command. Of ten commands one is the latest once more, if there is one.
+/// Returns the number of a client's next command. One of ten commands repeats the latest, if there is one.
 #[tactic(auto, unfolding(crate::specs::Drawing::number_behind, crate::specs::Drawing::capped_sum))]
 fn number_behind(number: u64, tenth: u64) -> u64
     ensures { result ≡ on_paper.number_behind number tenth }
@@ -30,7 +30,7 @@ fn number_behind(number: u64, tenth: u64) -> u64
 }
 
 impl Drawing {
-    /// A key of one byte.
+    /// Draws a key of one byte.
     fn key(&mut self, alloc: Global) -> Result<Key, NoMemory>
         ensures key { IfOk result (λ key. key ≡ (97 + draw self.old.latest 0 8) ∷ []) }
         ensures byte { IfOk result (λ key. IsOneByte key) }
@@ -42,7 +42,7 @@ impl Drawing {
         Ok(key)
     }
 
-    /// A value of one byte.
+    /// Draws a value of one byte.
     fn val(&mut self, alloc: Global) -> Result<Val, NoMemory>
         ensures val { IfOk result (λ val. val ≡ draw self.old.latest 0 256 ∷ []) }
         ensures byte { IfOk result (λ val. IsOneByte val) }
@@ -54,7 +54,7 @@ impl Drawing {
         Ok(val)
     }
 
-    /// What a compare-and-set expects.
+    /// Draws the expected value of a compare-and-set, or its absence.
     #[tactic(auto, unfolding(crate::specs::Drawing::drawn_expected, crate::specs::Drawing::behind, crate::specs::Sequence::later, crate::specs::Sequence::draw))]
     fn expected(&mut self, alloc: Global) -> Result<Option<Val>, NoMemory>
         ensures drawn { IfOk result (λ val. (val, self.new.latest) ≡ drawn_expected self.old.latest) }
@@ -67,7 +67,7 @@ impl Drawing {
         Ok(Some(self.val(alloc)?))
     }
 
-    /// A compare-and-set of a key.
+    /// Draws a compare-and-set of a key.
     #[tactic(auto, unfolding(crate::specs::Drawing::drawn_cas, crate::specs::Drawing::behind))]
     fn cas(&mut self, alloc: Global, key: Key) -> Result<Op, NoMemory>
         ensures drawn { IfOk result (λ op. (op, self.new.latest) ≡ drawn_cas key self.old.latest) }
@@ -79,7 +79,7 @@ impl Drawing {
         Ok(Op::Cas(key, expected, Some(new)))
     }
 
-    /// An operation of this kind.
+    /// Draws an operation of this kind.
     #[tactic(auto, unfolding(crate::specs::Drawing::op_of_kind, crate::specs::Drawing::behind, crate::specs::Sequence::later, crate::specs::Sequence::draw))]
     fn op_of_kind(&mut self, alloc: Global, kind: u64) -> Result<Op, NoMemory>
         ensures drawn { IfOk result (λ op. (op, self.new.latest) ≡ on_paper.op_of_kind kind self.old.latest) }
@@ -95,7 +95,7 @@ impl Drawing {
         }
     }
 
-    /// An operation.
+    /// Draws an operation.
     #[tactic(auto, unfolding(crate::specs::Drawing::drawn_op, crate::specs::Drawing::behind))]
     fn op(&mut self, alloc: Global) -> Result<Op, NoMemory>
         ensures drawn { IfOk result (λ op. (op, self.new.latest) ≡ drawn_op self.old.latest) }
@@ -106,7 +106,7 @@ impl Drawing {
         Ok(self.op_of_kind(alloc, kind)?)
     }
 
-    /// A command of one of the clients.
+    /// Draws a command of one of the clients.
     #[tactic(auto, unfolding(crate::specs::Drawing::drawn_command, crate::specs::Drawing::behind, crate::specs::Sequence::later, crate::specs::Sequence::draw))]
     pub(crate) fn command(&mut self, alloc: Global) -> Result<Command, NoMemory>
         ensures drawn { IfOk result (λ command. (command, self.new) ≡ drawn_command self.old) }

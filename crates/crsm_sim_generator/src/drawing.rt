@@ -1,4 +1,4 @@
-//! The state that events are drawn from.
+//! The state of the random sequence, and the draws from it.
 
 ghost use Rattle.std.specs.Prelude.{◌≡◌, ◌<◌, ◌≤◌, length, slice_set};
 ghost use Rattle.crsm_sim_generator.specs.Drawing.{after_head, begun, behind, capped_sum, head_of};
@@ -10,21 +10,21 @@ const FACTOR: u64 = 6_364_136_223_846_793_005;
 
 const SUMMAND: u64 = 1_442_695_040_888_963_407;
 
-/// What is drawn is scaled down from the upper bits.
+/// A draw divides by this, so that it uses the upper bits.
 const LOWER_BITS: u64 = 0x2_0000_0000;
 
-/// What a generator goes on from.
+/// The state from which a generator continues.
 #[derive(Clone, Copy, Debug)]
 pub struct Drawing {
     /// The latest number of the sequence.
     pub latest: u64,
-    /// The time so far.
+    /// The simulated time, in the unit of readings; an event's reading may be ahead of it.
     pub now: u64,
-    /// Of clients 1 to 4, the number of the latest command.
+    /// For each of clients 1 to 4 the number of its latest command.
     pub numbers: [u64; 4],
 }
 
-/// The number of the sequence behind this one.
+/// Returns the next number of the sequence.
 #[tactic(auto, unfolding(crate::specs::Sequence::next_number))]
 fn number_behind(number: u64) -> u64
     ensures { result ≡ next_number number }
@@ -33,7 +33,7 @@ fn number_behind(number: u64) -> u64
 }
 
 impl Drawing {
-    /// Nothing is drawn yet, behind this number.
+    /// Returns the state before any draw, seeded with this number.
     #[tactic(auto, unfolding(crate::specs::Drawing::begun))]
     pub(crate) fn new(number: u64) -> Drawing
         ensures { result ≡ begun number }
@@ -57,7 +57,7 @@ impl Drawing {
         self.latest / LOWER_BITS % k
     }
 
-    /// Draws what every event begins with, in a cluster of `n` replicas.
+    /// Draws the first numbers of an event, in a cluster of `n` replicas.
     #[tactic(auto, unfolding(crate::specs::Sequence::draw, crate::specs::Sequence::later, crate::specs::Drawing::behind, crate::specs::Drawing::head_of, crate::specs::Drawing::after_head, crate::specs::Drawing::capped_sum))]
     pub(crate) fn head(&mut self, n: u32) -> EventHead
         requires { 1 ≤ n }

@@ -1,4 +1,4 @@
-//! The events of each kind.
+//! Random events of each kind.
 
 ghost use Rattle.std.specs.Prelude.{◌≡◌, ◌≤◌, ℕ, IfOk, IfSome, OnOk};
 ghost use Rattle.crsm_base.specs.Members.{IsMembers};
@@ -15,14 +15,14 @@ use crsm_base::{Members, NoMemory, majority};
 use crsm_schedule::{Event, Single};
 use std::alloc::Global;
 
-/// A step of one replica as an event.
+/// Returns a step of one replica as an event.
 fn one(single: Single) -> Event
     ensures { result ≡ Event.One single }
 {
     Event::One { single }
 }
 
-/// A tick at a replica.
+/// Returns a tick at a replica.
 fn tick(replica: u32, reading: u64) -> Event
     ensures drawn { result ≡ Event.One (Single.Tick replica reading) }
     ensures fits { FitsEvent result }
@@ -31,7 +31,7 @@ fn tick(replica: u32, reading: u64) -> Event
     one(Single::Tick { replica, reading })
 }
 
-/// What is drawn in place of an event that is not possible.
+/// Returns the event in place of one that is not possible.
 #[tactic(auto, unfolding(crate::specs::Drawing::otherwise))]
 pub(crate) fn otherwise<L: Look>(world: &L, reading: u64) -> Event
     ensures drawn { (v : View) → L.shows world.now v → result ≡ on_paper.otherwise v reading }
@@ -43,7 +43,7 @@ pub(crate) fn otherwise<L: Look>(world: &L, reading: u64) -> Event
     }
 }
 
-/// A replica that is up has a tick.
+/// Returns a tick at the replica, or `None` if it is down.
 #[tactic(auto, unfolding(crate::specs::Drawing::asked, crate::specs::Drawing::if_possible))]
 fn ticks<L: Look>(replica: u32, reading: u64, world: &L) -> Option<Event>
     ensures drawn { (n : ℕ) (v : View) (s : Drawing) → L.shows world.now v → (result, s) ≡ asked EventKind.Tick n v replica reading s }
@@ -55,7 +55,7 @@ fn ticks<L: Look>(replica: u32, reading: u64, world: &L) -> Option<Event>
     Some(tick(replica, reading))
 }
 
-/// A replica that is up goes down.
+/// Returns a crash of the replica, or `None` if it is down.
 #[tactic(auto, unfolding(crate::specs::Drawing::asked, crate::specs::Drawing::if_possible))]
 fn crash<L: Look>(replica: u32, world: &L) -> Option<Event>
     ensures drawn { (n reading : ℕ) (v : View) (s : Drawing) → L.shows world.now v → (result, s) ≡ asked EventKind.Crash n v replica reading s }
@@ -68,7 +68,7 @@ fn crash<L: Look>(replica: u32, world: &L) -> Option<Event>
     Some(Event::Crash { replica })
 }
 
-/// The least replica that is down boots.
+/// Returns the boot of the least replica that is down, or `None` if all are up.
 #[tactic(auto, unfolding(crate::specs::Drawing::asked))]
 fn start<L: Look>(world: &L) -> Option<Event>
     ensures drawn { (n r reading : ℕ) (v : View) (s : Drawing) → L.shows world.now v → (result, s) ≡ asked EventKind.Start n v r reading s }
@@ -78,7 +78,7 @@ fn start<L: Look>(world: &L) -> Option<Event>
     Some(Event::Start { replica })
 }
 
-/// The members of these numbers, which ascend.
+/// Returns the members with these numbers, which ascend.
 fn members_of(alloc: Global, numbers: &[u32]) -> Result<Members, NoMemory>
     ensures { IfOk result (λ members. (members ≡ numbers.now) × IsMembers members) }
 {
@@ -88,7 +88,7 @@ fn members_of(alloc: Global, numbers: &[u32]) -> Result<Members, NoMemory>
     }
 }
 
-/// A replica suspects all that are down.
+/// Returns an event in which a replica suspects all that are down, or `None` if it is not possible.
 #[tactic(auto, unfolding(crate::specs::Drawing::asked, crate::specs::Drawing::if_possible))]
 fn suspect<L: Look>(
     alloc: Global,
@@ -115,7 +115,7 @@ fn suspect<L: Look>(
     })))
 }
 
-/// All that can be delivered is.
+/// Returns the event that delivers all datagrams which can be delivered.
 #[tactic(auto, unfolding(crate::specs::Drawing::asked))]
 fn settle(reading: u64) -> Option<Event>
     ensures drawn { (n r : ℕ) (v : View) (s : Drawing) → (result, s) ≡ asked EventKind.Settle n v r reading s }
@@ -124,7 +124,8 @@ fn settle(reading: u64) -> Option<Event>
     Some(Event::Settle { reading })
 }
 
-/// The oldest fresh datagram is delivered, and the step is cut when its records are kept.
+/// Returns the delivery of the oldest fresh datagram, in a step that stops once its records are durable. `None` if
+/// there is no such datagram.
 #[tactic(auto, unfolding(crate::specs::Drawing::asked))]
 fn cut<L: Look>(reading: u64, world: &L) -> Option<Event>
     ensures drawn { (n r : ℕ) (v : View) (s : Drawing) → L.shows world.now v → (result, s) ≡ asked EventKind.Cut n v r reading s }
@@ -136,7 +137,7 @@ fn cut<L: Look>(reading: u64, world: &L) -> Option<Event>
 }
 
 impl Drawing {
-    /// A client's request reaches a replica.
+    /// Draws a client's request to a replica. `None` if the replica is down.
     #[tactic(auto, unfolding(crate::specs::Drawing::asked, crate::specs::Drawing::if_possible))]
     fn request<L: Look>(
         &mut self,
@@ -160,7 +161,7 @@ impl Drawing {
         })))
     }
 
-    /// A datagram is delivered.
+    /// Draws the delivery of a datagram. `None` if there is none to deliver.
     #[tactic(auto, unfolding(crate::specs::Drawing::asked))]
     fn go<L: Look>(&mut self, reading: u64, world: &L) -> Option<Event>
         ensures drawn { (n r : ℕ) (v : View) → L.shows world.now v → (result, self.new) ≡ asked EventKind.Go n v r reading self.old }
@@ -170,7 +171,7 @@ impl Drawing {
         Some(one(Single::Go { number, reading }))
     }
 
-    /// A datagram is delivered once more.
+    /// Draws a further delivery of a used datagram. `None` if there is none.
     #[tactic(auto, unfolding(crate::specs::Drawing::asked))]
     fn again<L: Look>(&mut self, reading: u64, world: &L) -> Option<Event>
         ensures drawn { (n r : ℕ) (v : View) → L.shows world.now v → (result, self.new) ≡ asked EventKind.Again n v r reading self.old }
@@ -180,7 +181,7 @@ impl Drawing {
         Some(one(Single::Again { number, reading }))
     }
 
-    /// A datagram is lost.
+    /// Draws the loss of a datagram. `None` if there is none to lose.
     #[tactic(auto, unfolding(crate::specs::Drawing::asked))]
     fn lose<L: Look>(&mut self, world: &L) -> Option<Event>
         ensures drawn { (n r reading : ℕ) (v : View) → L.shows world.now v → (result, self.new) ≡ asked EventKind.Lose n v r reading self.old }
@@ -190,7 +191,7 @@ impl Drawing {
         Some(Event::Lose { number })
     }
 
-    /// What an event's head asks for: none where there is nothing to choose from, or where it is not possible.
+    /// Draws the event of the kind in `head`. `None` if there is nothing to choose from, or it is not possible.
     pub(crate) fn ask<L: Look>(
         &mut self,
         alloc: Global,

@@ -1,4 +1,4 @@
-//! A generator of events.
+//! The generator of a run's events.
 
 ghost use Rattle.std.specs.Prelude.{◌≡◌, ◌≤◌, IfOk, OnErr, OnOk};
 ghost use Rattle.crsm_schedule.specs.Grammar.{FitsEvent};
@@ -12,8 +12,7 @@ use crsm_base::NoMemory;
 use crsm_schedule::Event;
 use std::alloc::Global;
 
-/// Draws one event after another for a cluster that begins with so many replicas. What it draws follows from its number and
-/// from what it sees of the world.
+/// A generator of events for a cluster. Its draws depend only on its seed and on the worlds that it is given.
 #[derive(Clone, Copy)]
 pub struct Generator {
     alloc: Global,
@@ -24,7 +23,7 @@ pub struct Generator {
 }
 
 impl Generator {
-    /// A generator for `replicas` replicas, 1 to 15. Equal numbers draw equal events.
+    /// Returns a generator for `replicas` replicas, 1 to 15, with the seed `number`. Equal seeds draw equal events.
     pub fn new(alloc: Global, number: u64, replicas: u32) -> Generator
         requires some { 1 ≤ replicas }
         requires most { replicas ≤ 15 }
@@ -38,8 +37,8 @@ impl Generator {
         }
     }
 
-    /// The next event in this world. It is possible, if the world has all those replicas and no other, and is not full.
-    /// An `Err` changes nothing.
+    /// Draws the next event in this world. The event is possible if the world has exactly these replicas and is not
+    /// full. `NoMemory` if memory runs out; nothing has changed then.
     #[tactic(auto, unfolding(crate::specs::Drawing::drawn_next))]
     pub fn next<L: Look>(&mut self, world: &L) -> Result<Event, NoMemory>
         ensures event { (v : View) → L.shows world.now v → IfOk result (λ event. event ≡ (drawn_next self.old.replicas v self.old.drawing).0) }

@@ -1,9 +1,9 @@
-//! The kinds of events, and how often each comes.
+//! The kinds of events, and their frequencies.
 
 ghost use Rattle.std.specs.Prelude.{◌≡◌};
 ghost use Rattle.crsm_sim_generator.specs.Drawing as on_paper;
 
-/// What kind of event is drawn.
+/// The kind of a random event.
 #[derive(Clone, Copy, Debug)]
 pub(crate) enum EventKind {
     Request,
@@ -15,11 +15,11 @@ pub(crate) enum EventKind {
     Start,
     Suspect,
     Settle,
-    /// A delivery that is cut with its records kept and nothing sent.
+    /// A delivery whose step stops once its records are durable, before it sends.
     Cut,
 }
 
-/// What the draws of every event begin with.
+/// The first draws of an event.
 #[derive(Clone, Copy, Debug)]
 pub(crate) struct EventHead {
     pub kind: EventKind,
@@ -27,7 +27,7 @@ pub(crate) struct EventHead {
     pub reading: u64,
 }
 
-/// The kind that a number below 100 stands for.
+/// Returns the kind for a number below 100.
 #[tactic(auto, unfolding(crate::specs::Drawing::kind_of))]
 pub(crate) fn kind_of(number: u64) -> EventKind
     ensures { result ≡ on_paper.kind_of number }

@@ -1,8 +1,8 @@
-//! What is drawn can happen.
+//! The law that generated events are possible.
 
 ghost use Rattle.crsm_sim_generator.specs.Possible.{DrawnCanHappen};
 
-/// What is drawn can happen in the world that is seen.
+/// States that a generated event is possible in the world given to the generator. It runs no code.
 pub fn drawn_can_happen()
     ensures { DrawnCanHappen }
 {}

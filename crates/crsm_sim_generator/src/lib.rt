@@ -1,4 +1,4 @@
-//! Draws the events of a run from a number: a large run that is possible, and that can be made again.
+//! Generates the events of a run from a seed: a large run that is possible, and that can be repeated.
 #![tactic(auto)]
 
 mod choice;

@@ -1,4 +1,4 @@
--- What a boot makes.
+-- The output of a boot.
 use Rattle.std.proofs.Common.{◌≡◌, ℕ, [], ◌∷◌, Bool, true, false, nat_lt, refl}
 use Rattle.crsm_spec.specs.Choice.{when◌then◌otherwise◌}
 use Rattle.crsm_spec.specs.Log.{Log}

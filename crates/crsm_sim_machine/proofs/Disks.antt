@@ -1,4 +1,4 @@
--- Disks on which nothing fails, and what is left on them.
+-- Disks whose calls do not fail, and what is left on them.
 use Rattle.std.proofs.Common.{◌≡◌, ℕ, [], Option, Some, None, refl, ◌∙◌, ap, subst}
 use Rattle.std.specs.Option.{option_map_or}
 use Rattle.std.specs.Prelude.{unwrap_or}
@@ -10,7 +10,7 @@ use Rattle.crsm_spec.specs.Log.{Log, decision, known, executed}
 use Rattle.crsm_sim_machine.specs.declared.stopped.Stopped.{Stopped}
 use Rattle.crsm_sim_machine.specs.States.{IsDisk, IsStopped, SumsUp}
 
--- what a disk in memory tells ahead of its calls
+-- the plan of a disk in memory for its calls
 abbrev pub plan_of : Memory → Plan
 plan_of m = record { calls = m.room_calls; bytes = m.room_bytes; good = good_left m }
 
@@ -20,7 +20,7 @@ well_after k p new well used =
     let told : Some (plan_of new) ≡ Some used.left.0 = used.left.1 in
     ap (λ (o : Option Plan). option_map_or (λ (q : Plan). q.good) o None) told ∙ used.left.2 ∙ ap (less k) well
 
--- armed where all its calls went well, so many further ones do
+-- if all calls of an armed disk succeeded, this number of further ones do
 pub armed_good : (calls : ℕ) (old new : Memory) (fill : ℕ) → good_left old ≡ None → Arms (Some calls) fill (meaning_of old) (meaning_of new) → good_left new ≡ Some calls
 armed_good calls old new fill well arms =
     let q = arms.stops (plan_of old) refl in

@@ -1,4 +1,4 @@
--- How long the spellings of datagrams are at most.
+-- The greatest lengths of encodings of datagrams.
 use Rattle.std.proofs.Common.{◌≡◌, ◌≤◌, ℕ, List, ◌++◌, length, Some, None, Bool, true, false, nat_lt, ◌==◌, ◌+◌, cond, arith}
 use Rattle.std.proofs.lemmas.List.{length-append}
 use Rattle.crsm_base.specs.declared.command.Command.{Command}

@@ -1,4 +1,4 @@
--- What a receive takes off an inlet where its datagram waits.
+-- The receive of a `PacketPort` whose datagram waits.
 use Rattle.std.proofs.Common.{◌≡◌, ℕ, min, List, [], ◌++◌, length, take, drop, Option, Some, None, Ok, Bor, refl, sym, ◌∙◌, ap, subst, arith}
 use Rattle.crsm_port_faults.specs.Plan.{Plan}
 use Rattle.crsm_port.specs.declared.port.Recv.TheVariants as got
@@ -45,8 +45,8 @@ came l from bytes empties losses before after len is size copied = record {
   taken = λ t u told new. takes from bytes before after len size copied t u (ap (λ (k : Slot). Some (traffic_of k)) (sym is) ∙ told) new;
   untaken = tt;
   told = (λ _. refl, λ _. refl);
-  coat = refl;
-  lent = refl;
+  framing = refl;
+  borrowed_as = refl;
   plan = record {
     untold = λ _. refl;
     told = λ p h. absurd (no_plan p h);

@@ -46,7 +46,7 @@ module _ (calls fill : ℕ) (kept : Log) (x : Draft) where
   unfolding is_cut_kept
   with_some some = ap (λ (b : Bool). cond b x.replica.log kept) (some_kept (is_kept calls fill) (length x.batch) some)
 
-  -- a put that went through, of which no more calls than these go well
+  -- a put that succeeded on a disk with no more good calls than these
   module _ (p : Plan) (plan : Option Plan) (good : p.good ≡ Some calls) where
     all_four : 1 ≤ length x.batch → (body : List ℕ) → body_bytes (records_of (x ∷ [])) ≡ body → Used (keep_count body) p plan → 4 ≤ calls
     all_four some [] is used =
@@ -66,7 +66,7 @@ module _ (calls fill : ℕ) (kept : Log) (x : Draft) where
             let low = all_four some (body_bytes (records_of (x ∷ []))) refl used in
             sym (with_some some ∙ ap (λ (b : Bool). cond b x.replica.log kept) (four_keep calls fill low high))
 
-  -- a put that was stopped after so many calls
+  -- a put that was stopped after this number of calls
   pub stopped_put : (made : ℕ) → calls ≡ made → 0 < length (body_bytes (records_of (x ∷ []))) → cond (is_kept made fill) x.replica.log kept ≡ log_after calls fill kept x
   stopped_put made same some =
       let records = some_records (records_of (x ∷ [])) some in

@@ -1,4 +1,4 @@
--- What a shell takes where something comes to its machine.
+-- The input that a shell takes at an arrival at its machine.
 use Rattle.std.proofs.Common.{◌≡◌, ℕ, ◌≤◌, List, [], ◌∷◌, length, take, Result, Ok, Err, Option, Some, None, is_some, refl, sym, ◌∙◌, ap, subst}
 use mathlib.Core.Bool.{false≢true}
 use Rattle.std.proofs.lemmas.List.{take_all}

@@ -1,4 +1,4 @@
--- What a shell that stands for a replica does not answer.
+-- Errors that a shell which stands for a replica does not return.
 use Rattle.std.proofs.Common.{◌≡◌, ℕ, List, Ok, Err, Bool, true, false, None, refl, sym, ◌∙◌, subst, arith}
 use Rattle.std.proofs.lemmas.Option.{none-some}
 use Rattle.crsm_disk.specs.Memory.{Memory, meaning_of as disk_meaning, good_left}

@@ -1,4 +1,4 @@
--- What comes to a machine, as the turn of its replica.
+-- The turn of a replica for an input of its machine.
 use Rattle.std.specs.Prelude.{◌≡◌, ◌≤◌, [], ◌∷◌, length}
 use Rattle.crsm_spec.specs.Node.{Turn}
 use Rattle.crsm_replica_io.specs.declared.input.WantedInput.{WantedInput}
@@ -14,13 +14,13 @@ turn_of (arrival.Bytes from bytes) = Turn.In from bytes.now
 turn_of arrival.Tick = Turn.Tick
 turn_of (arrival.Suspect members) = Turn.Suspect members
 
--- the bytes are no more than what is received at once
+-- the bytes fit in the receive buffer
 abbrev pub IsShort : Arrival → Type 0
 IsShort (arrival.Bytes from bytes) = length bytes.now ≤ 8192
 IsShort arrival.Tick = Unit {0}
 IsShort (arrival.Suspect members) = Unit {0}
 
--- what is wanted of a shell where this comes, and the port that it takes it off: bytes wait there
+-- the input to ask a shell for at this arrival, and the port from which it is received: bytes wait there
 abbrev pub Asks : Arrival → WantedInput → PacketPort → Type 0
 Asks (arrival.Bytes from bytes) wanted port =
     (wanted ≡ what.Receive) × ((traffic_of port.slot).waiting ≡ (record { address = from; bytes = bytes.now }) ∷ [])

@@ -1,4 +1,4 @@
--- What a machine answers.
+-- The results of a machine's steps.
 use Rattle.std.specs.Prelude.{◌≡◌, ℕ, Bool, true, false, ◌&&◌, nat_lt, List, [], ◌∷◌, ◌++◌, length, map, drop, Option, Some, None, if◌then◌else◌}
 use Rattle.crsm_spec.specs.Log.{Log, spec}
 use Rattle.crsm_spec.specs.Replica.{Replica}
@@ -47,7 +47,8 @@ ShellHasStepped shell me n step x = Makes step x × IsUpAs me n shell x.replica.
 abbrev pub IsWell : Memory → Type 0
 IsWell port = good_of port.failing ≡ None
 
--- from this place on the port has sent what these steps send, in order, and nothing else; and no further call of it fails
+-- from this index on the port has sent the output of these steps, in order, and nothing else; and no further call of it
+-- fails
 pub record Sends (port : Memory) (first : ℕ) (steps : List Draft) : Type 0 where
   pub texts : drop first (map (λ d. d.bytes) port.sent) ≡ map (λ s. datagram_bytes s.datagram) (sends_of steps)
   pub well : IsWell port
@@ -74,7 +75,7 @@ IsBooted me n booted x = (booted.lines ≡ x.lines) × (booted.size ≡ body_siz
 
 -- ---- a step that is stopped
 
--- whether a step that stops after so many device calls is kept
+-- whether a step that stops after this number of device calls is durable
 unfoldable pub is_cut_kept : ℕ → ℕ → Draft → Bool
 is_cut_kept calls fill x = is_kept calls fill && nat_lt 0 (length x.batch)
 
@@ -88,7 +89,7 @@ IsCut calls fill me n r x (Some step) machine =
     (is_cut_kept calls fill x ≡ true) × Makes step x × MachineStands machine me n (Site.Down x.replica.log)
 IsCut calls fill me n r x None machine = (is_cut_kept calls fill x ≡ false) × MachineStands machine me n (Site.Down r.log)
 
--- the same of what is left
+-- the same for the state that is left
 abbrev pub LeavesCut : (calls fill me n : ℕ) → Replica → Draft → Option Step → Stopped → Type 0
 LeavesCut calls fill me n r x (Some step) left = (is_cut_kept calls fill x ≡ true) × Makes step x × IsStopped me n left x.replica.log
 LeavesCut calls fill me n r x None left = (is_cut_kept calls fill x ≡ false) × IsStopped me n left r.log

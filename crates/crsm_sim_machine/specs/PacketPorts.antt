@@ -1,4 +1,4 @@
--- What an inlet means as a port.
+-- The meaning of a `PacketPort` as a port.
 use Rattle.std.specs.Prelude.{[], ◌∷◌, Some, None}
 use Rattle.crsm_port.specs.Meaning.{Meaning, Traffic, plain}
 use Rattle.crsm_sim_machine.specs.declared.packet_port.PacketPort.{PacketPort}
@@ -12,4 +12,4 @@ traffic_of (slot.Waits from bytes) = record { waiting = (record { address = from
 traffic_of (slot.Taken from bytes) = record { waiting = []; taken = (record { address = from; bytes = bytes.now }) ∷ []; sent = [] }
 
 abbrev pub meaning_of : PacketPort → Meaning
-meaning_of p = record { traffic = Some (traffic_of p.slot); coat = plain; plan = None; faults = 0; losses = p.losses; empties = p.empties; lent = None }
+meaning_of p = record { traffic = Some (traffic_of p.slot); framing = plain; plan = None; faults = 0; losses = p.losses; empties = p.empties; borrowed_as = None }

@@ -2,7 +2,7 @@
 use Rattle.std.specs.Prelude.{◌≡◌, ℕ, List, [], ◌∷◌, length, None}
 use Rattle.std.specs.List.{AllByRecursion}
 use Rattle.crsm_core.specs.Core.{FitsSent}
-use Rattle.crsm_disk.specs.Calls.{contents}
+use Rattle.crsm_port_image.specs.Calls.{contents}
 use Rattle.crsm_disk.specs.Memory.{Memory, meaning_of, good_left}
 use Rattle.crsm_ledger.specs.Recovered.{with_records}
 use Rattle.crsm_spec.specs.Log.{Log, known, executed}
@@ -24,7 +24,7 @@ pub record IsDisk (me n : ℕ) (disk : Memory) (log : Log) : Type 0 where
   pub holds : HasLog me n (contents disk.first disk.calls) log
   pub well : good_left disk ≡ None
 
--- what the records of a log say
+-- the summary of the records of a log
 pub record SumsUp (summary : LogSummary) (log : Log) : Type 0 where
   pub known : summary.known ≡ known log
   pub executed : summary.executed ≡ length (executed log)
@@ -36,7 +36,8 @@ pub record IsStopped (me n : ℕ) (left : Stopped) (log : Log) : Type 0 where
 
 -- ---- up
 
--- Replica me is up with r, and whatever it sends has an address. On its disk, all of whose calls go well, is the log `kept`; these steps came since.
+-- Replica me is up as r, and all its datagrams have an address. Its disk, whose calls do not fail, has the log `kept`;
+-- these steps came since.
 pub record IsUpAs (me n : ℕ) {g : _} (shell : Shell Memory g) (kept : Log) (r : Replica) (steps : List Draft) : Type 0 where
   pub is_me : r.me ≡ me
   pub began : r.n ≡ n

@@ -1,11 +1,12 @@
-//! What comes to a machine.
+//! The inputs of a machine.
 
 use crsm_base::Members;
 
-/// What comes to a machine.
+/// The input of a machine's step.
 #[derive(Debug, Drop)]
 pub enum Arrival<'a> {
-    /// Bytes from an address. They may spell no datagram.
+    /// Bytes from an address: a replica's number in a world, else IPv4 x 65,536 + port. They need not be the encoding
+    /// of a datagram.
     Bytes { from: u64, bytes: &'a [u8] },
     /// A tick of the clock.
     Tick,

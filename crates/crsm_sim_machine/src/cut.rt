@@ -1,4 +1,4 @@
-//! A step that is stopped within its put.
+//! A step that stops during its put.
 
 ghost use Rattle.std.specs.Prelude.{◌≡◌, ◌≤◌, ◌++◌, ◌∷◌, [], ℕ, List, IfOk, IfSome};
 ghost use Rattle.std.specs.List.{AllByRecursion};
@@ -22,7 +22,8 @@ use crsm_base::{NoMemory, never};
 use crsm_disk::MemDisk;
 use crsm_shell::{Shell, TurnError};
 
-/// Where a put stops: after so many device calls, with a byte in the ranges that were not synced.
+/// The point where a put stops: after `calls` calls of the disk, with the byte `fill` in the ranges that were not
+/// synced.
 #[derive(Clone, Copy)]
 pub(crate) struct PutStop {
     pub(crate) calls: u64,
@@ -32,7 +33,7 @@ pub(crate) struct PutStop {
 /// The byte of an open gate.
 const OPEN: u8 = 1;
 
-/// What is put is kept where all four calls were made, or three and its gate reads open.
+/// Returns whether a put that stops there is durable: all four calls were made, or three and its gate reads as open.
 #[tactic(auto, unfolding(crsm_spec::specs::Moments::is_kept))]
 fn keeps(stop: PutStop) -> bool
     ensures { result ≡ is_kept stop.calls stop.fill }
@@ -46,7 +47,7 @@ fn keeps(stop: PutStop) -> bool
     stop.fill == OPEN
 }
 
-/// Whether a step that stops there is kept. One without records is not.
+/// Returns whether a step that stops there is durable. One without records is not.
 #[tactic(auto, unfolding(crate::specs::Outcomes::is_cut_kept))]
 fn is_kept_at(stop: PutStop, step: &Step) -> bool
     ensures { (x : Draft) → step.now.batch.records ≡ x.batch → result ≡ is_cut_kept stop.calls stop.fill x }
@@ -57,7 +58,7 @@ fn is_kept_at(stop: PutStop, step: &Step) -> bool
     !step.batch.records.as_slice().is_empty()
 }
 
-/// The disk of a shell whose put stops there.
+/// Returns the disk of a shell whose put stops there.
 fn stopped_disk(shell: Shell<MemDisk>, stop: PutStop) -> Result<MemDisk, NoMemory>
     requires calls { stop.calls ≤ 4 }
     requires up { ∥ IsSomeUp shell ∥₁ }
@@ -78,7 +79,7 @@ fn stopped_disk(shell: Shell<MemDisk>, stop: PutStop) -> Result<MemDisk, NoMemor
     }
 }
 
-/// One step that stops there, and what it leaves. What the step made is answered where it is kept.
+/// Runs one step that stops there, and returns what it leaves, with the output of the step if that is durable.
 pub(crate) fn cut(
     shell: Shell<MemDisk>,
     stop: PutStop,

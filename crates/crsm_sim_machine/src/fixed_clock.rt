@@ -4,10 +4,10 @@ ghost use Rattle.std.specs.Prelude.{Some, []};
 
 use crsm_clock::Clock;
 
-/// A clock that stands still.
+/// A clock that always returns the same reading.
 #[derive(Drop)]
 pub(crate) struct FixedClock {
-    /// In microseconds.
+    /// The reading in microseconds.
     pub(crate) reading: u64,
 }
 

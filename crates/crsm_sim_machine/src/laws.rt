@@ -1,4 +1,4 @@
-//! What the crates above need to know of machines, of boots and of datagrams.
+//! Laws of machines, of boots and of datagrams, for the crates above.
 
 ghost use Rattle.std.specs.Prelude.{ℕ, ◌≤◌, [], length};
 ghost use Rattle.crsm_base.specs.Messages.{FitsDatagram, datagram_bytes};
@@ -11,18 +11,18 @@ ghost use Rattle.crsm_sim_machine.specs.declared.machine.Machine.{Machine};
 ghost use Rattle.crsm_sim_machine.specs.Outcomes.{IsQuiet};
 ghost use Rattle.crsm_sim_machine.specs.Machine.{MachineStands, MachinePends};
 
-/// A machine that is up has no step pending.
+/// States that a machine that is up has no pending step. It runs no code.
 #[tactic(auto, unfolding(crate::specs::Machine::MachineStands, crate::specs::Machine::MachinePends))]
 pub fn machines_pend_nothing()
     ensures { (machine : Machine) (me n : ℕ) (r : Replica) → MachineStands machine me n (Site.Up r) → MachinePends machine me n r [] }
 {}
 
-/// A boot gives lines of its records alone, and sends nothing.
+/// States that a boot returns only lines of its records, and sends nothing. It runs no code.
 pub fn boots_are_quiet()
     ensures { (me n : ℕ) (log : Log) → IsQuiet (boot me n log) }
 {}
 
-/// No datagram is longer than what is received at once.
+/// States that no datagram is longer than the receive buffer. It runs no code.
 pub fn datagrams_are_short()
     ensures { (d : Datagram) → FitsDatagram d → length (datagram_bytes d) ≤ 8192 }
 {}

@@ -1,4 +1,4 @@
-//! One replica's place in a world: it is up, or down with what is on its disk.
+//! A replica in a simulated world: up, or down with the content of its disk.
 #![tactic(auto)]
 
 mod arrival;

@@ -1,4 +1,4 @@
-//! One replica's place in a world.
+//! The state of a simulated replica.
 
 ghost use Rattle.std.specs.Prelude.{◌≤◌, ◌<◌};
 ghost use Rattle.crsm_sim_machine.specs.States.{IsStateOf};
@@ -6,14 +6,14 @@ ghost use Rattle.crsm_sim_machine.specs.States.{IsStateOf};
 use crate::state::MachineState;
 use std::alloc::Global;
 
-/// One replica's place in a world: it is up, or down with what is on its disk. Unless memory ran out, some log of the
-/// replica is on its disk, and the shell is that of the replica. After an error it says nothing any more.
+/// A simulated replica: it is up, or down with the content of its disk. Unless memory ran out, the disk has a log of
+/// the replica, and the shell is the replica's. After an error its fields are unspecified.
 #[derive(Drop)]
 pub struct Machine {
     pub(crate) alloc: Global,
     /// The number of the replica.
     pub(crate) me: u32,
-    /// How many replicas the cluster began with.
+    /// Number of replicas that the cluster began with.
     pub(crate) n: u32,
     pub(crate) state: MachineState,
     ghost below: { me < 15 },

@@ -1,4 +1,4 @@
-//! The port that a step takes its input off.
+//! The port from which a step receives its input.
 
 ghost use Rattle.std.specs.Prelude.{◌≡◌, ◌++◌, length, min, take, drop};
 
@@ -6,7 +6,7 @@ use crsm_base::{Failed, NoMemory};
 use crsm_port::{Port, Recv};
 use crsm_port_faults::raise;
 
-/// The one datagram of a step, if any.
+/// The datagram that a step receives, if any.
 #[derive(Clone, Copy)]
 pub(crate) enum Slot<'a> {
     Missing,
@@ -14,7 +14,7 @@ pub(crate) enum Slot<'a> {
     Taken { from: u64, bytes: &'a [u8] },
 }
 
-/// A port that gives one datagram at most, which it borrows. Nothing goes out over it: each send is a loss.
+/// A port with at most one datagram to receive, which it borrows. Each send is a loss.
 #[derive(Drop)]
 pub(crate) struct PacketPort<'a> {
     pub(crate) slot: Slot<'a>,

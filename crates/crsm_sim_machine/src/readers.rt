@@ -1,4 +1,4 @@
-//! What a machine says of itself.
+//! Readers of a machine.
 
 ghost use Rattle.std.specs.Prelude.{◌≡◌, ◌∷◌, [], ℕ, length, is_some, IfOk, IfSome, if◌then◌else◌};
 ghost use Rattle.crsm_spec.specs.Log as logs;
@@ -21,7 +21,7 @@ use crsm_ledger::Ledger;
 use crsm_shell::Shell;
 
 impl Machine {
-    /// Whether the replica is up.
+    /// Returns whether the replica is up.
     #[tactic(auto, unfolding(crate::specs::Machine::MachineStands, crsm_spec::specs::World::is_up))]
     pub fn is_up(&self) -> bool
         ensures { WhereStands self.now (λ me n s. result ≡ world.is_up s) }
@@ -29,7 +29,7 @@ impl Machine {
         matches!(&self.state, MachineState::Up(_))
     }
 
-    /// The shell of a replica that is up.
+    /// Returns the shell of a replica that is up, or `None` if it is down.
     #[tactic(auto, unfolding(crate::specs::Machine::MachineStands, crsm_spec::specs::World::is_up))]
     pub fn shell(&self) -> Option<&Shell<MemDisk>>
         ensures up { WhereStands self.now (λ me n s. is_some result ≡ world.is_up s) }
@@ -42,7 +42,7 @@ impl Machine {
         }
     }
 
-    /// What the records of its log say.
+    /// Returns the summary of its log.
     #[tactic(auto, unfolding(crate::specs::Machine::MachineStands, crsm_spec::specs::World::log_of))]
     fn summary(&self) -> LogSummary
         ensures { WhereStands self.now (λ me n s. SumsUp result (world.log_of s)) }
@@ -54,21 +54,21 @@ impl Machine {
         }
     }
 
-    /// The known epoch.
+    /// Returns the number of the known epoch.
     pub fn known(&self) -> u64
         ensures { WhereStands self.now (λ me n s. result ≡ logs.known (world.log_of s)) }
     {
         self.summary().known
     }
 
-    /// How many entries are executed.
+    /// Returns the number of executed entries.
     pub fn executed_len(&self) -> u64
         ensures { WhereStands self.now (λ me n s. result ≡ length (logs.executed (world.log_of s))) }
     {
         self.summary().executed
     }
 
-    /// How the replica stands.
+    /// Returns the state of the replica.
     #[tactic(auto, unfolding(crate::specs::Machine::MachineStands, crsm_spec::specs::World::state_of))]
     pub fn state(&self) -> State
         ensures { WhereStands self.now (λ me n s. result ≡ world.state_of s) }
@@ -80,7 +80,8 @@ impl Machine {
         }
     }
 
-    /// The replicas whose majorities count in the known epoch of a replica that is up.
+    /// Returns the replicas whose majorities count in the known epoch of a replica that is up, or `None` if it is down.
+    /// `NoMemory` if memory runs out.
     #[tactic(auto, unfolding(crate::specs::Machine::MachineStands, crate::specs::Outcomes::spec_at))]
     pub fn spec(&self) -> Result<Option<Members>, NoMemory>
         ensures { IfOk result (λ members. WhereStands self.now (λ me n s. members ≡ spec_at n s)) }
@@ -93,7 +94,7 @@ impl Machine {
     }
 }
 
-/// How a replica that is up stands, by its ledger.
+/// Returns the state of a replica that is up, by its ledger.
 #[tactic(auto, unfolding(crsm_spec::specs::Log::active))]
 fn state_of(ledger: &Ledger) -> State
     ensures { (me n : ℕ) (log : logs.Log) → LedgerStands me n ledger.now log → result ≡ (if logs.active log then State.Live else if logs.live log then State.Held else State.Out) }

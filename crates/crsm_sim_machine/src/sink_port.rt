@@ -1,4 +1,4 @@
-//! The port that a step sends over which is stopped.
+//! The port of a step that stops during its put.
 
 ghost use Rattle.crsm_port.specs.Unknown.{unknown};
 
@@ -6,8 +6,7 @@ use crsm_base::{Failed, NoMemory};
 use crsm_port::{Port, Recv};
 use crsm_port_faults::raise;
 
-/// A port that takes each datagram and lets it go: of a step that is stopped within its put nothing goes out. Nothing comes
-/// over it.
+/// A port that drops each datagram: a step that stops during its put sends nothing. It receives nothing.
 #[derive(Drop)]
 pub(crate) struct SinkPort {
     pub(crate) empties: u64,

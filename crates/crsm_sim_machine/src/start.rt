@@ -1,4 +1,4 @@
-//! Starts of a replica.
+//! The boot of a machine.
 
 ghost use Rattle.std.specs.Prelude.{◌≡◌, ◌≤◌, ◌<◌, [], ℕ, IfOk};
 ghost use Rattle.crsm_spec.specs.Log.{Log};
@@ -20,11 +20,12 @@ use crsm_shell::{BootError, Booted, Shell, logs_are_not_bad};
 use std::alloc::Global;
 use std::mem;
 
-/// The addresses of the replicas: the number of each.
+/// The address of each replica, which in a world is its number.
 const ADDRESSES: [u64; 15] = [0, 1, 2, 3, 4, 5, 6, 7, 8, 9, 10, 11, 12, 13, 14];
 
 impl Machine {
-    /// The machine of replica `me` in a cluster that began with `n`: down, with an empty disk.
+    /// Returns the machine of replica `me` in a cluster that began with `n`: down, with an empty disk. `NoMemory` if
+    /// memory runs out.
     #[tactic(auto, unfolding(crate::specs::Machine::MachineStands))]
     pub fn new(alloc: Global, me: u32, n: u32) -> Result<Machine, NoMemory>
         requires below { me < 15 }
@@ -40,7 +41,8 @@ impl Machine {
         })
     }
 
-    /// The replica boots on its disk. It is down before; one that is up answers `NoMemory`.
+    /// Boots the replica, which must be down, on its disk, and returns the boot's output. `NoMemory` if memory runs
+    /// out, or if the replica is up.
     #[tactic(auto, unfolding(crate::specs::Machine::MachineStands))]
     pub fn start(&mut self) -> Result<Boot, NoMemory>
         ensures { IfOk result (λ boot. WhereDown self.old (λ me n log. HasBooted self.new me n boot (rules.boot me n log))) }
@@ -55,14 +57,14 @@ impl Machine {
                     size: booted.size,
                 })
             }
-            // A world starts what is down.
+            // A world starts only replicas that are down.
             MachineState::Up(_) => Err(never()),
             MachineState::Spent => Err(NoMemory),
         }
     }
 }
 
-/// A boot on what was left. The log that was kept is read again, and no call of the disk fails.
+/// Boots a replica on what a crash left. Its log is read again, and no call of the disk fails.
 fn boot_on(alloc: Global, me: u32, n: u32, left: Stopped) -> Result<Booted<MemDisk>, NoMemory>
     requires below { me < 15 }
     requires some { 1 ≤ n }

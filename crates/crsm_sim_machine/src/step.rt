@@ -1,20 +1,20 @@
-//! What a step and a boot of a machine made.
+//! The output of a machine's step and boot.
 
 use crsm_base::Lines;
 use crsm_replica_output::Batch;
 
-/// What a step made.
+/// The output of a step.
 #[derive(Drop)]
 pub struct Step {
     pub batch: Batch,
-    /// How many bytes its records take on the disk.
+    /// The length in bytes of its records on the disk.
     pub size: u64,
 }
 
-/// What a boot made. It sends nothing.
+/// The output of a boot. It sends nothing.
 #[derive(Drop)]
 pub struct Boot {
     pub lines: Lines,
-    /// How many bytes its records take on the disk.
+    /// The length in bytes of its records on the disk.
     pub size: u64,
 }

@@ -1,4 +1,4 @@
-//! Stops of a machine.
+//! Crashes of a machine.
 
 ghost use Rattle.std.specs.Prelude.{◌≤◌, ℕ, IfOk, IfSome, OnOk};
 ghost use Rattle.std.specs.List.{AllByRecursion};
@@ -20,7 +20,8 @@ use crsm_base::{NoMemory, never};
 use std::mem;
 
 impl Machine {
-    /// The replica goes down with what is on its disk. One that is down stays so.
+    /// Takes the replica down with the content of its disk. A replica that is down stays down. `NoMemory` if memory
+    /// runs out.
     #[tactic(auto, unfolding(crate::specs::Machine::MachineStands, crsm_spec::specs::World::log_of))]
     pub fn crash(&mut self) -> Result<(), NoMemory>
         ensures { OnOk result (WhereStands self.old (λ me n s. MachineStands self.new me n (world.Site.Down (world.log_of s)))) }
@@ -38,9 +39,9 @@ impl Machine {
         }
     }
 
-    /// One step that stops after so many device calls of its put, with `fill` in the ranges that were not synced: the
-    /// replica goes down. What the step made is answered where it is kept. The replica is up; one that is down answers
-    /// `NoMemory`.
+    /// Runs one step that stops after a number of disk calls of its put, with the byte `fill` in the ranges that were
+    /// not synced, and takes the replica down. Returns the output of the step, or `None` if the step is lost.
+    /// `NoMemory` if memory runs out, or if the replica is down.
     #[tactic(auto, unfolding(crate::specs::Machine::MachineStands))]
     pub fn cut_at(
         &mut self,
@@ -62,7 +63,7 @@ impl Machine {
                 self.state = MachineState::Down(left);
                 Ok(step)
             }
-            // A world stops a step of what is up.
+            // A world stops only steps of replicas that are up.
             MachineState::Down(_) => Err(never()),
             MachineState::Spent => Err(NoMemory),
         }

@@ -1,4 +1,4 @@
-//! Steps of a machine.
+//! The steps of a machine.
 
 ghost use Rattle.std.specs.Prelude.{◌≡◌, ◌++◌, ◌∷◌, [], ℕ, List, IfOk, OnOk};
 ghost use Rattle.std.specs.List.{AllByRecursion};
@@ -20,8 +20,9 @@ use crsm_base::{NoMemory, never};
 use crsm_port::MemPort;
 
 impl Machine {
-    /// One step, whose records are kept, and the place on the port of the first datagram that it sent. The replica is up; one
-    /// that is down answers `NoMemory`.
+    /// Runs one step at this reading of the clock, in microseconds, and makes its records durable. Returns its output,
+    /// and the index on the port of the first datagram that it sent. `NoMemory` if memory runs out, or if the replica
+    /// is down.
     #[tactic(auto, unfolding(crate::specs::Machine::MachineStands))]
     pub fn step(
         &mut self,
@@ -43,14 +44,14 @@ impl Machine {
                     Err(why)
                 }
             },
-            // A world delivers to what is up.
+            // A world delivers only to replicas that are up.
             MachineState::Down(_) => Err(never()),
             MachineState::Spent => Err(NoMemory),
         }
     }
 
-    /// One more step of some that `flush` keeps together, 32 at most. The replica is up; one that is down answers
-    /// `NoMemory`.
+    /// Runs one more step of those that the next `flush` makes durable together, at most 32, and returns its output.
+    /// `NoMemory` if memory runs out, or if the replica is down.
     #[tactic(auto, unfolding(crate::specs::Machine::MachinePends))]
     pub fn take(&mut self, arrival: Arrival<'_>, reading: u64) -> Result<Step, NoMemory>
         requires { IsShort arrival }
@@ -66,14 +67,14 @@ impl Machine {
                     Err(why)
                 }
             },
-            // A world delivers to what is up.
+            // A world delivers only to replicas that are up.
             MachineState::Down(_) => Err(never()),
             MachineState::Spent => Err(NoMemory),
         }
     }
 
-    /// Keeps the records of the steps since the last `flush`, and sends over the port; answers the place on it of the first
-    /// datagram.
+    /// Makes the records of the steps since the last `flush` durable, sends their datagrams over the port, and returns
+    /// the index on it of the first one. `NoMemory` if memory runs out, or if the replica is down.
     #[tactic(auto, unfolding(crate::specs::Machine::MachinePends, crate::specs::Machine::MachineStands))]
     pub fn flush(&mut self, port: &mut MemPort) -> Result<usize, NoMemory>
         ensures stands { OnOk result (WherePending self.old (λ me n r steps. MachineStands self.new me n (world.Site.Up r))) }
@@ -88,7 +89,7 @@ impl Machine {
                     Err(why)
                 }
             },
-            // A world flushes what is up.
+            // A world flushes only replicas that are up.
             MachineState::Down(_) => Err(never()),
             MachineState::Spent => Err(NoMemory),
         }

@@ -1,4 +1,4 @@
-//! One step of a replica that is up.
+//! The steps of a replica that is up.
 
 ghost use Rattle.std.specs.Prelude.{◌≡◌, ◌++◌, ◌∷◌, [], ℕ, List, IfOk, OnOk};
 ghost use Rattle.std.specs.List.{AllByRecursion};
@@ -22,10 +22,10 @@ use crsm_disk::MemDisk;
 use crsm_port::{MemPort, Port};
 use crsm_shell::{Shell, TurnError, WantedInput};
 
-/// So many steps are kept together at most.
+/// Maximum number of steps per flush.
 const MOST_PENDING: u32 = 32;
 
-/// What is wanted of the shell where this comes, and the port that it takes it off.
+/// Returns the input to ask the shell for at this arrival, and the port from which the shell receives it.
 fn wanted(arrival: Arrival<'_>) -> (WantedInput, PacketPort<'_>)
     ensures { Asks arrival.entry result.0 result.1 }
 {
@@ -49,7 +49,7 @@ fn packet_port(slot: Slot<'_>) -> PacketPort<'_>
     }
 }
 
-/// One more step, whose records are pending. The shell has not failed before, and its port does not fail.
+/// Runs one more step, which stays pending. The shell has not failed before, and its port does not fail.
 pub(crate) fn take(
     shell: &mut Shell<MemDisk>,
     arrival: Arrival<'_>,
@@ -62,7 +62,7 @@ pub(crate) fn take(
     ensures spelt { IfOk result (λ step. AllByRecursion FitsSent step.batch.sends) }
 {
     if shell.pending() >= MOST_PENDING {
-        // A world delivers no more together.
+        // A world never has more pending steps.
         return Err(never());
     }
     let (what, mut port) = wanted(arrival);
@@ -80,10 +80,10 @@ pub(crate) fn take(
     }
 }
 
-/// So many datagrams are kept on a port at most before the next steps are flushed.
+/// Maximum number of sent datagrams retained on a port before the next flush.
 const MOST_SENT: usize = 64;
 
-/// Of what a port has sent nobody asks any more once the next steps are flushed.
+/// Discards sent datagrams that no caller reads again, once there are `MOST_SENT`.
 fn renew(port: &mut MemPort)
     ensures { IsWell port.old → IsWell port.new }
 {
@@ -92,8 +92,8 @@ fn renew(port: &mut MemPort)
     }
 }
 
-/// Keeps the records of the pending steps, and sends over the port; answers the place on it of the first datagram. The shell
-/// has not failed before, and no call of its disk fails.
+/// Flushes the pending steps, and returns the index on the port of the first datagram sent. The shell has not failed
+/// before, and no call of its disk fails.
 pub(crate) fn flush(shell: &mut Shell<MemDisk>, port: &mut MemPort) -> Result<usize, NoMemory>
     requires { ∥ IsSomeUp shell.old ∥₁ }
     ensures stands { OnOk result (WhereUpAs shell.old (λ me n kept r steps. IsUpAs me n shell.new r.log r [])) }
@@ -112,8 +112,8 @@ pub(crate) fn flush(shell: &mut Shell<MemDisk>, port: &mut MemPort) -> Result<us
     }
 }
 
-/// One step behind those that are pending, all of which are kept at once; answers the place on the port of the first datagram
-/// that they sent. The shell has not failed before, and no call of its disk fails.
+/// Runs one step and flushes it together with the pending ones. Returns its output, and the index on the port of the
+/// first datagram sent. The shell has not failed before, and no call of its disk fails.
 pub(crate) fn step(
     shell: &mut Shell<MemDisk>,
     arrival: Arrival<'_>,

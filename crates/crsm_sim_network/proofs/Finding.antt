@@ -1,4 +1,4 @@
--- How many are wanted from a place on.
+-- The number of wanted elements from an index on.
 use Rattle.std.proofs.Common.{◌≡◌, ◌<◌, ◌≤◌, ◌+◌, ◌-◌, ◌*◌, ◌^◌, ℕ, zero, suc, Bool, true, false, cond, List, [], ◌∷◌, ◌++◌, length, set, take, drop, refl, ap, sym, ◌∙◌, arith}
 use Rattle.std.specs.Prelude.{nat_lt, min}
 use native.Mathlib.Numerals.{unary_clauses}

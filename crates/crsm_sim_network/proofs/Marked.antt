@@ -1,4 +1,4 @@
--- How the post stands after a change.
+-- The network after a change.
 use Rattle.std.proofs.Common.{◌≡◌, ◌≤◌, ℕ, true, List, [], ◌∷◌, ◌++◌, length, map, set, Some, None, Bool, ap, sym, ◌∙◌, subst, arith, Vec, Global}
 use Rattle.std.specs.Prelude.{slice_get, filter}
 use Rattle.std.specs.Vec.{with_item}
@@ -57,7 +57,7 @@ nears old packets bytes near h e = record {
   counted = h.counted;
 }
 
--- more is spelt than was sent
+-- there are more bytes than were sent
 pub spelt_more : (old : Network) (packets : List Packet) (bytes : ℕ) (spelling more : List ℕ) → NetworkStands old packets bytes → spelling ≡ old.spelling ++ more → NetworkStands (record old { spelling = spelling }) packets bytes
 spelt_more old packets bytes spelling more h e = record {
   held = subst (λ (bs : List ℕ). HoldsPackets bs old.packets.items packets) (sym e) (packets_grown old.spelling more old.packets.items packets h.held);

@@ -1,4 +1,4 @@
--- Datagrams in memory and on paper, one by one.
+-- Datagrams in memory and in the definitions, one by one.
 use Rattle.std.proofs.Common.{◌≡◌, ◌+◌, ◌-◌, ℕ, zero, suc, arith, length-append, List, [], ◌∷◌, ◌++◌, length, get_or, take, drop, set, true, Option, Some, None, refl, ap, sym, ◌∙◌, subst, ltb, Bor}
 use Rattle.crsm_sim_network.proofs.Gets.{got, not_got, range_grown, range_end}
 use Rattle.std.specs.Prelude.{slice_get, slice_range, is_some, IfSome, MatchOption}
@@ -21,7 +21,7 @@ packets_length bs (m ∷ ms) (p ∷ ps) h = ap suc (packets_length bs ms ps h.1)
 packets_length bs [] (p ∷ ps) h = absurd h
 packets_length bs (m ∷ ms) [] h = absurd h
 
--- datagram i in memory is datagram i on paper
+-- datagram i in memory is datagram i of the definitions
 pub packets_found : (bs : List ℕ) (ms : List PacketEntry) (ps : List Packet) (i : ℕ) → HoldsPackets bs ms ps → Found bs (slice_get ms i) (slice_get ps i)
 packets_found bs [] [] i h = tt
 packets_found bs (m ∷ ms) (p ∷ ps) zero h = h.0
@@ -29,7 +29,7 @@ packets_found bs (m ∷ ms) (p ∷ ps) (suc i) h = packets_found bs ms ps i h.1
 packets_found bs [] (p ∷ ps) i h = absurd h
 packets_found bs (m ∷ ms) [] i h = absurd h
 
--- what was spelt stays where more is spelt
+-- bytes stay where further ones are appended
 pub packets_grown : (bs more : List ℕ) (ms : List PacketEntry) (ps : List Packet) → HoldsPackets bs ms ps → HoldsPackets (bs ++ more) ms ps
 packets_grown bs more [] [] h = tt
 packets_grown bs more (m ∷ ms) (p ∷ ps) h =
@@ -48,7 +48,7 @@ packets_grown bs more (m ∷ ms) (p ∷ ps) h =
 packets_grown bs more [] (p ∷ ps) h = absurd h
 packets_grown bs more (m ∷ ms) [] h = absurd h
 
--- what is spelt behind others stands there
+-- bytes appended to others stand there
 pub spelt_here : (bs more new start end : List ℕ) → new ≡ bs ++ more → start ≡ bs → end ≡ new → slice_range new (length start) (length end) ≡ more
 spelt_here bs more new start end e f g =
     let last : length end ≡ length bs + length more = ap length (g ∙ e) ∙ length-append bs more in
@@ -60,7 +60,7 @@ packets_more bs (a ∷ ms) (b ∷ ps) m p h is = (h.0, packets_more bs ms ps m p
 packets_more bs [] (b ∷ ps) m p h is = absurd h
 packets_more bs (a ∷ ms) [] m p h is = absurd h
 
--- another datagram in place of datagram i, in memory and on paper
+-- another datagram in place of datagram i, in memory and in the definitions
 pub packets_set : (bs : List ℕ) (ms : List PacketEntry) (ps : List Packet) (i : ℕ) (m : PacketEntry) (p : Packet) → HoldsPackets bs ms ps → IsPacket bs m p → HoldsPackets bs (set ms i m) (set ps i p)
 packets_set bs [] [] i m p h is = tt
 packets_set bs (a ∷ ms) (b ∷ ps) zero m p h is = (is, h.1)
@@ -79,7 +79,7 @@ pub packets_used : (bs : List ℕ) (ms : List PacketEntry) (ps : List Packet) (i
 unfolding used_up
 packets_used bs ms ps i m h e = marked bs ms ps i m (slice_get ps i) h (let F : Option PacketEntry → Type 0 = λ o. Found bs o (slice_get ps i) in subst F e (packets_found bs ms ps i h))
 
--- a datagram on paper, and that it is the one in memory
+-- a datagram of the definitions, and that it is the one in memory
 abbrev pub FoundPacket : List ℕ → List Packet → ℕ → PacketEntry → Type 0
 FoundPacket bs ps i m = (p : Packet) × (slice_get ps i ≡ Some p) × IsPacket bs m p
 

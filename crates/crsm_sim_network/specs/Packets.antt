@@ -1,4 +1,4 @@
--- The datagrams of a world, and how they are held in memory.
+-- The datagrams of a world, and their representation in memory.
 use Rattle.std.specs.Prelude.{◌≡◌, ◌<◌, ◌≤◌, ◌+◌, ℕ, Bool, true, false, ◌&&◌, not, min, if◌then◌else◌, List, [], ◌∷◌, ◌++◌, length, map, filter, Option, Some, option_map, slice_get, slice_set, slice_range}
 use Rattle.std.specs.List.{AllByRecursion, flat_map, range_with_len}
 use Rattle.std.specs.Option.{option_map_or}
@@ -15,7 +15,7 @@ use Rattle.crsm_sim_network.specs.declared.network.Network.{Network}
 use Rattle.crsm_sim_network.specs.declared.receivers.Receivers.{Receivers}
 use Rattle.crsm_sim_network.specs.Tally.{TallyStands, is_wanted}
 
--- The datagram in memory is this one on paper, which has a spelling: it stands at its place among the bytes of all.
+-- The datagram in memory is this one of the definitions, which has an encoding: it is its range of the bytes of all.
 pub record IsPacket (spelling : List ℕ) (m : PacketEntry) (p : Packet) : Type 0 where
   pub from : m.from ≡ p.from
   pub to : m.to ≡ p.to
@@ -32,7 +32,7 @@ HoldsPackets spelling (m ∷ ms) (p ∷ ps) = IsPacket spelling m p × HoldsPack
 HoldsPackets spelling [] (p ∷ ps) = ⊥
 HoldsPackets spelling (m ∷ ms) [] = ⊥
 
--- the view is of this packet, which has a spelling
+-- the view is of this packet, which has an encoding
 pub record IsPacketView (l : PacketView) (p : Packet) : Type 0 where
   pub from : l.from ≡ p.from
   pub to : l.to ≡ p.to
@@ -94,7 +94,7 @@ pub record Receives (r : Receivers) (test : ℕ → Bool) : Type 0 where
 
 -- ---- what leaves
 
--- the datagram has a spelling
+-- the datagram has an encoding
 abbrev pub FitsPacket : Send → Type 0
 FitsPacket s = FitsDatagram s.datagram
 
@@ -106,7 +106,7 @@ to_packets (to_whom.Address a) d = []
 unfoldable pub sent_to : Send → List (ℕ × Datagram)
 sent_to s = to_packets s.to s.datagram
 
--- the datagrams among what is sent
+-- the datagrams to replicas among the output
 unfoldable pub sent_of : List Send → List (ℕ × Datagram)
 sent_of sends = flat_map sent_to sends
 
@@ -122,7 +122,7 @@ pub record HasFresh (test : ℕ → Bool) (packets : List Packet) (numbers : Lis
   pub sent : AllByRecursion (λ i. i < length packets) numbers
   pub all : filter (is_fresh_for test packets) numbers ≡ filter (is_fresh_for test packets) (numbers_of packets)
 
--- The network holds these packets, and so many bytes are counted.
+-- The network holds these packets, and this number of bytes is counted.
 pub record NetworkStands (network : Network) (packets : List Packet) (bytes : ℕ) : Type 0 where
   pub held : HoldsPackets network.spelling network.packets.items packets
   pub fresh : HasFresh (λ k. true) packets network.fresh.items

@@ -1,4 +1,4 @@
--- How a list of classes is counted, whole and by blocks.
+-- The counts of a list of classes, whole and by blocks.
 use Rattle.std.specs.Prelude.{◌≡◌, ◌<◌, ◌≤◌, ◌*◌, ℕ, Bool, false, List, Some, drop, length, nat_eq, slice_get, slice_index, take}
 use Rattle.std.specs.List.{AllByRecursion, count_by}
 use Rattle.std.specs.Option.{option_map_or}

@@ -7,7 +7,7 @@ ghost use Rattle.crsm_sim_network.specs.Tally.{AreBlocks, IsClass, is_wanted};
 use crate::counts::Counts;
 use crsm_base::{NoMemory, never};
 
-/// Makes room for one more behind so many.
+/// Makes room for one more element after the first `place`, in blocks of `size`.
 fn make_room(blocks: &mut Vec<Counts>, size: usize, place: usize) -> Result<(), NoMemory>
     requires { 0 < size }
     ensures { (xs : List ℕ) → place ≡ length xs → AreBlocks size blocks.old.items xs → OnOk result (AreBlocks size blocks.new.items xs) }
@@ -18,7 +18,7 @@ fn make_room(blocks: &mut Vec<Counts>, size: usize, place: usize) -> Result<(), 
     Ok(())
 }
 
-/// Counts one more at this place, behind all others, in blocks of this size.
+/// Counts one more element at index `place`, after all others, in blocks of `size`.
 pub(crate) fn add(
     blocks: &mut Vec<Counts>,
     size: usize,
@@ -39,7 +39,7 @@ pub(crate) fn add(
     Ok(())
 }
 
-/// Counts the one at this place in another class.
+/// Moves the count of the element at index `place` from one class to another.
 pub(crate) fn change(blocks: &mut Vec<Counts>, size: usize, place: usize, from: u8, to: u8)
     requires size { 0 < size }
     requires from { from < 32 }
@@ -53,8 +53,8 @@ pub(crate) fn change(blocks: &mut Vec<Counts>, size: usize, place: usize, from: 
     }
 }
 
-/// The block that has the `j`-th of the classes that are wanted, counted from the start of block `first`, and how many
-/// there are in that block before it.
+/// Returns the block with the `j`-th element of the wanted classes, counted from the start of block `first`, and the
+/// number of such elements in that block before it.
 pub(crate) fn find(blocks: &[Counts], first: usize, wanted: &[bool], j: u64) -> (usize, u64)
     ensures { (size : ℕ) (xs : List ℕ) → length xs < 2 ^ 63 → AllByRecursion IsClass xs → AreBlocks size blocks.now xs
         → j + count_by (is_wanted wanted.now) (drop (result.0 * size) xs) ≡ result.1 + count_by (is_wanted wanted.now) (drop (first * size) xs) }
@@ -72,8 +72,8 @@ pub(crate) fn find(blocks: &[Counts], first: usize, wanted: &[bool], j: u64) -> 
     (block, before)
 }
 
-/// The same from the first of the `fan` blocks on that a block of the level above is made of. What is said of that one is its
-/// number, and how many there are in it before the one that is sought.
+/// Does the same as `find`, from the first of the `fan` blocks that a block of the level above consists of. `above` is
+/// that block's number and the number of wanted elements in it before the sought one.
 pub(crate) fn find_within(
     blocks: &[Counts],
     above: (usize, u64),

@@ -1,4 +1,4 @@
-//! How many there are of each class.
+//! Counts by class.
 
 ghost use Rattle.std.specs.Prelude.{◌≡◌, ◌<◌, ◌^◌, [], ◌∷◌, ◌++◌, ℕ, List, Some, if◌then◌else◌, length, slice_get, slice_index, slice_set};
 ghost use Rattle.std.specs.List.{AllByRecursion, count_by};
@@ -6,13 +6,13 @@ ghost use Rattle.crsm_sim_network.specs.Tally.{IsClass, IsCount, is_wanted};
 
 use crate::tally::CLASSES;
 
-/// For each class, how many there are.
+/// The number of elements of each class.
 #[derive(Clone, Copy)]
 pub(crate) struct Counts {
     pub each: [u64; CLASSES],
 }
 
-/// The class is wanted, where the list says it of each.
+/// Returns whether the class is wanted; `wanted` says it of each.
 #[tactic(auto, unfolding(crate::specs::Tally::is_wanted))]
 pub(crate) fn is_among(wanted: &[bool], class: usize) -> bool
     ensures { result ≡ is_wanted wanted.now class }
@@ -24,14 +24,14 @@ pub(crate) fn is_among(wanted: &[bool], class: usize) -> bool
 }
 
 impl Counts {
-    /// There is none.
+    /// Returns the counts of no elements.
     pub fn new() -> Counts
         ensures { IsCount result.each [] }
     {
         Counts { each: [0; CLASSES] }
     }
 
-    /// There is one more.
+    /// Counts one more element.
     pub fn add(&mut self, class: u8)
         requires { class < 32 }
         ensures { (xs : List ℕ) → length xs < 2 ^ 63 → IsCount self.old.each xs → IsCount self.new.each (xs ++ class ∷ []) }
@@ -39,7 +39,7 @@ impl Counts {
         self.each[class as usize] = self.each[class as usize].saturating_add(1);
     }
 
-    /// One of them has changed its class.
+    /// Moves one element to another class.
     pub fn change(&mut self, from: u8, to: u8)
         requires from { from < 32 }
         requires to { to < 32 }
@@ -49,7 +49,7 @@ impl Counts {
         self.each[from as usize] = self.each[from as usize].saturating_sub(1);
     }
 
-    /// How many are of this class, if it is wanted.
+    /// Returns the number of elements of this class, or 0 if it is not wanted.
     fn of_class(&self, class: usize, wanted: &[bool]) -> u64
         requires { class < 32 }
         ensures { result ≡ (if is_wanted wanted.now class then slice_index self.now.each class else 0) }
@@ -61,7 +61,7 @@ impl Counts {
         }
     }
 
-    /// How many are of the classes that are wanted.
+    /// Returns the number of elements of the wanted classes.
     pub fn count(&self, wanted: &[bool]) -> u64
         ensures { (xs : List ℕ) → length xs < 2 ^ 63 → AllByRecursion IsClass xs → IsCount self.now.each xs → result ≡ count_by (is_wanted wanted.now) xs }
     {

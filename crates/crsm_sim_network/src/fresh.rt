@@ -1,5 +1,5 @@
-//! Which datagrams can be delivered. Each time that this is asked costs no more than what was sent and delivered since the last
-//! time, unless other replicas are up now: those for a replica that stays down are not looked at again.
+//! The datagrams that can be delivered. A query costs no more than the datagrams sent and delivered since the last one,
+//! unless other replicas are up now: datagrams to a replica that stays down are not looked at again.
 
 ghost use Rattle.std.specs.Prelude.{◌≡◌, ◌++◌, ◌∷◌, [], ℕ, List, true, filter, IfOk, OnOk};
 ghost use Rattle.crsm_spec.specs.World as on_paper;
@@ -9,7 +9,7 @@ use crate::network::Network;
 use crsm_base::NoMemory;
 
 impl Network {
-    /// The datagram with this number is fresh.
+    /// Returns whether the datagram with this number is fresh.
     #[tactic(auto, unfolding(crate::specs::Packets::is_fresh_for))]
     fn is_fresh(&self, number: u64) -> bool
         ensures { WhereStands self.now (λ packets bytes. result ≡ is_fresh_for (λ k. true) packets number) }
@@ -29,7 +29,7 @@ impl Network {
         Ok(())
     }
 
-    /// The numbers of those that are still fresh.
+    /// Returns the numbers of those in `fresh` that are still fresh.
     fn still_fresh(&self) -> Result<Vec<u64>, NoMemory>
         ensures { IfOk result (λ kept. WhereStands self.now (λ packets bytes. kept.items ≡ filter (is_fresh_for (λ k. true) packets) self.now.fresh.items)) }
     {
@@ -40,7 +40,7 @@ impl Network {
         Ok(kept)
     }
 
-    /// From now on these are the replicas that are up. All that is fresh is near again.
+    /// Sets the replicas that are up, and makes all fresh datagrams candidates again.
     fn turn_to(&mut self, ups: &[bool]) -> Result<(), NoMemory>
         ensures stands { OnOk result (WhereStands self.old (λ packets bytes. NetworkStands self.new packets bytes)) }
         ensures ups { OnOk result (self.new.ups.items ≡ ups.now) }
@@ -52,7 +52,7 @@ impl Network {
         Ok(())
     }
 
-    /// The same where others were up so far.
+    /// Does the same as `turn_to` if other replicas were up before.
     fn see(&mut self, ups: &[bool]) -> Result<(), NoMemory>
         ensures stands { OnOk result (WhereStands self.old (λ packets bytes. NetworkStands self.new packets bytes)) }
         ensures ups { OnOk result (self.new.ups.items ≡ ups.now) }
@@ -64,7 +64,7 @@ impl Network {
         Ok(())
     }
 
-    /// The datagram with this number is fresh, and its receiver was up when that was last asked.
+    /// Returns whether the datagram with this number is fresh, and its receiver was up at the last query.
     #[tactic(auto, unfolding(crate::specs::Packets::is_fresh_for))]
     fn is_due(&self, number: u64) -> bool
         ensures { WhereStands self.now (λ packets bytes. result ≡ is_fresh_for (is_up_among self.now.ups.items) packets number) }
@@ -84,7 +84,7 @@ impl Network {
         Ok(())
     }
 
-    /// Of those that are near the ones that can be delivered.
+    /// Returns the candidates that can be delivered.
     fn still_due(&self) -> Result<Vec<u64>, NoMemory>
         ensures { IfOk result (λ due. WhereStands self.now (λ packets bytes. due.items ≡ filter (is_fresh_for (is_up_among self.now.ups.items) packets) self.now.near.items)) }
     {
@@ -95,7 +95,8 @@ impl Network {
         Ok(due)
     }
 
-    /// The numbers of the fresh ones whose receivers are up, ascending. `ups` says of each replica whether it is up.
+    /// Returns the numbers of the fresh datagrams whose receivers are up, in ascending order. `ups` says of each
+    /// replica whether it is up. `NoMemory` if memory runs out.
     pub fn due(&mut self, ups: &[bool]) -> Result<Vec<u64>, NoMemory>
         ensures stands { OnOk result (WhereStands self.old (λ packets bytes. NetworkStands self.new packets bytes)) }
         ensures due { IfOk result (λ due. WhereStands self.old (λ packets bytes. due.items ≡ filter (is_fresh_for (is_up_among ups.now) packets) (numbers_of packets))) }
@@ -107,7 +108,7 @@ impl Network {
     }
 }
 
-/// Whether replica `k` is up, where `ups` says it of each.
+/// Returns whether replica `k` is up by `ups`.
 #[tactic(auto, unfolding(crate::specs::Packets::is_up_among))]
 fn is_up(ups: &[bool], k: u32) -> bool
     ensures { result ≡ is_up_among ups.now k }

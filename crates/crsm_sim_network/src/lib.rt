@@ -1,5 +1,5 @@
-//! Every datagram that was sent in a world: who sent and receives it, which are fresh, and how many bytes the world has.
-//! A tally counts them by class, and finds the j-th of some classes, without a walk over all of them.
+//! The datagrams sent in a world: sender and receiver of each, which are fresh, and the world's size in bytes. A tally
+//! counts them by class, and finds the j-th of some classes, without a walk over all of them.
 #![tactic(auto)]
 
 mod blocks;

@@ -1,4 +1,4 @@
-//! The datagrams by number, and what is known of each.
+//! The datagrams by number, and the state of each.
 
 ghost use Rattle.std.specs.Prelude.{◌≡◌, ◌+◌, [], ℕ, List, nat_le, length, slice_get, Some, None, MatchOption, OnOk};
 ghost use Rattle.crsm_base.specs.Limits.{most_world};
@@ -11,27 +11,28 @@ use crate::receivers::class_of;
 use crsm_base::{Bytes, MAX_WORLD_BYTES, NoMemory, never};
 use std::alloc::Global;
 
-/// Every datagram that was sent, by number, and how many bytes the world has.
+/// All datagrams sent, by number, and the world's size in bytes.
 #[derive(Drop)]
 pub struct Network {
     pub(crate) alloc: Global,
     pub(crate) packets: Vec<PacketEntry>,
-    /// The bytes of all datagrams, one behind the other.
+    /// The bytes of all datagrams, joined.
     pub(crate) spelling: Bytes,
-    /// The numbers of the fresh ones, ascending. A used one may stand here too.
+    /// The numbers of the fresh datagrams, in ascending order. It may also have used ones.
     pub(crate) fresh: Vec<u64>,
-    /// Which replicas were up when those that are due were last asked for.
+    /// The replicas that were up at the last query of `due`.
     pub(crate) ups: Vec<bool>,
-    /// Of the fresh ones those whose receivers were up then, and some others, ascending.
+    /// The candidates of the next query, in ascending order: the fresh datagrams whose receivers were up then, and some
+    /// others.
     pub(crate) near: Vec<u64>,
-    /// The classes of all, by number.
+    /// The classes of all datagrams, by number.
     pub(crate) tally: Tally,
-    /// Of all datagrams sent and all log bodies kept.
+    /// The bytes of all datagrams sent and of all log bodies together.
     bytes: u64,
 }
 
 impl Network {
-    /// Nothing is sent, and nothing is kept.
+    /// Returns the network before anything was sent.
     pub fn new(alloc: Global) -> Network
         ensures { NetworkStands result [] 0 }
     {
@@ -47,28 +48,28 @@ impl Network {
         }
     }
 
-    /// How many bytes the world has.
+    /// Returns the world's size in bytes: of all datagrams sent and all log bodies.
     pub fn bytes(&self) -> u64
         ensures { WhereStands self.now (λ packets bytes. result ≡ bytes) }
     {
         self.bytes
     }
 
-    /// The world has as many bytes as it may.
+    /// Returns whether the world's size is at `MAX_WORLD_BYTES` or above.
     pub fn is_full(&self) -> bool
         ensures { WhereStands self.now (λ packets bytes. result ≡ nat_le most_world bytes) }
     {
         MAX_WORLD_BYTES <= self.bytes
     }
 
-    /// How many datagrams were sent.
+    /// Returns the number of datagrams sent.
     pub fn count(&self) -> u64
         ensures { WhereStands self.now (λ packets bytes. result ≡ length packets) }
     {
         self.packets.len() as u64
     }
 
-    /// What is kept of the datagram with this number.
+    /// Returns the state of the datagram with this number, or `None` if it was not sent.
     pub(crate) fn find(&self, number: u64) -> Option<&PacketEntry>
         ensures { WhereStands self.now (λ packets bytes.
             MatchOption result (slice_get packets number ≡ None) (λ m. (p : on_paper.Packet) × (slice_get packets number ≡ Some p) × IsPacket self.now.spelling m.now p)) }
@@ -76,7 +77,7 @@ impl Network {
         self.packets.get(number as usize)
     }
 
-    /// The datagram with this number.
+    /// Returns the datagram with this number, or `None` if it was not sent.
     pub fn packet(&self, number: u64) -> Option<PacketView<'_>>
         ensures { WhereStands self.now (λ packets bytes.
             MatchOption result (slice_get packets number ≡ None) (λ l. (p : on_paper.Packet) × (slice_get packets number ≡ Some p) × IsPacketView l p)) }
@@ -87,7 +88,7 @@ impl Network {
         }
     }
 
-    /// A datagram with its bytes: none where they are not there.
+    /// Returns a datagram with its bytes, or `None` if the bytes are missing.
     fn read(&self, packet: PacketEntry) -> Option<PacketView<'_>>
         ensures { (p : on_paper.Packet) → IsPacket self.now.spelling packet p → MatchOption result ⊥ (λ l. IsPacketView l p) }
     {
@@ -102,7 +103,7 @@ impl Network {
         })
     }
 
-    /// The datagram with this number was delivered or lost.
+    /// Returns whether the datagram with this number was delivered or lost.
     #[tactic(auto, unfolding(crate::specs::Packets::is_used_at))]
     pub fn is_used(&self, number: u64) -> bool
         ensures { WhereStands self.now (λ packets bytes. result ≡ is_used_at packets number) }
@@ -113,7 +114,7 @@ impl Network {
         }
     }
 
-    /// The receiver of the datagram with this number.
+    /// Returns the receiver of the datagram with this number, or `None` if it was not sent.
     #[tactic(auto, unfolding(crate::specs::Packets::receiver_of))]
     pub fn receiver(&self, number: u64) -> Option<u32>
         ensures { WhereStands self.now (λ packets bytes. result ≡ receiver_of packets number) }
@@ -124,7 +125,7 @@ impl Network {
         }
     }
 
-    /// The receiver of the datagram with this number, 0 where there is none.
+    /// Returns the receiver of the datagram with this number, or 0 if it was not sent.
     #[tactic(auto, unfolding(crate::specs::Packets::receiver_or))]
     pub fn receiver_or(&self, number: u64) -> u32
         ensures { WhereStands self.now (λ packets bytes. result ≡ receiver_or packets number) }
@@ -135,7 +136,7 @@ impl Network {
         }
     }
 
-    /// The datagram with this number is used from now on.
+    /// Marks the datagram with this number as used.
     pub fn use_up(&mut self, number: u64)
         ensures { WhereStands self.old (λ packets bytes. NetworkStands self.new (used_up number packets) bytes) }
     {
@@ -147,11 +148,11 @@ impl Network {
         }
     }
 
-    /// So many bytes more are kept on a disk.
+    /// Adds `size` bytes of log bodies to the world's size. `NoMemory` if the sum exceeds 2^64 - 1.
     pub fn keep(&mut self, size: u64) -> Result<(), NoMemory>
         ensures { OnOk result (WhereStands self.old (λ packets bytes. NetworkStands self.new packets (bytes + size))) }
     {
-        // All of them are in memory, so that the sum stays in its range.
+        // All these bytes are in memory, so that the sum does not overflow.
         self.bytes = self.bytes.checked_add(size).ok_or(never())?;
         Ok(())
     }

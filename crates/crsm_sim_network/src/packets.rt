@@ -1,19 +1,19 @@
-//! A datagram on its way.
+//! The datagrams between replicas.
 
-/// A datagram that was sent between replicas. Its bytes stand among those of all.
+/// A datagram between replicas. Its bytes are a range of the bytes of all.
 #[derive(Clone, Copy)]
 pub(crate) struct PacketEntry {
     pub from: u32,
     pub to: u32,
-    /// Where its bytes begin.
+    /// Offset of its first byte.
     pub start: usize,
-    /// Where they end.
+    /// Offset after its last byte.
     pub end: usize,
-    /// It was delivered or lost.
+    /// Whether it was delivered or lost.
     pub is_used: bool,
 }
 
-/// A datagram that was sent between replicas, as bytes.
+/// A view of a datagram between replicas, with its bytes.
 #[derive(Clone, Copy)]
 pub struct PacketView<'a> {
     pub from: u32,

@@ -6,13 +6,13 @@ ghost use Rattle.crsm_sim_network.specs.Packets.{Receives};
 
 use crate::CLASSES;
 
-/// Receivers from this number on are one class, fresh or used.
+/// Receivers from this number on share one class, fresh or used.
 const OTHERS: u32 = 15;
 
-/// Where the classes of used datagrams begin.
+/// The first class of used datagrams.
 const USED: u8 = 16;
 
-/// The class of a datagram for this receiver.
+/// Returns the class of a datagram to this receiver.
 #[tactic(auto, unfolding(crate::specs::Packets::class_of))]
 pub(crate) fn class_of(to: u32, is_used: bool) -> u8
     ensures class { result ≡ on_paper.class_of to is_used }
@@ -22,17 +22,17 @@ pub(crate) fn class_of(to: u32, is_used: bool) -> u8
     if is_used { class + USED } else { class }
 }
 
-/// A set of receivers.
+/// A set of receivers, as sets of classes.
 #[derive(Clone, Copy)]
 pub struct Receivers {
-    /// The classes of fresh datagrams for them.
+    /// The classes of fresh datagrams to these receivers.
     fresh: [bool; CLASSES],
-    /// The classes of used ones.
+    /// The classes of used datagrams to these receivers.
     used: [bool; CLASSES],
 }
 
 impl Receivers {
-    /// None.
+    /// Returns the empty set.
     pub fn none() -> Receivers
         ensures { Receives result (λ k. false) }
     {
@@ -42,7 +42,7 @@ impl Receivers {
         }
     }
 
-    /// Each.
+    /// Returns the set of all receivers.
     pub fn any() -> Receivers
         ensures { Receives result (λ k. true) }
     {
@@ -53,7 +53,7 @@ impl Receivers {
         any
     }
 
-    /// Those of another class.
+    /// Adds the receivers of a class.
     fn add_class(&mut self, class: usize)
         requires { class < 16 }
         ensures { (test : ℕ → Bool) → Receives self.old test → Receives self.new (λ j. test j || min j 15 == class) }
@@ -62,7 +62,7 @@ impl Receivers {
         self.used[class + CLASSES / 2] = true;
     }
 
-    /// Another one.
+    /// Adds receiver `k`.
     pub fn add(&mut self, k: u32)
         requires { k < 15 }
         ensures { (test : ℕ → Bool) → Receives self.old test → Receives self.new (λ j. test j || j == k) }
@@ -70,7 +70,7 @@ impl Receivers {
         self.add_class(k as usize);
     }
 
-    /// For each class, whether it is that of used or fresh datagrams for these receivers.
+    /// Returns for each class whether it is that of used, or of fresh, datagrams to these receivers.
     pub(crate) fn wanted(&self, is_used: bool) -> &[bool]
         ensures { result.now ≡ on_paper.wanted self.now is_used }
     {

@@ -1,4 +1,4 @@
-//! What leaves a replica.
+//! The datagrams that leave a replica.
 
 ghost use Rattle.std.specs.Prelude.{◌≡◌, ◌≤◌, ◌+◌, ◌++◌, ◌∷◌, [], ℕ, List, length, map, IfOk, OnOk};
 ghost use Rattle.std.specs.List.{AllByRecursion};
@@ -16,7 +16,7 @@ use crsm_port::SentPackets;
 use std::alloc::Global;
 
 impl Network {
-    /// A datagram, of these bytes, leaves replica `k`, and its line is printed.
+    /// Records a datagram with these bytes from replica `k`, and appends its line.
     fn send(
         &mut self,
         k: u32,
@@ -56,7 +56,7 @@ impl Network {
         Ok(())
     }
 
-    /// Something that a step sends, of these bytes, leaves replica `k`. A reply is no packet.
+    /// Records one output of a step, with these bytes, from replica `k`. A reply is not a packet.
     fn send_one(
         &mut self,
         k: u32,
@@ -79,8 +79,8 @@ impl Network {
         }
     }
 
-    /// What a step sends leaves replica `k` in its order, and the lines of the packets are printed. A port has sent it: from
-    /// `first` on, the bytes are those of the port.
+    /// Records the output of a step of replica `k` in order, and appends the lines of its packets. A port has sent it:
+    /// the bytes are those of the port from index `first` on. `NoMemory` if memory runs out.
     pub fn send_all(
         &mut self,
         k: u32,
@@ -109,15 +109,15 @@ impl Network {
     }
 }
 
-/// The place behind this one.
+/// Returns the next index.
 fn behind(place: usize) -> Result<usize, NoMemory>
     ensures { IfOk result (λ next. next ≡ place + 1) }
 {
-    // Whatever has a place is in memory.
+    // Whatever has an index is in memory.
     place.checked_add(1).ok_or(never())
 }
 
-/// The kind of a datagram between replicas.
+/// Returns the kind of a datagram between replicas.
 #[tactic(auto, unfolding(crsm_spec::specs::World::kind_of))]
 fn kind_of(datagram: &Datagram) -> SendKind
     ensures { result ≡ on_paper.kind_of datagram.now }
@@ -129,7 +129,7 @@ fn kind_of(datagram: &Datagram) -> SendKind
     }
 }
 
-/// How many datagrams to replicas this is: one or none.
+/// Returns the number of datagrams to replicas in this output: 1 or 0.
 #[tactic(auto, unfolding(crate::specs::Packets::sent_to, crate::specs::Packets::to_packets))]
 fn packets_of(send: &Send) -> usize
     ensures count { result ≡ length (sent_to send.now) }
@@ -141,7 +141,7 @@ fn packets_of(send: &Send) -> usize
     }
 }
 
-/// How many of these are datagrams to replicas.
+/// Returns the number of datagrams to replicas among these.
 pub fn packets_in(sends: &[Send]) -> usize
     ensures count { result ≡ length (sent_of sends.now) }
     ensures most { result ≤ length sends.now }

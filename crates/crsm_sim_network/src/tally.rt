@@ -1,4 +1,4 @@
-//! The list and its counts.
+//! A list of classes with its counts.
 
 ghost use Rattle.std.specs.Prelude.{◌≡◌, ◌<◌, [], ◌∷◌, ◌++◌, OnOk, drop, slice_set};
 ghost use Rattle.std.specs.List.{count_by};
@@ -10,20 +10,20 @@ use crate::counts::{Counts, is_among};
 use crsm_base::{NoMemory, never};
 use std::alloc::Global;
 
-/// Classes are numbers below this.
+/// Exclusive upper bound of a class.
 pub const CLASSES: usize = 32;
 
-/// So many stand in a block.
+/// Number of elements in a block.
 const BLOCK: usize = 64;
 
-/// So many blocks are a group, and so many groups a span.
+/// Number of blocks in a group, and of groups in a span.
 const FAN: usize = 16;
 
 const GROUP: usize = 1_024;
 
 const SPAN: usize = 16_384;
 
-/// A list of classes.
+/// A list of classes that counts its elements by class.
 #[derive(Drop)]
 pub struct Tally {
     classes: Vec<u8>,
@@ -34,7 +34,7 @@ pub struct Tally {
 }
 
 impl Tally {
-    /// An empty list.
+    /// Returns the empty list.
     pub fn new(alloc: Global) -> Tally
         ensures { TallyStands result [] }
     {
@@ -47,7 +47,7 @@ impl Tally {
         }
     }
 
-    /// One more, behind the others.
+    /// Appends an element of this class. `NoMemory` if memory runs out.
     pub fn push(&mut self, class: u8) -> Result<(), NoMemory>
         requires { class < 32 }
         ensures { OnOk result (WhereTally self.old (λ xs. TallyStands self.new (xs ++ class ∷ []))) }
@@ -61,7 +61,7 @@ impl Tally {
         Ok(())
     }
 
-    /// The one at this place is of another class from now on.
+    /// Sets the class of the element at index `place`.
     pub fn set(&mut self, place: usize, class: u8)
         requires { class < 32 }
         ensures { WhereTally self.old (λ xs. TallyStands self.new (slice_set xs place class)) }
@@ -78,14 +78,14 @@ impl Tally {
         }
     }
 
-    /// How many are of the classes that are wanted. The list says it of each class.
+    /// Returns the number of elements of the wanted classes; `wanted` says it of each.
     pub fn count(&self, wanted: &[bool]) -> u64
         ensures { WhereTally self.now (λ xs. result ≡ count_by (is_wanted wanted.now) xs) }
     {
         self.all.count(wanted)
     }
 
-    /// The place of the one that has `j` before it, all of classes that are wanted.
+    /// Returns the index of the `j`-th element of the wanted classes, `j` from 0.
     pub fn nth(&self, j: u64, wanted: &[bool]) -> usize
         ensures { WhereTally self.now (λ xs. j < count_by (is_wanted wanted.now) xs → IsNth (is_wanted wanted.now) xs j result) }
     {
@@ -97,7 +97,7 @@ impl Tally {
     }
 }
 
-/// The place of the `j`-th of the classes that are wanted, counted from `first` on.
+/// Returns the index of the `j`-th element of the wanted classes from index `first` on.
 fn walk(classes: &[u8], first: usize, wanted: &[bool], j: u64) -> usize
     ensures { j < count_by (is_wanted wanted.now) (drop first classes.now) → IsFrom (is_wanted wanted.now) classes.now first j result }
 {

@@ -32,7 +32,7 @@ pub data Act : Type 0 where
   -- datagrams are delivered, their batches kept together
   Batch : (reading : ℕ) (numbers : List ℕ) → Act
   CutLostBatch : (reading : ℕ) (numbers : List ℕ) → Act
-  -- the step stops after this many device calls of its log write; the byte `fill` stands where nothing was synced
+  -- the step stops after this many device calls of its log write; bytes that were not synced read as `fill`
   CutAt : (calls fill : ℕ) → Single → Act
 
 -- The reason why an act is not possible.
@@ -48,7 +48,7 @@ pub data Bad : Type 0 where
   TooFew : Bad
   Forged : Bad
 
--- ---- what a line can spell
+-- ---- the acts that a line can express
 
 -- a 64-bit number
 abbrev pub IsU64 : ℕ → Type 0

@@ -71,7 +71,7 @@ pub record IsCalmReading (members : List ℕ) (w : World) (reading : ℕ) : Type
   pub above : (k t : ℕ) (r : Replica) → Contains members k → IsUpAs w k r → Contains r.issued t → t + 10 ≤ reading
   pub below : reading ≤ u64_max - 100000
 
--- ---- what they lead to
+-- ---- the results of calm rounds
 
 -- After these acts replica k has executed the entry of a waiting client and has sent it the entry's place and the
 -- store's answer there.

@@ -50,7 +50,7 @@ own_page me log =
       entries = frozen log (last_stamp log);
     }
 
--- ---- what came of one replica
+-- ---- pages of one replica
 
 -- the pages of replica k
 unfoldable pub pages_of : List LogPage → ℕ → List LogPage
@@ -68,7 +68,7 @@ cursor pages k = option_map (λ e. e.stamp) (last_of (flat_map (λ p. p.entries)
 unfoldable pub whole_ones : List ℕ → List LogPage → List ℕ
 whole_ones spec pages = filter (is_whole pages) spec
 
--- ---- what the reports together say
+-- ---- the decision of complete reports
 
 -- the entries of the reports, by ascending replica
 unfoldable pub all_entries : List ℕ → List LogPage → List Entry

@@ -10,7 +10,7 @@ use Rattle.crsm_spec.specs.World.{World, log_of, log_at}
 use Rattle.crsm_spec.specs.Acts.{Act}
 use Rattle.crsm_spec.specs.Run.{last_world, the_list}
 
--- ---- what is kept
+-- ---- recorded decisions
 
 -- the decisions of a log, the newest first
 unfoldable pub decisions : Log → List Decision
@@ -31,7 +31,7 @@ decision_of w e = find (λ d. d.epoch == e) (decisions_in w)
 unfoldable pub spec_at : World → ℕ → List ℕ
 spec_at w e = spec_decided w.n (decision_of w e)
 
--- ---- what was chosen
+-- ---- chosen decisions
 
 -- k accepted d in this ballot, as the decision after epoch e, and has executed d's base
 pub record HasAccepted (w : World) (e : ℕ) (ballot : Ballot) (d : Decision) (k : ℕ) : Type 0 where

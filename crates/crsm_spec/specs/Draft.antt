@@ -1,4 +1,4 @@
--- Drafts: a step in progress, with the replica's state and what the step has recorded, sent and reported so far.
+-- Drafts: a step in progress, with the replica's state and what the step has recorded, sent and reported.
 use Rattle.std.specs.Prelude.{ℕ, ◌+◌, Bool, true, ◌==◌, ◌&&◌, List, [], ◌∷◌, ◌++◌, length, map, fold, Option}
 use Rattle.std.specs.List.{enumerate_from}
 use Rattle.std.specs.Option.{option_map_or}

@@ -80,7 +80,7 @@ on_ack k e next x =
     then record x { replica = record r { acked = (k, next) ∷ r.acked } }
     otherwise x
 
--- ---- owed PREPAREOKs
+-- ---- pending PREPAREOKs
 
 -- issues a time, and pushes the PREPAREOK with it
 unfoldable pub pay : Stamp → ℕ → Draft → Draft

@@ -68,7 +68,7 @@ fresh me n log =
       waiting = [];
     }
 
--- ---- who is counted
+-- ---- members and replica sets
 
 -- the members of its known epoch
 unfoldable pub members_of : Replica → List ℕ

@@ -75,7 +75,7 @@ packets_size sends = sum_by (λ s. length (datagram_bytes s.1)) sends
 unfoldable pub is_full : World → Bool
 is_full w = nat_le most_world w.bytes
 
--- ---- what a step leaves in the world
+-- ---- the effect of a step on the world
 
 -- the kind of a datagram between replicas
 unfoldable pub kind_of : Datagram → SendKind
@@ -109,7 +109,7 @@ after_step w k x site sends replies =
       lines = ((x.lines ++ x.excess) ++ send_lines k (length w.packets) sends) ++ map (λ a. a.line) replies;
     }
 
--- How a step of a replica ends in the world.
+-- The ending of a replica's step in the world.
 abbrev pub Ending : Type 0
 Ending = World → ℕ → Draft → Moment
 

@@ -23,7 +23,7 @@ reading plan k moment = moment + offset_of plan k
 unfoldable pub stamped : Plan → ℕ
 stamped plan = reading plan plan.origin plan.at
 
--- ---- when it commits
+-- ---- the moment of the commit
 
 -- the replicas other than the origin
 unfoldable pub others : Plan → List ℕ

@@ -18,7 +18,7 @@ pub record Timed : Type 0 where
 unfoldable pub acts_of : List Timed → List Act
 acts_of es = map (λ e. Act.One e.does) es
 
--- ---- what was sent
+-- ---- datagrams sent
 
 -- a datagram, and the moment at which it was sent
 pub record Sent : Type 0 where
@@ -36,7 +36,7 @@ sent_from w (e ∷ es) =
 unfoldable pub sent : Plan → List Timed → List Sent
 sent plan es = sent_from (begin plan.n) es
 
--- ---- what has to happen
+-- ---- events that are due
 
 -- the command of a plan: client 7 puts a value, as its command 1
 unfoldable pub the_command : Command
@@ -94,7 +94,7 @@ pub record IsTimeline (plan : Plan) (es : List Timed) : Type 0 where
   pub complete : (e : Timed) → IsDue plan es e → Among es e
   pub ordered : InOrder es
 
--- ---- when replicas execute
+-- ---- executions
 
 -- whether the line is the execution of an entry at replica i
 unfoldable pub is_exec : ℕ → Line → Bool

@@ -37,6 +37,7 @@ impl Model for Offsets {
 }
 
 impl Offsets {
+    /// Returns an empty list that allocates from `alloc`.
     pub fn new(alloc: Global) -> Offsets
         ensures { result ≡ [] }
     {
@@ -45,6 +46,7 @@ impl Offsets {
         }
     }
 
+    /// Appends an item. `NoMemory` if memory runs out; the list is then unchanged.
     pub fn push(&mut self, item: Offset) -> Result<(), NoMemory>
         ensures ok { OnOk result (self.new ≡ self.old ++ item ∷ []) }
         ensures err { OnErr result (self.new ≡ self.old) }
@@ -53,6 +55,7 @@ impl Offsets {
         Ok(())
     }
 
+    /// Returns the items in order.
     pub fn as_slice(&self) -> &[Offset]
         ensures { result.now ≡ self.now }
     {
@@ -76,6 +79,7 @@ impl Model for Delays {
 }
 
 impl Delays {
+    /// Returns an empty list that allocates from `alloc`.
     pub fn new(alloc: Global) -> Delays
         ensures { result ≡ [] }
     {
@@ -84,6 +88,7 @@ impl Delays {
         }
     }
 
+    /// Appends an item. `NoMemory` if memory runs out; the list is then unchanged.
     pub fn push(&mut self, item: Delay) -> Result<(), NoMemory>
         ensures ok { OnOk result (self.new ≡ self.old ++ item ∷ []) }
         ensures err { OnErr result (self.new ≡ self.old) }
@@ -92,6 +97,7 @@ impl Delays {
         Ok(())
     }
 
+    /// Returns the items in order.
     pub fn as_slice(&self) -> &[Delay]
         ensures { result.now ≡ self.now }
     {
@@ -106,6 +112,8 @@ pub struct Plan {
     pub n: u64,
     pub offsets: Offsets,
     pub delays: Delays,
+    /// The replica that the command reaches.
     pub origin: u64,
+    /// The moment at which it does, in microseconds of real time from an arbitrary zero.
     pub at: u64,
 }

@@ -1,4 +1,4 @@
--- What a collection answers is what the definitions say of its pages.
+-- The outcomes of a collection are those of the definitions for its pages.
 use Rattle.std.proofs.Common.{◌≡◌, ◌∙◌, ℕ, zero, suc, ◌+◌, ◌<◌, ◌≤◌, Bool, true, false, cond, refl, sym, ap, subst, List, [], ◌∷◌, ◌++◌, length, get_or, Option, Some, None, inl, inr, arith}
 use Rattle.std.specs.Prelude.{◌==◌, ◌&&◌, ◌||◌, not, nat_lt, nat_le, filter, count_by, IsTrue, Contains, ◌↔◌}
 use Rattle.std.specs.List.{list_all, AllByRecursion}

@@ -50,7 +50,7 @@ run_none : (room : ℕ) → run_within room [] ≡ []
 unfolding run_within
 run_none room = refl
 
--- A page so far, the room that is left and what is not yet looked at make the page of all the entries.
+-- A page in progress, the room that is left and the entries still to come make the page of all the entries.
 pub record IsPaging (page : List Entry) (room : ℕ) (rest all : List Entry) : Type 0 where
   pub run : page ++ run_within room rest ≡ first_page all
   pub long : length page + length rest ≡ length all

@@ -1,4 +1,4 @@
--- What is kept of the pages of each replica.
+-- The reports of replicas, by their pages.
 use Rattle.std.proofs.Common.{◌≡◌, ◌∙◌, ◌-◌, refl, ap, List, [], ◌∷◌, length, arith}
 use Rattle.std.specs.Prelude.{Some, slice_get}
 use Rattle.std.specs.List.{last_or}

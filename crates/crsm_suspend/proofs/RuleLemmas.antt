@@ -1,4 +1,4 @@
--- What is got of pages is what the rules of the protocol make of them.
+-- Acting on the outcomes of pages follows the rules of the protocol.
 use Rattle.std.proofs.Common.{◌≡◌, ◌∙◌, ℕ, Bool, true, false, refl, ap, List, [], ◌∷◌, ◌++◌, Option, Some}
 use Rattle.std.specs.Prelude.{◌&&◌, not}
 use Rattle.crsm_spec.specs.Types.{Stamp, Decision, Control}

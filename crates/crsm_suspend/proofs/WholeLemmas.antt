@@ -1,4 +1,4 @@
--- What the whole reports say together, replica by replica.
+-- The joint content of the whole reports, replica by replica.
 use Rattle.std.proofs.Common.{◌≡◌, ◌∙◌, ℕ, ◌+◌, ◌<◌, ◌≤◌, Bool, true, false, cond, refl, sym, ap, List, [], ◌∷◌, ◌++◌, length, map, take, drop, get_or, Option, Some, None, max, arith}
 use Rattle.std.specs.Prelude.{◌==◌, filter, flat_map, fold}
 use Rattle.std.specs.Option.{option_map_or}

@@ -1,4 +1,4 @@
--- What a collection stands for, and what a page brings.
+-- The relation of a collection to the pages received, and the outcome of a page.
 use Rattle.std.specs.Prelude.{◌≡◌, ℕ, ◌+◌, ◌≤◌, Bool, not, ◌&&◌, List, [], ◌∷◌, ◌++◌, length, Option, None, Some}
 use Rattle.std.specs.List.{AllByRecursion}
 use Rattle.crsm_base.specs.Spelling.{FitsEntry, FitsDecision}
@@ -25,8 +25,9 @@ pub record CanSend (epoch : ℕ) (p : LogPage) : Type 0 where
   pub fit : AllByRecursion FitsEntry p.entries
   pub of_epoch : AllByRecursion (λ e. e.epoch ≡ epoch) p.entries
 
--- The collection of a replica with this log has these pages, in the order in which they came. It is counted over the Spec,
--- and is to name the next Spec so, with these members. Of the log it knows the epoch and its start alone.
+-- The collection of a replica with this log has these pages, in the order of their arrival. `spec` are the replicas
+-- whose majority completes it; its decision names the counted replicas of the next epoch as `named`, and these members.
+-- Of the log it uses only the epoch and its start.
 pub record CollectStands (log : Log) (spec : List ℕ) (named : Option (List ℕ)) (members : List ℕ) (pages : List LogPage) (c : Collect) : Type 0 where
   pub epoch : c.epoch ≡ known log
   pub next : c.next ≡ known log + 1
@@ -60,7 +61,7 @@ abbrev pub got_more : ℕ → Option Stamp → PageOutcome
 got_more k None = Stranger
 got_more k (Some after) = More k after
 
--- what a page brings that was asked for; it is the last of these
+-- the outcome of the page just added, which was asked for and is the last of these
 unfoldable pub got_page : Log → List ℕ → Option (List ℕ) → List ℕ → List LogPage → LogPage → PageOutcome
 got_page log spec named members pages p =
     when p.whole then got_whole log spec named members pages otherwise got_more p.from (cursor pages p.from)
@@ -69,7 +70,7 @@ got_page log spec named members pages p =
 abbrev pub page_in : ℕ → ℕ → Option Stamp → Bool → List Entry → LogPage
 page_in k executed last whole es = record { from = k; executed = executed; last = last; whole = whole; entries = es }
 
--- what a message from replica k brings
+-- the outcome of a message from replica k
 abbrev pub got_of : Log → List ℕ → Option (List ℕ) → List ℕ → List LogPage → ℕ → Control → PageOutcome
 got_of log spec named members pages k (SuspendOk e executed last after whole es) =
     let p = page_in k executed last whole es in
@@ -83,7 +84,7 @@ pages_after log spec pages k (SuspendOk e executed last after whole es) =
     when is_asked log spec pages e after p then pages ++ p ∷ [] otherwise pages
 pages_after log spec pages k _ = pages
 
--- what the pages bring of which the last is of replica k
+-- the outcome of these pages, the last one from replica k
 unfoldable pub got_from : Log → List ℕ → Option (List ℕ) → List ℕ → List LogPage → ℕ → PageOutcome
 got_from log spec named members pages k =
     when is_whole pages k then got_whole log spec named members pages otherwise got_more k (cursor pages k)

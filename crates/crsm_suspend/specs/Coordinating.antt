@@ -1,4 +1,4 @@
--- What a replica does by what it got.
+-- The replica's steps on the outcome of a page.
 use Rattle.std.specs.Prelude.{◌≡◌, ℕ, Bool, List, [], ◌∷◌, ◌++◌, Option, Some}
 use Rattle.crsm_spec.specs.Types.{Stamp, Entry, Control, Line}
 use Rattle.crsm_spec.specs.Log.{known, no_ballot}
@@ -10,8 +10,8 @@ use Rattle.crsm_suspend.specs.Collecting.{got_of, got_whole, pages_after}
 use Rattle.crsm_suspend.specs.declared.got.PageOutcome.{PageOutcome}
 use Rattle.crsm_suspend.specs.declared.got.PageOutcome.TheVariants.{Stranger, More, Kept, Complete, TooMany}
 
--- While it collects for these members, with these pages: it asks on, waits, begins to propose the decision, or gives it up
--- with a line that tells why.
+-- The step of a replica that collects for these members, with these pages: it asks for the next page, waits, begins to
+-- propose the decision, or gives the collection up with a line that says why.
 unfoldable pub on_got : List ℕ → List LogPage → PageOutcome → Draft → Draft
 on_got ms pages Stranger x = x
 on_got ms pages (More k after) x = send_control (Control.Suspend (known x.replica.log) (Some after)) (noting (Coordinator.Collecting ms pages) x) k
@@ -31,7 +31,7 @@ PagesAreTaken =
     let spec = spec_of x.replica in
     on_control k answer x ≡ on_got ms (pages_after log spec pages k answer) (got_of log spec (named_spec x.replica ms) ms pages k answer) x
 
--- .. and the rule of pages of which the last makes a report whole.
+-- .. and the rule for pages whose last one makes a report whole.
 abbrev pub ReportsAreCounted : Type 0
 ReportsAreCounted =
     (ms : List ℕ) (pages : List LogPage) (x : Draft) →

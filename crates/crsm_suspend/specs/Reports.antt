@@ -1,4 +1,4 @@
--- What is kept of the pages of each replica.
+-- The reports of replicas, by their pages.
 use Rattle.std.specs.Prelude.{◌≡◌, ℕ, ◌<◌, Bool, ◌==◌, ◌||◌, if◌then◌else◌, List, [], ◌∷◌, ◌++◌, length, map, flat_map, Option, None, Some, option_map, slice_index_or}
 use Rattle.std.specs.List.{list_any}
 use Rattle.std.specs.Option.{option_map_or}
@@ -10,8 +10,8 @@ use Rattle.crsm_suspend.specs.declared.report.ReportHead.{ReportHead}
 use Rattle.crsm_suspend.specs.declared.report.Page.{Page}
 use Rattle.crsm_suspend.specs.declared.report.Report.{Report}
 
--- what a replica's pages say together: the executed length and the last stamp of the first, the stamp of the last entry,
--- and whether one is the last page
+-- the heading of a replica's report: the executed length and the last stamp of the first page, the stamp of the last
+-- entry, and whether one is the last page
 unfoldable pub head_of : List LogPage → ReportHead
 head_of pages =
     record {
@@ -21,7 +21,7 @@ head_of pages =
       is_whole = list_any (λ p. p.whole) pages;
     }
 
--- what is kept of replica k
+-- the report of replica k
 unfoldable pub report_of : List LogPage → ℕ → Report
 report_of pages k = record { head = head_of (pages_of pages k); pages = map (λ p. p.entries) (pages_of pages k) }
 
@@ -33,7 +33,7 @@ page_from k p = record { from = k; executed = p.executed; last = p.last; whole =
 unfoldable pub last_stamp_or : Option Stamp → List Entry → Option Stamp
 last_stamp_or stamp es = option_map_or (λ e. Some e.stamp) (last_of es) stamp
 
--- what is said with a further page, or the first one
+-- the heading after a further page, or the first one
 abbrev pub head_with : Bool → ReportHead → Page → ReportHead
 head_with is_first h p =
     record {

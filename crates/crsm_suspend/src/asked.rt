@@ -1,4 +1,4 @@
-//! Which pages are asked for.
+//! The pages of frozen logs: a replica's own, and which page of another is expected.
 
 ghost use Rattle.std.specs.Prelude.{◌≡◌, ℕ, List, IfOk};
 ghost use Rattle.std.specs.Option.{option_eq};
@@ -18,10 +18,10 @@ use crsm_base::{Entries, Entry, NoMemory, Stamp, never};
 use crsm_ledger::Ledger;
 use std::alloc::Global;
 
-/// The greatest executed length of a page: the tail and the numbers behind it stay below the greatest number.
+/// Greatest executed length of a page, in entries: that plus a tail stays below 2^64.
 const MOST_EXECUTED: u64 = u64::MAX - 4_096;
 
-/// The replica's own frozen log in one page. No memory holds more executed entries than a page may name.
+/// Returns the replica's own frozen log as one page. `NoMemory` if memory runs out.
 pub fn own_page(alloc: Global, ledger: &Ledger) -> Result<Page, NoMemory>
     ensures page { (me n : ℕ) (log : List Rec) → LedgerStands me n ledger.now log → IfOk result (λ p. page_from me p ≡ own_page me log) }
     ensures told { (me n : ℕ) (log : List Rec) → LedgerStands me n ledger.now log → IfOk result (λ p. CanSend (known log) (page_from me p)) }
@@ -40,7 +40,7 @@ pub fn own_page(alloc: Global, ledger: &Ledger) -> Result<Page, NoMemory>
     })
 }
 
-/// Copies of those of the entries that are above a stamp.
+/// Returns copies of the entries above a stamp, of all entries at `None`. `NoMemory` if memory runs out.
 fn copies_above(alloc: Global, floor: Option<Stamp>, entries: &[Entry]) -> Result<Entries, NoMemory>
     ensures { IfOk result (λ copies. copies ≡ above floor entries.now) }
 {
@@ -54,7 +54,8 @@ fn copies_above(alloc: Global, floor: Option<Stamp>, entries: &[Entry]) -> Resul
     Ok(copies)
 }
 
-/// Whether a replica of the known epoch may send this page where it was asked from this stamp on.
+/// Returns whether the page is the expected next one: of the known epoch and asked for from `cursor` on, with entries
+/// above it only, at least one unless it is the last page.
 pub fn is_page(
     known: u64,
     cursor: Option<Stamp>,
@@ -78,7 +79,7 @@ fn is_same(after: Option<Stamp>, cursor: Option<Stamp>) -> bool
     after == cursor
 }
 
-/// Whether the entries are of the epoch and above the stamp.
+/// Returns whether the entries are of the epoch and above the stamp.
 #[tactic(auto, unfolding(crsm_spec::specs::Controls::are_above, crate::specs::Pages::is_over))]
 fn are_above(epoch: u64, floor: Option<Stamp>, entries: &[Entry]) -> bool
     ensures { result ≡ are_above epoch floor entries.now }

@@ -1,11 +1,11 @@
-//! Which stamps are above another.
+//! The test whether a stamp is above another.
 
 ghost use Rattle.std.specs.Prelude.{◌≡◌};
 ghost use Rattle.crsm_suspend.specs.Pages.{is_over};
 
 use crsm_base::{Stamp, stamp_precedes};
 
-/// Whether a stamp is above the other one, if there is one.
+/// Returns whether `stamp` is above `floor`; above `None` each stamp is.
 pub fn is_above(floor: Option<Stamp>, stamp: Stamp) -> bool
     ensures { result ≡ is_over floor stamp }
 {

@@ -1,4 +1,4 @@
-//! The collection of the reports of a majority.
+//! The collection of frozen logs from a majority.
 
 ghost use Rattle.std.specs.Prelude.{◌≡◌, ◌<◌, ◌≤◌, [], ◌∷◌, ◌++◌, List, Option, IfOk, OnOk, OnErr};
 ghost use Rattle.crsm_base.specs.Members.{IsMembers};
@@ -18,22 +18,22 @@ use crsm_base::{Control, Decision, Members, NoMemory, Stamp, majority};
 use crsm_ledger::Ledger;
 use std::alloc::Global;
 
-/// The reports of frozen logs that have come so far, page by page, until those of a majority are whole.
+/// The reports of frozen logs received from replicas, page by page, until those of a majority are whole.
 #[derive(Drop)]
 pub struct Collect {
     alloc: Global,
-    /// The epoch that is ended, and the one that is decided.
+    /// The epoch that ends. The decision is on the next one.
     epoch: u64,
     next: u64,
-    /// How many entries are executed where the epoch begins.
+    /// Number of entries that were executed when the epoch began.
     start: u64,
-    /// The replicas that are counted.
+    /// The replicas whose majority counts.
     spec: Members,
-    /// How the decision names the next Spec.
+    /// The replicas whose majorities count in the next epoch, as the decision names them.
     named: Option<Members>,
     /// The members of the next epoch.
     members: Members,
-    /// By the number of the replica.
+    /// By replica number.
     reports: [Report; 15],
 }
 
@@ -43,8 +43,8 @@ impl Collect {
     ghost use Rattle.crsm_spec.specs.Collect.{pages_of, cursor, is_whole, whole_ones};
     ghost use Rattle.crsm_spec.specs.Quorum.{has_majority};
 
-    /// A collection of epoch `epoch` to which nothing has come. The Spec of the epoch is counted; the decision
-    /// names the next one as given, with these members.
+    /// Returns a collection for epoch `epoch` without reports. A majority of `spec` completes it; the decision names
+    /// `named` as the next epoch's counted replicas and `members` as its members.
     pub fn start(
         alloc: Global,
         epoch: u64,
@@ -85,8 +85,8 @@ impl Collect {
         }
     }
 
-    /// Takes the replica's own frozen log, whole, and tells whether a majority is whole by it: `Kept`, `Complete` or
-    /// `TooMany`. An `Err` changes nothing.
+    /// Takes the replica's own frozen log, whole, and returns the outcome: `Kept`, `Complete` or `TooMany`. `NoMemory`
+    /// if memory runs out; nothing has changed then.
     pub fn take_own(&mut self, me: u32, ledger: &Ledger) -> Result<PageOutcome, NoMemory>
         requires { me < 15 }
         ensures got { WhereCollectingOver me ledger.now self.old (λ log spec named members pages. IfOk result (λ got. got ≡ got_whole log spec named members (pages ++ own_page me log ∷ []))) }
@@ -98,8 +98,9 @@ impl Collect {
         self.add(me, page)
     }
 
-    /// Takes a message of a replica: the page that was asked for of a replica of the Spec, or a stranger's. An `Err`
-    /// changes nothing; it comes also where the tail has more bytes than any memory.
+    /// Takes a message from replica `from` and returns the outcome: `Stranger`, with nothing changed, if it is not the
+    /// page that was asked for. `NoMemory` if memory runs out, or if the tail has more bytes than fit in memory;
+    /// nothing has changed then.
     pub fn take(&mut self, from: u32, answer: Control) -> Result<PageOutcome, NoMemory>
         requires from { from < 15 }
         requires fits { FitsControl answer }
@@ -131,7 +132,8 @@ impl Collect {
         self.add(from, page)
     }
 
-    /// The stamp of the last entry that came of replica k: its next page is asked for from there.
+    /// Returns the stamp of the last entry received from replica `k`, above which its next page is asked for, or `None`
+    /// if no entry was received.
     pub fn cursor(&self, k: u32) -> Option<Stamp>
         requires { k < 15 }
         ensures { WhereCollecting self.now (λ log spec named members pages. result ≡ cursor pages k) }
@@ -139,7 +141,7 @@ impl Collect {
         self.head(k).cursor
     }
 
-    /// Whether the last page of replica k has come.
+    /// Returns whether the last page of replica `k` was received.
     pub fn is_whole(&self, k: u32) -> bool
         requires { k < 15 }
         ensures { WhereCollecting self.now (λ log spec named members pages. result ≡ is_whole pages k) }
@@ -154,7 +156,7 @@ impl Collect {
         self.reports[k as usize].head
     }
 
-    /// Whether this page of a message was asked for.
+    /// Returns whether this page was asked for.
     fn is_asked(&self, from: u32, epoch: u64, after: Option<Stamp>, page: &Page) -> bool
         requires { from < 15 }
         ensures { WhereCollecting self.now (λ log spec named members pages. result ≡ is_asked log spec pages epoch after (page_from from page.now)) }
@@ -165,7 +167,7 @@ impl Collect {
         is_of_spec & (is_next & !head.is_whole)
     }
 
-    /// Adds a page, and tells what it brings. An `Err` changes nothing.
+    /// Adds a page and returns the outcome. `NoMemory` if memory runs out; nothing has changed then.
     fn add(&mut self, from: u32, page: Page) -> Result<PageOutcome, NoMemory>
         requires { from < 15 }
         ensures got { WhereCanSend self.old (page_from from page) (λ log spec named members pages. IfOk result (λ got. got ≡ got_from log spec named members (pages ++ page_from from page ∷ []) from)) }
@@ -183,7 +185,7 @@ impl Collect {
         got
     }
 
-    /// What the pages bring of which the last is this replica's.
+    /// Returns the outcome of the page just added for replica `from`.
     fn got(&self, from: u32) -> Result<PageOutcome, NoMemory>
         requires { from < 15 }
         ensures got { WhereCollecting self.now (λ log spec named members pages. IfOk result (λ got. got ≡ got_from log spec named members pages from)) }
@@ -199,7 +201,7 @@ impl Collect {
         decided(self.decision()?)
     }
 
-    /// Whether the replicas that are whole are a majority of the Spec.
+    /// Returns whether a majority of the counted replicas is whole.
     fn has_majority(&self) -> bool
         ensures { WhereCollecting self.now (λ log spec named members pages. result ≡ has_majority spec (whole_ones spec pages)) }
     {
@@ -207,7 +209,7 @@ impl Collect {
         least <= whole_count(&self.reports, self.spec.as_slice())
     }
 
-    /// The decision that the whole replicas make.
+    /// Returns the decision that the whole replicas lead to. `NoMemory` if memory runs out.
     fn decision(&self) -> Result<Decision, NoMemory>
         ensures value { WhereCollecting self.now (λ log spec named members pages. IfOk result (λ d. d ≡ collected spec named log members pages)) }
         ensures members { IfOk result (λ d. IsMembers d.members × FitsOption IsMembers d.spec) }

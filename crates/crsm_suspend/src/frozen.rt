@@ -1,4 +1,4 @@
-//! What a suspended replica answers.
+//! The answers of a suspended replica.
 
 ghost use Rattle.std.specs.Prelude.{◌≡◌, ◌==◌, ℕ, List, length, IfOk};
 ghost use Rattle.crsm_base.specs.declared.Rec.{Rec};
@@ -13,8 +13,8 @@ use crsm_base::{Control, Entries, Entry, MAX_PAGE_BYTES, NoMemory, Stamp};
 use crsm_ledger::Ledger;
 use std::alloc::Global;
 
-/// The answer to one who ends the known epoch: the first page of the logged entries above this stamp, or above the
-/// last executed one where there is none.
+/// Returns the answer to a replica that ends the known epoch: the first page of the logged entries above `after`, at
+/// `None` above the last executed entry. `NoMemory` if memory runs out.
 pub fn page_of(alloc: Global, ledger: &Ledger, after: Option<Stamp>) -> Result<Control, NoMemory>
     ensures { (me n : ℕ) (log : List Rec) → LedgerStands me n ledger.now log → IfOk result (λ answer. answer ≡ suspend_ok log after) }
 {
@@ -30,7 +30,7 @@ pub fn page_of(alloc: Global, ledger: &Ledger, after: Option<Stamp>) -> Result<C
     })
 }
 
-/// The stamp that was asked for, and the other one where none was.
+/// Returns `after`, or `last` if it is `None`.
 pub fn asked(after: Option<Stamp>, last: Option<Stamp>) -> Option<Stamp>
     ensures { result ≡ asked_stamp after last }
 {
@@ -40,7 +40,8 @@ pub fn asked(after: Option<Stamp>, last: Option<Stamp>) -> Option<Stamp>
     }
 }
 
-/// As many of the entries above the stamp as go into a page, and whether that is all of them.
+/// Returns as many of the entries above the stamp as fit in a page, and whether these are all. `NoMemory` if memory
+/// runs out.
 fn page_above(
     alloc: Global,
     floor: Option<Stamp>,

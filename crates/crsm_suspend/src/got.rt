@@ -1,4 +1,4 @@
-//! What a page brings to a collection.
+//! The outcome of adding a page to a collection.
 
 ghost use Rattle.std.specs.Prelude.{◌≡◌, IfOk};
 ghost use Rattle.crsm_suspend.specs.Collecting.{got_more, got_decided};
@@ -6,22 +6,22 @@ ghost use Rattle.crsm_suspend.specs.Collecting.{got_more, got_decided};
 use crate::sizes::total_size;
 use crsm_base::{Decision, MAX_TAIL_BYTES, MAX_TAIL_ENTRIES, NoMemory, Stamp};
 
-/// What a page brings.
+/// The outcome of adding a page to a collection.
 #[derive(Debug, Drop)]
 pub enum PageOutcome {
-    /// It is not a page that was asked for, and changes nothing.
+    /// The page was not asked for, and nothing has changed.
     Stranger,
-    /// It was taken and is not the last: the replica is to be asked for its entries above this stamp.
+    /// The page was added and is not the last: the replica's next entries, above this stamp, are to be asked for.
     More { from: u32, after: Stamp },
-    /// It was taken and is the last of its replica, and the replicas that are whole are no majority.
+    /// The page was added and is the last of its replica. No majority is whole yet.
     Kept,
-    /// It was taken and is the last of its replica. A majority is whole, and this is what it decides.
+    /// The page was added and is the last of its replica. A majority is whole and leads to this decision.
     Complete(Decision),
-    /// As `Complete`, but the tail passes a limit: how many entries it has, and how many bytes these take.
+    /// As `Complete`, but the decision's tail exceeds a limit: it has `count` entries of `bytes` bytes together.
     TooMany { count: u64, bytes: u64 },
 }
 
-/// What is asked of a replica whose last page has not come.
+/// Returns `More` for the entries above `cursor`, or `Stranger` without a cursor.
 pub fn more(from: u32, cursor: Option<Stamp>) -> PageOutcome
     ensures { result ≡ got_more from cursor }
 {
@@ -31,7 +31,8 @@ pub fn more(from: u32, cursor: Option<Stamp>) -> PageOutcome
     }
 }
 
-/// The decision, unless its tail passes a limit. Memory cannot hold entries whose bytes pass the greatest number.
+/// Returns `Complete` with the decision, or `TooMany` if its tail exceeds a limit. `NoMemory` if the tail's length in
+/// bytes exceeds 2^64 - 1.
 pub fn decided(decision: Decision) -> Result<PageOutcome, NoMemory>
     ensures { IfOk result (λ got. got ≡ got_decided decision) }
 {

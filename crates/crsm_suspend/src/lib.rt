@@ -1,4 +1,4 @@
-//! Suspension: what a replica that takes no more part in its epoch answers, page by page.
+//! Suspension: the answers of a replica that takes no further part in its epoch, and the collection of these answers.
 #![tactic(auto)]
 
 mod asked;

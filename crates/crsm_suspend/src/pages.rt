@@ -7,7 +7,7 @@ use crsm_base::{Entries, NoMemory};
 use std::alloc::Global;
 use std::marker::Model;
 
-/// The entries of pages, one list for each page.
+/// The entries of pages, one list per page.
 #[derive(Debug, Drop)]
 pub struct Pages {
     items: Vec<Entries>,
@@ -23,7 +23,7 @@ impl Model for Pages {
 }
 
 impl Pages {
-    /// No pages.
+    /// Returns the empty list.
     pub fn new(alloc: Global) -> Pages
         ensures { result ≡ [] }
     {
@@ -32,7 +32,7 @@ impl Pages {
         }
     }
 
-    /// Adds a page at the end. After `NoMemory` the list is as before.
+    /// Appends a page. `NoMemory` if memory runs out; the list is then unchanged.
     pub fn push(&mut self, page: Entries) -> Result<(), NoMemory>
         ensures ok { OnOk result (self.new ≡ self.old ++ page ∷ []) }
         ensures err { OnErr result (self.new ≡ self.old) }
@@ -41,7 +41,7 @@ impl Pages {
         Ok(())
     }
 
-    /// Drops the last page, where there is one.
+    /// Removes the last page, if there is one.
     #[tactic(auto, unfolding(crate::specs::Pages::without_last))]
     pub fn drop_last(&mut self)
         ensures { self.new ≡ without_last self.old }
@@ -49,7 +49,7 @@ impl Pages {
         self.items.pop();
     }
 
-    /// The pages in their order.
+    /// Returns the pages in order.
     pub fn as_slice(&self) -> &[Entries]
         ensures { result.now ≡ self.now }
     {

@@ -1,4 +1,4 @@
-//! What has come of one replica.
+//! The report of one replica on its frozen log.
 
 ghost use Rattle.std.specs.Prelude.{◌≡◌, ◌==◌, length, OnOk, OnErr};
 ghost use Rattle.crsm_suspend.specs.Pages.{without_last};
@@ -8,8 +8,8 @@ use crate::pages::Pages;
 use crsm_base::{Entries, Entry, NoMemory, Stamp};
 use std::alloc::Global;
 
-/// A page of a frozen log: its sender's executed length and the stamp of the last executed entry of the epoch, whether
-/// it is the last page, and its entries.
+/// A page of a frozen log: its sender's executed length in entries, the stamp of the last executed entry of the epoch,
+/// whether it is the last page, and its entries.
 #[derive(Debug, Drop)]
 pub struct Page {
     pub executed: u64,
@@ -18,19 +18,19 @@ pub struct Page {
     pub entries: Entries,
 }
 
-/// What the pages of a replica say beside their entries.
+/// The heading of a report: what its pages say besides their entries.
 #[derive(Clone, Copy, Debug)]
 pub struct ReportHead {
-    /// The executed length that the first page names, and the stamp of the last executed entry.
+    /// The executed length that the first page names, in entries, and the stamp of the last executed entry.
     pub executed: u64,
     pub last: Option<Stamp>,
-    /// The stamp of the last entry that came: the next page is asked for from there.
+    /// The stamp of the last entry received, above which the next page is asked for.
     pub cursor: Option<Stamp>,
-    /// The last page has come.
+    /// Whether the last page was received.
     pub is_whole: bool,
 }
 
-/// What has come of one replica.
+/// The pages received from one replica.
 #[derive(Debug, Drop)]
 pub struct Report {
     pub head: ReportHead,
@@ -40,7 +40,7 @@ pub struct Report {
 impl Report {
     ghost use Rattle.crsm_suspend.specs.Reports.{head_with, with_page, no_report};
 
-    /// Nothing has come.
+    /// Returns the report without pages.
     #[tactic(auto, unfolding(crate::specs::Reports::head_of, crsm_spec::specs::Lists::first_of, crsm_spec::specs::Lists::last_of))]
     pub fn new(alloc: Global) -> Report
         ensures { result ≡ no_report }
@@ -57,7 +57,7 @@ impl Report {
         }
     }
 
-    /// What is said with a further page.
+    /// Returns the heading after a further page.
     fn head_with(&self, page: &Page) -> ReportHead
         ensures { result ≡ head_with (length self.now.pages == 0) self.now.head page.now }
     {
@@ -75,7 +75,7 @@ impl Report {
         }
     }
 
-    /// Adds a page. An `Err` changes nothing.
+    /// Adds a page. `NoMemory` if memory runs out; nothing has changed then.
     pub fn push(&mut self, page: Page) -> Result<(), NoMemory>
         ensures ok { OnOk result (self.new ≡ with_page self.old page) }
         ensures err { OnErr result (self.new ≡ self.old) }
@@ -86,7 +86,7 @@ impl Report {
         Ok(())
     }
 
-    /// Takes the last page back, where this was said before it.
+    /// Removes the last page, and restores the heading from before it.
     pub fn take_back(&mut self, head: ReportHead)
         ensures head { self.new.head ≡ head }
         ensures pages { self.new.pages ≡ without_last self.old.pages }
@@ -96,7 +96,7 @@ impl Report {
     }
 }
 
-/// The stamp of the last entry, the other one where there is no entry.
+/// Returns the last entry's stamp, or `stamp` if the list is empty.
 #[tactic(auto, using(crate::proofs::ReportLemmas::last_is), unfolding(crate::specs::Reports::last_stamp_or))]
 fn last_stamp_or(stamp: Option<Stamp>, entries: &[Entry]) -> Option<Stamp>
     ensures { result ≡ last_stamp_or stamp entries.now }

@@ -1,4 +1,4 @@
-//! What the whole reports say together.
+//! The joint content of the whole reports.
 
 ghost use Rattle.std.specs.Prelude.{◌≡◌, ◌<◌, ◌≤◌, List, All, IfOk, length};
 ghost use Rattle.crsm_spec.specs.Replica.{LogPage};
@@ -11,7 +11,7 @@ use crate::union::Union;
 use crsm_base::{NoMemory, Stamp};
 use std::alloc::Global;
 
-/// How many replicas of the Spec are whole.
+/// Returns the number of counted replicas whose reports are whole.
 pub fn whole_count(reports: &[Report; 15], spec: &[u32]) -> usize
     requires { All (λ k. k < 15) spec.now }
     ensures { (pages : List LogPage) → ReportsStand reports.now pages → result ≡ length (whole_ones spec.now pages) }
@@ -27,7 +27,7 @@ pub fn whole_count(reports: &[Report; 15], spec: &[u32]) -> usize
     count
 }
 
-/// The greatest executed length of the whole replicas, at least this one.
+/// Returns the greatest executed length among whole reports of counted replicas, in entries, at least `start`.
 pub fn base_of(start: u64, reports: &[Report; 15], spec: &[u32]) -> u64
     requires { All (λ k. k < 15) spec.now }
     ensures { (pages : List LogPage) → ReportsStand reports.now pages →
@@ -44,7 +44,7 @@ pub fn base_of(start: u64, reports: &[Report; 15], spec: &[u32]) -> u64
     base
 }
 
-/// The last stamp of the first whole replica of this executed length.
+/// Returns the last executed stamp of the first whole replica with this executed length, or `None`.
 pub fn floor_of(base: u64, reports: &[Report; 15], spec: &[u32]) -> Option<Stamp>
     requires { All (λ k. k < 15) spec.now }
     ensures { (pages : List LogPage) → ReportsStand reports.now pages →
@@ -62,7 +62,7 @@ pub fn floor_of(base: u64, reports: &[Report; 15], spec: &[u32]) -> Option<Stamp
     None
 }
 
-/// The entries of the whole replicas above a stamp as a set.
+/// Returns the union of the whole replicas' entries above a stamp, by ascending stamp. `NoMemory` if memory runs out.
 pub fn union_of(
     alloc: Global,
     floor: Option<Stamp>,

@@ -1,4 +1,4 @@
-//! How many bytes an entry takes.
+//! Encoded lengths of entries.
 
 ghost use Rattle.std.specs.Prelude.{◌≡◌, ◌<◌, ◌+◌, ◌^◌, length, IfOk};
 ghost use Rattle.crsm_spec.specs.Collect.{size_of};
@@ -6,15 +6,15 @@ ghost use Rattle.crsm_base.specs.Spelling.{entry_bytes, key_bytes, op_bytes, opt
 
 use crsm_base::{Entry, Key, NoMemory, Op, Val, never};
 
-/// How many bytes an entry takes, also one of keys and values as long as memory holds.
+/// Returns the encoded length of an entry in bytes, also if its keys and values are longer than the limits allow.
 pub fn entry_size(entry: &Entry) -> u128
     ensures { result ≡ length (entry_bytes entry.now) }
 {
     33 + op_size(&entry.command.op)
 }
 
-/// How many bytes the entries take together; out of memory where that passes the greatest number, since no memory
-/// holds so many.
+/// Returns the encoded length of the entries together, in bytes. `NoMemory` if it exceeds 2^64 - 1, which no memory
+/// holds.
 pub fn total_size(entries: &[Entry]) -> Result<u64, NoMemory>
     ensures { IfOk result (λ size. size ≡ size_of entries.now) }
 {

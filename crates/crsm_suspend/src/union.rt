@@ -1,4 +1,4 @@
-//! The entries of reports as a set.
+//! The union of the entries of reports.
 
 ghost use Rattle.std.specs.Prelude.{◌≡◌, [], fold, flat_map, OnOk, IfOk};
 ghost use Rattle.crsm_spec.specs.Collect.{with_new};
@@ -10,7 +10,7 @@ use std::alloc::Global;
 use std::collections::BTreeMap;
 use std::marker::Model;
 
-/// Entries by ascending stamp, one of each.
+/// Entries by ascending stamp, each stamp once.
 #[derive(Drop)]
 pub struct Union {
     alloc: Global,
@@ -31,7 +31,7 @@ impl Model for Union {
 }
 
 impl Union {
-    /// No entries.
+    /// Returns the empty set.
     pub fn new(alloc: Global) -> Union
         ensures { result ≡ [] }
     {
@@ -41,7 +41,7 @@ impl Union {
         }
     }
 
-    /// Adds an entry, unless one of its stamp is there.
+    /// Adds an entry, unless the set has its stamp. `NoMemory` if memory runs out.
     pub fn add(&mut self, entry: &Entry) -> Result<(), NoMemory>
         ensures { OnOk result (self.new ≡ with_new self.old entry.now) }
     {
@@ -53,7 +53,7 @@ impl Union {
         Ok(())
     }
 
-    /// Adds those of the entries that are above a stamp.
+    /// Adds the entries above a stamp. `NoMemory` if memory runs out.
     fn add_above(&mut self, floor: Option<Stamp>, entries: &[Entry]) -> Result<(), NoMemory>
         ensures { OnOk result (self.new ≡ fold with_new self.old (above floor entries.now)) }
     {
@@ -66,7 +66,7 @@ impl Union {
         Ok(())
     }
 
-    /// Adds those of the pages' entries that are above a stamp.
+    /// Adds the pages' entries above a stamp. `NoMemory` if memory runs out.
     pub fn add_pages(&mut self, floor: Option<Stamp>, pages: &[Entries]) -> Result<(), NoMemory>
         ensures { OnOk result (self.new ≡ fold with_new self.old (above floor (flat_map (λ es. es) pages.now))) }
     {
@@ -76,7 +76,7 @@ impl Union {
         Ok(())
     }
 
-    /// The entries by ascending stamp.
+    /// Returns the entries by ascending stamp. `NoMemory` if memory runs out.
     pub fn into_entries(self) -> Result<Entries, NoMemory>
         ensures { IfOk result (λ entries. entries ≡ self) }
     {

@@ -32,7 +32,7 @@ impl Work {
         let mut count = 0u32;
         for _ in 0..receives {
             if self == Work::Hurried {
-                port.hurry();
+                port.poll_soon();
             }
             let got = port.recv(&mut buf)?;
             if self.counts(port, got, &buf)? {

@@ -1,4 +1,5 @@
-//! Tests of disks, logs and ports over the system's own, of the shells of a world, and of each call once with ample memory.
+//! Tests of disks, logs and ports over the system's own, of the shells of a world, and of each call once with ample
+//! memory.
 #![tactic(auto)]
 
 #[cfg(test)]

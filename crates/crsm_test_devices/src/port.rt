@@ -14,7 +14,7 @@ use std::test::Fail;
 const LOCAL: u64 = 0x7f00_0001 << 16;
 
 /// A port in memory that fails at these calls.
-fn failing_at(alloc: Global, fails: &[u64]) -> Result<Box<MemPort>, NoMemory> {
+pub fn failing_at(alloc: Global, fails: &[u64]) -> Result<Box<MemPort>, NoMemory> {
     let port = MemPort::new(alloc, fails)?;
     Ok(Box::new(alloc, port)?)
 }
@@ -100,10 +100,10 @@ fn hands_up_its_own_datagrams(rt: HostRuntime) -> Result<(), Fail> {
 
 /// Sends two bytes, and has the next receive not wait.
 fn send_two<P: Port>(port: &mut P) -> Result<(), Failed>
-    ensures sent { OnOk result ((P.meaning port.new).traffic ≡ option_map (with_sent ((P.meaning port.old).coat.wrap (record { address = 7; bytes = 1 ∷ 2 ∷ [] }))) (P.meaning port.old).traffic) }
-    ensures lent { (P.meaning port.new).lent ≡ (P.meaning port.old).lent }
+    ensures sent { OnOk result ((P.meaning port.new).traffic ≡ option_map (with_sent ((P.meaning port.old).framing.wrap (record { address = 7; bytes = 1 ∷ 2 ∷ [] }))) (P.meaning port.old).traffic) }
+    ensures borrowed_as { (P.meaning port.new).borrowed_as ≡ (P.meaning port.old).borrowed_as }
 {
-    port.hurry();
+    port.poll_soon();
     match port.reserve(1, 2) {
         Ok(()) => port.send(7, &[1, 2]),
         Err(NoMemory) => Err(Failed),
@@ -112,7 +112,7 @@ fn send_two<P: Port>(port: &mut P) -> Result<(), Failed>
 
 /// Sends two bytes over a port of a cluster, and gives the port below back.
 fn send_over<P: Port>(alloc: Global, port: &mut P, cluster: u64) -> Result<(), Failed>
-    ensures { OnOk result ((P.meaning port.new).traffic ≡ option_map (with_sent ((P.meaning port.old).coat.wrap (record { address = 7; bytes = wrapped cluster (1 ∷ 2 ∷ []) }))) (P.meaning port.old).traffic) }
+    ensures { OnOk result ((P.meaning port.new).traffic ≡ option_map (with_sent ((P.meaning port.old).framing.wrap (record { address = 7; bytes = wrapped cluster (1 ∷ 2 ∷ []) }))) (P.meaning port.old).traffic) }
 {
     let Ok(mut over) = ClusterPort::new(alloc, &mut *port, cluster) else {
         return Err(Failed);
@@ -185,7 +185,7 @@ fn carries_a_large_datagram(rt: HostRuntime) -> Result<(), Fail> {
     );
     assert!(rt; buf == bytes);
     assert_eq!(rt; one.recv(&mut buf), Ok(Recv::Nothing));
-    one.hurry();
+    one.poll_soon();
     assert_eq!(rt; one.recv(&mut buf), Ok(Recv::Nothing));
     assert_eq!(rt; one.send(u64::MAX, &bytes), Err(Failed));
     Ok(())

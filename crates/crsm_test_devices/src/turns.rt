@@ -2,6 +2,7 @@
 
 ghost use Rattle.crsm_replica_io.specs.Outgoing.{FitsSend};
 
+use crate::port::failing_at;
 use crsm_base::{Bytes, Datagram, Members, NoMemory, Rec, Send, To};
 use crsm_port::MemPort;
 use crsm_replica_io::{Outbox, ReceivedInput, TakeError, WantedInput, take_input, write_records};
@@ -40,12 +41,6 @@ fn three(alloc: Global) -> Result<Box<Outbox>, NoMemory> {
     Ok(outbox)
 }
 
-/// A port that fails at these calls.
-fn port_failing_at(alloc: Global, fails: &[u64]) -> Result<Box<MemPort>, NoMemory> {
-    let port = MemPort::new(alloc, fails)?;
-    Ok(Box::new(alloc, port)?)
-}
-
 /// Makes room for the datagrams of an outbox, and sends them.
 fn send(outbox: &Outbox, port: &mut MemPort) -> Result<(), NoMemory> {
     outbox.make_room(port)?;
@@ -55,7 +50,7 @@ fn send(outbox: &Outbox, port: &mut MemPort) -> Result<(), NoMemory> {
 
 /// A port over which these went out, which fails at these calls.
 fn after_sends(alloc: Global, outbox: &Outbox, fails: &[u64]) -> Result<Box<MemPort>, NoMemory> {
-    let mut port = port_failing_at(alloc, fails)?;
+    let mut port = failing_at(alloc, fails)?;
     send(outbox, &mut port)?;
     Ok(port)
 }
@@ -134,7 +129,7 @@ fn is_suspicion(taken: Result<ReceivedInput, TakeError>) -> bool {
 
 #[test]
 fn receives_what_came(rt: HostRuntime) -> Result<(), Fail> {
-    let mut port = port_failing_at(rt.alloc(), &[3])?;
+    let mut port = failing_at(rt.alloc(), &[3])?;
     port.put(70, &[1, 2, 3])?;
     let mut buf = [0u8; 2];
     assert!(rt; is_datagram(take_input(WantedInput::Receive, &mut *port, &mut buf)));
@@ -147,7 +142,7 @@ fn receives_what_came(rt: HostRuntime) -> Result<(), Fail> {
 
 #[test]
 fn suspects_without_a_receive(rt: HostRuntime) -> Result<(), Fail> {
-    let mut port = port_failing_at(rt.alloc(), &[1])?;
+    let mut port = failing_at(rt.alloc(), &[1])?;
     let seen = Members::from_slice(rt.alloc(), &[1])?;
     let mut buf = [0u8; 2];
     assert!(rt; is_suspicion(take_input(WantedInput::Suspect(seen), &mut *port, &mut buf)));

@@ -2,7 +2,12 @@
 //! node, and says whether what each took from another is what that one's replayed sheet sends.
 #![tactic(auto)]
 
-use crsm_test_trial::trial;
+mod fault;
+mod processes;
+mod sheets;
+mod whole;
+
+use crate::whole::trial;
 use std::env::{self, Env};
 use std::process::ExitCode;
 

@@ -1,8 +1,8 @@
 //! The table `boot`: boots of a replica that is a cluster of its own, and what comes of them.
 //!
-//! A line has the bodies of a log in hexadecimal, with spaces between, or `file` and the bytes of a whole file: then it is
-//! booted on that. `run DISK PORT WORDS` boots it on an empty disk, where these calls of the disk and of the port fail
-//! (`-`: none), and then does what the words say: `requests:N` and `junk` come to the port, `take:N` and `tick` are
+//! A line has the bodies of a log in hexadecimal, with spaces between, or `file` and the bytes of a whole file: then it
+//! is booted on that. `run DISK PORT WORDS` boots it on an empty disk, where these calls of the disk and of the port
+//! fail (`-`: none), and then does what the words say: `requests:N` and `junk` come to the port, `take:N` and `tick` are
 //! steps, `flush` keeps and sends, `turn` is a step that is kept and sent at once, and `stop:N` or `open:N` stops the
 //! disk after N further calls, where what was not synced reads as a closed or as an open gate.
 

@@ -1,4 +1,4 @@
-//! The table `client`: how it ends that a replica is asked over a port in memory, what was written, and what was sent.
+//! The table `client`: requests to a replica over a port in memory, how each ended, and what was written and sent.
 //!
 //! `client CLUSTER TO TURNS PORT OUTPUT CLIENT NUMBER OP / DATAGRAMS` is the command of a client,
 //! `ask TO TURNS RESEND PORT CLIENT NUMBER OP / DATAGRAMS` the call below it,
@@ -24,7 +24,7 @@ use std::alloc::Global;
 use std::str::from_utf8;
 
 /// How many bytes an output has at most.
-const ROOM: u64 = 4_096;
+pub const ROOM: u64 = 4_096;
 
 /// Reads a client's number, the command's, and its operation.
 pub fn command(alloc: Global, text: &str) -> Result<Command, Fault>
@@ -43,8 +43,10 @@ pub fn command(alloc: Global, text: &str) -> Result<Command, Fault>
 pub fn port(alloc: Global, calls: &str, datagrams: &str) -> Result<MemPort, Fault> {
     let fails = numbers_of(alloc, calls)?;
     let mut port = MemPort::new(alloc, fails.as_slice())?;
-    for word in datagrams.split_whitespace() {
-        put_packet(alloc, &mut port, word)?;
+    for word in datagrams.split(' ') {
+        if !word.is_empty() {
+            put_packet(alloc, &mut port, word)?;
+        }
     }
     Ok(port)
 }

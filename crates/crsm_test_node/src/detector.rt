@@ -29,7 +29,7 @@ struct Watcher {
     ghost few: { n ≤ 15 },
 }
 
-/// What is wanted, in words.
+/// Writes in words what a detector wants.
 fn text_of(alloc: Global, what: &WantedInput) -> Result<String, Fault> {
     match what {
         WantedInput::Receive => Ok(format!(in alloc; "receive")?),

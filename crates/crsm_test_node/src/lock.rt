@@ -3,7 +3,7 @@
 ghost use Rattle.std.specs.Prelude.{◌<◌, ◌-◌, ◌^◌, IfOk};
 ghost use Rattle.crsm_base.specs.Spelling.{FitsKey};
 
-use crate::client::{command, port, with_sent};
+use crate::client::{ROOM, command, port, with_sent};
 use crate::fault::Fault;
 use crate::words::{number_of, numbers_of, parted};
 use crsm_base::{Command, Op};
@@ -14,9 +14,6 @@ use crsm_port::MemPort;
 use std::alloc::Global;
 use std::str::from_utf8;
 
-/// How many bytes an output has at most.
-const ROOM: u64 = 4_096;
-
 fn action_of(word: &str) -> Result<Action, Fault> {
     match word {
         "take" => Ok(Action::Take),
@@ -26,7 +23,7 @@ fn action_of(word: &str) -> Result<Action, Fault> {
     }
 }
 
-/// What is asked about a lock: an action, and then the look at its key.
+/// Reads what a client wants of a lock: an action, and then the look at its key.
 fn order_of(alloc: Global, to: u64, turns: u64, words: &str) -> Result<LockOrder, Fault>
     ensures key { IfOk result (λ order. FitsKey order.key) }
     ensures number { IfOk result (λ order. order.number < 2 ^ 64 - 1) }

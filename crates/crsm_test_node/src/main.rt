@@ -43,7 +43,8 @@ fn push_table(alloc: Global, name: &str, lines: &str, out: &mut Bytes) -> Result
 
 /// Appends what comes of all tables, each behind its heading.
 fn push_tables(alloc: Global, text: &str, out: &mut Bytes) -> Result<(), Fault> {
-    for table in &read_tables(alloc, text)? {
+    let tables = read_tables(alloc, text)?;
+    for table in &tables {
         push_heading(out, table.name.as_str())?;
         push_table(alloc, table.name.as_str(), table.lines.as_str(), out)?;
     }

@@ -6,7 +6,7 @@
 //! stand between commas, and `-` is none. Behind the status stand the sheet, what was sent, and the file.
 
 use crate::fault::Fault;
-use crate::script::{Devices, Script};
+use crate::script::{NodeDevices, Script};
 use crsm_base::{Bytes, NoMemory};
 use crsm_disk::MemDisk;
 use crsm_node::{NodeEnd, Silent, run_node};
@@ -55,7 +55,7 @@ fn push_bytes(out: &mut Bytes, bytes: &[u8]) -> Result<(), NoMemory> {
 /// Runs a node, appends what came of it, and gives what a crash then leaves of its disk.
 fn run(alloc: Global, script: Script, out: &mut Bytes) -> Result<MemDisk, Fault> {
     let Script { order, devices } = script;
-    let Devices {
+    let NodeDevices {
         mut port,
         mut disk,
         mut clock,

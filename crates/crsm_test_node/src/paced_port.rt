@@ -1,7 +1,7 @@
 //! The table `paced_port`: what each send and receive of a port that paces gave, and behind `>` what went out.
 //!
-//! A row has the steps of a port: `put:FROM:HEX` is a datagram that waits, `fail:K` a call of the port below that fails,
-//! and then, in order, `reserve:T` makes room at the clock's reading T, `send:TO:HEX` sends and `recv` receives.
+//! A row has the steps of a port: `put:FROM:HEX` is a datagram that waits, `fail:K` a call of the port below that
+//! fails, and then, in order, `reserve:T` makes room at the clock's reading T, `send:TO:HEX` sends and `recv` receives.
 
 use crate::fault::Fault;
 use crate::packets::{packet_of, push_packet, push_sent, put_packet};

@@ -17,7 +17,7 @@ const SHEET_BYTES: u64 = 4_194_304;
 
 /// What a node runs over.
 #[derive(Drop)]
-pub struct Devices {
+pub struct NodeDevices {
     pub port: MemPort,
     pub disk: MemDisk,
     pub clock: ListClock,
@@ -28,7 +28,7 @@ pub struct Devices {
 #[derive(Drop)]
 pub struct Script {
     pub order: NodeOrder,
-    pub devices: Devices,
+    pub devices: NodeDevices,
 }
 
 impl Script {
@@ -60,7 +60,7 @@ fn read_devices(
     alloc: Global,
     words: &mut Split<'_, char>,
     before: Option<MemDisk>,
-) -> Result<Devices, Fault> {
+) -> Result<NodeDevices, Fault> {
     let clock = ListClock::new(alloc, &numbers_of(alloc, word(words)?)?)?;
     let datagrams = word(words)?;
     let mut port = MemPort::new(alloc, &numbers_of(alloc, word(words)?)?)?;
@@ -69,7 +69,7 @@ fn read_devices(
     let mut sheet = MemSink::new(alloc, &numbers_of(alloc, word(words)?)?)?;
     sheet.reserve(SHEET_BYTES)?;
     let disk = disk_of(alloc, word(words)?, failing, before)?;
-    Ok(Devices {
+    Ok(NodeDevices {
         port,
         disk,
         clock,
@@ -87,7 +87,7 @@ fn put_all(alloc: Global, port: &mut MemPort, text: &str) -> Result<(), Fault> {
     Ok(())
 }
 
-/// A disk with the bytes of a file, of which these calls fail.
+/// A disk with the bytes of a file, whose calls of these numbers fail.
 fn disk_of(
     alloc: Global,
     file: &str,

@@ -4,14 +4,14 @@ use crate::boot::boot;
 use crate::devices::Devices;
 use crate::fault::Fault;
 use crate::tale_words::{Word, word_of};
-use crate::traces::{push_kept, push_refusal, push_sent};
+use crate::traces::{push_answered, push_kept, push_refusal};
 use crate::words::{numbers_of, parted};
 use crsm_disk::MemDisk;
 use crsm_shell::{BootError, Shell, TurnError, WantedInput};
 use std::alloc::{AllocError, Global};
 
-/// Writes what comes of a replica that boots on an empty disk and does what the words say. The first two words are the calls
-/// of its disk and of its port that fail.
+/// Writes what comes of a replica that boots on an empty disk and does what the words say. The first two words are the
+/// calls of its disk and of its port that fail.
 pub fn tale_of(alloc: Global, script: &str) -> Result<String, Fault> {
     let mut out = String::new(alloc);
     push_tale(alloc, script, &mut out)?;
@@ -83,7 +83,7 @@ fn push_left(
 ) -> Result<(), Fault> {
     push_kept(alloc, disk, out)?;
     out.push_str(", ")?;
-    push_sent(&devices.port, out)
+    push_answered(&devices.port, out)
 }
 
 /// Appends what comes of the words, in order, and how the replica stands behind them.

@@ -8,8 +8,8 @@ use crsm_port::MemPort;
 use crsm_shell::BootError;
 use std::alloc::{AllocError, Global};
 
-/// Appends how many calls of the disk there were, and the lengths of the bodies that a boot finds on it as a crash leaves
-/// it now, in order.
+/// Appends how many calls of the disk there were, and the lengths of the bodies that a boot finds on it as a crash
+/// leaves it now, in order.
 pub fn push_kept(alloc: Global, disk: &MemDisk, out: &mut String) -> Result<(), Fault> {
     write!(out, "{} calls, ", disk.calls())?;
     push_found(alloc, disk.image()?, out)?;
@@ -42,7 +42,7 @@ fn push_lengths(bodies: &Bodies, out: &mut String) -> Result<(), AllocError> {
 }
 
 /// Appends the numbers of the requests whose replies were sent, in order.
-pub fn push_sent(port: &MemPort, out: &mut String) -> Result<(), Fault> {
+pub fn push_answered(port: &MemPort, out: &mut String) -> Result<(), Fault> {
     if port.sent().len() == 0 {
         out.push_str("sent none")?;
         return Ok(());

@@ -1,4 +1,4 @@
-//! What a replica made, as lines.
+//! Lines for what a replica made.
 
 ghost use Rattle.std.specs.List.{AllByRecursion};
 ghost use Rattle.crsm_core.specs.Core.{FitsSent};
@@ -10,7 +10,7 @@ use crsm_schedule::push_line;
 use crsm_wire::write_datagram;
 use std::alloc::Global;
 
-/// Appends the lines of what was made, and of what is sent, each behind this number.
+/// Appends the lines of a batch, and a line for each datagram that is sent, all behind this number.
 pub fn push_batch(alloc: Global, at: u64, batch: &Batch, out: &mut Bytes) -> Result<(), NoMemory>
     requires { AllByRecursion FitsSent batch.now.sends }
 {

@@ -2,11 +2,9 @@
 //!
 //! `collect EPOCH START SPEC NEXT MEMBERS` begins a collection, where NEXT is `-` if the next Spec is not named.
 //! `own ME N COUNT` takes the frozen log of a replica that logged COUNT commands.
-//! `page FROM EPOCH EXECUTED LAST AFTER WHOLE FIRST COUNT NUMBER` takes a page with COUNT entries of times from FIRST on,
-//! each a command of this number; a stamp is its time, 0 where there is none.
+//! `page FROM EPOCH EXECUTED LAST AFTER WHOLE FIRST COUNT NUMBER` takes a page with COUNT entries of times from FIRST
+//! on, each a command of this number; a stamp is its time, 0 where there is none.
 //! `cursor K` asks where the next page of replica K begins.
-
-ghost use Rattle.std.specs.Prelude.{◌<◌, ◌≤◌};
 
 use crate::fault::Fault;
 use crate::got::text_of;

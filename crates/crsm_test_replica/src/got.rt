@@ -1,4 +1,4 @@
-//! What is got, as text.
+//! Text for what a collection got.
 
 use crsm_base::{Decision, Members};
 use crsm_suspend::PageOutcome;
@@ -7,7 +7,7 @@ use std::alloc::{AllocError, Global};
 /// How many entries of a tail are shown at most.
 const SHOWN: usize = 8;
 
-/// Returns the outcome of a page in words.
+/// Writes in words what a collection got.
 pub fn text_of(alloc: Global, got: &PageOutcome) -> Result<String, AllocError> {
     let mut out = String::new(alloc);
     push_got(got, &mut out)?;

@@ -1,7 +1,5 @@
 //! Logs whose entries have known sizes, and the ledgers that they make.
 
-ghost use Rattle.std.specs.Prelude.{◌<◌, ◌≤◌};
-
 use crate::fault::Fault;
 use crate::records::{self, Action};
 use crsm_base::{Bodies, Bytes, NoMemory};

@@ -1,7 +1,7 @@
 //! Reads tables from the standard input, and writes what the parts of a replica make of their lines.
 //!
 //! A line `table NAME` names the table of the lines behind it, up to the next such line, and is written through. The
-//! module of a table says what its lines are: `replica`, `collect`, `pages`, `verdict` and `sheet`. The table `sheet`
+//! module of a table says what its lines are: `replica`, `collect`, `pages`, `verdict` and `rerun`. The table `rerun`
 //! comes last, since its last line has no line feed.
 #![tactic(auto)]
 
@@ -17,7 +17,7 @@ mod page_line;
 mod pages;
 mod records;
 mod replica;
-mod sheet;
+mod rerun;
 mod table;
 mod verdict;
 mod words;
@@ -35,14 +35,15 @@ fn push_table(alloc: Global, name: &str, lines: &str, out: &mut Bytes) -> Result
         "collect" => collect::push_all(alloc, lines, out),
         "pages" => pages::push_all(alloc, out),
         "verdict" => verdict::push_all(alloc, lines, out),
-        "sheet" => sheet::push_all(alloc, lines, out),
+        "rerun" => rerun::push_all(alloc, lines, out),
         _ => Err(Fault::Unreadable),
     }
 }
 
 /// Appends what comes of all tables, each behind its heading.
 fn push_tables(alloc: Global, text: &str, out: &mut Bytes) -> Result<(), Fault> {
-    for table in &read_tables(alloc, text)? {
+    let tables = read_tables(alloc, text)?;
+    for table in &tables {
         push_heading(out, table.name.as_str())?;
         push_table(alloc, table.name.as_str(), table.lines.as_str(), out)?;
     }

@@ -1,4 +1,4 @@
-//! The table `pages`, which has no lines: what is asked for and answered by pages over whole logs, and how pages fit to
+//! The table `pages`, which has no lines: requests for pages of whole logs and their answers, and how pages fit to
 //! ledgers.
 
 use crate::fault::Fault;

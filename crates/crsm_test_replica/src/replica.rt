@@ -94,7 +94,7 @@ fn boot(alloc: Global, core: &mut Core, at: u64, out: &mut Bytes) -> Result<(), 
     Ok(())
 }
 
-/// Appends what a replica does at each line, of which the first comes behind this many.
+/// Appends what a replica does at each line. Before the first stand this many lines.
 fn go_on(
     alloc: Global,
     core: &mut Core,

@@ -1,14 +1,14 @@
 //! The table `verdict`: the verdicts on the sheets of each row.
 //!
-//! A row has the accounts of some sheets with ` | ` between them: the number of a node, how many its cluster began with,
-//! and then the bodies of its log in hexadecimal, and `dropped:LINE:EPOCH:TIME:ORIGIN` where a client is told at a line
-//! that a command was dropped.
+//! A row has the accounts of some sheets with ` | ` between them: the number of a node, how many its cluster began
+//! with, and then the bodies of its log in hexadecimal, and `dropped:LINE:EPOCH:TIME:ORIGIN` where a client is told at
+//! a line that a command was dropped.
 
 ghost use Rattle.std.specs.Prelude.{◌≡◌, ◌≤◌, [], IfOk};
 
 use crate::fault::Fault;
 use crate::table::push_answer;
-use crate::words::{next_number, small};
+use crate::words::{number_at, small};
 use crsm_audit::{Account, ExecutedEntry, Verdict, judge};
 use crsm_base::{Bodies, Bytes, Line, Lines, Recs, Sends, Stamp};
 use crsm_ledger::Ledger;
@@ -19,10 +19,10 @@ use std::alloc::Global;
 /// What a client is told at a line, by the numbers of `LINE:EPOCH:TIME:ORIGIN`.
 fn dropped_of(word: &str) -> Result<(u64, Line), Fault> {
     let mut numbers = word.split(':');
-    let line = next_number(&mut numbers)?;
-    let epoch = next_number(&mut numbers)?;
-    let time = next_number(&mut numbers)?;
-    let origin = small(next_number(&mut numbers)?, 14)?;
+    let line = number_at(numbers.next())?;
+    let epoch = number_at(numbers.next())?;
+    let time = number_at(numbers.next())?;
+    let origin = small(number_at(numbers.next())?, 14)?;
     Ok((
         line,
         Line::ReplyDropped {
@@ -51,8 +51,8 @@ fn batch_of(alloc: Global, line: Line) -> Result<Batch, Fault>
 /// The account of a sheet.
 fn account_of(alloc: Global, part: &str) -> Result<Account, Fault> {
     let mut words = part.split(' ');
-    let me = small(next_number(&mut words)?, 14)?;
-    let n = small(next_number(&mut words)?, 15)?;
+    let me = small(number_at(words.next())?, 14)?;
+    let n = small(number_at(words.next())?, 15)?;
     if n == 0 {
         return Err(Fault::Unreadable);
     }

@@ -6,7 +6,6 @@ use crate::fault::Fault;
 use crsm_base::Bytes;
 use crsm_text::{hex_of, read_number};
 use std::alloc::Global;
-use std::str::Split;
 
 /// Returns the two parts of a text around the first of these marks.
 pub fn parted<'a>(text: &'a str, mark: &str) -> Result<(&'a str, &'a str), Fault> {
@@ -42,9 +41,9 @@ pub fn number_of(word: &str) -> Result<u64, Fault> {
     }
 }
 
-/// Returns the number of the next word.
-pub fn next_number(words: &mut Split<'_, char>) -> Result<u64, Fault> {
-    match words.next() {
+/// Returns the number of a word that is to stand there.
+pub fn number_at(word: Option<&str>) -> Result<u64, Fault> {
+    match word {
         Some(word) => number_of(word),
         None => Err(Fault::Unreadable),
     }
@@ -55,7 +54,7 @@ pub fn numbers_of<const N: usize>(text: &str) -> Result<[u64; N], Fault> {
     let mut words = text.split(' ');
     let mut numbers = [0u64; N];
     for number in &mut numbers {
-        *number = next_number(&mut words)?;
+        *number = number_at(words.next())?;
     }
     match words.next() {
         Some(_) => Err(Fault::Unreadable),

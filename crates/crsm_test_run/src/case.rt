@@ -20,7 +20,7 @@ struct Devices {
     clock: ListClock,
 }
 
-/// What a run answered, what it wrote, the port that it sent over, and the disk that it left.
+/// A run: what it answered and wrote, the port that it sent over, and the disk that it left.
 #[derive(Drop)]
 pub struct Ran {
     pub status: Status,
@@ -46,7 +46,8 @@ fn numbers_behind(alloc: Global, header: &str, word: &str) -> Result<Vec<u64>, F
     Ok(numbers)
 }
 
-/// Returns the words of the command line: those behind `words`, which stands last in a header, or else the word `replay`.
+/// Returns the words of the command line: those behind `words`, which stands last in a header, or else the word
+/// `replay`.
 fn words_of(alloc: Global, words: Option<&str>) -> Result<Vec<String>, Fault> {
     let mut list = Vec::new(alloc);
     match words {
@@ -134,7 +135,8 @@ fn run_over(alloc: Global, words: &[String], devices: Devices) -> Ran {
     }
 }
 
-/// Runs an input over memory as the header says. Datagrams come first, then a line `--` and the input.
+/// Runs an input over memory as the header says. Datagrams come first, then a line `--` and the input. A number or
+/// datagram that cannot be read is `Unreadable`.
 pub fn run_case(alloc: Global, header: &str, text: &str) -> Result<Ran, Fault> {
     let (header, words) = match header.split_once(" words") {
         Some((header, words)) => (header, Some(words)),

@@ -1,5 +1,5 @@
-//! The table `delay`: `== NAME` begins a plan, whose lines follow, and `== NAME cut` one that comes without its last line
-//! feed. It answers the moments at which the replicas execute the command of each, and how the reading ended.
+//! The table `delay`: `== NAME` begins a plan, whose lines follow, and `== NAME cut` one that comes without its last
+//! line feed. It answers the moments at which the replicas execute the command of each, and how the reading ended.
 
 use crate::fault::Fault;
 use crate::fields::{parted, sink_of, source_of};

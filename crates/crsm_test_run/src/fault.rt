@@ -15,7 +15,7 @@ pub enum Fault {
     NoMemory,
     #[error("a case is not readable")]
     Unreadable,
-    #[error("no table has this name")]
+    #[error("a heading names no table, or a line stands above the first")]
     NoTable,
 }
 

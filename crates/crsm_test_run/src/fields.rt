@@ -9,7 +9,7 @@ use std::alloc::Global;
 /// How many bytes an output has at most.
 const ROOM: u64 = 65_536;
 
-/// Returns the two parts of a text around the first of these marks.
+/// Returns the two parts of a text around the first of these marks. Without one the text is `Unreadable`.
 pub fn parted<'a>(text: &'a str, mark: &str) -> Result<(&'a str, &'a str), Fault> {
     match text.split_once(mark) {
         Some(parts) => Ok(parts),
@@ -17,7 +17,7 @@ pub fn parted<'a>(text: &'a str, mark: &str) -> Result<(&'a str, &'a str), Fault
     }
 }
 
-/// Returns the number that a word spells in decimal digits.
+/// Returns the number that a word spells in decimal digits, or `Unreadable`.
 pub fn number_of(word: &str) -> Result<u64, Fault> {
     match read_number(word.as_bytes()) {
         Some(number) => Ok(number),

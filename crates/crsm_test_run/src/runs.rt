@@ -1,5 +1,5 @@
-//! The table `runs`: `== NAME` and a manner begin a case, which is run over memory. It answers what each run wrote, sent,
-//! kept and answered.
+//! The table `runs`: `== NAME` and a manner begin a case, which is run over memory. It answers what each run wrote,
+//! sent, kept and answered.
 
 use crate::case::{Ran, run_case};
 use crate::fault::Fault;

@@ -8,8 +8,6 @@ use thiserror::Error;
 /// Why a row is not read, or a line of an input refused.
 #[derive(Clone, Copy, Debug, PartialEq, Eq, Error)]
 pub enum Fault {
-    #[error("no table")]
-    NoTable,
     #[error("unreadable")]
     Unreadable,
     #[error("out of memory")]

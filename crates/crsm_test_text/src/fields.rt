@@ -5,7 +5,7 @@ use crsm_base::Bytes;
 use crsm_text::read_number;
 use std::str::from_utf8;
 
-/// Returns the two parts of a text around the first of these marks.
+/// Returns the two parts of a text around the first of these marks. Without one the text is `Unreadable`.
 pub fn parted<'a>(text: &'a str, mark: &str) -> Result<(&'a str, &'a str), Fault> {
     match text.split_once(mark) {
         Some(parts) => Ok(parts),
@@ -13,7 +13,7 @@ pub fn parted<'a>(text: &'a str, mark: &str) -> Result<(&'a str, &'a str), Fault
     }
 }
 
-/// Returns the number that a field spells in decimal digits.
+/// Returns the number that a field spells in decimal digits, or `Unreadable`.
 pub fn number_of(field: &str) -> Result<u64, Fault> {
     match read_number(field.as_bytes()) {
         Some(number) => Ok(number),

@@ -54,7 +54,7 @@ pub enum Kind {
 }
 
 impl Kind {
-    /// The kind of this name.
+    /// Returns the kind that a word names, if any does.
     pub fn named(word: &str) -> Option<Kind> {
         match word {
             "u8" => Some(Kind::U8),

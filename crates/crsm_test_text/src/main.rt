@@ -1,7 +1,7 @@
 //! Reads tables of texts from the standard input, and writes what each row is read as.
 //!
-//! A line `table NAME` begins a table, and is written again; the lines up to the next are its rows. Each table has a
-//! module of its name, which says what its rows are.
+//! A line `table NAME` names the table of the rows behind it, up to the next such line, and is written through. The
+//! module of a table says what its rows are: `lines`, `sheet`, `words`, `lease`, `input` and `bytes`.
 #![tactic(auto)]
 
 mod again;
@@ -16,16 +16,14 @@ mod sheet;
 mod table;
 mod words;
 
-use crate::fault::Fault;
 use crate::table::Table;
 use crsm_base::Bytes;
-use std::alloc::Global;
-use std::io::{self, Print, Write};
+use std::io::{self, ErrorKind, Print, Write};
 
 /// Writes what a row of this table is read as, or else the fault.
-fn show<R: AllocGlobal + Print>(rt: &R, table: Option<Table>, row: &str) -> io::Result<()> {
+fn show<R: AllocGlobal + Print>(rt: &R, table: Table, row: &str) -> io::Result<()> {
     let mut out = Bytes::new(rt.alloc());
-    let told = tell(rt.alloc(), table, row, &mut out);
+    let told = table.tell(rt.alloc(), row, &mut out);
     io::writer(rt).write_all(out.as_slice())?;
     match told {
         Ok(()) => Ok(()),
@@ -33,11 +31,11 @@ fn show<R: AllocGlobal + Print>(rt: &R, table: Option<Table>, row: &str) -> io::
     }
 }
 
-/// Appends what a row of this table is read as.
-fn tell(alloc: Global, table: Option<Table>, row: &str, out: &mut Bytes) -> Result<(), Fault> {
-    match table {
-        Some(table) => table.tell(alloc, row, out),
-        None => Err(Fault::NoTable),
+/// Returns the table that a heading names.
+fn table_of(name: &str) -> io::Result<Table> {
+    match Table::named(name) {
+        Some(table) => Ok(table),
+        None => Err(io::Error::from(ErrorKind::InvalidInput)),
     }
 }
 
@@ -45,12 +43,13 @@ fn main(rt: HostRuntime) -> io::Result<()> {
     let mut table = None;
     for line in rt.lines(rt.alloc()) {
         let line = line?;
-        match line.as_str().strip_prefix("table ") {
-            Some(name) => {
-                table = Table::named(name);
+        match (line.as_str().strip_prefix("table "), table) {
+            (Some(name), _) => {
+                table = Some(table_of(name)?);
                 println!(rt; "{line}")?;
             }
-            None => show(&rt, table, line.as_str())?,
+            (None, Some(table)) => show(&rt, table, line.as_str())?,
+            (None, None) => return Err(io::Error::from(ErrorKind::InvalidInput)),
         }
     }
     Ok(())

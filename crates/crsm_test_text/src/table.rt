@@ -23,7 +23,7 @@ pub enum Table {
 }
 
 impl Table {
-    /// Returns the table that a heading names.
+    /// Returns the table that a heading names, if there is one.
     pub fn named(name: &str) -> Option<Table> {
         match name {
             "lines" => Some(Table::Lines),
@@ -36,7 +36,8 @@ impl Table {
         }
     }
 
-    /// Appends what a row is read as, with its line feed.
+    /// Appends what a row is read as, with its line feed. After a fault the first lines of the answer may have been
+    /// added.
     pub fn tell(self, alloc: Global, row: &str, out: &mut Bytes) -> Result<(), Fault> {
         match self {
             Table::Lines => lines::tell(alloc, row, out),

@@ -1,4 +1,5 @@
-//! Tests of the calls that no clause says enough of: printed text, limits at full size, each call once with ample memory.
+//! Tests of the calls that no clause says enough of: printed text, limits at full size, each call once with ample
+//! memory.
 #![tactic(auto)]
 
 #[cfg(test)]

@@ -11,6 +11,7 @@ use std::alloc::{AllocError, AllocFailed};
 pub enum LineError {
     /// It does not match its grammar, or a number is out of range.
     Unreadable,
+    /// Memory ran out.
     NoMemory,
 }
 

@@ -35,7 +35,8 @@ pub fn read_number(word: &[u8]) -> Option<u64>
     }
 }
 
-// Returns `None` also where the next digit might overflow, which is rare: the caller then tries the general parser.
+// Digit by digit. Returns `None` also where one more digit might overflow; `read_any` then parses the rare long
+// numbers.
 fn read_digits(word: &[u8]) -> Option<u64>
     ensures { IfSome result (λ n. word.now ≡ decimal n) }
 {

@@ -1,4 +1,4 @@
-//! The line that a client is shown.
+//! The line that shows a client the outcome of its command.
 
 ghost use Rattle.std.specs.Prelude.{◌≡◌, ◌++◌, OnOk, OnErr};
 ghost use Rattle.crsm_text.specs.Values.{outcome_text};
@@ -20,7 +20,8 @@ fn push_outcome(out: &mut Bytes, outcome: &Outcome) -> Result<(), NoMemory>
     out.push(b'\n')
 }
 
-/// Appends the line that shows a client its outcome, with its line feed. After `NoMemory` `out` is as before.
+/// Appends the line that shows a client its outcome, with its line feed. `NoMemory` if memory runs out; `out` is then
+/// unchanged.
 pub fn print_outcome(alloc: Global, outcome: &Outcome, out: &mut Bytes) -> Result<(), NoMemory>
     ensures ok { OnOk result (out.new ≡ out.old ++ outcome_text outcome.now) }
     ensures err { OnErr result (out.new ≡ out.old) }

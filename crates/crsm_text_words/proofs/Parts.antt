@@ -1,4 +1,4 @@
--- The name and the values that a caller reads of matches.
+-- The command's name and values, as a caller reads them from `clap`'s matches.
 use Rattle.std.proofs.Common.{◌≡◌, ◌∙◌, Bool, cond, true, false, refl, ap, sym, map, List, [], ◌∷◌, Option, Some, None}
 use Rattle.std.specs.Prelude.{option_map, unwrap_or, codes, find}
 use Rattle.std.specs.Str.{bytes_eq}

@@ -1,4 +1,4 @@
--- Words with a space between each two, as what is written is continued.
+-- Words joined by spaces, while the text is written.
 use Rattle.std.proofs.Common.{◌≡◌, List, [], ◌∷◌, ◌++◌, ap, sym}
 use Rattle.std.proofs.lemmas.List.{append-nil}
 use Rattle.clap.specs.Words.{Text}

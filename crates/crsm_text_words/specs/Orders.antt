@@ -58,7 +58,7 @@ pub record IsLock (t : LockTask) : Type 0 where
   pub key : FitsKey t.key
   pub bytes : IsBytes t.key
 
--- ---- spellings
+-- ---- texts
 
 abbrev pub action_text : LockAction → Text
 action_text Take = codes "take"

@@ -33,8 +33,8 @@ abbrev pub SplitsBy : List Text → Result ArgMatches Error → Type 0
 SplitsBy words result =
     FailsBy (fault_of product_app words) result × MatchResult result (λ m. parts (subcommand_rows_of m) ≡ taken words) (λ e. Unit {0})
 
--- of words that do not begin with a hyphen: a split comes only where they are a command's name and as many values as its
--- row allows, and has these words; an error says that memory ran out, or that they are not
+-- words that do not begin with a hyphen: they are split only if they are a command's name and as many values as its row
+-- allows, and the result has these words; an error means that memory ran out, or that they are not
 abbrev pub SplitsExactly : List Text → Result ArgMatches Error → Type 0
 SplitsExactly words result = MatchResult result
     (λ m. (fits words ≡ true) × (parts (subcommand_rows_of m) ≡ words))

@@ -6,10 +6,12 @@ ghost use Rattle.crsm_text_words.specs.Plans.{HasOwnPeer, plan_of};
 use crate::address::Addresses;
 use crsm_base::{Bytes, Command, Key, Members};
 
-/// What the command `lock` does with a lock.
+/// An action of the command `lock`.
 #[derive(Clone, Copy, Debug, PartialEq, Eq)]
 pub enum LockAction {
+    /// Takes the lock if it is free.
     Take,
+    /// Gives the lock back.
     Give,
     /// Takes the lock away from its owner.
     Break,
@@ -78,6 +80,7 @@ pub enum Task {
     Audit {
         n: u32,
     },
+    /// Takes, gives back or breaks a lock.
     Lock(LockTask),
     /// Writes the schedule of one command with given delays and clock offsets.
     Delay,

@@ -24,6 +24,7 @@ use std::alloc::Global;
 pub enum WordsError {
     /// They are not those of a command, or a value is outside its limits.
     Usage,
+    /// Memory ran out.
     NoMemory,
 }
 

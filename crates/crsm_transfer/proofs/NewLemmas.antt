@@ -1,4 +1,4 @@
--- The entries of a page that are new to a log, and how the page fits.
+-- The entries of a page that are new to a log, and how the page compares with it.
 use Rattle.std.proofs.Common.{◌≡◌, ◌∙◌, ℕ, ◌<◌, ◌≤◌, refl, ap, sym, List, length, arith, Bool, true, false, cond}
 use Rattle.std.specs.Prelude.{◌-◌, ◌==◌, ◌||◌, ◌&&◌, not, nat_lt, take, drop, Option, None, Some, unwrap_or}
 use Rattle.std.specs.Option.{option_map_or}

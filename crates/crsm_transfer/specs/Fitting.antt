@@ -1,4 +1,4 @@
--- How a page of executed entries fits to a log.
+-- The comparison of a page of executed entries with a log.
 use Rattle.std.specs.Prelude.{ℕ, ◌-◌, ◌==◌, ◌||◌, nat_lt, if◌then◌else◌, List, length, take, drop}
 use Rattle.crsm_spec.specs.Types.{Entry, Control}
 use Rattle.crsm_base.specs.declared.control.Control.TheVariants.{Page}

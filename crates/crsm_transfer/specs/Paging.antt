@@ -1,4 +1,4 @@
--- The page of executed entries from a place on.
+-- The page of executed entries from an index on.
 use Rattle.std.specs.Prelude.{ℕ, nat_lt, nat_le, if◌then◌else◌, length, Option, Some, None, option_map}
 use Rattle.crsm_spec.specs.Types.{Entry, Control}
 use Rattle.crsm_spec.specs.Log.{Log, executed}

@@ -1,15 +1,15 @@
-//! How a page fits.
+//! The result of comparing a page of executed entries with a ledger.
 
 use crsm_base::Entries;
 
-/// How a page of executed entries fits to a ledger.
+/// How a page of executed entries compares with a ledger.
 #[derive(Debug, Drop)]
 pub enum Fit {
-    /// Its sender knows a later epoch.
+    /// The sender of the page knows a later epoch.
     Ahead,
-    /// It begins past the executed entries.
+    /// The page begins after the end of the executed entries.
     Gap,
-    /// It brings no new place that may be taken, or the replica takes part in its epoch and takes no page.
+    /// The page has no new entry that may be executed, or the replica takes part in its epoch and adopts no page.
     Nothing,
     /// These entries follow the executed ones.
     Adopt(Entries),

@@ -1,4 +1,4 @@
-//! Whether a page of executed entries fits.
+//! The comparison of a page of executed entries with a ledger.
 
 ghost use Rattle.std.specs.Prelude.{◌≡◌, ◌≤◌, ℕ, List, drop, take, IfOk};
 ghost use Rattle.crsm_base.specs.declared.Rec.{Rec};
@@ -11,7 +11,8 @@ use crsm_base::{Control, Entries, Entry, NoMemory};
 use crsm_ledger::Ledger;
 use std::alloc::Global;
 
-/// How a page fits, by the first of the four answers that applies.
+/// Returns how a page compares with the ledger, by the first of the four cases that applies. `NoMemory` if memory runs
+/// out.
 pub fn fit(alloc: Global, ledger: &Ledger, page: &Control) -> Result<Fit, NoMemory>
     requires { IsPage page.now }
     ensures { (me n : ℕ) (log : List Rec) → LedgerStands me n ledger.now log → IfOk result (λ fit. fit ≡ fit_in log page.now) }
@@ -53,7 +54,7 @@ fn fit_entries(
     Ok(Fit::Adopt(copied(alloc, new)?))
 }
 
-/// Whether the replica takes part in the known epoch: live and not suspended.
+/// Returns whether the replica takes part in the known epoch: live and not suspended.
 fn takes_part(ledger: &Ledger) -> bool
     ensures { (me n : ℕ) (log : List Rec) → LedgerStands me n ledger.now log → result ≡ active log }
 {
@@ -63,8 +64,8 @@ fn takes_part(ledger: &Ledger) -> bool
     ledger.live()
 }
 
-/// Those of the entries from a place on that lie behind `done` executed ones and, while there are fewer than `base`
-/// of these, below `base`.
+/// Returns the entries of a page, which begins at index `from`, that are after the `done` executed ones; while `done`
+/// is below `base`, only those below `base`.
 fn new_entries(done: u64, base: u64, from: u64, entries: &[Entry]) -> &[Entry]
     requires { from ≤ done }
     ensures { result.now ≡ new_above done base from entries.now }
@@ -77,7 +78,7 @@ fn new_entries(done: u64, base: u64, from: u64, entries: &[Entry]) -> &[Entry]
     }
 }
 
-/// What lies behind so many entries.
+/// Returns the entries after the first `count`.
 fn behind(entries: &[Entry], count: u64) -> &[Entry]
     ensures { result.now ≡ drop count entries.now }
 {
@@ -89,7 +90,7 @@ fn behind(entries: &[Entry], count: u64) -> &[Entry]
     }
 }
 
-/// At most so many entries.
+/// Returns the first `count` entries, or all if there are fewer.
 fn up_to(entries: &[Entry], count: u64) -> &[Entry]
     ensures { result.now ≡ take count entries.now }
 {
@@ -101,7 +102,7 @@ fn up_to(entries: &[Entry], count: u64) -> &[Entry]
     }
 }
 
-/// Equal entries.
+/// Returns a copy of the entries. `NoMemory` if memory runs out.
 fn copied(alloc: Global, entries: &[Entry]) -> Result<Entries, NoMemory>
     ensures { IfOk result (λ copy. copy ≡ entries.now) }
 {

@@ -1,4 +1,4 @@
-//! Transfer of executed entries by pages: what a replica asks for, what it answers, and what it takes.
+//! State transfer of executed entries by pages: the request of a replica, its answer, and the entries that it adopts.
 #![tactic(auto)]
 
 mod answer;

@@ -1,4 +1,4 @@
-//! What is asked for, and the page that answers.
+//! The request for executed entries, and the page that answers it.
 
 ghost use Rattle.std.specs.Prelude.{◌≡◌, ◌≤◌, ℕ, List, drop, length, IfOk, slice_get};
 ghost use Rattle.std.specs.Option.{IfSome};
@@ -13,8 +13,8 @@ use crsm_base::{Control, Entries, Entry, MAX_PAGE_BYTES, NoMemory};
 use crsm_ledger::Ledger;
 use std::alloc::Global;
 
-/// Asks for the executed entries behind one's own, and for decisions above the known epoch. A library call: a replica
-/// makes the same message where it sends it (`crsm_replica`).
+/// Returns the request for the executed entries after one's own and for decisions above the known epoch. A library
+/// call: a replica makes the same message where it sends it (`crsm_replica`).
 pub fn want(ledger: &Ledger) -> Control
     ensures { (me n : ℕ) (log : List Rec) → LedgerStands me n ledger.now log → result ≡ Control.Retrieve (known log) (length (executed log)) }
 {
@@ -24,8 +24,8 @@ pub fn want(ledger: &Ledger) -> Control
     }
 }
 
-/// The page of executed entries from a place on, as many as go into one: `None` exactly where the place is not below
-/// the executed length. No other entries are read.
+/// Returns the page of executed entries from index `from` on, as many as fit in one. `None` if `from` is not below the
+/// executed length. `NoMemory` if memory runs out. No other entries are read.
 pub fn page(alloc: Global, ledger: &Ledger, from: u64) -> Result<Option<Control>, NoMemory>
     ensures { (me n : ℕ) (log : List Rec) → LedgerStands me n ledger.now log → IfOk result (λ page. page ≡ page_at log from) }
 {
@@ -40,7 +40,7 @@ pub fn page(alloc: Global, ledger: &Ledger, from: u64) -> Result<Option<Control>
     }))
 }
 
-/// As many of the executed entries from a place on as go into a page.
+/// Returns as many of the executed entries from an index on as fit in a page.
 fn entries_from(alloc: Global, ledger: &Ledger, from: u64) -> Result<Entries, NoMemory>
     ensures { (me n : ℕ) (log : List Rec) → LedgerStands me n ledger.now log → IfOk result (λ es. es ≡ first_page (drop from (executed log))) }
 {
@@ -58,7 +58,7 @@ fn entries_from(alloc: Global, ledger: &Ledger, from: u64) -> Result<Entries, No
     Ok(entries)
 }
 
-/// The executed entry at a place and how many bytes it takes, where they are not more than this.
+/// Returns the executed entry with this index and its encoded length in bytes, or `None` if that exceeds `room`.
 fn next(ledger: &Ledger, place: u64, room: usize) -> Result<Option<(Entry, usize)>, NoMemory>
     ensures value { (me n : ℕ) (log : List Rec) → LedgerStands me n ledger.now log → IfOk result (λ r. r ≡ next_in room (slice_get (executed log) place)) }
     ensures within { IfOk result (λ r. IfSome r (λ p. p.1 ≤ room)) }
@@ -75,7 +75,7 @@ fn next(ledger: &Ledger, place: u64, room: usize) -> Result<Option<(Entry, usize
     }
 }
 
-/// How many bytes the executed entry at a place takes.
+/// Returns the encoded length in bytes of the executed entry with this index.
 fn size_at(ledger: &Ledger, place: u64) -> Option<usize>
     ensures { (me n : ℕ) (log : List Rec) → LedgerStands me n ledger.now log → result ≡ size_of_found (slice_get (executed log) place) }
 {

@@ -1,4 +1,4 @@
--- Two arrays, one after the other.
+-- Two arrays joined.
 use Rattle.std.proofs.Common.{◌≡◌, ℕ, ◌≤◌, List, [], ◌++◌, length, drop, ap, ◌∙◌}
 use Rattle.std.proofs.lemmas.List.{append-nil, take_at, drop_at, drop_all}
 use borrow.Rule.Slice.PartMut.{put_mid}

@@ -212,6 +212,8 @@ fn take_page(alloc: Global, bytes: &[u8]) -> Result<Option<(Control, &[u8])>, No
     )))
 }
 
+/// Parses a control message at the beginning of `bytes`. Returns it and the remaining bytes, or `None` if they do not
+/// begin with one; `NoMemory` if memory runs out.
 #[tactic(auto, unfolding(crsm_base::specs::MessageReading::control_at))]
 pub fn take_control(alloc: Global, bytes: &[u8]) -> Result<Option<(Control, &[u8])>, NoMemory>
     ensures { IfOk result (λ r. option_map (λ x. (x.0, x.1.now)) r ≡ control_at bytes.now) }

@@ -1,4 +1,4 @@
--- What a boot leads to.
+-- The effect of a boot.
 use Rattle.std.proofs.Common.{◌≡◌, ◌+◌, ◌==◌, ℕ, true, false, cond, List, [], ◌∷◌, ◌++◌, length, map, Option, Some, None, refl, ap, sym, ◌∙◌, subst, arith, append-nil}
 use Rattle.std.specs.Prelude.{slice_get, slice_set}
 use Rattle.crsm_spec.specs.Types.{Datagram, Line}

@@ -1,4 +1,4 @@
--- What the endings of a step lead to.
+-- The effects of the endings of a step.
 use Rattle.std.proofs.Common.{◌≡◌, ◌-◌, ℕ, true, false, cond, List, [], ◌∷◌, ◌++◌, length, take, Some, append_assoc, ap, sym, ◌∙◌, subst, append-nil}
 use Rattle.std.specs.Prelude.{slice_get, slice_set}
 use Rattle.crsm_spec.specs.Types.{Line}

@@ -1,4 +1,4 @@
--- What a step lets out, from the batch that it made.
+-- The sending of a step's output, by its batch.
 use Rattle.std.proofs.Common.{◌≡◌, ◌+◌, ◌-◌, ℕ, zero, suc, min, List, [], ◌∷◌, ◌++◌, length, map, take, drop, Some, refl, sym, ap, ◌∙◌, subst, arith, append_assoc, append-nil, length-append}
 use Rattle.std.specs.Prelude.{slice_get, option_map}
 use Rattle.std.specs.List.{AllByRecursion}
@@ -105,7 +105,7 @@ spelt_first n sends sent first spelt i s here = spelt i s (got_first n sends i s
 pub none_spelt : (sent : List Sent) (first : ℕ) → AreSpelt [] sent first
 none_spelt sent first i s here = cc
 
--- so many of them, with no more than there are
+-- the first of them, and no more than there are
 pub spelt_taken : (count out : ℕ) (sends all : List Send) (sent : List Sent) (first : ℕ) → sends ≡ all → out ≡ min count (length all) → AreSpelt (take count all) sent first → AreSpelt (take out sends) sent first
 spelt_taken count out sends all sent first e o spelt =
     subst (λ (ss : List Send). AreSpelt ss sent first) (take_same all count out (omega (arith, o)) ∙ ap (take out) (sym e)) spelt

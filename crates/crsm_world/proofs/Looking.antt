@@ -1,4 +1,4 @@
--- What is seen of a world: the places of datagrams, and who is up.
+-- The view of a world: the indices of datagrams, and who is up.
 use Rattle.std.proofs.Common.{◌≡◌, ◌<◌, ◌≤◌, ◌+◌, ℕ, zero, suc, Bool, true, false, cond, not, ◌&&◌, ◌||◌, List, [], ◌∷◌, length, map, take, Option, Some, None, refl, ap, sym, ◌∙◌, subst, arith, inl, inr}
 use Rattle.std.specs.Prelude.{slice_get, filter, nat_eq, nat_lt, option_map}
 use Rattle.std.specs.List.{count_by, enumerate_from}

@@ -1,4 +1,4 @@
--- Schedules that grow by one event at their end, and what a schedule shows.
+-- Schedules that grow by one event at their end, and their transcripts.
 use Rattle.std.proofs.Common.{◌≡◌, ◌≢◌, ℕ, suc, ◌+◌, List, [], ◌∷◌, ◌++◌, Option, Some, None, map, length, slice_get, false, nat_eq, refl, ap, sym, ◌∙◌, arith, append_assoc, length-append}
 use Rattle.std.specs.List.{AllByRecursion, IsDistinct, flat_map}
 use Rattle.std.proofs.lemmas.List.{append-nil, map-append, length-map, flat_map_more}
@@ -16,7 +16,7 @@ use Rattle.crsm_spec.specs.Run.{traced, ArePossible, after_acts, told, seen, las
 use Rattle.crsm_world.specs.Doing.{single_of, act_of}
 use Rattle.crsm_world.specs.Schedule.{Schedule, no_events, with_event, line_count, ended, schedule_text, acts_of, IsNext, IsSchedule, last_world, Shown, shown_by, shown_from, shown, text_of, transcript, act_on, ShowsAll}
 
--- ---- what a line spells is an act
+-- ---- the text of a line is that of an act
 
 others_differ : (n : ℕ) (ms : List ℕ) → AllByRecursion (λ m. n ≢ m) ms → AllByRecursion (λ m. nat_eq n m ≡ false) ms
 others_differ n [] q = tt

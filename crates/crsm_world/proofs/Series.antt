@@ -221,7 +221,7 @@ took_more k t v is i w new taken more a g l all number step e =
           (subst (λ (ps : List Packet). AreStill (used_up a.number g.now.packets) ps) (sym after.packets) (still_longer (used_up a.number g.now.packets) (map (packet_of k) x.sends))));
     }
 
--- ---- let out in turn
+-- ---- sent in turn
 
 -- the world after some of the steps, which are out, and what is still to come of the others
 pub record Out (k t : ℕ) (v now : Cluster) (all rest : List DeliveredStep) (sent : List Sent) (place : ℕ) (w : World) (lines : List Line) : Type 0 where

@@ -1,4 +1,4 @@
--- Sites in memory and their places on paper, one by one.
+-- Machines in memory and their sites in the definitions, one by one.
 use Rattle.std.proofs.Common.{◌≡◌, ◌≢◌, ◌<◌, ◌≤◌, ◌+◌, ℕ, zero, suc, List, [], ◌∷◌, ◌++◌, length, map, take, get_or, set, ltb, true, false, Vec, Global, cond, Option, Some, None, Result, Ok, Err, refl, ap, sym, ◌∙◌, subst, arith, add-zero, eq-eqb, ne_eqb, Bor}
 use Rattle.std.proofs.lemmas.Bool.{ltb-false}
 use Rattle.std.specs.Prelude.{slice_get, slice_set, is_some, IfSome, MatchOption}

@@ -1,4 +1,4 @@
--- The acts that a world has done, and one more.
+-- The acts that a world has executed, and one more.
 use Rattle.std.proofs.Common.{◌≡◌, ℕ, List, [], ◌∷◌, ◌++◌, None, refl, sym, subst}
 use Rattle.crsm_schedule.specs.declared.Event.{Event}
 use Rattle.crsm_schedule.specs.Grammar.{FitsEvent}
@@ -27,7 +27,7 @@ unfolding after_acts
 possible_more v [] a p fits here = (fits, here, tt)
 possible_more v (x ∷ xs) a p fits here = (p.0, p.1, possible_more (act v x).after xs a p.2 fits here)
 
--- a world that has done these acts has done one more where that was possible and it stands for what comes of it
+-- a world that has executed these acts has executed one more, if that was possible and the world stands for its effect
 pub does_more : (old new : World) (n : ℕ) (acts : List Act) (e : Event) → HasDone old n acts → FitsEvent e
     → possible (last_world n acts) (act_of e) ≡ None → WorldStands new (act (last_world n acts) (act_of e)).after → HasDone new n (acts ++ act_of e ∷ [])
 unfolding last_world

@@ -1,4 +1,4 @@
--- What comes of a replica where something comes to it, and what of that is let out.
+-- The effects of an arrival at a replica, and which of them are sent and written.
 use Rattle.std.specs.Prelude.{◌≡◌, ◌+◌, ◌-◌, ℕ, List, ◌++◌, length, map, take, Some, slice_get, slice_set}
 use Rattle.std.specs.List.{AllByRecursion}
 use Rattle.crsm_core.specs.Core.{FitsSent}
@@ -17,17 +17,17 @@ use Rattle.crsm_world.specs.declared.ending.Effects.TheVariants as effects
 use Rattle.crsm_world.specs.declared.machines.Machines.{Machines}
 use Rattle.crsm_world.specs.Machines.{MachinesStand}
 
--- The step of replica k is kept, and these datagrams and replies of it are out. Its lines stand behind those before.
+-- The step of replica k is durable, and these datagrams and replies of it are sent. Its lines follow those before.
 pub record LetsOut (before : List Line) (packets : List Packet) (bytes k : ℕ) (x : Draft) (sends : List (ℕ × Datagram)) (replies : List Reply) (network : Network) (lines : List Line) : Type 0 where
   pub stands : NetworkStands network (packets ++ map (packet_of k) sends) (bytes + body_size x.batch + packets_size sends)
   pub told : lines ≡ before ++ (((x.lines ++ x.excess) ++ send_lines k (length packets) sends) ++ map (λ a. a.line) replies)
 
--- the same where so many of the draft's datagrams and replies are out, the datagrams first
+-- the same where this number of the draft's datagrams and replies are sent, the datagrams first
 abbrev pub LetsOutSome : ℕ → List Line → List Packet → (bytes k : ℕ) → Draft → Network → List Line → Type 0
 LetsOutSome count before packets bytes k x network lines =
     LetsOut before packets bytes k x (take count x.sends) (take (count - length x.sends) x.replies) network lines
 
--- What was left leads to the moment where it goes out, and the machines are already as they are then. What goes out was
+-- The effects lead to the moment at which they are sent, and the machines are already in that state. The datagrams were
 -- sent over their port.
 abbrev pub Leaves : Moment → Cluster → Effects → Machines → Type 0
 Leaves m v effects.Nothing sites = (m ≡ silent v v) × MachinesStand sites v.n v.sites
@@ -40,7 +40,7 @@ Leaves m v (effects.Cut k step first count) sites =
 Leaves m v (effects.Down k) sites =
     (p : Site) × (m ≡ down v k) × (slice_get v.sites k ≡ Some p) × MachinesStand sites v.n (slice_set v.sites k (Site.Down (log_of p)))
 
--- each datagram of the step has a spelling
+-- each datagram of the step has an encoding
 abbrev pub FitsEffects : Effects → Type 0
 FitsEffects (effects.Whole k step first) = AllByRecursion FitsSent step.batch.sends
 FitsEffects (effects.Cut k step first count) = AllByRecursion FitsSent step.batch.sends
@@ -50,12 +50,12 @@ FitsEffects _ = Unit {0}
 abbrev pub WhereUpIn : Machines → ℕ → (Cluster → Replica → Type 0) → Type 0
 WhereUpIn machines k P = (v : Cluster) (r : Replica) → MachinesStand machines v.n v.sites → slice_get v.sites k ≡ Some (Site.Up r) → P v r
 
--- for the moment to which the effects lead, from a cluster with the packets of the network, and for the machines whose port has
--- sent these
+-- for the moment to which the effects lead, from a cluster with the packets of the network, and for the machines whose
+-- port has sent these
 abbrev pub WhereLeft : Network → List Sent → Effects → (Moment → Machines → Type 0) → Type 0
 WhereLeft network sent effects P =
     (m : Moment) (v : Cluster) (sites : Machines) → NetworkStands network v.packets v.bytes → sent ≡ sites.port.sent → Leaves m v effects sites → P m sites
 
--- for the packets so far, and the draft that made the step
+-- for the packets before, and the draft of the step
 abbrev pub WhereMade : Network → Step → (List Packet → ℕ → Draft → Type 0) → Type 0
 WhereMade network step P = (packets : List Packet) (bytes : ℕ) (x : Draft) → NetworkStands network packets bytes → Makes step x → P packets bytes x

@@ -1,4 +1,4 @@
--- What holds of the acts that a world has done so far.
+-- The laws of the acts that a world has executed.
 use Rattle.std.specs.Prelude.{ℕ, ◌≤◌, List}
 use Rattle.crsm_spec.specs.World.{begin}
 use Rattle.crsm_spec.specs.Acts.{Act}
@@ -10,7 +10,7 @@ use Rattle.crsm_spec.specs.Durable.{KeepsAnswered}
 use Rattle.crsm_world.specs.declared.world.World.{World}
 use Rattle.crsm_world.specs.World.{WorldStands}
 
--- The world stands where a cluster of n replicas is after these acts, each of which was possible.
+-- The world is that of a cluster of n replicas after these acts, each of which was possible.
 pub record HasDone (w : World) (n : ℕ) (acts : List Act) : Type 0 where
   pub some : 1 ≤ n
   pub most : n ≤ 15

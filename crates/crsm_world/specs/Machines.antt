@@ -1,4 +1,4 @@
--- The places of the replicas, and how they are held in memory.
+-- The machines of the replicas, and their representation in memory.
 use Rattle.std.specs.Prelude.{◌≡◌, ◌≢◌, ◌≤◌, ℕ, ◌+◌, Bool, true, false, ◌==◌, if◌then◌else◌, List, [], ◌∷◌, ◌++◌, length, Option, Some, None, slice_get, slice_set}
 use Rattle.std.specs.Option.{option_map_or}
 use Rattle.crsm_spec.specs.World.{Site, is_up}
@@ -61,7 +61,7 @@ abbrev pub MachinesBoot : ℕ → List Site → (k : ℕ) → Log → Option Boo
 MachinesBoot n places k log (Some made) sites = Boots made (boot k n log) × MachinesStand sites n (slice_set places k (Site.Up (boot k n log).replica))
 MachinesBoot n places k log None sites = ⊥
 
--- the places with one more, where k is the number of replicas so far
+-- the places with one more, if k is the number of replicas
 unfoldable pub roomed : List Site → ℕ → List Site
 roomed places k = if k == length places then places ++ Site.Down [] ∷ [] else places
 
@@ -99,8 +99,8 @@ abbrev pub WherePending : Machines → ℕ → (ℕ → List Site → Replica �
 WherePending machines k P =
     (n : ℕ) (sites : List Site) (r : Replica) (steps : List Draft) → MachinesPend k steps machines n sites → slice_get sites k ≡ Some (Site.Up r) → P n sites r steps
 
--- The step is what the draft made, and the machines are these sites with the draft's replica at k. The port has sent, from
--- this place on, what the draft sends.
+-- The step is the output of the draft, and the machines are these sites with the draft's replica at k. The port has
+-- sent, from this index on, the draft's datagrams.
 abbrev pub StepsTo : Step → (first : ℕ) → Draft → Machines → ℕ → List Site → ℕ → Type 0
 StepsTo step first x machines n sites k =
     Makes step x × MachinesStand machines n (slice_set sites k (Site.Up x.replica)) × Sends machines.port first (x ∷ [])

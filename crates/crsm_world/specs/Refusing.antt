@@ -1,4 +1,4 @@
--- What a test of an event answers.
+-- The result of the check of an event.
 use Rattle.std.specs.Prelude.{◌≡◌, ◌≢◌, Option, None, Result, Ok, Err}
 use Rattle.crsm_spec.specs.Acts.{Bad as Cause}
 use Rattle.crsm_world.specs.declared.bad.Bad.{Bad}

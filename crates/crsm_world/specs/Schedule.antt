@@ -1,4 +1,4 @@
--- Schedules: their text, which of them can be run, and what a run of them writes.
+-- Schedules: their text, which of them can be run, and the transcript of a run.
 use Rattle.std.specs.Prelude.{◌≡◌, ℕ, zero, suc, ◌+◌, List, [], ◌∷◌, ◌++◌, length, map, Option, Some, None, slice_get}
 use Rattle.std.specs.List.{AllByRecursion, flat_map}
 use Rattle.crsm_spec.specs.Types.{Line}
@@ -37,16 +37,16 @@ ended line = line ++ 10 ∷ []
 unfoldable pub schedule_text : Schedule → List ℕ
 schedule_text s = ended (first_text s.replicas) ++ flat_map (λ e. ended (event_text e)) s.events
 
--- what happens, as acts of the world
+-- the events, as acts of the world
 unfoldable pub acts_of : Schedule → List Act
 acts_of s = map act_of s.events
 
--- a line spells the event, and it is possible here
+-- a line is the text of the event, which is possible here
 pub record IsNext (w : World) (e : Event) : Type 0 where
   pub fits : FitsEvent e
   pub possible_here : possible w (act_of e) ≡ None
 
--- Lines spell the schedule, and all of it is possible, each event in the world so far.
+-- Lines are the text of the schedule, and each event is possible in the world of those before.
 pub record IsSchedule (s : Schedule) : Type 0 where
   pub size : IsSize s.replicas
   pub fit : AllByRecursion FitsEvent s.events
@@ -67,7 +67,7 @@ pub record Shown : Type 0 where
 unfoldable pub shown_by : ℕ → Option Act → Line → Shown
 shown_by at by line = record { at = at; told = traced by line }
 
--- the lines of events, the first of which stands on this line of the schedule
+-- the lines of events, of which the first is on this line of the schedule
 unfoldable pub shown_from : World → ℕ → List Event → List Shown
 shown_from w at [] = []
 shown_from w at (e ∷ es) =
@@ -97,7 +97,8 @@ act_on s zero = None
 act_on s (suc zero) = None
 act_on s (suc (suc i)) = slice_get (acts_of s) i
 
--- The transcript has all lines that are seen, in order, each with the number of the line of the schedule that led to it.
+-- The transcript has all lines that are seen, in order, each with the number of the line of the schedule that led to
+-- it.
 pub record ShowsAll (s : Schedule) : Type 0 where
   pub all : map (λ x. x.told) (shown s) ≡ seen s.replicas (acts_of s)
   pub numbered : AllByRecursion (λ x. x.told.by ≡ act_on s x.at) (shown s)

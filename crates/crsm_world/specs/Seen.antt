@@ -1,4 +1,4 @@
--- What is seen of a world by whoever draws its events.
+-- The view of a world from which its events are generated.
 use Rattle.std.specs.Prelude.{◌≡◌, ℕ, Bool, true, false, map}
 use Rattle.crsm_sim_generator.specs.View.{Mark, View}
 use Rattle.crsm_spec.specs.World.{Packet, World as Cluster, is_up, is_up_at}
@@ -11,7 +11,7 @@ mark_of p = record { to = p.to; used = p.used }
 unfoldable pub view_of : Cluster → View
 view_of v = record { ups = map is_up v.sites; marks = map mark_of v.packets }
 
--- the world in memory is seen as the one on paper that it stands for
+-- the view of the world in memory is that of the world of the definitions that it stands for
 pub record IsSeenAs (w : World) (view : View) : Type 0 where
   pub cluster : Cluster
   pub stands : WorldStands w cluster

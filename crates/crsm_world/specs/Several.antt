@@ -42,14 +42,14 @@ all_gone t is w = together w (go_all t is w)
 abbrev pub gone : ℕ → ℕ → World → Moment
 gone t i w = single whole_step w (Single.Go i t)
 
--- the step of a datagram that comes to r
+-- the step of a datagram delivered to r
 abbrev pub step_of : Replica → Packet → ℕ → Draft
 step_of r p t = step r (Input.Came p.from p.datagram) t
 
 abbrev pub number_of : DeliveredStep → ℕ
 number_of a = a.number
 
--- what each step sends has a spelling
+-- each output of the step has an encoding
 abbrev pub FitsTaken : DeliveredStep → Type 0
 FitsTaken a = AllByRecursion FitsSent a.step.batch.sends
 
@@ -84,7 +84,7 @@ pub record TookAll (k t : ℕ) (v : World) (is : List ℕ) (w : WorldInMemory) (
   pub held : HoldsBeside k steps w v now.n now.sites
   pub still : AreStill v.packets now.packets
 
--- the step of datagram i of v, which comes to r behind other steps, neither kept nor out
+-- the step of datagram i of v, which is delivered to r after other steps, neither durable nor sent
 abbrev pub TakesOne : (k t i : ℕ) → WorldInMemory → DeliveredStep → World → ℕ → List Site → Replica → List Draft → Type 0
 TakesOne k t i w taken v n places r steps = (p : Packet) → slice_get v.packets i ≡ Some p →
     Makes taken.step (step_of r p t) × HoldsBeside k (steps ++ step_of r p t ∷ []) w v n (slice_set places k (Site.Up (step_of r p t).replica))

@@ -1,4 +1,4 @@
--- How a step ends, and what comes of a turn of a replica.
+-- The ending of a step, and the effects of a replica's turn.
 use Rattle.std.specs.Prelude.{◌≡◌, ◌≤◌, ℕ, Option, Some, None, slice_get}
 use Rattle.crsm_base.specs.MessageReading.{datagram_of}
 use Rattle.crsm_base.specs.Messages.{datagram_bytes}
@@ -10,7 +10,7 @@ use Rattle.crsm_spec.specs.Moments.{silent, cut_at}
 use Rattle.crsm_world.specs.declared.ending.Ending.{Ending as EndingInMemory}
 use Rattle.crsm_world.specs.declared.ending.Ending.TheVariants as endings
 
--- how the step ends on paper
+-- the ending of the step in the definitions
 unfoldable pub ending_of : EndingInMemory → Ending
 ending_of endings.Whole = whole_step
 ending_of (endings.Kept sends) = cut_step sends

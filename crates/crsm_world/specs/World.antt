@@ -10,13 +10,13 @@ use Rattle.crsm_sim_network.specs.declared.Network.{Network}
 use Rattle.crsm_world.specs.Machines.{MachinesStand, MachinesPend}
 use Rattle.crsm_sim_network.specs.Packets.{NetworkStands}
 
--- The world has the machines, the datagrams and the bytes of this one on paper.
+-- The world has the machines, the datagrams and the bytes of this one of the definitions.
 pub record Holds (w : World) (v : Cluster) : Type 0 where
   pub sites : MachinesStand w.sites v.n v.sites
   pub network : NetworkStands w.network v.packets v.bytes
 
--- The world has the datagrams and the bytes of this one on paper. Its machines are these sites, where the last steps of
--- replica k, these, are neither kept nor out.
+-- The world has the datagrams and the bytes of this one of the definitions. Its machines are these sites, where the
+-- last steps of replica k, these, are neither durable nor sent.
 pub record HoldsBeside (k : ℕ) (steps : List Draft) (w : World) (v : Cluster) (n : ℕ) (places : List Site) : Type 0 where
   pub sites : MachinesPend k steps w.sites n places
   pub network : NetworkStands w.network v.packets v.bytes
@@ -26,13 +26,13 @@ pub record Leads (m : Moment) (w : World) (lines : List Line) : Type 0 where
   pub after : Holds w m.after
   pub told : lines ≡ m.lines
 
--- the machines and the network are what the moment leads to, and its lines stand behind those before
+-- the machines and the network are those to which the moment leads, and its lines follow those before
 pub record LeadsOn (m : Moment) (sites : Machines) (network : Network) (before lines : List Line) : Type 0 where
   pub places : MachinesStand sites m.after.n m.after.sites
   pub packets : NetworkStands network m.after.packets m.after.bytes
   pub told : lines ≡ before ++ m.lines
 
--- The world in memory stands for this one on paper.
+-- The world in memory stands for this one of the definitions.
 pub record StandsInside (w : World) (v : Cluster) : Type 0 where
   pub unspent : w.is_spent ≡ false
   pub holds : Holds w v

@@ -1,11 +1,11 @@
-//! Why an event is not possible.
+//! The reasons why an event is not possible.
 
 use crsm_base::NoMemory;
 
-/// Why an event is not possible.
+/// The reason why an event is not possible.
 #[derive(Clone, Copy, Debug, PartialEq, Eq)]
 pub enum Bad {
-    /// The datagrams and the log bodies have so many bytes, which is the limit or above it.
+    /// The datagrams and the log bodies have `bytes` bytes together, which is the limit or above it.
     Full { bytes: u64 },
     /// No replica has this number.
     NoSuchReplica,
@@ -15,7 +15,7 @@ pub enum Bad {
     Used,
     /// The datagram was neither delivered nor lost before.
     Fresh,
-    /// The datagrams have not all one receiver.
+    /// The datagrams do not all have one receiver.
     Mixed,
     /// The replica is down.
     IsDown,
@@ -23,9 +23,9 @@ pub enum Bad {
     IsUp,
     /// The members are fewer than a majority.
     TooFew,
-    /// The bytes are a datagram.
+    /// The bytes are the encoding of a datagram.
     Forged,
-    /// Memory ran out. From then on the world answers nothing else.
+    /// Memory ran out. From then on the world returns no other result.
     NoMemory,
 }
 

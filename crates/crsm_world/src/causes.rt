@@ -1,4 +1,4 @@
-//! Why an event is not possible here: the causes, in their order.
+//! The checks whether an event is possible, in the order of their reasons.
 
 ghost use Rattle.std.specs.Prelude.{◌≡◌, [], ◌∷◌, ◌==◌, not, true, false, is_some, ℕ};
 ghost use Rattle.std.specs.List.{list_any};
@@ -20,7 +20,7 @@ use crsm_schedule::{Event, Single};
 use crsm_wire::{WireError, read_datagram};
 
 impl World {
-    /// Replica `k` is there and up.
+    /// Checks that replica `k` exists and is up.
     fn check_up(&self, k: u64) -> Result<(), Bad>
         ensures { WhereHolds self.now (λ v. Answers result (possible.first_bad (possible.causes_at v k))) }
     {
@@ -33,7 +33,7 @@ impl World {
         Ok(())
     }
 
-    /// The receiver of a datagram is down.
+    /// Returns whether the receiver of a datagram is down.
     fn is_receiver_down(&self, number: u64) -> bool
         ensures { WhereHolds self.now (λ v. result ≡ possible.is_receiver_down v number) }
     {
@@ -43,7 +43,7 @@ impl World {
         }
     }
 
-    /// A datagram is fresh, and its receiver is up.
+    /// Checks that a datagram is fresh, and its receiver is up.
     fn check_go(&self, number: u64) -> Result<(), Bad>
         ensures { (v : on_paper.World) (t : ℕ) → Holds self.now v → Answers result (possible.first_bad (possible.causes_of_single v (OneStep.Go number t))) }
     {
@@ -59,7 +59,7 @@ impl World {
         Ok(())
     }
 
-    /// A datagram was used, and its receiver is up.
+    /// Checks that a datagram was used, and its receiver is up.
     fn check_again(&self, number: u64) -> Result<(), Bad>
         ensures { (v : on_paper.World) (t : ℕ) → Holds self.now v → Answers result (possible.first_bad (possible.causes_of_single v (OneStep.Again number t))) }
     {
@@ -75,7 +75,7 @@ impl World {
         Ok(())
     }
 
-    /// A datagram is fresh.
+    /// Checks that a datagram is fresh.
     fn check_lose(&self, number: u64) -> Result<(), Bad>
         ensures { WhereHolds self.now (λ v. Answers result (possible.first_bad (possible.causes_of v (Act.Lose number)))) }
     {
@@ -88,7 +88,7 @@ impl World {
         Ok(())
     }
 
-    /// A replica can boot.
+    /// Checks that a replica can boot.
     fn check_start(&self, k: u64) -> Result<(), Bad>
         ensures { WhereHolds self.now (λ v. Answers result (possible.first_bad (possible.causes_of v (Act.Start k)))) }
     {
@@ -102,7 +102,7 @@ impl World {
         Ok(())
     }
 
-    /// One of these is no replica.
+    /// Returns whether one of these is not a replica.
     fn lacks_one(&self, members: &[u32]) -> bool
         ensures { WhereHolds self.now (λ v. result ≡ list_any (possible.is_none_of v) members.now) }
     {
@@ -110,7 +110,7 @@ impl World {
         one_is_past(count, members)
     }
 
-    /// The members are of the Spec of a replica, and fewer than a majority of it.
+    /// Checks that the members, if all of them count in majorities at replica `k`, are at least a majority there.
     fn check_members(&self, k: u64, members: &Members) -> Result<(), Bad>
         ensures { WhereHolds self.now (λ v. on_paper.is_up_at v k ≡ true →
             Answers result (possible.first_bad ((possible.are_too_few (spec v.n (on_paper.log_at v k)) members.now, Cause.TooFew) ∷ []))) }
@@ -124,7 +124,7 @@ impl World {
         Ok(())
     }
 
-    /// Replicas can be suspected.
+    /// Checks that replicas can be suspected.
     fn check_suspect(&self, k: u64, members: &Members) -> Result<(), Bad>
         ensures { (v : on_paper.World) (t : ℕ) → Holds self.now v → Answers result (possible.first_bad (possible.causes_of_single v (OneStep.Suspect k t members.now))) }
     {
@@ -140,7 +140,7 @@ impl World {
         self.check_members(k, members)
     }
 
-    /// Bytes from nowhere can come.
+    /// Checks that bytes from no replica can arrive.
     fn check_junk(&self, k: u64, bytes: &[u8]) -> Result<(), Bad>
         ensures { (v : on_paper.World) (t : ℕ) → Holds self.now v → Answers result (possible.first_bad (possible.causes_of_single v (OneStep.Junk k t bytes.now))) }
     {
@@ -153,7 +153,7 @@ impl World {
         self.check_bytes(bytes)
     }
 
-    /// Bytes are no datagram.
+    /// Checks that bytes are not the encoding of a datagram.
     fn check_bytes(&self, bytes: &[u8]) -> Result<(), Bad>
         ensures { Answers result (possible.first_bad ((is_some (datagram_of bytes.now), Cause.Forged) ∷ [])) }
     {
@@ -167,7 +167,7 @@ impl World {
         }
     }
 
-    /// A step of one replica is possible.
+    /// Checks that a step of one replica is possible.
     fn check_single(&self, single: &Single) -> Result<(), Bad>
         ensures { WhereHolds self.now (λ v. Answers result (possible.first_bad (possible.causes_of_single v (single_of single.now)))) }
     {
@@ -185,7 +185,7 @@ impl World {
         }
     }
 
-    /// One of these was not sent.
+    /// Returns whether one of these was not sent.
     fn lacks_packets(&self, numbers: &[u64]) -> bool
         ensures { WhereHolds self.now (λ v. result ≡ list_any (possible.is_not_sent v) numbers.now) }
     {
@@ -197,7 +197,7 @@ impl World {
         false
     }
 
-    /// One of these is used.
+    /// Returns whether one of these is used.
     fn has_used(&self, numbers: &[u64]) -> bool
         ensures { WhereHolds self.now (λ v. result ≡ list_any (possible.is_used v) numbers.now) }
     {
@@ -209,7 +209,7 @@ impl World {
         false
     }
 
-    /// The receiver of one of these is down.
+    /// Returns whether the receiver of one of these is down.
     fn has_receiver_down(&self, numbers: &[u64]) -> bool
         ensures { WhereHolds self.now (λ v. result ≡ list_any (possible.is_receiver_down v) numbers.now) }
     {
@@ -221,7 +221,7 @@ impl World {
         false
     }
 
-    /// The receivers of these are not all the same.
+    /// Returns whether the receivers of these differ.
     fn are_mixed(&self, numbers: &[u64]) -> bool
         ensures { WhereHolds self.now (λ v. list_any (possible.is_not_sent v) numbers.now ≡ false → result ≡ possible.are_mixed (possible.receivers v numbers.now)) }
     {
@@ -234,7 +234,7 @@ impl World {
         }
     }
 
-    /// One of these has another receiver.
+    /// Returns whether one of these has another receiver.
     fn one_is_for_another(&self, to: u32, numbers: &[u64]) -> bool
         ensures { WhereHolds self.now (λ v. result ≡ list_any (λ i. not (receiver_or v.packets i == to)) numbers.now) }
     {
@@ -246,7 +246,7 @@ impl World {
         false
     }
 
-    /// Deliveries together are possible.
+    /// Checks that a joint delivery is possible.
     fn check_batch(&self, numbers: &[u64]) -> Result<(), Bad>
         ensures { WhereHolds self.now (λ v. Answers result (possible.first_bad (possible.causes_of_batch v numbers.now))) }
     {
@@ -265,7 +265,7 @@ impl World {
         Ok(())
     }
 
-    /// An event is possible in a world that is not full.
+    /// Checks that an event is possible in a world that is not full.
     fn check_event(&self, event: &Event) -> Result<(), Bad>
         ensures { WhereHolds self.now (λ v. Answers result (possible.first_bad (possible.causes_of v (act_of event.now)))) }
     {
@@ -283,7 +283,7 @@ impl World {
         }
     }
 
-    /// An event is possible; else the first cause why not.
+    /// Checks that an event is possible. The error is the first reason why it is not.
     pub(crate) fn check(&self, event: &Event) -> Result<(), Bad>
         ensures { WhereHolds self.now (λ v. Answers result (possible.possible v (act_of event.now))) }
     {
@@ -296,5 +296,5 @@ impl World {
     }
 }
 
-/// Lets a datagram go, in a function of its own, which keeps its cases out of its caller's proof.
+/// Drops a datagram in its own function, which keeps its cases out of its caller's proof.
 fn discard(_datagram: Datagram) {}

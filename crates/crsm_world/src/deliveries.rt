@@ -1,4 +1,4 @@
-//! What comes of an event.
+//! The events of one replica: deliveries, requests, ticks and suspicions.
 
 ghost use Rattle.std.specs.Prelude.{◌≡◌, ◌<◌, None, Some, ℕ, fold, drop, length, slice_get, IfOk, OnOk};
 ghost use Rattle.crsm_sim_machine.specs.Arriving.{turn_of, IsShort};
@@ -22,7 +22,7 @@ use crsm_sim_machine::Arrival;
 use crsm_wire::write_datagram;
 
 impl World {
-    /// Something comes to a replica, whose step ends so. Nothing happens where it is not up.
+    /// Runs a step of replica `k` on an arrival, and ends it as `ending` says. Nothing happens if the replica is down.
     fn arrive(
         &mut self,
         k: u64,
@@ -47,7 +47,7 @@ impl World {
         Ok(())
     }
 
-    /// Bytes come to a replica from an address.
+    /// Delivers bytes from an address to a replica.
     fn bytes_arrive(
         &mut self,
         k: u64,
@@ -70,7 +70,7 @@ impl World {
         Ok(())
     }
 
-    /// The datagram with this number comes to its receiver. Its bytes stay where they are kept.
+    /// Delivers the datagram with this number to its receiver. Its bytes stay in the network.
     fn come(
         &mut self,
         ending: Ending,
@@ -106,7 +106,7 @@ impl World {
         Ok(())
     }
 
-    /// The datagram with this number is used, and comes to its receiver.
+    /// Marks the datagram with this number as used, and delivers it to its receiver.
     pub(crate) fn go(
         &mut self,
         ending: Ending,
@@ -123,7 +123,7 @@ impl World {
         Ok(())
     }
 
-    /// A client's command comes to a replica.
+    /// Delivers a client's command to a replica.
     fn request(
         &mut self,
         ending: Ending,
@@ -146,7 +146,7 @@ impl World {
         Ok(())
     }
 
-    /// One step of one replica, which ends so. Its lines go behind those so far.
+    /// Runs one step at one replica, ends it as `ending` says, and appends its lines.
     fn add_single(
         &mut self,
         ending: Ending,
@@ -185,7 +185,7 @@ impl World {
         }
     }
 
-    /// One step of one replica, which ends so.
+    /// Runs one step at one replica and ends it as `ending` says. Returns its lines.
     pub(crate) fn do_single(&mut self, ending: Ending, single: &Single) -> Result<Lines, NoMemory>
         requires ends { FitsEnding ending }
         requires fits { FitsSingle single.now }

@@ -1,8 +1,9 @@
-//! How a step ends, and what it leaves to be let out.
+//! The ending of a step, and its effects before they are sent and written.
 
 use crsm_sim_machine::Step;
 
-/// Where the put of a step stops: after so many device calls, with this byte in the ranges that were not synced.
+/// The point where the put of a step stops: after `calls` calls of the disk, with the byte `fill` in the ranges that
+/// were not synced.
 #[derive(Clone, Copy)]
 pub(crate) struct StepStop {
     pub calls: u64,
@@ -12,35 +13,35 @@ pub(crate) struct StepStop {
 /// How a step ends.
 #[derive(Clone, Copy)]
 pub(crate) enum Ending {
-    /// All of it goes out, and the replica goes on.
+    /// All its output is sent, and the replica continues.
     Whole,
-    /// It stops when its records are kept and so many of its sends and replies are out.
+    /// The replica stops once its records are durable and the first `sends` of its datagrams and replies are sent.
     Kept { sends: u64 },
-    /// It stops behind the first write of its put: its records are not kept.
+    /// The replica stops after the first write of its put: its records are lost.
     Lost,
-    /// It stops within its put.
+    /// The replica stops during its put.
     At { stop: StepStop },
 }
 
-/// What came of a replica where something came to it, before its datagrams and lines are out.
+/// The effects of an arrival at a replica, before its datagrams are sent and its lines are written.
 #[derive(Drop)]
 pub(crate) enum Effects {
-    /// It was not up.
+    /// None: the replica was down.
     Nothing,
-    /// All of its step goes out, which the port has sent from `first` on.
+    /// All output of the step, which the port has sent from index `first` on.
     Whole {
         k: u32,
         step: Step,
         first: usize,
     },
-    /// So many of the sends and replies of its step go out. It is down.
+    /// The first `sends` datagrams and replies of the step. The replica is down.
     Cut {
         k: u32,
         step: Step,
         first: usize,
         sends: u64,
     },
-    /// It is down, and nothing goes out.
+    /// None: the replica is down.
     Down {
         k: u32,
     },

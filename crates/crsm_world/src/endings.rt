@@ -1,4 +1,4 @@
-//! Steps of replicas, each with its ending.
+//! Steps of replicas with each ending.
 
 ghost use Rattle.std.specs.Prelude.{◌≡◌, ◌≤◌, ◌<◌, Some, length, slice_get, IfOk};
 ghost use Rattle.crsm_sim_machine.specs.Arriving.{turn_of, IsShort};
@@ -16,7 +16,7 @@ use crsm_base::NoMemory;
 use crsm_sim_machine::Arrival;
 
 impl Machines {
-    /// A whole step of a replica that is up.
+    /// Runs a whole step of a replica that is up.
     fn step_whole(
         &mut self,
         k: u32,
@@ -33,7 +33,8 @@ impl Machines {
         Ok(Effects::Whole { k, step, first })
     }
 
-    /// A step of a replica that is up, which stops when its records are kept and so many of its sends are out.
+    /// Runs a step of a replica that is up, which stops once its records are durable and its first `sends` datagrams
+    /// and replies are sent.
     fn step_kept(
         &mut self,
         k: u32,
@@ -57,7 +58,7 @@ impl Machines {
         })
     }
 
-    /// A replica goes down with what is on its disk.
+    /// Takes a replica down with the content of its disk. `NoMemory` if memory runs out.
     pub fn go_down(&mut self, k: u32) -> Result<Effects, NoMemory>
         requires { k < length self.old.items.items }
         ensures leaves { IfOk result (λ effects. (v : on_paper.World) (p : on_paper.Site) → MachinesStand self.old v.n v.sites → slice_get v.sites k ≡ Some p →
@@ -68,7 +69,7 @@ impl Machines {
         Ok(Effects::Down { k })
     }
 
-    /// A step of a replica that is up, which stops within its put.
+    /// Runs a step of a replica that is up, which stops during its put.
     fn step_stopped(
         &mut self,
         k: u32,
@@ -94,7 +95,8 @@ impl Machines {
         }
     }
 
-    /// Something comes to a replica, whose step ends so. Nothing happens where it is not up.
+    /// Runs a step of replica `k` on an arrival, and ends it as `ending` says. Nothing happens if the replica is down.
+    /// `NoMemory` if memory runs out.
     pub fn arrive(
         &mut self,
         k: u64,
@@ -115,7 +117,7 @@ impl Machines {
             Ending::Whole => Ok(self.step_whole(k, arrival, reading)?),
             Ending::Kept { sends } => Ok(self.step_kept(k, sends, arrival, reading)?),
             Ending::Lost => {
-                // What is not synced then reads as an open gate, and its records are lost all the same.
+                // The gate that was not synced then reads as open, and the records are lost all the same.
                 let stop = StepStop { calls: 1, fill: 1 };
                 Ok(self.step_stopped(k, stop, arrival, reading)?)
             }

@@ -1,4 +1,4 @@
-//! Events, each with its change.
+//! The effect of each event.
 
 ghost use Rattle.std.specs.Prelude.{◌≡◌, true, None, IfOk};
 ghost use Rattle.crsm_schedule.specs.Grammar.{FitsEvent};
@@ -17,7 +17,7 @@ use crsm_base::{Lines, NoMemory};
 use crsm_schedule::Event;
 
 impl World {
-    /// A datagram is lost.
+    /// Marks a datagram as lost.
     fn lose(&mut self, number: u64) -> Lines
         ensures { WhereHolds self.old (λ v. Leads (act v (Act.Lose number)) self.new result) }
     {
@@ -25,7 +25,7 @@ impl World {
         Lines::new(self.alloc)
     }
 
-    /// A replica that is up goes down.
+    /// Takes down a replica that is up.
     fn crash(&mut self, replica: u64) -> Result<Lines, NoMemory>
         ensures { IfOk result (λ lines. WhereHolds self.old (λ v. on_paper.is_up_at v replica ≡ true → Leads (on_paper.down v replica) self.new lines)) }
     {
@@ -44,7 +44,7 @@ impl World {
         Ok(lines)
     }
 
-    /// A replica that is down, or the next new one, boots.
+    /// Boots a replica that is down, or the next new one.
     pub(crate) fn start(&mut self, replica: u64) -> Result<Lines, NoMemory>
         ensures { IfOk result (λ lines. WhereHolds self.old (λ v. CanStart v replica → Leads (start_at v replica) self.new lines)) }
     {
@@ -55,7 +55,7 @@ impl World {
         Ok(boot.lines)
     }
 
-    /// Does an event that is possible.
+    /// Executes an event that is possible, and returns its lines.
     pub(crate) fn happen(&mut self, event: &Event) -> Result<Lines, NoMemory>
         requires { FitsEvent event.now }
         ensures { IfOk result (λ lines. WhereHolds self.old (λ v. possible v (act_of event.now) ≡ None → Leads (act v (act_of event.now)) self.new lines)) }

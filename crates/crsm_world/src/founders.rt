@@ -1,8 +1,8 @@
-//! How many replicas a cluster begins with.
+//! The number of replicas that a cluster begins with.
 
 ghost use Rattle.std.specs.Prelude.{◌≡◌, ◌≤◌};
 
-/// How many replicas a cluster began with.
+/// The number of replicas that a cluster began with.
 #[derive(Clone, Copy)]
 pub(crate) struct Founders {
     count: u32,
@@ -11,7 +11,7 @@ pub(crate) struct Founders {
 }
 
 impl Founders {
-    /// So many of them.
+    /// Returns the founders of a cluster of `count` replicas.
     pub fn new(count: u32) -> Founders
         requires some { 1 ≤ count }
         requires most { count ≤ 15 }
@@ -20,7 +20,7 @@ impl Founders {
         Founders { count }
     }
 
-    /// How many they are.
+    /// Returns the number of the founders.
     pub fn count(self) -> u32
         ensures count { result ≡ self.count }
         ensures some { 1 ≤ result }

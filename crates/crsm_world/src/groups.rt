@@ -1,4 +1,4 @@
-//! Several deliveries.
+//! Events with several deliveries.
 
 ghost use Rattle.std.specs.Prelude.{◌≡◌, ◌<◌, ◌+◌, None, Some, ℕ, List, fold, length, map, slice_get, IfOk, OnOk};
 ghost use Rattle.std.specs.List.{AllByRecursion};
@@ -14,7 +14,7 @@ use crate::world::World;
 use crsm_base::{Lines, MAX_DATAGRAM_BYTES, NoMemory, never};
 use crsm_sim_machine::{Arrival, Step, machines_pend_nothing};
 
-/// A datagram that was delivered, and the step that it made.
+/// A datagram that was delivered, and the output of its step.
 #[derive(Drop)]
 pub(crate) struct DeliveredStep {
     number: u64,
@@ -22,7 +22,7 @@ pub(crate) struct DeliveredStep {
 }
 
 impl World {
-    /// Delivers these in their order, each as a moment of its own, up to where the world is full.
+    /// Delivers these datagrams in order, each as a moment of its own, until the world is full.
     fn deliver_each(&mut self, reading: u64, due: &[u64]) -> Result<Lines, NoMemory>
         ensures { IfOk result (λ lines. WhereHolds self.old (λ v. Leads (each_gone reading due.now v) self.new lines)) }
     {
@@ -36,7 +36,7 @@ impl World {
         Ok(lines)
     }
 
-    /// Delivers all that is fresh now and whose receiver is up.
+    /// Delivers all datagrams that are fresh now and whose receivers are up.
     pub(crate) fn settle(&mut self, reading: u64) -> Result<Lines, NoMemory>
         ensures { IfOk result (λ lines. WhereHolds self.old (λ v. Leads (each_gone reading (moments.deliverable v) v) self.new lines)) }
     {
@@ -46,7 +46,7 @@ impl World {
         Ok(lines)
     }
 
-    /// Delivers a datagram to replica `k`, which is up, as one of the steps that are kept together.
+    /// Delivers a datagram to replica `k`, which is up, in one of the steps that become durable together.
     fn take(&mut self, k: u32, number: u64, reading: u64) -> Result<DeliveredStep, NoMemory>
         requires { k < length self.old.sites.items.items }
         ensures number { IfOk result (λ taken. taken.number ≡ number) }
@@ -54,7 +54,7 @@ impl World {
         ensures spelt { IfOk result (λ taken. FitsTaken taken) }
         ensures count { OnOk result (length self.new.sites.items.items ≡ length self.old.sites.items.items) }
     {
-        // A group is of datagrams that were sent.
+        // A group has only datagrams that were sent.
         let Some(packet) = self.network.packet(number) else {
             return Err(never());
         };
@@ -70,7 +70,7 @@ impl World {
         Ok(DeliveredStep { number, step })
     }
 
-    /// Delivers these to replica `k`, which is up. Their steps are not kept yet.
+    /// Delivers these datagrams to replica `k`, which is up. Their steps are not durable yet.
     fn take_all(
         &mut self,
         k: u32,
@@ -91,7 +91,8 @@ impl World {
         Ok(taken)
     }
 
-    /// Lets out what replica `k` has taken and kept, each step in turn. The port has sent all of it, from `first` on.
+    /// Sends the output of the durable steps of replica `k`, each step in turn. The port has sent all of it, from index
+    /// `first` on.
     fn let_each_out(
         &mut self,
         k: u32,
@@ -121,7 +122,7 @@ impl World {
         Ok(lines)
     }
 
-    /// Delivers these to replica `k`, which is up: their steps are kept together.
+    /// Delivers these datagrams to replica `k`, which is up: their steps become durable together.
     fn deliver_to(&mut self, k: u32, reading: u64, numbers: &[u64]) -> Result<Lines, NoMemory>
         requires { k < length self.old.sites.items.items }
         ensures { IfOk result (λ lines. WhereHeldUp self.old k (λ v r. AreFor k v.packets numbers.now →
@@ -133,7 +134,7 @@ impl World {
         Ok(lines)
     }
 
-    /// Delivers these together to their receiver. Nothing happens where it is not up.
+    /// Delivers these datagrams together to their receiver. Nothing happens if it is down.
     pub(crate) fn deliver_together(
         &mut self,
         reading: u64,
@@ -155,7 +156,7 @@ impl World {
         Ok(lines)
     }
 
-    /// These datagrams are used.
+    /// Marks these datagrams as used.
     fn use_up_all(&mut self, numbers: &[u64])
         ensures { WhereHolds self.old (λ v. Holds self.new (fold (λ u j. moments.use_up j u) v numbers.now)) }
     {
@@ -164,7 +165,7 @@ impl World {
         }
     }
 
-    /// The first of these is delivered, and its step is lost; the others are used.
+    /// Delivers the first of these datagrams in a step that is lost, and marks the others as used.
     pub(crate) fn lose_together(&mut self, reading: u64, numbers: &[u64]) -> Result<Lines, NoMemory>
         ensures { IfOk result (λ lines. WhereHolds self.old (λ v. Leads (moments.lose_batch reading numbers.now v) self.new lines)) }
     {
@@ -178,11 +179,11 @@ impl World {
     }
 }
 
-/// The place on a port behind what a step has sent from `place` on.
+/// Returns the index on a port after the datagrams that a step has sent from index `place` on.
 fn behind(place: usize, step: &Step) -> Result<usize, NoMemory>
     ensures { IfOk result (λ next. next ≡ place + length step.now.batch.sends) }
 {
     let count = step.batch.sends.as_slice().len();
-    // Whatever has a place is in memory.
+    // Whatever has an index is in memory.
     place.checked_add(count).ok_or(never())
 }

@@ -1,11 +1,11 @@
-//! Lines behind lines.
+//! Appending of lines to lines.
 
 ghost use Rattle.std.specs.Prelude.{◌≡◌, ◌++◌, ℕ, drop, take, OnOk};
 
 use crsm_base::{Line, Lines, NoMemory};
 use std::alloc::Global;
 
-/// Copies lines behind others.
+/// Appends copies of lines. `NoMemory` if memory runs out.
 pub(crate) fn add(alloc: Global, more: &[Line], lines: &mut Lines) -> Result<(), NoMemory>
     ensures { OnOk result (lines.new ≡ lines.old ++ more.now) }
 {
@@ -15,7 +15,8 @@ pub(crate) fn add(alloc: Global, more: &[Line], lines: &mut Lines) -> Result<(),
     Ok(())
 }
 
-/// Puts the first of these lines behind others, so many of them. Those that stand behind the first stay.
+/// Appends the first of these lines, as many as `count` says. Those after the first stay. `NoMemory` if memory runs
+/// out.
 pub(crate) fn add_first(
     alloc: Global,
     more: &mut Lines,
@@ -30,7 +31,7 @@ pub(crate) fn add_first(
         add(alloc, &told[..count], lines)?;
         return Ok(());
     }
-    // All of them go, as they mostly do: they are moved.
+    // Nearly always all of them are appended: they are moved.
     lines.append(more)?;
     Ok(())
 }

@@ -1,4 +1,4 @@
-//! A world as whoever draws its events sees it.
+//! The view of a world for generating its events.
 
 ghost use Rattle.std.specs.Prelude.{◌≡◌, ◌<◌, ◌==◌, ◌&&◌, ◌||◌, ℕ, Bool, length};
 ghost use Rattle.crsm_sim_network.specs.Packets.{Receives};
@@ -14,11 +14,11 @@ use crsm_sim_generator::Look;
 use crsm_sim_network::Receivers;
 
 impl Machines {
-    /// How many replicas there are so far.
+    /// Returns the number of replicas that have booted at least once.
     pub fn number(&self) -> u32
         ensures { WhereMachinesStand self.now (λ n places. result ≡ length places) }
     {
-        // There are no more than 15.
+        // There are at most 15.
         match u32::try_from(self.count()) {
             Ok(number) => number,
             Err(_) => MAX_REPLICAS,
@@ -35,7 +35,7 @@ impl Machines {
         }
     }
 
-    /// The replicas that are up, as receivers.
+    /// Returns the replicas that are up, as receivers.
     pub fn receivers(&self) -> Receivers
         ensures { WhereMachinesStand self.now (λ n places. Receives result (is_up_in places)) }
     {
@@ -48,7 +48,7 @@ impl Machines {
 }
 
 impl World {
-    /// The world has as many bytes as it may: no event is possible.
+    /// Returns whether the world's size is at its limit or above, so that no event is possible.
     #[tactic(auto, unfolding(crate::specs::World::WorldStands, crsm_spec::specs::World::is_full))]
     pub fn is_full(&self) -> bool
         ensures { WhereStands self.now (λ v. result ≡ on_paper.is_full v) }
@@ -56,7 +56,7 @@ impl World {
         self.network.is_full()
     }
 
-    /// All receivers, or those that are up.
+    /// Returns all receivers, or with `up` those that are up.
     #[tactic(auto, unfolding(crate::specs::World::WorldStands))]
     fn receivers(&self, up: bool) -> Receivers
         ensures { WhereStands self.now (λ v. Receives result (is_receiver up v)) }

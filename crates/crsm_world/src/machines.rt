@@ -1,4 +1,4 @@
-//! The places of the replicas.
+//! The machines of the replicas.
 
 ghost use Rattle.std.specs.Prelude.{◌≡◌, ◌≤◌, ◌<◌, [], ℕ, List, length, map, Some, None, slice_get, slice_set, IfOk, IfSome, IsTrue, MatchOption, OnOk};
 ghost use Rattle.std.specs.List.{AllByRecursion, enumerate_from};
@@ -21,18 +21,19 @@ use crsm_port::{MemPort, SentPackets};
 use crsm_sim_machine::{Arrival, Boot, Machine, Step};
 use std::alloc::Global;
 
-/// The place of each replica, by number.
+/// The machine of each replica, by number.
 #[derive(Drop)]
 pub(crate) struct Machines {
     alloc: Global,
     founders: Founders,
     items: Vec<Machine>,
-    /// Over which all of them send.
+    /// The port over which all of them send.
     port: MemPort,
 }
 
 impl Machines {
-    /// A cluster that is to begin with so many replicas.
+    /// Returns the machines of a cluster that begins with `n` replicas, before any has booted. `NoMemory` if memory
+    /// runs out.
     pub fn new(alloc: Global, n: u32) -> Result<Machines, NoMemory>
         requires some { 1 ≤ n }
         requires most { n ≤ 15 }
@@ -47,21 +48,21 @@ impl Machines {
         })
     }
 
-    /// What they have sent.
+    /// Returns the datagrams that they have sent.
     pub fn sent(&self) -> &SentPackets
         ensures { packets_of result.now ≡ self.now.port.sent }
     {
         self.port.sent()
     }
 
-    /// How many replicas there are so far.
+    /// Returns the number of replicas that have booted at least once.
     pub fn count(&self) -> u64
         ensures { WhereMachinesStand self.now (λ n places. result ≡ length places) }
     {
         self.items.len() as u64
     }
 
-    /// The place of a replica.
+    /// Returns the machine of a replica, or `None` if there is no such replica.
     pub fn get(&self, k: u64) -> Option<&Machine>
         ensures { WhereMachinesStand self.now (λ n places.
             MatchOption result (slice_get places k ≡ None) (λ machine. (p : on_paper.Site) × (slice_get places k ≡ Some p) × MachineStands machine.now k n p)) }
@@ -69,7 +70,7 @@ impl Machines {
         self.items.get(k as usize)
     }
 
-    /// A replica is up.
+    /// Returns whether a replica is up.
     #[tactic(auto, unfolding(crate::specs::Machines::is_up_in))]
     pub fn is_up(&self, k: u64) -> bool
         ensures up { WhereMachinesStand self.now (λ n places. result ≡ is_up_in places k) }
@@ -81,7 +82,7 @@ impl Machines {
         }
     }
 
-    /// The number of a replica that is up.
+    /// Returns `k` as the number of a replica that is up, or `None` if it is not up.
     pub fn up(&self, k: u64) -> Option<u32>
         ensures up { WhereMachinesStand self.now (λ n places. result ≡ up_in places k) }
         ensures within { IfSome result (λ j. j < length self.now.items.items) }
@@ -89,11 +90,11 @@ impl Machines {
         if !self.is_up(k) {
             return None;
         }
-        // There are no more than 15.
+        // There are at most 15.
         u32::try_from(k).ok()
     }
 
-    /// Which replicas are up, by number.
+    /// Returns for each replica whether it is up, by number. `NoMemory` if memory runs out.
     pub fn ups(&self) -> Result<Vec<bool>, NoMemory>
         ensures { IfOk result (λ ups. WhereMachinesStand self.now (λ n places. ups.items ≡ map on_paper.is_up places)) }
     {
@@ -104,7 +105,8 @@ impl Machines {
         Ok(ups)
     }
 
-    /// One step of a replica that is up, and the place on the port of the first datagram that it sent.
+    /// Runs one step of a replica that is up. Returns its output, and the index on the port of the first datagram that
+    /// it sent. `NoMemory` if memory runs out.
     pub fn step(
         &mut self,
         k: u32,
@@ -122,7 +124,8 @@ impl Machines {
         Ok(made)
     }
 
-    /// One step of a replica that is up, stopped after so many device calls. What it made is answered where it is kept.
+    /// Runs one step of a replica that is up, which stops after a number of disk calls. Returns its output, or `None`
+    /// if the step is lost. `NoMemory` if memory runs out.
     pub fn cut_at(
         &mut self,
         k: u32,
@@ -141,7 +144,7 @@ impl Machines {
         Ok(step)
     }
 
-    /// A replica goes down.
+    /// Takes a replica down. `NoMemory` if memory runs out.
     pub fn crash(&mut self, k: u32) -> Result<(), NoMemory>
         requires { k < length self.old.items.items }
         ensures stands { OnOk result (WhereSite self.old k (λ n places p. MachinesStand self.new n (slice_set places k (on_paper.Site.Down (on_paper.log_of p))))) }
@@ -151,7 +154,7 @@ impl Machines {
         Ok(())
     }
 
-    /// Makes room for the next new replica, where it is this one.
+    /// Makes room for the next new replica, if `k` is its number.
     fn make_room(&mut self, k: u64) -> Result<(), NoMemory>
         ensures { OnOk result (WhereMachinesStand self.old (λ n places. k < 15 → MachinesStand self.new n (roomed places k))) }
     {
@@ -163,7 +166,8 @@ impl Machines {
         Ok(())
     }
 
-    /// A replica that is down boots on its disk; the next new one has an empty disk.
+    /// Boots a replica that is down on its disk, or the next new one on an empty disk, and returns the boot's output.
+    /// `None` if there can be no such replica; `NoMemory` if memory runs out.
     pub fn start(&mut self, k: u64) -> Result<Option<Boot>, NoMemory>
         ensures { IfOk result (λ boot. WhereMachinesStand self.old (λ n places. k < 15 → (log : Log) → CanBoot places k log →
             MachinesBoot n (roomed places k) k log boot self.new)) }
@@ -176,7 +180,8 @@ impl Machines {
         Ok(Some(boot))
     }
 
-    /// One more step of a replica that is up, kept with others.
+    /// Runs one more step of a replica that is up, to become durable together with others. `NoMemory` if memory runs
+    /// out.
     pub fn take(&mut self, k: u32, arrival: Arrival<'_>, reading: u64) -> Result<Step, NoMemory>
         requires within { k < length self.old.items.items }
         requires short { IsShort arrival }
@@ -189,8 +194,8 @@ impl Machines {
         Ok(step)
     }
 
-    /// Keeps the records of the steps that a replica took, and gives the place on the port of the first datagram that they
-    /// sent.
+    /// Makes the records of the steps that a replica took durable, and returns the index on the port of the first
+    /// datagram that they sent. `NoMemory` if memory runs out.
     pub fn flush(&mut self, k: u32) -> Result<usize, NoMemory>
         requires { k < length self.old.items.items }
         ensures { IfOk result (λ first. (n : ℕ) (places : List on_paper.Site) (steps : List Draft) → MachinesPend k steps self.old n places → Sends self.new.port first steps × MachinesStand self.new n places) }
@@ -199,7 +204,8 @@ impl Machines {
         Ok(first)
     }
 
-    /// The replicas whose majorities count in the known epoch of a replica that is up.
+    /// Returns the replicas whose majorities count in the known epoch of a replica that is up, or `None` if it is not
+    /// up. `NoMemory` if memory runs out.
     pub fn spec(&self, k: u64) -> Result<Option<Members>, NoMemory>
         ensures { IfOk result (λ members. WhereMachinesStand self.now (λ n places. members ≡ spec_in n places k)) }
     {
@@ -209,7 +215,7 @@ impl Machines {
         }
     }
 
-    /// The last line of a replica.
+    /// Returns the final line of a replica.
     fn final_line(&self, replica: u32, machine: &Machine) -> Line
         ensures { (n : ℕ) (p : on_paper.Site) → MachineStands machine.now replica n p → result ≡ on_paper.final_line (replica, p) }
     {
@@ -221,13 +227,13 @@ impl Machines {
         }
     }
 
-    /// The last line of each replica.
+    /// Returns the final line of each replica. `NoMemory` if memory runs out.
     pub fn finals(&self) -> Result<Lines, NoMemory>
         ensures { IfOk result (λ lines. WhereMachinesStand self.now (λ n places. lines ≡ map on_paper.final_line (enumerate_from 0 places))) }
     {
         let mut lines = Lines::new(self.alloc);
         for (k, machine) in self.items.iter().enumerate() {
-            // There are no more than 15.
+            // There are at most 15.
             let Ok(replica) = u32::try_from(k) else {
                 return Err(never());
             };

@@ -1,4 +1,4 @@
-//! What a step lets out.
+//! The sending of a step's output.
 
 ghost use Rattle.std.specs.Prelude.{◌≡◌, ◌≤◌, ◌-◌, ◌++◌, ℕ, List, drop, length, take, OnOk};
 ghost use Rattle.std.specs.List.{AllByRecursion};
@@ -18,8 +18,8 @@ use crsm_sim_machine::Step;
 use crsm_sim_network::{Network, packets_in};
 use std::alloc::Global;
 
-/// A step of replica `k` is kept, and so many of its sends and replies go out, which a port has sent from `first` on. Its
-/// own lines come first, then those of the sends, then those of the replies, all behind the lines so far.
+/// Sends the first datagrams and replies of a durable step of replica `k`, which a port has sent from index `first` on.
+/// The step's own lines are appended first, then those of the datagrams, then those of the replies.
 pub(crate) fn let_out(
     alloc: Global,
     network: &mut Network,
@@ -48,7 +48,7 @@ pub(crate) fn let_out(
     Ok(())
 }
 
-/// Puts so many of the lines of replies behind others. They are behind the step's own lines.
+/// Appends the lines of the first replies, as many as are sent. They come after the step's own lines.
 fn add_replies(
     alloc: Global,
     told: &Lines,
@@ -64,7 +64,7 @@ fn add_replies(
     Ok(())
 }
 
-/// The same where all of it goes out.
+/// Does the same for all datagrams and replies of the step.
 pub(crate) fn let_all_out(
     alloc: Global,
     network: &mut Network,
@@ -83,7 +83,7 @@ pub(crate) fn let_all_out(
     Ok(())
 }
 
-/// What a replica left goes out, behind the lines so far. The port of all replicas has sent it.
+/// Sends the effects of an arrival and appends their lines. The port of all replicas has sent the datagrams.
 pub(crate) fn leave(
     alloc: Global,
     network: &mut Network,

@@ -1,4 +1,4 @@
-//! The world of a cluster.
+//! The world of a simulated cluster.
 
 ghost use Rattle.std.specs.Prelude.{◌≡◌, ◌≢◌, ◌≤◌, ◌+◌, ◌<◌, ℕ, None, IfOk, IfErr, IsErrOf, IsErr, IfSome, Some, List, [], ◌∷◌, ◌++◌, slice_get, is_some};
 ghost use Rattle.crsm_disk.specs.Memory.{meaning_of};
@@ -26,19 +26,20 @@ use crsm_sim_network::Network;
 use std::alloc::Global;
 use std::mem;
 
-/// A cluster: its replicas, and every datagram that was sent.
+/// A simulated cluster: its replicas, and every datagram that was sent.
 #[derive(Drop)]
 pub struct World {
     pub(crate) alloc: Global,
     pub(crate) sites: Machines,
     pub(crate) network: Network,
     pub(crate) is_spent: bool,
-    /// Lines that were taken back: only their room is of use.
+    /// Lines that were taken back: only their memory is used.
     spare: Lines,
 }
 
 impl World {
-    /// A cluster of so many replicas, which have just booted, and the lines of their boots.
+    /// Returns a cluster of `n` replicas that have just booted, and the lines of their boots. `NoMemory` if memory runs
+    /// out.
     pub fn new(alloc: Global, n: u32) -> Result<(World, Lines), NoMemory>
         requires some { 1 ≤ n }
         requires most { n ≤ 15 }
@@ -51,7 +52,7 @@ impl World {
             alloc,
             sites,
             network: Network::new(alloc),
-            // It is none before all have booted.
+            // It is not usable before all have booted.
             is_spent: true,
             spare: Lines::new(alloc),
         };
@@ -64,8 +65,8 @@ impl World {
         Ok((world, lines))
     }
 
-    /// Does an event, and gives its lines. After a cause other than memory the world is as before. Of all that the world has
-    /// done since it was made, the laws of a run hold.
+    /// Executes an event and returns its lines. After an error other than `NoMemory` the world is unchanged; after
+    /// `NoMemory` it is spent. The laws of a run hold for all events executed since the world was made.
     #[tactic(auto, unfolding(crate::specs::World::WorldStands, crate::specs::World::IsSpent))]
     pub fn step(&mut self, event: &Event) -> Result<Lines, Bad>
         requires { FitsEvent event.now }
@@ -87,7 +88,7 @@ impl World {
             return Err(bad);
         }
         let Ok(lines) = self.happen(event) else {
-            // Nobody is to go on from half an event.
+            // A caller must not continue from half an event.
             self.is_spent = true;
             return Err(Bad::NoMemory);
         };
@@ -99,7 +100,7 @@ impl World {
         Ok(lines)
     }
 
-    /// Takes back the lines of a step, so that the next step uses their room.
+    /// Takes back the lines of a step, so that the next step uses their memory.
     #[tactic(auto, unfolding(crate::specs::World::WorldStands, crate::specs::World::IsSpent))]
     pub fn take_back(&mut self, lines: Lines)
         ensures stands { WhereStands self.old (λ v. WorldStands self.new v) }
@@ -108,7 +109,7 @@ impl World {
         self.spare = lines;
     }
 
-    /// No lines yet, with the room of those that were taken back.
+    /// Returns empty lines with the memory of those that were taken back.
     pub(crate) fn no_lines(&mut self) -> Lines
         ensures none { result ≡ [] }
         ensures holds { WhereHolds self.old (λ v. Holds self.new v) }
@@ -118,8 +119,8 @@ impl World {
         lines
     }
 
-    /// The shell of a replica that is up: none where it is down, and where no replica has this number. Its core is that of
-    /// the replica, and its disk has the replica's log.
+    /// Returns the shell of a replica that is up, or `None` if it is down or does not exist. Its core is that of the
+    /// replica, and its disk has the replica's log.
     #[tactic(auto, unfolding(crate::specs::World::WorldStands))]
     pub fn shell(&self, replica: u32) -> Option<&Shell<MemDisk>>
         ensures up { WhereStands self.now (λ v. is_some result ≡ on_paper.is_up_at v replica) }
@@ -131,7 +132,8 @@ impl World {
         }
     }
 
-    /// The last lines, of a world whose acts so far keep the laws of a run.
+    /// Returns the final line of each replica. The laws of a run hold for the events of the world. `NoMemory` if memory
+    /// runs out.
     #[tactic(auto, unfolding(crate::specs::World::WorldStands, crate::specs::World::IsSpent, crsm_spec::specs::World::finals))]
     pub fn finals(&self) -> Result<Lines, NoMemory>
         ensures lines { WhereStands self.now (λ v. IfOk result (λ lines. lines ≡ on_paper.finals v)) }

@@ -1,4 +1,4 @@
--- What counts among the answers of a majority.
+-- The answer that counts among those of a majority.
 use Rattle.std.proofs.Common.{◌≡◌, ◌<◌, ◌≤◌, Bool, true, false, cond, ltb, ◌||◌, ◌&&◌, not, List, [], ◌∷◌, ◌++◌, arith, inl, inr, refl, sym, subst, Option, Some, None, append_assoc, append-nil}
 use Rattle.std.specs.List.{Contains, fold}
 use Rattle.std.specs.Option.{MatchOption}

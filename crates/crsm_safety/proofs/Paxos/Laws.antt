@@ -1,4 +1,4 @@
--- The laws of one instance, as the laws above them take them.
+-- The laws of one instance, for the crates above.
 use Rattle.std.proofs.Common.{◌≡◌, ℕ, ◌+◌, ◌≤◌, ◌⊎◌, true, List, length}
 use Rattle.std.specs.List.{Contains}
 use Rattle.std.specs.Option.{ForSome}

@@ -1,4 +1,4 @@
--- What is chosen was some proposer's own.
+-- A chosen decision was some proposer's own value.
 use Rattle.std.proofs.Common.{◌<◌, ℕ, List, [], ◌∷◌, ◌++◌, arith, inl, inr, refl, subst, Option, Some, None, append_assoc, append-nil}
 use Rattle.std.specs.List.{Contains}
 use Rattle.std.proofs.lemmas.List.Elements.{Contains-push, Contains-push_cases, Contains-append_left}

@@ -1,4 +1,4 @@
--- One replica alone can choose.
+-- A single replica can choose a decision.
 use Rattle.std.proofs.Common.{◌≡◌, List, [], ◌∷◌, arith, inl, inr, refl, subst, None}
 use Rattle.std.specs.List.{Contains, IsDistinct}
 use Rattle.std.proofs.lemmas.List.Elements.{Contains-push_cases}

@@ -1,4 +1,4 @@
--- One replica alone can decide.
+-- A single replica can decide.
 use Rattle.std.proofs.Common.{List, [], ◌∷◌, refl, arith}
 use Rattle.std.specs.List.{Contains}
 use Rattle.crsm_base.specs.Order.{ballot_lt, ballot_eq}

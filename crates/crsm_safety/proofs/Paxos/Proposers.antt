@@ -1,4 +1,4 @@
--- A proposer's acts are steps of its instance.
+-- A proposer's actions are steps of its instance.
 use Rattle.std.proofs.Common.{◌≡◌, ℕ, ◌+◌, ◌≤◌, Bool, true, false, cond, not, ◌&&◌, nat_eq, nat_le, List, [], ◌∷◌, ◌++◌, map, length, arith, inl, inr, refl, sym, subst, ap, ◌∙◌, None, length-append}
 use Rattle.std.specs.List.{Contains, IsDistinct, fold, list_any}
 use Rattle.std.proofs.lemmas.Cmp.{nat_eq_equiv}

@@ -1,4 +1,4 @@
--- An acceptor that is asked again in the ballot that it promised last answers the same, until something is proposed there.
+-- An acceptor that promises the same ballot again repeats its answer, until that ballot proposes.
 use Rattle.std.proofs.Common.{◌≡◌, ℕ, ◌⊎◌, true, List, [], ◌∷◌, ◌++◌, inl, inr, refl, sym, subst, Some, None}
 use Rattle.std.specs.List.{Contains}
 use Rattle.std.specs.Option.{ForSome}

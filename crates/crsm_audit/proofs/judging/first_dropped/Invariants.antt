@@ -5,6 +5,6 @@ use Rattle.crsm_audit.specs.Lists.{IsAscending}
 use Rattle.crsm_audit.specs.declared.account.Account.{Account}
 use Rattle.crsm_audit.proofs.judging.first_dropped.Given as goal
 
--- the accounts so far have none that is named
+-- the accounts before have no such report
 abbrev pub invariant-loop-index : goal.invariant-loop-index
 invariant-loop-index l = IsAscending l.places → (j : ℕ) (a : Account) → j < l.index → slice_get l.accounts j ≡ Some a → NoneNamed l.places a.dropped.items

@@ -5,6 +5,6 @@ use Rattle.crsm_audit.specs.Lists.{IsAscending}
 use Rattle.crsm_audit.specs.declared.place.Dropped.{Dropped}
 use Rattle.crsm_audit.proofs.judging.first_named.Given as goal
 
--- none of these so far is named
+-- none of those before is named
 abbrev pub invariant-loop-name : goal.invariant-loop-name
 invariant-loop-name l = IsAscending l.places → (q : ℕ) (d : Dropped) → q < l.name-index → slice_get l.account.dropped.items q ≡ Some d → IsNamed l.places d → ⊥

@@ -2,6 +2,6 @@ use Rattle.std.proofs.Common.{ℕ, ◌<◌}
 use Rattle.crsm_audit.specs.Judging.{OriginsStand, StrangeAt}
 use Rattle.crsm_audit.proofs.judging.stranger.Given as goal
 
--- no place so far has a stranger
+-- each entry before was logged by its origin
 abbrev pub invariant-loop-index : goal.invariant-loop-index
 invariant-loop-index l = OriginsStand l.accounts l.origins × ((q : ℕ) → q < l.index → StrangeAt l.accounts l.one l.places q → ⊥)

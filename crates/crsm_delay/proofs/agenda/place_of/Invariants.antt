@@ -4,6 +4,6 @@ use Rattle.crsm_spec_plan.specs.Timelines.{Precedes}
 use Rattle.crsm_delay.specs.Upcoming.{timed_of}
 use Rattle.crsm_delay.proofs.agenda.place_of.Given as goal
 
--- none so far happens after it
+-- none of those before happens after it
 abbrev pub invariant-loop-i : goal.invariant-loop-i
 invariant-loop-i l = AllByRecursion (λ g. Precedes (timed_of l.event) (timed_of g) → ⊥) (take l.i l.events)

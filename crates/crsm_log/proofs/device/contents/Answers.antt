@@ -1,6 +1,6 @@
 use Rattle.std.proofs.Common.{◌≡◌, length, take, ◌∙◌, ap, sym, arith}
 use Rattle.std.proofs.lemmas.List.{take_at}
-use Rattle.crsm_disk.specs.Calls.{noted, synced}
+use Rattle.crsm_port_image.specs.Calls.{noted, synced}
 use Rattle.crsm_log.proofs.Runs.{len_meets, read_meets, fetched, whole_read}
 use Rattle.crsm_log.proofs.device.contents.Goals as goal
 

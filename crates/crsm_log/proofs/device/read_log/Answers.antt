@@ -1,7 +1,7 @@
 use Rattle.std.proofs.Common.{refl, IsTrue, ◌≡◌, ◌<◌, ◌+◌, ℕ, List, [], ◌∷◌, length, ◌∙◌, ap, sym, subst, arith}
 use Rattle.std.proofs.lemmas.Result.{err_from_is_err_and}
 use Rattle.std.proofs.lemmas.Bool.Decides.{nat_tests}
-use Rattle.crsm_disk.specs.Calls.{synced, wrote}
+use Rattle.crsm_port_image.specs.Calls.{synced, wrote}
 use Rattle.crsm_log.specs.Log.{Used, mount_calls, mount_count, recorded}
 use Rattle.crsm_log.specs.Format.{found}
 use Rattle.crsm_log.specs.First.{ReadsFile}
@@ -27,7 +27,7 @@ returns-in_err-write_and_sync-clause-err g c =
       goes = record {
         honest = ran.goes.honest ∙ c.contents.ensures.goes.honest;
         fill = ran.goes.fill ∙ c.contents.ensures.goes.fill;
-        lent = ran.goes.lent ∙ c.contents.ensures.goes.lent;
+        borrowed_as = ran.goes.borrowed_as ∙ c.contents.ensures.goes.borrowed_as;
         later = omega (arith, ran.goes.later, c.contents.ensures.goes.later);
       };
       any_moment = λ honest.
@@ -66,7 +66,7 @@ returns-then-len-lt6-clause-ok g c =
       goes = record {
         honest = ran.goes.honest ∙ c.contents.ensures.goes.honest;
         fill = ran.goes.fill ∙ c.contents.ensures.goes.fill;
-        lent = ran.goes.lent ∙ c.contents.ensures.goes.lent;
+        borrowed_as = ran.goes.borrowed_as ∙ c.contents.ensures.goes.borrowed_as;
         later = omega (arith, ran.goes.later, c.contents.ensures.goes.later);
       };
       settled = λ honest. (settles honest).0;

@@ -1,6 +1,6 @@
 use Rattle.std.proofs.Common.{◌∙◌}
 use Rattle.std.proofs.lemmas.Result.{err_from_is_err_and}
-use Rattle.crsm_disk.specs.Calls.{synced, wrote}
+use Rattle.crsm_port_image.specs.Calls.{synced, wrote}
 use Rattle.crsm_log.proofs.Runs.{both, second_fails, spends_both, torn_only, torn_first}
 use Rattle.crsm_log.proofs.device.write_and_sync.Goals as goal
 

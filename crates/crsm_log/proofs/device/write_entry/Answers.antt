@@ -1,7 +1,7 @@
 use Rattle.std.proofs.Common.{ℕ, List, [], ◌∷◌, ◌∙◌, ◌+◌, ◌-◌, ◌≤◌, length, arith, ap, subst, Ok}
 use Rattle.std.proofs.lemmas.Result.{err_from_is_err_and}
 use Rattle.crsm_port_faults.specs.Plan.{Plan, spent}
-use Rattle.crsm_disk.specs.Calls.{synced, wrote}
+use Rattle.crsm_port_image.specs.Calls.{synced, wrote}
 use Rattle.crsm_disk.specs.Meaning.{Meaning}
 use Rattle.crsm_disk.proofs.Moments.{joined}
 use Rattle.crsm_log.specs.Log.{Ran, ServesPut, HasPlace, IsWithOrWithout}

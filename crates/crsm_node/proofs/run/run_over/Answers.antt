@@ -45,8 +45,8 @@ returns-in-Err-clause-runs g c =
     (inl (record { out = d.out; port = refl; clock = refl; sheet = refl; goes = d.goes; stays = d.stays; any_moment = d.any_moment }))
 
 -- a disk that is lent
-abbrev lent : {D : Type 0} → (D → Meaning) → MutBor D → Meaning
-lent meaning d = record (meaning d.now) { lent = Some d.ghost_name }
+abbrev borrowed_as : {D : Type 0} → (D → Meaning) → MutBor D → Meaning
+borrowed_as meaning d = record (meaning d.now) { borrowed_as = Some d.ghost_name }
 
 same_some : (a b : ℕ) → name a ≡ name b → a ≡ b
 same_some a b is = cc
@@ -59,10 +59,10 @@ returns-in-Err-boot-clause-runs g c =
     let disk = c.in-Err-boot._disk in
     let e = c.in-Err-boot.ensures in
     let f = c.in_default.ensures in
-    let claimed = record mid { lent = k } in
-    let d = boot_refused c.args.order.now old claimed (lent g.D.Disk.meaning disk) c.in-Err-boot.why f.goes.honest f.goes.fill f.goes.later
+    let claimed = record mid { borrowed_as = k } in
+    let d = boot_refused c.args.order.now old claimed (borrowed_as g.D.Disk.meaning disk) c.in-Err-boot.why f.goes.honest f.goes.fill f.goes.later
     (λ honest. claims_lent old mid c.args.order.now.cluster k (f.ok honest)) (λ honest. run_lent old mid (IsClaimedOrBefore old c.args.order.now.cluster) k (f.any_moment honest)) e.refused e.left_refused in
-    let back = c.disk-in-Err-boot-1.given.1 (same_some c.boot-arg-1.given disk.ghost_name (sym e.refused.goes.lent)) in
+    let back = c.disk-in-Err-boot-1.given.1 (same_some c.boot-arg-1.given disk.ghost_name (sym e.refused.goes.borrowed_as)) in
     let at = devices_of g.D.Disk.meaning g.P.Port.meaning g.C.Clock.readings g.O.Sink.written g.O.Sink.faults in
     subst (λ (x : NodeEnd). Runs c.args.order.now (at c.args.disk.now c.args.port.now c.args.clock.now c.args.sheet.now) (at c.disk-in-Err-boot-1.given.0 c.args.port.now c.args.clock.now c.args.sheet.now) x) (sym c.from-in-Err-boot.ensures)
     (subst (λ (x : g.row.D.Denot). Runs c.args.order.now (at c.args.disk.now c.args.port.now c.args.clock.now c.args.sheet.now) (at x c.args.port.now c.args.clock.now c.args.sheet.now) (boot_end c.in-Err-boot.why)) (sym back)
@@ -85,13 +85,13 @@ returns-in-Ok-clause-runs g c =
     let old = g.D.Disk.meaning c.args.disk.now in
     let mid = g.D.Disk.meaning c.claim.new.disk in
     let k = Some c.boot-arg-1.given in
-    let n : Meaning = record mid { lent = k } in
+    let n : Meaning = record mid { borrowed_as = k } in
     let b = c.in-Ok.booted in
     let e = c.in-Ok.ensures in
     let f = c.in_default.ensures in
     let s = b.shell in
     let s' = c.run_shell-ended.new.shell in
-    let o = lent g.D.Disk.meaning (disk_of s) in
+    let o = borrowed_as g.D.Disk.meaning (disk_of s) in
     let log = e.found.0 in
     let kept = e.found.1 in
     let boots = e.boots log kept in
@@ -114,13 +114,13 @@ returns-in-Ok-clause-runs g c =
     let left : IsTrue old.honest → LeavesOnly old n (IsClaimedOrBefore old order.cluster) = λ honest. run_lent old mid (IsClaimedOrBefore old order.cluster) k (f.any_moment honest) in
     let Final : g.row.D.Denot → Type 0 = λ x. Runs order (at c.args.disk.now c.args.port.now c.args.clock.now c.args.sheet.now) (at x c.run_shell-ended.new.port c.run_shell-ended.new.clock c.run_shell-ended.new.sheet) c.end_of.result in
     let back : (disk_of s').ghost_name ≡ (disk_of s).ghost_name → c.disk-1.given.0 ≡ (disk_of s').now = λ same.
-    c.disk-1.given.1 (sym (same_some (disk_of s).ghost_name c.boot-arg-1.given e.goes.lent) ∙ sym same ∙ ap (λ (d : MutBor g.row.D.Denot). d.ghost_name) (sym c.into_disk-disk.ensures.disk))
+    c.disk-1.given.1 (sym (same_some (disk_of s).ghost_name c.boot-arg-1.given e.goes.borrowed_as) ∙ sym same ∙ ap (λ (d : MutBor g.row.D.Denot). d.ghost_name) (sym c.into_disk-disk.ensures.disk))
     ∙ ap (λ (d : MutBor g.row.D.Denot). d.now) c.into_disk-disk.ensures.disk in
     elim ran [
       | inl served ↦
           let v = served.serves in
-          let p = lent g.D.Disk.meaning (disk_of s') in
-          subst Final (sym (back (same_some (disk_of s').ghost_name (disk_of s).ghost_name v.goes.lent)))
+          let p = borrowed_as g.D.Disk.meaning (disk_of s') in
+          subst Final (sym (back (same_some (disk_of s').ghost_name (disk_of s).ghost_name v.goes.borrowed_as)))
           (inr (runs_life order log v.groups v.lost old n o p a z before after had has faults more result c.end_of.result b.bodies c.logs_are_one.ensures f.goes.honest f.goes.fill f.goes.later e.goes claimed left e.bodies kept
           (λ honest. e.added honest log kept) e.left (record {
             most = v.most;
@@ -133,8 +133,8 @@ returns-in-Ok-clause-runs g c =
             keeps = v.keeps;
           }) c.end_of.ensures (life_writes b.bodies (life_of order log v.groups v.lost) had (g.O.Sink.written served.between) has result served.opened v.writes)
           (life_ends order (life_of order log v.groups v.lost) r unwatched v.groups v.lost
-          (node_of (lent g.D.Disk.meaning) g.P.Port.meaning g.C.Clock.readings g.O.Sink.written g.O.Sink.faults s served.before c.args.port.now c.args.clock.now served.between)
-          (node_of (lent g.D.Disk.meaning) g.P.Port.meaning g.C.Clock.readings g.O.Sink.written g.O.Sink.faults s' served.after c.run_shell-ended.new.port c.run_shell-ended.new.clock c.run_shell-ended.new.sheet)
+          (node_of (borrowed_as g.D.Disk.meaning) g.P.Port.meaning g.C.Clock.readings g.O.Sink.written g.O.Sink.faults s served.before c.args.port.now c.args.clock.now served.between)
+          (node_of (borrowed_as g.D.Disk.meaning) g.P.Port.meaning g.C.Clock.readings g.O.Sink.written g.O.Sink.faults s' served.after c.run_shell-ended.new.port c.run_shell-ended.new.clock c.run_shell-ended.new.sheet)
           (record { disk = unlent_disk old; port = unlent_port a; clock = before; sheet = had; faults = faults }) (record { disk = unlent_disk p; port = unlent_port z; clock = after; sheet = has; faults = more }) result refl refl v.ends refl refl served.later refl (omega (arith, first, second)) refl)))
       | inr failed ↦
           let t = failed.0 in
@@ -155,14 +155,14 @@ returns-in-Ok-clause-runs g c =
           ])
     ]
 
-pub returns-in-Ok-clause-coat : goal.returns-in-Ok-clause-coat
-returns-in-Ok-clause-coat g c =
+pub returns-in-Ok-clause-framing : goal.returns-in-Ok-clause-framing
+returns-in-Ok-clause-framing g c =
     let order = c.args.order.now in
     let e = c.in-Ok.ensures in
     let log = e.found.0 in
     elim (c.run_shell-ended.ensures (booted order log) (e.boots log e.found.1).stands (sym (boot_mine order.me order.n log))) [
-      | inl served ↦ served.serves.carries.coat
-      | inr failed ↦ ap (λ (m : PortMeaning). m.coat) failed.2
+      | inl served ↦ served.serves.carries.framing
+      | inr failed ↦ ap (λ (m : PortMeaning). m.framing) failed.2
     ]
 
 pub returns-in-Ok-clause-lent : goal.returns-in-Ok-clause-lent
@@ -171,6 +171,6 @@ returns-in-Ok-clause-lent g c =
     let e = c.in-Ok.ensures in
     let log = e.found.0 in
     elim (c.run_shell-ended.ensures (booted order log) (e.boots log e.found.1).stands (sym (boot_mine order.me order.n log))) [
-      | inl served ↦ served.serves.carries.lent
-      | inr failed ↦ ap (λ (m : PortMeaning). m.lent) failed.2
+      | inl served ↦ served.serves.carries.borrowed_as
+      | inr failed ↦ ap (λ (m : PortMeaning). m.borrowed_as) failed.2
     ]

@@ -2,7 +2,7 @@ use Rattle.std.proofs.Common.{◌≡◌, ◌++◌, take}
 use Rattle.crsm_audit.specs.Accounts.{own_in, spelt}
 use Rattle.crsm_audit.proofs.account.Account.hold_all.Given as goal
 
--- the own entries so far are held, and the rest is as before
+-- the own entries before are added, and the rest is as before
 abbrev pub invariant-loop-rec : goal.invariant-loop-rec
 invariant-loop-rec l =
     (l.self.held ≡ l.initial.self.held ++ spelt (own_in l.initial.self.me (take l.rec-index l.recs)))

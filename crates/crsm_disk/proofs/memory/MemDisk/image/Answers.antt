@@ -1,7 +1,7 @@
 use Rattle.std.proofs.Common.{sym, subst, ◌≡◌, [], ◌∙◌, ap, refl, List, ℕ}
 use Rattle.crsm_disk.specs.Memory.{Memory}
-use Rattle.crsm_disk.proofs.Painted.{image_is}
-use Rattle.crsm_disk.specs.Image.{IsImage, image_of}
+use Rattle.crsm_port_image.proofs.Painted.{image_is}
+use Rattle.crsm_port_image.specs.Image.{IsImage, image_of}
 use Rattle.crsm_disk.specs.Records.{told, painted_by}
 use Rattle.std.proofs.lemmas.List.{with_items_is}
 use Rattle.crsm_disk.proofs.Told.{painted_is_image}

@@ -1,9 +1,9 @@
 use Rattle.std.proofs.Common.{sym, subst, [], ◌∙◌, ap, refl, arith, List, length}
 use Rattle.std.specs.Vec.{with_items}
 use Rattle.std.proofs.lemmas.List.{with_items_is}
-use Rattle.crsm_disk.specs.Calls.{contents}
-use Rattle.crsm_disk.specs.Image.{IsImage}
-use Rattle.crsm_disk.proofs.Painted.{image_is}
+use Rattle.crsm_port_image.specs.Calls.{contents}
+use Rattle.crsm_port_image.specs.Image.{IsImage}
+use Rattle.crsm_port_image.proofs.Painted.{image_is}
 use Rattle.crsm_disk.specs.Memory.{Memory}
 use Rattle.crsm_disk.specs.Records.{told, total}
 use Rattle.crsm_disk.specs.declared.record.Record.{Record}

@@ -1,7 +1,7 @@
 use Rattle.std.proofs.Common.{◌≡◌, ◌-◌, ◌+◌, ◌∷◌, ◌++◌, [], ◌∙◌, ap, sym, subst, ◌≤◌, refl, arith, length, List, ℕ, length-append}
-use Rattle.crsm_disk.specs.Bytes.{overwritten}
-use Rattle.crsm_disk.specs.Calls.{wrote}
-use Rattle.crsm_disk.specs.Calls.{contents}
+use Rattle.crsm_port_image.specs.Bytes.{overwritten}
+use Rattle.crsm_port_image.specs.Calls.{wrote}
+use Rattle.crsm_port_image.specs.Calls.{contents}
 use Rattle.crsm_disk.specs.Memory.{Memory}
 use Rattle.crsm_disk.specs.Records.{told, total}
 use Rattle.crsm_disk.specs.declared.record.Record.TheVariants.{Write}

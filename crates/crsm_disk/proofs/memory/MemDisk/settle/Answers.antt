@@ -1,6 +1,6 @@
 use Rattle.std.proofs.Common.{◌≡◌, ◌-◌, ◌∷◌, [], ◌∙◌, ap, sym, refl, arith}
-use Rattle.crsm_disk.specs.Calls.{synced}
-use Rattle.crsm_disk.specs.Calls.{contents}
+use Rattle.crsm_port_image.specs.Calls.{synced}
+use Rattle.crsm_port_image.specs.Calls.{contents}
 use Rattle.crsm_disk.specs.Records.{told, total}
 use Rattle.crsm_disk.proofs.Told.{told_sync, total_sync}
 use Rattle.crsm_disk.proofs.memory.MemDisk.settle.Goals as goal

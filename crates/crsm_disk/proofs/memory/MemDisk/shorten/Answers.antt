@@ -1,6 +1,6 @@
 use Rattle.std.proofs.Common.{◌≡◌, ◌-◌, ◌∷◌, [], ◌∙◌, ap, sym, refl, arith, take}
-use Rattle.crsm_disk.specs.Calls.{cut}
-use Rattle.crsm_disk.specs.Calls.{contents}
+use Rattle.crsm_port_image.specs.Calls.{cut}
+use Rattle.crsm_port_image.specs.Calls.{contents}
 use Rattle.crsm_disk.specs.Records.{told, total}
 use Rattle.crsm_disk.proofs.Told.{told_cut, total_cut}
 use Rattle.crsm_disk.proofs.memory.MemDisk.shorten.Goals as goal

@@ -1,5 +1,5 @@
 use Rattle.std.proofs.Common.{◌∷◌, ◌∙◌, ap}
-use Rattle.crsm_disk.specs.Calls.{synced}
+use Rattle.crsm_port_image.specs.Calls.{synced}
 use Rattle.crsm_disk.specs.Memory.{Memory}
 use Rattle.crsm_disk.proofs.Answered.{sync_goes}
 use Rattle.crsm_disk.proofs.memory.MemDiskDisk.sync.Goals as goal

@@ -1,4 +1,4 @@
-//! What a datagram says in its first bytes, for ports that look at datagrams and do not read them.
+//! Parsing of a datagram's first bytes, for ports that do not parse the rest.
 
 ghost use Rattle.std.specs.Prelude.{◌≡◌};
 ghost use Rattle.crsm_wire.specs.Marks.{named_sender};
@@ -6,59 +6,59 @@ ghost use Rattle.crsm_wire.specs.Marks.{named_sender};
 use crate::marks::unmarked;
 use crsm_text_fields::take_u64;
 
-/// A command, by its client and its number.
+/// The identity of a command: its client and its number.
 #[derive(Clone, Copy, PartialEq)]
 pub struct CommandId {
     client: u64,
     number: u64,
 }
 
-/// Bytes of a part that number its message: its sender's boot, and a number.
+/// Bytes of a part that identify its message: the sender's boot and the message's number.
 const NUMBER_BYTES: usize = 16;
 
-/// The head of a datagram: its kind, and where it belongs. Nothing behind it is looked at.
+/// The first fields of a datagram, by its kind. The bytes after them are not checked.
 #[derive(Clone, Copy)]
 pub enum PacketHead<'a> {
-    /// A frame of a link.
+    /// A frame, with its link, epoch and sequence number.
     Frame {
         from: u8,
         to: u8,
         epoch: u64,
         number: u64,
     },
-    /// A replica says which frame it expects next of another.
+    /// An acknowledgement: `from` expects the frame `next` of `to`.
     Ack {
         from: u8,
         to: u8,
         epoch: u64,
         next: u64,
     },
-    /// A part of a message: what stands behind its message's number.
+    /// A part of a control message: its bytes after the message's number.
     Part(&'a [u8]),
-    /// A client asks for a command.
+    /// A client's request for a command.
     Request(CommandId),
-    /// A replica answers a command.
+    /// A reply to a command.
     Reply(CommandId),
-    /// An operator asks for a membership change.
+    /// An operator's request for a membership change.
     Operate,
     /// Any other bytes.
     Other,
 }
 
-/// The two numbers that the bytes begin with.
+/// Parses the two numbers at the beginning of the bytes.
 fn two_numbers(bytes: &[u8]) -> Option<(u64, u64)> {
     let (first, bytes) = take_u64(bytes)?;
     let (second, _) = take_u64(bytes)?;
     Some((first, second))
 }
 
-/// The command that the bytes begin with.
+/// Parses the command at the beginning of the bytes.
 fn command_of(bytes: &[u8]) -> Option<CommandId> {
     let (client, number) = two_numbers(bytes)?;
     Some(CommandId { client, number })
 }
 
-/// Returns the head of a datagram of whatever cluster.
+/// Parses the first fields of a datagram, with or without the mark of a cluster.
 pub fn peek(bytes: &[u8]) -> PacketHead<'_> {
     match unmarked(bytes) {
         [1, from, to, rest @ ..] => match two_numbers(rest) {
@@ -95,7 +95,7 @@ pub fn peek(bytes: &[u8]) -> PacketHead<'_> {
     }
 }
 
-/// Returns the replica that the bytes name as their sender: frames, acknowledgements and parts do.
+/// Returns the replica that the bytes name as their sender, if any: those of frames, acknowledgements and parts do.
 pub fn sender_in(bytes: &[u8]) -> Option<u8>
     ensures { result ≡ named_sender bytes.now }
 {

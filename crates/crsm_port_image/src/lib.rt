@@ -1,9 +1,10 @@
-//! What a crash may leave of bytes that were written, cut and synced.
+//! The images that a crash may leave of bytes that were written, cut and synced.
+#![tactic(auto)]
 
 ghost use Rattle.std.specs.Prelude.{ℕ, List};
-ghost use Rattle.crsm_disk.specs.Calls.{Call, contents};
-ghost use Rattle.crsm_disk.specs.Image.{IsImage, image_of};
-ghost use Rattle.crsm_disk.specs.Torn.{IsTorn};
+ghost use Rattle.crsm_port_image.specs.Calls.{Call, contents};
+ghost use Rattle.crsm_port_image.specs.Image.{IsImage, image_of};
+ghost use Rattle.crsm_port_image.specs.Torn.{IsTorn};
 
 /// States that the bytes as they read are one of the images that a crash may leave. It runs no code.
 pub fn reads_as_image()

@@ -1,11 +1,11 @@
 -- The image of a disk in memory is one of those that a crash may leave.
 use Rattle.std.proofs.Common.{◌≡◌, inl, inr, ℕ, ◌+◌, ◌-◌, ◌<◌, ◌≤◌, min, List, [], ◌∷◌, ◌++◌, length, get_or, take, drop, replicate, refl, sym, ◌∙◌, ap, arith, length-append, length-take, length-drop}
 use Rattle.std.proofs.lemmas.List.{length-replicate, ext_get_or, get_or-take, get_or-drop, get_or-replicate, get_or_append_left, get_or-append-add}
-use Rattle.crsm_disk.specs.Bytes.{Torn, Shortened, overwritten}
-use Rattle.crsm_disk.specs.Calls.{Call, wrote, cut, synced, contents}
-use Rattle.crsm_disk.specs.Image.{IsImage, painted, ranged, image_of}
-use Rattle.crsm_disk.proofs.Images.{torn_done, shortened_done}
-use Rattle.crsm_disk.proofs.Images.{below_or}
+use Rattle.crsm_port_image.specs.Bytes.{Torn, Shortened, overwritten}
+use Rattle.crsm_port_image.specs.Calls.{Call, wrote, cut, synced, contents}
+use Rattle.crsm_port_image.specs.Image.{IsImage, painted, ranged, image_of}
+use Rattle.crsm_port_image.proofs.Images.{torn_done, shortened_done}
+use Rattle.crsm_port_image.proofs.Images.{below_or}
 
 module _ (a n fill : ℕ) (l : List ℕ) where
   abbrev from : ℕ

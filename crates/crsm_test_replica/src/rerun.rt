@@ -1,4 +1,4 @@
-//! The table `sheet`: what is written of sheets that are replayed.
+//! The table `rerun`: sheets, replayed.
 //!
 //! `== ME N` begins a sheet of replica ME of a cluster that began with N. The lines of the sheet follow, and are
 //! counted from 1. Behind the text of the sheet stands why it was refused, if it was.

@@ -3,11 +3,11 @@ use Rattle.std.proofs.Common.{◌≡◌, ◌⊎◌, inl, inr, ℕ, zero, suc, �
 use Rattle.std.proofs.lemmas.Bool.Decides.{nat_tests}
 use Rattle.std.proofs.lemmas.List.{length-replicate, ext_get_or, get_or-take, get_or-drop, get_or_append_left, get_or-append-add, take_at}
 use Rattle.std.proofs.Math.Seq.{take-length}
-use Rattle.crsm_disk.specs.Bytes.{overwritten, Torn, Shortened}
-use Rattle.crsm_disk.specs.Calls.{Call, wrote, cut, synced, contents}
-use Rattle.crsm_disk.specs.Image.{IsImage}
-use Rattle.crsm_disk.proofs.Images.{below_or}
-use Rattle.crsm_disk.specs.Torn.{IsTorn, held, is_written}
+use Rattle.crsm_port_image.specs.Bytes.{overwritten, Torn, Shortened}
+use Rattle.crsm_port_image.specs.Calls.{Call, wrote, cut, synced, contents}
+use Rattle.crsm_port_image.specs.Image.{IsImage}
+use Rattle.crsm_port_image.proofs.Images.{below_or}
+use Rattle.crsm_port_image.specs.Torn.{IsTorn, held, is_written}
 
 length-overwritten : (l : List ℕ) (at : ℕ) (bytes : List ℕ) → length (overwritten l at bytes) ≡ max (length l) (at + length bytes)
 length-overwritten l at bytes =

@@ -1,6 +1,6 @@
 -- The images that a crash may leave, described in one sentence.
 use Rattle.std.specs.Prelude.{◌≡◌, ℕ, ◌+◌, ◌<◌, ◌≤◌, min, max, List, [], ◌∷◌, length, slice_index, Bool, false, nat_le, nat_lt, ◌&&◌, ◌||◌}
-use Rattle.crsm_disk.specs.Calls.{Call, wrote, cut, synced, contents}
+use Rattle.crsm_port_image.specs.Calls.{Call, wrote, cut, synced, contents}
 
 -- the bytes at the last sync
 abbrev pub held : List ℕ → List Call → List ℕ

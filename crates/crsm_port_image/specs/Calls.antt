@@ -1,6 +1,6 @@
 -- The calls that change a disk, and the bytes after them.
 use Rattle.std.specs.Prelude.{ℕ, List, [], ◌∷◌, take, Option, Some, None}
-use Rattle.crsm_disk.specs.Bytes.{overwritten}
+use Rattle.crsm_port_image.specs.Bytes.{overwritten}
 
 -- a call that changes a disk
 pub data Call : Type 0 where

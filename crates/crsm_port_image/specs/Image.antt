@@ -1,7 +1,7 @@
 -- The images that a crash may leave of a disk after its calls.
 use Rattle.std.specs.Prelude.{◌≡◌, ◌⊎◌, ℕ, ◌+◌, ◌-◌, ◌≤◌, List, [], ◌∷◌, ◌++◌, length, take, drop, replicate, min}
-use Rattle.crsm_disk.specs.Bytes.{Torn, Shortened}
-use Rattle.crsm_disk.specs.Calls.{Call, wrote, cut, synced, contents}
+use Rattle.crsm_port_image.specs.Bytes.{Torn, Shortened}
+use Rattle.crsm_port_image.specs.Calls.{Call, wrote, cut, synced, contents}
 
 -- An image: synced bytes outside the ranges written since the last sync are unchanged, those ranges and the part past
 -- the old end may have any bytes, and the length is between the old and the new one.

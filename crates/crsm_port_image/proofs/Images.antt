@@ -3,9 +3,9 @@ use Rattle.std.proofs.Common.{◌≡◌, ◌⊎◌, inl, inr, ℕ, ◌<◌, Bool
 use Rattle.std.specs.Prelude.{Some, None}
 use Rattle.std.proofs.lemmas.Bool.Decides.{nat_tests}
 use Rattle.std.proofs.lemmas.List.{length-replicate, take_at, drop_at}
-use Rattle.crsm_disk.specs.Bytes.{overwritten, Torn, Shortened}
-use Rattle.crsm_disk.specs.Calls.{Call, wrote, cut, synced, History, contents}
-use Rattle.crsm_disk.specs.Image.{IsImage, IsLeftSince}
+use Rattle.crsm_port_image.specs.Bytes.{overwritten, Torn, Shortened}
+use Rattle.crsm_port_image.specs.Calls.{Call, wrote, cut, synced, History, contents}
+use Rattle.crsm_port_image.specs.Image.{IsImage, IsLeftSince}
 
 take_min : (n : ℕ) (l : List ℕ) → take (min n (length l)) l ≡ take n l
 take_min zero l = let e : min 0 (length l) ≡ 0 = omega arith in ap (λ (k : ℕ). take k l) e

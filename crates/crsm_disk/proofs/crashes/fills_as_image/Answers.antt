@@ -1,5 +1,0 @@
-use Rattle.crsm_disk.proofs.Painted.{image_is}
-use Rattle.crsm_disk.proofs.crashes.fills_as_image.Goals as goal
-
-pub returns : goal.returns
-returns c first calls fill = image_is first calls fill
