@@ -1,0 +1,5 @@
+mod Serving
+mod Keeping
+pub mod Places
+mod Laws
+mod Repeats

@@ -1,0 +1,4 @@
+mod Lines
+mod First
+mod Prefixes
+mod Laws
