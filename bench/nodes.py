@@ -164,6 +164,7 @@ class Node:
     began_with: int
     peers: str
     boots: int = 0
+    environment: Optional[Dict[str, str]] = field(default=None, repr=False)
     process: Optional[subprocess.Popen] = field(default=None, repr=False)
 
     def sheet(self, boot: int) -> str:
@@ -181,7 +182,7 @@ class Node:
         words = [self.program, "node", str(self.number), str(self.began_with), str(turns), self.peers]
         with open(self.sheet(self.boots), "wb") as sheet, open(f"{self.folder}/errors", "ab") as errors:
             self.process = subprocess.Popen(
-                words, cwd=self.folder, stdin=subprocess.DEVNULL, stdout=sheet, stderr=errors
+                words, cwd=self.folder, stdin=subprocess.DEVNULL, stdout=sheet, stderr=errors, env=self.environment
             )
         self.boots += 1
 
