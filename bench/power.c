@@ -1,9 +1,9 @@
 /* A disk that loses its power, in front of the system's calls of a node: `power.py` builds it and loads it.
  *
- * The log file is what the system's page cache shows: it has every write. Beside it stands an image of what the disk has,
- * which gets the written pages at each sync. When the power is lost, any subset of what was written since the last sync
- * reaches the disk, by whole sectors; the file has its old length, the new one or any between, and where it grew without a
- * write it has zeros, ones or what a file that was removed has left there; a name whose folder was not synced may be
+ * The log file is what the system's page cache shows: it has every write. Beside it stands an image of what the disk
+ * has, which gets the written pages at each sync. When the power is lost, any subset of what was written since the last
+ * sync reaches the disk, by whole sectors; the file has its old length, the new one or any between, and where it grew
+ * without a write it has zeros, ones or what a removed file has left there; a name whose folder was not synced may be
  * gone. The process ends by SIGKILL.
  *
  * Environment:
@@ -174,7 +174,8 @@ static void let_some_through(size_t *kept, size_t *all) {
 }
 
 static void write_image(void) {
-    if (NEXT(pwrite)(log_fd, image, image_len, 0) != (ssize_t)image_len || NEXT(ftruncate)(log_fd, (off_t)image_len) != 0)
+    if (NEXT(pwrite)(log_fd, image, image_len, 0) != (ssize_t)image_len ||
+        NEXT(ftruncate)(log_fd, (off_t)image_len) != 0)
         stop("the log cannot be written");
 }
 

@@ -3,8 +3,9 @@
     python3 bench/power.py PROGRAM [--nodes N] [--cuts K] [--seed S] [--lies]
 
 puts a library (`power.c`) in front of the system's calls of each node. The power is lost at a call or a moment that is
-drawn from the seed, while clients keep 32 commands under way: then any part of what was not synced reaches the log file,
-by sectors of 512 bytes, with any length between the old and the new, and a name whose folder was not synced may be gone.
+drawn from the seed, while clients keep 32 commands under way: then any part of what was not synced reaches the log
+file, by sectors of 512 bytes, with any length between the old and the new, and a name whose folder was not synced may
+be gone.
 One in four losses comes while a node starts. With three nodes one, two or all of them lose the power at once.
 
 Then the nodes start again and go on. After each 25 losses all are stopped and judged: each start opened its log, which
@@ -22,31 +23,23 @@ import random
 import shutil
 import signal
 import socket
-import struct
 import subprocess
 import sys
 import tempfile
-import threading
 import time
 from collections import Counter
-from dataclasses import dataclass
-from typing import Dict, List, Optional, Tuple
+from dataclasses import dataclass, field
+from typing import List
+
+from load import Broken, Load, judge_all
+from nodes import Node, free_addresses, text_of
 
 HERE = os.path.dirname(os.path.abspath(__file__))
-sys.path[:0] = [HERE, f"{HERE}/../clients/python"]
 
-import crsm  # noqa: E402
-from chaos import KEYS, Asked, Broken, audit, judge, whole_lines  # noqa: E402
-from nodes import Address, Node, free_addresses, text_of  # noqa: E402
-
-CLIENTS = 32
 LOSSES_OF_A_LIFE = 25
-RESEND_AFTER = 0.1
 ANSWERED_WITHIN = 60.0
 # Seconds between two requests for all members, to one node and to three.
 OPERATE_EVERY = {1: 0.1, 3: 0.5, 5: 0.5}
-# The clients ask together, so that nodes group what they write.
-PAUSE = 0.002
 # The calls of a start that has a log of some entries, and of the first one, are about so many.
 CALLS_OF_A_START = 12
 MOST_ANSWERS = 60
@@ -61,117 +54,7 @@ def built(folder: str) -> str:
     return made
 
 
-# ---- the load
-
-
-class Load(threading.Thread):
-    """Clients that each have one command under way, all over one socket, and note what they are told."""
-
-    def __init__(self, addresses: List[Address], seed: int):
-        super().__init__(daemon=True)
-        self.notes: List[Asked] = []
-        self.answered = 0
-        self.is_over = False
-        self._addresses = addresses
-        self._chance = random.Random(seed)
-        self._socket = socket.socket(socket.AF_INET, socket.SOCK_DGRAM)
-        self._socket.setblocking(False)
-        self._under_way: Dict[int, Asked] = {}
-        self._sent: Dict[int, Tuple[float, int]] = {}
-
-    def _draw(self, number: int) -> Tuple:
-        """The next operation of a command with this number; values have up to 512 bytes."""
-        key, kind = self._chance.choice(KEYS), self._chance.randrange(10)
-        value = str(number).ljust(self._chance.choice([1, 200, 512]), ".")
-        if kind < 2:
-            return ("get", key)
-        if kind < 8:
-            return ("put", key, value)
-        if kind < 9:
-            return ("delete", key)
-        return ("cas", key, self._chance.choice([None, value]), value)
-
-    def _send(self, note: Asked) -> None:
-        """Sends a command to the next node, after one that has not answered it."""
-        before = self._sent.get(note.client, (0.0, note.client))[1]
-        to = (before + 1) % len(self._addresses)
-        self._sent[note.client] = (time.monotonic(), to)
-        datagram = struct.pack(">BQQ", 4, note.client, note.number) + spelled(note.op)
-        self._socket.sendto(datagram, self._addresses[to])
-
-    def _ask_next(self, client: int, number: int) -> None:
-        """Begins a command."""
-        note = Asked(client, number, self._draw(number), time.monotonic())
-        self.notes.append(note)
-        self._under_way[client] = note
-        self._send(note)
-
-    def _take(self, datagram: bytes) -> None:
-        """Takes a reply, and notes it where it answers a command that is under way."""
-        client, number, outcome = crsm._read_reply(datagram)
-        note = self._under_way.get(client)
-        if note is None or note.number != number or isinstance(outcome, int):
-            return
-        note.answer, note.ended = told(outcome), time.monotonic()
-        self.answered += 1
-        del self._under_way[client]
-
-    def _take_all(self) -> None:
-        """Takes all replies that are there."""
-        try:
-            while True:
-                self._take(self._socket.recv(65_536))
-        except (BlockingIOError, ConnectionError):
-            pass
-
-    def run(self) -> None:
-        """Asks until it is told to end."""
-        numbers = {client: 0 for client in range(1000, 1000 + CLIENTS)}
-        while not self.is_over:
-            self._take_all()
-            for client in numbers.keys() - self._under_way.keys():
-                numbers[client] += 1
-                self._ask_next(client, numbers[client])
-            time.sleep(PAUSE)
-            late = time.monotonic() - RESEND_AFTER
-            for note in [it for it in self._under_way.values() if self._sent[it.client][0] < late]:
-                self._send(note)
-        self._socket.close()
-
-
-def spelled(op: Tuple) -> bytes:
-    """An operation as datagrams have it."""
-    kind, key = op[0], crsm._key(op[1])
-    if kind == "get":
-        return b"\1" + key
-    if kind == "put":
-        return b"\2" + key + crsm._value(op[2])
-    if kind == "delete":
-        return b"\3" + key
-    return b"\4" + key + crsm._optional(op[2]) + crsm._optional(op[3])
-
-
-def told(answer: crsm._Answer) -> Tuple:
-    """An answer in the words of a transcript."""
-    if answer.kind == crsm._FOUND:
-        return ("found", answer.value.hex() or "empty")
-    if answer.kind == crsm._DIFFERS:
-        return ("differs", "none" if answer.value is None else answer.value.hex() or "empty")
-    if answer.kind == crsm._STALE:
-        return ("stale", str(answer.number))
-    return ({crsm._DONE: "done", crsm._MISSING: "missing", crsm._NO_ROOM: "noroom"}[answer.kind],)
-
-
 # ---- the nodes
-
-
-@dataclass
-class Judged:
-    """What `chaos.judge` and `chaos.audit` read."""
-
-    words: argparse.Namespace
-    nodes: List[Node]
-    askers: List[Load]
 
 
 class Life:
@@ -205,8 +88,7 @@ class Life:
         """Whether a node has ended by a loss of power; it may have ended in no other way."""
         status = node.process.poll()
         if status is not None and status not in LOST:
-            with open(f"{node.folder}/errors", encoding="utf-8", errors="replace") as errors:
-                raise Broken(f"node {node.number}, start {node.boots}, ends with {status}: {errors.readlines()[-2:]}")
+            raise Broken(f"node {node.number}, start {node.boots}, ends with {status}: {node.last_words()}")
         return status is not None
 
     def _operate(self) -> None:
@@ -293,31 +175,6 @@ class Life:
                 it.kill()
             self._operator.close()
 
-    def judge(self) -> None:
-        """Judges the sheets, once each node was started once more."""
-        for it in self.nodes:
-            it.environment = None
-            it.start(1)
-            if it.wait(60) != 0:
-                raise Broken(f"node {it.number} does not start on its log")
-            check_bodies(it)
-        cluster = Judged(self.words, self.nodes, [self.load])
-        audited = audit(cluster)
-        judge(cluster, audited)
-
-
-def check_bodies(node: Node) -> None:
-    """Each start of a node found what the start before had found, and maybe more."""
-    before: List[bytes] = []
-    for boot in range(node.boots):
-        lines = whole_lines(node.sheet(boot)).split(b"\n")
-        if b"open" not in lines:
-            continue
-        bodies = lines[: lines.index(b"open")]
-        if bodies[: len(before)] != before:
-            raise Broken(f"node {node.number}: start {boot} has not found all that one before it had found")
-        before = bodies
-
 
 # ---- all of it
 
@@ -328,14 +185,14 @@ class Total:
 
     lives: int = 0
     answered: int = 0
-    losses: Optional[Counter] = None
+    losses: Counter = field(default_factory=Counter)
     in_flight: int = 0
     torn: int = 0
     names: int = 0
 
 
 def add_marks(folder: str, total: Total) -> None:
-    """Counts what the library has noted: losses with a write that was not synced, of which a part has reached the disk."""
+    """Counts what the library has noted of each disk: what was not synced, what of it got there, and the name."""
     for name in sorted(os.listdir(folder)):
         if name.startswith("mark-"):
             with open(f"{folder}/{name}", encoding="utf-8") as lines:
@@ -348,7 +205,6 @@ def add_marks(folder: str, total: Total) -> None:
 
 def lives(words: argparse.Namespace, library: str, folder: str, total: Total) -> None:
     """Lives until there were so many losses."""
-    total.losses = Counter()
     while sum(total.losses.values()) < words.cuts:
         total.lives += 1
         home = f"{folder}/{total.lives}"
@@ -356,7 +212,7 @@ def lives(words: argparse.Namespace, library: str, folder: str, total: Total) ->
         life = Life(words, library, home, words.seed + 1000 * total.lives)
         try:
             life.run(min(LOSSES_OF_A_LIFE, words.cuts - sum(total.losses.values())))
-            life.judge()
+            judge_all(words.program, life.nodes, life.load)
         finally:
             total.losses += life.losses
             total.answered += life.load.answered
@@ -398,7 +254,7 @@ def main() -> int:
         print(f"power: a disk that keeps nothing is found out after {count} losses: {broken}")
         return 0
     losses = ", ".join(f"{many} {how}" for how, many in sorted(total.losses.items()))
-    print(f"power: ok, seed {words.seed}, nodes {words.nodes}: {count} losses of power ({losses}) in {total.lives} lives")
+    print(f"power: ok, seed {words.seed}, nodes {words.nodes}, {total.lives} lives: {count} losses of power ({losses})")
     print(
         f"power: {total.in_flight} disks had a write that was not synced, {total.torn} of them got a part of it; "
         f"{total.names} names gone; {total.answered} commands answered, none lost"
