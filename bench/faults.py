@@ -74,8 +74,11 @@ def run_node(
         node = subprocess.Popen(words, cwd=folder, stdin=quiet, stdout=sheet, stderr=quiet, env=environment)
     answered = []
     for number in range(1, COMMANDS + 1):
-        if node.poll() is None and ask(program, address, number, ["put", f"{number:02x}", "aa"]) == "ok done":
-            answered.append(number)
+        # (asked again: on a busy machine the node may take longer to start than a client waits)
+        while node.poll() is None:
+            if ask(program, address, number, ["put", f"{number:02x}", "aa"]) == "ok done":
+                answered.append(number)
+                break
     return node.wait(60), answered
 
 

@@ -93,7 +93,7 @@ class Life:
 
     def _operate(self) -> None:
         """Asks a node that is up for all members: nodes that were started again wait for that."""
-        up = [it.number for it in self.nodes if not self._has_lost_power(it)]
+        up = [it.number for it in self.nodes if it.process is not None and not self._has_lost_power(it)]
         if up:
             datagram = bytes([6, len(self.nodes), *range(len(self.nodes))])
             self._operator.sendto(datagram, self.addresses[self.chance.choice(up)])
@@ -170,7 +170,8 @@ class Life:
             self._await_answers(1, [])
         finally:
             self.load.is_over = True
-            self.load.join()
+            if self.load.is_alive():
+                self.load.join()
             for it in self.nodes:
                 it.kill()
             self._operator.close()
