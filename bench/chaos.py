@@ -355,22 +355,29 @@ def entries_of(lines: List[str]) -> Dict[int, Entry]:
     return found
 
 
-def the_list(cluster: Cluster) -> List[Entry]:
-    """The one list of which all lists are prefixes."""
+def the_list(cluster: Cluster, audited: List[str]) -> List[Entry]:
+    """The one list of which all lists are prefixes; `audited` is what the audit wrote.
+
+    An entry that each of its nodes has executed while it started on its log has no `exec` line and no answer here.
+    """
     places: Dict[int, Entry] = {}
     for node in cluster.nodes:
         for boot in range(node.boots):
             for place, entry in entries_of(replayed(cluster.words.program, node, boot)).items():
                 if places.setdefault(place, entry) != entry:
                     raise Broken(f"place {place}: {places[place]} and, at node {node.number}, {entry}")
+    for words in [line.split() for line in audited if line.startswith("place ")]:
+        place, *numbers = [int(it) for it in words[1:]]
+        if places.setdefault(place, Entry(*numbers, ()))[:5] != tuple(numbers):
+            raise Broken(f"place {place}: {places[place]} and, by the audit, {numbers}")
     if sorted(places) != list(range(len(places))):
         raise Broken("a place of the list is missing")
     return [places[at] for at in range(len(places))]
 
 
-def judge(cluster: Cluster) -> int:
-    """Compares what clients were told with the list, and answers its length."""
-    entries = the_list(cluster)
+def judge(cluster: Cluster, audited: List[str]) -> int:
+    """Compares what clients were told with the list, and answers its length; `audited` is what the audit wrote."""
+    entries = the_list(cluster, audited)
     notes = {(it.client, it.number): it for asker in cluster.askers for it in asker.notes}
     first: Dict[Tuple[int, int], int] = {}
     model = Model()
@@ -383,8 +390,9 @@ def judge(cluster: Cluster) -> int:
             answer = model.apply(*name, ("get", "probe"))
         else:
             raise Broken(f"place {place} has a command that nobody asked for: {entry}")
-        if answer != entry.answer:
+        if entry.answer not in ((), answer):
             raise Broken(f"place {place} is answered {entry.answer}, and a store answers {answer}")
+        entries[place] = entry._replace(answer=answer)
     check_answers(entries, list(notes.values()), first)
     return len(entries)
 
@@ -425,17 +433,17 @@ def audited_sheets(cluster: Cluster) -> bytes:
     return b"".join(b"node %d\n" % node.number + text for node, text in texts if b"open\n" in text)
 
 
-def audit(cluster: Cluster) -> str:
-    """What the program's own audit says of the sheets."""
+def audit(cluster: Cluster) -> List[str]:
+    """What the program's own audit writes of the sheets: the list that they agree on, and how long it is."""
     text = audited_sheets(cluster)
     words = [cluster.words.program, "audit", str(cluster.words.nodes)]
     ran = subprocess.run(words, input=text, capture_output=True, check=False)
     if ran.returncode == NO_COMMAND:
-        return "not in this program"
+        return ["not in this program"]
     verdict = ran.stdout.decode().strip().splitlines()
     if ran.returncode != 0 or not verdict or not verdict[-1].startswith("agree"):
         raise Broken(f"audit ends with {ran.returncode}: {verdict[-3:]} {ran.stderr.decode()}")
-    return verdict[-1]
+    return verdict
 
 
 def read_words() -> argparse.Namespace:
@@ -464,8 +472,8 @@ def main() -> int:
         cluster.start()
         took = cluster.run()
         cluster.stop()
-        length = judge(cluster)
-        verdict = audit(cluster)
+        audited = audit(cluster)
+        length = judge(cluster, audited)
     except Broken as broken:
         print(f"chaos: {broken} (seed {words.seed}; see {folder})", file=sys.stderr)
         return 1
@@ -476,7 +484,7 @@ def main() -> int:
     asked = sum(len(asker.notes) for asker in cluster.askers)
     passed = cluster.network.passed
     print(f"seed {words.seed}, {words.nodes} nodes: faults {dict(cluster.counts)}; settled after {took:.1f} s")
-    print(f"commands: {asked} asked, {answered} answered, {length} in the list; audit: {verdict}")
+    print(f"commands: {asked} asked, {answered} answered, {length} in the list; audit: {audited[-1]}")
     print(f"packets: {passed.taken} taken, {passed.lost} lost, {passed.repeated} repeated, {passed.late} late")
     if not words.keep:
         shutil.rmtree(folder)

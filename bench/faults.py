@@ -5,10 +5,12 @@
 runs a node that is a cluster of its own under `strace`, which lets the k-th write, sync, send or receive fail, for each
 k up to M, while a client asks it for commands. The node ends with the status that this fault has, or counts a loss and
 goes on; started again without faults on the same log, it has each command that was answered. It also looks at the order
-of calls of a run without faults: before a reply goes out, a write, a sync, a write and a sync have kept the command.
+of calls of a run without faults: before anything is sent, a new log and the folder that has its name were synced, and
+before a reply goes out, a write, a sync, a write and a sync have kept the command.
 
-Ends with 0 where all holds, with 1 and the reason where it does not, and with 0 and a word where there is no `strace`. Where there is a `cc`, reads and writes
-are cut to half of their bytes, too, one in each run: the node goes on as if nothing had been.
+Ends with 0 where all holds, with 1 and the reason where it does not, and with 0 and a word where there is no `strace`.
+Where there is a `cc`, reads and writes are cut to half of their bytes, too, one in each run: the node goes on as if
+nothing had been.
 """
 
 import argparse
@@ -26,9 +28,13 @@ from shim import Shim, built, has_come
 TURNS = 250
 COMMANDS = 3
 
-# The calls that fail, with the error, and the statuses that a node may end with.
+# The calls that fail, with the error, and the statuses that a node may end with. Behind a `+` all later ones fail as
+# well, as on a disk that stays full.
 FAULTS = [
     ("pwrite64", "EIO", {0, 7}),
+    ("pwrite64", "ENOSPC+", {0, 7}),
+    ("pwrite64", "EDQUOT+", {0, 7}),
+    ("fdatasync", "EIO+", {0, 7}),
     ("fdatasync", "EIO", {0, 7}),
     ("fsync", "EIO", {0, 7}),
     ("pread64", "EIO", {0, 7}),
@@ -68,8 +74,11 @@ def run_node(
         node = subprocess.Popen(words, cwd=folder, stdin=quiet, stdout=sheet, stderr=quiet, env=environment)
     answered = []
     for number in range(1, COMMANDS + 1):
-        if node.poll() is None and ask(program, address, number, ["put", f"{number:02x}", "aa"]) == "ok done":
-            answered.append(number)
+        # (asked again: on a busy machine the node may take longer to start than a client waits)
+        while node.poll() is None:
+            if ask(program, address, number, ["put", f"{number:02x}", "aa"]) == "ok done":
+                answered.append(number)
+                break
     return node.wait(60), answered
 
 
@@ -101,7 +110,9 @@ def one_fault(program: str, call: str, error: str, at: int, statuses: set) -> bo
         # (strace writes a line for the call alone: whether it came is told by that)
         words = ["strace", "-f", "-qq", "-o", f"{folder}/trace", "-e", f"trace={call}"]
         words += ["-P", f"{folder}/crsm-0.log"] if call in DISK_CALLS else []
-        words += ["-e", f"inject={call}:error={error}:when={at}", *node_words(program, address, TURNS)]
+        words += ["-P", folder] if call == "fsync" else []
+        name, later = error.rstrip("+"), "+" if error.endswith("+") else ""
+        words += ["-e", f"inject={call}:error={name}:when={at}{later}", *node_words(program, address, TURNS)]
         status, answered = run_node(folder, words, program, address)
         if status not in statuses:
             raise Broken(f"{call} {at} fails with {error}: the node ends with {status}")
@@ -113,7 +124,7 @@ def one_fault(program: str, call: str, error: str, at: int, statuses: set) -> bo
 
 
 def one_cut(shim: Shim, call: str, at: int) -> bool:
-    """Cuts one call short, a read where a node begins on a log that has something; answers whether there were so many."""
+    """Cuts one call short, a read where a node begins on a log that has something; answers whether it came to that."""
     folder, what = tempfile.mkdtemp(prefix="crsm-faults-"), f"{call} {at} is cut short"
     try:
         address = text_of(free_addresses(1)[0])
@@ -149,17 +160,27 @@ def cut_all(program: str, most: int) -> List[str]:
         shutil.rmtree(folder)
 
 
+def check_name(lines: List[str], log: str, folder: str) -> None:
+    """Before anything is sent, a new log and the folder that has its name were synced."""
+    first = next(at for at, line in enumerate(lines) if "sendto(" in line)
+    for path in (log, folder):
+        if not any("fsync(" in line and f"<{path}>)" in line for line in lines[:first]):
+            raise Broken(f"{path} was not synced before the first packet went out")
+
+
 def check_order(program: str) -> None:
     """Before each reply goes out, the log was written and synced twice since the command came."""
     folder = tempfile.mkdtemp(prefix="crsm-faults-")
     try:
         address = text_of(free_addresses(1)[0])
-        words = ["strace", "-f", "-qq", "-o", f"{folder}/trace", "-e", "trace=pwrite64,fdatasync,sendto,recvfrom"]
+        words = ["strace", "-f", "-y", "-qq", "-o", f"{folder}/trace"]
+        words += ["-e", "trace=pwrite64,fsync,fdatasync,sendto,recvfrom"]
         status, answered = run_node(folder, [*words, *node_words(program, address, TURNS)], program, address)
         if status != 0 or len(answered) != COMMANDS:
             raise Broken(f"a run without faults ends with {status} and has answered {answered}")
         with open(f"{folder}/trace", encoding="utf-8", errors="replace") as trace:
             calls = [line.split(None, 1)[1] for line in trace]
+        check_name(calls, f"{folder}/crsm-0.log", folder)
         replies = 0
         for at, line in enumerate(calls):
             if line.startswith("sendto("):
@@ -190,7 +211,7 @@ def main() -> int:
             count = 0
             while count < words.most and one_fault(words.program, call, error, count + 1, statuses):
                 count += 1
-            tried.append(f"{call} {count}")
+            tried.append(f"{call} {error} {count}")
         tried += cut_all(words.program, words.most)
     except Broken as broken:
         print(f"faults: {broken}", file=sys.stderr)

@@ -156,7 +156,7 @@ class Network(threading.Thread):
 
 @dataclass
 class Node:
-    """One node, in a folder of its own: each boot writes a sheet of its own."""
+    """One node, in a folder of its own: each boot writes a sheet of its own, in another folder where `sheets` names one."""
 
     program: str
     folder: str
@@ -164,11 +164,23 @@ class Node:
     began_with: int
     peers: str
     boots: int = 0
+    environment: Optional[Dict[str, str]] = field(default=None, repr=False)
+    sheets: Optional[str] = None
     process: Optional[subprocess.Popen] = field(default=None, repr=False)
 
     def sheet(self, boot: int) -> str:
         """The file with the sheet of a boot, counted from 0."""
-        return f"{self.folder}/sheet-{boot}"
+        return f"{self.sheets or self.folder}/sheet-{boot}"
+
+    @property
+    def errors(self) -> str:
+        """The file with what all boots have written on standard error."""
+        return f"{self.sheets or self.folder}/errors"
+
+    def last_words(self) -> str:
+        """The last line on standard error."""
+        with open(self.errors, encoding="utf-8", errors="replace") as errors:
+            return (errors.read().splitlines() or [""])[-1]
 
     @property
     def log(self) -> str:
@@ -179,9 +191,9 @@ class Node:
         """Boots the node on its log."""
         os.makedirs(self.folder, exist_ok=True)
         words = [self.program, "node", str(self.number), str(self.began_with), str(turns), self.peers]
-        with open(self.sheet(self.boots), "wb") as sheet, open(f"{self.folder}/errors", "ab") as errors:
+        with open(self.sheet(self.boots), "wb") as sheet, open(self.errors, "ab") as errors:
             self.process = subprocess.Popen(
-                words, cwd=self.folder, stdin=subprocess.DEVNULL, stdout=sheet, stderr=errors
+                words, cwd=self.folder, stdin=subprocess.DEVNULL, stdout=sheet, stderr=errors, env=self.environment
             )
         self.boots += 1
 
