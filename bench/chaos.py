@@ -90,7 +90,7 @@ class Asker(threading.Thread):
         """Asks until it is told to end."""
         with Client(self.addresses, client=self.number, timeout=6.0, node_timeout=0.6, resend=0.2) as store:
             while not self.is_over:
-                note = Asked(self.number, store._number + 1, self._draw(), time.monotonic())
+                note = Asked(self.number, store.numbers.last + 1, self._draw(), time.monotonic())
                 self.notes.append(note)
                 try:
                     note.answer = told(store, note.op)
@@ -206,7 +206,6 @@ class Cluster:
     def answers(self, number: int) -> bool:
         """Whether a node answers a command within a little time."""
         with Client([self.addresses[number]], client=900 + number, timeout=0.8) as one:
-            one._number = int(time.time() * 1e6)
             try:
                 one.get("probe")
                 return True

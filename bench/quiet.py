@@ -44,7 +44,6 @@ class Trial(threading.Thread):
     def _answer(self, at: int) -> str:
         """What a node says to a command."""
         with Client([self._addresses[at]], client=900 + at, timeout=1.0) as one:
-            one._number = int(time.time() * 1e6)
             try:
                 one.get("probe")
                 return "ok"

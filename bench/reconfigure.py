@@ -29,7 +29,6 @@ def await_answer(address, client: int) -> None:
     """Waits until a node answers."""
     while True:
         with Client([address], client=client, timeout=1.0) as one:
-            one._number = int(time.time() * 1e6)
             try:
                 one.get("probe")
                 return

@@ -17,10 +17,11 @@ cp crates/crsm/out/crsm "$scratch/crsm"
 
 version=$("$scratch/crsm" --version | cut -d' ' -f2)
 name=crsm-$version
-mkdir -p "$scratch/$name/python"
+mkdir -p "$scratch/$name/python/crsm"
 mv "$scratch/crsm" "$scratch/crsm-avx2" "$scratch/$name/"
 cp tools/crsm@.service docs/OPERATING.md "$scratch/$name/"
-cp clients/python/crsm.py clients/python/README.md "$scratch/$name/python/"
+cp clients/python/README.md clients/python/pyproject.toml clients/python/wheel_of.py "$scratch/$name/python/"
+cp clients/python/crsm/*.py clients/python/crsm/py.typed "$scratch/$name/python/crsm/"
 cat > "$scratch/$name/README" <<END
 crsm $version, a replicated key-value store, from commit $(git rev-parse HEAD).
 

@@ -1,24 +1,32 @@
 """Tests of the client against a small node: a UDP server on a thread, with a store of its own."""
 
+import contextlib
+import os
 import socket
 import struct
+import tempfile
 import threading
 import time
 import unittest
 
 from crsm import (
     Client,
+    Closed,
     CrsmError,
+    InUse,
+    KeptNumbers,
     LockHeld,
     LockLost,
     NoAnswer,
     NoRoom,
     NotALock,
     NotMembers,
+    Numbers,
     Refused,
     Stale,
     Unsafe,
 )
+from crsm.exchange import Times
 
 FAST = {"timeout": 3.0, "node_timeout": 0.25, "resend": 0.1}
 
@@ -170,7 +178,7 @@ class ClientTest(ClusterTest):
 
     def test_bytes(self):
         node = self.node()
-        client = self.client(node, client=7)
+        client = self.client(node, client=Numbers(7, 0))
         client.put("a", "b")
         client.get("é")
         client.cas("a", None, bytes(512))
@@ -237,7 +245,7 @@ class ClientTest(ClusterTest):
         stranger = socket.socket(socket.AF_INET, socket.SOCK_DGRAM)
         self.addCleanup(stranger.close)
         node = self.node(deaf=1)
-        client = self.client(node, client=7)
+        client = self.client(node, client=Numbers(7, 0))
         port = []
 
         def forge():
@@ -272,7 +280,7 @@ class ClientTest(ClusterTest):
 
     def test_clusters(self):
         node, other = self.node(cluster=9), self.node(cluster=8)
-        self.client(other, node, cluster=9, client=7).put("a", "b")
+        self.client(other, node, cluster=9, client=Numbers(7, 0)).put("a", "b")
         zeros = "0" * 15
         self.assertEqual(node.taken[0].hex(), f"10{zeros}9" + f"04{zeros}7{zeros}1" + "020161000162")
         self.assertEqual(self.store.done, 1)
@@ -280,7 +288,7 @@ class ClientTest(ClusterTest):
     def test_stale(self):
         node = self.node()
         self.store.clients[7] = (20, b"\x03")
-        client = self.client(node, client=7)
+        client = self.client(node, client=Numbers(7, 0))
         with self.assertRaises(Stale) as caught:
             client.put("a", "1")
         self.assertEqual(caught.exception.number, 20)
@@ -290,7 +298,7 @@ class ClientTest(ClusterTest):
     def test_answer_of_another_command(self):
         self.store.clients[7] = (1, b"\x03")
         with self.assertRaises(CrsmError):
-            self.client(self.node(), client=7).get("a")
+            self.client(self.node(), client=Numbers(7, 0)).get("a")
 
     def test_no_room(self):
         client = self.client(self.node())
@@ -308,6 +316,61 @@ class ClientTest(ClusterTest):
         client.put("k" * 64, "v" * 512)
         self.assertEqual(client.get("k" * 64), b"v" * 512)
         self.assertEqual(len(node.taken), 2)
+
+    def test_neither_bytes_nor_text(self):
+        node = self.node()
+        client = self.client(node)
+        for wrong in (5, [1, 2], 1.5, True, {1}, ("a",)):
+            for ask in (
+                lambda: client.get(wrong),
+                lambda: client.put("a", wrong),
+                lambda: client.cas("a", wrong, None),
+                lambda: client.cas("a", None, wrong),
+                lambda: client.lock(wrong),
+            ):
+                with self.assertRaises(TypeError):
+                    ask()
+        for none in (client.get, client.delete, client.lock):
+            with self.assertRaises(TypeError):
+                none(None)
+        with self.assertRaises(TypeError):
+            client.put("a", None)
+        self.assertEqual(node.taken, [])
+        client.put(bytearray(b"a"), memoryview(b"b"))
+        self.assertEqual(client.get("a"), b"b")
+
+    def test_waits_for_ever(self):
+        node = self.node(deaf=15)
+        self.client(node, self.dead(), timeout=None).put("a", "1")
+        self.assertEqual((len(node.taken), self.store.done), (16, 1))
+
+    def test_closed(self):
+        node = self.node()
+        client = self.client(node)
+        lock = client.lock("a")
+        lock.take()
+        client.close()
+        client.close()
+        done = self.store.done
+        for ask in (
+            lambda: client.get("a"),
+            lambda: client.put("a", "1"),
+            lambda: client.lock("b").take(),
+            lambda: client.request_members([0]),
+            lambda: client.reconfigure([0]),
+            lock.give,
+        ):
+            with self.assertRaises(Closed):
+                ask()
+        self.assertEqual(self.store.done, done)
+
+    def test_closed_while_a_command_is_under_way(self):
+        client = self.client(self.dead(), timeout=None, resend=5.0)
+        threading.Timer(0.2, client.close).start()
+        began = time.monotonic()
+        with self.assertRaises(Closed):
+            client.get("a")
+        self.assertLess(time.monotonic() - began, 2.0)
 
     def test_request_members(self):
         nodes = [self.node(cluster=9) for _ in range(3)]
@@ -363,6 +426,12 @@ class ClientTest(ClusterTest):
         node = self.node()
         self.assertNotEqual(self.client(node).client, self.client(node).client)
 
+    def test_given_number_goes_on_above_what_it_asked_before(self):
+        node = self.node()
+        self.client(node, client=7).put("a", "1")
+        self.client(node, client=7).put("a", "2")
+        self.assertEqual(self.store.rows, {b"a": b"2"})
+
     def test_threads_share_a_client(self):
         client = self.client(self.node())
         client.put("n", "0")
@@ -380,6 +449,71 @@ class ClientTest(ClusterTest):
         for thread in threads:
             thread.join()
         self.assertEqual(client.get("n"), b"40")
+
+
+class KeptNumbersTest(ClusterTest):
+    def setUp(self):
+        super().setUp()
+        folder = tempfile.TemporaryDirectory()
+        self.addCleanup(folder.cleanup)
+        self.folder = folder.name
+        self.path = os.path.join(folder.name, "client")
+
+    def test_same_client_again(self):
+        node = self.node()
+        before = 0
+        for value in ("1", "2", "3"):
+            with self.client(node, client=KeptNumbers(self.path)) as client:
+                client.put("a", value)
+                self.assertGreater(client.numbers.last, before)
+                before = client.numbers.last
+        self.assertEqual(len(self.store.clients), 1)
+        self.assertEqual((self.store.rows, self.store.done), ({b"a": b"3"}, 3))
+
+    def test_goes_on_above_the_file_where_the_clock_was_put_back(self):
+        with open(self.path, "w", encoding="ascii") as file:
+            file.write(f"{9:020} {2**63:020}\n")
+        kept = KeptNumbers(self.path)
+        self.addCleanup(kept.close)
+        self.assertEqual((kept.client, kept.next()), (9, 2**63 + 1))
+        with open(self.path, encoding="ascii") as file:
+            self.assertEqual(file.read(), f"{9:020} {2**63 + 1000:020}\n")
+
+    def test_goes_on_above_the_clock_where_the_file_is_old(self):
+        with open(self.path, "w", encoding="ascii") as file:
+            file.write(f"{9:020} {5:020}\n")
+        with contextlib.closing(KeptNumbers(self.path)) as kept:
+            self.assertGreater(kept.next(), 1_700_000_000_000_000)
+
+    def test_is_written_before_a_number_is_used(self):
+        kept = KeptNumbers(self.path)
+        self.addCleanup(kept.close)
+        for _ in range(2500):
+            number = kept.next()
+            with open(self.path, encoding="ascii") as file:
+                self.assertGreaterEqual(int(file.read().split()[1]), number)
+
+    def test_what_is_no_line_gets_a_new_client(self):
+        for wrong in ("", "7 8\n", "x" * 42, f"{2**64:020} {1:020}\n", f"{9:020} {5:020}\n\n", f"{-9:020} {5:020}\n"):
+            with open(self.path, "w", encoding="ascii") as file:
+                file.write(wrong)
+            with contextlib.closing(KeptNumbers(self.path)) as kept:
+                self.assertNotIn(kept.client, (7, 9))
+
+    def test_one_process_at_a_time(self):
+        with contextlib.closing(KeptNumbers(self.path)), self.assertRaises(InUse):
+            KeptNumbers(self.path)
+        taken = [KeptNumbers.first_free(self.folder) for _ in range(3)]
+        for kept in taken:
+            kept.next()
+        self.assertEqual(len({kept.client for kept in taken}), 3)
+        with self.assertRaises(InUse):
+            KeptNumbers.first_free(self.folder, most=3)
+        taken[1].close()
+        with contextlib.closing(KeptNumbers.first_free(self.folder)) as again:
+            self.assertEqual(again.client, taken[1].client)
+        for kept in taken:
+            kept.close()
 
 
 def lock_value(state, fence, owner):
@@ -507,15 +641,15 @@ class LockTest(ClusterTest):
         client = self.client(node, client=5, timeout=1.0)
         asked = client._ask
 
-        def lossy(op, kinds):
-            node.mute = 99 if op[0] == 4 else 0
-            return asked(op, kinds)
+        def lossy(operation):
+            node.mute = 99 if operation.data[0] == 4 else 0
+            return asked(operation)
 
         client._ask = lossy
         with self.assertRaises(NoAnswer):
             client.lock("a").take()
         self.assertEqual(self.store.rows, {b"a": lock_value(1, 1, 5)})
-        client._ask, client._timeout, node.mute = asked, 10.0, 0
+        client._ask, client._session.times, node.mute = asked, Times(), 0
         with client.lock("a", wait=0) as fence:
             self.assertEqual(fence, 1)
 

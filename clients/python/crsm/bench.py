@@ -1,0 +1,51 @@
+"""How fast a cluster does commands of several clients at a time, each of which asks one after another."""
+
+import asyncio
+import contextlib
+import time
+from collections.abc import Sequence
+from typing import NamedTuple
+
+from .aio import AsyncClient
+from .numbers import Numbers
+
+
+class Figures(NamedTuple):
+    """What a run gave: commands a second, and the seconds that the median and the slowest hundredth took at least."""
+
+    rate: float
+    median: float
+    slow: float
+
+    def __str__(self) -> str:
+        return f"{self.rate:,.0f} commands a second; median {self.median * 1e3:.2f} ms, 99 % within {self.slow * 1e3:.2f} ms"
+
+
+def measure(
+    nodes: Sequence[str], clients: Sequence[Numbers], seconds: float, size: int, cluster: int, timeout: float | None
+) -> Figures | None:
+    """Has each client put values of `size` bytes at a key of its own, `bench-0` and so on, for some seconds, and delete
+    it. Returns the figures, or None where no command was answered."""
+
+    async def all_of_them() -> list[list[float]]:
+        stores = (AsyncClient(nodes, cluster=cluster, client=it, timeout=timeout) for it in clients)
+        return await asyncio.gather(*(_times(store, f"bench-{at}", seconds, size) for at, store in enumerate(stores)))
+
+    took = sorted(time for times in asyncio.run(all_of_them()) for time in times)
+    if not took:
+        return None
+    return Figures(len(took) / seconds, took[len(took) // 2], took[len(took) * 99 // 100])
+
+
+async def _times(store: AsyncClient, key: str, seconds: float, size: int) -> list[float]:
+    """Returns how many seconds each command of one client took."""
+    took: list[float] = []
+    async with store:
+        with contextlib.suppress(TimeoutError):
+            async with asyncio.timeout(seconds):
+                while True:
+                    began = time.monotonic()
+                    await store.put(key, b"v" * size)
+                    took.append(time.monotonic() - began)
+        await store.delete(key)
+    return took

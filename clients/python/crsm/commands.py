@@ -1,0 +1,357 @@
+"""Commands for a shell: `python3 -m crsm COMMAND ..`."""
+
+import argparse
+import contextlib
+import os
+import signal
+import subprocess
+import sys
+from collections.abc import Callable, Iterator, Sequence
+from enum import IntEnum
+from pathlib import Path
+from types import FrameType
+
+from .client import Client, Lock
+from .errors import CrsmError, InUse, LockLost, NoAnswer, Refused
+from .locks import Terms
+from .numbers import KeptNumbers
+
+PROGRAM = "python3 -m crsm"
+
+EXAMPLES = f"""
+  export CRSM_NODES=10.0.0.1:7000,10.0.0.2:7000,10.0.0.3:7000
+  {PROGRAM} put colour blue
+  {PROGRAM} get colour
+  {PROGRAM} cas colour --from blue --to green
+  {PROGRAM} delete colour
+  {PROGRAM} lock nightly --wait 60 -- ./report.sh
+
+COMMAND --help says more. The status is 0 where the command was done, 1 where the store says no (the key is missing, its
+value differs, the lock is held, the store is full), 2 for wrong words, 5 for a failed output, 6 where no socket can be
+opened, 7 where the client's number cannot be kept, and 9 where no node answered or each one refused. `lock` ends with
+the status of its command, and with 126 or 127 where that cannot be run.
+"""
+
+
+class Status(IntEnum):
+    """What a command ends with: as the program's own statuses, and 1 where the store says no."""
+
+    OK = 0
+    NO = 1
+    USAGE = 2
+    WRITE_FAULT = 5
+    PORT_FAULT = 6
+    DISK_FAULT = 7
+    NO_ANSWER = 9
+    CANNOT_RUN = 126
+    NO_SUCH_PROGRAM = 127
+
+
+class Failed(Exception):
+    """Why a command ends here, in words, and the status."""
+
+    def __init__(self, status: Status, why: str):
+        super().__init__(why)
+        self.status = status
+
+
+# ---- words
+
+
+def read_words(words: Sequence[str]) -> argparse.Namespace:
+    """Reads the words of a command line. What stands behind `--` in `lock` is a command of its own."""
+    words, inner = list(words), []
+    if words[:1] == ["lock"] and "--" in words:
+        at = words.index("--")
+        words, inner = words[:at], words[at + 1 :]
+    reader = _reader()
+    read = reader.parse_args(words)
+    if read.run is lock and not inner:
+        reader.error("lock: the command to run stands behind --, as in: lock KEY -- COMMAND ARGUMENT")
+    if not read.nodes:
+        reader.error("no nodes: give --nodes A:PORT,B:PORT,.. or set CRSM_NODES")
+    read.inner = inner
+    return read
+
+
+def _reader() -> argparse.ArgumentParser:
+    layout = argparse.RawDescriptionHelpFormatter
+    reader = argparse.ArgumentParser(PROGRAM, description=__doc__, epilog=EXAMPLES, formatter_class=layout)
+    commands = reader.add_subparsers(metavar="COMMAND", required=True)
+
+    def add(run: Callable[[argparse.Namespace], int], text: str) -> argparse.ArgumentParser:
+        made = commands.add_parser(run.__name__, help=text, description=f"{text[0].upper()}{text[1:]}.")
+        made.set_defaults(run=run)
+        _add_common(made)
+        return made
+
+    add(get, "writes the value of a key").add_argument("key")
+    _add_put(add(put, "sets a key to a value"))
+    add(delete, "removes a key").add_argument("key")
+    _add_cas(add(cas, "sets a key where it has an expected value"))
+    _add_lock(add(lock, "holds a lock while a command runs, whose environment has the fence as CRSM_FENCE"))
+    _add_bench(add(bench, "measures commands a second; it puts keys bench-0, bench-1, .. and deletes them"))
+    return reader
+
+
+def _add_common(to: argparse.ArgumentParser) -> None:
+    nodes = os.environ.get("CRSM_NODES", "")
+    to.add_argument("--nodes", metavar="A:PORT,..", default=nodes, help="the nodes, that of replica i at place i (CRSM_NODES)")
+    cluster = os.environ.get("CRSM_CLUSTER", "0")
+    to.add_argument("--cluster", metavar="C", type=int, default=cluster, help="the number of the cluster (CRSM_CLUSTER)")
+    to.add_argument("--timeout", metavar="S", type=float, default=10.0, help="seconds for a command, 0 for no end; 10")
+    text = "the folder with the numbers of clients; $XDG_STATE_HOME/crsm, or ~/.local/state/crsm"
+    to.add_argument("--state", metavar="FOLDER", type=Path, default=_state_folder(), help=text)
+    to.add_argument("--hex", action="store_true", help="keys and values are hexadecimal")
+
+
+def _add_put(to: argparse.ArgumentParser) -> None:
+    to.add_argument("key")
+    to.add_argument("value", nargs="?", help="by default what standard input has, to its last byte")
+
+
+def _add_cas(to: argparse.ArgumentParser) -> None:
+    to.add_argument("key")
+    expected = to.add_mutually_exclusive_group(required=True)
+    expected.add_argument("--from", dest="expected", metavar="VALUE", help="where it has this value")
+    expected.add_argument("--if-missing", dest="expected", action="store_const", const=None, help="where it is missing")
+    new = to.add_mutually_exclusive_group(required=True)
+    new.add_argument("--to", dest="new", metavar="VALUE", help="sets it to this value")
+    new.add_argument("--remove", dest="new", action="store_const", const=None, help="removes it")
+
+
+def _add_lock(to: argparse.ArgumentParser) -> None:
+    to.usage = f"{PROGRAM} lock [OPTIONS] KEY -- COMMAND [ARGUMENT ..]"
+    to.add_argument("key")
+    to.add_argument("--wait", metavar="S", type=float, help="seconds to wait while another holds it; no end by default")
+    text = "takes it from the holder who has this fence, and is known to be gone"
+    to.add_argument("--break", dest="fence", metavar="FENCE", type=int, help=text)
+
+
+def _add_bench(to: argparse.ArgumentParser) -> None:
+    to.add_argument("--clients", metavar="N", type=int, default=16, help="clients at a time; 16")
+    to.add_argument("--seconds", metavar="S", type=float, default=5.0, help="5")
+    to.add_argument("--size", metavar="BYTES", type=int, default=100, help="of a value; 100")
+
+
+def _state_folder() -> Path:
+    named = os.environ.get("XDG_STATE_HOME", "")
+    # (a folder that is not absolute counts as none)
+    return (Path(named) if os.path.isabs(named) else Path.home() / ".local/state") / "crsm"
+
+
+def _data(words: argparse.Namespace, text: str) -> bytes:
+    """Returns the bytes of a key or a value of the command line."""
+    if not words.hex:
+        return os.fsencode(text)
+    try:
+        return bytes.fromhex(text)
+    except ValueError:
+        raise Failed(Status.USAGE, f"not hexadecimal: {text}") from None
+
+
+def _optional(words: argparse.Namespace, text: str | None) -> bytes | None:
+    return None if text is None else _data(words, text)
+
+
+# ---- commands
+
+
+def get(words: argparse.Namespace) -> int:
+    """Writes the value of a key, and a line feed."""
+    with _client(words) as store:
+        value = store.get(_data(words, words.key))
+    if value is None:
+        raise Failed(Status.NO, "the key is missing")
+    _show(words, value)
+    return Status.OK
+
+
+def put(words: argparse.Namespace) -> int:
+    """Sets a key."""
+    value = _input(words) if words.value is None else _data(words, words.value)
+    with _client(words) as store:
+        store.put(_data(words, words.key), value)
+    return Status.OK
+
+
+def delete(words: argparse.Namespace) -> int:
+    """Removes a key."""
+    with _client(words) as store:
+        if not store.delete(_data(words, words.key)):
+            raise Failed(Status.NO, "the key is missing")
+    return Status.OK
+
+
+def cas(words: argparse.Namespace) -> int:
+    """Compares and sets a key. Where it differs, what was found is written."""
+    expected, new = _optional(words, words.expected), _optional(words, words.new)
+    with _client(words) as store:
+        swap = store.cas(_data(words, words.key), expected, new)
+    if swap:
+        return Status.OK
+    if swap.found is None:
+        raise Failed(Status.NO, "the key is missing")
+    _show(words, swap.found)
+    raise Failed(Status.NO, "the value differs")
+
+
+def lock(words: argparse.Namespace) -> int:
+    """Holds a lock while a command runs, and returns the command's status."""
+    is_break = words.fence is not None
+    terms = Terms(breaks=is_break, broken_fence=words.fence, wait=0.0 if is_break else words.wait, renews=True)
+    for number in (signal.SIGTERM, signal.SIGHUP):
+        signal.signal(number, _end)
+    with _numbers(words) as numbers, _client(words, numbers) as store:
+        held = Lock(store, _data(words, words.key), terms)
+        fence = held.take()
+        try:
+            status = _run(words.inner, fence, numbers.descriptor)
+        except BaseException:
+            _give(held)
+            raise
+        given = _give(held)
+        return status or given
+
+
+def bench(words: argparse.Namespace) -> int:
+    """Puts values by several clients at a time, each one command after another, and writes what that took."""
+    if words.clients < 1 or words.seconds <= 0:
+        raise Failed(Status.USAGE, "bench: one client and some time at least")
+    # (not at the head of the file: the other commands start in half the time without asyncio)
+    from .bench import measure
+
+    with contextlib.ExitStack() as files:
+        numbers = [files.enter_context(_numbers(words)) for _ in range(words.clients)]
+        nodes = words.nodes.split(",")
+        figures = measure(nodes, numbers, words.seconds, words.size, words.cluster, words.timeout or None)
+    if figures is None:
+        raise Failed(Status.NO_ANSWER, f"no answer in {words.seconds:g} seconds")
+    _write(f"{figures}\n".encode())
+    return Status.OK
+
+
+# ---- what commands share
+
+
+@contextlib.contextmanager
+def _numbers(words: argparse.Namespace) -> Iterator[KeptNumbers]:
+    """Takes the numbers of a client that no other process has."""
+    try:
+        numbers = KeptNumbers.first_free(words.state)
+    except (OSError, InUse) as error:
+        raise Failed(Status.DISK_FAULT, f"the client's number cannot be kept: {error}") from None
+    try:
+        yield numbers
+    finally:
+        numbers.close()
+
+
+@contextlib.contextmanager
+def _client(words: argparse.Namespace, numbers: KeptNumbers | None = None) -> Iterator[Client]:
+    """Makes a client with these numbers, or with those of a file that no other process has."""
+    with contextlib.ExitStack() as files:
+        kept = numbers or files.enter_context(_numbers(words))
+        try:
+            made = Client(words.nodes.split(","), cluster=words.cluster, client=kept, timeout=words.timeout or None)
+        except OSError as error:
+            raise Failed(Status.PORT_FAULT, f"no socket, or no such host: {error}") from None
+        yield files.enter_context(made)
+
+
+def _input(words: argparse.Namespace) -> bytes:
+    """Reads a value from standard input; a hexadecimal one may end with a line feed."""
+    data = sys.stdin.buffer.read()
+    return _data(words, os.fsdecode(data).strip()) if words.hex else data
+
+
+def _show(words: argparse.Namespace, value: bytes) -> None:
+    """Writes a value and a line feed."""
+    _write((value.hex().encode() if words.hex else value) + b"\n")
+
+
+def _write(data: bytes) -> None:
+    try:
+        sys.stdout.buffer.write(data)
+        sys.stdout.buffer.flush()
+    except OSError as error:
+        # (what is left of it is not written at the end either)
+        os.dup2(os.open(os.devnull, os.O_WRONLY), sys.stdout.fileno())
+        raise Failed(Status.WRITE_FAULT, f"the output failed: {error}") from None
+
+
+def _run(command: list[str], fence: int, descriptor: int) -> int:
+    """Runs a command with the fence in its environment, and returns its status as a shell tells it.
+
+    It inherits the file with the client's number: while it or what it started runs, no other process is this client,
+    even if this process is killed.
+    """
+    environment = {**os.environ, "CRSM_FENCE": str(fence)}
+    try:
+        child = subprocess.Popen(command, env=environment, pass_fds=[descriptor])
+    except FileNotFoundError:
+        raise Failed(Status.NO_SUCH_PROGRAM, f"no such program: {command[0]}") from None
+    except OSError as error:
+        raise Failed(Status.CANNOT_RUN, f"{command[0]} cannot be run: {error}") from None
+    with _passing_signals_to(child):
+        status = child.wait()
+    return 128 - status if status < 0 else status
+
+
+@contextlib.contextmanager
+def _passing_signals_to(child: subprocess.Popen[bytes]) -> Iterator[None]:
+    """Hands SIGTERM and SIGHUP on to the child, and outlives those that a terminal sends to both."""
+
+    def hand_on(number: int, _: FrameType | None) -> None:
+        child.send_signal(number)
+
+    def leave_to_child(_number: int, _frame: FrameType | None) -> None:
+        pass
+
+    handlers = {signal.SIGTERM: hand_on, signal.SIGHUP: hand_on, signal.SIGINT: leave_to_child, signal.SIGQUIT: leave_to_child}
+    before = {number: signal.signal(number, handler) for number, handler in handlers.items()}
+    try:
+        yield
+    finally:
+        for number, handler in before.items():
+            signal.signal(number, handler)
+
+
+def _give(held: Lock) -> int:
+    """Gives a lock back. Says where that fails, and returns the status of it."""
+    try:
+        held.give()
+    except LockLost as error:
+        return _say(Status.NO, f"{error}, while the command ran")
+    except CrsmError as error:
+        return _say(Status.NO_ANSWER, f"the lock may still be held: {error}")
+    return Status.OK
+
+
+def _end(number: int, _: FrameType | None) -> None:
+    """Ends this process as the signal would, but for giving back a lock that it holds."""
+    sys.exit(128 + number)
+
+
+def main(arguments: Sequence[str]) -> int:
+    """Runs a command, and returns its status. What went wrong is said on standard error."""
+    words = read_words(arguments)
+    try:
+        return words.run(words)
+    except Failed as failed:
+        return _say(failed.status, str(failed))
+    except (NoAnswer, Refused) as error:
+        return _say(Status.NO_ANSWER, str(error))
+    except CrsmError as error:
+        return _say(Status.NO, str(error))
+    except ValueError as error:
+        return _say(Status.USAGE, str(error))
+    except OSError as error:
+        return _say(Status.DISK_FAULT, f"the client's number cannot be kept: {error}")
+    except KeyboardInterrupt:
+        return 128 + signal.SIGINT
+
+
+def _say(status: Status, why: str) -> Status:
+    print(f"crsm: {why}", file=sys.stderr)
+    return status

@@ -1,0 +1,167 @@
+"""One command on its way, without a socket: what is sent when and to whom, and what comes of it.
+
+The blocking and the asyncio client ask an `Exchange` at each turn which node to send to, hand it what they receive, and
+wait until it has something new to send.
+"""
+
+import math
+from collections.abc import Iterable, Sequence
+from dataclasses import dataclass, replace
+
+from .errors import REFUSALS, Closed, CrsmError, NoAnswer, Refused, Stale
+from .numbers import Numbers
+from .protocol import (
+    Address,
+    Answer,
+    Operation,
+    addresses_of,
+    get_of,
+    mark_of,
+    members_of,
+    reply_of,
+    request_of,
+)
+
+# A replica takes each copy of a request for an entry of its own, so copies do not follow one another faster.
+LEAST_RESEND = 0.1
+
+
+@dataclass(frozen=True)
+class Times:
+    """How long, in seconds: `timeout` for a command (None for no end), `node_timeout` at one node, and `resend` between
+    two copies of a request."""
+
+    timeout: float | None = 10.0
+    node_timeout: float = 1.0
+    resend: float = 0.25
+
+    def __post_init__(self) -> None:
+        if self.resend < LEAST_RESEND:
+            raise ValueError(f"a request is sent again after {LEAST_RESEND} seconds or more")
+
+
+class Exchange:
+    """The request of a client's command, sent to the nodes in turn until one of them answers.
+
+    Times are those of a clock that never goes back, in seconds. `at` is the node that is asked, `code` the last refusal
+    or 0.
+    """
+
+    def __init__(
+        self, request: bytes, mark: bytes, name: tuple[int, int], nodes: list[Address], at: int, times: Times, now: float
+    ):
+        self.datagram = mark + request
+        self.at, self.code = at, 0
+        self._mark, self._name, self._nodes, self._times = mark, name, nodes, times
+        self._asked: set[Address] = set()
+        self._sent, self._refused = 0, 0
+        self._due = now
+        self._leave = now + times.node_timeout
+        self._deadline = math.inf if times.timeout is None else now + times.timeout
+
+    def is_over(self, now: float) -> bool:
+        """Returns whether the time for the command has passed."""
+        return now >= self._deadline
+
+    def address_due(self, now: float) -> Address | None:
+        """Returns the node that the datagram is to be sent to now, or None before the next copy's time."""
+        if now >= self._leave:
+            self._go_on(now)
+        if now < self._due:
+            return None
+        resend = self._times.resend
+        # The last copy has its time to be answered, too.
+        self._due = now + resend if now + 2 * resend <= self._deadline else self._deadline
+        self._asked.add(self._nodes[self.at])
+        return self._nodes[self.at]
+
+    def was_sent(self) -> None:
+        """Counts a copy that went out. One that the system refuses to send is none."""
+        self._sent += 1
+
+    def wakes_at(self) -> float:
+        """Returns the time of the next copy, or of the end."""
+        return min(self._due, self._deadline)
+
+    def take(self, data: bytes, source: Address, now: float) -> Answer | None:
+        """Takes a datagram from an address. Returns the answer to the command where it has one.
+
+        A refusal leads on to the next node. What comes from a node that was not asked, or is no reply to this command,
+        changes nothing.
+        """
+        if source not in self._asked or not data.startswith(self._mark):
+            return None
+        reply = reply_of(data[len(self._mark) :])
+        if reply is None or (reply.client, reply.number) != self._name:
+            return None
+        if isinstance(reply.outcome, Answer):
+            return reply.outcome
+        self._refused += 1
+        self.code = reply.outcome
+        self._go_on(now)
+        return None
+
+    def failure(self) -> CrsmError:
+        """Returns why a command whose time has passed has no answer."""
+        if self._sent and self._refused >= self._sent:
+            return Refused(self.code)
+        client, number = self._name
+        return NoAnswer(f"no answer to command {number} of client {client} in {self._times.timeout} seconds")
+
+    def _go_on(self, now: float) -> None:
+        """Turns to the next node."""
+        self.at = (self.at + 1) % len(self._nodes)
+        self._leave = now + self._times.node_timeout
+
+
+class Session:
+    """What a client knows from one command to the next: the nodes and the one that it asks, its numbers, its times."""
+
+    def __init__(self, nodes: Sequence[str | Address], cluster: int, client: int | Numbers | None, times: Times):
+        self.nodes = addresses_of(nodes)
+        self.mark = mark_of(cluster)
+        self.times = times
+        self.numbers = client if isinstance(client, Numbers) else Numbers(client)
+        self.is_closed = False
+        self._at = 0
+
+    def check_open(self) -> None:
+        """Raises `Closed` once the client is closed."""
+        if self.is_closed:
+            raise Closed("the client is closed")
+
+    def begin(self, operation: Operation, now: float) -> Exchange:
+        """Returns the exchange of a new command, which goes first to the node that answered last."""
+        self.check_open()
+        name = (self.numbers.client, self.numbers.next())
+        return Exchange(request_of(*name, operation), self.mark, name, self.nodes, self._at, self.times, now)
+
+    def leave(self, exchange: Exchange) -> None:
+        """Notes which node a command was at when it ended: the next one begins there."""
+        self._at = exchange.at
+
+    def checked(self, operation: Operation, answer: Answer) -> Answer:
+        """Returns the answer to an operation, or raises what `Operation.check` does."""
+        try:
+            return operation.check(answer)
+        except Stale as stale:
+            self.numbers.pass_over(stale.number)
+            raise
+
+    def probe(self, node: int, until: float, now: float) -> Exchange:
+        """Returns the exchange of a `get` that this node alone is asked for, at least once and until this time."""
+        self.check_open()
+        name = (self.numbers.client, self.numbers.next())
+        times = replace(self.times, timeout=max(until - now, self.times.resend))
+        return Exchange(request_of(*name, get_of(b"\0")), self.mark, name, [self.nodes[node]], 0, times, now)
+
+    def members_request(self, members: Iterable[int], via: int | None, sure: bool) -> tuple[bytes, Address]:
+        """Returns the datagram that asks for members, and the node that gets it. Raises as `members_of` does."""
+        self.check_open()
+        to, request = members_of(members, len(self.nodes), via, sure)
+        return self.mark + request, self.nodes[to]
+
+
+def why_silent(exchange: Exchange) -> str:
+    """Returns why a node has not answered a probe, in words."""
+    return REFUSALS[exchange.code] if exchange.code else "it has not answered"

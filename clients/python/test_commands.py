@@ -1,0 +1,191 @@
+"""Tests of `python3 -m crsm` against the small node of `test_crsm`."""
+
+import io
+import os
+import signal
+import subprocess
+import sys
+import tempfile
+import time
+import unittest
+from unittest import mock
+
+from crsm.commands import main
+from test_crsm import ClusterTest, lock_value
+
+HERE = os.path.dirname(os.path.abspath(__file__))
+SHOWS_FENCE = ["--", "sh", "-c", "echo $CRSM_FENCE"]
+
+
+class CommandsTest(ClusterTest):
+    def setUp(self):
+        super().setUp()
+        self.state = tempfile.TemporaryDirectory()
+        self.addCleanup(self.state.cleanup)
+        self.served = self.node()
+
+    def environment(self):
+        host, port = self.served.address
+        kept = {name: value for name, value in os.environ.items() if not name.startswith("CRSM_")}
+        return {**kept, "CRSM_NODES": f"{host}:{port}", "XDG_STATE_HOME": self.state.name}
+
+    def started(self, *words, **how):
+        command = [sys.executable, "-B", "-W", "error", "-m", "crsm", *words]
+        pipes = {"stdin": subprocess.PIPE, "stdout": subprocess.PIPE, "stderr": subprocess.PIPE}
+        return subprocess.Popen(command, cwd=HERE, env=self.environment(), **{**pipes, **how})
+
+    def ran(self, *words, given=b"", **how):
+        with self.started(*words, **how) as process:
+            out, err = process.communicate(given)
+        return process.returncode, out, err.decode()
+
+    def ran_here(self, *words, given=b""):
+        """What a command comes to that this process runs: half a second less than a process of its own takes."""
+        streams = [io.TextIOWrapper(io.BytesIO(data), write_through=True) for data in (given, b"", b"")]
+        names = "stdin", "stdout", "stderr"
+        with mock.patch.multiple(sys, **dict(zip(names, streams))), mock.patch.dict(os.environ, self.environment()):
+            try:
+                status = main(words)
+            except SystemExit as end:
+                status = end.code
+        return status, streams[1].buffer.getvalue(), streams[2].buffer.getvalue().decode()
+
+    def check(self, words, status, out=b"", err="", given=b""):
+        ran = self.ran if words[:1] == ["lock"] else self.ran_here
+        ended, wrote, said = ran(*words, given=given)
+        self.assertEqual((ended, wrote), (status, out), said)
+        self.assertIn(err, said)
+        self.assertNotIn("Traceback", said)
+
+    def test_commands(self):
+        self.check(["get", "a"], 1, err="missing")
+        self.check(["put", "a", "blue"], 0)
+        self.check(["get", "a"], 0, b"blue\n")
+        self.check(["cas", "a", "--from", "red", "--to", "green"], 1, b"blue\n", "differs")
+        self.check(["cas", "a", "--from", "blue", "--to", "green"], 0)
+        self.check(["cas", "a", "--if-missing", "--to", "green"], 1, b"green\n")
+        self.check(["cas", "b", "--from", "x", "--remove"], 1, err="missing")
+        self.check(["delete", "a"], 0)
+        self.check(["delete", "a"], 1, err="missing")
+        # (one client after another is the same one)
+        self.assertEqual(len(self.store.clients), 1)
+        self.assertEqual(os.listdir(self.state.name), ["crsm"])
+        self.assertEqual(os.listdir(f"{self.state.name}/crsm"), ["client-0"])
+
+    def test_bytes(self):
+        self.check(["put", "a"], 0, given=b"\xff\n\0")
+        self.assertEqual(self.store.rows, {b"a": b"\xff\n\0"})
+        self.check(["get", "a"], 0, b"\xff\n\0\n")
+        self.check(["get", "--hex", "61"], 0, b"ff0a00\n")
+        self.check(["put", "--hex", "ff00"], 0, given=b"0102\n")
+        self.check(["put", "--hex", "ff00", "0103"], 0)
+        self.check(["put", "--", "-x", "-y"], 0)
+        self.assertEqual(self.store.rows, {b"a": b"\xff\n\0", b"\xff\0": b"\1\3", b"-x": b"-y"})
+        self.check(["put", "d", "1"], 1, err="full")
+
+    def test_wrong_words(self):
+        for words in (
+            [],
+            ["set"],
+            ["get"],
+            ["get", "a", "--nodes", "here"],
+            ["get", "a", "--cluster", "-1"],
+            ["get", "a", "--hex"],
+            ["get", "k" * 65],
+            ["cas", "a", "--to", "b"],
+            ["cas", "a", "--from", "b", "--if-missing", "--to", "c"],
+            ["lock", "a"],
+            ["lock", "a", "true"],
+            ["lock", "a", "--"],
+        ):
+            with self.subTest(words):
+                self.check(words, 2)
+        self.assertIn(b"CRSM_NODES", self.ran("--help")[1])
+        self.assertEqual(self.served.taken, [])
+
+    def test_no_answer(self):
+        host, port = self.dead().getsockname()
+        nodes = ["--nodes", f"{host}:{port}", "--timeout", "0.3"]
+        self.check(["get", "a", *nodes], 9, err="no answer")
+        refusing = self.node(refuse=[4] * 99)
+        nodes[1] = "{}:{}".format(*refusing.address)
+        self.check(["put", "a", "b", *nodes], 9, err="congested")
+
+    def test_faults(self):
+        self.check(["get", "a", "--state", "/dev/null/x"], 7, err="cannot be kept")
+        self.store.rows[b"a"] = b"1"
+        with open("/dev/full", "wb") as full:
+            self.assertEqual(self.ran("get", "a", stdout=full)[0], 5)
+
+    def test_lock(self):
+        self.check(["lock", "a", *SHOWS_FENCE], 0, b"1\n")
+        self.check(["lock", "a", *SHOWS_FENCE], 0, b"2\n")
+        self.assertEqual(self.store.rows, {b"a": lock_value(0, 2, 0)})
+        self.check(["lock", "a", "--", "sh", "-c", "exit 7"], 7)
+        self.check(["lock", "a", "--", "sh", "-c", "kill -9 $$"], 128 + signal.SIGKILL)
+        self.check(["lock", "a", "--", "/no/such/program"], 127)
+        self.check(["lock", "a", "--", "/dev/null"], 126)
+        self.check(["lock", "a", "--", "echo", "--", "x"], 0, b"-- x\n")
+        self.assertEqual(self.store.rows, {b"a": lock_value(0, 7, 0)})
+
+    def test_lock_that_another_holds(self):
+        self.store.rows[b"a"] = lock_value(1, 3, 9)
+        self.check(["lock", "a", "--wait", "0", *SHOWS_FENCE], 1, err="client 9 holds the lock with fence 3")
+        self.check(["lock", "a", "--break", "2", *SHOWS_FENCE], 1, err="holds")
+        self.check(["lock", "a", "--break", "3", *SHOWS_FENCE], 0, b"4\n")
+        self.store.rows[b"a"] = b"1"
+        self.check(["lock", "a", *SHOWS_FENCE], 1, err="a lock has 17 bytes")
+
+    def held(self, script):
+        """A process that holds the lock while this script runs, which writes a line first."""
+        process = self.started("lock", "a", "--", "sh", "-c", script)
+        self.addCleanup(process.communicate)
+        self.addCleanup(process.kill)
+        process.stdout.readline()
+        return process
+
+    def test_lock_is_lost_while_the_command_runs(self):
+        process = self.held("echo; read line")
+        self.store.rows[b"a"] = lock_value(1, 9, 9)
+        _, said = process.communicate(b"\n")
+        self.assertEqual(process.returncode, 1)
+        self.assertIn(b"the lock was taken", said)
+
+    def test_lock_is_given_back_on_a_signal(self):
+        process = self.held("trap 'echo ended; exit 3' TERM; echo; while :; do sleep 0.05; done")
+        process.terminate()
+        out, _ = process.communicate()
+        self.assertEqual((process.returncode, out), (3, b"ended\n"))
+        self.assertEqual(self.store.rows, {b"a": lock_value(0, 1, 0)})
+
+    def test_killed_holder(self):
+        process = self.held("echo $$; read line")
+        process.kill()
+        # The command runs on: nobody else is this client, and the lock stays held.
+        self.check(["lock", "a", "--wait", "0", *SHOWS_FENCE], 1, err="holds the lock with fence 1")
+        self.assertEqual(sorted(os.listdir(f"{self.state.name}/crsm")), ["client-0", "client-1"])
+        process.communicate(b"\n")
+        # Once it has ended, the next one is the client that holds it, by a new grant.
+        until = time.monotonic() + 10
+        while (ended := self.ran("lock", "a", "--wait", "0", *SHOWS_FENCE))[0] == 1 and time.monotonic() < until:
+            pass
+        self.assertEqual(ended[:2], (0, b"2\n"))
+
+    def test_processes_at_a_time_are_different_clients(self):
+        self.store.room = 9
+        processes = [self.started("put", str(at), "v") for at in range(4)]
+        for process in processes:
+            process.communicate()
+            self.assertEqual(process.returncode, 0)
+        self.assertEqual(len(self.store.rows), 4)
+
+    def test_bench(self):
+        self.store.room = 9
+        status, out, _ = self.ran_here("bench", "--clients", "3", "--seconds", "0.5")
+        self.assertEqual(status, 0)
+        self.assertRegex(out, rb"^[0-9,]+ commands a second; median [0-9.]+ ms, 99 % within [0-9.]+ ms\n$")
+        self.assertEqual((self.store.rows, len(self.store.clients)), ({}, 3))
+
+
+if __name__ == "__main__":
+    unittest.main()
