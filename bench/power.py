@@ -11,8 +11,8 @@ Then the nodes start again and go on. After each 25 losses all are stopped and j
 began with what the start before had found; each command that was answered stands in the list, with that answer; lists
 and answers are those of `chaos.py`, and the audit of all sheets agrees.
 
-With `--fails` a sync fails before some losses, and the system takes the pages that it should have written as written:
-the node ends with status 7 and is started again, reads what the disk does not have, and then loses the power.
+With `--fails` a sync of a gate fails before some losses, and the system takes the page that it should have written as
+written: the node ends with status 7 and is started again, reads what the disk does not have, and then loses the power.
 
 With `--lies` no sync keeps anything: the trial is then expected to find a loss, and ends with 0 where it does.
 
@@ -76,7 +76,7 @@ class Life:
         self._operator = socket.socket(socket.AF_INET, socket.SOCK_DGRAM)
 
     def _start(self, node: Node, loss_at: int, failure_at: int = 0) -> None:
-        """Starts a node that loses the power at this call, or when it is told; the sync of this number fails."""
+        """Starts a node that loses the power at this call, or when it is told; a sync from this one on fails."""
         node.environment = {
             **os.environ,
             "LD_PRELOAD": self._library,
