@@ -7,9 +7,9 @@ after another, moves the clock of node 2, or all clocks, while the nodes run, an
 clients of node 2 and of the others waited, in the middle and at most, before, while and after the clock is wrong. Where
 nothing is answered for ten seconds, `operate` is asked twice for all three nodes, and the table says so.
 
-Figures of one run: a machine with other work adds to them. At the end all sheets are judged as by `chaos.py`. Ends with 0
-where each row ends with all clients answered and the judgement holds, with 1 and the reason where not, and with 0 and a
-word where there is no `cc`.
+Figures of one run: a machine with other work adds to them. At the end all sheets are judged as by `chaos.py`. Ends with
+0 where each row ends with all clients answered and the judgement holds, with 1 and the reason where not, and with 0 and
+a word where there is no `cc`.
 """
 
 import argparse
@@ -102,7 +102,7 @@ class Prober(threading.Thread):
         self._socket.close()
 
     def waits(self, since: float, until: float) -> List[float]:
-        """How long each command took, in seconds, of those that were answered in this time, or still waited at its end."""
+        """How long each command took, in seconds, that was answered in this time, or still waited at its end."""
         return [
             min(it.ended or until, until) - it.began
             for it in self.notes
@@ -241,7 +241,7 @@ def main() -> int:
     folder = tempfile.mkdtemp(prefix="crsm-clocks-")
     library = f"{folder}/clock.so"
     subprocess.run(["cc", "-O1", "-shared", "-fPIC", "-o", library, f"{HERE}/clock.c", "-ldl"], check=True)
-    print("| clock of node 2 | before: its clients | others | while: its clients | others | after: its | others | back |")
+    print("| clock of node 2 | before: its clients | others | while: its | others | after: its | others | back |")
     print("|---|---|---|---|---|---|---|---|")
     try:
         for _ in range(words.rounds):

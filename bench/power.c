@@ -11,7 +11,8 @@
  *   POWER_AT     the power is lost at the k-th call that opens, writes or syncs the log, or is the first to send after
  *                such a call; 0 for never
  *   POWER_LIES   where it is set, no sync keeps anything
- *   POWER_FAILS  the k-th sync fails with EIO, keeps nothing, and the system takes its pages as written; 0 for none
+ *   POWER_FAILS  from the k-th sync on, the first that is to keep the gate of an entry which ends in a later page fails
+ *                with EIO and keeps nothing, and the system takes the gate's page as written; 0 for none
  *   POWER_MARK   a file that gets a line for each loss
  *
  * At SIGUSR1 the power is lost at one of the next 64 such calls; at a second one, at the next call of any kind.
@@ -275,11 +276,17 @@ int ftruncate(int fd, off_t len) {
     return NEXT(ftruncate)(fd, len);
 }
 
+/* Whether what is not synced is the gate of an entry that ends in a later page. */
+static int is_gate_alone(void) {
+    return piece_count == 1 && pieces[0].len == 1 && pieces[0].at / PAGE != (log_len() - 1) / PAGE;
+}
+
 static int sync_it(int fd, const char *call, int (*next)(int)) {
     if (fd != log_fd && fd != folder_fd)
         return next(fd);
     count(call);
-    if (++syncs == failure_at) {
+    if (++syncs >= failure_at && failure_at > 0 && fd == log_fd && is_gate_alone()) {
+        failure_at = 0;
         drop_pages();
         errno = EIO;
         return -1;

@@ -1,16 +1,18 @@
 """Power that is lost: a loaded node, or three, whose disk keeps what was synced and anything of the rest.
 
-    python3 bench/power.py PROGRAM [--nodes N] [--cuts K] [--seed S] [--lies]
+    python3 bench/power.py PROGRAM [--nodes N] [--cuts K] [--seed S] [--fails] [--lies]
 
 puts a library (`power.c`) in front of the system's calls of each node. The power is lost at a call or a moment that is
 drawn from the seed, while clients keep 32 commands under way: then any part of what was not synced reaches the log
 file, by sectors of 512 bytes, with any length between the old and the new, and a name whose folder was not synced may
-be gone.
-One in four losses comes while a node starts. With three nodes one, two or all of them lose the power at once.
+be gone. One in four losses comes while a node starts. With three nodes one, two or all of them lose the power at once.
 
 Then the nodes start again and go on. After each 25 losses all are stopped and judged: each start opened its log, which
 began with what the start before had found; each command that was answered stands in the list, with that answer; lists
 and answers are those of `chaos.py`, and the audit of all sheets agrees.
+
+With `--fails` a sync of a gate fails before some losses, and the system takes the page that it should have written as
+written: the node ends with status 7 and is started again, reads what the disk does not have, and then loses the power.
 
 With `--lies` no sync keeps anything: the trial is then expected to find a loss, and ends with 0 where it does.
 
@@ -43,6 +45,8 @@ OPERATE_EVERY = {1: 0.1, 3: 0.5, 5: 0.5}
 # The calls of a start that has a log of some entries, and of the first one, are about so many.
 CALLS_OF_A_START = 12
 MOST_ANSWERS = 60
+MOST_SYNCS = 40
+LOG_FAILED = 7
 # How a process ends that loses its power, and one that was told so before the library was there.
 LOST = (-signal.SIGKILL, -signal.SIGUSR1)
 
@@ -71,13 +75,14 @@ class Life:
         self._library = library
         self._operator = socket.socket(socket.AF_INET, socket.SOCK_DGRAM)
 
-    def _start(self, node: Node, loss_at: int) -> None:
-        """Starts a node that loses the power at this call, or when it is told."""
+    def _start(self, node: Node, loss_at: int, failure_at: int = 0) -> None:
+        """Starts a node that loses the power at this call, or when it is told; a sync from this one on fails."""
         node.environment = {
             **os.environ,
             "LD_PRELOAD": self._library,
             "POWER_SEED": str(self.chance.randrange(1 << 30)),
             "POWER_AT": str(loss_at),
+            "POWER_FAILS": str(failure_at),
             "POWER_MARK": f"{self.folder}/mark-{node.number}",
         }
         if self.words.lies:
@@ -153,6 +158,22 @@ class Life:
             self.losses["in a first start"] += 1
         self._start(node, 0)
 
+    def _failed_sync(self) -> None:
+        """Lets a sync of a start fail, and starts the node again on what the system shows it."""
+        node = self.chance.choice(self.nodes)
+        self._lose([node])
+        self.losses["before a failed sync"] += 1
+        self._start(node, 0, self.chance.randint(1, MOST_SYNCS))
+        began = time.monotonic()
+        while node.process.poll() is None:
+            if time.monotonic() > began + ANSWERED_WITHIN:
+                raise Broken("no sync has failed")
+            self._operate()
+            time.sleep(0.1)
+        if node.process.returncode != LOG_FAILED:
+            raise Broken(f"a sync fails, and the node ends with {node.process.returncode}")
+        self._start(node, 0)
+
     def _await_end(self, node: Node) -> None:
         """Waits a little for a node to lose the power."""
         end = time.monotonic() + 1.0
@@ -166,6 +187,8 @@ class Life:
                 self._first_start(it)
             self.load.start()
             while sum(self.losses.values()) < losses:
+                if self.words.fails and self.chance.random() < 0.5:
+                    self._failed_sync()
                 self._loss_at_start() if self.chance.random() < 0.25 else self._one_loss()
             self._await_answers(1, [])
         finally:
@@ -228,6 +251,7 @@ def read_words() -> argparse.Namespace:
     reader.add_argument("--nodes", type=int, default=1, choices=[1, 3, 5])
     reader.add_argument("--cuts", type=int, default=1000)
     reader.add_argument("--seed", type=int, default=1)
+    reader.add_argument("--fails", action="store_true")
     reader.add_argument("--lies", action="store_true")
     return reader.parse_args()
 

@@ -2,10 +2,10 @@
 
     python3 bench/spoilt.py PROGRAM [--places P] [--seed S]
 
-makes the logs of three nodes under load, with a change of members and a restart in between, and spoils a copy of one of
-them at P places that are drawn from the seed: a bit, a bit of a gate or a length, a sector of zeros, ones or chance, the
-tail cut off, zeros or chance behind it, a block that stands twice, a block of another node's log, and the middle of an
-older copy of the log. A node is started on it for one turn, and its sheet is audited beside those of the others.
+makes the logs of three nodes under load, with a change of members and a restart in between, and spoils a copy of one
+of them at P places that are drawn from the seed: a bit, a bit of a gate or a length, a sector of zeros, ones or chance,
+the tail cut off, zeros or chance behind it, a block that stands twice, a block of another node's log, and the middle of
+an older copy of the log. A node is started on it for one turn, and its sheet is audited beside those of the others.
 
 Each start either refuses the log and names the entry (status 10), or opens it; what it opened is one of these:
 
