@@ -3,8 +3,8 @@ use Rattle.std.proofs.Common.{◌≡◌, ℕ, inl, inr, List, Option, refl, ap, 
 use Rattle.crsm_audit.specs.Handled.{audited}
 use Rattle.crsm_port_lines.specs.Exact as loop
 use Rattle.crsm_port_lines.specs.Run as lines
-use Rattle.crsm_port_lines.specs.declared.Bad.{Bad}
-use Rattle.crsm_port_lines.specs.declared.Ending.{Ending}
+use Rattle.crsm_port_lines.specs.declared.LineRefusal.{LineRefusal}
+use Rattle.crsm_port_lines.specs.declared.InputEnd.{InputEnd}
 use Rattle.crsm_cmd_replay_node.specs.Causes.{cause_in}
 use Rattle.crsm_cmd_replay_node.specs.declared.cause.SheetCause.{SheetCause}
 use Rattle.crsm_app.specs.Did.{DidAudit}
@@ -13,29 +13,29 @@ use Rattle.crsm_app.specs.Statuses.{status_of_refused, status_of_sheet}
 use Rattle.crsm_app.specs.declared.status.Status.{Status}
 use Rattle.crsm_app.proofs.Sheets.{no_memory, told}
 
-refused : (n line : ℕ) (why : Bad SheetCause) (b a d w : Option (List ℕ)) → lines.RanToBad (audited n) b a d w line why → DidAudit n (status_of_refused line (cause_in why)) b a d w
+refused : (n line : ℕ) (why : LineRefusal SheetCause) (b a d w : Option (List ℕ)) → lines.RanToBad (audited n) b a d w line why → DidAudit n (status_of_refused line (cause_in why)) b a d w
 unfolding DidAudit
-refused n line (Bad.Refused SheetCause.Unreadable) b a d w ran = (refl, Bad.Refused SheetCause.Unreadable, refl, ran)
-refused n line (Bad.Refused (SheetCause.BadLog entry why)) b a d w ran = (line, ran)
-refused n line Bad.TooLong b a d w ran = (refl, Bad.TooLong, refl, ran)
-refused n line Bad.Cut b a d w ran = (refl, Bad.Cut, refl, ran)
+refused n line (LineRefusal.Refused SheetCause.Unreadable) b a d w ran = (refl, LineRefusal.Refused SheetCause.Unreadable, refl, ran)
+refused n line (LineRefusal.Refused (SheetCause.BadLog entry why)) b a d w ran = (line, ran)
+refused n line LineRefusal.TooLong b a d w ran = (refl, LineRefusal.TooLong, refl, ran)
+refused n line LineRefusal.Cut b a d w ran = (refl, LineRefusal.Cut, refl, ran)
 
-did : (n : ℕ) (e : Ending SheetCause) (b a d w : Option (List ℕ)) → lines.Ran (audited n) e b a d w → DidAudit n (status_of_sheet e) b a d w
+did : (n : ℕ) (e : InputEnd SheetCause) (b a d w : Option (List ℕ)) → lines.Ran (audited n) e b a d w → DidAudit n (status_of_sheet e) b a d w
 unfolding lines.Ran DidAudit
-did n Ending.Done b a d w ran = ran
-did n (Ending.BadLine line why) b a d w ran = refused n line why b a d w ran
-did n Ending.ReadFault b a d w ran = ran
-did n Ending.WriteFault b a d w ran = ran
-did n Ending.NoMemory b a d w ran = ran
-did n Ending.InputTooLong b a d w ran = ran
+did n InputEnd.Done b a d w ran = ran
+did n (InputEnd.BadLine line why) b a d w ran = refused n line why b a d w ran
+did n InputEnd.ReadFault b a d w ran = ran
+did n InputEnd.WriteFault b a d w ran = ran
+did n InputEnd.NoMemory b a d w ran = ran
+did n InputEnd.InputTooLong b a d w ran = ran
 
 -- the cause to report for a bad line is that of the audit
-cause_is : (n : ℕ) (x : loop.Exact (audited n)) → x.unreadable ≡ SheetCause.Unreadable → (bad : Bad SheetCause) → loop.reason_of (audited n) x bad ≡ cause_in bad
-cause_is n x same (Bad.Refused cause) = refl
-cause_is n x same Bad.TooLong = same
-cause_is n x same Bad.Cut = same
+cause_is : (n : ℕ) (x : loop.Exact (audited n)) → x.unreadable ≡ SheetCause.Unreadable → (bad : LineRefusal SheetCause) → loop.reason_of (audited n) x bad ≡ cause_in bad
+cause_is n x same (LineRefusal.Refused cause) = refl
+cause_is n x same LineRefusal.TooLong = same
+cause_is n x same LineRefusal.Cut = same
 
-module _ (e : Ending SheetCause) (result : Status) (is : result ≡ status_of_sheet e) where
+module _ (e : InputEnd SheetCause) (result : Status) (is : result ≡ status_of_sheet e) where
   pub did_so : (n : ℕ) (b a d w : Option (List ℕ)) → lines.Ran (audited n) e b a d w → DidAudit n result b a d w
   did_so n b a d w ran = subst (λ (s : Status). DidAudit n s b a d w) (sym is) (did n e b a d w ran)
 

@@ -5,84 +5,84 @@ use Rattle.crsm_delay.specs.declared.handling.PlanCause.{PlanCause}
 use Rattle.crsm_delay.specs.declared.handling.Wanted.{Wanted}
 use Rattle.crsm_port_lines.specs.Exact as loop
 use Rattle.crsm_port_lines.specs.Run as lines
-use Rattle.crsm_port_lines.specs.declared.Ending.{Ending}
+use Rattle.crsm_port_lines.specs.declared.InputEnd.{InputEnd}
 use Rattle.crsm_cmd_replay.specs.declared.cause.Cause.{Cause}
 use Rattle.crsm_app.specs.Did.{DidPlan}
 use Rattle.crsm_app.specs.Exact.{IsDone, IsRefused, IsTooLong}
 use Rattle.crsm_app.specs.Statuses.{status_of_delay}
 use Rattle.crsm_app.specs.declared.status.Status.{Status}
 
-did : (wanted : Wanted) (e : Ending PlanCause) (b a d w : Option (List ℕ)) → lines.Ran (plans_of wanted) e b a d w → DidPlan wanted (status_of_delay e) b a d w
+did : (wanted : Wanted) (e : InputEnd PlanCause) (b a d w : Option (List ℕ)) → lines.Ran (plans_of wanted) e b a d w → DidPlan wanted (status_of_delay e) b a d w
 unfolding lines.Ran DidPlan
-did wanted Ending.Done b a d w ran = ran
-did wanted (Ending.BadLine line why) b a d w ran = (refl, why, ran)
-did wanted Ending.ReadFault b a d w ran = ran
-did wanted Ending.WriteFault b a d w ran = ran
-did wanted Ending.NoMemory b a d w ran = ran
-did wanted Ending.InputTooLong b a d w ran = ran
+did wanted InputEnd.Done b a d w ran = ran
+did wanted (InputEnd.BadLine line why) b a d w ran = (refl, why, ran)
+did wanted InputEnd.ReadFault b a d w ran = ran
+did wanted InputEnd.WriteFault b a d w ran = ran
+did wanted InputEnd.NoMemory b a d w ran = ran
+did wanted InputEnd.InputTooLong b a d w ran = ran
 
-read_fault : (e : Ending PlanCause) → status_of_delay e ≡ Status.ReadFault → e ≡ Ending.ReadFault
-read_fault Ending.Done is = absurd (cc is)
-read_fault (Ending.BadLine line why) is = absurd (cc is)
-read_fault Ending.ReadFault is = refl
-read_fault Ending.WriteFault is = absurd (cc is)
-read_fault Ending.NoMemory is = absurd (cc is)
-read_fault Ending.InputTooLong is = absurd (cc is)
+read_fault : (e : InputEnd PlanCause) → status_of_delay e ≡ Status.ReadFault → e ≡ InputEnd.ReadFault
+read_fault InputEnd.Done is = absurd (cc is)
+read_fault (InputEnd.BadLine line why) is = absurd (cc is)
+read_fault InputEnd.ReadFault is = refl
+read_fault InputEnd.WriteFault is = absurd (cc is)
+read_fault InputEnd.NoMemory is = absurd (cc is)
+read_fault InputEnd.InputTooLong is = absurd (cc is)
 
-write_fault : (e : Ending PlanCause) → status_of_delay e ≡ Status.WriteFault → e ≡ Ending.WriteFault
-write_fault Ending.Done is = absurd (cc is)
-write_fault (Ending.BadLine line why) is = absurd (cc is)
-write_fault Ending.ReadFault is = absurd (cc is)
-write_fault Ending.WriteFault is = refl
-write_fault Ending.NoMemory is = absurd (cc is)
-write_fault Ending.InputTooLong is = absurd (cc is)
+write_fault : (e : InputEnd PlanCause) → status_of_delay e ≡ Status.WriteFault → e ≡ InputEnd.WriteFault
+write_fault InputEnd.Done is = absurd (cc is)
+write_fault (InputEnd.BadLine line why) is = absurd (cc is)
+write_fault InputEnd.ReadFault is = absurd (cc is)
+write_fault InputEnd.WriteFault is = refl
+write_fault InputEnd.NoMemory is = absurd (cc is)
+write_fault InputEnd.InputTooLong is = absurd (cc is)
 
-done : (e : Ending PlanCause) → status_of_delay e ≡ Status.Ok → e ≡ Ending.Done
-done Ending.Done is = refl
-done (Ending.BadLine line why) is = absurd (cc is)
-done Ending.ReadFault is = absurd (cc is)
-done Ending.WriteFault is = absurd (cc is)
-done Ending.NoMemory is = absurd (cc is)
-done Ending.InputTooLong is = absurd (cc is)
+done : (e : InputEnd PlanCause) → status_of_delay e ≡ Status.Ok → e ≡ InputEnd.Done
+done InputEnd.Done is = refl
+done (InputEnd.BadLine line why) is = absurd (cc is)
+done InputEnd.ReadFault is = absurd (cc is)
+done InputEnd.WriteFault is = absurd (cc is)
+done InputEnd.NoMemory is = absurd (cc is)
+done InputEnd.InputTooLong is = absurd (cc is)
 
-long : (e : Ending PlanCause) → status_of_delay e ≡ Status.InputTooLong → e ≡ Ending.InputTooLong
-long Ending.Done is = absurd (cc is)
-long (Ending.BadLine line why) is = absurd (cc is)
-long Ending.ReadFault is = absurd (cc is)
-long Ending.WriteFault is = absurd (cc is)
-long Ending.NoMemory is = absurd (cc is)
-long Ending.InputTooLong is = refl
+long : (e : InputEnd PlanCause) → status_of_delay e ≡ Status.InputTooLong → e ≡ InputEnd.InputTooLong
+long InputEnd.Done is = absurd (cc is)
+long (InputEnd.BadLine line why) is = absurd (cc is)
+long InputEnd.ReadFault is = absurd (cc is)
+long InputEnd.WriteFault is = absurd (cc is)
+long InputEnd.NoMemory is = absurd (cc is)
+long InputEnd.InputTooLong is = refl
 
-no_port : (e : Ending PlanCause) → status_of_delay e ≡ Status.PortFault → ⊥
-no_port Ending.Done is = cc is
-no_port (Ending.BadLine line why) is = cc is
-no_port Ending.ReadFault is = cc is
-no_port Ending.WriteFault is = cc is
-no_port Ending.NoMemory is = cc is
-no_port Ending.InputTooLong is = cc is
+no_port : (e : InputEnd PlanCause) → status_of_delay e ≡ Status.PortFault → ⊥
+no_port InputEnd.Done is = cc is
+no_port (InputEnd.BadLine line why) is = cc is
+no_port InputEnd.ReadFault is = cc is
+no_port InputEnd.WriteFault is = cc is
+no_port InputEnd.NoMemory is = cc is
+no_port InputEnd.InputTooLong is = cc is
 
-no_disk : (e : Ending PlanCause) → status_of_delay e ≡ Status.DiskFault → ⊥
-no_disk Ending.Done is = cc is
-no_disk (Ending.BadLine line why) is = cc is
-no_disk Ending.ReadFault is = cc is
-no_disk Ending.WriteFault is = cc is
-no_disk Ending.NoMemory is = cc is
-no_disk Ending.InputTooLong is = cc is
+no_disk : (e : InputEnd PlanCause) → status_of_delay e ≡ Status.DiskFault → ⊥
+no_disk InputEnd.Done is = cc is
+no_disk (InputEnd.BadLine line why) is = cc is
+no_disk InputEnd.ReadFault is = cc is
+no_disk InputEnd.WriteFault is = cc is
+no_disk InputEnd.NoMemory is = cc is
+no_disk InputEnd.InputTooLong is = cc is
 
-module _ (wanted : Wanted) (e : Ending PlanCause) (result : Status) (is : result ≡ status_of_delay e) where
+module _ (wanted : Wanted) (e : InputEnd PlanCause) (result : Status) (is : result ≡ status_of_delay e) where
   pub did_so : (b a d w : Option (List ℕ)) → lines.Ran (plans_of wanted) e b a d w → DidPlan wanted result b a d w
   did_so b a d w ran = subst (λ (s : Status). DidPlan wanted s b a d w) (sym is) (did wanted e b a d w ran)
 
-  pub is_read_fault : result ≡ Status.ReadFault → e ≡ Ending.ReadFault
+  pub is_read_fault : result ≡ Status.ReadFault → e ≡ InputEnd.ReadFault
   is_read_fault fault = read_fault e (sym is ∙ fault)
 
-  pub is_write_fault : result ≡ Status.WriteFault → e ≡ Ending.WriteFault
+  pub is_write_fault : result ≡ Status.WriteFault → e ≡ InputEnd.WriteFault
   is_write_fault fault = write_fault e (sym is ∙ fault)
 
-  pub is_done : result ≡ Status.Ok → e ≡ Ending.Done
+  pub is_done : result ≡ Status.Ok → e ≡ InputEnd.Done
   is_done ok = done e (sym is ∙ ok)
 
-  pub is_long : result ≡ Status.InputTooLong → e ≡ Ending.InputTooLong
+  pub is_long : result ≡ Status.InputTooLong → e ≡ InputEnd.InputTooLong
   is_long too_long = long e (sym is ∙ too_long)
 
   pub is_no_port : result ≢ Status.PortFault

@@ -10,7 +10,7 @@ use Rattle.crsm_delay.specs.Reading.{plans_of}
 use Rattle.crsm_delay.specs.declared.handling.PlanCause.{PlanCause}
 use Rattle.crsm_delay.specs.declared.handling.Wanted.{Wanted}
 use Rattle.crsm_port_lines.specs.Run as lines
-use Rattle.crsm_port_lines.specs.declared.Bad.{Bad}
+use Rattle.crsm_port_lines.specs.declared.LineRefusal.{LineRefusal}
 use Rattle.crsm_io.specs.Streams.{Puts, PutsPrefix}
 use Rattle.crsm_cmd_lock.specs.Commands.{LockRan}
 use Rattle.crsm_cmd_lock.specs.declared.command.LockEnd.{LockEnd}
@@ -81,8 +81,8 @@ DidSheet me n _ before after had has = ⊥
 unfoldable pub DidAudit : (n : ℕ) → Status → (before after had has : Option (List ℕ)) → Type 0
 DidAudit n Status.Ok before after had has = lines.RanToEnd (audited n) before after had has
 DidAudit n (Status.BadInput line cause) before after had has =
-    (cause ≡ Cause.Unreadable) × (why : Bad SheetCause) × (cause_in why ≡ SheetCause.Unreadable) × lines.RanToBad (audited n) before after had has line why
-DidAudit n (Status.BadLog entry why) before after had has = (line : ℕ) × lines.RanToBad (audited n) before after had has line (Bad.Refused (SheetCause.BadLog entry why))
+    (cause ≡ Cause.Unreadable) × (why : LineRefusal SheetCause) × (cause_in why ≡ SheetCause.Unreadable) × lines.RanToBad (audited n) before after had has line why
+DidAudit n (Status.BadLog entry why) before after had has = (line : ℕ) × lines.RanToBad (audited n) before after had has line (LineRefusal.Refused (SheetCause.BadLog entry why))
 DidAudit n Status.ReadFault before after had has = lines.RanSoFar (audited n) before after had has
 DidAudit n Status.WriteFault before after had has = lines.RanPartly (audited n) before after had has
 DidAudit n Status.NoMemory before after had has = lines.RanPartly (audited n) before after had has
@@ -94,7 +94,7 @@ DidAudit n _ before after had has = ⊥
 unfoldable pub DidPlan : Wanted → Status → (before after had has : Option (List ℕ)) → Type 0
 DidPlan wanted Status.Ok before after had has = lines.RanToEnd (plans_of wanted) before after had has
 DidPlan wanted (Status.BadInput line cause) before after had has =
-    (cause ≡ Cause.Unreadable) × (why : Bad PlanCause) × lines.RanToBad (plans_of wanted) before after had has line why
+    (cause ≡ Cause.Unreadable) × (why : LineRefusal PlanCause) × lines.RanToBad (plans_of wanted) before after had has line why
 DidPlan wanted Status.ReadFault before after had has = lines.RanSoFar (plans_of wanted) before after had has
 DidPlan wanted Status.WriteFault before after had has = lines.RanPartly (plans_of wanted) before after had has
 DidPlan wanted Status.NoMemory before after had has = lines.RanPartly (plans_of wanted) before after had has

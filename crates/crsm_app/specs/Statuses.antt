@@ -3,7 +3,7 @@ use Rattle.std.specs.Prelude.{ℕ, Result, Ok, Err}
 use Rattle.crsm_client.specs.declared.command.ClientEnd.{ClientEnd}
 use Rattle.crsm_client.specs.declared.error.OperateError.{OperateError}
 use Rattle.crsm_delay.specs.declared.handling.PlanCause.{PlanCause}
-use Rattle.crsm_port_lines.specs.declared.Ending.{Ending}
+use Rattle.crsm_port_lines.specs.declared.InputEnd.{InputEnd}
 use Rattle.crsm_cmd_lock.specs.declared.command.LockEnd.{LockEnd}
 use Rattle.crsm_node.specs.declared.errors.NodeEnd.{NodeEnd}
 use Rattle.crsm_cmd_replay.specs.Causes as schedule
@@ -32,22 +32,22 @@ number_of Status.InputTooLong = 12
 number_of (Status.OtherCluster found) = 13
 
 -- the status of a schedule that ended so
-abbrev pub status_of_replay : Ending Cause → Status
-status_of_replay Ending.Done = Status.Ok
-status_of_replay (Ending.BadLine line why) = Status.BadInput line (schedule.cause_in why)
-status_of_replay Ending.ReadFault = Status.ReadFault
-status_of_replay Ending.WriteFault = Status.WriteFault
-status_of_replay Ending.NoMemory = Status.NoMemory
-status_of_replay Ending.InputTooLong = Status.InputTooLong
+abbrev pub status_of_replay : InputEnd Cause → Status
+status_of_replay InputEnd.Done = Status.Ok
+status_of_replay (InputEnd.BadLine line why) = Status.BadInput line (schedule.cause_in why)
+status_of_replay InputEnd.ReadFault = Status.ReadFault
+status_of_replay InputEnd.WriteFault = Status.WriteFault
+status_of_replay InputEnd.NoMemory = Status.NoMemory
+status_of_replay InputEnd.InputTooLong = Status.InputTooLong
 
 -- the status of a schedule of a store with a leader that ended so
-abbrev pub status_of_replay_mp : Ending MpCause → Status
-status_of_replay_mp Ending.Done = Status.Ok
-status_of_replay_mp (Ending.BadLine line why) = Status.BadMpInput line (led.cause_in why)
-status_of_replay_mp Ending.ReadFault = Status.ReadFault
-status_of_replay_mp Ending.WriteFault = Status.WriteFault
-status_of_replay_mp Ending.NoMemory = Status.NoMemory
-status_of_replay_mp Ending.InputTooLong = Status.InputTooLong
+abbrev pub status_of_replay_mp : InputEnd MpCause → Status
+status_of_replay_mp InputEnd.Done = Status.Ok
+status_of_replay_mp (InputEnd.BadLine line why) = Status.BadMpInput line (led.cause_in why)
+status_of_replay_mp InputEnd.ReadFault = Status.ReadFault
+status_of_replay_mp InputEnd.WriteFault = Status.WriteFault
+status_of_replay_mp InputEnd.NoMemory = Status.NoMemory
+status_of_replay_mp InputEnd.InputTooLong = Status.InputTooLong
 
 -- the status of a line of a sheet that is refused
 abbrev pub status_of_refused : ℕ → SheetCause → Status
@@ -55,22 +55,22 @@ status_of_refused line SheetCause.Unreadable = Status.BadInput line Cause.Unread
 status_of_refused line (SheetCause.BadLog entry why) = Status.BadLog entry why
 
 -- the status of a sheet that ended so
-abbrev pub status_of_sheet : Ending SheetCause → Status
-status_of_sheet Ending.Done = Status.Ok
-status_of_sheet (Ending.BadLine line why) = status_of_refused line (sheet.cause_in why)
-status_of_sheet Ending.ReadFault = Status.ReadFault
-status_of_sheet Ending.WriteFault = Status.WriteFault
-status_of_sheet Ending.NoMemory = Status.NoMemory
-status_of_sheet Ending.InputTooLong = Status.InputTooLong
+abbrev pub status_of_sheet : InputEnd SheetCause → Status
+status_of_sheet InputEnd.Done = Status.Ok
+status_of_sheet (InputEnd.BadLine line why) = status_of_refused line (sheet.cause_in why)
+status_of_sheet InputEnd.ReadFault = Status.ReadFault
+status_of_sheet InputEnd.WriteFault = Status.WriteFault
+status_of_sheet InputEnd.NoMemory = Status.NoMemory
+status_of_sheet InputEnd.InputTooLong = Status.InputTooLong
 
 -- the status of a plan that ended so
-abbrev pub status_of_delay : Ending PlanCause → Status
-status_of_delay Ending.Done = Status.Ok
-status_of_delay (Ending.BadLine line why) = Status.BadInput line Cause.Unreadable
-status_of_delay Ending.ReadFault = Status.ReadFault
-status_of_delay Ending.WriteFault = Status.WriteFault
-status_of_delay Ending.NoMemory = Status.NoMemory
-status_of_delay Ending.InputTooLong = Status.InputTooLong
+abbrev pub status_of_delay : InputEnd PlanCause → Status
+status_of_delay InputEnd.Done = Status.Ok
+status_of_delay (InputEnd.BadLine line why) = Status.BadInput line Cause.Unreadable
+status_of_delay InputEnd.ReadFault = Status.ReadFault
+status_of_delay InputEnd.WriteFault = Status.WriteFault
+status_of_delay InputEnd.NoMemory = Status.NoMemory
+status_of_delay InputEnd.InputTooLong = Status.InputTooLong
 
 -- the status of a client that ended so
 abbrev pub status_of_client : ClientEnd → Status

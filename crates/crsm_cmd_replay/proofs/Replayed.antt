@@ -6,8 +6,8 @@ use Rattle.crsm_port_lines.specs.Handling.{Begins}
 use Rattle.crsm_port_lines.specs.Run as loop
 use Rattle.crsm_port_lines.specs.Run.{Ran as LoopRan}
 use Rattle.crsm_port_lines.specs.State.{Reached, read_text as text_of_lines}
-use Rattle.crsm_port_lines.specs.declared.Bad.{Bad}
-use Rattle.crsm_port_lines.specs.declared.Ending.{Ending}
+use Rattle.crsm_port_lines.specs.declared.LineRefusal.{LineRefusal}
+use Rattle.crsm_port_lines.specs.declared.InputEnd.{InputEnd}
 use Rattle.crsm_world.specs.Schedule.{Schedule}
 use Rattle.crsm_cmd_replay.specs.Causes.{cause_in}
 use Rattle.crsm_cmd_replay.specs.Refused.{BeginsBad, CutShort, bad_line, cut_line, long_line}
@@ -72,21 +72,21 @@ first_bad b a d w line lines shown rest line_is within takes puts no_lines no_te
     bad_so lines shown None (record { good = tt; lines_are = no_lines; shown_is = no_text }) b a d w line Cause.Unreadable rest line_is within takes puts
     (cut_line refl (record { lacks = subst (λ (x : List ℕ). Lacks 10 x) (sym none) tt; cut = tt; ended = ended }))
 
-to_bad : (b a d w : Option (List ℕ)) (line : ℕ) (why : Bad Cause) (ran : loop.RanToBad replayed b a d w line why) → loop.BeginsBad replayed ran.lines ran.shown a why ran.rest → RanToBad b a d w line (cause_in why)
+to_bad : (b a d w : Option (List ℕ)) (line : ℕ) (why : LineRefusal Cause) (ran : loop.RanToBad replayed b a d w line why) → loop.BeginsBad replayed ran.lines ran.shown a why ran.rest → RanToBad b a d w line (cause_in why)
 to_bad b a d w line why ran (loop.bad_line cause is bad) =
-    subst (λ (y : Bad Cause). RanToBad b a d w line (cause_in y)) (sym is)
+    subst (λ (y : LineRefusal Cause). RanToBad b a d w line (cause_in y)) (sym is)
     (bad_so ran.lines ran.shown bad.refused.read bad.refused.is b a d w line cause ran.rest ran.line_is ran.within ran.takes ran.puts
     (bad_line (record { line = bad.line; rest = bad.rest; text_is = bad.text_is; lacks = bad.lacks; refused = bad.refused.refused })))
 to_bad b a d w line why ran (loop.long_line is bad) =
-    subst (λ (y : Bad Cause). RanToBad b a d w line (cause_in y)) (sym is)
+    subst (λ (y : LineRefusal Cause). RanToBad b a d w line (cause_in y)) (sym is)
     (bad_so ran.lines ran.shown ran.reached.after.read (reached_is ran.lines ran.shown ran.reached) b a d w line Cause.Unreadable ran.rest ran.line_is ran.within ran.takes ran.puts
     (long_line refl bad))
 to_bad b a d w line why ran (loop.cut_line is bad) =
-    subst (λ (y : Bad Cause). RanToBad b a d w line (cause_in y)) (sym is)
+    subst (λ (y : LineRefusal Cause). RanToBad b a d w line (cause_in y)) (sym is)
     (bad_so ran.lines ran.shown ran.reached.after.read (reached_is ran.lines ran.shown ran.reached) b a d w line Cause.Unreadable ran.rest ran.line_is ran.within ran.takes ran.puts
     (cut_line refl (record { lacks = bad.lacks; cut = cut_short ran.reached.after.read ran.rest bad.some; ended = bad.ended })))
 to_bad b a d w line why ran (loop.bad_end cause is bad) =
-    subst (λ (y : Bad Cause). RanToBad b a d w line (cause_in y)) (sym is) (subst (λ (y : Cause). RanToBad b a d w line y) (sym bad.refused.unreadable)
+    subst (λ (y : LineRefusal Cause). RanToBad b a d w line (cause_in y)) (sym is) (subst (λ (y : Cause). RanToBad b a d w line y) (sym bad.refused.unreadable)
     (first_bad b a d w line ran.lines ran.shown ran.rest ran.line_is ran.within ran.takes ran.puts bad.refused.lines_are bad.refused.shown_is bad.none bad.ended))
 
 partly : (b a d w : Option (List ℕ)) (ran : loop.RanPartly replayed b a d w) → loop.WrotePart replayed ran.lines ran.shown ran.rest a d w → RanPartly b a d w
@@ -138,11 +138,11 @@ too_long b a d w ran =
       puts = puts_so ran.lines ran.shown read is d w ran.puts;
     }
 
-pub ran_so : (result : Ending Cause) (b a d w : Option (List ℕ)) → LoopRan replayed result b a d w → Ran result b a d w
+pub ran_so : (result : InputEnd Cause) (b a d w : Option (List ℕ)) → LoopRan replayed result b a d w → Ran result b a d w
 unfolding Ran LoopRan
-ran_so Ending.Done b a d w ran = to_end b a d w ran
-ran_so (Ending.BadLine line why) b a d w ran = to_bad b a d w line why ran ran.bad
-ran_so Ending.ReadFault b a d w ran = so_far b a d w ran
-ran_so Ending.WriteFault b a d w ran = partly b a d w ran ran.wrote
-ran_so Ending.NoMemory b a d w ran = partly b a d w ran ran.wrote
-ran_so Ending.InputTooLong b a d w ran = too_long b a d w ran
+ran_so InputEnd.Done b a d w ran = to_end b a d w ran
+ran_so (InputEnd.BadLine line why) b a d w ran = to_bad b a d w line why ran ran.bad
+ran_so InputEnd.ReadFault b a d w ran = so_far b a d w ran
+ran_so InputEnd.WriteFault b a d w ran = partly b a d w ran ran.wrote
+ran_so InputEnd.NoMemory b a d w ran = partly b a d w ran ran.wrote
+ran_so InputEnd.InputTooLong b a d w ran = too_long b a d w ran

@@ -1,8 +1,8 @@
 -- The cause of a refusal.
 use Rattle.crsm_spec.specs.Acts.{Bad}
 use Rattle.crsm_cmd_replay.specs.declared.cause.Cause.{Cause}
-use Rattle.crsm_port_lines.specs.declared.Bad.{Bad as BadLine}
-use Rattle.crsm_port_lines.specs.declared.Bad.TheVariants.{Refused, TooLong, Cut}
+use Rattle.crsm_port_lines.specs.declared.LineRefusal.{LineRefusal}
+use Rattle.crsm_port_lines.specs.declared.LineRefusal.TheVariants.{Refused, TooLong, Cut}
 
 -- why an act is not possible
 unfoldable pub cause_of : Bad → Cause
@@ -18,7 +18,7 @@ cause_of Bad.TooFew = Cause.TooFew
 cause_of Bad.Forged = Cause.Forged
 
 -- the cause to report for a bad line
-abbrev pub cause_in : BadLine Cause → Cause
+abbrev pub cause_in : LineRefusal Cause → Cause
 cause_in (Refused cause) = cause
 cause_in TooLong = Cause.Unreadable
 cause_in Cut = Cause.Unreadable

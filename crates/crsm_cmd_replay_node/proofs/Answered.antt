@@ -2,7 +2,7 @@
 use Rattle.std.proofs.Common.{◌≡◌, ℕ, ◌+◌, ◌≤◌, inl, inr, ◌++◌, Option, Some, map, length, refl, ap, sym, ◌∙◌, subst}
 use Rattle.crsm_port_lines.specs.Exact as loop
 use Rattle.crsm_port_lines.specs.Handling.{Text}
-use Rattle.crsm_port_lines.specs.declared.Ending.{Ending}
+use Rattle.crsm_port_lines.specs.declared.InputEnd.{InputEnd}
 use Rattle.crsm_text_sheet.specs.Laws.{LinesHaveNoFeed}
 use Rattle.crsm_text_sheet.specs.Grammar.{sheet_line_text}
 use Rattle.crsm_replica_rerun.specs.Sheets.{steps_of}
@@ -14,7 +14,7 @@ use Rattle.crsm_cmd_replay_node.specs.declared.cause.SheetCause.{SheetCause}
 use Rattle.crsm_cmd_replay_node.proofs.Exact.{Laws, cause_is, exact, fits, for_loop, may_end}
 use Rattle.crsm_cmd_replay_node.proofs.Texts.{are_lines, count, read_is}
 
-module _ (laws : Laws) (no_feed : LinesHaveNoFeed) (me n : ℕ) (result : Ending SheetCause) (left : Option Text) where
+module _ (laws : Laws) (no_feed : LinesHaveNoFeed) (me n : ℕ) (result : InputEnd SheetCause) (left : Option Text) where
   pub completed : (P : Type 0) → loop.WhereWhole (sheet_of_node me n) (exact laws me n) left P → WhereSheet me n left P
   completed P loop_says = λ lines fit short sheet left_is within.
       let text = read_is lines in

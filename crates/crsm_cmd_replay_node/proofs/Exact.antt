@@ -5,7 +5,7 @@ use Rattle.std.specs.List.{AllByRecursion}
 use Rattle.crsm_port_lines.specs.Exact.{Exact, Fits, MayEnd, reason_of}
 use Rattle.crsm_port_lines.specs.Handling.{Text}
 use Rattle.crsm_port_lines.specs.Run as loop
-use Rattle.crsm_port_lines.specs.declared.Bad.{Bad}
+use Rattle.crsm_port_lines.specs.declared.LineRefusal.{LineRefusal}
 use Rattle.crsm_ledger.specs.Recovered.{IsBadAt}
 use Rattle.crsm_spec.specs.Draft.{Draft}
 use Rattle.crsm_text_sheet.specs.declared.line.SheetLine.{SheetLine}
@@ -99,7 +99,7 @@ module _ (laws : Laws) (me n : ℕ) where
 
   -- what begins badly does so for the loop over lines
   pub record ForLoop (lines : List SheetLine) (shown : Text) (left : Option Text) (cause : SheetCause) (text : Text) : Type 0 where
-    pub why : Bad SheetCause
+    pub why : LineRefusal SheetCause
     pub told : reason_of (sheet_of_node me n) exact why ≡ cause
     pub bad : loop.BeginsBad (sheet_of_node me n) (map sheet_line_text lines) shown left why text
 
@@ -107,7 +107,7 @@ module _ (laws : Laws) (me n : ℕ) where
       → BeginsBad me n lines left cause text → ForLoop lines shown left cause text
   unfolding exact
   for_loop lines shown left cause text is (bad_line b) = record {
-    why = Bad.Refused cause;
+    why = LineRefusal.Refused cause;
     told = refl;
     bad = loop.bad_line cause refl (record {
       line = b.line;
@@ -117,9 +117,9 @@ module _ (laws : Laws) (me n : ℕ) where
       refused = record { spells = record { lines = lines; texts_are = refl; is = is }; refused = b.refused };
     });
   }
-  for_loop lines shown left cause text is (long_line cause_is b) = record { why = Bad.TooLong; told = sym cause_is; bad = loop.long_line refl b }
+  for_loop lines shown left cause text is (long_line cause_is b) = record { why = LineRefusal.TooLong; told = sym cause_is; bad = loop.long_line refl b }
   for_loop lines shown left cause [] is (cut_line cause_is b) = record {
-    why = Bad.Refused SheetCause.Unreadable;
+    why = LineRefusal.Refused SheetCause.Unreadable;
     told = sym cause_is;
     bad = loop.bad_end SheetCause.Unreadable refl (record {
       none = refl;
@@ -128,13 +128,13 @@ module _ (laws : Laws) (me n : ℕ) where
     });
   }
   for_loop lines shown left cause (t ∷ text) is (cut_line cause_is b) = record {
-    why = Bad.Cut;
+    why = LineRefusal.Cut;
     told = sym cause_is;
     bad = loop.cut_line refl (record { lacks = b.lacks; some = λ e. (cc); ended = b.ended });
   }
 
-  pub cause_is : (bad : Bad SheetCause) → reason_of (sheet_of_node me n) exact bad ≡ cause_in bad
+  pub cause_is : (bad : LineRefusal SheetCause) → reason_of (sheet_of_node me n) exact bad ≡ cause_in bad
   unfolding exact
-  cause_is (Bad.Refused cause) = refl
-  cause_is Bad.TooLong = refl
-  cause_is Bad.Cut = refl
+  cause_is (LineRefusal.Refused cause) = refl
+  cause_is LineRefusal.TooLong = refl
+  cause_is LineRefusal.Cut = refl

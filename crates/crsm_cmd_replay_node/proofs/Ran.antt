@@ -6,8 +6,8 @@ use Rattle.crsm_port_lines.specs.Handling.{Text}
 use Rattle.crsm_port_lines.specs.Run as loop
 use Rattle.crsm_port_lines.specs.Run.{Ran as LoopRan}
 use Rattle.crsm_port_lines.specs.State.{read_text}
-use Rattle.crsm_port_lines.specs.declared.Bad.{Bad}
-use Rattle.crsm_port_lines.specs.declared.Ending.{Ending}
+use Rattle.crsm_port_lines.specs.declared.LineRefusal.{LineRefusal}
+use Rattle.crsm_port_lines.specs.declared.InputEnd.{InputEnd}
 use Rattle.crsm_text_sheet.specs.Sheets.{sheet_text}
 use Rattle.crsm_cmd_replay_node.specs.Causes.{cause_in}
 use Rattle.crsm_cmd_replay_node.specs.Handled.{Spells, sheet_of_node}
@@ -56,25 +56,25 @@ module _ (me n : ℕ) where
         puts = ran.puts;
       }
 
-  to_bad : (b a d w : Option Text) (line : ℕ) (why : Bad SheetCause) (ran : loop.RanToBad (sheet_of_node me n) b a d w line why)
+  to_bad : (b a d w : Option Text) (line : ℕ) (why : LineRefusal SheetCause) (ran : loop.RanToBad (sheet_of_node me n) b a d w line why)
       → loop.BeginsBad (sheet_of_node me n) ran.lines ran.shown a why ran.rest → RanToBad me n b a d w line (cause_in why)
   to_bad b a d w line why ran (loop.bad_line cause is bad) =
       let s = bad.refused.spells in
-      subst (λ (y : Bad SheetCause). RanToBad me n b a d w line (cause_in y)) (sym is)
+      subst (λ (y : LineRefusal SheetCause). RanToBad me n b a d w line (cause_in y)) (sym is)
       (bad_so ran.lines ran.shown s b a d w line cause ran.rest ran.line_is ran.within ran.takes ran.puts
       (bad_line (record { line = bad.line; rest = bad.rest; text_is = bad.text_is; lacks = bad.lacks; refused = bad.refused.refused })))
   to_bad b a d w line why ran (loop.long_line is bad) =
       let s = ran.reached.after.spells in
-      subst (λ (y : Bad SheetCause). RanToBad me n b a d w line (cause_in y)) (sym is)
+      subst (λ (y : LineRefusal SheetCause). RanToBad me n b a d w line (cause_in y)) (sym is)
       (bad_so ran.lines ran.shown s b a d w line SheetCause.Unreadable ran.rest ran.line_is ran.within ran.takes ran.puts (long_line refl bad))
   to_bad b a d w line why ran (loop.cut_line is bad) =
       let s = ran.reached.after.spells in
-      subst (λ (y : Bad SheetCause). RanToBad me n b a d w line (cause_in y)) (sym is)
+      subst (λ (y : LineRefusal SheetCause). RanToBad me n b a d w line (cause_in y)) (sym is)
       (bad_so ran.lines ran.shown s b a d w line SheetCause.Unreadable ran.rest ran.line_is ran.within ran.takes ran.puts
       (cut_line refl (record { lacks = bad.lacks; cut = λ none. absurd (bad.some none); ended = bad.ended })))
   to_bad b a d w line why ran (loop.bad_end cause is bad) =
       let s = bad.refused.spells in
-      subst (λ (y : Bad SheetCause). RanToBad me n b a d w line (cause_in y)) (sym is)
+      subst (λ (y : LineRefusal SheetCause). RanToBad me n b a d w line (cause_in y)) (sym is)
       (bad_so ran.lines ran.shown s b a d w line cause ran.rest ran.line_is ran.within ran.takes ran.puts
       (cut_line bad.refused.unreadable
       (record { lacks = subst (λ (x : Text). Lacks 10 x) (sym bad.none) tt; cut = λ none. bad.refused.no_sheet; ended = bad.ended })))
@@ -127,11 +127,11 @@ module _ (me n : ℕ) where
         puts = ran.puts;
       }
 
-  pub ran_so : (result : Ending SheetCause) (b a d w : Option Text) → LoopRan (sheet_of_node me n) result b a d w → Ran me n result b a d w
+  pub ran_so : (result : InputEnd SheetCause) (b a d w : Option Text) → LoopRan (sheet_of_node me n) result b a d w → Ran me n result b a d w
   unfolding Ran LoopRan
-  ran_so Ending.Done b a d w ran = to_end b a d w ran
-  ran_so (Ending.BadLine line why) b a d w ran = to_bad b a d w line why ran ran.bad
-  ran_so Ending.ReadFault b a d w ran = so_far b a d w ran
-  ran_so Ending.WriteFault b a d w ran = partly b a d w ran ran.wrote
-  ran_so Ending.NoMemory b a d w ran = partly b a d w ran ran.wrote
-  ran_so Ending.InputTooLong b a d w ran = too_long b a d w ran
+  ran_so InputEnd.Done b a d w ran = to_end b a d w ran
+  ran_so (InputEnd.BadLine line why) b a d w ran = to_bad b a d w line why ran ran.bad
+  ran_so InputEnd.ReadFault b a d w ran = so_far b a d w ran
+  ran_so InputEnd.WriteFault b a d w ran = partly b a d w ran ran.wrote
+  ran_so InputEnd.NoMemory b a d w ran = partly b a d w ran ran.wrote
+  ran_so InputEnd.InputTooLong b a d w ran = too_long b a d w ran

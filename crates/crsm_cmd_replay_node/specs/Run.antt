@@ -4,8 +4,8 @@ use Rattle.std.specs.List.{AllByRecursion}
 use Rattle.crsm_io.specs.Streams.{Takes, Puts, PutsPrefix, AtEnd}
 use Rattle.crsm_port_lines.specs.Handling.{Text}
 use Rattle.crsm_port_lines.specs.State.{IsLine}
-use Rattle.crsm_port_lines.specs.declared.Bad.{Bad}
-use Rattle.crsm_port_lines.specs.declared.Ending.{Ending}
+use Rattle.crsm_port_lines.specs.declared.LineRefusal.{LineRefusal}
+use Rattle.crsm_port_lines.specs.declared.InputEnd.{InputEnd}
 use Rattle.crsm_text_sheet.specs.declared.line.SheetLine.{SheetLine}
 use Rattle.crsm_text_sheet.specs.Grammar.{FitsSheetLine, sheet_line_text}
 use Rattle.crsm_text_sheet.specs.Sheets.{sheet_text}
@@ -80,13 +80,13 @@ module _ (me n : ℕ) where
     pub wrote : WrotePart lines shown rest after had has
 
   -- The effect of a replay. It is shut, as the words below are: a proof opens it where it needs its content.
-  unfoldable pub Ran : Ending SheetCause → Option Text → Option Text → Option Text → Option Text → Type 0
-  Ran Ending.Done before after had has = RanToEnd before after had has
-  Ran (Ending.BadLine line why) before after had has = RanToBad before after had has line (cause_in why)
-  Ran Ending.ReadFault before after had has = RanSoFar before after had has
-  Ran Ending.WriteFault before after had has = RanPartly before after had has
-  Ran Ending.NoMemory before after had has = RanPartly before after had has
-  Ran Ending.InputTooLong before after had has = RanTooLong before after had has
+  unfoldable pub Ran : InputEnd SheetCause → Option Text → Option Text → Option Text → Option Text → Type 0
+  Ran InputEnd.Done before after had has = RanToEnd before after had has
+  Ran (InputEnd.BadLine line why) before after had has = RanToBad before after had has line (cause_in why)
+  Ran InputEnd.ReadFault before after had has = RanSoFar before after had has
+  Ran InputEnd.WriteFault before after had has = RanPartly before after had has
+  Ran InputEnd.NoMemory before after had has = RanPartly before after had has
+  Ran InputEnd.InputTooLong before after had has = RanTooLong before after had has
 
   -- ---- answers that are exact
 
@@ -114,11 +114,11 @@ module _ (me n : ℕ) where
       length (sheet_text lines ++ rest) ≡ 1073741824 → 0 < length more → left ≡ Some (sheet_text lines ++ (rest ++ more)) → P
 
 -- the line is named as bad for this cause
-pub record Names (line : ℕ) (cause : SheetCause) (result : Ending SheetCause) : Type 0 where
-  pub bad : Bad SheetCause
+pub record Names (line : ℕ) (cause : SheetCause) (result : InputEnd SheetCause) : Type 0 where
+  pub bad : LineRefusal SheetCause
   pub told : cause_in bad ≡ cause
-  pub is : result ≡ Ending.BadLine line bad
+  pub is : result ≡ InputEnd.BadLine line bad
 
 -- refused for this line and cause, unless memory ran out
-abbrev pub IsRefused : ℕ → SheetCause → Ending SheetCause → Type 0
-IsRefused line cause result = Names line cause result ⊎ (result ≡ Ending.NoMemory)
+abbrev pub IsRefused : ℕ → SheetCause → InputEnd SheetCause → Type 0
+IsRefused line cause result = Names line cause result ⊎ (result ≡ InputEnd.NoMemory)

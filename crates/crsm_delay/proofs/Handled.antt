@@ -8,7 +8,7 @@ use Rattle.std.proofs.lemmas.Bool.Decides.{nat_tests}
 use Rattle.std.proofs.lemmas.List.{append-nil}
 use Rattle.std.proofs.lemmas.Option.{none-some, same_Some}
 use Rattle.crsm_port_lines.specs.Handling.{Text, Handles, EndsWell, StopsAt}
-use Rattle.crsm_port_lines.specs.declared.Ending.{Ending}
+use Rattle.crsm_port_lines.specs.declared.InputEnd.{InputEnd}
 use Rattle.crsm_port_lines.specs.declared.Stop.{Stop}
 use Rattle.crsm_schedule.specs.Grammar.{IsSize, first_text}
 use Rattle.crsm_fact_log.proofs.Lists.{all-push}
@@ -202,5 +202,5 @@ ends_well wanted r d lines shown before after is whole made has =
 pub begins : (r : PlanReader) (wanted : Wanted) → r.draft ≡ None → r.wanted ≡ wanted → HasRead wanted r [] []
 begins r wanted e same = record { so = subst (λ o. ReadsSo o [] []) (sym e) (record { reads = Reads.nothing; none = refl }); same = same }
 
-pub exactly_so : (w v : Wanted) (left : Option Text) (in_old in_new out_old out_new : ℕ) (result : Ending PlanCause) → w ≡ v → EndsExactly w left in_old in_new out_old out_new result → EndsExactly v left in_old in_new out_old out_new result
+pub exactly_so : (w v : Wanted) (left : Option Text) (in_old in_new out_old out_new : ℕ) (result : InputEnd PlanCause) → w ≡ v → EndsExactly w left in_old in_new out_old out_new result → EndsExactly v left in_old in_new out_old out_new result
 exactly_so w v left in_old in_new out_old out_new result e h = subst (λ (x : Wanted). EndsExactly x left in_old in_new out_old out_new result) e h

@@ -6,8 +6,8 @@ use Rattle.crsm_port_lines.specs.Exact as loop
 use Rattle.crsm_port_lines.specs.Exact.{Exact, Fits, MayEnd, reason_of}
 use Rattle.crsm_port_lines.specs.Run as lines_run
 use Rattle.crsm_port_lines.specs.State.{IsLine}
-use Rattle.crsm_port_lines.specs.declared.Bad.{Bad}
-use Rattle.crsm_port_lines.specs.declared.Ending.{Ending}
+use Rattle.crsm_port_lines.specs.declared.LineRefusal.{LineRefusal}
+use Rattle.crsm_port_lines.specs.declared.InputEnd.{InputEnd}
 use Rattle.crsm_schedule.specs.Grammar.{FitsEvent, event_text, first_text}
 use Rattle.crsm_schedule.specs.declared.Event.{Event}
 use Rattle.crsm_mpworld.specs.Schedule.{Schedule}
@@ -58,7 +58,7 @@ module _ (laws : TextLaws) where
 
   -- what begins badly does so for the loop over lines
   record ForLoop (read : Option Schedule) (left : Option (List ℕ)) (cause : MpCause) (text : List ℕ) : Type 0 where
-    why : Bad MpCause
+    why : LineRefusal MpCause
     told : reason_of replayed exact why ≡ cause
     bad : lines_run.BeginsBad replayed (lines_read read) (shown_text read) left why text
 
@@ -68,17 +68,17 @@ module _ (laws : TextLaws) where
   cut_for_loop : (read : Option Schedule) (left : Option (List ℕ)) (cause : MpCause) (text : List ℕ) → cause ≡ MpCause.Unreadable → CutLine read left text → ForLoop read left cause text
   unfolding exact
   cut_for_loop None left cause [] is b = record {
-    why = Bad.Refused MpCause.Unreadable;
+    why = LineRefusal.Refused MpCause.Unreadable;
     told = sym is;
     bad = lines_run.bad_end MpCause.Unreadable refl (record { none = refl; ended = b.ended; refused = record { lines_are = refl; shown_is = refl; unreadable = refl } });
   }
   cut_for_loop None left cause (t ∷ text) is b = record {
-    why = Bad.Cut;
+    why = LineRefusal.Cut;
     told = sym is;
     bad = lines_run.cut_line refl (record { lacks = b.lacks; some = λ e. (cc); ended = b.ended });
   }
   cut_for_loop (Some s) left cause text is b = record {
-    why = Bad.Cut;
+    why = LineRefusal.Cut;
     told = sym is;
     bad = lines_run.cut_line refl (record { lacks = b.lacks; some = b.cut; ended = b.ended });
   }
@@ -86,7 +86,7 @@ module _ (laws : TextLaws) where
   for_loop : (read : Option Schedule) (left : Option (List ℕ)) (cause : MpCause) (text : List ℕ) → IsGood read → BeginsBad read left cause text → ForLoop read left cause text
   unfolding exact
   for_loop read left cause text good (bad_line b) = record {
-    why = Bad.Refused cause;
+    why = LineRefusal.Refused cause;
     told = refl;
     bad = lines_run.bad_line cause refl (record {
       line = b.line;
@@ -97,21 +97,21 @@ module _ (laws : TextLaws) where
     });
   }
   for_loop read left cause text good (long_line is b) = record {
-    why = Bad.TooLong;
+    why = LineRefusal.TooLong;
     told = sym is;
     bad = lines_run.long_line refl b;
   }
   for_loop read left cause text good (cut_line is b) = cut_for_loop read left cause text is b
 
-  cause_is : (bad : Bad MpCause) → reason_of replayed exact bad ≡ cause_in bad
+  cause_is : (bad : LineRefusal MpCause) → reason_of replayed exact bad ≡ cause_in bad
   unfolding exact
-  cause_is (Bad.Refused cause) = refl
-  cause_is Bad.TooLong = refl
-  cause_is Bad.Cut = refl
+  cause_is (LineRefusal.Refused cause) = refl
+  cause_is LineRefusal.TooLong = refl
+  cause_is LineRefusal.Cut = refl
 
   -- ---- by what the loop over lines answers
 
-  module _ (result : Ending MpCause) (left : Option (List ℕ)) where
+  module _ (result : InputEnd MpCause) (left : Option (List ℕ)) where
     pub completed : (P : Type 0) → loop.WhereWhole replayed exact left P → WhereSchedule left (λ s. P)
     completed P loop_says = λ s good is within.
         let text = read_is (Some s) in

@@ -2,8 +2,8 @@
 use Rattle.crsm_spec.specs.Acts.{Bad}
 use Rattle.crsm_mpspec.specs.Possible.{Cause}
 use Rattle.crsm_mpreplay.specs.declared.cause.MpCause.{MpCause}
-use Rattle.crsm_port_lines.specs.declared.Bad.{Bad as BadLine}
-use Rattle.crsm_port_lines.specs.declared.Bad.TheVariants.{Refused, TooLong, Cut}
+use Rattle.crsm_port_lines.specs.declared.LineRefusal.{LineRefusal}
+use Rattle.crsm_port_lines.specs.declared.LineRefusal.TheVariants.{Refused, TooLong, Cut}
 
 -- Why an act is not possible. The causes of groups and of bytes are met by no act, since such acts have no meaning
 -- here.
@@ -21,7 +21,7 @@ cause_told (Cause.Met Bad.TooFew) = MpCause.TooFew
 cause_told (Cause.Met Bad.Forged) = MpCause.NotHere
 
 -- the cause to report for a bad line
-abbrev pub cause_in : BadLine MpCause → MpCause
+abbrev pub cause_in : LineRefusal MpCause → MpCause
 cause_in (Refused cause) = cause
 cause_in TooLong = MpCause.Unreadable
 cause_in Cut = MpCause.Unreadable

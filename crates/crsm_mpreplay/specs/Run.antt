@@ -9,8 +9,8 @@ use Rattle.crsm_mpreplay.specs.Refused.{BeginsBad}
 use Rattle.crsm_mpreplay.specs.Laws.{IsLawful, AreLawful}
 use Rattle.crsm_mpreplay.specs.declared.cause.MpCause.{MpCause}
 use Rattle.crsm_mpreplay.specs.Causes.{cause_in}
-use Rattle.crsm_port_lines.specs.declared.Bad.{Bad}
-use Rattle.crsm_port_lines.specs.declared.Ending.{Ending}
+use Rattle.crsm_port_lines.specs.declared.LineRefusal.{LineRefusal}
+use Rattle.crsm_port_lines.specs.declared.InputEnd.{InputEnd}
 
 -- In each of these the source had `before` and has `after` left, and the sink had `had` and has `has` written.
 
@@ -78,25 +78,25 @@ pub record RanPartly (before after had has : Option (List ℕ)) : Type 0 where
   pub wrote : WrotePart read rest after had has
 
 -- The effect of a run. It is shut, as the words below are: a proof opens it where it needs its content.
-unfoldable pub Ran : Ending MpCause → Option (List ℕ) → Option (List ℕ) → Option (List ℕ) → Option (List ℕ) → Type 0
-Ran Ending.Done before after had has = RanToEnd before after had has
-Ran (Ending.BadLine line why) before after had has = RanToBad before after had has line (cause_in why)
-Ran Ending.ReadFault before after had has = RanSoFar before after had has
-Ran Ending.WriteFault before after had has = RanPartly before after had has
-Ran Ending.NoMemory before after had has = RanPartly before after had has
-Ran Ending.InputTooLong before after had has = RanTooLong before after had has
+unfoldable pub Ran : InputEnd MpCause → Option (List ℕ) → Option (List ℕ) → Option (List ℕ) → Option (List ℕ) → Type 0
+Ran InputEnd.Done before after had has = RanToEnd before after had has
+Ran (InputEnd.BadLine line why) before after had has = RanToBad before after had has line (cause_in why)
+Ran InputEnd.ReadFault before after had has = RanSoFar before after had has
+Ran InputEnd.WriteFault before after had has = RanPartly before after had has
+Ran InputEnd.NoMemory before after had has = RanPartly before after had has
+Ran InputEnd.InputTooLong before after had has = RanTooLong before after had has
 
 -- ---- answers that are exact
 
 -- the line is named as bad for this cause
-pub record Names (line : ℕ) (cause : MpCause) (result : Ending MpCause) : Type 0 where
-  pub why : Bad MpCause
+pub record Names (line : ℕ) (cause : MpCause) (result : InputEnd MpCause) : Type 0 where
+  pub why : LineRefusal MpCause
   pub told : cause_in why ≡ cause
-  pub is : result ≡ Ending.BadLine line why
+  pub is : result ≡ InputEnd.BadLine line why
 
 -- refused for this line and cause, unless memory ran out
-abbrev pub IsRefused : ℕ → MpCause → Ending MpCause → Type 0
-IsRefused line cause result = Names line cause result ⊎ (result ≡ Ending.NoMemory)
+abbrev pub IsRefused : ℕ → MpCause → InputEnd MpCause → Type 0
+IsRefused line cause result = Names line cause result ⊎ (result ≡ InputEnd.NoMemory)
 
 -- for a schedule within the limit whose text is the rest of the input
 abbrev pub WhereSchedule : Option (List ℕ) → (Schedule → Type 0) → Type 0
