@@ -28,7 +28,9 @@ def measure(
     it. Returns the figures, or None where no command was answered."""
 
     async def all_of_them() -> list[list[float]]:
-        stores = (AsyncClient(nodes, cluster=cluster, client=it, timeout=timeout) for it in clients)
+        # Each client begins at another node.
+        turned = [[*nodes[at % len(nodes) :], *nodes[: at % len(nodes)]] for at in range(len(clients))]
+        stores = [AsyncClient(of, cluster=cluster, client=it, timeout=timeout) for of, it in zip(turned, clients)]
         return await asyncio.gather(*(_times(store, f"bench-{at}", seconds, size) for at, store in enumerate(stores)))
 
     took = sorted(time for times in asyncio.run(all_of_them()) for time in times)
