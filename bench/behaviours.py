@@ -2,8 +2,8 @@
 
     python3 bench/behaviours.py PROGRAM [--seed K] [--keep FOLDER]
 
-starts three nodes behind a network that loses, repeats and delays packets, has clients do what clients do when things go
-wrong, and loses a third of what they send and receive, too. For each behaviour it prints what clients saw. Then the
+starts three nodes behind a network that loses, repeats and delays packets, has clients do what clients do when things
+go wrong, and loses a third of what they send and receive, too. For each behaviour it prints what clients saw. Then the
 sheets decide: all lists are prefixes of one, each answer is the one that the list has at the first place of that
 command and that a store of its own in Python gives there, answers keep to real time, and the program's audit agrees.
 Ends with 0 where all holds, and with 1 and the reason where a client saw what its row does not have, or the list says
@@ -163,6 +163,8 @@ class Trial:
                 lines = [process.stdout.readline() for _ in range(11)]
                 process.send_signal(signal.SIGKILL)
                 lines += process.stdout.readlines()
+            if "" in lines:
+                raise Broken("the process with the kept number has ended by itself")
             self._note(row, lines)
         return row
 
@@ -217,7 +219,7 @@ def asks(path: str, nodes: list[str]) -> None:
 
 
 def judge(entries: list[Entry], rows: list[Row]) -> dict[str, int]:
-    """Returns how many commands of each row the list has. Raises `Broken` where it says something else than clients saw."""
+    """Returns how many commands of each row the list has. Raises `Broken` where clients were told otherwise."""
     asked: dict[tuple[int, int], list[tuple[Row, Asked]]] = {}
     for row in rows:
         for note in row.notes:
@@ -257,8 +259,8 @@ def check_shared(entries: list[Entry], notes: list[Asked], first: dict[tuple[int
 
 def run(words: argparse.Namespace, folder: str) -> None:
     """Tries all rows, and prints the table."""
-    chaos_words = argparse.Namespace(program=words.program, nodes=3, seed=words.seed, faults=["kill"], clients=0, seconds=0.0)
-    cluster = Cluster(chaos_words, folder)
+    how = {"program": words.program, "nodes": 3, "seed": words.seed, "faults": ["kill"], "clients": 0, "seconds": 0.0}
+    cluster = Cluster(argparse.Namespace(**how), folder)
     try:
         with closing(cluster.control):
             cluster.start()

@@ -4,13 +4,14 @@
     python3 tools/watch.py FOLDER.. [--program CRSM] [--once] [--every SECONDS]
     python3 tools/watch.py --command '0=ssh 10.0.0.1 tail -c +1 -F /var/lib/crsm/sheet' --command '1=..' ..
 
-A FOLDER is that of a node, with its log `crsm-ME.log` and its sheets `sheet*`, or one that has such folders. A command
-writes the sheet of the node whose number stands before it, from its first byte on, as it grows.
+A FOLDER is that of a node, with its log `crsm-ME.log` and its sheets `sheet*`, or one that has such folders. A
+command writes the sheet of the node whose number stands before it, from its first byte on, as it grows.
 
 Each sheet is replayed by `crsm replay-node` as it grows, so what a row says of epochs, members and executed commands is
 what the program computes from what the node took. Of the sheet's own lines are the clocks and who is silent:
 
-    state       live; held: its epoch is ending; out: it takes no part, as after a start; down: no turn for 2 seconds
+    state       live; held: its epoch is ending; out: it takes no part, as after a start; down: no turn for 2
+                seconds; up: it takes turns, and the sheet is not replayed
     epoch       the latest epoch that it has entered, or knew when it was started, and its members
     executed    the length of its list; behind it commands a second, over 5 seconds
     clock       how far its clock is ahead of that of the first node with one, in milliseconds: half of what packets seem
@@ -18,14 +19,15 @@ what the program computes from what the node took. Of the sheet's own lines are 
     log         the size of its log file (of 4 GiB at most), where it is on this machine
     silent      the members that it has not heard for a second
 
-A sheet is replayed up to 1 GiB, which an idle node writes in 2.4 hours. From then on a row has only what its sheet's own
-lines and its log file say. Ends with Ctrl-C.
+A sheet is replayed up to 1 GiB, which an idle node writes in 2.4 hours. From then on a row has only what its sheet's
+own lines and its log file say. Ends with Ctrl-C.
 """
 
 import argparse
 import os
 import re
 import shutil
+import signal
 import subprocess
 import sys
 import threading
@@ -37,6 +39,7 @@ from pathlib import Path
 
 PIECE = 1 << 20
 MOST_REPLAYED = 1 << 30
+TOO_LONG = "its sheet is over 1 GiB, and is not replayed"
 POLL, LOOK_EVERY, DOWN_AFTER = 0.2, 1.0, 2.0
 SECOND = 1_000_000
 SILENT_AFTER, RATE_OVER, CLOCK_OVER = SECOND, 5, 10
@@ -123,6 +126,7 @@ class Replay:
 
     def __init__(self, words: list[str], view: View):
         self._view, self._left = view, MOST_REPLAYED
+        self._feeding, self._is_over = threading.Lock(), False
         pipe = subprocess.PIPE
         self._process = subprocess.Popen(words, stdin=pipe, stdout=pipe, stderr=pipe, bufsize=0)
         self._reader = threading.Thread(target=self._read, daemon=True)
@@ -131,23 +135,26 @@ class Replay:
 
     def feed(self, text: bytes) -> None:
         """Hands on the next bytes of the sheet, where it can be replayed so far."""
-        if self.problem:
-            return
-        self._left -= len(text)
-        if self._left < 0:
-            self.problem = "the sheet is over 1 GiB, and is no longer replayed"
-            self._process.kill()
-            return
-        try:
-            while text:
-                text = text[self._process.stdin.write(text) :]
-        except BrokenPipeError:
-            said = self._process.stderr.read().decode(errors="replace").strip()
-            self.problem = f"replay: {said or self._process.wait()}"
+        with self._feeding:
+            if self.problem or self._is_over:
+                return
+            self._left -= len(text)
+            if self._left < 0:
+                self.problem = TOO_LONG
+                self._process.kill()
+                return
+            try:
+                while text:
+                    text = text[self._process.stdin.write(text) :]
+            except BrokenPipeError:
+                said = self._process.stderr.read().decode(errors="replace").strip()
+                self.problem = f"replay-node: {said or self._process.wait()}"
 
     def end(self) -> None:
         """Ends the input, and waits until all that it leads to was taken."""
-        self._process.stdin.close()
+        with self._feeding:
+            self._is_over = True
+            self._process.stdin.close()
         self._reader.join()
         self._process.wait()
 
@@ -184,7 +191,7 @@ class Node(threading.Thread):
         return None
 
     def pieces(self) -> Iterator[bytes | None]:
-        """Yields the bytes of its sheet as they come, and None where there are no more for now or a new sheet begins."""
+        """Yields the bytes of its sheet as they come, and None where there were no more for now."""
         raise NotImplementedError
 
     def run(self) -> None:
@@ -195,7 +202,7 @@ class Node(threading.Thread):
                     self.is_read.set()
                     continue
                 # What was there before does not say that the node is up.
-                if self.is_read.is_set():
+                if piece and self.is_read.is_set():
                     self._grew = time.monotonic()
                 self._take(piece)
         except OSError as error:
@@ -211,11 +218,14 @@ class Node(threading.Thread):
         if self._replay is not None:
             self._replay.end()
 
+    def stop(self) -> None:
+        """Ends what was started to read the sheet."""
+
     def begin(self) -> None:
         """Forgets the sheet of an earlier start."""
         if self._replay is not None:
             self._replay.stop()
-        self.view, self._replay, self._head, self._rest = View(), None, b"", b""
+        self.view, self._replay, self._head, self._rest, self.problem = View(), None, b"", b"", ""
 
     def _take(self, piece: bytes) -> None:
         """Takes the next bytes of the sheet, or of the next one where this one ends within a line."""
@@ -225,13 +235,13 @@ class Node(threading.Thread):
             if starts:
                 piece = joined[min(starts) :]
                 self.begin()
-        if self._replay is None:
+        if self._replay is None and self.problem != TOO_LONG:
             self._head += piece
             piece = self._open()
-        if self._replay is not None and piece:
+        if self._replay is not None:
             self._replay.feed(piece)
             self.problem = self._replay.problem
-            self._rest = self._scan(self._rest + piece, len(piece) < PIECE)
+        self._rest = self._scan(self._rest + piece, len(piece) < PIECE)
 
     def _open(self) -> bytes:
         """Begins the replay once the sheet has its `open`. Returns what is to be fed, which is nothing before that."""
@@ -288,13 +298,17 @@ class LocalNode(Node):
             yield None
 
     def _pieces_of(self, path: Path) -> Iterator[bytes | None]:
-        """Yields the bytes of a sheet, until there is a later one or it is begun anew."""
+        """Yields the bytes of a sheet, until there is a later one or it is shorter than what was read of it."""
         with open(path, "rb") as sheet:
+            if os.stat(path).st_size > MOST_REPLAYED:
+                self.problem = TOO_LONG
+                sheet.seek(-PIECE, os.SEEK_END)
             looked = time.monotonic()
             while True:
                 piece = sheet.read(PIECE)
-                yield piece or None
+                yield piece
                 if len(piece) < PIECE:
+                    yield None
                     time.sleep(POLL)
                 if time.monotonic() > looked + LOOK_EVERY:
                     looked = time.monotonic()
@@ -308,10 +322,18 @@ class FarNode(Node):
     def __init__(self, program: str, number: int, began_with: int, command: str):
         super().__init__(program, number, began_with)
         self._command = command
+        self._process: subprocess.Popen[bytes] | None = None
+
+    def stop(self) -> None:
+        """Ends the command, and what it has started."""
+        if self._process is not None and self._process.poll() is None:
+            os.killpg(self._process.pid, signal.SIGTERM)
 
     def pieces(self) -> Iterator[bytes | None]:
         """Yields what the command writes."""
-        with subprocess.Popen(self._command, shell=True, stdin=subprocess.DEVNULL, stdout=subprocess.PIPE) as process:
+        how = {"shell": True, "stdin": subprocess.DEVNULL, "stdout": subprocess.PIPE, "process_group": 0}
+        with subprocess.Popen(self._command, **how) as process:
+            self._process = process
             timer = threading.Timer(DOWN_AFTER, self.is_read.set)
             timer.daemon = True
             timer.start()
@@ -336,7 +358,8 @@ def _began_with(log: Path) -> int:
 def _size(count: int | None) -> str:
     if count is None:
         return "-"
-    return f"{count / 1e9:.2f} GB" if count >= 1e9 else f"{count / 1e6:.1f} MB" if count >= 1e6 else f"{count / 1e3:.1f} kB"
+    size, unit = next((it for it in ((1e9, "GB"), (1e6, "MB")) if count >= it[0]), (1e3, "kB"))
+    return f"{count / size:.{2 if unit == 'GB' else 1}f} {unit}"
 
 
 def _clocks(nodes: list[Node]) -> dict[int, float]:
@@ -355,7 +378,8 @@ def _row(node: Node, clocks: dict[int, float]) -> list[str]:
     """Returns the row of a node."""
     view, is_up = node.view, node.is_up()
     if not node.is_read.is_set():
-        return [str(node.number), "?", *["?"] * 5, _size(node.log_size()), "?", node.problem or "its sheet is being read"]
+        why = node.problem or "its sheet is being read"
+        return [str(node.number), *["?"] * 6, _size(node.log_size()), "?", why]
     state = "down" if not is_up else "up" if node.problem else view.state
     known = [
         "-" if view.epoch is None else str(view.epoch),
@@ -370,6 +394,7 @@ def _row(node: Node, clocks: dict[int, float]) -> list[str]:
 
 
 HEADS = ["node", "state", "epoch", "members", "executed", "commands/s", "clock, ms", "log", "silent", ""]
+TO_THE_LEFT = ["state", "members", "silent", ""]
 
 
 def table(nodes: list[Node]) -> str:
@@ -378,11 +403,12 @@ def table(nodes: list[Node]) -> str:
     clocks = _clocks(up) if up else {}
     rows = [HEADS, *(_row(node, clocks) for node in nodes)]
     widths = [max(len(row[at]) for row in rows) for at in range(len(HEADS))]
-    aligned = (
-        "  ".join(word.ljust(size) if at in (1, 3, 8, 9) else word.rjust(size) for at, (word, size) in enumerate(zip(row, widths)))
-        for row in rows
-    )
-    return "\n".join(line.rstrip() for line in aligned)
+
+    def aligned(row: list[str]) -> str:
+        cells = zip(HEADS, row, widths)
+        return "  ".join(f"{word:{'<' if head in TO_THE_LEFT else '>'}{size}}" for head, word, size in cells).rstrip()
+
+    return "\n".join(aligned(row) for row in rows)
 
 
 # ---- the command line
@@ -393,7 +419,8 @@ def _read_words() -> argparse.Namespace:
     reader = argparse.ArgumentParser(description=__doc__, formatter_class=layout)
     reader.add_argument("folders", metavar="FOLDER", nargs="*", type=Path)
     reader.add_argument("--program", default=shutil.which("crsm"), help="the path of crsm, by default that of PATH")
-    reader.add_argument("--command", action="append", default=[], metavar="ME=COMMAND", help="writes the sheet of node ME")
+    text = "writes the sheet of node ME"
+    reader.add_argument("--command", action="append", default=[], metavar="ME=COMMAND", help=text)
     text = "how many nodes the cluster of the commands began with, where their sheets begin with no entry"
     reader.add_argument("--began-with", type=int, metavar="N", help=text)
     reader.add_argument("--once", action="store_true", help="prints the table once")
@@ -425,24 +452,32 @@ def main() -> int:
     if not nodes:
         print("watch: no folder has a log crsm-ME.log", file=sys.stderr)
         return 1
-    for node in nodes:
-        node.start()
-    if words.once:
-        for node in nodes:
-            node.is_read.wait()
-        # (long enough to see which sheets grow)
-        time.sleep(2 * LOOK_EVERY)
-        for node in nodes:
-            node.finish()
-        print(table(nodes))
-        return 0
-    clear = "\x1b[H\x1b[J" if sys.stdout.isatty() else "\n"
     try:
+        for node in nodes:
+            node.start()
+        if words.once:
+            print(_table_once(nodes))
+            return 0
+        clear = "\x1b[H\x1b[J" if sys.stdout.isatty() else "\n"
         while True:
             time.sleep(words.every)
             print(f"{clear}{time.strftime('%H:%M:%S')}\n{table(nodes)}", flush=True)
     except (KeyboardInterrupt, BrokenPipeError):
         return 0
+    finally:
+        for node in nodes:
+            node.stop()
+
+
+def _table_once(nodes: list[Node]) -> str:
+    """Returns the table once all that the sheets have is replayed."""
+    for node in nodes:
+        node.is_read.wait()
+    # (long enough to see which sheets grow)
+    time.sleep(2 * LOOK_EVERY)
+    for node in nodes:
+        node.finish()
+    return table(nodes)
 
 
 if __name__ == "__main__":

@@ -18,7 +18,8 @@ class Figures(NamedTuple):
     slow: float
 
     def __str__(self) -> str:
-        return f"{self.rate:,.0f} commands a second; median {self.median * 1e3:.2f} ms, 99 % within {self.slow * 1e3:.2f} ms"
+        median, slow = self.median * 1e3, self.slow * 1e3
+        return f"{self.rate:,.0f} commands a second; median {median:.2f} ms, 99 % within {slow:.2f} ms"
 
 
 def measure(
