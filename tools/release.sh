@@ -1,7 +1,7 @@
 #!/usr/bin/env bash
 # Packs the proved program for Debian 12 on x86-64: `bash tools/release.sh FOLDER` writes FOLDER/crsm-VERSION.tar.gz with
-# the program, one built for processors with AVX2, a unit for systemd, the operator's page and the client in Python, and
-# tries the program where nothing else is there.
+# the program, one built for processors with AVX2, a unit for systemd, the operator's page, a live table of a cluster and
+# the client in Python, and tries the program where nothing else is there.
 set -eu
 cd "$(dirname "$0")/.."
 [ $# = 1 ] || { sed -n '2,4s/^# \{0,1\}//p' "$0" >&2; exit 2; }
@@ -19,7 +19,7 @@ version=$("$scratch/crsm" --version | cut -d' ' -f2)
 name=crsm-$version
 mkdir -p "$scratch/$name/python/crsm"
 mv "$scratch/crsm" "$scratch/crsm-avx2" "$scratch/$name/"
-cp tools/crsm@.service docs/OPERATING.md "$scratch/$name/"
+cp tools/crsm@.service tools/watch.py docs/OPERATING.md "$scratch/$name/"
 cp clients/python/README.md clients/python/pyproject.toml clients/python/wheel_of.py "$scratch/$name/python/"
 cp clients/python/crsm/*.py clients/python/crsm/py.typed "$scratch/$name/python/crsm/"
 cat > "$scratch/$name/README" <<END
@@ -27,7 +27,7 @@ crsm $version, a replicated key-value store, from commit $(git rev-parse HEAD).
 
 crsm runs on any x86-64 processor of the last fifteen years, crsm-avx2 on one with AVX2. Both need the system's C library,
 of version 2.34 or later, and nothing else. OPERATING.md says how to start nodes; crsm@.service runs one under systemd;
-python/ has a client.
+python/ has a client, and watch.py a live table of a cluster.
 
 What was proved, of the sources at this commit: that the output, the log, the packets and the answers of each command are
 those of the protocol, and that replicas agree in every schedule; the sources' README says it clause by clause. The proofs

@@ -139,12 +139,12 @@ class AioTest(ClusterTest, unittest.IsolatedAsyncioTestCase):
     async def test_reconfigure(self):
         nodes = [self.node(), self.node(refuse=[1] * 99), self.dead()]
         client = self.client(*nodes)
-        await client.reconfigure([0], sure=True, timeout=1.0)
+        await client.reconfigure([0], sure=True)
         began = time.monotonic()
         with self.assertRaises(NotMembers) as caught:
             await client.reconfigure([0, 1, 2], timeout=0.3)
         self.assertEqual(sorted(caught.exception.seen), [1, 2])
-        self.assertLess(time.monotonic() - began, 4.0)
+        self.assertLess(time.monotonic() - began, 15.0)
 
     async def test_bytes(self):
         node = self.node(cluster=9)

@@ -105,11 +105,9 @@ class CommandsTest(ClusterTest):
 
     def test_no_answer(self):
         host, port = self.dead().getsockname()
-        nodes = ["--nodes", f"{host}:{port}", "--timeout", "0.3"]
-        self.check(["get", "a", *nodes], 9, err="no answer")
-        refusing = self.node(refuse=[4] * 99)
-        nodes[1] = "{}:{}".format(*refusing.address)
-        self.check(["put", "a", "b", *nodes], 9, err="congested")
+        self.check(["get", "a", "--nodes", f"{host}:{port}", "--timeout", "0.3"], 9, err="no answer")
+        host, port = self.node(refuse=[4] * 99).address
+        self.check(["put", "a", "b", "--nodes", f"{host}:{port}", "--timeout", "1.5"], 9, err="congested")
 
     def test_faults(self):
         self.check(["get", "a", "--state", "/dev/null/x"], 7, err="cannot be kept")

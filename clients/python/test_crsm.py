@@ -28,7 +28,7 @@ from crsm import (
 )
 from crsm.exchange import Times
 
-FAST = {"timeout": 3.0, "node_timeout": 0.25, "resend": 0.1}
+FAST = {"timeout": 20.0, "node_timeout": 0.25, "resend": 0.1}
 
 
 class Store:
@@ -370,7 +370,7 @@ class ClientTest(ClusterTest):
         began = time.monotonic()
         with self.assertRaises(Closed):
             client.get("a")
-        self.assertLess(time.monotonic() - began, 2.0)
+        self.assertLess(time.monotonic() - began, 4.0)
 
     def test_request_members(self):
         nodes = [self.node(cluster=9) for _ in range(3)]

@@ -28,7 +28,7 @@ T = TypeVar("T")
 
 
 class AsyncLock:
-    """A lock of the store, as `AsyncClient.lock` and `break_lock` make it: held while an `async with` statement runs."""
+    """A lock of the store, as `AsyncClient.lock` and `break_lock` make it: held while an `async with` block runs."""
 
     def __init__(self, client: "AsyncClient", key: Bytes, terms: Terms):
         self._client, self._key, self._terms = client, lock_key(key), terms
@@ -263,7 +263,7 @@ class AsyncClient:
                 return answer
 
     def _send(self, datagram: bytes, address: Address) -> bool:
-        """Sends a datagram, and returns whether it went out: the system may have no room for it or no way to the node."""
+        """Sends a datagram, and returns whether it went out: the system may have no room or no way to the node."""
         try:
             self._socket.sendto(datagram, address)
         except OSError:

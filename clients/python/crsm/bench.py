@@ -18,7 +18,8 @@ class Figures(NamedTuple):
     slow: float
 
     def __str__(self) -> str:
-        return f"{self.rate:,.0f} commands a second; median {self.median * 1e3:.2f} ms, 99 % within {self.slow * 1e3:.2f} ms"
+        median, slow = self.median * 1e3, self.slow * 1e3
+        return f"{self.rate:,.0f} commands a second; median {median:.2f} ms, 99 % within {slow:.2f} ms"
 
 
 def measure(
@@ -28,7 +29,9 @@ def measure(
     it. Returns the figures, or None where no command was answered."""
 
     async def all_of_them() -> list[list[float]]:
-        stores = (AsyncClient(nodes, cluster=cluster, client=it, timeout=timeout) for it in clients)
+        # Each client begins at another node.
+        turned = [[*nodes[at % len(nodes) :], *nodes[: at % len(nodes)]] for at in range(len(clients))]
+        stores = [AsyncClient(of, cluster=cluster, client=it, timeout=timeout) for of, it in zip(turned, clients)]
         return await asyncio.gather(*(_times(store, f"bench-{at}", seconds, size) for at, store in enumerate(stores)))
 
     took = sorted(time for times in asyncio.run(all_of_them()) for time in times)

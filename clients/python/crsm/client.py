@@ -155,8 +155,8 @@ class Client:
     def reconfigure(
         self, members: Iterable[int], *, via: int | None = None, sure: bool = False, timeout: float = 20.0
     ) -> None:
-        """Changes the cluster's members to these numbers: asks for them by `request_members`, asks again a second later,
-        and then gets a key at each of them until it answers.
+        """Changes the cluster's members to these numbers: asks for them by `request_members`, asks again a second
+        later, and then gets a key at each of them until it answers.
 
         Raises `NotMembers` where one of them has not answered within `timeout` seconds. Members without an address here
         are not asked. Takes a second at least, and holds up the commands of other threads.

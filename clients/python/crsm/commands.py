@@ -96,10 +96,13 @@ def _reader() -> argparse.ArgumentParser:
 
 def _add_common(to: argparse.ArgumentParser) -> None:
     nodes = os.environ.get("CRSM_NODES", "")
-    to.add_argument("--nodes", metavar="A:PORT,..", default=nodes, help="the nodes, that of replica i at place i (CRSM_NODES)")
+    text = "the nodes, that of replica i at place i (CRSM_NODES)"
+    to.add_argument("--nodes", metavar="A:PORT,..", default=nodes, help=text)
     cluster = os.environ.get("CRSM_CLUSTER", "0")
-    to.add_argument("--cluster", metavar="C", type=int, default=cluster, help="the number of the cluster (CRSM_CLUSTER)")
-    to.add_argument("--timeout", metavar="S", type=float, default=10.0, help="seconds for a command, 0 for no end; 10")
+    text = "the number of the cluster (CRSM_CLUSTER)"
+    to.add_argument("--cluster", metavar="C", type=int, default=cluster, help=text)
+    text = "seconds for a command, 0 for no end; 10"
+    to.add_argument("--timeout", metavar="S", type=float, default=10.0, help=text)
     text = "the folder with the numbers of clients; $XDG_STATE_HOME/crsm, or ~/.local/state/crsm"
     to.add_argument("--state", metavar="FOLDER", type=Path, default=_state_folder(), help=text)
     to.add_argument("--hex", action="store_true", help="keys and values are hexadecimal")
@@ -308,8 +311,9 @@ def _passing_signals_to(child: subprocess.Popen[bytes]) -> Iterator[None]:
     def leave_to_child(_number: int, _frame: FrameType | None) -> None:
         pass
 
-    handlers = {signal.SIGTERM: hand_on, signal.SIGHUP: hand_on, signal.SIGINT: leave_to_child, signal.SIGQUIT: leave_to_child}
-    before = {number: signal.signal(number, handler) for number, handler in handlers.items()}
+    handlers = [(signal.SIGTERM, hand_on), (signal.SIGHUP, hand_on)]
+    handlers += [(signal.SIGINT, leave_to_child), (signal.SIGQUIT, leave_to_child)]
+    before = {number: signal.signal(number, handler) for number, handler in handlers}
     try:
         yield
     finally:

@@ -48,7 +48,14 @@ class Exchange:
     """
 
     def __init__(
-        self, request: bytes, mark: bytes, name: tuple[int, int], nodes: list[Address], at: int, times: Times, now: float
+        self,
+        request: bytes,
+        mark: bytes,
+        name: tuple[int, int],
+        nodes: list[Address],
+        at: int,
+        times: Times,
+        now: float,
     ):
         self.datagram = mark + request
         self.at, self.code = at, 0

@@ -51,7 +51,8 @@ class Operation(NamedTuple):
     kinds: tuple[int, ...]
 
     def check(self, answer: Answer) -> Answer:
-        """Returns the answer. Raises `Stale` or `NoRoom` where it says so, `CrsmError` where another operation has it."""
+        """Returns the answer. Raises `Stale` or `NoRoom` where it says so, and `CrsmError` where it is of another kind
+        than the operation's own."""
         if answer.kind == _STALE:
             raise Stale(answer.number)
         if answer.kind == _NO_ROOM:
