@@ -38,7 +38,8 @@ pub record HasNoRoomFor (es : List Entry) (place client : ℕ) : Type 0 where
 -- every number of the client at a place between two others is at most this one
 abbrev pub NoneHigherBetween : List Entry → ℕ → ℕ → ℕ → ℕ → Type 0
 NoneHigherBetween es p q client number =
-    (r : ℕ) (e : Entry) → p < r → r < q → slice_get es r ≡ Some e → e.command.client ≡ client → e.command.number ≤ number
+    (r : ℕ) (e : Entry) → p < r → r < q → slice_get es r ≡ Some e → e.command.client ≡ client →
+    e.command.number ≤ number
 
 -- every number of the client before a place is below this one
 abbrev pub AllLowerBefore : List Entry → ℕ → ℕ → ℕ → Type 0

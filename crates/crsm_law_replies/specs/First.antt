@@ -6,7 +6,8 @@ use Rattle.crsm_law_once.specs.Numbered.{ChangesNothing, IsAnswered, IsStaleAt}
 -- no entry before this place has the client's number
 abbrev pub NoneBefore : List Entry → ℕ → ℕ → ℕ → Type 0
 NoneBefore es place client number =
-    (r : ℕ) (e : Entry) → r < place → slice_get es r ≡ Some e → e.command.client ≡ client → e.command.number ≡ number → ⊥
+    (r : ℕ) (e : Entry) → r < place → slice_get es r ≡ Some e → e.command.client ≡ client →
+    e.command.number ≡ number → ⊥
 
 -- The first entry of the client's number stands at this place and is answered so. Each other one changes nothing.
 pub record IsFirst (es : List Entry) (first client number : ℕ) (a : Answer) : Type 0 where

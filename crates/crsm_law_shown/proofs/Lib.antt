@@ -1,0 +1,4 @@
+mod Known
+mod Done
+mod Rules
+mod Locks

@@ -1,0 +1,4 @@
+pub mod Heard
+pub mod Shown
+pub mod Locks
+pub mod Laws
