@@ -165,8 +165,8 @@ returns-in-Ok-clause-framing g c =
       | inr failed ↦ ap (λ (m : PortMeaning). m.framing) failed.2
     ]
 
-pub returns-in-Ok-clause-lent : goal.returns-in-Ok-clause-lent
-returns-in-Ok-clause-lent g c =
+pub returns-in-Ok-clause-borrowed_as : goal.returns-in-Ok-clause-borrowed_as
+returns-in-Ok-clause-borrowed_as g c =
     let order = c.args.order.now in
     let e = c.in-Ok.ensures in
     let log = e.found.0 in
