@@ -27,7 +27,7 @@ import time
 from statistics import median
 from typing import Dict, List, NamedTuple, Optional, Tuple
 
-from load import Asked, Broken, crsm, judge_all, spelled, told
+from load import Asked, Broken, judge_all, protocol, spelled, told
 from nodes import Address, Node, free_addresses, text_of
 
 HERE = os.path.dirname(os.path.abspath(__file__))
@@ -72,14 +72,15 @@ class Prober(threading.Thread):
         self._socket = socket.socket(socket.AF_INET, socket.SOCK_DGRAM)
         self._socket.settimeout(RESEND_AFTER)
 
-    def _outcome(self, number: int) -> Optional[crsm._Answer]:
+    def _outcome(self, number: int) -> Optional[protocol.Answer]:
         """The next answer to this command, if it comes in time."""
         try:
-            _, of, outcome = crsm._read_reply(self._socket.recv(65_536))
+            reply = protocol.reply_of(self._socket.recv(65_536))
         except (socket.timeout, ConnectionError):
             return None
-        if of != number:
+        if reply is None or reply.number != number:
             return None
+        outcome = reply.outcome
         if isinstance(outcome, int):
             self.codes.append((time.monotonic(), outcome))
             time.sleep(PAUSE_AFTER_NO)

@@ -17,7 +17,7 @@ from typing import Dict, List, Tuple
 HERE = os.path.dirname(os.path.abspath(__file__))
 sys.path[:0] = [HERE, f"{HERE}/../clients/python"]
 
-import crsm  # noqa: E402
+from crsm import protocol  # noqa: E402
 from chaos import KEYS, Asked, Broken, audit, judge, whole_lines  # noqa: E402
 from nodes import Address, Node  # noqa: E402
 
@@ -71,7 +71,10 @@ class Load(threading.Thread):
 
     def _take(self, datagram: bytes) -> None:
         """Takes a reply, and notes it where it answers a command that is under way."""
-        client, number, outcome = crsm._read_reply(datagram)
+        reply = protocol.reply_of(datagram)
+        if reply is None:
+            return
+        client, number, outcome = reply
         note = self._under_way.get(client)
         if note is None or note.number != number or isinstance(outcome, int):
             return
@@ -104,25 +107,19 @@ class Load(threading.Thread):
 
 def spelled(op: Tuple) -> bytes:
     """An operation as datagrams have it."""
-    kind, key = op[0], crsm._key(op[1])
-    if kind == "get":
-        return b"\1" + key
-    if kind == "put":
-        return b"\2" + key + crsm._value(op[2])
-    if kind == "delete":
-        return b"\3" + key
-    return b"\4" + key + crsm._optional(op[2]) + crsm._optional(op[3])
+    makers = {"get": protocol.get_of, "put": protocol.put_of, "delete": protocol.delete_of, "cas": protocol.cas_of}
+    return makers[op[0]](*op[1:]).data
 
 
-def told(answer: crsm._Answer) -> Tuple:
+def told(answer: protocol.Answer) -> Tuple:
     """An answer in the words of a transcript."""
-    if answer.kind == crsm._FOUND:
-        return ("found", answer.value.hex() or "empty")
-    if answer.kind == crsm._DIFFERS:
-        return ("differs", "none" if answer.value is None else answer.value.hex() or "empty")
-    if answer.kind == crsm._STALE:
-        return ("stale", str(answer.number))
-    return ({crsm._DONE: "done", crsm._MISSING: "missing", crsm._NO_ROOM: "noroom"}[answer.kind],)
+    kinds = {1: "found", 2: "missing", 3: "done", 4: "differs", 5: "stale", 6: "noroom"}
+    kind = kinds[answer.kind]
+    if kind == "stale":
+        return (kind, str(answer.number))
+    if kind in ("found", "differs"):
+        return (kind, "none" if answer.value is None else answer.value.hex() or "empty")
+    return (kind,)
 
 
 @dataclass
