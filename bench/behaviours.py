@@ -269,16 +269,16 @@ def run(words: argparse.Namespace, folder: str) -> None:
     finally:
         for node in cluster.nodes:
             node.kill()
-    entries = the_list(cluster)
+    audited = audit(cluster)
+    entries = the_list(cluster, audited)
     done = judge(entries, rows)
-    verdict = audit(cluster)
     for row in rows:
         row.check()
     print("| behaviour | commands | in the list | clients saw | they may see |\n|---|---|---|---|---|")
     for row in rows:
         saw = ", ".join(f"{word} {count}" for word, count in sorted(row.saw.items()) if count)
         print(f"| {row.name} | {len(row.notes)} | {done[row.name]} | {saw} | {', '.join(sorted(row.may_see))} |")
-    print(f"the list has {len(entries)} entries; audit: {verdict}")
+    print(f"the list has {len(entries)} entries; audit: {audited[-1]}")
 
 
 def read_words() -> argparse.Namespace:
