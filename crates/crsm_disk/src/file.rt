@@ -1,6 +1,6 @@
 //! A file of the system as a disk. Contracts say nothing of the bytes that it holds.
 
-ghost use Rattle.std.specs.Prelude.{◌≡◌, ◌≤◌, length, IfOk, false};
+ghost use Rattle.std.specs.Prelude.{◌≡◌, ◌≤◌, length, IfOk, OnOk, Some, false};
 ghost use Rattle.crsm_disk.specs.Unknown.{unknown};
 
 use crate::Disk;
@@ -27,12 +27,13 @@ impl From<io::Error> for OpenError {
     }
 }
 
-/// A file of the system as a disk. It counts its faults, and specifies nothing else.
+/// A file of the system as a disk. It specifies what it counts and renews, and nothing else.
 #[derive(Drop)]
 pub struct FileDisk {
     file: File,
     folder: File,
     is_settled: bool,
+    renewed: Option<u64>,
     faults: u64,
 }
 
@@ -60,8 +61,20 @@ impl FileDisk {
             file,
             folder,
             is_settled: false,
+            renewed: None,
             faults: 0,
         }
+    }
+
+    // Writes a byte that is there, so that the system has to write its page, whatever it did before.
+    fn write_again(&mut self, at: u64, byte: u8) -> io::Result<()>
+        ensures renewed { OnOk result (self.new.renewed ≡ Some at) }
+        ensures faults { self.new.faults ≡ self.old.faults }
+    {
+        self.file.write_all_at(&[byte], at)?;
+        self.sync_with_name()?;
+        self.renewed = Some(at);
+        Ok(())
     }
 
     // The first sync, and the first after a cut, syncs all metadata and the folder that has the file's name. Later ones
@@ -104,7 +117,7 @@ fn read_all(file: &File, at: u64, buf: &mut [u8]) -> io::Result<usize>
 }
 
 impl Disk for FileDisk {
-    ghost meaning = { λ d. unknown d.faults };
+    ghost meaning = { λ d. unknown d.faults d.renewed };
 
     fn len(&mut self) -> Result<u64, Failed> {
         let answer = self.file.metadata().map(|m| m.len());
@@ -129,6 +142,11 @@ impl Disk for FileDisk {
 
     fn sync(&mut self) -> Result<(), Failed> {
         let answer = self.sync_with_name();
+        raised_by(&mut self.faults, answer)
+    }
+
+    fn renew(&mut self, at: u64, byte: u8) -> Result<(), Failed> {
+        let answer = self.write_again(at, byte);
         raised_by(&mut self.faults, answer)
     }
 
