@@ -3,10 +3,11 @@
     python3 bench/faults.py PROGRAM [--most M]
 
 runs a node that is a cluster of its own under `strace`, which lets the k-th write, sync, send or receive fail, for each
-k up to M, while a client asks it for commands. The node ends with the status that this fault has, or counts a loss and
-goes on; started again without faults on the same log, it has each command that was answered. It also looks at the order
-of calls of a run without faults: before anything is sent, a new log and the folder that has its name were synced, and
-before a reply goes out, a write, a sync, a write and a sync have kept the command.
+k up to M, while a client asks it for commands; of the writes of zeros ahead only the first and the last. The node ends
+with the status that this fault has, or counts a loss and goes on; started again without faults on the same log, it has
+each command that was answered. It also looks at the order of calls of a run without faults: before anything is sent, a
+new log and the folder that has its name were synced, and before a reply goes out, a write, a sync, a write and a sync
+have kept the command.
 
 Ends with 0 where all holds, with 1 and the reason where it does not, and with 0 and a word where there is no `strace`.
 Where there is a `cc`, reads and writes are cut to half of their bytes, too, one in each run: the node goes on as if
@@ -20,12 +21,14 @@ import shutil
 import subprocess
 import sys
 import tempfile
-from typing import Dict, List, Optional, Tuple
+from typing import Callable, Dict, List, Optional, Tuple
 
 from nodes import free_addresses, text_of
 from shim import Shim, built, has_come
 
 TURNS = 250
+# What one call writes of the zeros ahead of a log. Of these calls the first and the last are tried.
+ZEROS = 16_384
 COMMANDS = 3
 
 # The calls that fail, with the error, and the statuses that a node may end with. Behind a `+` all later ones fail as
@@ -143,7 +146,7 @@ def one_cut(shim: Shim, call: str, at: int) -> bool:
         shutil.rmtree(folder)
 
 
-def cut_all(program: str, most: int) -> List[str]:
+def cut_all(program: str, most: int, writes: List[int]) -> List[str]:
     """Cuts each call short in turn; says how many there were."""
     if shutil.which("cc") is None:
         return ["no cc here, so none was cut short"]
@@ -151,9 +154,7 @@ def cut_all(program: str, most: int) -> List[str]:
     try:
         shim, tried = Shim(built(folder), program), []
         for call in CUTS:
-            count = 0
-            while count < most and one_cut(shim, call, count + 1):
-                count += 1
+            count = count_of(lambda at, call=call: one_cut(shim, call, at), writes if call == "pwrite" else None, most)
             tried.append(f"{call} cut short {count}")
         return tried
     finally:
@@ -168,8 +169,16 @@ def check_name(lines: List[str], log: str, folder: str) -> None:
             raise Broken(f"{path} was not synced before the first packet went out")
 
 
-def check_order(program: str) -> None:
-    """Before each reply goes out, the log was written and synced twice since the command came."""
+def numbers_of_writes(calls: List[str]) -> List[int]:
+    """The numbers, from 1, of the writes, without those of zeros that stand between two others of zeros."""
+    sizes = [int(line.rsplit("= ", 1)[1]) for line in calls if line.startswith("pwrite64(")]
+    is_inner = [sizes[at - 1 : at + 2] == [ZEROS] * 3 for at in range(1, len(sizes))]
+    return [at + 1 for at, inner in enumerate([False, *is_inner]) if not inner]
+
+
+def check_order(program: str) -> List[int]:
+    """Before each reply goes out, the log was written and synced twice since the command came. Answers the numbers of
+    the writes that are worth a trial."""
     folder = tempfile.mkdtemp(prefix="crsm-faults-")
     try:
         address = text_of(free_addresses(1)[0])
@@ -191,8 +200,17 @@ def check_order(program: str) -> None:
                 replies += 1
         if replies < COMMANDS:
             raise Broken(f"{replies} replies went out")
+        return numbers_of_writes(calls)
     finally:
         shutil.rmtree(folder)
+
+
+def count_of(one: Callable[[int], bool], numbers: Optional[List[int]], most: int) -> int:
+    """Tries calls of these numbers in turn, up to so many and until there is none; answers how many there were."""
+    for count, at in enumerate((numbers or range(1, most + 1))[:most]):
+        if not one(at):
+            return count
+    return min(most, len(numbers)) if numbers else most
 
 
 def main() -> int:
@@ -205,14 +223,15 @@ def main() -> int:
         print("faults: no strace here, so nothing was tried")
         return 0
     try:
-        check_order(words.program)
-        tried = []
+        writes, tried = check_order(words.program), []
         for call, error, statuses in FAULTS:
-            count = 0
-            while count < words.most and one_fault(words.program, call, error, count + 1, statuses):
-                count += 1
+            count = count_of(
+                lambda at, it=(call, error), statuses=statuses: one_fault(words.program, *it, at, statuses),
+                writes if call == "pwrite64" else None,
+                words.most,
+            )
             tried.append(f"{call} {error} {count}")
-        tried += cut_all(words.program, words.most)
+        tried += cut_all(words.program, words.most, writes)
     except Broken as broken:
         print(f"faults: {broken}", file=sys.stderr)
         return 1

@@ -22,6 +22,8 @@ Address = Tuple[str, int]
 HOST = "127.0.0.1"
 FOR_EVER = 1_000_000_000_000
 LARGEST_PACKET = 65_536
+# An entry's length field that names the cluster, and the length of that entry.
+CLUSTER_FIELD, CLUSTER_BYTES = 0x80000008, 8
 
 
 def text_of(address: Address) -> str:
@@ -38,6 +40,15 @@ def free_addresses(count: int) -> List[Address]:
     for it in sockets:
         it.close()
     return addresses
+
+
+def closed_gate(log: bytes) -> int:
+    """The place of a log's closed gate: what stands behind it, as zeros that are written ahead, is no part of the log."""
+    at = 0
+    while log[at : at + 1] == b"\1":
+        field = int.from_bytes(log[at + 1 : at + 5], "big")
+        at += 5 + (CLUSTER_BYTES if field == CLUSTER_FIELD else field)
+    return at
 
 
 @dataclass
@@ -223,6 +234,7 @@ class Node:
         return status
 
     def tear(self, chance: random.Random) -> None:
-        """Leaves bytes behind the log's last entry, as a write that was not synced may."""
-        with open(self.log, "ab") as log:
+        """Leaves bytes behind the log's closed gate, as a write that was not synced may."""
+        with open(self.log, "r+b") as log:
+            log.seek(closed_gate(log.read()) + 1)
             log.write(chance.randbytes(chance.randrange(1, 200)))

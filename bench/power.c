@@ -48,6 +48,8 @@ static struct piece pieces[PIECES];
 static int piece_count;
 static unsigned char *image;
 static size_t image_len, image_room;
+/* Where the entry that was written last ends; zeros that are written ahead stand behind it. */
+static size_t entry_end;
 static int log_fd = -1, folder_fd = -1, is_name_new;
 static char log_path[4096], image_path[4096 + 8];
 static long calls, syncs, loss_at, failure_at;
@@ -266,6 +268,8 @@ ssize_t pwrite(int fd, const void *of, size_t size, off_t from) {
     if (!new->bytes)
         stop("no memory");
     memcpy(new->bytes, of, (size_t)done);
+    if (done > 1)
+        entry_end = new->at + new->len;
     count("pwrite");
     return done;
 }
@@ -276,9 +280,9 @@ int ftruncate(int fd, off_t len) {
     return NEXT(ftruncate)(fd, len);
 }
 
-/* Whether what is not synced is the gate of an entry that ends in a later page. */
+/* Whether what is not synced is the gate of an entry that ends in a later page, or of one that was there at the start. */
 static int is_gate_alone(void) {
-    return piece_count == 1 && pieces[0].len == 1 && pieces[0].at / PAGE != (log_len() - 1) / PAGE;
+    return piece_count == 1 && pieces[0].len == 1 && pieces[0].at / PAGE != (entry_end - 1) / PAGE;
 }
 
 static int sync_it(int fd, const char *call, int (*next)(int)) {

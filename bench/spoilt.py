@@ -29,7 +29,7 @@ from collections import Counter, defaultdict
 from typing import Callable, Dict, List, Tuple
 
 from load import Broken, Load, whole_lines
-from nodes import Node, free_addresses, text_of
+from nodes import Node, closed_gate, free_addresses, text_of
 
 NODES, VICTIM, OTHER = 3, 2, 1
 REFUSED = 10
@@ -140,9 +140,10 @@ def await_answers(load: Load, count: int, operate: Callable[[], None]) -> None:
 
 
 def read(path: str) -> bytes:
-    """A file."""
+    """A log up to its closed gate."""
     with open(path, "rb") as file:
-        return file.read()
+        log = file.read()
+    return log[: closed_gate(log) + 1]
 
 
 def made(program: str, folder: str, seed: int) -> Tuple[Logs, List[Node]]:

@@ -66,11 +66,12 @@ node() {
   wait "$node"
 }
 
-# The log of folder $1 begins with what it had before: all but its last byte, which the next entry changes.
+# The log of folder $1 begins with what it had before: all up to its closed gate, which the next entry opens.
 keep() { cp "$1/crsm-0.log" "$1/before"; }
 kept() {
   local most
-  most=$(($(stat -c %s "$1/before") - 1))
+  most=$(python3 -B -c 'import sys; sys.path.insert(0, "bench"); from nodes import closed_gate
+print(closed_gate(open(sys.argv[1], "rb").read()))' "$1/before")
   cmp -s -n "$most" "$1/before" "$1/crsm-0.log" || fail "$1: the log does not begin with what it held before"
 }
 

@@ -43,6 +43,8 @@ TOO_LONG = "its sheet is over 1 GiB, and is not replayed"
 POLL, LOOK_EVERY, DOWN_AFTER = 0.2, 1.0, 2.0
 SECOND = 1_000_000
 SILENT_AFTER, RATE_OVER, CLOCK_OVER = SECOND, 5, 10
+# A log entry's length field that names the cluster, and the length of that entry.
+CLUSTER_FIELD, CLUSTER_BYTES = 0x80000008, 8
 
 # Lines of a sheet: the reading of a turn, and a packet of a replica with the time that a frame of kind 3 carries.
 TURN = re.compile(rb"^(?:in|tick|suspect) (\d+)", re.MULTILINE)
@@ -275,11 +277,22 @@ class LocalNode(Node):
     def __init__(self, program: str, log: Path):
         number = int(log.stem.removeprefix("crsm-"))
         super().__init__(program, number, _began_with(log))
-        self._log = log
+        self._log, self._gate = log, 0
 
     def log_size(self) -> int | None:
-        """Returns the size of its log file."""
-        return self._log.stat().st_size if self._log.exists() else None
+        """Returns how long its log is, up to the closed gate: the file is longer, since zeros are written ahead."""
+        if not self._log.exists():
+            return None
+        with open(self._log, "rb") as log:
+            if self._gate > os.stat(self._log).st_size:
+                self._gate = 0
+            while True:
+                log.seek(self._gate)
+                head = log.read(5)
+                if len(head) < 5 or head[0] != 1:
+                    return self._gate + 1
+                length = int.from_bytes(head[1:], "big")
+                self._gate += 5 + (CLUSTER_BYTES if length == CLUSTER_FIELD else length)
 
     def _sheet(self) -> Path | None:
         """Returns the sheet that was written last."""

@@ -1,5 +1,5 @@
 -- The contracts of a disk's calls.
-use Rattle.std.specs.Prelude.{◌≡◌, ◌≤◌, ℕ, List, Option, Some, None, Result, OnErr, option_map}
+use Rattle.std.specs.Prelude.{◌≡◌, ◌≤◌, ℕ, List, Option, Some, None, Result, OnErr, OnOk, IfSome, IsTrue, option_map}
 use Rattle.crsm_base.specs.declared.memory.Failed.{Failed}
 use Rattle.crsm_base.specs.declared.memory.NoMemory.{NoMemory}
 use Rattle.crsm_port_faults.specs.Counts.{Rose}
@@ -20,6 +20,17 @@ pub record Answers {T : Type 0} (calls bytes : ℕ) (old new : Meaning) (result 
   pub later : old.faults ≤ new.faults
   pub failed : OnErr result (Rose old.faults new.faults)
   pub plan : Spends calls bytes old.plan new.plan result
+
+-- The byte at this offset, if it is one, was renewed. Nothing else changes, but the fault counter where it fails. An
+-- honest disk does not fail.
+pub record Renews {T : Type 0} (at : Option ℕ) (old new : Meaning) (result : Result T Failed) : Type 0 where
+  pub renewed : OnOk result (IfSome at (λ place. new.renewed ≡ Some place))
+  pub same : Same old new
+  pub fill : new.fill ≡ old.fill
+  pub plan : new.plan ≡ old.plan
+  pub later : old.faults ≤ new.faults
+  pub failed : OnErr result (Rose old.faults new.faults)
+  pub never : IsTrue old.honest → OnErr result ⊥
 
 -- memory is reserved, and nothing else changes
 pub record Reserves {T : Type 0} (calls bytes : ℕ) (old new : Meaning) (result : Result T NoMemory) : Type 0 where

@@ -15,6 +15,7 @@ memory_of d = record {
   faults = d.faults;
   room_calls = d.room_calls;
   room_bytes = d.room_bytes;
+  renewed = d.renewed;
 }
 
 -- the bytes are those that the recorded calls make, and memory for the reserve is allocated

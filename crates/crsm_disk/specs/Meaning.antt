@@ -20,6 +20,8 @@ pub record Meaning : Type 1 where
   -- the byte in the unsynced ranges of a stopped disk's image
   pub fill : Option ℕ
   pub faults : ℕ
+  -- the offset of the byte that was renewed last, if one was
+  pub renewed : Option ℕ
   -- the ghost name of the reference by which the disk is borrowed
   pub borrowed_as : Option ℕ
   -- the bytes that a read returns are one of the images

@@ -17,6 +17,7 @@ pub record Memory : Type 0 where
   pub faults : ℕ
   pub room_calls : ℕ
   pub room_bytes : ℕ
+  pub renewed : Option ℕ
 
 -- a disk with these bytes before any call: it fails at the listed calls, and stops after `stop`
 abbrev pub holding : List ℕ → List ℕ → Option ℕ → ℕ → Memory
@@ -29,6 +30,7 @@ holding first listed stop fill = record {
   faults = 0;
   room_calls = 0;
   room_bytes = 0;
+  renewed = None;
 }
 
 -- a disk without failing calls or a stop, with the bytes that a crash leaves where the fill is in all unsynced ranges
@@ -59,6 +61,7 @@ meaning_of m = record {
   plan = Some (record { calls = m.room_calls; bytes = m.room_bytes; good = good_left m });
   fill = Some m.fill;
   faults = m.faults;
+  renewed = m.renewed;
   borrowed_as = None;
   as_read = λ _. reads_image m.first m.calls;
   as_told = told_makes m.first m.calls;

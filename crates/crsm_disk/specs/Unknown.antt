@@ -1,11 +1,11 @@
--- A disk that specifies its fault counter and nothing else.
-use Rattle.std.specs.Prelude.{ℕ, [], false, None}
+-- A disk that specifies its fault counter and what it renewed, and nothing else.
+use Rattle.std.specs.Prelude.{ℕ, [], false, Option, None}
 use mathlib.Core.Bool.{false≢true}
 use Rattle.crsm_disk.specs.Meaning.{Meaning}
 use Rattle.crsm_port_image.proofs.Images.{not_told}
 
-abbrev pub unknown : ℕ → Meaning
-unknown faults = record {
+abbrev pub unknown : ℕ → Option ℕ → Meaning
+unknown faults renewed = record {
   seen = [];
   honest = false;
   may_leave = λ c. ⊥;
@@ -15,6 +15,7 @@ unknown faults = record {
   plan = None;
   fill = None;
   faults = faults;
+  renewed = renewed;
   borrowed_as = None;
   as_read = false≢true;
   as_told = not_told;

@@ -1,9 +1,9 @@
 //! The trait of a disk, with a contract of what a crash may leave.
 
-ghost use Rattle.std.specs.Prelude.{◌≡◌, ◌+◌, ◌-◌, ◌≤◌, length, take, IsTrue, IfOk, OnOk, is_ok, Some, if◌then◌else◌};
+ghost use Rattle.std.specs.Prelude.{◌≡◌, ◌+◌, ◌-◌, ◌≤◌, length, take, IsTrue, IfOk, OnOk, is_ok, Some, if◌then◌else◌, slice_index};
 ghost use Rattle.crsm_port_image.specs.Bytes.{overwritten, Torn, Shortened, ReadsAt};
 ghost use Rattle.crsm_port_image.specs.Calls.{wrote, cut, synced, noted};
-ghost use Rattle.crsm_disk.specs.Contract.{Answers, Arms, Goes, Reserves};
+ghost use Rattle.crsm_disk.specs.Contract.{Answers, Arms, Goes, Renews, Reserves};
 ghost use Rattle.crsm_disk.specs.Meaning.{Meaning, Only, Same};
 
 use crsm_base::{Failed, NoMemory};
@@ -49,6 +49,13 @@ pub trait Disk {
         ensures told { (meaning self.new).history ≡ (if is_ok result then noted synced (meaning self.old).history else (meaning self.old).history) }
         ensures answer { Answers 1 0 (meaning self.old) (meaning self.new) result };
 
+    /// Makes a byte last that a read returned at offset `at`, whatever became of earlier syncs. Where one failed, a system
+    /// may show bytes that the disk does not have and take them for written, so that later syncs succeed without them. On
+    /// an honest disk there are no such bytes, and this is no call that counts.
+    fn renew(&mut self, at: u64, byte: u8) -> Result<(), Failed>
+        requires { IsTrue (meaning self.old).honest → slice_index (meaning self.old).seen at ≡ byte }
+        ensures { Renews (Some at) (meaning self.old) (meaning self.new) result };
+
     /// Reserves memory for `calls` writes, cuts and syncs of `bytes` written bytes together, on a disk that keeps them.
     /// A write past the end also uses room for the gap. `NoMemory` if memory runs out.
     fn reserve(&mut self, calls: u64, bytes: u64) -> Result<(), NoMemory>
@@ -81,6 +88,10 @@ impl<D: Disk> Disk for &mut D {
 
     fn sync(&mut self) -> Result<(), Failed> {
         (**self).sync()
+    }
+
+    fn renew(&mut self, at: u64, byte: u8) -> Result<(), Failed> {
+        (**self).renew(at, byte)
     }
 
     fn reserve(&mut self, calls: u64, bytes: u64) -> Result<(), NoMemory> {

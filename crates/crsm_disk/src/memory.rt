@@ -30,6 +30,7 @@ pub struct MemDisk {
     faults: u64,
     room_calls: u64,
     room_bytes: u64,
+    renewed: Option<u64>,
 }
 
 impl Model for MemDisk {
@@ -67,6 +68,7 @@ impl MemDisk {
             faults: 0,
             room_calls: 0,
             room_bytes: 0,
+            renewed: None,
         })
     }
 
@@ -105,6 +107,7 @@ impl MemDisk {
             faults: 0,
             room_calls: 0,
             room_bytes: 0,
+            renewed: None,
         })
     }
 
@@ -125,6 +128,7 @@ impl MemDisk {
         disk.faults = 0;
         disk.room_calls = 0;
         disk.room_bytes = 0;
+        disk.renewed = None;
         Ok(disk)
     }
 
@@ -238,6 +242,11 @@ impl Disk for MemDisk {
         self.begin()?;
         self.take_room(0, 0)?;
         self.settle();
+        Ok(())
+    }
+
+    fn renew(&mut self, at: u64, _byte: u8) -> Result<(), Failed> {
+        self.renewed = Some(at);
         Ok(())
     }
 

@@ -7,3 +7,4 @@ mod Quiet
 mod Reading
 mod Runs
 mod Stops
+mod Unread

@@ -1,6 +1,6 @@
 -- The effect of a mount on a disk.
 use Rattle.std.proofs.Common.{◌≡◌, ◌≤◌, IsTrue, inl, inr, false, ℕ, ◌+◌, ◌-◌, ◌<◌, List, [], ◌∷◌, ◌++◌, length, get_or, drop, replicate, refl, sym, ◌∙◌, ap, subst, arith, length-drop}
-use Rattle.std.specs.Prelude.{Option, Some, None}
+use Rattle.std.specs.Prelude.{Option, Some, None, IfSome}
 use Rattle.std.proofs.lemmas.Bool.Decides.{nat_tests}
 use Rattle.crsm_log.specs.declared.entry.LogContents.{LogContents}
 use Rattle.crsm_log.specs.First.{ReadsFile, all_entries}
@@ -9,9 +9,9 @@ use Rattle.crsm_port_image.specs.Bytes.{Torn, overwritten}
 use Rattle.crsm_port_image.specs.Calls.{History, noted, synced, wrote}
 use Rattle.crsm_port_faults.specs.Failing.{one_less}
 use Rattle.crsm_port_faults.specs.Plan.{Plan, spent}
-use Rattle.crsm_disk.specs.Meaning.{Meaning, LeavesOnly, Only}
-use Rattle.crsm_disk.proofs.Moments.{joined, weaker}
-use Rattle.crsm_log.specs.Format.{bad, broken, found, reading, reading_in, bodies_in, cluster_among, cluster_of, entries_in, gate_in, items_of, size, whole}
+use Rattle.crsm_disk.specs.Meaning.{Meaning, LeavesOnly, Only, Same}
+use Rattle.crsm_disk.proofs.Moments.{joined, unchanged, weaker}
+use Rattle.crsm_log.specs.Format.{bad, broken, found, reading, reading_in, bodies_in, cluster_among, cluster_of, entries_in, entries_of, gate_in, items_of, last_gate, size, whole}
 use Rattle.crsm_log.specs.Log.{Fetches, Goes, IsAsBefore, IsSettled, Mounts, Serves, Used, less, mount_calls, mount_count, recorded}
 use Rattle.crsm_log.proofs.Puts.{whole_reading}
 use Rattle.crsm_log.proofs.Quiet.{noted_quiet, pair_quiet}
@@ -57,6 +57,28 @@ long_settles m bs end read place inside shut only before told = record {
   quiet = noted_quiet m.history before told;
 }
 
+-- a byte that was made to last changes nothing else
+module _ (k b : ℕ) (m0 m1 m2 : Meaning) (file : List ℕ) (same : Same m1 m2) where
+  pub fetched_on : Fetches k b m0 m1 file → m2.plan ≡ m1.plan → Fetches k b m0 m2 file
+  fetched_on fetch plan = record {
+    read = fetch.read;
+    seen = λ honest. same.seen ∙ fetch.seen honest;
+    durable = λ honest c now. fetch.durable honest c ((same.images c).0 now) ∙ sym same.seen;
+    history = same.history ∙ fetch.history;
+    plan = λ p is. let room = fetch.plan p is in (room.0, plan ∙ room.1, room.2, room.3, room.4);
+  }
+
+  pub gone_on : Goes m0 m1 → m2.fill ≡ m1.fill → m1.faults ≤ m2.faults → Goes m0 m2
+  gone_on goes fill later = record {
+    honest = same.honest ∙ goes.honest;
+    fill = fill ∙ goes.fill;
+    borrowed_as = same.borrowed_as ∙ goes.borrowed_as;
+    later = omega (arith, goes.later, later);
+  }
+
+  pub left_on : (IsTrue m0.honest → LeavesOnly m0 m1 (IsAsBefore m0)) → IsTrue m0.honest → LeavesOnly m0 m2 (IsAsBefore m0)
+  left_on moments honest = unchanged m0 m1 m2 (IsAsBefore m0) (moments honest) same
+
 -- a whole file of 6 bytes or more
 module _ (k b : ℕ) (m0 m1 : Meaning) (file : List ℕ) (held : LogContents) (long : 6 ≤ length file) (fetch : Fetches k b m0 m1 file) (r : ReadsFile file held) where
   all_of : items_of file ≡ all_entries false file
@@ -74,8 +96,8 @@ module _ (k b : ℕ) (m0 m1 : Meaning) (file : List ℕ) (held : LogContents) (l
   three : (l : List ℕ) → 6 ≤ length l → mount_count l ≡ 3
   three l le = grind (arith, nat_tests)
 
-  pub long_mounts : Goes m0 m1 → (IsTrue m0.honest → LeavesOnly m0 m1 (IsAsBefore m0)) → Mounts m0 m1 held.gate held.bodies
-  long_mounts goes moments = record {
+  pub long_mounts : Goes m0 m1 → (IsTrue m0.honest → LeavesOnly m0 m1 (IsAsBefore m0)) → IfSome held.last (λ at. m1.renewed ≡ Some at) → Mounts m0 m1 held.gate held.bodies
+  long_mounts goes moments renewed = record {
     goes = goes;
     settled = λ honest.
         let at : m1.seen ≡ file = fetch.seen honest ∙ sym (fetch.read honest) in
@@ -95,7 +117,15 @@ module _ (k b : ℕ) (m0 m1 : Meaning) (file : List ℕ) (held : LogContents) (l
         let room = fetch.plan p is in
         let U : ℕ → Type 0 = λ n. Used n p m1.plan in
         subst U (sym (three m0.seen (long_seen honest))) (record { served = room.3; left = (room.0, room.1, room.2) });
+    renewed = λ honest.
+        let R : Option ℕ → Type 0 = λ last. IfSome last (λ at. m1.renewed ≡ Some at) in
+        subst R (r.last ∙ ap (λ i. last_gate (entries_in i)) (sym (items_long file long)) ∙ ap (λ l. last_gate (entries_of l)) (fetch.read honest)) renewed;
   }
+
+  pub long_opened : IsTrue m0.honest → IfSome held.last (λ at. get_or m1.seen at 0 ≡ 1)
+  long_opened honest =
+      let O : List ℕ → Type 0 = λ l. IfSome held.last (λ at. get_or l at 0 ≡ 1) in
+      subst O (fetch.read honest ∙ sym (fetch.seen honest)) r.opened
 
   pub long_holds : IsTrue m0.honest → Holds m0 m1 held
   long_holds honest = record {
@@ -113,6 +143,12 @@ short_holds m0 m2 held short gate cluster = record {
   gate = ap (λ i. size (entries_in i)) (items_short m0.seen short) ∙ sym gate;
   unwritten = inr (gate, cluster);
 }
+
+-- a short file has no entry whose gate could be renewed
+pub short_renews : (m0 m2 : Meaning) → length m0.seen < 6 → IfSome (last_gate (entries_of m0.seen)) (λ at. m2.renewed ≡ Some at)
+short_renews m0 m2 short =
+    let R : Option ℕ → Type 0 = λ last. IfSome last (λ at. m2.renewed ≡ Some at) in
+    subst R (sym (ap (λ i. last_gate (entries_in i)) (items_short m0.seen short))) tt
 
 pub three_more : (good : Option ℕ) (k : ℕ) → Serves 3 good → less 3 good ≡ Some k → good ≡ Some (3 + k)
 three_more None k three is = absurd (cc)

@@ -1,12 +1,12 @@
 -- The invariant of a log, and the effect of its calls on its disk.
-use Rattle.std.specs.Prelude.{◌≡◌, ◌≢◌, ◌⊎◌, ℕ, ◌+◌, ◌<◌, ◌≤◌, ◌-◌, List, [], ◌∷◌, ◌++◌, length, take, Bool, true, false, IsTrue, Option, Some, None, slice_index, Result, OnOk, OnErr, if◌then◌else◌, nat_lt}
+use Rattle.std.specs.Prelude.{◌≡◌, ◌≢◌, ◌⊎◌, ℕ, ◌+◌, ◌<◌, ◌≤◌, ◌-◌, List, [], ◌∷◌, ◌++◌, length, take, Bool, true, false, IsTrue, Option, Some, None, slice_index, Result, OnOk, OnErr, IfSome, if◌then◌else◌, nat_lt}
 use Rattle.crsm_base.specs.declared.memory.Failed.{Failed}
 use Rattle.crsm_base.specs.declared.limits.TheConstants.{MAX_LOG_BYTES}
 use Rattle.crsm_port_faults.specs.Counts.{Rose}
 use Rattle.crsm_port_faults.specs.Plan.{Plan}
 use Rattle.crsm_port_image.specs.Calls.{Call, wrote, cut, synced, History, noted}
 use Rattle.crsm_disk.specs.Meaning.{LeavesOnly, Meaning, Only}
-use Rattle.crsm_log.specs.Format.{found, bad, reading, bodies_of, body_entry, cluster_of, gate_in, items_of, four_bytes, has_after, length_of, may_stand, whole, Entry, entries_of}
+use Rattle.crsm_log.specs.Format.{found, bad, reading, bodies_of, body_entry, cluster_of, gate_in, items_of, four_bytes, has_after, last_gate, length_of, may_stand, whole, Entry, entries_of}
 use Rattle.crsm_log.specs.declared.errors.MountError.{MountError}
 use Rattle.crsm_log.specs.declared.errors.MountError.TheVariants.{DiskFault, BadGate}
 
@@ -148,6 +148,8 @@ pub record Mounts (old new : Meaning) (end : ℕ) (bodies : List (List ℕ)) : T
   pub any_moment : IsTrue old.honest → LeavesOnly old new (IsAsBefore old)
   pub history : IsTrue old.honest → new.history ≡ recorded (mount_calls old.seen) old.history
   pub good : IsTrue old.honest → (p : Plan) → old.plan ≡ Some p → Used (mount_count old.seen) p new.plan
+  -- the gate of the last entry was written again, in case an earlier sync of it had failed
+  pub renewed : IsTrue old.honest → IfSome (last_gate (entries_of old.seen)) (λ at. new.renewed ≡ Some at)
 
 -- the disk is not mounted, for this reason
 pub record Refuses (old new : Meaning) (why : MountError) : Type 0 where

@@ -2,7 +2,7 @@
 use Rattle.std.specs.Prelude.{◌≡◌, ◌≢◌, ℕ, ◌<◌, List, [], ◌∷◌, ◌++◌, length, take, Some, IfSome, slice_index, nat_le, ◌==◌, ◌||◌, ◌&&◌, if◌then◌else◌}
 use Rattle.crsm_port_image.specs.Calls.{History, contents}
 use Rattle.crsm_port_image.specs.Image.{image_of}
-use Rattle.crsm_log.specs.Format.{reading, found, bodies_of, gate_in}
+use Rattle.crsm_log.specs.Format.{reading, found, bodies_of, cluster_of, gate_in, items_of}
 use Rattle.crsm_log.specs.Log.{recorded, put_calls}
 
 -- A body is kept if all four calls were made, or three and the fill is the byte of an open gate.
@@ -20,3 +20,10 @@ pub record IsWhole (file : List ℕ) (end : ℕ) : Type 0 where
   pub place : end ≡ gate_in file
   pub inside : end < length file
   pub shut : slice_index file end ≢ 1
+
+-- with these bytes behind it a file is read as without, and its closed gate is at this offset
+pub record ReadsWith (file behind : List ℕ) (end : ℕ) : Type 0 where
+  pub entries : items_of (file ++ behind) ≡ items_of file
+  pub bodies : reading (file ++ behind) ≡ reading file
+  pub cluster : cluster_of (file ++ behind) ≡ cluster_of file
+  pub whole : IsWhole (file ++ behind) end

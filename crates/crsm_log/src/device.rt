@@ -1,10 +1,11 @@
 //! The disk calls of a log.
 
-ghost use Rattle.std.specs.Prelude.{◌≡◌, ◌+◌, ◌-◌, ◌^◌, ◌<◌, ◌≤◌, ℕ, List, [], ◌∷◌, length, IsTrue, IfOk, IfErr, OnOk, IsErrOf, Some, None};
+ghost use Rattle.std.specs.Prelude.{◌≡◌, ◌+◌, ◌-◌, ◌^◌, ◌<◌, ◌≤◌, ℕ, List, [], ◌∷◌, length, IsTrue, IfOk, IfErr, IfSome, OnOk, IsErrOf, Some, None, slice_index};
 ghost use Rattle.crsm_port_image.specs.Bytes.{overwritten, Torn};
 ghost use Rattle.crsm_port_faults.specs.Counts.{Rose};
 ghost use Rattle.crsm_port_faults.specs.Plan.{Plan, spent};
 ghost use Rattle.crsm_port_image.specs.Calls.{wrote, synced};
+ghost use Rattle.crsm_disk.specs.Contract.{Renews};
 ghost use Rattle.crsm_disk.specs.Meaning.{LeavesOnly};
 ghost use Rattle.crsm_log.specs.Format.{Entry, body_entry, bodies_of, cluster_entry, cluster_of, entries_of};
 ghost use Rattle.crsm_log.specs.Claim.{Holds, IsClaimed, AddsCluster, WhereUnclaimed};
@@ -69,6 +70,18 @@ pub(crate) fn write_cluster<D: Disk>(disk: &mut D, gate: u64, cluster: u64) -> R
     write_entry(disk, gate, &cluster_entry_of(cluster))
 }
 
+// Makes the last open gate last. Where a sync of it failed, a read shows it open that is still closed on the disk; its
+// entry is there, and so are the gates before it, since each was synced before the next entry was written.
+fn renew_last<D: Disk>(disk: &mut D, last: Option<u64>) -> Result<(), Failed>
+    requires { IsTrue (D.meaning disk.old).honest → IfSome last (λ at. slice_index (D.meaning disk.old).seen at ≡ 1) }
+    ensures { Renews last (D.meaning disk.old) (D.meaning disk.new) result }
+{
+    match last {
+        Some(at) => disk.renew(at, 1),
+        None => Ok(()),
+    }
+}
+
 // Longer files are not read: no memory has room for them.
 const LONGEST: u64 = 1 << 62;
 
@@ -101,8 +114,8 @@ fn contents<D: Disk>(
     Ok(file)
 }
 
-// Reads what the disk holds. A file too short for an entry is given a closed gate. Of the room for writes and syncs and
-// their bytes that is reserved first, this uses at most three calls and one byte.
+// Reads what the disk holds, and makes the last open gate last. A file too short for an entry is given a closed gate. Of
+// the room for writes and syncs and their bytes that is reserved first, this uses at most three calls and one byte.
 pub(crate) fn read_log<D: Disk>(
     alloc: Global,
     disk: &mut D,
@@ -122,10 +135,12 @@ pub(crate) fn read_log<D: Disk>(
         write_and_sync(disk, 0, &[0])?;
         return Ok(LogContents {
             gate: 0,
+            last: None,
             bodies: Bodies::new(alloc),
             cluster: None,
         });
     }
     let held = read_entries(alloc, &file)?;
+    renew_last(disk, held.last)?;
     Ok(held)
 }

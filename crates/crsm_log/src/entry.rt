@@ -172,10 +172,12 @@ fn at_gate(has_one: bool, bytes: &[u8]) -> First<'_>
     }
 }
 
-/// The content of a file: the offset of its closed gate, the bodies before it, and the cluster that it names.
+/// The content of a file: the offsets of its closed gate and of the last open one, the bodies before it, and the cluster
+/// that it names.
 #[derive(Drop)]
 pub(crate) struct LogContents {
     pub gate: u64,
+    pub last: Option<u64>,
     pub bodies: Bodies,
     pub cluster: Option<u64>,
 }
@@ -189,6 +191,7 @@ pub(crate) fn read_entries(alloc: Global, file: &[u8]) -> Result<LogContents, Mo
     let mut bodies = Bodies::with_room(alloc, file.len())?;
     let mut cluster: Option<u64> = None;
     let mut gate = 0u64;
+    let mut last: Option<u64> = None;
     let mut entry = 0u64;
     let mut bytes = file;
     'entries: loop {
@@ -196,6 +199,7 @@ pub(crate) fn read_entries(alloc: Global, file: &[u8]) -> Result<LogContents, Mo
             First::Closed => {
                 return Ok(LogContents {
                     gate,
+                    last,
                     bodies,
                     cluster,
                 });
@@ -212,6 +216,7 @@ pub(crate) fn read_entries(alloc: Global, file: &[u8]) -> Result<LogContents, Mo
                     bodies.push(content)?;
                     entry += 1;
                 }
+                last = Some(gate);
                 gate += 5 + content.len() as u64;
                 bytes = rest;
             }

@@ -106,6 +106,25 @@ fn file_lasts(rt: HostRuntime) -> Result<(), Fail> {
     Ok(())
 }
 
+// Writes a first byte, and then two behind it, of which one is renewed.
+fn write_ahead(rt: &impl Abort, disk: &mut FileDisk) -> Result<(), Fail> {
+    disk.write_at(0, &[7])?;
+    assert_eq!(rt; disk.len(), Ok(1));
+    disk.write_at(1, &[8, 9])?;
+    disk.sync()?;
+    disk.renew(2, 9)?;
+    assert_eq!(rt; disk.len(), Ok(1 << 22));
+    Ok(())
+}
+
+#[test]
+fn zeros_stand_ahead(rt: HostRuntime) -> Result<(), Fail> {
+    let mut disk = FileDisk::open(&rt, "ahead")?;
+    write_ahead(&rt, &mut disk)?;
+    assert!(rt; reads(rt.alloc(), disk, &[7, 8, 9, 0, 0, 0, 0, 0])?);
+    Ok(())
+}
+
 #[test]
 fn file_has_one_disk(rt: HostRuntime) -> Result<(), Fail> {
     let first = FileDisk::open(&rt, "locked")?;

@@ -8,7 +8,7 @@ use Rattle.crsm_log.specs.First.{ReadsFile}
 use Rattle.crsm_log.specs.Format.{cluster_among, entries_in, reading_in, size}
 use Rattle.crsm_log.proofs.Crash.{items_short}
 use Rattle.crsm_log.specs.declared.errors.MountError.TheVariants.{DiskFault, BadGate}
-use Rattle.crsm_log.proofs.Mounts.{long_holds, long_mounts, short_holds, short_leaves, short_settles, three_more, used_five}
+use Rattle.crsm_log.proofs.Mounts.{fetched_on, gone_on, left_on, long_holds, long_mounts, long_opened, short_holds, short_leaves, short_renews, short_settles, three_more, used_five}
 use Rattle.crsm_log.proofs.device.read_log.Goals as goal
 
 not_bad : (entry : ℕ) → DiskFault ≡ BadGate entry → ⊥
@@ -75,6 +75,7 @@ returns-then-len-lt6-clause-ok g c =
       cluster = λ honest. ap (λ i. cluster_among (entries_in i)) ((settles honest).1 ∙ sym (items_short m0.seen (short honest)));
       gate = λ honest. sym (ap (λ i. size (entries_in i)) (items_short m0.seen (short honest)));
       any_moment = λ honest. short_leaves m0 m1 m2 (short honest) (fetch.seen honest) (c.contents.ensures.any_moment honest) (c.write_and_sync.ensures.any_moment (h1 honest) (fetch.durable honest));
+      renewed = λ honest. short_renews m0 m2 (short honest);
       history = λ honest.
           ran.history ∙ ap (recorded (wrote 0 (0 ∷ []) ∷ synced ∷ [])) fetch.history
           ∙ ap (λ calls. recorded calls m0.history) (sym (short_calls m0.seen (short honest)));
@@ -95,17 +96,38 @@ returns-then-len-lt6-clause-room g c p is =
     let room = c.in_ok-file.ensures.ok.plan p is in
     (_, c.in_ok-write_and_sync.ensures.plan room.0 room.1, (omega (arith, room.4.0), omega (arith, room.4.1)))
 
+pub renew_last-requires : goal.renew_last-requires
+renew_last-requires g c honest =
+    let R : List ℕ → Type 0 = λ file. ReadsFile file c.in_ok-held.held in
+    long_opened _ _ _ _ c.in_ok-file.file.items c.in_ok-held.held (omega (arith, c.len.ensures, c.if-len-lt6.false)) c.in_ok-file.ensures.ok (subst R c.deref.ensures.value c.in_ok-held.ensures.read) (sym c.contents.ensures.goes.honest ∙ honest)
+
+pub returns-in_err-renew_last-clause-err : goal.returns-in_err-renew_last-clause-err
+returns-in_err-renew_last-clause-err g c =
+    let p = err_from_is_err_and c.from_residual-in_err-renew_last.result c.from_residual-in_err-renew_last.ensures.1 in
+    let renewed = c.in_err-renew_last.ensures in
+    rw (p.1, p.2) (record {
+      goes = gone_on 0 0 _ _ _ [] renewed.same c.contents.ensures.goes renewed.fill renewed.later;
+      any_moment = left_on 0 0 _ _ _ [] renewed.same c.contents.ensures.any_moment;
+      fault = λ _. omega (arith, renewed.failed, c.contents.ensures.goes.later);
+      unwritten = λ honest other. absurd (other refl);
+      bad_gate = λ honest entry is. absurd (not_bad entry is);
+      good = λ honest _. absurd (renewed.never (c.contents.ensures.goes.honest ∙ honest));
+      served = λ entry is p told. absurd (not_bad entry is);
+    })
+
 pub returns-clause-ok : goal.returns-clause-ok
 returns-clause-ok g c =
     let R : List ℕ → Type 0 = λ file. ReadsFile file c.in_ok-held.held in
-    long_mounts _ _ _ _ c.in_ok-file.file.items c.in_ok-held.held (omega (arith, c.len.ensures, c.if-len-lt6.false)) c.in_ok-file.ensures.ok (subst R c.deref.ensures.value c.in_ok-held.ensures.read) c.contents.ensures.goes c.contents.ensures.any_moment
+    let renewed = c.in_ok-renew_last.ensures in
+    long_mounts _ _ _ _ c.in_ok-file.file.items c.in_ok-held.held (omega (arith, c.len.ensures, c.if-len-lt6.false)) (fetched_on _ _ _ _ _ _ renewed.same c.in_ok-file.ensures.ok renewed.plan) (subst R c.deref.ensures.value c.in_ok-held.ensures.read) (gone_on 0 0 _ _ _ [] renewed.same c.contents.ensures.goes renewed.fill renewed.later) (left_on 0 0 _ _ _ [] renewed.same c.contents.ensures.any_moment) renewed.renewed
 
 pub returns-clause-holds : goal.returns-clause-holds
 returns-clause-holds g c honest =
     let R : List ℕ → Type 0 = λ file. ReadsFile file c.in_ok-held.held in
-    long_holds _ _ _ _ c.in_ok-file.file.items c.in_ok-held.held (omega (arith, c.len.ensures, c.if-len-lt6.false)) c.in_ok-file.ensures.ok (subst R c.deref.ensures.value c.in_ok-held.ensures.read) honest
+    let renewed = c.in_ok-renew_last.ensures in
+    long_holds _ _ _ _ c.in_ok-file.file.items c.in_ok-held.held (omega (arith, c.len.ensures, c.if-len-lt6.false)) (fetched_on _ _ _ _ _ _ renewed.same c.in_ok-file.ensures.ok renewed.plan) (subst R c.deref.ensures.value c.in_ok-held.ensures.read) honest
 
 pub returns-clause-room : goal.returns-clause-room
 returns-clause-room g c p is =
     let room = c.in_ok-file.ensures.ok.plan p is in
-    (room.0, room.1, (omega (arith, room.4.0), omega (arith, room.4.1)))
+    (room.0, c.in_ok-renew_last.ensures.plan ∙ room.1, (omega (arith, room.4.0), omega (arith, room.4.1)))
