@@ -131,7 +131,7 @@ impl Journal {
     fn note_epoch(&mut self, state: &Ledger) {
         let epoch = state.known().epoch;
         let is_live = state.live();
-        if epoch == self.epoch && is_live == self.is_live {
+        if epoch == self.epoch && is_live == self.is_live && self.since.is_some() {
             return;
         }
         let (members, spec) = replicas_of(state.known(), state.counted().as_slice());
@@ -141,7 +141,9 @@ impl Journal {
                 members,
                 spec,
             }));
-        } else if !members.has(self.me) {
+        } else if members.has(self.me) {
+            self.say(Some(Line::Waits { epoch }));
+        } else {
             self.say(Some(Line::Outside {
                 epoch,
                 members,

@@ -28,6 +28,10 @@ pub enum Line {
         members: Replicas,
         spec: Replicas,
     },
+    /// The node is a member of this epoch and has not entered it since it was started: the others take it in.
+    Waits {
+        epoch: u64,
+    },
     /// The node suspects members that it has not heard for 5 s, and asks for an epoch of the others.
     Suspects {
         suspected: Replicas,
@@ -86,6 +90,7 @@ impl Line {
     pub fn level(&self) -> Level {
         match self {
             Line::Entered { .. }
+            | Line::Waits { .. }
             | Line::Heard { .. }
             | Line::Transferred { .. }
             | Line::State { .. } => Level::Info,
@@ -147,6 +152,7 @@ impl Display for Line {
                 f,
                 "takes no part in epoch {epoch} with members {members} of {spec}"
             ),
+            Line::Waits { epoch } => write!(f, "waits to be taken in, and knows epoch {epoch}"),
             Line::Suspects {
                 suspected,
                 remaining,
@@ -174,7 +180,8 @@ impl Display for Line {
             ),
             Line::Refused { count, time, last } => write!(
                 f,
-                "refused {count} requests in {}, the last with {}",
+                "refused {count} {} in {}, the last with {}",
+                if count == 1 { "request" } else { "requests" },
                 Seconds(time),
                 reason(last)
             ),
