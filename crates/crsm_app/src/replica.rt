@@ -1,13 +1,16 @@
-//! A replica over a socket and a log file, and its messages on standard error: a line once it is booted, and a line why
-//! it ends.
+//! A replica over a socket and a log file, and its messages on standard error: a line once it is booted, one for each
+//! thing that an operator wants to know, and one why it ends.
 
 use crate::devices::{NoDevice, socket_at, status_over};
 use crate::status::Status;
 use crate::streams::stream_into;
 use crsm_clock::SystemClock;
 use crsm_disk::FileDisk;
+use crsm_ledger::Ledger;
 use crsm_node::{BootReport, Reporter};
 use crsm_port_node::{PacedPort, PeerPort};
+use crsm_replica_journal::{Journal, Line};
+use crsm_shell::TurnResult;
 use crsm_text_words::{NodeTask, Order, Task, read_words};
 use std::alloc::Global;
 use std::fmt::{self, Display, Formatter, Write};
@@ -54,6 +57,7 @@ impl Display for StartLine {
             bodies,
             epoch,
             executed,
+            bytes: _,
         } = held;
         write!(
             f,
@@ -75,17 +79,70 @@ impl<Why: Display> Display for Ended<Why> {
     }
 }
 
-/// Writes the content of a log to standard error. If that fails, nothing is written.
+/// A line on standard error of a replica that runs.
+#[derive(Clone, Copy)]
+struct JournalLine {
+    place: NodeIdentity,
+    line: Line,
+}
+
+impl Display for JournalLine {
+    fn fmt<W: Write>(&self, f: &mut Formatter<W>) -> fmt::Result {
+        write!(f, "{}: {}: {}", self.place, self.line.level(), self.line)
+    }
+}
+
+/// Writes the content of a log, and the lines of the node's journal, to standard error. What fails is not written.
 #[derive(Drop)]
 struct StderrReporter<'a, R> {
     rt: &'a R,
     place: NodeIdentity,
+    /// None before the boot.
+    journal: Option<Journal>,
 }
 
-impl<R: Eprint> Reporter for StderrReporter<'_, R> {
+impl<R: Eprint> StderrReporter<'_, R> {
+    /// Writes the lines that the journal has made.
+    fn write(&mut self) {
+        let Some(journal) = &mut self.journal else {
+            return;
+        };
+        if journal.lines().is_empty() {
+            return;
+        }
+        for line in journal.lines() {
+            let (place, line) = (self.place, *line);
+            let _ = self.rt.eprintln(JournalLine { place, line });
+        }
+        journal.clear();
+    }
+}
+
+impl<R: AllocGlobal + Eprint> Reporter for StderrReporter<'_, R> {
     fn booted(&mut self, held: BootReport) {
         let place = self.place;
         let _ = self.rt.eprintln(StartLine { place, held });
+        self.journal = Some(Journal::new(
+            self.rt.alloc(),
+            place.me,
+            held.bytes,
+            held.epoch,
+            held.executed,
+        ));
+    }
+
+    fn turned(&mut self, turn: &TurnResult, datagram: &[u8], state: &Ledger) {
+        if let Some(journal) = &mut self.journal {
+            journal.turned(turn, datagram, state);
+        }
+        self.write();
+    }
+
+    fn kept(&mut self) {
+        if let Some(journal) = &mut self.journal {
+            journal.kept();
+        }
+        self.write();
     }
 }
 
@@ -140,8 +197,12 @@ fn run_at<R: AllocGlobal + Clock + Eprint + Files<File = File> + Input + Net + P
         return Ok(Status::NoMemory);
     };
     let mut port = PeerPort::new(paced, peers);
-    let mut voice = StderrReporter { rt, place };
-    Ok(status_over(rt, words, &mut port, &mut disk, &mut voice))
+    let mut reporter = StderrReporter {
+        rt,
+        place,
+        journal: None,
+    };
+    Ok(status_over(rt, words, &mut port, &mut disk, &mut reporter))
 }
 
 /// Runs the replica of the words, writes to standard error why it ends, and returns its status. If standard error goes

@@ -8,17 +8,19 @@ ghost use Rattle.crsm_node.specs.Steps.{KeepsGroup};
 
 use crate::errors::NodeError;
 use crate::pending::PendingTurns;
+use crate::report::Reporter;
 use crsm_disk::Disk;
 use crsm_io::{Sink, put_all};
 use crsm_port::Port;
 use crsm_shell::Shell;
 
 /// Makes the pending turns durable, sends their datagrams, and then writes their lines.
-pub(crate) fn keep_group<P: Port, D: Disk, O: Sink>(
+pub(crate) fn keep_group<P: Port, D: Disk, O: Sink, R: Reporter>(
     shell: &mut Shell<D>,
     port: &mut P,
     sheet: &mut O,
     pending: &mut PendingTurns,
+    reporter: &mut R,
 ) -> Result<(), NodeError>
     ensures keeps { WhereStands D.meaning shell.old (λ kept r steps.
         KeepsGroup D.meaning shell.old shell.new (P.meaning port.old) (P.meaning port.new) (O.written sheet.old) (O.written sheet.new) (O.faults sheet.old) (O.faults sheet.new) pending.old.lines r steps result) }
@@ -30,6 +32,7 @@ pub(crate) fn keep_group<P: Port, D: Disk, O: Sink>(
     ensures had_failed { IsErrOf result NodeError.Failed → has_failed shell.old ≡ true }
 {
     shell.flush(port)?;
+    reporter.kept();
     let written = put_all(sheet, pending.lines.as_slice());
     pending.clear();
     match written {

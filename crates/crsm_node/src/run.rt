@@ -23,7 +23,7 @@ use std::alloc::Global;
 
 /// Runs a node: claims its log for the cluster, boots the replica on it, writes the first lines of the sheet, and takes
 /// all turns. Datagrams use the port of the cluster. The reporter receives the content of the log once the replica is
-/// booted. Returns how the run ended.
+/// booted, and then what each turn comes to. Returns how the run ended.
 pub fn run_node<P: Port, D: Disk, C: Clock, O: Sink, R: Reporter>(
     alloc: Global,
     order: &NodeOrder,
@@ -73,7 +73,9 @@ fn run_over<P: Port, D: Disk, C: Clock, O: Sink, R: Reporter>(
                 size: _,
             } = booted;
             reporter.booted(held_in(&bodies, &shell));
-            let ended = run_shell(alloc, order, &bodies, &mut shell, port, clock, sheet);
+            let ended = run_shell(
+                alloc, order, &bodies, &mut shell, port, clock, sheet, reporter,
+            );
             let _disk = shell.into_disk();
             end_of(ended)
         }
@@ -91,7 +93,7 @@ fn end_of(ended: Result<(), NodeError>) -> NodeEnd
 }
 
 /// Writes the first lines of the sheet, and takes all turns.
-fn run_shell<P: Port, D: Disk, C: Clock, O: Sink>(
+fn run_shell<P: Port, D: Disk, C: Clock, O: Sink, R: Reporter>(
     alloc: Global,
     order: &NodeOrder,
     bodies: &Bodies,
@@ -99,11 +101,21 @@ fn run_shell<P: Port, D: Disk, C: Clock, O: Sink>(
     port: &mut P,
     clock: &mut C,
     sheet: &mut O,
+    reporter: &mut R,
 ) -> Result<(), NodeError>
     ensures { (r : Replica) → ShellStands shell.old (D.meaning (disk_of shell.old)) r.log r [] → order.now.me ≡ r.me →
         RunsShell D.meaning P.meaning C.readings O.written O.faults shell.old shell.new port.old port.new clock.old clock.new sheet.old sheet.new bodies.now r order.now.turns result }
 {
     write_opening(alloc, bodies, sheet)?;
     let mut detector = Detector::new(order.me);
-    serve(alloc, shell, &mut detector, clock, port, sheet, order.turns)
+    serve(
+        alloc,
+        shell,
+        &mut detector,
+        clock,
+        port,
+        sheet,
+        reporter,
+        order.turns,
+    )
 }

@@ -8,6 +8,7 @@ ghost use Rattle.crsm_node.specs.Serving.{Serves};
 use crate::errors::NodeError;
 use crate::keep::keep_group;
 use crate::pending::PendingTurns;
+use crate::report::Reporter;
 use crate::take::{MOST_PENDING, take_turn};
 use crsm_clock::Clock;
 use crsm_disk::Disk;
@@ -19,19 +20,21 @@ use std::alloc::Global;
 
 /// Takes `turns` turns, each with the input that the detector wants, and flushes them in groups: a group ends with a
 /// turn that took no datagram, with 32 turns, or with the last turn. Once a group is durable its datagrams are sent,
-/// and then its lines are written. No step may be pending at the call, and the detector is that of the same replica.
+/// and then its lines are written. The reporter receives each turn, and each group once it is durable. No step may be
+/// pending at the call, and the detector is that of the same replica.
 ///
 /// # Errors
 /// After `PortFault` and `WriteFault` the shell and the detector can continue: all turns taken are durable. After the
 /// others the turns of the last group are lost, except after `DiskFault`, which leaves all of them or none, and none of
 /// their datagrams was sent. `Failed` if the shell had failed before; nothing is done then.
-pub fn serve<C: Clock, P: Port, D: Disk, O: Sink>(
+pub fn serve<C: Clock, P: Port, D: Disk, O: Sink, R: Reporter>(
     alloc: Global,
     shell: &mut Shell<D>,
     detector: &mut Detector,
     clock: &mut C,
     port: &mut P,
     sheet: &mut O,
+    reporter: &mut R,
     turns: u64,
 ) -> Result<(), NodeError>
     // What it took, made durable, sent and wrote, for the replica that it stands for with no step pending.
@@ -48,16 +51,16 @@ pub fn serve<C: Clock, P: Port, D: Disk, O: Sink>(
     }
     let mut pending = PendingTurns::new(alloc);
     for turn in 0..turns {
-        match take_turn(shell, detector, clock, port, &mut pending) {
+        match take_turn(shell, detector, clock, port, &mut pending, reporter) {
             Ok(took_datagram) => {
                 let left = turns - turn - 1;
                 if ends_group(took_datagram, left, shell.pending()) {
-                    keep_group(shell, port, sheet, &mut pending)?;
+                    keep_group(shell, port, sheet, &mut pending, reporter)?;
                 }
             }
             Err(why) => {
                 if why.is_port_fault() && shell.pending() > 0 {
-                    keep_group(shell, port, sheet, &mut pending)?;
+                    keep_group(shell, port, sheet, &mut pending, reporter)?;
                 }
                 return Err(why);
             }

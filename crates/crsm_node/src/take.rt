@@ -16,6 +16,7 @@ ghost use Rattle.crsm_node.specs.Steps.{FailsToTake, TakesTurn};
 
 use crate::errors::NodeError;
 use crate::pending::PendingTurns;
+use crate::report::Reporter;
 use crsm_base::never;
 use crsm_clock::Clock;
 use crsm_disk::Disk;
@@ -26,14 +27,15 @@ use crsm_shell::{ReceivedInput, Shell, TurnResult, WantedInput};
 /// Maximum number of turns in a group.
 pub(crate) const MOST_PENDING: u32 = 32;
 
-/// Takes the turn that the detector wants, and appends its line to those of the pending turns. Returns whether it took
-/// a datagram.
-pub(crate) fn take_turn<C: Clock, P: Port, D: Disk>(
+/// Takes the turn that the detector wants, reports it, and appends its line to those of the pending turns. Returns
+/// whether it took a datagram.
+pub(crate) fn take_turn<C: Clock, P: Port, D: Disk, R: Reporter>(
     shell: &mut Shell<D>,
     detector: &mut Detector,
     clock: &mut C,
     port: &mut P,
     pending: &mut PendingTurns,
+    reporter: &mut R,
 ) -> Result<bool, NodeError>
     ensures took { WhereStands D.meaning shell.old (λ kept r steps. WhereWatches detector.old (λ me w. me ≡ r.me → IfOk result (λ is_datagram.
         TakesTurn shell.new (D.meaning (disk_of shell.new)) detector.new (C.readings clock.old) (C.readings clock.new) (P.meaning port.old) (P.meaning port.new) pending.old.lines pending.new.lines is_datagram kept r steps w))) }
@@ -56,8 +58,21 @@ pub(crate) fn take_turn<C: Clock, P: Port, D: Disk>(
     let turned = shell.take(what, clock, port)?;
     note(detector, &turned);
     let took_datagram = is_datagram(&turned.taken);
+    reporter.turned(
+        &turned,
+        datagram_in(&turned.taken, shell.buffer()),
+        shell.state(),
+    );
     pending.add(turned, shell.buffer())?;
     Ok(took_datagram)
+}
+
+/// Returns the bytes of the datagram that was taken, a prefix of the buffer, or none.
+fn datagram_in<'a>(taken: &ReceivedInput, buffer: &'a [u8]) -> &'a [u8] {
+    match taken {
+        ReceivedInput::Datagram { len, .. } if *len <= buffer.len() => &buffer[..*len],
+        _ => &[],
+    }
 }
 
 /// Asks the port not to wait if others wait for pending records, which are to be flushed as soon as no datagram has

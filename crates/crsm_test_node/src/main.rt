@@ -1,7 +1,7 @@
 //! Reads tables from the standard input, and writes what nodes, clients and their ports make of their lines.
 //!
 //! A line `table NAME` names the table of the lines behind it, up to the next such line, and is written through. The
-//! module of a table says what its lines are: `boot`, `node`, `detector`, `client`, `peer_port` and `paced_port`.
+//! module of a table says what its lines are: `boot`, `node`, `journal`, `detector`, `client`, `peer_port` and `paced_port`.
 #![tactic(auto)]
 
 mod boot;
@@ -10,6 +10,7 @@ mod detector;
 mod devices;
 mod disks;
 mod fault;
+mod journal;
 mod lock;
 mod node;
 mod paced_port;
@@ -33,6 +34,7 @@ fn push_table(alloc: Global, name: &str, lines: &str, out: &mut Bytes) -> Result
     match name {
         "boot" => boot::push_all(alloc, lines, out),
         "node" => node::push_all(alloc, lines, out),
+        "journal" => journal::push_all(alloc, lines, out),
         "detector" => detector::push_all(alloc, lines, out),
         "client" => client::push_all(alloc, lines, out),
         "peer_port" => peer_port::push_all(alloc, lines, out),
