@@ -83,6 +83,28 @@ class CommandsTest(ClusterTest):
         self.assertEqual(self.store.rows, {b"a": b"\xff\n\0", b"\xff\0": b"\1\3", b"-x": b"-y"})
         self.check(["put", "d", "1"], 1, err="full")
 
+    def test_load(self):
+        dump = b"bodies 3\nepoch 0\nkey 61 62\nkey 63 empty\nclient 7 2 done\n"
+        self.check(["load", "--clients", "2"], 0, b"2 keys put, 0 there already, 0 with another value\n", given=dump)
+        self.assertEqual(self.store.rows, {b"a": b"b", b"c": b""})
+        self.store.rows = {b"a": b"b", b"c": b"x"}
+        self.check(["load"], 1, b"0 keys put, 1 there already, 1 with another value\n", "another value: 63", given=dump)
+        self.check(["load", "--replace"], 0, b"1 keys put, 1 there already, 0 with another value\n", given=dump)
+        self.check(["load"], 2, err="line 2 is none of a dump", given=b"key 61 62\nkey 6 62\n")
+        self.check(["load"], 2, err="line 1 is none of a dump", given=b"key 61 62")
+
+    def test_operate(self):
+        host, port = self.dead().getsockname()
+        here = f"{self.served.address[0]}:{self.served.address[1]},{host}:{port}"
+        self.check(["operate", "0,1", "--nodes", here], 2, err="node 1 has not answered (--sure asks all the same)")
+        self.check(["operate", "1,2", "--nodes", here], 2, err="node 2 has no address; node 1 has not answered; of the nodes 0")
+        self.check(["operate", "0,x", "--nodes", here], 2, err="not numbers")
+        self.assertEqual([data for data in self.served.taken if data[0] == 6], [])
+        self.check(["operate", "0", "--nodes", here], 0)
+        self.check(["operate", "0,1", "--sure", "--timeout", "0.5", "--nodes", here], 9, err="node 1: it has not answered")
+        asked = [data for data in self.served.taken if data[0] == 6]
+        self.assertEqual(asked, [b"\x06\1\0"] * 2 + [b"\x06\2\0\1"] * 2)
+
     def test_wrong_words(self):
         for words in (
             [],

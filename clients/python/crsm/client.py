@@ -172,6 +172,12 @@ class Client:
         if seen:
             raise NotMembers(seen)
 
+    def look(self, timeout: float = 1.0) -> dict[int, str | None]:
+        """Gets a key at each node alone, for `timeout` seconds at most, and returns why each has not answered, in words,
+        or None where it has: that one takes part in the cluster."""
+        nodes = range(len(self._session.nodes))
+        return {number: self._why_silent(number, time.monotonic() + timeout) for number in nodes}
+
     def request_members(self, members: Iterable[int], *, via: int | None = None, sure: bool = False) -> None:
         """Asks the replica `via`, by default the first of the members that has an address here, to change the cluster's
         members to these numbers. Nothing confirms it: one datagram is sent, which may be lost and has no reply.

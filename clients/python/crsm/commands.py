@@ -12,7 +12,8 @@ from pathlib import Path
 from types import FrameType
 
 from .client import Client, Lock
-from .errors import CrsmError, InUse, LockLost, NoAnswer, Refused
+from .errors import CrsmError, InUse, LockLost, NoAnswer, NotMembers, Refused
+from .exchange import doubts
 from .locks import Terms
 from .numbers import KeptNumbers
 
@@ -90,6 +91,8 @@ def _reader() -> argparse.ArgumentParser:
     add(delete, "removes a key").add_argument("key")
     _add_cas(add(cas, "sets a key where it has an expected value"))
     _add_lock(add(lock, "holds a lock while a command runs, whose environment has the fence as CRSM_FENCE"))
+    _add_load(add(load, "puts the keys of a dump into the cluster, and compares: crsm dump ME N < LOG | .. load"))
+    _add_operate(add(operate, "asks for these members, twice, and waits until each of them answers"))
     _add_bench(add(bench, "measures commands a second; it puts keys bench-0, bench-1, .. and deletes them"))
     return reader
 
@@ -129,6 +132,17 @@ def _add_lock(to: argparse.ArgumentParser) -> None:
     to.add_argument("--wait", metavar="S", type=float, help="seconds to wait while another holds it; no end by default")
     text = "takes it from the holder who has this fence, and is known to be gone"
     to.add_argument("--break", dest="fence", metavar="FENCE", type=int, help=text)
+
+
+def _add_load(to: argparse.ArgumentParser) -> None:
+    to.add_argument("--clients", metavar="N", type=int, default=8, help="clients at a time; 8")
+    to.add_argument("--replace", action="store_true", help="keys that have another value get the dump's, too")
+
+
+def _add_operate(to: argparse.ArgumentParser) -> None:
+    to.add_argument("members", help="the numbers of the nodes that are to take part, as 0,1,3")
+    to.add_argument("--via", metavar="NODE", type=int, help="the node that is asked; by default the first that takes part")
+    to.add_argument("--sure", action="store_true", help="where some of them do not answer, or no majority stays")
 
 
 def _add_bench(to: argparse.ArgumentParser) -> None:
@@ -215,6 +229,40 @@ def lock(words: argparse.Namespace) -> int:
             raise
         given = _give(held)
         return status or given
+
+
+def load(words: argparse.Namespace) -> int:
+    """Puts the keys of a dump that standard input has, compares, and writes what that came to."""
+    if words.clients < 1:
+        raise Failed(Status.USAGE, "load: one client at least")
+    # (not at the head of the file: the other commands start in half the time without asyncio)
+    from .load import keys_of, put_all
+
+    keys = keys_of(sys.stdin.buffer)
+    with contextlib.ExitStack() as files:
+        numbers = [files.enter_context(_numbers(words)) for _ in range(words.clients)]
+        nodes, timeout = words.nodes.split(","), words.timeout or None
+        loaded = put_all(nodes, numbers, keys, replaces=words.replace, cluster=words.cluster, timeout=timeout)
+    _write(f"{loaded}\n".encode())
+    for key in loaded.differing:
+        _say(Status.NO, f"another value: {key.hex()}")
+    return Status.NO if loaded.differing else Status.OK
+
+
+def operate(words: argparse.Namespace) -> int:
+    """Changes the members, after a look at the nodes."""
+    try:
+        members = [int(word) for word in words.members.split(",")]
+    except ValueError:
+        raise Failed(Status.USAGE, f"not numbers: {words.members}") from None
+    with _client(words) as store:
+        seen = store.look()
+        why = doubts(members, seen)
+        if why and not words.sure:
+            raise Failed(Status.USAGE, f"{'; '.join(why)} (--sure asks all the same)")
+        via = next((node for node, reason in seen.items() if reason is None), None) if words.via is None else words.via
+        store.reconfigure(members, via=via, sure=True, timeout=2 * words.timeout or 3600.0)
+    return Status.OK
 
 
 def bench(words: argparse.Namespace) -> int:
@@ -344,7 +392,7 @@ def main(arguments: Sequence[str]) -> int:
         return words.run(words)
     except Failed as failed:
         return _say(failed.status, str(failed))
-    except (NoAnswer, Refused) as error:
+    except (NoAnswer, NotMembers, Refused) as error:
         return _say(Status.NO_ANSWER, str(error))
     except CrsmError as error:
         return _say(Status.NO, str(error))

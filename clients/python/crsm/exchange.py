@@ -169,6 +169,29 @@ class Session:
         return self.mark + request, self.nodes[to]
 
 
+# What is said of a node that has sent nothing.
+SILENT = "it has not answered"
+
+
 def why_silent(exchange: Exchange) -> str:
     """Returns why a node has not answered a probe, in words."""
-    return REFUSALS[exchange.code] if exchange.code else "it has not answered"
+    return REFUSALS[exchange.code] if exchange.code else SILENT
+
+
+def doubts(members: Iterable[int], seen: dict[int, str | None]) -> list[str]:
+    """Returns why these members may not be what is meant, by what was seen of each node (`Client.look`): they stop the
+    cluster until they are there, and what it holds is lost if too few of them were there before."""
+    chosen = sorted(set(members))
+    found = [f"node {number} has no address" for number in chosen if number not in seen]
+    found += [f"node {number} has not answered" for number in chosen if seen.get(number) == SILENT]
+    today = [number for number, why in seen.items() if why is None]
+    stay = [number for number in today if number in chosen]
+    if not today:
+        found.append("no node takes part in the cluster at the moment")
+    elif 2 * len(stay) <= len(today):
+        found.append(f"of the nodes {_listed(today)} that take part no majority is among them")
+    return found
+
+
+def _listed(numbers: Iterable[int]) -> str:
+    return ",".join(map(str, numbers))

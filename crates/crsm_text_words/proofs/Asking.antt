@@ -50,7 +50,7 @@ cluster_name [] = false
 cluster_name (name ∷ values) = bytes_eq name (codes "node") || (bytes_eq name (codes "client") || bytes_eq name (codes "operate"))
 
 name_of_cluster : (task : Task) (words : List Text) → Asks task words → NamesCluster task → cluster_name words ≡ true
-name_of_cluster (Show text) words asks names = absurd names
+name_of_cluster (Show text) words asks names = absurd asks
 name_of_cluster Replay words asks names = absurd names
 name_of_cluster (ReplayNode me n) words asks names = absurd names
 name_of_cluster (Node t) words asks names = ap cluster_name asks.1

@@ -8,7 +8,7 @@ use Rattle.clap.specs.Words.{HasKind, IsAmong, Kinds, Text, fault_of, kind_of}
 use Rattle.clap.specs.declared.error.Error.{Error}
 use Rattle.clap.specs.declared.error.kind.ErrorKind.{ErrorKind}
 use Rattle.clap.specs.declared.error.kind.ErrorKind.TheVariants.{OutOfMemory}
-use Rattle.crsm_text_words.specs.Answers.{AnswersError, IsShown, OrderBy, OrderMade, OrderRefused, Reads, RefusedFor, TaskBy, TaskFor, asked, asks_text, at_fault, fault, for_nothing, memory, no_memory, nothing, order, shown, text, text_of_cluster}
+use Rattle.crsm_text_words.specs.Answers.{AnswersError, IsShown, OrderBy, OrderMade, OrderRefused, Reads, RefusedFor, TaskBy, TaskFor, asked, asks_text, at_fault, fault, for_nothing, memory, no_memory, nothing, order, shown, text}
 use Rattle.crsm_text_words.specs.Orders.{Asks, AsksFor, InFront, NamesCluster, task_words, cluster_words}
 use Rattle.crsm_text_words.specs.Plans.{HasOwnPeer}
 use Rattle.crsm_text_words.specs.Split.{is_usage, taken}
@@ -62,30 +62,29 @@ only_in (Ok o) cluster number task rest below is one made unmade asked_for asks 
 only_in (Err r) cluster number task rest below is one made unmade asked_for asks =
     absurd (unmade.1 (subst NamesCluster (sym (one asked_for.task asks.1)) asks.0.2))
 
-shown_nowhere : (task : Task) → IsShown task → NamesCluster task → ⊥
-shown_nowhere (Show t) is names = names
-shown_nowhere Replay is names = names
-shown_nowhere (ReplayNode me n) is names = names
-shown_nowhere (Node t) is names = is
-shown_nowhere (Client to turns command) is names = is
-shown_nowhere (Operate to members) is names = is
-shown_nowhere (Soak number n steps) is names = names
-shown_nowhere (Audit n) is names = names
-shown_nowhere (Lock t) is names = names
-shown_nowhere Delay is names = names
-shown_nowhere DelayTimes is names = names
-shown_nowhere ReplayMp is names = names
-
-some_front : (number : Text) (rest : List Text) → cluster_words (codes "cluster" ∷ number ∷ rest) ≡ [] → ⊥
-some_front number rest e = cc e
+shown_here : (task : Task) → IsShown task → NamesCluster task
+shown_here (Show t) is = tt
+shown_here Replay is = absurd is
+shown_here (ReplayNode me n) is = absurd is
+shown_here (Node t) is = absurd is
+shown_here (Client to turns command) is = absurd is
+shown_here (Operate to members) is = absurd is
+shown_here (Soak number n steps) is = absurd is
+shown_here (Audit n) is = absurd is
+shown_here (Lock t) is = absurd is
+shown_here Delay is = absurd is
+shown_here DelayTimes is = absurd is
+shown_here ReplayMp is = absurd is
 
 pub any_in : (result : Result Order WordsError) (cluster : ℕ) (number : Text) (task : Task) (rest : List Text) → 0 < cluster → cluster < 2 ^ 64 → number ≡ decimal cluster
     → TaskFor rest task → Made cluster task result → Unmade task result → OrderBy (codes "cluster" ∷ number ∷ rest) result
-any_in (Ok o) cluster number task rest above below is (shown is_text why) made unmade = absurd (shown_nowhere task is_text made.0)
+any_in (Ok o) cluster number task rest above below is (shown is_text why) made unmade =
+    let front_is = subst (λ (x : Order). InFront x (codes "cluster" ∷ number ∷ [])) (sym made.1) (above, below, made.0, is) in
+    text front_is (subst (λ (x : Order). IsShown x.task) (sym made.1) is_text) why
 any_in (Ok o) cluster number task rest above below is (asked none asks) made unmade =
     let front_is = subst (λ (x : Order). InFront x (codes "cluster" ∷ number ∷ [])) (sym made.1) (above, below, made.0, is) in
     order none front_is (subst (λ (x : Order). Asks x.task (taken rest)) (sym made.1) asks)
-any_in (Err r) cluster number task rest above below is (shown is_text why) made unmade = text_of_cluster unmade.0 (some_front number rest) why
+any_in (Err r) cluster number task rest above below is (shown is_text why) made unmade = absurd (unmade.1 (shown_here task is_text))
 any_in (Err r) cluster number task rest above below is (asked none asks) made unmade =
     nothing unmade.0 (λ asked_for in_front asks_for. unmade.1 (one_kind task asked_for.task (taken rest) asks asks_for in_front.2))
 

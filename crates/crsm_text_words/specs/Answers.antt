@@ -1,5 +1,5 @@
 -- The results of parsing a command line.
-use Rattle.std.specs.Prelude.{◌≡◌, ◌≢◌, ◌⊎◌, Bool, true, false, List, [], Result, Ok, Err, MatchResult}
+use Rattle.std.specs.Prelude.{◌≡◌, ◌⊎◌, Bool, true, false, List, [], Result, Ok, Err, MatchResult}
 use Rattle.std.specs.List.{list_any}
 use Rattle.clap.specs.Words.{Text, fault_of}
 use Rattle.clap.specs.declared.error.kind.ErrorKind.{ErrorKind}
@@ -55,13 +55,12 @@ abbrev pub TaskBy : List Text → Result Task WordsError → Type 0
 TaskBy words result = MatchResult result (TaskFor words) (RefusedFor words)
 
 pub data OrderMade (words : List Text) (made : Order) : Type 0 where
-  text : cluster_words words ≡ [] → IsShown made.task → list_any asks_text (fault_of product_app words) ≡ true → OrderMade words made
+  text : InFront made (cluster_words words) → IsShown made.task → list_any asks_text (fault_of product_app (task_words words)) ≡ true → OrderMade words made
   order : fault_of product_app (task_words words) ≡ [] → InFront made (cluster_words words) → Asks made.task (taken (task_words words)) → OrderMade words made
 
 pub data OrderRefused (words : List Text) (r : WordsError) : Type 0 where
   memory : r ≡ NoMemory → OrderRefused words r
   fault : r ≡ Usage → list_any is_usage (fault_of product_app (task_words words)) ≡ true → OrderRefused words r
-  text_of_cluster : r ≡ Usage → cluster_words words ≢ [] → list_any asks_text (fault_of product_app (task_words words)) ≡ true → OrderRefused words r
   nothing : r ≡ Usage → ((order : Order) → InFront order (cluster_words words) → Asks order.task (taken (task_words words)) → ⊥) → OrderRefused words r
 
 abbrev pub OrderBy : List Text → Result Order WordsError → Type 0

@@ -115,8 +115,9 @@ IsPlainTask _ = Unit {0}
 
 -- ---- clusters
 
--- the task may name a cluster: it sends to replicas over the network
+-- the task may name a cluster: it sends to replicas over the network, or shows a text
 abbrev pub NamesCluster : Task → Type 0
+NamesCluster (Show text) = Unit {0}
 NamesCluster (Node t) = Unit {0}
 NamesCluster (Client to turns command) = Unit {0}
 NamesCluster (Operate to members) = Unit {0}

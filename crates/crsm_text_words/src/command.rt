@@ -2,19 +2,14 @@
 
 ghost use Rattle.std.specs.Prelude.{◌≡◌, ◌≤◌, IfOk, false, length, map, string_bytes};
 ghost use Rattle.std.specs.List.{All};
-ghost use Rattle.clap.specs.Words.{app_of};
+ghost use Rattle.clap.specs.Words.{app_of, new_app};
 ghost use Rattle.clap.specs.declared.builder.command.Command.TheViews.{out-Command};
 ghost use Rattle.crsm_text_words.specs.Split.{IsPlain, SplitsBy, SplitsExactly};
 ghost use Rattle.crsm_text_words.specs.Table.{product_app, row, taking_app, top_app};
 
+use crate::help::{self, Help, PRODUCT};
 use clap::{Arg, ArgMatches, Command, Error};
 use std::alloc::{AllocError, Global};
-
-/// The text of help about the commands.
-const COMMANDS: &str =
-    "node runs a replica; client and lock ask one, and operate changes the membership.
-replay and replay-mp run a schedule, soak one that it draws; replay-node and audit read the sheets of nodes.
-node, client and operate may stand behind 'cluster C', the number of their cluster.";
 
 static ME_N: [&str; 2] = ["ME", "N"];
 
@@ -32,10 +27,23 @@ static LOCK: [&str; 6] = ["TO", "TURNS", "CLIENT", "NUMBER", "KEY", "ACTION"];
 
 static DELAY: [&str; 1] = ["times"];
 
-/// Declares a command with a name, labels of its values for help, and the minimum and maximum number of its values.
+/// Declares a command without values, with its name and texts.
+fn plain<'a>(alloc: Global, name: &'a str, help: Help) -> Command<'a>
+    ensures shape { app_of result ≡ new_app name.entry.now }
+    ensures local { (out-Command result).has_globals ≡ false }
+{
+    Command::new(alloc, name)
+        .about(help.about)
+        .override_usage(help.usage)
+        .after_help(help.details)
+}
+
+/// Declares a command with a name, its texts, labels of its values for help, and the minimum and maximum number of its
+/// values.
 fn taking<'a>(
     alloc: Global,
     name: &'a str,
+    help: Help,
     labels: &'a [&'a str],
     least: usize,
     most: usize,
@@ -48,7 +56,7 @@ fn taking<'a>(
         .value_names(labels)
         .num_args(least..=most)
         .required(least > 0);
-    Command::new(alloc, name).arg(values)
+    plain(alloc, name, help).arg(values)
 }
 
 fn top<'a>(alloc: Global) -> Command<'a>
@@ -57,7 +65,8 @@ fn top<'a>(alloc: Global) -> Command<'a>
 {
     Command::new(alloc, "crsm")
         .about("A replicated key-value store")
-        .after_help(COMMANDS)
+        .override_usage("crsm [cluster C] COMMAND ..")
+        .after_help(PRODUCT)
         .version("1")
         .no_binary_name(true)
         .disable_help_subcommand(true)
@@ -69,16 +78,23 @@ fn product<'a>(alloc: Global) -> Result<Command<'a>, AllocError>
     ensures { IfOk result (λ c. app_of c ≡ product_app) }
 {
     top(alloc)
-        .subcommand(Command::new(alloc, "replay"))?
-        .subcommand(taking(alloc, "replay-node", ME_N.as_slice(), 2, 2)?)?
-        .subcommand(taking(alloc, "node", NODE.as_slice(), 4, 4)?)?
-        .subcommand(taking(alloc, "client", CLIENT.as_slice(), 5, 8)?)?
-        .subcommand(taking(alloc, "operate", OPERATE.as_slice(), 2, 2)?)?
-        .subcommand(taking(alloc, "soak", SOAK.as_slice(), 3, 3)?)?
-        .subcommand(taking(alloc, "audit", AUDIT.as_slice(), 1, 1)?)?
-        .subcommand(taking(alloc, "lock", LOCK.as_slice(), 6, 6)?)?
-        .subcommand(taking(alloc, "delay", DELAY.as_slice(), 0, 1)?)?
-        .subcommand(Command::new(alloc, "replay-mp"))
+        .subcommand(plain(alloc, "replay", help::REPLAY))?
+        .subcommand(taking(
+            alloc,
+            "replay-node",
+            help::REPLAY_NODE,
+            ME_N.as_slice(),
+            2,
+            2,
+        )?)?
+        .subcommand(taking(alloc, "node", help::NODE, NODE.as_slice(), 4, 4)?)?
+        .subcommand(taking(alloc, "client", help::CLIENT, CLIENT.as_slice(), 5, 8)?)?
+        .subcommand(taking(alloc, "operate", help::OPERATE, OPERATE.as_slice(), 2, 2)?)?
+        .subcommand(taking(alloc, "soak", help::SOAK, SOAK.as_slice(), 3, 3)?)?
+        .subcommand(taking(alloc, "audit", help::AUDIT, AUDIT.as_slice(), 1, 1)?)?
+        .subcommand(taking(alloc, "lock", help::LOCK, LOCK.as_slice(), 6, 6)?)?
+        .subcommand(taking(alloc, "delay", help::DELAY, DELAY.as_slice(), 0, 1)?)?
+        .subcommand(plain(alloc, "replay-mp", help::REPLAY_MP))
 }
 
 /// Splits the words into a command's name and its values, by `clap`; returns its error if it finds a fault.

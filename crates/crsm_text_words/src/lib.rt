@@ -3,6 +3,7 @@
 
 mod address;
 mod command;
+mod help;
 mod order;
 mod read;
 mod tasks;

@@ -115,13 +115,13 @@ fn task_of(alloc: Global, words: &[String]) -> Result<Task, WordsError>
     }
 }
 
-/// Returns whether the task may name a cluster: those that send to replicas over the network do.
+/// Returns whether the task may name a cluster: those that send to replicas over the network do, and help.
 fn names_cluster(task: &Task) -> bool
     ensures { IsTrue result ↔ NamesCluster task.now }
 {
     matches!(
         task,
-        Task::Node(_) | Task::Client { .. } | Task::Operate { .. }
+        Task::Node(_) | Task::Client { .. } | Task::Operate { .. } | Task::Show(_)
     )
 }
 
