@@ -6,7 +6,7 @@ use Rattle.crsm_text_words.proofs.command.product.Goals as goal
 
 pub returns : goal.returns
 returns c =
-    let s1 = c.in_ok-subcommand.ensures.shape c.new.ensures.local ∙ ap₂ with_subcommand c.top.ensures.shape (ap (λ (a : App). a.top) c.new.ensures.app) in
+    let s1 = c.in_ok-subcommand.ensures.shape c.plain.ensures.local ∙ ap₂ with_subcommand c.top.ensures.shape (ap (λ (a : App). a.top) c.plain.ensures.shape) in
     let t1 : app_of c.in_ok-taking.field-0 ≡ taking_app (row (codes "replay-node") 2 2 2) = c.in_ok-taking.ensures.shape ∙ ap (λ (n : ℕ). taking_app (row (codes "replay-node") n 2 2)) (ap length c.as_slice.ensures) in
     let s2 = c.in_ok-subcommand-2.ensures.shape c.in_ok-taking.ensures.local ∙ ap₂ with_subcommand s1 (ap (λ (a : App). a.top) t1) in
     let t2 : app_of c.in_ok-taking-2.field-0 ≡ taking_app (row (codes "node") 4 4 4) = c.in_ok-taking-2.ensures.shape ∙ ap (λ (n : ℕ). taking_app (row (codes "node") n 4 4)) (ap length c.as_slice-2.ensures) in
@@ -23,4 +23,4 @@ returns c =
     let s8 = c.in_ok-subcommand-8.ensures.shape c.in_ok-taking-7.ensures.local ∙ ap₂ with_subcommand s7 (ap (λ (a : App). a.top) t7) in
     let t8 : app_of c.in_ok-taking-8.field-0 ≡ taking_app (row (codes "delay") 1 0 1) = c.in_ok-taking-8.ensures.shape ∙ ap (λ (n : ℕ). taking_app (row (codes "delay") n 0 1)) (ap length c.as_slice-8.ensures) in
     let s9 = c.in_ok-subcommand-9.ensures.shape c.in_ok-taking-8.ensures.local ∙ ap₂ with_subcommand s8 (ap (λ (a : App). a.top) t8) in
-    IfOk-weaker c.subcommand-10.result _ _ (λ r h. h.shape c.new-2.ensures.local ∙ ap₂ with_subcommand s9 (ap (λ (a : App). a.top) c.new-2.ensures.app)) c.subcommand-10.ensures
+    IfOk-weaker c.subcommand-10.result _ _ (λ r h. h.shape c.plain-2.ensures.local ∙ ap₂ with_subcommand s9 (ap (λ (a : App). a.top) c.plain-2.ensures.shape)) c.subcommand-10.ensures
