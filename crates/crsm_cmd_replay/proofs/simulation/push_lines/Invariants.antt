@@ -1,6 +1,6 @@
 use Rattle.std.proofs.Common.{◌≡◌, ◌++◌, drop}
 use Rattle.crsm_schedule.specs.Transcript.{lines_text}
-use Rattle.crsm_cmd_replay.proofs.handling.push_lines.Given as goal
+use Rattle.crsm_cmd_replay.proofs.simulation.push_lines.Given as goal
 
 -- the texts before and those to come are all of them
 abbrev pub invariant-loop-line : goal.invariant-loop-line
