@@ -1,0 +1,4 @@
+pub mod Lines
+pub mod Handled
+pub mod Exact
+pub mod Replayed
