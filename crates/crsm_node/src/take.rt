@@ -58,12 +58,9 @@ pub(crate) fn take_turn<C: Clock, P: Port, D: Disk, R: Reporter>(
     let turned = shell.take(what, clock, port)?;
     note(detector, &turned);
     let took_datagram = is_datagram(&turned.taken);
-    reporter.turned(
-        &turned,
-        datagram_in(&turned.taken, shell.buffer()),
-        shell.state(),
-    );
-    pending.add(turned, shell.buffer())?;
+    let buffer = shell.buffer();
+    reporter.turned(&turned, datagram_in(&turned.taken, buffer), shell.state());
+    pending.add(turned, buffer)?;
     Ok(took_datagram)
 }
 
